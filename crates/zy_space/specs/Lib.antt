@@ -1,0 +1,2 @@
+pub mod TupleSpace
+pub mod Place
