@@ -12,3 +12,6 @@ pub use matching::matches;
 pub use reading::{op_text_read, reply_text_read};
 pub use values::{Field, Op, Reply, Slot, Template, Tuple};
 pub use writing::{op_text, reply_text};
+
+#[cfg(test)]
+mod tests;
