@@ -185,3 +185,83 @@ fn templates(rt: HostRuntime) -> Result<(), Fail> {
     }
     Ok(())
 }
+
+// Operations and their bytes.
+const OPERATIONS: [(&str, &[u8]); 8] = [
+    ("out (\"job\" 1)", b"\x01\x02\x02\x03job\x01\x00\x00\x00\x00\x00\x00\x00\x01"),
+    ("out (-1)", b"\x01\x01\x01\xff\xff\xff\xff\xff\xff\xff\xff"),
+    ("out (9223372036854775807 -9223372036854775808)", b"\x01\x02\x01\x7f\xff\xff\xff\xff\xff\xff\xff\x01\x80\x00\x00\x00\x00\x00\x00\x00"),
+    ("out (\"\")", b"\x01\x01\x02\x00"),
+    ("rdp (* * *)", b"\x02\x03\x00\x00\x00"),
+    ("inp (\"a\\\"\\\\\" *)", b"\x03\x02\x02\x03a\x22\x5c\x00"),
+    ("cas (\"lock\" *) (\"lock\" 7)", b"\x04\x02\x02\x04lock\x00\x02\x02\x04lock\x01\x00\x00\x00\x00\x00\x00\x00\x07"),
+    ("out (1 2 3 4 5 6 7 8)", b"\x01\x08\x01\x00\x00\x00\x00\x00\x00\x00\x01\x01\x00\x00\x00\x00\x00\x00\x00\x02\x01\x00\x00\x00\x00\x00\x00\x00\x03\x01\x00\x00\x00\x00\x00\x00\x00\x04\x01\x00\x00\x00\x00\x00\x00\x00\x05\x01\x00\x00\x00\x00\x00\x00\x00\x06\x01\x00\x00\x00\x00\x00\x00\x00\x07\x01\x00\x00\x00\x00\x00\x00\x00\x08"),
+];
+
+// Bytes that spell no operation.
+const NO_OPERATIONS: [&[u8]; 16] = [
+    b"",
+    b"\x00",
+    b"\x05",
+    b"\x01\x00",
+    b"\x01\x09",
+    b"\x01\x01",
+    b"\x01\x01\x01",
+    b"\x01\x01\x01\x00\x00\x00\x00\x00\x00\x00\x00\xff",
+    b"\x01\x01\x00\x00",
+    b"\x02\x01",
+    b"\x01\x01\x02\x01",
+    b"\x01\x01\x02\x01A\xff",
+    b"\x01\x01\x02\x01A\x00",
+    b"\x01\x01\x02\x01\x1f",
+    b"\x01\x01\x02A\x00\x00",
+    b"\x04\x01\x00\x01\x00",
+];
+
+// Replies and their bytes.
+const REPLY_BYTES: [(&str, &[u8]); 8] = [
+    ("ok", b"\x00"),
+    ("none", b"\x02"),
+    ("true", b"\x03"),
+    ("false", b"\x04"),
+    ("full", b"\x05"),
+    ("bad", b"\x06"),
+    ("tuple (\"job\" 1)", b"\x01\x02\x02\x03job\x01\x00\x00\x00\x00\x00\x00\x00\x01"),
+    ("tuple (\"a b\" -5)", b"\x01\x02\x02\x03a b\x01\xff\xff\xff\xff\xff\xff\xff\xfb"),
+];
+
+fn spells(rt: &impl Abort, alloc: Global, line: &str, bytes: &[u8]) -> Result<(), Fail> {
+    let op = op_text_read(alloc, line.as_bytes())?;
+    assert_eq!(rt; op_bytes(alloc, &op)?.as_slice(), bytes, "{line}");
+    let again = op_text(alloc, &op_read(alloc, bytes)?)?;
+    assert_eq!(rt; again.as_slice(), line.as_bytes(), "{line}");
+    Ok(())
+}
+
+fn spells_reply(rt: &impl Abort, alloc: Global, line: &str, bytes: &[u8]) -> Result<(), Fail> {
+    let reply = reply_text_read(alloc, line.as_bytes())?;
+    assert_eq!(rt; reply_bytes(alloc, &reply)?.as_slice(), bytes, "{line}");
+    let again = reply_text(alloc, &reply_read(alloc, bytes)?)?;
+    assert_eq!(rt; again.as_slice(), line.as_bytes(), "{line}");
+    Ok(())
+}
+
+#[test]
+fn bytes(rt: HostRuntime) -> Result<(), Fail> {
+    let alloc = rt.alloc();
+    for (line, bytes) in &OPERATIONS {
+        spells(&rt, alloc, line, bytes)?;
+    }
+    for bytes in &NO_OPERATIONS {
+        let fault = op_read(alloc, bytes).err();
+        assert_eq!(rt; fault, Some(OpFault::NotOp), "{bytes:?}");
+    }
+    for (line, bytes) in &REPLY_BYTES {
+        spells_reply(&rt, alloc, line, bytes)?;
+    }
+    for bytes in &[b"".as_slice(), b"\x07", b"\x00\x00", b"\x01", b"\x01\x00"] {
+        let fault = reply_read(alloc, bytes).err();
+        assert_eq!(rt; fault, Some(ReplyFault::NotReply), "{bytes:?}");
+    }
+    Ok(())
+}
