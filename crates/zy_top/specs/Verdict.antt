@@ -81,3 +81,15 @@ is_read_fault exit = false
 abbrev pub is_write_fault : Exit → Bool
 is_write_fault exits.WriteFault = true
 is_write_fault exit = false
+
+abbrev pub is_usage : Exit → Bool
+is_usage (exits.Usage word) = true
+is_usage exit = false
+
+-- an answer before which nothing is written
+abbrev pub is_refusal : Exit → Bool
+is_refusal (exits.Usage word) = true
+is_refusal (exits.Text line rule) = true
+is_refusal exits.TooLong = true
+is_refusal exits.ReadFault = true
+is_refusal exit = false
