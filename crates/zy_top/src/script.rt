@@ -1,7 +1,8 @@
 // A script in one pass: each line is looked at once, and no line is copied.
-ghost use Rattle.std.specs.Prelude.{◌≡◌, ◌==◌, ◌<◌, ◌≢◌, ◌∷◌, [], length, position};
+ghost use Rattle.std.specs.Prelude.{◌≡◌, ◌==◌, ◌<◌, ◌≢◌, ◌∷◌, [], length, position, All, IfOk};
 ghost use Rattle.zy_top.specs.Calls.{IsOpRead, IsScriptRead};
 ghost use Rattle.zy_tuple.specs.Reading.{op_read};
+ghost use Rattle.zy_tuple.specs.Values.{IsOp};
 ghost use Rattle.zy_tuple.specs.Script.{is_skipped, lines_of, script_of};
 
 use crate::Exit;
@@ -10,7 +11,8 @@ use zy_tuple::{LineFault, Op, op_text_read};
 
 /// The operations of a script, or the first line that can't be read.
 pub(crate) fn read_script(alloc: Global, text: &[u8]) -> Result<Vec<Op>, Exit>
-    ensures { IsScriptRead (script_of text.now) result }
+    ensures said { IsScriptRead (script_of text.now) result }
+    ensures ops { IfOk result (λ ops. All IsOp ops.items) }
 {
     let mut ops = Vec::new(alloc);
     let mut rest = text;
@@ -28,7 +30,8 @@ pub(crate) fn read_script(alloc: Global, text: &[u8]) -> Result<Vec<Op>, Exit>
 
 /// The operation of the line with this number.
 fn read_op(alloc: Global, line: &[u8], number: u64) -> Result<Op, Exit>
-    ensures { IsOpRead number (op_read line.now) result }
+    ensures said { IsOpRead number (op_read line.now) result }
+    ensures op { IfOk result IsOp }
 {
     match op_text_read(alloc, line) {
         Ok(op) => Ok(op),

@@ -31,10 +31,12 @@ loop-op-preserved g c =
       then-len-ge-PIECE+in_ok-write_all w ↦ record {
         reported = rw (w.out-is, w.report-is, w.clear.ensures.items)
             (Reported-written (g.S.Sink.taken w.write_all.new.out) w.deref.result.now more w.deref.ensures.value w.in_ok-write_all.ensures.written);
+        tuples = c.in_ok-run_one.ensures.tuples;
         count = rw w.out-is (w.in_ok-write_all.ensures.count ∙ c.loop-op.invariant.count)
       }
     | else-len-ge-PIECE w ↦ record {
         reported = rw (w.out-is, w.report-is) more;
+        tuples = c.in_ok-run_one.ensures.tuples;
         count = rw w.out-is c.loop-op.invariant.count
       }
     ]
