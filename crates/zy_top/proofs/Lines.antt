@@ -19,17 +19,17 @@ split_at : (text : List ℕ) → text ≢ []
 split_at [] some = absurd (some refl)
 split_at (c ∷ []) some =
     elim (c == 10) as (λ b. cond b ([] ∷ []) ((c ∷ []) ∷ []) ≡ take (cond (not b) (1 + 0) 0) (c ∷ []) ∷ lines_of (drop (suc (cond (not b) (1 + 0) 0)) (c ∷ []))) [
-      true ↦ refl
-    | false ↦ refl
+      | true ↦ refl
+      | false ↦ refl
     ]
 split_at (c ∷ d ∷ text) some =
     let end : ℕ = position_or_len is_feed (d ∷ text) in
     let rest : lines_of (d ∷ text) ≡ take end (d ∷ text) ∷ lines_of (drop (suc end) (d ∷ text)) = split_at (d ∷ text) (λ e. cc) in
     let one : 1 + end ≡ suc end = omega arith in
     elim (c == 10) as (λ b. cond b ([] ∷ lines_of (d ∷ text)) (onto_first c (lines_of (d ∷ text)))
-        ≡ take (cond (not b) (1 + end) 0) (c ∷ d ∷ text) ∷ lines_of (drop (suc (cond (not b) (1 + end) 0)) (c ∷ d ∷ text))) [
-      true ↦ refl
-    | false ↦ rw (rest, one)
+    ≡ take (cond (not b) (1 + end) 0) (c ∷ d ∷ text) ∷ lines_of (drop (suc (cond (not b) (1 + end) 0)) (c ∷ d ∷ text))) [
+      | true ↦ refl
+      | false ↦ rw (rest, one)
     ]
 
 fed_at : (b : Bool) (end place : ℕ) → Some end ≡ cond b (Some place) None → end ≡ place

@@ -26,16 +26,16 @@ oldest_fine : (template : List Slot) (tuples : List (List Field)) → AreTuples 
 oldest_fine template [] are = tt
 oldest_fine template (tuple ∷ tuples) are =
     elim (matches template tuple) as (λ b. IfSome (cond b (Some tuple) (oldest template tuples)) IsTuple) [
-      true ↦ are.0
-    | false ↦ oldest_fine template tuples are.1
+      | true ↦ are.0
+      | false ↦ oldest_fine template tuples are.1
     ]
 
 others_fine : (template : List Slot) (tuples : List (List Field)) → AreTuples tuples → AreTuples (without_oldest template tuples)
 others_fine template [] are = tt
 others_fine template (tuple ∷ tuples) are =
     elim (matches template tuple) as (λ b. AreTuples (cond b tuples (tuple ∷ without_oldest template tuples))) [
-      true ↦ are.1
-    | false ↦ (are.0, others_fine template tuples are.1)
+      | true ↦ are.1
+      | false ↦ (are.0, others_fine template tuples are.1)
     ]
 
 found_fine : (some : Option (List Field)) → IfSome some IsTuple → IsReply (found some)
@@ -45,8 +45,8 @@ found_fine (Some tuple) is = is
 inserted_fine : (tuple : List Field) (reply : Reply) (tuples : List (List Field)) → IsTuple tuple → IsReply reply → AreTuples tuples → IsFine (inserted tuple reply tuples)
 inserted_fine tuple reply tuples is allowed are =
     elim (nat_lt (length tuples) 4096) as (λ b. IsFine (cond b (record { tuples = tuples ++ tuple ∷ []; reply = reply }) (record { tuples = tuples; reply = Full }))) [
-      true ↦ (AreTuples-append tuples tuple are is, allowed)
-    | false ↦ (are, tt)
+      | true ↦ (AreTuples-append tuples tuple are is, allowed)
+      | false ↦ (are, tt)
     ]
 
 unless_fine : (some : Option (List Field)) (tuples : List (List Field)) (otherwise : Step) → AreTuples tuples → IsFine otherwise → IsFine (unless_found some tuples otherwise)

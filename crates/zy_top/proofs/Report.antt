@@ -26,7 +26,7 @@ pub Reported-more : {before now : Option (List ℕ)} {ops : List Op} {buffer : L
 Reported-more grown left op reported line after = record {
   front = reported.front;
   whole = rw (line, after, append_assoc) reported.whole;
-  taken = reported.taken
+  taken = reported.taken;
 }
 
 -- the buffer was written
@@ -35,7 +35,7 @@ pub Reported-written : {before now : Option (List ℕ)} (then : Option (List ℕ
 Reported-written {now} then {buffer} bytes reported same wrote = record {
   front = reported.front ++ buffer;
   whole = rw append_assoc reported.whole;
-  taken = Appends-trans _ now then _ _ reported.taken (rw same at wrote)
+  taken = Appends-trans _ now then _ _ reported.taken (rw same at wrote);
 }
 
 -- no more is written
@@ -47,13 +47,16 @@ Reported-stopped {buffer} {tuples} {further} reported =
 -- a front of the buffer was written
 Reported-part : {before now : Option (List ℕ)} (then : Option (List ℕ)) {ops : List Op} {buffer : List ℕ} {tuples : List (List Field)} {further : List Op}
     → Reported before now ops buffer tuples further → AppendsFront now then buffer → AppendsFront before then (report_from [] ops)
-Reported-part {now} then {tuples} {further} reported wrote = (wrote.0 ++ report_from tuples further, record {
-  front = reported.front ++ wrote.1.front;
-  whole = reported.whole ∙ ap (λ l. reported.front ++ (l ++ report_from tuples further)) wrote.1.whole
-      ∙ ap (λ l. reported.front ++ l) (append_assoc wrote.1.front wrote.0 (report_from tuples further))
-      ∙ sym (append_assoc reported.front wrote.1.front (wrote.0 ++ report_from tuples further));
-  taken = Appends-trans _ now then _ _ reported.taken wrote.1.taken
-})
+Reported-part {now} then {tuples} {further} reported wrote = (
+  wrote.0 ++ report_from tuples further,
+  record {
+    front = reported.front ++ wrote.1.front;
+    whole = reported.whole ∙ ap (λ l. reported.front ++ (l ++ report_from tuples further)) wrote.1.whole
+        ∙ ap (λ l. reported.front ++ l) (append_assoc wrote.1.front wrote.0 (report_from tuples further))
+        ∙ sym (append_assoc reported.front wrote.1.front (wrote.0 ++ report_from tuples further));
+    taken = Appends-trans _ now then _ _ reported.taken wrote.1.taken;
+  },
+)
 
 -- all operations are done, and the buffer was written
 Reported-all : {before now : Option (List ℕ)} (then : Option (List ℕ)) {ops : List Op} {buffer : List ℕ} {tuples : List (List Field)}

@@ -11,3 +11,6 @@ mod writing;
 
 pub use exit::Exit;
 pub use top::zyzzyva;
+
+#[cfg(test)]
+mod tests;

@@ -41,12 +41,7 @@ pub(crate) fn run_script<S: Sink>(alloc: Global, ops: &[Op], out: &mut S) -> Res
 
 /// Runs one operation, and adds its reply's line.
 #[tactic(auto, using(crate::proofs::Ranges::step_fine))]
-fn run_one(
-    alloc: Global,
-    space: &mut Space,
-    op: &Op,
-    report: &mut Vec<u8>,
-) -> Result<(), Want>
+fn run_one(alloc: Global, space: &mut Space, op: &Op, report: &mut Vec<u8>) -> Result<(), Want>
     requires op { IsOp op.now }
     requires tuples { AllByRecursion IsTuple space.old }
     ensures tuples { IfOk result (λ _. AllByRecursion IsTuple space.new) }

@@ -1,8 +1,8 @@
-ghost use Rattle.std.specs.Prelude.{◌≡◌, ◌↔◌, ℕ, Err, IfSome, IsTrue};
-ghost use Rattle.zy_edge.specs.Faults.{IsCounted};
+ghost use Rattle.std.specs.Prelude.{◌≡◌, ◌↔◌, ◌⊎◌, ℕ, Err, IfSome, IsTrue};
+ghost use Rattle.zy_edge.specs.Faults.{IsCounted, Rose};
 ghost use Rattle.zy_edge.specs.Files.{content_of};
 ghost use Rattle.zy_top.specs.Calls.{exit_of};
-ghost use Rattle.zy_top.specs.Verdict.{IsAnswer, IsWritten, is_read_fault, is_refusal, is_usage, is_write_fault, space_verdict, verdict};
+ghost use Rattle.zy_top.specs.Verdict.{IsAnswer, IsReport, IsWritten, is_read_fault, is_refusal, is_usage, is_write_fault, space_verdict, verdict};
 ghost use Rattle.zy_top.specs.Words.{command_of, texts};
 
 use crate::Exit;
@@ -24,13 +24,19 @@ pub fn zyzzyva<F: Files, S: Sink>(
     files: &mut F,
     out: &mut S,
 ) -> Exit
-    // Words that are wrong are refused by the number of the first, and by nothing else.
+    // Words that are wrong are refused by the number of the first such, and by nothing else, before a file is chosen.
     ensures usage { (word : ℕ) → (result ≡ Exit.Usage word) ↔ (command_of (texts words.now) ≡ Err word) }
+    ensures unread { IsTrue (is_usage result) → files.new ≡ files.old }
 
     // Over files that are told, the answer and what the sink has taken are those of the verdict.
     ensures answer { IfSome (F.held files.old) (λ held. IsAnswer (verdict (texts words.now) held) result) }
     ensures written { IfSome (F.held files.old) (λ held.
         IsWritten (verdict (texts words.now) held) result (S.taken out.old) (S.taken out.new)) }
+
+    // Where a report is due and no object fails, it is written, or memory is wanted.
+    ensures complete { IfSome (F.held files.old) (λ held. IsReport (verdict (texts words.now) held)
+        → ¬ Rose (F.faults files.old) (F.faults files.new) → ¬ Rose (S.faults out.old) (S.faults out.new)
+        → (result ≡ Exit.Done) ⊎ (result ≡ Exit.Want)) }
 
     // Over any files, a refusal has not touched the sink.
     ensures refused { IsTrue (is_refusal result) → out.new ≡ out.old }

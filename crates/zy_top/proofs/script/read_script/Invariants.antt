@@ -10,7 +10,7 @@ abbrev pub invariant-lines : goal.invariant-lines
 invariant-lines l = record {
   said : behind l.ops.items (items_from op_read (suc l.number) (lines_of l.rest)) ≡ script_of l.text;
   ops : All IsOp l.ops.items;
-  count : l.number + length l.rest ≤ length l.text
+  count : l.number + length l.rest ≤ length l.text;
 }
 
 abbrev pub decreases-lines : goal.decreases-lines

@@ -9,5 +9,5 @@ abbrev pub invariant-loop-op : goal.invariant-loop-op
 invariant-loop-op g l = record {
   reported : Reported (g.S.Sink.taken l.initial.out) (g.S.Sink.taken l.out) l.ops l.report.items l.space (drop l.op-index l.ops);
   tuples : AllByRecursion IsTuple l.space;
-  count : g.S.Sink.faults l.out ≡ g.S.Sink.faults l.initial.out
+  count : g.S.Sink.faults l.out ≡ g.S.Sink.faults l.initial.out;
 }
