@@ -1,5 +1,5 @@
 -- The parts of a public key, written one behind another over zeros.
-use Rattle.std.proofs.Common.{arith, ◌≡◌, ◌-◌, ◌≤◌, ◌++◌, [], length, ℕ, ◌+◌, List, take, drop, ◌∙◌, ap, length-append, length-drop, append_assoc, sym}
+use Rattle.std.proofs.Common.{arith, ◌≡◌, ◌++◌, [], length, ℕ, List, take, drop, ◌∙◌, ap, length-append, length-drop, append_assoc, sym}
 use Rattle.std.proofs.lemmas.List.{take_at, drop_at, drop_all, append-nil, length-take-le}
 use borrow.Rule.Slice.PartMut.{put_mid}
 

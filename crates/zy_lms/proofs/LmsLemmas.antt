@@ -2,8 +2,8 @@
 use Rattle.std.proofs.Common.{arith, ◌≡◌, ◌-◌, ◌≤◌, ◌<◌, ◌++◌, length, ℕ, ◌+◌, ◌*◌, ◌/◌, ◌^◌, List, take, drop, sym, ◌∙◌, ap, refl, length-append, append_assoc, zero-add}
 use Rattle.std.specs.Int.{w32, to_be_bytes}
 use Rattle.std.specs.List.{concat}
-use Rattle.std.proofs.lemmas.List.{take_at, drop_at, take_all, append-nil}
-use Rattle.std.proofs.lemmas.Nat.{pow_pos, shr_high, from_be_bytes-to_be_bytes_4}
+use Rattle.std.proofs.lemmas.List.{take_at, drop_at}
+use Rattle.std.proofs.lemmas.Nat.{shr_high, from_be_bytes-to_be_bytes_4}
 use Rattle.zy_ots.specs.declared.ots_type.OtsType.{OtsType}
 use Rattle.zy_ots.specs.declared.ots_type.OtsType.TheVariants.{W4, W8}
 use Rattle.zy_ots.specs.OtsType as OtsType

@@ -1,5 +1,5 @@
 -- How the kept nodes come to be, from the last to the first.
-use Rattle.std.proofs.Common.{arith, zero, suc, ◌≡◌, ◌≢◌, ◌-◌, ◌≤◌, ◌<◌, length, ℕ, ◌+◌, ◌*◌, ◌^◌, List, sym, ◌∙◌, ap, refl, ⊎_elim, length-set, get_or-set_same, get_or-set_other}
+use Rattle.std.proofs.Common.{arith, zero, suc, ◌≡◌, ◌-◌, ◌≤◌, ◌<◌, length, ℕ, ◌+◌, ◌*◌, ◌^◌, List, ◌∙◌, ap, refl, ⊎_elim, length-set, get_or-set_same, get_or-set_other}
 use Rattle.std.specs.Prelude.{slice_index_or, slice_set}
 use Rattle.std.proofs.Math.Pow.{pow_mono}
 use Rattle.std.proofs.lemmas.Bool.{cases_eq}

@@ -1,17 +1,15 @@
 -- The numbers of a tree's nodes, and that the path of a leaf leads from it to the root.
-use Rattle.std.proofs.Common.{arith, zero, suc, ◌≡◌, ◌-◌, ◌≤◌, ◌<◌, ◌++◌, ◌∷◌, [], length, ℕ, ◌+◌, ◌*◌, ◌/◌, ◌%◌, ◌^◌, List, take, drop, sym, ◌∙◌, ap, refl, ⊎_elim, true, false, add-zero, add-one, length-append, add_comm}
-use Rattle.std.specs.Prelude.{◌⊎◌, bit_xor, ◌==◌, if◌then◌else◌}
+use Rattle.std.proofs.Common.{arith, zero, suc, ◌≡◌, ◌-◌, ◌≤◌, ◌<◌, ◌∷◌, [], length, ℕ, ◌+◌, ◌*◌, ◌/◌, ◌%◌, ◌^◌, List, take, drop, sym, ◌∙◌, ap, refl, ⊎_elim, add-zero, add-one, length-append, add_comm}
+use Rattle.std.specs.Prelude.{◌⊎◌, bit_xor, ◌==◌}
 use Rattle.std.specs.List.{concat}
 use Rattle.std.specs.Int.Bits.{xor_zero_l}
 use Rattle.std.proofs.Math.Nat.{pow-succ', div-add-mod}
-use Rattle.std.proofs.Math.Pow.{pow_mono}
 use Rattle.std.proofs.lemmas.Nat.{pow-add, pow_pos, shr-shr, xor_block, xor_comm, le-div, div_below, mod_below}
 use Rattle.std.proofs.lemmas.Bool.{eq-eqb, ne_eqb, cond-true, cond-false}
 use Rattle.std.proofs.lemmas.List.{take_at, drop_at, drop-drop}
 use Rattle.sha2.proofs.Facts256.{length-sha256}
 use Rattle.zy_ots.specs.declared.ots_type.OtsType.{OtsType}
-use Rattle.zy_ots.specs.OneTime.{public_of}
-use Rattle.zy_lms.specs.Tree.{leaf_node, inner_node, tree_node, path_from, parent_of, climb, nodes_in}
+use Rattle.zy_lms.specs.Tree.{inner_node, tree_node, path_from, parent_of, climb, nodes_in}
 
 -- ---- numbers
 

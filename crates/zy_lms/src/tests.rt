@@ -227,15 +227,15 @@ fn changed_bytes_do_not_verify(rt: HostRuntime) -> Result<(), Fail> {
         7,
     )?;
     let public = key.public();
-    let signature = key.sign(b"message")?.into_vec();
-    assert_eq!(rt; signature.len(), 2348);
-    assert!(rt; verify(&public, b"message", &signature));
-    assert!(rt; !verify(&public, b"messagf", &signature));
-    assert!(rt; !verify(&public, b"message", &signature[..2347]));
+    let signature = key.sign(b"message")?;
+    let bytes = signature.as_slice();
+    assert_eq!(rt; bytes.len(), 2348);
+    assert!(rt; verify(&public, b"message", bytes));
+    assert!(rt; !verify(&public, b"messagf", bytes));
     // The leaf's number, the one-time type, C, the first and the last value, the LMS type, and the
     // path's first and last node.
     for at in [3, 7, 8, 40, 2183, 2187, 2188, 2347] {
-        let mut changed = signature.clone()?;
+        let mut changed = bytes.to_vec(rt.alloc())?;
         assert!(rt; at < changed.len());
         changed[at] ^= 1;
         assert!(rt; !verify(&public, b"message", &changed), "at {at}");
@@ -244,9 +244,12 @@ fn changed_bytes_do_not_verify(rt: HostRuntime) -> Result<(), Fail> {
     for at in [3, 7, 8, 55] {
         let mut changed = public;
         changed[at] ^= 1;
-        assert!(rt; !verify(&changed, b"message", &signature), "at {at}");
+        assert!(rt; !verify(&changed, b"message", bytes), "at {at}");
     }
-    let mut longer = signature;
+    let mut shorter = bytes.to_vec(rt.alloc())?;
+    assert!(rt; shorter.pop().is_some());
+    assert!(rt; !verify(&public, b"message", &shorter));
+    let mut longer = bytes.to_vec(rt.alloc())?;
     longer.push(0)?;
     assert!(rt; !verify(&public, b"message", &longer));
     Ok(())

@@ -1,4 +1,4 @@
-use Rattle.std.proofs.Common.{arith, ◌≡◌, ◌<◌, ◌-◌, ◌+◌, ◌*◌, ◌^◌, ◌∙◌, refl, sym}
+use Rattle.std.proofs.Common.{arith, ◌≡◌, ◌<◌, ◌-◌, ◌+◌, ◌*◌, ◌∙◌, refl, sym}
 use Rattle.zy_lms.specs.Height.{levels_of}
 use Rattle.zy_lms.proofs.TreeLemmas.{climb_start, climb_level, climb_done}
 use Rattle.zy_lms.proofs.tree.climb.Goals as goal

@@ -1,4 +1,4 @@
-use Rattle.std.proofs.Common.{arith, ◌≡◌, ◌≤◌, ◌<◌, ◌-◌, ◌+◌, ◌*◌, ◌^◌, ◌∙◌, refl, length, sym}
+use Rattle.std.proofs.Common.{arith, ◌≡◌, ◌-◌, ◌+◌, ◌*◌, ◌^◌, length}
 use Rattle.zy_lms.specs.Height.{levels_of}
 use Rattle.zy_lms.proofs.NodesLemmas.{holds_none, holds_more, holds_all}
 use Rattle.zy_lms.proofs.tree.make_nodes.Goals as goal

@@ -1,4 +1,4 @@
-use Rattle.std.proofs.Common.{arith, ◌≡◌, ◌≤◌, ◌<◌, ◌^◌, ◌∙◌, refl}
+use Rattle.std.proofs.Common.{◌≤◌, ◌<◌, ◌^◌, ◌∙◌, refl}
 use Rattle.zy_lms.specs.Height.{levels_of}
 use Rattle.zy_lms.proofs.NodesLemmas.{leaf-tree_node, inner-tree_node}
 use Rattle.zy_lms.proofs.tree.node.Goals as goal

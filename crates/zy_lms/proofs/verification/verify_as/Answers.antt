@@ -1,11 +1,8 @@
-use Rattle.std.proofs.Common.{arith, ◌≡◌, ◌-◌, ◌+◌, ◌<◌, ◌^◌, ◌∙◌, length, take, drop, refl, ap, sym, length-drop}
+use Rattle.std.proofs.Common.{arith, ◌≡◌, ◌∙◌, take, drop, refl, sym, length-drop}
 use Rattle.std.proofs.lemmas.List.{take_all}
 use Rattle.std.proofs.lemmas.Slice.Eq.{slice_eq-Decides}
 use Rattle.std.proofs.lemmas.Bool.Decides.{Decides-eqb}
-use Rattle.zy_ots.specs.Coef.{number_at}
-use Rattle.zy_ots.specs.OtsType.{signature_len_of}
-use Rattle.zy_lms.specs.Height.{levels_of, type_number_of}
-use Rattle.zy_lms.specs.Lms.{VerifiesAs, candidate_root, leaf_of}
+use Rattle.zy_lms.specs.Lms.{candidate_root}
 use Rattle.zy_lms.proofs.verification.verify_as.Goals as goal
 
 pub returns-in-Some : goal.returns-in-Some

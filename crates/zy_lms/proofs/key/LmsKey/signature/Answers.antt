@@ -1,4 +1,4 @@
-use Rattle.std.proofs.Common.{refl, ◌∙◌}
+use Rattle.std.proofs.Common.{refl}
 use Rattle.zy_lms.specs.Lms.{signature_of}
 use Rattle.zy_lms.proofs.key.LmsKey.signature.Goals as goal
 
