@@ -1,6 +1,4 @@
 //! The replicated service: a space of tuples, which are put in, read and taken out (DepSpace, EuroSys 2008).
 #![tactic(auto)]
 
-mod space;
-
-pub use space::{Space, TUPLE_LIMIT};
+mod slots;
