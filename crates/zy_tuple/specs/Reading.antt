@@ -2,10 +2,9 @@
 -- Rule 1 is the first word; 2 a missing part, a separator, a bracket or the start of a field; 3 a number of
 -- fields that isn't 1 to 8; 4 a number; 5 a text field; 6 something after the end; 7 a wildcard in a tuple;
 -- 10 a reply's text.
-use Rattle.std.specs.Prelude.{◌≡◌, ℕ, zero, suc, ℤ, pos, neg_ℤ, ◌^◌, ◌==◌, nat_eq, nat_lt, nat_le, Bool, true, false, not, ◌&&◌, ◌||◌, if◌then◌else◌, List, [], ◌∷◌, length, take, drop, take_while, codes, Option, Some, None, option_map, Result, Ok, Err}
-use Rattle.std.specs.Str.{all_ascii_digits}
+use Rattle.std.specs.Prelude.{◌≡◌, ℕ, zero, suc, ℤ, pos, neg_ℤ, ◌^◌, ◌==◌, nat_lt, nat_le, Bool, true, false, not, ◌&&◌, ◌||◌, if◌then◌else◌, List, [], ◌∷◌, length, take, drop, take_while, codes, Option, Some, None, Result, Ok, Err}
+use Rattle.std.specs.Str.{all_ascii_digits, bytes_eq}
 use Rattle.std.specs.Str.Parse.{digits_value}
-use Rattle.std.specs.Cmp.Lexicographic.{pointwise}
 use Rattle.std.specs.Char.{is_ascii_digit}
 use Rattle.zy_tuple.specs.Values.{is_printable}
 use Rattle.zy_tuple.specs.declared.values.Field.{Field}
@@ -135,9 +134,6 @@ space_at (c ∷ line) = if c == 32 then Ok line else Err 2
 abbrev pub in_word : ℕ → Bool
 in_word c = not (c == 32)
 
-abbrev pub is_text : List ℕ → List ℕ → Bool
-is_text a b = pointwise nat_eq a b
-
 abbrev pub finished : {A : Type 0} → A → List ℕ → Result A ℕ
 finished value [] = Ok value
 finished value (c ∷ line) = Err 6
@@ -154,15 +150,15 @@ unfoldable pub op_read : List ℕ → Result Op ℕ
 op_read line =
     let word = take_while in_word line in
     let rest = drop (length word) line in
-    if is_text word (codes "out")
+    if bytes_eq word (codes "out")
     then (tuple_part rest >>= λ tuple. finished (Out tuple.0) tuple.1)
-    else (if is_text word (codes "rdp")
-          then (template_part rest >>= λ template. finished (Rdp template.0) template.1)
-          else (if is_text word (codes "inp")
-                then (template_part rest >>= λ template. finished (Inp template.0) template.1)
-                else (if is_text word (codes "cas")
-                      then (template_part rest >>= λ template. tuple_part template.1 >>= λ tuple. finished (Cas template.0 tuple.0) tuple.1)
-                      else Err 1)))
+    else (if bytes_eq word (codes "rdp")
+    then (template_part rest >>= λ template. finished (Rdp template.0) template.1)
+    else (if bytes_eq word (codes "inp")
+    then (template_part rest >>= λ template. finished (Inp template.0) template.1)
+    else (if bytes_eq word (codes "cas")
+    then (template_part rest >>= λ template. tuple_part template.1 >>= λ tuple. finished (Cas template.0 tuple.0) tuple.1)
+    else Err 1)))
 
 -- ---- replies
 
@@ -170,13 +166,18 @@ abbrev pub whole_tuple : Result (List Field × List ℕ) ℕ → Result Reply �
 whole_tuple (Ok tuple) = if length tuple.1 == 0 then Ok (Got tuple.0) else Err 10
 whole_tuple (Err rule) = Err 10
 
+unfoldable pub got_read : List ℕ → Result Reply ℕ
+got_read text = if bytes_eq (take 6 text) (codes "tuple ") then whole_tuple (list_at field_at (drop 6 text)) else Err 10
+
 -- the reply that a text is; anything else has rule 10
 unfoldable pub reply_read : List ℕ → Result Reply ℕ
 reply_read text =
-    if is_text text (codes "ok") then Ok Done
-    else (if is_text text (codes "none") then Ok Nothing
-    else (if is_text text (codes "true") then Ok True
-    else (if is_text text (codes "false") then Ok False
-    else (if is_text text (codes "full") then Ok Full
-    else (if is_text text (codes "bad") then Ok Bad
-    else (if is_text (take 6 text) (codes "tuple ") then whole_tuple (list_at field_at (drop 6 text)) else Err 10))))))
+    if bytes_eq text (codes "ok")
+    then Ok Done
+    else (if bytes_eq text (codes "none")
+    then Ok Nothing
+    else (if bytes_eq text (codes "true")
+    then Ok True
+    else (if bytes_eq text (codes "false")
+    then Ok False
+    else (if bytes_eq text (codes "full") then Ok Full else (if bytes_eq text (codes "bad") then Ok Bad else got_read text)))))

@@ -23,11 +23,13 @@ abbrev pub slot_text : Slot → List ℕ
 slot_text Any = 42 ∷ []
 slot_text (Is field) = field_text field
 
+abbrev pub behind_space : List ℕ → List ℕ
+behind_space text = 32 ∷ text
+
 -- texts with one space (32) between two
 abbrev pub spaced : List (List ℕ) → List ℕ
 spaced [] = []
-spaced (text ∷ []) = text
-spaced (text ∷ next ∷ texts) = text ++ 32 ∷ spaced (next ∷ texts)
+spaced (text ∷ texts) = text ++ flat_map behind_space texts
 
 -- in round brackets (40 and 41)
 abbrev pub bracketed : List (List ℕ) → List ℕ

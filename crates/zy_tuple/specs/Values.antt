@@ -1,5 +1,5 @@
 -- What tuples, templates, operations and replies may be, and when a template matches (DepSpace, section 2).
-use Rattle.std.specs.Prelude.{ℕ, ℤ, ◌≤◌, ◌==◌, nat_eq, nat_le, Bool, true, false, ◌&&◌, List, [], ◌∷◌, length, All, FitsSigned}
+use Rattle.std.specs.Prelude.{ℕ, ◌≤◌, nat_eq, nat_le, Bool, true, false, ◌&&◌, List, [], ◌∷◌, length, FitsSigned}
 use Rattle.std.specs.Int.{w64}
 use Rattle.std.specs.Ordering.{int_eq}
 use Rattle.std.specs.List.{AllByRecursion}

@@ -3,8 +3,12 @@
 
 mod fault;
 mod matching;
+mod reading;
 mod values;
+mod writing;
 
 pub use fault::LineFault;
 pub use matching::matches;
+pub use reading::{op_text_read, reply_text_read};
 pub use values::{Field, Op, Reply, Slot, Template, Tuple};
+pub use writing::{op_text, reply_text};

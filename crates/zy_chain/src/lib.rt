@@ -1,0 +1,9 @@
+//! Histories: entries as bytes, their digests, and the heads of lists of them.
+#![tactic(auto)]
+
+mod entry;
+
+pub use entry::{EMPTY_HEAD, Entry, entry_bytes, entry_digest, next_head};
+
+#[cfg(test)]
+mod tests;

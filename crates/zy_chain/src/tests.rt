@@ -1,0 +1,53 @@
+use super::*;
+use std::test::Fail;
+use zy_base::{Bytes, ClientId, Digest, Stamp};
+
+const JOB: &[u8] = b"\x01\x02\x02\x03job\x01\x00\x00\x00\x00\x00\x00\x00\x01";
+
+// Three entries, and for each the bytes before its operation, its digest, and the head after it.
+#[test]
+fn entries_digests_and_heads(rt: HostRuntime) -> Result<(), Fail> {
+    let long = [0xff; 1100];
+    let mut head = EMPTY_HEAD;
+    for (client, stamp, op, front, digest, next) in [
+        (
+            0,
+            1,
+            JOB,
+            b"\x00\x00\x00\x00\x00\x00\x00\x00\x00\x00\x00\x01\x00\x10",
+            b"\x50\xa5\xb8\xbb\x97\xd8\xe4\x2d\xb3\x32\x4f\x0c\x72\xb2\x0a\x6d\x43\xbf\xf0\x51\xf4\x21\xe5\xaf\x6c\xf9\x7a\xee\x45\x2f\xf7\xd1",
+            b"\xcf\xb4\x96\x37\x2e\x0e\xc6\x21\x0f\xaf\x88\x27\x25\xbb\xbd\x79\x5d\x1b\x86\xa5\x2e\xe1\xcc\x3d\x4e\xce\x11\x8a\xcd\xa1\xb6\x1e",
+        ),
+        (
+            4_294_967_295,
+            4_611_686_018_427_387_903,
+            b"".as_slice(),
+            b"\xff\xff\xff\xff\x3f\xff\xff\xff\xff\xff\xff\xff\x00\x00",
+            b"\x5d\x0b\xa8\x0e\x26\x0f\x3b\x4a\xea\xce\xb9\xde\x2f\xfd\x9d\x5c\x7b\x90\x95\x77\x33\x75\x28\xa1\xdb\x7f\x59\xda\x09\x5d\x4b\x9a",
+            b"\x44\x11\x94\x50\x2f\xd7\x12\x24\x38\x74\x18\x36\x3c\x89\xb9\x62\xe8\xe1\x4a\x48\x02\xb9\x93\x91\x39\x54\x7d\x12\xb2\xee\xb6\xd4",
+        ),
+        (
+            7,
+            0,
+            long.as_slice(),
+            b"\x00\x00\x00\x07\x00\x00\x00\x00\x00\x00\x00\x00\x04\x4c",
+            b"\x4c\x84\x40\x14\x99\xfc\xb0\xb0\xeb\xd7\xcd\x2d\x52\x94\x28\xdb\xd3\xae\x4e\xac\x07\xa7\x6d\x0c\x5a\x18\x53\xa2\xda\x81\x2d\x50",
+            b"\x68\x0d\x0a\x43\xbe\xbf\x8d\xb2\xd7\xfb\x33\xe3\xf6\xea\x1b\x21\xa9\x87\x3d\x98\x72\x08\xae\x01\x8a\xa3\xd5\x7f\xfb\x15\x3f\x5d",
+        ),
+    ] {
+        assert!(rt; stamp < 1 << 62 && op.len() <= 1100);
+        let entry = Entry {
+            client: ClientId(client),
+            stamp: Stamp(stamp),
+            op: Bytes::from_slice(rt.alloc(), op)?,
+        };
+        let bytes = entry_bytes(rt.alloc(), &entry)?;
+        assert!(rt; bytes.as_slice().starts_with(front));
+        assert!(rt; bytes.as_slice().ends_with(op));
+        assert_eq!(rt; bytes.len(), 14 + op.len());
+        assert_eq!(rt; entry_digest(&entry), Digest(*digest));
+        head = next_head(&head, &Digest(*digest));
+        assert_eq!(rt; head, Digest(*next));
+    }
+    Ok(())
+}

@@ -1,0 +1,5 @@
+pub mod BlockLemmas
+pub mod ChainLemmas
+pub mod CoefLemmas
+pub mod OneTimeLemmas
+pub mod NumberLemmas

@@ -1,0 +1,5 @@
+pub mod OtsType
+pub mod Coef
+pub mod Link
+pub mod Chain
+pub mod OneTime

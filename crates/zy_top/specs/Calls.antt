@@ -1,0 +1,47 @@
+-- What the parts of the top call give, and how each may stop.
+use Rattle.std.specs.Prelude.{◌≡◌, ℕ, ◌<◌, ◌≤◌, Bool, true, false, List, length, Option, IfSome, Result, Ok, Err, Vec, ⊤}
+use Rattle.std.specs.declared.alloc.Global.{Global}
+use Rattle.std.specs.Io.KnownBytes.{Appends}
+use Rattle.zy_tuple.specs.Script.{TextFault}
+use Rattle.zy_tuple.specs.declared.values.Op.{Op}
+use Rattle.zy_top.specs.Words.{Command}
+use Rattle.zy_top.specs.declared.words.Command as commands
+use Rattle.zy_top.specs.Verdict.{AppendsFront, limit, is_read_fault, is_write_fault}
+use Rattle.zy_top.specs.declared.exit.Exit.{Exit}
+use Rattle.zy_top.specs.declared.exit.Exit.TheVariants as exits
+
+-- the bytes of a file, where they are told, were read to the end, or there are too many of them
+abbrev pub IsFileRead : Option (List ℕ) → Result (Vec ℕ Global) Exit → Type 0
+IsFileRead told (Ok text) = IfSome told (λ content. text.items ≡ content) × (length text.items ≤ limit)
+IsFileRead told (Err exits.TooLong) = IfSome told (λ content. limit < length content)
+IsFileRead told (Err exits.ReadFault) = ⊤
+IsFileRead told (Err exits.Want) = ⊤
+IsFileRead told (Err exit) = ⊥
+
+-- whether a call stopped at a fault of the files, or of the sink
+abbrev pub stops_reading : {T : Type 0} → Result T Exit → Bool
+stops_reading (Ok _) = false
+stops_reading (Err exit) = is_read_fault exit
+
+abbrev pub stops_writing : {T : Type 0} → Result T Exit → Bool
+stops_writing (Ok _) = false
+stops_writing (Err exit) = is_write_fault exit
+
+-- the operations of a script, or its first fault
+abbrev pub IsScriptRead : Result (List Op) TextFault → Result (List Op) Exit → Type 0
+IsScriptRead read (Ok ops) = read ≡ Ok ops
+IsScriptRead read (Err (exits.Text line rule)) = read ≡ Err (record { line = line; rule = rule })
+IsScriptRead read (Err exits.Want) = ⊤
+IsScriptRead read (Err exit) = ⊥
+
+-- all was written, or a front of it
+abbrev pub IsSent : Option (List ℕ) → Option (List ℕ) → List ℕ → Result (Unit {0}) Exit → Type 0
+IsSent old new bytes (Ok _) = Appends old new bytes
+IsSent old new bytes (Err exits.WriteFault) = AppendsFront old new bytes
+IsSent old new bytes (Err exits.Want) = AppendsFront old new bytes
+IsSent old new bytes (Err exit) = ⊥
+
+-- the command that the words ask for, or the first word that is wrong
+abbrev pub IsCommand : Result Command ℕ → Result commands.Command ℕ → Type 0
+IsCommand read (Ok (commands.TheVariants.Space script)) = read ≡ Ok (Command.Space script.now)
+IsCommand read (Err word) = read ≡ Err word

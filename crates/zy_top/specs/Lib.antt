@@ -1,0 +1,3 @@
+pub mod Words
+pub mod Verdict
+pub mod Calls

@@ -1,0 +1,47 @@
+ghost use Rattle.std.specs.Prelude.{◌≡◌};
+ghost use Rattle.zy_top.specs.declared.exit.Exit.TheVariants as exits;
+
+use std::alloc::{AllocError, AllocFailed};
+
+/// How a run ended.
+#[derive(Clone, Copy, Debug, PartialEq, Eq)]
+pub enum Exit {
+    /// The input was read to its end, and the whole report was written.
+    Done,
+    /// The word with this number, counted from 1, isn't allowed, is missing or is too many; it is the first such.
+    Usage(u64),
+    /// A file could not be chosen or read.
+    ReadFault,
+    /// The sink failed. What it took is a front of the report.
+    WriteFault,
+    /// The first line that can't be read, counted from 1, and the rule of its first fault.
+    Text { line: u64, rule: u8 },
+    /// Want of memory.
+    Want,
+    /// A file gave more than 16,777,216 bytes.
+    TooLong,
+}
+
+impl From<AllocError> for Exit {
+    ghost from_gives = { λ _ e. e ≡ exits.Want };
+
+    fn from(_: AllocError) -> Exit {
+        Exit::Want
+    }
+}
+
+impl<T: Drop> From<AllocFailed<T>> for Exit {
+    ghost from_gives = { λ _ e. e ≡ exits.Want };
+
+    fn from(_: AllocFailed<T>) -> Exit {
+        Exit::Want
+    }
+}
+
+impl From<zy_base::Want> for Exit {
+    ghost from_gives = { λ _ e. e ≡ exits.Want };
+
+    fn from(_: zy_base::Want) -> Exit {
+        Exit::Want
+    }
+}

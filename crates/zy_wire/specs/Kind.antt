@@ -1,0 +1,17 @@
+-- A frame's first two bytes.
+use Rattle.std.specs.Prelude.{ℕ, List, [], ◌∷◌, length, Result, Ok, Err, nat_lt, ◌==◌, ◌||◌, if◌then◌else◌}
+use Rattle.zy_base.specs.declared.frame_fault.FrameFault.{FrameFault}
+use Rattle.zy_base.specs.declared.frame_fault.FrameFault.TheVariants.{Short, Version, Kind, TooLong}
+use Rattle.zy_wire.specs.declared.kind.TheConstants.{VERSION, MAX_FRAME, MAX_KIND}
+
+abbrev pub kind_behind : List ℕ → Result ℕ FrameFault
+kind_behind [] = Err Short
+kind_behind (kind ∷ fields) = if kind == 0 || nat_lt MAX_KIND kind then Err Kind else Ok kind
+
+abbrev pub kind_of_parts : List ℕ → Result ℕ FrameFault
+kind_of_parts [] = Err Short
+kind_of_parts (version ∷ behind) = if version == VERSION then kind_behind behind else Err Version
+
+-- the kind that a frame's first two bytes say, or the first fault
+abbrev pub kind_in : List ℕ → Result ℕ FrameFault
+kind_in bytes = if nat_lt MAX_FRAME (length bytes) then Err TooLong else kind_of_parts bytes

@@ -1,0 +1,14 @@
+//! Fields as bytes: a reader that cuts them from the left, a writer that puts them at the end, and the spellings that
+//! both keep.
+#![tactic(auto)]
+
+mod cut;
+mod kind;
+mod put;
+
+pub use cut::Cut;
+pub use kind::{MAX_FRAME, MAX_KIND, VERSION, kind_of};
+pub use put::Put;
+
+#[cfg(test)]
+mod tests;
