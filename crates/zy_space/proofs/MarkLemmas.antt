@@ -4,6 +4,7 @@ use Rattle.std.specs.List.{AllByRecursion}
 use Rattle.std.proofs.lemmas.List.{reverse-append, map-append, length-take, length-append, take_at}
 use Rattle.std.proofs.lemmas.Grind.{common_steps}
 use Rattle.std.proofs.lemmas.Bool.{cases_eq}
+use Rattle.std.proofs.lemmas.Option.{same_Some}
 use Rattle.zy_tuple.specs.declared.values.Field.{Field}
 use Rattle.zy_tuple.specs.Values.{IsTuple}
 use Rattle.zy_space.specs.declared.slots.Mark.{Mark}
@@ -11,7 +12,7 @@ use Rattle.zy_space.specs.declared.slots.Mark.TheVariants.{Live, Taken, Gone}
 use Rattle.zy_space.specs.declared.slots.Slot.{Slot}
 use Rattle.zy_space.specs.declared.slots.Change.{Change}
 use Rattle.zy_space.specs.declared.slots.Change.TheVariants.{Same, Put, Took}
-use Rattle.zy_space.specs.Marks.{is_live, is_gone, is_kept, live_of, marked, mark_at, undone, earlier, trail_of, CanUndo, CanForget, forgotten, LeadsBack, HoldsTuple, IsSound, IsStep, numbered, rank_at, renamed}
+use Rattle.zy_space.specs.Marks.{is_live, is_gone, is_kept, live_of, marked, mark_at, tuple_at, undone, earlier, trail_of, CanUndo, CanForget, forgotten, LeadsBack, HoldsTuple, IsSound, IsStep, numbered, rank_at, renamed}
 
 -- ---- marks
 
@@ -491,3 +492,15 @@ length-live_of-put slots can =
 pub no_trail : (slots : List Slot) (changes : List Change) → changes ≡ [] → 0 < length (trail_of slots changes) → ⊥
 unfolding earlier
 no_trail slots changes none some = let more : 0 < 0 = subst (λ (c : List Change). 0 < length (trail_of slots c)) none some in omega arith
+
+pub holds-tuple_at : (slots : List Slot) (place : ℕ) (tuple : List Field) → AllByRecursion HoldsTuple slots → tuple_at slots place ≡ Some tuple → IsTuple tuple
+holds-tuple_at [] place tuple all here = absurd (cc)
+holds-tuple_at (slot ∷ slots) zero tuple all here = subst IsTuple (same_Some slot.tuple tuple here) all.0
+holds-tuple_at (slot ∷ slots) (suc place) tuple all here = holds-tuple_at slots place tuple all.1 here
+
+-- a live slot less
+pub length-live_of-taken : (slots : List Slot) (place : ℕ) → mark_at slots place ≡ Live → length (live_of (marked Taken place slots)) + 1 ≡ length (live_of slots)
+length-live_of-taken slots place live =
+    let taken = mark_at-marked_same Taken place slots (live_within place slots live) in
+    let more = length-live_of-marked place (marked Taken place slots) taken in
+    sym more ∙ ap (λ (s : List Slot). length (live_of s)) (marked_back Live Taken place slots live)

@@ -84,6 +84,11 @@ pub record IsSound (slots : List Slot) (changes : List Change) : Type 0 where
   pub tuples : AllByRecursion HoldsTuple slots
   pub few : length (live_of slots) ≤ 4096
 
+-- the slots of a space, its changes, and how many slots are live
+pub record IsSpace (slots : List Slot) (changes : List Change) (live : ℕ) : Type 0 where
+  pub sound : IsSound slots changes
+  pub counted : live ≡ length (live_of slots)
+
 -- the slots and changes now hold these tuples, and lead back to what they held before
 pub record IsStep (slots slots' : List Slot) (changes changes' : List Change) (tuples : List (List Field)) : Type 0 where
   pub tuples_now : live_of slots' ≡ tuples
