@@ -96,8 +96,8 @@ live_of-append [] others = refl
 live_of-append (slot ∷ slots) others =
     let rest = live_of-append slots others in
     elim (is_live slot.mark) as (λ live. cond live (slot.tuple ∷ live_of (slots ++ others)) (live_of (slots ++ others)) ≡ cond live (slot.tuple ∷ live_of slots) (live_of slots) ++ live_of others) [
-      true ↦ ap (λ (tuples : List (List Field)). slot.tuple ∷ tuples) rest
-    | false ↦ rest
+      | true ↦ ap (λ (tuples : List (List Field)). slot.tuple ∷ tuples) rest
+      | false ↦ rest
     ]
 
 -- a mark in place of another one, neither of them live
@@ -115,8 +115,8 @@ length-live_of-marked zero (slot ∷ slots) taken = rw taken (omega arith)
 length-live_of-marked (suc place) (slot ∷ slots) taken =
     let rest = length-live_of-marked place slots taken in
     elim (is_live slot.mark) as (λ live. length (cond live (slot.tuple ∷ live_of (marked Live place slots)) (live_of (marked Live place slots))) ≡ length (cond live (slot.tuple ∷ live_of slots) (live_of slots)) + 1) [
-      true ↦ omega arith
-    | false ↦ rest
+      | true ↦ omega arith
+      | false ↦ rest
     ]
 
 -- ---- going back
@@ -166,7 +166,7 @@ left_step : (slots : List Slot) (change : Change) (changes : List Change) (place
 unfolding LeadsBack earlier
 left_step slots change changes place rest taken same can few =
     let live : live_of (marked Gone place (undone change slots)) ≡ live_of (undone change slots) =
-        live_of-marked_dead Gone place (undone change slots) refl (ap is_live rest.taken) in
+    live_of-marked_dead Gone place (undone change slots) refl (ap is_live rest.taken) in
     record {
       taken = taken;
       leads_back = (can, rw (same, live) few, rw same rest.leads_back);
@@ -187,20 +187,20 @@ left slots (Put ∷ changes) place leads taken =
     let apart : place ≡ length slots - 1 → ⊥ = λ same. omega arith in
     let taken_now : mark_at slots place ≡ Taken = sym (mark_at-take (length slots - 1) place slots below) ∙ rest.taken in
     left_step slots Put changes place rest taken_now
-        (rw length-marked (take-marked (length slots - 1) Gone place slots))
-        (rw length-marked (leads.0.0, mark_at-marked_other Gone place (length slots - 1) slots apart ∙ leads.0.1))
-        leads.1
+    (rw length-marked (take-marked (length slots - 1) Gone place slots))
+    (rw length-marked (leads.0.0, mark_at-marked_other Gone place (length slots - 1) slots apart ∙ leads.0.1))
+    leads.1
 left slots (Took other ∷ changes) place leads taken =
     let before = marked Live other slots in
     let rest = left before changes place leads.2 taken in
     let apart : other ≡ place → ⊥ = λ same.
-        let live : mark_at before place ≡ Live = subst (λ (at : ℕ). mark_at before at ≡ Live) same (mark_at-marked_same Live other slots leads.0.0) in
-        let clash : Live ≡ Taken = sym live ∙ rest.taken in cc in
+    let live : mark_at before place ≡ Live = subst (λ (at : ℕ). mark_at before at ≡ Live) same (mark_at-marked_same Live other slots leads.0.0) in
+    let clash : Live ≡ Taken = sym live ∙ rest.taken in cc in
     let taken_now : mark_at slots place ≡ Taken = sym (mark_at-marked_other Live other place slots apart) ∙ rest.taken in
     left_step slots (Took other) changes place rest taken_now
-        (marked-marked_other Live Gone other place slots apart)
-        (rw length-marked (leads.0.0, mark_at-marked_other Gone place other slots (λ same. apart (sym same)) ∙ leads.0.1))
-        leads.1
+    (marked-marked_other Live Gone other place slots apart)
+    (rw length-marked (leads.0.0, mark_at-marked_other Gone place other slots (λ same. apart (sym same)) ∙ leads.0.1))
+    leads.1
 
 -- ---- leaving out the slots that are gone
 
@@ -218,17 +218,17 @@ rank_at-numbered next place [] within = absurd (omega arith)
 rank_at-numbered next zero (slot ∷ slots) within = omega arith
 rank_at-numbered next (suc place) (slot ∷ slots) within =
     elim (is_gone slot.mark) as (λ gone. rank_at (numbered (cond gone next (next + 1)) slots) place ≡ next + cond gone (kept_before place slots) (suc (kept_before place slots))) [
-      true ↦ rank_at-numbered next place slots (omega arith)
-    | false ↦ let rest = rank_at-numbered (next + 1) place slots (omega arith) in omega arith
+      | true ↦ rank_at-numbered next place slots (omega arith)
+      | false ↦ let rest = rank_at-numbered (next + 1) place slots (omega arith) in omega arith
     ]
 
 pub live_of-kept : (next : ℕ) (slots : List Slot) → live_of (kept_from next slots) ≡ live_of slots
 live_of-kept next [] = refl
 live_of-kept next (slot ∷ slots) =
     elim slot.mark as (λ mark. live_of (cond (not (is_gone mark)) (record { tuple = slot.tuple; mark = mark; rank = next } ∷ kept_from (cond (is_gone mark) next (next + 1)) slots) (kept_from (cond (is_gone mark) next (next + 1)) slots)) ≡ cond (is_live mark) (slot.tuple ∷ live_of slots) (live_of slots)) [
-      Live ↦ ap (λ (tuples : List (List Field)). slot.tuple ∷ tuples) (live_of-kept (next + 1) slots)
-    | Taken ↦ live_of-kept (next + 1) slots
-    | Gone ↦ live_of-kept next slots
+      | Live ↦ ap (λ (tuples : List (List Field)). slot.tuple ∷ tuples) (live_of-kept (next + 1) slots)
+      | Taken ↦ live_of-kept (next + 1) slots
+      | Gone ↦ live_of-kept next slots
     ]
 
 -- a taken slot is kept, and to set its mark back commutes with leaving out
@@ -240,13 +240,13 @@ kept_taken next zero (slot ∷ slots) taken = rw taken (refl, refl)
 kept_taken next (suc place) (slot ∷ slots) taken =
     let place_in : Mark → ℕ = λ mark. cond (is_gone mark) (kept_before place slots) (suc (kept_before place slots)) in
     let kept : Mark → List Slot → List Slot = λ mark others.
-        cond (not (is_gone mark)) (record { tuple = slot.tuple; mark = mark; rank = next } ∷ kept_from (cond (is_gone mark) next (next + 1)) others) (kept_from (cond (is_gone mark) next (next + 1)) others) in
+    cond (not (is_gone mark)) (record { tuple = slot.tuple; mark = mark; rank = next } ∷ kept_from (cond (is_gone mark) next (next + 1)) others) (kept_from (cond (is_gone mark) next (next + 1)) others) in
     elim slot.mark as (λ mark. (mark_at (kept mark slots) (place_in mark) ≡ Taken) × (marked Live (place_in mark) (kept mark slots) ≡ kept mark (marked Live place slots))) [
-      Live ↦ let rest = kept_taken (next + 1) place slots taken in
+      | Live ↦ let rest = kept_taken (next + 1) place slots taken in
           (rest.0, ap (λ (others : List Slot). record { tuple = slot.tuple; mark = Live; rank = next } ∷ others) rest.1)
-    | Taken ↦ let rest = kept_taken (next + 1) place slots taken in
+      | Taken ↦ let rest = kept_taken (next + 1) place slots taken in
           (rest.0, ap (λ (others : List Slot). record { tuple = slot.tuple; mark = Taken; rank = next } ∷ others) rest.1)
-    | Gone ↦ kept_taken next place slots taken
+      | Gone ↦ kept_taken next place slots taken
     ]
 
 pub kept_before-marked : (at place : ℕ) (slots : List Slot) → mark_at slots place ≡ Taken → kept_before at (marked Live place slots) ≡ kept_before at slots
@@ -289,13 +289,13 @@ kept_last next [] last live = (record last { rank = next }, live, rw live refl)
 kept_last next (slot ∷ front) last live =
     let others = front ++ last ∷ [] in
     let kept : Mark → List Slot → List Slot = λ mark rest.
-        cond (not (is_gone mark)) (record { tuple = slot.tuple; mark = mark; rank = next } ∷ kept_from (cond (is_gone mark) next (next + 1)) rest) (kept_from (cond (is_gone mark) next (next + 1)) rest) in
+    cond (not (is_gone mark)) (record { tuple = slot.tuple; mark = mark; rank = next } ∷ kept_from (cond (is_gone mark) next (next + 1)) rest) (kept_from (cond (is_gone mark) next (next + 1)) rest) in
     elim slot.mark as (λ mark. (end : Slot) × (end.mark ≡ Live) × (kept mark others ≡ kept mark front ++ end ∷ [])) [
-      Live ↦ let rest = kept_last (next + 1) front last live in
+      | Live ↦ let rest = kept_last (next + 1) front last live in
           (rest.0, rest.1, ap (λ (them : List Slot). record { tuple = slot.tuple; mark = Live; rank = next } ∷ them) rest.2)
-    | Taken ↦ let rest = kept_last (next + 1) front last live in
+      | Taken ↦ let rest = kept_last (next + 1) front last live in
           (rest.0, rest.1, ap (λ (them : List Slot). record { tuple = slot.tuple; mark = Taken; rank = next } ∷ them) rest.2)
-    | Gone ↦ kept_last next front last live
+      | Gone ↦ kept_last next front last live
     ]
 
 -- a change leads back from the kept slots as it does from all of them
@@ -325,7 +325,7 @@ followed name slots Put names can =
     let ends = snoc slots can.0 in
     let live : ends.1.mark ≡ Live = sym (mark_at-last ends.0 ends.1) ∙ subst (λ (s : List Slot). mark_at s (length s - 1) ≡ Live) ends.2 can.1 in
     subst (λ (s : List Slot). IsFollowed name s Put) (sym ends.2)
-        (followed_put name ends.0 ends.1 live (subst (λ (s : List Slot). (place : ℕ) → place < length s → name place ≡ kept_before place s) ends.2 names))
+    (followed_put name ends.0 ends.1 live (subst (λ (s : List Slot). (place : ℕ) → place < length s → name place ≡ kept_before place s) ends.2 names))
 followed name slots (Took place) names can =
     let here = kept_taken 0 place slots can.1 in
     let at = names place can.0 in
@@ -344,17 +344,18 @@ compacted name slots (change ∷ changes) names leads =
     let before = undone change slots in
     let follow = followed name slots change names leads.0 in
     let rest = compacted name before changes follow.names leads.2 in
-    let live = live_of-kept 0 before in
-    ((follow.can, rw (follow.back, live) leads.1, rw follow.back rest.0),
-     rw (follow.back, live) (ap (λ (states : List (List (List Field))). live_of before ∷ states) rest.1))
+    let live = live_of-kept 0 before in (
+      (follow.can, rw (follow.back, live) leads.1, rw follow.back rest.0),
+      rw (follow.back, live) (ap (λ (states : List (List (List Field))). live_of before ∷ states) rest.1),
+    )
 
 pub kept_tuples : (next : ℕ) (slots : List Slot) → AllByRecursion HoldsTuple slots → AllByRecursion HoldsTuple (kept_from next slots)
 kept_tuples next [] all = tt
 kept_tuples next (slot ∷ slots) all =
     elim slot.mark as (λ mark. AllByRecursion HoldsTuple (cond (not (is_gone mark)) (record { tuple = slot.tuple; mark = mark; rank = next } ∷ kept_from (cond (is_gone mark) next (next + 1)) slots) (kept_from (cond (is_gone mark) next (next + 1)) slots))) [
-      Live ↦ (all.0, kept_tuples (next + 1) slots all.1)
-    | Taken ↦ (all.0, kept_tuples (next + 1) slots all.1)
-    | Gone ↦ kept_tuples next slots all.1
+      | Live ↦ (all.0, kept_tuples (next + 1) slots all.1)
+      | Taken ↦ (all.0, kept_tuples (next + 1) slots all.1)
+      | Gone ↦ kept_tuples next slots all.1
     ]
 
 pub map-reverse : (f : Change → Change) (changes : List Change) → reverse (map f changes) ≡ map f (reverse changes)
@@ -464,7 +465,7 @@ forget_one slots changes oldest sound =
     let turned : reverse (oldest ∷ changes) ≡ reverse changes ++ oldest ∷ [] = reverse-append (oldest ∷ []) changes in
     let leads = leads-append slots (reverse changes) oldest (subst (LeadsBack slots) turned sound.leads_back) in
     let before : drop 1 (trail_of slots (oldest ∷ changes)) ≡ trail_of slots changes =
-        rw (turned, earlier-append slots (reverse changes) oldest) (drop-reverse (earlier slots (reverse changes)) (live_of (undone oldest (rewound slots (reverse changes))))) in
+    rw (turned, earlier-append slots (reverse changes) oldest) (drop-reverse (earlier slots (reverse changes)) (live_of (undone oldest (rewound slots (reverse changes))))) in
     by_change oldest leads before
   where
     by_change : (oldest : Change) → LeadsBack slots (reverse changes) × CanUndo oldest (rewound slots (reverse changes))

@@ -155,11 +155,7 @@ pub fn stay(slots: &[Slot], changes: &mut VecDeque<Change>) -> Result<(), Want>
 }
 
 /// Puts a tuple at the end.
-pub fn put(
-    slots: &mut Vec<Slot>,
-    changes: &mut VecDeque<Change>,
-    tuple: Tuple,
-) -> Result<(), Want>
+pub fn put(slots: &mut Vec<Slot>, changes: &mut VecDeque<Change>, tuple: Tuple) -> Result<(), Want>
     requires sound { IsSound slots.old.items changes.old.items }
     requires tuple { IsTuple tuple }
     requires room { length (live_of slots.old.items) < 4096 }

@@ -31,8 +31,8 @@ live_of-taken (slot ∷ slots) zero within = refl
 live_of-taken (slot ∷ slots) (suc place) within =
     let rest = live_of-taken slots place (omega arith) in
     elim (is_live slot.mark) as (λ live. cond live (slot.tuple ∷ live_of (marked Taken place slots)) (live_of (marked Taken place slots)) ≡ cond live (slot.tuple ∷ live_of (take place slots)) (live_of (take place slots)) ++ live_of (drop (suc place) slots)) [
-      true ↦ ap (λ (tuples : List (List Field)). slot.tuple ∷ tuples) rest
-    | false ↦ rest
+      | true ↦ ap (λ (tuples : List (List Field)). slot.tuple ∷ tuples) rest
+      | false ↦ rest
     ]
 
 -- where no match stands before it, a match is the oldest
@@ -61,8 +61,8 @@ passed : (template : List TemplateSlot) (slot : Slot) (slots : List Slot) → (i
 passed template slot slots miss =
     let rest = live_of slots in
     elim (is_live slot.mark) as (λ live. (live && matches template slot.tuple) ≡ false → (oldest template (cond live (slot.tuple ∷ rest) rest) ≡ oldest template rest) × (without_oldest template (cond live (slot.tuple ∷ rest) rest) ≡ cond live (slot.tuple ∷ []) [] ++ without_oldest template rest)) [
-      true ↦ λ unlike. (ap (λ (b : Bool). cond b (Some slot.tuple) (oldest template rest)) unlike, ap (λ (b : Bool). cond b rest (slot.tuple ∷ without_oldest template rest)) unlike)
-    | false ↦ λ _. (refl, refl)
+      | true ↦ λ unlike. (ap (λ (b : Bool). cond b (Some slot.tuple) (oldest template rest)) unlike, ap (λ (b : Bool). cond b rest (slot.tuple ∷ without_oldest template rest)) unlike)
+      | false ↦ λ _. (refl, refl)
     ] miss
 
 one_on : (template : List TemplateSlot) (slots : List Slot) (place : ℕ) (slot : Slot) → place < length slots → slot ≡ get_or slots place slot
@@ -76,20 +76,21 @@ one_on template slots place slot within is miss earlier others =
     let here : drop place slots ≡ slot ∷ next = rw add-one (drop-cons slots place slot within ∙ ap (λ (s : Slot). s ∷ drop (suc place) slots) (sym is)) in
     let pass = passed template slot next miss in
     let more : take (place + 1) slots ≡ take place slots ++ slot ∷ [] = take_more slots place slot within ∙ ap (λ (s : Slot). take place slots ++ s ∷ []) (sym is) in
-    let front : live_of (take (place + 1) slots) ≡ live_of (take place slots) ++ live_of (slot ∷ []) = ap live_of more ∙ live_of-append (take place slots) (slot ∷ []) in
-    (sym pass.0 ∙ sym (ap (λ (s : List Slot). oldest template (live_of s)) here) ∙ earlier,
-     ap (λ (t : List (List Field)). t ++ without_oldest template (live_of next)) front
-     ∙ append_assoc (live_of (take place slots)) (live_of (slot ∷ [])) (without_oldest template (live_of next))
-     ∙ ap (λ (t : List (List Field)). live_of (take place slots) ++ t) (sym pass.1 ∙ sym (ap (λ (s : List Slot). without_oldest template (live_of s)) here))
-     ∙ others)
+    let front : live_of (take (place + 1) slots) ≡ live_of (take place slots) ++ live_of (slot ∷ []) = ap live_of more ∙ live_of-append (take place slots) (slot ∷ []) in (
+      sym pass.0 ∙ sym (ap (λ (s : List Slot). oldest template (live_of s)) here) ∙ earlier,
+      ap (λ (t : List (List Field)). t ++ without_oldest template (live_of next)) front
+          ∙ append_assoc (live_of (take place slots)) (live_of (slot ∷ [])) (without_oldest template (live_of next))
+          ∙ ap (λ (t : List (List Field)). live_of (take place slots) ++ t) (sym pass.1 ∙ sym (ap (λ (s : List Slot). without_oldest template (live_of s)) here))
+          ∙ others,
+    )
 
 pub returns-then-is_match-clause-found : goal.returns-then-is_match-clause-found
 returns-then-is_match-clause-found c =
     first_match c.args.template.now c.args.slots.now c.loop-place.place c.index-slots-place.result c.loop-place-test.true c.index-slots-place.is
-        (and_parts _ _ (sym c.is_match.ensures ∙ c.if-is_match.true)) c.loop-place.invariant.oldest_left c.loop-place.invariant.others
+    (and_parts _ _ (sym c.is_match.ensures ∙ c.if-is_match.true)) c.loop-place.invariant.oldest_left c.loop-place.invariant.others
 
 pub loop-place-preserved : goal.loop-place-preserved
 loop-place-preserved c =
     let on = one_on c.args.template.now c.args.slots.now c.loop-place.place c.index-slots-place.result c.loop-place-test.true c.index-slots-place.is
-        (sym c.is_match.ensures ∙ c.if-is_match.false) c.loop-place.invariant.oldest_left c.loop-place.invariant.others in
+    (sym c.is_match.ensures ∙ c.if-is_match.false) c.loop-place.invariant.oldest_left c.loop-place.invariant.others in
     record { oldest_left = on.0; others = on.1 }
