@@ -33,9 +33,6 @@ leaves_fit H5 = omega arith
 leaves_fit H10 = omega arith
 
 module _ (k : KeyState) (message : List ℕ) (sized : length k.id ≡ 16) (left : k.next < 2 ^ levels_of k.height) where
-  h : ℕ
-  h = levels_of k.height
-
   height_bytes : List ℕ
   height_bytes = to_be_bytes w32 (type_number_of k.height)
 

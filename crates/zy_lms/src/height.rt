@@ -43,6 +43,7 @@ impl Height {
         }
     }
 
+    /// How many leaves a tree of this height has.
     pub fn leaf_count(self) -> u32
         ensures { result ≡ 2 ^ levels_of self }
     {

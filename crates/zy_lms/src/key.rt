@@ -32,7 +32,8 @@ impl From<Want> for SignFault {
     }
 }
 
-/// A secret key with its tree, and the leaf that signs next.
+/// A secret key with its tree, and the leaf that signs next. It isn't `Clone`, since a copy would
+/// sign by the same leaves again.
 #[derive(Drop)]
 pub struct LmsKey {
     seed: [u8; 32],

@@ -86,12 +86,17 @@ fn parent(id: &[u8; 16], r: u32, value: &Digest, beside: &[u8]) -> Digest
 }
 
 /// The root that a leaf's value and its path of 32 bytes a level lead to.
-pub(crate) fn climb(id: &[u8; 16], height: Height, leaf: u32, value: Digest, path: &[u8]) -> Digest
+pub(crate) fn climb(
+    id: &[u8; 16],
+    height: Height,
+    leaf: u32,
+    mut value: Digest,
+    path: &[u8],
+) -> Digest
     requires node { 2 ^ levels_of height ≤ leaf }
     requires whole { length path.now ≡ 32 * levels_of height }
     ensures { result.0 ≡ climb id.now leaf value.0 (nodes_in (levels_of height) path.now) }
 {
-    let mut value = value;
     'levels: for level in 0..height.levels() {
         let beside = &path[32 * level..32 * level + 32];
         value = parent(id, leaf >> level, &value, beside);
