@@ -6,3 +6,6 @@ mod sealer;
 
 pub use directory::{Directory, SealAnswer, check};
 pub use sealer::{SealFault, Sealer};
+
+#[cfg(test)]
+mod tests;
