@@ -2,8 +2,10 @@
 #![tactic(auto)]
 
 mod entry;
+mod spine;
 
 pub use entry::{EMPTY_HEAD, Entry, entry_bytes, entry_digest, next_head};
+pub use spine::Spine;
 
 #[cfg(test)]
 mod tests;

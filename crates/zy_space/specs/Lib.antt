@@ -1,2 +1,4 @@
 pub mod TupleSpace
 pub mod Place
+pub mod Marks
+pub mod Timeline

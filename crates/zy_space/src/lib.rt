@@ -1,6 +1,8 @@
-//! The replicated service: a space of tuples, which are put in, read and taken out (DepSpace, EuroSys 2008).
+//! The replicated service: a space of tuples, which are put in, read and taken out (DepSpace, EuroSys 2008). It can
+//! go back to its earlier states until these are forgotten.
 #![tactic(auto)]
 
+mod slots;
 mod space;
 
 pub use space::{Space, TUPLE_LIMIT};

@@ -1,101 +1,146 @@
-ghost use Rattle.std.specs.Prelude.{◌≡◌, List, [], length, IfOk, OnErr, IfSome, IfNone};
-ghost use Rattle.zy_space.specs.TupleSpace.{inserted, step};
-ghost use Rattle.zy_space.specs.Place.{IsOldestAt, IsAbsent};
+ghost use Rattle.std.specs.Prelude.{◌≡◌, ◌<◌, List, [], ◌∷◌, ◌++◌, length, drop, IfOk, OnOk, OnErr, IfSome, IfNone};
+ghost use Rattle.zy_tuple.specs.Values.{IsOp, IsReply, IsTuple};
+ghost use Rattle.zy_space.specs.TupleSpace.{inserted, found, oldest, without_oldest, step};
+ghost use Rattle.zy_space.specs.Timeline.{Timeline, onward};
 
+use crate::slots::{self, Change, Slot};
 use std::alloc::Global;
+use std::collections::VecDeque;
 use std::marker::Model;
 use zy_base::{ClientId, Want};
-use zy_tuple::{Op, Reply, Template, Tuple, matches};
+use zy_tuple::{Op, Reply, Template, Tuple};
 
 /// How many tuples a space may hold.
-pub const TUPLE_LIMIT: usize = 4096;
+pub const TUPLE_LIMIT: u64 = 4096;
 
-/// A space of tuples. Contracts see the list of its tuples, oldest first.
+/// A space of tuples that can go back. Contracts see its tuples, and those of each earlier state, oldest first.
 #[derive(Debug, Drop)]
 pub struct Space {
-    tuples: Vec<Tuple>,
+    slots: Vec<Slot>,
+    changes: VecDeque<Change>,
+    // how many slots are live
+    live: u64,
+    // how many slots wait to be left out
+    gone: usize,
 }
 
 impl Model for Space {
-    ghost use Rattle.std.specs.Prelude.{List};
-    ghost use Rattle.zy_tuple.specs.declared.values.Field.{Field};
+    ghost use Rattle.std.specs.Prelude.{◌≡◌, List, length};
+    ghost use Rattle.zy_space.specs.Timeline.{Timeline};
 
-    ghost Value = { List (List Field) };
+    ghost Value = { Timeline };
 
-    ghost view = { λ s. s.tuples.items };
+    ghost use Rattle.zy_space.specs.Marks.{live_of, trail_of, IsSpace};
+
+    ghost view = { λ s. record { tuples = live_of s.slots.items; trail = trail_of s.slots.items s.changes.items } };
+
+    ghost invariant = { λ s. IsSpace s.slots.items s.changes.items s.live };
 }
 
 impl Space {
-    /// A space without tuples.
-    pub fn empty(alloc: Global) -> Result<Space, Want>
-        ensures { IfOk result (λ space. space ≡ []) }
-    {
-        Ok(Space {
-            tuples: Vec::new(alloc),
-        })
-    }
-
     /// How many tuples there are.
     pub fn len(&self) -> u64
-        ensures { result ≡ length self.now }
+        ensures { result ≡ length self.now.tuples }
     {
-        self.tuples.len() as u64
+        self.live
     }
 
     /// Runs one operation of a client. The answer is `Err` for want of memory alone, and then nothing has changed.
     pub fn run_op(&mut self, _client: ClientId, op: &Op) -> Result<Reply, Want>
-        ensures reply { IfOk result (λ reply. reply ≡ (step op.now self.old).reply) }
-        ensures after { IfOk result (λ _. self.new ≡ (step op.now self.old).tuples) }
+        requires { IsOp op.now }
+        ensures reply { IfOk result (λ reply. reply ≡ (step op.now self.old.tuples).reply) }
+        ensures after { OnOk result (self.new ≡ onward self.old (step op.now self.old.tuples).tuples) }
+        ensures is_reply { IfOk result IsReply }
         ensures err { OnErr result (self.new ≡ self.old) }
     {
-        run_on(&mut self.tuples, op)
-    }
-}
-
-fn run_on(tuples: &mut Vec<Tuple>, op: &Op) -> Result<Reply, Want>
-    ensures reply { IfOk result (λ reply. reply ≡ (step op.now tuples.old.items).reply) }
-    ensures after { IfOk result (λ _. tuples.new.items ≡ (step op.now tuples.old.items).tuples) }
-    ensures err { OnErr result (tuples.new.items ≡ tuples.old.items) }
-{
-    match op {
-        Op::Out(tuple) => insert(tuples, tuple, Reply::Done),
-        Op::Rdp(template) => match place_of(tuples, template) {
-            None => Ok(Reply::Nothing),
-            Some(place) => Ok(Reply::Got(tuples[place].clone()?)),
-        },
-        Op::Inp(template) => match place_of(tuples, template) {
-            None => Ok(Reply::Nothing),
-            Some(place) => Ok(Reply::Got(tuples.remove(place))),
-        },
-        Op::Cas(template, tuple) => match place_of(tuples, template) {
-            None => insert(tuples, tuple, Reply::True),
-            Some(_) => Ok(Reply::False),
-        },
-    }
-}
-
-// Puts a copy at the end where there is room.
-fn insert(tuples: &mut Vec<Tuple>, tuple: &Tuple, reply: Reply) -> Result<Reply, Want>
-    ensures reply { IfOk result (λ given. given ≡ (inserted tuple.now reply tuples.old.items).reply) }
-    ensures after { IfOk result (λ _. tuples.new.items ≡ (inserted tuple.now reply tuples.old.items).tuples) }
-    ensures err { OnErr result (tuples.new.items ≡ tuples.old.items) }
-{
-    if tuples.len() >= TUPLE_LIMIT {
-        return Ok(Reply::Full);
-    }
-    tuples.push(tuple.clone()?)?;
-    Ok(reply)
-}
-
-// Where the oldest match stands.
-fn place_of(tuples: &[Tuple], template: &Template) -> Option<usize>
-    ensures found { IfSome result (IsOldestAt template.now tuples.now) }
-    ensures none { IfNone result (IsAbsent template.now tuples.now) }
-{
-    for (place, tuple) in tuples.iter().enumerate() {
-        if matches(template, tuple) {
-            return Some(place);
+        match op {
+            Op::Out(tuple) => self.insert(tuple, Reply::Done),
+            Op::Rdp(template) => self.read(template),
+            Op::Inp(template) => self.take(template),
+            Op::Cas(template, tuple) => match slots::place_of(&self.slots, template) {
+                None => self.insert(tuple, Reply::True),
+                Some(_) => self.stay(Reply::False),
+            },
         }
     }
-    None
+
+    // Changes nothing, which is a step to go back over as well.
+    fn stay(&mut self, reply: Reply) -> Result<Reply, Want>
+        ensures reply { IfOk result (λ given. given ≡ reply) }
+        ensures after { OnOk result (self.new ≡ onward self.old self.old.tuples) }
+        ensures err { OnErr result (self.new ≡ self.old) }
+    {
+        slots::stay(&self.slots, &mut self.changes)?;
+        Ok(reply)
+    }
+
+    // Puts a copy at the end where there is room.
+    fn insert(&mut self, tuple: &Tuple, reply: Reply) -> Result<Reply, Want>
+        requires { IsTuple tuple.now }
+        ensures reply { IfOk result (λ given. given ≡ (inserted tuple.now reply self.old.tuples).reply) }
+        ensures after { OnOk result (self.new ≡ onward self.old (inserted tuple.now reply self.old.tuples).tuples) }
+        ensures err { OnErr result (self.new ≡ self.old) }
+    {
+        if self.live >= TUPLE_LIMIT {
+            return self.stay(Reply::Full);
+        }
+        slots::put(&mut self.slots, &mut self.changes, tuple.clone()?)?;
+        self.live += 1;
+        Ok(reply)
+    }
+
+    fn read(&mut self, template: &Template) -> Result<Reply, Want>
+        ensures reply { IfOk result (λ reply. reply ≡ found (oldest template.now self.old.tuples)) }
+        ensures after { OnOk result (self.new ≡ onward self.old self.old.tuples) }
+        ensures is_reply { IfOk result IsReply }
+        ensures err { OnErr result (self.new ≡ self.old) }
+    {
+        match slots::place_of(&self.slots, template) {
+            None => self.stay(Reply::Nothing),
+            Some(place) => {
+                let tuple = slots::tuple_of(&self.slots, place)?;
+                self.stay(Reply::Got(tuple))
+            }
+        }
+    }
+
+    fn take(&mut self, template: &Template) -> Result<Reply, Want>
+        ensures reply { IfOk result (λ reply. reply ≡ found (oldest template.now self.old.tuples)) }
+        ensures after { OnOk result (self.new ≡ onward self.old (without_oldest template.now self.old.tuples)) }
+        ensures is_reply { IfOk result IsReply }
+        ensures err { OnErr result (self.new ≡ self.old) }
+    {
+        match slots::place_of(&self.slots, template) {
+            None => self.stay(Reply::Nothing),
+            Some(place) => {
+                let tuple = slots::tuple_of(&self.slots, place)?;
+                slots::take_out(&mut self.slots, &mut self.changes, place)?;
+                self.live -= 1;
+                Ok(Reply::Got(tuple))
+            }
+        }
+    }
+
+    fn go_back(&mut self)
+        requires { 0 < length self.old.trail }
+        ensures { self.old.trail ≡ self.new.trail ++ self.new.tuples ∷ [] }
+    {
+        self.live = slots::go_back(&mut self.slots, &mut self.changes, self.live);
+    }
+
+    // Once more slots are gone than are left, and than changes lead back, they are left out: each one that goes pays
+    // for at most three slots or changes that are gone over.
+    fn forget_one(&mut self)
+        requires { 0 < length self.old.trail }
+        ensures tuples { self.new.tuples ≡ self.old.tuples }
+        ensures trail { self.new.trail ≡ drop 1 self.old.trail }
+    {
+        if slots::forget_oldest(&mut self.slots, &mut self.changes) {
+            self.gone = self.gone.saturating_add(1);
+            if self.gone > self.slots.len() / 2 && self.gone > self.changes.len() {
+                slots::compact(&mut self.slots, &mut self.changes);
+                self.gone = 0;
+            }
+        }
+    }
 }

@@ -1,0 +1,4 @@
+pub mod Replay
+pub mod Kept
+pub mod Snapshot
+pub mod Trail

@@ -1,0 +1,73 @@
+-- What an execution keeps for each entry above the base, so that it can go back.
+use Rattle.std.specs.Prelude.{◌≡◌, ℕ, ◌+◌, ◌-◌, ◌<◌, List, [], ◌∷◌, ◌++◌, length, replicate, slice_set, slice_index_or, slice_get, Option, Some, None, option_map}
+use Rattle.std.specs.List.{AllByRecursion}
+use Rattle.zy_base.specs.Machine.{Rules}
+use Rattle.zy_base.specs.declared.ids.Place.{Place}
+use Rattle.zy_chain.specs.declared.entry.Entry.{Entry}
+use Rattle.zy_chain.specs.Stretch.{Stretch}
+use Rattle.zy_exec.specs.declared.known.Known.{Known}
+use Rattle.zy_exec.specs.declared.known.Done.{Done}
+use Rattle.zy_exec.specs.Replay.{Point, known_of, step, along}
+
+-- the oldest of the earlier states, or the state
+abbrev pub oldest_state : {S : Type 0} → List S → S → S
+oldest_state [] state = state
+oldest_state (earlier ∷ states) state = earlier
+
+-- the point at the base
+abbrev pub base_of : {S : Type 0} → Stretch → List S → S → List (Option Known) → Point S
+base_of s trail state known =
+    record { place = s.base.place; head = s.base.head; state = oldest_state trail state; known = known }
+
+-- the state before each entry
+abbrev pub states_from : {S : Type 0} → Rules S → Point S → List Entry → List S
+states_from R p [] = []
+states_from R p (e ∷ entries) = p.state ∷ states_from R (step R p e) entries
+
+-- for each client the place of its last entry above the base
+abbrev pub nowhere : List (Option Place)
+nowhere = replicate 64 None
+
+abbrev pub placed : List (Option Place) → Entry → ℕ → List (Option Place)
+placed last e place = slice_set last e.client.0 (Some (record { 0 = place }))
+
+abbrev pub last_from : ℕ → List (Option Place) → List Entry → List (Option Place)
+last_from place last [] = last
+last_from place last (e ∷ entries) = last_from (place + 1) (placed last e (place + 1)) entries
+
+-- for each entry what is known of it, and where its client's earlier entry stands
+abbrev pub done_from : {S : Type 0} → Rules S → Point S → List (Option Place) → List Entry → List Done
+done_from R p last [] = []
+done_from R p last (e ∷ entries) =
+    record { client = e.client; known = known_of R p e; earlier = slice_index_or last e.client.0 None }
+    ∷ done_from R (step R p e) (placed last e (p.place + 1)) entries
+
+-- what is known of a client: where its last entry stands above the base, what is kept of that entry, and else what
+-- was known at the base
+abbrev pub known_above : List Done → ℕ → Option Known
+known_above done index = option_map (λ (d : Done). d.known) (slice_get done index)
+
+abbrev pub known_at : ℕ → List (Option Known) → List Done → ℕ → Option Place → Option Known
+known_at base base_known done client None = slice_index_or base_known client None
+known_at base base_known done client (Some place) = known_above done (place.0 - base - 1)
+
+-- the last of what is kept is gone, and its client's earlier entry is the last one again
+pub record IsPopped (done done' : List Done) (last last' : List (Option Place)) : Type 0 where
+  pub popped : Done
+  pub done_was : done ≡ done' ++ popped ∷ []
+  pub last_now : last' ≡ slice_set last popped.client.0 popped.earlier
+
+abbrev pub DoneHasClient : Done → Type 0
+DoneHasClient d = d.client.0 < 64
+
+abbrev pub HasClient : Entry → Type 0
+HasClient e = e.client.0 < 64
+
+-- the machine, and what is kept of the entries above the base, are what replay gives
+pub record IsReplayed {S : Type 0} (R : Rules S) (base : Point S) (entries : List Entry) (state : S) (trail : List S) (done : List Done) (last : List (Option Place)) : Type 0 where
+  pub state_is : state ≡ (along R base entries).state
+  pub trail_is : trail ≡ states_from R base entries
+  pub done_is : done ≡ done_from R base nowhere entries
+  pub last_is : last ≡ last_from base.place nowhere entries
+  pub clients : AllByRecursion HasClient entries
+  pub all_clients : length base.known ≡ 64

@@ -1,0 +1,187 @@
+ghost use Rattle.std.specs.Prelude.{◌≡◌, ◌+◌, ◌-◌, ◌<◌, ◌≤◌, ◌^◌, List, [], ◌∷◌, ◌++◌, length, take, drop, slice_index_or, option_copied, IfOk, OnOk, OnErr, IfErr, IfSome};
+ghost use Rattle.zy_chain.specs.declared.entry.Entry.{Entry};
+ghost use Rattle.zy_chain.specs.Entries.{IsEntryInRange};
+ghost use Rattle.zy_chain.specs.Heads.{head_of};
+ghost use Rattle.zy_chain.specs.Stretch.{head_in, entry_in};
+ghost use Rattle.zy_exec.specs.Replay.{origin, along};
+ghost use Rattle.zy_exec.specs.Kept.{Kept, stretch_of, last_place, now_of, longer, back_to, reply_in, known_in, StandsFor};
+
+use crate::known::{Done, Known, index_above, known_at, nothing, pop_done, push_done, reply_done};
+use crate::machine::{apply, take_back};
+use std::alloc::Global;
+use std::collections::VecDeque;
+use std::marker::Model;
+use std::sync::ledger::Ledger;
+use zy_base::{Bytes, ClientId, Digest, Machine, Place, Steps, Want};
+use zy_chain::{EMPTY_HEAD, Entry, Spine};
+
+/// The execution of a history: the entries above a base, the machine at their end, and what leads back to the base.
+/// Contracts see the base, as the point that the history reaches there, and the entries.
+#[derive(Drop)]
+pub struct Exec<M: Machine> {
+    interval: u64,
+    spine: Spine,
+    machine: M,
+    // what was known of each client at the base
+    base_known: Vec<Option<Known>>,
+    // what is kept of each entry above the base
+    done: VecDeque<Done>,
+    // where each client's last entry above the base stands
+    last: Vec<Option<Place>>,
+}
+
+impl<M: Machine> Model for Exec<M> {
+    ghost use Rattle.zy_exec.specs.Kept.{Kept};
+
+    ghost Value = { Kept M.State };
+
+    ghost use Rattle.zy_exec.specs.Trail.{base_of, IsReplayed};
+
+    ghost view = { λ x. record {
+        interval = x.interval;
+        base = base_of x.spine (M.trail x.machine) (M.state x.machine) x.base_known.items;
+        entries = x.spine.entries;
+    } };
+
+    ghost invariant = { λ x.
+        IsReplayed M.rules (base_of x.spine (M.trail x.machine) (M.state x.machine) x.base_known.items) x.spine.entries
+            (M.state x.machine) (M.trail x.machine) x.done.items x.last.items };
+}
+
+impl<M: Machine> Exec<M> {
+    /// The empty history. Snapshots are `k` places apart.
+    pub fn start(alloc: Global, machine: M, k: u64) -> Result<Exec<M>, Want>
+        requires state { M.state machine ≡ M.rules.initial }
+        requires trail { M.trail machine ≡ [] }
+        requires least { 4 ≤ k }
+        requires most { k ≤ 32 }
+        ensures { IfOk result (λ exec. exec ≡ record { interval = k; base = origin M.rules; entries = [] }) }
+    {
+        Ok(Exec {
+            interval: k,
+            spine: Spine::new(alloc, Place(0), EMPTY_HEAD),
+            machine,
+            base_known: nothing(alloc)?,
+            done: VecDeque::new(alloc),
+            last: nothing(alloc)?,
+        })
+    }
+
+    /// The place of the last entry, or the base.
+    pub fn end(&self) -> Place
+        ensures place { result.0 ≡ last_place self.now }
+        ensures fits { last_place self.now ≤ 2 ^ 63 }
+    {
+        self.spine.end()
+    }
+
+    /// The place below the first entry that is kept.
+    pub fn base(&self) -> Place
+        ensures { result.0 ≡ self.now.base.place }
+    {
+        self.spine.base()
+    }
+
+    /// The base, the entries above it and the heads.
+    pub fn spine(&self) -> &Spine
+        ensures { result.now ≡ stretch_of self.now }
+    {
+        &self.spine
+    }
+
+    /// The head at a place. `None` exactly outside base to end.
+    pub fn head_at(&self, place: Place) -> Option<Digest>
+        ensures { result ≡ head_in (stretch_of self.now) place.0 }
+    {
+        self.spine.head_at(place)
+    }
+
+    /// The entry that leads to a place. `None` exactly outside base + 1 to end.
+    pub fn entry_at(&self, place: Place) -> Option<&Entry>
+        ensures entry { option_copied result ≡ entry_in (stretch_of self.now) place.0 }
+        ensures in_range { IfSome result (λ e. IsEntryInRange e.now) }
+    {
+        self.spine.entry_at(place)
+    }
+
+    /// The reply to the entry that leads to a place. `None` exactly outside base + 1 to end.
+    pub fn reply_at(&self, place: Place) -> Option<&Bytes>
+        ensures { option_copied result ≡ reply_in M.rules self.now place.0 }
+    {
+        if place.0 <= self.spine.base().0 {
+            return None;
+        }
+        reply_done(&self.done, index_above(self.spine.base(), place))
+    }
+
+    /// What is known of a client's last entry. `None` exactly where it has none.
+    pub fn known(&self, client: ClientId) -> Option<&Known>
+        ensures { option_copied result ≡ known_in M.rules self.now client.0 }
+    {
+        known_at(
+            self.spine.base(),
+            &self.base_known,
+            &self.done,
+            &self.last,
+            client.0 as usize,
+        )
+    }
+
+    /// Runs an entry: the history gets it, and the answer is the reply. The answer is `Err` for want of memory alone:
+    /// then the entry comes back, and all is as it was.
+    pub fn run(&mut self, e: Entry) -> Result<Bytes, (Entry, Want)>
+        requires room { last_place self.old < 2 ^ 62 - 1 }
+        requires client { e.client.0 < 64 }
+        requires entry { IsEntryInRange e }
+        ensures after { OnOk result (self.new ≡ longer self.old e) }
+        ensures reply { IfOk result (λ reply. reply ≡ M.rules.reply (now_of M.rules self.old).state e.client e.op) }
+        ensures short { IfOk result (λ reply. length reply ≤ 1100) }
+        ensures err { OnErr result (self.new ≡ self.old) }
+        ensures entry { IfErr result (λ refused. refused.0 ≡ e) }
+    {
+        if let Err(_) = self.done.reserve(1) {
+            return Err((e, Want));
+        }
+        let (kept, reply) = match apply(&mut self.machine, e.client, e.op.as_slice()) {
+            Ok(replies) => replies,
+            Err(want) => return Err((e, want)),
+        };
+        let (client, stamp) = (e.client, e.stamp);
+        if let Err(refused) = self.spine.push(e) {
+            take_back(&mut self.machine);
+            return Err(refused);
+        }
+        let known = Known {
+            stamp,
+            place: self.spine.end(),
+            head: self.spine.head(),
+            reply: kept,
+        };
+        push_done(&mut self.done, &mut self.last, client, known);
+        Ok(reply)
+    }
+
+    // Goes back over the last entry.
+    fn step_back<L: Ledger>(&mut self, steps: &mut Steps<L>)
+        requires { 0 < length self.old.entries }
+        ensures after { self.new ≡ back_to (last_place self.old - 1) self.old }
+        ensures cost { steps.new ≤ steps.old + 1 }
+    {
+        pop_done(&mut self.done, &mut self.last);
+        self.machine.undo(steps);
+        self.spine.cut_above(Place(self.spine.end().0 - 1));
+    }
+
+    /// Goes back to a place: the entries above it are as if they had never been run. It can't fail, takes no memory,
+    /// and adds at most one step for each of these entries.
+    pub fn rollback<L: Ledger>(&mut self, place: Place, steps: &mut Steps<L>)
+        requires above { self.old.base.place ≤ place.0 }
+        requires below { place.0 ≤ last_place self.old }
+        ensures after { self.new ≡ back_to place.0 self.old }
+        ensures cost { steps.new + place.0 ≤ steps.old + last_place self.old }
+    {
+        while self.end().0 > place.0 {
+            self.step_back(steps);
+        }
+    }
+}

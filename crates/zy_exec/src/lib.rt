@@ -1,0 +1,9 @@
+//! The execution of a history on a replicated machine, which runs ahead of agreement and goes back.
+#![tactic(auto)]
+
+mod exec;
+mod known;
+mod machine;
+
+pub use exec::Exec;
+pub use known::{CLIENTS, Known};
