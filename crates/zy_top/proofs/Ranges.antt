@@ -1,6 +1,6 @@
 -- What is in range stays in range: of tuples that are allowed, the step of an allowed operation leaves such tuples
 -- and gives an allowed reply.
-use Rattle.std.proofs.Common.{◌≡◌, ℕ, Bool, true, false, cond, List, [], ◌∷◌, ◌++◌, Option, Some, None, IfSome, length, nat_lt}
+use Rattle.std.proofs.Common.{true, false, cond, List, [], ◌∷◌, ◌++◌, Option, Some, None, IfSome, length, nat_lt}
 use Rattle.std.specs.List.{AllByRecursion}
 use Rattle.zy_tuple.specs.declared.values.Field.{Field}
 use Rattle.zy_tuple.specs.declared.values.Slot.{Slot}

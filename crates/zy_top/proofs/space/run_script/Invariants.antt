@@ -1,4 +1,4 @@
-use Rattle.std.proofs.Common.{◌≡◌, ◌++◌, [], drop}
+use Rattle.std.proofs.Common.{◌≡◌, drop}
 use Rattle.std.specs.List.{AllByRecursion}
 use Rattle.zy_tuple.specs.Values.{IsTuple}
 use Rattle.zy_top.proofs.Report.{Reported}
