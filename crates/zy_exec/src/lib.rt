@@ -4,6 +4,7 @@
 mod exec;
 mod known;
 mod machine;
+mod snapshot;
 
 pub use exec::Exec;
 pub use known::{CLIENTS, Known};
