@@ -7,7 +7,7 @@ use std::alloc::Global;
 use zy_base::{Bytes, ClientId, Digest, Stamp, Want};
 
 /// One operation of a history: whose it is, its stamp among that client's, below 2^62, and its bytes, at most 1,100.
-#[derive(Debug, Drop)]
+#[derive(Clone, Debug, Drop, PartialEq, Eq)]
 pub struct Entry {
     pub client: ClientId,
     pub stamp: Stamp,

@@ -12,5 +12,5 @@ mod ots_type;
 mod tests;
 
 pub use digits::{checksum, coef, u32_at};
-pub use one_time::{ots_public, ots_recover, ots_sign, ots_sign_onto};
+pub use one_time::{ots_public, ots_recover, ots_sign, ots_sign_onto, prefix_hasher};
 pub use ots_type::OtsType;

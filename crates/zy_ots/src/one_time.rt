@@ -19,13 +19,14 @@ const MESSAGE: u16 = 0x8181;
 
 const RANDOMIZER: u16 = 0xfffd;
 
-// A hasher that has taken I, the leaf's number and what is hashed.
-fn hasher(id: &[u8; 16], q: u32, what: u16) -> Sha256
-    ensures { Holds256 result (prefix_of id.now q what) }
+/// A hasher that has taken what each hash of a key begins with: the identifier, the number of a leaf
+/// or a node, and what is hashed.
+pub fn prefix_hasher(id: &[u8; 16], number: u32, what: u16) -> Sha256
+    ensures { Holds256 result (prefix_of id.now number what) }
 {
     let mut hasher = Sha256::new();
     hasher.update(id);
-    hasher.update(&q.to_be_bytes());
+    hasher.update(&number.to_be_bytes());
     hasher.update(&what.to_be_bytes());
     hasher
 }
@@ -33,7 +34,7 @@ fn hasher(id: &[u8; 16], q: u32, what: u16) -> Sha256
 fn message_digest(id: &[u8; 16], q: u32, randomizer: &[u8], message: &[u8]) -> Digest
     ensures { result.0 ≡ message_digest id.now q randomizer.now message.now }
 {
-    let mut hasher = hasher(id, q, MESSAGE);
+    let mut hasher = prefix_hasher(id, q, MESSAGE);
     hasher.update(randomizer);
     hasher.update(message);
     Digest(hasher.finalize())
@@ -45,7 +46,7 @@ pub fn ots_public(ots: OtsType, id: &[u8; 16], q: u32, seed: &[u8; 32]) -> Diges
     ensures { result.0 ≡ public_of ots id.now q seed.now }
 {
     let mut block = ChainBlock::new(id, q);
-    let mut hasher = hasher(id, q, PUBLIC);
+    let mut hasher = prefix_hasher(id, q, PUBLIC);
     'chains: for i in 0..ots.chain_count() {
         block.begin(i, seed);
         block.walk(0, ots.last_place());
@@ -114,7 +115,7 @@ pub fn ots_recover(
     let digest = message_digest(id, q, &sig[4..36], message);
     let places = with_checksum(ots, &digest);
     let mut block = ChainBlock::new(id, q);
-    let mut hasher = hasher(id, q, PUBLIC);
+    let mut hasher = prefix_hasher(id, q, PUBLIC);
     'chains: for i in 0..ots.chain_count() {
         let at = 36 + 32 * i as usize;
         block.load(i, &sig[at..at + 32]);

@@ -22,7 +22,7 @@ pub AppendsUpTo-more : (a b c : Option (List ℕ)) (bytes rest left : List ℕ) 
 AppendsUpTo-more a b c bytes rest left k sent took is = record {
   front = sent.front ++ take k rest;
   whole = sent.whole ∙ ap (λ l. sent.front ++ l) (sym (take-append-drop k rest)) ∙ sym (append_assoc sent.front (take k rest) (drop k rest)) ∙ ap (λ l. (sent.front ++ take k rest) ++ l) (sym is);
-  taken = Appends-trans a b c _ _ sent.taken took
+  taken = Appends-trans a b c _ _ sent.taken took;
 }
 
 -- what was read up to the end is all that was there

@@ -1,1 +1,5 @@
 pub mod Known
+pub mod Lines
+pub mod Report
+pub mod Ranges
+pub mod Stops

@@ -28,8 +28,8 @@ stops_writing (Ok _) = false
 stops_writing (Err exit) = is_write_fault exit
 
 -- the operations of a script, or its first fault
-abbrev pub IsScriptRead : Result (List Op) TextFault → Result (List Op) Exit → Type 0
-IsScriptRead read (Ok ops) = read ≡ Ok ops
+abbrev pub IsScriptRead : Result (List Op) TextFault → Result (Vec Op Global) Exit → Type 0
+IsScriptRead read (Ok ops) = read ≡ Ok ops.items
 IsScriptRead read (Err (exits.Text line rule)) = read ≡ Err (record { line = line; rule = rule })
 IsScriptRead read (Err exits.Want) = ⊤
 IsScriptRead read (Err exit) = ⊥
@@ -45,3 +45,15 @@ IsSent old new bytes (Err exit) = ⊥
 abbrev pub IsCommand : Result Command ℕ → Result commands.Command ℕ → Type 0
 IsCommand read (Ok (commands.TheVariants.Space script)) = read ≡ Ok (Command.Space script.now)
 IsCommand read (Err word) = read ≡ Err word
+
+-- the operation of the line with this number, or its first fault
+abbrev pub IsOpRead : ℕ → Result Op ℕ → Result Op Exit → Type 0
+IsOpRead number read (Ok op) = read ≡ Ok op
+IsOpRead number read (Err (exits.Text line rule)) = (line ≡ number) × (read ≡ Err rule)
+IsOpRead number read (Err exits.Want) = ⊤
+IsOpRead number read (Err exit) = ⊥
+
+-- how the program ends
+abbrev pub exit_of : Result (Unit {0}) Exit → Exit
+exit_of (Ok _) = exits.Done
+exit_of (Err exit) = exit

@@ -18,6 +18,10 @@ pub data Verdict : Type 0 where
   Refused : Exit → Verdict
   Report : List ℕ → Verdict
 
+abbrev pub IsReport : Verdict → Type 0
+IsReport (Refused exit) = ⊥
+IsReport (Report report) = ⊤
+
 -- a reply's text, and a line feed (10)
 abbrev pub reply_line : Reply → List ℕ
 reply_line reply = reply_text reply ++ 10 ∷ []
@@ -81,3 +85,25 @@ is_read_fault exit = false
 abbrev pub is_write_fault : Exit → Bool
 is_write_fault exits.WriteFault = true
 is_write_fault exit = false
+
+abbrev pub is_usage : Exit → Bool
+is_usage (exits.Usage word) = true
+is_usage exit = false
+
+-- an answer before which nothing is written
+abbrev pub is_refusal : Exit → Bool
+is_refusal (exits.Usage word) = true
+is_refusal (exits.Text line rule) = true
+is_refusal exits.TooLong = true
+is_refusal exits.ReadFault = true
+is_refusal exit = false
+
+-- the status that the program ends with
+abbrev pub status_of : Exit → ℕ
+status_of exits.Done = 0
+status_of (exits.Usage word) = 2
+status_of exits.ReadFault = 3
+status_of exits.WriteFault = 4
+status_of (exits.Text line rule) = 5
+status_of exits.Want = 9
+status_of exits.TooLong = 11

@@ -1,4 +1,5 @@
 ghost use Rattle.std.specs.Prelude.{◌≡◌};
+ghost use Rattle.zy_top.specs.Verdict.{status_of};
 ghost use Rattle.zy_top.specs.declared.exit.Exit.TheVariants as exits;
 
 use std::alloc::{AllocError, AllocFailed};
@@ -20,6 +21,23 @@ pub enum Exit {
     Want,
     /// A file gave more than 16,777,216 bytes.
     TooLong,
+}
+
+impl Exit {
+    /// The status that the program ends with.
+    pub fn status(self) -> u8
+        ensures { result ≡ status_of self }
+    {
+        match self {
+            Exit::Done => 0,
+            Exit::Usage(_) => 2,
+            Exit::ReadFault => 3,
+            Exit::WriteFault => 4,
+            Exit::Text { .. } => 5,
+            Exit::Want => 9,
+            Exit::TooLong => 11,
+        }
+    }
 }
 
 impl From<AllocError> for Exit {

@@ -3,7 +3,14 @@
 
 mod exit;
 mod reading;
+mod script;
+mod space;
+mod top;
 mod words;
 mod writing;
 
 pub use exit::Exit;
+pub use top::zyzzyva;
+
+#[cfg(test)]
+mod tests;

@@ -15,11 +15,7 @@ const FILE_LIMIT: usize = 16_777_216;
 const PIECE: usize = 65_536;
 
 /// The file with this name, read to its end.
-pub(crate) fn read_file<F: Files>(
-    alloc: Global,
-    files: &mut F,
-    name: &str,
-) -> Result<Vec<u8>, Exit>
+pub(crate) fn read_file<F: Files>(alloc: Global, files: &mut F, name: &str) -> Result<Vec<u8>, Exit>
     ensures held { F.held files.new ≡ F.held files.old }
     ensures bytes { IsFileRead (option_map (λ held. content_of held name.now) (F.held files.old)) result }
     ensures count { IsCounted (stops_reading result) (F.faults files.old) (F.faults files.new) }
@@ -41,11 +37,7 @@ fn zeros(alloc: Global, len: usize) -> Result<Vec<u8>, AllocError>
 }
 
 /// What is left of the chosen file, read by way of a buffer.
-fn read_chosen<F: Files>(
-    alloc: Global,
-    files: &mut F,
-    piece: &mut [u8],
-) -> Result<Vec<u8>, Exit>
+fn read_chosen<F: Files>(alloc: Global, files: &mut F, piece: &mut [u8]) -> Result<Vec<u8>, Exit>
     requires readable { IsTrue (F.is_chosen files.old) }
     requires room { 0 < length piece.old }
     ensures held { F.held files.new ≡ F.held files.old }

@@ -176,12 +176,12 @@ fields_takes {A} text Fits item_at read (suc room) line xs rest e =
     let single : List A × List ℕ = (a.0.0 ∷ [], b.0.1) in
     elim (chosen b.0.0 (Ok single) (fields_at item_at room b.0.1 >>= λ others. Ok (a.0.0 ∷ others.0, others.1)) (Ok (xs, rest)) b.2) [
       | inl s ↦
-          subst (λ (x : List A × List ℕ). IsListed text Fits (suc room) line x.0 x.1) (ok_is single (xs, rest) s.1) (one_listed text Fits room line a.0.0 a.0.1 b.0.1 t.0 (after ∙ ap (λ (v : Bool). cond v 41 32 ∷ b.0.1) s.0) t.1)
+          subst (λ (x : List A × List ℕ). IsListed text Fits (suc room) line x.0 x.1) {x = single} (ok_is single (xs, rest) s.1) (one_listed text Fits room line a.0.0 a.0.1 b.0.1 t.0 (after ∙ ap (λ (v : Bool). cond v 41 32 ∷ b.0.1) s.0) t.1)
       | inr s ↦
           let d = bind_ok (fields_at item_at room b.0.1) (λ others. Ok (a.0.0 ∷ others.0, others.1)) (xs, rest) s.1 in
           let made : List A × List ℕ = (a.0.0 ∷ d.0.0, d.0.1) in
           let l = fields_takes text Fits item_at read room b.0.1 d.0.0 d.0.1 d.1 in
-          subst (λ (x : List A × List ℕ). IsListed text Fits (suc room) line x.0 x.1) (ok_is made (xs, rest) d.2) (next_listed text Fits room line a.0.0 a.0.1 b.0.1 d.0.0 d.0.1 t.0 (after ∙ ap (λ (v : Bool). cond v 41 32 ∷ b.0.1) s.0) t.1 l)
+          subst (λ (x : List A × List ℕ). IsListed text Fits (suc room) line x.0 x.1) {x = made} (ok_is made (xs, rest) d.2) (next_listed text Fits room line a.0.0 a.0.1 b.0.1 d.0.0 d.0.1 t.0 (after ∙ ap (λ (v : Bool). cond v 41 32 ∷ b.0.1) s.0) t.1 l)
     ]
 
 fields_again : {A : Type 0} (text : A → List ℕ) (Fits : A → Type 0) (item_at : List ℕ → Result (A × List ℕ) ℕ) → IsRead text Fits item_at → (room : ℕ) (xs : List A) (rest : List ℕ) → 1 ≤ length xs → length xs ≤ room → AllByRecursion Fits xs → fields_at item_at room (spaced (map text xs) ++ 41 ∷ rest) ≡ Ok (xs, rest)

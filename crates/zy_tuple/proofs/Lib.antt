@@ -1,5 +1,7 @@
 pub mod Results
 pub mod Fields
+pub mod Items
+pub mod BytesLaws
 pub mod Numerals
 pub mod NumberLaws
 pub mod Quoted

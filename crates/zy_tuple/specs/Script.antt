@@ -1,5 +1,5 @@
 -- The lines of a text, and the operations of a script, which stand one on a line.
-use Rattle.std.specs.Prelude.{ℕ, suc, ◌==◌, Bool, true, false, if◌then◌else◌, List, [], ◌∷◌, Result, Ok, Err}
+use Rattle.std.specs.Prelude.{ℕ, suc, ◌==◌, Bool, true, if◌then◌else◌, List, [], ◌∷◌, Result, Ok, Err}
 use Rattle.zy_tuple.specs.declared.values.Op.{Op}
 use Rattle.zy_tuple.specs.Reading.{op_read}
 

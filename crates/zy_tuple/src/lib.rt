@@ -4,11 +4,16 @@
 mod fault;
 mod matching;
 mod reading;
+mod spelling;
 mod values;
 mod writing;
 
-pub use fault::LineFault;
+pub use fault::{LineFault, OpFault, ReplyFault};
 pub use matching::matches;
 pub use reading::{op_text_read, reply_text_read};
+pub use spelling::{op_bytes, op_read, reply_bytes, reply_read};
 pub use values::{Field, Op, Reply, Slot, Template, Tuple};
 pub use writing::{op_text, reply_text};
+
+#[cfg(test)]
+mod tests;

@@ -2,12 +2,13 @@
 use Rattle.std.proofs.Common.{◌≡◌, ℕ, zero, suc, ◌+◌, ◌*◌, ◌^◌, ◌<◌, Bool, true, false, cond, ltb, List, ◌++◌, length, Option, Some, None, Ok, refl, sym, ap, subst, ◌∙◌, append_assoc, arith}
 use Rattle.std.specs.Int.{Width, w8, w16, w32, w64, byte_len}
 use Rattle.std.proofs.lemmas.Bool.{ltb-true}
+use Rattle.std.proofs.lemmas.List.Elements.{All-from_recursion, recursion_from_All}
 use Rattle.std.proofs.lemmas.Bool.Decides.{nat_tests}
 use Rattle.zy_base.specs.declared.ids.Digest.{Digest}
 use Rattle.zy_base.specs.declared.ids.Party.{Party}
 use Rattle.zy_base.specs.declared.ids.Party.TheVariants.{Replica, Client}
 use Rattle.zy_wire.specs.Spelling.{Spelling, IsBytes, IsExact, bytes_of, word, exactly, pair, number_at, repeated}
-use Rattle.zy_wire.specs.Fields.{u62, digest, digest_at, party, party_of, party_fields, party_bytes, party_at, IsParty, sized, bytes_at, list, list_at, list_bytes, optional, optional_at, optional_bytes, flagged_at, FitsOptional}
+use Rattle.zy_wire.specs.Fields.{u62, digest, digest_at, party, party_of, party_fields, party_bytes, party_at, IsParty, sized, bytes_at, list, list_at, list_bytes, optional, optional_at, optional_bytes, flagged_at, FitsOptional, FitsList}
 use Rattle.zy_wire.proofs.Parts.{IsBytes-after, bind_ok, bind_at, ok_is, IsWide, wide8, wide16, wide32, wide64, exactly-exact, word-exact, pair-exact, converted-exact, refined-exact, number-exact, counted-exact, repeated-exact}
 
 pub u62-exact : (least : ℕ) → IsExact (u62 least)
@@ -58,8 +59,8 @@ module _ {A : Type 0} (min max : ℕ) (S : Spelling A) (s : IsExact S) (small : 
   list-exact =
       let c = counted-exact w16 min (max + 1) (repeated S) length wide16 (omega (arith, small)) (repeated-exact S s) (λ n xs fits. fits.0) in
       record {
-        takes = λ bytes xs rest fits e. let t = c.takes bytes xs rest fits e in (t.0, record { least = t.1.0; most = omega (arith, t.1.1); each = t.1.2.1 });
-        again = λ xs rest fits. c.again xs rest (fits.least, omega (arith, fits.most), (refl, fits.each));
+        takes = λ bytes xs rest fits e. let t = c.takes bytes xs rest fits e in (t.0, record { least = t.1.0; most = omega (arith, t.1.1); each = All-from_recursion _ xs t.1.2.1 });
+        again = λ xs rest fits. c.again xs rest (fits.least, omega (arith, fits.most), (refl, recursion_from_All _ xs fits.each));
       }
 
 module _ {A : Type 0} (S : Spelling A) (s : IsExact S) where
@@ -93,3 +94,13 @@ module _ {A : Type 0} (S : Spelling A) (s : IsExact S) where
 
   pub optional-exact : IsExact (optional S)
   optional-exact = record { takes = optional_takes; again = optional_again }
+
+-- ---- what is weaker than having a spelling
+
+module _ {A : Type 0} (P Q : A → Type 0) (weaker : (x : A) → P x → Q x) where
+  pub FitsList-weaker : (min max : ℕ) (xs : List A) → FitsList P min max xs → FitsList Q min max xs
+  FitsList-weaker min max xs h = record { least = h.least; most = h.most; each = λ k d small. weaker _ (h.each k d small) }
+
+  pub FitsOptional-weaker : (o : Option A) → FitsOptional P o → FitsOptional Q o
+  FitsOptional-weaker None h = tt
+  FitsOptional-weaker (Some x) h = weaker x h

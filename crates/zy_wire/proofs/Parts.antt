@@ -250,11 +250,11 @@ module _ {A : Type 0} (S : Spelling A) (s : IsExact S) where
 
 -- ---- all of the bytes
 
-module _ {A : Type 0} (S : Spelling A) (s : IsExact S) where
-  ended_ok : (x : A) (rest : List ℕ) (y : A) → ended x rest ≡ Ok y → (x ≡ y) × (rest ≡ [])
-  ended_ok x [] y e = (ok_is x y e, refl)
-  ended_ok x (b ∷ rest) y e = absurd cc
+pub ended_ok : {A : Type 0} (x : A) (rest : List ℕ) (y : A) → ended x rest ≡ Ok y → (x ≡ y) × (rest ≡ [])
+ended_ok x [] y e = (ok_is x y e, refl)
+ended_ok x (b ∷ rest) y e = absurd cc
 
+module _ {A : Type 0} (S : Spelling A) (s : IsExact S) where
   pub whole_takes : (bytes : List ℕ) (x : A) → IsBytes bytes → whole S bytes ≡ Ok x → (bytes ≡ S.spell x) × S.Fits x
   whole_takes bytes x fits e =
       let a = bind_ok (S.at bytes) (λ p. ended p.0 p.1) x e in

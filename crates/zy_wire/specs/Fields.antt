@@ -1,7 +1,7 @@
 -- The fields that statements and frames are made of.
-use Rattle.std.specs.Prelude.{◌≡◌, ℕ, zero, suc, ◌+◌, ◌^◌, ◌<◌, ◌≤◌, List, ◌++◌, length, Option, Some, None, Result, Ok, nat_lt, if◌then◌else◌}
+use Rattle.std.specs.Prelude.{◌≡◌, ℕ, zero, suc, ◌+◌, ◌^◌, ◌<◌, ◌≤◌, List, ◌++◌, length, Option, Some, None, Result, Ok, All, nat_lt, if◌then◌else◌}
 use Rattle.std.specs.Int.{Width, w8, w16, w32, w64}
-use Rattle.std.specs.List.{AllByRecursion, flat_map}
+use Rattle.std.specs.List.{flat_map}
 use Rattle.zy_base.specs.declared.frame_fault.FrameFault.{FrameFault}
 use Rattle.zy_base.specs.declared.ids.Digest.{Digest}
 use Rattle.zy_base.specs.declared.ids.Party.{Party}
@@ -61,7 +61,7 @@ bytes32 max = sized w32 max
 pub record FitsList {A : Type 0} (Fits : A → Type 0) (min max : ℕ) (xs : List A) : Type 0 where
   pub least : min ≤ length xs
   pub most : length xs ≤ max
-  pub each : AllByRecursion Fits xs
+  pub each : All Fits xs
 
 unfoldable pub list_bytes : {A : Type 0} → (A → List ℕ) → List A → List ℕ
 list_bytes spell xs = bytes_of w16 (length xs) ++ flat_map spell xs

@@ -62,10 +62,13 @@ pair S T = record {
 }
 
 -- the same bytes, read as another type's value
+abbrev pub made : {A B : Type 0} → (A → B) → Spelling A → List ℕ → Result (B × List ℕ) FrameFault
+made make S bytes = S.at bytes >>= λ x. Ok (make x.0, x.1)
+
 abbrev pub converted : {A B : Type 0} → (A → B) → (B → A) → Spelling A → Spelling B
 converted make fields S = record {
   spell = λ y. S.spell (fields y);
-  at = λ bytes. S.at bytes >>= λ x. Ok (make x.0, x.1);
+  at = made make S;
   Fits = λ y. S.Fits (fields y);
 }
 
@@ -109,3 +112,10 @@ repeated S n = record {
   at = repeated_at S n;
   Fits = λ xs. (length xs ≡ n) × AllByRecursion S.Fits xs;
 }
+
+-- ---- a value of one of several kinds, behind the number of its kind
+
+-- What is read as a kind is of that kind and was spelled so, and what was spelled is read as its kind again.
+pub record IsChoice {A : Type 0} (kind : A → ℕ) (spell : A → List ℕ) (Fits : A → Type 0) (at : ℕ → List ℕ → Result (A × List ℕ) FrameFault) : Type 0 where
+  pub takes : (k : ℕ) (bytes : List ℕ) (x : A) (rest : List ℕ) → IsBytes bytes → at k bytes ≡ Ok (x, rest) → (kind x ≡ k) × (bytes ≡ spell x ++ rest) × Fits x
+  pub again : (x : A) (rest : List ℕ) → Fits x → at (kind x) (spell x ++ rest) ≡ Ok (x, rest)

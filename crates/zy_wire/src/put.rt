@@ -1,4 +1,4 @@
-ghost use Rattle.std.specs.Prelude.{◌≡◌, ℕ, List, [], ◌++◌, length, OnOk, OnErr, take, ◌<◌, ◌^◌};
+ghost use Rattle.std.specs.Prelude.{◌≡◌, ◌↔◌, IsTrue, ℕ, List, [], ◌++◌, length, OnOk, OnErr, take, ◌<◌, ◌^◌};
 ghost use Rattle.std.specs.Int.{w8, w16, w32, w64};
 ghost use Rattle.zy_wire.specs.Spelling.{bytes_of};
 ghost use Rattle.zy_wire.specs.Fields.{party_bytes, IsParty};
@@ -28,6 +28,18 @@ impl Put {
         Put {
             bytes: Vec::new(alloc),
         }
+    }
+
+    pub fn len(&self) -> usize
+        ensures { result ≡ length self.now }
+    {
+        self.bytes.len()
+    }
+
+    pub fn is_empty(&self) -> bool
+        ensures { IsTrue result ↔ (self.now ≡ []) }
+    {
+        self.bytes.is_empty()
     }
 
     pub fn raw(&mut self, bytes: &[u8]) -> Result<(), Want>

@@ -5,7 +5,7 @@ use Rattle.zy_ots.proofs.OneTimeLemmas.{taken_none, taken_more, public_is}
 use Rattle.zy_ots.proofs.one_time.ots_public.Goals as goal
 
 pub chains-init : goal.chains-init
-chains-init c = record { key = c.new-block.ensures; taken = taken_none _ _ _ c.hasher-hasher.ensures }
+chains-init c = record { key = c.new-block.ensures; taken = taken_none _ _ _ c.prefix_hasher-hasher.ensures }
 
 pub chains-preserved : goal.chains-preserved
 chains-preserved c =

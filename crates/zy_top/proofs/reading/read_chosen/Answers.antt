@@ -16,7 +16,7 @@ pieces-preserved g c =
       size = rw grown (length-grown-le _ _ _ _ (omega arith) c.pieces.invariant.size);
       bytes = rw grown (Consumes-trans _ _ _ _ _ c.pieces.invariant.bytes c.in-Got.ensures.bytes.2);
       held = c.in-Got.ensures.held ∙ c.pieces.invariant.held;
-      count = c.in-Got.ensures.count ∙ c.pieces.invariant.count
+      count = c.in-Got.ensures.count ∙ c.pieces.invariant.count;
     }
 
 pub returns-in-End-clause-bytes : goal.returns-in-End-clause-bytes

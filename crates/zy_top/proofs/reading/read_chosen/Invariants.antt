@@ -10,7 +10,7 @@ invariant-pieces g l = record {
   size : length l.text.items ≤ limit;
   bytes : Consumes (g.F.Files.rest l.initial.files) (g.F.Files.rest l.files) l.text.items;
   held : g.F.Files.held l.files ≡ g.F.Files.held l.initial.files;
-  count : g.F.Files.faults l.files ≡ g.F.Files.faults l.initial.files
+  count : g.F.Files.faults l.files ≡ g.F.Files.faults l.initial.files;
 }
 
 abbrev pub decreases-pieces : goal.decreases-pieces

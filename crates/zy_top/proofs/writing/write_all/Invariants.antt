@@ -6,7 +6,7 @@ use Rattle.zy_top.proofs.writing.write_all.Given as goal
 abbrev pub invariant-pieces : goal.invariant-pieces
 invariant-pieces g l = record {
   sent : AppendsUpTo (g.S.Sink.taken l.initial.out) (g.S.Sink.taken l.out) l.bytes l.rest;
-  count : g.S.Sink.faults l.out ≡ g.S.Sink.faults l.initial.out
+  count : g.S.Sink.faults l.out ≡ g.S.Sink.faults l.initial.out;
 }
 
 abbrev pub decreases-pieces : goal.decreases-pieces

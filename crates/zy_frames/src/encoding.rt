@@ -1,0 +1,90 @@
+ghost use Rattle.std.specs.Prelude.{◌≡◌, ◌<◌, ◌≤◌, ◌++◌, length, OnOk, IfOk, IsErrOf};
+ghost use Rattle.zy_wire.specs.Fields.{FitsOptional};
+ghost use Rattle.zy_parts.specs.Signing.{IsSignedInRange};
+ghost use Rattle.zy_parts.specs.Statements.{IsOrderInRange};
+ghost use Rattle.zy_frames.specs.Frames.{IsFrameInRange, FitsFrame, fields_of, spelling, kind_of_frame, ordered};
+
+use crate::{EncodeFault, Frame, OrderFrame};
+use std::alloc::Global;
+use zy_base::{Bytes, Want};
+use zy_parts::{Order, Signed, Spelled};
+use zy_wire::{MAX_FRAME, Put, VERSION};
+
+/// The one spelling of a frame: the version, the kind and the fields. `TooLong` where it has more than 4,194,304 bytes.
+pub fn encode(alloc: Global, frame: &Frame) -> Result<Bytes, EncodeFault>
+    requires { IsFrameInRange frame.now }
+    ensures ok { IfOk result (λ b. (b ≡ spelling frame.now) × (length b ≤ MAX_FRAME)) }
+    ensures fits { OnOk result (FitsFrame frame.now) }
+    ensures too_long { IsErrOf result EncodeFault.TooLong → MAX_FRAME < length (spelling frame.now) }
+{
+    let mut out = Put::new(alloc);
+    out.raw(&[VERSION, kind(frame)])?;
+    put_fields(frame, &mut out)?;
+    if out.len() > MAX_FRAME {
+        return Err(EncodeFault::TooLong);
+    }
+    Ok(out.done())
+}
+
+fn kind(frame: &Frame) -> u8
+    ensures { result ≡ kind_of_frame frame.now }
+{
+    match frame {
+        Frame::Request(_) => 1,
+        Frame::Order(_) => 2,
+        Frame::SpecResponse { .. } => 3,
+        Frame::Commit(_) => 4,
+        Frame::LocalCommit(_) => 5,
+        Frame::ConfirmReq { .. } => 6,
+        Frame::FillHole(_) => 7,
+        Frame::Hate(_) => 8,
+        Frame::Pom(_, _) => 9,
+        Frame::Checkpoint(_) => 10,
+    }
+}
+
+#[tactic(auto, unfolding(crate::specs::Frames::fields_of, crate::specs::Frames::FitsFrame))]
+fn put_fields(frame: &Frame, out: &mut Put) -> Result<(), Want>
+    requires { IsFrameInRange frame.now }
+    ensures { OnOk result (FitsFrame frame.now × (out.new ≡ out.old ++ fields_of frame.now)) }
+{
+    match frame {
+        Frame::Request(ask) => ask.put(out),
+        Frame::Order(OrderFrame { order, ask }) => {
+            order.put(out)?;
+            ask.put(out)
+        }
+        Frame::SpecResponse { spec, reply, order } => {
+            spec.put(out)?;
+            out.bytes16(reply.as_slice())?;
+            put_optional(order, out)
+        }
+        Frame::Commit(specs) => specs.put(out),
+        Frame::LocalCommit(local) => local.put(out),
+        Frame::ConfirmReq { confirm, ask } => {
+            confirm.put(out)?;
+            ask.put(out)
+        }
+        Frame::FillHole(hole) => hole.put(out),
+        Frame::Hate(hate) => hate.put(out),
+        Frame::Pom(first, second) => {
+            first.put(out)?;
+            second.put(out)
+        }
+        Frame::Checkpoint(check) => check.put(out),
+    }
+}
+
+#[tactic(auto, unfolding(zy_wire::specs::Fields::optional_bytes))]
+fn put_optional(order: &Option<Signed<Order>>, out: &mut Put) -> Result<(), Want>
+    requires { FitsOptional (IsSignedInRange IsOrderInRange) order.now }
+    ensures { OnOk result (ordered.Fits order.now × (out.new ≡ out.old ++ ordered.spell order.now)) }
+{
+    match order {
+        None => out.u8(0),
+        Some(order) => {
+            out.u8(1)?;
+            order.put(out)
+        }
+    }
+}

@@ -1,0 +1,5 @@
+pub mod Height
+pub mod Tree
+pub mod Nodes
+pub mod KeyState
+pub mod Lms

@@ -1,0 +1,6 @@
+pub mod Getting
+pub mod Statements
+pub mod Signing
+pub mod Exact
+pub mod Reports
+pub mod ReportsExact

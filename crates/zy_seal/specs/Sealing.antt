@@ -1,0 +1,24 @@
+-- A party that signs statements with its own key.
+use Rattle.std.specs.Prelude.{◌≡◌, ℕ, ◌+◌, ◌≤◌, List, length}
+use Rattle.zy_base.specs.declared.ids.Party.{Party}
+use Rattle.zy_wire.specs.Spelling.{Spelling}
+use Rattle.zy_lms.specs.KeyState.{KeyState}
+use Rattle.zy_lms.specs.Lms.{Verifies, leaf_of, public_of}
+use Rattle.zy_parts.specs.declared.signed.Signed.{Signed}
+use Rattle.zy_parts.specs.Signing.{text_of}
+
+pub record SealerState : Type 0 where
+  pub me : Party
+  pub key : KeyState
+
+-- the statement as the party signs it: the next leaf signs its text, and the signature verifies under the own key
+pub record IsSealed {S : Type 0} (number : ℕ) (fields : Spelling S) (sealer : SealerState) (stmt : S) (signed : Signed S) : Type 0 where
+  pub signer : signed.by ≡ sealer.me
+  pub body : signed.stmt ≡ stmt
+  pub leaf : leaf_of signed.sig ≡ sealer.key.next
+  pub verifies : Verifies (public_of sealer.key) (text_of number fields sealer.me stmt) signed.sig
+  pub short : length signed.sig ≤ 8192
+
+-- the sealer with one leaf spent
+abbrev pub spent_one : SealerState → SealerState
+spent_one sealer = record sealer { key = record sealer.key { next = sealer.key.next + 1 } }

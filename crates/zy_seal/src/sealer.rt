@@ -1,0 +1,91 @@
+ghost use Rattle.std.specs.Prelude.{◌≡◌, ◌-◌, ◌^◌, ◌↔◌, IfOk, OnOk, OnErr, IsErrOf};
+ghost use Rattle.zy_lms.specs.Height.{levels_of};
+ghost use Rattle.zy_seal.specs.declared.sealer.SealFault.TheVariants.{KeySpent};
+
+use std::alloc::Global;
+use std::marker::Model;
+use zy_base::{Party, Want};
+use zy_lms::{LmsKey, SignFault};
+use zy_parts::{Signed, Statement, signed_text};
+
+/// Why a statement isn't signed. No leaf is spent then.
+#[derive(Clone, Copy, Debug, PartialEq, Eq)]
+pub enum SealFault {
+    /// The key has no leaf left.
+    KeySpent,
+    Want,
+}
+
+impl From<Want> for SealFault {
+    ghost use Rattle.zy_seal.specs.declared.sealer.SealFault.TheVariants as faults;
+
+    ghost from_gives = { λ _ fault. fault ≡ faults.Want };
+
+    fn from(_: Want) -> SealFault {
+        SealFault::Want
+    }
+}
+
+/// A party with its secret key.
+#[derive(Drop)]
+pub struct Sealer {
+    alloc: Global,
+    me: Party,
+    key: LmsKey,
+}
+
+impl Model for Sealer {
+    ghost use Rattle.zy_seal.specs.Sealing.{SealerState};
+
+    ghost Value = { SealerState };
+
+    ghost view = { λ s. record { me = s.me; key = s.key } };
+}
+
+impl Sealer {
+    ghost use Rattle.zy_seal.specs.Sealing.{IsSealed, spent_one};
+
+    /// Takes no memory. What is sealed takes it from `alloc`.
+    pub fn new(alloc: Global, me: Party, key: LmsKey) -> Sealer
+        ensures { result ≡ record { me = me; key = key } }
+    {
+        Sealer { alloc, me, key }
+    }
+
+    /// The statement with the own signature on its signed text, by the next leaf, which signs nothing else.
+    pub fn seal<S: Statement>(&mut self, stmt: S) -> Result<Signed<S>, SealFault>
+        requires { S.in_range stmt }
+        ensures sealed { IfOk result (IsSealed S.its_number S.spelling self.old stmt) }
+        ensures spent_one { OnOk result (self.new ≡ spent_one self.old) }
+        ensures spent { IsErrOf result SealFault.KeySpent ↔ (self.old.key.next ≡ 2 ^ levels_of self.old.key.height) }
+        ensures unchanged { OnErr result (self.new ≡ self.old) }
+    {
+        if self.left() == 0 {
+            return Err(SealFault::KeySpent);
+        }
+        let text = signed_text(self.alloc, self.me, &stmt)?;
+        match self.key.sign(text.as_slice()) {
+            Ok(sig) => Ok(Signed {
+                by: self.me,
+                stmt,
+                sig,
+            }),
+            Err(SignFault::Spent) => Err(SealFault::KeySpent),
+            Err(SignFault::Want) => Err(SealFault::Want),
+        }
+    }
+
+    /// How many leaves have not signed yet.
+    pub fn left(&self) -> u32
+        ensures { result ≡ 2 ^ levels_of self.now.key.height - self.now.key.next }
+    {
+        self.key.left()
+    }
+
+    /// The number of the leaf that signs next.
+    pub fn next_leaf(&self) -> u32
+        ensures { result ≡ self.now.key.next }
+    {
+        self.key.next_leaf()
+    }
+}

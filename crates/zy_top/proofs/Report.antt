@@ -1,0 +1,86 @@
+-- A report that is written in parts.
+use Rattle.std.proofs.Common.{◌≡◌, ℕ, List, [], ◌∷◌, ◌++◌, Option, Result, Ok, Err, refl, sym, ap, ◌∙◌, subst, append_assoc, append-nil}
+use Rattle.std.specs.Io.KnownBytes.{Appends}
+use Rattle.std.proofs.KnownBytes.{Appends-trans, Appends-nil}
+use Rattle.zy_tuple.specs.declared.values.Field.{Field}
+use Rattle.zy_tuple.specs.declared.values.Op.{Op}
+use Rattle.zy_space.specs.TupleSpace.{step}
+use Rattle.zy_top.specs.Calls.{IsSent}
+use Rattle.zy_top.specs.Verdict.{AppendsUpTo, AppendsFront, reply_line, report_from}
+use Rattle.zy_top.specs.declared.exit.Exit.{Exit}
+use Rattle.zy_top.specs.declared.exit.Exit.TheVariants as exits
+
+-- what was taken, what stands in the buffer and what further operations reply make the report of all
+pub record Reported (before now : Option (List ℕ)) (ops : List Op) (buffer : List ℕ) (tuples : List (List Field)) (further : List Op) : Type 0 where
+  pub front : List ℕ
+  pub whole : report_from [] ops ≡ front ++ (buffer ++ report_from tuples further)
+  pub taken : Appends before now front
+
+pub Reported-none : (before : Option (List ℕ)) (ops : List Op) → Reported before before ops [] [] ops
+Reported-none before ops = record { front = []; whole = refl; taken = Appends-nil before }
+
+-- one operation more
+pub Reported-more : {before now : Option (List ℕ)} {ops : List Op} {buffer : List ℕ} (grown : List ℕ) {tuples : List (List Field)} (left : List (List Field)) (op : Op) {further : List Op}
+    → Reported before now ops buffer tuples (op ∷ further) → grown ≡ buffer ++ reply_line (step op tuples).reply → left ≡ (step op tuples).tuples
+    → Reported before now ops grown left further
+Reported-more grown left op reported line after = record {
+  front = reported.front;
+  whole = rw (line, after, append_assoc) reported.whole;
+  taken = reported.taken;
+}
+
+-- the buffer was written
+pub Reported-written : {before now : Option (List ℕ)} (then : Option (List ℕ)) {ops : List Op} {buffer : List ℕ} (bytes : List ℕ) {tuples : List (List Field)} {further : List Op}
+    → Reported before now ops buffer tuples further → bytes ≡ buffer → Appends now then bytes → Reported before then ops [] tuples further
+Reported-written {now} then {buffer} bytes reported same wrote = record {
+  front = reported.front ++ buffer;
+  whole = rw append_assoc reported.whole;
+  taken = Appends-trans _ now then _ _ reported.taken (rw same at wrote);
+}
+
+-- no more is written
+pub Reported-stopped : {before now : Option (List ℕ)} {ops : List Op} {buffer : List ℕ} {tuples : List (List Field)} {further : List Op}
+    → Reported before now ops buffer tuples further → AppendsFront before now (report_from [] ops)
+Reported-stopped {buffer} {tuples} {further} reported =
+    (buffer ++ report_from tuples further, record { front = reported.front; whole = reported.whole; taken = reported.taken })
+
+-- a front of the buffer was written
+Reported-part : {before now : Option (List ℕ)} (then : Option (List ℕ)) {ops : List Op} {buffer : List ℕ} {tuples : List (List Field)} {further : List Op}
+    → Reported before now ops buffer tuples further → AppendsFront now then buffer → AppendsFront before then (report_from [] ops)
+Reported-part {now} then {tuples} {further} reported wrote = (
+  wrote.0 ++ report_from tuples further,
+  record {
+    front = reported.front ++ wrote.1.front;
+    whole = reported.whole ∙ ap (λ l. reported.front ++ (l ++ report_from tuples further)) wrote.1.whole
+        ∙ ap (λ l. reported.front ++ l) (append_assoc wrote.1.front wrote.0 (report_from tuples further))
+        ∙ sym (append_assoc reported.front wrote.1.front (wrote.0 ++ report_from tuples further));
+    taken = Appends-trans _ now then _ _ reported.taken wrote.1.taken;
+  },
+)
+
+-- all operations are done, and the buffer was written
+Reported-all : {before now : Option (List ℕ)} (then : Option (List ℕ)) {ops : List Op} {buffer : List ℕ} {tuples : List (List Field)}
+    → Reported before now ops buffer tuples [] → Appends now then buffer → Appends before then (report_from [] ops)
+Reported-all {before} {now} then {ops} {buffer} reported wrote =
+    subst (Appends before then) (sym (reported.whole ∙ ap (λ l. reported.front ++ l) (append-nil buffer))) (Appends-trans _ now then _ _ reported.taken wrote)
+
+-- nothing was written, and memory is wanted
+pub IsSent-none : (before : Option (List ℕ)) (report : List ℕ) → IsSent before before report (Err exits.Want)
+IsSent-none before report = (report, record { front = []; whole = refl; taken = Appends-nil before })
+
+-- the buffer could not be written whole
+pub IsSent-part : {before now : Option (List ℕ)} (then : Option (List ℕ)) {ops : List Op} {buffer : List ℕ} (bytes : List ℕ) {tuples : List (List Field)} {further : List Op}
+    (exit : Exit) → Reported before now ops buffer tuples further → bytes ≡ buffer → IsSent now then bytes (Err exit) → IsSent before then (report_from [] ops) (Err exit)
+IsSent-part then bytes exits.Want reported same sent = Reported-part then reported (rw same at sent)
+IsSent-part then bytes exits.WriteFault reported same sent = Reported-part then reported (rw same at sent)
+IsSent-part then bytes exits.Done reported same sent = absurd sent
+IsSent-part then bytes (exits.Usage word) reported same sent = absurd sent
+IsSent-part then bytes exits.ReadFault reported same sent = absurd sent
+IsSent-part then bytes (exits.Text line rule) reported same sent = absurd sent
+IsSent-part then bytes exits.TooLong reported same sent = absurd sent
+
+-- the last write decides
+pub IsSent-last : {before now : Option (List ℕ)} (then : Option (List ℕ)) {ops : List Op} {buffer : List ℕ} (bytes : List ℕ) {tuples : List (List Field)}
+    (result : Result (Unit {0}) Exit) → Reported before now ops buffer tuples [] → bytes ≡ buffer → IsSent now then bytes result → IsSent before then (report_from [] ops) result
+IsSent-last then bytes (Ok _) reported same sent = Reported-all then reported (rw same at sent)
+IsSent-last then bytes (Err exit) reported same sent = IsSent-part then bytes exit reported same sent

@@ -1,0 +1,162 @@
+use crate::{Exit, zyzzyva};
+use std::alloc::{AllocError, Global};
+use std::test::Fail;
+use zy_base::Bytes;
+use zy_edge::{CalmFiles, CalmSink, MemFiles, MemSink};
+
+fn bytes(alloc: Global, text: &str) -> Result<Bytes, AllocError> {
+    Ok(Bytes::from(Vec::from_slice(alloc, text.as_bytes())?))
+}
+
+/// One file, named `script`.
+fn one_file(alloc: Global, script: Bytes) -> Result<Vec<(Bytes, Bytes)>, AllocError> {
+    let mut files = Vec::new(alloc);
+    files.push((bytes(alloc, "script")?, script))?;
+    Ok(files)
+}
+
+fn strings(alloc: Global, words: &[&str]) -> Result<Vec<String>, AllocError> {
+    let mut strings = Vec::new(alloc);
+    for word in words {
+        strings.push(String::from_str(alloc, word)?)?;
+    }
+    Ok(strings)
+}
+
+/// How a script ends over objects whose listed calls fail, and what the sink took.
+fn run(
+    alloc: Global,
+    script: &[u8],
+    failing: (&[u64], &[u64]),
+    room: u32,
+) -> Result<(Exit, Vec<u8>), Fail> {
+    let script = Bytes::from(Vec::from_slice(alloc, script)?);
+    let mut files = MemFiles::new(one_file(alloc, script)?, Vec::from_slice(alloc, failing.0)?);
+    let room = u64::from(room.min(1_000_000));
+    let mut out = MemSink::new(alloc, Vec::from_slice(alloc, failing.1)?, room)?;
+    let words = strings(alloc, &["space", "script"])?;
+    let exit = zyzzyva(alloc, &words, &mut files, &mut out);
+    Ok((exit, Vec::from_slice(alloc, out.taken())?))
+}
+
+/// So many times this line.
+fn lines(alloc: Global, line: &str, count: u32) -> Result<Vec<u8>, AllocError> {
+    let mut text = Vec::new(alloc);
+    for _ in 0..count {
+        text.extend_from_slice(line.as_bytes())?;
+    }
+    Ok(text)
+}
+
+const JOBS: &str = "out (\"job\" 1)\nout (\"job\" 2)\nrdp (\"job\" *)\ninp (\"job\" *)\n\
+    inp (\"job\" *)\ninp (\"job\" *)\nout (\"job\" 3)\n";
+
+const JOBS_DONE: &str =
+    "ok\nok\ntuple (\"job\" 1)\ntuple (\"job\" 1)\ntuple (\"job\" 2)\nnone\nok\n";
+
+const LOCK: &str = "cas (\"lock\" *) (\"lock\" 7)\ncas (\"lock\" *) (\"lock\" 7)\nrdp (\"lock\" *)";
+
+#[test]
+fn scripts(rt: HostRuntime) -> Result<(), Fail> {
+    let alloc = rt.alloc();
+    let refused = |line: u64, rule: u8| Exit::Text { line, rule };
+    let table: [(&str, Exit, &str); 9] = [
+        ("", Exit::Done, ""),
+        (JOBS, Exit::Done, JOBS_DONE),
+        (LOCK, Exit::Done, "true\nfalse\ntuple (\"lock\" 7)\n"),
+        ("\n# out (1)\n\nout (1)\n#", Exit::Done, "ok\n"),
+        ("out (\"a\")\nrdp ()\n", refused(2, 3), ""),
+        ("out (\"a\")\n\n#\nput (1)\nrdp ()\n", refused(4, 1), ""),
+        ("out (1)\r\n", refused(1, 6), ""),
+        (" \n", refused(1, 1), ""),
+        ("out (1)\n#\nout (*)", refused(3, 7), ""),
+    ];
+    for (script, exit, taken) in table {
+        let answer = run(alloc, script.as_bytes(), (&[], &[]), 1_000)?;
+        assert_eq!(rt; answer.0, exit, "{script:?}");
+        assert_eq!(rt; answer.1.as_slice(), taken.as_bytes());
+    }
+    let full = run(
+        alloc,
+        &lines(alloc, "out (1)\n", 4_097)?,
+        (&[], &[]),
+        100_000,
+    )?;
+    let mut taken = lines(alloc, "ok\n", 4_096)?;
+    taken.extend_from_slice(b"full\n")?;
+    assert_eq!(rt; full.0, Exit::Done);
+    assert_eq!(rt; full.1.as_slice(), taken.as_slice());
+    Ok(())
+}
+
+#[test]
+fn faults(rt: HostRuntime) -> Result<(), Fail> {
+    let alloc = rt.alloc();
+    // A report of 30,000 bytes, which is written in two pieces, the first as soon as it has 16,384 bytes.
+    let long = lines(alloc, "rdp (1)\n", 6_000)?;
+    let report = lines(alloc, "none\n", 6_000)?;
+    let all = report.len();
+    let first = 16_385;
+    let table: [(&[u64], &[u64], u32, Exit, usize); 9] = [
+        (&[], &[], 30_000, Exit::Done, all),
+        (&[1], &[], 30_000, Exit::ReadFault, 0),
+        (&[2], &[], 30_000, Exit::ReadFault, 0),
+        (&[3], &[], 30_000, Exit::ReadFault, 0),
+        (&[4], &[3], 30_000, Exit::Done, all),
+        (&[], &[1], 30_000, Exit::WriteFault, 0),
+        (&[], &[2], 30_000, Exit::WriteFault, first),
+        (&[], &[], 16_384, Exit::WriteFault, 0),
+        (&[], &[], 29_999, Exit::WriteFault, first),
+    ];
+    for (files, sink, room, exit, taken) in table {
+        let answer = run(alloc, &long, (files, sink), room)?;
+        assert_eq!(rt; answer.0, exit);
+        assert!(rt; taken <= all);
+        assert_eq!(rt; answer.1.as_slice(), &report[..taken]);
+    }
+    Ok(())
+}
+
+#[test]
+fn words(rt: HostRuntime) -> Result<(), Fail> {
+    let alloc = rt.alloc();
+    let table: [(&[&str], u64); 9] = [
+        (&[], 1),
+        (&["spaces"], 1),
+        (&["-space", "script"], 1),
+        (&["", "script"], 1),
+        (&["replay", "script", "script"], 1),
+        (&["space"], 2),
+        (&["space", "-script"], 2),
+        (&["space", "-", "script"], 2),
+        (&["space", "script", "script"], 3),
+    ];
+    for (words, word) in table {
+        let mut files = CalmFiles::new(one_file(alloc, bytes(alloc, "out (1)")?)?);
+        let words = strings(alloc, words)?;
+        let exit = zyzzyva(alloc, &words, &mut files, &mut CalmSink::new());
+        assert_eq!(rt; exit, Exit::Usage(word));
+    }
+    // A name that isn't there is an empty file, or a fault.
+    let words = strings(alloc, &["space", "other"])?;
+    let mut files = CalmFiles::new(Vec::new(alloc));
+    let exit = zyzzyva(alloc, &words, &mut files, &mut CalmSink::new());
+    assert_eq!(rt; exit, Exit::Done);
+    let mut files = MemFiles::new(Vec::new(alloc), Vec::new(alloc));
+    let exit = zyzzyva(alloc, &words, &mut files, &mut CalmSink::new());
+    assert_eq!(rt; exit, Exit::ReadFault);
+    Ok(())
+}
+
+#[test]
+fn longest_file(rt: HostRuntime) -> Result<(), Fail> {
+    let alloc = rt.alloc();
+    let words = strings(alloc, &["space", "script"])?;
+    for (count, exit) in [(1_048_576, Exit::Done), (1_048_577, Exit::TooLong)] {
+        let script = lines(alloc, "# sixteen bytes\n", count)?;
+        let mut files = CalmFiles::new(one_file(alloc, Bytes::from(script))?);
+        let answer = zyzzyva(alloc, &words, &mut files, &mut CalmSink::new());
+        assert_eq!(rt; answer, exit);
+    }
+    Ok(())
+}

@@ -1,0 +1,77 @@
+ghost use Rattle.std.specs.Prelude.{◌≡◌, ◌↔◌, ◌⊎◌, ℕ, Err, IfSome, IsTrue};
+ghost use Rattle.zy_edge.specs.Faults.{IsCounted, Rose};
+ghost use Rattle.zy_edge.specs.Files.{content_of};
+ghost use Rattle.zy_top.specs.Calls.{exit_of};
+ghost use Rattle.zy_top.specs.Verdict.{IsAnswer, IsReport, IsWritten, is_read_fault, is_refusal, is_usage, is_write_fault, space_verdict, verdict};
+ghost use Rattle.zy_top.specs.Words.{command_of, texts};
+
+use crate::Exit;
+use crate::reading::read_file;
+use crate::script::read_script;
+use crate::space::run_script;
+use crate::words::{Command, command_of};
+use std::alloc::Global;
+use zy_edge::{Files, Sink};
+
+/// Runs the command that the words ask for. Words are judged first, then the file that they name, whole, and
+/// nothing is written before.
+///
+/// `space SCRIPT` runs the operations of a script, one on a line, on one empty space, and writes the text of each
+/// reply on a line of its own.
+pub fn zyzzyva<F: Files, S: Sink>(
+    alloc: Global,
+    words: &[String],
+    files: &mut F,
+    out: &mut S,
+) -> Exit
+    // Words that are wrong are refused by the number of the first such, and by nothing else, before a file is chosen.
+    ensures usage { (word : ℕ) → (result ≡ Exit.Usage word) ↔ (command_of (texts words.now) ≡ Err word) }
+    ensures unread { IsTrue (is_usage result) → files.new ≡ files.old }
+
+    // Over files that are told, the answer and what the sink has taken are those of the verdict.
+    ensures answer { IfSome (F.held files.old) (λ held. IsAnswer (verdict (texts words.now) held) result) }
+    ensures written { IfSome (F.held files.old) (λ held.
+        IsWritten (verdict (texts words.now) held) result (S.taken out.old) (S.taken out.new)) }
+
+    // Where a report is due and no object fails, it is written, or memory is wanted.
+    ensures complete { IfSome (F.held files.old) (λ held. IsReport (verdict (texts words.now) held)
+        → ¬ Rose (F.faults files.old) (F.faults files.new) → ¬ Rose (S.faults out.old) (S.faults out.new)
+        → (result ≡ Exit.Done) ⊎ (result ≡ Exit.Want)) }
+
+    // Over any files, a refusal has not touched the sink.
+    ensures refused { IsTrue (is_refusal result) → out.new ≡ out.old }
+
+    // A fault is told exactly where that object's own count of faults rose in this call.
+    ensures read_faults { IsCounted (is_read_fault result) (F.faults files.old) (F.faults files.new) }
+    ensures write_faults { IsCounted (is_write_fault result) (S.faults out.old) (S.faults out.new) }
+    ensures held { F.held files.new ≡ F.held files.old }
+{
+    match command_of(words) {
+        Ok(Command::Space(script)) => match run_space(alloc, script, files, out) {
+            Ok(()) => Exit::Done,
+            Err(exit) => exit,
+        },
+        Err(word) => Exit::Usage(word),
+    }
+}
+
+/// Runs the script in the file with this name.
+fn run_space<F: Files, S: Sink>(
+    alloc: Global,
+    script: &str,
+    files: &mut F,
+    out: &mut S,
+) -> Result<(), Exit>
+    ensures answer { IfSome (F.held files.old) (λ held. IsAnswer (space_verdict (content_of held script.now)) (exit_of result)) }
+    ensures written { IfSome (F.held files.old) (λ held.
+        IsWritten (space_verdict (content_of held script.now)) (exit_of result) (S.taken out.old) (S.taken out.new)) }
+    ensures judged { IsTrue (is_usage (exit_of result)) → ⊥ }
+    ensures refused { IsTrue (is_refusal (exit_of result)) → out.new ≡ out.old }
+    ensures read_faults { IsCounted (is_read_fault (exit_of result)) (F.faults files.old) (F.faults files.new) }
+    ensures write_faults { IsCounted (is_write_fault (exit_of result)) (S.faults out.old) (S.faults out.new) }
+    ensures held { F.held files.new ≡ F.held files.old }
+{
+    let text = read_file(alloc, files, script)?;
+    let ops = read_script(alloc, &text)?;
+    run_script(alloc, &ops, out)
+}

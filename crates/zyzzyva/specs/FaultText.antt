@@ -1,0 +1,13 @@
+-- What the program writes on standard error when it doesn't end well.
+use Rattle.std.specs.Prelude.{ℕ, List, [], ◌++◌, codes, decimal}
+use Rattle.zy_top.specs.declared.exit.Exit.{Exit}
+use Rattle.zy_top.specs.declared.exit.Exit.TheVariants.{Done, Usage, ReadFault, WriteFault, Text, Want, TooLong}
+
+abbrev pub fault_text : Exit → List ℕ
+fault_text Done = []
+fault_text (Usage word) = codes "word " ++ decimal word
+fault_text ReadFault = codes "read fault"
+fault_text WriteFault = codes "write fault"
+fault_text (Text line rule) = codes "line " ++ decimal line ++ codes " rule " ++ decimal rule
+fault_text Want = codes "out of memory"
+fault_text TooLong = codes "too long"
