@@ -1,1 +1,3 @@
 pub mod ReplayLemmas
+pub mod ListedLemmas
+pub mod HistoryLemmas

@@ -1,5 +1,5 @@
 -- Replay by one entry more, and what is kept of each entry.
-use Rattle.std.proofs.Common.{◌≡◌, ℕ, zero, suc, ◌+◌, ◌-◌, ◌<◌, ◌≤◌, ◌⊎◌, inl, inr, List, [], ◌∷◌, ◌++◌, length, take, drop, get_or, set, replicate, Option, Some, None, refl, sym, ap, ◌∙◌, subst, arith, add-one, append_assoc, append-nil}
+use Rattle.std.proofs.Common.{◌≡◌, ℕ, zero, suc, ◌+◌, ◌-◌, ◌^◌, ◌<◌, ◌≤◌, ◌⊎◌, inl, inr, List, [], ◌∷◌, ◌++◌, length, take, drop, get_or, set, replicate, Option, Some, None, refl, sym, ap, ◌∙◌, subst, arith, add-one, append_assoc, append-nil}
 use Rattle.std.specs.Prelude.{slice_get, option_map}
 use Rattle.std.specs.List.{AllByRecursion}
 use Rattle.std.proofs.lemmas.List.{take_at, length-append, length-set, length-replicate, set-set, set-get_or, get_or-set_same, get_or-set_other, same_from_push}
@@ -15,9 +15,10 @@ use Rattle.zy_chain.specs.Heads.{head_after, head_from}
 use Rattle.zy_chain.specs.Stretch.{Stretch, end_of, with_entry, up_to}
 use Rattle.zy_exec.specs.declared.known.Known.{Known}
 use Rattle.zy_exec.specs.declared.known.Done.{Done}
+use Rattle.zy_exec.specs.Known.{IsKnownInRange}
 use Rattle.zy_exec.specs.Replay.{Point, known_of, step, along}
 use Rattle.zy_exec.specs.Kept.{Kept, reply_in}
-use Rattle.zy_exec.specs.Trail.{base_of, oldest_state, states_from, nowhere, placed, last_from, done_from, known_above, known_at, IsPopped, HasClient, DoneHasClient, IsReplayed}
+use Rattle.zy_exec.specs.Trail.{base_of, oldest_state, states_from, nowhere, placed, last_from, done_from, known_above, known_at, IsPopped, IsDoneInRange, IsBaseInRange, HasClient, IsReplayed}
 
 -- what holds of no entries, and with one entry more, holds of all lists
 pub by_last : (P : List Entry → Type 0) → P [] → ((entries : List Entry) (e : Entry) → P entries → P (entries ++ e ∷ [])) → (entries : List Entry) → P entries
@@ -99,9 +100,13 @@ pub length-done : {S : Type 0} (R : Rules S) (p : Point S) (last : List (Option 
 length-done R p last [] = refl
 length-done R p last (e ∷ entries) = ap suc (length-done R (step R p e) (placed last e (p.place + 1)) entries)
 
-pub clients-done : {S : Type 0} (R : Rules S) (p : Point S) (last : List (Option Place)) (entries : List Entry) → AllByRecursion HasClient entries → AllByRecursion DoneHasClient (done_from R p last entries)
-clients-done R p last [] all = tt
-clients-done R p last (e ∷ entries) all = (all.0, clients-done R (step R p e) (placed last e (p.place + 1)) entries all.1)
+pub in_range_push : (done : List Done) (d : Done) → AllByRecursion IsDoneInRange done → IsDoneInRange d → AllByRecursion IsDoneInRange (done ++ d ∷ [])
+in_range_push [] d all one = (one, tt)
+in_range_push (first ∷ done) d all one = (all.0, in_range_push done d all.1 one)
+
+pub in_range_pop : (done : List Done) (d : Done) → AllByRecursion IsDoneInRange (done ++ d ∷ []) → AllByRecursion IsDoneInRange done
+in_range_pop [] d all = tt
+in_range_pop (first ∷ done) d all = (all.0, in_range_pop done d all.1)
 
 pub clients_push : (entries : List Entry) (e : Entry) → AllByRecursion HasClient entries → HasClient e → AllByRecursion HasClient (entries ++ e ∷ [])
 clients_push [] e all one = (one, tt)
@@ -114,10 +119,10 @@ clients_pop (first ∷ entries) e all = let rest = clients_pop entries e all.1 i
 -- ---- one entry on, one back
 
 pub replayed_on : {S : Type 0} (R : Rules S) (base : Point S) (entries : List Entry) (state : S) (trail : List S) (done : List Done) (last : List (Option Place)) (e : Entry) (known : Known)
-    → IsReplayed R base entries state trail done last → e.client.0 < 64 → known ≡ known_of R (along R base entries) e
+    → IsReplayed R base entries state trail done last → e.client.0 < 64 → known ≡ known_of R (along R base entries) e → IsKnownInRange known
     → IsReplayed R base (entries ++ e ∷ []) (R.next state e.client e.op) (trail ++ state ∷ [])
         (done ++ record { client = e.client; known = known; earlier = get_or last e.client.0 None } ∷ []) (set last e.client.0 (Some known.place))
-replayed_on {S} R base entries state trail done last e known was client known_is =
+replayed_on {S} R base entries state trail done last e known was client known_is in_range =
     let here = along R base entries in
     record {
       state_is = ap (λ (s : S). R.next s e.client e.op) was.state_is ∙ sym (ap (λ (p : Point S). p.state) (along-append R base entries e));
@@ -126,6 +131,8 @@ replayed_on {S} R base entries state trail done last e known was client known_is
       last_is = rw (known_is, was.last_is, place-along R base entries) (sym (last-append base.place nowhere entries e));
       clients = clients_push entries e was.clients client;
       all_clients = was.all_clients;
+      in_range = in_range_push done _ was.in_range (client, in_range);
+      base_in_range = was.base_in_range;
     }
 
 pub replayed_back : {S : Type 0} (R : Rules S) (base : Point S) (entries : List Entry) (e : Entry) (state state' : S) (trail trail' : List S) (done done' : List Done) (last last' : List (Option Place))
@@ -148,6 +155,8 @@ replayed_back {S} R base entries e state state' trail trail' done done' last las
           ∙ set-get_or before e.client.0 None;
       clients = (clients_pop entries e was.clients).0;
       all_clients = was.all_clients;
+      in_range = in_range_pop done' pop.popped (subst (AllByRecursion IsDoneInRange) pop.done_was was.in_range);
+      base_in_range = was.base_in_range;
     }
 
 -- ---- replies and clients
@@ -268,11 +277,12 @@ pub replayed_push : {S : Type 0} (R : Rules S) (spine spine' : Stretch) (base_kn
         (place : Place) (head : Digest) (reply : List ℕ)
     → IsReplayed R (base_of spine trail state base_known) spine.entries state trail done last → e.client.0 < 64 → spine' ≡ with_entry spine e
     → state' ≡ R.next state e.client e.op → trail' ≡ trail ++ state ∷ []
+    → e.stamp.0 < 2 ^ 62 → length reply ≤ 1100 → end_of spine < 2 ^ 62 - 1
     → place.0 ≡ end_of spine' → head ≡ head_from spine'.base.head spine'.entries → reply ≡ R.reply state e.client e.op
     → done' ≡ done ++ record { client = e.client; known = record { stamp = e.stamp; place = place; head = head; reply = reply }; earlier = get_or last e.client.0 None } ∷ []
     → last' ≡ set last e.client.0 (Some place)
     → IsReplayed R (base_of spine' trail' state' base_known) spine'.entries state' trail' done' last'
-replayed_push {S} R spine spine' base_known state state' trail trail' done done' last last' e place head reply was client spine_is state_is trail_is place_is head_is reply_is done_is last_is =
+replayed_push {S} R spine spine' base_known state state' trail trail' done done' last last' e place head reply was client spine_is state_is trail_is stamp short room place_is head_is reply_is done_is last_is =
     let base = base_of spine trail state base_known in
     let entries = spine.entries in
     let here = along R base entries in
@@ -288,7 +298,9 @@ replayed_push {S} R spine spine' base_known state state' trail trail' done done'
         ∙ ap (λ (h : Digest). record { stamp = e.stamp; place = record { 0 = here.place + 1 }; head = h; reply = reply }) head_now
         ∙ ap (λ (r : List ℕ). record { stamp = e.stamp; place = record { 0 = here.place + 1 }; head = head_after here.head (digest_of_entry e); reply = r }) reply_now in
     rw (spine_is, state_is, trail_is, done_is, last_is, oldest-append trail state (R.next state e.client e.op))
-        (replayed_on R base entries state trail done last e known was client known_now)
+        (replayed_on R base entries state trail done last e known was client known_now
+            (let next : end_of spine' ≡ end_of spine + 1 = ap (λ (s : Stretch). end_of s) spine_is ∙ omega (arith, length-append entries (e ∷ [])) in
+             record { stamp = stamp; place_least = omega arith; place_most = omega arith; reply = short }))
 
 pub replayed_cut : {S : Type 0} (R : Rules S) (spine spine' : Stretch) (base_known : List (Option Known)) (state state' : S) (trail trail' : List S) (done done' : List Done) (last last' : List (Option Place))
     → IsReplayed R (base_of spine trail state base_known) spine.entries state trail done last → 0 < length spine.entries
@@ -308,6 +320,10 @@ pub reply_above : {S : Type 0} (R : Rules S) (k : Kept S) (place : ℕ) → k.ba
     → option_map (λ (e : Entry). R.reply (along R k.base (take (place - k.base.place - 1) k.entries)).state e.client e.op) (slice_get k.entries (place - k.base.place - 1)) ≡ reply_in R k place
 reply_above R k place above = rw (lt-leb place k.base.place above) refl
 
+base_none : (n : ℕ) → AllByRecursion IsBaseInRange (replicate n None)
+base_none zero = tt
+base_none (suc n) = (tt, base_none n)
+
 pub replayed_start : {S : Type 0} (R : Rules S) (spine : Stretch) (base_known : List (Option Known)) (state : S) (trail : List S) (done : List Done) (last : List (Option Place)) (head : Digest)
     → spine ≡ record { base = record { place = 0; head = head }; entries = [] } → trail ≡ [] → base_known ≡ replicate 64 None → done ≡ [] → last ≡ nowhere
     → IsReplayed R (base_of spine trail state base_known) spine.entries state trail done last
@@ -321,4 +337,6 @@ replayed_start R spine base_known state trail done last head spine_is trail_is b
       last_is = refl;
       clients = tt;
       all_clients = length-replicate 64 none;
+      in_range = tt;
+      base_in_range = base_none 64;
     })

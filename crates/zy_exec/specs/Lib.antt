@@ -1,3 +1,4 @@
+pub mod Known
 pub mod Replay
 pub mod Kept
 pub mod Snapshot

@@ -7,6 +7,7 @@ use Rattle.zy_chain.specs.declared.entry.Entry.{Entry}
 use Rattle.zy_chain.specs.Stretch.{Stretch}
 use Rattle.zy_exec.specs.declared.known.Known.{Known}
 use Rattle.zy_exec.specs.declared.known.Done.{Done}
+use Rattle.zy_exec.specs.Known.{IsKnownInRange}
 use Rattle.zy_exec.specs.Replay.{Point, known_of, step, along}
 
 -- the oldest of the earlier states, or the state
@@ -57,8 +58,12 @@ pub record IsPopped (done done' : List Done) (last last' : List (Option Place)) 
   pub done_was : done ≡ done' ++ popped ∷ []
   pub last_now : last' ≡ slice_set last popped.client.0 popped.earlier
 
-abbrev pub DoneHasClient : Done → Type 0
-DoneHasClient d = d.client.0 < 64
+abbrev pub IsDoneInRange : Done → Type 0
+IsDoneInRange d = (d.client.0 < 64) × IsKnownInRange d.known
+
+abbrev pub IsBaseInRange : Option Known → Type 0
+IsBaseInRange None = Unit {0}
+IsBaseInRange (Some k) = IsKnownInRange k
 
 abbrev pub HasClient : Entry → Type 0
 HasClient e = e.client.0 < 64
@@ -71,3 +76,5 @@ pub record IsReplayed {S : Type 0} (R : Rules S) (base : Point S) (entries : Lis
   pub last_is : last ≡ last_from base.place nowhere entries
   pub clients : AllByRecursion HasClient entries
   pub all_clients : length base.known ≡ 64
+  pub in_range : AllByRecursion IsDoneInRange done
+  pub base_in_range : AllByRecursion IsBaseInRange base.known

@@ -1,13 +1,17 @@
-ghost use Rattle.std.specs.Prelude.{◌≡◌, ◌+◌, ◌-◌, ◌<◌, ◌≤◌, ◌^◌, List, [], ◌∷◌, ◌++◌, length, take, drop, slice_index_or, option_copied, IfOk, OnOk, OnErr, IfErr, IfSome};
+ghost use Rattle.std.specs.Prelude.{◌≡◌, ◌+◌, ◌-◌, ◌*◌, ◌<◌, ◌≤◌, ◌^◌, List, [], ◌∷◌, ◌++◌, length, take, drop, slice_index_or, option_copied, IfOk, OnOk, OnErr, IfErr, IfSome};
+ghost use Rattle.std.specs.List.{flat_map};
 ghost use Rattle.zy_chain.specs.declared.entry.Entry.{Entry};
 ghost use Rattle.zy_chain.specs.Entries.{IsEntryInRange};
 ghost use Rattle.zy_chain.specs.Heads.{head_of};
 ghost use Rattle.zy_chain.specs.Stretch.{head_in, entry_in};
+ghost use Rattle.zy_exec.specs.Known.{IsKnownInRange};
 ghost use Rattle.zy_exec.specs.Replay.{origin, along};
+ghost use Rattle.zy_exec.specs.Snapshot.{listed, known_bytes, snapshot_of};
 ghost use Rattle.zy_exec.specs.Kept.{Kept, stretch_of, last_place, now_of, longer, back_to, reply_in, known_in, StandsFor};
 
 use crate::known::{Done, Known, index_above, known_at, nothing, pop_done, push_done, reply_done};
 use crate::machine::{apply, take_back};
+use crate::snapshot::{KNOWN_BYTES, put_known};
 use std::alloc::Global;
 use std::collections::VecDeque;
 use std::marker::Model;
@@ -106,7 +110,8 @@ impl<M: Machine> Exec<M> {
 
     /// The reply to the entry that leads to a place. `None` exactly outside base + 1 to end.
     pub fn reply_at(&self, place: Place) -> Option<&Bytes>
-        ensures { option_copied result ≡ reply_in M.rules self.now place.0 }
+        ensures reply { option_copied result ≡ reply_in M.rules self.now place.0 }
+        ensures short { IfSome result (λ reply. length reply.now ≤ 1100) }
     {
         if place.0 <= self.spine.base().0 {
             return None;
@@ -116,7 +121,8 @@ impl<M: Machine> Exec<M> {
 
     /// What is known of a client's last entry. `None` exactly where it has none.
     pub fn known(&self, client: ClientId) -> Option<&Known>
-        ensures { option_copied result ≡ known_in M.rules self.now client.0 }
+        ensures known { option_copied result ≡ known_in M.rules self.now client.0 }
+        ensures in_range { IfSome result (λ known. IsKnownInRange known.now) }
     {
         known_at(
             self.spine.base(),
@@ -183,5 +189,60 @@ impl<M: Machine> Exec<M> {
         while self.end().0 > place.0 {
             self.step_back(steps);
         }
+    }
+
+    // How many clients there may be.
+    fn clients(&self) -> u32
+        ensures all { result ≡ length (now_of M.rules self.now).known }
+        ensures many { result ≡ 64 }
+    {
+        self.base_known.len() as u32
+    }
+
+    // How many clients are known, and how many bytes they take in a snapshot.
+    fn listed_size(&self) -> (u16, usize)
+        ensures count { result.0 ≡ length (listed 0 (now_of M.rules self.now).known) }
+        ensures size { result.1 ≤ 64 * 1154 }
+    {
+        let mut count = 0;
+        let mut size = 0;
+        for client in 0..self.clients() {
+            match self.known(ClientId(client)) {
+                Some(known) => {
+                    count += 1;
+                    size += KNOWN_BYTES + known.reply.len();
+                }
+                None => {}
+            }
+        }
+        (count, size)
+    }
+
+    // Writes what is known of each client.
+    fn put_all_known(&self, out: &mut Vec<u8>) -> Result<(), Want>
+        ensures { OnOk result (out.new.items ≡ out.old.items ++ flat_map known_bytes (listed 0 (now_of M.rules self.now).known)) }
+    {
+        for client in 0..self.clients() {
+            match self.known(ClientId(client)) {
+                Some(known) => put_known(out, ClientId(client), known)?,
+                None => {}
+            }
+        }
+        Ok(())
+    }
+
+    /// The snapshot at the end: what is known of each client, and the machine's state.
+    #[tactic(auto, unfolding(crate::specs::Snapshot::snapshot_of, zy_wire::specs::Spelling::bytes_of))]
+    pub fn snapshot(&self, alloc: Global) -> Result<Bytes, Want>
+        ensures { IfOk result (λ bytes. bytes ≡ snapshot_of M.rules (now_of M.rules self.now)) }
+    {
+        let state = self.machine.state_bytes(alloc)?;
+        let (count, size) = self.listed_size();
+        let mut out = Vec::with_capacity(alloc, 2 + size + 4 + state.len())?;
+        out.extend_from_slice(&count.to_be_bytes())?;
+        self.put_all_known(&mut out)?;
+        out.extend_from_slice(&(state.len() as u32).to_be_bytes())?;
+        out.extend_from_slice(state.as_slice())?;
+        Ok(Bytes::from(out))
     }
 }

@@ -1,9 +1,10 @@
 //! What is known of the last entry of each client, and what leads back over an entry.
 
-ghost use Rattle.std.specs.Prelude.{◌≡◌, ◌+◌, ◌-◌, ◌<◌, [], ◌∷◌, ◌++◌, length, IfOk, replicate, slice_index_or, slice_set, slice_get, option_map, option_copied};
+ghost use Rattle.std.specs.Prelude.{◌≡◌, ◌+◌, ◌-◌, ◌<◌, ◌≤◌, [], ◌∷◌, ◌++◌, length, IfOk, IfSome, replicate, slice_index_or, slice_set, slice_get, option_map, option_copied};
 ghost use Rattle.std.specs.VecDeque.{deque_len, deque_capacity};
 ghost use Rattle.std.specs.List.{AllByRecursion};
-ghost use Rattle.zy_exec.specs.Trail.{known_above, known_at as kept_of, IsPopped, DoneHasClient};
+ghost use Rattle.zy_exec.specs.Trail.{known_above, known_at as kept_of, IsPopped, IsDoneInRange, IsBaseInRange};
+ghost use Rattle.zy_exec.specs.Known.{IsKnownInRange};
 
 use std::alloc::Global;
 use std::collections::VecDeque;
@@ -49,7 +50,9 @@ pub fn index_above(base: Place, place: Place) -> usize
 }
 
 fn known_done(done: &VecDeque<Done>, index: usize) -> Option<&Known>
-    ensures { option_copied result ≡ known_above done.now.items index }
+    requires { AllByRecursion IsDoneInRange done.now.items }
+    ensures known { option_copied result ≡ known_above done.now.items index }
+    ensures in_range { IfSome result (λ k. IsKnownInRange k.now) }
 {
     match done.get(index) {
         Some(done) => Some(&done.known),
@@ -59,7 +62,9 @@ fn known_done(done: &VecDeque<Done>, index: usize) -> Option<&Known>
 
 /// The reply that is kept of an entry above the base.
 pub fn reply_done(done: &VecDeque<Done>, index: usize) -> Option<&Bytes>
-    ensures { option_copied result ≡ option_map (λ d. d.known.reply) (slice_get done.now.items index) }
+    requires { AllByRecursion IsDoneInRange done.now.items }
+    ensures short { IfSome result (λ reply. length reply.now ≤ 1100) }
+    ensures reply { option_copied result ≡ option_map (λ d. d.known.reply) (slice_get done.now.items index) }
 {
     match done.get(index) {
         Some(done) => Some(&done.known.reply),
@@ -77,7 +82,9 @@ fn last_of(last: &[Option<Place>], client: usize) -> Option<Place>
 }
 
 fn base_of(base_known: &[Option<Known>], client: usize) -> Option<&Known>
-    ensures { option_copied result ≡ slice_index_or base_known.now client None }
+    requires { AllByRecursion IsBaseInRange base_known.now }
+    ensures known { option_copied result ≡ slice_index_or base_known.now client None }
+    ensures in_range { IfSome result (λ k. IsKnownInRange k.now) }
 {
     match base_known.get(client) {
         Some(known) => known.as_ref(),
@@ -93,7 +100,10 @@ pub fn known_at<'a>(
     last: &[Option<Place>],
     client: usize,
 ) -> Option<&'a Known>
-    ensures { option_copied result ≡ kept_of base.0 base_known.now done.now.items client (slice_index_or last.now client None) }
+    requires base { AllByRecursion IsBaseInRange base_known.now }
+    requires done { AllByRecursion IsDoneInRange done.now.items }
+    ensures known { option_copied result ≡ kept_of base.0 base_known.now done.now.items client (slice_index_or last.now client None) }
+    ensures in_range { IfSome result (λ k. IsKnownInRange k.now) }
 {
     match last_of(last, client) {
         None => base_of(base_known, client),
@@ -126,7 +136,7 @@ pub fn push_done(
 /// Drops what is kept of the last entry.
 pub fn pop_done(done: &mut VecDeque<Done>, last: &mut Vec<Option<Place>>)
     requires some { 0 < length done.old.items }
-    requires clients { AllByRecursion DoneHasClient done.old.items }
+    requires clients { AllByRecursion IsDoneInRange done.old.items }
     requires all { length last.old.items ≡ 64 }
     ensures { IsPopped done.old.items done.new.items last.old.items last.new.items }
 {

@@ -3,7 +3,10 @@
 
 mod exec;
 mod known;
+mod laws;
 mod machine;
+mod snapshot;
 
 pub use exec::Exec;
 pub use known::{CLIENTS, Known};
+pub use laws::histories;

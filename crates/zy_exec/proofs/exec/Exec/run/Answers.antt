@@ -20,4 +20,5 @@ invariant_of-self-2 g c =
     replayed_push M.rules x.spine c.push.new.self x.base_known.items (M.state x.machine) (M.state c.apply.new.machine) (M.trail x.machine) (M.trail c.apply.new.machine)
         x.done.items c.push_done.new.done.items x.last.items c.push_done.new.last.items e c.end.result c.head.result c.in-Ok.replies.0
         c.self.invariant c.requires.client c.in_default-push.ensures.ok (rw c.as_slice.ensures.value at c.in-Ok.ensures.state) c.in-Ok.ensures.trail
+        c.requires.entry.stamp c.in-Ok.ensures.short_kept (rw (← c.self.view_is) at c.requires.room)
         c.end.ensures.place c.head.ensures (rw c.as_slice.ensures.value at c.in-Ok.ensures.kept) (rw c.in_default.ensures.items at c.push_done.ensures.done) c.push_done.ensures.last

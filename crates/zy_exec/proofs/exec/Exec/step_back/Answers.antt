@@ -3,8 +3,8 @@ use Rattle.std.proofs.lemmas.List.{length-replicate}
 use Rattle.zy_base.specs.declared.ids.Place.{Place}
 use Rattle.std.specs.Prelude.{Option}
 use Rattle.zy_exec.specs.Kept.{Kept}
-use Rattle.zy_exec.specs.Trail.{base_of, nowhere, DoneHasClient}
-use Rattle.zy_exec.proofs.ReplayLemmas.{length-done, length-states, length-last, clients-done, replayed_cut}
+use Rattle.zy_exec.specs.Trail.{base_of, nowhere}
+use Rattle.zy_exec.proofs.ReplayLemmas.{length-done, length-states, length-last, replayed_cut}
 use Rattle.zy_exec.proofs.exec.Exec.step_back.Goals as goal
 
 pub pop_done-requires-clause-some : goal.pop_done-requires-clause-some
@@ -14,12 +14,6 @@ pop_done-requires-clause-some g c =
     let some : 0 < length x.spine.entries = rw (← c.self.view_is) at c.requires in
     let as_many = ap length c.self.invariant.done_is ∙ length-done M.rules (base_of x.spine (M.trail x.machine) (M.state x.machine) x.base_known.items) nowhere x.spine.entries in
     omega (arith, some, as_many)
-
-pub pop_done-requires-clause-clients : goal.pop_done-requires-clause-clients
-pop_done-requires-clause-clients g c =
-    let x = c.self.inside in
-    let M = g.M.Machine in
-    rw c.self.invariant.done_is (clients-done M.rules (base_of x.spine (M.trail x.machine) (M.state x.machine) x.base_known.items) nowhere x.spine.entries c.self.invariant.clients)
 
 pub pop_done-requires-clause-all : goal.pop_done-requires-clause-all
 pop_done-requires-clause-all g c =
