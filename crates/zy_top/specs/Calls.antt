@@ -44,6 +44,7 @@ IsSent old new bytes (Err exit) = ⊥
 -- the command that the words ask for, or the first word that is wrong
 abbrev pub IsCommand : Result Command ℕ → Result commands.Command ℕ → Type 0
 IsCommand read (Ok (commands.TheVariants.Space script)) = read ≡ Ok (Command.Space script.now)
+IsCommand read (Ok (commands.TheVariants.Keys seed by height)) = read ≡ Ok (Command.Keys seed by height)
 IsCommand read (Err word) = read ≡ Err word
 
 -- the operation of the line with this number, or its first fault
