@@ -54,7 +54,7 @@ abbrev pub number_line : List ℕ → ℕ → List ℕ
 number_line name value = name ++ codes " = " ++ decimal value ++ 10 ∷ []
 
 -- the secret file of the party's key at leaf 0, whose one-time keys are of LM-OTS type 3
-abbrev pub key_file : List ℕ → Party → Height → List ℕ
+unfoldable pub key_file : List ℕ → Party → Height → List ℕ
 key_file seed by height =
     let own = seed_of seed by in
     let id = id_of seed by in

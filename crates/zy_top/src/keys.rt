@@ -81,6 +81,7 @@ fn put_party(alloc: Global, out: &mut Vec<u8>, by: Party) -> Result<(), Want>
 }
 
 /// The secret file of the party's key, made from the seed of its group, at leaf 0.
+#[tactic(auto, unfolding(crate::specs::Keys::key_file))]
 pub(crate) fn key_file(
     alloc: Global,
     seed: &[u8; 32],

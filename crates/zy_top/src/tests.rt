@@ -164,3 +164,56 @@ fn longest_file(rt: HostRuntime) -> Result<(), Fail> {
     }
     Ok(())
 }
+
+/// The secret file of replica 0 in the group of 32 zero bytes, with the public key that Bouncy Castle gives.
+const REPLICA_0: &str = "party = \"r0\"\n\
+    seed = \"01dffe160173b6550875b2bdc89010b901af701b1cc76376b86c4cad9243345a\"\n\
+    id = \"2a0364144cf93af321d40b40279de74a\"\n\
+    height = 5\nots = 3\nnext = 0\nstamp = 0\n\
+    public = \"00000005000000032a0364144cf93af321d40b40279de74a5af23fbe1233237c58a6609fb6f2b10c198fbdb60b004b46515d402318465e91\"\n";
+
+#[test]
+fn keys(rt: HostRuntime) -> Result<(), Fail> {
+    let alloc = rt.alloc();
+    let zeros = "0000000000000000000000000000000000000000000000000000000000000000";
+    let short = "00000000000000000000000000000000000000000000000000000000000000";
+    let table: [(&[&str], Exit, &str); 19] = [
+        (&["keys", zeros, "r0", "5"], Exit::Done, REPLICA_0),
+        (&["keys"], Exit::Usage(2), ""),
+        (&["keys", short, "r0", "5"], Exit::Usage(2), ""),
+        (&["keys", "-", "r0", "5"], Exit::Usage(2), ""),
+        (&["keys", zeros], Exit::Usage(3), ""),
+        (&["keys", zeros, "0", "5"], Exit::Usage(3), ""),
+        (&["keys", zeros, "r", "5"], Exit::Usage(3), ""),
+        (&["keys", zeros, "r00", "5"], Exit::Usage(3), ""),
+        (&["keys", zeros, "r256", "5"], Exit::Usage(3), ""),
+        (&["keys", zeros, "c4294967296", "5"], Exit::Usage(3), ""),
+        (
+            &["keys", zeros, "c18446744073709551616", "5"],
+            Exit::Usage(3),
+            "",
+        ),
+        (&["keys", zeros, "r256"], Exit::Usage(3), ""),
+        (&["keys", zeros, "r255"], Exit::Usage(4), ""),
+        (&["keys", zeros, "c4294967295"], Exit::Usage(4), ""),
+        (&["keys", zeros, "r0", "6"], Exit::Usage(4), ""),
+        (&["keys", zeros, "r0", "05"], Exit::Usage(4), ""),
+        (&["keys", zeros, "r0", ""], Exit::Usage(4), ""),
+        (&["keys", zeros, "r0", "10", "-"], Exit::Usage(5), ""),
+        (&["keys", zeros, "r0", "5", "5", "5"], Exit::Usage(5), ""),
+    ];
+    for (words, exit, text) in table {
+        let words = strings(alloc, words)?;
+        let mut files = MemFiles::new(alloc, Vec::new(alloc), Vec::from_slice(alloc, &[1])?);
+        let mut out = MemSink::new(alloc, Vec::new(alloc), 1_000)?;
+        let answer = zyzzyva(alloc, &words, &mut files, &mut out);
+        assert_eq!(rt; answer, exit);
+        assert_eq!(rt; out.taken(), text.as_bytes());
+    }
+    let words = strings(alloc, &["keys", zeros, "r0", "5"])?;
+    let mut files = CalmFiles::new(alloc, Vec::new(alloc));
+    let mut out = MemSink::new(alloc, Vec::from_slice(alloc, &[1])?, 1_000)?;
+    let answer = zyzzyva(alloc, &words, &mut files, &mut out);
+    assert_eq!(rt; answer, Exit::WriteFault);
+    Ok(())
+}
