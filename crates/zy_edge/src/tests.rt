@@ -53,11 +53,11 @@ fn files_in_memory_fail_where_they_are_told_to(rt: HostRuntime) -> Result<(), Fa
         ("a", &[0, 6], "hel lo . . "),
     ];
     for (name, failing, wanted) in table {
-        let mut files = MemFiles::new(three_files(alloc)?, Vec::from_slice(alloc, failing)?);
+        let mut files = MemFiles::new(alloc, three_files(alloc)?, Vec::from_slice(alloc, failing)?);
         let log = answers(alloc, &mut files, name)?;
         assert_eq!(rt; log.as_slice(), wanted.as_bytes());
     }
-    let mut files = CalmFiles::new(three_files(alloc)?);
+    let mut files = CalmFiles::new(alloc, three_files(alloc)?);
     for (name, wanted) in [
         ("a", "hel lo . . "),
         ("c", ". . . . "),

@@ -50,17 +50,17 @@ module _ (kind : ℕ) where
   frame_takes : Takes kind_of_frame fields_of FitsFrame kind (frame_at kind)
   unfolding frame_at fields_of FitsFrame
   frame_takes =
-    or frames.Request request (signed-exact _ ask-exact) 1 (λ y. refl) (λ y. refl) (λ y h. h) _
-    (or frames.Order order order_frame-exact 2 (λ y. refl) (λ y. refl) (λ y h. h) _
-    (or (λ x. frames.SpecResponse x.0 x.1.0 x.1.1) spec_response spec_response-exact 3 (λ y. refl) (λ y. refl) (λ y h. h) _
-    (or frames.Commit commit commit-exact 4 (λ y. refl) (λ y. refl) (λ y h. h) _
-    (or frames.LocalCommit (signed local_fields) (signed-exact _ local-exact) 5 (λ y. refl) (λ y. refl) (λ y h. h) _
-    (or (λ x. frames.ConfirmReq x.0 x.1) confirm_request confirm_request-exact 6 (λ y. refl) (λ y. refl) (λ y h. h) _
-    (or frames.FillHole (signed hole_fields) (signed-exact _ hole-exact) 7 (λ y. refl) (λ y. refl) (λ y h. h) _
-    (or frames.Hate (signed hate_fields) (signed-exact _ hate-exact) 8 (λ y. refl) (λ y. refl) (λ y h. h) _
-    (or (λ x. frames.Pom x.0 x.1) misbehaviour misbehaviour-exact 9 (λ y. refl) (λ y. refl) (λ y h. h) _
-    (or frames.Checkpoint (signed check_fields) (signed-exact _ check-exact) 10 (λ y. refl) (λ y. refl) (λ y h. h) _
-    (Takes-none kind_of_frame fields_of FitsFrame kind Kind))))))))))
+      or frames.Request request (signed-exact _ ask-exact) 1 (λ y. refl) (λ y. refl) (λ y h. h) _
+      (or frames.Order order order_frame-exact 2 (λ y. refl) (λ y. refl) (λ y h. h) _
+      (or (λ x. frames.SpecResponse x.0 x.1.0 x.1.1) spec_response spec_response-exact 3 (λ y. refl) (λ y. refl) (λ y h. h) _
+      (or frames.Commit commit commit-exact 4 (λ y. refl) (λ y. refl) (λ y h. h) _
+      (or frames.LocalCommit (signed local_fields) (signed-exact _ local-exact) 5 (λ y. refl) (λ y. refl) (λ y h. h) _
+      (or (λ x. frames.ConfirmReq x.0 x.1) confirm_request confirm_request-exact 6 (λ y. refl) (λ y. refl) (λ y h. h) _
+      (or frames.FillHole (signed hole_fields) (signed-exact _ hole-exact) 7 (λ y. refl) (λ y. refl) (λ y h. h) _
+      (or frames.Hate (signed hate_fields) (signed-exact _ hate-exact) 8 (λ y. refl) (λ y. refl) (λ y h. h) _
+      (or (λ x. frames.Pom x.0 x.1) misbehaviour misbehaviour-exact 9 (λ y. refl) (λ y. refl) (λ y h. h) _
+      (or frames.Checkpoint (signed check_fields) (signed-exact _ check-exact) 10 (λ y. refl) (λ y. refl) (λ y h. h) _
+      (Takes-none kind_of_frame fields_of FitsFrame kind Kind))))))))))
 
 frame_again : (f : Frame) (rest : List ℕ) → FitsFrame f → frame_at (kind_of_frame f) (fields_of f ++ rest) ≡ Ok (f, rest)
 unfolding frame_at fields_of FitsFrame

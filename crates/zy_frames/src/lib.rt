@@ -12,3 +12,6 @@ pub use encoding::encode;
 pub use fault::{DecodeFault, EncodeFault};
 pub use frame::{Frame, OrderFrame};
 pub use part_list::parts;
+
+#[cfg(test)]
+mod tests;

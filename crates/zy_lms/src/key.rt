@@ -95,7 +95,8 @@ impl LmsKey {
 
     /// How many leaves have not signed yet.
     pub fn left(&self) -> u32
-        ensures { result ≡ 2 ^ levels_of self.now.height - self.now.next }
+        ensures left { result ≡ 2 ^ levels_of self.now.height - self.now.next }
+        ensures within { self.now.next ≤ 2 ^ levels_of self.now.height }
     {
         self.height.leaf_count() - self.next
     }

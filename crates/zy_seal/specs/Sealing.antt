@@ -1,5 +1,5 @@
 -- A party that signs statements with its own key.
-use Rattle.std.specs.Prelude.{◌≡◌, ℕ, ◌+◌, ◌≤◌, List, length}
+use Rattle.std.specs.Prelude.{◌≡◌, ℕ, ◌+◌, ◌≤◌, length}
 use Rattle.zy_base.specs.declared.ids.Party.{Party}
 use Rattle.zy_wire.specs.Spelling.{Spelling}
 use Rattle.zy_lms.specs.KeyState.{KeyState}

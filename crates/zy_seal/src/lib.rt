@@ -1,8 +1,13 @@
 //! Signed statements: a party signs with its own LMS key (RFC 8554), and anyone checks by a directory of public keys.
 #![tactic(auto)]
 
+mod derived;
 mod directory;
 mod sealer;
 
+pub use derived::{party_id, party_seed};
 pub use directory::{Directory, SealAnswer, check};
 pub use sealer::{SealFault, Sealer};
+
+#[cfg(test)]
+mod tests;

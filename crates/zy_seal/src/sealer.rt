@@ -1,4 +1,4 @@
-ghost use Rattle.std.specs.Prelude.{◌≡◌, ◌-◌, ◌^◌, ◌↔◌, IfOk, OnOk, OnErr, IsErrOf};
+ghost use Rattle.std.specs.Prelude.{◌≡◌, ◌-◌, ◌^◌, ◌≤◌, ◌↔◌, IfOk, OnOk, OnErr, IsErrOf};
 ghost use Rattle.zy_lms.specs.Height.{levels_of};
 ghost use Rattle.zy_seal.specs.declared.sealer.SealFault.TheVariants.{KeySpent};
 
@@ -77,7 +77,8 @@ impl Sealer {
 
     /// How many leaves have not signed yet.
     pub fn left(&self) -> u32
-        ensures { result ≡ 2 ^ levels_of self.now.key.height - self.now.key.next }
+        ensures left { result ≡ 2 ^ levels_of self.now.key.height - self.now.key.next }
+        ensures within { self.now.key.next ≤ 2 ^ levels_of self.now.key.height }
     {
         self.key.left()
     }

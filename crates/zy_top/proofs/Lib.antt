@@ -1,5 +1,4 @@
 pub mod Known
 pub mod Lines
 pub mod Report
-pub mod Ranges
 pub mod Stops

@@ -1,9 +1,10 @@
 -- A script whose lines are read one after the other.
-use Rattle.std.proofs.Common.{◌≡◌, ℕ, suc, ◌+◌, Bool, true, false, List, [], ◌∷◌, ◌++◌, ◌-◌, Result, Ok, Err, refl, sym, ap, ◌∙◌, append_assoc, append-nil, ◌≢◌, ◌==◌, not, cond, take, drop, length, ◌<◌, ◌≤◌, Some, None, position, nat_lt, arith, add-one}
+use Rattle.std.proofs.Common.{◌≡◌, ℕ, suc, ◌+◌, Bool, true, false, List, [], ◌∷◌, ◌++◌, ◌-◌, Result, Ok, Err, refl, ap, ◌≢◌, ◌==◌, not, cond, take, drop, length, ◌≤◌, Some, None, position, nat_lt, arith, add-one, eqb-true, inl, inr, ◌⊎◌}
+use Rattle.std.proofs.lemmas.Bool.{eqb-false}
 use Rattle.std.proofs.lemmas.Grind.{common_steps}
 use Rattle.std.proofs.lemmas.Bool.Decides.{nat_tests}
-use Rattle.std.specs.List.{position_or_len}
-use Rattle.zy_tuple.specs.Script.{TextFault, before_others, items_from, is_skipped, lines_of, onto_first}
+use Rattle.std.specs.List.{AllByRecursion, flat_map, position_or_len}
+use Rattle.zy_tuple.specs.Script.{TextFault, lines_of, onto_first}
 
 -- items, and then what further lines say
 abbrev pub behind : {A : Type 0} → List A → Result (List A) TextFault → Result (List A) TextFault
@@ -56,3 +57,45 @@ lines_of-last text some is =
     let none : drop (suc (position_or_len is_feed text)) text ≡ [] = grind (arith, common_steps) in
     let split : lines_of text ≡ take (position_or_len is_feed text) text ∷ lines_of (drop (suc (position_or_len is_feed text)) text) = split_at text some in
     rw rest (rw (whole, none) at split)
+
+-- ---- what the lines of a text are
+
+abbrev pub ended : List ℕ → List ℕ
+ended line = line ++ 10 ∷ []
+
+Restores : List (List ℕ) → List ℕ → Type 0
+Restores lines text = (flat_map ended lines ≡ text) ⊎ (flat_map ended lines ≡ text ++ 10 ∷ [])
+
+no_text : (text : List ℕ) → [] ≡ text ++ 10 ∷ [] → ⊥
+no_text [] e = cc
+no_text (c ∷ text) e = cc
+
+restored : (c : ℕ) (lines : List (List ℕ)) (text : List ℕ) (b : Bool) → (c == 10) ≡ b → Restores lines text
+    → Restores (cond b ([] ∷ lines) (onto_first c lines)) (c ∷ text)
+unfolding Restores
+restored c lines text true fed (inl whole) = inl (rw (eqb-true c 10 fed) (ap (λ l. 10 ∷ l) whole))
+restored c lines text true fed (inr whole) = inr (rw (eqb-true c 10 fed) (ap (λ l. 10 ∷ l) whole))
+restored c [] text false fed (inl whole) = inr (rw (← whole) refl)
+restored c [] text false fed (inr whole) = absurd (no_text text whole)
+restored c (line ∷ lines) text false fed (inl whole) = inl (ap (λ l. c ∷ l) whole)
+restored c (line ∷ lines) text false fed (inr whole) = inr (ap (λ l. c ∷ l) whole)
+
+-- with their line feeds they make the text again, or the text with the line feed that it lacks
+pub lines_of-whole : (text : List ℕ) → (flat_map ended (lines_of text) ≡ text) ⊎ (flat_map ended (lines_of text) ≡ text ++ 10 ∷ [])
+unfolding Restores
+lines_of-whole [] = inl refl
+lines_of-whole (c ∷ text) = restored c (lines_of text) text (c == 10) refl (lines_of-whole text)
+
+abbrev pub HasNoFeed : List ℕ → Type 0
+HasNoFeed line = AllByRecursion (λ byte. byte ≢ 10) line
+
+without_feed : (c : ℕ) (lines : List (List ℕ)) (b : Bool) → (c == 10) ≡ b → AllByRecursion HasNoFeed lines
+    → AllByRecursion HasNoFeed (cond b ([] ∷ lines) (onto_first c lines))
+without_feed c lines true fed others = (tt, others)
+without_feed c [] false fed others = ((eqb-false c 10 fed, tt), tt)
+without_feed c (line ∷ lines) false fed others = ((eqb-false c 10 fed, others.0), others.1)
+
+-- none of them has a line feed
+pub lines_of-unfed : (text : List ℕ) → AllByRecursion HasNoFeed (lines_of text)
+lines_of-unfed [] = tt
+lines_of-unfed (c ∷ text) = without_feed c (lines_of text) (c == 10) refl (lines_of-unfed text)

@@ -6,7 +6,7 @@ use Rattle.zy_tuple.specs.declared.values.Field.{Field}
 use Rattle.zy_tuple.specs.declared.values.Op.{Op}
 use Rattle.zy_space.specs.TupleSpace.{step}
 use Rattle.zy_top.specs.Calls.{IsSent}
-use Rattle.zy_top.specs.Verdict.{AppendsUpTo, AppendsFront, reply_line, report_from}
+use Rattle.zy_top.specs.Verdict.{AppendsFront, reply_line, report_from}
 use Rattle.zy_top.specs.declared.exit.Exit.{Exit}
 use Rattle.zy_top.specs.declared.exit.Exit.TheVariants as exits
 

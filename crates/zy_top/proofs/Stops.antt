@@ -1,11 +1,10 @@
 -- What stops before the first write has written nothing.
-use Rattle.std.proofs.Common.{◌≡◌, ℕ, List, [], Option, Some, None, IfSome, Result, Err, refl, subst, inl, inr, ◌⊎◌}
-use Rattle.zy_edge.specs.Faults.{IsCounted, Rose}
+use Rattle.std.proofs.Common.{◌≡◌, ℕ, List, [], Option, Some, None, IfSome, Result, Err, refl, subst}
 use Rattle.std.proofs.KnownBytes.{Appends-nil, Keeps-refl}
 use Rattle.zy_tuple.specs.Script.{TextFault}
 use Rattle.zy_tuple.specs.declared.values.Op.{Op}
 use Rattle.zy_top.specs.Calls.{IsFileRead, IsScriptRead}
-use Rattle.zy_top.specs.Verdict.{AppendsFront, IsAnswer, IsReport, IsWritten, Verdict, is_read_fault, is_write_fault}
+use Rattle.zy_top.specs.Verdict.{AppendsFront, IsWritten, Verdict}
 use Rattle.zy_top.specs.declared.exit.Exit.{Exit}
 use Rattle.zy_top.specs.declared.exit.Exit.TheVariants as exits
 

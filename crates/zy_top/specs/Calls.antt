@@ -1,5 +1,5 @@
 -- What the parts of the top call give, and how each may stop.
-use Rattle.std.specs.Prelude.{◌≡◌, ℕ, ◌<◌, ◌≤◌, Bool, true, false, List, length, Option, IfSome, Result, Ok, Err, Vec, ⊤}
+use Rattle.std.specs.Prelude.{◌≡◌, ℕ, ◌<◌, ◌≤◌, Bool, false, List, length, Option, IfSome, Result, Ok, Err, Vec, ⊤}
 use Rattle.std.specs.declared.alloc.Global.{Global}
 use Rattle.std.specs.Io.KnownBytes.{Appends}
 use Rattle.zy_tuple.specs.Script.{TextFault}
@@ -44,6 +44,7 @@ IsSent old new bytes (Err exit) = ⊥
 -- the command that the words ask for, or the first word that is wrong
 abbrev pub IsCommand : Result Command ℕ → Result commands.Command ℕ → Type 0
 IsCommand read (Ok (commands.TheVariants.Space script)) = read ≡ Ok (Command.Space script.now)
+IsCommand read (Ok (commands.TheVariants.Keys seed by height)) = read ≡ Ok (Command.Keys seed by height)
 IsCommand read (Err word) = read ≡ Err word
 
 -- the operation of the line with this number, or its first fault

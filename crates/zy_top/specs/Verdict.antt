@@ -1,5 +1,5 @@
 -- What the words and the files call for.
-use Rattle.std.specs.Prelude.{◌≡◌, ℕ, ◌^◌, nat_lt, Bool, true, false, if◌then◌else◌, List, [], ◌∷◌, ◌++◌, length, Result, Ok, Err, Option, ⊤}
+use Rattle.std.specs.Prelude.{◌≡◌, ℕ, nat_lt, Bool, true, false, if◌then◌else◌, List, [], ◌∷◌, ◌++◌, length, Result, Ok, Err, Option, Some, None, ⊤}
 use Rattle.std.specs.List.{flat_map}
 use Rattle.std.specs.Io.KnownBytes.{Keeps, Appends}
 use Rattle.zy_edge.specs.Files.{Held, content_of}
@@ -9,6 +9,7 @@ use Rattle.zy_tuple.specs.declared.values.Field.{Field}
 use Rattle.zy_tuple.specs.declared.values.Op.{Op}
 use Rattle.zy_tuple.specs.declared.values.Reply.{Reply}
 use Rattle.zy_space.specs.TupleSpace.{replies_from}
+use Rattle.zy_top.specs.Keys.{key_file}
 use Rattle.zy_top.specs.Words.{Command, command_of}
 use Rattle.zy_top.specs.declared.exit.Exit.{Exit}
 use Rattle.zy_top.specs.declared.exit.Exit.TheVariants as exits
@@ -45,10 +46,17 @@ space_verdict text = if nat_lt limit (length text) then Refused exits.TooLong el
 abbrev pub command_verdict : Held → Result Command ℕ → Verdict
 command_verdict files (Err word) = Refused (exits.Usage word)
 command_verdict files (Ok (Command.Space script)) = space_verdict (content_of files script)
+command_verdict files (Ok (Command.Keys seed by height)) = Report (key_file seed by height)
 
 -- words are judged first, then the file that they name
 abbrev pub verdict : List (List ℕ) → Held → Verdict
 verdict words files = command_verdict files (command_of words)
+
+-- the verdict where no file is named
+abbrev pub own_verdict : Result Command ℕ → Option Verdict
+own_verdict (Err word) = Some (Refused (exits.Usage word))
+own_verdict (Ok (Command.Space script)) = None
+own_verdict (Ok (Command.Keys seed by height)) = Some (Report (key_file seed by height))
 
 abbrev pub answer_to : Verdict → Exit
 answer_to (Refused exit) = exit

@@ -1,11 +1,19 @@
 -- The words of the command line.
-use Rattle.std.specs.Prelude.{ℕ, ◌==◌, Bool, true, false, if◌then◌else◌, List, [], ◌∷◌, map, codes, nat_eq, Result, Ok, Err, String, string_bytes}
+use Rattle.std.specs.Prelude.{ℕ, ◌==◌, Bool, false, if◌then◌else◌, List, [], ◌∷◌, map, codes, nat_eq, Option, Some, None, Result, Ok, Err, String, string_bytes}
 use Rattle.std.specs.Cmp.Lexicographic.{pointwise}
 use Rattle.std.specs.declared.alloc.Global.{Global}
+use Rattle.hex.specs.Hex.{decode_sized}
+use Rattle.hex.specs.declared.error.FromHexError.{FromHexError}
+use Rattle.zy_base.specs.declared.ids.Party.{Party}
+use Rattle.zy_lms.specs.declared.height.Height.{Height}
+use Rattle.zy_top.specs.Keys.{party_read, height_read}
 
 -- what the words ask for
 pub data Command : Type 0 where
+  -- run the script in the file with this name
   Space : List ℕ → Command
+  -- write the secret file of a party's key
+  Keys : List ℕ → Party → Height → Command
 
 abbrev pub texts : List (String Global) → List (List ℕ)
 texts words = map string_bytes words
@@ -24,7 +32,29 @@ space_words [] = Err 2
 space_words (script ∷ []) = if begins_with_dash script then Err 2 else Ok (Space script)
 space_words (script ∷ word ∷ words) = if begins_with_dash script then Err 2 else Err 3
 
+-- behind a height no word stands
+abbrev pub behind_height : List ℕ → Party → Option Height → List (List ℕ) → Result Command ℕ
+behind_height seed by None words = Err 4
+behind_height seed by (Some height) [] = Ok (Keys seed by height)
+behind_height seed by (Some height) (word ∷ words) = Err 5
+
+abbrev pub behind_party : List ℕ → Option Party → List (List ℕ) → Result Command ℕ
+behind_party seed None words = Err 3
+behind_party seed (Some by) [] = Err 4
+behind_party seed (Some by) (height ∷ words) = behind_height seed by (height_read height) words
+
+abbrev pub behind_seed : Result (List ℕ) FromHexError → List (List ℕ) → Result Command ℕ
+behind_seed (Err fault) words = Err 2
+behind_seed (Ok seed) [] = Err 3
+behind_seed (Ok seed) (party ∷ words) = behind_party seed (party_read party) words
+
+-- behind `keys` stand 64 hexadecimal digits, a party and a height
+abbrev pub keys_words : List (List ℕ) → Result Command ℕ
+keys_words [] = Err 2
+keys_words (seed ∷ words) = behind_seed (decode_sized seed 32) words
+
 -- the command, or the number of the first word that isn't allowed, is missing or is too many
 abbrev pub command_of : List (List ℕ) → Result Command ℕ
 command_of [] = Err 1
-command_of (word ∷ words) = if is_word word (codes "space") then space_words words else Err 1
+command_of (word ∷ words) =
+    if is_word word (codes "space") then space_words words else (if is_word word (codes "keys") then keys_words words else Err 1)

@@ -2,6 +2,7 @@
 #![tactic(auto)]
 
 mod exit;
+mod keys;
 mod reading;
 mod script;
 mod space;

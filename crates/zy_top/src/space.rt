@@ -1,16 +1,15 @@
 // A script's operations on one space that begins empty.
 ghost use Rattle.std.specs.Prelude.{◌≡◌, ◌++◌, [], All, IfOk};
-ghost use Rattle.std.specs.List.{AllByRecursion};
 ghost use Rattle.zy_edge.specs.Faults.{IsCounted};
 ghost use Rattle.zy_space.specs.TupleSpace.{step};
-ghost use Rattle.zy_tuple.specs.Values.{IsOp, IsTuple};
+ghost use Rattle.zy_tuple.specs.Values.{IsOp};
 ghost use Rattle.zy_top.specs.Calls.{IsSent, stops_writing};
 ghost use Rattle.zy_top.specs.Verdict.{reply_line, report_from};
 
 use crate::Exit;
 use crate::writing::write_all;
 use std::alloc::Global;
-use zy_base::{ClientId, Want};
+use zy_base::{ClientId, Machine, Want};
 use zy_edge::Sink;
 use zy_space::Space;
 use zy_tuple::{Op, reply_text};
@@ -39,16 +38,16 @@ pub(crate) fn run_script<S: Sink>(alloc: Global, ops: &[Op], out: &mut S) -> Res
     write_all(out, &report)
 }
 
-/// Runs one operation, and adds its reply's line.
-#[tactic(auto, using(crate::proofs::Ranges::step_fine))]
+/// Runs one operation, gives up the way back over it, and adds its reply's line.
 fn run_one(alloc: Global, space: &mut Space, op: &Op, report: &mut Vec<u8>) -> Result<(), Want>
     requires op { IsOp op.now }
-    requires tuples { AllByRecursion IsTuple space.old }
-    ensures tuples { IfOk result (λ _. AllByRecursion IsTuple space.new) }
-    ensures space { IfOk result (λ _. space.new ≡ (step op.now space.old).tuples) }
-    ensures report { IfOk result (λ _. report.new.items ≡ report.old.items ++ reply_line (step op.now space.old).reply) }
+    requires trail { space.old.trail ≡ [] }
+    ensures tuples { IfOk result (λ _. space.new.tuples ≡ (step op.now space.old.tuples).tuples) }
+    ensures trail { IfOk result (λ _. space.new.trail ≡ []) }
+    ensures report { IfOk result (λ _. report.new.items ≡ report.old.items ++ reply_line (step op.now space.old.tuples).reply) }
 {
     let reply = space.run_op(CLIENT, op)?;
+    space.forget();
     report.extend_from_slice(reply_text(alloc, &reply)?.as_slice())?;
     report.push(b'\n')?;
     Ok(())

@@ -31,7 +31,11 @@ fn run(
     room: u32,
 ) -> Result<(Exit, Vec<u8>), Fail> {
     let script = Bytes::from(Vec::from_slice(alloc, script)?);
-    let mut files = MemFiles::new(one_file(alloc, script)?, Vec::from_slice(alloc, failing.0)?);
+    let mut files = MemFiles::new(
+        alloc,
+        one_file(alloc, script)?,
+        Vec::from_slice(alloc, failing.0)?,
+    );
     let room = u64::from(room.min(1_000_000));
     let mut out = MemSink::new(alloc, Vec::from_slice(alloc, failing.1)?, room)?;
     let words = strings(alloc, &["space", "script"])?;
@@ -132,17 +136,17 @@ fn words(rt: HostRuntime) -> Result<(), Fail> {
         (&["space", "script", "script"], 3),
     ];
     for (words, word) in table {
-        let mut files = CalmFiles::new(one_file(alloc, bytes(alloc, "out (1)")?)?);
+        let mut files = CalmFiles::new(alloc, one_file(alloc, bytes(alloc, "out (1)")?)?);
         let words = strings(alloc, words)?;
         let exit = zyzzyva(alloc, &words, &mut files, &mut CalmSink::new());
         assert_eq!(rt; exit, Exit::Usage(word));
     }
     // A name that isn't there is an empty file, or a fault.
     let words = strings(alloc, &["space", "other"])?;
-    let mut files = CalmFiles::new(Vec::new(alloc));
+    let mut files = CalmFiles::new(alloc, Vec::new(alloc));
     let exit = zyzzyva(alloc, &words, &mut files, &mut CalmSink::new());
     assert_eq!(rt; exit, Exit::Done);
-    let mut files = MemFiles::new(Vec::new(alloc), Vec::new(alloc));
+    let mut files = MemFiles::new(alloc, Vec::new(alloc), Vec::new(alloc));
     let exit = zyzzyva(alloc, &words, &mut files, &mut CalmSink::new());
     assert_eq!(rt; exit, Exit::ReadFault);
     Ok(())
@@ -154,7 +158,7 @@ fn longest_file(rt: HostRuntime) -> Result<(), Fail> {
     let words = strings(alloc, &["space", "script"])?;
     for (count, exit) in [(1_048_576, Exit::Done), (1_048_577, Exit::TooLong)] {
         let script = lines(alloc, "# sixteen bytes\n", count)?;
-        let mut files = CalmFiles::new(one_file(alloc, Bytes::from(script))?);
+        let mut files = CalmFiles::new(alloc, one_file(alloc, Bytes::from(script))?);
         let answer = zyzzyva(alloc, &words, &mut files, &mut CalmSink::new());
         assert_eq!(rt; answer, exit);
     }

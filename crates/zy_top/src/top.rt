@@ -1,23 +1,29 @@
-ghost use Rattle.std.specs.Prelude.{◌≡◌, ◌↔◌, ◌⊎◌, ℕ, Err, IfSome, IsTrue};
+ghost use Rattle.std.specs.Prelude.{◌≡◌, ◌≢◌, ◌↔◌, ◌⊎◌, ℕ, Err, IfSome, IsSome, IsTrue};
 ghost use Rattle.zy_edge.specs.Faults.{IsCounted, Rose};
 ghost use Rattle.zy_edge.specs.Files.{content_of};
-ghost use Rattle.zy_top.specs.Calls.{exit_of};
-ghost use Rattle.zy_top.specs.Verdict.{IsAnswer, IsReport, IsWritten, is_read_fault, is_refusal, is_usage, is_write_fault, space_verdict, verdict};
+ghost use Rattle.zy_top.specs.Calls.{exit_of, IsSent, stops_writing};
+ghost use Rattle.zy_top.specs.Verdict.{IsAnswer, IsReport, IsWritten, is_read_fault, is_refusal, is_usage, is_write_fault, own_verdict, space_verdict, verdict};
+ghost use Rattle.zy_top.specs.Keys.{key_file};
 ghost use Rattle.zy_top.specs.Words.{command_of, texts};
 
 use crate::Exit;
+use crate::keys::key_file;
 use crate::reading::read_file;
 use crate::script::read_script;
 use crate::space::run_script;
 use crate::words::{Command, command_of};
+use crate::writing::write_all;
 use std::alloc::Global;
+use zy_base::Party;
 use zy_edge::{Files, Sink};
+use zy_lms::Height;
 
 /// Runs the command that the words ask for. Words are judged first, then the file that they name, whole, and
 /// nothing is written before.
 ///
 /// `space SCRIPT` runs the operations of a script, one on a line, on one empty space, and writes the text of each
-/// reply on a line of its own.
+/// reply on a line of its own. `keys SEED PARTY HEIGHT` writes the secret file of a party's key, made from a seed of
+/// 64 hexadecimal digits, with its public key.
 pub fn zyzzyva<F: Files, S: Sink>(
     alloc: Global,
     words: &[String],
@@ -26,7 +32,14 @@ pub fn zyzzyva<F: Files, S: Sink>(
 ) -> Exit
     // Words that are wrong are refused by the number of the first such, and by nothing else, before a file is chosen.
     ensures usage { (word : ℕ) → (result ≡ Exit.Usage word) ↔ (command_of (texts words.now) ≡ Err word) }
-    ensures unread { IsTrue (is_usage result) → files.new ≡ files.old }
+    ensures unread { IsSome (own_verdict (command_of (texts words.now))) → files.new ≡ files.old }
+
+    // A command that names no file has its answer whatever files there are.
+    ensures own { IfSome (own_verdict (command_of (texts words.now))) (λ own.
+        IsAnswer own result × IsWritten own result (S.taken out.old) (S.taken out.new)) }
+    ensures own_read { IsSome (own_verdict (command_of (texts words.now))) → result ≢ Exit.ReadFault }
+    ensures own_complete { IfSome (own_verdict (command_of (texts words.now))) (λ own. IsReport own
+        → ¬ Rose (S.faults out.old) (S.faults out.new) → (result ≡ Exit.Done) ⊎ (result ≡ Exit.Want)) }
 
     // Over files that are told, the answer and what the sink has taken are those of the verdict.
     ensures answer { IfSome (F.held files.old) (λ held. IsAnswer (verdict (texts words.now) held) result) }
@@ -51,8 +64,27 @@ pub fn zyzzyva<F: Files, S: Sink>(
             Ok(()) => Exit::Done,
             Err(exit) => exit,
         },
+        Ok(Command::Keys { seed, by, height }) => match run_keys(alloc, &seed, by, height, out) {
+            Ok(()) => Exit::Done,
+            Err(exit) => exit,
+        },
         Err(word) => Exit::Usage(word),
     }
+}
+
+/// Writes the secret file of a party's key.
+fn run_keys<S: Sink>(
+    alloc: Global,
+    seed: &[u8; 32],
+    by: Party,
+    height: Height,
+    out: &mut S,
+) -> Result<(), Exit>
+    ensures written { IsSent (S.taken out.old) (S.taken out.new) (key_file seed.now by height) result }
+    ensures count { IsCounted (stops_writing result) (S.faults out.old) (S.faults out.new) }
+{
+    let text = key_file(alloc, seed, by, height)?;
+    write_all(out, &text)
 }
 
 /// Runs the script in the file with this name.

@@ -1,13 +1,24 @@
 // The words of the command line, judged by hand: the number of the first that isn't allowed is exact.
 ghost use Rattle.std.specs.Prelude.{◌≡◌};
 ghost use Rattle.zy_top.specs.Calls.{IsCommand};
-ghost use Rattle.zy_top.specs.Words.{command_of, space_words, texts};
+ghost use Rattle.zy_top.specs.Words.{command_of, space_words, keys_words, behind_seed, texts};
+
+use crate::keys::{height_read, party_read};
+use hex::FromHex;
+use zy_base::Party;
+use zy_lms::Height;
 
 /// What the words ask for.
 #[derive(Clone, Copy)]
 pub(crate) enum Command<'a> {
     /// Run the script in the file with this name.
     Space(&'a str),
+    /// Write the secret file of a party's key, made from the seed of its group.
+    Keys {
+        seed: [u8; 32],
+        by: Party,
+        height: Height,
+    },
 }
 
 /// The command, or the number of the first word that isn't allowed, is missing or is too many.
@@ -17,10 +28,11 @@ pub(crate) fn command_of(words: &[String]) -> Result<Command<'_>, u64>
     let [word, others @ ..] = words else {
         return Err(1);
     };
-    if word.as_str() != "space" {
-        return Err(1);
+    match word.as_str() {
+        "space" => space_words(others),
+        "keys" => keys_words(others),
+        _ => Err(1),
     }
-    space_words(others)
 }
 
 /// Behind `space` stands the name of a script.
@@ -37,4 +49,38 @@ fn space_words(words: &[String]) -> Result<Command<'_>, u64>
         return Err(3);
     }
     Ok(Command::Space(script.as_str()))
+}
+
+/// Behind `keys` stand 64 hexadecimal digits, a party and a height.
+fn keys_words(words: &[String]) -> Result<Command<'_>, u64>
+    ensures { IsCommand (keys_words (texts words.now)) result }
+{
+    let [seed, others @ ..] = words else {
+        return Err(2);
+    };
+    let Ok(seed) = <[u8; 32] as FromHex>::from_hex(seed.as_str()) else {
+        return Err(2);
+    };
+    behind_seed(seed, others)
+}
+
+fn behind_seed(seed: [u8; 32], words: &[String]) -> Result<Command<'_>, u64>
+    ensures { IsCommand (behind_seed (Ok seed) (texts words.now)) result }
+{
+    let [party, others @ ..] = words else {
+        return Err(3);
+    };
+    let Some(by) = party_read(party.as_bytes()) else {
+        return Err(3);
+    };
+    let [height, others @ ..] = others else {
+        return Err(4);
+    };
+    let Some(height) = height_read(height.as_bytes()) else {
+        return Err(4);
+    };
+    if !others.is_empty() {
+        return Err(5);
+    }
+    Ok(Command::Keys { seed, by, height })
 }

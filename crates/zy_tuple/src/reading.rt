@@ -71,8 +71,8 @@ fn value_of(digits: &[u8]) -> Option<u64>
     Some(value)
 }
 
-// The value of digits without a leading zero.
-fn numeral(digits: &[u8]) -> Option<u64>
+/// The value of decimal digits without a leading zero, `0` itself allowed, where it is below 2^64.
+pub fn numeral(digits: &[u8]) -> Option<u64>
     ensures { SomeIff result (IsTrue (is_numeral digits.now) × (digits_value 10 digits.now < 2 ^ 64)) (digits_value 10 digits.now) }
 {
     match digits {

@@ -4,10 +4,12 @@
 
 mod cut;
 mod kind;
+mod party;
 mod put;
 
 pub use cut::Cut;
 pub use kind::{MAX_FRAME, MAX_KIND, VERSION, kind_of};
+pub use party::party_array;
 pub use put::Put;
 
 #[cfg(test)]

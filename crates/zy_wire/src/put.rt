@@ -3,9 +3,10 @@ ghost use Rattle.std.specs.Int.{w8, w16, w32, w64};
 ghost use Rattle.zy_wire.specs.Spelling.{bytes_of};
 ghost use Rattle.zy_wire.specs.Fields.{party_bytes, IsParty};
 
+use crate::party_array;
 use std::alloc::Global;
 use std::marker::Model;
-use zy_base::{Bytes, ClientId, Digest, Party, ReplicaId, Want};
+use zy_base::{Bytes, Digest, Party, Want};
 
 /// Bytes that are written at the end. Contracts see the bytes so far. A writer that answers `Want` leaves them as
 /// they were. The room grows by doubling.
@@ -91,18 +92,13 @@ impl Put {
         self.raw(&bytes)
     }
 
-    #[tactic(auto, unfolding(crate::specs::Spelling::bytes_of, crate::specs::Fields::party_bytes))]
     pub fn party(&mut self, x: Party) -> Result<(), Want>
         ensures ok { OnOk result (self.new ≡ self.old ++ party_bytes x) }
         ensures err { OnErr result (self.new ≡ self.old) }
         ensures fits { IsParty x }
     {
-        let (kind, number) = match x {
-            Party::Replica(ReplicaId(id)) => (0, u32::from(id)),
-            Party::Client(ClientId(id)) => (1, id),
-        };
-        let [a, b, c, d] = number.to_be_bytes();
-        self.raw(&[kind, a, b, c, d])
+        let bytes = party_array(x);
+        self.raw(&bytes)
     }
 
     /// The length in two bytes, and the bytes.

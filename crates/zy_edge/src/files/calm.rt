@@ -2,6 +2,7 @@ ghost use Rattle.std.specs.Prelude.{◌≡◌, Some, None, is_some};
 
 use super::stored::Stored;
 use super::{Chosen, Files, Read};
+use std::alloc::Global;
 use std::marker::Model;
 use zy_base::Bytes;
 
@@ -20,7 +21,7 @@ impl Model for CalmFiles {
 }
 
 impl CalmFiles {
-    pub fn new(files: Vec<(Bytes, Bytes)>) -> CalmFiles
+    pub fn new(_alloc: Global, files: Vec<(Bytes, Bytes)>) -> CalmFiles
         ensures { result ≡ record { held = files.items; rest = None } }
     {
         CalmFiles {

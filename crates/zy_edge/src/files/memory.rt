@@ -6,6 +6,7 @@ ghost use Rattle.zy_edge.specs.Memory.{next_is_listed, select_fails, counted};
 use super::stored::Stored;
 use super::{Chosen, Files, Read};
 use crate::calls::Calls;
+use std::alloc::Global;
 use std::marker::Model;
 use zy_base::Bytes;
 
@@ -28,7 +29,7 @@ impl Model for MemFiles {
 impl MemFiles {
     /// Takes names with contents, and the numbers of the calls that are to fail. Calls are numbered from 1, and the
     /// number stays at 2^64 - 1.
-    pub fn new(files: Vec<(Bytes, Bytes)>, failing: Vec<u64>) -> MemFiles
+    pub fn new(_alloc: Global, files: Vec<(Bytes, Bytes)>, failing: Vec<u64>) -> MemFiles
         ensures { result ≡ record {
           held = files.items;
           rest = None;

@@ -1,5 +1,4 @@
-use Rattle.std.proofs.Common.{◌∙◌, arith, length-append, length-take}
-use Rattle.std.proofs.lemmas.Grind.{common_steps}
+use Rattle.std.proofs.Common.{◌∙◌, arith}
 use Rattle.std.proofs.KnownBytes.{Consumes-trans}
 use Rattle.zy_top.proofs.Known.{length-grown-le, more_than, read_whole}
 use Rattle.zy_top.proofs.reading.read_chosen.Goals as goal

@@ -17,26 +17,26 @@ returns-in_err-run_one-clause-written g c =
 pub returns-in_err-write_all-clause-written : goal.returns-in_err-write_all-clause-written
 returns-in_err-write_all-clause-written g c =
     let here : drop c.loop-op.op-index c.args.ops.now ≡ c.op-item.result ∷ drop (c.loop-op.op-index + 1) c.args.ops.now = grind (arith, common_steps) in
-    let more = Reported-more c.run_one.new.report.items c.run_one.new.space c.op-item.result (rw here at c.loop-op.invariant.reported)
-    c.in_ok-run_one.ensures.report c.in_ok-run_one.ensures.space in
+    let more = Reported-more c.run_one.new.report.items c.run_one.new.space.tuples c.op-item.result (rw here at c.loop-op.invariant.reported)
+    c.in_ok-run_one.ensures.report c.in_ok-run_one.ensures.tuples in
     let p = err_from_is_err_and c.from_residual-in_err-write_all.result c.from_residual-in_err-write_all.ensures.1 in
     rw (p.1, p.2) (IsSent-part (g.S.Sink.taken c.write_all.new.out) c.deref.result.now _ more c.deref.ensures.value c.in_err-write_all.ensures.written)
 
 pub loop-op-preserved : goal.loop-op-preserved
 loop-op-preserved g c =
     let here : drop c.loop-op.op-index c.args.ops.now ≡ c.op-item.result ∷ drop (c.loop-op.op-index + 1) c.args.ops.now = grind (arith, common_steps) in
-    let more = Reported-more c.run_one.new.report.items c.run_one.new.space c.op-item.result (rw here at c.loop-op.invariant.reported)
-    c.in_ok-run_one.ensures.report c.in_ok-run_one.ensures.space in
+    let more = Reported-more c.run_one.new.report.items c.run_one.new.space.tuples c.op-item.result (rw here at c.loop-op.invariant.reported)
+    c.in_ok-run_one.ensures.report c.in_ok-run_one.ensures.tuples in
     elim c.if-len-ge-PIECE.branch [
       | then-len-ge-PIECE+in_ok-write_all w ↦ record {
         reported = rw (w.out-is, w.report-is, w.clear.ensures.items)
             (Reported-written (g.S.Sink.taken w.write_all.new.out) w.deref.result.now more w.deref.ensures.value w.in_ok-write_all.ensures.written);
-        tuples = c.in_ok-run_one.ensures.tuples;
+        trail = c.in_ok-run_one.ensures.trail;
         count = rw w.out-is (w.in_ok-write_all.ensures.count ∙ c.loop-op.invariant.count);
       }
       | else-len-ge-PIECE w ↦ record {
         reported = rw (w.out-is, w.report-is) more;
-        tuples = c.in_ok-run_one.ensures.tuples;
+        trail = c.in_ok-run_one.ensures.trail;
         count = rw w.out-is c.loop-op.invariant.count;
       }
     ]

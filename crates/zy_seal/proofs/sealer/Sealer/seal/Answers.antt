@@ -1,0 +1,28 @@
+use Rattle.std.proofs.Common.{◌≡◌, ◌≤◌, List, ℕ, length, refl, ap, subst, ◌∙◌, arith}
+use Rattle.zy_ots.specs.declared.ots_type.OtsType.TheVariants.{W4, W8}
+use Rattle.zy_lms.specs.declared.height.Height.TheVariants.{H5, H10}
+use Rattle.zy_lms.specs.Lms.{Verifies, public_of}
+use Rattle.zy_parts.specs.Signing.{text_of}
+use Rattle.zy_seal.specs.Sealing.{SealerState}
+use Rattle.zy_seal.proofs.sealer.Sealer.seal.Goals as goal
+
+-- a signature is far shorter than a statement allows
+is_short : (public message signature : List ℕ) → Verifies public message signature → length signature ≤ 8192
+is_short public message signature (H5, W4, v) = omega (arith, v.len)
+is_short public message signature (H5, W8, v) = omega (arith, v.len)
+is_short public message signature (H10, W4, v) = omega (arith, v.len)
+is_short public message signature (H10, W8, v) = omega (arith, v.len)
+
+pub returns-in-Ok-clause-sealed : goal.returns-in-Ok-clause-sealed
+returns-in-Ok-clause-sealed g c =
+    let number = g.S.Statement.its_number in
+    let fields = g.S.Spelled.spelling in
+    let text-is : c.as_slice.result.now ≡ text_of number fields c.self.inside.me c.args.stmt = c.as_slice.ensures.value ∙ c.in_ok-text.ensures in
+    let own : Verifies (public_of c.self.inside.key) (text_of number fields c.self.inside.me c.args.stmt) c.in-Ok.sig = subst (λ (text : List ℕ). Verifies (public_of c.self.inside.key) text c.in-Ok.sig) text-is c.in-Ok.ensures.verifies in
+    record {
+      signer = ap (λ (s : SealerState). s.me) c.self.view_is;
+      body = refl;
+      leaf = c.in-Ok.ensures.leaf ∙ ap (λ (s : SealerState). s.key.next) c.self.view_is;
+      verifies = subst (λ (s : SealerState). Verifies (public_of s.key) (text_of number fields s.me c.args.stmt) c.in-Ok.sig) c.self.view_is own;
+      short = is_short (public_of c.self.inside.key) c.as_slice.result.now c.in-Ok.sig c.in-Ok.ensures.verifies;
+    }
