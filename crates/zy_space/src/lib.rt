@@ -7,3 +7,6 @@ mod space;
 mod state;
 
 pub use space::{Space, TUPLE_LIMIT, Tuples};
+
+#[cfg(test)]
+mod tests;
