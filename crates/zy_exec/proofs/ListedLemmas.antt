@@ -25,7 +25,7 @@ listed_suc_some first (None ∷ known) (suc i) k within some =
 listed_suc_some first (Some x ∷ known) (suc i) k within some =
     let here : first + 1 + i ≡ first + suc i = omega arith in
     ap (λ (others : List (ℕ × Known)). (first, x) ∷ others)
-        (listed_suc_some (first + 1) known i k (omega arith) some ∙ ap (λ (n : ℕ). listed (first + 1) (take i known) ++ (n, k) ∷ []) here)
+    (listed_suc_some (first + 1) known i k (omega arith) some ∙ ap (λ (n : ℕ). listed (first + 1) (take i known) ++ (n, k) ∷ []) here)
 
 pub listed_none : (known : List (Option Known)) (i : ℕ) → i < length known → None ≡ get_or known i None → listed 0 (take (i + 1) known) ≡ listed 0 (take i known)
 listed_none known i within none = rw add-one (listed_suc_none 0 known i within (sym none))

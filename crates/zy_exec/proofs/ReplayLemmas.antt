@@ -1,5 +1,5 @@
 -- Replay by one entry more, and what is kept of each entry.
-use Rattle.std.proofs.Common.{◌≡◌, ℕ, zero, suc, ◌+◌, ◌-◌, ◌^◌, ◌<◌, ◌≤◌, ◌⊎◌, inl, inr, List, [], ◌∷◌, ◌++◌, length, take, drop, get_or, set, replicate, Option, Some, None, refl, sym, ap, ◌∙◌, subst, arith, add-one, append_assoc, append-nil}
+use Rattle.std.proofs.Common.{◌≡◌, ℕ, zero, suc, ◌+◌, ◌-◌, ◌^◌, ◌<◌, ◌≤◌, inl, inr, List, [], ◌∷◌, ◌++◌, length, take, get_or, set, replicate, Option, Some, None, refl, sym, ap, ◌∙◌, subst, arith, append_assoc, append-nil}
 use Rattle.std.specs.Prelude.{slice_get, option_map}
 use Rattle.std.specs.List.{AllByRecursion}
 use Rattle.std.proofs.lemmas.List.{take_at, length-append, length-set, length-replicate, set-set, set-get_or, get_or-set_same, get_or-set_other, same_from_push}
@@ -18,7 +18,7 @@ use Rattle.zy_exec.specs.declared.known.Done.{Done}
 use Rattle.zy_exec.specs.Known.{IsKnownInRange}
 use Rattle.zy_exec.specs.Replay.{Point, known_of, step, along}
 use Rattle.zy_exec.specs.Kept.{Kept, reply_in}
-use Rattle.zy_exec.specs.Trail.{base_of, oldest_state, states_from, nowhere, placed, last_from, done_from, known_above, known_at, IsPopped, IsDoneInRange, IsBaseInRange, HasClient, IsReplayed}
+use Rattle.zy_exec.specs.Trail.{base_of, oldest_state, states_from, nowhere, placed, last_from, done_from, known_at, IsPopped, IsDoneInRange, IsBaseInRange, HasClient, IsReplayed}
 
 -- what holds of no entries, and with one entry more, holds of all lists
 pub by_last : (P : List Entry → Type 0) → P [] → ((entries : List Entry) (e : Entry) → P entries → P (entries ++ e ∷ [])) → (entries : List Entry) → P entries
@@ -94,7 +94,7 @@ unfolding along
 done-append R p last [] e = refl
 done-append R p last (first ∷ entries) e =
     ap (λ (done : List Done). record { client = first.client; known = known_of R p first; earlier = get_or last first.client.0 None } ∷ done)
-        (done-append R (step R p first) (placed last first (p.place + 1)) entries e)
+    (done-append R (step R p first) (placed last first (p.place + 1)) entries e)
 
 pub length-done : {S : Type 0} (R : Rules S) (p : Point S) (last : List (Option Place)) (entries : List Entry) → length (done_from R p last entries) ≡ length entries
 length-done R p last [] = refl
@@ -121,7 +121,7 @@ clients_pop (first ∷ entries) e all = let rest = clients_pop entries e all.1 i
 pub replayed_on : {S : Type 0} (R : Rules S) (base : Point S) (entries : List Entry) (state : S) (trail : List S) (done : List Done) (last : List (Option Place)) (e : Entry) (known : Known)
     → IsReplayed R base entries state trail done last → e.client.0 < 64 → known ≡ known_of R (along R base entries) e → IsKnownInRange known
     → IsReplayed R base (entries ++ e ∷ []) (R.next state e.client e.op) (trail ++ state ∷ [])
-        (done ++ record { client = e.client; known = known; earlier = get_or last e.client.0 None } ∷ []) (set last e.client.0 (Some known.place))
+    (done ++ record { client = e.client; known = known; earlier = get_or last e.client.0 None } ∷ []) (set last e.client.0 (Some known.place))
 replayed_on {S} R base entries state trail done last e known was client known_is in_range =
     let here = along R base entries in
     record {
@@ -225,32 +225,32 @@ known_more R p client entries e all within was =
     let fits : length (entries ++ e ∷ []) ≡ length entries + 1 = length-append entries (e ∷ []) in
     let many : length done ≡ length entries = length-done R p nowhere entries in
     elim (cases_eq client e.client.0) [
-      inl same ↦
-        let last_len : length before ≡ 64 = length-last p.place nowhere entries ∙ (let none : Option Place = None in length-replicate 64 none) in
-        let known_len : length here.known ≡ 64 = length-known-along R p entries ∙ all in
-        let last_at : get_or (set before e.client.0 (Some place)) client None ≡ Some place =
-            ap (λ (c : ℕ). get_or (set before e.client.0 (Some place)) c None) same ∙ get_or-set_same before e.client.0 (Some place) None (omega arith) in
-        let known_here : get_or (set here.known e.client.0 (Some next.known)) client None ≡ Some next.known =
-            ap (λ (c : ℕ). get_or (set here.known e.client.0 (Some next.known)) c None) same ∙ get_or-set_same here.known e.client.0 (Some next.known) None (omega arith) in
-        let at : place.0 - p.place - 1 ≡ length done = omega arith in
-        record {
-          known = rw (done_now, last_now, known_now, last_at, known_here, at) (ap (option_map (λ (d : Done). d.known)) (slice_get-last done next));
-          above = rw (last_now, last_at) (record { above = λ q some. let is : place ≡ q = same_Some place q some in subst (λ (at_q : Place). (p.place < at_q.0) × (at_q.0 ≤ p.place + length (entries ++ e ∷ []))) is (omega arith, omega arith) });
-        }
-    | inr apart ↦
-        record {
-          known = rw (done_now, last_now, known_now, get_or-set_other before e.client.0 client (Some place) None apart, get_or-set_other here.known e.client.0 client (Some next.known) None apart)
-              (known_at-more p.place p.known done next client (get_or before client None) (rw many was.above) ∙ was.known);
-          above = rw (last_now, get_or-set_other before e.client.0 client (Some place) None apart)
-              (record { above = λ q some. let bounds = was.above.above q some in (bounds.0, omega (arith, bounds.1, fits)) });
-        }
+      | inl same ↦
+          let last_len : length before ≡ 64 = length-last p.place nowhere entries ∙ (let none : Option Place = None in length-replicate 64 none) in
+          let known_len : length here.known ≡ 64 = length-known-along R p entries ∙ all in
+          let last_at : get_or (set before e.client.0 (Some place)) client None ≡ Some place =
+          ap (λ (c : ℕ). get_or (set before e.client.0 (Some place)) c None) same ∙ get_or-set_same before e.client.0 (Some place) None (omega arith) in
+          let known_here : get_or (set here.known e.client.0 (Some next.known)) client None ≡ Some next.known =
+          ap (λ (c : ℕ). get_or (set here.known e.client.0 (Some next.known)) c None) same ∙ get_or-set_same here.known e.client.0 (Some next.known) None (omega arith) in
+          let at : place.0 - p.place - 1 ≡ length done = omega arith in
+          record {
+            known = rw (done_now, last_now, known_now, last_at, known_here, at) (ap (option_map (λ (d : Done). d.known)) (slice_get-last done next));
+            above = rw (last_now, last_at) (record { above = λ q some. let is : place ≡ q = same_Some place q some in subst (λ (at_q : Place). (p.place < at_q.0) × (at_q.0 ≤ p.place + length (entries ++ e ∷ []))) is (omega arith, omega arith) });
+          }
+      | inr apart ↦
+          record {
+            known = rw (done_now, last_now, known_now, get_or-set_other before e.client.0 client (Some place) None apart, get_or-set_other here.known e.client.0 client (Some next.known) None apart)
+                (known_at-more p.place p.known done next client (get_or before client None) (rw many was.above) ∙ was.known);
+            above = rw (last_now, get_or-set_other before e.client.0 client (Some place) None apart)
+                (record { above = λ q some. let bounds = was.above.above q some in (bounds.0, omega (arith, bounds.1, fits)) });
+          }
     ]
 
 known_all : {S : Type 0} (R : Rules S) (p : Point S) (client : ℕ) → length p.known ≡ 64 → (entries : List Entry) → AllByRecursion HasClient entries → IsKnown R p client entries
 known_all R p client all =
     by_last (λ (entries : List Entry). AllByRecursion HasClient entries → IsKnown R p client entries)
-        (λ none. known_none R p client)
-        (λ entries e was clients. let both = clients_pop entries e clients in known_more R p client entries e all both.1 (was both.0))
+    (λ none. known_none R p client)
+    (λ entries e was clients. let both = clients_pop entries e clients in known_more R p client entries e all both.1 (was both.0))
 
 -- what is kept tells what is known now
 pub known_is : {S : Type 0} (R : Rules S) (base : Point S) (entries : List Entry) (state : S) (trail : List S) (done : List Done) (last : List (Option Place)) (client : ℕ)
@@ -274,7 +274,7 @@ snoc (e ∷ next ∷ entries) some = let rest = snoc (next ∷ entries) (omega a
 -- ---- the parts of an execution
 
 pub replayed_push : {S : Type 0} (R : Rules S) (spine spine' : Stretch) (base_known : List (Option Known)) (state state' : S) (trail trail' : List S) (done done' : List Done) (last last' : List (Option Place)) (e : Entry)
-        (place : Place) (head : Digest) (reply : List ℕ)
+    (place : Place) (head : Digest) (reply : List ℕ)
     → IsReplayed R (base_of spine trail state base_known) spine.entries state trail done last → e.client.0 < 64 → spine' ≡ with_entry spine e
     → state' ≡ R.next state e.client e.op → trail' ≡ trail ++ state ∷ []
     → e.stamp.0 < 2 ^ 62 → length reply ≤ 1100 → end_of spine < 2 ^ 62 - 1
@@ -287,20 +287,20 @@ replayed_push {S} R spine spine' base_known state state' trail trail' done done'
     let entries = spine.entries in
     let here = along R base entries in
     let place_now : place.0 ≡ here.place + 1 =
-        place_is ∙ ap (λ (s : Stretch). end_of s) spine_is ∙ omega (arith, length-append entries (e ∷ []), place-along R base entries) in
+    place_is ∙ ap (λ (s : Stretch). end_of s) spine_is ∙ omega (arith, length-append entries (e ∷ []), place-along R base entries) in
     let head_now : head ≡ head_after here.head (digest_of_entry e) =
-        head_is ∙ ap (λ (s : Stretch). head_from s.base.head s.entries) spine_is ∙ fold-append (λ (h : Digest) (x : Entry). head_after h (digest_of_entry x)) spine.base.head entries (e ∷ [])
-        ∙ ap (λ (h : Digest). head_after h (digest_of_entry e)) (sym (head-along R base entries)) in
+    head_is ∙ ap (λ (s : Stretch). head_from s.base.head s.entries) spine_is ∙ fold-append (λ (h : Digest) (x : Entry). head_after h (digest_of_entry x)) spine.base.head entries (e ∷ [])
+    ∙ ap (λ (h : Digest). head_after h (digest_of_entry e)) (sym (head-along R base entries)) in
     let reply_now : reply ≡ R.reply here.state e.client e.op = reply_is ∙ ap (λ (s : S). R.reply s e.client e.op) was.state_is in
     let known : Known = record { stamp = e.stamp; place = place; head = head; reply = reply } in
     let known_now : known ≡ known_of R here e =
-        ap (λ (n : ℕ). record known { place = record { 0 = n } }) place_now
-        ∙ ap (λ (h : Digest). record { stamp = e.stamp; place = record { 0 = here.place + 1 }; head = h; reply = reply }) head_now
-        ∙ ap (λ (r : List ℕ). record { stamp = e.stamp; place = record { 0 = here.place + 1 }; head = head_after here.head (digest_of_entry e); reply = r }) reply_now in
+    ap (λ (n : ℕ). record known { place = record { 0 = n } }) place_now
+    ∙ ap (λ (h : Digest). record { stamp = e.stamp; place = record { 0 = here.place + 1 }; head = h; reply = reply }) head_now
+    ∙ ap (λ (r : List ℕ). record { stamp = e.stamp; place = record { 0 = here.place + 1 }; head = head_after here.head (digest_of_entry e); reply = r }) reply_now in
     rw (spine_is, state_is, trail_is, done_is, last_is, oldest-append trail state (R.next state e.client e.op))
-        (replayed_on R base entries state trail done last e known was client known_now
-            (let next : end_of spine' ≡ end_of spine + 1 = ap (λ (s : Stretch). end_of s) spine_is ∙ omega (arith, length-append entries (e ∷ [])) in
-             record { stamp = stamp; place_least = omega arith; place_most = omega arith; reply = short }))
+    (replayed_on R base entries state trail done last e known was client known_now
+    (let next : end_of spine' ≡ end_of spine + 1 = ap (λ (s : Stretch). end_of s) spine_is ∙ omega (arith, length-append entries (e ∷ [])) in
+    record { stamp = stamp; place_least = omega arith; place_most = omega arith; reply = short }))
 
 pub replayed_cut : {S : Type 0} (R : Rules S) (spine spine' : Stretch) (base_known : List (Option Known)) (state state' : S) (trail trail' : List S) (done done' : List Done) (last last' : List (Option Place))
     → IsReplayed R (base_of spine trail state base_known) spine.entries state trail done last → 0 < length spine.entries
@@ -310,11 +310,11 @@ replayed_cut {S} R spine spine' base_known state state' trail trail' done done' 
     let ends = snoc spine.entries some in
     let base = base_of spine trail state base_known in
     let front : take (end_of spine - 1 - spine.base.place) spine.entries ≡ ends.0 =
-        ap (take (end_of spine - 1 - spine.base.place)) ends.2
-        ∙ take_at ends.0 (ends.1 ∷ []) (end_of spine - 1 - spine.base.place) (omega (arith, ap length ends.2, length-append ends.0 (ends.1 ∷ []))) in
+    ap (take (end_of spine - 1 - spine.base.place)) ends.2
+    ∙ take_at ends.0 (ends.1 ∷ []) (end_of spine - 1 - spine.base.place) (omega (arith, ap length ends.2, length-append ends.0 (ends.1 ∷ []))) in
     let oldest : oldest_state trail' state' ≡ oldest_state trail state = sym (ap (λ (t : List S). oldest_state t state) back ∙ oldest-append trail' state' state) in
     rw (spine_is, front, oldest)
-        (replayed_back R base ends.0 ends.1 state state' trail trail' done done' last last' (subst (λ (es : List Entry). IsReplayed R base es state trail done last) ends.2 was) back pop)
+    (replayed_back R base ends.0 ends.1 state state' trail trail' done done' last last' (subst (λ (es : List Entry). IsReplayed R base es state trail done last) ends.2 was) back pop)
 
 pub reply_above : {S : Type 0} (R : Rules S) (k : Kept S) (place : ℕ) → k.base.place < place
     → option_map (λ (e : Entry). R.reply (along R k.base (take (place - k.base.place - 1) k.entries)).state e.client e.op) (slice_get k.entries (place - k.base.place - 1)) ≡ reply_in R k place

@@ -1,5 +1,5 @@
 -- What is known of a client's last entry, in the ranges that a snapshot allows.
-use Rattle.std.specs.Prelude.{ℕ, ◌^◌, ◌<◌, ◌≤◌, length}
+use Rattle.std.specs.Prelude.{◌^◌, ◌<◌, ◌≤◌, length}
 use Rattle.zy_exec.specs.declared.known.Known.{Known}
 
 pub record IsKnownInRange (k : Known) : Type 0 where

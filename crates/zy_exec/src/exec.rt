@@ -42,14 +42,14 @@ impl<M: Machine> Model for Exec<M> {
     ghost use Rattle.zy_exec.specs.Trail.{base_of, IsReplayed};
 
     ghost view = { λ x. record {
-        interval = x.interval;
-        base = base_of x.spine (M.trail x.machine) (M.state x.machine) x.base_known.items;
-        entries = x.spine.entries;
+      interval = x.interval;
+      base = base_of x.spine (M.trail x.machine) (M.state x.machine) x.base_known.items;
+      entries = x.spine.entries;
     } };
 
     ghost invariant = { λ x.
         IsReplayed M.rules (base_of x.spine (M.trail x.machine) (M.state x.machine) x.base_known.items) x.spine.entries
-            (M.state x.machine) (M.trail x.machine) x.done.items x.last.items };
+        (M.state x.machine) (M.trail x.machine) x.done.items x.last.items };
 }
 
 impl<M: Machine> Exec<M> {

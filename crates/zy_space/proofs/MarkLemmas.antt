@@ -1,9 +1,7 @@
 -- What a vector of marked tuples holds, and how it goes back.
-use Rattle.std.proofs.Common.{◌≡◌, ℕ, zero, suc, ◌+◌, ◌-◌, ◌<◌, ◌≤◌, Bool, true, false, not, cond, List, [], ◌∷◌, ◌++◌, length, take, drop, map, reverse, filter, get_or, set, Option, Some, None, refl, sym, ap, ◌∙◌, subst, arith, add-one, rules}
+use Rattle.std.proofs.Common.{◌≡◌, ℕ, zero, suc, ◌+◌, ◌-◌, ◌<◌, ◌≤◌, true, false, not, cond, List, [], ◌∷◌, ◌++◌, length, take, drop, map, reverse, filter, get_or, set, Some, refl, sym, ap, ◌∙◌, subst, arith}
 use Rattle.std.specs.List.{AllByRecursion}
-use Rattle.std.proofs.lemmas.List.{reverse-append, map-append, length-take, length-append, take_at}
-use Rattle.std.proofs.lemmas.Grind.{common_steps}
-use Rattle.std.proofs.lemmas.Bool.{cases_eq}
+use Rattle.std.proofs.lemmas.List.{length-reverse, reverse-append, map-append, length-take, length-append, take_at}
 use Rattle.std.proofs.lemmas.Option.{same_Some}
 use Rattle.zy_tuple.specs.declared.values.Field.{Field}
 use Rattle.zy_tuple.specs.Values.{IsTuple}
@@ -12,7 +10,7 @@ use Rattle.zy_space.specs.declared.slots.Mark.TheVariants.{Live, Taken, Gone}
 use Rattle.zy_space.specs.declared.slots.Slot.{Slot}
 use Rattle.zy_space.specs.declared.slots.Change.{Change}
 use Rattle.zy_space.specs.declared.slots.Change.TheVariants.{Same, Put, Took}
-use Rattle.zy_space.specs.Marks.{is_live, is_gone, is_kept, live_of, marked, mark_at, tuple_at, undone, earlier, trail_of, CanUndo, CanForget, forgotten, LeadsBack, HoldsTuple, IsSound, IsStep, numbered, rank_at, renamed}
+use Rattle.zy_space.specs.Marks.{is_live, is_gone, is_kept, live_of, marked, mark_at, tuple_at, undone, earlier, trail_of, CanUndo, CanForget, forgotten, AllLive, IsSpace, LeadsBack, HoldsTuple, IsSound, IsStep, numbered, rank_at, renamed}
 
 -- ---- marks
 
@@ -505,3 +503,37 @@ length-live_of-taken slots place live =
     let taken = mark_at-marked_same Taken place slots (live_within place slots live) in
     let more = length-live_of-marked place (marked Taken place slots) taken in
     sym more ∙ ap (λ (s : List Slot). length (live_of s)) (marked_back Live Taken place slots live)
+
+-- ---- a space that is made
+
+length-earlier : (slots : List Slot) (changes : List Change) → length (earlier slots changes) ≡ length changes
+unfolding earlier
+length-earlier slots [] = refl
+length-earlier slots (change ∷ changes) = ap suc (length-earlier (undone change slots) changes)
+
+pub length-trail_of : (slots : List Slot) (changes : List Change) → length (trail_of slots changes) ≡ length changes
+length-trail_of slots changes = length-reverse (earlier slots (reverse changes)) ∙ length-earlier slots (reverse changes) ∙ length-reverse changes
+
+pub trail_none : (slots : List Slot) → trail_of slots [] ≡ []
+unfolding earlier
+trail_none slots = refl
+
+pub space_made : (slots : List Slot) → AllByRecursion HoldsTuple slots → length (live_of slots) ≤ 4096 → IsSpace slots [] (length (live_of slots))
+unfolding LeadsBack
+space_made slots tuples few = record { sound = record { leads_back = tt; tuples = tuples; few = few }; counted = refl }
+
+pub live_of-all : (slots : List Slot) → AllLive slots → live_of slots ≡ map (λ (s : Slot). s.tuple) slots
+live_of-all [] all = refl
+live_of-all (slot ∷ slots) all = rw all.0 (ap (λ (tuples : List (List Field)). slot.tuple ∷ tuples) (live_of-all slots all.1))
+
+pub live_tuples : (slots : List Slot) → AllByRecursion HoldsTuple slots → AllByRecursion IsTuple (live_of slots)
+live_tuples [] all = tt
+live_tuples (slot ∷ slots) all =
+    elim (is_live slot.mark) as (λ live. AllByRecursion IsTuple (cond live (slot.tuple ∷ live_of slots) (live_of slots))) [
+      | true ↦ (all.0, live_tuples slots all.1)
+      | false ↦ live_tuples slots all.1
+    ]
+
+pub holds_each : (slots : List Slot) → AllByRecursion IsTuple (map (λ (s : Slot). s.tuple) slots) → AllByRecursion HoldsTuple slots
+holds_each [] all = tt
+holds_each (slot ∷ slots) all = (all.0, holds_each slots all.1)

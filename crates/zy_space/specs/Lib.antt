@@ -2,3 +2,5 @@ pub mod TupleSpace
 pub mod Place
 pub mod Marks
 pub mod Timeline
+pub mod Service
+pub mod Laws

@@ -1,5 +1,5 @@
 -- A space kept as a vector of marked tuples, with the changes that lead back to its earlier states.
-use Rattle.std.specs.Prelude.{◌≡◌, ℕ, zero, suc, ◌+◌, ◌-◌, ◌<◌, ◌≤◌, Bool, true, false, not, if◌then◌else◌, List, [], ◌∷◌, ◌++◌, length, take, map, reverse, filter, Option, option_map, slice_get}
+use Rattle.std.specs.Prelude.{◌≡◌, ℕ, zero, suc, ◌+◌, ◌-◌, ◌<◌, ◌≤◌, Bool, true, false, not, if◌then◌else◌, List, [], ◌∷◌, ◌++◌, length, take, reverse, Option, option_map, slice_get}
 use Rattle.std.specs.List.{AllByRecursion}
 use Rattle.zy_tuple.specs.declared.values.Field.{Field}
 use Rattle.zy_tuple.specs.Values.{IsTuple}
@@ -78,6 +78,12 @@ CanForget (Took place) slots = mark_at slots place ≡ Taken
 
 abbrev pub HoldsTuple : Slot → Type 0
 HoldsTuple slot = IsTuple slot.tuple
+
+abbrev pub IsLiveSlot : Slot → Type 0
+IsLiveSlot slot = slot.mark ≡ Live
+
+abbrev pub AllLive : List Slot → Type 0
+AllLive slots = AllByRecursion IsLiveSlot slots
 
 pub record IsSound (slots : List Slot) (changes : List Change) : Type 0 where
   pub leads_back : LeadsBack slots (reverse changes)

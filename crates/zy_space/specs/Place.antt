@@ -1,5 +1,5 @@
 -- Where the oldest match stands in the list.
-use Rattle.std.specs.Prelude.{◌≡◌, ℕ, ◌<◌, List, length, Option, Some, None}
+use Rattle.std.specs.Prelude.{◌≡◌, ℕ, ◌<◌, List, length, None}
 use Rattle.zy_tuple.specs.declared.values.Field.{Field}
 use Rattle.zy_tuple.specs.declared.values.Slot.{Slot as TemplateSlot}
 use Rattle.zy_space.specs.TupleSpace.{oldest, without_oldest}

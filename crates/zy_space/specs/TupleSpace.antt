@@ -1,5 +1,5 @@
 -- The tuple space (DepSpace, section 2), as steps on the list of its tuples, oldest first.
-use Rattle.std.specs.Prelude.{ℕ, nat_lt, Bool, if◌then◌else◌, List, [], ◌∷◌, ◌++◌, length, Option, Some, None}
+use Rattle.std.specs.Prelude.{nat_lt, if◌then◌else◌, List, [], ◌∷◌, ◌++◌, length, Option, Some, None}
 use Rattle.zy_tuple.specs.declared.values.Field.{Field}
 use Rattle.zy_tuple.specs.declared.values.Slot.{Slot}
 use Rattle.zy_tuple.specs.declared.values.Op.{Op}

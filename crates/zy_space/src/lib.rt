@@ -4,5 +4,9 @@
 
 mod slots;
 mod space;
+mod state;
 
-pub use space::{Space, TUPLE_LIMIT};
+pub use space::{Space, TUPLE_LIMIT, Tuples};
+
+#[cfg(test)]
+mod tests;

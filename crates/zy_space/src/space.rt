@@ -1,14 +1,32 @@
 ghost use Rattle.std.specs.Prelude.{◌≡◌, ◌<◌, List, [], ◌∷◌, ◌++◌, length, drop, IfOk, OnOk, OnErr, IfSome, IfNone};
 ghost use Rattle.zy_tuple.specs.Values.{IsOp, IsReply, IsTuple};
 ghost use Rattle.zy_space.specs.TupleSpace.{inserted, found, oldest, without_oldest, step};
+ghost use Rattle.zy_space.specs.Service.{ran};
 ghost use Rattle.zy_space.specs.Timeline.{Timeline, onward};
 
 use crate::slots::{self, Change, Slot};
+use crate::state::{get_state, put_state};
 use std::alloc::Global;
 use std::collections::VecDeque;
 use std::marker::Model;
-use zy_base::{ClientId, Want};
-use zy_tuple::{Op, Reply, Template, Tuple};
+use std::sync::ledger::Ledger;
+use zy_base::{Bytes, ClientId, Machine, RestoreFault, Steps, Want};
+use zy_tuple::{Op, OpFault, Reply, Template, Tuple, op_read, reply_bytes};
+
+/// The state of a space: its tuples, oldest first.
+#[derive(Debug, Drop)]
+pub struct Tuples {
+    tuples: Vec<Tuple>,
+}
+
+impl Model for Tuples {
+    ghost use Rattle.std.specs.Prelude.{List};
+    ghost use Rattle.zy_tuple.specs.declared.values.Field.{Field};
+
+    ghost Value = { List (List Field) };
+
+    ghost view = { λ t. t.tuples.items };
+}
 
 /// How many tuples a space may hold.
 pub const TUPLE_LIMIT: u64 = 4096;
@@ -142,6 +160,20 @@ impl Space {
         }
     }
 
+    // Runs the operation that the bytes spell. Bytes that spell none change nothing, which is a step as well.
+    fn run_bytes(&mut self, client: ClientId, bytes: &[u8]) -> Result<Reply, Want>
+        ensures reply { IfOk result (λ reply. reply ≡ (ran bytes.now self.old.tuples).reply) }
+        ensures after { OnOk result (self.new ≡ onward self.old (ran bytes.now self.old.tuples).tuples) }
+        ensures is_reply { IfOk result IsReply }
+        ensures err { OnErr result (self.new ≡ self.old) }
+    {
+        match op_read(*self.slots.allocator(), bytes) {
+            Ok(op) => self.run_op(client, &op),
+            Err(OpFault::NotOp) => self.stay(Reply::Bad),
+            Err(OpFault::Want) => Err(Want),
+        }
+    }
+
     fn go_back(&mut self)
         requires { 0 < length self.old.trail }
         ensures { self.old.trail ≡ self.new.trail ++ self.new.tuples ∷ [] }
@@ -164,4 +196,75 @@ impl Space {
             }
         }
     }
+}
+
+impl Machine for Space {
+    type State = Tuples;
+
+    ghost use Rattle.zy_space.specs.Service.{space_rules, IsSpaceState};
+    ghost use Rattle.zy_space.specs.Laws as laws;
+
+    ghost rules = { space_rules };
+
+    ghost IsState = { IsSpaceState };
+
+    ghost state = { λ space. space.tuples };
+
+    ghost trail = { λ space. space.trail };
+
+    fn empty(alloc: Global) -> Result<Space, Want> {
+        Ok(Space {
+            slots: Vec::new(alloc),
+            changes: VecDeque::new(alloc),
+            live: 0,
+            gone: 0,
+        })
+    }
+
+    fn apply(&mut self, client: ClientId, op: &[u8]) -> Result<Bytes, Want> {
+        let reply = self.run_bytes(client, op)?;
+        match reply_bytes(*self.slots.allocator(), &reply) {
+            Ok(bytes) => Ok(bytes),
+            Err(want) => {
+                self.go_back();
+                Err(want)
+            }
+        }
+    }
+
+    fn undo<L: Ledger>(&mut self, steps: &mut Steps<L>) {
+        steps.tick();
+        self.go_back();
+    }
+
+    fn forget(&mut self) {
+        self.forget_one();
+    }
+
+    fn trail_len(&self) -> u64 {
+        self.changes.len() as u64
+    }
+
+    fn state_bytes(&self, alloc: Global) -> Result<Bytes, Want> {
+        put_state(alloc, &self.slots, self.live)
+    }
+
+    fn restore(alloc: Global, bytes: &[u8]) -> Result<Space, RestoreFault> {
+        match get_state(alloc, bytes) {
+            Ok(slots) => Ok(Space {
+                live: slots.len() as u64,
+                slots,
+                changes: VecDeque::new(alloc),
+                gone: 0,
+            }),
+            Err(OpFault::NotOp) => Err(RestoreFault::NotState),
+            Err(OpFault::Want) => Err(RestoreFault::Want),
+        }
+    }
+
+    ghost starts = { laws.starts };
+
+    ghost stays = { laws.stays };
+
+    ghost one_spelling = { laws.one_spelling };
 }

@@ -22,7 +22,7 @@ use Rattle.zy_tuple.specs.declared.values.Op.TheVariants.{Out, Rdp, Inp, Cas}
 use Rattle.zy_tuple.specs.declared.values.Reply.{Reply}
 use Rattle.zy_tuple.specs.declared.values.Reply.TheVariants.{Done, Got, Nothing, True, False, Full, Bad}
 use Rattle.zy_tuple.specs.Values.{is_printable, IsPrintable, IsField, IsSlot, IsFew, IsOp, IsReply}
-use Rattle.zy_tuple.specs.Bytes.{byte, field_bytes, slot_bytes, few_bytes, tuple_bytes, template_bytes, op_bytes, reply_bytes, printable_text, field_of_kind, field_at, slot_of_kind, slot_at, field, slot, few_at, op_of_kind, op_at, reply_of_kind, reply_at, op_in, reply_in}
+use Rattle.zy_tuple.specs.Bytes.{byte, field_bytes, slot_bytes, few_bytes, tuple_bytes, template_bytes, op_bytes, reply_bytes, printable_text, field_of_kind, field_at, slot_of_kind, slot_at, field, slot, few_at, tuple_spelling, op_of_kind, op_at, reply_of_kind, reply_at, op_in, reply_in}
 
 -- ---- printable bytes
 
@@ -156,6 +156,9 @@ module _ {A : Type 0} (S : Spelling A) (s : IsExact S) where
       ap (few_at S) (append_assoc (byte (length xs)) (flat_map S.spell xs) rest)
       ∙ bind_at (number_at w8 1 9 (byte (length xs) ++ (flat_map S.spell xs ++ rest))) (λ n. repeated_at S n.0 n.1) (length xs, flat_map S.spell xs ++ rest) ((number-exact w8 1 9 wide8 (omega arith)).again (length xs) (flat_map S.spell xs ++ rest) (fits.0.0, omega (arith, fits.0.1)))
       ∙ (repeated-exact S s (length xs)).again xs rest (refl, fits.1)
+
+pub tuple-exact : IsExact tuple_spelling
+tuple-exact = record { takes = few_takes field field-exact; again = few_again field field-exact }
 
 -- ---- operations
 

@@ -18,7 +18,7 @@ use Rattle.zy_tuple.specs.declared.values.Op.{Op}
 use Rattle.zy_tuple.specs.declared.values.Op.TheVariants.{Out, Rdp, Inp, Cas}
 use Rattle.zy_tuple.specs.declared.values.Reply.{Reply}
 use Rattle.zy_tuple.specs.declared.values.Reply.TheVariants.{Done, Got, Nothing, True, False, Full, Bad}
-use Rattle.zy_tuple.specs.Values.{is_printable, IsField, IsSlot}
+use Rattle.zy_tuple.specs.Values.{is_printable, IsField, IsSlot, IsTuple}
 
 -- ---- spelling
 
@@ -94,6 +94,10 @@ slot = item slot_bytes slot_at IsSlot
 -- one to eight items behind their count
 unfoldable pub few_at : {A : Type 0} → Spelling A → List ℕ → Result (List A × List ℕ) FrameFault
 few_at S bytes = number_at w8 1 9 bytes >>= λ n. repeated_at S n.0 n.1
+
+-- a tuple, as it stands among others
+abbrev pub tuple_spelling : Spelling (List Field)
+tuple_spelling = record { spell = tuple_bytes; at = few_at field; Fits = IsTuple }
 
 abbrev pub op_of_kind : ℕ → List ℕ → Result (Op × List ℕ) FrameFault
 op_of_kind zero bytes = Err Range

@@ -11,7 +11,7 @@ mod writing;
 pub use fault::{LineFault, OpFault, ReplyFault};
 pub use matching::matches;
 pub use reading::{numeral, op_text_read, reply_text_read};
-pub use spelling::{op_bytes, op_read, reply_bytes, reply_read};
+pub use spelling::{op_bytes, op_read, reply_bytes, reply_read, tuple_get, tuple_put};
 pub use values::{Field, Op, Reply, Slot, Template, Tuple};
 pub use writing::{op_text, reply_text};
 

@@ -4,7 +4,7 @@ ghost use Rattle.std.specs.Prelude.{All, ◌≡◌, ◌++◌, List, ℕ, Result,
 ghost use Rattle.std.specs.Int.{w8, w64};
 ghost use Rattle.std.specs.List.{flat_map, list_all};
 ghost use Rattle.zy_base.specs.declared.frame_fault.FrameFault.{FrameFault};
-ghost use Rattle.zy_tuple.specs.Values.{IsFew, IsField, IsSlot, IsOp, IsReply, is_printable as printable};
+ghost use Rattle.zy_tuple.specs.Values.{IsFew, IsField, IsSlot, IsTuple, IsOp, IsReply, is_printable as printable};
 ghost use Rattle.zy_tuple.specs.Bytes as spelled;
 ghost use Rattle.zy_wire.specs.Spelling.{whole, repeated_at};
 
@@ -273,4 +273,19 @@ pub fn reply_bytes(alloc: Global, reply: &Reply) -> Result<Bytes, Want>
         Reply::Bad => out.u8(6)?,
     }
     Ok(out.done())
+}
+
+/// The tuple at the front of the bytes, which then begin behind it. `NotOp` exactly where they begin with none.
+pub fn tuple_get(alloc: Global, cut: &mut Cut) -> Result<Tuple, OpFault>
+    ensures { spelled.ReadsOp (λ x. (x, cut.new)) result (spelled.tuple_spelling.at cut.old) }
+{
+    Ok(Tuple::from(few(alloc, cut)?))
+}
+
+/// Puts the one spelling of a tuple at the end. After `Want` a part of it may stand there.
+pub fn tuple_put(out: &mut Put, tuple: &Tuple) -> Result<(), Want>
+    requires { IsTuple tuple.now }
+    ensures { OnOk result (out.new ≡ out.old ++ spelled.tuple_bytes tuple.now) }
+{
+    put_few(out, tuple.fields())
 }

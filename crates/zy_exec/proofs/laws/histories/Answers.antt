@@ -1,4 +1,4 @@
-use Rattle.std.proofs.Common.{◌≡◌, ◌+◌, length, ◌∙◌, arith}
+use Rattle.std.proofs.Common.{arith}
 use Rattle.zy_exec.specs.Replay.{origin}
 use Rattle.zy_exec.proofs.ReplayLemmas.{place-along, head-along}
 use Rattle.zy_exec.proofs.HistoryLemmas.{stands_at_origin, stands_leads, stands_run, stands_back}

@@ -1,8 +1,7 @@
-use Rattle.std.proofs.Common.{◌≡◌, ◌∙◌, ap, sym, subst, map, filter, List}
+use Rattle.std.proofs.Common.{◌≡◌, ◌∙◌, ap, map, filter, List}
 use Rattle.zy_space.specs.declared.slots.Slot.{Slot}
-use Rattle.zy_space.specs.declared.slots.Change.{Change}
 use Rattle.zy_space.specs.Marks.{is_kept, numbered, renamed, rank_at}
-use Rattle.zy_space.proofs.MarkLemmas.{IsCompacted, compact_all, kept_from}
+use Rattle.zy_space.proofs.MarkLemmas.{compact_all, kept_from}
 use Rattle.zy_space.proofs.slots.compact.Goals as goal
 
 pub returns : goal.returns

@@ -1,7 +1,6 @@
-use Rattle.std.proofs.Common.{rules, ◌≡◌, ◌++◌, ◌∷◌, [], List, sym, subst, arith}
-use Rattle.zy_space.specs.declared.slots.Change.{Change}
+use Rattle.std.proofs.Common.{rules, ◌≡◌, [], subst}
 use Rattle.zy_space.specs.Marks.{IsSound}
-use Rattle.zy_space.proofs.MarkLemmas.{no_trail, IsForgotten, forget_one}
+use Rattle.zy_space.proofs.MarkLemmas.{no_trail, forget_one}
 use Rattle.std.proofs.lemmas.List.{nil_from_length}
 use Rattle.zy_space.proofs.slots.forget_oldest.Goals as goal
 

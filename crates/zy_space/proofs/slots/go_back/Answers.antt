@@ -1,6 +1,5 @@
-use Rattle.std.proofs.Common.{rules, ◌≡◌, ◌++◌, ◌∷◌, [], List, refl, sym, subst, arith}
-use Rattle.zy_space.specs.declared.slots.Change.{Change}
-use Rattle.zy_space.specs.Marks.{IsSound, trail_of}
+use Rattle.std.proofs.Common.{rules, ◌≡◌, [], refl, subst}
+use Rattle.zy_space.specs.Marks.{IsSound}
 use Rattle.zy_space.proofs.MarkLemmas.{no_trail, back_sound, trail_step}
 use Rattle.std.proofs.lemmas.List.{nil_from_length}
 use Rattle.zy_space.proofs.slots.go_back.Goals as goal

@@ -1,4 +1,4 @@
-use Rattle.std.proofs.Common.{◌≡◌, ap, not, rules}
+use Rattle.std.proofs.Common.{rules}
 use Rattle.zy_space.specs.Marks.{is_kept}
 use Rattle.std.proofs.lemmas.List.Elements.{filter_from_retain}
 use Rattle.zy_space.proofs.slots.leave_out.Goals as goal

@@ -1,7 +1,7 @@
-use Rattle.std.proofs.Common.{◌≡◌, ◌++◌, ◌∷◌, [], ℕ, zero, suc, ◌+◌, ◌<◌, Bool, true, false, ◌&&◌, cond, List, length, get_or, take, drop, Option, Some, None, refl, sym, ap, ◌∙◌, arith, drop-cons, add-one, append_assoc, append-nil}
-use Rattle.std.specs.Prelude.{option_map, slice_get}
+use Rattle.std.proofs.Common.{◌≡◌, ◌++◌, ◌∷◌, [], ℕ, zero, suc, ◌+◌, ◌<◌, Bool, true, false, ◌&&◌, cond, List, length, get_or, take, drop, Some, refl, sym, ap, ◌∙◌, arith, drop-cons, add-one, append_assoc}
+use Rattle.std.specs.Prelude.{option_map}
 use Rattle.std.proofs.lemmas.Option.{slice_get_read}
-use Rattle.std.proofs.lemmas.List.{take_more, get_or_read}
+use Rattle.std.proofs.lemmas.List.{take_more}
 use Rattle.std.proofs.lemmas.Bool.{and_parts}
 use Rattle.zy_tuple.specs.declared.values.Field.{Field}
 use Rattle.zy_tuple.specs.declared.values.Slot.{Slot as TemplateSlot}
@@ -10,7 +10,7 @@ use Rattle.zy_space.specs.declared.slots.Mark.{Mark}
 use Rattle.zy_space.specs.declared.slots.Mark.TheVariants.{Live, Taken, Gone}
 use Rattle.zy_space.specs.declared.slots.Slot.{Slot}
 use Rattle.zy_space.specs.TupleSpace.{oldest, without_oldest}
-use Rattle.zy_space.specs.Marks.{is_live, live_of, mark_at, marked, tuple_at}
+use Rattle.zy_space.specs.Marks.{is_live, live_of, mark_at, marked}
 use Rattle.zy_space.specs.Place.{IsOldestAt}
 use Rattle.zy_space.proofs.MarkLemmas.{live_of-append}
 use Rattle.zy_space.proofs.slots.place_of.Goals as goal

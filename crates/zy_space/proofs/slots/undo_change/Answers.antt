@@ -1,7 +1,7 @@
-use Rattle.std.proofs.Common.{◌≡◌, ◌≤◌, ◌+◌, length, subst, arith}
+use Rattle.std.proofs.Common.{subst, arith}
 use Rattle.zy_space.specs.declared.slots.Change.{Change}
-use Rattle.zy_space.specs.declared.slots.Change.TheVariants.{Put, Took}
-use Rattle.zy_space.specs.Marks.{CanUndo, live_of, undone}
+use Rattle.zy_space.specs.declared.slots.Change.TheVariants.{Took}
+use Rattle.zy_space.specs.Marks.{CanUndo}
 use Rattle.zy_space.proofs.MarkLemmas.{length-live_of-put, length-live_of-marked}
 use Rattle.zy_space.proofs.slots.undo_change.Goals as goal
 

@@ -1,4 +1,4 @@
-use Rattle.std.proofs.Common.{◌≡◌, ◌-◌, take, length, ap, ◌∙◌, sym, arith}
+use Rattle.std.proofs.Common.{◌-◌, take, ap, ◌∙◌, arith}
 use Rattle.std.proofs.lemmas.List.{length-take}
 use Rattle.zy_chain.proofs.HeadLemmas.{take-heads_from, in_range-take}
 use Rattle.zy_chain.proofs.spine.Spine.cut_above.Goals as goal

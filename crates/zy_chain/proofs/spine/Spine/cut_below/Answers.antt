@@ -1,4 +1,4 @@
-use Rattle.std.proofs.Common.{◌≡◌, ◌-◌, ◌≤◌, ◌+◌, take, drop, length, ap, ◌∙◌, sym, subst, arith}
+use Rattle.std.proofs.Common.{◌≡◌, ◌-◌, ◌≤◌, ◌+◌, take, drop, length, ap, ◌∙◌, sym, arith}
 use Rattle.std.proofs.lemmas.List.{length-drop}
 use Rattle.zy_chain.specs.Heads.{head_from}
 use Rattle.zy_chain.specs.Stretch.{Stretch}

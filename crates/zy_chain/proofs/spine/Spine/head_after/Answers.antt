@@ -1,4 +1,4 @@
-use Rattle.std.proofs.Common.{rules, ℕ, List, ◌≡◌, ◌+◌, ◌-◌, ◌<◌, ◌≤◌, suc, length, take, get_or, deque_len, ap, ◌∙◌, sym, arith}
+use Rattle.std.proofs.Common.{rules, ℕ, List, ◌≡◌, ◌-◌, ◌<◌, suc, length, take, get_or, deque_len, ap, ◌∙◌, arith}
 use Rattle.zy_base.specs.declared.ids.Digest.{Digest}
 use Rattle.zy_chain.specs.Heads.{head_from}
 use Rattle.zy_chain.specs.Stretch.{Stretch}

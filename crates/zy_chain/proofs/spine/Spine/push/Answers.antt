@@ -1,6 +1,6 @@
-use Rattle.std.proofs.Common.{rules, ◌≡◌, ◌+◌, ◌<◌, ◌≤◌, ◌∷◌, [], ◌++◌, length, ap, ◌∙◌, sym, arith}
+use Rattle.std.proofs.Common.{◌+◌, ◌∷◌, [], length, ap, sym, arith}
 use Rattle.std.proofs.lemmas.List.{length-append}
-use Rattle.zy_chain.specs.Stretch.{Stretch, IsStretch}
+use Rattle.zy_chain.specs.Stretch.{Stretch}
 use Rattle.zy_chain.proofs.HeadLemmas.{heads_from-append, in_range-append}
 use Rattle.zy_chain.proofs.spine.Spine.push.Goals as goal
 

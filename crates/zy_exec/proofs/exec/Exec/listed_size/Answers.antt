@@ -1,4 +1,4 @@
-use Rattle.std.proofs.Common.{◌≡◌, ◌<◌, ◌∙◌, ◌∷◌, [], ◌++◌, ap, sym, length, take, arith}
+use Rattle.std.proofs.Common.{◌<◌, ◌∙◌, ap, length, take, arith}
 use Rattle.std.proofs.lemmas.List.{length_push}
 use Rattle.zy_exec.specs.Kept.{now_of}
 use Rattle.zy_exec.specs.Snapshot.{listed}
@@ -12,19 +12,19 @@ loop-client-preserved g c =
     let client = c.loop-client.client in
     let within : client < length known = omega (arith, c.clients-client-end.ensures.all, c.loop-client-test.true) in
     elim c.match-known.branch [
-      in-Some w ↦
-        let more = listed_some known client w.in-Some.known.now within w.in-Some.ensures.known in
-        let one_more = ap length more ∙ length_push (listed 0 (take client known)) (client, w.in-Some.known.now) in
-        record {
-          counted = omega (arith, w.count-is, c.loop-client.invariant.counted, one_more);
-          few = omega (arith, w.count-is, c.loop-client.invariant.few);
-          small = omega (arith, w.size-is, w.len.ensures, w.in-Some.ensures.in_range.reply, c.loop-client.invariant.small);
-        }
-    | in-None w ↦
-        let same = ap length (listed_none known client within w.in-None.ensures.known) in
-        record {
-          counted = omega (arith, w.count-is, c.loop-client.invariant.counted, same);
-          few = omega (arith, w.count-is, c.loop-client.invariant.few);
-          small = omega (arith, w.size-is, c.loop-client.invariant.small);
-        }
+      | in-Some w ↦
+          let more = listed_some known client w.in-Some.known.now within w.in-Some.ensures.known in
+          let one_more = ap length more ∙ length_push (listed 0 (take client known)) (client, w.in-Some.known.now) in
+          record {
+            counted = omega (arith, w.count-is, c.loop-client.invariant.counted, one_more);
+            few = omega (arith, w.count-is, c.loop-client.invariant.few);
+            small = omega (arith, w.size-is, w.len.ensures, w.in-Some.ensures.in_range.reply, c.loop-client.invariant.small);
+          }
+      | in-None w ↦
+          let same = ap length (listed_none known client within w.in-None.ensures.known) in
+          record {
+            counted = omega (arith, w.count-is, c.loop-client.invariant.counted, same);
+            few = omega (arith, w.count-is, c.loop-client.invariant.few);
+            small = omega (arith, w.size-is, c.loop-client.invariant.small);
+          }
     ]

@@ -1,6 +1,5 @@
-use Rattle.std.proofs.Common.{◌≡◌, ◌<◌, ◌∙◌, ◌∷◌, [], ◌++◌, ap, sym, length, take, arith, List, ℕ, append_assoc}
+use Rattle.std.proofs.Common.{◌<◌, ◌∙◌, ap, length, take, arith, append_assoc}
 use Rattle.std.specs.List.{flat_map}
-use Rattle.zy_exec.specs.declared.known.Known.{Known}
 use Rattle.zy_exec.specs.Kept.{now_of}
 use Rattle.zy_exec.specs.Snapshot.{listed, known_bytes}
 use Rattle.zy_exec.proofs.ListedLemmas.{listed_none, listed_some, flat_map_more}
@@ -13,10 +12,10 @@ loop-client-preserved g c =
     let client = c.loop-client.client in
     let within : client < length known = omega (arith, c.clients-client-end.ensures.all, c.loop-client-test.true) in
     elim c.match-known.branch [
-      in-Some+in_ok-put_known-in-Some w ↦
-        let more = listed_some known client w.in-Some.known.now within w.in-Some.ensures.known in
-        let bytes = ap (flat_map known_bytes) more ∙ flat_map_more (listed 0 (take client known)) (client, w.in-Some.known.now) in
-        rw (w.out-is, w.in_ok-put_known-in-Some.ensures, c.loop-client.invariant, bytes) (append_assoc c.args.out.now.items (flat_map known_bytes (listed 0 (take client known))) (known_bytes (client, w.in-Some.known.now)))
-    | in-None w ↦
-        rw (w.out-is, listed_none known client within w.in-None.ensures.known) c.loop-client.invariant
+      | in-Some+in_ok-put_known-in-Some w ↦
+          let more = listed_some known client w.in-Some.known.now within w.in-Some.ensures.known in
+          let bytes = ap (flat_map known_bytes) more ∙ flat_map_more (listed 0 (take client known)) (client, w.in-Some.known.now) in
+          rw (w.out-is, w.in_ok-put_known-in-Some.ensures, c.loop-client.invariant, bytes) (append_assoc c.args.out.now.items (flat_map known_bytes (listed 0 (take client known))) (known_bytes (client, w.in-Some.known.now)))
+      | in-None w ↦
+          rw (w.out-is, listed_none known client within w.in-None.ensures.known) c.loop-client.invariant
     ]

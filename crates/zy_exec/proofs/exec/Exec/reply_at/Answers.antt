@@ -1,4 +1,4 @@
-use Rattle.std.proofs.Common.{◌≡◌, ◌-◌, ◌<◌, ◌∙◌, ap, sym}
+use Rattle.std.proofs.Common.{◌-◌, ◌<◌, ◌∙◌}
 use Rattle.zy_exec.specs.Trail.{base_of}
 use Rattle.zy_exec.proofs.ReplayLemmas.{reply_is, reply_above}
 use Rattle.zy_exec.proofs.exec.Exec.reply_at.Goals as goal
@@ -12,5 +12,5 @@ returns-clause-reply g c =
     let above : x.spine.base.place < c.args.place.0 = rw c.base.ensures at c.if-place-base.false in
     rw c.reply_done.ensures.reply
     (rw (c.index_above.ensures, c.base-2.ensures, ← c.self.view_is)
-        (reply_is M.rules base x.spine.entries (M.state x.machine) (M.trail x.machine) x.done.items x.last.items index c.self.invariant
-        ∙ reply_above M.rules (record { interval = x.interval; base = base; entries = x.spine.entries }) c.args.place.0 above))
+    (reply_is M.rules base x.spine.entries (M.state x.machine) (M.trail x.machine) x.done.items x.last.items index c.self.invariant
+    ∙ reply_above M.rules (record { interval = x.interval; base = base; entries = x.spine.entries }) c.args.place.0 above))

@@ -1,4 +1,4 @@
-use Rattle.std.proofs.Common.{◌≡◌, ◌≤◌, ◌+◌, length, take}
+use Rattle.std.proofs.Common.{◌≡◌, ◌≤◌, ◌+◌, length}
 use Rattle.zy_exec.specs.Kept.{back_to, last_place}
 use Rattle.zy_exec.proofs.exec.Exec.rollback.Given as goal
 

@@ -1,8 +1,8 @@
-use Rattle.std.proofs.Common.{◌≡◌, ◌<◌, length, ◌∙◌, ap, sym, arith, None}
+use Rattle.std.proofs.Common.{length, ◌∙◌, ap, arith, None}
 use Rattle.std.proofs.lemmas.List.{length-replicate}
 use Rattle.std.specs.Prelude.{Option}
 use Rattle.zy_base.specs.declared.ids.Place.{Place}
-use Rattle.zy_exec.specs.Trail.{base_of, nowhere}
+use Rattle.zy_exec.specs.Trail.{nowhere}
 use Rattle.zy_exec.proofs.ReplayLemmas.{length-last, replayed_push}
 use Rattle.zy_exec.proofs.exec.Exec.run.Goals as goal
 
@@ -18,7 +18,7 @@ invariant_of-self-2 g c =
     let M = g.M.Machine in
     let e = c.args.e in
     replayed_push M.rules x.spine c.push.new.self x.base_known.items (M.state x.machine) (M.state c.apply.new.machine) (M.trail x.machine) (M.trail c.apply.new.machine)
-        x.done.items c.push_done.new.done.items x.last.items c.push_done.new.last.items e c.end.result c.head.result c.in-Ok.replies.0
-        c.self.invariant c.requires.client c.in_default-push.ensures.ok (rw c.as_slice.ensures.value at c.in-Ok.ensures.state) c.in-Ok.ensures.trail
-        c.requires.entry.stamp c.in-Ok.ensures.short_kept (rw (← c.self.view_is) at c.requires.room)
-        c.end.ensures.place c.head.ensures (rw c.as_slice.ensures.value at c.in-Ok.ensures.kept) (rw c.in_default.ensures.items at c.push_done.ensures.done) c.push_done.ensures.last
+    x.done.items c.push_done.new.done.items x.last.items c.push_done.new.last.items e c.end.result c.head.result c.in-Ok.replies.0
+    c.self.invariant c.requires.client c.in_default-push.ensures.ok (rw c.as_slice.ensures.value at c.in-Ok.ensures.state) c.in-Ok.ensures.trail
+    c.requires.entry.stamp c.in-Ok.ensures.short_kept (rw (← c.self.view_is) at c.requires.room)
+    c.end.ensures.place c.head.ensures (rw c.as_slice.ensures.value at c.in-Ok.ensures.kept) (rw c.in_default.ensures.items at c.push_done.ensures.done) c.push_done.ensures.last

@@ -1,8 +1,7 @@
-use Rattle.std.proofs.Common.{◌≡◌, ◌<◌, length, ◌∙◌, ap, sym, arith, None}
+use Rattle.std.proofs.Common.{◌<◌, length, ◌∙◌, ap, arith, None}
 use Rattle.std.proofs.lemmas.List.{length-replicate}
 use Rattle.zy_base.specs.declared.ids.Place.{Place}
 use Rattle.std.specs.Prelude.{Option}
-use Rattle.zy_exec.specs.Kept.{Kept}
 use Rattle.zy_exec.specs.Trail.{base_of, nowhere}
 use Rattle.zy_exec.proofs.ReplayLemmas.{length-done, length-states, length-last, replayed_cut}
 use Rattle.zy_exec.proofs.exec.Exec.step_back.Goals as goal
@@ -34,4 +33,4 @@ invariant_of-self g c =
     let M = g.M.Machine in
     let some : 0 < length x.spine.entries = rw (← c.self.view_is) at c.requires in
     replayed_cut M.rules x.spine c.cut_above.new.self x.base_known.items (M.state x.machine) (M.state c.undo.new.self) (M.trail x.machine) (M.trail c.undo.new.self)
-        x.done.items c.pop_done.new.done.items x.last.items c.pop_done.new.last.items c.self.invariant some c.undo.ensures.back c.pop_done.ensures (rw c.end.ensures.place at c.cut_above.ensures)
+    x.done.items c.pop_done.new.done.items x.last.items c.pop_done.new.last.items c.self.invariant some c.undo.ensures.back c.pop_done.ensures (rw c.end.ensures.place at c.cut_above.ensures)

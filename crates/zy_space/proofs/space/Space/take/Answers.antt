@@ -1,6 +1,4 @@
-use Rattle.std.proofs.Common.{◌≡◌, ◌-◌, length, ◌∙◌, sym, ap, arith}
-use Rattle.zy_tuple.specs.declared.values.Field.{Field}
-use Rattle.zy_space.specs.Marks.{live_of, IsSpace}
+use Rattle.std.proofs.Common.{length, ap, arith}
 use Rattle.zy_space.proofs.MarkLemmas.{holds-tuple_at, length-live_of-taken}
 use Rattle.zy_space.proofs.space.Space.take.Goals as goal
 

@@ -1,0 +1,5 @@
+use Rattle.zy_space.proofs.ServiceLaws.{reply_short}
+use Rattle.zy_space.proofs.space.SpaceMachine.apply.Goals as goal
+
+pub returns-in-Ok-clause-short : goal.returns-in-Ok-clause-short
+returns-in-Ok-clause-short c = rw c.in-Ok.ensures (reply_short c.in_ok-reply.reply c.in_ok-reply.ensures.is_reply)
