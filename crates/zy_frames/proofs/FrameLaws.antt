@@ -1,5 +1,5 @@
 -- What is decoded was spelled so and is in range, and what was spelled is decoded again.
-use Rattle.std.proofs.Common.{◌≡◌, ℕ, ◌+◌, ◌<◌, ◌≤◌, Bool, true, false, cond, eqb, List, [], ◌∷◌, ◌++◌, length, drop, Result, Ok, Err, Option, Some, None, IfOk, refl, sym, ap, subst, ◌∙◌, arith}
+use Rattle.std.proofs.Common.{◌≡◌, ℕ, ◌≤◌, cond, eqb, List, [], ◌∷◌, ◌++◌, length, drop, Result, Ok, Err, IfOk, refl, sym, ap, subst, ◌∙◌, arith}
 use Rattle.std.specs.Int.{w16}
 use Rattle.std.proofs.lemmas.List.{append-nil}
 use Rattle.zy_base.specs.declared.frame_fault.FrameFault.{FrameFault}
@@ -7,13 +7,12 @@ use Rattle.zy_base.specs.declared.frame_fault.FrameFault.TheVariants.{Kind}
 use Rattle.zy_wire.specs.declared.kind.TheConstants.{VERSION, MAX_FRAME, MAX_KIND}
 use Rattle.zy_wire.specs.Spelling.{◌>>=◌, Spelling, IsBytes, IsExact, IsChoice, made, ended}
 use Rattle.zy_wire.specs.Kind.{kind_in}
-use Rattle.zy_wire.specs.Fields.{FitsOptional, FitsList}
 use Rattle.zy_wire.proofs.Parts.{bind_ok, bind_at, pair-exact, converted-exact, wide16, IsBytes-after, ended_ok}
 use Rattle.zy_wire.proofs.Laws.{sized-exact, list-exact, optional-exact, FitsList-weaker, FitsOptional-weaker}
 use Rattle.zy_wire.proofs.Choices.{Takes, Takes-or, Takes-none, made_again}
 use Rattle.zy_wire.proofs.KindLaws.{kind_takes, kind_again}
-use Rattle.zy_parts.specs.Statements.{ask_fields, IsAskInRange, order_fields, IsOrderInRange, spec_fields, IsSpecInRange, local_fields, IsLocalInRange, confirm_fields, IsConfirmInRange, hole_fields, IsHoleInRange, hate_fields, IsHateInRange, check_fields, IsCheckInRange}
-use Rattle.zy_parts.specs.Signing.{signed, IsSignedInRange}
+use Rattle.zy_parts.specs.Statements.{local_fields, hole_fields, hate_fields, check_fields}
+use Rattle.zy_parts.specs.Signing.{signed}
 use Rattle.zy_parts.specs.Exact.{signed-exact, signed-in_range, ask-exact, ask-in_range, order-exact, order-in_range, spec-exact, spec-in_range, local-exact, local-in_range, confirm-exact, confirm-in_range, hole-exact, hole-in_range, hate-exact, hate-in_range, check-exact, check-in_range}
 use Rattle.zy_frames.specs.declared.frame.Frame.{Frame}
 use Rattle.zy_frames.specs.declared.frame.Frame.TheVariants as frames

@@ -1,5 +1,5 @@
 -- What decoding answers.
-use Rattle.std.specs.Prelude.{◌≡◌, List, ℕ, Result, Ok, Err}
+use Rattle.std.specs.Prelude.{◌≡◌, Result, Ok, Err}
 use Rattle.zy_base.specs.declared.frame_fault.FrameFault.{FrameFault}
 use Rattle.zy_frames.specs.declared.fault.DecodeFault.{DecodeFault}
 use Rattle.zy_frames.specs.declared.fault.DecodeFault.TheVariants as faults

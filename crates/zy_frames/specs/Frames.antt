@@ -1,9 +1,9 @@
 -- The ten frames of normal operation as bytes.
-use Rattle.std.specs.Prelude.{◌≡◌, ℕ, ◌≤◌, List, [], ◌∷◌, ◌++◌, length, map, drop, Option, Some, None, Result, Ok, Err, ◌==◌, if◌then◌else◌}
+use Rattle.std.specs.Prelude.{◌≡◌, ℕ, ◌≤◌, List, [], ◌∷◌, length, map, drop, Option, Some, None, Result, Err, ◌==◌, if◌then◌else◌}
 use Rattle.zy_base.specs.declared.frame_fault.FrameFault.{FrameFault}
 use Rattle.zy_base.specs.declared.frame_fault.FrameFault.TheVariants.{Kind}
 use Rattle.zy_wire.specs.declared.kind.TheConstants.{VERSION}
-use Rattle.zy_wire.specs.Spelling.{◌>>=◌, Spelling, bytes_of, pair, converted, made, ended}
+use Rattle.zy_wire.specs.Spelling.{◌>>=◌, Spelling, pair, converted, made, ended}
 use Rattle.zy_wire.specs.Fields.{bytes16, list, optional, FitsList, FitsOptional}
 use Rattle.zy_wire.specs.Kind.{kind_in}
 use Rattle.zy_parts.specs.declared.signed.Signed.{Signed}

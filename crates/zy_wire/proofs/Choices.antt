@@ -2,7 +2,7 @@
 use Rattle.std.proofs.Common.{◌≡◌, ℕ, Bool, true, false, cond, eqb, List, ◌++◌, Result, Ok, Err, refl, sym, ap, subst, ◌∙◌}
 use Rattle.std.proofs.lemmas.Bool.{eqb-true}
 use Rattle.zy_base.specs.declared.frame_fault.FrameFault.{FrameFault}
-use Rattle.zy_wire.specs.Spelling.{◌>>=◌, Spelling, IsBytes, IsExact, made}
+use Rattle.zy_wire.specs.Spelling.{Spelling, IsBytes, IsExact, made}
 use Rattle.zy_wire.proofs.Parts.{bind_ok, bind_at, ok_is}
 
 module _ {A : Type 0} (kind : A → ℕ) (spell : A → List ℕ) (Fits : A → Type 0) where

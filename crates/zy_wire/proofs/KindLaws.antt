@@ -1,9 +1,9 @@
 -- A kind that is read stands behind the version, and one that stands there is read.
-use Rattle.std.proofs.Common.{◌≡◌, ℕ, ◌<◌, ◌≤◌, Bool, true, false, cond, eqb, ltb, ◌||◌, List, [], ◌∷◌, length, drop, Result, Ok, Err, refl, ap, ◌∙◌, sym, arith}
+use Rattle.std.proofs.Common.{◌≡◌, ℕ, ◌≤◌, Bool, true, false, cond, eqb, ltb, ◌||◌, List, [], ◌∷◌, length, drop, Result, Ok, Err, refl, arith}
 use Rattle.std.proofs.lemmas.Bool.{eqb-true, le-ltb}
 use Rattle.std.proofs.lemmas.Bool.Decides.{nat_tests}
 use Rattle.zy_base.specs.declared.frame_fault.FrameFault.{FrameFault}
-use Rattle.zy_base.specs.declared.frame_fault.FrameFault.TheVariants.{Short, Version, Kind, TooLong}
+use Rattle.zy_base.specs.declared.frame_fault.FrameFault.TheVariants.{Version, Kind, TooLong}
 use Rattle.zy_wire.specs.declared.kind.TheConstants.{VERSION, MAX_FRAME, MAX_KIND}
 use Rattle.zy_wire.specs.Kind.{kind_in, kind_of_parts, kind_behind}
 use Rattle.zy_wire.proofs.Parts.{ok_is}
