@@ -70,7 +70,7 @@ IsAnswer verdict exits.ReadFault = ⊤
 IsAnswer (Report report) exits.WriteFault = ⊤
 IsAnswer verdict exit = exit ≡ answer_to verdict
 
--- known bytes grew by these but for the rest
+-- known bytes grew by the part of these that stands before the rest
 pub record AppendsUpTo (old new : Option (List ℕ)) (bytes rest : List ℕ) : Type 0 where
   pub front : List ℕ
   pub whole : bytes ≡ front ++ rest

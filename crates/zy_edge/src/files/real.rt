@@ -1,4 +1,4 @@
-ghost use Rattle.std.specs.Prelude.{None, is_some};
+ghost use Rattle.std.specs.Prelude.{◌≡◌, None, false, is_some};
 
 use super::{Chosen, Files, Read};
 use crate::faults::raised;
@@ -13,7 +13,11 @@ pub struct RealFiles<'a, R: std::rt::Files> {
 }
 
 impl<'a, R: std::rt::Files> RealFiles<'a, R> {
-    pub fn new(rt: &'a R) -> RealFiles<'a, R> {
+    /// No file is chosen yet.
+    pub fn new(rt: &'a R) -> RealFiles<'a, R>
+        ensures faults { ⟦<RealFiles<'a, R> as Files>⟧.faults result ≡ 0 }
+        ensures none { ⟦<RealFiles<'a, R> as Files>⟧.is_chosen result ≡ false }
+    {
         RealFiles {
             rt,
             file: None,
