@@ -53,7 +53,7 @@ pub trait Machine: Drop {
         ensures { result ≡ length (trail self.now) };
 
     /// The state's one spelling, at most 2,300,000 bytes.
-    fn state_bytes(&self, alloc: Global) -> Result<Bytes, Want>
+    fn state_bytes(&self) -> Result<Bytes, Want>
         ensures bytes { IfOk result (λ bytes. bytes ≡ rules.spelled (state self.now)) }
         ensures short { IfOk result (λ bytes. length bytes ≤ 2300000) }
         ensures is_state { IsState (state self.now) };

@@ -233,12 +233,12 @@ impl<M: Machine> Exec<M> {
 
     /// The snapshot at the end: what is known of each client, and the machine's state.
     #[tactic(auto, unfolding(crate::specs::Snapshot::snapshot_of, zy_wire::specs::Spelling::bytes_of))]
-    pub fn snapshot(&self, alloc: Global) -> Result<Bytes, Want>
+    pub fn snapshot(&self) -> Result<Bytes, Want>
         ensures { IfOk result (λ bytes. bytes ≡ snapshot_of M.rules (now_of M.rules self.now)) }
     {
-        let state = self.machine.state_bytes(alloc)?;
+        let state = self.machine.state_bytes()?;
         let (count, size) = self.listed_size();
-        let mut out = Vec::with_capacity(alloc, 2 + size + 4 + state.len())?;
+        let mut out = Vec::with_capacity(*self.base_known.allocator(), 2 + size + 4 + state.len())?;
         out.extend_from_slice(&count.to_be_bytes())?;
         self.put_all_known(&mut out)?;
         out.extend_from_slice(&(state.len() as u32).to_be_bytes())?;

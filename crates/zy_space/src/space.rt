@@ -56,27 +56,6 @@ impl Model for Space {
 }
 
 impl Space {
-    #[tactic(auto, unfolding(crate::specs::Marks::earlier, crate::specs::Marks::LeadsBack))]
-    pub fn empty(alloc: Global) -> Result<Space, Want>
-        ensures state { IfOk result (λ machine. machine.tuples ≡ []) }
-        ensures trail { IfOk result (λ machine. machine.trail ≡ []) }
-    {
-        Ok(Space {
-            slots: Vec::new(alloc),
-            changes: VecDeque::new(alloc),
-            live: 0,
-            gone: 0,
-        })
-    }
-
-    pub fn forget(&mut self)
-        requires { 0 < length self.old.trail }
-        ensures state { self.new.tuples ≡ self.old.tuples }
-        ensures trail { self.new.trail ≡ drop 1 self.old.trail }
-    {
-        self.forget_one()
-    }
-
     /// How many tuples there are.
     pub fn len(&self) -> u64
         ensures { result ≡ length self.now.tuples }
@@ -245,8 +224,8 @@ impl Machine for Space {
         self.changes.len() as u64
     }
 
-    fn state_bytes(&self, alloc: Global) -> Result<Bytes, Want> {
-        put_state(alloc, &self.slots, self.live)
+    fn state_bytes(&self) -> Result<Bytes, Want> {
+        put_state(*self.slots.allocator(), &self.slots, self.live)
     }
 
     fn restore(alloc: Global, bytes: &[u8]) -> Result<Space, RestoreFault> {

@@ -72,7 +72,7 @@ fn undo_all<L: Ledger, R: Abort>(
         assert!(rt; space.trail_len() > 0);
         space.undo(&mut steps);
     }
-    Ok(space.state_bytes(alloc)?)
+    Ok(space.state_bytes()?)
 }
 
 #[test]
@@ -82,14 +82,14 @@ fn runs_and_goes_back(rt: HostRuntime) -> Result<(), Fail> {
         let mut space = Space::empty(alloc)?;
         for (op, reply, state) in RUN {
             assert_eq!(rt; space.apply(CLIENT, op)?.as_slice(), reply);
-            assert_eq!(rt; space.state_bytes(alloc)?.as_slice(), state);
+            assert_eq!(rt; space.state_bytes()?.as_slice(), state);
         }
         for _ in 0..forgotten {
             assert!(rt; space.trail_len() > 0);
             space.forget();
         }
         for (_, _, state) in RUN[forgotten..].iter().rev() {
-            assert_eq!(rt; space.state_bytes(alloc)?.as_slice(), *state);
+            assert_eq!(rt; space.state_bytes()?.as_slice(), *state);
             undo_all::<Brand, HostRuntime>(&rt, alloc, &mut space, Blank::new(1), 1)?;
         }
         assert_eq!(rt; space.trail_len(), 0);
@@ -121,7 +121,7 @@ fn restores_what_is_a_state(rt: HostRuntime) -> Result<(), Fail> {
         match Space::restore(alloc, bytes) {
             Ok(space) => {
                 assert_eq!(rt; Some(space.len()), want);
-                assert_eq!(rt; space.state_bytes(alloc)?.as_slice(), bytes);
+                assert_eq!(rt; space.state_bytes()?.as_slice(), bytes);
             }
             Err(fault) => {
                 assert_eq!(rt; want, None);
