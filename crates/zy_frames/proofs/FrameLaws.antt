@@ -1,12 +1,13 @@
 -- What is decoded was spelled so and is in range, and what was spelled is decoded again.
-use Rattle.std.proofs.Common.{◌≡◌, ℕ, ◌≤◌, cond, eqb, List, [], ◌∷◌, ◌++◌, length, drop, Result, Ok, Err, IfOk, refl, sym, ap, subst, ◌∙◌, arith}
+use Rattle.std.proofs.Common.{◌≡◌, ℕ, ◌≤◌, Bool, true, false, cond, eqb, List, [], ◌∷◌, ◌++◌, length, drop, Result, Ok, Err, IfOk, refl, sym, ap, subst, ◌∙◌, arith}
 use Rattle.std.specs.Int.{w16}
+use Rattle.std.proofs.lemmas.Bool.{ltb-false}
 use Rattle.std.proofs.lemmas.List.{append-nil}
 use Rattle.zy_base.specs.declared.frame_fault.FrameFault.{FrameFault}
-use Rattle.zy_base.specs.declared.frame_fault.FrameFault.TheVariants.{Kind}
+use Rattle.zy_base.specs.declared.frame_fault.FrameFault.TheVariants.{Kind, TooLong}
 use Rattle.zy_wire.specs.declared.kind.TheConstants.{VERSION, MAX_FRAME, MAX_KIND}
 use Rattle.zy_wire.specs.Spelling.{◌>>=◌, Spelling, IsBytes, IsExact, IsChoice, made, ended}
-use Rattle.zy_wire.specs.Kind.{kind_in}
+use Rattle.zy_wire.specs.Kind.{kind_in, kind_of_parts}
 use Rattle.zy_wire.proofs.Parts.{bind_ok, bind_at, pair-exact, converted-exact, wide16, IsBytes-after, ended_ok}
 use Rattle.zy_wire.proofs.Laws.{sized-exact, list-exact, optional-exact, FitsList-weaker, FitsOptional-weaker}
 use Rattle.zy_wire.proofs.Choices.{Takes, Takes-or, Takes-none, made_again}
@@ -91,7 +92,11 @@ kind-bounds (frames.Checkpoint check) = (omega arith, omega arith)
 
 -- ---- all of the bytes
 
-pub decoded_takes : (bytes : List ℕ) (f : Frame) → IsBytes bytes → frame_in bytes ≡ Ok f → FitsFrame f × (bytes ≡ spelling f)
+not_long : (b : Bool) (r : Result ℕ FrameFault) (k : ℕ) → cond b (Err TooLong) r ≡ Ok k → b ≡ false
+not_long true r k e = absurd cc
+not_long false r k e = refl
+
+pub decoded_takes : (bytes : List ℕ) (f : Frame) → IsBytes bytes → frame_in bytes ≡ Ok f → FitsFrame f × (bytes ≡ spelling f) × (length bytes ≤ MAX_FRAME)
 unfolding frame_in
 decoded_takes bytes f fits e =
     let a = bind_ok (kind_in bytes) (λ kind. frame_at kind (drop 2 bytes) >>= λ read. ended read.0 read.1) f e in
@@ -101,7 +106,8 @@ decoded_takes bytes f fits e =
     let t = frame_takes a.0 (drop 2 bytes) b.0.0 b.0.1 (IsBytes-after bytes (VERSION ∷ a.0 ∷ []) (drop 2 bytes) fits front) b.1 in
     let none : drop 2 bytes ≡ fields_of b.0.0 = t.1 ∙ ap (λ (r : List ℕ). fields_of b.0.0 ++ r) c.1 ∙ append-nil (fields_of b.0.0) in
     let parts : bytes ≡ spelling b.0.0 = front ∙ ap (λ (k : ℕ). VERSION ∷ k ∷ drop 2 bytes) (sym t.0) ∙ ap (λ (r : List ℕ). VERSION ∷ kind_of_frame b.0.0 ∷ r) none in
-    subst (λ (g : Frame). FitsFrame g × (bytes ≡ spelling g)) c.0 (t.2, parts)
+    let short : length bytes ≤ MAX_FRAME = ltb-false _ _ (not_long _ (kind_of_parts bytes) a.0 a.1) in
+    subst (λ (g : Frame). FitsFrame g × (bytes ≡ spelling g) × (length bytes ≤ MAX_FRAME)) c.0 (t.2, parts, short)
 
 pub decoded_again : (f : Frame) → FitsFrame f → length (spelling f) ≤ MAX_FRAME → frame_in (spelling f) ≡ Ok f
 unfolding frame_in
@@ -127,7 +133,7 @@ FitsFrame-in_range (frames.Checkpoint check) fits = signed-in_range _ _ check-in
 
 -- ---- what decoding answers
 
-pub answer_takes : (r : Result Frame DecodeFault) (bytes : List ℕ) → IsBytes bytes → Decodes r (frame_in bytes) → IfOk r (λ f. FitsFrame f × (bytes ≡ spelling f))
+pub answer_takes : (r : Result Frame DecodeFault) (bytes : List ℕ) → IsBytes bytes → Decodes r (frame_in bytes) → IfOk r (λ f. FitsFrame f × (bytes ≡ spelling f) × (length bytes ≤ MAX_FRAME))
 answer_takes (Ok f) bytes fits e = decoded_takes bytes f fits e
 answer_takes (Err e) bytes fits h = tt
 

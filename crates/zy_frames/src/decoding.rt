@@ -13,7 +13,7 @@ use zy_wire::{Cut, MAX_FRAME, kind_of};
 /// The fault is the first one from the left.
 pub fn decode(alloc: Global, bytes: &[u8]) -> Result<Frame, DecodeFault>
     // What is decoded was spelled so.
-    ensures found { IfOk result (λ f. FitsFrame f × (bytes.now ≡ spelling f)) }
+    ensures found { IfOk result (λ f. FitsFrame f × (bytes.now ≡ spelling f) × (length bytes.now ≤ MAX_FRAME)) }
     ensures in_range { IfOk result IsFrameInRange }
     // What is spelled so is decoded, unless memory runs out.
     ensures only { (f : Frame) → FitsFrame f → bytes.now ≡ spelling f → length bytes.now ≤ MAX_FRAME → Decodes result (Ok f) }
