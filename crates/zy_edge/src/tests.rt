@@ -3,7 +3,7 @@ use crate::{
 };
 use std::alloc::{AllocError, Global};
 use std::test::Fail;
-use std::{env, fs};
+use std::{env, fs, process};
 use zy_base::Bytes;
 
 /// A file, an empty one, and another one with the first one's name.
@@ -73,7 +73,11 @@ fn files_in_memory_fail_where_they_are_told_to(rt: HostRuntime) -> Result<(), Fa
 fn files_of_the_system(rt: HostRuntime) -> Result<(), Fail> {
     let alloc = rt.alloc();
     let folder = env::temp_dir(&rt)?;
-    let path = format!(in alloc; "{}/zy_edge_files_of_the_system", folder.display())?;
+    let path = format!(in alloc;
+        "{}/zy_edge_{}",
+        folder.display(),
+        process::id(rt.process())
+    )?;
     fs::write(&rt, path.as_str(), "hello")?;
     let mut files = RealFiles::new(&rt);
     for (name, wanted) in [

@@ -160,8 +160,8 @@ impl Space {
         self.live = slots::go_back(&mut self.slots, &mut self.changes, self.live);
     }
 
-    // Once more slots are gone than are left, and than changes lead back, they are left out: each one that goes pays
-    // for at most three slots or changes that are gone over.
+    // Slots that are gone are left out once they are an eighth of all slots, and of the changes, so that a search
+    // seldom meets one. Each one that goes pays for at most 24 slots or changes that are gone over.
     fn forget_one(&mut self)
         requires { 0 < length self.old.trail }
         ensures tuples { self.new.tuples ≡ self.old.tuples }
@@ -169,7 +169,7 @@ impl Space {
     {
         if slots::forget_oldest(&mut self.slots, &mut self.changes) {
             self.gone = self.gone.saturating_add(1);
-            if self.gone > self.slots.len() / 2 && self.gone > self.changes.len() {
+            if self.gone > self.slots.len() / 8 && self.gone > self.changes.len() / 8 {
                 slots::compact(&mut self.slots, &mut self.changes);
                 self.gone = 0;
             }

@@ -179,6 +179,8 @@ fn items<T: Item>(alloc: Global, line: &[u8]) -> Result<(Vec<T>, &[u8]), LineFau
         items.push(item)?;
         let (ends, after) = closes(after)?;
         if ends {
+            // A script keeps each of its operations.
+            items.shrink_to_fit();
             return Ok((items, after));
         }
         rest = after;

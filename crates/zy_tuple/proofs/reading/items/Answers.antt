@@ -17,7 +17,7 @@ returns-in_err-ends g c =
 pub returns-then-ends : goal.returns-then-ends
 returns-then-ends g c =
     closed g.T.Item.item_at c.loop-place.items.items 8 c.loop-place.place c.loop-place.rest.now c.in_ok-item.item c.in_ok-item.after.now c.in_ok-ends.after.now (fields_at g.T.Item.item_at 8 c.args.line.now) c.loop-place-test.true c.in_ok-item.ensures (c.in_ok-ends.ensures ∙ ap (λ b. Ok (b, c.in_ok-ends.after.now)) c.if-ends.true) c.loop-place.invariant
-    ∙ ap (λ xs. Ok (xs, c.in_ok-ends.after.now)) (sym c.in_ok-push.ensures.items)
+    ∙ ap (λ xs. Ok (xs, c.in_ok-ends.after.now)) (sym (c.shrink_to_fit.ensures.items ∙ c.in_ok-push.ensures.items))
 
 pub loop-place-preserved : goal.loop-place-preserved
 loop-place-preserved g c =
