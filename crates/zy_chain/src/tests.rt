@@ -1,6 +1,8 @@
 use super::*;
+use std::alloc::Global;
+use std::process::Abort;
 use std::test::Fail;
-use zy_base::{Bytes, ClientId, Digest, Stamp};
+use zy_base::{Bytes, ClientId, Digest, Place, Stamp};
 
 const JOB: &[u8] = b"\x01\x02\x02\x03job\x01\x00\x00\x00\x00\x00\x00\x00\x01";
 
@@ -48,6 +50,113 @@ fn entries_digests_and_heads(rt: HostRuntime) -> Result<(), Fail> {
         assert_eq!(rt; entry_digest(&entry), Digest(*digest));
         head = next_head(&head, &Digest(*digest));
         assert_eq!(rt; head, Digest(*next));
+    }
+    Ok(())
+}
+
+// A history: client, stamp and operation of each entry, and the head after it.
+const HISTORY: [(u32, u64, &[u8], &[u8; 32]); 4] = [
+    (
+        0,
+        1,
+        JOB,
+        b"\xcf\xb4\x96\x37\x2e\x0e\xc6\x21\x0f\xaf\x88\x27\x25\xbb\xbd\x79\x5d\x1b\x86\xa5\x2e\xe1\xcc\x3d\x4e\xce\x11\x8a\xcd\xa1\xb6\x1e",
+    ),
+    (
+        3,
+        5,
+        b"\x04\x02\x02\x04lock\x00\x02\x02\x04lock\x01\x00\x00\x00\x00\x00\x00\x00\x07",
+        b"\x63\xe8\x6f\x85\xfb\x6e\xf2\xb4\x89\x5b\x2e\xa8\x5a\x7d\x14\x83\x7c\x0d\x64\x0c\x97\xec\xaa\x12\x93\x7c\x29\xf5\x70\xdf\x09\x8e",
+    ),
+    (
+        0,
+        2,
+        b"\x03\x02\x02\x03job\x00",
+        b"\x65\x98\xfc\x9d\x9c\xe9\xca\x57\xd9\xf0\xea\xbb\xd7\xc3\xbd\x61\x3f\xd0\x8b\xac\x78\xda\xce\xf0\x8f\x8f\xb0\xbc\x6e\xd3\xcf\x91",
+    ),
+    (
+        1,
+        1,
+        b"\x02\x02\x02\x03job\x00",
+        b"\xdb\x54\xa0\x8c\xf7\xbf\x87\x4c\x91\x5b\xfe\x61\x0f\xbf\xfd\x12\x92\xa0\x83\xb6\x37\xc0\xff\xe1\x6f\x7f\xd9\x60\x74\x76\xd4\xb6",
+    ),
+];
+
+// That history between two places. The entry that leads to the place `other` has another stamp.
+fn stretch<R: Abort>(rt: &R, alloc: Global, from: u64, to: u64, other: u64) -> Result<Spine, Fail> {
+    let mut spine = Spine::new(alloc, Place(0), EMPTY_HEAD);
+    for (client, stamp, op, _) in HISTORY {
+        let end = spine.end().0;
+        assert!(rt; end < 1 << 62 && stamp < 100 && op.len() <= 1100);
+        let entry = Entry {
+            client: ClientId(client),
+            stamp: Stamp(if end + 1 == other { stamp + 100 } else { stamp }),
+            op: Bytes::from_slice(alloc, op)?,
+        };
+        match spine.push(entry) {
+            Ok(()) => {}
+            Err((_, want)) => return Err(Fail::from(want)),
+        }
+    }
+    assert!(rt; spine.base().0 <= to && to <= spine.end().0);
+    spine.cut_above(Place(to));
+    assert!(rt; spine.base().0 <= from && from <= spine.end().0);
+    spine.cut_below(Place(from));
+    Ok(spine)
+}
+
+// The head at a place of that history.
+fn head_there(place: u64) -> Option<Digest> {
+    match place.checked_sub(1) {
+        None => Some(EMPTY_HEAD),
+        Some(index) => HISTORY.get(index as usize).map(|row| Digest(*row.3)),
+    }
+}
+
+#[test]
+fn heads_and_entries_of_a_stretch(rt: HostRuntime) -> Result<(), Fail> {
+    for (from, to) in [(0, 4), (0, 3), (0, 0), (1, 4), (2, 3), (4, 4)] {
+        let spine = stretch(&rt, rt.alloc(), from, to, 0)?;
+        assert_eq!(rt; (spine.base(), spine.end()), (Place(from), Place(to)));
+        assert_eq!(rt; Some(spine.head()), head_there(to));
+        for place in 0..6 {
+            let head = if from <= place && place <= to {
+                head_there(place)
+            } else {
+                None
+            };
+            assert_eq!(rt; spine.head_at(Place(place)), head);
+        }
+        for (place, (client, stamp, op, _)) in (1..5).zip(HISTORY) {
+            let entry = spine.entry_at(Place(place));
+            assert_eq!(rt; entry.is_some(), from < place && place <= to);
+            if let Some(entry) = entry {
+                assert_eq!(rt; (entry.client.0, entry.stamp.0), (client, stamp));
+                assert_eq!(rt; entry.op.as_slice(), op);
+            }
+        }
+        assert!(rt; spine.entry_at(Place(0)).is_none() && spine.entry_at(Place(5)).is_none());
+    }
+    Ok(())
+}
+
+// Two stretches, each by its ends and the place of its other entry, and the last place that they share.
+#[test]
+fn last_shared_place(rt: HostRuntime) -> Result<(), Fail> {
+    for (first, second, common) in [
+        ((0, 4, 0), (0, 4, 0), Some(4)),
+        ((0, 4, 0), (0, 2, 0), Some(2)),
+        ((0, 4, 0), (0, 4, 3), Some(2)),
+        ((0, 4, 0), (0, 4, 1), Some(0)),
+        ((2, 4, 0), (0, 3, 0), Some(3)),
+        ((4, 4, 0), (0, 4, 0), Some(4)),
+        ((3, 4, 0), (0, 2, 0), None),
+        ((0, 2, 0), (3, 4, 0), None),
+        ((2, 4, 0), (0, 4, 2), None),
+    ] {
+        let left = stretch(&rt, rt.alloc(), first.0, first.1, first.2)?;
+        let right = stretch(&rt, rt.alloc(), second.0, second.1, second.2)?;
+        assert_eq!(rt; left.common(&right).map(|place| place.0), common);
     }
     Ok(())
 }

@@ -10,3 +10,6 @@ mod snapshot;
 pub use exec::Exec;
 pub use known::{CLIENTS, Known};
 pub use laws::histories;
+
+#[cfg(test)]
+mod tests;
