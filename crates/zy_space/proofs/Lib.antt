@@ -1,3 +1,4 @@
+pub mod TagLemmas
 pub mod MarkLemmas
 pub mod StateLemmas
 pub mod ServiceLaws

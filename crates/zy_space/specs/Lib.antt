@@ -1,4 +1,5 @@
 pub mod TupleSpace
+pub mod Tag
 pub mod Place
 pub mod Marks
 pub mod Timeline

@@ -5,6 +5,7 @@
 mod slots;
 mod space;
 mod state;
+mod tagged;
 
 pub use space::{Space, TUPLE_LIMIT, Tuples};
 

@@ -3,12 +3,14 @@
 ghost use Rattle.std.specs.Prelude.{◌≡◌, ◌+◌, ◌<◌, ◌^◌, ◌&&◌, [], ◌∷◌, ◌++◌, length, map, filter, drop, IfSome, IfNone, IfOk, OnOk, OnErr};
 ghost use Rattle.zy_tuple.specs.Values.{IsTuple, matches as matched};
 ghost use Rattle.zy_space.specs.declared.slots.Mark.TheVariants.{Live, Taken};
+ghost use Rattle.zy_space.specs.Tag.{wanted_tags};
 ghost use Rattle.zy_space.specs.Place.{IsOldestAt, IsAbsent};
 ghost use Rattle.zy_space.specs.Marks.{live_of, trail_of, marked, numbered, renamed, rank_at, is_kept, is_gone, is_live, mark_at, tuple_at, undone, forgotten, CanUndo, CanForget, IsSound, IsStep};
 
+use crate::tagged::{Tagged, WantedTags, wanted_tags};
 use std::collections::VecDeque;
 use zy_base::Want;
-use zy_tuple::{Template, Tuple, matches};
+use zy_tuple::{Template, Tuple};
 
 /// Whether a tuple is in the space, was taken and may come back, or was taken for good.
 #[derive(Clone, Copy, Debug)]
@@ -21,7 +23,7 @@ pub enum Mark {
 /// A tuple in the order of insertion.
 #[derive(Debug, Drop)]
 pub struct Slot {
-    pub tuple: Tuple,
+    pub tuple: Tagged,
     pub mark: Mark,
     /// The place among the slots that aren't gone, while these are left out.
     pub rank: usize,
@@ -37,12 +39,13 @@ pub enum Change {
     Took(usize),
 }
 
-// Whether the slot is live and its tuple matches.
-fn is_match(slot: &Slot, template: &Template) -> bool
+// Whether the slot is live and its tuple matches a template with these tags.
+fn is_match(slot: &Slot, template: &Template, wanted: WantedTags) -> bool
+    requires { wanted ≡ wanted_tags template.now }
     ensures { result ≡ is_live slot.now.mark && matched template.now slot.now.tuple }
 {
     match slot.mark {
-        Mark::Live => matches(template, &slot.tuple),
+        Mark::Live => slot.tuple.matches(template, wanted),
         Mark::Taken | Mark::Gone => false,
     }
 }
@@ -52,8 +55,9 @@ pub fn place_of(slots: &[Slot], template: &Template) -> Option<usize>
     ensures found { IfSome result (IsOldestAt template.now slots.now) }
     ensures none { IfNone result (IsAbsent template.now (live_of slots.now)) }
 {
+    let wanted = wanted_tags(template);
     for (place, slot) in slots.iter().enumerate() {
-        if is_match(slot, template) {
+        if is_match(slot, template, wanted) {
             return Some(place);
         }
     }
@@ -141,7 +145,7 @@ pub fn tuple_of(slots: &[Slot], place: usize) -> Result<Tuple, Want>
     requires { place < length slots.now }
     ensures { IfOk result (λ tuple. tuple_at slots.now place ≡ Some tuple) }
 {
-    Ok(slots[place].tuple.clone()?)
+    Ok(slots[place].tuple.tuple().clone()?)
 }
 
 /// Keeps the slots as they are.
@@ -164,7 +168,7 @@ pub fn put(slots: &mut Vec<Slot>, changes: &mut VecDeque<Change>, tuple: Tuple) 
     ensures changes { OnErr result (changes.new.items ≡ changes.old.items) }
 {
     let slot = Slot {
-        tuple,
+        tuple: Tagged::new(tuple),
         mark: Mark::Live,
         rank: 0,
     };

@@ -13,6 +13,7 @@ ghost use Rattle.zy_space.specs.Service.{state_spelling};
 
 use crate::slots::{Mark, Slot};
 use crate::space::TUPLE_LIMIT;
+use crate::tagged::Tagged;
 use std::alloc::Global;
 use zy_base::{Bytes, Want};
 use zy_tuple::{OpFault, tuple_get, tuple_put};
@@ -24,7 +25,7 @@ fn put_one(out: &mut Put, slot: &Slot) -> Result<(), Want>
     ensures { OnOk result (out.new ≡ out.old ++ flat_map tuple_bytes (live_of (slot.now ∷ []))) }
 {
     match slot.mark {
-        Mark::Live => tuple_put(out, &slot.tuple),
+        Mark::Live => tuple_put(out, slot.tuple.tuple()),
         Mark::Taken | Mark::Gone => Ok(()),
     }
 }
@@ -62,7 +63,7 @@ fn get_slots(alloc: Global, count: u16, cut: &mut Cut) -> Result<Vec<Slot>, OpFa
     for place in 0..count {
         let tuple = tuple_get(alloc, cut)?;
         slots.push(Slot {
-            tuple,
+            tuple: Tagged::new(tuple),
             mark: Mark::Live,
             rank: 0,
         })?;

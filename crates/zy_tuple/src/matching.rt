@@ -16,17 +16,15 @@ fn fits(slot: &Slot, field: &Field) -> bool
 pub fn matches(template: &Template, tuple: &Tuple) -> bool
     ensures { result ≡ matched template.now tuple.now }
 {
-    let mut slots = template.slots();
-    let mut fields = tuple.fields();
-    'slots: while let [slot, more_slots @ ..] = slots {
-        let [field, more_fields @ ..] = fields else {
-            return false;
-        };
+    let slots = template.slots();
+    let fields = tuple.fields();
+    if slots.len() != fields.len() {
+        return false;
+    }
+    for (slot, field) in slots.iter().zip(fields) {
         if !fits(slot, field) {
             return false;
         }
-        slots = more_slots;
-        fields = more_fields;
     }
-    fields.is_empty()
+    true
 }

@@ -172,14 +172,14 @@ fn closes(line: &[u8]) -> Result<(bool, &[u8]), LineFault>
 fn items<T: Item>(alloc: Global, line: &[u8]) -> Result<(Vec<T>, &[u8]), LineFault>
     ensures { Gives (λ x. (x.0.items, x.1.now)) result (fields_at T.item_at 8 line.now) }
 {
-    let mut items = Vec::new(alloc);
+    // A script keeps each of its operations, so a list takes no spare room.
+    let mut items = Vec::with_capacity(alloc, 1)?;
     let mut rest = line;
     for place in 0..FIELD_LIMIT {
         let (item, after) = T::read(alloc, rest)?;
         items.push(item)?;
         let (ends, after) = closes(after)?;
         if ends {
-            // A script keeps each of its operations.
             items.shrink_to_fit();
             return Ok((items, after));
         }

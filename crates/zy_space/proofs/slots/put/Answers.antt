@@ -4,4 +4,4 @@ use Rattle.zy_space.proofs.slots.put.Goals as goal
 
 pub returns-in-Ok-clause-ok : goal.returns-in-Ok-clause-ok
 returns-in-Ok-clause-ok c =
-    rw (c.in_ok-push.ensures.items, c.in-Ok.ensures.items) (put_step c.args.slots.now.items c.args.changes.now.items _ c.requires.sound c.requires.tuple refl c.requires.room)
+    rw (c.in_ok-push.ensures.items, c.in-Ok.ensures.items, c.new.ensures) (put_step c.args.slots.now.items c.args.changes.now.items _ c.requires.sound c.requires.tuple refl c.requires.room)

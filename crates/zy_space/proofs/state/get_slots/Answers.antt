@@ -16,7 +16,7 @@ returns-in_err-tuple-clause-read c =
 pub loop-place-preserved : goal.loop-place-preserved
 loop-place-preserved c =
     record {
-      so_far = rw (c.in_ok-push.ensures.items, map_push (λ (s : Slot). s.tuple) c.loop-place.slots.items _)
+      so_far = rw (c.in_ok-push.ensures.items, map_push (λ (s : Slot). s.tuple) c.loop-place.slots.items _, c.new.ensures)
           (goes_on tuple_spelling (map (λ (s : Slot). s.tuple) c.loop-place.slots.items) c.args.count c.loop-place.place c.loop-place.cut c.in_ok-tuple.tuple c.tuple_get.new.cut (repeated_at tuple_spelling c.args.count c.args.cut.now) c.loop-place-test.true c.in_ok-tuple.ensures c.loop-place.invariant.so_far);
       live = rw c.in_ok-push.ensures.items (live_push c.loop-place.slots.items _ c.loop-place.invariant.live refl);
     }

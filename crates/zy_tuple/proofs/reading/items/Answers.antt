@@ -6,7 +6,7 @@ use Rattle.zy_tuple.proofs.reading.items.Goals as goal
 
 pub returns-in_err-item : goal.returns-in_err-item
 returns-in_err-item g c =
-    let p = err_from_is_err_and c.from_residual.result c.from_residual.ensures.1 in
+    let p = err_from_is_err_and c.from_residual-in_err-item.result c.from_residual-in_err-item.ensures.1 in
     rw (p.1, p.2) (item_fails g.T.Item.item_at c.in_err-item.field-0.0 c.loop-place.items.items 8 c.loop-place.place c.loop-place.rest.now (fields_at g.T.Item.item_at 8 c.args.line.now) c.loop-place-test.true c.in_err-item.ensures c.loop-place.invariant)
 
 pub returns-in_err-ends : goal.returns-in_err-ends
