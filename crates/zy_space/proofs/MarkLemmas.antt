@@ -10,7 +10,7 @@ use Rattle.zy_space.specs.declared.slots.Mark.TheVariants.{Live, Taken, Gone}
 use Rattle.zy_space.specs.declared.slots.Slot.{Slot}
 use Rattle.zy_space.specs.declared.slots.Change.{Change}
 use Rattle.zy_space.specs.declared.slots.Change.TheVariants.{Same, Put, Took}
-use Rattle.zy_space.specs.Marks.{is_live, is_gone, is_kept, live_of, marked, mark_at, tuple_at, undone, earlier, trail_of, CanUndo, CanForget, forgotten, AllLive, IsSpace, LeadsBack, HoldsTuple, IsSound, IsStep, numbered, rank_at, renamed}
+use Rattle.zy_space.specs.Marks.{is_live, is_gone, is_kept, live_of, marked, mark_at, tuple_at, gone_in, undone, earlier, trail_of, CanUndo, CanForget, forgotten, AllLive, IsSpace, LeadsBack, HoldsTuple, IsSound, IsStep, numbered, rank_at, renamed}
 
 -- ---- marks
 
@@ -518,9 +518,14 @@ pub trail_none : (slots : List Slot) → trail_of slots [] ≡ []
 unfolding earlier
 trail_none slots = refl
 
-pub space_made : (slots : List Slot) → AllByRecursion HoldsTuple slots → length (live_of slots) ≤ 4096 → IsSpace slots [] (length (live_of slots))
+pub gone_in-all_live : (slots : List Slot) → AllLive slots → gone_in slots ≡ 0
+gone_in-all_live [] all = refl
+gone_in-all_live (slot ∷ slots) all = rw all.0 (gone_in-all_live slots all.1)
+
+pub space_made : (slots : List Slot) → AllByRecursion HoldsTuple slots → AllLive slots → length (live_of slots) ≤ 4096 → IsSpace slots [] (length (live_of slots)) 0
 unfolding LeadsBack
-space_made slots tuples few = record { sound = record { leads_back = tt; tuples = tuples; few = few }; counted = refl }
+space_made slots tuples live few =
+    record { sound = record { leads_back = tt; tuples = tuples; few = few }; counted = refl; counted_gone = sym (gone_in-all_live slots live) }
 
 pub live_of-all : (slots : List Slot) → AllLive slots → live_of slots ≡ map (λ (s : Slot). s.tuple) slots
 live_of-all [] all = refl
@@ -537,3 +542,58 @@ live_tuples (slot ∷ slots) all =
 pub holds_each : (slots : List Slot) → AllByRecursion IsTuple (map (λ (s : Slot). s.tuple) slots) → AllByRecursion HoldsTuple slots
 holds_each [] all = tt
 holds_each (slot ∷ slots) all = (all.0, holds_each slots all.1)
+
+-- ---- how many slots are gone
+
+-- another mark, neither of them gone
+pub gone_in-marked : (mark : Mark) (place : ℕ) (slots : List Slot) → is_gone mark ≡ false → is_gone (mark_at slots place) ≡ false
+    → gone_in (marked mark place slots) ≡ gone_in slots
+gone_in-marked mark place [] kept was_kept = refl
+gone_in-marked mark zero (slot ∷ slots) kept was_kept = rw (kept, was_kept) refl
+gone_in-marked mark (suc place) (slot ∷ slots) kept was_kept =
+    let rest = gone_in-marked mark place slots kept was_kept in
+    elim (is_gone slot.mark) as (λ gone. cond gone (gone_in (marked mark place slots) + 1) (gone_in (marked mark place slots)) ≡ cond gone (gone_in slots + 1) (gone_in slots)) [
+      | true ↦ ap (λ (n : ℕ). n + 1) rest
+      | false ↦ rest
+    ]
+
+pub gone_in-forgotten : (place : ℕ) (slots : List Slot) → mark_at slots place ≡ Taken → gone_in (marked Gone place slots) ≡ gone_in slots + 1
+gone_in-forgotten place [] taken = absurd (cc)
+gone_in-forgotten zero (slot ∷ slots) taken = rw taken (omega arith)
+gone_in-forgotten (suc place) (slot ∷ slots) taken =
+    let rest = gone_in-forgotten place slots taken in
+    elim (is_gone slot.mark) as (λ gone. cond gone (gone_in (marked Gone place slots) + 1) (gone_in (marked Gone place slots)) ≡ cond gone (gone_in slots + 1) (gone_in slots) + 1) [
+      | true ↦ omega arith
+      | false ↦ rest
+    ]
+
+pub gone_in-push : (slots : List Slot) (slot : Slot) → is_gone slot.mark ≡ false → gone_in (slots ++ slot ∷ []) ≡ gone_in slots
+gone_in-push [] slot kept = rw kept refl
+gone_in-push (first ∷ slots) slot kept =
+    ap (λ (count : ℕ). cond (is_gone first.mark) (count + 1) count) (gone_in-push slots slot kept)
+
+pub gone_in-undone : (change : Change) (slots : List Slot) → CanUndo change slots → gone_in (undone change slots) ≡ gone_in slots
+gone_in-undone Same slots can = refl
+gone_in-undone Put slots can =
+    let ends = snoc slots can.0 in
+    let live : ends.1.mark ≡ Live = sym (mark_at-last ends.0 ends.1) ∙ subst (λ (s : List Slot). mark_at s (length s - 1) ≡ Live) ends.2 can.1 in
+    rw (ends.2, undone-put ends.0 ends.1) (sym (gone_in-push ends.0 ends.1 (ap is_gone live)))
+gone_in-undone (Took place) slots can = gone_in-marked Live place slots refl (ap is_gone can.1)
+
+pub gone_in-kept : (next : ℕ) (slots : List Slot) → gone_in (kept_from next slots) ≡ 0
+gone_in-kept next [] = refl
+gone_in-kept next (slot ∷ slots) =
+    elim slot.mark as (λ mark. gone_in (cond (not (is_gone mark)) (record { tuple = slot.tuple; mark = mark; rank = next } ∷ kept_from (cond (is_gone mark) next (next + 1)) slots) (kept_from (cond (is_gone mark) next (next + 1)) slots)) ≡ 0) [
+      | Live ↦ gone_in-kept (next + 1) slots
+      | Taken ↦ gone_in-kept (next + 1) slots
+      | Gone ↦ gone_in-kept next slots
+    ]
+
+pub gone_in-few : (slots : List Slot) → gone_in slots ≤ length slots
+gone_in-few [] = omega arith
+gone_in-few (slot ∷ slots) =
+    let rest = gone_in-few slots in
+    elim (is_gone slot.mark) as (λ gone. cond gone (gone_in slots + 1) (gone_in slots) ≤ length (slot ∷ slots)) [
+      | true ↦ omega arith
+      | false ↦ omega arith
+    ]

@@ -73,7 +73,7 @@ reply_short Bad fits = lit≤ tt
 -- ---- a space from the bytes of a state
 
 pub record IsRestored (slots : List Slot) (bytes : List ℕ) : Type 0 where
-  pub space : IsSpace slots [] (length slots)
+  pub space : IsSpace slots [] (length slots) 0
   pub spelled : state_spelling.spell (live_of slots) ≡ bytes
   pub state : IsSpaceState (live_of slots)
 
@@ -84,7 +84,7 @@ restored slots bytes fits read live =
     let same : live_of slots ≡ tuples = live_of-all slots live in
     let many : length (live_of slots) ≡ length slots = ap length same ∙ length-map slots (λ (s : Slot). s.tuple) in
     record {
-      space = subst (IsSpace slots []) many (space_made slots (holds_each slots (recursion_from_All IsTuple tuples so.1.each)) (rw same so.1.most));
+      space = subst (λ (count : ℕ). IsSpace slots [] count 0) many (space_made slots (holds_each slots (recursion_from_All IsTuple tuples so.1.each)) live (rw same so.1.most));
       spelled = rw same (sym so.0);
       state = rw same so.1;
     }

@@ -24,6 +24,11 @@ abbrev pub live_of : List Slot → List (List Field)
 live_of [] = []
 live_of (slot ∷ slots) = if is_live slot.mark then slot.tuple ∷ live_of slots else live_of slots
 
+-- how many slots are gone, and wait to be left out
+abbrev pub gone_in : List Slot → ℕ
+gone_in [] = 0
+gone_in (slot ∷ slots) = if is_gone slot.mark then gone_in slots + 1 else gone_in slots
+
 -- the slots with another mark at a place
 abbrev pub marked : Mark → ℕ → List Slot → List Slot
 marked mark place [] = []
@@ -90,10 +95,11 @@ pub record IsSound (slots : List Slot) (changes : List Change) : Type 0 where
   pub tuples : AllByRecursion HoldsTuple slots
   pub few : length (live_of slots) ≤ 4096
 
--- the slots of a space, its changes, and how many slots are live
-pub record IsSpace (slots : List Slot) (changes : List Change) (live : ℕ) : Type 0 where
+-- the slots of a space, its changes, and how many slots are live and gone
+pub record IsSpace (slots : List Slot) (changes : List Change) (live gone : ℕ) : Type 0 where
   pub sound : IsSound slots changes
   pub counted : live ≡ length (live_of slots)
+  pub counted_gone : gone ≡ gone_in slots
 
 -- the slots and changes now hold these tuples, and lead back to what they held before
 pub record IsStep (slots slots' : List Slot) (changes changes' : List Change) (tuples : List (List Field)) : Type 0 where

@@ -1,11 +1,11 @@
 //! A vector of tuples with marks, and the changes that lead back to its earlier states.
 
-ghost use Rattle.std.specs.Prelude.{◌≡◌, ◌+◌, ◌<◌, ◌^◌, ◌&&◌, [], ◌∷◌, ◌++◌, length, map, filter, drop, IfSome, IfNone, IfOk, OnOk, OnErr};
+ghost use Rattle.std.specs.Prelude.{◌≡◌, ◌+◌, ◌<◌, ◌^◌, ◌&&◌, if◌then◌else◌, [], ◌∷◌, ◌++◌, length, map, filter, drop, IfSome, IfNone, IfOk, OnOk, OnErr};
 ghost use Rattle.zy_tuple.specs.Values.{IsTuple, matches as matched};
 ghost use Rattle.zy_space.specs.declared.slots.Mark.TheVariants.{Live, Taken};
 ghost use Rattle.zy_space.specs.Tag.{wanted_tags};
 ghost use Rattle.zy_space.specs.Place.{IsOldestAt, IsAbsent};
-ghost use Rattle.zy_space.specs.Marks.{live_of, trail_of, marked, numbered, renamed, rank_at, is_kept, is_gone, is_live, mark_at, tuple_at, undone, forgotten, CanUndo, CanForget, IsSound, IsStep};
+ghost use Rattle.zy_space.specs.Marks.{live_of, trail_of, marked, numbered, renamed, rank_at, is_kept, is_gone, is_live, mark_at, tuple_at, gone_in, undone, forgotten, CanUndo, CanForget, IsSound, IsStep};
 
 use crate::tagged::{Tagged, WantedTags, wanted_tags};
 use std::collections::VecDeque;
@@ -134,6 +134,7 @@ pub fn compact(slots: &mut Vec<Slot>, changes: &mut VecDeque<Change>)
     ensures sound { IsSound slots.new.items changes.new.items }
     ensures live { live_of slots.new.items ≡ live_of slots.old.items }
     ensures trail { trail_of slots.new.items changes.new.items ≡ trail_of slots.old.items changes.old.items }
+    ensures gone { gone_in slots.new.items ≡ 0 }
 {
     number(slots);
     rename(changes, slots);
@@ -166,6 +167,7 @@ pub fn put(slots: &mut Vec<Slot>, changes: &mut VecDeque<Change>, tuple: Tuple) 
     ensures ok { OnOk result (IsStep slots.old.items slots.new.items changes.old.items changes.new.items (live_of slots.old.items ++ tuple ∷ [])) }
     ensures slots { OnErr result (slots.new.items ≡ slots.old.items) }
     ensures changes { OnErr result (changes.new.items ≡ changes.old.items) }
+    ensures gone { gone_in slots.new.items ≡ gone_in slots.old.items }
 {
     let slot = Slot {
         tuple: Tagged::new(tuple),
@@ -193,6 +195,7 @@ pub fn take_out(
     ensures ok { OnOk result (IsStep slots.old.items slots.new.items changes.old.items changes.new.items (live_of (marked Taken place slots.old.items))) }
     ensures slots { OnErr result (slots.new.items ≡ slots.old.items) }
     ensures changes { OnErr result (changes.new.items ≡ changes.old.items) }
+    ensures gone { gone_in slots.new.items ≡ gone_in slots.old.items }
 {
     changes.push_back(Change::Took(place))?;
     set_mark(slots, place, Mark::Taken);
@@ -228,6 +231,7 @@ pub fn go_back(slots: &mut Vec<Slot>, changes: &mut VecDeque<Change>, live: u64)
     ensures sound { IsSound slots.new.items changes.new.items }
     ensures live { result ≡ length (live_of slots.new.items) }
     ensures back { trail_of slots.old.items changes.old.items ≡ trail_of slots.new.items changes.new.items ++ live_of slots.new.items ∷ [] }
+    ensures gone { gone_in slots.new.items ≡ gone_in slots.old.items }
 {
     match changes.pop_back() {
         Some(change) => undo_change(slots, live, change),
@@ -238,7 +242,8 @@ pub fn go_back(slots: &mut Vec<Slot>, changes: &mut VecDeque<Change>, live: u64)
 // Marks the slot that a change took, which now can't come back, and says whether there is one.
 fn forget_change(slots: &mut Vec<Slot>, change: Change) -> bool
     requires { CanForget change slots.old.items }
-    ensures { slots.new.items ≡ forgotten change slots.old.items }
+    ensures slots { slots.new.items ≡ forgotten change slots.old.items }
+    ensures gone { gone_in slots.new.items ≡ gone_in slots.old.items + (if result then 1 else 0) }
 {
     match change {
         Change::Same | Change::Put => false,
@@ -256,6 +261,7 @@ pub fn forget_oldest(slots: &mut Vec<Slot>, changes: &mut VecDeque<Change>) -> b
     ensures sound { IsSound slots.new.items changes.new.items }
     ensures live { live_of slots.new.items ≡ live_of slots.old.items }
     ensures trail { trail_of slots.new.items changes.new.items ≡ drop 1 (trail_of slots.old.items changes.old.items) }
+    ensures gone { gone_in slots.new.items ≡ gone_in slots.old.items + (if result then 1 else 0) }
 {
     match changes.pop_front() {
         Some(change) => forget_change(slots, change),

@@ -52,7 +52,7 @@ impl Model for Space {
 
     ghost view = { λ s. record { tuples = live_of s.slots.items; trail = trail_of s.slots.items s.changes.items } };
 
-    ghost invariant = { λ s. IsSpace s.slots.items s.changes.items s.live };
+    ghost invariant = { λ s. IsSpace s.slots.items s.changes.items s.live s.gone };
 }
 
 impl Space {
@@ -168,7 +168,7 @@ impl Space {
         ensures trail { self.new.trail ≡ drop 1 self.old.trail }
     {
         if slots::forget_oldest(&mut self.slots, &mut self.changes) {
-            self.gone = self.gone.saturating_add(1);
+            self.gone += 1;
             if self.gone > self.slots.len() / 8 && self.gone > self.changes.len() / 8 {
                 slots::compact(&mut self.slots, &mut self.changes);
                 self.gone = 0;

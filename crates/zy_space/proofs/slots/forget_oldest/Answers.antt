@@ -10,15 +10,15 @@ forget_change-requires c =
 
 pub returns-in-Some-clause-sound : goal.returns-in-Some-clause-sound
 returns-in-Some-clause-sound c =
-    rw c.forget_change.ensures ((forget_one c.args.slots.now.items c.pop_front.new.self.items c.in-Some.change (subst (IsSound c.args.slots.now.items) c.in-Some.ensures.items c.requires.sound)).sound)
+    rw c.forget_change.ensures.slots ((forget_one c.args.slots.now.items c.pop_front.new.self.items c.in-Some.change (subst (IsSound c.args.slots.now.items) c.in-Some.ensures.items c.requires.sound)).sound)
 
 pub returns-in-Some-clause-live : goal.returns-in-Some-clause-live
 returns-in-Some-clause-live c =
-    rw c.forget_change.ensures ((forget_one c.args.slots.now.items c.pop_front.new.self.items c.in-Some.change (subst (IsSound c.args.slots.now.items) c.in-Some.ensures.items c.requires.sound)).live)
+    rw c.forget_change.ensures.slots ((forget_one c.args.slots.now.items c.pop_front.new.self.items c.in-Some.change (subst (IsSound c.args.slots.now.items) c.in-Some.ensures.items c.requires.sound)).live)
 
 pub returns-in-Some-clause-trail : goal.returns-in-Some-clause-trail
 returns-in-Some-clause-trail c =
-    rw (c.forget_change.ensures, c.in-Some.ensures.items) ((forget_one c.args.slots.now.items c.pop_front.new.self.items c.in-Some.change (subst (IsSound c.args.slots.now.items) c.in-Some.ensures.items c.requires.sound)).trail)
+    rw (c.forget_change.ensures.slots, c.in-Some.ensures.items) ((forget_one c.args.slots.now.items c.pop_front.new.self.items c.in-Some.change (subst (IsSound c.args.slots.now.items) c.in-Some.ensures.items c.requires.sound)).trail)
 
 pub returns-in-None-clause-trail : goal.returns-in-None-clause-trail
 returns-in-None-clause-trail c =

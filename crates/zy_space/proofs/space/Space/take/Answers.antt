@@ -1,4 +1,4 @@
-use Rattle.std.proofs.Common.{length, ap, arith}
+use Rattle.std.proofs.Common.{length, sym, ap, ◌∙◌, arith}
 use Rattle.zy_space.proofs.MarkLemmas.{holds-tuple_at, length-live_of-taken}
 use Rattle.zy_space.proofs.space.Space.take.Goals as goal
 
@@ -7,7 +7,11 @@ invariant_of-self-in-Some c =
     let ok = c.in_ok-take_out-in-Some.ensures.ok in
     let fewer = length-live_of-taken c.self.inside.slots.items c.in-Some.place (rw c.deref.ensures.value at c.in-Some.ensures.found.live) in
     let now = ap length ok.tuples_now in
-    record { sound = ok.sound; counted = omega (arith, now, fewer, c.self.invariant.counted) }
+    record {
+      sound = ok.sound;
+      counted = omega (arith, now, fewer, c.self.invariant.counted);
+      counted_gone = c.self.invariant.counted_gone ∙ sym c.take_out.ensures.gone;
+    }
 
 pub returns-in_ok-take_out-in-Some-clause-is_reply : goal.returns-in_ok-take_out-in-Some-clause-is_reply
 returns-in_ok-take_out-in-Some-clause-is_reply c =

@@ -1,4 +1,4 @@
-use Rattle.std.proofs.Common.{rules, ◌≡◌, ◌∙◌, [], length, vec_len, subst, sym, arith}
+use Rattle.std.proofs.Common.{rules, ◌≡◌, ◌∙◌, ℕ, [], length, vec_len, subst, sym, arith}
 use Rattle.zy_space.specs.Marks.{IsSpace}
 use Rattle.zy_space.proofs.MarkLemmas.{trail_none}
 use Rattle.zy_space.proofs.ServiceLaws.{restored, not_spelled}
@@ -8,7 +8,7 @@ pub invariant_of-result : goal.invariant_of-result
 invariant_of-result c =
     let all = restored c.in-Ok.slots.items c.args.bytes.now (λ i. omega (arith, c.type_inv.bytes i)) c.in-Ok.ensures.read c.in-Ok.ensures.live in
     let held : vec_len c.in-Ok.slots ≡ length c.in-Ok.slots.items = search rules in
-    rw c.new.ensures.items (subst (IsSpace c.in-Ok.slots.items []) (sym (c.len.ensures ∙ held)) all.space)
+    rw c.new.ensures.items (subst (λ (count : ℕ). IsSpace c.in-Ok.slots.items [] count 0) (sym (c.len.ensures ∙ held)) all.space)
 
 pub returns-in-Ok-clause-spelled : goal.returns-in-Ok-clause-spelled
 returns-in-Ok-clause-spelled c = (restored c.in-Ok.slots.items c.args.bytes.now (λ i. omega (arith, c.type_inv.bytes i)) c.in-Ok.ensures.read c.in-Ok.ensures.live).spelled
