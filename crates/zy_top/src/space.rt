@@ -12,7 +12,7 @@ use std::alloc::Global;
 use zy_base::{ClientId, Machine, Want};
 use zy_edge::Sink;
 use zy_space::Space;
-use zy_tuple::{Op, reply_text};
+use zy_tuple::{Op, reply_text_put};
 
 /// The report is written whenever it has so many bytes, and at its end.
 const PIECE: usize = 16_384;
@@ -48,7 +48,7 @@ fn run_one(alloc: Global, space: &mut Space, op: &Op, report: &mut Vec<u8>) -> R
 {
     let reply = space.run_op(CLIENT, op)?;
     space.forget();
-    report.extend_from_slice(reply_text(alloc, &reply)?.as_slice())?;
+    reply_text_put(alloc, report, &reply)?;
     report.push(b'\n')?;
     Ok(())
 }

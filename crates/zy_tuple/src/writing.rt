@@ -120,11 +120,20 @@ pub fn reply_text(alloc: Global, reply: &Reply) -> Result<Bytes, Want>
     ensures { IfOk result (λ text. text ≡ texts.reply_text reply.now) }
 {
     let mut out = Vec::new(alloc);
+    reply_text_put(alloc, &mut out, reply)?;
+    Ok(Bytes::from(out))
+}
+
+/// Puts the one text of a reply at the end. After `Want` a part of it may stand there.
+pub fn reply_text_put(alloc: Global, out: &mut Vec<u8>, reply: &Reply) -> Result<(), Want>
+    requires { IsReply reply.now }
+    ensures { OnOk result (out.new.items ≡ out.old.items ++ texts.reply_text reply.now) }
+{
     match reply {
         Reply::Done => out.extend_from_slice(b"ok")?,
         Reply::Got(tuple) => {
             out.extend_from_slice(b"tuple ")?;
-            write_list(alloc, &mut out, tuple.fields())?;
+            write_list(alloc, out, tuple.fields())?;
         }
         Reply::Nothing => out.extend_from_slice(b"none")?,
         Reply::True => out.extend_from_slice(b"true")?,
@@ -132,5 +141,5 @@ pub fn reply_text(alloc: Global, reply: &Reply) -> Result<Bytes, Want>
         Reply::Full => out.extend_from_slice(b"full")?,
         Reply::Bad => out.extend_from_slice(b"bad")?,
     }
-    Ok(Bytes::from(out))
+    Ok(())
 }
