@@ -1,4 +1,5 @@
 pub mod TagLemmas
 pub mod MarkLemmas
+pub mod PlaceLemmas
 pub mod StateLemmas
 pub mod ServiceLaws

@@ -1,41 +1,65 @@
 -- Tags of tuples. A search passes over a tuple whose tags aren't those of each match, without looking at its fields.
-use Rattle.std.specs.Prelude.{ℕ, ◌+◌, ◌*◌, ◌%◌, ◌^◌, List, [], ◌∷◌, Option, Some, None, fold}
-use Rattle.std.specs.Int.{w64, cast_unsigned}
+use Rattle.std.specs.Prelude.{ℕ, ◌+◌, ◌*◌, ◌%◌, ◌/◌, ◌^◌, List, [], ◌∷◌, Option, Some, None, length, drop, fold, map}
+use Rattle.std.specs.List.{slice_get}
+use Rattle.std.specs.Int.{w64, cast_unsigned, from_le_bytes}
+use Rattle.std.specs.Simd.{first_chunks}
 use Rattle.zy_tuple.specs.declared.values.Field.{Field}
 use Rattle.zy_tuple.specs.declared.values.Field.TheVariants.{Int, Text}
 use Rattle.zy_tuple.specs.declared.values.Slot.{Slot}
 use Rattle.zy_tuple.specs.declared.values.Slot.TheVariants.{Any, Is}
-use Rattle.zy_space.specs.declared.tagged.Tags.{Tags}
 use Rattle.zy_space.specs.declared.tagged.WantedTags.{WantedTags}
 
--- a tag with one part more: both are digits to a base, in 32 bits
+-- a hash with one part more, by 2^64 over the golden ratio (Knuth, The Art of Computer Programming, section 6.4)
 abbrev pub with_part : ℕ → ℕ → ℕ
-with_part tag part = (tag * 16777619 + part) % 2 ^ 32
+with_part hash part = ((hash + part) * 11400714819323198485) % 2 ^ 64
 
--- a number's low bits, or a text's bytes in turn
+-- a text's parts in turn: each eight bytes are one (the least first), those that are left are one each
+abbrev pub hash_of_text : List ℕ → ℕ
+hash_of_text text =
+    let eights = length text / 8 in
+    fold with_part (fold with_part 0 (map (from_le_bytes w64) (first_chunks 8 eights text))) (drop (eights * 8) text)
+
+-- a number is one part
+abbrev pub hash_of_field : Field → ℕ
+hash_of_field (Int n) = with_part 0 (cast_unsigned w64 n)
+hash_of_field (Text text) = hash_of_text text
+
+-- the eight high bits of the hash
 abbrev pub tag_of_field : Field → ℕ
-tag_of_field (Int n) = cast_unsigned w64 n % 2 ^ 32
-tag_of_field (Text text) = fold with_part 0 text
+tag_of_field field = hash_of_field field / 2 ^ 56
 
--- a tag with these fields more
-abbrev pub with_fields : ℕ → List Field → ℕ
-with_fields tag fields = fold (λ tag field. with_part tag (tag_of_field field)) tag fields
+-- 0 where there is no field
+abbrev pub tag_of_place : Option Field → ℕ
+tag_of_place None = 0
+tag_of_place (Some field) = tag_of_field field
 
--- of the first field, and of all others together
-abbrev pub tags_of : List Field → Tags
-tags_of [] = record { first = 0; others = 0 }
-tags_of (first ∷ others) = record { first = tag_of_field first; others = with_fields 0 others }
+-- 0 at a wildcard, and where there is no slot
+abbrev pub wanted_of_place : Option Slot → ℕ
+wanted_of_place None = 0
+wanted_of_place (Some Any) = 0
+wanted_of_place (Some (Is field)) = tag_of_field field
 
--- the tag that these slots want, where none is a wildcard
-abbrev pub with_slots : ℕ → List Slot → Option ℕ
-with_slots tag [] = Some tag
-with_slots tag (Any ∷ slots) = None
-with_slots tag (Is field ∷ slots) = with_slots (with_part tag (tag_of_field field)) slots
+-- all bits of the tag count, or none at a wildcard and where there is no slot
+abbrev pub mask_of_place : Option Slot → ℕ
+mask_of_place None = 0
+mask_of_place (Some Any) = 0
+mask_of_place (Some (Is field)) = 255
 
-abbrev pub wanted_of_slot : Slot → Option ℕ
-wanted_of_slot Any = None
-wanted_of_slot (Is field) = Some (tag_of_field field)
+abbrev pub tag_at : List Field → ℕ → ℕ
+tag_at fields place = tag_of_place (slice_get fields place)
+
+abbrev pub wanted_at : List Slot → ℕ → ℕ
+wanted_at slots place = wanted_of_place (slice_get slots place)
+
+abbrev pub mask_at : List Slot → ℕ → ℕ
+mask_at slots place = mask_of_place (slice_get slots place)
+
+-- a tuple has up to eight fields
+abbrev pub places : List ℕ
+places = 0 ∷ 1 ∷ 2 ∷ 3 ∷ 4 ∷ 5 ∷ 6 ∷ 7 ∷ []
+
+abbrev pub tags_of : List Field → List ℕ
+tags_of fields = map (tag_at fields) places
 
 abbrev pub wanted_tags : List Slot → WantedTags
-wanted_tags [] = record { first = None; others = None }
-wanted_tags (first ∷ others) = record { first = wanted_of_slot first; others = with_slots 0 others }
+wanted_tags slots = record { tags = map (wanted_at slots) places; masks = map (mask_at slots) places }

@@ -1,6 +1,7 @@
 //! A vector of tuples with marks, and the changes that lead back to its earlier states.
 
 ghost use Rattle.std.specs.Prelude.{◌≡◌, ◌+◌, ◌<◌, ◌^◌, ◌&&◌, if◌then◌else◌, [], ◌∷◌, ◌++◌, length, map, filter, drop, IfSome, IfNone, IfOk, OnOk, OnErr};
+ghost use Rattle.std.specs.List.{position};
 ghost use Rattle.zy_tuple.specs.Values.{IsTuple, matches as matched};
 ghost use Rattle.zy_space.specs.declared.slots.Mark.TheVariants.{Live, Taken};
 ghost use Rattle.zy_space.specs.Tag.{wanted_tags};
@@ -10,7 +11,7 @@ ghost use Rattle.zy_space.specs.Marks.{live_of, trail_of, marked, numbered, rena
 use crate::tagged::{Tagged, WantedTags, wanted_tags};
 use std::collections::VecDeque;
 use zy_base::Want;
-use zy_tuple::{Template, Tuple};
+use zy_tuple::{Template, Tuple, matches};
 
 /// Whether a tuple is in the space, was taken and may come back, or was taken for good.
 #[derive(Clone, Copy, Debug)]
@@ -45,9 +46,19 @@ fn is_match(slot: &Slot, template: &Template, wanted: WantedTags) -> bool
     ensures { result ≡ is_live slot.now.mark && matched template.now slot.now.tuple }
 {
     match slot.mark {
-        Mark::Live => slot.tuple.matches(template, wanted),
+        Mark::Live => slot.tuple.may_match(wanted) && matches(template, slot.tuple.tuple()),
         Mark::Taken | Mark::Gone => false,
     }
+}
+
+// Where the first match stands.
+fn first_match(slots: &[Slot], template: &Template) -> Option<usize>
+    ensures { result ≡ position (λ slot. is_live slot.mark && matched template.now slot.tuple) slots.now }
+{
+    let wanted = wanted_tags(template);
+    slots
+        .iter()
+        .position(|slot| is_match(slot, template, wanted))
 }
 
 /// Where the oldest live match stands.
@@ -55,13 +66,7 @@ pub fn place_of(slots: &[Slot], template: &Template) -> Option<usize>
     ensures found { IfSome result (IsOldestAt template.now slots.now) }
     ensures none { IfNone result (IsAbsent template.now (live_of slots.now)) }
 {
-    let wanted = wanted_tags(template);
-    for (place, slot) in slots.iter().enumerate() {
-        if is_match(slot, template, wanted) {
-            return Some(place);
-        }
-    }
-    None
+    first_match(slots, template)
 }
 
 // Sets another mark.

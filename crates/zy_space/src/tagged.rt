@@ -1,118 +1,110 @@
 //! Tuples with tags, by which a search passes over those that don't match without looking at their fields.
 
-ghost use Rattle.std.specs.Prelude.{◌≡◌, fold};
+ghost use Rattle.std.specs.Prelude.{◌≡◌, List, true};
+ghost use Rattle.zy_tuple.specs.declared.values.Slot.{Slot};
 ghost use Rattle.zy_tuple.specs.Values.{matches as matched};
-ghost use Rattle.zy_space.specs.Tag.{with_part, tag_of_field, with_fields, with_slots, wanted_of_slot, tags_of, wanted_tags};
+ghost use Rattle.zy_space.specs.Tag.{with_part, hash_of_text, hash_of_field, tag_of_field, tag_at, tags_of, wanted_at, mask_at, wanted_tags};
 
+use std::array;
 use std::marker::Model;
-use zy_tuple::{Field, Slot, Template, Tuple, matches};
+use std::simd::prelude::*;
+use zy_tuple::{Field, Slot, Template, Tuple};
 
-/// A prime that spreads the parts of a tag over its bits (the one of the FNV hashes).
-const BASE: u32 = 16_777_619;
+/// 2^64 divided by the golden ratio. A product with it has the high bits that tell numbers apart best.
+const SPREAD: u64 = 11_400_714_819_323_198_485;
 
-fn with_part(tag: u32, part: u32) -> u32
-    ensures { result ≡ with_part tag part }
+fn with_part(hash: u64, part: u64) -> u64
+    ensures { result ≡ with_part hash part }
 {
-    tag.wrapping_mul(BASE).wrapping_add(part)
+    hash.wrapping_add(part).wrapping_mul(SPREAD)
 }
 
-fn text_tag(text: &[u8]) -> u32
-    ensures { result ≡ fold with_part 0 text.now }
+// Eight bytes are one part, those that are left are a part each.
+fn text_hash(text: &[u8]) -> u64
+    ensures { result ≡ hash_of_text text.now }
 {
-    let mut tag = 0;
-    for byte in text {
-        tag = with_part(tag, u32::from(*byte));
+    let (eights, rest) = text.as_chunks::<8>();
+    let mut hash = 0;
+    for eight in eights {
+        hash = with_part(hash, u64::from_le_bytes(*eight));
     }
-    tag
+    for byte in rest {
+        hash = with_part(hash, u64::from(*byte));
+    }
+    hash
 }
 
-fn field_tag(field: &Field) -> u32
-    ensures { result ≡ tag_of_field field.now }
+fn field_hash(field: &Field) -> u64
+    ensures { result ≡ hash_of_field field.now }
 {
     match field {
-        Field::Int(number) => (number.cast_unsigned() % (1 << 32)) as u32,
-        Field::Text(text) => text_tag(text.as_slice()),
+        Field::Int(number) => with_part(0, number.cast_unsigned()),
+        Field::Text(text) => text_hash(text.as_slice()),
     }
 }
 
-fn fields_tag(fields: &[Field]) -> u32
-    ensures { result ≡ with_fields 0 fields.now }
+fn field_tag(field: &Field) -> u8
+    ensures { result ≡ tag_of_field field.now }
 {
-    let mut tag = 0;
-    for field in fields {
-        tag = with_part(tag, field_tag(field));
-    }
-    tag
+    (field_hash(field) / (1 << 56)) as u8
 }
 
-fn wanted_of_slot(slot: &Slot) -> Option<u32>
-    ensures { result ≡ wanted_of_slot slot.now }
+fn tag_at(fields: &[Field], place: usize) -> u8
+    ensures { result ≡ tag_at fields.now place }
 {
-    match slot {
-        Slot::Any => None,
-        Slot::Is(field) => Some(field_tag(field)),
+    match fields.get(place) {
+        Some(field) => field_tag(field),
+        None => 0,
     }
 }
 
-fn slots_tag(slots: &[Slot]) -> Option<u32>
-    ensures { result ≡ with_slots 0 slots.now }
-{
-    let mut tag = 0;
-    for slot in slots {
-        tag = with_part(tag, wanted_of_slot(slot)?);
-    }
-    Some(tag)
-}
-
-/// The tags of a tuple: of its first field, and of the others.
-#[derive(Clone, Copy, Debug)]
-pub struct Tags {
-    pub first: u32,
-    pub others: u32,
-}
-
-fn tags_of(tuple: &Tuple) -> Tags
+fn tags_of(tuple: &Tuple) -> [u8; 8]
     ensures { result ≡ tags_of tuple.now }
 {
-    match tuple.fields() {
-        [] => Tags {
-            first: 0,
-            others: 0,
-        },
-        [first, others @ ..] => Tags {
-            first: field_tag(first),
-            others: fields_tag(others),
-        },
+    let fields = tuple.fields();
+    array::from_fn(|place| tag_at(fields, place))
+}
+
+fn wanted_at(slots: &[Slot], place: usize) -> u8
+    ensures { result ≡ wanted_at slots.now place }
+{
+    match slots.get(place) {
+        Some(Slot::Is(field)) => field_tag(field),
+        Some(Slot::Any) | None => 0,
     }
 }
 
-/// The tags of each match of a template, where no wildcard leaves them open.
+fn mask_at(slots: &[Slot], place: usize) -> u8
+    ensures { result ≡ mask_at slots.now place }
+{
+    match slots.get(place) {
+        Some(Slot::Is(_)) => u8::MAX,
+        Some(Slot::Any) | None => 0,
+    }
+}
+
+/// The tags that a template wants, and which of their bits count: all of them, or none where a tag is left open.
 #[derive(Clone, Copy, Debug)]
 pub struct WantedTags {
-    pub first: Option<u32>,
-    pub others: Option<u32>,
+    tags: [u8; 8],
+    masks: [u8; 8],
 }
 
 pub fn wanted_tags(template: &Template) -> WantedTags
     ensures { result ≡ wanted_tags template.now }
 {
-    match template.slots() {
-        [] => WantedTags {
-            first: None,
-            others: None,
-        },
-        [first, others @ ..] => WantedTags {
-            first: wanted_of_slot(first),
-            others: slots_tag(others),
-        },
+    let slots = template.slots();
+    WantedTags {
+        tags: array::from_fn(|place| wanted_at(slots, place)),
+        masks: array::from_fn(|place| mask_at(slots, place)),
     }
 }
 
-/// A tuple with its tags. Contracts see the tuple.
+/// A tuple with the tags of its fields. Contracts see the tuple.
 #[derive(Debug, Drop)]
 pub struct Tagged {
     tuple: Tuple,
-    tags: Tags,
+    tags: [u8; 8],
 }
 
 impl Model for Tagged {
@@ -142,19 +134,11 @@ impl Tagged {
         &self.tuple
     }
 
-    /// Whether the tuple matches the template with these tags.
-    pub fn matches(&self, template: &Template, wanted: WantedTags) -> bool
-        requires { wanted ≡ wanted_tags template.now }
-        ensures { result ≡ matched template.now self.now }
+    /// Whether the tags are as wanted, which says so of each match. All are compared at once.
+    pub fn may_match(&self, wanted: WantedTags) -> bool
+        ensures { (template : List Slot) → wanted ≡ wanted_tags template → matched template self.now ≡ true → result ≡ true }
     {
-        match wanted.first {
-            Some(tag) if tag != self.tags.first => return false,
-            _ => {}
-        }
-        match wanted.others {
-            Some(tag) if tag != self.tags.others => return false,
-            _ => {}
-        }
-        matches(template, &self.tuple)
+        let differences = u8x8::from_array(self.tags) ^ u8x8::from_array(wanted.tags);
+        (differences & u8x8::from_array(wanted.masks)).reduce_or() == 0
     }
 }

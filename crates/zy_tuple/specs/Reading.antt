@@ -64,6 +64,10 @@ abbrev pub prepend : ℕ → Option (List ℕ × List ℕ) → Option (List ℕ 
 prepend c None = None
 prepend c (Some read) = Some (c ∷ read.0, read.1)
 
+-- a character of a text that stands for itself
+abbrev pub is_plain : ℕ → Bool
+is_plain c = is_printable c && not (c == 34) && not (c == 92)
+
 -- the characters up to the closing quote (34), and what is left; behind a backslash (92) stands one of the two
 unfoldable pub quoted : Bool → List ℕ → Option (List ℕ × List ℕ)
 quoted behind_backslash [] = None

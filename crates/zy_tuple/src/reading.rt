@@ -1,14 +1,15 @@
 //! Operations and replies read from their texts, from left to right.
 
 ghost use Rattle.std.specs.Prelude.{◌≡◌, ◌<◌, ◌≤◌, ◌^◌, ℕ, pos, neg_ℤ, Result, Bool, true, false, List, length, take_while, Ok, IfOk, SomeIff, IsTrue};
+ghost use Rattle.std.specs.List.{prefix_len};
 ghost use Rattle.std.specs.Str.{all_ascii_digits};
 ghost use Rattle.std.specs.Str.Parse.{digits_value};
 ghost use Rattle.zy_tuple.specs.Values.{IsOp, IsReply};
 ghost use Rattle.zy_tuple.specs.Texts.{op_text, reply_text};
-ghost use Rattle.zy_tuple.specs.Reading.{Gives, in_token, is_numeral, int_of, int_at, quoted, short_text, begins_field, after_field, fields_at, open_at, space_at, list_at, field_at, slot_at, in_word, tuple_part, template_part, finished, op_read, got_read, reply_read};
+ghost use Rattle.zy_tuple.specs.Reading.{Gives, in_token, is_numeral, int_of, int_at, quoted, short_text, is_plain, begins_field, after_field, fields_at, open_at, space_at, list_at, field_at, slot_at, in_word, tuple_part, template_part, finished, op_read, got_read, reply_read};
 
 use crate::{Field, LineFault, Op, Reply, Slot, Template, Tuple};
-use std::alloc::Global;
+use std::alloc::{AllocError, Global};
 use zy_base::Bytes;
 
 /// How many fields a tuple or a template may have.
@@ -16,6 +17,9 @@ const FIELD_LIMIT: usize = 8;
 
 /// How many bytes a text field may have.
 const TEXT_LIMIT: usize = 64;
+
+/// How many bytes of a list are looked at for how much room it may take.
+const LOOK_AHEAD: usize = 64;
 
 // What stands between brackets: a field of a tuple or a slot of a template.
 trait Item: Sized + Drop {
@@ -129,16 +133,47 @@ fn number(line: &[u8]) -> Result<(Field, &[u8]), LineFault>
     }
 }
 
+fn is_plain(c: u8) -> bool
+    ensures { result ≡ is_plain c }
+{
+    matches!(c, 0x20..=0x7E) && c != b'"' && c != b'\\'
+}
+
+fn plain_len(line: &[u8]) -> usize
+    ensures { result ≡ prefix_len is_plain line.now }
+{
+    line.iter().take_while(|c| is_plain(**c)).count()
+}
+
+fn copy_with_room(alloc: Global, bytes: &[u8], room: usize) -> Result<Vec<u8>, AllocError>
+    ensures { IfOk result (λ copy. copy.items ≡ bytes.now) }
+{
+    let mut copy = Vec::with_capacity(alloc, room)?;
+    copy.extend_from_slice(bytes)?;
+    Ok(copy)
+}
+
 // The text behind an opening quote.
 #[tactic(auto, unfolding(crate::specs::Reading::quoted))]
 fn text_of(alloc: Global, line: &[u8]) -> Result<(Field, &[u8]), LineFault>
     ensures { Gives (λ x. (x.0, x.1.now)) result (short_text (quoted false line.now)) }
 {
-    let mut text = Vec::new(alloc);
-    let mut rest = line;
+    let (plain, mut rest) = line.split_at(plain_len(line));
+    if plain.len() > TEXT_LIMIT {
+        return Err(LineFault::Rule(5));
+    }
+    // Without escapes the text is just as long.
+    let room = match rest {
+        [b'"', ..] => plain.len(),
+        _ => TEXT_LIMIT,
+    };
+    let mut text = copy_with_room(alloc, plain, room)?;
     'characters: loop {
         let (character, after) = match rest {
-            [b'"', after @ ..] => return Ok((Field::Text(Bytes::from(text)), after)),
+            [b'"', after @ ..] => {
+                text.shrink_to_fit();
+                return Ok((Field::Text(Bytes::from(text)), after));
+            }
             [b'\\', c @ (b'"' | b'\\'), after @ ..] => (*c, after),
             [b'\\', ..] => return Err(LineFault::Rule(5)),
             [c @ 0x20..=0x7E, after @ ..] => (*c, after),
@@ -169,17 +204,32 @@ fn closes(line: &[u8]) -> Result<(bool, &[u8]), LineFault>
     }
 }
 
+// How many fields a short list has. Only a guess: it takes an escaped quote for the end of a text.
+fn likely_count(line: &[u8]) -> usize {
+    let mut count = 1;
+    let mut quoted = false;
+    for byte in &line[..line.len().min(LOOK_AHEAD)] {
+        match byte {
+            b'"' => quoted = !quoted,
+            b' ' if !quoted => count += 1,
+            b')' if !quoted => return count,
+            _ => {}
+        }
+    }
+    FIELD_LIMIT
+}
+
 fn items<T: Item>(alloc: Global, line: &[u8]) -> Result<(Vec<T>, &[u8]), LineFault>
     ensures { Gives (λ x. (x.0.items, x.1.now)) result (fields_at T.item_at 8 line.now) }
 {
-    // A script keeps each of its operations, so a list takes no spare room.
-    let mut items = Vec::with_capacity(alloc, 1)?;
+    let mut items = Vec::with_capacity(alloc, likely_count(line))?;
     let mut rest = line;
     for place in 0..FIELD_LIMIT {
         let (item, after) = T::read(alloc, rest)?;
         items.push(item)?;
         let (ends, after) = closes(after)?;
         if ends {
+            // A script keeps each of its operations, so a list keeps no spare room.
             items.shrink_to_fit();
             return Ok((items, after));
         }
