@@ -1,0 +1,135 @@
+ghost use Rattle.std.specs.Prelude.{◌≡◌, ◌+◌, ◌<◌, ◌≤◌, ◌^◌, ◌-◌, length, option_copied, option_map, OnOk, OnErr, IfErr, None};
+ghost use Rattle.zy_chain.specs.Entries.{IsEntryInRange};
+ghost use Rattle.zy_parts.specs.Signing.{IsSignedInRange};
+ghost use Rattle.zy_parts.specs.Statements.{IsAskInRange, IsOrderInRange};
+ghost use Rattle.zy_admit.specs.Orders.{no_orders, stored_in, with_order, without_order, orders_above, orders_up_to, gap_above};
+ghost use Rattle.zy_admit.specs.Judging.{judge_in};
+
+use crate::judging::judge_new;
+use crate::queue::{drop_front, fill_up_to, first_filled};
+use crate::{Admit, Position};
+use std::alloc::Global;
+use std::collections::VecDeque;
+use std::marker::Model;
+use zy_base::{Cause, Place, Want};
+use zy_frames::OrderFrame;
+use zy_parts::{Ask, Order, Signed};
+
+/// The orders of the active view, executed or held, above the stable place. Contracts see that place and a slot for
+/// each place above it.
+#[derive(Debug, Drop)]
+pub struct Admission {
+    base: Place,
+    slots: VecDeque<Option<OrderFrame>>,
+}
+
+impl Model for Admission {
+    ghost use Rattle.zy_admit.specs.Orders.{Orders};
+
+    ghost Value = { Orders };
+
+    ghost view = { λ a. record { base = a.base.0; slots = a.slots.items } };
+}
+
+impl Admission {
+    /// No orders, above the empty history. Takes no memory.
+    pub fn start(alloc: Global) -> Admission
+        ensures { result ≡ no_orders 0 }
+    {
+        Admission {
+            base: Place(0),
+            slots: VecDeque::new(alloc),
+        }
+    }
+
+    /// The order that is kept at a place.
+    pub fn stored(&self, place: Place) -> Option<&OrderFrame>
+        ensures { option_copied result ≡ stored_in self.now place.0 }
+    {
+        if place.0 <= self.base.0 {
+            return None;
+        }
+        match self.slots.get((place.0 - self.base.0 - 1) as usize) {
+            Some(Some(order)) => Some(order),
+            _ => None,
+        }
+    }
+
+    /// Keeps an order at its place, above the stable one. After `Want` all is as before, and the order comes back.
+    pub fn put(&mut self, frame: OrderFrame) -> Result<(), (OrderFrame, Want)>
+        requires above { self.old.base < frame.order.stmt.place.0 }
+        requires free { stored_in self.old frame.order.stmt.place.0 ≡ None }
+        ensures ok { OnOk result (self.new ≡ with_order self.old frame) }
+        ensures err { OnErr result (self.new ≡ self.old) }
+        ensures back { IfErr result (λ e. e.0 ≡ frame) }
+    {
+        let at = (frame.order.stmt.place.0 - self.base.0 - 1) as usize;
+        match fill_up_to(&mut self.slots, at + 1) {
+            Ok(()) => {}
+            Err(_) => return Err((frame, Want)),
+        }
+        self.slots[at] = Some(frame);
+        Ok(())
+    }
+
+    /// How many places lie between a place and the least order that is held above it. `None` exactly where no order
+    /// is held above it, or one stands at the next place.
+    pub fn gap(&self, place: Place) -> Option<u64>
+        requires { self.now.base ≤ place.0 }
+        ensures { result ≡ gap_above place.0 self.now }
+    {
+        match first_filled(&self.slots, (place.0 - self.base.0) as usize) {
+            None => None,
+            Some(0) => None,
+            Some(places) => Some(places as u64),
+        }
+    }
+
+    /// What is due to an order: it is next, held, refused, or evidence against the primary. Takes no memory.
+    pub fn judge(&self, order: &Order, ask: &Signed<Ask>, now: &Position) -> Admit
+        requires order { IsOrderInRange order.now }
+        requires ask { IsSignedInRange IsAskInRange ask.now }
+        ensures { result ≡ judge_in self.now order.now ask.now now.now }
+    {
+        match self.stored(order.place) {
+            Some(kept) if kept.order.stmt == *order => Admit::Refused(Cause::Repeat),
+            Some(_) => Admit::Evidence,
+            None => judge_new(order, ask, now),
+        }
+    }
+
+    /// Drops the order that is held at a place. Takes no memory.
+    pub fn drop_at(&mut self, place: Place)
+        requires { self.old.base < place.0 }
+        ensures { self.new ≡ without_order self.old place.0 }
+    {
+        let at = (place.0 - self.base.0 - 1) as usize;
+        if at < self.slots.len() {
+            self.slots[at] = None;
+        }
+    }
+
+    /// Drops the orders above a place: a replica that leaves its view keeps what it has executed. Takes no memory.
+    pub fn cut_above(&mut self, place: Place)
+        ensures { self.new ≡ orders_up_to place.0 self.old }
+    {
+        self.slots
+            .truncate(place.0.saturating_sub(self.base.0) as usize);
+    }
+
+    /// Drops the orders up to a place, which is the stable one from now on. Takes no memory.
+    pub fn cut_below(&mut self, place: Place)
+        requires { self.old.base ≤ place.0 }
+        ensures { self.new ≡ orders_above place.0 self.old }
+    {
+        drop_front(&mut self.slots, place.0 - self.base.0);
+        self.base = place;
+    }
+
+    /// Drops all orders. Takes no memory.
+    pub fn clear(&mut self)
+        ensures { self.new ≡ no_orders self.old.base }
+    {
+        self.slots.clear();
+    }
+}

@@ -1,0 +1,9 @@
+//! The orders of the active view: which of them is taken, held or refused, and which are kept.
+#![tactic(auto)]
+
+mod admission;
+mod judging;
+mod queue;
+
+pub use admission::Admission;
+pub use judging::{Admit, Position};
