@@ -1,0 +1,8 @@
+pub mod State
+pub mod Deeds
+pub mod Running
+pub mod Requests
+pub mod Orders
+pub mod Holes
+pub mod Screening
+pub mod Step

@@ -1,0 +1,114 @@
+-- What a replica is, as far as its answers tell.
+use Rattle.std.specs.Prelude.{◌≡◌, ℕ, ◌+◌, ◌-◌, ◌*◌, ◌%◌, ◌^◌, min, nat_eq, Bool, true, false, if◌then◌else◌, List, [], slice_index_or, slice_set, replicate, Option, Some, None, option_map}
+use Rattle.zy_base.specs.Machine.{Rules}
+use Rattle.zy_base.specs.Step.{view_of}
+use Rattle.zy_base.specs.declared.counts.Counts.{Counts}
+use Rattle.zy_base.specs.declared.ids.ReplicaId.{ReplicaId}
+use Rattle.zy_base.specs.declared.ids.ClientId.{ClientId}
+use Rattle.zy_base.specs.declared.ids.View.{View}
+use Rattle.zy_base.specs.declared.ids.Party.{Party}
+use Rattle.zy_base.specs.declared.ids.Party.TheVariants.{Replica}
+use Rattle.zy_base.specs.declared.step.Mode.{Mode}
+use Rattle.zy_base.specs.declared.step.Mode.TheVariants.{Active, Leaving}
+use Rattle.zy_base.specs.declared.step.Stood.{Stood}
+use Rattle.zy_base.specs.declared.step.Timers.{Timers}
+use Rattle.zy_lms.specs.KeyState.{KeyState}
+use Rattle.zy_lms.specs.Height.{levels_of}
+use Rattle.zy_seal.specs.Keys.{Keys}
+use Rattle.zy_seal.specs.Sealing.{SealerState}
+use Rattle.zy_parts.specs.declared.signed.Signed.{Signed}
+use Rattle.zy_parts.specs.declared.statements.Spec.{Spec}
+use Rattle.zy_parts.specs.declared.statements.Hole.{Hole}
+use Rattle.zy_exec.specs.Replay.{origin}
+use Rattle.zy_exec.specs.Kept.{Kept, last_place, now_of, known_in}
+use Rattle.zy_admit.specs.Orders.{Orders, no_orders}
+
+pub record State (S : Type 0) : Type 0 where
+  pub me : ReplicaId
+  pub counts : Counts
+  -- the public keys of the group, and the own secret one
+  pub keys : Keys
+  pub key : KeyState
+  pub mode : Mode
+  -- the last view in which it was active
+  pub last_view : View
+  -- its history, as far as it is kept
+  pub kept : Kept S
+  -- the orders above the stable place, executed or held
+  pub orders : Orders
+  -- what it asked the primary for last
+  pub hole : Option (Signed Hole)
+  -- its last response to each client
+  pub specs : List (Option (Signed Spec))
+
+-- a replica that begins
+abbrev pub start_of : {S : Type 0} → Rules S → ℕ → ReplicaId → Counts → Keys → KeyState → State S
+start_of R interval me counts keys key =
+    record {
+      me = me;
+      counts = counts;
+      keys = keys;
+      key = key;
+      mode = Active (record { 0 = 0 });
+      last_view = record { 0 = 0 };
+      kept = record { interval = interval; base = origin R; entries = [] };
+      orders = no_orders 0;
+      hole = None;
+      specs = replicate 64 None;
+    }
+
+-- ---- what is read of it
+
+abbrev pub own_view : {S : Type 0} → State S → ℕ
+own_view s = (view_of s.mode).0
+
+abbrev pub is_leaving_mode : Mode → Bool
+is_leaving_mode (Active view) = false
+is_leaving_mode (Leaving view) = true
+
+abbrev pub is_leaving : {S : Type 0} → State S → Bool
+is_leaving s = is_leaving_mode s.mode
+
+-- the primary of a view
+abbrev pub primary_of : Counts → ℕ → Party
+primary_of counts view = Replica (record { 0 = view % counts.n })
+
+abbrev pub is_primary : {S : Type 0} → State S → Bool
+is_primary s = nat_eq (own_view s % s.counts.n) s.me.0
+
+-- the last place that may be ordered
+abbrev pub window_of : {S : Type 0} → State S → ℕ
+window_of s = min (s.orders.base + 2 * s.kept.interval) (2 ^ 62 - 1)
+
+abbrev pub stood_of : {S : Type 0} → Rules S → State S → Stood
+stood_of R s = record { mode = s.mode; length = record { 0 = last_place s.kept }; head = (now_of R s.kept).head }
+
+-- how many statements it can still sign
+abbrev pub leaves_of : {S : Type 0} → State S → ℕ
+leaves_of s = 2 ^ levels_of s.key.height - s.key.next
+
+abbrev pub sealer_of : {S : Type 0} → State S → SealerState
+sealer_of s = record { me = Replica s.me; key = s.key }
+
+-- with one leaf spent
+abbrev pub spent : {S : Type 0} → State S → State S
+spent s = record s { key = record s.key { next = s.key.next + 1 } }
+
+-- the own last response to a client
+abbrev pub spec_to : {S : Type 0} → State S → ClientId → Option (Signed Spec)
+spec_to s client = slice_index_or s.specs client.0 None
+
+abbrev pub with_spec : {S : Type 0} → State S → Signed Spec → State S
+with_spec s spec = record s { specs = slice_set s.specs spec.stmt.client.0 (Some spec) }
+
+-- the timers that are to run
+abbrev pub has_hole : Option (Signed Hole) → Bool
+has_hole None = false
+has_hole (Some hole) = true
+
+abbrev pub timers_in : Mode → Option (Signed Hole) → Timers
+timers_in (Active view) hole = record { request = has_hole hole; change = false; answer = false }
+timers_in (Leaving view) hole = record { request = false; change = true; answer = false }
+
+abbrev pub timers_of : {S : Type 0} → State S → Timers
+timers_of s = timers_in s.mode s.hole

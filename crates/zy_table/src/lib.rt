@@ -1,0 +1,7 @@
+//! The answer table: what each event makes of a replica, as definitions over an abstract state, and the types of
+//! what a step does. The code that follows the table stands in the crates above.
+#![tactic(auto)]
+
+mod deeds;
+
+pub use deeds::{Act, Body, Deeds, Gains, Got, Remark, Sent, To};
