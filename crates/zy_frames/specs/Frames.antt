@@ -13,6 +13,7 @@ use Rattle.zy_parts.specs.declared.statements.Order.{Order}
 use Rattle.zy_parts.specs.declared.statements.Spec.{Spec}
 use Rattle.zy_parts.specs.declared.statements.Confirm.{Confirm}
 use Rattle.zy_parts.specs.Statements.{ask_fields, IsAskInRange, order_fields, IsOrderInRange, spec_fields, IsSpecInRange, local_fields, IsLocalInRange, confirm_fields, IsConfirmInRange, hole_fields, IsHoleInRange, hate_fields, IsHateInRange, check_fields, IsCheckInRange}
+use Rattle.zy_parts.specs.Numbers as numbers
 use Rattle.zy_parts.specs.Signing.{signed, IsSignedInRange, part_of}
 use Rattle.zy_frames.specs.declared.frame.OrderFrame.{OrderFrame}
 use Rattle.zy_frames.specs.declared.frame.Frame.{Frame}
@@ -128,17 +129,17 @@ frame_in bytes = do
 
 abbrev pub part_of_optional : Option (Signed Order) → List Part
 part_of_optional None = []
-part_of_optional (Some order) = part_of 2 order_fields order ∷ []
+part_of_optional (Some order) = part_of numbers.order order_fields order ∷ []
 
 -- what is signed in a frame, from the left
 abbrev pub parts_of : Frame → List Part
-parts_of (frames.Request ask) = part_of 1 ask_fields ask ∷ []
-parts_of (frames.Order both) = part_of 2 order_fields both.order ∷ part_of 1 ask_fields both.ask ∷ []
-parts_of (frames.SpecResponse spec reply with_order) = part_of 3 spec_fields spec ∷ part_of_optional with_order
-parts_of (frames.Commit specs) = map (part_of 3 spec_fields) specs
-parts_of (frames.LocalCommit local) = part_of 4 local_fields local ∷ []
-parts_of (frames.ConfirmReq confirm ask) = part_of 5 confirm_fields confirm ∷ part_of 1 ask_fields ask ∷ []
-parts_of (frames.FillHole hole) = part_of 6 hole_fields hole ∷ []
-parts_of (frames.Hate hate) = part_of 7 hate_fields hate ∷ []
-parts_of (frames.Pom first second) = part_of 2 order_fields first ∷ part_of 2 order_fields second ∷ []
-parts_of (frames.Checkpoint check) = part_of 8 check_fields check ∷ []
+parts_of (frames.Request ask) = part_of numbers.ask ask_fields ask ∷ []
+parts_of (frames.Order both) = part_of numbers.order order_fields both.order ∷ part_of numbers.ask ask_fields both.ask ∷ []
+parts_of (frames.SpecResponse spec reply with_order) = part_of numbers.spec spec_fields spec ∷ part_of_optional with_order
+parts_of (frames.Commit specs) = map (part_of numbers.spec spec_fields) specs
+parts_of (frames.LocalCommit local) = part_of numbers.local local_fields local ∷ []
+parts_of (frames.ConfirmReq confirm ask) = part_of numbers.confirm confirm_fields confirm ∷ part_of numbers.ask ask_fields ask ∷ []
+parts_of (frames.FillHole hole) = part_of numbers.hole hole_fields hole ∷ []
+parts_of (frames.Hate hate) = part_of numbers.hate hate_fields hate ∷ []
+parts_of (frames.Pom first second) = part_of numbers.order order_fields first ∷ part_of numbers.order order_fields second ∷ []
+parts_of (frames.Checkpoint check) = part_of numbers.check check_fields check ∷ []

@@ -4,7 +4,6 @@ use std::process::Abort;
 use std::test::Fail;
 use zy_base::{Bytes, ClientId, Digest, FrameFault, Party, Place, ReplicaId, Stamp, View};
 use zy_parts::{Ask, Order, Part, Signed};
-use zy_wire::MAX_FRAME;
 
 // A frame.
 struct Example {
@@ -263,7 +262,7 @@ fn first_two_bytes(rt: HostRuntime) -> Result<(), Fail> {
     ] {
         assert_eq!(rt; fault_of(rt.alloc(), bytes), Some(want), "at {bytes:?}");
     }
-    let long = vec![in rt.alloc(); 0; MAX_FRAME + 1]?;
+    let long = vec![in rt.alloc(); 0; 4_194_305]?;
     assert_eq!(rt; fault_of(rt.alloc(), &long), Some(FrameFault::TooLong));
     Ok(())
 }

@@ -1,7 +1,10 @@
 -- Items that are read or written one after the other, as a loop does.
 use Rattle.std.proofs.Common.{◌≡◌, ℕ, suc, ◌-◌, ◌+◌, ◌<◌, List, [], ◌∷◌, ◌++◌, Result, Ok, Err, refl, sym, ap, ◌∙◌, append_assoc, arith}
 use Rattle.zy_base.specs.declared.frame_fault.FrameFault.{FrameFault}
-use Rattle.zy_wire.specs.Spelling.{Spelling, ◌>>=◌, repeated_at}
+use Rattle.zy_wire.specs.Spelling.{Spelling, ◌>>=◌, repeated_at, repeated}
+use Rattle.zy_parts.specs.declared.fault.GetFault.{GetFault}
+use Rattle.zy_parts.specs.declared.fault.GetFault.TheVariants.{Frame, Want}
+use Rattle.zy_parts.specs.Getting.{IsFaultAt}
 
 -- what was read before, and what is still read
 abbrev pub with_front : {A : Type 0} → List A → Result (List A × List ℕ) FrameFault → Result (List A × List ℕ) FrameFault
@@ -18,3 +21,11 @@ module _ {A : Type 0} (S : Spelling A) where
       let k : count - i ≡ suc (count - (i + 1)) = omega arith in
       let one : with_front front (repeated_at S (count - i) bytes) ≡ with_front (front ++ x ∷ []) (repeated_at S (count - (i + 1)) after) = rw (k, h) (regroup front x (repeated_at S (count - (i + 1)) after)) in
       sym one ∙ so_far
+
+  pub item_fails : (e : GetFault) (front : List A) (count i : ℕ) (bytes old : List ℕ) → i < count → IsFaultAt S bytes e
+      → with_front front (repeated_at S (count - i) bytes) ≡ repeated_at S count old → IsFaultAt (repeated S count) old e
+  item_fails Want front count i bytes old lt failed so_far = tt
+  item_fails (Frame fault) front count i bytes old lt failed so_far =
+      let k : count - i ≡ suc (count - (i + 1)) = omega arith in
+      let one : with_front front (repeated_at S (count - i) bytes) ≡ Err fault = rw (k, failed) refl in
+      sym so_far ∙ one

@@ -1,7 +1,7 @@
-ghost use Rattle.std.specs.Prelude.{◌≡◌, ◌<◌, ◌^◌, ◌++◌, List, [], length, All, OnOk};
+ghost use Rattle.std.specs.Prelude.{◌≡◌, ◌<◌, ◌^◌, ◌++◌, List, [], length, All, OnOk, IfOk};
 ghost use Rattle.std.specs.List.{AllZip};
 ghost use Rattle.zy_wire.specs.Spelling.{repeated};
-ghost use Rattle.zy_wire.specs.Fields.{list, list_bytes};
+ghost use Rattle.zy_wire.specs.Fields.{list, list_bytes, FitsList};
 ghost use Rattle.zy_parts.specs.Getting.{Gets, Took};
 
 use crate::{GetFault, Spelled};
@@ -89,7 +89,8 @@ impl<T: Spelled> Items<T> {
     /// the bytes.
     #[tactic(auto, unfolding(zy_wire::specs::Fields::list_at))]
     pub fn get(alloc: Global, cut: &mut Cut<'_>, min: u16, max: u16) -> Result<Items<T>, GetFault>
-        ensures { Gets (list min max T.spelling) cut.old result cut.new }
+        ensures read { Gets (list min max T.spelling) cut.old result cut.new }
+        ensures in_range { IfOk result (FitsList T.in_range min max) }
     {
         let mut ahead = cut.ahead();
         let count = ahead.count(min, max)?;
@@ -101,7 +102,9 @@ impl<T: Spelled> Items<T> {
 
 // So many items in a row. After a refusal the reader stands anywhere.
 fn in_a_row<T: Spelled>(alloc: Global, cut: &mut Cut<'_>, count: u16) -> Result<Vec<T>, GetFault>
-    ensures { Took (λ v. v.items) (repeated T.spelling count) cut.old result cut.new }
+    ensures read { Took (λ v. v.items) (repeated T.spelling count) cut.old result cut.new }
+    ensures count { IfOk result (λ v. length v.items ≡ count) }
+    ensures in_range { IfOk result (λ v. All T.in_range v.items) }
 {
     let mut items = Vec::with_capacity(alloc, count as usize)?;
     for _ in 0..count {

@@ -3,6 +3,7 @@
 
 mod fault;
 mod items;
+mod laws;
 mod reports;
 mod signed;
 mod statement;
@@ -10,6 +11,7 @@ mod statements;
 
 pub use fault::GetFault;
 pub use items::Items;
+pub use laws::{one_statement, spellings};
 pub use reports::{Began, Change, Fetch, New, Told};
 pub use signed::{Part, Signed, push_parts, signed_text};
 pub use statement::{Spelled, Statement};

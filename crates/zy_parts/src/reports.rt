@@ -1,4 +1,5 @@
-ghost use Rattle.std.specs.Prelude.{◌≡◌, ◌++◌, OnOk};
+ghost use Rattle.zy_parts.specs.Numbers as numbers;
+ghost use Rattle.std.specs.Prelude.{◌≡◌, ◌++◌, OnOk, IfOk};
 ghost use Rattle.zy_wire.specs.Fields.{FitsList, FitsOptional};
 ghost use Rattle.zy_parts.specs.Getting.{Gets};
 ghost use Rattle.zy_parts.specs.Signing.{IsSignedInRange};
@@ -209,7 +210,8 @@ fn put_specs(specs: &Option<Items<Signed<Spec>>>, out: &mut Put) -> Result<(), W
 
 #[tactic(auto, unfolding(zy_wire::specs::Fields::optional_at))]
 fn get_specs(alloc: Global, cut: &mut Cut<'_>) -> Result<Option<Items<Signed<Spec>>>, GetFault>
-    ensures { Gets certificate cut.old result cut.new }
+    ensures read { Gets certificate cut.old result cut.new }
+    ensures in_range { IfOk result (FitsOptional (FitsList (IsSignedInRange IsSpecInRange) 1 16)) }
 {
     let mut ahead = cut.ahead();
     let specs = if ahead.flag()? {
@@ -276,7 +278,7 @@ impl Spelled for New {
 }
 
 impl Statement for Change {
-    ghost its_number = { 9 };
+    ghost its_number = { numbers.change };
 
     fn number() -> u8 {
         9
@@ -284,7 +286,7 @@ impl Statement for Change {
 }
 
 impl Statement for New {
-    ghost its_number = { 10 };
+    ghost its_number = { numbers.new };
 
     fn number() -> u8 {
         10
@@ -292,7 +294,7 @@ impl Statement for New {
 }
 
 impl Statement for Began {
-    ghost its_number = { 11 };
+    ghost its_number = { numbers.began };
 
     fn number() -> u8 {
         11
@@ -300,7 +302,7 @@ impl Statement for Began {
 }
 
 impl Statement for Fetch {
-    ghost its_number = { 12 };
+    ghost its_number = { numbers.fetch };
 
     fn number() -> u8 {
         12

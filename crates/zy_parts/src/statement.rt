@@ -1,4 +1,4 @@
-ghost use Rattle.std.specs.Prelude.{◌≡◌, ℕ, ◌++◌, OnOk};
+ghost use Rattle.std.specs.Prelude.{◌≡◌, ℕ, ◌++◌, OnOk, IfOk};
 ghost use Rattle.zy_wire.specs.Spelling.{Spelling, IsExact};
 ghost use Rattle.zy_parts.specs.Getting.{Gets};
 
@@ -22,7 +22,8 @@ pub trait Spelled: Drop {
 
     /// Reads a value at the front. A refusal leaves all the bytes.
     fn get(alloc: Global, cut: &mut Cut<'_>) -> Result<Self, GetFault>
-        ensures { Gets spelling cut.old result cut.new };
+        ensures read { Gets spelling cut.old result cut.new }
+        ensures in_range { IfOk result in_range };
 
     // What is read was spelled so, and what is spelled is read again.
     ghost exact: { IsExact spelling };

@@ -1,3 +1,4 @@
+ghost use Rattle.zy_parts.specs.Numbers as numbers;
 ghost use Rattle.std.specs.Prelude.{◌≡◌};
 ghost use Rattle.zy_parts.specs.Statements.{ask_fields, IsAskInRange, order_fields, IsOrderInRange, spec_fields, IsSpecInRange, local_fields, IsLocalInRange, confirm_fields, IsConfirmInRange, hole_fields, IsHoleInRange, hate_fields, IsHateInRange, check_fields, IsCheckInRange};
 ghost use Rattle.zy_parts.specs.Exact.{ask-exact, ask-in_range, order-exact, order-in_range, spec-exact, spec-in_range, local-exact, local-in_range, confirm-exact, confirm-in_range, hole-exact, hole-in_range, hate-exact, hate-in_range, check-exact, check-in_range};
@@ -101,7 +102,7 @@ impl Spelled for Ask {
 }
 
 impl Statement for Ask {
-    ghost its_number = { 1 };
+    ghost its_number = { numbers.ask };
 
     fn number() -> u8 {
         1
@@ -140,7 +141,7 @@ impl Spelled for Order {
 }
 
 impl Statement for Order {
-    ghost its_number = { 2 };
+    ghost its_number = { numbers.order };
 
     fn number() -> u8 {
         2
@@ -183,7 +184,7 @@ impl Spelled for Spec {
 }
 
 impl Statement for Spec {
-    ghost its_number = { 3 };
+    ghost its_number = { numbers.spec };
 
     fn number() -> u8 {
         3
@@ -220,7 +221,7 @@ impl Spelled for Local {
 }
 
 impl Statement for Local {
-    ghost its_number = { 4 };
+    ghost its_number = { numbers.local };
 
     fn number() -> u8 {
         4
@@ -255,7 +256,7 @@ impl Spelled for Confirm {
 }
 
 impl Statement for Confirm {
-    ghost its_number = { 5 };
+    ghost its_number = { numbers.confirm };
 
     fn number() -> u8 {
         5
@@ -295,7 +296,7 @@ impl Spelled for Hole {
 }
 
 impl Statement for Hole {
-    ghost its_number = { 6 };
+    ghost its_number = { numbers.hole };
 
     fn number() -> u8 {
         6
@@ -328,7 +329,7 @@ impl Spelled for Hate {
 }
 
 impl Statement for Hate {
-    ghost its_number = { 7 };
+    ghost its_number = { numbers.hate };
 
     fn number() -> u8 {
         7
@@ -367,7 +368,7 @@ impl Spelled for Check {
 }
 
 impl Statement for Check {
-    ghost its_number = { 8 };
+    ghost its_number = { numbers.check };
 
     fn number() -> u8 {
         8

@@ -1,7 +1,7 @@
-ghost use Rattle.std.specs.Prelude.{◌≡◌, ℕ, List, [], length, IfOk, ◌+◌, if◌then◌else◌};
+ghost use Rattle.std.specs.Prelude.{◌≡◌, ℕ, ◌+◌, ◌^◌, ◌<◌, ◌≤◌, List, [], length, IfOk, if◌then◌else◌};
 ghost use Rattle.std.specs.Int.{w8, w16, w32, w64};
 ghost use Rattle.zy_wire.specs.Spelling.{word, exactly, number, ended};
-ghost use Rattle.zy_wire.specs.Fields.{u62, digest, party, bytes16, bytes32};
+ghost use Rattle.zy_wire.specs.Fields.{u62, digest, party, IsParty, bytes16, bytes32};
 ghost use Rattle.zy_wire.specs.Reading.{Reads, ReadsBy};
 
 use std::marker::Model;
@@ -25,13 +25,6 @@ impl<'a> Cut<'a> {
         ensures { result ≡ bytes.now }
     {
         Cut { left: bytes }
-    }
-
-    /// All that is left.
-    pub fn rest(&self) -> &'a [u8]
-        ensures { result.now ≡ self.now }
-    {
-        self.left
     }
 
     /// Another reader of the bytes that are left. What it reads is read from this one only once it takes its place.
@@ -91,7 +84,8 @@ impl<'a> Cut<'a> {
 
     #[tactic(auto, unfolding(crate::specs::Fields::digest_at))]
     pub fn digest(&mut self) -> Result<Digest, FrameFault>
-        ensures { Reads digest self.old result self.new }
+        ensures read { Reads digest self.old result self.new }
+        ensures in_range { IfOk result (λ d. length d.0 ≡ 32) }
     {
         let bytes = self.take(32)?;
         let mut digest = [0; 32];
@@ -102,7 +96,8 @@ impl<'a> Cut<'a> {
     /// A number of 64 bits below 2^62: a view, a place or a stamp. `Range` where it is below `least` or too large.
     #[tactic(auto, unfolding(crate::specs::Spelling::number_at))]
     pub fn u62(&mut self, least: u64) -> Result<u64, FrameFault>
-        ensures { Reads (u62 least) self.old result self.new }
+        ensures read { Reads (u62 least) self.old result self.new }
+        ensures in_range { IfOk result (λ n. (least ≤ n) × (n < 2 ^ 62)) }
     {
         let mut ahead = self.ahead();
         let number = ahead.u64()?;
@@ -116,7 +111,8 @@ impl<'a> Cut<'a> {
     /// The count of a list: `Range` where it isn't from `min` to `max`.
     #[tactic(auto, unfolding(crate::specs::Spelling::number_at))]
     pub fn count(&mut self, min: u16, max: u16) -> Result<u16, FrameFault>
-        ensures { Reads (number w16 min (max + 1)) self.old result self.new }
+        ensures read { Reads (number w16 min (max + 1)) self.old result self.new }
+        ensures in_range { IfOk result (λ n. (min ≤ n) × (n ≤ max)) }
     {
         let mut ahead = self.ahead();
         let count = ahead.u16()?;
@@ -145,7 +141,8 @@ impl<'a> Cut<'a> {
     /// A party's five bytes: `Range` where the first is neither 0 nor 1, or a replica is above 255.
     #[tactic(auto, unfolding(crate::specs::Fields::party_at))]
     pub fn party(&mut self) -> Result<Party, FrameFault>
-        ensures { Reads party self.old result self.new }
+        ensures read { Reads party self.old result self.new }
+        ensures in_range { IfOk result IsParty }
     {
         let mut ahead = self.ahead();
         let kind = ahead.u8()?;
@@ -165,7 +162,8 @@ impl<'a> Cut<'a> {
     /// A length of two bytes and that many bytes: `Range` where the length is above `max`.
     #[tactic(auto, unfolding(crate::specs::Fields::bytes_at, crate::specs::Spelling::number_at))]
     pub fn bytes16(&mut self, max: usize) -> Result<&'a [u8], FrameFault>
-        ensures { ReadsBy (λ s. s.now) (bytes16 max) self.old result self.new }
+        ensures read { ReadsBy (λ s. s.now) (bytes16 max) self.old result self.new }
+        ensures in_range { IfOk result (λ s. length s.now ≤ max) }
     {
         let mut ahead = self.ahead();
         let len = ahead.u16()? as usize;
@@ -180,7 +178,8 @@ impl<'a> Cut<'a> {
     /// The same with a length of four bytes.
     #[tactic(auto, unfolding(crate::specs::Fields::bytes_at, crate::specs::Spelling::number_at))]
     pub fn bytes32(&mut self, max: usize) -> Result<&'a [u8], FrameFault>
-        ensures { ReadsBy (λ s. s.now) (bytes32 max) self.old result self.new }
+        ensures read { ReadsBy (λ s. s.now) (bytes32 max) self.old result self.new }
+        ensures in_range { IfOk result (λ s. length s.now ≤ max) }
     {
         let mut ahead = self.ahead();
         let len = ahead.u32()? as usize;

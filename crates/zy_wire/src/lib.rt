@@ -3,11 +3,13 @@
 #![tactic(auto)]
 
 mod cut;
+mod exact;
 mod kind;
 mod party;
 mod put;
 
 pub use cut::Cut;
+pub use exact::fields;
 pub use kind::{MAX_FRAME, MAX_KIND, VERSION, kind_of};
 pub use party::party_array;
 pub use put::Put;

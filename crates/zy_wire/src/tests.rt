@@ -22,6 +22,15 @@ fn kinds(rt: HostRuntime) {
     }
 }
 
+#[test]
+fn longest_frame(rt: HostRuntime) -> Result<(), Fail> {
+    let mut bytes = vec![in rt.alloc(); 1; 4_194_305]?;
+    assert_eq!(rt; kind_of(&bytes), Err(FrameFault::TooLong));
+    bytes.truncate(4_194_304);
+    assert_eq!(rt; kind_of(&bytes), Ok(1));
+    Ok(())
+}
+
 const NUMBERS: &[u8] = b"\x07\x01\x02\x00\x01\x02\x03\x01\x02\x03\x04\x05\x06\x07\x08";
 
 const PARTIES: &[u8] = b"\x00\x00\x00\x00\xff\x01\xff\xff\xff\xff";
