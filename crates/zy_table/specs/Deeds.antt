@@ -1,17 +1,17 @@
 -- What a step does, and what others see of it.
-use Rattle.std.specs.Prelude.{ℕ, ◌+◌, nat_eq, Bool, not, List, [], ◌∷◌, ◌++◌, map, filter, Option, Some, None}
-use Rattle.std.specs.List.{flat_map}
-use Rattle.zy_base.specs.Machine.{Rules}
-use Rattle.zy_base.specs.declared.bytes.Bytes as bytes
+use Rattle.std.specs.Prelude.{ℕ, ◌+◌, nat_eq, Bool, true, false, if◌then◌else◌, List, [], ◌∷◌, ◌++◌, map, filter, Option, Some, None}
+use Rattle.std.specs.List.{flat_map, range_with_len}
 use Rattle.zy_base.specs.declared.cause.Cause.{Cause}
 use Rattle.zy_base.specs.declared.ids.ReplicaId.{ReplicaId}
 use Rattle.zy_base.specs.declared.ids.Party.{Party}
 use Rattle.zy_base.specs.declared.ids.Party.TheVariants.{Replica}
 use Rattle.zy_base.specs.declared.step.Answer.{Answer}
-use Rattle.zy_base.specs.declared.step.Answer.TheVariants.{Taken, Refused}
+use Rattle.zy_base.specs.declared.step.Answer.TheVariants.{Taken, Held, Refused}
 use Rattle.zy_base.specs.declared.step.Spoken.{Spoken}
+use Rattle.zy_parts.specs.Numbers as numbers
 use Rattle.zy_parts.specs.Signing.{text_of}
 use Rattle.zy_parts.specs.Statements.{order_fields, spec_fields, hole_fields}
+use Rattle.zy_frames.specs.declared.frame.Frame.{Frame}
 use Rattle.zy_frames.specs.Frames.{spelling}
 use Rattle.zy_table.specs.declared.deeds.To.{To}
 use Rattle.zy_table.specs.declared.deeds.To.TheVariants.{All, One}
@@ -28,13 +28,17 @@ use Rattle.zy_table.specs.State.{State}
 abbrev pub no_deeds : Deeds
 no_deeds = record { sent = []; acts = [] }
 
-abbrev pub with_sent : Deeds → To → List Sent → Deeds
-with_sent d to frames = d
-
 -- a state on the way through a step, with what the step did so far
 pub record Going (S : Type 0) : Type 0 where
   pub state : State S
   pub deeds : Deeds
+
+-- with one more frame sent, and with one more act
+abbrev pub send : {S : Type 0} → To → Frame → Going S → Going S
+send to frame g = record g { deeds = record g.deeds { sent = g.deeds.sent ++ record { to = to; frame = frame } ∷ [] } }
+
+abbrev pub act : {S : Type 0} → Act → Going S → Going S
+act done g = record g { deeds = record g.deeds { acts = g.deeds.acts ++ done ∷ [] } }
 
 -- what a step made of its event
 pub record Outcome (S : Type 0) : Type 0 where
@@ -46,12 +50,45 @@ pub record Outcome (S : Type 0) : Type 0 where
 abbrev pub refused : {S : Type 0} → Cause → State S → Outcome S
 refused cause s = record { answer = Refused cause; state = s; deeds = no_deeds }
 
-abbrev pub taken : {S : Type 0} → Going S → Outcome S
-taken g = record { answer = Taken; state = g.state; deeds = g.deeds }
+abbrev pub ends : {S : Type 0} → Answer → Going S → Outcome S
+ends answer g = record { answer = answer; state = g.state; deeds = g.deeds }
+
+-- a step begins without deeds
+abbrev pub begin : {S : Type 0} → State S → Going S
+begin s = record { state = s; deeds = no_deeds }
 
 -- ---- what others see
 
--- the numbers from one on, so many
-abbrev pub from_to : ℕ → ℕ → List ℕ
-from_to first 0 = []
-from_to first n = []
+-- all replicas but one, in rising number
+abbrev pub others : ℕ → ℕ → List Party
+others me n = map (λ id. Replica (record { 0 = id })) (filter (λ id. if nat_eq id me then false else true) (range_with_len 0 n))
+
+abbrev pub receivers : ℕ → ℕ → To → List Party
+receivers me n All = others me n
+receivers me n (One party) = party ∷ []
+
+-- the frames with their receivers, as bytes
+abbrev pub sendings_of : ℕ → ℕ → Sent → List (Party × List ℕ)
+sendings_of me n sent = map (λ to. (to, spelling sent.frame)) (receivers me n sent.to)
+
+abbrev pub outgoing_of : ℕ → ℕ → List Sent → List (Party × List ℕ)
+outgoing_of me n sent = flat_map (sendings_of me n) sent
+
+-- a statement's text
+abbrev pub text_by : Party → Body → List ℕ
+text_by me (bodies.Order order) = text_of numbers.order order_fields me order
+text_by me (bodies.Spec spec) = text_of numbers.spec spec_fields me spec
+text_by me (bodies.Hole hole) = text_of numbers.hole hole_fields me hole
+
+-- the statements in order, each with what stood, and the number of entries that were executed before it
+abbrev pub said_from : Party → ℕ → List Act → List Spoken
+said_from me pairs [] = []
+said_from me pairs (Says remark ∷ acts) =
+    record { text = text_by me remark.body; stood = Some remark.stood; pairs = pairs } ∷ said_from me pairs acts
+said_from me pairs (Gains got ∷ acts) = said_from me (pairs + 1) acts
+
+-- the entries in order
+abbrev pub gains_in : List Act → List Got
+gains_in [] = []
+gains_in (Says remark ∷ acts) = gains_in acts
+gains_in (Gains got ∷ acts) = got ∷ gains_in acts

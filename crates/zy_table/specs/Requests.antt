@@ -1,0 +1,107 @@
+-- What a replica answers to a request.
+use Rattle.std.specs.Prelude.{ℕ, ◌+◌, nat_lt, nat_le, nat_eq, ◌&&◌, if◌then◌else◌, Option, Some, None, option_map}
+use Rattle.zy_base.specs.Machine.{Rules}
+use Rattle.zy_base.specs.declared.ids.ClientId.{ClientId}
+use Rattle.zy_base.specs.declared.ids.Party.TheVariants.{Client}
+use Rattle.zy_base.specs.declared.cause.Cause.TheVariants as causes
+use Rattle.zy_base.specs.declared.step.Answer.TheVariants.{Taken}
+use Rattle.zy_chain.specs.Entries.{digest_of_entry}
+use Rattle.zy_parts.specs.Numbers as numbers
+use Rattle.zy_parts.specs.Statements.{order_fields, spec_fields}
+use Rattle.zy_parts.specs.declared.signed.Signed.{Signed}
+use Rattle.zy_parts.specs.declared.statements.Ask.{Ask}
+use Rattle.zy_parts.specs.declared.statements.Order.{Order}
+use Rattle.zy_parts.specs.declared.statements.Spec.{Spec}
+use Rattle.zy_frames.specs.declared.frame.OrderFrame.{OrderFrame}
+use Rattle.zy_frames.specs.declared.frame.Frame.TheVariants as frames
+use Rattle.zy_seal.specs.Sealing.{sealed_by}
+use Rattle.zy_exec.specs.declared.known.Known.{Known}
+use Rattle.zy_exec.specs.Kept.{last_place, known_in}
+use Rattle.zy_admit.specs.Orders.{stored_in, with_order}
+use Rattle.zy_admit.specs.Judging.{same_digest, entry_of}
+use Rattle.zy_table.specs.declared.deeds.To.TheVariants.{All, One}
+use Rattle.zy_table.specs.declared.deeds.Body.TheVariants as bodies
+use Rattle.zy_table.specs.declared.deeds.Act.TheVariants.{Says}
+use Rattle.zy_table.specs.State.{State, own_view, is_leaving, is_primary, window_of, stood_of, leaves_of, sealer_of, spent, spec_to, with_spec}
+use Rattle.zy_table.specs.Deeds.{Going, Outcome, send, act, refused, ends, begin}
+use Rattle.zy_table.specs.Running.{spec_of, next_known, run}
+
+-- ---- a request that was executed last
+
+abbrev pub same_spec : Spec → Spec → Bool
+same_spec a b =
+    nat_eq a.view.0 b.view.0
+    && (nat_eq a.place.0 b.place.0
+    && (same_digest a.head b.head
+    && (same_digest a.reply b.reply && (nat_eq a.client.0 b.client.0 && nat_eq a.stamp.0 b.stamp.0))))
+
+-- the response with its order, where it is kept
+abbrev pub response_of : {S : Type 0} → State S → Signed Spec → Known → Going S → Going S
+response_of s signed known g =
+    send (One (Client signed.stmt.client))
+    (frames.SpecResponse signed known.reply (option_map (λ o. o.order) (stored_in s.orders known.place.0))) g
+
+-- the response is signed anew where it isn't the one that was signed last
+abbrev pub respond_anew : {S : Type 0} → Rules S → State S → Spec → Known → Outcome S
+respond_anew R s spec known =
+    if nat_le 1 (leaves_of s)
+    then (let signed = sealed_by numbers.spec spec_fields (sealer_of s) spec in
+      ends Taken (response_of s signed known
+      (act (Says (record { body = bodies.Spec spec; stood = stood_of R s })) (begin (with_spec (spent s) signed)))))
+    else refused causes.KeySpent s
+
+abbrev pub respond_as : {S : Type 0} → Rules S → State S → Option (Signed Spec) → Spec → Known → Outcome S
+respond_as R s None spec known = respond_anew R s spec known
+respond_as R s (Some signed) spec known =
+    if same_spec signed.stmt spec then ends Taken (response_of s signed known (begin s)) else respond_anew R s spec known
+
+abbrev pub respond_again : {S : Type 0} → Rules S → State S → Signed Ask → Known → Outcome S
+respond_again R s ask known =
+    respond_as R s (spec_to s (entry_of ask).client) (spec_of (own_view s) ask known) known
+
+-- ---- a new request at the primary
+
+abbrev pub order_of : {S : Type 0} → Rules S → State S → Signed Ask → Order
+order_of R s ask =
+    record {
+      view = record { 0 = own_view s };
+      place = (next_known R s ask).place;
+      head = (next_known R s ask).head;
+      request = digest_of_entry (entry_of ask);
+    }
+
+abbrev pub sealed_order : {S : Type 0} → Rules S → State S → Signed Ask → OrderFrame
+sealed_order R s ask =
+    record { order = sealed_by numbers.order order_fields (sealer_of s) (order_of R s ask); ask = ask }
+
+-- the order is signed, kept and sent to all
+abbrev pub ordered : {S : Type 0} → Rules S → State S → Signed Ask → Going S
+ordered R s ask =
+    let o = sealed_order R s ask in
+    send All (frames.Order o)
+    (act (Says (record { body = bodies.Order o.order.stmt; stood = stood_of R s }))
+    (begin (record (spent s) { orders = with_order s.orders o })))
+
+-- and then run; the order and the response want a leaf each
+abbrev pub take_request : {S : Type 0} → Rules S → State S → Signed Ask → Outcome S
+take_request R s ask =
+    if nat_le 2 (leaves_of s) then ends Taken (run R (sealed_order R s ask) (ordered R s ask)) else refused causes.KeySpent s
+
+abbrev pub new_request : {S : Type 0} → Rules S → State S → Signed Ask → Outcome S
+new_request R s ask =
+    if nat_lt (last_place s.kept) (window_of s)
+    then take_request R s ask
+    else refused (causes.WindowFull (record { 0 = window_of s })) s
+
+-- ---- the row
+
+abbrev pub request_after : {S : Type 0} → Rules S → State S → Signed Ask → Option Known → Outcome S
+request_after R s ask None = new_request R s ask
+request_after R s ask (Some known) =
+    if nat_lt ask.stmt.stamp.0 known.stamp.0 then refused causes.OldStamp s
+    else (if nat_eq ask.stmt.stamp.0 known.stamp.0 then respond_again R s ask known else new_request R s ask)
+
+unfoldable pub request : {S : Type 0} → Rules S → State S → Signed Ask → Outcome S
+request R s ask =
+    if is_leaving s then refused causes.NotActive s
+    else request_after R s ask (known_in R s.kept (entry_of ask).client.0)

@@ -1,0 +1,93 @@
+-- Running an order: its entry is executed and answered in the same step, and then the orders that were held for it.
+use Rattle.std.specs.Prelude.{ℕ, ◌+◌, nat_le, ◌&&◌, if◌then◌else◌, List, [], ◌∷◌, Option, Some, None, option_map}
+use Rattle.sha2.specs.Sha256.{sha256}
+use Rattle.zy_base.specs.Machine.{Rules}
+use Rattle.zy_base.specs.declared.ids.Digest.{Digest}
+use Rattle.zy_base.specs.declared.ids.Party.TheVariants.{Client}
+use Rattle.zy_chain.specs.Entries.{digest_of_entry}
+use Rattle.zy_chain.specs.Heads.{head_after}
+use Rattle.zy_parts.specs.Numbers as numbers
+use Rattle.zy_parts.specs.Statements.{spec_fields}
+use Rattle.zy_parts.specs.declared.signed.Signed.{Signed}
+use Rattle.zy_parts.specs.declared.statements.Ask.{Ask}
+use Rattle.zy_parts.specs.declared.statements.Order.{Order}
+use Rattle.zy_parts.specs.declared.statements.Spec.{Spec}
+use Rattle.zy_frames.specs.declared.frame.OrderFrame.{OrderFrame}
+use Rattle.zy_frames.specs.declared.frame.Frame.TheVariants as frames
+use Rattle.zy_seal.specs.Sealing.{sealed_by}
+use Rattle.zy_exec.specs.declared.known.Known.{Known}
+use Rattle.zy_exec.specs.Replay.{Point, known_of}
+use Rattle.zy_exec.specs.Kept.{longer, last_place, now_of, known_in}
+use Rattle.zy_admit.specs.Orders.{without_order, slots_above}
+use Rattle.zy_admit.specs.Judging.{same_digest, entry_of, newer}
+use Rattle.zy_table.specs.declared.deeds.To.TheVariants.{One}
+use Rattle.zy_table.specs.declared.deeds.Body.TheVariants as bodies
+use Rattle.zy_table.specs.declared.deeds.Got.{Got}
+use Rattle.zy_table.specs.declared.deeds.Act.TheVariants.{Says, Gains}
+use Rattle.zy_table.specs.State.{State, own_view, stood_of, leaves_of, sealer_of, spent, with_spec}
+use Rattle.zy_table.specs.Deeds.{Going, send, act}
+
+-- what an executed entry is answered with
+abbrev pub spec_of : ℕ → Signed Ask → Known → Spec
+spec_of view ask known =
+    record {
+      view = record { 0 = view };
+      place = known.place;
+      head = known.head;
+      reply = record { 0 = sha256 known.reply };
+      client = (entry_of ask).client;
+      stamp = known.stamp;
+    }
+
+-- what is known of a request that is executed next
+abbrev pub next_known : {S : Type 0} → Rules S → State S → Signed Ask → Known
+next_known R s ask = known_of R (now_of R s.kept) (entry_of ask)
+
+abbrev pub got_of : {S : Type 0} → Rules S → State S → Signed Ask → Got
+got_of R s ask =
+    record {
+      place = (next_known R s ask).place;
+      before = (now_of R s.kept).head;
+      entry = entry_of ask;
+      head = (next_known R s ask).head;
+      reply = (next_known R s ask).reply;
+      snapshot = None;
+    }
+
+-- the history gets the entry
+abbrev pub executed : {S : Type 0} → Rules S → Signed Ask → Going S → Going S
+executed R ask g =
+    act (Gains (got_of R g.state ask)) (record g { state = record g.state { kept = longer g.state.kept (entry_of ask) } })
+
+-- the response is signed, kept, and sent to the client with its order
+abbrev pub respond : {S : Type 0} → Rules S → OrderFrame → Spec → List ℕ → Going S → Going S
+respond R o spec reply g =
+    let signed = sealed_by numbers.spec spec_fields (sealer_of g.state) spec in
+    send (One (Client spec.client)) (frames.SpecResponse signed reply (Some o.order))
+    (act (Says (record { body = bodies.Spec spec; stood = stood_of R g.state }))
+    (record g { state = with_spec (spent g.state) signed }))
+
+-- one order: its entry is executed, and then answered
+unfoldable pub run_one : {S : Type 0} → Rules S → OrderFrame → Going S → Going S
+run_one R o g =
+    respond R o (spec_of (own_view g.state) o.ask (next_known R g.state o.ask)) (next_known R g.state o.ask).reply
+    (executed R o.ask g)
+
+-- the order has the head and the stamp that the next one has to have
+abbrev pub fits_end : {S : Type 0} → Rules S → State S → OrderFrame → Bool
+fits_end R s o =
+    same_digest o.order.stmt.head (head_after (now_of R s.kept).head (digest_of_entry (entry_of o.ask)))
+    && newer o.ask.stmt.stamp (option_map (λ known. known.stamp) (known_in R s.kept (entry_of o.ask).client.0))
+
+-- the orders that are held in the next slots, as long as leaves are left; one that doesn't fit is dropped
+unfoldable pub run_held : {S : Type 0} → Rules S → List (Option OrderFrame) → Going S → Going S
+run_held R [] g = g
+run_held R (None ∷ slots) g = g
+run_held R (Some o ∷ slots) g =
+    if fits_end R g.state o
+    then (if nat_le 1 (leaves_of g.state) then run_held R slots (run_one R o g) else g)
+    else record g { state = record g.state { orders = without_order g.state.orders (last_place g.state.kept + 1) } }
+
+-- an order that is next, and those that were held for it
+abbrev pub run : {S : Type 0} → Rules S → OrderFrame → Going S → Going S
+run R o g = run_held R (slots_above (last_place g.state.kept + 1) g.state.orders) (run_one R o g)

@@ -1,0 +1,71 @@
+-- What is checked of every frame before its row.
+use Rattle.std.specs.Prelude.{ℕ, ◌%◌, nat_lt, nat_eq, ◌&&◌, Bool, true, false, if◌then◌else◌, List, Option, Some, None}
+use Rattle.std.specs.List.{list_any}
+use Rattle.zy_base.specs.declared.cause.Cause.{Cause}
+use Rattle.zy_base.specs.declared.cause.Cause.TheVariants as causes
+use Rattle.zy_base.specs.declared.ids.Party.{Party}
+use Rattle.zy_base.specs.declared.ids.Party.TheVariants.{Replica, Client}
+use Rattle.zy_base.specs.declared.counts.Counts.{Counts}
+use Rattle.zy_parts.specs.declared.signed.Part.{Part}
+use Rattle.zy_frames.specs.declared.frame.Frame.{Frame}
+use Rattle.zy_frames.specs.declared.frame.Frame.TheVariants as frames
+use Rattle.zy_seal.specs.declared.directory.SealAnswer.{SealAnswer}
+use Rattle.zy_seal.specs.declared.directory.SealAnswer.TheVariants as answers
+use Rattle.zy_seal.specs.Keys.{Keys, answer_of}
+use Rattle.zy_table.specs.State.{State, own_view, is_leaving, is_primary}
+
+-- ---- signatures: of all parts the signer is known, and then of all parts the signature verifies
+
+abbrev pub is_unknown : SealAnswer → Bool
+is_unknown answers.Yes = false
+is_unknown answers.UnknownParty = true
+is_unknown answers.BadSignature = false
+
+abbrev pub is_bad : SealAnswer → Bool
+is_bad answers.Yes = false
+is_bad answers.UnknownParty = false
+is_bad answers.BadSignature = true
+
+abbrev pub answer_to : Keys → Part → SealAnswer
+answer_to keys part = answer_of keys part.by part.text part.sig
+
+unfoldable pub screen : Keys → List Part → Option Cause
+screen keys parts =
+    if list_any (λ part. is_unknown (answer_to keys part)) parts then Some causes.UnknownParty
+    else (if list_any (λ part. is_bad (answer_to keys part)) parts then Some causes.BadSignature else None)
+
+-- ---- roles
+
+abbrev pub is_client : Party → Bool
+is_client (Client id) = true
+is_client (Replica id) = false
+
+abbrev pub is_replica : Party → Bool
+is_replica (Client id) = false
+is_replica (Replica id) = true
+
+abbrev pub is_primary_of : Counts → ℕ → Party → Bool
+is_primary_of counts view (Replica id) = nat_eq (view % counts.n) id.0
+is_primary_of counts view (Client id) = false
+
+-- The signers are those that may say such a thing, and the replica is one that hears it. Of the frames of normal
+-- operation a replica takes requests while it is the primary, orders, and what asks for orders.
+abbrev pub in_role : {S : Type 0} → State S → Frame → Bool
+in_role s (frames.Request ask) = is_client ask.by && is_primary s
+in_role s (frames.Order both) = is_primary_of s.counts both.order.stmt.view.0 both.order.by && is_client both.ask.by
+in_role s (frames.SpecResponse spec reply with_order) = false
+in_role s (frames.Commit specs) = false
+in_role s (frames.LocalCommit local) = false
+in_role s (frames.ConfirmReq confirm ask) = false
+in_role s (frames.FillHole hole) = is_replica hole.by
+in_role s (frames.Hate hate) = false
+in_role s (frames.Pom first second) = false
+in_role s (frames.Checkpoint check) = false
+
+-- ---- views
+
+abbrev pub view_cause : {S : Type 0} → State S → ℕ → Option Cause
+view_cause s view =
+    if nat_lt view (own_view s) then Some causes.OldView
+    else (if nat_lt (own_view s) view then Some causes.NewerView
+    else (if is_leaving s then Some causes.NotActive else None))
