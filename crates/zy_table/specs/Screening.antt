@@ -11,7 +11,8 @@ use Rattle.zy_frames.specs.declared.frame.Frame.{Frame}
 use Rattle.zy_frames.specs.declared.frame.Frame.TheVariants as frames
 use Rattle.zy_seal.specs.declared.directory.SealAnswer.{SealAnswer}
 use Rattle.zy_seal.specs.declared.directory.SealAnswer.TheVariants as answers
-use Rattle.zy_seal.specs.Keys.{Keys, answer_of}
+use Rattle.zy_seal.specs.Keys.{Keys}
+use Rattle.zy_seal.specs.Checking.{answer_of}
 use Rattle.zy_table.specs.State.{State, own_view, is_leaving, is_primary}
 
 -- ---- signatures: of all parts the signer is known, and then of all parts the signature verifies
