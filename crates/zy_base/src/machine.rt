@@ -1,6 +1,8 @@
-ghost use Rattle.std.specs.Prelude.{◌≡◌, ◌+◌, ◌<◌, ◌≤◌, ℕ, List, [], ◌∷◌, ◌++◌, length, drop, Err, IfOk, OnErr};
+ghost use Rattle.std.specs.Prelude.{◌≡◌, ◌+◌, ◌<◌, ◌≤◌, ℕ, List, [], ◌∷◌, ◌++◌, length, drop, Err, Some, None, IfOk, OnErr};
 ghost use Rattle.zy_base.specs.declared.ids.ClientId.{ClientId};
 ghost use Rattle.zy_base.specs.declared.restore_fault.RestoreFault.TheVariants.{NotState};
+ghost use Rattle.std.proofs.Common.{sym, ap, ◌∙◌};
+ghost use Rattle.std.proofs.lemmas.Option.{same_Some};
 ghost use Rattle.zy_base.specs.Machine.{Rules};
 
 use crate::{Bytes, ClientId, RestoreFault, Steps, Want};
@@ -61,10 +63,9 @@ pub trait Machine: Drop {
     /// A machine in the state that the bytes spell, with an empty trail. `NotState` comes exactly where they spell
     /// no state.
     fn restore(alloc: Global, bytes: &[u8]) -> Result<Self, RestoreFault>
-        ensures spelled { IfOk result (λ machine. rules.spelled (state machine) ≡ bytes.now) }
-        ensures is_state { IfOk result (λ machine. IsState (state machine)) }
+        ensures state { IfOk result (λ machine. rules.read bytes.now ≡ Some (state machine)) }
         ensures trail { IfOk result (λ machine. trail machine ≡ []) }
-        ensures not_state { result ≡ Err NotState → (s : Self.State) → IsState s → rules.spelled s ≡ bytes.now → ⊥ };
+        ensures not_state { result ≡ Err NotState → rules.read bytes.now ≡ None };
 
     // it starts in a state
     ghost starts: { IsState rules.initial };
@@ -72,6 +73,21 @@ pub trait Machine: Drop {
     // and every operation leads to a state
     ghost stays: { (s : Self.State) (client : ClientId) (op : List ℕ) → IsState s → IsState (rules.next s client op) };
 
+    // in a state every reply is short
+    ghost short_reply: { (s : Self.State) (client : ClientId) (op : List ℕ) → IsState s → length (rules.reply s client op) ≤ 1100 };
+
+    // and so is the spelling
+    ghost short_spelling: { (s : Self.State) → IsState s → length (rules.spelled s) ≤ 2300000 };
+
+    // a state that is spelled is read back
+    ghost reads: { (s : Self.State) → IsState s → rules.read (rules.spelled s) ≡ Some s };
+
+    // what is read is a state
+    ghost reads_state: { (bytes : List ℕ) (s : Self.State) → rules.read bytes ≡ Some s → IsState s };
+
+    // that is spelled so
+    ghost reads_spelled: { (bytes : List ℕ) (s : Self.State) → rules.read bytes ≡ Some s → rules.spelled s ≡ bytes };
+
     // two states with one spelling are one state
-    ghost one_spelling: { (s t : Self.State) → IsState s → IsState t → rules.spelled s ≡ rules.spelled t → s ≡ t };
+    ghost one_spelling: { (s t : Self.State) → IsState s → IsState t → rules.spelled s ≡ rules.spelled t → s ≡ t } = { λ s t s_is t_is same. same_Some s t (sym (reads s s_is) ∙ ap rules.read same ∙ reads t t_is) };
 }

@@ -2,7 +2,9 @@
 use Rattle.std.specs.Prelude.{ℕ, ◌^◌, ◌<◌, ◌≤◌, List, ◌++◌, length}
 use Rattle.std.specs.Int.{w16, w32, w64, to_be_bytes}
 use Rattle.sha2.specs.Sha256.{sha256}
+use Rattle.zy_base.specs.declared.ids.ClientId.{ClientId}
 use Rattle.zy_base.specs.declared.ids.Digest.{Digest}
+use Rattle.zy_base.specs.declared.ids.Stamp.{Stamp}
 use Rattle.zy_chain.specs.declared.entry.Entry.{Entry}
 
 -- what an entry may hold: a stamp below 2^62 and at most 1,100 bytes of operation
@@ -10,10 +12,21 @@ pub record IsEntryInRange (e : Entry) : Type 0 where
   pub stamp : e.stamp.0 < 2 ^ 62
   pub op : length e.op ≤ 1100
 
+-- the entry that a client's request stands for
+abbrev pub entry_of : ClientId → Stamp → List ℕ → Entry
+entry_of client stamp op = record { client = client; stamp = stamp; op = op }
+
 -- the client, the stamp, and the operation behind its length
-unfoldable pub bytes_of_entry : Entry → List ℕ
-bytes_of_entry e = to_be_bytes w32 e.client.0 ++ to_be_bytes w64 e.stamp.0 ++ to_be_bytes w16 (length e.op) ++ e.op
+unfoldable pub bytes_of_request : ClientId → Stamp → List ℕ → List ℕ
+bytes_of_request client stamp op = to_be_bytes w32 client.0 ++ to_be_bytes w64 stamp.0 ++ to_be_bytes w16 (length op) ++ op
 
 -- SHA-256 of these bytes
-unfoldable pub digest_of_entry : Entry → Digest
-digest_of_entry e = record { 0 = sha256 (bytes_of_entry e) }
+unfoldable pub digest_of_request : ClientId → Stamp → List ℕ → Digest
+digest_of_request client stamp op = record { 0 = sha256 (bytes_of_request client stamp op) }
+
+-- the same of an entry
+abbrev pub bytes_of_entry : Entry → List ℕ
+bytes_of_entry e = bytes_of_request e.client e.stamp e.op
+
+abbrev pub digest_of_entry : Entry → Digest
+digest_of_entry e = digest_of_request e.client e.stamp e.op

@@ -4,7 +4,7 @@
 mod entry;
 mod spine;
 
-pub use entry::{EMPTY_HEAD, Entry, entry_bytes, entry_digest, next_head};
+pub use entry::{EMPTY_HEAD, Entry, entry_bytes, entry_digest, next_head, request_digest};
 pub use spine::Spine;
 
 #[cfg(test)]

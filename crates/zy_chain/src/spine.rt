@@ -119,6 +119,17 @@ impl Spine {
         Ok(())
     }
 
+    /// Takes the last entry out again. `None` exactly where there is none. Takes no memory.
+    pub fn pop(&mut self) -> Option<Entry>
+        ensures some { IfSome result (λ e. self.old ≡ with_entry self.new e) }
+        ensures in_range { IfSome result IsEntryInRange }
+        ensures none { IfNone result (self.old.entries ≡ []) }
+        ensures same { IfNone result (self.new ≡ self.old) }
+    {
+        self.heads.pop_back();
+        self.entries.pop_back()
+    }
+
     /// Drops the entries above a place. Takes no memory.
     pub fn cut_above(&mut self, place: Place)
         requires above { self.old.base.place ≤ place.0 }

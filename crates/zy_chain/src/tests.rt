@@ -48,6 +48,10 @@ fn entries_digests_and_heads(rt: HostRuntime) -> Result<(), Fail> {
         assert!(rt; bytes.as_slice().ends_with(op));
         assert_eq!(rt; bytes.len(), 14 + op.len());
         assert_eq!(rt; entry_digest(&entry), Digest(*digest));
+        assert_eq!(rt;
+            request_digest(ClientId(client), Stamp(stamp), op),
+            Digest(*digest)
+        );
         head = next_head(&head, &Digest(*digest));
         assert_eq!(rt; head, Digest(*next));
     }
@@ -116,7 +120,7 @@ fn head_there(place: u64) -> Option<Digest> {
 #[test]
 fn heads_and_entries_of_a_stretch(rt: HostRuntime) -> Result<(), Fail> {
     for (from, to) in [(0, 4), (0, 3), (0, 0), (1, 4), (2, 3), (4, 4)] {
-        let spine = stretch(&rt, rt.alloc(), from, to, 0)?;
+        let mut spine = stretch(&rt, rt.alloc(), from, to, 0)?;
         assert_eq!(rt; (spine.base(), spine.end()), (Place(from), Place(to)));
         assert_eq!(rt; Some(spine.head()), head_there(to));
         for place in 0..6 {
@@ -136,6 +140,13 @@ fn heads_and_entries_of_a_stretch(rt: HostRuntime) -> Result<(), Fail> {
             }
         }
         assert!(rt; spine.entry_at(Place(0)).is_none() && spine.entry_at(Place(5)).is_none());
+        let popped = spine.pop().map(|entry| entry.op);
+        assert_eq!(rt; popped.is_some(), from < to);
+        let end = to.saturating_sub(u64::from(popped.is_some()));
+        assert_eq!(rt;
+            (spine.end(), Some(spine.head())),
+            (Place(end), head_there(end))
+        );
     }
     Ok(())
 }

@@ -2,7 +2,7 @@
 use Rattle.std.proofs.Common.{◌≡◌, refl, arith}
 use Rattle.std.specs.Int.{w16, w32}
 use Rattle.zy_chain.specs.declared.entry.Entry.{Entry}
-use Rattle.zy_chain.specs.Entries.{IsEntryInRange, bytes_of_entry}
+use Rattle.zy_chain.specs.Entries.{IsEntryInRange, bytes_of_entry, bytes_of_request}
 use Rattle.zy_wire.specs.Spelling.{IsExact, bytes_of}
 use Rattle.zy_wire.proofs.Parts.{pair-exact, converted-exact, word-exact, wide16, wide32}
 use Rattle.zy_wire.proofs.Laws.{u62-exact, digest-exact, sized-exact, list-exact, optional-exact, FitsList-weaker, FitsOptional-weaker}
@@ -17,7 +17,7 @@ use Rattle.zy_parts.specs.declared.reports.New.{New}
 
 -- an entry's fields are the bytes of which its digest is made
 pub entry-is_bytes : (e : Entry) → entry_fields.spell e ≡ bytes_of_entry e
-unfolding entry_fields bytes_of bytes_of_entry
+unfolding entry_fields bytes_of bytes_of_request
 entry-is_bytes e = refl
 
 pub entry-exact : IsExact entry_fields

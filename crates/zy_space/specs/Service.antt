@@ -1,9 +1,9 @@
 -- The tuple space as a replicated service: what operations given by their bytes do, and the spelling of its state.
-use Rattle.std.specs.Prelude.{ℕ, nat_lt, Bool, if◌then◌else◌, List, [], Result, Ok, Err}
+use Rattle.std.specs.Prelude.{ℕ, nat_lt, Bool, if◌then◌else◌, List, [], Option, Some, None, Result, Ok, Err}
 use Rattle.std.specs.List.{list_all}
 use Rattle.zy_base.specs.Machine.{Rules}
 use Rattle.zy_base.specs.declared.frame_fault.FrameFault.{FrameFault}
-use Rattle.zy_wire.specs.Spelling.{Spelling}
+use Rattle.zy_wire.specs.Spelling.{Spelling, whole}
 use Rattle.zy_wire.specs.Fields.{list, FitsList}
 use Rattle.zy_tuple.specs.declared.values.Field.{Field}
 use Rattle.zy_tuple.specs.declared.values.Op.{Op}
@@ -34,6 +34,14 @@ state_spelling = list 0 4096 tuple_spelling
 abbrev pub IsSpaceState : List (List Field) → Type 0
 IsSpaceState tuples = FitsList IsTuple 0 4096 tuples
 
+abbrev pub value_of : {A : Type 0} → Result A FrameFault → Option A
+value_of (Ok x) = Some x
+value_of (Err fault) = None
+
+-- the state that the bytes spell, all of them
+unfoldable pub state_in : List ℕ → Option (List (List Field))
+state_in bytes = if is_bytes bytes then value_of (whole state_spelling bytes) else None
+
 abbrev pub space_rules : Rules (List (List Field))
 space_rules =
     record {
@@ -41,4 +49,5 @@ space_rules =
       next = λ tuples client op. (ran op tuples).tuples;
       reply = λ tuples client op. reply_bytes (ran op tuples).reply;
       spelled = state_spelling.spell;
+      read = state_in;
     }

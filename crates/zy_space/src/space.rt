@@ -245,5 +245,13 @@ impl Machine for Space {
 
     ghost stays = { laws.stays };
 
-    ghost one_spelling = { laws.one_spelling };
+    ghost short_reply = { laws.short_reply };
+
+    ghost short_spelling = { laws.short_spelling };
+
+    ghost reads = { laws.reads };
+
+    ghost reads_state = { laws.reads_state };
+
+    ghost reads_spelled = { laws.reads_spelled };
 }

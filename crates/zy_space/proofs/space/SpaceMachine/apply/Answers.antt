@@ -1,4 +1,4 @@
-use Rattle.zy_space.proofs.ServiceLaws.{reply_short}
+use Rattle.zy_space.specs.Laws.{reply_short}
 use Rattle.zy_space.proofs.space.SpaceMachine.apply.Goals as goal
 
 pub returns-in-Ok-clause-short : goal.returns-in-Ok-clause-short

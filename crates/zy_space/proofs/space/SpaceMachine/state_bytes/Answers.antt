@@ -4,9 +4,8 @@ use Rattle.zy_base.specs.declared.want.Want.{Want}
 use Rattle.zy_space.specs.Timeline.{Timeline}
 use Rattle.zy_space.specs.Service.{IsSpaceState, state_spelling}
 use Rattle.zy_space.specs.Marks.{live_of}
-use Rattle.zy_space.specs.Laws.{state_from}
+use Rattle.zy_space.specs.Laws.{state_from, short_spelling}
 use Rattle.zy_space.proofs.MarkLemmas.{live_tuples}
-use Rattle.zy_space.proofs.ServiceLaws.{state_short}
 use Rattle.zy_space.proofs.space.SpaceMachine.state_bytes.Goals as goal
 
 short : (r : Result (List ℕ) Want) (bytes : List ℕ) → IfOk r (λ b. b ≡ bytes) → length bytes ≤ 2300000 → IfOk r (λ b. length b ≤ 2300000)
@@ -17,7 +16,7 @@ pub returns-clause-short : goal.returns-clause-short
 returns-clause-short c =
     let slots = c.self.inside.slots.items in
     let is = state_from (live_of slots) c.self.invariant.sound.few (live_tuples slots c.self.invariant.sound.tuples) in
-    short c.put_state.result (state_spelling.spell (live_of slots)) (rw c.deref.ensures.value at c.put_state.ensures) (state_short (live_of slots) is)
+    short c.put_state.result (state_spelling.spell (live_of slots)) (rw c.deref.ensures.value at c.put_state.ensures) (short_spelling (live_of slots) is)
 
 pub returns-clause-is_state : goal.returns-clause-is_state
 returns-clause-is_state c =
