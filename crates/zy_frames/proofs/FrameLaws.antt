@@ -5,10 +5,9 @@ use Rattle.std.proofs.lemmas.Bool.{ltb-false}
 use Rattle.std.proofs.lemmas.List.{append-nil}
 use Rattle.zy_base.specs.declared.frame_fault.FrameFault.{FrameFault}
 use Rattle.zy_base.specs.declared.frame_fault.FrameFault.TheVariants.{Kind, TooLong}
-use Rattle.zy_wire.specs.declared.kind.TheConstants.{VERSION, MAX_FRAME, MAX_KIND}
 use Rattle.zy_wire.specs.Spelling.{◌>>=◌, Spelling, IsBytes, IsExact, IsChoice, made, ended}
-use Rattle.zy_wire.specs.Kind.{kind_in, kind_of_parts}
-use Rattle.zy_wire.proofs.Parts.{bind_ok, bind_at, pair-exact, converted-exact, wide16, IsBytes-after, ended_ok}
+use Rattle.zy_wire.specs.Kind.{frame_version, frame_limit, greatest_kind, kind_in, kind_of_parts}
+use Rattle.zy_wire.proofs.Parts.{bind_ok, bind_at, ok_is, pair-exact, converted-exact, wide16, IsBytes-after, ended_ok}
 use Rattle.zy_wire.proofs.Laws.{sized-exact, list-exact, optional-exact, FitsList-weaker, FitsOptional-weaker}
 use Rattle.zy_wire.proofs.Choices.{Takes, Takes-or, Takes-none, made_again}
 use Rattle.zy_wire.proofs.KindLaws.{kind_takes, kind_again}
@@ -78,7 +77,7 @@ frame_again (frames.Checkpoint check) rest fits = made_again frames.Checkpoint (
 pub frame-choice : IsChoice kind_of_frame fields_of FitsFrame frame_at
 frame-choice = record { takes = frame_takes; again = frame_again }
 
-kind-bounds : (f : Frame) → (1 ≤ kind_of_frame f) × (kind_of_frame f ≤ MAX_KIND)
+kind-bounds : (f : Frame) → (1 ≤ kind_of_frame f) × (kind_of_frame f ≤ greatest_kind)
 kind-bounds (frames.Request ask) = (omega arith, omega arith)
 kind-bounds (frames.Order both) = (omega arith, omega arith)
 kind-bounds (frames.SpecResponse spec reply with_order) = (omega arith, omega arith)
@@ -96,20 +95,20 @@ not_long : (b : Bool) (r : Result ℕ FrameFault) (k : ℕ) → cond b (Err TooL
 not_long true r k e = absurd cc
 not_long false r k e = refl
 
-pub decoded_takes : (bytes : List ℕ) (f : Frame) → IsBytes bytes → frame_in bytes ≡ Ok f → FitsFrame f × (bytes ≡ spelling f) × (length bytes ≤ MAX_FRAME)
+pub decoded_takes : (bytes : List ℕ) (f : Frame) → IsBytes bytes → frame_in bytes ≡ Ok f → FitsFrame f × (bytes ≡ spelling f) × (length bytes ≤ frame_limit)
 unfolding frame_in
 decoded_takes bytes f fits e =
     let a = bind_ok (kind_in bytes) (λ kind. frame_at kind (drop 2 bytes) >>= λ read. ended read.0 read.1) f e in
     let b = bind_ok (frame_at a.0 (drop 2 bytes)) (λ read. ended read.0 read.1) f a.2 in
     let c = ended_ok b.0.0 b.0.1 f b.2 in
     let front = kind_takes bytes a.0 a.1 in
-    let t = frame_takes a.0 (drop 2 bytes) b.0.0 b.0.1 (IsBytes-after bytes (VERSION ∷ a.0 ∷ []) (drop 2 bytes) fits front) b.1 in
+    let t = frame_takes a.0 (drop 2 bytes) b.0.0 b.0.1 (IsBytes-after bytes (frame_version ∷ a.0 ∷ []) (drop 2 bytes) fits front) b.1 in
     let none : drop 2 bytes ≡ fields_of b.0.0 = t.1 ∙ ap (λ (r : List ℕ). fields_of b.0.0 ++ r) c.1 ∙ append-nil (fields_of b.0.0) in
-    let parts : bytes ≡ spelling b.0.0 = front ∙ ap (λ (k : ℕ). VERSION ∷ k ∷ drop 2 bytes) (sym t.0) ∙ ap (λ (r : List ℕ). VERSION ∷ kind_of_frame b.0.0 ∷ r) none in
-    let short : length bytes ≤ MAX_FRAME = ltb-false _ _ (not_long _ (kind_of_parts bytes) a.0 a.1) in
-    subst (λ (g : Frame). FitsFrame g × (bytes ≡ spelling g) × (length bytes ≤ MAX_FRAME)) c.0 (t.2, parts, short)
+    let parts : bytes ≡ spelling b.0.0 = front ∙ ap (λ (k : ℕ). frame_version ∷ k ∷ drop 2 bytes) (sym t.0) ∙ ap (λ (r : List ℕ). frame_version ∷ kind_of_frame b.0.0 ∷ r) none in
+    let short : length bytes ≤ frame_limit = ltb-false _ _ (not_long _ (kind_of_parts bytes) a.0 a.1) in
+    subst (λ (g : Frame). FitsFrame g × (bytes ≡ spelling g) × (length bytes ≤ frame_limit)) c.0 (t.2, parts, short)
 
-pub decoded_again : (f : Frame) → FitsFrame f → length (spelling f) ≤ MAX_FRAME → frame_in (spelling f) ≡ Ok f
+pub decoded_again : (f : Frame) → FitsFrame f → length (spelling f) ≤ frame_limit → frame_in (spelling f) ≡ Ok f
 unfolding frame_in
 decoded_again f fits short =
     let k = kind_of_frame f in
@@ -131,9 +130,17 @@ FitsFrame-in_range (frames.Hate hate) fits = signed-in_range _ _ hate-in_range h
 FitsFrame-in_range (frames.Pom first second) fits = (signed-in_range _ _ order-in_range first fits.0, signed-in_range _ _ order-in_range second fits.1)
 FitsFrame-in_range (frames.Checkpoint check) fits = signed-in_range _ _ check-in_range check fits
 
+-- no frame's spelling begins another's
+pub one_frame : (f g : Frame) (behind after : List ℕ) → FitsFrame f → FitsFrame g → spelling f ++ behind ≡ spelling g ++ after → (f ≡ g) × (behind ≡ after)
+one_frame f g behind after f_fits g_fits e =
+    let kinds : kind_of_frame f ≡ kind_of_frame g = cc in
+    let fields : fields_of f ++ behind ≡ fields_of g ++ after = cc in
+    let same = ok_is _ _ (sym (frame_again f behind f_fits) ∙ ap (frame_at (kind_of_frame f)) fields ∙ ap (λ (k : ℕ). frame_at k (fields_of g ++ after)) kinds ∙ frame_again g after g_fits) in
+    (ap (λ (p : Frame × List ℕ). p.0) same, ap (λ (p : Frame × List ℕ). p.1) same)
+
 -- ---- what decoding answers
 
-pub answer_takes : (r : Result Frame DecodeFault) (bytes : List ℕ) → IsBytes bytes → Decodes r (frame_in bytes) → IfOk r (λ f. FitsFrame f × (bytes ≡ spelling f) × (length bytes ≤ MAX_FRAME))
+pub answer_takes : (r : Result Frame DecodeFault) (bytes : List ℕ) → IsBytes bytes → Decodes r (frame_in bytes) → IfOk r (λ f. FitsFrame f × (bytes ≡ spelling f) × (length bytes ≤ frame_limit))
 answer_takes (Ok f) bytes fits e = decoded_takes bytes f fits e
 answer_takes (Err e) bytes fits h = tt
 
@@ -141,7 +148,7 @@ pub answer_in_range : (r : Result Frame DecodeFault) (bytes : List ℕ) → IsBy
 answer_in_range (Ok f) bytes fits e = FitsFrame-in_range f (decoded_takes bytes f fits e).0
 answer_in_range (Err e) bytes fits h = tt
 
-pub answer_again : (r : Result Frame DecodeFault) (bytes : List ℕ) → Decodes r (frame_in bytes) → (f : Frame) → FitsFrame f → bytes ≡ spelling f → length bytes ≤ MAX_FRAME → Decodes r (Ok f)
+pub answer_again : (r : Result Frame DecodeFault) (bytes : List ℕ) → Decodes r (frame_in bytes) → (f : Frame) → FitsFrame f → bytes ≡ spelling f → length bytes ≤ frame_limit → Decodes r (Ok f)
 answer_again r bytes read f fits e short =
-    let short' : length (spelling f) ≤ MAX_FRAME = subst (λ (b : List ℕ). length b ≤ MAX_FRAME) e short in
+    let short' : length (spelling f) ≤ frame_limit = subst (λ (b : List ℕ). length b ≤ frame_limit) e short in
     subst (λ (x : Result Frame FrameFault). Decodes r x) (ap frame_in e ∙ decoded_again f fits short') read

@@ -2,10 +2,9 @@
 use Rattle.std.specs.Prelude.{◌≡◌, ℕ, ◌≤◌, List, [], ◌∷◌, length, map, drop, Option, Some, None, Result, Err, ◌==◌, if◌then◌else◌}
 use Rattle.zy_base.specs.declared.frame_fault.FrameFault.{FrameFault}
 use Rattle.zy_base.specs.declared.frame_fault.FrameFault.TheVariants.{Kind}
-use Rattle.zy_wire.specs.declared.kind.TheConstants.{VERSION}
 use Rattle.zy_wire.specs.Spelling.{◌>>=◌, Spelling, pair, converted, made, ended}
 use Rattle.zy_wire.specs.Fields.{bytes16, list, optional, FitsList, FitsOptional}
-use Rattle.zy_wire.specs.Kind.{kind_in}
+use Rattle.zy_wire.specs.Kind.{frame_version, kind_in}
 use Rattle.zy_parts.specs.declared.signed.Signed.{Signed}
 use Rattle.zy_parts.specs.declared.signed.Part.{Part}
 use Rattle.zy_parts.specs.declared.statements.Ask.{Ask}
@@ -70,7 +69,7 @@ fields_of (frames.Checkpoint check) = (signed check_fields).spell check
 
 -- the version, the kind and the fields of the kind
 abbrev pub spelling : Frame → List ℕ
-spelling f = VERSION ∷ kind_of_frame f ∷ fields_of f
+spelling f = frame_version ∷ kind_of_frame f ∷ fields_of f
 
 -- what has a spelling
 unfoldable pub FitsFrame : Frame → Type 0

@@ -1,4 +1,5 @@
 ghost use Rattle.std.specs.Prelude.{◌≡◌, ◌≤◌, length, Ok, IfOk};
+ghost use Rattle.zy_wire.specs.Kind.{frame_limit};
 ghost use Rattle.zy_parts.specs.Getting.{Took};
 ghost use Rattle.zy_frames.specs.Frames.{FitsFrame, IsFrameInRange, spelling, order, spec_response, ordered, of_kind, frame_in};
 ghost use Rattle.zy_frames.specs.Decoding.{Decodes};
@@ -7,16 +8,16 @@ use crate::{DecodeFault, Frame, OrderFrame};
 use std::alloc::Global;
 use zy_base::{Bytes, FrameFault};
 use zy_parts::{GetFault, Items, Order, Signed, Spec, Spelled};
-use zy_wire::{Cut, MAX_FRAME, kind_of};
+use zy_wire::{Cut, kind_of};
 
 /// The frame that all of the bytes spell, each byte string copied once. A kind from 11 to 16 is refused as `Kind`.
 /// The fault is the first one from the left.
 pub fn decode(alloc: Global, bytes: &[u8]) -> Result<Frame, DecodeFault>
     // What is decoded was spelled so.
-    ensures found { IfOk result (λ f. FitsFrame f × (bytes.now ≡ spelling f) × (length bytes.now ≤ MAX_FRAME)) }
+    ensures found { IfOk result (λ f. FitsFrame f × (bytes.now ≡ spelling f) × (length bytes.now ≤ frame_limit)) }
     ensures in_range { IfOk result IsFrameInRange }
     // What is spelled so is decoded, unless memory runs out.
-    ensures only { (f : Frame) → FitsFrame f → bytes.now ≡ spelling f → length bytes.now ≤ MAX_FRAME → Decodes result (Ok f) }
+    ensures only { (f : Frame) → FitsFrame f → bytes.now ≡ spelling f → length bytes.now ≤ frame_limit → Decodes result (Ok f) }
     // Which fault it is.
     ensures exact { Decodes result (frame_in bytes.now) }
 {

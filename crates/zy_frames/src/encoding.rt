@@ -1,4 +1,5 @@
-ghost use Rattle.std.specs.Prelude.{◌≡◌, ◌<◌, ◌≤◌, ◌++◌, length, OnOk, IfOk, IsErrOf};
+ghost use Rattle.std.specs.Prelude.{◌≡◌, ◌≢◌, ◌<◌, ◌≤◌, ◌++◌, length, Err, OnOk, IfOk, IsErrOf};
+ghost use Rattle.zy_wire.specs.Kind.{frame_limit};
 ghost use Rattle.zy_wire.specs.Fields.{FitsOptional};
 ghost use Rattle.zy_parts.specs.Signing.{IsSignedInRange};
 ghost use Rattle.zy_parts.specs.Statements.{IsOrderInRange};
@@ -13,9 +14,11 @@ use zy_wire::{MAX_FRAME, Put, VERSION};
 /// The one spelling of a frame: the version, the kind and the fields. `TooLong` where it has more than 4,194,304 bytes.
 pub fn encode(alloc: Global, frame: &Frame) -> Result<Bytes, EncodeFault>
     requires { IsFrameInRange frame.now }
-    ensures ok { IfOk result (λ b. (b ≡ spelling frame.now) × (length b ≤ MAX_FRAME)) }
+    ensures ok { IfOk result (λ b. (b ≡ spelling frame.now) × (length b ≤ frame_limit)) }
     ensures fits { OnOk result (FitsFrame frame.now) }
-    ensures too_long { IsErrOf result EncodeFault.TooLong → MAX_FRAME < length (spelling frame.now) }
+    ensures too_long { IsErrOf result EncodeFault.TooLong → frame_limit < length (spelling frame.now) }
+    // No frame in range is so long.
+    ensures never { result ≢ Err EncodeFault.TooLong }
 {
     let mut out = Put::new(alloc);
     out.raw(&[VERSION, kind(frame)])?;

@@ -5,12 +5,14 @@ mod decoding;
 mod encoding;
 mod fault;
 mod frame;
+mod laws;
 mod part_list;
 
 pub use decoding::decode;
 pub use encoding::encode;
 pub use fault::{DecodeFault, EncodeFault};
 pub use frame::{Frame, OrderFrame};
+pub use laws::frames;
 pub use part_list::parts;
 
 #[cfg(test)]

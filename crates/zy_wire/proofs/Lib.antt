@@ -2,3 +2,4 @@ pub mod Parts
 pub mod Laws
 pub mod Choices
 pub mod KindLaws
+pub mod Lengths

@@ -1,0 +1,43 @@
+-- No frame of these kinds is too long.
+use Rattle.std.proofs.Common.{◌≡◌, ℕ, ◌+◌, ◌≤◌, List, [], ◌∷◌, ◌++◌, length, ap, sym, refl, ◌∙◌, subst, arith}
+use Rattle.zy_wire.specs.Kind.{frame_version}
+use Rattle.zy_wire.specs.Spelling.{Spelling}
+use Rattle.zy_wire.specs.Fields.{bytes16}
+use Rattle.zy_wire.proofs.Lengths.{IsAtMost, sized16-at_most, pair-at_most, converted-at_most, optional-at_most, list-at_most}
+use Rattle.zy_parts.specs.Statements.{local_fields, hole_fields, hate_fields, check_fields}
+use Rattle.zy_parts.specs.Signing.{signed}
+use Rattle.zy_parts.proofs.Lengths.{signed-at_most, ask-at_most, order-at_most, spec-at_most, local-at_most, confirm-at_most, hole-at_most, hate-at_most, check-at_most}
+use Rattle.zy_frames.specs.declared.frame.Frame.{Frame}
+use Rattle.zy_frames.specs.declared.frame.Frame.TheVariants as frames
+use Rattle.zy_frames.specs.Frames.{request, order, ordered, spec_response, commit, confirm_request, misbehaviour, fields_of, kind_of_frame, spelling, FitsFrame}
+
+order_frame-at_most : IsAtMost order 17588
+order_frame-at_most = converted-at_most _ _ _ _ (pair-at_most _ _ _ _ (signed-at_most _ _ order-at_most) (signed-at_most _ _ ask-at_most))
+
+spec_response-at_most : IsAtMost spec_response 17673
+spec_response-at_most = pair-at_most _ _ _ _ (signed-at_most _ _ spec-at_most) (pair-at_most _ _ _ _ (sized16-at_most 1100) (optional-at_most _ _ (signed-at_most _ _ order-at_most)))
+
+commit-at_most : IsAtMost commit 132658
+commit-at_most = list-at_most _ _ (signed-at_most _ _ spec-at_most) 1 16
+
+confirm_request-at_most : IsAtMost confirm_request 17548
+confirm_request-at_most = pair-at_most _ _ _ _ (signed-at_most _ _ confirm-at_most) (signed-at_most _ _ ask-at_most)
+
+misbehaviour-at_most : IsAtMost misbehaviour 16558
+misbehaviour-at_most = pair-at_most _ _ _ _ (signed-at_most _ _ order-at_most) (signed-at_most _ _ order-at_most)
+
+fields-len : (f : Frame) → FitsFrame f → length (fields_of f) ≤ 132658
+unfolding fields_of FitsFrame
+fields-len (frames.Request ask) fits = omega (arith, (signed-at_most _ _ ask-at_most).fits ask fits)
+fields-len (frames.Order both) fits = omega (arith, order_frame-at_most.fits both fits)
+fields-len (frames.SpecResponse spec reply with_order) fits = omega (arith, spec_response-at_most.fits (spec, (reply, with_order)) fits)
+fields-len (frames.Commit specs) fits = commit-at_most.fits specs fits
+fields-len (frames.LocalCommit local) fits = omega (arith, (signed-at_most _ _ local-at_most).fits local fits)
+fields-len (frames.ConfirmReq confirm ask) fits = omega (arith, confirm_request-at_most.fits (confirm, ask) fits)
+fields-len (frames.FillHole hole) fits = omega (arith, (signed-at_most _ _ hole-at_most).fits hole fits)
+fields-len (frames.Hate hate) fits = omega (arith, (signed-at_most _ _ hate-at_most).fits hate fits)
+fields-len (frames.Pom first second) fits = omega (arith, misbehaviour-at_most.fits (first, second) fits)
+fields-len (frames.Checkpoint check) fits = omega (arith, (signed-at_most _ _ check-at_most).fits check fits)
+
+pub spelling-len : (f : Frame) → FitsFrame f → length (spelling f) ≤ 132660
+spelling-len f fits = omega (arith, fields-len f fits)
