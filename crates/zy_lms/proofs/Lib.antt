@@ -2,3 +2,4 @@ pub mod TreeLemmas
 pub mod NodesLemmas
 pub mod LmsLemmas
 pub mod FillLemmas
+pub mod VerifiedLemmas

@@ -1,14 +1,15 @@
 -- LMS public keys, signatures and their verification (RFC 8554, sections 5.3 and 5.4).
-use Rattle.std.specs.Prelude.{◌≡◌, ℕ, ◌+◌, ◌*◌, ◌<◌, ◌^◌, List, ◌++◌, length, take, drop}
+use Rattle.std.specs.Prelude.{◌≡◌, ℕ, ◌+◌, ◌*◌, ◌<◌, ◌^◌, ◌==◌, ◌&&◌, nat_lt, Bool, false, Option, Some, None, List, ◌++◌, length, take, drop}
 use Rattle.std.specs.List.{concat}
 use Rattle.std.specs.Int.{w32, to_be_bytes}
+use Rattle.std.specs.Str.{bytes_eq}
 use Rattle.zy_ots.specs.declared.ots_type.OtsType.{OtsType}
 use Rattle.zy_ots.specs.OtsType as OtsType
 use Rattle.zy_ots.specs.Coef.{number_at}
-use Rattle.zy_ots.specs.OneTime.{HasForm, candidate_of}
+use Rattle.zy_ots.specs.OneTime.{HasForm, has_form, candidate_of}
 use Rattle.zy_ots.specs.OneTime as OneTime
 use Rattle.zy_lms.specs.declared.height.Height.{Height}
-use Rattle.zy_lms.specs.Height.{type_number_of, levels_of}
+use Rattle.zy_lms.specs.Height.{type_number_of, height_with, levels_of}
 use Rattle.zy_lms.specs.Tree.{leaf_node, root_of, path_from, climb, nodes_in}
 use Rattle.zy_lms.specs.KeyState.{KeyState}
 
@@ -62,3 +63,20 @@ pub record VerifiesAs (height : Height) (ots : OtsType) (public message signatur
 abbrev pub Verifies : List ℕ → List ℕ → List ℕ → Type 0
 Verifies public message signature =
     (height : Height) × (ots : OtsType) × VerifiesAs height ots public message signature
+
+-- the same as a test: first under the types that the public key tells, if it tells such
+abbrev pub verified_as : Option Height → Option OtsType → List ℕ → List ℕ → List ℕ → Bool
+verified_as (Some height) (Some ots) public message signature =
+    (length public == 56)
+    && (length signature == signature_len_of height ots)
+    && nat_lt (leaf_of signature) (2 ^ levels_of height)
+    && has_form ots (ots_part ots signature)
+    && (number_at signature (4 + OtsType.signature_len_of ots) == type_number_of height)
+    && bytes_eq (candidate_root height ots (take 16 (drop 8 public)) message signature) (drop 24 public)
+verified_as (Some height) None public message signature = false
+verified_as None ots public message signature = false
+
+-- whether the signature of the message is valid under the public key
+unfoldable pub verified : List ℕ → List ℕ → List ℕ → Bool
+verified public message signature =
+    verified_as (height_with (number_at public 0)) (OtsType.type_with (number_at public 4)) public message signature

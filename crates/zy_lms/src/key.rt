@@ -6,6 +6,7 @@ ghost use Rattle.zy_lms.specs.declared.key.SignFault.TheVariants.{Want as OutOfM
 ghost use Rattle.zy_lms.specs.Height.{levels_of};
 ghost use Rattle.zy_lms.specs.Tree.{path_from};
 ghost use Rattle.zy_lms.specs.Nodes.{HoldsNodes};
+ghost use Rattle.zy_lms.specs.KeyState.{IsKey};
 ghost use Rattle.zy_lms.specs.Lms.{public_of, signature_of, leaf_of, Verifies};
 
 use crate::height::Height;
@@ -46,16 +47,15 @@ pub struct LmsKey {
 }
 
 impl Model for LmsKey {
-    ghost use Rattle.std.specs.Prelude.{◌≤◌, ◌^◌};
     ghost use Rattle.zy_lms.specs.Height.{levels_of};
     ghost use Rattle.zy_lms.specs.Nodes.{HoldsNodes};
-    ghost use Rattle.zy_lms.specs.KeyState.{KeyState};
+    ghost use Rattle.zy_lms.specs.KeyState.{KeyState, IsKey};
 
     ghost Value = { KeyState };
 
     ghost view = { λ k. record { seed = k.seed; id = k.id; height = k.height; ots = k.ots; next = k.next } };
 
-    ghost invariant = { λ k. (k.next ≤ 2 ^ levels_of k.height) × HoldsNodes k.ots k.id k.seed (levels_of k.height) k.nodes.items 1 };
+    ghost invariant = { λ k. IsKey (record { seed = k.seed; id = k.id; height = k.height; ots = k.ots; next = k.next }) × HoldsNodes k.ots k.id k.seed (levels_of k.height) k.nodes.items 1 };
 }
 
 impl LmsKey {
@@ -97,6 +97,7 @@ impl LmsKey {
     pub fn left(&self) -> u32
         ensures left { result ≡ 2 ^ levels_of self.now.height - self.now.next }
         ensures within { self.now.next ≤ 2 ^ levels_of self.now.height }
+        ensures key { IsKey self.now }
     {
         self.height.leaf_count() - self.next
     }

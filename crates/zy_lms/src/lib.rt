@@ -5,6 +5,7 @@
 
 mod height;
 mod key;
+mod laws;
 #[cfg(test)]
 mod tests;
 mod tree;
@@ -12,4 +13,5 @@ mod verification;
 
 pub use height::Height;
 pub use key::{LmsKey, SignFault};
+pub use laws::signatures;
 pub use verification::verify;

@@ -5,7 +5,7 @@ ghost use Rattle.zy_ots.specs.Coef.{number_at};
 ghost use Rattle.zy_ots.specs.OtsType.{number_of};
 ghost use Rattle.zy_ots.specs.OneTime.{HasForm};
 ghost use Rattle.zy_lms.specs.Height.{type_number_of, levels_of};
-ghost use Rattle.zy_lms.specs.Lms.{Verifies, VerifiesAs, signature_len_of, leaf_of, ots_part, candidate_root};
+ghost use Rattle.zy_lms.specs.Lms.{Verifies, VerifiesAs, verified, signature_len_of, leaf_of, ots_part, candidate_root};
 
 use crate::height::Height;
 use crate::tree::{climb, leaf_node};
@@ -14,7 +14,8 @@ use zy_ots::{OtsType, ots_recover, u32_at};
 
 /// Whether `sig` is a signature of `message` under the public key. Takes no memory.
 pub fn verify(public: &[u8; 56], message: &[u8], sig: &[u8]) -> bool
-    ensures { IsTrue result ↔ Verifies public.now message.now sig.now }
+    ensures value { result ≡ verified public.now message.now sig.now }
+    ensures meaning { IsTrue result ↔ Verifies public.now message.now sig.now }
 {
     let height = Height::from_number(u32_at(public, 0));
     let ots = OtsType::from_number(u32_at(public, 4));

@@ -1,6 +1,6 @@
 -- LM-OTS keys and signatures (RFC 8554, sections 4.2 to 4.6). A key is named by its identifier id,
 -- its leaf number q, and the secret seed that its private values come from.
-use Rattle.std.specs.Prelude.{◌≡◌, ℕ, ◌+◌, ◌-◌, ◌*◌, List, [], ◌∷◌, ◌++◌, length, take, drop}
+use Rattle.std.specs.Prelude.{◌≡◌, ℕ, ◌+◌, ◌-◌, ◌*◌, ◌==◌, ◌&&◌, Bool, List, [], ◌∷◌, ◌++◌, length, take, drop}
 use Rattle.std.specs.Int.{w16, w32, to_be_bytes}
 use Rattle.sha2.specs.Sha256.{sha256}
 use Rattle.zy_ots.specs.declared.ots_type.OtsType.{OtsType}
@@ -54,6 +54,11 @@ signature_of t id q seed message =
 abbrev pub HasForm : OtsType → List ℕ → Type 0
 HasForm t signature =
     (length signature ≡ signature_len_of t) × (number_at signature 0 ≡ number_of t)
+
+-- the same as a test
+abbrev pub has_form : OtsType → List ℕ → Bool
+has_form t signature =
+    (length signature == signature_len_of t) && (number_at signature 0 == number_of t)
 
 -- y[i] of a signature
 abbrev pub value_at : List ℕ → ℕ → List ℕ

@@ -1,4 +1,4 @@
--- Public keys by party, and what a check of a signature says.
+-- Public keys by party.
 use Rattle.std.specs.Prelude.{ℕ, List, Option, slice_get}
 use Rattle.zy_base.specs.declared.ids.Party.{Party}
 use Rattle.zy_base.specs.declared.ids.Party.TheVariants.{Replica, Client}

@@ -1,3 +1,4 @@
 pub mod Keys
+pub mod Checking
 pub mod Sealing
 pub mod Derived

@@ -3,13 +3,18 @@ use Rattle.std.specs.Prelude.{◌≡◌, ℕ, ◌+◌, ◌≤◌, length}
 use Rattle.zy_base.specs.declared.ids.Party.{Party}
 use Rattle.zy_wire.specs.Spelling.{Spelling}
 use Rattle.zy_lms.specs.KeyState.{KeyState}
-use Rattle.zy_lms.specs.Lms.{Verifies, leaf_of, public_of}
+use Rattle.zy_lms.specs.Lms.{Verifies, leaf_of, public_of, signature_of}
 use Rattle.zy_parts.specs.declared.signed.Signed.{Signed}
 use Rattle.zy_parts.specs.Signing.{text_of}
 
 pub record SealerState : Type 0 where
   pub me : Party
   pub key : KeyState
+
+-- the statement with the signature of the party's next leaf on its signed text
+abbrev pub sealed_by : {S : Type 0} → ℕ → Spelling S → SealerState → S → Signed S
+sealed_by number fields sealer stmt =
+    record { by = sealer.me; stmt = stmt; sig = signature_of sealer.key (text_of number fields sealer.me stmt) }
 
 -- the statement as the party signs it: the next leaf signs its text, and the signature verifies under the own key
 pub record IsSealed {S : Type 0} (number : ℕ) (fields : Spelling S) (sealer : SealerState) (stmt : S) (signed : Signed S) : Type 0 where

@@ -1,6 +1,7 @@
 ghost use Rattle.std.specs.Prelude.{◌≡◌, ◌↔◌, ℕ, List, Option, option_copied, None, Some};
 ghost use Rattle.zy_lms.specs.Lms.{Verifies};
 
+use std::alloc::{AllocError, Global};
 use std::marker::Model;
 use zy_base::{ClientId, Party, ReplicaId};
 use zy_lms::verify;
@@ -8,6 +9,7 @@ use zy_lms::verify;
 /// The public keys of a group: LMS type, LM-OTS type, identifier and root (RFC 8554, section 5.3).
 #[derive(Drop)]
 pub struct Directory {
+    alloc: Global,
     replicas: Vec<[u8; 56]>,
     clients: Vec<[u8; 56]>,
 }
@@ -18,6 +20,18 @@ impl Model for Directory {
     ghost Value = { Keys };
 
     ghost view = { λ d. record { replicas = d.replicas.items; clients = d.clients.items } };
+}
+
+impl Clone for Directory {
+    ghost is_clone = { λ a b. b ≡ a };
+
+    fn clone(&self) -> Result<Directory, AllocError> {
+        Ok(Directory {
+            alloc: self.alloc,
+            replicas: Vec::from_slice(self.alloc, &self.replicas)?,
+            clients: Vec::from_slice(self.alloc, &self.clients)?,
+        })
+    }
 }
 
 /// What a check of a signature says.
@@ -34,11 +48,15 @@ pub enum SealAnswer {
 impl Directory {
     ghost use Rattle.zy_seal.specs.Keys.{key_of};
 
-    /// The keys in the order of the parties' numbers. Takes no memory.
-    pub fn new(replicas: Vec<[u8; 56]>, clients: Vec<[u8; 56]>) -> Directory
+    /// The keys in the order of the parties' numbers. Takes no memory: a copy takes it from `alloc`.
+    pub fn new(alloc: Global, replicas: Vec<[u8; 56]>, clients: Vec<[u8; 56]>) -> Directory
         ensures { result ≡ record { replicas = replicas.items; clients = clients.items } }
     {
-        Directory { replicas, clients }
+        Directory {
+            alloc,
+            replicas,
+            clients,
+        }
     }
 
     pub fn key(&self, by: Party) -> Option<&[u8; 56]>
@@ -52,9 +70,11 @@ impl Directory {
 }
 
 ghost use Rattle.zy_seal.specs.Keys.{key_of};
+ghost use Rattle.zy_seal.specs.Checking.{answer_of};
 
 /// Whether the party signed the text. Takes no memory.
 pub fn check(directory: &Directory, by: Party, text: &[u8], sig: &[u8]) -> SealAnswer
+    ensures value { result ≡ answer_of directory.now by text.now sig.now }
     ensures unknown { (result ≡ SealAnswer.UnknownParty) ↔ (key_of directory.now by ≡ None) }
     ensures yes { (result ≡ SealAnswer.Yes) ↔ ((key : List ℕ) × (key_of directory.now by ≡ Some key) × Verifies key text.now sig.now) }
 {

@@ -3,10 +3,12 @@
 
 mod derived;
 mod directory;
+mod laws;
 mod sealer;
 
 pub use derived::{party_id, party_seed};
 pub use directory::{Directory, SealAnswer, check};
+pub use laws::seals;
 pub use sealer::{SealFault, Sealer};
 
 #[cfg(test)]

@@ -1,5 +1,6 @@
 ghost use Rattle.std.specs.Prelude.{◌≡◌, ◌-◌, ◌^◌, ◌≤◌, ◌↔◌, IfOk, OnOk, OnErr, IsErrOf};
 ghost use Rattle.zy_lms.specs.Height.{levels_of};
+ghost use Rattle.zy_lms.specs.KeyState.{IsKey};
 ghost use Rattle.zy_seal.specs.declared.sealer.SealFault.TheVariants.{KeySpent};
 
 use std::alloc::Global;
@@ -43,7 +44,7 @@ impl Model for Sealer {
 }
 
 impl Sealer {
-    ghost use Rattle.zy_seal.specs.Sealing.{IsSealed, spent_one};
+    ghost use Rattle.zy_seal.specs.Sealing.{IsSealed, sealed_by, spent_one};
 
     /// Takes no memory. What is sealed takes it from `alloc`.
     pub fn new(alloc: Global, me: Party, key: LmsKey) -> Sealer
@@ -55,6 +56,7 @@ impl Sealer {
     /// The statement with the own signature on its signed text, by the next leaf, which signs nothing else.
     pub fn seal<S: Statement>(&mut self, stmt: S) -> Result<Signed<S>, SealFault>
         requires { S.in_range stmt }
+        ensures value { IfOk result (λ s. s ≡ sealed_by S.its_number S.spelling self.old stmt) }
         ensures sealed { IfOk result (IsSealed S.its_number S.spelling self.old stmt) }
         ensures spent_one { OnOk result (self.new ≡ spent_one self.old) }
         ensures spent { IsErrOf result SealFault.KeySpent ↔ (self.old.key.next ≡ 2 ^ levels_of self.old.key.height) }
@@ -75,10 +77,18 @@ impl Sealer {
         }
     }
 
+    /// The party that signs.
+    pub fn party(&self) -> Party
+        ensures { result ≡ self.now.me }
+    {
+        self.me
+    }
+
     /// How many leaves have not signed yet.
     pub fn left(&self) -> u32
         ensures left { result ≡ 2 ^ levels_of self.now.key.height - self.now.key.next }
         ensures within { self.now.key.next ≤ 2 ^ levels_of self.now.key.height }
+        ensures key { IsKey self.now.key }
     {
         self.key.left()
     }

@@ -14,7 +14,7 @@ const CLIENT: Party = Party::Client(ClientId(0));
 fn last_leaf(alloc: Global) -> Result<(Sealer, Directory), Fail> {
     let key = LmsKey::make(alloc, &[7; 32], &[9; 16], Height::H5, OtsType::W4, 31)?;
     let public = key.public();
-    let directory = Directory::new(vec![in alloc; public]?, vec![in alloc; public]?);
+    let directory = Directory::new(alloc, vec![in alloc; public]?, vec![in alloc; public]?);
     Ok((Sealer::new(alloc, REPLICA, key), directory))
 }
 
@@ -22,14 +22,18 @@ fn last_leaf(alloc: Global) -> Result<(Sealer, Directory), Fail> {
 fn seals_and_checks(rt: HostRuntime) -> Result<(), Fail> {
     let alloc = rt.alloc();
     let (mut sealer, directory) = last_leaf(alloc)?;
-    assert_eq!(rt; (sealer.left(), sealer.next_leaf()), (1, 31));
+    assert_eq!(rt;
+        (sealer.party(), sealer.left(), sealer.next_leaf()),
+        (REPLICA, 1, 31)
+    );
     let hate = sealer.seal(Hate { view: View(3) })?;
     assert_eq!(rt; (sealer.left(), sealer.next_leaf()), (0, 32));
 
     let text = signed_text(alloc, REPLICA, &Hate { view: View(3) })?;
     let (text, sig) = (text.as_slice(), hate.sig.as_slice());
     assert_eq!(rt; check(&directory, REPLICA, text, sig), SealAnswer::Yes);
-    assert_eq!(rt; check(&directory, CLIENT, text, sig), SealAnswer::Yes);
+    let again = directory.clone()?;
+    assert_eq!(rt; check(&again, CLIENT, text, sig), SealAnswer::Yes);
     assert_eq!(rt;
         check(&directory, REPLICA, b"another", sig),
         SealAnswer::BadSignature

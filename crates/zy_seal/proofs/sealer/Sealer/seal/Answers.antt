@@ -1,17 +1,9 @@
-use Rattle.std.proofs.Common.{◌≡◌, ◌≤◌, List, ℕ, length, refl, ap, subst, ◌∙◌, arith}
-use Rattle.zy_ots.specs.declared.ots_type.OtsType.TheVariants.{W4, W8}
-use Rattle.zy_lms.specs.declared.height.Height.TheVariants.{H5, H10}
+use Rattle.std.proofs.Common.{◌≡◌, List, ℕ, refl, ap, subst, ◌∙◌}
 use Rattle.zy_lms.specs.Lms.{Verifies, public_of}
 use Rattle.zy_parts.specs.Signing.{text_of}
 use Rattle.zy_seal.specs.Sealing.{SealerState}
+use Rattle.zy_seal.proofs.SealedLemmas.{is_short}
 use Rattle.zy_seal.proofs.sealer.Sealer.seal.Goals as goal
-
--- a signature is far shorter than a statement allows
-is_short : (public message signature : List ℕ) → Verifies public message signature → length signature ≤ 8192
-is_short public message signature (H5, W4, v) = omega (arith, v.len)
-is_short public message signature (H5, W8, v) = omega (arith, v.len)
-is_short public message signature (H10, W4, v) = omega (arith, v.len)
-is_short public message signature (H10, W8, v) = omega (arith, v.len)
 
 pub returns-in-Ok-clause-sealed : goal.returns-in-Ok-clause-sealed
 returns-in-Ok-clause-sealed g c =
