@@ -1,12 +1,11 @@
-ghost use Rattle.std.specs.Prelude.{◌≡◌, ◌≤◌, length};
+ghost use Rattle.std.specs.Prelude.{◌≡◌};
 ghost use Rattle.zy_chain.specs.Entries.{digest_of_entry};
 ghost use Rattle.zy_parts.specs.Signing.{IsSignedInRange};
 ghost use Rattle.zy_parts.specs.Statements.{IsAskInRange};
 ghost use Rattle.zy_admit.specs.Judging.{asking, entry_of, newer, judge_fresh, judge_at_end};
 
-use sha2::{Digest as Hasher, Sha256};
 use zy_base::{Cause, ClientId, Digest, Party, Place, Stamp};
-use zy_chain::next_head;
+use zy_chain::{next_head, request_digest};
 use zy_parts::{Ask, Order, Signed};
 
 /// Where a replica stands when an order comes.
@@ -45,7 +44,7 @@ pub(crate) fn judge_new(order: &Order, ask: &Signed<Ask>, now: &Position) -> Adm
     if order.place > now.window {
         return Admit::Refused(Cause::WindowFull(now.window));
     }
-    let request = request_digest(ask);
+    let request = request_digest_of(ask);
     if order.request != request {
         return Admit::Refused(Cause::Unmatched);
     }
@@ -81,24 +80,11 @@ pub fn is_newer(stamp: Stamp, last: Option<Stamp>) -> bool
 }
 
 // The digest of the entry that a request asks for.
-fn request_digest(ask: &Signed<Ask>) -> Digest
+fn request_digest_of(ask: &Signed<Ask>) -> Digest
     requires { IsSignedInRange IsAskInRange ask.now }
     ensures { result ≡ digest_of_entry (entry_of ask.now) }
 {
-    digest_of(client_of(ask.by), ask.stmt.stamp, ask.stmt.op.as_slice())
-}
-
-#[tactic(auto, unfolding(zy_chain::specs::Entries::bytes_of_entry, zy_chain::specs::Entries::digest_of_entry))]
-fn digest_of(client: ClientId, stamp: Stamp, op: &[u8]) -> Digest
-    requires { length op.now ≤ 1100 }
-    ensures { result ≡ digest_of_entry (record { client = client; stamp = stamp; op = op.now }) }
-{
-    let mut hasher = Sha256::new();
-    hasher.update(&client.0.to_be_bytes());
-    hasher.update(&stamp.0.to_be_bytes());
-    hasher.update(&(op.len() as u16).to_be_bytes());
-    hasher.update(op);
-    Digest(hasher.finalize())
+    request_digest(client_of(ask.by), ask.stmt.stamp, ask.stmt.op.as_slice())
 }
 
 fn client_of(by: Party) -> ClientId

@@ -4,11 +4,13 @@
 mod derived;
 mod directory;
 mod laws;
+mod screening;
 mod sealer;
 
 pub use derived::{party_id, party_seed};
 pub use directory::{Directory, SealAnswer, check};
 pub use laws::seals;
+pub use screening::screen_parts;
 pub use sealer::{SealFault, Sealer};
 
 #[cfg(test)]

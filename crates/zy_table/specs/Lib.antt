@@ -4,5 +4,5 @@ pub mod Running
 pub mod Requests
 pub mod Orders
 pub mod Holes
-pub mod Screening
+pub mod Roles
 pub mod Step

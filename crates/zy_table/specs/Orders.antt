@@ -19,7 +19,7 @@ use Rattle.zy_admit.specs.Judging.{entry_of, judge_in}
 use Rattle.zy_table.specs.declared.deeds.To.TheVariants.{One}
 use Rattle.zy_table.specs.declared.deeds.Body.TheVariants as bodies
 use Rattle.zy_table.specs.declared.deeds.Act.TheVariants.{Says}
-use Rattle.zy_table.specs.State.{State, own_view, primary_of, window_of, stood_of, leaves_of, sealer_of, spent}
+use Rattle.zy_table.specs.State.{State, own_view, primary_of, window_of, stood_of, leaves_of, spent}
 use Rattle.zy_table.specs.Deeds.{Going, Outcome, send, act, refused, ends, begin}
 use Rattle.zy_table.specs.Running.{run}
 
@@ -65,7 +65,7 @@ hole_of s =
 -- the primary is asked for them
 abbrev pub ask_for_missing : {S : Type 0} → Rules S → State S → Going S
 ask_for_missing R s =
-    let signed = sealed_by numbers.hole hole_fields (sealer_of s) (hole_of s) in
+    let signed = sealed_by numbers.hole hole_fields s.sealer (hole_of s) in
     send (One (primary_of s.counts (own_view s))) (frames.FillHole signed)
     (act (Says (record { body = bodies.Hole (hole_of s); stood = stood_of R s })) (begin (record (spent s) { hole = Some signed })))
 

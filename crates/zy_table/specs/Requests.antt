@@ -22,7 +22,7 @@ use Rattle.zy_admit.specs.Judging.{same_digest, entry_of}
 use Rattle.zy_table.specs.declared.deeds.To.TheVariants.{All, One}
 use Rattle.zy_table.specs.declared.deeds.Body.TheVariants as bodies
 use Rattle.zy_table.specs.declared.deeds.Act.TheVariants.{Says}
-use Rattle.zy_table.specs.State.{State, own_view, is_leaving, is_primary, window_of, stood_of, leaves_of, sealer_of, spent, spec_to, with_spec}
+use Rattle.zy_table.specs.State.{State, own_view, is_leaving, is_primary, window_of, stood_of, leaves_of, spent, spec_to, with_spec}
 use Rattle.zy_table.specs.Deeds.{Going, Outcome, send, act, refused, ends, begin}
 use Rattle.zy_table.specs.Running.{spec_of, next_known, run}
 
@@ -45,7 +45,7 @@ response_of s signed known g =
 abbrev pub respond_anew : {S : Type 0} → Rules S → State S → Spec → Known → Outcome S
 respond_anew R s spec known =
     if nat_le 1 (leaves_of s)
-    then (let signed = sealed_by numbers.spec spec_fields (sealer_of s) spec in
+    then (let signed = sealed_by numbers.spec spec_fields s.sealer spec in
       ends Taken (response_of s signed known
       (act (Says (record { body = bodies.Spec spec; stood = stood_of R s })) (begin (with_spec (spent s) signed)))))
     else refused causes.KeySpent s
@@ -72,7 +72,7 @@ order_of R s ask =
 
 abbrev pub sealed_order : {S : Type 0} → Rules S → State S → Signed Ask → OrderFrame
 sealed_order R s ask =
-    record { order = sealed_by numbers.order order_fields (sealer_of s) (order_of R s ask); ask = ask }
+    record { order = sealed_by numbers.order order_fields s.sealer (order_of R s ask); ask = ask }
 
 -- the order is signed, kept and sent to all
 abbrev pub ordered : {S : Type 0} → Rules S → State S → Signed Ask → Going S

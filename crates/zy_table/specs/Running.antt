@@ -24,7 +24,7 @@ use Rattle.zy_table.specs.declared.deeds.To.TheVariants.{One}
 use Rattle.zy_table.specs.declared.deeds.Body.TheVariants as bodies
 use Rattle.zy_table.specs.declared.deeds.Got.{Got}
 use Rattle.zy_table.specs.declared.deeds.Act.TheVariants.{Says, Gains}
-use Rattle.zy_table.specs.State.{State, own_view, stood_of, leaves_of, sealer_of, spent, with_spec}
+use Rattle.zy_table.specs.State.{State, own_view, stood_of, leaves_of, spent, with_spec}
 use Rattle.zy_table.specs.Deeds.{Going, send, act}
 
 -- what an executed entry is answered with
@@ -62,7 +62,7 @@ executed R ask g =
 -- the response is signed, kept, and sent to the client with its order
 abbrev pub respond : {S : Type 0} → Rules S → OrderFrame → Spec → List ℕ → Going S → Going S
 respond R o spec reply g =
-    let signed = sealed_by numbers.spec spec_fields (sealer_of g.state) spec in
+    let signed = sealed_by numbers.spec spec_fields g.state.sealer spec in
     send (One (Client spec.client)) (frames.SpecResponse signed reply (Some o.order))
     (act (Says (record { body = bodies.Spec spec; stood = stood_of R g.state }))
     (record g { state = with_spec (spent g.state) signed }))

@@ -12,10 +12,9 @@ use Rattle.zy_base.specs.declared.step.Mode.{Mode}
 use Rattle.zy_base.specs.declared.step.Mode.TheVariants.{Active, Leaving}
 use Rattle.zy_base.specs.declared.step.Stood.{Stood}
 use Rattle.zy_base.specs.declared.step.Timers.{Timers}
-use Rattle.zy_lms.specs.KeyState.{KeyState}
 use Rattle.zy_lms.specs.Height.{levels_of}
 use Rattle.zy_seal.specs.Keys.{Keys}
-use Rattle.zy_seal.specs.Sealing.{SealerState}
+use Rattle.zy_seal.specs.Sealing.{SealerState, spent_one}
 use Rattle.zy_parts.specs.declared.signed.Signed.{Signed}
 use Rattle.zy_parts.specs.declared.statements.Spec.{Spec}
 use Rattle.zy_parts.specs.declared.statements.Hole.{Hole}
@@ -26,9 +25,9 @@ use Rattle.zy_admit.specs.Orders.{Orders, no_orders}
 pub record State (S : Type 0) : Type 0 where
   pub me : ReplicaId
   pub counts : Counts
-  -- the public keys of the group, and the own secret one
+  -- the public keys of the group, and itself with its secret key
   pub keys : Keys
-  pub key : KeyState
+  pub sealer : SealerState
   pub mode : Mode
   -- the last view in which it was active
   pub last_view : View
@@ -42,13 +41,13 @@ pub record State (S : Type 0) : Type 0 where
   pub specs : List (Option (Signed Spec))
 
 -- a replica that begins
-abbrev pub start_of : {S : Type 0} → Rules S → ℕ → ReplicaId → Counts → Keys → KeyState → State S
-start_of R interval me counts keys key =
+abbrev pub start_of : {S : Type 0} → Rules S → ℕ → ReplicaId → Counts → Keys → SealerState → State S
+start_of R interval me counts keys sealer =
     record {
       me = me;
       counts = counts;
       keys = keys;
-      key = key;
+      sealer = sealer;
       mode = Active (record { 0 = 0 });
       last_view = record { 0 = 0 };
       kept = record { interval = interval; base = origin R; entries = [] };
@@ -85,14 +84,11 @@ stood_of R s = record { mode = s.mode; length = record { 0 = last_place s.kept }
 
 -- how many statements it can still sign
 abbrev pub leaves_of : {S : Type 0} → State S → ℕ
-leaves_of s = 2 ^ levels_of s.key.height - s.key.next
-
-abbrev pub sealer_of : {S : Type 0} → State S → SealerState
-sealer_of s = record { me = Replica s.me; key = s.key }
+leaves_of s = 2 ^ levels_of s.sealer.key.height - s.sealer.key.next
 
 -- with one leaf spent
 abbrev pub spent : {S : Type 0} → State S → State S
-spent s = record s { key = record s.key { next = s.key.next + 1 } }
+spent s = record s { sealer = spent_one s.sealer }
 
 -- the own last response to a client
 abbrev pub spec_to : {S : Type 0} → State S → ClientId → Option (Signed Spec)

@@ -14,7 +14,8 @@ use Rattle.zy_frames.specs.declared.frame.Frame.TheVariants as frames
 use Rattle.zy_frames.specs.Frames.{frame_in, parts_of}
 use Rattle.zy_table.specs.State.{State}
 use Rattle.zy_table.specs.Deeds.{Outcome, refused, ends, begin}
-use Rattle.zy_table.specs.Screening.{screen, in_role, view_cause}
+use Rattle.zy_seal.specs.Screening.{screen}
+use Rattle.zy_table.specs.Roles.{in_role, view_cause}
 use Rattle.zy_table.specs.Requests.{request}
 use Rattle.zy_table.specs.Orders.{order}
 use Rattle.zy_table.specs.Holes.{fill_hole, ask_again}

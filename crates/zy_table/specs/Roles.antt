@@ -1,39 +1,13 @@
--- What is checked of every frame before its row.
-use Rattle.std.specs.Prelude.{ℕ, ◌%◌, nat_lt, nat_eq, ◌&&◌, Bool, true, false, if◌then◌else◌, List, Option, Some, None}
-use Rattle.std.specs.List.{list_any}
+-- Who may say a frame to whom, and in which view.
+use Rattle.std.specs.Prelude.{ℕ, ◌%◌, nat_lt, nat_eq, ◌&&◌, Bool, true, false, if◌then◌else◌, Option, Some, None}
 use Rattle.zy_base.specs.declared.cause.Cause.{Cause}
 use Rattle.zy_base.specs.declared.cause.Cause.TheVariants as causes
 use Rattle.zy_base.specs.declared.ids.Party.{Party}
 use Rattle.zy_base.specs.declared.ids.Party.TheVariants.{Replica, Client}
 use Rattle.zy_base.specs.declared.counts.Counts.{Counts}
-use Rattle.zy_parts.specs.declared.signed.Part.{Part}
 use Rattle.zy_frames.specs.declared.frame.Frame.{Frame}
 use Rattle.zy_frames.specs.declared.frame.Frame.TheVariants as frames
-use Rattle.zy_seal.specs.declared.directory.SealAnswer.{SealAnswer}
-use Rattle.zy_seal.specs.declared.directory.SealAnswer.TheVariants as answers
-use Rattle.zy_seal.specs.Keys.{Keys}
-use Rattle.zy_seal.specs.Checking.{answer_of}
 use Rattle.zy_table.specs.State.{State, own_view, is_leaving, is_primary}
-
--- ---- signatures: of all parts the signer is known, and then of all parts the signature verifies
-
-abbrev pub is_unknown : SealAnswer → Bool
-is_unknown answers.Yes = false
-is_unknown answers.UnknownParty = true
-is_unknown answers.BadSignature = false
-
-abbrev pub is_bad : SealAnswer → Bool
-is_bad answers.Yes = false
-is_bad answers.UnknownParty = false
-is_bad answers.BadSignature = true
-
-abbrev pub answer_to : Keys → Part → SealAnswer
-answer_to keys part = answer_of keys part.by part.text part.sig
-
-unfoldable pub screen : Keys → List Part → Option Cause
-screen keys parts =
-    if list_any (λ part. is_unknown (answer_to keys part)) parts then Some causes.UnknownParty
-    else (if list_any (λ part. is_bad (answer_to keys part)) parts then Some causes.BadSignature else None)
 
 -- ---- roles
 
