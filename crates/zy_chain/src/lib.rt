@@ -2,6 +2,7 @@
 #![tactic(auto)]
 
 mod entry;
+mod fields;
 mod spine;
 
 pub use entry::{EMPTY_HEAD, Entry, entry_bytes, entry_digest, next_head, request_digest};

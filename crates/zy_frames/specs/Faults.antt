@@ -1,6 +1,6 @@
 -- A reader's refusal as decoding answers it.
-use Rattle.zy_parts.specs.declared.fault.GetFault.{GetFault}
-use Rattle.zy_parts.specs.declared.fault.GetFault.TheVariants as gets
+use Rattle.zy_wire.specs.declared.get_fault.GetFault.{GetFault}
+use Rattle.zy_wire.specs.declared.get_fault.GetFault.TheVariants as gets
 use Rattle.zy_frames.specs.declared.fault.DecodeFault.{DecodeFault}
 use Rattle.zy_frames.specs.declared.fault.DecodeFault.TheVariants as faults
 

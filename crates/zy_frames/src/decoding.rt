@@ -1,14 +1,14 @@
 ghost use Rattle.std.specs.Prelude.{◌≡◌, ◌≤◌, length, Ok, IfOk};
 ghost use Rattle.zy_wire.specs.Kind.{frame_limit};
-ghost use Rattle.zy_parts.specs.Getting.{Took};
-ghost use Rattle.zy_frames.specs.Frames.{FitsFrame, IsFrameInRange, spelling, order, spec_response, ordered, of_kind, frame_in};
+ghost use Rattle.zy_wire.specs.Getting.{Took};
+ghost use Rattle.zy_frames.specs.Frames.{FitsFrame, IsFrameInRange, spelling, order, spec_response, of_kind, frame_in};
 ghost use Rattle.zy_frames.specs.Decoding.{Decodes};
 
 use crate::{DecodeFault, Frame, OrderFrame};
 use std::alloc::Global;
 use zy_base::{Bytes, FrameFault};
-use zy_parts::{GetFault, Items, Order, Signed, Spec, Spelled};
-use zy_wire::{Cut, kind_of};
+use zy_parts::{Order, Signed, Spec};
+use zy_wire::{Cut, GetFault, Items, Spelled, get_optional, kind_of};
 
 /// The frame that all of the bytes spell, each byte string copied once. A kind from 11 to 16 is refused as `Kind`.
 /// The fault is the first one from the left.
@@ -83,15 +83,4 @@ fn response(
     let reply = Bytes::from_slice(alloc, cut.bytes16(1100)?)?;
     let order = get_optional(alloc, cut)?;
     Ok((spec, reply, order))
-}
-
-#[tactic(auto, unfolding(zy_wire::specs::Fields::optional_at))]
-fn get_optional(alloc: Global, cut: &mut Cut<'_>) -> Result<Option<Signed<Order>>, GetFault>
-    ensures { Took (λ o. o) ordered cut.old result cut.new }
-{
-    if cut.flag()? {
-        Ok(Some(Signed::get(alloc, cut)?))
-    } else {
-        Ok(None)
-    }
 }

@@ -1,15 +1,11 @@
 ghost use Rattle.std.specs.Prelude.{◌≡◌, ◌≢◌, ◌<◌, ◌≤◌, ◌++◌, length, Err, OnOk, IfOk, IsErrOf};
 ghost use Rattle.zy_wire.specs.Kind.{frame_limit};
-ghost use Rattle.zy_wire.specs.Fields.{FitsOptional};
-ghost use Rattle.zy_parts.specs.Signing.{IsSignedInRange};
-ghost use Rattle.zy_parts.specs.Statements.{IsOrderInRange};
-ghost use Rattle.zy_frames.specs.Frames.{IsFrameInRange, FitsFrame, fields_of, spelling, kind_of_frame, ordered};
+ghost use Rattle.zy_frames.specs.Frames.{IsFrameInRange, FitsFrame, fields_of, spelling, kind_of_frame};
 
 use crate::{EncodeFault, Frame, OrderFrame};
 use std::alloc::Global;
 use zy_base::{Bytes, Want};
-use zy_parts::{Order, Signed, Spelled};
-use zy_wire::{MAX_FRAME, Put, VERSION};
+use zy_wire::{MAX_FRAME, Put, Spelled, VERSION, put_optional};
 
 /// The one spelling of a frame: the version, the kind and the fields. `TooLong` where it has more than 4,194,304 bytes.
 pub fn encode(alloc: Global, frame: &Frame) -> Result<Bytes, EncodeFault>
@@ -75,19 +71,5 @@ fn put_fields(frame: &Frame, out: &mut Put) -> Result<(), Want>
             second.put(out)
         }
         Frame::Checkpoint(check) => check.put(out),
-    }
-}
-
-#[tactic(auto, unfolding(zy_wire::specs::Fields::optional_bytes))]
-fn put_optional(order: &Option<Signed<Order>>, out: &mut Put) -> Result<(), Want>
-    requires { FitsOptional (IsSignedInRange IsOrderInRange) order.now }
-    ensures { OnOk result (ordered.Fits order.now × (out.new ≡ out.old ++ ordered.spell order.now)) }
-{
-    match order {
-        None => out.u8(0),
-        Some(order) => {
-            out.u8(1)?;
-            order.put(out)
-        }
     }
 }

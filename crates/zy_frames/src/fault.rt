@@ -4,7 +4,7 @@ ghost use Rattle.zy_frames.specs.declared.fault.EncodeFault.TheVariants as encod
 ghost use Rattle.zy_frames.specs.Faults.{decode_fault_of};
 
 use zy_base::{FrameFault, Want};
-use zy_parts::GetFault;
+use zy_wire::GetFault;
 
 /// Why bytes were not decoded.
 #[derive(Clone, Copy, Debug, PartialEq, Eq)]

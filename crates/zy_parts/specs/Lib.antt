@@ -1,5 +1,4 @@
 pub mod Numbers
-pub mod Getting
 pub mod Statements
 pub mod Signing
 pub mod Exact

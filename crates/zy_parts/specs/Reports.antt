@@ -1,10 +1,9 @@
 -- The fields of the statements of a view change, and of the report in one of them.
 use Rattle.std.specs.Prelude.{List, Option}
-use Rattle.std.specs.Int.{w32}
-use Rattle.zy_chain.specs.declared.entry.Entry.{Entry}
 use Rattle.zy_chain.specs.Entries.{IsEntryInRange}
-use Rattle.zy_wire.specs.Spelling.{Spelling, pair, converted, word}
-use Rattle.zy_wire.specs.Fields.{u62, digest, bytes16, list, optional, FitsList, FitsOptional}
+use Rattle.zy_chain.specs.Fields.{entry_fields}
+use Rattle.zy_wire.specs.Spelling.{Spelling, pair, converted}
+use Rattle.zy_wire.specs.Fields.{u62, digest, list, optional, FitsList, FitsOptional}
 use Rattle.zy_parts.specs.declared.reports.Began.{Began}
 use Rattle.zy_parts.specs.declared.reports.Fetch.{Fetch}
 use Rattle.zy_parts.specs.declared.reports.Told.{Told}
@@ -14,10 +13,6 @@ use Rattle.zy_parts.specs.declared.signed.Signed.{Signed}
 use Rattle.zy_parts.specs.declared.statements.Spec.{Spec}
 use Rattle.zy_parts.specs.Statements.{IsU62, spec_fields, IsSpecInRange, check_fields, IsCheckInRange}
 use Rattle.zy_parts.specs.Signing.{signed, IsSignedInRange}
-
--- an entry of a history
-unfoldable pub entry_fields : Spelling Entry
-entry_fields = converted (λ x. record { client = record { 0 = x.0 }; stamp = record { 0 = x.1.0 }; op = x.1.1 }) (λ e. (e.client.0, (e.stamp.0, e.op))) (pair (word w32) (pair (u62 0) (bytes16 1100)))
 
 unfoldable pub began_fields : Spelling Began
 began_fields = converted (λ x. record { view = record { 0 = x.0 }; place = record { 0 = x.1.0 }; head = x.1.1 }) (λ s. (s.view.0, (s.place.0, s.head))) (pair (u62 1) (pair (u62 0) digest))

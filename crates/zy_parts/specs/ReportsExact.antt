@@ -1,32 +1,17 @@
 -- The spellings of the statements of a view change are exact, and what has a spelling is in range.
 use Rattle.std.proofs.Common.{◌≡◌, refl, arith}
-use Rattle.std.specs.Int.{w16, w32}
-use Rattle.zy_chain.specs.declared.entry.Entry.{Entry}
-use Rattle.zy_chain.specs.Entries.{IsEntryInRange, bytes_of_entry, bytes_of_request}
-use Rattle.zy_wire.specs.Spelling.{IsExact, bytes_of}
-use Rattle.zy_wire.proofs.Parts.{pair-exact, converted-exact, word-exact, wide16, wide32}
-use Rattle.zy_wire.proofs.Laws.{u62-exact, digest-exact, sized-exact, list-exact, optional-exact, FitsList-weaker, FitsOptional-weaker}
+use Rattle.zy_chain.specs.Fields.{entry-exact, entry-in_range}
+use Rattle.zy_wire.specs.Spelling.{IsExact}
+use Rattle.zy_wire.proofs.Parts.{pair-exact, converted-exact}
+use Rattle.zy_wire.proofs.Laws.{u62-exact, digest-exact, list-exact, optional-exact, FitsList-weaker, FitsOptional-weaker}
 use Rattle.zy_parts.specs.Statements.{spec_fields, IsSpecInRange, check_fields, IsCheckInRange}
-use Rattle.zy_parts.specs.Reports.{entry_fields, began_fields, IsBeganInRange, fetch_fields, IsFetchInRange, certificate, told_fields, IsToldInRange, change_fields, IsChangeInRange, new_fields, IsNewInRange}
+use Rattle.zy_parts.specs.Reports.{began_fields, IsBeganInRange, fetch_fields, IsFetchInRange, certificate, told_fields, IsToldInRange, change_fields, IsChangeInRange, new_fields, IsNewInRange}
 use Rattle.zy_parts.specs.Exact.{signed-exact, signed-in_range, spec-exact, spec-in_range, check-exact, check-in_range}
 use Rattle.zy_parts.specs.declared.reports.Began.{Began}
 use Rattle.zy_parts.specs.declared.reports.Fetch.{Fetch}
 use Rattle.zy_parts.specs.declared.reports.Told.{Told}
 use Rattle.zy_parts.specs.declared.reports.Change.{Change}
 use Rattle.zy_parts.specs.declared.reports.New.{New}
-
--- an entry's fields are the bytes of which its digest is made
-pub entry-is_bytes : (e : Entry) → entry_fields.spell e ≡ bytes_of_entry e
-unfolding entry_fields bytes_of bytes_of_request
-entry-is_bytes e = refl
-
-pub entry-exact : IsExact entry_fields
-unfolding entry_fields
-entry-exact = converted-exact _ _ _ (pair-exact _ _ (word-exact w32 wide32) (pair-exact _ _ (u62-exact 0) (sized-exact w16 1100 wide16 (omega arith)))) (λ s. refl) (λ x. refl)
-
-pub entry-in_range : (e : Entry) → entry_fields.Fits e → IsEntryInRange e
-unfolding entry_fields
-entry-in_range e fits = record { stamp = fits.1.0.1; op = fits.1.1 }
 
 pub began-exact : IsExact began_fields
 unfolding began_fields

@@ -3,6 +3,8 @@ use Rattle.std.specs.Prelude.{ℕ, ◌^◌, ◌<◌, ◌≤◌, length, Option, 
 use Rattle.std.specs.Int.{w32}
 use Rattle.zy_wire.specs.Spelling.{Spelling, pair, converted, refined, word}
 use Rattle.zy_wire.specs.Fields.{u62, digest, bytes16}
+use Rattle.zy_base.specs.declared.ids.ClientId.{ClientId}
+use Rattle.zy_chain.specs.declared.entry.Entry.{Entry}
 use Rattle.zy_parts.specs.declared.statements.Ask.{Ask}
 use Rattle.zy_parts.specs.declared.statements.Order.{Order}
 use Rattle.zy_parts.specs.declared.statements.Spec.{Spec}
@@ -67,3 +69,7 @@ check_fields = converted (λ x. record { view = record { 0 = x.0 }; place = reco
 
 abbrev pub IsCheckInRange : Check → Type 0
 IsCheckInRange s = IsU62 0 s.view.0 × IsU62 1 s.place.0
+
+-- the entry of a history that a client's ask stands for
+abbrev pub entry_of : ClientId → Ask → Entry
+entry_of client ask = record { client = client; stamp = ask.stamp; op = ask.op }

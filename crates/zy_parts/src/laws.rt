@@ -1,17 +1,9 @@
 ghost use Rattle.std.specs.Prelude.{◌≡◌};
 ghost use Rattle.zy_base.specs.declared.ids.Party.{Party};
-ghost use Rattle.zy_wire.specs.Spelling.{IsExact};
 ghost use Rattle.zy_wire.specs.Fields.{IsParty};
 ghost use Rattle.zy_parts.specs.Signing.{text_of};
 
-use crate::{Spelled, Statement};
-
-/// A value's spelling is exact: what is read was written so, byte for byte, and is in range, and what was written is
-/// read back, whatever stands behind it.
-pub fn spellings<T: Spelled>()
-    ensures exact { IsExact T.spelling }
-    ensures in_range { (x : T) → T.spelling.Fits x → T.in_range x }
-{}
+use crate::Statement;
 
 /// A signed text says who signed what: two texts that are one have one number, one signer and equal fields.
 pub fn one_statement<S: Statement, T: Statement>()

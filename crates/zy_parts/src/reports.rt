@@ -1,18 +1,17 @@
 ghost use Rattle.zy_parts.specs.Numbers as numbers;
 ghost use Rattle.std.specs.Prelude.{◌≡◌, ◌++◌, OnOk, IfOk};
 ghost use Rattle.zy_wire.specs.Fields.{FitsList, FitsOptional};
-ghost use Rattle.zy_parts.specs.Getting.{Gets};
+ghost use Rattle.zy_wire.specs.Getting.{Gets};
 ghost use Rattle.zy_parts.specs.Signing.{IsSignedInRange};
 ghost use Rattle.zy_parts.specs.Statements.{IsSpecInRange};
-ghost use Rattle.zy_chain.specs.Entries.{IsEntryInRange};
-ghost use Rattle.zy_parts.specs.Reports.{entry_fields, began_fields, IsBeganInRange, fetch_fields, IsFetchInRange, certificate, told_fields, IsToldInRange, change_fields, IsChangeInRange, new_fields, IsNewInRange};
-ghost use Rattle.zy_parts.specs.ReportsExact.{entry-exact, entry-in_range, began-exact, began-in_range, fetch-exact, fetch-in_range, told-exact, told-in_range, change-exact, change-in_range, new-exact, new-in_range};
+ghost use Rattle.zy_parts.specs.Reports.{began_fields, IsBeganInRange, fetch_fields, IsFetchInRange, certificate, told_fields, IsToldInRange, change_fields, IsChangeInRange, new_fields, IsNewInRange};
+ghost use Rattle.zy_parts.specs.ReportsExact.{began-exact, began-in_range, fetch-exact, fetch-in_range, told-exact, told-in_range, change-exact, change-in_range, new-exact, new-in_range};
 
-use crate::{Check, GetFault, Items, Signed, Spec, Spelled, Statement};
+use crate::{Check, Signed, Spec, Statement};
 use std::alloc::Global;
-use zy_base::{Bytes, ClientId, Digest, Place, Stamp, View, Want};
+use zy_base::{Digest, Place, View, Want};
 use zy_chain::Entry;
-use zy_wire::{Cut, Put};
+use zy_wire::{Cut, GetFault, Items, Put, Spelled};
 
 /// A replica confirms the choice of a new view: the place and the head with which the view begins.
 #[derive(Clone, Copy, Debug, PartialEq, Eq)]
@@ -61,35 +60,6 @@ pub struct Change {
 pub struct New {
     pub view: View,
     pub changes: Items<Signed<Change>>,
-}
-
-impl Spelled for Entry {
-    ghost spelling = { entry_fields };
-
-    ghost in_range = { IsEntryInRange };
-
-    ghost exact = { entry-exact };
-
-    ghost fits_in_range = { entry-in_range };
-
-    #[tactic(auto, unfolding(crate::specs::Reports::entry_fields))]
-    fn put(&self, out: &mut Put) -> Result<(), Want> {
-        out.u32(self.client.0)?;
-        out.u64(self.stamp.0)?;
-        out.bytes16(self.op.as_slice())
-    }
-
-    #[tactic(auto, unfolding(crate::specs::Reports::entry_fields))]
-    fn get(alloc: Global, cut: &mut Cut<'_>) -> Result<Entry, GetFault> {
-        let mut ahead = cut.ahead();
-        let entry = Entry {
-            client: ClientId(ahead.u32()?),
-            stamp: Stamp(ahead.u62(0)?),
-            op: Bytes::from_slice(alloc, ahead.bytes16(1100)?)?,
-        };
-        *cut = ahead;
-        Ok(entry)
-    }
 }
 
 impl Spelled for Began {

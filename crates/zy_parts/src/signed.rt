@@ -2,10 +2,10 @@ ghost use Rattle.std.specs.Prelude.{◌≡◌, ◌++◌, OnOk, IfOk, All, map};
 ghost use Rattle.zy_parts.specs.Signing.{text_of, part_of, signed, IsSignedInRange};
 ghost use Rattle.zy_parts.specs.Exact.{signed-exact, signed-in_range};
 
-use crate::{GetFault, Spelled, Statement};
+use crate::Statement;
 use std::alloc::Global;
 use zy_base::{Bytes, Party, Want};
-use zy_wire::{Cut, Put};
+use zy_wire::{Cut, GetFault, Put, Spelled};
 
 /// A statement with its signer and the signature, of at most 8,192 bytes, on its signed text.
 #[derive(Clone, Debug, Drop)]

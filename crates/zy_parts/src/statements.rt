@@ -1,12 +1,14 @@
+ghost use Rattle.zy_chain.specs.Entries.{IsEntryInRange};
 ghost use Rattle.zy_parts.specs.Numbers as numbers;
-ghost use Rattle.std.specs.Prelude.{◌≡◌};
-ghost use Rattle.zy_parts.specs.Statements.{ask_fields, IsAskInRange, order_fields, IsOrderInRange, spec_fields, IsSpecInRange, local_fields, IsLocalInRange, confirm_fields, IsConfirmInRange, hole_fields, IsHoleInRange, hate_fields, IsHateInRange, check_fields, IsCheckInRange};
+ghost use Rattle.std.specs.Prelude.{◌≡◌, IfOk};
+ghost use Rattle.zy_parts.specs.Statements.{ask_fields, IsAskInRange, entry_of, order_fields, IsOrderInRange, spec_fields, IsSpecInRange, local_fields, IsLocalInRange, confirm_fields, IsConfirmInRange, hole_fields, IsHoleInRange, hate_fields, IsHateInRange, check_fields, IsCheckInRange};
 ghost use Rattle.zy_parts.specs.Exact.{ask-exact, ask-in_range, order-exact, order-in_range, spec-exact, spec-in_range, local-exact, local-in_range, confirm-exact, confirm-in_range, hole-exact, hole-in_range, hate-exact, hate-in_range, check-exact, check-in_range};
 
-use crate::{GetFault, Spelled, Statement};
+use crate::Statement;
 use std::alloc::Global;
 use zy_base::{Bytes, ClientId, Digest, FrameFault, Place, Stamp, View, Want};
-use zy_wire::{Cut, Put};
+use zy_chain::Entry;
+use zy_wire::{Cut, GetFault, Put, Spelled};
 
 /// A client's request: a stamp that rises with each of its requests, and an operation of at most 1,100 bytes.
 #[derive(Clone, Debug, Drop)]
@@ -98,6 +100,21 @@ impl Spelled for Ask {
         };
         *cut = ahead;
         Ok(ask)
+    }
+}
+
+impl Ask {
+    /// The entry of a history that it stands for where this client asks.
+    pub fn entry(&self, client: ClientId) -> Result<Entry, Want>
+        requires { IsAskInRange self.now }
+        ensures value { IfOk result (λ e. e ≡ entry_of client self.now) }
+        ensures in_range { IfOk result IsEntryInRange }
+    {
+        Ok(Entry {
+            client,
+            stamp: self.stamp,
+            op: self.op.clone()?,
+        })
     }
 }
 

@@ -2,7 +2,7 @@ use super::*;
 use std::alloc::Global;
 use std::test::Fail;
 use zy_base::{Bytes, ClientId, Party, ReplicaId};
-use zy_wire::Cut;
+use zy_wire::{Cut, GetFault, Spelled};
 
 // A signed text of each statement.
 const ASK: &[u8] =

@@ -3,3 +3,4 @@ pub mod Laws
 pub mod Choices
 pub mod KindLaws
 pub mod Lengths
+pub mod Loop

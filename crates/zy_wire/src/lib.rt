@@ -4,15 +4,23 @@
 
 mod cut;
 mod exact;
+mod get_fault;
+mod items;
 mod kind;
+mod optional;
 mod party;
 mod put;
+mod spelled;
 
 pub use cut::Cut;
-pub use exact::fields;
+pub use exact::{fields, spellings};
+pub use get_fault::GetFault;
+pub use items::Items;
 pub use kind::{MAX_FRAME, MAX_KIND, VERSION, kind_of};
+pub use optional::{get_optional, put_optional};
 pub use party::party_array;
 pub use put::Put;
+pub use spelled::Spelled;
 
 #[cfg(test)]
 mod tests;

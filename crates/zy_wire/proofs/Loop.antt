@@ -2,9 +2,9 @@
 use Rattle.std.proofs.Common.{◌≡◌, ℕ, suc, ◌-◌, ◌+◌, ◌<◌, List, [], ◌∷◌, ◌++◌, Result, Ok, Err, refl, sym, ap, ◌∙◌, append_assoc, arith}
 use Rattle.zy_base.specs.declared.frame_fault.FrameFault.{FrameFault}
 use Rattle.zy_wire.specs.Spelling.{Spelling, ◌>>=◌, repeated_at, repeated}
-use Rattle.zy_parts.specs.declared.fault.GetFault.{GetFault}
-use Rattle.zy_parts.specs.declared.fault.GetFault.TheVariants.{Frame, Want}
-use Rattle.zy_parts.specs.Getting.{IsFaultAt}
+use Rattle.zy_wire.specs.declared.get_fault.GetFault.{GetFault}
+use Rattle.zy_wire.specs.declared.get_fault.GetFault.TheVariants.{Frame, Want}
+use Rattle.zy_wire.specs.Getting.{IsFaultAt}
 
 -- what was read before, and what is still read
 abbrev pub with_front : {A : Type 0} → List A → Result (List A × List ℕ) FrameFault → Result (List A × List ℕ) FrameFault

@@ -1,14 +1,13 @@
-ghost use Rattle.std.specs.Prelude.{◌≡◌, ◌<◌, ◌^◌, ◌++◌, List, [], length, All, OnOk, IfOk};
+ghost use Rattle.std.specs.Prelude.{◌≡◌, ◌<◌, ◌^◌, ◌++◌, List, [], ◌∷◌, length, All, OnOk, OnErr, IfOk};
 ghost use Rattle.std.specs.List.{AllZip};
 ghost use Rattle.zy_wire.specs.Spelling.{repeated};
 ghost use Rattle.zy_wire.specs.Fields.{list, list_bytes, FitsList};
-ghost use Rattle.zy_parts.specs.Getting.{Gets, Took};
+ghost use Rattle.zy_wire.specs.Getting.{Gets, Took};
 
-use crate::{GetFault, Spelled};
+use crate::{Cut, GetFault, Put, Spelled};
 use std::alloc::{AllocError, Global};
 use std::marker::Model;
 use zy_base::Want;
-use zy_wire::{Cut, Put};
 
 /// Owned items in a row. Contracts see them as a list.
 #[derive(Debug, Drop)]
@@ -67,9 +66,20 @@ impl<T: Clone> Clone for Items<T> {
     }
 }
 
+impl<T: Drop> Items<T> {
+    /// Puts an item at the end, or leaves all as it is.
+    pub fn push(&mut self, item: T) -> Result<(), Want>
+        ensures ok { OnOk result (self.new ≡ self.old ++ item ∷ []) }
+        ensures err { OnErr result (self.new ≡ self.old) }
+    {
+        self.items.push(item)?;
+        Ok(())
+    }
+}
+
 impl<T: Spelled> Items<T> {
     /// Writes the count in two bytes and then the items. After `Want` some of the bytes may stand at the end.
-    #[tactic(auto, unfolding(zy_wire::specs::Fields::list_bytes))]
+    #[tactic(auto, unfolding(crate::specs::Fields::list_bytes))]
     pub fn put(&self, out: &mut Put) -> Result<(), Want>
         requires count { length self.now < 2 ^ 16 }
         requires in_range { All T.in_range self.now }
@@ -87,7 +97,7 @@ impl<T: Spelled> Items<T> {
 
     /// Reads a count, which is `Range` where it isn't from `min` to `max`, and that many items. A refusal leaves all
     /// the bytes.
-    #[tactic(auto, unfolding(zy_wire::specs::Fields::list_at))]
+    #[tactic(auto, unfolding(crate::specs::Fields::list_at))]
     pub fn get(alloc: Global, cut: &mut Cut<'_>, min: u16, max: u16) -> Result<Items<T>, GetFault>
         ensures read { Gets (list min max T.spelling) cut.old result cut.new }
         ensures in_range { IfOk result (FitsList T.in_range min max) }

@@ -1,5 +1,5 @@
 ghost use Rattle.std.specs.Prelude.{◌≡◌};
-ghost use Rattle.zy_parts.specs.declared.fault.GetFault.TheVariants as faults;
+ghost use Rattle.zy_wire.specs.declared.get_fault.GetFault.TheVariants as faults;
 
 use std::alloc::{AllocError, AllocFailed};
 use zy_base::{FrameFault, Want};

@@ -1,4 +1,4 @@
-use Rattle.zy_parts.proofs.laws.spellings.Goals as goal
+use Rattle.zy_wire.proofs.exact.spellings.Goals as goal
 
 pub returns-clause-exact : goal.returns-clause-exact
 returns-clause-exact g c = g.met.T.Spelled.exact

@@ -1,8 +1,8 @@
 -- What readers that take memory answer and leave.
 use Rattle.std.specs.Prelude.{◌≡◌, ℕ, List, Result, Ok, Err}
 use Rattle.zy_wire.specs.Spelling.{Spelling}
-use Rattle.zy_parts.specs.declared.fault.GetFault.{GetFault}
-use Rattle.zy_parts.specs.declared.fault.GetFault.TheVariants.{Frame, Want}
+use Rattle.zy_wire.specs.declared.get_fault.GetFault.{GetFault}
+use Rattle.zy_wire.specs.declared.get_fault.GetFault.TheVariants.{Frame, Want}
 
 -- the fault that the bytes have, or want of memory
 abbrev pub IsFaultAt : {A : Type 0} → Spelling A → List ℕ → GetFault → Type 0
