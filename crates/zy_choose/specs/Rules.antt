@@ -2,7 +2,7 @@
 -- refusal names them.
 use Rattle.std.specs.Prelude.{◌≡◌, ℕ, ◌*◌, ◌^◌, ◌%◌, ◌<◌, ◌≤◌, All, IfSome, length}
 use Rattle.zy_chain.specs.Stretch.{Mark, Stretch, end_of}
-use Rattle.zy_choose.specs.Marks.{Has}
+use Rattle.zy_choose.specs.Marks.{Has, link}
 use Rattle.zy_choose.specs.Reports.{PlainReport}
 use Rattle.zy_choose.specs.declared.report.ReportRule.{ReportRule}
 use Rattle.zy_choose.specs.declared.report.ReportRule.TheVariants.{Stable, Entries, Began, Spec}
@@ -21,7 +21,7 @@ pub record AreEntriesInRange (interval : ℕ) (r : PlainReport) : Type 0 where
 -- a mark that isn't past the end, and is the stretch's where it isn't below the base
 pub record Fits (s : Stretch) (m : Mark) : Type 0 where
   pub within : m.place ≤ end_of s
-  pub shared : s.base.place ≤ m.place → Has s m
+  pub shared : s.base.place ≤ m.place → Has link s m
 
 pub record IsWellFormed (interval : ℕ) (r : PlainReport) : Type 0 where
   pub stable : IsStableInOrder interval r
