@@ -1,3 +1,4 @@
+pub mod Answer
 pub mod Choice
 pub mod Marks
 pub mod Reports

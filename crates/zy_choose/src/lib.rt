@@ -1,6 +1,10 @@
 //! The choice of the history with which a new view begins, out of the reports of those that left the views before.
 #![tactic(auto)]
 
+mod choice;
 mod report;
+mod rules;
 
+pub use choice::Choice;
 pub use report::{Report, ReportRule};
+pub use rules::well_formed;
