@@ -1,1 +1,5 @@
+pub mod AnchorLemmas
+pub mod ChoiceLemmas
+pub mod FurthestLemmas
 pub mod MarkLemmas
+pub mod ProviderLemmas

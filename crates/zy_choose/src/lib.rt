@@ -2,9 +2,10 @@
 #![tactic(auto)]
 
 mod choice;
+mod furthest;
 mod report;
 mod rules;
 
-pub use choice::Choice;
+pub use choice::{Choice, choose};
 pub use report::{Report, ReportRule};
 pub use rules::well_formed;

@@ -40,14 +40,18 @@ fn are_entries_in_range(report: &Report, interval: u64) -> bool
     ensures { IsTrue result ↔ AreEntriesInRange interval report.now }
 {
     let spine = &report.spine;
-    spine.end().0 - spine.base().0 <= 2 * interval && spine.end().0 < 1 << 62 && are_clients_known(spine)
+    spine.end().0 - spine.base().0 <= 2 * interval
+        && spine.end().0 < 1 << 62
+        && are_clients_known(spine)
 }
 
 fn are_clients_known(spine: &Spine) -> bool
     ensures { IsTrue result ↔ All (λ e. e.client.0 < 64) spine.now.entries }
 {
     for place in spine.base().0..spine.end().0 {
-        if let Some(entry) = spine.entry_at(Place(place + 1)) && entry.client.0 >= 64 {
+        if let Some(entry) = spine.entry_at(Place(place + 1))
+            && entry.client.0 >= 64
+        {
             return false;
         }
     }
