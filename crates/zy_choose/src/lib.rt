@@ -3,9 +3,11 @@
 
 mod choice;
 mod furthest;
+mod laws;
 mod report;
 mod rules;
 
 pub use choice::{Choice, choose};
+pub use laws::one_answer;
 pub use report::{Report, ReportRule};
 pub use rules::well_formed;
