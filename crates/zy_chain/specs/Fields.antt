@@ -6,7 +6,7 @@ use Rattle.zy_wire.specs.Fields.{u62, bytes16}
 use Rattle.zy_wire.proofs.Parts.{pair-exact, converted-exact, word-exact, wide16, wide32}
 use Rattle.zy_wire.proofs.Laws.{u62-exact, sized-exact}
 use Rattle.zy_chain.specs.declared.entry.Entry.{Entry}
-use Rattle.zy_chain.specs.Entries.{IsEntryInRange, bytes_of_entry}
+use Rattle.zy_chain.specs.Entries.{IsEntryInRange, bytes_of_entry, bytes_of_request}
 
 -- the client, the stamp, and the operation behind its length
 unfoldable pub entry_fields : Spelling Entry
@@ -14,7 +14,7 @@ entry_fields = converted (λ x. record { client = record { 0 = x.0 }; stamp = re
 
 -- an entry's fields are the bytes of which its digest is made
 pub entry-is_bytes : (e : Entry) → entry_fields.spell e ≡ bytes_of_entry e
-unfolding entry_fields bytes_of bytes_of_entry
+unfolding entry_fields bytes_of bytes_of_request
 entry-is_bytes e = refl
 
 pub entry-exact : IsExact entry_fields
