@@ -1,0 +1,4 @@
+pub mod Choice
+pub mod Marks
+pub mod Reports
+pub mod Rules
