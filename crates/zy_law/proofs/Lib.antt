@@ -1,0 +1,7 @@
+pub mod BeganOnce
+pub mod CountLemmas
+pub mod HistoryLemmas
+pub mod ListLemmas
+pub mod PastLemmas
+pub mod QuorumLemmas
+pub mod SpokeBeforeLeaving
