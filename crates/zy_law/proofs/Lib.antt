@@ -5,4 +5,5 @@ pub mod ListLemmas
 pub mod OneView
 pub mod PastLemmas
 pub mod QuorumLemmas
+pub mod ReportLemmas
 pub mod SpokeBeforeLeaving

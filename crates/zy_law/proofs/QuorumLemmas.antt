@@ -49,14 +49,14 @@ module _ (w : World) (lawful : IsLawful w) where
       let vouched : IsVouched w s r = subst (λ (q : ℕ). IsVouched w s q) found.4 (All_at (IsVouched w s) b.who found.0 found.1 found.2 b.vouched) in
       (record { within = vouched.within; honest = honest }, said_if_honest r s honest vouched.said)
 
-  both_among : (p q : ℕ → Bool) → w.counts.n + w.counts.f < count_below w.counts.n p + count_below w.counts.n q
-      → (r : ℕ) × (p r ≡ true) × (q r ≡ true) × (w.liar r ≡ false)
+  pub both_among : (p q : ℕ → Bool) → w.counts.n + w.counts.f < count_below w.counts.n p + count_below w.counts.n q
+      → (r : ℕ) × (p r ≡ true) × (q r ≡ true) × (w.liar r ≡ false) × (r < w.counts.n)
   both_among p q enough =
       let some : 0 < count_below w.counts.n (λ i. (p i && q i) && not (w.liar i)) = omega (arith, lawful.few_liars, count_shared w.counts.n p q w.liar) in
       let one = counted w.counts.n (λ i. (p i && q i) && not (w.liar i)) some in
       let parts = and_parts (p one.0 && q one.0) (not (w.liar one.0)) one.2 in
       let two = and_parts (p one.0) (q one.0) parts.0 in
-      (one.0, two.0, two.1, not-true (w.liar one.0) parts.1)
+      (one.0, two.0, two.1, not-true (w.liar one.0) parts.1, one.1)
 
   -- two quorums share a correct replica
   pub both_said : (k l : ℕ) (s t : Statement) → IsBacked w k s → IsBacked w l t → w.counts.n + w.counts.f < k + l
@@ -65,6 +65,11 @@ module _ (w : World) (lawful : IsLawful w) where
       let one = both_among (vouchers a) (vouchers b) (omega (arith, vouchers_count k s a, vouchers_count l t b)) in
       let first = vouchers_said k s a one.0 one.1 one.3 in
       (one.0, first.0, first.1, (vouchers_said l t b one.0 one.2 one.3).1)
+
+  pub someone : (r : ℕ) × IsCorrect w r
+  someone =
+      let one = both_among (λ i. true) (λ i. true) (omega (arith, count_everyone w.counts.n, w.counts.sound.two_certificates, w.counts.sound.certificate_in_reach)) in
+      (one.0, record { within = one.4; honest = one.3 })
 
   -- among more than f one is correct
   pub one_said : (k : ℕ) (s : Statement) → IsBacked w k s → w.counts.f < k → (r : ℕ) × IsCorrect w r × HasSaid w r s
