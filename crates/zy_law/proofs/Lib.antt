@@ -1,9 +1,14 @@
 pub mod BeganOnce
+pub mod ChoiceIsKnown
+pub mod Choosing
 pub mod CountLemmas
+pub mod GreatestView
 pub mod HistoryLemmas
+pub mod LaterBegin
 pub mod ListLemmas
 pub mod OneView
 pub mod PastLemmas
 pub mod QuorumLemmas
 pub mod ReportLemmas
+pub mod SlowPlaces
 pub mod SpokeBeforeLeaving
