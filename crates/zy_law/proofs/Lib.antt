@@ -1,7 +1,9 @@
 pub mod BeganOnce
+pub mod ChoiceExtends
 pub mod ChoiceIsKnown
 pub mod Choosing
 pub mod CountLemmas
+pub mod FastPlaces
 pub mod GreatestView
 pub mod HistoryLemmas
 pub mod LaterBegin

@@ -20,7 +20,7 @@ All_at P xs k x at all = subst P (get_or_from_slice_get xs k x x at) (all k x (s
 pub vouchers : {w : World} {k : ℕ} {s : Statement} → IsBacked w k s → ℕ → Bool
 vouchers b r = named (λ (x : ℕ). x) (λ x. true) b.who r
 
-pub everyone : List PlainReport → ℕ → Bool
+unfoldable pub everyone : List PlainReport → ℕ → Bool
 everyone reports r = named (λ (c : PlainReport). c.by) (λ c. true) reports r
 
 -- a correct replica's report in a valid new view
