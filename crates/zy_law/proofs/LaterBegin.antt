@@ -10,12 +10,12 @@ use Rattle.zy_law.proofs.ListLemmas.{Extends-itself, Extends-further, Extends-pa
 use Rattle.zy_law.proofs.BeganOnce.{begin_extends}
 use Rattle.zy_law.proofs.OneView.{solid_together}
 use Rattle.zy_law.proofs.OneView.IsSolid.{below}
-use Rattle.zy_law.proofs.Choosing.{Choosing, ground}
+use Rattle.zy_law.proofs.ReportedLemmas.{Reported, ground}
 
-module _ (w : World) (lawful : IsLawful w) (view : ℕ) (m : Mark) (c : Choosing w view m) where
-  pub earlier_carried : (earlier : ℕ) (k : Mark) → earlier < c.choice.view → IsFixed w earlier k → Extends w k c.choice.anchor
+module _ (w : World) (lawful : IsLawful w) (view : ℕ) (c : Reported w view) where
+  pub earlier_carried : (earlier : ℕ) (k : Mark) → earlier < c.last → IsFixed w earlier k → Extends w k c.anchor
   earlier_carried earlier k before fixed =
-      let g = ground w lawful view m c in
-      let to_begin = begin_extends w lawful c.choice.view earlier g.begin k g.is (c.safe c.choice.view g.earlier) before fixed in
-      let both = solid_together w lawful c.choice.view g.begin g.begin c.choice.anchor g.is g.known (below (Extends-itself w lawful g.begin)) g.solid in
-      Extends-further w lawful k g.begin c.choice.anchor to_begin (Extends-passed w lawful both.moment g.begin c.choice.anchor both.first both.second g.begin_order)
+      let g = ground w lawful view c in
+      let to_begin = begin_extends w lawful c.last earlier g.begin k g.is (c.safe c.last g.earlier) before fixed in
+      let both = solid_together w lawful c.last g.begin g.begin c.anchor g.is g.known (below (Extends-itself w lawful g.begin)) g.solid in
+      Extends-further w lawful k g.begin c.anchor to_begin (Extends-passed w lawful both.moment g.begin c.anchor both.first both.second g.begin_order)

@@ -1,7 +1,7 @@
 pub mod BeganOnce
 pub mod ChoiceExtends
 pub mod ChoiceIsKnown
-pub mod Choosing
+pub mod ReportedLemmas
 pub mod CountLemmas
 pub mod FastPlaces
 pub mod GreatestView

@@ -1,11 +1,11 @@
--- A valid new view with a choice, where the choices of all earlier views are safe: all that its reports prove lies on
+-- A valid new view with an anchor, where the choices of all earlier views are safe: all that its reports prove lies on
 -- one list with the begin of their greatest last view.
 use Rattle.std.proofs.Common.{◌≡◌, ℕ, ◌+◌, ◌<◌, ◌≤◌, ◌⊎◌, inl, inr, List, [], Option, Some, refl, sym, ap, ◌∙◌, subst, arith}
 use Rattle.std.specs.Prelude.{slice_get, IfSome}
 use Rattle.std.proofs.lemmas.Bool.{cases_lt}
 use Rattle.zy_chain.specs.Stretch.{Mark}
 use Rattle.zy_choose.specs.Reports.{PlainReport}
-use Rattle.zy_choose.specs.Choice.{IsChoice}
+use Rattle.zy_choose.specs.Choice.{IsGreatestView, last_in, IsAnchor}
 use Rattle.zy_law.specs.Fixed.{IsCertified, IsFixed}
 use Rattle.zy_law.specs.Histories.{origin}
 use Rattle.zy_law.specs.Reports.{IsProven, IsValidReport, IsValidNew}
@@ -23,20 +23,23 @@ use Rattle.zy_law.proofs.BeganOnce.{IsBegin, one_begin, begin_safe, begin_extend
 use Rattle.zy_law.proofs.OneView.{IsHeld, IsSolid, certified_held, fixed_held}
 use Rattle.zy_law.proofs.OneView.IsSolid.{below, held}
 
-pub record Choosing (w : World) (view : ℕ) (m : Mark) : Type 0 where
+pub record Reported (w : World) (view : ℕ) : Type 0 where
   pub reports : List PlainReport
   pub valid : IsValidNew w view reports
-  pub choice : IsChoice w.next w.counts.agree reports m
   pub safe : (earlier : ℕ) → earlier < view → AreChoicesSafe w earlier
+  pub last : ℕ
+  pub greatest : IsGreatestView reports last
+  pub anchor : Mark
+  pub anchored : IsAnchor (last_in last reports) anchor
 
 -- with what the greatest last view began, and where the anchor lies
-pub record Ground (w : World) (view : ℕ) (m : Mark) (c : Choosing w view m) : Type 0 where
+pub record Ground (w : World) (view : ℕ) (c : Reported w view) : Type 0 where
   pub begin : Mark
-  pub is : IsBegin w c.choice.view begin
-  pub known : IsKnown w (c.choice.view + 1) begin
-  pub earlier : c.choice.view < view
-  pub begin_order : begin.place ≤ c.choice.anchor.place
-  pub solid : IsSolid w c.choice.view begin c.choice.anchor
+  pub is : IsBegin w c.last begin
+  pub known : IsKnown w (c.last + 1) begin
+  pub earlier : c.last < view
+  pub begin_order : begin.place ≤ c.anchor.place
+  pub solid : IsSolid w c.last begin c.anchor
 
 module _ (w : World) (lawful : IsLawful w) where
   begin_known : (view : ℕ) (m : Mark) → IsBegin w view m → AreChoicesSafe w view → IsKnown w (view + 1) m
@@ -89,21 +92,21 @@ module _ (w : World) (lawful : IsLawful w) where
   pub report_proven : (view : ℕ) (reports : List PlainReport) (place : ℕ) (r : PlainReport) → IsValidNew w view reports → slice_get reports place ≡ Some r → IsProven w view r
   report_proven view reports place r valid at = (All_at (IsValidReport w view) reports place r at valid.each).proven
 
-  pub ground : (view : ℕ) (m : Mark) (c : Choosing w view m) → Ground w view m c
-  ground view m c =
-      let one = greatest_has c.reports c.choice.view c.choice.greatest in
+  pub ground : (view : ℕ) (c : Reported w view) → Ground w view c
+  ground view c =
+      let one = greatest_has c.reports c.last c.greatest in
       let proven = report_proven view c.reports one.1.place one.0 c.valid one.1.at in
-      let earlier : c.choice.view < view = omega (arith, proven.earlier, one.1.last) in
-      let safe = c.safe c.choice.view earlier in
-      let is = report_begin view c.choice.view one.0 proven one.1.last in
-      let anchor = anchor_proven c.reports c.choice.view c.choice.anchor c.choice.anchored in
+      let earlier : c.last < view = omega (arith, proven.earlier, one.1.last) in
+      let safe = c.safe c.last earlier in
+      let is = report_begin view c.last one.0 proven one.1.last in
+      let anchor = anchor_proven c.reports c.last c.anchor c.anchored in
       record {
         begin = one.0.began;
         is = is;
-        known = begin_known c.choice.view one.0.began is safe;
+        known = begin_known c.last one.0.began is safe;
         earlier = earlier;
-        begin_order = anchor_furthest c.reports c.choice.view c.choice.anchor one.0.began one.0 c.choice.anchored one.1 (began refl);
-        solid = proven_solid view c.choice.view one.0.began c.choice.anchor anchor.0 (report_proven view c.reports anchor.1.place anchor.0 c.valid anchor.1.at) anchor.1.last is safe anchor.2;
+        begin_order = anchor_furthest c.reports c.last c.anchor one.0.began one.0 c.anchored one.1 (began refl);
+        solid = proven_solid view c.last one.0.began c.anchor anchor.0 (report_proven view c.reports anchor.1.place anchor.0 c.valid anchor.1.at) anchor.1.last is safe anchor.2;
       }
 
   -- what a correct replica's report says is true of where it stood
