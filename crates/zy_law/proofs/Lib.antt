@@ -1,9 +1,10 @@
 pub mod BeganOnce
 pub mod ChoiceExtends
 pub mod ChoiceIsKnown
-pub mod ReportedLemmas
 pub mod CountLemmas
+pub mod EntriesAskedFor
 pub mod FastPlaces
+pub mod FixedForGood
 pub mod GreatestView
 pub mod HistoryLemmas
 pub mod LaterBegin
@@ -12,5 +13,6 @@ pub mod OneView
 pub mod PastLemmas
 pub mod QuorumLemmas
 pub mod ReportLemmas
+pub mod ReportedLemmas
 pub mod SlowPlaces
 pub mod SpokeBeforeLeaving

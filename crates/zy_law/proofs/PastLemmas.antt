@@ -42,7 +42,7 @@ module _ (w : World) (lawful : IsLawful w) where
   pub later : (r number other : ℕ) (a b : Stand) → IsCorrect w r → number ≤ other → Stood w r number a → Stood w r other b → IsNext a b
   later r number other a b correct order x y = steps r number (other - number) a b correct x (subst (λ (i : ℕ). Stood w r i b) (omega arith) y)
 
-  next_view : (a b : Stand) → IsNext a b → a.view ≤ b.view
+  pub next_view : (a b : Stand) → IsNext a b → a.view ≤ b.view
   next_view a b (inl x) = omega arith
   next_view a b (inr x) = omega arith
 

@@ -1,3 +1,4 @@
+pub mod Completed
 pub mod Counting
 pub mod Fixed
 pub mod Histories
