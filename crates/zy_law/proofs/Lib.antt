@@ -1,6 +1,7 @@
 pub mod BeganOnce
 pub mod ChoiceExtends
 pub mod ChoiceIsKnown
+pub mod CompletedLemmas
 pub mod CountLemmas
 pub mod EntriesAskedFor
 pub mod FastPlaces
@@ -9,8 +10,10 @@ pub mod GreatestView
 pub mod HistoryLemmas
 pub mod LaterBegin
 pub mod ListLemmas
+pub mod OneChoice
 pub mod OneView
 pub mod PastLemmas
+pub mod ProvenStates
 pub mod QuorumLemmas
 pub mod ReportLemmas
 pub mod ReportedLemmas

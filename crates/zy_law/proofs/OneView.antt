@@ -50,7 +50,7 @@ module _ (w : World) (lawful : IsLawful w) where
   quorums_meet k l (everyone a) (certificate b) = omega (arith, w.counts.sound.certificate_and_fast)
   quorums_meet k l (everyone a) (everyone b) = omega (arith, w.counts.sound.fast_and_change, w.counts.sound.two_agreements, w.counts.sound.change_in_reach)
 
-  one_of_quorum : (k : ℕ) → IsQuorum w k → w.counts.f < k
+  pub one_of_quorum : (k : ℕ) → IsQuorum w k → w.counts.f < k
   one_of_quorum k (certificate a) = omega (arith, w.counts.sound.two_certificates, w.counts.sound.certificate_in_reach)
   one_of_quorum k (everyone a) = omega (arith, w.counts.sound.certificate_and_fast, w.counts.sound.certificate_in_reach)
 

@@ -120,4 +120,4 @@ module _ (w : World) (lawful : IsLawful w) where
       let one = both_among (named (λ (c : PlainReport). c.by) test reports) (λ i. true) (omega (arith, reporters_count view reports test valid, count_everyone w.counts.n)) in
       let found = named_found (λ (c : PlainReport). c.by) test reports one.0 one.1 in
       let own = reporter_of view reports valid one.0 found.0 found.1 found.2 found.4 one.3 in
-      (one.0, own.0, own.1, ap test own.2 ∙ found.3)
+      (one.0, own.0, own.1, subst (λ (c : PlainReport). test c ≡ true) (sym own.2) found.3)

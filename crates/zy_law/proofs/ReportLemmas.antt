@@ -71,7 +71,7 @@ option_at (Some x) zero m at = at
 option_at (Some x) (suc k) m at = absurd cc
 option_at None k m at = absurd cc
 
-proven_at : (r : PlainReport) (k : ℕ) (m : Mark) → slice_get (proven r) k ≡ Some m → IsProvenBy r m
+pub proven_at : (r : PlainReport) (k : ℕ) (m : Mark) → slice_get (proven r) k ≡ Some m → IsProvenBy r m
 proven_at r zero m at = stable (sym (same_Some r.stretch.base m at))
 proven_at r (suc zero) m at = began (sym (same_Some r.began m at))
 proven_at r (suc (suc k)) m at = spec (option_at r.spec k m at)
@@ -90,7 +90,7 @@ pub record IsLastIn (reports : List PlainReport) (view : ℕ) (r : PlainReport) 
   pub at : slice_get reports place ≡ Some r
   pub last : r.last_view ≡ view
 
-last_at : (view : ℕ) (reports : List PlainReport) (k : ℕ) (r : PlainReport) → slice_get (last_in view reports) k ≡ Some r → IsLastIn reports view r
+pub last_at : (view : ℕ) (reports : List PlainReport) (k : ℕ) (r : PlainReport) → slice_get (last_in view reports) k ≡ Some r → IsLastIn reports view r
 last_at view reports k r at =
     let found = filter_at (λ (c : PlainReport). c.last_view == view) reports k r at in
     record { place = found.0; at = found.1; last = eqb-true r.last_view view found.2 }
@@ -142,7 +142,7 @@ supports_has next view anchor m r told =
 
 -- ---- the stretch of a history above one of its marks
 
-take_split : {A : Type 0} (a n : ℕ) (xs : List A) → a ≤ n → take n xs ≡ take a xs ++ take (n - a) (drop a xs)
+pub take_split : {A : Type 0} (a n : ℕ) (xs : List A) → a ≤ n → take n xs ≡ take a xs ++ take (n - a) (drop a xs)
 take_split {A} a n xs order =
     let sum : n ≡ a + (n - a) = omega arith in
     let rest : drop a (take n xs) ≡ take (n - a) (drop a xs) = ap (λ (k : ℕ). drop a (take k xs)) sum ∙ drop-take a (n - a) xs in

@@ -1,2 +1,9 @@
-//! Safety over all views, for every world in which correct replicas keep the rules of lawful conduct.
+//! Safety over all views, for every world in which the correct replicas keep the rules of lawful conduct. Each function
+//! here is a law: it has no argument and does nothing, and its contract speaks of all worlds.
 #![tactic(auto)]
+
+mod agreement;
+mod results;
+
+pub use agreement::{choice_extends, fixed_for_good, no_clash, one_view, views};
+pub use results::{completions, histories, proven_states};
