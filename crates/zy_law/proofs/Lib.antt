@@ -7,6 +7,7 @@ pub mod EntriesAskedFor
 pub mod FastPlaces
 pub mod FixedForGood
 pub mod GreatestView
+pub mod GrownLemmas
 pub mod HistoryLemmas
 pub mod LaterBegin
 pub mod ListLemmas
@@ -19,3 +20,4 @@ pub mod ReportLemmas
 pub mod ReportedLemmas
 pub mod SlowPlaces
 pub mod SpokeBeforeLeaving
+pub mod StepsLawful

@@ -6,4 +6,5 @@ pub mod Lawful
 pub mod Lists
 pub mod Reports
 pub mod Said
+pub mod Steps
 pub mod World
