@@ -7,10 +7,10 @@ use Rattle.std.proofs.lemmas.List.Elements.{All-weaker, Contains-append_left}
 use Rattle.std.proofs.lemmas.Option.{same_Some, slice_get_within}
 use Rattle.zy_base.specs.declared.ids.Digest.{Digest}
 use Rattle.zy_chain.specs.declared.entry.Entry.{Entry}
+use Rattle.zy_chain.specs.Heads.{empty_head}
 use Rattle.zy_chain.specs.Stretch.{Mark}
 use Rattle.zy_choose.specs.Reports.{PlainReport}
 use Rattle.zy_law.specs.Fixed.{IsCertified, IsFixed}
-use Rattle.zy_law.specs.Fixed.IsFixed.{fast, slow, stable}
 use Rattle.zy_law.specs.Histories.{AreKept}
 use Rattle.zy_law.specs.Reports.{IsProven, IsValidReport, IsValidNew}
 use Rattle.zy_law.specs.World.{Answer, Statement, Spoken, Stand, World}
@@ -18,6 +18,8 @@ use Rattle.zy_law.specs.World.Statement.{Check, Began, Change}
 use Rattle.zy_law.specs.Said.{IsCorrect, Says, Stood, Moment, HasSaid, IsVouched, IsBacked}
 use Rattle.zy_law.specs.Lawful.{StoodAt, IsTrueResponse, IsTrueVote, IsTrueCheck, IsTrueReport, IsCovered, IsVote, IsChosenStart, IsOrdered, IsAskedFor, AreAskedFor}
 use Rattle.zy_law.specs.Lists.{IsListOf}
+use Rattle.zy_law.specs.Completed.{Completion, IsCompleted}
+use Rattle.zy_law.specs.Completed.IsCompleted.{fast, slow}
 use Rattle.zy_law.specs.Steps.{grown, with_last}
 
 -- ---- one item more
@@ -117,6 +119,11 @@ pub AreKept-more : (kept more : Digest → Entry → Bool) (next : Digest → En
 AreKept-more kept more next keeps h [] all = tt
 AreKept-more kept more next keeps h (x ∷ xs) all = (keeps h x all.0, AreKept-more kept more next keeps (next h x) xs all.1)
 
+-- a list that was read back from the kept texts still is
+pub list_grown : (w : World) (asked : ℕ → List Entry) (said : ℕ → List Spoken) (past : ℕ → List Stand) (kept : Digest → Entry → Bool) → ((h : Digest) (e : Entry) → w.kept h e ≡ true → kept h e ≡ true)
+    → (m : Mark) (list : List Entry) → IsListOf w m list → IsListOf (grown w asked said past kept) m list
+list_grown w asked said past kept keeps m list is = record { long = is.long; head = is.head; texts = AreKept-more w.kept kept w.next keeps empty_head list is.texts }
+
 module _ (w : World) (asked : ℕ → List Entry) (said : ℕ → List Spoken) (past : ℕ → List Stand) (kept : Digest → Entry → Bool)
     (asks : (q : ℕ) (e : Entry) → Contains (w.asked q) e → Contains (asked q) e)
     (says : (q i : ℕ) (x : Spoken) → slice_get (w.said q) i ≡ Some x → slice_get (said q) i ≡ Some x)
@@ -147,9 +154,9 @@ module _ (w : World) (asked : ℕ → List Entry) (said : ℕ → List Spoken) (
   certified_grown view m c = (c.0, backed_grown _ _ c.1)
 
   pub fixed_grown : (view : ℕ) (m : Mark) → IsFixed w view m → IsFixed (grown w asked said past kept) view m
-  fixed_grown view m (fast a b) = fast a (backed_grown _ _ b)
-  fixed_grown view m (slow c b) = slow (certified_grown view m c) (backed_grown _ _ b)
-  fixed_grown view m (stable state b) = stable state (backed_grown _ _ b)
+  fixed_grown view m (IsFixed.fast a b) = IsFixed.fast a (backed_grown _ _ b)
+  fixed_grown view m (IsFixed.slow c b) = IsFixed.slow (certified_grown view m c) (backed_grown _ _ b)
+  fixed_grown view m (IsFixed.stable state b) = IsFixed.stable state (backed_grown _ _ b)
 
   spec_grown : (view : ℕ) (o : Option Mark) → IfSome o (IsCertified w view) → IfSome o (IsCertified (grown w asked said past kept) view)
   spec_grown view (Some m) c = certified_grown view m c
@@ -224,3 +231,7 @@ module _ (w : World) (asked : ℕ → List Entry) (said : ℕ → List Spoken) (
   asked_grown after history all place e beyond at =
       let own = all place e beyond at in
       record { asked = asked_or e.client.0 e own.asked; newer = own.newer }
+
+  pub completed_grown : (c : Completion) → IsCompleted w c → IsCompleted (grown w asked said past kept) c
+  completed_grown c (fast b) = fast (backed_grown _ _ b)
+  completed_grown c (slow b commits) = slow (backed_grown _ _ b) (backed_grown _ _ commits)

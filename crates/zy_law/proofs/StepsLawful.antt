@@ -12,7 +12,8 @@ use Rattle.zy_law.specs.World.{Answer, Statement, Spoken, Stand, World}
 use Rattle.zy_law.specs.World.Statement.{Order, Spec, Local, Check, Began, Change}
 use Rattle.zy_law.specs.Said.{IsCorrect, Says, Stood, Moment, IsBacked}
 use Rattle.zy_law.specs.Lawful.{IsLawful, IsNext, IsTrueResponse, IsTrueVote, IsTrueCheck, IsTrueReport, IsChosenStart, IsOrdered, AreAskedFor, view_of}
-use Rattle.zy_law.specs.Steps.{grown, with_last, after_saying, after_standing, after_asking, after_keeping, IsStart, MaySay, MayStand, MayKeep, MayTell, MayOrder, MayConfirm, MayLeave}
+use Rattle.zy_law.specs.Steps.{grown, with_last, after_saying, after_standing, after_asking, after_keeping, IsStart, MaySay, MayStand, MayKeep, MayTell, MayOrder, MayConfirm, MayLeave, Act, after_act, after_acts, May, AllMay}
+use Rattle.zy_law.specs.Steps.Act.{Say, Move}
 use Rattle.zy_law.proofs.PastLemmas.{one_stand}
 use Rattle.zy_law.proofs.GrownLemmas.{with_last-kept, with_last-longer, with_last-contains, each_item, each_pair, AreKept-more, correct_before, backed_grown, chosen_grown, response_grown, vote_grown, check_grown, report_grown, ordered_grown, asked_grown}
 
@@ -346,3 +347,11 @@ asking_lawful w client e lawful =
 
 pub keeping_lawful : (w : World) (kept : Digest → Entry → Bool) → IsLawful w → MayKeep w kept → IsLawful (after_keeping w kept)
 keeping_lawful w kept lawful may = more_lawful w lawful w.asked kept (λ q d has. has) may
+
+act_lawful : (w : World) (r : ℕ) (act : Act) → IsLawful w → May w r act → IsLawful (after_act w r act)
+act_lawful w r (Say x) lawful may = saying_lawful w lawful r x may
+act_lawful w r (Move b) lawful may = standing_lawful w lawful r b may
+
+pub acts_lawful : (w : World) (r : ℕ) (acts : List Act) → IsLawful w → AllMay w r acts → IsLawful (after_acts w r acts)
+acts_lawful w r [] lawful may = lawful
+acts_lawful w r (act ∷ acts) lawful may = acts_lawful (after_act w r act) r acts (act_lawful w r act lawful may.0) may.1

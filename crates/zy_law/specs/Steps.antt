@@ -107,3 +107,26 @@ pub record MayStand (w : World) (r : ℕ) (b : Stand) : Type 0 where
 pub record MayKeep (w : World) (kept : Digest → Entry → Bool) : Type 0 where
   pub more : (h : Digest) (e : Entry) → w.kept h e ≡ true → kept h e ≡ true
   pub one_text : (h k : Digest) (d e : Entry) → kept h d ≡ true → kept k e ≡ true → w.next h d ≡ w.next k e → (h ≡ k) × (d ≡ e)
+
+-- ---- acts of one replica, one after another
+
+pub data Act : Type 0 where
+  Say : Spoken → Act
+  Move : Stand → Act
+
+abbrev pub after_act : World → ℕ → Act → World
+after_act w r (Say x) = after_saying w r x
+after_act w r (Move b) = after_standing w r b
+
+abbrev pub after_acts : World → ℕ → List Act → World
+after_acts w r [] = w
+after_acts w r (act ∷ acts) = after_acts (after_act w r act) r acts
+
+abbrev pub May : World → ℕ → Act → Type 0
+May w r (Say x) = MaySay w r x
+May w r (Move b) = MayStand w r b
+
+-- each is allowed in the world after the earlier ones
+abbrev pub AllMay : World → ℕ → List Act → Type 0
+AllMay w r [] = Unit {0}
+AllMay w r (act ∷ acts) = May w r act × AllMay (after_act w r act) r acts

@@ -4,6 +4,8 @@
 
 mod agreement;
 mod results;
+mod steps;
 
 pub use agreement::{choice_extends, fixed_for_good, no_clash, one_view, views};
 pub use results::{completions, histories, proven_states};
+pub use steps::stays_lawful;
