@@ -1,0 +1,13 @@
+use Rattle.zy_law.proofs.StepsLawful.{start_lawful, saying_lawful, standing_lawful, asking_lawful, keeping_lawful, acts_lawful}
+use Rattle.zy_law.proofs.steps.stays_lawful.Goals as goal
+
+pub returns : goal.returns
+returns c =
+    record {
+      start = λ w start. start_lawful w start;
+      saying = λ w r x lawful may. saying_lawful w lawful r x may;
+      standing = λ w r b lawful may. standing_lawful w lawful r b may;
+      asking = λ w client e lawful. asking_lawful w client e lawful;
+      keeping = λ w kept lawful may. keeping_lawful w kept lawful may;
+      acts = λ w r acts lawful may. acts_lawful w r acts lawful may;
+    }

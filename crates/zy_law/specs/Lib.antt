@@ -1,0 +1,10 @@
+pub mod Completed
+pub mod Counting
+pub mod Fixed
+pub mod Histories
+pub mod Lawful
+pub mod Lists
+pub mod Reports
+pub mod Said
+pub mod Steps
+pub mod World
