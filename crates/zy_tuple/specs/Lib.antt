@@ -1,5 +1,6 @@
 pub mod Values
 pub mod Texts
 pub mod Reading
+pub mod Parties
 pub mod Script
 pub mod Bytes
