@@ -6,7 +6,8 @@ ghost use Rattle.zy_report.specs.Lines as lines;
 
 use crate::parts::put_number;
 use std::alloc::Global;
-use zy_base::{Bytes, ClientId, Place, Stamp, View, Want};
+use zy_base::{Bytes, Cause, ClientId, Party, Place, Stamp, View, Want};
+use zy_tuple::party_text_put;
 
 /// A client's ask is complete: `K done cC stamp T view V place N fast REPLY`, or `slow`, with a line feed. K is the
 /// number of the event, and without one the line begins with `done`. The reply is given by its text.
@@ -48,4 +49,36 @@ fn path_text(fast: bool) -> &'static [u8]
     ensures { result.now ≡ lines.path_text fast }
 {
     if fast { b" fast " } else { b" slow " }
+}
+
+/// What an event asked for was refused: `K refused PARTY NUMBER NAME` with a line feed, where PARTY is `world` for
+/// an event that no party heard.
+pub fn refused_line(
+    alloc: Global,
+    event: u64,
+    party: Option<Party>,
+    cause: &Cause,
+) -> Result<Bytes, Want>
+    ensures { IfOk result (λ line. line ≡ lines.refused_line event party cause.now) }
+{
+    let mut line = Vec::new(alloc);
+    put_number(alloc, &mut line, b"", event)?;
+    line.extend_from_slice(b" refused ")?;
+    put_place(alloc, &mut line, party)?;
+    put_number(alloc, &mut line, b" ", u64::from(cause.number()))?;
+    line.push(b' ')?;
+    line.extend_from_slice(cause.name().as_bytes())?;
+    line.push(b'\n')?;
+    Ok(Bytes::from(line))
+}
+
+// Who refused it.
+fn put_place(alloc: Global, out: &mut Vec<u8>, party: Option<Party>) -> Result<(), Want>
+    ensures { OnOk result (out.new.items ≡ out.old.items ++ lines.place_name party) }
+{
+    match party {
+        Some(party) => party_text_put(alloc, out, party)?,
+        None => out.extend_from_slice(b"world")?,
+    }
+    Ok(())
 }

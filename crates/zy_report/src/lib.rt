@@ -7,7 +7,10 @@ mod parts;
 mod replicas;
 mod replies;
 
-pub use events::done_line;
+pub use events::{done_line, refused_line};
 pub use key_file::{key_line, key_lines};
-pub use replicas::agreed_line;
+pub use replicas::{agreed_line, replica_line};
 pub use replies::reply_line;
+
+#[cfg(test)]
+mod tests;

@@ -2,5 +2,4 @@ pub mod Values
 pub mod Texts
 pub mod Reading
 pub mod Parties
-pub mod Script
 pub mod Bytes
