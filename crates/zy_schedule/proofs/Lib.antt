@@ -3,3 +3,6 @@ pub mod PartLaws
 pub mod ListLemmas
 pub mod ValueLaws
 pub mod PartsLaws
+pub mod FormLaws
+pub mod LineLaws
+pub mod TextLaws

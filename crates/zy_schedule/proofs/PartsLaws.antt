@@ -45,6 +45,12 @@ IsBehind ends.To rest = ends_part rest ≡ true
 IsBehind ends.Reply rest = ends_part rest ≡ true
 IsBehind ends.Line rest = rest ≡ []
 
+-- behind the end of the line nothing is left
+abbrev pub IsLeft : ListEnd → List ℕ → Type 0
+IsLeft ends.To rest = Unit {0}
+IsLeft ends.Reply rest = Unit {0}
+IsLeft ends.Line rest = rest ≡ []
+
 behind_word_is : (word rest : List ℕ) (read : Result (List ℕ) ℕ) → behind_word word read ≡ Some rest → read ≡ Ok rest
 behind_word_is word rest (Ok left) e = ap (λ (l : List ℕ). Ok l) (some_is left rest e)
 behind_word_is word rest (Err rule) e = absurd cc
@@ -55,11 +61,17 @@ ended_takes ends.Reply line rest e = keyword_takes (codes "reply") line rest (be
 ended_takes ends.Line [] rest e = some_is [] rest e
 ended_takes ends.Line (c ∷ line) rest e = absurd cc
 
+ended_left : (end : ListEnd) (line rest : List ℕ) → ended_at end line ≡ Some rest → IsLeft end rest
+ended_left ends.To line rest e = tt
+ended_left ends.Reply line rest e = tt
+ended_left ends.Line [] rest e = sym (some_is [] rest e)
+ended_left ends.Line (c ∷ line) rest e = absurd cc
+
 to_part : IsPart (codes "to")
-to_part = record { some = omega arith; plain = (refl, refl, tt) }
+to_part = record { some = omega arith; plain = (refl, (refl, tt)) }
 
 reply_part : IsPart (codes "reply")
-reply_part = record { some = omega arith; plain = (refl, refl, refl, refl, refl, tt) }
+reply_part = record { some = omega arith; plain = (refl, (refl, (refl, (refl, (refl, tt))))) }
 
 ended_again : (end : ListEnd) (rest : List ℕ) → IsBehind end rest → ended_at end (end_text end ++ rest) ≡ Some rest
 ended_again ends.To rest behind = ap (behind_word (codes "to")) (keyword_again (codes "to") rest to_part refl behind)
@@ -78,9 +90,9 @@ pub record IsRead {A : Type 0} (text : A → List ℕ) (Fits : A → Type 0) (re
   pub no_reply : read (codes "reply") ≡ Err rule
 
 other_word : {A : Type 0} (read : List ℕ → Result A ℕ) (part word : List ℕ) (x : A) (rule : ℕ) → read word ≡ Err rule → read part ≡ Ok x → bytes_eq part word ≡ false
-other_word {A} read part word x rule no yes =
+other_word {A} read part word x rule refused read_so =
     elim (cases_Bool (bytes_eq part word)) [
-      | inl same ↦ absurd (let both : Err rule ≡ Ok x = sym no ∙ ap read (sym (word_is part word same)) ∙ yes in cc)
+      | inl same ↦ absurd (let both : Err rule ≡ Ok x = sym refused ∙ ap read (sym (word_is part word same)) ∙ read_so in cc)
       | inr other ↦ other
     ]
 
@@ -103,7 +115,7 @@ item_again text Fits read is x rest fits behind = value_again read (text x) x re
 -- ---- lists
 
 -- items behind a space each
-abbrev items_text : {A : Type 0} → (A → List ℕ) → List A → List ℕ
+abbrev pub items_text : {A : Type 0} → (A → List ℕ) → List A → List ℕ
 items_text text xs = flat_map behind_space (map text xs)
 
 open_or : {A : Type 0} (o : Option (List ℕ)) (others : Result (List A × List ℕ) ℕ) (xs : List A) (rest : List ℕ) → unless_ended o others ≡ Ok (xs, rest) → ((o ≡ Some rest) × ([] ≡ xs)) ⊎ ((o ≡ None) × (others ≡ Ok (xs, rest)))
@@ -120,11 +132,12 @@ none_too_many (Err rule) made e = cc
 -- further items, and the end behind them
 pub record AreFurther {A : Type 0} (text : A → List ℕ) (Fits : A → Type 0) (end : ListEnd) (room : ℕ) (line : List ℕ) (xs : List A) (rest : List ℕ) : Type 0 where
   pub parts : line ≡ items_text text xs ++ (end_text end ++ rest)
+  pub left : IsLeft end rest
   pub few : length xs ≤ room
   pub fits : AllByRecursion Fits xs
 
 none_further : {A : Type 0} (text : A → List ℕ) (Fits : A → Type 0) (end : ListEnd) (room : ℕ) (line : List ℕ) (rest : List ℕ) → ended_at end line ≡ Some rest → AreFurther text Fits end room line [] rest
-none_further text Fits end room line rest e = record { parts = ended_takes end line rest e; few = omega arith; fits = tt }
+none_further text Fits end room line rest e = record { parts = ended_takes end line rest e; left = ended_left end line rest e; few = omega arith; fits = tt }
 
 further_takes : {A : Type 0} (text : A → List ℕ) (Fits : A → Type 0) (read : List ℕ → Result A ℕ) → IsRead text Fits read → (end : ListEnd) (room : ℕ) (line : List ℕ) (xs : List A) (rest : List ℕ) → further_at read end room line ≡ Ok (xs, rest) → AreFurther text Fits end room line xs rest
 unfolding further_at
@@ -145,6 +158,7 @@ further_takes {A} text Fits read is end (suc room) line xs rest e =
           let f = further_takes text Fits read is end room a.0.1 b.0.0 b.0.1 b.1 in
           subst (λ (y : List A × List ℕ). AreFurther text Fits end (suc room) line y.0 y.1) (ok_is made (xs, rest) b.2) (record {
             parts = t.0 ∙ ap (λ (l : List ℕ). 32 ∷ text a.0.0 ++ l) f.parts ∙ ap (λ (l : List ℕ). 32 ∷ l) (sym (append_assoc (text a.0.0) (items_text text b.0.0) (end_text end ++ b.0.1)));
+            left = f.left;
             few = omega (arith, f.few);
             fits = (t.1, f.fits);
           })
@@ -163,6 +177,7 @@ list_takes {A} text Fits read is end limit line xs rest some e =
     subst (λ (y : List A × List ℕ). AreFurther text Fits end limit line y.0 y.1 × (1 ≤ length y.0)) (ok_is made (xs, rest) b.2) (
       record {
         parts = t.0 ∙ ap (λ (l : List ℕ). 32 ∷ text a.0.0 ++ l) f.parts ∙ ap (λ (l : List ℕ). 32 ∷ l) (sym (append_assoc (text a.0.0) (items_text text b.0.0) (end_text end ++ b.0.1)));
+        left = f.left;
         few = omega (arith, f.few);
         fits = (t.1, f.fits);
       },

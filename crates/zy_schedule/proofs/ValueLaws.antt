@@ -140,8 +140,8 @@ word_is a b e = (bytes_eq-Decides a b).0 e
 
 pub kind_read_takes : (part : List ℕ) (kind : TimerKind) → kind_read part ≡ Ok kind → part ≡ kind_text kind
 kind_read_takes part kind e =
-    let answer = cond (bytes_eq part (codes "answer")) (Ok Answer) (Err 2) in
-    let change = cond (bytes_eq part (codes "change")) (Ok Change) answer in
+    let answer : Result TimerKind ℕ = cond (bytes_eq part (codes "answer")) (Ok Answer) (Err 2) in
+    let change : Result TimerKind ℕ = cond (bytes_eq part (codes "change")) (Ok Change) answer in
     elim (chosen (bytes_eq part (codes "request")) (Ok Request) change (Ok kind) e) [
       | inl s ↦ word_is part (codes "request") s.0 ∙ ap kind_text (ok_is Request kind s.1)
       | inr s ↦
@@ -159,9 +159,9 @@ kind_read_again Change = refl
 kind_read_again Answer = refl
 
 pub kind_part : (kind : TimerKind) → IsPart (kind_text kind)
-kind_part Request = record { some = omega arith; plain = (refl, refl, refl, refl, refl, refl, refl, tt) }
-kind_part Change = record { some = omega arith; plain = (refl, refl, refl, refl, refl, refl, tt) }
-kind_part Answer = record { some = omega arith; plain = (refl, refl, refl, refl, refl, refl, tt) }
+kind_part Request = record { some = omega arith; plain = (refl, (refl, (refl, (refl, (refl, (refl, (refl, tt))))))) }
+kind_part Change = record { some = omega arith; plain = (refl, (refl, (refl, (refl, (refl, (refl, tt)))))) }
+kind_part Answer = record { some = omega arith; plain = (refl, (refl, (refl, (refl, (refl, (refl, tt)))))) }
 
 -- ---- digits of hexadecimal
 
