@@ -1,4 +1,3 @@
 pub mod Known
-pub mod Lines
 pub mod Report
 pub mod Stops

@@ -6,7 +6,8 @@ use Rattle.hex.specs.Hex.{decode_sized}
 use Rattle.hex.specs.declared.error.FromHexError.{FromHexError}
 use Rattle.zy_base.specs.declared.ids.Party.{Party}
 use Rattle.zy_lms.specs.declared.height.Height.{Height}
-use Rattle.zy_top.specs.Keys.{party_read, height_read}
+use Rattle.zy_tuple.specs.Parties.{party_of}
+use Rattle.zy_top.specs.Keys.{height_read}
 
 -- what the words ask for
 pub data Command : Type 0 where
@@ -46,7 +47,7 @@ behind_party seed (Some by) (height ∷ words) = behind_height seed by (height_r
 abbrev pub behind_seed : Result (List ℕ) FromHexError → List (List ℕ) → Result Command ℕ
 behind_seed (Err fault) words = Err 2
 behind_seed (Ok seed) [] = Err 3
-behind_seed (Ok seed) (party ∷ words) = behind_party seed (party_read party) words
+behind_seed (Ok seed) (party ∷ words) = behind_party seed (party_of party) words
 
 -- behind `keys` stand 64 hexadecimal digits, a party and a height
 abbrev pub keys_words : List (List ℕ) → Result Command ℕ

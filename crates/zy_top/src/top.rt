@@ -84,7 +84,7 @@ fn run_keys<S: Sink>(
     ensures count { IsCounted (stops_writing result) (S.faults out.old) (S.faults out.new) }
 {
     let text = key_file(alloc, seed, by, height)?;
-    write_all(out, &text)
+    write_all(out, text.as_slice())
 }
 
 /// Runs the script in the file with this name.

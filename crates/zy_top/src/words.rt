@@ -3,10 +3,11 @@ ghost use Rattle.std.specs.Prelude.{◌≡◌};
 ghost use Rattle.zy_top.specs.Calls.{IsCommand};
 ghost use Rattle.zy_top.specs.Words.{command_of, space_words, keys_words, behind_seed, texts};
 
-use crate::keys::{height_read, party_read};
+use crate::keys::height_read;
 use hex::FromHex;
 use zy_base::Party;
 use zy_lms::Height;
+use zy_tuple::party_text_read;
 
 /// What the words ask for.
 #[derive(Clone, Copy)]
@@ -70,7 +71,7 @@ fn behind_seed(seed: [u8; 32], words: &[String]) -> Result<Command<'_>, u64>
     let [party, others @ ..] = words else {
         return Err(3);
     };
-    let Some(by) = party_read(party.as_bytes()) else {
+    let Some(by) = party_text_read(party.as_bytes()) else {
         return Err(3);
     };
     let [height, others @ ..] = others else {

@@ -1,5 +1,5 @@
 pub mod Values
 pub mod Texts
 pub mod Reading
-pub mod Script
+pub mod Parties
 pub mod Bytes

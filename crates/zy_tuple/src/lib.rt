@@ -3,6 +3,7 @@
 
 mod fault;
 mod matching;
+mod parties;
 mod reading;
 mod spelling;
 mod values;
@@ -10,6 +11,7 @@ mod writing;
 
 pub use fault::{LineFault, OpFault, ReplyFault};
 pub use matching::matches;
+pub use parties::{party_text_put, party_text_read};
 pub use reading::{numeral, op_text_read, reply_text_read};
 pub use spelling::{op_bytes, op_read, reply_bytes, reply_read, tuple_get, tuple_put};
 pub use values::{Field, Op, Reply, Slot, Template, Tuple};

@@ -9,4 +9,4 @@ returns-in_err-text-clause-written g c =
 
 pub returns-clause-written : goal.returns-clause-written
 returns-clause-written g c =
-    rw (c.deref.ensures.value ∙ c.in_ok-text.ensures) at c.write_all.ensures.written
+    rw (c.as_slice.ensures.value ∙ c.in_ok-text.ensures) at c.write_all.ensures.written

@@ -4,7 +4,7 @@ use Rattle.std.proofs.lemmas.Bool.{eqb-false}
 use Rattle.std.proofs.lemmas.Grind.{common_steps}
 use Rattle.std.proofs.lemmas.Bool.Decides.{nat_tests}
 use Rattle.std.specs.List.{AllByRecursion, flat_map, position_or_len}
-use Rattle.zy_tuple.specs.Script.{TextFault, lines_of, onto_first}
+use Rattle.zy_schedule.specs.Lines.{TextFault, lines_of, onto_first}
 
 -- items, and then what further lines say
 abbrev pub behind : {A : Type 0} → List A → Result (List A) TextFault → Result (List A) TextFault
