@@ -8,7 +8,7 @@ use crate::{DecodeFault, Frame, OrderFrame};
 use std::alloc::Global;
 use zy_base::{Bytes, FrameFault};
 use zy_parts::{Order, Signed, Spec};
-use zy_wire::{Cut, GetFault, Items, Spelled, get_optional, kind_of};
+use zy_wire::{Cut, GetFault, Spelled, get_items, get_optional, kind_of};
 
 /// The frame that all of the bytes spell, each byte string copied once. A kind from 11 to 16 is refused as `Kind`.
 /// The fault is the first one from the left.
@@ -46,7 +46,7 @@ fn frame_of(alloc: Global, kind: u8, cut: &mut Cut<'_>) -> Result<Frame, GetFaul
             let (spec, reply, order) = response(alloc, cut)?;
             Ok(Frame::SpecResponse { spec, reply, order })
         }
-        4 => Ok(Frame::Commit(Items::get(alloc, cut, 1, 16)?)),
+        4 => Ok(Frame::Commit(get_items(alloc, cut, 1, 16)?)),
         5 => Ok(Frame::LocalCommit(Signed::get(alloc, cut)?)),
         6 => {
             let confirm = Signed::get(alloc, cut)?;

@@ -5,7 +5,7 @@ ghost use Rattle.zy_frames.specs.Frames.{IsFrameInRange, FitsFrame, fields_of, s
 use crate::{EncodeFault, Frame, OrderFrame};
 use std::alloc::Global;
 use zy_base::{Bytes, Want};
-use zy_wire::{MAX_FRAME, Put, Spelled, VERSION, put_optional};
+use zy_wire::{MAX_FRAME, Put, Spelled, VERSION, put_items, put_optional};
 
 /// The one spelling of a frame: the version, the kind and the fields. `TooLong` where it has more than 4,194,304 bytes.
 pub fn encode(alloc: Global, frame: &Frame) -> Result<Bytes, EncodeFault>
@@ -58,7 +58,7 @@ fn put_fields(frame: &Frame, out: &mut Put) -> Result<(), Want>
             out.bytes16(reply.as_slice())?;
             put_optional(order, out)
         }
-        Frame::Commit(specs) => specs.put(out),
+        Frame::Commit(specs) => put_items(specs, out),
         Frame::LocalCommit(local) => local.put(out),
         Frame::ConfirmReq { confirm, ask } => {
             confirm.put(out)?;

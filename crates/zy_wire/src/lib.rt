@@ -15,7 +15,7 @@ mod spelled;
 pub use cut::Cut;
 pub use exact::{fields, spellings};
 pub use get_fault::GetFault;
-pub use items::Items;
+pub use items::{get_items, put_items};
 pub use kind::{MAX_FRAME, MAX_KIND, VERSION, kind_of};
 pub use optional::{get_optional, put_optional};
 pub use party::party_array;
