@@ -1,3 +1,4 @@
 pub mod Entries
 pub mod Heads
 pub mod Stretch
+pub mod Places
