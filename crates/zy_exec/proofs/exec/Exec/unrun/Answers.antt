@@ -1,4 +1,4 @@
-use Rattle.std.proofs.Common.{◌<◌, length, ◌∙◌, ap, arith, None}
+use Rattle.std.proofs.Common.{length, ◌∙◌, ap, arith, None}
 use Rattle.std.specs.Prelude.{Option}
 use Rattle.std.proofs.lemmas.List.{length-replicate}
 use Rattle.zy_base.specs.declared.ids.Place.{Place}
