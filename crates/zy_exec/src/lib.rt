@@ -9,7 +9,7 @@ mod snapshot;
 
 pub use exec::Exec;
 pub use known::{CLIENTS, Known};
-pub use laws::histories;
+pub use laws::{histories, places, points};
 
 #[cfg(test)]
 mod tests;
