@@ -1,1 +1,4 @@
+pub mod Cause
+pub mod Counts
 pub mod Machine
+pub mod Step
