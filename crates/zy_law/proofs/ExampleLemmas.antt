@@ -1,0 +1,331 @@
+-- The small world is lawful, act by act.
+use Rattle.std.proofs.Common.{◌≡◌, ◌≢◌, ℕ, zero, suc, ◌+◌, ◌-◌, ◌<◌, ◌≤◌, Bool, true, false, not, leb, ltb, eqb, ◌&&◌, ◌⊎◌, inl, inr, List, [], ◌∷◌, ◌++◌, length, take, drop, get_or, Option, Some, None, refl, sym, ap, ◌∙◌, subst, arith, lit<, lit≤}
+use Rattle.std.specs.Prelude.{All, Contains, count_by, slice_get}
+use Rattle.std.specs.List.{AllPairs, list_all}
+use Rattle.std.proofs.lemmas.Bool.{and_parts, and_right, leb-true, ltb-true, eq-eqb, false_from_ne_true}
+use Rattle.std.proofs.lemmas.List.{take_at, drop_at}
+use Rattle.std.proofs.lemmas.List.Elements.{All-nil, All-cons, All-head, All-tail}
+use Rattle.std.proofs.lemmas.List.Sums.{sum_by-cons}
+use Rattle.std.proofs.lemmas.Option.{same_Some, slice_get_within}
+use Rattle.zy_base.specs.declared.ids.ClientId.{ClientId}
+use Rattle.zy_base.specs.declared.ids.Digest.{Digest}
+use Rattle.zy_base.specs.declared.ids.Stamp.{Stamp}
+use Rattle.zy_chain.specs.declared.entry.Entry.{Entry}
+use Rattle.zy_chain.specs.Heads.{empty_head}
+use Rattle.zy_chain.specs.Stretch.{Mark, Stretch}
+use Rattle.zy_choose.specs.Marks.{has_mark}
+use Rattle.zy_choose.specs.Reports.{PlainReport, proven}
+use Rattle.zy_choose.specs.Choice.{last_in, IsAgreed, IsChoice}
+use Rattle.zy_choose.specs.Choice.IsPicked.{anchored}
+use Rattle.zy_choose.proofs.MarkLemmas.{has_mark-Has}
+use Rattle.zy_law.specs.Histories.{Passes, IsEntryAt, AreKept, origin}
+use Rattle.zy_law.specs.World.{Answer, Statement, Spoken, Stand, World}
+use Rattle.zy_law.specs.World.Statement.{Order, Spec, Local, Check, Began, Change, New, Other}
+use Rattle.zy_law.specs.Said.{IsCorrect, Says, Stood, HasSaid, IsVouched, IsBacked}
+use Rattle.zy_law.specs.Reports.{IsProven, IsValidReport, IsValidNew}
+use Rattle.zy_law.specs.Lawful.{IsLawful, IsVote, IsTrueResponse, IsTrueAnswer, IsTrueVote, IsTrueReport, IsCovered, IsOrdered, IsAskedFor, AreAskedFor, view_of}
+use Rattle.zy_law.specs.Steps.{IsStart, MaySay, MayStand, MayOrder, AllMay}
+use Rattle.zy_law.specs.Example.{four, next_text, text_of, first_entry, second_entry, first_mark, second_mark, first_answer, second_answer, before_all, primary_acts, backup_acts, answered, leave_acts, left, reports, report_of, begin_acts, confirmed, move_acts, example}
+use Rattle.zy_law.proofs.StepsLawful.{start_lawful, acts_lawful}
+
+-- ---- tests of what was said
+
+list_all_at : {A : Type 0} (p : A → Bool) (xs : List A) (i : ℕ) (y : A) → list_all p xs ≡ true → slice_get xs i ≡ Some y → p y ≡ true
+list_all_at p [] i y all at = absurd cc
+list_all_at {A} p (x ∷ xs) zero y all at = subst (λ (z : A). p z ≡ true) (same_Some x y at) (and_parts (p x) (list_all p xs) all).0
+list_all_at p (x ∷ xs) (suc i) y all at = list_all_at p xs i y (and_parts (p x) (list_all p xs) all).1 at
+
+abbrev leaves : Statement → Bool
+leaves (Order v m d) = false
+leaves (Spec v m a) = false
+leaves (Local v m) = false
+leaves (Check v m d) = false
+leaves (Began v m) = false
+leaves (Change v r) = true
+leaves (New v rs) = false
+leaves Other = false
+
+abbrev confirms : Statement → Bool
+confirms (Order v m d) = false
+confirms (Spec v m a) = false
+confirms (Local v m) = false
+confirms (Check v m d) = false
+confirms (Began v m) = true
+confirms (Change v r) = false
+confirms (New v rs) = false
+confirms Other = false
+
+abbrev ordered_place : Statement → ℕ
+ordered_place (Order v m d) = m.place
+ordered_place (Spec v m a) = 0
+ordered_place (Local v m) = 0
+ordered_place (Check v m d) = 0
+ordered_place (Began v m) = 0
+ordered_place (Change v r) = 0
+ordered_place (New v rs) = 0
+ordered_place Other = 0
+
+abbrev voted_place : Statement → ℕ
+voted_place (Order v m d) = 0
+voted_place (Spec v m a) = 0
+voted_place (Local v m) = m.place
+voted_place (Check v m d) = m.place
+voted_place (Began v m) = 0
+voted_place (Change v r) = 0
+voted_place (New v rs) = 0
+voted_place Other = 0
+
+-- none has left yet, none has confirmed yet
+abbrev IsIn : List Spoken → Type 0
+IsIn said = list_all (λ (y : Spoken). not (leaves y.what)) said ≡ true
+
+not_left : (said : List Spoken) (i : ℕ) (y : Spoken) (view : ℕ) (report : PlainReport) → IsIn said → slice_get said i ≡ Some y → y.what ≡ Change view report → ⊥
+not_left said i y view report is_in at what =
+    let told = list_all_at (λ (z : Spoken). not (leaves z.what)) said i y is_in at in
+    let is : not (leaves y.what) ≡ false = ap (λ (s : Statement). not (leaves s)) what in
+    absurd (cc (sym told, is))
+
+abbrev IsUnconfirmed : List Spoken → Type 0
+IsUnconfirmed said = list_all (λ (y : Spoken). not (confirms y.what)) said ≡ true
+
+not_confirmed : (said : List Spoken) (i : ℕ) (y : Spoken) (view : ℕ) (m : Mark) → IsUnconfirmed said → slice_get said i ≡ Some y → y.what ≡ Began view m → ⊥
+not_confirmed said i y view m is_in at what =
+    let told = list_all_at (λ (z : Spoken). not (confirms z.what)) said i y is_in at in
+    let is : not (confirms y.what) ≡ false = ap (λ (s : Statement). not (confirms s)) what in
+    absurd (cc (sym told, is))
+
+-- ---- who stands behind a statement
+
+number_at : (i d : ℕ) → i < 4 → get_or (0 ∷ 1 ∷ 2 ∷ 3 ∷ []) i d ≡ i
+number_at zero d within = refl
+number_at (suc zero) d within = refl
+number_at (suc (suc zero)) d within = refl
+number_at (suc (suc (suc zero))) d within = refl
+number_at (suc (suc (suc (suc i)))) d within = absurd (omega arith)
+
+number_among : (i d : ℕ) → i < 3 → get_or (0 ∷ 1 ∷ 2 ∷ []) i d ≡ i
+number_among zero d within = refl
+number_among (suc zero) d within = refl
+number_among (suc (suc zero)) d within = refl
+number_among (suc (suc (suc i))) d within = absurd (omega arith)
+
+backed_by_three : {w : World} (s : Statement) → IsVouched w s 0 → IsVouched w s 1 → IsVouched w s 2 → IsBacked w 3 s
+backed_by_three {w} s a b c =
+    record {
+      who = 0 ∷ 1 ∷ 2 ∷ [];
+      many = refl;
+      different = λ i j d before within same. absurd (omega (arith, number_among i d (omega arith), number_among j d within, same));
+      vouched = All-cons (IsVouched w s) 0 (1 ∷ 2 ∷ []) a (All-cons (IsVouched w s) 1 (2 ∷ []) b (All-cons (IsVouched w s) 2 [] c (All-nil (IsVouched w s))));
+    }
+
+backed_by_four : {w : World} (s : Statement) → IsVouched w s 0 → IsVouched w s 1 → IsVouched w s 2 → IsVouched w s 3 → IsBacked w 4 s
+backed_by_four {w} s a b c d =
+    record {
+      who = 0 ∷ 1 ∷ 2 ∷ 3 ∷ [];
+      many = refl;
+      different = λ i j d before within same. absurd (omega (arith, number_at i d (omega arith), number_at j d within, same));
+      vouched =
+        All-cons (IsVouched w s) 0 (1 ∷ 2 ∷ 3 ∷ []) a
+        (All-cons (IsVouched w s) 1 (2 ∷ 3 ∷ []) b (All-cons (IsVouched w s) 2 (3 ∷ []) c (All-cons (IsVouched w s) 3 [] d (All-nil (IsVouched w s)))));
+    }
+
+-- the certificate of the second entry, once each correct replica answered it
+second_certified : {w : World} → w.counts.n ≡ 4 → HasSaid w 0 (Spec 0 second_mark second_answer) → HasSaid w 1 (Spec 0 second_mark second_answer) → HasSaid w 2 (Spec 0 second_mark second_answer)
+    → IsBacked w 3 (Spec 0 second_mark second_answer)
+second_certified size a b c =
+    backed_by_three (Spec 0 second_mark second_answer) (record { within = omega arith; said = inr a }) (record { within = omega arith; said = inr b }) (record { within = omega arith; said = inr c })
+
+-- ---- the acts
+
+passes_first : Passes next_text (first_entry ∷ []) first_mark
+passes_first = record { within = lit≤ tt; head = refl }
+
+passes_first_of_two : Passes next_text (first_entry ∷ second_entry ∷ []) first_mark
+passes_first_of_two = record { within = lit≤ tt; head = refl }
+
+passes_second : Passes next_text (first_entry ∷ second_entry ∷ []) second_mark
+passes_second = record { within = lit≤ tt; head = refl }
+
+at_first : IsEntryAt (first_entry ∷ []) 1 first_entry
+at_first = record { first = lit< tt; there = refl }
+
+may_answer : {w : World} {r when : ℕ} {m : Mark} {a : Answer} → when + 1 ≡ length (w.past r) → IsIn (w.said r) → IsTrueResponse w r when 0 m a
+    → MaySay w r (record { what = Spec 0 m a; when = when })
+may_answer {w} {r} now is_in told =
+    record { now = now; silence = λ number y view spoken report at what of. absurd (not_left (w.said r) number y view report is_in at what); told = told }
+
+may_order : {w : World} {r when : ℕ} {m : Mark} {d : Digest} → when + 1 ≡ length (w.past r) → IsIn (w.said r) → 0 ≡ r → 0 < m.place → w.counts.n ≡ 4
+    → list_all (λ (y : Spoken). ltb (ordered_place y.what) m.place) (w.said r) ≡ true → list_all (λ (b : Stand). ltb (length b.history) m.place) (w.past r) ≡ true
+    → MaySay w r (record { what = Order 0 m d; when = when })
+may_order {w} {r} {when} {m} now is_in primary place size first short =
+    record {
+      now = now;
+      silence = λ number y view spoken report at what of. absurd (not_left (w.said r) number y view report is_in at what);
+      told =
+        record {
+          primary = rw size primary;
+          place = place;
+          first = λ number y k second at what same.
+            let below = ltb-true (ordered_place y.what) m.place (list_all_at (λ (z : Spoken). ltb (ordered_place z.what) m.place) (w.said r) number y first at) in
+            let is : ordered_place y.what ≡ k.place = ap ordered_place what in
+            absurd (omega arith);
+          entries = λ at b stood view long.
+            let below = ltb-true (length b.history) m.place (list_all_at (λ (z : Stand). ltb (length z.history) m.place) (w.past r) at b short stood) in
+            absurd (omega arith);
+        };
+    }
+
+-- each order of a list is of the history
+abbrev IsOrderOf : World → List Entry → Statement → Type 0
+IsOrderOf w history (Order v m d) = IsOrdered w history m d
+IsOrderOf w history (Spec v m a) = Unit {0}
+IsOrderOf w history (Local v m) = Unit {0}
+IsOrderOf w history (Check v m d) = Unit {0}
+IsOrderOf w history (Began v m) = Unit {0}
+IsOrderOf w history (Change v r) = Unit {0}
+IsOrderOf w history (New v rs) = Unit {0}
+IsOrderOf w history Other = Unit {0}
+
+abbrev AreOrdersOf : World → List Entry → List Spoken → Type 0
+AreOrdersOf w history [] = Unit {0}
+AreOrdersOf w history (y ∷ said) = IsOrderOf w history y.what × AreOrdersOf w history said
+
+order_of : (w : World) (history : List Entry) (said : List Spoken) (i : ℕ) (x : Spoken) → AreOrdersOf w history said → slice_get said i ≡ Some x → IsOrderOf w history x.what
+order_of w history [] i x all at = absurd cc
+order_of w history (y ∷ said) zero x all at = subst (λ (z : Spoken). IsOrderOf w history z.what) (same_Some y x at) all.0
+order_of w history (y ∷ said) (suc i) x all at = order_of w history said i x all.1 at
+
+entry_of_one : (place : ℕ) (e : Entry) → IsEntryAt (first_entry ∷ []) place e → (place ≡ 1) × (first_entry ≡ e)
+entry_of_one zero e at = absurd (omega (arith, at.first))
+entry_of_one (suc zero) e at = (refl, same_Some first_entry e at.there)
+entry_of_one (suc (suc place)) e at = absurd (past_one place e at.there)
+  where
+    past_one : (place : ℕ) (e : Entry) → slice_get (first_entry ∷ []) (suc (suc place) - 1) ≡ Some e → ⊥
+    past_one place e there =
+        let within = slice_get_within (first_entry ∷ []) (suc (suc place) - 1) e there in
+        omega arith
+
+entry_of_two : (place : ℕ) (e : Entry) → IsEntryAt (first_entry ∷ second_entry ∷ []) place e → ((place ≡ 1) × (first_entry ≡ e)) ⊎ ((place ≡ 2) × (second_entry ≡ e))
+entry_of_two zero e at = absurd (omega (arith, at.first))
+entry_of_two (suc zero) e at = inl (refl, same_Some first_entry e at.there)
+entry_of_two (suc (suc zero)) e at = inr (refl, same_Some second_entry e at.there)
+entry_of_two (suc (suc (suc place))) e at = absurd (past_two place e at.there)
+  where
+    past_two : (place : ℕ) (e : Entry) → slice_get (first_entry ∷ second_entry ∷ []) (suc (suc (suc place)) - 1) ≡ Some e → ⊥
+    past_two place e there =
+        let within = slice_get_within (first_entry ∷ second_entry ∷ []) (suc (suc (suc place)) - 1) e there in
+        omega arith
+
+module _ (w : World) (asks : w.asked 0 ≡ first_entry ∷ second_entry ∷ []) where
+  asked_first : IsAskedFor w (first_entry ∷ []) 1 first_entry
+  asked_first =
+      record {
+        asked = inr (subst (λ (l : List Entry). Contains l first_entry) (sym asks) (0, lit< tt, refl));
+        newer = λ earlier d before at same. absurd (omega (arith, at.first));
+      }
+
+  asked_second : IsAskedFor w (first_entry ∷ second_entry ∷ []) 2 second_entry
+  asked_second =
+      record {
+        asked = inr (subst (λ (l : List Entry). Contains l second_entry) (sym asks) (1, lit< tt, refl));
+        newer = λ earlier d before at same.
+          elim (entry_of_two earlier d at) [
+            | inl is ↦ subst (λ (z : Entry). z.stamp.0 < 2) is.1 (lit< tt)
+            | inr is ↦ absurd (omega (arith, is.0))
+          ];
+      }
+
+  asked_one : AreAskedFor w 0 (first_entry ∷ [])
+  asked_one place e after at =
+      let is = entry_of_one place e at in
+      subst (λ (k : ℕ). IsAskedFor w (first_entry ∷ []) k e) (sym is.0) (subst (λ (z : Entry). IsAskedFor w (first_entry ∷ []) 1 z) is.1 asked_first)
+
+  asked_two : AreAskedFor w 1 (first_entry ∷ second_entry ∷ [])
+  asked_two place e after at =
+      elim (entry_of_two place e at) [
+        | inl is ↦ absurd (omega (arith, is.0))
+        | inr is ↦ subst (λ (k : ℕ). IsAskedFor w (first_entry ∷ second_entry ∷ []) k e) (sym is.0)
+            (subst (λ (z : Entry). IsAskedFor w (first_entry ∷ second_entry ∷ []) 2 z) is.1 asked_second)
+      ]
+
+-- a replica that has left no view executes the next entry
+may_execute : {w : World} {r : ℕ} (number : ℕ) (last : Stand) (e : Entry) → Stood w r number last → number + 1 ≡ length (w.past r) → IsIn (w.said r) → last.view ≡ 0
+    → AreAskedFor w (length last.history) (last.history ++ e ∷ []) → AreKept w.kept w.next empty_head (last.history ++ e ∷ []) → AreOrdersOf w (last.history ++ e ∷ []) (w.said r)
+    → MayStand w r (record { view = 0; history = last.history ++ e ∷ [] })
+may_execute {w} {r} number last e stood now is_in view asked texts orders =
+    record {
+      last = last;
+      number = number;
+      stood = stood;
+      now = now;
+      growth = inl (view, (e ∷ [], refl));
+      asked_for = λ same. asked;
+      begun = λ greater. absurd (omega arith);
+      texts = texts;
+      no_return = λ said x left report at what. absurd (not_left (w.said r) said x left report is_in at what);
+      ordered = λ said x m request at what long.
+        subst (λ (s : Statement). IsOrderOf w (last.history ++ e ∷ []) s) what (order_of w (last.history ++ e ∷ []) (w.said r) said x orders at);
+    }
+
+true_first : {w : World} → w.reply (first_entry ∷ []) ≡ first_answer.reply → IsTrueAnswer w (first_entry ∷ []) first_mark first_answer
+true_first reply = record { entry = first_entry; last = at_first; client = refl; stamp = refl; reply = reply }
+
+true_second : {w : World} → w.reply (first_entry ∷ second_entry ∷ []) ≡ second_answer.reply → IsTrueAnswer w (first_entry ∷ second_entry ∷ []) second_mark second_answer
+true_second reply = record { entry = second_entry; last = record { first = lit< tt; there = refl }; client = refl; stamp = refl; reply = reply }
+
+first_ordered : {w : World} {history : List Entry} → Passes w.next history first_mark → IsEntryAt history 1 first_entry → w.digest first_entry ≡ record { 0 = text_of first_entry }
+    → IsOrdered w history first_mark (record { 0 = text_of first_entry })
+first_ordered passes there digest = record { passes = passes; entry = first_entry; there = there; digest = digest }
+
+second_ordered : {w : World} {history : List Entry} → Passes w.next history second_mark → IsEntryAt history 2 second_entry → w.digest second_entry ≡ record { 0 = text_of second_entry }
+    → IsOrdered w history second_mark (record { 0 = text_of second_entry })
+second_ordered passes there digest = record { passes = passes; entry = second_entry; there = there; digest = digest }
+
+-- ---- the start
+
+text_one : (h k : Digest) (d e : Entry) → next_text h d ≡ next_text k e → (h ≡ k) × (d ≡ e)
+text_one h k d e same =
+    let texts : text_of d ++ h.0 ≡ text_of e ++ k.0 = ap (λ (x : Digest). x.0) same in
+    let client : d.client.0 ≡ e.client.0 = cc in
+    let stamp : d.stamp.0 ≡ e.stamp.0 = cc in
+    let long : length d.op ≡ length e.op = cc in
+    let rest : d.op ++ h.0 ≡ e.op ++ k.0 = cc in
+    let op : d.op ≡ e.op = sym (take_at d.op h.0 (length d.op) refl) ∙ ap (λ (l : List ℕ). take (length d.op) l) rest ∙ take_at e.op k.0 (length d.op) (sym long) in
+    let head : h.0 ≡ k.0 = sym (drop_at d.op h.0 (length d.op) refl) ∙ ap (λ (l : List ℕ). drop (length d.op) l) rest ∙ drop_at e.op k.0 (length d.op) (sym long) in
+    let digest : List ℕ → Digest = λ x. record { 0 = x } in
+    let entry : ℕ → ℕ → List ℕ → Entry = λ c s o. record { client = record { 0 = c }; stamp = record { 0 = s }; op = o } in
+    (ap digest head, ap (λ (c : ℕ). entry c d.stamp.0 d.op) client ∙ ap (λ (s : ℕ). entry e.client.0 s d.op) stamp ∙ ap (λ (o : List ℕ). entry e.client.0 e.stamp.0 o) op)
+
+starts : IsStart before_all
+starts =
+    record {
+      few_liars = lit≤ tt;
+      one_text = λ h k d e x y same. text_one h k d e same;
+      silent = λ r correct. refl;
+      stands = λ r correct. refl;
+    }
+
+-- ---- view 0
+
+abbrev nothing : Stand
+nothing = record { view = 0; history = [] }
+
+abbrev one : Stand
+one = record { view = 0; history = first_entry ∷ [] }
+
+abbrev two : Stand
+two = record { view = 0; history = first_entry ∷ second_entry ∷ [] }
+
+orders_of_one : {w : World} → w.next ≡ next_text → w.digest first_entry ≡ record { 0 = text_of first_entry } → IsOrdered w (first_entry ∷ []) first_mark (record { 0 = text_of first_entry })
+orders_of_one next digest = first_ordered (subst (λ (n : Digest → Entry → Digest). Passes n (first_entry ∷ []) first_mark) (sym next) passes_first) at_first digest
+
+primary_may : AllMay before_all 0 primary_acts
+primary_may =
+    (may_order refl refl refl (lit< tt) refl refl refl,
+    (may_execute 0 nothing first_entry refl refl refl refl (asked_one _ refl) (refl, tt) (first_ordered passes_first at_first refl, tt),
+    (may_answer refl refl (record { at = record { stand = one; stood = refl; view_is = refl; passes = passes_first }; answer = true_first refl }),
+    (may_order refl refl refl (lit< tt) refl refl refl,
+    (may_execute 1 one second_entry refl refl refl refl (asked_two _ refl) (refl, (refl, tt))
+      (first_ordered passes_first_of_two (record { first = lit< tt; there = refl }) refl, (tt, (second_ordered passes_second (record { first = lit< tt; there = refl }) refl, tt))),
+    (may_answer refl refl (record { at = record { stand = two; stood = refl; view_is = refl; passes = passes_second }; answer = true_second refl }),
+    tt))))))
