@@ -18,14 +18,16 @@ use Rattle.zy_choose.specs.Reports.{PlainReport, proven}
 use Rattle.zy_choose.specs.Choice.{last_in, IsAgreed, IsChoice}
 use Rattle.zy_choose.specs.Choice.IsPicked.{anchored}
 use Rattle.zy_choose.proofs.MarkLemmas.{has_mark-Has}
-use Rattle.zy_law.specs.Histories.{Passes, IsEntryAt, AreKept, origin}
+use Rattle.zy_law.specs.Fixed.{IsCertified}
+use Rattle.zy_law.specs.Histories.{Passes, IsEntryAt, AreKept, origin, mark_of_all}
 use Rattle.zy_law.specs.World.{Answer, Statement, Spoken, Stand, World}
 use Rattle.zy_law.specs.World.Statement.{Order, Spec, Local, Check, Began, Change, New, Other}
 use Rattle.zy_law.specs.Said.{IsCorrect, Says, Stood, HasSaid, IsVouched, IsBacked}
 use Rattle.zy_law.specs.Reports.{IsProven, IsValidReport, IsValidNew}
 use Rattle.zy_law.specs.Lawful.{IsLawful, IsVote, IsTrueResponse, IsTrueAnswer, IsTrueVote, IsTrueReport, IsCovered, IsOrdered, IsAskedFor, AreAskedFor, view_of}
-use Rattle.zy_law.specs.Steps.{IsStart, MaySay, MayStand, MayOrder, AllMay}
-use Rattle.zy_law.specs.Example.{four, next_text, text_of, first_entry, second_entry, first_mark, second_mark, first_answer, second_answer, before_all, primary_acts, backup_acts, answered, leave_acts, left, reports, report_of, begin_acts, confirmed, move_acts, example}
+use Rattle.zy_law.specs.Steps.{IsStart, MaySay, MayStand, MayOrder, AllMay, after_acts}
+use Rattle.zy_law.specs.Example.{four, next_text, text_of, first_entry, second_entry, first_mark, second_mark, first_answer, second_answer, before_all, primary_acts, backup_acts, answered, leave_acts, left, reports, report_of, says, begin_acts, confirmed, move_acts, example}
+use Rattle.zy_law.proofs.CountLemmas.{bit}
 use Rattle.zy_law.proofs.StepsLawful.{start_lawful, acts_lawful}
 
 -- ---- tests of what was said
@@ -329,3 +331,316 @@ primary_may =
       (first_ordered passes_first_of_two (record { first = lit< tt; there = refl }) refl, (tt, (second_ordered passes_second (record { first = lit< tt; there = refl }) refl, tt))),
     (may_answer refl refl (record { at = record { stand = two; stood = refl; view_is = refl; passes = passes_second }; answer = true_second refl }),
     tt))))))
+
+first_backup_may : AllMay (after_acts before_all 0 primary_acts) 1 backup_acts
+first_backup_may =
+    (may_execute 0 nothing first_entry refl refl refl refl (asked_one _ refl) (refl, tt) tt,
+    (may_answer refl refl (record { at = record { stand = one; stood = refl; view_is = refl; passes = passes_first }; answer = true_first refl }),
+    (may_execute 1 one second_entry refl refl refl refl (asked_two _ refl) (refl, (refl, tt)) (tt, tt),
+    (may_answer refl refl (record { at = record { stand = two; stood = refl; view_is = refl; passes = passes_second }; answer = true_second refl }),
+    tt))))
+
+second_backup_may : AllMay (after_acts (after_acts before_all 0 primary_acts) 1 backup_acts) 2 backup_acts
+second_backup_may =
+    (may_execute 0 nothing first_entry refl refl refl refl (asked_one _ refl) (refl, tt) tt,
+    (may_answer refl refl (record { at = record { stand = one; stood = refl; view_is = refl; passes = passes_first }; answer = true_first refl }),
+    (may_execute 1 one second_entry refl refl refl refl (asked_two _ refl) (refl, (refl, tt)) (tt, tt),
+    (may_answer refl refl (record { at = record { stand = two; stood = refl; view_is = refl; passes = passes_second }; answer = true_second refl }),
+    tt))))
+
+answered_lawful : IsLawful answered
+answered_lawful =
+    acts_lawful (after_acts (after_acts before_all 0 primary_acts) 1 backup_acts) 2 backup_acts
+    (acts_lawful (after_acts before_all 0 primary_acts) 1 backup_acts (acts_lawful before_all 0 primary_acts (start_lawful before_all starts) primary_may) first_backup_may)
+    second_backup_may
+
+-- ---- the leave
+
+may_commit : {w : World} {r : ℕ} → 3 ≡ length (w.past r) → IsIn (w.said r) → IsTrueVote w r 2 0 second_mark → MaySay w r (record { what = Local 0 second_mark; when = 2 })
+may_commit {w} {r} now is_in told =
+    record { now = now; silence = λ number y view spoken report at what of. absurd (not_left (w.said r) number y view report is_in at what); told = told }
+
+vote_is : (view : ℕ) (m : Mark) (s : Statement) → IsVote view m s → voted_place s ≡ m.place
+vote_is view m (Order v k d) vote = absurd vote
+vote_is view m (Spec v k a) vote = absurd vote
+vote_is view m (Local v k) vote = ap (λ (x : Mark). x.place) vote.1
+vote_is view m (Check v k d) vote = ap (λ (x : Mark). x.place) vote.1
+vote_is view m (Began v k) vote = absurd vote
+vote_is view m (Change v report) vote = absurd vote
+vote_is view m (New v rs) vote = absurd vote
+vote_is view m Other vote = absurd vote
+
+-- what the reports prove
+report_proven : {w : World} (r : ℕ) → w.counts.cert ≡ 3 → IsBacked w 3 (Spec 0 second_mark second_answer) → IsProven w 1 (report_of r)
+report_proven {w} r three backed =
+    record {
+      earlier = lit< tt;
+      began_first = λ same. refl;
+      began_later = λ positive. absurd (omega arith);
+      spec = (second_answer, subst (λ (k : ℕ). IsBacked w k (Spec 0 second_mark second_answer)) (sym three) backed);
+      stable_view = lit≤ tt;
+      stable_first = λ same. refl;
+      stable_later = λ positive. absurd (omega arith);
+    }
+
+may_leave : {w : World} {r : ℕ} → 3 ≡ length (w.past r) → Stood w r 2 two → w.next ≡ next_text → w.counts.cert ≡ 3 → IsIn (w.said r)
+    → list_all (λ (y : Spoken). leb (voted_place y.what) 2) (w.said r) ≡ true → IsBacked w 3 (Spec 0 second_mark second_answer)
+    → MaySay w r (record { what = Change 1 (report_of r); when = 2 })
+may_leave {w} {r} now stood next three is_in votes backed =
+    record {
+      now = now;
+      silence = λ number y view spoken report at what of. absurd (not_left (w.said r) number y view report is_in at what);
+      told =
+        record {
+          true_report =
+            record {
+              stand = two;
+              stood = stood;
+              last = refl;
+              base = record { within = lit≤ tt; head = refl };
+              entries = refl;
+              proven = report_proven r three backed;
+              covered = λ earlier y m below at vote.
+                let far = leb-true (voted_place y.what) 2 (list_all_at (λ (z : Spoken). leb (voted_place z.what) 2) (w.said r) earlier y votes at) in
+                record { spec = second_mark; held = refl; far = omega (arith, vote_is 0 m y.what vote, far) };
+            };
+          first = λ number y second at what. absurd (not_left (w.said r) number y 1 second is_in at what);
+        };
+    }
+
+abbrev second_spoken : Spoken
+second_spoken = record { what = Spec 0 second_mark second_answer; when = 2 }
+
+leave_may_0 : AllMay answered 0 (leave_acts 0)
+leave_may_0 =
+    (may_commit refl refl
+      (record { at = record { stand = two; stood = refl; view_is = refl; passes = passes_second }; certified = (second_answer, second_certified refl (3, second_spoken, refl, refl) (1, second_spoken, refl, refl) (1, second_spoken, refl, refl)) }),
+    (may_leave refl refl refl refl refl refl (second_certified refl (3, second_spoken, refl, refl) (1, second_spoken, refl, refl) (1, second_spoken, refl, refl)),
+    tt))
+
+leave_may_1 : AllMay (after_acts answered 0 (leave_acts 0)) 1 (leave_acts 1)
+leave_may_1 =
+    (may_commit refl refl
+      (record { at = record { stand = two; stood = refl; view_is = refl; passes = passes_second }; certified = (second_answer, second_certified refl (3, second_spoken, refl, refl) (1, second_spoken, refl, refl) (1, second_spoken, refl, refl)) }),
+    (may_leave refl refl refl refl refl refl (second_certified refl (3, second_spoken, refl, refl) (1, second_spoken, refl, refl) (1, second_spoken, refl, refl)),
+    tt))
+
+leave_may_2 : AllMay (after_acts (after_acts answered 0 (leave_acts 0)) 1 (leave_acts 1)) 2 (leave_acts 2)
+leave_may_2 =
+    (may_commit refl refl
+      (record { at = record { stand = two; stood = refl; view_is = refl; passes = passes_second }; certified = (second_answer, second_certified refl (3, second_spoken, refl, refl) (1, second_spoken, refl, refl) (1, second_spoken, refl, refl)) }),
+    (may_leave refl refl refl refl refl refl (second_certified refl (3, second_spoken, refl, refl) (1, second_spoken, refl, refl) (1, second_spoken, refl, refl)),
+    tt))
+
+left_lawful : IsLawful left
+left_lawful =
+    acts_lawful (after_acts (after_acts answered 0 (leave_acts 0)) 1 (leave_acts 1)) 2 (leave_acts 2)
+    (acts_lawful (after_acts answered 0 (leave_acts 0)) 1 (leave_acts 1) (acts_lawful answered 0 (leave_acts 0) answered_lawful leave_may_0) leave_may_1)
+    leave_may_2
+
+-- ---- the new view
+
+number_of_report : (i : ℕ) (d : PlainReport) → i < 3 → (get_or reports i d).by ≡ i
+number_of_report zero d within = refl
+number_of_report (suc zero) d within = refl
+number_of_report (suc (suc zero)) d within = refl
+number_of_report (suc (suc (suc i))) d within = absurd (omega arith)
+
+report_valid : {w : World} (r : ℕ) → r < w.counts.n → w.counts.cert ≡ 3 → HasSaid w r (Change 1 (report_of r)) → IsBacked w 3 (Spec 0 second_mark second_answer) → IsValidReport w 1 (report_of r)
+report_valid r within three said backed = record { signed = record { within = within; said = inr said }; proven = report_proven r three backed }
+
+new_valid : {w : World} → w.counts.n ≡ 4 → w.counts.cert ≡ 3 → w.counts.change ≡ 3 → HasSaid w 0 (Change 1 (report_of 0)) → HasSaid w 1 (Change 1 (report_of 1)) → HasSaid w 2 (Change 1 (report_of 2))
+    → IsBacked w 3 (Spec 0 second_mark second_answer) → IsValidNew w 1 reports
+new_valid {w} size three change a b c backed =
+    record {
+      many = sym change;
+      different = λ i j d before within same. absurd (omega (arith, number_of_report i d (omega arith), number_of_report j d within, same));
+      each =
+        All-cons (IsValidReport w 1) (report_of 0) (report_of 1 ∷ report_of 2 ∷ []) (report_valid 0 (omega arith) three a backed)
+        (All-cons (IsValidReport w 1) (report_of 1) (report_of 2 ∷ []) (report_valid 1 (omega arith) three b backed)
+        (All-cons (IsValidReport w 1) (report_of 2) [] (report_valid 2 (omega arith) three c backed) (All-nil (IsValidReport w 1))));
+    }
+
+count_none : {A : Type 0} (p : A → Bool) (xs : List A) → All (λ x. p x ≡ false) xs → count_by p xs ≡ 0
+count_none p [] none = refl
+count_none {A} p (x ∷ xs) none =
+    omega (arith, sum_by-cons (λ (z : A). bit (p z)) x xs, ap bit (All-head (λ (z : A). p z ≡ false) x xs none), count_none p xs (All-tail (λ (z : A). p z ≡ false) x xs none))
+
+none_further : (other : Mark) → 2 < other.place → has_mark next_text (record { base = origin; entries = first_entry ∷ second_entry ∷ [] }) other ≡ false
+none_further other past =
+    false_from_ne_true (has_mark next_text (record { base = origin; entries = first_entry ∷ second_entry ∷ [] }) other)
+    (λ told. let has = has_mark-Has next_text (record { base = origin; entries = first_entry ∷ second_entry ∷ [] }) other told in absurd (omega (arith, has.below, past)))
+
+none_agreed : (other : Mark) → IsAgreed next_text 2 (last_in 0 reports) second_mark other → ⊥
+none_agreed other is =
+    let test : PlainReport → Bool = λ r. has_mark next_text r.stretch second_mark && has_mark next_text r.stretch other in
+    let fails : (r : ℕ) → test (report_of r) ≡ false = λ r. and_right (has_mark next_text (report_of r).stretch second_mark) (has_mark next_text (report_of r).stretch other) (none_further other is.past) in
+    let none : All (λ r. test r ≡ false) reports =
+      All-cons (λ (r : PlainReport). test r ≡ false) (report_of 0) (report_of 1 ∷ report_of 2 ∷ []) (fails 0)
+      (All-cons (λ (r : PlainReport). test r ≡ false) (report_of 1) (report_of 2 ∷ []) (fails 1)
+      (All-cons (λ (r : PlainReport). test r ≡ false) (report_of 2) [] (fails 2) (All-nil (λ (r : PlainReport). test r ≡ false)))) in
+    let enough : 2 ≤ count_by test reports = is.enough in
+    omega (arith, count_none test reports none, enough)
+
+chosen : IsChoice next_text 2 reports second_mark
+chosen =
+    let told : (r : ℕ) → All (λ (other : Mark). other.place ≤ 2) (proven (report_of r)) =
+      λ r. All-cons (λ (other : Mark). other.place ≤ 2) origin (origin ∷ second_mark ∷ []) (lit≤ tt)
+        (All-cons (λ (other : Mark). other.place ≤ 2) origin (second_mark ∷ []) (lit≤ tt)
+        (All-cons (λ (other : Mark). other.place ≤ 2) second_mark [] (lit≤ tt) (All-nil (λ (other : Mark). other.place ≤ 2)))) in
+    let P : PlainReport → Type 0 = λ r. All (λ (other : Mark). other.place ≤ 2) (proven r) in
+    let Q : PlainReport → Type 0 = λ r. r.last_view ≤ 0 in
+    record {
+      view = 0;
+      anchor = second_mark;
+      greatest =
+        record {
+          told = (0, report_of 0, lit< tt, refl, refl);
+          greatest = All-cons Q (report_of 0) (report_of 1 ∷ report_of 2 ∷ []) (lit≤ tt) (All-cons Q (report_of 1) (report_of 2 ∷ []) (lit≤ tt) (All-cons Q (report_of 2) [] (lit≤ tt) (All-nil Q)));
+        };
+      anchored =
+        record {
+          proved = (0, report_of 0, lit< tt, refl, (2, lit< tt, refl));
+          furthest = All-cons P (report_of 0) (report_of 1 ∷ report_of 2 ∷ []) (told 0) (All-cons P (report_of 1) (report_of 2 ∷ []) (told 1) (All-cons P (report_of 2) [] (told 2) (All-nil P)));
+        };
+      picked = anchored none_agreed refl;
+    }
+
+abbrev left_view : Statement → ℕ
+left_view (Order v m d) = 0
+left_view (Spec v m a) = 0
+left_view (Local v m) = 0
+left_view (Check v m d) = 0
+left_view (Began v m) = 0
+left_view (Change v r) = v
+left_view (New v rs) = 0
+left_view Other = 0
+
+-- each left for view 1 or for none
+abbrev HaveLeft : List Spoken → Type 0
+HaveLeft said = list_all (λ (y : Spoken). leb (left_view y.what) 1) said ≡ true
+
+left_for : (said : List Spoken) (i : ℕ) (y : Spoken) (view : ℕ) (report : PlainReport) → HaveLeft said → slice_get said i ≡ Some y → y.what ≡ Change view report → view ≤ 1
+left_for said i y view report have at what =
+    let told = leb-true (left_view y.what) 1 (list_all_at (λ (z : Spoken). leb (left_view z.what) 1) said i y have at) in
+    omega (arith, told, ap left_view what)
+
+may_confirm : {w : World} {r : ℕ} → 3 ≡ length (w.past r) → HaveLeft (w.said r) → IsUnconfirmed (w.said r) → IsValidNew w 1 reports → IsChoice w.next w.counts.agree reports second_mark
+    → MaySay w r (record { what = Began 1 second_mark; when = 2 })
+may_confirm {w} {r} now have fresh valid choice =
+    record {
+      now = now;
+      silence = λ number y view spoken report at what of. omega (arith, left_for (w.said r) number y view report have at what, same_Some 1 spoken of);
+      told =
+        record {
+          chosen = record { reports = reports; valid = valid; choice = choice };
+          first = λ number y k at what. absurd (not_confirmed (w.said r) number y 1 k fresh at what);
+        };
+    }
+
+may_give : {w : World} {r : ℕ} → 3 ≡ length (w.past r) → MaySay w r (record { what = New 1 reports; when = 2 })
+may_give now = record { now = now; silence = λ number y view spoken report at what of. absurd cc; told = tt }
+
+may_begin : {w : World} {r : ℕ} → 3 ≡ length (w.past r) → Stood w r 2 two → HaveLeft (w.said r) → IsBacked w w.counts.cert (Began 1 (mark_of_all w.next (first_entry ∷ second_entry ∷ [])))
+    → AreKept w.kept w.next empty_head (first_entry ∷ second_entry ∷ []) → AreOrdersOf w (first_entry ∷ second_entry ∷ []) (w.said r)
+    → MayStand w r (record { view = 1; history = first_entry ∷ second_entry ∷ [] })
+may_begin {w} {r} now stood have backed texts orders =
+    record {
+      last = two;
+      number = 2;
+      stood = stood;
+      now = now;
+      growth = inr (lit< tt);
+      asked_for = λ same. absurd (omega arith);
+      begun = λ greater. backed;
+      texts = texts;
+      no_return = λ said x view report at what. left_for (w.said r) said x view report have at what;
+      ordered = λ said x m request at what long.
+        subst (λ (s : Statement). IsOrderOf w (first_entry ∷ second_entry ∷ []) s) what (order_of w (first_entry ∷ second_entry ∷ []) (w.said r) said x orders at);
+    }
+
+-- every replica's part in the certificate of the second entry and in the reports stays where it is said
+valid_while : {w : World} → w.counts.n ≡ 4 → w.counts.cert ≡ 3 → w.counts.change ≡ 3
+    → Says w 0 3 second_spoken → Says w 1 1 second_spoken → Says w 2 1 second_spoken
+    → Says w 0 5 (record { what = Change 1 (report_of 0); when = 2 }) → Says w 1 3 (record { what = Change 1 (report_of 1); when = 2 }) → Says w 2 3 (record { what = Change 1 (report_of 2); when = 2 })
+    → IsValidNew w 1 reports
+valid_while size three change a b c x y z =
+    new_valid size three change (5, record { what = Change 1 (report_of 0); when = 2 }, x, refl) (3, record { what = Change 1 (report_of 1); when = 2 }, y, refl)
+      (3, record { what = Change 1 (report_of 2); when = 2 }, z, refl) (second_certified size (3, second_spoken, a, refl) (1, second_spoken, b, refl) (1, second_spoken, c, refl))
+
+begin_may_0 : AllMay left 0 begin_acts
+begin_may_0 = (may_confirm refl refl refl (valid_while refl refl refl refl refl refl refl refl refl) chosen, tt)
+
+begin_may_1 : AllMay (after_acts left 0 begin_acts) 1 (says (New 1 reports) 2 ∷ begin_acts)
+begin_may_1 = (may_give refl, (may_confirm refl refl refl (valid_while refl refl refl refl refl refl refl refl refl) chosen, tt))
+
+begin_may_2 : AllMay (after_acts (after_acts left 0 begin_acts) 1 (says (New 1 reports) 2 ∷ begin_acts)) 2 begin_acts
+begin_may_2 = (may_confirm refl refl refl (valid_while refl refl refl refl refl refl refl refl refl) chosen, tt)
+
+confirmed_lawful : IsLawful confirmed
+confirmed_lawful =
+    acts_lawful (after_acts (after_acts left 0 begin_acts) 1 (says (New 1 reports) 2 ∷ begin_acts)) 2 begin_acts
+    (acts_lawful (after_acts left 0 begin_acts) 1 (says (New 1 reports) 2 ∷ begin_acts) (acts_lawful left 0 begin_acts left_lawful begin_may_0) begin_may_1)
+    begin_may_2
+
+abbrev began_spoken : Spoken
+began_spoken = record { what = Began 1 second_mark; when = 2 }
+
+began_certified : {w : World} → w.counts.n ≡ 4 → Says w 0 6 began_spoken → Says w 1 5 began_spoken → Says w 2 4 began_spoken → IsBacked w 3 (Began 1 second_mark)
+began_certified size a b c =
+    backed_by_three (Began 1 second_mark) (record { within = omega arith; said = inr (6, began_spoken, a, refl) }) (record { within = omega arith; said = inr (5, began_spoken, b, refl) })
+      (record { within = omega arith; said = inr (4, began_spoken, c, refl) })
+
+at_one : IsEntryAt (first_entry ∷ second_entry ∷ []) 1 first_entry
+at_one = record { first = lit< tt; there = refl }
+
+at_two : IsEntryAt (first_entry ∷ second_entry ∷ []) 2 second_entry
+at_two = record { first = lit< tt; there = refl }
+
+move_may_0 : AllMay confirmed 0 move_acts
+move_may_0 =
+    (may_begin refl refl refl (began_certified refl refl refl refl) (refl, (refl, tt))
+      (first_ordered passes_first_of_two at_one refl, (tt, (second_ordered passes_second at_two refl, (tt, (tt, (tt, (tt, tt))))))),
+    tt)
+
+move_may_1 : AllMay (after_acts confirmed 0 move_acts) 1 move_acts
+move_may_1 = (may_begin refl refl refl (began_certified refl refl refl refl) (refl, (refl, tt)) (tt, (tt, (tt, (tt, (tt, (tt, tt)))))), tt)
+
+move_may_2 : AllMay (after_acts (after_acts confirmed 0 move_acts) 1 move_acts) 2 move_acts
+move_may_2 = (may_begin refl refl refl (began_certified refl refl refl refl) (refl, (refl, tt)) (tt, (tt, (tt, (tt, (tt, tt))))), tt)
+
+pub example_lawful : IsLawful example
+example_lawful =
+    acts_lawful (after_acts (after_acts confirmed 0 move_acts) 1 move_acts) 2 move_acts
+    (acts_lawful (after_acts confirmed 0 move_acts) 1 move_acts (acts_lawful confirmed 0 move_acts confirmed_lawful move_may_0) move_may_1)
+    move_may_2
+
+-- ---- what it has
+
+abbrev first_spoken : Spoken
+first_spoken = record { what = Spec 0 first_mark first_answer; when = 1 }
+
+pub fast_backed : IsBacked example 4 (Spec 0 first_mark first_answer)
+fast_backed =
+    backed_by_four (Spec 0 first_mark first_answer) (record { within = lit< tt; said = inr (1, first_spoken, refl, refl) }) (record { within = lit< tt; said = inr (0, first_spoken, refl, refl) })
+    (record { within = lit< tt; said = inr (0, first_spoken, refl, refl) }) (record { within = lit< tt; said = inl refl })
+
+abbrev commit_spoken : Spoken
+commit_spoken = record { what = Local 0 second_mark; when = 2 }
+
+pub slow_certified : IsCertified example 0 second_mark
+slow_certified = (second_answer, second_certified refl (3, second_spoken, refl, refl) (1, second_spoken, refl, refl) (1, second_spoken, refl, refl))
+
+pub slow_backed : IsBacked example 3 (Local 0 second_mark)
+slow_backed =
+    backed_by_three (Local 0 second_mark) (record { within = lit< tt; said = inr (4, commit_spoken, refl, refl) }) (record { within = lit< tt; said = inr (2, commit_spoken, refl, refl) })
+    (record { within = lit< tt; said = inr (2, commit_spoken, refl, refl) })
+
+pub example_new : IsValidNew example 1 reports
+example_new = valid_while refl refl refl refl refl refl refl refl refl
+
+pub example_choice : IsChoice example.next example.counts.agree reports second_mark
+example_choice = chosen
+
+pub example_stands : Stood example 2 3 (record { view = 1; history = first_entry ∷ second_entry ∷ [] })
+example_stands = refl
