@@ -1,18 +1,16 @@
 -- The small world is lawful, act by act.
-use Rattle.std.proofs.Common.{◌≡◌, ◌≢◌, ℕ, zero, suc, ◌+◌, ◌-◌, ◌<◌, ◌≤◌, Bool, true, false, not, leb, ltb, eqb, ◌&&◌, ◌⊎◌, inl, inr, List, [], ◌∷◌, ◌++◌, length, take, drop, get_or, Option, Some, None, refl, sym, ap, ◌∙◌, subst, arith, lit<, lit≤}
+use Rattle.std.proofs.Common.{◌≡◌, ℕ, zero, suc, ◌+◌, ◌-◌, ◌<◌, ◌≤◌, Bool, true, false, not, leb, ltb, ◌&&◌, ◌⊎◌, inl, inr, List, [], ◌∷◌, ◌++◌, length, take, drop, get_or, Some, refl, sym, ap, ◌∙◌, subst, arith, lit<, lit≤}
 use Rattle.std.specs.Prelude.{All, Contains, count_by, slice_get}
-use Rattle.std.specs.List.{AllPairs, list_all}
-use Rattle.std.proofs.lemmas.Bool.{and_parts, and_right, leb-true, ltb-true, eq-eqb, false_from_ne_true}
+use Rattle.std.specs.List.{list_all}
+use Rattle.std.proofs.lemmas.Bool.{and_parts, and_right, leb-true, ltb-true, false_from_ne_true}
 use Rattle.std.proofs.lemmas.List.{take_at, drop_at}
 use Rattle.std.proofs.lemmas.List.Elements.{All-nil, All-cons, All-head, All-tail}
 use Rattle.std.proofs.lemmas.List.Sums.{sum_by-cons}
 use Rattle.std.proofs.lemmas.Option.{same_Some, slice_get_within}
-use Rattle.zy_base.specs.declared.ids.ClientId.{ClientId}
 use Rattle.zy_base.specs.declared.ids.Digest.{Digest}
-use Rattle.zy_base.specs.declared.ids.Stamp.{Stamp}
 use Rattle.zy_chain.specs.declared.entry.Entry.{Entry}
 use Rattle.zy_chain.specs.Heads.{empty_head}
-use Rattle.zy_chain.specs.Stretch.{Mark, Stretch}
+use Rattle.zy_chain.specs.Stretch.{Mark}
 use Rattle.zy_choose.specs.Marks.{has_mark}
 use Rattle.zy_choose.specs.Reports.{PlainReport, proven}
 use Rattle.zy_choose.specs.Choice.{last_in, IsAgreed, IsChoice}
@@ -22,11 +20,11 @@ use Rattle.zy_law.specs.Fixed.{IsCertified}
 use Rattle.zy_law.specs.Histories.{Passes, IsEntryAt, AreKept, origin, mark_of_all}
 use Rattle.zy_law.specs.World.{Answer, Statement, Spoken, Stand, World}
 use Rattle.zy_law.specs.World.Statement.{Order, Spec, Local, Check, Began, Change, New, Other}
-use Rattle.zy_law.specs.Said.{IsCorrect, Says, Stood, HasSaid, IsVouched, IsBacked}
+use Rattle.zy_law.specs.Said.{Says, Stood, HasSaid, IsVouched, IsBacked}
 use Rattle.zy_law.specs.Reports.{IsProven, IsValidReport, IsValidNew}
-use Rattle.zy_law.specs.Lawful.{IsLawful, IsVote, IsTrueResponse, IsTrueAnswer, IsTrueVote, IsTrueReport, IsCovered, IsOrdered, IsAskedFor, AreAskedFor, view_of}
-use Rattle.zy_law.specs.Steps.{IsStart, MaySay, MayStand, MayOrder, AllMay, after_acts}
-use Rattle.zy_law.specs.Example.{four, next_text, text_of, first_entry, second_entry, first_mark, second_mark, first_answer, second_answer, before_all, primary_acts, backup_acts, answered, leave_acts, left, reports, report_of, says, begin_acts, confirmed, move_acts, example}
+use Rattle.zy_law.specs.Lawful.{IsLawful, IsVote, IsTrueResponse, IsTrueAnswer, IsTrueVote, IsOrdered, IsAskedFor, AreAskedFor}
+use Rattle.zy_law.specs.Steps.{IsStart, MaySay, MayStand, AllMay, after_acts}
+use Rattle.zy_law.specs.Example.{next_text, text_of, first_entry, second_entry, first_mark, second_mark, first_answer, second_answer, before_all, primary_acts, backup_acts, answered, leave_acts, left, reports, report_of, says, begin_acts, confirmed, move_acts, example}
 use Rattle.zy_law.proofs.CountLemmas.{bit}
 use Rattle.zy_law.proofs.StepsLawful.{start_lawful, acts_lawful}
 
@@ -127,8 +125,8 @@ backed_by_four {w} s a b c d =
       many = refl;
       different = λ i j d before within same. absurd (omega (arith, number_at i d (omega arith), number_at j d within, same));
       vouched =
-        All-cons (IsVouched w s) 0 (1 ∷ 2 ∷ 3 ∷ []) a
-        (All-cons (IsVouched w s) 1 (2 ∷ 3 ∷ []) b (All-cons (IsVouched w s) 2 (3 ∷ []) c (All-cons (IsVouched w s) 3 [] d (All-nil (IsVouched w s)))));
+          All-cons (IsVouched w s) 0 (1 ∷ 2 ∷ 3 ∷ []) a
+          (All-cons (IsVouched w s) 1 (2 ∷ 3 ∷ []) b (All-cons (IsVouched w s) 2 (3 ∷ []) c (All-cons (IsVouched w s) 3 [] d (All-nil (IsVouched w s)))));
     }
 
 -- the certificate of the second entry, once each correct replica answered it
@@ -164,17 +162,17 @@ may_order {w} {r} {when} {m} now is_in primary place size first short =
       now = now;
       silence = λ number y view spoken report at what of. absurd (not_left (w.said r) number y view report is_in at what);
       told =
-        record {
-          primary = rw size primary;
-          place = place;
-          first = λ number y k second at what same.
-            let below = ltb-true (ordered_place y.what) m.place (list_all_at (λ (z : Spoken). ltb (ordered_place z.what) m.place) (w.said r) number y first at) in
-            let is : ordered_place y.what ≡ k.place = ap ordered_place what in
-            absurd (omega arith);
-          entries = λ at b stood view long.
-            let below = ltb-true (length b.history) m.place (list_all_at (λ (z : Stand). ltb (length z.history) m.place) (w.past r) at b short stood) in
-            absurd (omega arith);
-        };
+          record {
+            primary = rw size primary;
+            place = place;
+            first = λ number y k second at what same.
+                let below = ltb-true (ordered_place y.what) m.place (list_all_at (λ (z : Spoken). ltb (ordered_place z.what) m.place) (w.said r) number y first at) in
+                let is : ordered_place y.what ≡ k.place = ap ordered_place what in
+                absurd (omega arith);
+            entries = λ at b stood view long.
+                let below = ltb-true (length b.history) m.place (list_all_at (λ (z : Stand). ltb (length z.history) m.place) (w.past r) at b short stood) in
+                absurd (omega arith);
+          };
     }
 
 -- each order of a list is of the history
@@ -231,10 +229,10 @@ module _ (w : World) (asks : w.asked 0 ≡ first_entry ∷ second_entry ∷ []) 
       record {
         asked = inr (subst (λ (l : List Entry). Contains l second_entry) (sym asks) (1, lit< tt, refl));
         newer = λ earlier d before at same.
-          elim (entry_of_two earlier d at) [
-            | inl is ↦ subst (λ (z : Entry). z.stamp.0 < 2) is.1 (lit< tt)
-            | inr is ↦ absurd (omega (arith, is.0))
-          ];
+            elim (entry_of_two earlier d at) [
+              | inl is ↦ subst (λ (z : Entry). z.stamp.0 < 2) is.1 (lit< tt)
+              | inr is ↦ absurd (omega (arith, is.0))
+            ];
       }
 
   asked_one : AreAskedFor w 0 (first_entry ∷ [])
@@ -266,7 +264,7 @@ may_execute {w} {r} number last e stood now is_in view asked texts orders =
       texts = texts;
       no_return = λ said x left report at what. absurd (not_left (w.said r) said x left report is_in at what);
       ordered = λ said x m request at what long.
-        subst (λ (s : Statement). IsOrderOf w (last.history ++ e ∷ []) s) what (order_of w (last.history ++ e ∷ []) (w.said r) said x orders at);
+          subst (λ (s : Statement). IsOrderOf w (last.history ++ e ∷ []) s) what (order_of w (last.history ++ e ∷ []) (w.said r) said x orders at);
     }
 
 true_first : {w : World} → w.reply (first_entry ∷ []) ≡ first_answer.reply → IsTrueAnswer w (first_entry ∷ []) first_mark first_answer
@@ -322,31 +320,56 @@ orders_of_one : {w : World} → w.next ≡ next_text → w.digest first_entry �
 orders_of_one next digest = first_ordered (subst (λ (n : Digest → Entry → Digest). Passes n (first_entry ∷ []) first_mark) (sym next) passes_first) at_first digest
 
 primary_may : AllMay before_all 0 primary_acts
-primary_may =
-    (may_order refl refl refl (lit< tt) refl refl refl,
-    (may_execute 0 nothing first_entry refl refl refl refl (asked_one _ refl) (refl, tt) (first_ordered passes_first at_first refl, tt),
-    (may_answer refl refl (record { at = record { stand = one; stood = refl; view_is = refl; passes = passes_first }; answer = true_first refl }),
-    (may_order refl refl refl (lit< tt) refl refl refl,
-    (may_execute 1 one second_entry refl refl refl refl (asked_two _ refl) (refl, (refl, tt))
-      (first_ordered passes_first_of_two (record { first = lit< tt; there = refl }) refl, (tt, (second_ordered passes_second (record { first = lit< tt; there = refl }) refl, tt))),
-    (may_answer refl refl (record { at = record { stand = two; stood = refl; view_is = refl; passes = passes_second }; answer = true_second refl }),
-    tt))))))
+primary_may = (
+  may_order refl refl refl (lit< tt) refl refl refl,
+  (
+    may_execute 0 nothing first_entry refl refl refl refl (asked_one _ refl) (refl, tt) (first_ordered passes_first at_first refl, tt),
+    (
+      may_answer refl refl (record { at = record { stand = one; stood = refl; view_is = refl; passes = passes_first }; answer = true_first refl }),
+      (
+        may_order refl refl refl (lit< tt) refl refl refl,
+        (
+          may_execute 1 one second_entry refl refl refl refl (asked_two _ refl) (refl, (refl, tt))
+              (first_ordered passes_first_of_two (record { first = lit< tt; there = refl }) refl, (tt, (second_ordered passes_second (record { first = lit< tt; there = refl }) refl, tt))),
+          (
+            may_answer refl refl (record { at = record { stand = two; stood = refl; view_is = refl; passes = passes_second }; answer = true_second refl }),
+            tt,
+          ),
+        ),
+      ),
+    ),
+  ),
+)
 
 first_backup_may : AllMay (after_acts before_all 0 primary_acts) 1 backup_acts
-first_backup_may =
-    (may_execute 0 nothing first_entry refl refl refl refl (asked_one _ refl) (refl, tt) tt,
-    (may_answer refl refl (record { at = record { stand = one; stood = refl; view_is = refl; passes = passes_first }; answer = true_first refl }),
-    (may_execute 1 one second_entry refl refl refl refl (asked_two _ refl) (refl, (refl, tt)) (tt, tt),
-    (may_answer refl refl (record { at = record { stand = two; stood = refl; view_is = refl; passes = passes_second }; answer = true_second refl }),
-    tt))))
+first_backup_may = (
+  may_execute 0 nothing first_entry refl refl refl refl (asked_one _ refl) (refl, tt) tt,
+  (
+    may_answer refl refl (record { at = record { stand = one; stood = refl; view_is = refl; passes = passes_first }; answer = true_first refl }),
+    (
+      may_execute 1 one second_entry refl refl refl refl (asked_two _ refl) (refl, (refl, tt)) (tt, tt),
+      (
+        may_answer refl refl (record { at = record { stand = two; stood = refl; view_is = refl; passes = passes_second }; answer = true_second refl }),
+        tt,
+      ),
+    ),
+  ),
+)
 
 second_backup_may : AllMay (after_acts (after_acts before_all 0 primary_acts) 1 backup_acts) 2 backup_acts
-second_backup_may =
-    (may_execute 0 nothing first_entry refl refl refl refl (asked_one _ refl) (refl, tt) tt,
-    (may_answer refl refl (record { at = record { stand = one; stood = refl; view_is = refl; passes = passes_first }; answer = true_first refl }),
-    (may_execute 1 one second_entry refl refl refl refl (asked_two _ refl) (refl, (refl, tt)) (tt, tt),
-    (may_answer refl refl (record { at = record { stand = two; stood = refl; view_is = refl; passes = passes_second }; answer = true_second refl }),
-    tt))))
+second_backup_may = (
+  may_execute 0 nothing first_entry refl refl refl refl (asked_one _ refl) (refl, tt) tt,
+  (
+    may_answer refl refl (record { at = record { stand = one; stood = refl; view_is = refl; passes = passes_first }; answer = true_first refl }),
+    (
+      may_execute 1 one second_entry refl refl refl refl (asked_two _ refl) (refl, (refl, tt)) (tt, tt),
+      (
+        may_answer refl refl (record { at = record { stand = two; stood = refl; view_is = refl; passes = passes_second }; answer = true_second refl }),
+        tt,
+      ),
+    ),
+  ),
+)
 
 answered_lawful : IsLawful answered
 answered_lawful =
@@ -391,46 +414,55 @@ may_leave {w} {r} now stood next three is_in votes backed =
       now = now;
       silence = λ number y view spoken report at what of. absurd (not_left (w.said r) number y view report is_in at what);
       told =
-        record {
-          true_report =
-            record {
-              stand = two;
-              stood = stood;
-              last = refl;
-              base = record { within = lit≤ tt; head = refl };
-              entries = refl;
-              proven = report_proven r three backed;
-              covered = λ earlier y m below at vote.
-                let far = leb-true (voted_place y.what) 2 (list_all_at (λ (z : Spoken). leb (voted_place z.what) 2) (w.said r) earlier y votes at) in
-                record { spec = second_mark; held = refl; far = omega (arith, vote_is 0 m y.what vote, far) };
-            };
-          first = λ number y second at what. absurd (not_left (w.said r) number y 1 second is_in at what);
-        };
+          record {
+            true_report =
+                record {
+                  stand = two;
+                  stood = stood;
+                  last = refl;
+                  base = record { within = lit≤ tt; head = refl };
+                  entries = refl;
+                  proven = report_proven r three backed;
+                  covered = λ earlier y m below at vote.
+                      let far = leb-true (voted_place y.what) 2 (list_all_at (λ (z : Spoken). leb (voted_place z.what) 2) (w.said r) earlier y votes at) in
+                      record { spec = second_mark; held = refl; far = omega (arith, vote_is 0 m y.what vote, far) };
+                };
+            first = λ number y second at what. absurd (not_left (w.said r) number y 1 second is_in at what);
+          };
     }
 
 abbrev second_spoken : Spoken
 second_spoken = record { what = Spec 0 second_mark second_answer; when = 2 }
 
 leave_may_0 : AllMay answered 0 (leave_acts 0)
-leave_may_0 =
-    (may_commit refl refl
+leave_may_0 = (
+  may_commit refl refl
       (record { at = record { stand = two; stood = refl; view_is = refl; passes = passes_second }; certified = (second_answer, second_certified refl (3, second_spoken, refl, refl) (1, second_spoken, refl, refl) (1, second_spoken, refl, refl)) }),
-    (may_leave refl refl refl refl refl refl (second_certified refl (3, second_spoken, refl, refl) (1, second_spoken, refl, refl) (1, second_spoken, refl, refl)),
-    tt))
+  (
+    may_leave refl refl refl refl refl refl (second_certified refl (3, second_spoken, refl, refl) (1, second_spoken, refl, refl) (1, second_spoken, refl, refl)),
+    tt,
+  ),
+)
 
 leave_may_1 : AllMay (after_acts answered 0 (leave_acts 0)) 1 (leave_acts 1)
-leave_may_1 =
-    (may_commit refl refl
+leave_may_1 = (
+  may_commit refl refl
       (record { at = record { stand = two; stood = refl; view_is = refl; passes = passes_second }; certified = (second_answer, second_certified refl (3, second_spoken, refl, refl) (1, second_spoken, refl, refl) (1, second_spoken, refl, refl)) }),
-    (may_leave refl refl refl refl refl refl (second_certified refl (3, second_spoken, refl, refl) (1, second_spoken, refl, refl) (1, second_spoken, refl, refl)),
-    tt))
+  (
+    may_leave refl refl refl refl refl refl (second_certified refl (3, second_spoken, refl, refl) (1, second_spoken, refl, refl) (1, second_spoken, refl, refl)),
+    tt,
+  ),
+)
 
 leave_may_2 : AllMay (after_acts (after_acts answered 0 (leave_acts 0)) 1 (leave_acts 1)) 2 (leave_acts 2)
-leave_may_2 =
-    (may_commit refl refl
+leave_may_2 = (
+  may_commit refl refl
       (record { at = record { stand = two; stood = refl; view_is = refl; passes = passes_second }; certified = (second_answer, second_certified refl (3, second_spoken, refl, refl) (1, second_spoken, refl, refl) (1, second_spoken, refl, refl)) }),
-    (may_leave refl refl refl refl refl refl (second_certified refl (3, second_spoken, refl, refl) (1, second_spoken, refl, refl) (1, second_spoken, refl, refl)),
-    tt))
+  (
+    may_leave refl refl refl refl refl refl (second_certified refl (3, second_spoken, refl, refl) (1, second_spoken, refl, refl) (1, second_spoken, refl, refl)),
+    tt,
+  ),
+)
 
 left_lawful : IsLawful left
 left_lawful =
@@ -456,9 +488,9 @@ new_valid {w} size three change a b c backed =
       many = sym change;
       different = λ i j d before within same. absurd (omega (arith, number_of_report i d (omega arith), number_of_report j d within, same));
       each =
-        All-cons (IsValidReport w 1) (report_of 0) (report_of 1 ∷ report_of 2 ∷ []) (report_valid 0 (omega arith) three a backed)
-        (All-cons (IsValidReport w 1) (report_of 1) (report_of 2 ∷ []) (report_valid 1 (omega arith) three b backed)
-        (All-cons (IsValidReport w 1) (report_of 2) [] (report_valid 2 (omega arith) three c backed) (All-nil (IsValidReport w 1))));
+          All-cons (IsValidReport w 1) (report_of 0) (report_of 1 ∷ report_of 2 ∷ []) (report_valid 0 (omega arith) three a backed)
+          (All-cons (IsValidReport w 1) (report_of 1) (report_of 2 ∷ []) (report_valid 1 (omega arith) three b backed)
+          (All-cons (IsValidReport w 1) (report_of 2) [] (report_valid 2 (omega arith) three c backed) (All-nil (IsValidReport w 1))));
     }
 
 count_none : {A : Type 0} (p : A → Bool) (xs : List A) → All (λ x. p x ≡ false) xs → count_by p xs ≡ 0
@@ -476,33 +508,33 @@ none_agreed other is =
     let test : PlainReport → Bool = λ r. has_mark next_text r.stretch second_mark && has_mark next_text r.stretch other in
     let fails : (r : ℕ) → test (report_of r) ≡ false = λ r. and_right (has_mark next_text (report_of r).stretch second_mark) (has_mark next_text (report_of r).stretch other) (none_further other is.past) in
     let none : All (λ r. test r ≡ false) reports =
-      All-cons (λ (r : PlainReport). test r ≡ false) (report_of 0) (report_of 1 ∷ report_of 2 ∷ []) (fails 0)
-      (All-cons (λ (r : PlainReport). test r ≡ false) (report_of 1) (report_of 2 ∷ []) (fails 1)
-      (All-cons (λ (r : PlainReport). test r ≡ false) (report_of 2) [] (fails 2) (All-nil (λ (r : PlainReport). test r ≡ false)))) in
+    All-cons (λ (r : PlainReport). test r ≡ false) (report_of 0) (report_of 1 ∷ report_of 2 ∷ []) (fails 0)
+    (All-cons (λ (r : PlainReport). test r ≡ false) (report_of 1) (report_of 2 ∷ []) (fails 1)
+    (All-cons (λ (r : PlainReport). test r ≡ false) (report_of 2) [] (fails 2) (All-nil (λ (r : PlainReport). test r ≡ false)))) in
     let enough : 2 ≤ count_by test reports = is.enough in
     omega (arith, count_none test reports none, enough)
 
 chosen : IsChoice next_text 2 reports second_mark
 chosen =
     let told : (r : ℕ) → All (λ (other : Mark). other.place ≤ 2) (proven (report_of r)) =
-      λ r. All-cons (λ (other : Mark). other.place ≤ 2) origin (origin ∷ second_mark ∷ []) (lit≤ tt)
-        (All-cons (λ (other : Mark). other.place ≤ 2) origin (second_mark ∷ []) (lit≤ tt)
-        (All-cons (λ (other : Mark). other.place ≤ 2) second_mark [] (lit≤ tt) (All-nil (λ (other : Mark). other.place ≤ 2)))) in
+    λ r. All-cons (λ (other : Mark). other.place ≤ 2) origin (origin ∷ second_mark ∷ []) (lit≤ tt)
+    (All-cons (λ (other : Mark). other.place ≤ 2) origin (second_mark ∷ []) (lit≤ tt)
+    (All-cons (λ (other : Mark). other.place ≤ 2) second_mark [] (lit≤ tt) (All-nil (λ (other : Mark). other.place ≤ 2)))) in
     let P : PlainReport → Type 0 = λ r. All (λ (other : Mark). other.place ≤ 2) (proven r) in
     let Q : PlainReport → Type 0 = λ r. r.last_view ≤ 0 in
     record {
       view = 0;
       anchor = second_mark;
       greatest =
-        record {
-          told = (0, report_of 0, lit< tt, refl, refl);
-          greatest = All-cons Q (report_of 0) (report_of 1 ∷ report_of 2 ∷ []) (lit≤ tt) (All-cons Q (report_of 1) (report_of 2 ∷ []) (lit≤ tt) (All-cons Q (report_of 2) [] (lit≤ tt) (All-nil Q)));
-        };
+          record {
+            told = (0, report_of 0, lit< tt, refl, refl);
+            greatest = All-cons Q (report_of 0) (report_of 1 ∷ report_of 2 ∷ []) (lit≤ tt) (All-cons Q (report_of 1) (report_of 2 ∷ []) (lit≤ tt) (All-cons Q (report_of 2) [] (lit≤ tt) (All-nil Q)));
+          };
       anchored =
-        record {
-          proved = (0, report_of 0, lit< tt, refl, (2, lit< tt, refl));
-          furthest = All-cons P (report_of 0) (report_of 1 ∷ report_of 2 ∷ []) (told 0) (All-cons P (report_of 1) (report_of 2 ∷ []) (told 1) (All-cons P (report_of 2) [] (told 2) (All-nil P)));
-        };
+          record {
+            proved = (0, report_of 0, lit< tt, refl, (2, lit< tt, refl));
+            furthest = All-cons P (report_of 0) (report_of 1 ∷ report_of 2 ∷ []) (told 0) (All-cons P (report_of 1) (report_of 2 ∷ []) (told 1) (All-cons P (report_of 2) [] (told 2) (All-nil P)));
+          };
       picked = anchored none_agreed refl;
     }
 
@@ -532,10 +564,10 @@ may_confirm {w} {r} now have fresh valid choice =
       now = now;
       silence = λ number y view spoken report at what of. omega (arith, left_for (w.said r) number y view report have at what, same_Some 1 spoken of);
       told =
-        record {
-          chosen = record { reports = reports; valid = valid; choice = choice };
-          first = λ number y k at what. absurd (not_confirmed (w.said r) number y 1 k fresh at what);
-        };
+          record {
+            chosen = record { reports = reports; valid = valid; choice = choice };
+            first = λ number y k at what. absurd (not_confirmed (w.said r) number y 1 k fresh at what);
+          };
     }
 
 may_give : {w : World} {r : ℕ} → 3 ≡ length (w.past r) → MaySay w r (record { what = New 1 reports; when = 2 })
@@ -556,7 +588,7 @@ may_begin {w} {r} now stood have backed texts orders =
       texts = texts;
       no_return = λ said x view report at what. left_for (w.said r) said x view report have at what;
       ordered = λ said x m request at what long.
-        subst (λ (s : Statement). IsOrderOf w (first_entry ∷ second_entry ∷ []) s) what (order_of w (first_entry ∷ second_entry ∷ []) (w.said r) said x orders at);
+          subst (λ (s : Statement). IsOrderOf w (first_entry ∷ second_entry ∷ []) s) what (order_of w (first_entry ∷ second_entry ∷ []) (w.said r) said x orders at);
     }
 
 -- every replica's part in the certificate of the second entry and in the reports stays where it is said
@@ -566,7 +598,7 @@ valid_while : {w : World} → w.counts.n ≡ 4 → w.counts.cert ≡ 3 → w.cou
     → IsValidNew w 1 reports
 valid_while size three change a b c x y z =
     new_valid size three change (5, record { what = Change 1 (report_of 0); when = 2 }, x, refl) (3, record { what = Change 1 (report_of 1); when = 2 }, y, refl)
-      (3, record { what = Change 1 (report_of 2); when = 2 }, z, refl) (second_certified size (3, second_spoken, a, refl) (1, second_spoken, b, refl) (1, second_spoken, c, refl))
+    (3, record { what = Change 1 (report_of 2); when = 2 }, z, refl) (second_certified size (3, second_spoken, a, refl) (1, second_spoken, b, refl) (1, second_spoken, c, refl))
 
 begin_may_0 : AllMay left 0 begin_acts
 begin_may_0 = (may_confirm refl refl refl (valid_while refl refl refl refl refl refl refl refl refl) chosen, tt)
@@ -589,7 +621,7 @@ began_spoken = record { what = Began 1 second_mark; when = 2 }
 began_certified : {w : World} → w.counts.n ≡ 4 → Says w 0 6 began_spoken → Says w 1 5 began_spoken → Says w 2 4 began_spoken → IsBacked w 3 (Began 1 second_mark)
 began_certified size a b c =
     backed_by_three (Began 1 second_mark) (record { within = omega arith; said = inr (6, began_spoken, a, refl) }) (record { within = omega arith; said = inr (5, began_spoken, b, refl) })
-      (record { within = omega arith; said = inr (4, began_spoken, c, refl) })
+    (record { within = omega arith; said = inr (4, began_spoken, c, refl) })
 
 at_one : IsEntryAt (first_entry ∷ second_entry ∷ []) 1 first_entry
 at_one = record { first = lit< tt; there = refl }
@@ -598,10 +630,11 @@ at_two : IsEntryAt (first_entry ∷ second_entry ∷ []) 2 second_entry
 at_two = record { first = lit< tt; there = refl }
 
 move_may_0 : AllMay confirmed 0 move_acts
-move_may_0 =
-    (may_begin refl refl refl (began_certified refl refl refl refl) (refl, (refl, tt))
+move_may_0 = (
+  may_begin refl refl refl (began_certified refl refl refl refl) (refl, (refl, tt))
       (first_ordered passes_first_of_two at_one refl, (tt, (second_ordered passes_second at_two refl, (tt, (tt, (tt, (tt, tt))))))),
-    tt)
+  tt,
+)
 
 move_may_1 : AllMay (after_acts confirmed 0 move_acts) 1 move_acts
 move_may_1 = (may_begin refl refl refl (began_certified refl refl refl refl) (refl, (refl, tt)) (tt, (tt, (tt, (tt, (tt, (tt, tt)))))), tt)

@@ -1,6 +1,6 @@
 -- A valid new view has one anchor and one choice.
-use Rattle.std.proofs.Common.{◌≡◌, ◌≢◌, ℕ, ◌+◌, ◌*◌, ◌<◌, ◌≤◌, Bool, true, ◌&&◌, ◌⊎◌, inl, inr, List, get_or, Some, refl, sym, ap, ◌∙◌, subst, arith}
-use Rattle.std.specs.Prelude.{All, slice_get}
+use Rattle.std.proofs.Common.{◌≡◌, ◌≢◌, ℕ, ◌<◌, Bool, true, ◌&&◌, inl, inr, List, get_or, Some, refl, sym, ap, ◌∙◌, subst, arith}
+use Rattle.std.specs.Prelude.{slice_get}
 use Rattle.std.specs.List.{AllPairs}
 use Rattle.std.proofs.lemmas.Bool.{and_parts, cases_order}
 use Rattle.std.proofs.lemmas.Option.{slice_get-get_or, get_or_from_slice_get, slice_get_within, same_Some}
@@ -18,7 +18,7 @@ use Rattle.zy_law.proofs.CountLemmas.{named, named_found, named_from, count_insi
 use Rattle.zy_law.proofs.QuorumLemmas.{everyone, everyone_count, reporters_count}
 use Rattle.zy_law.proofs.ReportLemmas.{IsLastIn, IsProvenBy, last_at, proven_at, anchor_proven, anchor_furthest, greatest_has, greatest_of, supports, supports_count, supports_has}
 use Rattle.zy_law.proofs.OneView.{solid_together}
-use Rattle.zy_law.proofs.ReportedLemmas.{Reported, Ground, ground, proven_solid, report_proven}
+use Rattle.zy_law.proofs.ReportedLemmas.{Reported, ground, proven_solid, report_proven}
 use Rattle.zy_law.proofs.ChoiceExtends.{all_choices_safe}
 
 -- one item has a number
@@ -48,7 +48,7 @@ module _ (w : World) (lawful : IsLawful w) (view : ℕ) (reports : List PlainRep
       let c = reported_of last anchor greatest is in
       let g = ground w lawful view c in
       let solid = proven_solid w lawful view last g.begin k r (report_proven w lawful view reports in_last.place r valid in_last.at) in_last.last g.is
-        (all_choices_safe w lawful last) proved in
+      (all_choices_safe w lawful last) proved in
       let both = solid_together w lawful last g.begin k anchor g.is g.known solid g.solid in
       Passes-one w.next both.moment.stand.history k anchor same both.first both.second
 
@@ -56,7 +56,7 @@ module _ (w : World) (lawful : IsLawful w) (view : ℕ) (reports : List PlainRep
   only_anchor last anchor greatest is i r within j k inside same =
       let in_last = last_at last reports i (get_or (last_in last reports) i r) (slice_get-get_or (last_in last reports) i r within) in
       let proved = proven_at (get_or (last_in last reports) i r) j (get_or (proven (get_or (last_in last reports) i r)) j k)
-        (slice_get-get_or (proven (get_or (last_in last reports) i r)) j k inside) in
+      (slice_get-get_or (proven (get_or (last_in last reports) i r)) j k inside) in
       proven_is_anchor last anchor (get_or (proven (get_or (last_in last reports) i r)) j k) (get_or (last_in last reports) i r) greatest is in_last proved same
 
   -- the greatest last view, its anchor and what is picked are one
@@ -81,12 +81,20 @@ module _ (w : World) (lawful : IsLawful w) (view : ℕ) (reports : List PlainRep
       let first = named (λ (x : PlainReport). x.by) (supports w.next last anchor m) reports in
       let second = named (λ (x : PlainReport). x.by) (supports w.next last anchor k) reports in
       let among : (test : PlainReport → Bool) (r : ℕ) → named (λ (x : PlainReport). x.by) test reports r ≡ true → everyone reports r ≡ true =
-        λ test r told. let f = named_found (λ (x : PlainReport). x.by) test reports r told in named_from (λ (x : PlainReport). x.by) (λ x. true) reports r f.0 f.1 f.2 refl f.4 in
+      λ test r told. let f = named_found (λ (x : PlainReport). x.by) test reports r told in named_from (λ (x : PlainReport). x.by) (λ x. true) reports r f.0 f.1 f.2 refl f.4 in
       let some : 0 < count_below w.counts.n (λ r. first r && second r) =
-        omega (arith, count_inside w.counts.n first second (everyone reports) (among (supports w.next last anchor m)) (among (supports w.next last anchor k)),
-          everyone_count w lawful view reports valid,
-          reporters_count w lawful view reports (supports w.next last anchor m) valid, supports_count w.next last anchor m reports, a.enough,
-          reporters_count w lawful view reports (supports w.next last anchor k) valid, supports_count w.next last anchor k reports, b.enough, w.counts.sound.two_agreements) in
+      omega (
+        arith,
+        count_inside w.counts.n first second (everyone reports) (among (supports w.next last anchor m)) (among (supports w.next last anchor k)),
+        everyone_count w lawful view reports valid,
+        reporters_count w lawful view reports (supports w.next last anchor m) valid,
+        supports_count w.next last anchor m reports,
+        a.enough,
+        reporters_count w lawful view reports (supports w.next last anchor k) valid,
+        supports_count w.next last anchor k reports,
+        b.enough,
+        w.counts.sound.two_agreements,
+      ) in
       let one = counted w.counts.n (λ r. first r && second r) some in
       let both = and_parts (first one.0) (second one.0) one.2 in
       let x = named_found (λ (c : PlainReport). c.by) (supports w.next last anchor m) reports one.0 both.0 in

@@ -1,5 +1,5 @@
 -- What a choice says of its reports, and what a true report says of its replica's history.
-use Rattle.std.proofs.Common.{◌≡◌, ℕ, zero, suc, ◌+◌, ◌-◌, ◌<◌, ◌≤◌, ◌==◌, Bool, true, false, cond, ◌&&◌, ◌⊎◌, inl, inr, List, [], ◌∷◌, ◌++◌, length, take, drop, Option, Some, None, refl, sym, ap, ◌∙◌, subst, arith}
+use Rattle.std.proofs.Common.{◌≡◌, ℕ, zero, suc, ◌+◌, ◌-◌, ◌≤◌, ◌==◌, Bool, true, false, cond, ◌&&◌, ◌⊎◌, inl, inr, List, [], ◌∷◌, ◌++◌, length, take, drop, Option, Some, None, refl, sym, ap, ◌∙◌, subst, arith}
 use Rattle.std.specs.Prelude.{Contains, Any, All, filter, count_by, fold, slice_get, option_to_list}
 use Rattle.std.proofs.lemmas.Bool.{cases_Bool, and_parts, and_from, eqb-true, eq-eqb}
 use Rattle.std.proofs.lemmas.List.{take-append-drop, take-take, drop-take, length-drop}
@@ -12,7 +12,7 @@ use Rattle.zy_chain.specs.Stretch.{Mark, Stretch}
 use Rattle.zy_choose.specs.Marks.{Has, has_mark}
 use Rattle.zy_choose.specs.Reports.{PlainReport, proven}
 use Rattle.zy_choose.proofs.MarkLemmas.{has_mark-Has, Has-has_mark}
-use Rattle.zy_choose.specs.Choice.{IsGreatestView, last_in, IsAnchor, IsAgreed, IsPicked, IsChoice}
+use Rattle.zy_choose.specs.Choice.{IsGreatestView, last_in, IsAnchor}
 use Rattle.zy_law.specs.Histories.{Passes}
 use Rattle.zy_law.proofs.CountLemmas.{bit}
 use Rattle.zy_law.proofs.QuorumLemmas.{All_at}

@@ -1,6 +1,6 @@
 -- A small lawful world: four replicas, of which the last lies. In view 0 two entries are ordered and answered, the first
 -- fast and the second slow; then the correct replicas leave for view 1 and begin it with both.
-use Rattle.std.specs.Prelude.{ℕ, ◌≡◌, Bool, true, false, nat_eq, List, [], ◌∷◌, ◌++◌, length, None, Some}
+use Rattle.std.specs.Prelude.{ℕ, true, false, nat_eq, List, [], ◌∷◌, ◌++◌, length, Some}
 use Rattle.std.proofs.Common.{lit<, lit≤}
 use Rattle.zy_base.specs.declared.counts.Counts.{Counts}
 use Rattle.zy_base.specs.declared.ids.Digest.{Digest}
@@ -11,8 +11,8 @@ use Rattle.zy_choose.specs.Reports.{PlainReport}
 use Rattle.zy_law.specs.Histories.{origin}
 use Rattle.zy_law.specs.Steps.{Act, after_acts}
 use Rattle.zy_law.specs.Steps.Act.{Say, Move}
-use Rattle.zy_law.specs.World.{Answer, Statement, Spoken, Stand, World}
-use Rattle.zy_law.specs.World.Statement.{Order, Spec, Local, Check, Began, Change, New}
+use Rattle.zy_law.specs.World.{Answer, Statement, World}
+use Rattle.zy_law.specs.World.Statement.{Order, Spec, Local, Began, Change, New}
 
 abbrev pub four : Counts
 four =
@@ -25,22 +25,22 @@ four =
       change = 3;
       agree = 2;
       sound =
-        record {
-          two_certificates = lit< tt;
-          certificate_and_fast = lit< tt;
-          fast_and_change = lit≤ tt;
-          two_agreements = lit< tt;
-          true_agreement = lit< tt;
-          local_and_change = lit< tt;
-          certificate_in_reach = lit≤ tt;
-          local_in_reach = lit≤ tt;
-          change_in_reach = lit≤ tt;
-          fast_in_reach = lit≤ tt;
-          short_certificate = lit≤ tt;
-          short_local = lit≤ tt;
-          short_change = lit≤ tt;
-          few = lit≤ tt;
-        };
+          record {
+            two_certificates = lit< tt;
+            certificate_and_fast = lit< tt;
+            fast_and_change = lit≤ tt;
+            two_agreements = lit< tt;
+            true_agreement = lit< tt;
+            local_and_change = lit< tt;
+            certificate_in_reach = lit≤ tt;
+            local_in_reach = lit≤ tt;
+            change_in_reach = lit≤ tt;
+            fast_in_reach = lit≤ tt;
+            short_certificate = lit≤ tt;
+            short_local = lit≤ tt;
+            short_change = lit≤ tt;
+            few = lit≤ tt;
+          };
     }
 
 -- ---- a digest that is the text itself, so that no two texts share one

@@ -1,5 +1,5 @@
 -- Lawful conduct: what the correct replicas of a world keep, and what holds of the world besides.
-use Rattle.std.specs.Prelude.{◌≡◌, ◌⊎◌, ℕ, ◌+◌, ◌%◌, ◌<◌, ◌≤◌, true, List, [], length, take, drop, slice_get, Option, Some, None, Contains}
+use Rattle.std.specs.Prelude.{◌≡◌, ◌⊎◌, ℕ, ◌+◌, ◌%◌, ◌<◌, ◌≤◌, true, List, [], length, take, drop, Option, Some, None, Contains}
 use Rattle.zy_base.specs.declared.ids.Digest.{Digest}
 use Rattle.zy_chain.specs.declared.entry.Entry.{Entry}
 use Rattle.zy_chain.specs.Heads.{empty_head}
@@ -125,44 +125,35 @@ pub record IsLawful (w : World) : Type 0 where
   -- what it says is said at a stand, and later statements at no earlier stands
   pub said_at : (r number : ℕ) (x : Spoken) → IsCorrect w r → Says w r number x → x.when < length (w.past r)
   pub said_in_order : (r number later : ℕ) (x y : Spoken) → IsCorrect w r → Says w r number x → Says w r later y → number < later → x.when ≤ y.when
-
   pub true_responses : (r number : ℕ) (x : Spoken) (view : ℕ) (m : Mark) (a : Answer) → IsCorrect w r → Says w r number x
       → x.what ≡ Spec view m a → IsTrueResponse w r x.when view m a
-
   pub growth : (r number : ℕ) (a b : Stand) → IsCorrect w r → Stood w r number a → Stood w r (number + 1) b → IsNext a b
-
   pub true_commits : (r number : ℕ) (x : Spoken) (view : ℕ) (m : Mark) → IsCorrect w r → Says w r number x
       → x.what ≡ Local view m → IsTrueVote w r x.when view m
   pub true_checks : (r number : ℕ) (x : Spoken) (view : ℕ) (m : Mark) (state : Digest) → IsCorrect w r → Says w r number x
       → x.what ≡ Check view m state → IsTrueCheck w r x.when view m state
-
   -- Silence after leaving: after a leave for a view nothing is said of a smaller view, and no stand has one.
   pub silence : (r number later : ℕ) (x y : Spoken) (view spoken : ℕ) (report : PlainReport) → IsCorrect w r → Says w r number x → Says w r later y
       → number < later → x.what ≡ Change view report → view_of y.what ≡ Some spoken → view ≤ spoken
   pub no_return : (r number later : ℕ) (x : Spoken) (b : Stand) (view : ℕ) (report : PlainReport) → IsCorrect w r → Says w r number x → Stood w r later b
       → x.when < later → x.what ≡ Change view report → view ≤ b.view
-
   pub true_reports : (r number : ℕ) (x : Spoken) (view : ℕ) (report : PlainReport) → IsCorrect w r → Says w r number x
       → x.what ≡ Change view report → IsTrueReport w r number x.when view report
   pub one_report : (r number other : ℕ) (x y : Spoken) (view : ℕ) (report second : PlainReport) → IsCorrect w r → Says w r number x → Says w r other y
       → x.what ≡ Change view report → y.what ≡ Change view second → report ≡ second
-
   pub chosen_confirmations : (r number : ℕ) (x : Spoken) (view : ℕ) (m : Mark) → IsCorrect w r → Says w r number x
       → x.what ≡ Began view m → IsChosenStart w view m
   pub one_confirmation : (r number other : ℕ) (x y : Spoken) (view : ℕ) (m k : Mark) → IsCorrect w r → Says w r number x → Says w r other y
       → x.what ≡ Began view m → y.what ≡ Began view k → m ≡ k
-
   -- Views begin by certificate: a stand of a greater view than the last comes with that view's certificate for exactly
   -- its history.
   pub begun : (r number : ℕ) (a b : Stand) → IsCorrect w r → Stood w r number a → Stood w r (number + 1) b
       → a.view < b.view → IsBacked w w.counts.cert (Began b.view (mark_of_all w.next b.history))
-
   pub ordered_by_primary : (r number : ℕ) (x : Spoken) (view : ℕ) (m : Mark) (request : Digest) → IsCorrect w r → Says w r number x
       → x.what ≡ Order view m request → (view % w.counts.n ≡ r) × (0 < m.place)
   pub one_order : (r number other : ℕ) (x y : Spoken) (view : ℕ) (m k : Mark) (request second : Digest) → IsCorrect w r → Says w r number x → Says w r other y
       → x.what ≡ Order view m request → y.what ≡ Order view k second → m.place ≡ k.place → (m ≡ k) × (request ≡ second)
   pub ordered_entries : (r number at : ℕ) (x : Spoken) (b : Stand) (m : Mark) (request : Digest) → IsCorrect w r → Says w r number x → Stood w r at b
       → x.what ≡ Order b.view m request → m.place ≤ length b.history → IsOrdered w b.history m request
-
   pub asked_for : (r number : ℕ) (a b : Stand) → IsCorrect w r → Stood w r number a → Stood w r (number + 1) b
       → a.view ≡ b.view → AreAskedFor w (length a.history) b.history
