@@ -1,5 +1,5 @@
 -- The marks of a stretch: the test and the fact, and a place's one head.
-use Rattle.std.proofs.Common.{◌≡◌, ℕ, ◌-◌, ◌≤◌, nat_eq, nat_le, Bool, true, false, ◌&&◌, take, fold, refl, ap, sym, ◌∙◌, arith}
+use Rattle.std.proofs.Common.{◌≡◌, ℕ, ◌-◌, nat_eq, nat_le, true, ◌&&◌, take, fold, ap, sym, ◌∙◌}
 use Rattle.std.proofs.lemmas.Bool.{and_parts, and_from, leb-true, le-leb}
 use Rattle.std.specs.Cmp.Lexicographic.{pointwise, same_text, bytes_decides}
 use Rattle.zy_base.specs.declared.ids.Digest.{Digest}

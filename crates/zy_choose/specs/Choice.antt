@@ -55,9 +55,9 @@ pub record IsChosen (next : Digest → Entry → Digest) (agree : ℕ) (reports 
   pub only : IsOnlyAnchor (last_in choice.view reports) choice.anchor
   pub provided : provider_of next choice.view m reports ≡ Some provider
 
--- the heads that are proven at a place, in the order of the reports
-abbrev pub heads_at : ℕ → List PlainReport → List Digest
-heads_at place reports = map (λ (m : Mark). m.head) (filter (λ m. m.place == place) (flat_map proven reports))
+-- the heads at a place, in the order of the marks
+abbrev pub heads_in : ℕ → List Mark → List Digest
+heads_in place marks = map (λ (m : Mark). m.head) (filter (λ m. m.place == place) marks)
 
 -- Two heads stand at the anchor's place: the first that are different.
 pub record IsClash (reports : List PlainReport) (first second : Digest) : Type 0 where
@@ -68,5 +68,5 @@ pub record IsClash (reports : List PlainReport) (first second : Digest) : Type 0
   -- how often the first comes again before the second
   pub again : ℕ
   pub later : List Digest
-  pub heads : heads_at anchor.place (last_in view reports) ≡ first ∷ replicate again first ++ second ∷ later
+  pub heads : heads_in anchor.place (flat_map proven (last_in view reports)) ≡ first ∷ replicate again first ++ second ∷ later
   pub different : first ≢ second

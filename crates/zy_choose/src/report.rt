@@ -1,3 +1,6 @@
+ghost use Rattle.std.specs.Prelude.{◌≡◌, ◌==◌};
+ghost use Rattle.zy_choose.specs.Marks.{has_mark, link, mark_of};
+
 use std::marker::Model;
 use zy_base::{Digest, Place, ReplicaId, View};
 use zy_chain::Spine;
@@ -45,4 +48,27 @@ pub enum ReportRule {
     Began = 8,
     /// The same of the certificate of speculative responses.
     Spec = 9,
+}
+
+impl Report {
+    /// Whether this is the last view.
+    pub fn is_of(&self, view: View) -> bool
+        ensures { result ≡ (self.now.last_view == view.0) }
+    {
+        self.last_view == view
+    }
+
+    /// The stable place with its head.
+    pub fn stable_mark(&self) -> (Place, Digest)
+        ensures { mark_of result ≡ self.now.stretch.base }
+    {
+        (self.stable.1, self.stable.2)
+    }
+
+    /// Whether the history up to a mark stands in the report.
+    pub fn has(&self, mark: &(Place, Digest)) -> bool
+        ensures { result ≡ has_mark link self.now.stretch (mark_of mark.now) }
+    {
+        self.spine.head_at(mark.0) == Some(mark.1)
+    }
 }
