@@ -53,4 +53,4 @@ module _ (w : World) (lawful : IsLawful w) (view : ℕ) (reports : List PlainRep
       let anchor_is = one_anchor (last_in a.view reports) a.anchor b.anchor a.anchored anchored_b (only_anchor a.view a.anchor a.greatest a.anchored) in
       let picked_b = subst (λ (v : ℕ). IsPicked w.next w.counts.agree (last_in v reports) b.anchor k) view_is b.picked in
       one_picked w.next w.counts.agree (last_in a.view reports) a.anchor m k (few_last_in w.counts.agree a.view reports few) a.picked
-        (subst (λ (x : Mark). IsPicked w.next w.counts.agree (last_in a.view reports) x k) anchor_is picked_b)
+      (subst (λ (x : Mark). IsPicked w.next w.counts.agree (last_in a.view reports) x k) anchor_is picked_b)
