@@ -1,22 +1,15 @@
 -- A valid new view has one anchor and one choice.
-use Rattle.std.proofs.Common.{◌≡◌, ℕ, ◌*◌, ◌<◌, List, length, get_or, Some, sym, subst, arith}
-use Rattle.std.specs.Prelude.{slice_get}
-use Rattle.std.specs.List.{AllPairs}
-use Rattle.std.proofs.lemmas.Bool.{and_parts, cases_order}
+use Rattle.std.proofs.Common.{◌≡◌, ℕ, ◌*◌, ◌<◌, List, length, get_or, subst, arith}
 use Rattle.std.proofs.lemmas.List.Elements.{Contains-get_or}
 use Rattle.zy_chain.specs.Stretch.{Mark}
 use Rattle.zy_choose.specs.Reports.{PlainReport, proven}
-use Rattle.zy_choose.specs.Choice.{IsGreatestView, last_in, IsAnchor, IsOnlyAnchor, IsAgreed, IsPicked, IsChoice}
-use Rattle.zy_choose.specs.Choice.IsPicked.{agreed, anchored}
+use Rattle.zy_choose.specs.Choice.{IsGreatestView, last_in, IsAnchor, IsOnlyAnchor, IsPicked, IsChoice}
 use Rattle.zy_choose.proofs.OneAnswer.{one_view, one_anchor, one_picked, few_last_in}
-use Rattle.zy_law.specs.Counting.{count_below}
 use Rattle.zy_law.specs.Reports.{IsValidNew}
 use Rattle.zy_law.specs.World.{World}
 use Rattle.zy_law.specs.Lawful.{IsLawful}
 use Rattle.zy_law.proofs.HistoryLemmas.{Passes-one}
-use Rattle.zy_law.proofs.CountLemmas.{named, named_found, named_from, count_inside, counted}
-use Rattle.zy_law.proofs.QuorumLemmas.{everyone, everyone_count, reporters_count}
-use Rattle.zy_law.proofs.ReportLemmas.{IsLastIn, IsProvenBy, last_among, proven_by, anchor_proven, anchor_furthest, greatest_has, greatest_of, supports, supports_count, supports_has}
+use Rattle.zy_law.proofs.ReportLemmas.{IsLastIn, IsProvenBy, last_among, proven_by}
 use Rattle.zy_law.proofs.OneView.{solid_together}
 use Rattle.zy_law.proofs.ReportedLemmas.{Reported, ground, proven_solid, report_proven}
 use Rattle.zy_law.proofs.ChoiceExtends.{all_choices_safe}
