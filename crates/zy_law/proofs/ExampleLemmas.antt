@@ -19,7 +19,7 @@ use Rattle.zy_choose.proofs.MarkLemmas.{has_mark-Has}
 use Rattle.zy_law.specs.Fixed.{IsCertified}
 use Rattle.zy_law.specs.Histories.{Passes, IsEntryAt, AreKept, origin, mark_of_all}
 use Rattle.zy_law.specs.World.{Answer, Statement, Spoken, Stand, World}
-use Rattle.zy_law.specs.World.Statement.{Order, Spec, Local, Check, Began, Change, New, Other}
+use Rattle.zy_law.specs.World.Statement.{Order, Spec, Local, Check, Began, Change, New}
 use Rattle.zy_law.specs.Said.{Says, Stood, HasSaid, IsVouched, IsBacked}
 use Rattle.zy_law.specs.Reports.{IsProven, IsValidReport, IsValidNew}
 use Rattle.zy_law.specs.Lawful.{IsLawful, IsVote, IsTrueResponse, IsTrueAnswer, IsTrueVote, IsOrdered, IsAskedFor, AreAskedFor}
@@ -36,44 +36,21 @@ list_all_at {A} p (x ∷ xs) zero y all at = subst (λ (z : A). p z ≡ true) (s
 list_all_at p (x ∷ xs) (suc i) y all at = list_all_at p xs i y (and_parts (p x) (list_all p xs) all).1 at
 
 abbrev leaves : Statement → Bool
-leaves (Order v m d) = false
-leaves (Spec v m a) = false
-leaves (Local v m) = false
-leaves (Check v m d) = false
-leaves (Began v m) = false
 leaves (Change v r) = true
-leaves (New v rs) = false
-leaves Other = false
+leaves _ = false
 
 abbrev confirms : Statement → Bool
-confirms (Order v m d) = false
-confirms (Spec v m a) = false
-confirms (Local v m) = false
-confirms (Check v m d) = false
 confirms (Began v m) = true
-confirms (Change v r) = false
-confirms (New v rs) = false
-confirms Other = false
+confirms _ = false
 
 abbrev ordered_place : Statement → ℕ
 ordered_place (Order v m d) = m.place
-ordered_place (Spec v m a) = 0
-ordered_place (Local v m) = 0
-ordered_place (Check v m d) = 0
-ordered_place (Began v m) = 0
-ordered_place (Change v r) = 0
-ordered_place (New v rs) = 0
-ordered_place Other = 0
+ordered_place _ = 0
 
 abbrev voted_place : Statement → ℕ
-voted_place (Order v m d) = 0
-voted_place (Spec v m a) = 0
 voted_place (Local v m) = m.place
 voted_place (Check v m d) = m.place
-voted_place (Began v m) = 0
-voted_place (Change v r) = 0
-voted_place (New v rs) = 0
-voted_place Other = 0
+voted_place _ = 0
 
 -- none has left yet, none has confirmed yet
 abbrev IsIn : List Spoken → Type 0
@@ -178,13 +155,7 @@ may_order {w} {r} {when} {m} now is_in primary place size first short =
 -- each order of a list is of the history
 abbrev IsOrderOf : World → List Entry → Statement → Type 0
 IsOrderOf w history (Order v m d) = IsOrdered w history m d
-IsOrderOf w history (Spec v m a) = Unit {0}
-IsOrderOf w history (Local v m) = Unit {0}
-IsOrderOf w history (Check v m d) = Unit {0}
-IsOrderOf w history (Began v m) = Unit {0}
-IsOrderOf w history (Change v r) = Unit {0}
-IsOrderOf w history (New v rs) = Unit {0}
-IsOrderOf w history Other = Unit {0}
+IsOrderOf w history _ = Unit {0}
 
 abbrev AreOrdersOf : World → List Entry → List Spoken → Type 0
 AreOrdersOf w history [] = Unit {0}
@@ -384,14 +355,9 @@ may_commit {w} {r} now is_in told =
     record { now = now; silence = λ number y view spoken report at what of. absurd (not_left (w.said r) number y view report is_in at what); told = told }
 
 vote_is : (view : ℕ) (m : Mark) (s : Statement) → IsVote view m s → voted_place s ≡ m.place
-vote_is view m (Order v k d) vote = absurd vote
-vote_is view m (Spec v k a) vote = absurd vote
 vote_is view m (Local v k) vote = ap (λ (x : Mark). x.place) vote.1
 vote_is view m (Check v k d) vote = ap (λ (x : Mark). x.place) vote.1
-vote_is view m (Began v k) vote = absurd vote
-vote_is view m (Change v report) vote = absurd vote
-vote_is view m (New v rs) vote = absurd vote
-vote_is view m Other vote = absurd vote
+vote_is view m _ vote = absurd vote
 
 -- what the reports prove
 report_proven : {w : World} (r : ℕ) → w.counts.cert ≡ 3 → IsBacked w 3 (Spec 0 second_mark second_answer) → IsProven w 1 (report_of r)
@@ -539,14 +505,8 @@ chosen =
     }
 
 abbrev left_view : Statement → ℕ
-left_view (Order v m d) = 0
-left_view (Spec v m a) = 0
-left_view (Local v m) = 0
-left_view (Check v m d) = 0
-left_view (Began v m) = 0
 left_view (Change v r) = v
-left_view (New v rs) = 0
-left_view Other = 0
+left_view _ = 0
 
 -- each left for view 1 or for none
 abbrev HaveLeft : List Spoken → Type 0

@@ -1,5 +1,5 @@
 -- Which replicas two quorums share, and that they are correct.
-use Rattle.std.proofs.Common.{◌≡◌, ℕ, ◌+◌, ◌<◌, Bool, true, false, not, ◌&&◌, ◌⊎◌, inl, inr, List, Some, refl, sym, ◌∙◌, subst, arith}
+use Rattle.std.proofs.Common.{◌≡◌, ℕ, ◌+◌, ◌<◌, Bool, true, false, not, ◌&&◌, ◌⊎◌, inl, inr, List, Some, refl, ap, ◌∙◌, subst, arith}
 use Rattle.std.specs.Prelude.{All, count_by, slice_get}
 use Rattle.std.proofs.lemmas.Bool.{and_parts, not-true}
 use Rattle.std.proofs.lemmas.Option.{get_or_from_slice_get, slice_get_within}
@@ -31,6 +31,9 @@ pub record IsReporter (w : World) (view : ℕ) (reports : List PlainReport) (r :
   pub by : report.by ≡ r
   pub said : HasSaid w r (Change view report)
   pub proven : IsProven w view report
+
+passes_too : (test : PlainReport → Bool) (r s : PlainReport) → r ≡ s → test s ≡ true → test r ≡ true
+passes_too test r s same passes = ap test same ∙ passes
 
 module _ (w : World) (lawful : IsLawful w) where
   pub vouchers_count : (k : ℕ) (s : Statement) (b : IsBacked w k s) → count_below w.counts.n (vouchers b) ≡ k
@@ -124,4 +127,4 @@ module _ (w : World) (lawful : IsLawful w) where
       let one = both_among (named (λ (c : PlainReport). c.by) test reports) (λ i. true) (omega (arith, reporters_count view reports test valid, count_everyone w.counts.n)) in
       let found = named_found (λ (c : PlainReport). c.by) test reports one.0 one.1 in
       let own = reporter_of view reports valid one.0 found.0 found.1 found.2 found.4 one.3 in
-      (one.0, own.0, own.1, subst (λ (c : PlainReport). test c ≡ true) (sym own.2) found.3)
+      (one.0, own.0, own.1, passes_too test own.1.report found.1 own.2 found.3)

@@ -27,14 +27,9 @@ view_of Other = None
 
 -- a local commit or a checkpoint
 abbrev pub IsVote : ℕ → Mark → Statement → Type 0
-IsVote view m (Order u k request) = ⊥
-IsVote view m (Spec u k a) = ⊥
 IsVote view m (Local u k) = (u ≡ view) × (k ≡ m)
 IsVote view m (Check u k state) = (u ≡ view) × (k ≡ m)
-IsVote view m (Began u k) = ⊥
-IsVote view m (Change u report) = ⊥
-IsVote view m (New u reports) = ⊥
-IsVote view m Other = ⊥
+IsVote view m _ = ⊥
 
 -- at this stand the replica was active in the view, and its history passes the mark
 pub record StoodAt (w : World) (r when view : ℕ) (m : Mark) : Type 0 where
