@@ -55,6 +55,10 @@ IsLine digits (Drop frame) = IsFrame frame
 IsLine digits (Mute party) = IsParty party
 IsLine digits (Unmute party) = IsParty party
 
+-- what may be said on some line
+abbrev pub IsSaid : Line → Type 0
+IsSaid line = (digits : List ℕ) × IsLine digits line
+
 -- ---- its text
 
 abbrev pub kind_text : TimerKind → List ℕ
