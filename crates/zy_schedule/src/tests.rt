@@ -1,3 +1,4 @@
+ghost use Rattle.std.specs.Prelude.{All};
 ghost use Rattle.zy_schedule.specs.Texts.{IsSaid};
 
 use crate::{Line, ScheduleFault, read_schedule, read_script};
@@ -267,15 +268,22 @@ fn kind_text(kind: TimerKind) -> &'static str {
     }
 }
 
+fn written(alloc: Global, lines: &[Line]) -> Result<Vec<u8>, Want>
+    requires { All IsSaid lines.now }
+{
+    let mut text = Vec::new(alloc);
+    for line in lines {
+        text.extend_from_slice(&text_of(alloc, line)?)?;
+        text.push(b'\n')?;
+    }
+    Ok(text)
+}
+
 /// Reads a schedule whose lines all say something, and compares it with what is written again.
 fn reads(rt: &impl Abort, alloc: Global, text: &[u8]) -> Result<(), Fail> {
     match read_schedule(alloc, text) {
         Ok(lines) => {
-            let mut again = Vec::new(alloc);
-            for line in &lines {
-                again.extend_from_slice(&text_of(alloc, line)?)?;
-                again.push(b'\n')?;
-            }
+            let again = written(alloc, &lines)?;
             assert_eq!(rt; again.as_slice(), text);
         }
         Err(fault) => panic!(rt; "{fault:?}"),
