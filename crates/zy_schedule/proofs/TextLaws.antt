@@ -1,12 +1,11 @@
 -- What a text says line by line: what is read was spelled so, and what is spelled so is read again.
-use Rattle.std.proofs.Common.{◌≡◌, ℕ, suc, Bool, true, false, cond, List, [], ◌∷◌, Result, Ok, Err, Vec, refl, sym, ap, subst, ◌∙◌, inl, inr}
+use Rattle.std.proofs.Common.{◌≡◌, ℕ, suc, true, false, cond, List, [], ◌∷◌, Result, Ok, Err, Vec, refl, subst}
 use Rattle.std.specs.Prelude.{All, filter, not, IfOk}
 use Rattle.std.specs.List.{AllZip}
 use Rattle.std.specs.declared.alloc.Global.{Global}
 use Rattle.zy_schedule.specs.Lines.{IsTextRead, TextFault, before_others, is_said, is_skipped, items_from, lines_of, said_lines, text_of}
 use Rattle.zy_schedule.specs.declared.fault.ScheduleFault.{ScheduleFault}
 use Rattle.std.proofs.lemmas.List.Elements.{All-cons, All-nil}
-use Rattle.zy_tuple.proofs.Results.{ok_is}
 
 abbrev all_read : {A : Type 0} → List A → Result (List A) TextFault
 all_read xs = Ok xs
