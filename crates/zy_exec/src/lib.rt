@@ -8,7 +8,7 @@ mod machine;
 mod snapshot;
 
 pub use exec::Exec;
-pub use known::{CLIENTS, Known};
+pub use known::{CLIENTS, Known, nothing};
 pub use laws::{histories, places, points};
 
 #[cfg(test)]
