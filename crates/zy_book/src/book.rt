@@ -1,6 +1,7 @@
-ghost use Rattle.std.specs.Prelude.{◌≡◌, ◌≢◌, ℕ, ◌+◌, ◌<◌, ◌↔◌, [], ◌∷◌, ◌++◌, length, slice_get, option_map, option_copied, Some, None, Ok, Err, IfOk, OnErr, MatchResult, IsTrue};
+ghost use Rattle.std.specs.Prelude.{◌≡◌, ◌≢◌, ℕ, ◌+◌, ◌<◌, ◌↔◌, [], ◌∷◌, ◌++◌, length, slice_get, option_map, option_copied, Some, None, Ok, Err, IfOk, IfSome, OnErr, MatchResult, IsTrue};
 ghost use Rattle.zy_chain.specs.Heads.{empty_head};
 ghost use Rattle.zy_book.specs.Histories.{Extends, earlier, history, last_entries, number_in, origin_of, parent_of, place_of, text_of, with_node, with_text};
+ghost use Rattle.zy_book.specs.Tree.{IsTree};
 ghost use Rattle.zy_book.specs.declared.fault.BookFault.TheVariants.{Clash, Want as NoRoom};
 ghost use Rattle.zy_book.specs.declared.fault.KeepFault.TheVariants.{Clash as ClashText, Want as NoRoomText};
 
@@ -52,7 +53,8 @@ impl Book {
 
     /// The number of the history with this head.
     pub fn node_of(&self, head: &Digest) -> Option<Node>
-        ensures { option_map (λ n. n.0) result ≡ number_in self.now.nodes head.now }
+        ensures number { option_map (λ n. n.0) result ≡ number_in self.now.nodes head.now }
+        ensures within { IfSome result (λ node. node.0 < length self.now.nodes) }
     {
         match number_of(&self.nodes, head) {
             Some(number) => Some(Node(number as u64)),
@@ -63,7 +65,8 @@ impl Book {
     /// The place of a history's last entry.
     pub fn place(&self, node: Node) -> Place
         requires { node.0 < length self.now.nodes }
-        ensures { result.0 ≡ length (history self.now.nodes node.0) }
+        ensures place { result.0 ≡ length (history self.now.nodes node.0) }
+        ensures tree { IsTree self.now.nodes }
     {
         place_in(&self.nodes, node)
     }
@@ -125,6 +128,7 @@ impl Book {
         ensures clash { (i : ℕ) → number_in self.old.nodes head ≡ Some i → (origin_of self.old.nodes i ≢ Some (parent, entry)) → result ≡ Err (Clash (record { 0 = i })) }
         ensures fresh { number_in self.old.nodes head ≡ None → MatchResult result (λ node. node.0 ≡ length self.old.nodes) (λ fault. fault ≡ NoRoom) }
         ensures nodes { IfOk result (λ _. self.new.nodes ≡ with_node self.old.nodes parent entry head) }
+        ensures within { IfOk result (λ node. node.0 < length self.new.nodes) }
         ensures texts { self.new.texts ≡ self.old.texts }
         ensures err { OnErr result (self.new ≡ self.old) }
     {
@@ -151,6 +155,7 @@ impl Book {
         ensures clash { (i : ℕ) → number_in self.old.texts digest ≡ Some i → (text_of self.old.texts i ≢ Some text.now) → result ≡ Err (ClashText (record { 0 = i })) }
         ensures fresh { number_in self.old.texts digest ≡ None → MatchResult result (λ id. id.0 ≡ length self.old.texts) (λ fault. fault ≡ NoRoomText) }
         ensures texts { IfOk result (λ _. self.new.texts ≡ with_text self.old.texts digest text.now) }
+        ensures within { IfOk result (λ id. id.0 < length self.new.texts) }
         ensures nodes { self.new.nodes ≡ self.old.nodes }
         ensures err { OnErr result (self.new ≡ self.old) }
     {

@@ -9,3 +9,6 @@ mod store;
 pub use book::Book;
 pub use fault::{BookFault, KeepFault};
 pub use node::{Node, TextId};
+
+#[cfg(test)]
+mod tests;

@@ -1,6 +1,6 @@
 //! Pairs in the order in which they came, with their numbers.
 
-ghost use Rattle.std.specs.Prelude.{◌≡◌, ◌∷◌, [], ◌++◌, position, slice_get, option_map, option_copied, None, OnOk, OnErr};
+ghost use Rattle.std.specs.Prelude.{◌≡◌, ◌<◌, length, IfSome, ◌∷◌, [], ◌++◌, position, slice_get, option_map, option_copied, None, OnOk, OnErr};
 ghost use Rattle.std.specs.Map.{keys_of};
 
 use indexmap::IndexMap;
@@ -9,7 +9,8 @@ use zy_base::Want;
 
 /// The number of the pair with this key.
 pub fn number_of<K: Hash + Eq, V>(map: &IndexMap<K, V>, key: &K) -> Option<usize>
-    ensures { result ≡ position (K.eq key.now) (keys_of map.now.entries) }
+    ensures number { result ≡ position (K.eq key.now) (keys_of map.now.entries) }
+    ensures within { IfSome result (λ i. i < length map.now.entries) }
 {
     map.get_index_of(key)
 }

@@ -1,15 +1,14 @@
 -- Histories that share a mark share all below it.
-use Rattle.std.proofs.Common.{◌≡◌, ℕ, zero, suc, ◌≤◌, Bool, true, List, [], ◌∷◌, length, take, drop, refl, sym, ap, ◌∙◌, arith}
+use Rattle.std.proofs.Common.{◌≡◌, ℕ, zero, suc, ◌≤◌, Bool, List, [], ◌∷◌, length, take, drop, refl, sym, ap, ◌∙◌, arith}
 use Rattle.std.specs.Prelude.{fold}
 use Rattle.std.proofs.lemmas.List.{length-append, take-take, take-append-le, take_all}
 use Rattle.zy_base.specs.declared.ids.Digest.{Digest}
 use Rattle.zy_chain.specs.declared.entry.Entry.{Entry}
 use Rattle.zy_chain.specs.Heads.{empty_head}
 use Rattle.zy_chain.specs.Stretch.{Mark}
-use Rattle.zy_law.specs.Histories.{Passes, IsFront, AreKept, mark_of_all, origin}
+use Rattle.zy_law.specs.Histories.{HaveOneText, Passes, IsFront, AreKept, mark_of_all, origin}
 
-module _ (kept : Digest → Entry → Bool) (next : Digest → Entry → Digest)
-    (one_text : (h k : Digest) (d e : Entry) → kept h d ≡ true → kept k e ≡ true → next h d ≡ next k e → (h ≡ k) × (d ≡ e)) where
+module _ (kept : Digest → Entry → Bool) (next : Digest → Entry → Digest) (one_text : HaveOneText kept next) where
   pub same_texts : (h k : Digest) (xs ys : List Entry) → length xs ≡ length ys → AreKept kept next h xs → AreKept kept next k ys
       → fold next h xs ≡ fold next k ys → (h ≡ k) × (xs ≡ ys)
   same_texts h k [] [] long a b same = (same, refl)

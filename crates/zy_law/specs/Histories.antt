@@ -31,3 +31,7 @@ pub record IsEntryAt (history : List Entry) (place : ℕ) (e : Entry) : Type 0 w
 abbrev pub AreKept : (Digest → Entry → Bool) → (Digest → Entry → Digest) → Digest → List Entry → Type 0
 AreKept kept next head [] = Unit {0}
 AreKept kept next head (e ∷ entries) = (kept head e ≡ true) × AreKept kept next (next head e) entries
+
+-- one head has one text
+abbrev pub HaveOneText : (Digest → Entry → Bool) → (Digest → Entry → Digest) → Type 0
+HaveOneText kept next = (h k : Digest) (d e : Entry) → kept h d ≡ true → kept k e ≡ true → next h d ≡ next k e → (h ≡ k) × (d ≡ e)

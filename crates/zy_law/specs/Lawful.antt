@@ -8,7 +8,7 @@ use Rattle.zy_choose.specs.Choice.{IsChoice}
 use Rattle.zy_choose.specs.Reports.{PlainReport}
 use Rattle.zy_law.specs.Counting.{count_below}
 use Rattle.zy_law.specs.Fixed.{IsCertified}
-use Rattle.zy_law.specs.Histories.{Passes, IsFront, IsEntryAt, AreKept, mark_of_all}
+use Rattle.zy_law.specs.Histories.{Passes, IsFront, IsEntryAt, AreKept, HaveOneText, mark_of_all}
 use Rattle.zy_law.specs.Reports.{IsProven, IsValidNew}
 use Rattle.zy_law.specs.Said.{IsCorrect, Says, Stood, Moment, IsBacked}
 use Rattle.zy_law.specs.World.{Answer, Statement, Spoken, Stand, World}
@@ -170,7 +170,7 @@ pub record IsLawful (w : World) : Type 0 where
   -- at most f replicas lie
   pub few_liars : count_below w.counts.n w.liar ≤ w.counts.f
   -- one head has one text
-  pub one_text : (h k : Digest) (d e : Entry) → w.kept h d ≡ true → w.kept k e ≡ true → w.next h d ≡ w.next k e → (h ≡ k) × (d ≡ e)
+  pub one_text : HaveOneText w.kept w.next
   -- the texts of each history in which a correct replica stood are kept
   pub texts : (t : Moment w) → AreKept w.kept w.next empty_head t.stand.history
   -- a correct replica begins in view 0 with the empty history

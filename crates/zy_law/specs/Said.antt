@@ -9,7 +9,7 @@ pub record IsCorrect (w : World) (r : ℕ) : Type 0 where
   pub within : r < w.counts.n
   pub honest : w.liar r ≡ false
 
--- the statement that a replica said as its so-manieth, from 0 on
+-- what a replica said, by the statement's number, from 0 on
 abbrev pub Says : World → ℕ → ℕ → Spoken → Type 0
 Says w r number x = slice_get (w.said r) number ≡ Some x
 

@@ -6,7 +6,7 @@ use Rattle.zy_chain.specs.Heads.{empty_head}
 use Rattle.zy_chain.specs.Stretch.{Mark}
 use Rattle.zy_choose.specs.Reports.{PlainReport}
 use Rattle.zy_law.specs.Counting.{count_below}
-use Rattle.zy_law.specs.Histories.{AreKept, mark_of_all}
+use Rattle.zy_law.specs.Histories.{AreKept, HaveOneText, mark_of_all}
 use Rattle.zy_law.specs.Lawful.{IsTrueResponse, IsTrueVote, IsTrueCheck, IsTrueReport, IsChosenStart, IsOrdered, IsNext, AreAskedFor, view_of}
 use Rattle.zy_law.specs.Said.{IsCorrect, Says, Stood, IsBacked}
 use Rattle.zy_law.specs.World.{Statement, Spoken, Stand, World}
@@ -59,7 +59,7 @@ pub record IsGrown (w : World) (asked : ℕ → List Entry) (said : ℕ → List
 -- nothing was said, and each correct replica stands in view 0 with the empty history
 pub record IsStart (w : World) : Type 0 where
   pub few_liars : count_below w.counts.n w.liar ≤ w.counts.f
-  pub one_text : (h k : Digest) (d e : Entry) → w.kept h d ≡ true → w.kept k e ≡ true → w.next h d ≡ w.next k e → (h ≡ k) × (d ≡ e)
+  pub one_text : HaveOneText w.kept w.next
   pub silent : (r : ℕ) → IsCorrect w r → w.said r ≡ []
   pub stands : (r : ℕ) → IsCorrect w r → w.past r ≡ record { view = 0; history = [] } ∷ []
 
@@ -113,7 +113,7 @@ pub record MayStand (w : World) (r : ℕ) (b : Stand) : Type 0 where
 -- more texts are kept, and still one for each head
 pub record MayKeep (w : World) (kept : Digest → Entry → Bool) : Type 0 where
   pub more : (h : Digest) (e : Entry) → w.kept h e ≡ true → kept h e ≡ true
-  pub one_text : (h k : Digest) (d e : Entry) → kept h d ≡ true → kept k e ≡ true → w.next h d ≡ w.next k e → (h ≡ k) × (d ≡ e)
+  pub one_text : HaveOneText kept w.next
 
 -- ---- acts of one replica, one after another
 

@@ -1,4 +1,5 @@
-ghost use Rattle.std.specs.Prelude.{◌≡◌, ℕ, ◌+◌, ◌<◌, ◌≤◌, List};
+ghost use Rattle.std.specs.Prelude.{◌≡◌, ℕ, ◌+◌, ◌*◌, ◌<◌, ◌≤◌, List};
+ghost use Rattle.zy_base.specs.declared.counts.Counts.{Counts};
 ghost use Rattle.zy_chain.specs.Stretch.{Mark};
 ghost use Rattle.zy_choose.specs.Choice.{IsAnchor, IsChoice, IsGreatestView, IsOnlyAnchor, last_in};
 ghost use Rattle.zy_choose.specs.Reports.{PlainReport};
@@ -6,8 +7,15 @@ ghost use Rattle.zy_law.specs.Fixed.{IsFixed};
 ghost use Rattle.zy_law.specs.Lawful.{IsLawful};
 ghost use Rattle.zy_law.specs.Lists.{AreChoicesSafe, Extends, IsKnown};
 ghost use Rattle.zy_law.specs.Reports.{IsValidNew};
-ghost use Rattle.zy_law.specs.Said.{At, Moment};
-ghost use Rattle.zy_law.specs.World.{World};
+ghost use Rattle.zy_law.specs.Said.{At, HasSaid, IsBacked, IsCorrect, Moment};
+ghost use Rattle.zy_law.specs.World.{Statement, World};
+
+/// What the counts are for: a certificate and local commits come from more than twice as many replicas as may lie, and
+/// two sets that are together larger than n + f share a correct replica, which stands behind both statements.
+pub fn quorums()
+    ensures sizes { (c : Counts) → (2 * c.f < c.cert) × (2 * c.f < c.local) × (c.n + c.f < 2 * c.fast) }
+    ensures share { (w : World) (first second : ℕ) (s t : Statement) → IsLawful w → IsBacked w first s → IsBacked w second t → w.counts.n + w.counts.f < first + second → (r : ℕ) × IsCorrect w r × HasSaid w r s × HasSaid w r t }
+{}
 
 /// Agreement within a view: what is fixed in one view lies on one list, whichever way it was fixed, and some correct
 /// history of the view has it.

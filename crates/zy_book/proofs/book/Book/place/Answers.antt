@@ -3,8 +3,8 @@ use Rattle.zy_book.specs.Histories.{Shelf, history, place_of}
 use Rattle.zy_book.proofs.TreeLemmas.{length-last}
 use Rattle.zy_book.proofs.book.Book.place.Goals as goal
 
-pub returns : goal.returns
-returns c =
+pub returns-clause-place : goal.returns-clause-place
+returns-clause-place c =
     let nodes = c.self.inside.nodes.entries in
     let same = ap (λ (s : Shelf). s.nodes) c.self.view_is in
     c.place_in.ensures
