@@ -5,11 +5,11 @@ use Rattle.std.specs.Prelude.{◌≡◌, ◌⊎◌, ℕ, ◌+◌, ◌-◌, ◌^�
 abbrev pub Rose : ℕ → ℕ → Type 0
 Rose before after = (before < after) ⊎ (after ≡ 2 ^ 64 - 1)
 
--- only a call that failed moves its object's count, and never down
-abbrev pub IsCounted : Bool → ℕ → ℕ → Type 0
-IsCounted true before after = (before ≤ after) × Rose before after
-IsCounted false before after = after ≡ before
-
 -- one more, up to the last value
 abbrev pub raised : ℕ → ℕ
 raised count = min (count + 1) (2 ^ 64 - 1)
+
+-- a call that failed raises its object's count by one, and no other moves it
+abbrev pub IsCounted : Bool → ℕ → ℕ → Type 0
+IsCounted true before after = (before ≤ after) × (after ≡ raised before)
+IsCounted false before after = after ≡ before

@@ -1,5 +1,6 @@
 -- What the calls of files do to what is held and to what is left to be read.
-use Rattle.std.specs.Prelude.{◌≡◌, ℕ, ◌≤◌, Bool, true, false, Option, Some, IfSome, List, [], ◌∷◌, length, take, if◌then◌else◌, ◌||◌, nat_eq}
+use Rattle.std.specs.Prelude.{◌≡◌, ℕ, ◌≤◌, Bool, true, false, Option, Some, IfSome, List, [], length, take, nat_eq, find}
+use Rattle.std.specs.Option.{option_map_or}
 use Rattle.std.specs.Io.KnownBytes.{Keeps, Consumes, IsAtEnd}
 use Rattle.std.specs.Cmp.Lexicographic.{pointwise}
 use Rattle.zy_edge.specs.declared.files.Chosen as chosen
@@ -9,15 +10,13 @@ use Rattle.zy_edge.specs.declared.files.Read as read
 abbrev pub Held : Type 0
 Held = List (List ℕ × List ℕ)
 
--- the bytes of the first file with the name, or none where there is no such file
-abbrev pub content_of : Held → List ℕ → List ℕ
-content_of [] name = []
-content_of (file ∷ files) name = if pointwise nat_eq file.0 name then file.1 else content_of files name
+-- the first file with the name
+abbrev pub file_named : Held → List ℕ → Option (List ℕ × List ℕ)
+file_named files name = find (λ file. pointwise nat_eq file.0 name) files
 
--- whether some file has the name
-abbrev pub has_file : Held → List ℕ → Bool
-has_file [] name = false
-has_file (file ∷ files) name = pointwise nat_eq file.0 name || has_file files name
+-- its bytes, or none where there is no such file
+abbrev pub content_of : Held → List ℕ → List ℕ
+content_of files name = option_map_or (λ file. file.1) (file_named files name) []
 
 abbrev pub select_failed : chosen.Chosen → Bool
 select_failed chosen.TheVariants.Chosen = false

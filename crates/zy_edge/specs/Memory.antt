@@ -1,8 +1,8 @@
 -- The objects in memory, as contracts see them.
-use Rattle.std.specs.Prelude.{ℕ, ◌==◌, ◌||◌, ◌-◌, nat_lt, not, if◌then◌else◌, Bool, Option, List, length}
+use Rattle.std.specs.Prelude.{ℕ, ◌==◌, ◌||◌, ◌-◌, nat_lt, is_none, if◌then◌else◌, Bool, Option, List, length}
 use Rattle.std.specs.List.{list_any}
 use Rattle.zy_edge.specs.Faults.{raised}
-use Rattle.zy_edge.specs.Files.{Held, has_file}
+use Rattle.zy_edge.specs.Files.{Held, file_named}
 
 -- files, and what is left to be read of the chosen one
 pub record Shelf : Type 0 where
@@ -30,7 +30,7 @@ pub record MemoryFiles : Type 0 where
 
 -- a `select` fails exactly where its number is listed, or no file has the name
 abbrev pub select_fails : MemoryFiles → List ℕ → Bool
-select_fails files name = next_is_listed files.calls || not (has_file files.held name)
+select_fails files name = next_is_listed files.calls || is_none (file_named files.held name)
 
 pub record MemorySink : Type 0 where
   pub taken : List ℕ

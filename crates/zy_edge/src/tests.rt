@@ -2,8 +2,9 @@ use crate::{
     CalmFiles, CalmSink, Chosen, Files, MemFiles, MemSink, Read, RealFiles, Sink, StdSink, Wrote,
 };
 use std::alloc::{AllocError, Global};
+use std::cell::Cell;
 use std::test::Fail;
-use std::{env, fs, process};
+use std::{env, fmt, fs, io, process};
 use zy_base::Bytes;
 
 /// A file, an empty one, and another one with the first one's name.
@@ -129,5 +130,62 @@ fn sinks(rt: HostRuntime) -> Result<(), Fail> {
     let all = [Wrote::Took(2), Wrote::Took(3), Wrote::Took(1)];
     assert_eq!(rt; three_writes(&mut CalmSink::new()), all);
     assert_eq!(rt; three_writes(&mut StdSink::new(&rt)), all);
+    Ok(())
+}
+
+/// An output that takes two bytes at a time, at most six, and keeps them.
+#[derive(Drop)]
+struct Tape {
+    bytes: Cell<[u8; 6]>,
+    len: Cell<usize>,
+}
+
+impl Print for Tape {
+    fn print<D: fmt::Display + Drop>(&self, _value: D) -> io::Result<()> {
+        Err(io::Error::from(io::ErrorKind::Unsupported))
+    }
+
+    fn println<D: fmt::Display + Drop>(&self, _value: D) -> io::Result<()> {
+        Err(io::Error::from(io::ErrorKind::Unsupported))
+    }
+
+    fn write_all(&self, _bytes: &[u8]) -> io::Result<()> {
+        Err(io::Error::from(io::ErrorKind::Unsupported))
+    }
+
+    fn write_some(&self, piece: &[u8]) -> io::Result<usize> {
+        let mut bytes = self.bytes.get();
+        let len = self.len.get();
+        let more = piece.len().min(2);
+        if len > 6 || more > 6 - len {
+            return Err(io::Error::from(io::ErrorKind::StorageFull));
+        }
+        bytes[len..len + more].copy_from_slice(&piece[..more]);
+        self.bytes.set(bytes);
+        self.len.set(len + more);
+        Ok(more)
+    }
+}
+
+#[test]
+fn standard_output_gets_the_bytes(rt: HostRuntime) -> Result<(), Fail> {
+    let tape = Tape {
+        bytes: Cell::new([0; 6]),
+        len: Cell::new(0),
+    };
+    let mut out = StdSink::new(&tape);
+    for (piece, wrote, taken) in [
+        ("abc", Wrote::Took(2), "ab"),
+        ("c", Wrote::Took(1), "abc"),
+        ("def", Wrote::Took(2), "abcde"),
+        ("fg", Wrote::Failed, "abcde"),
+        ("f", Wrote::Took(1), "abcdef"),
+        ("g", Wrote::Failed, "abcdef"),
+    ] {
+        assert_eq!(rt; out.write(piece.as_bytes()), wrote);
+        let len = tape.len.get();
+        assert!(rt; len <= 6);
+        assert_eq!(rt; &tape.bytes.get()[..len], taken.as_bytes());
+    }
     Ok(())
 }

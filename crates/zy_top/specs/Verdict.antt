@@ -1,7 +1,8 @@
 -- What the words and the files call for.
-use Rattle.std.specs.Prelude.{◌≡◌, ℕ, nat_lt, Bool, true, false, if◌then◌else◌, List, [], ◌∷◌, ◌++◌, length, Result, Ok, Err, Option, Some, None, ⊤}
+use Rattle.std.specs.Prelude.{◌≡◌, ◌≢◌, ◌⊎◌, ℕ, nat_lt, Bool, true, false, if◌then◌else◌, List, [], ◌∷◌, ◌++◌, length, Result, Ok, Err, Option, Some, None, ⊤}
 use Rattle.std.specs.List.{flat_map}
 use Rattle.std.specs.Io.KnownBytes.{Keeps, Appends}
+use Rattle.zy_edge.specs.Faults.{Rose}
 use Rattle.zy_edge.specs.Files.{Held, content_of}
 use Rattle.zy_schedule.specs.Lines.{TextFault, script_of}
 use Rattle.zy_tuple.specs.Texts.{reply_text}
@@ -93,6 +94,14 @@ is_read_fault exit = false
 abbrev pub is_write_fault : Exit → Bool
 is_write_fault exits.WriteFault = true
 is_write_fault exit = false
+
+-- what a command that names no file comes to: its answer, which is no read fault, and what a sink with this count of
+-- faults before and after has taken; a report is written whole if the sink didn't fail and memory wasn't wanted
+pub record IsOwnAnswer (own : Verdict) (exit : Exit) (old new : Option (List ℕ)) (before after : ℕ) : Type 0 where
+  pub answer : IsAnswer own exit
+  pub no_read : exit ≢ exits.ReadFault
+  pub written : IsWritten own exit old new
+  pub complete : IsReport own → ¬ Rose before after → (exit ≡ exits.Done) ⊎ (exit ≡ exits.Want)
 
 abbrev pub is_usage : Exit → Bool
 is_usage (exits.Usage word) = true

@@ -124,7 +124,7 @@ fn faults(rt: HostRuntime) -> Result<(), Fail> {
 #[test]
 fn words(rt: HostRuntime) -> Result<(), Fail> {
     let alloc = rt.alloc();
-    let table: [(&[&str], u64); 9] = [
+    let table: [(&[&str], u64); 11] = [
         (&[], 1),
         (&["spaces"], 1),
         (&["-space", "script"], 1),
@@ -134,6 +134,8 @@ fn words(rt: HostRuntime) -> Result<(), Fail> {
         (&["space", "-script"], 2),
         (&["space", "-", "script"], 2),
         (&["space", "script", "script"], 3),
+        (&["space", "script", "script", "script"], 3),
+        (&["space", "script", "", "-", "script", "script"], 3),
     ];
     for (words, word) in table {
         let mut files = CalmFiles::new(alloc, one_file(alloc, bytes(alloc, "out (1)")?)?);

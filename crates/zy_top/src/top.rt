@@ -1,8 +1,8 @@
-ghost use Rattle.std.specs.Prelude.{◌≡◌, ◌≢◌, ◌↔◌, ◌⊎◌, ℕ, Err, IfSome, IsSome, IsTrue};
+ghost use Rattle.std.specs.Prelude.{◌≡◌, ◌↔◌, ◌⊎◌, ℕ, Err, IfSome, IsTrue};
 ghost use Rattle.zy_edge.specs.Faults.{IsCounted, Rose};
 ghost use Rattle.zy_edge.specs.Files.{content_of};
 ghost use Rattle.zy_top.specs.Calls.{exit_of, IsSent, stops_writing};
-ghost use Rattle.zy_top.specs.Verdict.{IsAnswer, IsReport, IsWritten, is_read_fault, is_refusal, is_usage, is_write_fault, own_verdict, space_verdict, verdict};
+ghost use Rattle.zy_top.specs.Verdict.{IsAnswer, IsOwnAnswer, IsReport, IsWritten, is_read_fault, is_refusal, is_usage, is_write_fault, own_verdict, space_verdict, verdict};
 ghost use Rattle.zy_top.specs.Keys.{key_file};
 ghost use Rattle.zy_top.specs.Words.{command_of, texts};
 
@@ -30,16 +30,12 @@ pub fn zyzzyva<F: Files, S: Sink>(
     files: &mut F,
     out: &mut S,
 ) -> Exit
-    // Words that are wrong are refused by the number of the first such, and by nothing else, before a file is chosen.
+    // Words that are wrong are refused by the number of the first such, and by nothing else.
     ensures usage { (word : ℕ) → (result ≡ Exit.Usage word) ↔ (command_of (texts words.now) ≡ Err word) }
-    ensures unread { IsSome (own_verdict (command_of (texts words.now))) → files.new ≡ files.old }
 
-    // A command that names no file has its answer whatever files there are.
-    ensures own { IfSome (own_verdict (command_of (texts words.now))) (λ own.
-        IsAnswer own result × IsWritten own result (S.taken out.old) (S.taken out.new)) }
-    ensures own_read { IsSome (own_verdict (command_of (texts words.now))) → result ≢ Exit.ReadFault }
-    ensures own_complete { IfSome (own_verdict (command_of (texts words.now))) (λ own. IsReport own
-        → ¬ Rose (S.faults out.old) (S.faults out.new) → (result ≡ Exit.Done) ⊎ (result ≡ Exit.Want)) }
+    // A command that names no file touches none, and comes to what its words alone say, whatever files there are.
+    ensures own { IfSome (own_verdict (command_of (texts words.now))) (λ own. (files.new ≡ files.old)
+        × IsOwnAnswer own result (S.taken out.old) (S.taken out.new) (S.faults out.old) (S.faults out.new)) }
 
     // Over files that are told, the answer and what the sink has taken are those of the verdict.
     ensures answer { IfSome (F.held files.old) (λ held. IsAnswer (verdict (texts words.now) held) result) }

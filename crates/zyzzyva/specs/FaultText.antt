@@ -1,5 +1,5 @@
--- What the program writes on standard error when it doesn't end well.
-use Rattle.std.specs.Prelude.{ℕ, List, [], ◌++◌, codes, decimal}
+-- What the program writes on standard error.
+use Rattle.std.specs.Prelude.{ℕ, List, [], ◌++◌, codes, decimal, Option, Some, None}
 use Rattle.zy_top.specs.declared.exit.Exit.{Exit}
 use Rattle.zy_top.specs.declared.exit.Exit.TheVariants.{Done, Usage, ReadFault, WriteFault, Text, Want, TooLong}
 
@@ -11,3 +11,8 @@ fault_text WriteFault = codes "write fault"
 fault_text (Text line rule) = codes "line " ++ decimal line ++ codes " rule " ++ decimal rule
 fault_text Want = codes "out of memory"
 fault_text TooLong = codes "too long"
+
+-- nothing where all went well, and else a line
+abbrev pub error_line : Exit → Option (List ℕ)
+error_line Done = None
+error_line exit = Some (fault_text exit)

@@ -1,5 +1,6 @@
-ghost use Rattle.std.specs.Prelude.{Some};
-ghost use Rattle.zyzzyva.specs.FaultText.{fault_text};
+ghost use Rattle.std.specs.Prelude.{◌≡◌, Some, option_map};
+ghost use Rattle.zy_top.specs.Verdict.{status_of};
+ghost use Rattle.zyzzyva.specs.FaultText.{fault_text, error_line};
 
 use std::fmt;
 use zy_top::Exit;
@@ -22,4 +23,16 @@ impl fmt::Display for FaultText {
             Exit::TooLong => write!(f, "too long"),
         }
     }
+}
+
+/// What a run that ended so leaves: the program's status, and its line on standard error, if it has one.
+pub(crate) fn ending(exit: Exit) -> (u8, Option<FaultText>)
+    ensures status { result.0 ≡ status_of exit }
+    ensures line { option_map (λ text. fault_text text.0) result.1 ≡ error_line exit }
+{
+    let line = match exit {
+        Exit::Done => None,
+        _ => Some(FaultText(exit)),
+    };
+    (exit.status(), line)
 }

@@ -2,9 +2,11 @@
 #![tactic(auto)]
 
 mod fault_text;
+#[cfg(test)]
+mod tests;
 mod words;
 
-use fault_text::FaultText;
+use fault_text::ending;
 use std::process::ExitCode;
 use words::words;
 use zy_edge::{RealFiles, StdSink};
@@ -20,9 +22,10 @@ fn main(rt: HostRuntime) -> ExitCode {
         ),
         Err(want) => Exit::from(want),
     };
-    if exit != Exit::Done {
+    let (status, line) = ending(exit);
+    if let Some(line) = line {
         // Where standard error fails too, the status alone tells.
-        let _ = eprintln!(rt; "{}", FaultText(exit));
+        let _ = eprintln!(rt; "{line}");
     }
-    ExitCode::from(exit.status())
+    ExitCode::from(status)
 }

@@ -1,6 +1,8 @@
-ghost use Rattle.std.specs.Prelude.{◌≡◌, ◌<◌, ◌≤◌, Some, None, IsSome, IfSome, List, length, min, take, drop};
-ghost use Rattle.zy_edge.specs.Files.{content_of, has_file};
-ghost use Rattle.zy_edge.specs.Stored.{index_of, content_at};
+ghost use Rattle.std.specs.Prelude.{◌≡◌, ◌<◌, ◌≤◌, Some, None, IsSome, IfSome, is_some, List, length, min, take, drop, nat_eq};
+ghost use Rattle.std.specs.Cmp.Lexicographic.{pointwise};
+ghost use Rattle.std.specs.List.{position};
+ghost use Rattle.zy_edge.specs.Files.{file_named, content_of};
+ghost use Rattle.zy_edge.specs.Stored.{content_at};
 
 use std::marker::Model;
 use zy_base::Bytes;
@@ -38,19 +40,20 @@ impl Stored {
     }
 
     /// Whether some file has the name.
-    #[tactic(auto, using(crate::proofs::Index::number_of_first))]
+    #[tactic(auto, using(crate::proofs::FirstNamed::first_named))]
     pub(crate) fn has_file(&self, name: &str) -> bool
-        ensures { result ≡ has_file self.now.held name.now }
+        ensures { result ≡ is_some (file_named self.now.held name.now) }
     {
-        index_of(&self.files, name.as_bytes()) < self.files.len()
+        first_named(&self.files, name.as_bytes()).is_some()
     }
 
     /// Puts the first byte of the first file with this name next. A name that isn't there is an empty file.
-    #[tactic(auto, using(crate::proofs::Index::number_of_first))]
+    #[tactic(auto, using(crate::proofs::FirstNamed::first_named))]
     pub(crate) fn select(&mut self, name: &str)
         ensures { self.new ≡ record self.old { rest = Some (content_of self.old.held name.now) } }
     {
-        self.chosen = Some(index_of(&self.files, name.as_bytes()));
+        let number = first_named(&self.files, name.as_bytes());
+        self.chosen = Some(number.unwrap_or(self.files.len()));
         self.at = 0;
     }
 
@@ -82,14 +85,9 @@ fn content_at(files: &[(Bytes, Bytes)], number: usize) -> &[u8]
     }
 }
 
-/// The number of the first file with the name, or of files where none has it.
-fn index_of(files: &[(Bytes, Bytes)], name: &[u8]) -> usize
-    ensures { result ≡ index_of files.now name.now }
+/// The number of the first file with the name.
+fn first_named(files: &[(Bytes, Bytes)], name: &[u8]) -> Option<usize>
+    ensures { result ≡ position (λ file. pointwise nat_eq file.0 name.now) files.now }
 {
-    for (i, file) in files.iter().enumerate() {
-        if file.0.as_slice() == name {
-            return i;
-        }
-    }
-    files.len()
+    files.iter().position(|file| file.0.as_slice() == name)
 }

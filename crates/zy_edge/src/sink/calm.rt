@@ -1,4 +1,6 @@
-ghost use Rattle.std.specs.Prelude.{None};
+ghost use Rattle.std.specs.Prelude.{◌≡◌, ◌<◌, None, length};
+ghost use Rattle.zy_edge.specs.Faults.{IsCounted};
+ghost use Rattle.zy_edge.specs.Sink.{IsWrite, write_failed};
 
 use super::{Sink, Wrote};
 
@@ -17,7 +19,12 @@ impl Sink for CalmSink {
 
     ghost taken = { λ _. None };
 
-    fn write(&mut self, piece: &[u8]) -> Wrote {
+    fn write(&mut self, piece: &[u8]) -> Wrote
+        requires { 0 < length piece.now }
+        ensures whole { result ≡ Wrote.Took (length piece.now) }
+        ensures bytes { IsWrite result piece.now None None }
+        ensures count { IsCounted (write_failed result) 0 0 }
+    {
         Wrote::Took(piece.len())
     }
 }

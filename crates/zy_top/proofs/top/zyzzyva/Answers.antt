@@ -1,8 +1,16 @@
-use Rattle.std.proofs.Common.{◌≡◌, Ok, refl}
+use Rattle.std.proofs.Common.{◌≡◌, Ok, refl, inl}
 use Rattle.zy_top.specs.Words.{Command, command_of, texts}
 use Rattle.zy_top.proofs.top.zyzzyva.Goals as goal
 
 pub returns-in-Ok-run_keys-clause-own : goal.returns-in-Ok-run_keys-clause-own
 returns-in-Ok-run_keys-clause-own g c =
     let read : command_of (texts c.args.words.now) ≡ Ok (Command.Keys c.in-Ok-Keys.seed c.in-Ok-Keys.by c.in-Ok-Keys.height) = rw c.in-Ok-Keys.field-0-is at c.in-Ok-Keys.ensures in
-    rw read (refl, c.in-Ok-run_keys.ensures.written)
+    rw read (
+      refl,
+      record {
+        answer = refl;
+        no_read = λ e. cc;
+        written = c.in-Ok-run_keys.ensures.written;
+        complete = λ due calm. inl refl;
+      },
+    )

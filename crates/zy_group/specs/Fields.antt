@@ -1,0 +1,74 @@
+-- The fields of group and secret files: what a key of a table must hold.
+use Rattle.std.specs.Prelude.{ℕ, ℤ, pos, negsuc, ◌==◌, ◌&&◌, nat_le, nat_eq, if◌then◌else◌, List, [], ◌∷◌, ◌++◌, length, codes, Option, Some, None, option_and_then, Result, Ok, Err}
+use Rattle.std.specs.List.{list_any}
+use Rattle.toml.specs.Data.{Data, Members, Items, no_items, item, get_member, as_integer, as_str, as_array}
+use Rattle.hex.specs.Hex.{decode_sized}
+use Rattle.hex.specs.declared.error.FromHexError.{FromHexError}
+use Rattle.zy_ots.specs.declared.ots_type.OtsType.{OtsType}
+use Rattle.zy_ots.specs.declared.ots_type.OtsType.TheVariants.{W4}
+use Rattle.zy_ots.specs.OtsType.{type_with}
+use Rattle.zy_lms.specs.declared.height.Height.{Height}
+use Rattle.zy_lms.specs.declared.height.Height.TheVariants.{H5, H10}
+
+-- ---- numbers
+
+-- the integer as a number from low to high, if it is one
+abbrev pub within : ℕ → ℕ → ℤ → Option ℕ
+within low high (pos n) = if nat_le low n && nat_le n high then Some n else None
+within low high (negsuc n) = None
+
+abbrev pub number_of : ℕ → ℕ → Data → Option ℕ
+number_of low high value = option_and_then (within low high) (as_integer value)
+
+abbrev pub number_at : ℕ → ℕ → List ℕ → Members → Option ℕ
+number_at low high key table = option_and_then (number_of low high) (get_member key table)
+
+-- ---- lists of numbers
+
+-- integers from 0 to last, all different from each other and from those found before them
+unfoldable pub different_from : ℕ → List ℕ → Items → Option (List ℕ)
+different_from last found no_items = Some found
+different_from last found (item value values) =
+    option_and_then (λ n. if list_any (λ other. nat_eq other n) found then None else different_from last (found ++ n ∷ []) values)
+    (number_of 0 last value)
+
+abbrev pub at_most : ℕ → List ℕ → Option (List ℕ)
+at_most most numbers = if nat_le (length numbers) most then Some numbers else None
+
+abbrev pub listed : ℕ → ℕ → Option Data → Option (List ℕ)
+listed last most None = Some []
+listed last most (Some value) = option_and_then (λ values. option_and_then (at_most most) (different_from last [] values)) (as_array value)
+
+-- at most so many of them under the key, and none where it is missing
+abbrev pub numbers_at : ℕ → ℕ → List ℕ → Members → Option (List ℕ)
+numbers_at last most key table = listed last most (get_member key table)
+
+-- ---- bytes
+
+abbrev pub decoded : Result (List ℕ) FromHexError → Option (List ℕ)
+decoded (Ok bytes) = Some bytes
+decoded (Err fault) = None
+
+abbrev pub text_at : List ℕ → Members → Option (List ℕ)
+text_at key table = option_and_then as_str (get_member key table)
+
+-- so many bytes under the key, as a text of two hexadecimal digits each
+abbrev pub bytes_at : ℕ → List ℕ → Members → Option (List ℕ)
+bytes_at count key table = option_and_then (λ text. decoded (decode_sized text count)) (text_at key table)
+
+-- ---- keys
+
+abbrev pub height_of : ℕ → Option Height
+height_of n = if n == 5 then Some H5 else (if n == 10 then Some H10 else None)
+
+-- `height`: 5 or 10
+abbrev pub height_at : Members → Option Height
+height_at table = option_and_then height_of (number_at 5 10 (codes "height") table)
+
+abbrev pub ots_of : Option Data → Option OtsType
+ots_of None = Some W4
+ots_of (Some value) = option_and_then type_with (number_of 3 4 value)
+
+-- `ots`: the LM-OTS type's number, 3 or 4, and 3 where it is missing
+abbrev pub ots_at : Members → Option OtsType
+ots_at table = ots_of (get_member (codes "ots") table)

@@ -1,0 +1,40 @@
+-- What a replay is told of its group.
+use Rattle.std.specs.Prelude.{◌≡◌, ℕ, ◌-◌, ◌*◌, codes, Option, Some, None, Result, Ok, Err, ⊤}
+use Rattle.toml.specs.Data.{Members}
+use Rattle.zy_group.specs.Fields.{number_at, numbers_at, bytes_at, height_at, ots_at}
+use Rattle.zy_group.specs.declared.fault.GroupFault as faults
+use Rattle.zy_group.specs.declared.replay.ReplayGroup.{ReplayGroup}
+
+-- the field with this number, and what stands behind it; where it fails, its number
+abbrev pub field : {A B : Type 0} → ℕ → Option A → (A → Result B ℕ) → Result B ℕ
+field number None behind = Err number
+field number (Some value) behind = behind value
+
+-- The fields in their order. There are 3f + 1 replicas.
+unfoldable pub replay_group : Members → Result ReplayGroup ℕ
+replay_group table =
+    field 1 (number_at 1 4 (codes "f") table) (λ f.
+    field 2 (number_at 4 32 (codes "k") table) (λ k.
+    field 3 (number_at 1 64 (codes "clients") table) (λ clients.
+    field 4 (numbers_at (3 * f) f (codes "liars") table) (λ liars.
+    field 5 (numbers_at (clients - 1) clients (codes "lying_clients") table) (λ lying_clients.
+    field 6 (bytes_at 32 (codes "seed") table) (λ seed.
+    field 7 (height_at table) (λ height.
+    field 8 (ots_at table) (λ ots.
+    Ok (record { f = f; k = k; clients = clients; liars = liars; lying_clients = lying_clients; seed = seed; height = height; ots = ots })))))))))
+
+-- and before them the text, which must be TOML
+abbrev pub text_group : Option Members → Result ReplayGroup ℕ
+text_group text = field 0 text replay_group
+
+-- what was read, or the first field that fails, or want of memory
+abbrev pub IsRead : Result ReplayGroup ℕ → Result ReplayGroup faults.GroupFault → Type 0
+IsRead read (Ok group) = read ≡ Ok group
+IsRead read (Err (faults.TheVariants.Field number)) = read ≡ Err number
+IsRead read (Err faults.TheVariants.Want) = ⊤
+
+-- the first field fails, or memory was wanted
+abbrev pub IsNoText : Result ReplayGroup faults.GroupFault → Type 0
+IsNoText (Ok group) = ⊥
+IsNoText (Err (faults.TheVariants.Field number)) = number ≡ 0
+IsNoText (Err faults.TheVariants.Want) = ⊤

@@ -1,0 +1,92 @@
+ghost use Rattle.std.specs.Prelude.{◌≡◌, IsUtf8};
+ghost use Rattle.toml.specs.Parse.{parse_document};
+ghost use Rattle.toml.specs.View.{table_view};
+ghost use Rattle.zy_group.specs.Replay.{replay_group, text_group, IsRead, IsNoText};
+
+use crate::fields::{height_at, number_at, numbers_at, ots_at, seed_at};
+use crate::{GroupFault, Numbers};
+use std::alloc::Global;
+use toml::Table;
+use zy_lms::Height;
+use zy_ots::OtsType;
+
+/// What a replay is told of its group of 3f + 1 replicas.
+#[derive(Debug, Drop)]
+pub struct ReplayGroup {
+    /// How many replicas may lie, from 1 to 4.
+    pub f: u8,
+    /// After how many places a checkpoint is taken, from 4 to 32.
+    pub k: u8,
+    /// How many clients there are, from 1 to 64.
+    pub clients: u8,
+    /// The replicas that lie, at most f.
+    pub liars: Numbers,
+    /// The clients that lie.
+    pub lying_clients: Numbers,
+    /// What the seeds of all parties are derived from.
+    pub seed: [u8; 32],
+    /// The height of each party's tree.
+    pub height: Height,
+    /// The type of each party's one-time keys.
+    pub ots: OtsType,
+}
+
+/// Reads a group file. Its fields are judged in this order: 0 the text, which must be TOML, 1 `f`, 2 `k`, 3 `clients`, 4 `liars`,
+/// 5 `lying_clients`, 6 `seed`, 7 `height`, 8 `ots`. Other keys are left aside.
+pub fn read_replay_group(alloc: Global, text: &[u8]) -> Result<ReplayGroup, GroupFault>
+    ensures read { IsUtf8 text.now → IsRead (text_group (parse_document text.now)) result }
+    ensures no_text { ¬ IsUtf8 text.now → IsNoText result }
+{
+    match toml::table_from_slice(alloc, text) {
+        Ok(table) => judged(alloc, &table),
+        Err(fault) => {
+            if fault.is_memory() {
+                Err(GroupFault::Want)
+            } else {
+                Err(GroupFault::Field(0))
+            }
+        }
+    }
+}
+
+/// The fields behind the text.
+#[tactic(auto, unfolding(crate::specs::Replay::replay_group))]
+fn judged(alloc: Global, table: &Table) -> Result<ReplayGroup, GroupFault>
+    ensures { IsRead (replay_group (table_view table.now)) result }
+{
+    let Some(f) = number_at(table, "f", 1, 4) else {
+        return Err(GroupFault::Field(1));
+    };
+    let Some(k) = number_at(table, "k", 4, 32) else {
+        return Err(GroupFault::Field(2));
+    };
+    let Some(clients) = number_at(table, "clients", 1, 64) else {
+        return Err(GroupFault::Field(3));
+    };
+    let Some(liars) = numbers_at(alloc, table, "liars", 3 * f, f)? else {
+        return Err(GroupFault::Field(4));
+    };
+    let Some(lying_clients) = numbers_at(alloc, table, "lying_clients", clients - 1, clients)?
+    else {
+        return Err(GroupFault::Field(5));
+    };
+    let Some(seed) = seed_at(table, "seed") else {
+        return Err(GroupFault::Field(6));
+    };
+    let Some(height) = height_at(table) else {
+        return Err(GroupFault::Field(7));
+    };
+    let Some(ots) = ots_at(table) else {
+        return Err(GroupFault::Field(8));
+    };
+    Ok(ReplayGroup {
+        f,
+        k,
+        clients,
+        liars,
+        lying_clients,
+        seed,
+        height,
+        ots,
+    })
+}
