@@ -6,7 +6,9 @@ use crate::{Frame, OrderFrame};
 use std::alloc::Global;
 use zy_base::{Bytes, FrameFault, Want};
 use zy_parts::{Order, Signed, Spec};
-use zy_wire::{Cut, Framed, GetFault, Items, Put, Spelled, get_optional, put_optional};
+use zy_wire::{
+    Cut, Framed, GetFault, Put, Spelled, get_list, get_optional, put_list, put_optional,
+};
 
 impl Framed for Frame {
     ghost kind_of = { kind_of_frame };
@@ -49,7 +51,7 @@ impl Framed for Frame {
                 out.bytes16(reply.as_slice())?;
                 put_optional(order, out)
             }
-            Frame::Commit(specs) => specs.put(out),
+            Frame::Commit(specs) => put_list(specs, out),
             Frame::LocalCommit(local) => local.put(out),
             Frame::ConfirmReq { confirm, ask } => {
                 confirm.put(out)?;
@@ -74,7 +76,7 @@ impl Framed for Frame {
                 let (spec, reply, order) = response(alloc, cut)?;
                 Ok(Frame::SpecResponse { spec, reply, order })
             }
-            4 => Ok(Frame::Commit(Items::get(alloc, cut, 1, 16)?)),
+            4 => Ok(Frame::Commit(get_list(alloc, cut, 1, 16)?)),
             5 => Ok(Frame::LocalCommit(Signed::get(alloc, cut)?)),
             6 => {
                 let confirm = Signed::get(alloc, cut)?;
