@@ -7,7 +7,7 @@ use std::alloc::Global;
 use zy_base::{Bytes, FrameFault, Want};
 use zy_parts::{Order, Signed, Spec};
 use zy_wire::{
-    Cut, Framed, GetFault, Put, Spelled, get_items, get_optional, put_items, put_optional,
+    Cut, Framed, GetFault, Put, Spelled, get_list, get_optional, put_list, put_optional,
 };
 
 impl Framed for Frame {
@@ -51,7 +51,7 @@ impl Framed for Frame {
                 out.bytes16(reply.as_slice())?;
                 put_optional(order, out)
             }
-            Frame::Commit(specs) => put_items(specs, out),
+            Frame::Commit(specs) => put_list(specs, out),
             Frame::LocalCommit(local) => local.put(out),
             Frame::ConfirmReq { confirm, ask } => {
                 confirm.put(out)?;
@@ -76,7 +76,7 @@ impl Framed for Frame {
                 let (spec, reply, order) = response(alloc, cut)?;
                 Ok(Frame::SpecResponse { spec, reply, order })
             }
-            4 => Ok(Frame::Commit(get_items(alloc, cut, 1, 16)?)),
+            4 => Ok(Frame::Commit(get_list(alloc, cut, 1, 16)?)),
             5 => Ok(Frame::LocalCommit(Signed::get(alloc, cut)?)),
             6 => {
                 let confirm = Signed::get(alloc, cut)?;

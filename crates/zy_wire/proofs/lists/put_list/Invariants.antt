@@ -2,7 +2,7 @@ use Rattle.std.proofs.Common.{◌≡◌, ◌++◌, length, take, All}
 use Rattle.std.specs.Int.{w16}
 use Rattle.std.specs.List.{flat_map}
 use Rattle.zy_wire.specs.Spelling.{bytes_of}
-use Rattle.zy_wire.proofs.items.put_items.Given as goal
+use Rattle.zy_wire.proofs.lists.put_list.Given as goal
 
 abbrev pub invariant-loop-item : goal.invariant-loop-item
 invariant-loop-item g l = record {

@@ -3,7 +3,7 @@ use Rattle.std.proofs.lemmas.Result.{err_from_is_err_and}
 use Rattle.std.proofs.lemmas.Grind.{common_steps}
 use Rattle.zy_wire.specs.Spelling.{repeated_at}
 use Rattle.zy_wire.proofs.Loop.{goes_on, item_fails}
-use Rattle.zy_wire.proofs.items.in_a_row.Goals as goal
+use Rattle.zy_wire.proofs.lists.in_a_row.Goals as goal
 
 pub loop-preserved : goal.loop-preserved
 loop-preserved g c =

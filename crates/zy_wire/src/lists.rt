@@ -9,14 +9,14 @@ use zy_base::{Items, Want};
 
 /// Writes the count in two bytes and then the items. After `Want` some of the bytes may stand at the end.
 #[tactic(auto, unfolding(crate::specs::Fields::list_bytes))]
-pub fn put_items<T: Spelled>(items: &Items<T>, out: &mut Put) -> Result<(), Want>
-    requires count { length items.now < 2 ^ 16 }
-    requires in_range { All T.in_range items.now }
+pub fn put_list<T: Spelled>(list: &Items<T>, out: &mut Put) -> Result<(), Want>
+    requires count { length list.now < 2 ^ 16 }
+    requires in_range { All T.in_range list.now }
     ensures { OnOk result
-        (All T.spelling.Fits items.now
-        × (out.new ≡ out.old ++ list_bytes T.spelling.spell items.now)) }
+        (All T.spelling.Fits list.now
+        × (out.new ≡ out.old ++ list_bytes T.spelling.spell list.now)) }
 {
-    let items = items.as_slice();
+    let items = list.as_slice();
     out.u16(items.len() as u16)?;
     for item in items {
         item.put(out)?;
@@ -24,10 +24,10 @@ pub fn put_items<T: Spelled>(items: &Items<T>, out: &mut Put) -> Result<(), Want
     Ok(())
 }
 
-/// Reads a count, which is `Range` where it isn't from `min` to `max`, and that many items. A refusal leaves all
-/// the bytes.
+/// Reads a count, which is `Range` where it isn't from `min` to `max`, and that many items. A refusal leaves all the
+/// bytes.
 #[tactic(auto, unfolding(crate::specs::Fields::list_at))]
-pub fn get_items<T: Spelled>(
+pub fn get_list<T: Spelled>(
     alloc: Global,
     cut: &mut Cut<'_>,
     min: u16,

@@ -1,7 +1,7 @@
 use Rattle.std.proofs.Common.{◌≡◌, ◌-◌, length, All}
 use Rattle.zy_wire.specs.Spelling.{repeated_at}
 use Rattle.zy_wire.proofs.Loop.{with_front}
-use Rattle.zy_wire.proofs.items.in_a_row.Given as goal
+use Rattle.zy_wire.proofs.lists.in_a_row.Given as goal
 
 abbrev pub invariant-loop : goal.invariant-loop
 invariant-loop g l = record {
