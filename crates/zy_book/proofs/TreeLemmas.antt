@@ -24,7 +24,7 @@ pub last-none : (n : ℕ) (nodes : Nodes) (i : ℕ) → origin_of nodes i ≡ No
 last-none zero nodes i none = refl
 last-none (suc n) nodes i none = ap (λ o. ended_by o (last_entries n nodes)) none
 
-place-first : (nodes : Nodes) → IsTree nodes → place_of nodes 0 ≡ 0
+pub place-first : (nodes : Nodes) → IsTree nodes → place_of nodes 0 ≡ 0
 place-first nodes tree = ap (λ found. option_map_or (λ (n : Digest × Kept). n.1.place.0) found 0) tree.first
 
 -- a history has as many last entries as are asked for, up to its place
@@ -42,17 +42,20 @@ pub place-most : (nodes : Nodes) (i : ℕ) → IsTree nodes → i < length nodes
 place-most nodes zero tree within = omega (arith, place-first nodes tree)
 place-most nodes (suc i) tree within = let continued = tree.others (suc i) (omega arith) within in continued.within
 
-kept_before : (nodes : Nodes) (n : Digest × Kept) (i : ℕ) → i < length nodes → slice_get (nodes ++ n ∷ []) i ≡ slice_get nodes i
+pub kept_before : (nodes : Nodes) (n : Digest × Kept) (i : ℕ) → i < length nodes → slice_get (nodes ++ n ∷ []) i ≡ slice_get nodes i
 kept_before [] n i within = absurd (omega arith)
 kept_before (first ∷ nodes) n zero within = refl
 kept_before (first ∷ nodes) n (suc i) within = kept_before nodes n i (omega arith)
 
-kept_last : (nodes : Nodes) (n : Digest × Kept) → slice_get (nodes ++ n ∷ []) (length nodes) ≡ Some n
+pub kept_last : (nodes : Nodes) (n : Digest × Kept) → slice_get (nodes ++ n ∷ []) (length nodes) ≡ Some n
 kept_last [] n = refl
 kept_last (first ∷ nodes) n = kept_last nodes n
 
-place-before : (nodes : Nodes) (n : Digest × Kept) (i : ℕ) → i < length nodes → place_of (nodes ++ n ∷ []) i ≡ place_of nodes i
+pub place-before : (nodes : Nodes) (n : Digest × Kept) (i : ℕ) → i < length nodes → place_of (nodes ++ n ∷ []) i ≡ place_of nodes i
 place-before nodes n i within = ap (λ found. option_map_or (λ (n : Digest × Kept). n.1.place.0) found 0) (kept_before nodes n i within)
+
+pub place_last : (nodes : Nodes) (n : Digest × Kept) → place_of (nodes ++ n ∷ []) (length nodes) ≡ n.1.place.0
+place_last nodes n = ap (λ found. option_map_or (λ (n : Digest × Kept). n.1.place.0) found 0) (kept_last nodes n)
 
 -- a history that continues one of the tree
 pub IsTree-push : (nodes : Nodes) (head : Digest) (parent : Node) (e : Entry) (kept : Kept) → IsTree nodes → parent.0 < length nodes

@@ -3,11 +3,13 @@
 
 mod book;
 mod fault;
+mod laws;
 mod node;
 mod store;
 
 pub use book::Book;
 pub use fault::{BookFault, KeepFault};
+pub use laws::histories;
 pub use node::{Node, TextId};
 
 #[cfg(test)]
