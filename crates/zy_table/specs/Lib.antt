@@ -6,3 +6,5 @@ pub mod Orders
 pub mod Holes
 pub mod Roles
 pub mod Step
+pub mod ClientState
+pub mod ClientRows

@@ -2,6 +2,8 @@
 //! what a step does. The code that follows the table stands in the crates above.
 #![tactic(auto)]
 
+mod client;
 mod deeds;
 
+pub use client::{Done, Path, Response};
 pub use deeds::{Act, Body, Deeds, Gains, Got, Remark, Sent, To};
