@@ -1,16 +1,147 @@
-ghost use Rattle.std.specs.Prelude.{◌≡◌, ◌<◌, length, count_by, IfOk};
-ghost use Rattle.zy_table.specs.ClientRows.{response_cause, is_own_order_if, is_repeated, kept_of, keep, agrees, agreeing, complete, completed_if, keep_unless, respond as respond_row};
+ghost use Rattle.std.specs.Prelude.{◌≡◌, ◌<◌, length, count_by, slice_index_or, option_copied, None, IfOk, List, ℕ};
+ghost use Rattle.sha2.specs.Sha256.{sha256};
+ghost use Rattle.zy_parts.specs.Statements.{IsAskInRange};
+ghost use Rattle.zy_parts.specs.Signing.{IsSignedInRange};
+ghost use Rattle.zy_table.specs.ClientRows.{response_cause, is_own_order_if, is_repeated, kept_of, keep as keep_row, agrees, agreeing, complete as complete_row, completed_if, keep_unless, respond as respond_row};
+ghost use Rattle.zy_table.specs.Requests.{same_spec};
 
 use crate::Client;
 use crate::moved::Moved;
 use sha2::{Digest as Hasher, Sha256};
-use zy_base::{Bytes, Cause, Digest, Want};
+use zy_base::{Bytes, Cause, Digest, ReplicaId, Want};
 use zy_chain::request_digest;
 use zy_parts::{Ask, Order, Signed, Spec};
 use zy_table::{Done, Path, Response};
 
-fn reply_digest(reply: &[u8]) -> Digest {
+impl Client {
+    // A response of the replica with this number.
+    #[tactic(auto, unfolding(zy_table::specs::ClientRows::respond))]
+    pub(crate) fn responds(self, id: ReplicaId, response: Response) -> Result<Moved, Want>
+        requires { id.0 < self.counts.n }
+        ensures { IfOk result (λ m. m ≡ respond_row self id.0 response) }
+    {
+        let cause = match &self.waiting {
+            None => Some(Cause::Finished),
+            Some(waiting) => self.cause_against(waiting, id, &response),
+        };
+        match cause {
+            Some(cause) => Ok(self.refused(cause)),
+            None => Ok(self.keep(id, response)?.taken()),
+        }
+    }
+
+    // Why a response to the waiting request isn't kept.
+    fn cause_against(&self, waiting: &Signed<Ask>, id: ReplicaId, response: &Response) -> Option<Cause>
+        requires { IsSignedInRange IsAskInRange waiting.now }
+        ensures { result ≡ response_cause self.now waiting.now id.0 response.now }
+    {
+        let spec = &response.spec.stmt;
+        if spec.client != self.me {
+            return Some(Cause::Unmatched);
+        }
+        if spec.stamp < waiting.stmt.stamp {
+            return Some(Cause::OldStamp);
+        }
+        if spec.stamp > waiting.stmt.stamp {
+            return Some(Cause::Unmatched);
+        }
+        if reply_digest(&response.reply) != spec.reply {
+            return Some(Cause::Unmatched);
+        }
+        if !self.is_own_order_if(waiting, spec, &response.order) {
+            return Some(Cause::Unmatched);
+        }
+        if is_repeated(self.kept(id), spec) {
+            Some(Cause::Repeat)
+        } else {
+            None
+        }
+    }
+
+    // The response of a replica that is kept.
+    fn kept(&self, id: ReplicaId) -> Option<&Response>
+        ensures { option_copied result ≡ kept_of self.now id.0 }
+    {
+        match self.responses.get(id.0 as usize) {
+            Some(Some(response)) => Some(response),
+            _ => None,
+        }
+    }
+
+    // Where there is an order, it is that of the response, and for the own request.
+    fn is_own_order_if(&self, waiting: &Signed<Ask>, spec: &Spec, order: &Option<Signed<Order>>) -> bool
+        requires { IsSignedInRange IsAskInRange waiting.now }
+        ensures { result ≡ is_own_order_if self.now waiting.now spec.now order.now }
+    {
+        match order {
+            None => true,
+            Some(order) => {
+                let order = &order.stmt;
+                order.view == spec.view
+                    && order.place == spec.place
+                    && order.head == spec.head
+                    && order.request
+                        == request_digest(self.me, waiting.stmt.stamp, waiting.stmt.op.as_slice())
+            }
+        }
+    }
+
+    // The response is kept, and with enough equal ones the request is complete.
+    fn keep(mut self, id: ReplicaId, response: Response) -> Result<Client, Want>
+        requires { id.0 < self.counts.n }
+        ensures { IfOk result (λ c. c ≡ completed_if (keep_row self id.0 response) response) }
+    {
+        let spec = response.spec.stmt;
+        let reply = response.reply.clone()?;
+        self.responses[id.0 as usize] = Some(response);
+        if agreeing(&self.responses, &spec) < self.counts.fast {
+            return Ok(self);
+        }
+        self.known_view = spec.view;
+        self.waiting = None;
+        self.done = Some(Done {
+            stamp: spec.stamp,
+            view: spec.view,
+            place: spec.place,
+            head: spec.head,
+            path: Path::Fast,
+            reply,
+        });
+        Ok(self)
+    }
+}
+
+// A response of this view or a greater one is kept already.
+fn is_repeated(kept: Option<&Response>, spec: &Spec) -> bool
+    ensures { result ≡ is_repeated (option_copied kept) spec.now }
+{
+    match kept {
+        None => false,
+        Some(kept) => spec.view <= kept.spec.stmt.view,
+    }
+}
+
+// How many of the kept responses are equal to one.
+fn agreeing(responses: &[Option<Response>], spec: &Spec) -> u64
+    ensures { result ≡ count_by (agrees spec.now) responses.now }
+{
+    responses.iter().filter(|slot| agrees_with(slot, spec)).count() as u64
+}
+
+fn agrees_with(slot: &Option<Response>, spec: &Spec) -> bool
+    ensures { result ≡ agrees spec.now slot.now }
+{
+    match slot {
+        None => false,
+        Some(kept) => kept.spec.stmt == *spec,
+    }
+}
+
+// SHA-256 (FIPS 180-4) of a reply.
+fn reply_digest(reply: &Bytes) -> Digest
+    ensures { result ≡ record { 0 = sha256 reply.now } }
+{
     let mut hasher = Sha256::new();
-    hasher.update(reply);
+    hasher.update(reply.as_slice());
     Digest(hasher.finalize())
 }
