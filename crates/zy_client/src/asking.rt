@@ -1,4 +1,4 @@
-ghost use Rattle.std.specs.Prelude.{◌≡◌, ◌≤◌, ◌-◌, ◌^◌, length, replicate, None, IfOk, OnOk, OnErr};
+ghost use Rattle.std.specs.Prelude.{◌≡◌, ◌≤◌, ◌+◌, ◌-◌, ◌^◌, length, IfOk, OnOk, OnErr};
 ghost use Rattle.zy_table.specs.ClientState.{leaves_of};
 ghost use Rattle.zy_table.specs.ClientRows.{ask as ask_row, asked as asked_row, next_ask, ask_again as ask_again_row};
 ghost use Rattle.zy_parts.specs.Numbers as numbers;
@@ -6,13 +6,13 @@ ghost use Rattle.zy_parts.specs.Statements.{IsAskInRange, ask_fields};
 ghost use Rattle.zy_seal.specs.Sealing.{sealed_by, spent_one};
 ghost use Rattle.zy_lms.specs.Height.{levels_of};
 
-use crate::Client;
+use crate::client::{Client, no_responses};
 use crate::moved::Moved;
 use zy_base::{Answer, Bytes, Cause, Party, Stamp, Want};
 use zy_frames::Frame;
 use zy_parts::{Ask, Signed};
 use zy_seal::{SealFault, Sealer};
-use zy_table::{Response, Sent, To};
+use zy_table::{Sent, To};
 
 impl Client {
     // A new request.
@@ -40,13 +40,14 @@ impl Client {
         requires op { length ask.op ≤ 1100 }
         ensures { IfOk result (λ m. m ≡ asked_row self ask) }
     {
+        let responses = no_responses(self.alloc, self.counts.n)?;
         let said = copy_of(&ask)?;
         let signed = seal(&mut self.sealer, ask)?;
         let frame = Frame::Request(signed_copy(&signed)?);
         let to = To::One(Party::Replica(self.counts.primary(self.known_view)));
         self.stamp = said.stamp;
         self.waiting = Some(signed);
-        forget(&mut self.responses);
+        self.responses = responses;
         let alloc = self.alloc;
         Ok(Moved {
             answer: Answer::Taken,
@@ -79,6 +80,7 @@ fn seal(sealer: &mut Sealer, ask: Ask) -> Result<Signed<Ask>, Want>
     requires leaf { 1 ≤ 2 ^ levels_of sealer.old.key.height - sealer.old.key.next }
     requires range { IsAskInRange ask }
     ensures value { IfOk result (λ s. s ≡ sealed_by numbers.ask ask_fields sealer.old ask) }
+    ensures short { IfOk result (λ s. length s.sig ≤ 8192) }
     ensures spent { OnOk result (sealer.new ≡ spent_one sealer.old) }
     ensures err { OnErr result (sealer.new ≡ sealer.old) }
 {
@@ -103,13 +105,4 @@ pub(crate) fn signed_copy(ask: &Signed<Ask>) -> Result<Signed<Ask>, Want>
         stmt: copy_of(&ask.stmt)?,
         sig: ask.sig.clone()?,
     })
-}
-
-// Drops the responses to an earlier request.
-fn forget(responses: &mut Vec<Option<Response>>)
-    ensures { responses.new.items ≡ replicate (length responses.old.items) None }
-{
-    for slot in responses.iter_mut() {
-        *slot = None;
-    }
 }

@@ -82,10 +82,7 @@ impl Client {
         requires stamp { stamp.0 ≤ 2 ^ 61 }
         ensures { IfOk result (λ c. c ≡ client_start me counts directory sealer stamp) }
     {
-        let mut responses = Vec::with_capacity(alloc, counts.n as usize)?;
-        for _ in 0..counts.n {
-            responses.push(None)?;
-        }
+        let responses = no_responses(alloc, counts.n)?;
         Ok(Client {
             alloc,
             me,
@@ -141,4 +138,15 @@ impl Client {
             answer: self.waiting.is_some(),
         }
     }
+}
+
+// None of so many replicas has responded.
+pub(crate) fn no_responses(alloc: Global, replicas: u64) -> Result<Vec<Option<Response>>, Want>
+    ensures { IfOk result (λ v. v.items ≡ replicate replicas None) }
+{
+    let mut responses = Vec::with_capacity(alloc, replicas as usize)?;
+    for _ in 0..replicas {
+        responses.push(None)?;
+    }
+    Ok(responses)
 }

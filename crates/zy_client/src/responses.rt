@@ -1,8 +1,8 @@
-ghost use Rattle.std.specs.Prelude.{◌≡◌, ◌<◌, length, count_by, slice_index_or, option_copied, None, IfOk, List, ℕ};
+ghost use Rattle.std.specs.Prelude.{◌≡◌, ◌<◌, length, count_by, slice_index_or, option_copied, None, Some, IfOk, List, ℕ};
 ghost use Rattle.sha2.specs.Sha256.{sha256};
 ghost use Rattle.zy_parts.specs.Statements.{IsAskInRange};
 ghost use Rattle.zy_parts.specs.Signing.{IsSignedInRange};
-ghost use Rattle.zy_table.specs.ClientRows.{response_cause, is_own_order_if, is_repeated, kept_of, keep as keep_row, agrees, agreeing, complete as complete_row, completed_if, keep_unless, respond as respond_row};
+ghost use Rattle.zy_table.specs.ClientRows.{response_cause, is_own_order_if, is_repeated, kept_of, keep as keep_row, agrees, agreeing, done_of, completed_if, keep_unless, respond as respond_row};
 ghost use Rattle.zy_table.specs.Requests.{same_spec};
 
 use crate::Client;
@@ -31,7 +31,12 @@ impl Client {
     }
 
     // Why a response to the waiting request isn't kept.
-    fn cause_against(&self, waiting: &Signed<Ask>, id: ReplicaId, response: &Response) -> Option<Cause>
+    fn cause_against(
+        &self,
+        waiting: &Signed<Ask>,
+        id: ReplicaId,
+        response: &Response,
+    ) -> Option<Cause>
         requires { IsSignedInRange IsAskInRange waiting.now }
         ensures { result ≡ response_cause self.now waiting.now id.0 response.now }
     {
@@ -51,7 +56,7 @@ impl Client {
         if !self.is_own_order_if(waiting, spec, &response.order) {
             return Some(Cause::Unmatched);
         }
-        if is_repeated(self.kept(id), spec) {
+        if self.has_one_of(id, spec) {
             Some(Cause::Repeat)
         } else {
             None
@@ -69,7 +74,12 @@ impl Client {
     }
 
     // Where there is an order, it is that of the response, and for the own request.
-    fn is_own_order_if(&self, waiting: &Signed<Ask>, spec: &Spec, order: &Option<Signed<Order>>) -> bool
+    fn is_own_order_if(
+        &self,
+        waiting: &Signed<Ask>,
+        spec: &Spec,
+        order: &Option<Signed<Order>>,
+    ) -> bool
         requires { IsSignedInRange IsAskInRange waiting.now }
         ensures { result ≡ is_own_order_if self.now waiting.now spec.now order.now }
     {
@@ -86,46 +96,64 @@ impl Client {
         }
     }
 
+    // A response of this view or a greater one is kept already.
+    fn has_one_of(&self, id: ReplicaId, spec: &Spec) -> bool
+        ensures { result ≡ is_repeated (kept_of self.now id.0) spec.now }
+    {
+        match self.kept(id) {
+            None => false,
+            Some(kept) => spec.view <= kept.spec.stmt.view,
+        }
+    }
+
     // The response is kept, and with enough equal ones the request is complete.
     fn keep(mut self, id: ReplicaId, response: Response) -> Result<Client, Want>
         requires { id.0 < self.counts.n }
         ensures { IfOk result (λ c. c ≡ completed_if (keep_row self id.0 response) response) }
     {
+        let done = done_by(&response)?;
         let spec = response.spec.stmt;
-        let reply = response.reply.clone()?;
         self.responses[id.0 as usize] = Some(response);
-        if agreeing(&self.responses, &spec) < self.counts.fast {
-            return Ok(self);
+        if agreeing(&self.responses, &spec) >= self.counts.fast {
+            Ok(self.complete(done))
+        } else {
+            Ok(self)
         }
-        self.known_view = spec.view;
+    }
+
+    fn complete(mut self, done: Done) -> Client
+        ensures { result ≡ record self { known_view = done.view; waiting = None; done = Some done } }
+    {
+        self.known_view = done.view;
         self.waiting = None;
-        self.done = Some(Done {
-            stamp: spec.stamp,
-            view: spec.view,
-            place: spec.place,
-            head: spec.head,
-            path: Path::Fast,
-            reply,
-        });
-        Ok(self)
+        self.done = Some(done);
+        self
     }
 }
 
-// A response of this view or a greater one is kept already.
-fn is_repeated(kept: Option<&Response>, spec: &Spec) -> bool
-    ensures { result ≡ is_repeated (option_copied kept) spec.now }
+// The completion that a response brings, where enough are equal to it.
+fn done_by(response: &Response) -> Result<Done, Want>
+    ensures { IfOk result (λ done. done ≡ done_of response.now) }
 {
-    match kept {
-        None => false,
-        Some(kept) => spec.view <= kept.spec.stmt.view,
-    }
+    let spec = &response.spec.stmt;
+    Ok(Done {
+        stamp: spec.stamp,
+        view: spec.view,
+        place: spec.place,
+        head: spec.head,
+        path: Path::Fast,
+        reply: response.reply.clone()?,
+    })
 }
 
 // How many of the kept responses are equal to one.
 fn agreeing(responses: &[Option<Response>], spec: &Spec) -> u64
     ensures { result ≡ count_by (agrees spec.now) responses.now }
 {
-    responses.iter().filter(|slot| agrees_with(slot, spec)).count() as u64
+    responses
+        .iter()
+        .filter(|slot| agrees_with(slot, spec))
+        .count() as u64
 }
 
 fn agrees_with(slot: &Option<Response>, spec: &Spec) -> bool

@@ -103,20 +103,20 @@ agrees spec (Some kept) = same_spec kept.spec.stmt spec
 abbrev pub agreeing : ClientState → Spec → ℕ
 agreeing s spec = count_by (agrees spec) s.responses
 
-abbrev pub complete : ClientState → Response → ClientState
-complete s r =
-    record s {
-      known_view = r.spec.stmt.view;
-      waiting = None;
-      done = Some (record {
-        stamp = r.spec.stmt.stamp;
-        view = r.spec.stmt.view;
-        place = r.spec.stmt.place;
-        head = r.spec.stmt.head;
-        path = Fast;
-        reply = r.reply;
-      });
+-- what the client counts as complete by a response that has enough equals
+abbrev pub done_of : Response → Done
+done_of r =
+    record {
+      stamp = r.spec.stmt.stamp;
+      view = r.spec.stmt.view;
+      place = r.spec.stmt.place;
+      head = r.spec.stmt.head;
+      path = Fast;
+      reply = r.reply;
     }
+
+abbrev pub complete : ClientState → Response → ClientState
+complete s r = record s { known_view = r.spec.stmt.view; waiting = None; done = Some (done_of r) }
 
 -- with enough equal responses the request is complete
 abbrev pub completed_if : ClientState → Response → ClientState
