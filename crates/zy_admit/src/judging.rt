@@ -79,15 +79,16 @@ pub fn is_newer(stamp: Stamp, last: Option<Stamp>) -> bool
     }
 }
 
-// The digest of the entry that a request asks for.
-fn request_digest_of(ask: &Signed<Ask>) -> Digest
+/// The digest of the entry that a request asks for.
+pub fn request_digest_of(ask: &Signed<Ask>) -> Digest
     requires { IsSignedInRange IsAskInRange ask.now }
     ensures { result ≡ digest_of_entry (entry_of ask.now) }
 {
     request_digest(client_of(ask.by), ask.stmt.stamp, ask.stmt.op.as_slice())
 }
 
-fn client_of(by: Party) -> ClientId
+/// The number of the client that signed a request.
+pub fn client_of(by: Party) -> ClientId
     ensures { result ≡ asking by }
 {
     match by {

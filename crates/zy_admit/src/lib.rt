@@ -6,4 +6,7 @@ mod judging;
 mod queue;
 
 pub use admission::Admission;
-pub use judging::{Admit, Position};
+pub use judging::{Admit, Position, client_of, is_newer, request_digest_of};
+
+#[cfg(test)]
+mod tests;

@@ -57,6 +57,8 @@ pub record IsLastShared (s t : Stretch) (place : ℕ) : Type 0 where
   pub shared : IsShared s t place
   pub last : (further : ℕ) → place < further → IsShared s t further → ⊥
 
+-- ---- inner forms, which only the representation cites
+
 -- the head after each entry
 abbrev pub heads_from : Digest → List Entry → List Digest
 heads_from head [] = []

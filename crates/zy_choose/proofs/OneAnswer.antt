@@ -28,7 +28,7 @@ overlap p q (x ∷ xs) more = by_tests (p x) (q x) refl refl (rw (sum_by-cons, s
     by_tests false true a b more others = let (k, y, within, is, holds) = others (omega arith) in (suc k, y, omega arith, is, holds)
     by_tests false false a b more others = let (k, y, within, is, holds) = others (omega arith) in (suc k, y, omega arith, is, holds)
 
-one_view : (reports : List PlainReport) (v w : ℕ) → IsGreatestView reports v → IsGreatestView reports w → v ≡ w
+pub one_view : (reports : List PlainReport) (v w : ℕ) → IsGreatestView reports v → IsGreatestView reports w → v ≡ w
 one_view reports v w first second =
     let (k, r, within, is, last) = first.told in
     let (i, x, inside, at, ends) = second.told in
@@ -43,7 +43,7 @@ one_place reports a b first second =
     subst (λ (m : Mark). m.place ≤ b.place) at (furthest i a inside)
 
 -- an anchor's only mark at the place is the other anchor
-one_anchor : (reports : List PlainReport) (a b : Mark) → IsAnchor reports a → IsAnchor reports b → IsOnlyAnchor reports a → b ≡ a
+pub one_anchor : (reports : List PlainReport) (a b : Mark) → IsAnchor reports a → IsAnchor reports b → IsOnlyAnchor reports a → b ≡ a
 one_anchor reports a b first second only =
     let (k, r, within, is, (i, inside, at)) = second.proved in
     let here = subst (λ (r : PlainReport). All (λ m. m.place ≡ a.place → m ≡ a) (proven r)) is (only k r within) in
@@ -61,7 +61,7 @@ one_agreed next agree reports anchor a b few first second same =
     let other = and_parts (has_mark next r.stretch anchor) (has_mark next r.stretch b) told.1 in
     Has-one next r.stretch a b (has_mark-Has next r.stretch a has.1) (has_mark-Has next r.stretch b other.1) same
 
-one_picked : (next : Digest → Entry → Digest) (agree : ℕ) (reports : List PlainReport) (anchor a b : Mark) → length reports < 2 * agree
+pub one_picked : (next : Digest → Entry → Digest) (agree : ℕ) (reports : List PlainReport) (anchor a b : Mark) → length reports < 2 * agree
     → IsPicked next agree reports anchor a → IsPicked next agree reports anchor b → a ≡ b
 one_picked next agree reports anchor a b few (agreed first furthest) (agreed second furthest') =
     let below = furthest b second in
@@ -71,7 +71,7 @@ one_picked next agree reports anchor a b few (agreed first furthest) (anchored n
 one_picked next agree reports anchor a b few (anchored nothing same) (agreed second furthest) = absurd (nothing b second)
 one_picked next agree reports anchor a b few (anchored nothing same) (anchored nothing' same') = same ∙ sym same'
 
-few_last_in : (agree view : ℕ) (reports : List PlainReport) → length reports < 2 * agree → length (last_in view reports) < 2 * agree
+pub few_last_in : (agree view : ℕ) (reports : List PlainReport) → length reports < 2 * agree → length (last_in view reports) < 2 * agree
 few_last_in agree view reports few =
     omega (arith, length-filter (λ (r : PlainReport). r.last_view == view) reports, count_by-le-length (λ (r : PlainReport). r.last_view == view) reports)
 

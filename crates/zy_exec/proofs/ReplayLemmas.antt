@@ -316,6 +316,24 @@ replayed_cut {S} R spine spine' base_known state state' trail trail' done done' 
     rw (spine_is, front, oldest)
     (replayed_back R base ends.0 ends.1 state state' trail trail' done done' last last' (subst (λ (es : List Entry). IsReplayed R base es state trail done last) ends.2 was) back pop)
 
+-- an entry that was taken out is above the place before it
+pub popped_is : (spine spine' : Stretch) (e : Entry) → spine ≡ with_entry spine' e → (spine' ≡ up_to (end_of spine - 1) spine) × (0 < length spine.entries)
+popped_is spine spine' e is =
+    let all = spine'.entries ++ e ∷ [] in
+    let many = length-append spine'.entries (e ∷ []) in
+    let n = spine'.base.place + length all - 1 - spine'.base.place in
+    let front : take n all ≡ spine'.entries = take_at spine'.entries (e ∷ []) n (omega (arith, many)) in (
+      sym (ap (λ (s : Stretch). up_to (end_of s - 1) s) is ∙ ap (λ (es : List Entry). record { base = spine'.base; entries = es }) front),
+      omega (arith, many, ap (λ (s : Stretch). length s.entries) is),
+    )
+
+-- an entry that was run is one step
+pub now_next : {S : Type 0} (R : Rules S) (spine spine' : Stretch) (base_known : List (Option Known)) (state state' : S) (trail trail' : List S) (e : Entry)
+    → spine' ≡ with_entry spine e → trail' ≡ trail ++ state ∷ []
+    → along R (base_of spine' trail' state' base_known) spine'.entries ≡ step R (along R (base_of spine trail state base_known) spine.entries) e
+now_next R spine spine' base_known state state' trail trail' e spine_is trail_is =
+    rw (spine_is, trail_is, oldest-append trail state state') (along-append R (base_of spine trail state base_known) spine.entries e)
+
 pub reply_above : {S : Type 0} (R : Rules S) (k : Kept S) (place : ℕ) → k.base.place < place
     → option_map (λ (e : Entry). R.reply (along R k.base (take (place - k.base.place - 1) k.entries)).state e.client e.op) (slice_get k.entries (place - k.base.place - 1)) ≡ reply_in R k place
 reply_above R k place above = rw (lt-leb place k.base.place above) refl

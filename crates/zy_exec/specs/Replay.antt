@@ -1,5 +1,5 @@
 -- Replay: where a history leads, entry by entry.
-use Rattle.std.specs.Prelude.{ℕ, ◌+◌, List, fold, replicate, slice_set, Option, Some, None}
+use Rattle.std.specs.Prelude.{ℕ, zero, suc, ◌+◌, List, take, fold, replicate, slice_get, slice_set, Option, Some, None, option_map}
 use Rattle.zy_base.specs.Machine.{Rules}
 use Rattle.zy_base.specs.declared.ids.Digest.{Digest}
 use Rattle.zy_chain.specs.declared.entry.Entry.{Entry}
@@ -42,3 +42,9 @@ step R p e =
 -- where entries lead from a point
 unfoldable pub along : {S : Type 0} → Rules S → Point S → List Entry → Point S
 along R p entries = fold (step R) p entries
+
+-- the reply to the entry that leads to a place of a whole history
+abbrev pub answer_at : {S : Type 0} → Rules S → List Entry → ℕ → Option (List ℕ)
+answer_at R history zero = None
+answer_at R history (suc before) =
+    option_map (λ e. R.reply (along R (origin R) (take before history)).state e.client e.op) (slice_get history before)

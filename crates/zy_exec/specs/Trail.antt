@@ -1,4 +1,5 @@
--- What an execution keeps for each entry above the base, so that it can go back.
+-- Inner forms, which only private contracts and representations cite: what an execution keeps for each entry above the
+-- base, so that it can go back.
 use Rattle.std.specs.Prelude.{◌≡◌, ℕ, ◌+◌, ◌-◌, ◌<◌, List, [], ◌∷◌, ◌++◌, length, replicate, slice_set, slice_index_or, slice_get, Option, Some, None, option_map}
 use Rattle.std.specs.List.{AllByRecursion}
 use Rattle.zy_base.specs.Machine.{Rules}

@@ -1,11 +1,11 @@
-ghost use Rattle.std.specs.Prelude.{◌≡◌, ◌+◌, ◌-◌, ◌*◌, ◌<◌, ◌≤◌, ◌^◌, List, [], ◌∷◌, ◌++◌, length, take, drop, slice_index_or, option_copied, IfOk, OnOk, OnErr, IfErr, IfSome};
+ghost use Rattle.std.specs.Prelude.{◌≡◌, ◌+◌, ◌-◌, ◌*◌, ◌<◌, ◌≤◌, ◌^◌, List, [], ◌∷◌, ◌++◌, length, take, drop, slice_index_or, option_copied, IfOk, OnOk, OnErr, IfErr, IfSome, IfNone};
 ghost use Rattle.std.specs.List.{flat_map};
 ghost use Rattle.zy_chain.specs.declared.entry.Entry.{Entry};
 ghost use Rattle.zy_chain.specs.Entries.{IsEntryInRange};
 ghost use Rattle.zy_chain.specs.Heads.{head_of};
 ghost use Rattle.zy_chain.specs.Stretch.{head_in, entry_in};
 ghost use Rattle.zy_exec.specs.Known.{IsKnownInRange};
-ghost use Rattle.zy_exec.specs.Replay.{origin, along};
+ghost use Rattle.zy_exec.specs.Replay.{origin, along, step};
 ghost use Rattle.zy_exec.specs.Snapshot.{listed, known_bytes, snapshot_of};
 ghost use Rattle.zy_exec.specs.Kept.{Kept, stretch_of, last_place, now_of, longer, back_to, reply_in, known_in, StandsFor};
 
@@ -74,6 +74,7 @@ impl<M: Machine> Exec<M> {
     /// The place of the last entry, or the base.
     pub fn end(&self) -> Place
         ensures place { result.0 ≡ last_place self.now }
+        ensures now { result.0 ≡ (now_of M.rules self.now).place }
         ensures fits { last_place self.now ≤ 2 ^ 63 }
     {
         self.spine.end()
@@ -84,6 +85,13 @@ impl<M: Machine> Exec<M> {
         ensures { result.0 ≡ self.now.base.place }
     {
         self.spine.base()
+    }
+
+    /// The head at the end.
+    pub fn head(&self) -> Digest
+        ensures { result ≡ (now_of M.rules self.now).head }
+    {
+        self.spine.head()
     }
 
     /// The base, the entries above it and the heads.
@@ -140,6 +148,7 @@ impl<M: Machine> Exec<M> {
         requires client { e.client.0 < 64 }
         requires entry { IsEntryInRange e }
         ensures after { OnOk result (self.new ≡ longer self.old e) }
+        ensures now { OnOk result (now_of M.rules self.new ≡ step M.rules (now_of M.rules self.old) e) }
         ensures reply { IfOk result (λ reply. reply ≡ M.rules.reply (now_of M.rules self.old).state e.client e.op) }
         ensures short { IfOk result (λ reply. length reply ≤ 1100) }
         ensures err { OnErr result (self.new ≡ self.old) }
@@ -165,6 +174,25 @@ impl<M: Machine> Exec<M> {
         };
         push_done(&mut self.done, &mut self.last, client, known);
         Ok(reply)
+    }
+
+    /// Takes the last entry out again, as if it had never been run. `None` exactly where no entry is kept. Takes no
+    /// memory, and counts no step.
+    pub fn unrun(&mut self) -> Option<Entry>
+        ensures some { IfSome result (λ e. self.old ≡ longer self.new e) }
+        ensures in_range { IfSome result IsEntryInRange }
+        ensures back { (k : Kept M.State) (e : Entry) → self.old ≡ longer k e → self.new ≡ k }
+        ensures none { IfNone result (self.old.entries ≡ []) }
+        ensures same { IfNone result (self.new ≡ self.old) }
+    {
+        match self.spine.pop() {
+            None => None,
+            Some(e) => {
+                pop_done(&mut self.done, &mut self.last);
+                take_back(&mut self.machine);
+                Some(e)
+            }
+        }
     }
 
     // Goes back over the last entry.
@@ -220,7 +248,8 @@ impl<M: Machine> Exec<M> {
 
     // Writes what is known of each client.
     fn put_all_known(&self, out: &mut Vec<u8>) -> Result<(), Want>
-        ensures { OnOk result (out.new.items ≡ out.old.items ++ flat_map known_bytes (listed 0 (now_of M.rules self.now).known)) }
+        ensures bytes { OnOk result (out.new.items ≡ out.old.items ++ flat_map known_bytes (listed 0 (now_of M.rules self.now).known)) }
+        ensures short { OnOk result (length out.new.items ≤ length out.old.items + 64 * 1154) }
     {
         for client in 0..self.clients() {
             match self.known(ClientId(client)) {
@@ -231,10 +260,11 @@ impl<M: Machine> Exec<M> {
         Ok(())
     }
 
-    /// The snapshot at the end: what is known of each client, and the machine's state.
+    /// The snapshot at the end: what is known of each client, and the machine's state. At most 2,373,862 bytes.
     #[tactic(auto, unfolding(crate::specs::Snapshot::snapshot_of, zy_wire::specs::Spelling::bytes_of))]
     pub fn snapshot(&self) -> Result<Bytes, Want>
-        ensures { IfOk result (λ bytes. bytes ≡ snapshot_of M.rules (now_of M.rules self.now)) }
+        ensures bytes { IfOk result (λ bytes. bytes ≡ snapshot_of M.rules (now_of M.rules self.now)) }
+        ensures short { IfOk result (λ bytes. length bytes ≤ 2373862) }
     {
         let state = self.machine.state_bytes()?;
         let (count, size) = self.listed_size();

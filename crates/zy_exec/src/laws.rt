@@ -1,10 +1,18 @@
-ghost use Rattle.std.specs.Prelude.{◌≡◌, ◌≤◌, ℕ, List, [], ◌∷◌, ◌++◌, length, take};
+ghost use Rattle.std.specs.Prelude.{◌≡◌, ◌<◌, ◌≤◌, ℕ, List, [], ◌∷◌, ◌++◌, length, take};
 ghost use Rattle.zy_chain.specs.declared.entry.Entry.{Entry};
 ghost use Rattle.zy_chain.specs.Heads.{head_of};
-ghost use Rattle.zy_exec.specs.Replay.{origin, along};
-ghost use Rattle.zy_exec.specs.Kept.{Kept, StandsFor, last_place, now_of, longer, back_to};
+ghost use Rattle.zy_chain.specs.Places.{head_at, entry_at};
+ghost use Rattle.zy_chain.specs.Stretch.{head_in, entry_in};
+ghost use Rattle.zy_exec.specs.Replay.{origin, along, step, answer_at};
+ghost use Rattle.zy_exec.specs.Kept.{Kept, StandsFor, stretch_of, last_place, now_of, longer, back_to, reply_in};
 
 use zy_base::Machine;
+
+/// Where an execution stands. Its place is that of the last entry, and one entry more is one step.
+pub fn points<M: Machine>()
+    ensures place { (k : Kept M.State) → (now_of M.rules k).place ≡ last_place k }
+    ensures run { (k : Kept M.State) (e : Entry) → now_of M.rules (longer k e) ≡ step M.rules (now_of M.rules k) e }
+{}
 
 /// What an execution keeps, against whole histories. The replay of a history has its length and its head. The empty
 /// history stands at the origin. An execution that stands for a history is where the history's replay leads, stands
@@ -16,4 +24,12 @@ pub fn histories<M: Machine>()
     ensures leads { (k : Kept M.State) (history : List Entry) → StandsFor M.rules k history → now_of M.rules k ≡ along M.rules (origin M.rules) history }
     ensures run { (k : Kept M.State) (history : List Entry) (e : Entry) → StandsFor M.rules k history → StandsFor M.rules (longer k e) (history ++ e ∷ []) }
     ensures rollback { (k : Kept M.State) (history : List Entry) (place : ℕ) → k.base.place ≤ place → place ≤ last_place k → StandsFor M.rules k history → StandsFor M.rules (back_to place k) (take place history) }
+{}
+
+/// From the base on, an execution that stands for a history has the history's heads, entries and replies.
+pub fn places<M: Machine>()
+    ensures end { (k : Kept M.State) (history : List Entry) → StandsFor M.rules k history → last_place k ≡ length history }
+    ensures head { (k : Kept M.State) (history : List Entry) (place : ℕ) → StandsFor M.rules k history → k.base.place ≤ place → head_in (stretch_of k) place ≡ head_at history place }
+    ensures entry { (k : Kept M.State) (history : List Entry) (place : ℕ) → StandsFor M.rules k history → k.base.place < place → entry_in (stretch_of k) place ≡ entry_at history place }
+    ensures reply { (k : Kept M.State) (history : List Entry) (place : ℕ) → StandsFor M.rules k history → k.base.place < place → reply_in M.rules k place ≡ answer_at M.rules history place }
 {}

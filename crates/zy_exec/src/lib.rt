@@ -8,8 +8,8 @@ mod machine;
 mod snapshot;
 
 pub use exec::Exec;
-pub use known::{CLIENTS, Known};
-pub use laws::histories;
+pub use known::{CLIENTS, Known, nothing};
+pub use laws::{histories, places, points};
 
 #[cfg(test)]
 mod tests;

@@ -1,6 +1,6 @@
 //! What is known of a client, as bytes of a snapshot.
 
-ghost use Rattle.std.specs.Prelude.{◌≡◌, ◌++◌, ◌+◌, length, OnOk};
+ghost use Rattle.std.specs.Prelude.{◌≡◌, ◌++◌, ◌+◌, ◌≤◌, length, OnOk};
 ghost use Rattle.zy_exec.specs.Known.{IsKnownInRange};
 ghost use Rattle.zy_exec.specs.Snapshot.{known_bytes};
 
@@ -14,7 +14,8 @@ pub const KNOWN_BYTES: usize = 54;
 #[tactic(auto, unfolding(zy_wire::specs::Spelling::bytes_of))]
 pub fn put_known(out: &mut Vec<u8>, client: ClientId, known: &Known) -> Result<(), Want>
     requires { IsKnownInRange known.now }
-    ensures { OnOk result (out.new.items ≡ out.old.items ++ known_bytes (client.0, known.now)) }
+    ensures bytes { OnOk result (out.new.items ≡ out.old.items ++ known_bytes (client.0, known.now)) }
+    ensures short { OnOk result (length out.new.items ≤ length out.old.items + 1154) }
 {
     out.extend_from_slice(&client.0.to_be_bytes())?;
     out.extend_from_slice(&known.stamp.0.to_be_bytes())?;

@@ -171,6 +171,26 @@ fn snapshots_heads_and_replies(rt: HostRuntime) -> Result<(), Fail> {
 }
 
 #[test]
+fn an_entry_is_taken_out_again(rt: HostRuntime) -> Result<(), Fail> {
+    let alloc = rt.alloc();
+    let mut exec = begin(alloc)?;
+    assert!(rt; exec.unrun().is_none());
+    for ((client, stamp, text, reply, head), snapshot) in HISTORY.into_iter().zip(SNAPSHOTS) {
+        run(&rt, alloc, &mut exec, client, stamp, text)?;
+        assert_eq!(rt; exec.head(), Digest(*head));
+        let entry = exec.unrun();
+        assert_eq!(rt;
+            entry.map(|e| (e.client.0, e.stamp.0)),
+            Some((client, stamp))
+        );
+        assert_eq!(rt; exec.snapshot()?.as_slice(), snapshot);
+        let again = run(&rt, alloc, &mut exec, client, stamp, text)?;
+        assert_eq!(rt; again.as_slice(), reply);
+    }
+    Ok(())
+}
+
+#[test]
 fn nothing_outside_the_range(rt: HostRuntime) -> Result<(), Fail> {
     let alloc = rt.alloc();
     let mut exec = begin(alloc)?;

@@ -9,7 +9,7 @@ use Rattle.zy_parts.specs.Signing.{signed}
 use Rattle.zy_parts.proofs.Lengths.{signed-at_most, ask-at_most, order-at_most, spec-at_most, local-at_most, confirm-at_most, hole-at_most, hate-at_most, check-at_most}
 use Rattle.zy_frames.specs.declared.frame.Frame.{Frame}
 use Rattle.zy_frames.specs.declared.frame.Frame.TheVariants as frames
-use Rattle.zy_frames.specs.Frames.{request, order, ordered, spec_response, commit, confirm_request, misbehaviour, fields_of, kind_of_frame, spelling, FitsFrame}
+use Rattle.zy_frames.specs.Frames.{order, spec_response, commit, confirm_request, misbehaviour, fields_of, spelling, FitsFrame}
 
 order_frame-at_most : IsAtMost order 17588
 order_frame-at_most = converted-at_most _ _ _ _ (pair-at_most _ _ _ _ (signed-at_most _ _ order-at_most) (signed-at_most _ _ ask-at_most))

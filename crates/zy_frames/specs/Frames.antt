@@ -2,9 +2,9 @@
 use Rattle.std.specs.Prelude.{◌≡◌, ℕ, ◌≤◌, List, [], ◌∷◌, length, map, drop, Option, Some, None, Result, Err, ◌==◌, if◌then◌else◌}
 use Rattle.zy_base.specs.declared.frame_fault.FrameFault.{FrameFault}
 use Rattle.zy_base.specs.declared.frame_fault.FrameFault.TheVariants.{Kind}
-use Rattle.zy_wire.specs.Spelling.{◌>>=◌, Spelling, pair, converted, made, ended}
+use Rattle.zy_wire.specs.Spelling.{Spelling, pair, converted, made}
 use Rattle.zy_wire.specs.Fields.{bytes16, list, optional, FitsList, FitsOptional}
-use Rattle.zy_wire.specs.Kind.{frame_version, kind_in}
+use Rattle.zy_wire.specs.Framing.{frame_bytes, framed_in}
 use Rattle.zy_parts.specs.declared.signed.Signed.{Signed}
 use Rattle.zy_parts.specs.declared.signed.Part.{Part}
 use Rattle.zy_parts.specs.declared.statements.Ask.{Ask}
@@ -69,7 +69,7 @@ fields_of (frames.Checkpoint check) = (signed check_fields).spell check
 
 -- the version, the kind and the fields of the kind
 abbrev pub spelling : Frame → List ℕ
-spelling f = frame_version ∷ kind_of_frame f ∷ fields_of f
+spelling f = frame_bytes kind_of_frame fields_of f
 
 -- what has a spelling
 unfoldable pub FitsFrame : Frame → Type 0
@@ -114,15 +114,9 @@ frame_at kind bytes =
     else (if kind == 10 then made frames.Checkpoint (signed check_fields) bytes
     else Err Kind)))))))))
 
-abbrev pub of_kind : ℕ → Spelling Frame
-of_kind kind = record { spell = fields_of; at = frame_at kind; Fits = λ f. (kind_of_frame f ≡ kind) × FitsFrame f }
-
 -- the frame that all of the bytes spell, or the first fault
-unfoldable pub frame_in : List ℕ → Result Frame FrameFault
-frame_in bytes = do
-  kind ← kind_in bytes
-  read ← frame_at kind (drop 2 bytes)
-  ended read.0 read.1
+abbrev pub frame_in : List ℕ → Result Frame FrameFault
+frame_in bytes = framed_in frame_at bytes
 
 -- ---- parts
 

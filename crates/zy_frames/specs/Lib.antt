@@ -1,3 +1,2 @@
 pub mod Frames
-pub mod Decoding
-pub mod Faults
+pub mod FrameLaws

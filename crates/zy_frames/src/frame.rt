@@ -1,6 +1,5 @@
-use zy_base::Bytes;
+use zy_base::{Bytes, Items};
 use zy_parts::{Ask, Check, Confirm, Hate, Hole, Local, Order, Signed, Spec};
-use zy_wire::Items;
 
 /// A primary's order and the request that it orders.
 #[derive(Clone, Debug, Drop)]

@@ -1,19 +1,17 @@
 //! The ten frames of normal operation, decoded, encoded, and taken apart into what was signed.
 #![tactic(auto)]
 
-mod decoding;
-mod encoding;
-mod fault;
+mod coding;
 mod frame;
+mod framed;
 mod laws;
 mod part_list;
 
-pub use decoding::decode;
-pub use encoding::encode;
-pub use fault::{DecodeFault, EncodeFault};
+pub use coding::{decode, encode};
 pub use frame::{Frame, OrderFrame};
 pub use laws::frames;
 pub use part_list::parts;
+pub use zy_wire::{EncodeFault, GetFault as DecodeFault};
 
 #[cfg(test)]
 mod tests;

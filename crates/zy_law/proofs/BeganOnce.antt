@@ -1,6 +1,5 @@
 -- All view certificates of one view have one mark, which each correct history of the view passes.
-use Rattle.std.proofs.Common.{◌≡◌, ℕ, zero, suc, ◌+◌, ◌*◌, ◌<◌, ◌≤◌, ◌⊎◌, inl, inr, List, [], length, Option, Some, refl, sym, ap, ◌∙◌, subst, arith}
-use Rattle.std.specs.Prelude.{slice_get}
+use Rattle.std.proofs.Common.{◌≡◌, ℕ, zero, suc, ◌+◌, ◌<◌, inl, inr, [], refl, sym, ap, ◌∙◌, subst, arith}
 use Rattle.std.proofs.lemmas.Bool.{cases_lt}
 use Rattle.std.proofs.lemmas.Option.{slice_get_within, same_Some}
 use Rattle.zy_chain.specs.Stretch.{Mark}
@@ -10,7 +9,7 @@ use Rattle.zy_law.specs.World.{Stand, World}
 use Rattle.zy_law.specs.World.Statement.{Began}
 use Rattle.zy_law.specs.Said.{IsCorrect, Stood, Moment, At, IsBacked}
 use Rattle.zy_law.specs.Lawful.{IsLawful, IsNext}
-use Rattle.zy_law.specs.Lists.{Extends, IsKnown, IsSafeStart, AreChoicesSafe}
+use Rattle.zy_law.specs.Lists.{Extends, IsSafeStart, AreChoicesSafe}
 use Rattle.zy_law.proofs.HistoryLemmas.{Passes-longer, Passes-itself, Passes-origin}
 use Rattle.zy_law.proofs.PastLemmas.{stand_at}
 use Rattle.zy_law.proofs.QuorumLemmas.{both_said, one_said}

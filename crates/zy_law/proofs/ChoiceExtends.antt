@@ -1,7 +1,7 @@
 -- The choice of a valid new view extends all that is fixed in earlier views: first where the choices of all earlier
 -- views do, then for every view.
-use Rattle.std.proofs.Common.{◌≡◌, ℕ, zero, suc, ◌+◌, ◌<◌, ◌≤◌, ◌⊎◌, inl, inr, List, refl, sym, ap, ◌∙◌, subst, arith}
-use Rattle.std.proofs.lemmas.Bool.{cases_lt, cases_eq}
+use Rattle.std.proofs.Common.{◌≡◌, ℕ, zero, suc, ◌<◌, inl, inr, List, refl, subst, arith}
+use Rattle.std.proofs.lemmas.Bool.{cases_lt}
 use Rattle.zy_chain.specs.Stretch.{Mark}
 use Rattle.zy_choose.specs.Reports.{PlainReport}
 use Rattle.zy_choose.specs.Choice.{last_in, IsPicked, IsChoice}
@@ -9,9 +9,9 @@ use Rattle.zy_law.specs.Fixed.{IsFixed}
 use Rattle.zy_law.specs.Reports.{IsValidNew}
 use Rattle.zy_law.specs.Fixed.IsFixed.{fast, slow, stable}
 use Rattle.zy_law.specs.World.{World}
-use Rattle.zy_law.specs.World.Statement.{Spec, Local, Check}
+use Rattle.zy_law.specs.World.Statement.{Local, Check}
 use Rattle.zy_law.specs.Lawful.{IsLawful}
-use Rattle.zy_law.specs.Lists.{Extends, IsSafeStart, AreChoicesSafe}
+use Rattle.zy_law.specs.Lists.{Extends, AreChoicesSafe}
 use Rattle.zy_law.proofs.ListLemmas.{Extends-further}
 use Rattle.zy_law.proofs.SpokeBeforeLeaving.IsOf.{commit, check}
 use Rattle.zy_law.proofs.ReportedLemmas.{Reported}

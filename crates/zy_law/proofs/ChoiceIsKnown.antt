@@ -1,15 +1,15 @@
 -- The choice is known: some correct history of an earlier view passes it, and the anchor before it.
-use Rattle.std.proofs.Common.{◌≡◌, ℕ, ◌+◌, ◌<◌, ◌≤◌, ◌⊎◌, inl, inr, List, refl, sym, ap, ◌∙◌, subst, arith}
+use Rattle.std.proofs.Common.{ℕ, ◌≤◌, List, sym, ap, subst, arith}
 use Rattle.zy_chain.specs.Stretch.{Mark}
 use Rattle.zy_choose.specs.Reports.{PlainReport}
 use Rattle.zy_choose.specs.Choice.{last_in, IsAgreed, IsPicked}
 use Rattle.zy_choose.specs.Choice.IsPicked.{agreed, anchored}
 use Rattle.zy_law.specs.World.{World}
-use Rattle.zy_law.specs.Said.{IsCorrect, Moment, At}
+use Rattle.zy_law.specs.Said.{IsCorrect, Moment}
 use Rattle.zy_law.specs.Lawful.{IsLawful, IsTrueReport}
 use Rattle.zy_law.specs.Lists.{Extends, IsKnown}
 use Rattle.zy_law.proofs.ListLemmas.{Extends-passed}
-use Rattle.zy_law.proofs.QuorumLemmas.{IsReporter, one_reported}
+use Rattle.zy_law.proofs.QuorumLemmas.{one_reported}
 use Rattle.zy_law.proofs.ReportLemmas.{supports, supports_count, supports_has, passes_has}
 use Rattle.zy_law.proofs.OneView.{Together, solid_together}
 use Rattle.zy_law.proofs.ReportedLemmas.{Reported, Ground, ground, told_truly}
@@ -23,7 +23,7 @@ module _ (w : World) (lawful : IsLawful w) (view : ℕ) (c : Reported w view) (m
   agreed_together : IsAgreed w.next w.counts.agree (last_in c.last c.reports) c.anchor m → Together w c.last c.anchor m
   agreed_together is =
       let some = one_reported w lawful view c.reports (supports w.next c.last c.anchor m) c.valid
-        (omega (arith, is.enough, w.counts.sound.true_agreement, supports_count w.next c.last c.anchor m c.reports)) in
+      (omega (arith, is.enough, w.counts.sound.true_agreement, supports_count w.next c.last c.anchor m c.reports)) in
       let told = told_truly w lawful view c.reports some.0 some.1 some.2 in
       let has = supports_has w.next c.last c.anchor m some.2.report some.3 in
       record {

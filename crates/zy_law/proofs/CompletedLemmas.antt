@@ -1,26 +1,25 @@
 -- Completions are of the agreed list, which only grows.
-use Rattle.std.proofs.Common.{◌≡◌, ℕ, zero, suc, ◌+◌, ◌<◌, ◌≤◌, Bool, true, false, cond, ltb, ◌⊎◌, inl, inr, List, [], ◌∷◌, ◌++◌, length, take, get_or, Option, Some, refl, sym, ap, ◌∙◌, subst, arith}
+use Rattle.std.proofs.Common.{◌≡◌, ℕ, zero, suc, ◌≤◌, Bool, true, false, cond, ltb, ◌⊎◌, inl, inr, List, [], ◌∷◌, ◌++◌, take, get_or, Some, refl, sym, ap, ◌∙◌, subst, arith}
 use Rattle.std.specs.Prelude.{All, fold, slice_get}
-use Rattle.std.proofs.lemmas.Bool.{cases_Bool, cases_lt, ltb-true, ltb-false}
+use Rattle.std.proofs.lemmas.Bool.{ltb-true, ltb-false}
 use Rattle.std.proofs.lemmas.List.{get_or_append_left, length-append}
 use Rattle.std.proofs.lemmas.List.Sums.{fold-append}
 use Rattle.std.proofs.lemmas.Option.{same_Some, slice_get-get_or}
 use Rattle.zy_chain.specs.declared.entry.Entry.{Entry}
-use Rattle.zy_chain.specs.Heads.{empty_head}
 use Rattle.zy_chain.specs.Stretch.{Mark}
 use Rattle.zy_law.specs.Fixed.{IsFixed}
-use Rattle.zy_law.specs.Histories.{Passes, IsFront, IsEntryAt, origin}
+use Rattle.zy_law.specs.Histories.{IsFront, origin}
 use Rattle.zy_law.specs.World.{Answer, World}
 use Rattle.zy_law.specs.World.Statement.{Spec}
 use Rattle.zy_law.specs.Said.{Moment, At, IsBacked}
-use Rattle.zy_law.specs.Lawful.{IsLawful, IsTrueAnswer, IsTrueResponse, AreAskedFor}
+use Rattle.zy_law.specs.Lawful.{IsLawful, IsTrueAnswer, AreAskedFor}
 use Rattle.zy_law.specs.Lists.{IsListOf, Extends}
 use Rattle.zy_law.specs.Completed.{Completion, IsCompleted, further, agreed_mark, IsAgreedList, IsResultOf}
 use Rattle.zy_law.specs.Completed.IsCompleted.{fast, slow}
 use Rattle.zy_law.proofs.HistoryLemmas.{Passes-origin}
 use Rattle.zy_law.proofs.ListLemmas.{one_list, list_passed, Extends-origin, Extends-passed}
 use Rattle.zy_law.proofs.QuorumLemmas.{All_at, one_said}
-use Rattle.zy_law.proofs.OneView.{IsHeld, IsQuorum, held_at, fixed_held, one_of_quorum}
+use Rattle.zy_law.proofs.OneView.{IsQuorum, held_at, fixed_held, one_of_quorum}
 use Rattle.zy_law.proofs.OneView.IsQuorum.{certificate, everyone}
 use Rattle.zy_law.proofs.FixedForGood.{fixed_extends}
 use Rattle.zy_law.proofs.EntriesAskedFor.{entry_shared, take_front, AreAskedFor-front, AreAskedFor-none, all_asked_for}
@@ -89,9 +88,11 @@ module _ (w : World) (lawful : IsLawful w) where
   settled_list m (empty e) =
       ([], subst (λ (x : Mark). IsListOf w x []) (sym e) (record { long = refl; head = refl; texts = tt }), AreAskedFor-none w)
   settled_list m (fixed view is) =
-      let one = held_at w lawful view m (fixed_held w lawful view m is) in
-      (take m.place one.0.stand.history, list_passed w lawful one.0 m one.2,
-       AreAskedFor-front w (take m.place one.0.stand.history) one.0.stand.history (take_front m.place one.0.stand.history) (all_asked_for w lawful one.0))
+      let one = held_at w lawful view m (fixed_held w lawful view m is) in (
+        take m.place one.0.stand.history,
+        list_passed w lawful one.0 m one.2,
+        AreAskedFor-front w (take m.place one.0.stand.history) one.0.stand.history (take_front m.place one.0.stand.history) (all_asked_for w lawful one.0),
+      )
 
   settled_extends : (near far : Mark) → IsSettled near → IsSettled far → near.place ≤ far.place → Extends w near far
   settled_extends near far (empty e) b order = subst (λ (x : Mark). Extends w x far) (sym e) (Extends-origin w lawful far)
@@ -115,7 +116,7 @@ module _ (w : World) (lawful : IsLawful w) where
   agreed_grows cs more near far all_more is_near is_far =
       let all = All_front (IsCompleted w) cs more all_more in
       let order : (agreed_mark cs).place ≤ (agreed_mark (cs ++ more)).place =
-        omega (arith, furthest_start (agreed_mark cs) more, ap (λ (m : Mark). m.place) (fold-append further origin cs more)) in
+      omega (arith, furthest_start (agreed_mark cs) more, ap (λ (m : Mark). m.place) (fold-append further origin cs more)) in
       let extends = settled_extends (agreed_mark cs) (agreed_mark (cs ++ more)) (agreed_settled cs all) (agreed_settled (cs ++ more) all_more) order in
       let same : take (agreed_mark cs).place far ≡ near = one_list w lawful (agreed_mark cs) (take (agreed_mark cs).place far) near (extends.front far is_far) is_near in
       subst (λ (l : List Entry). IsFront l far) same (take_front (agreed_mark cs).place far)

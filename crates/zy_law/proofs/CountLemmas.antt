@@ -1,11 +1,11 @@
 -- Two sets of replicas that are together larger than all and the liars share a correct one.
-use Rattle.std.proofs.Common.{◌≡◌, ◌≢◌, ℕ, zero, suc, ◌+◌, ◌<◌, ◌≤◌, Bool, true, false, not, cond, eqb, ◌&&◌, ◌||◌, ◌⊎◌, inl, inr, List, [], ◌∷◌, length, get_or, Option, Some, None, refl, sym, ap, ◌∙◌, subst, arith}
+use Rattle.std.proofs.Common.{◌≡◌, ◌≢◌, ℕ, zero, suc, ◌+◌, ◌<◌, ◌≤◌, Bool, true, false, not, cond, eqb, ◌&&◌, ◌||◌, inl, inr, List, [], ◌∷◌, length, get_or, Some, refl, sym, ap, subst, arith}
 use Rattle.std.specs.Prelude.{All, count_by, slice_get}
 use Rattle.std.specs.List.{AllPairs, list_any}
-use Rattle.std.proofs.lemmas.Bool.{cases_Bool, and_parts, and_from, and_right, or_cases, or_left, or_right, cases_eq, eqb-true, eq-eqb, ne_eqb, true_from_ne_false, false_from_ne_true}
+use Rattle.std.proofs.lemmas.Bool.{cases_Bool, and_parts, and_from, and_right, or_cases, or_left, or_right, cases_eq, eqb-true, eq-eqb, ne_eqb}
 use Rattle.std.proofs.lemmas.List.Sums.{sum_by-cons}
 use Rattle.std.proofs.lemmas.List.Folds.{list_any_none}
-use Rattle.std.proofs.lemmas.List.Elements.{All-head, All-tail, All-from_get_or}
+use Rattle.std.proofs.lemmas.List.Elements.{All-head, All-tail}
 use Rattle.zy_law.specs.Counting.{count_below}
 
 abbrev pub bit : Bool → ℕ
@@ -134,8 +134,8 @@ pub count_named : {A : Type 0} (n : ℕ) (by : A → ℕ) (test : A → Bool) (x
 count_named n by test [] different within = count_nobody n
 count_named {A} n by test (x ∷ xs) different within =
     let new : named by test xs (by x) ≡ false =
-      list_any_none (λ (y : A). test y && eqb (by y) (by x)) xs
-        (λ j d inside. and_right (test (get_or xs j d)) (eqb (by (get_or xs j d)) (by x)) (ne_eqb _ _ (λ e. AllPairs-head (λ (x y : A). by x ≢ by y) x xs different j d inside (sym e)))) in
+    list_any_none (λ (y : A). test y && eqb (by y) (by x)) xs
+    (λ j d inside. and_right (test (get_or xs j d)) (eqb (by (get_or xs j d)) (by x)) (ne_eqb _ _ (λ e. AllPairs-head (λ (x y : A). by x ≢ by y) x xs different j d inside (sym e)))) in
     let one = count_more (test x) n (by x) (named by test xs) (All-head (λ (y : A). by y < n) x xs within) new in
     let rest = count_named n by test xs (AllPairs-tail (λ (x y : A). by x ≢ by y) x xs different) (All-tail (λ (y : A). by y < n) x xs within) in
     omega (arith, one, rest, sum_by-cons (λ (y : A). bit (test y)) x xs)

@@ -1,14 +1,13 @@
 -- Each correct history was taken entry by entry: each entry was asked for, and is newer than all before of its client.
-use Rattle.std.proofs.Common.{◌≡◌, ℕ, zero, suc, ◌+◌, ◌-◌, ◌<◌, ◌≤◌, ◌⊎◌, inl, inr, List, [], ◌∷◌, ◌++◌, length, take, drop, Option, Some, refl, sym, ap, ◌∙◌, subst, arith}
+use Rattle.std.proofs.Common.{◌≡◌, ℕ, zero, suc, ◌+◌, ◌-◌, ◌<◌, ◌≤◌, inl, inr, List, [], ◌∷◌, ◌++◌, length, take, drop, refl, sym, ap, ◌∙◌, subst, arith}
 use Rattle.std.specs.Prelude.{slice_get}
 use Rattle.std.proofs.lemmas.Bool.{cases_lt}
-use Rattle.std.proofs.lemmas.List.{length-append, length-take-le, take-append-drop, take_all}
+use Rattle.std.proofs.lemmas.List.{length-take-le, take-append-drop, take_all}
 use Rattle.std.proofs.lemmas.Option.{slice_get_within, same_Some}
 use Rattle.zy_chain.specs.declared.entry.Entry.{Entry}
 use Rattle.zy_law.specs.Histories.{IsFront, IsEntryAt, mark_of_all}
 use Rattle.zy_law.specs.World.{Stand, World}
-use Rattle.zy_law.specs.World.Statement.{Began}
-use Rattle.zy_law.specs.Said.{IsCorrect, Stood, Moment, At, IsBacked}
+use Rattle.zy_law.specs.Said.{IsCorrect, Stood, Moment}
 use Rattle.zy_law.specs.Lawful.{IsLawful, IsNext, IsAskedFor, AreAskedFor}
 use Rattle.zy_law.proofs.HistoryLemmas.{Passes-itself}
 use Rattle.zy_law.proofs.PastLemmas.{stand_at, next_view}

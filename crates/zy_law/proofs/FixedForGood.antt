@@ -1,5 +1,5 @@
 -- What is fixed in any two views lies on one list, and every correct history of a later view passes it.
-use Rattle.std.proofs.Common.{◌≡◌, ℕ, ◌+◌, ◌<◌, ◌≤◌, ◌⊎◌, inl, inr, List, [], take, refl, sym, ap, ◌∙◌, subst, arith}
+use Rattle.std.proofs.Common.{ℕ, ◌<◌, ◌≤◌, inl, inr, subst, arith}
 use Rattle.std.proofs.lemmas.Bool.{cases_order}
 use Rattle.zy_chain.specs.Stretch.{Mark}
 use Rattle.zy_law.specs.Fixed.{IsFixed}
@@ -9,7 +9,7 @@ use Rattle.zy_law.specs.Lawful.{IsLawful}
 use Rattle.zy_law.specs.Lists.{Extends}
 use Rattle.zy_law.proofs.ListLemmas.{Extends-passed, passed_below}
 use Rattle.zy_law.proofs.BeganOnce.{begin_of, begin_extends}
-use Rattle.zy_law.proofs.OneView.{Together, Together-swapped, held_together, held_at, fixed_held}
+use Rattle.zy_law.proofs.OneView.{Together, held_together, held_at, fixed_held}
 use Rattle.zy_law.proofs.ChoiceExtends.{all_choices_safe}
 
 module _ (w : World) (lawful : IsLawful w) where

@@ -1,11 +1,10 @@
 -- The greatest last view in the reports isn't below a view in which something is fixed: a correct replica both took
 -- part in fixing it and reports.
-use Rattle.std.proofs.Common.{◌≡◌, ℕ, ◌+◌, ◌<◌, ◌≤◌, List, refl, sym, ap, ◌∙◌, subst, arith}
+use Rattle.std.proofs.Common.{ℕ, ◌+◌, ◌<◌, ◌≤◌, refl, sym, subst, arith}
 use Rattle.zy_chain.specs.Stretch.{Mark}
-use Rattle.zy_choose.specs.Reports.{PlainReport}
-use Rattle.zy_law.specs.Fixed.{IsCertified, IsFixed}
+use Rattle.zy_law.specs.Fixed.{IsFixed}
 use Rattle.zy_law.specs.Fixed.IsFixed.{fast, slow, stable}
-use Rattle.zy_law.specs.World.{Answer, Statement, Spoken, World}
+use Rattle.zy_law.specs.World.{Statement, World}
 use Rattle.zy_law.specs.World.Statement.{Spec, Local, Check}
 use Rattle.zy_law.specs.Said.{IsCorrect, HasSaid, IsBacked}
 use Rattle.zy_law.specs.Lawful.{IsLawful}

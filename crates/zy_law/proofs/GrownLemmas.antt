@@ -1,10 +1,10 @@
 -- What was backed, proven and true stays so as more is asked, said, stood and kept.
-use Rattle.std.proofs.Common.{◌≡◌, ◌≢◌, ℕ, suc, zero, ◌+◌, ◌<◌, ◌≤◌, Bool, true, false, cond, eqb, ◌⊎◌, inl, inr, List, [], ◌∷◌, ◌++◌, length, get_or, Option, Some, None, refl, sym, ap, ◌∙◌, subst, arith}
-use Rattle.std.specs.Prelude.{All, Contains, IfSome, slice_get}
-use Rattle.std.proofs.lemmas.Bool.{cases_Bool, eqb-true, eq-eqb}
+use Rattle.std.proofs.Common.{◌≡◌, ℕ, suc, zero, ◌<◌, ◌≤◌, Bool, true, false, cond, eqb, ◌⊎◌, inl, inr, List, [], ◌∷◌, ◌++◌, length, Option, Some, None, refl, sym, ap, ◌∙◌, subst, arith}
+use Rattle.std.specs.Prelude.{Contains, IfSome, slice_get}
+use Rattle.std.proofs.lemmas.Bool.{eqb-true}
 use Rattle.std.proofs.lemmas.List.{length-append}
 use Rattle.std.proofs.lemmas.List.Elements.{All-weaker, Contains-append_left}
-use Rattle.std.proofs.lemmas.Option.{same_Some, slice_get_within}
+use Rattle.std.proofs.lemmas.Option.{same_Some}
 use Rattle.zy_base.specs.declared.ids.Digest.{Digest}
 use Rattle.zy_chain.specs.declared.entry.Entry.{Entry}
 use Rattle.zy_chain.specs.Heads.{empty_head}
@@ -14,9 +14,8 @@ use Rattle.zy_law.specs.Fixed.{IsCertified, IsFixed}
 use Rattle.zy_law.specs.Histories.{AreKept}
 use Rattle.zy_law.specs.Reports.{IsProven, IsValidReport, IsValidNew}
 use Rattle.zy_law.specs.World.{Answer, Statement, Spoken, Stand, World}
-use Rattle.zy_law.specs.World.Statement.{Check, Began, Change}
-use Rattle.zy_law.specs.Said.{IsCorrect, Says, Stood, Moment, HasSaid, IsVouched, IsBacked}
-use Rattle.zy_law.specs.Lawful.{StoodAt, IsTrueResponse, IsTrueVote, IsTrueCheck, IsTrueReport, IsCovered, IsVote, IsChosenStart, IsOrdered, IsAskedFor, AreAskedFor}
+use Rattle.zy_law.specs.Said.{IsCorrect, Says, HasSaid, IsVouched, IsBacked}
+use Rattle.zy_law.specs.Lawful.{StoodAt, IsTrueResponse, IsTrueVote, IsTrueCheck, IsTrueReport, IsChosenStart, IsOrdered, AreAskedFor}
 use Rattle.zy_law.specs.Lists.{IsListOf}
 use Rattle.zy_law.specs.Completed.{Completion, IsCompleted}
 use Rattle.zy_law.specs.Completed.IsCompleted.{fast, slow}
@@ -88,9 +87,9 @@ pub each_pair : {A : Type 0} (lists : ℕ → List A) (of : ℕ) (x : A) (P : �
     → (q i j : ℕ) (y z : A) → slice_get (with_last lists of x q) i ≡ Some y → slice_get (with_last lists of x q) j ≡ Some z → P q i j y z
 each_pair {A} lists of x P both first second none q i j y z at_i at_j =
     let to : (q i : ℕ) (y : A) → slice_get (lists q) i ≡ Some y → (q ≡ of) × (j ≡ length (lists of)) × (x ≡ z) → P q i j y z =
-      λ q i y was is.
-        subst (λ (k : ℕ). P q i k y z) (sym is.1) (subst (λ (c : A). P q i (length (lists of)) y c) is.2
-          (subst (λ (p : ℕ). P p i (length (lists of)) y x) (sym is.0) (first i y (subst (λ (p : ℕ). slice_get (lists p) i ≡ Some y) is.0 was)))) in
+    λ q i y was is.
+    subst (λ (k : ℕ). P q i k y z) (sym is.1) (subst (λ (c : A). P q i (length (lists of)) y c) is.2
+    (subst (λ (p : ℕ). P p i (length (lists of)) y x) (sym is.0) (first i y (subst (λ (p : ℕ). slice_get (lists p) i ≡ Some y) is.0 was)))) in
     elim (with_last-cases lists of x q i y at_i) [
       | inl was ↦
           elim (with_last-cases lists of x q j z at_j) [
@@ -99,10 +98,10 @@ each_pair {A} lists of x P both first second none q i j y z at_i at_j =
           ]
       | inr is ↦
           subst (λ (p : ℕ). P p i j y z) (sym is.0) (subst (λ (k : ℕ). P of k j y z) (sym is.1) (subst (λ (c : A). P of (length (lists of)) j c z) is.2
-            (elim (with_last-cases lists of x q j z at_j) [
-              | inl too ↦ second j z (subst (λ (p : ℕ). slice_get (lists p) j ≡ Some z) is.0 too)
-              | inr new ↦ subst (λ (k : ℕ). P of (length (lists of)) k x z) (sym new.1) (subst (λ (c : A). P of (length (lists of)) (length (lists of)) x c) new.2 none)
-            ])))
+          (elim (with_last-cases lists of x q j z at_j) [
+            | inl too ↦ second j z (subst (λ (p : ℕ). slice_get (lists p) j ≡ Some z) is.0 too)
+            | inr new ↦ subst (λ (k : ℕ). P of (length (lists of)) k x z) (sym new.1) (subst (λ (c : A). P of (length (lists of)) (length (lists of)) x c) new.2 none)
+          ])))
     ]
 
 contains_last : {A : Type 0} (b : Bool) (xs : List A) (x y : A) → Contains xs y → Contains (cond b (xs ++ x ∷ []) xs) y

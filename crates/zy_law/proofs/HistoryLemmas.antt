@@ -1,14 +1,12 @@
 -- Histories that share a mark share all below it.
-use Rattle.std.proofs.Common.{◌≡◌, ℕ, zero, suc, ◌+◌, ◌-◌, ◌<◌, ◌≤◌, Bool, true, List, [], ◌∷◌, ◌++◌, length, take, drop, Option, Some, refl, sym, ap, ◌∙◌, subst, arith}
-use Rattle.std.specs.Prelude.{fold, slice_get}
-use Rattle.std.proofs.lemmas.List.{length-append, length-take-le, take-take, take-append-le, take_all}
-use Rattle.std.proofs.lemmas.List.Sums.{fold-append}
+use Rattle.std.proofs.Common.{◌≡◌, ℕ, zero, suc, ◌≤◌, Bool, true, List, [], ◌∷◌, length, take, drop, refl, sym, ap, ◌∙◌, arith}
+use Rattle.std.specs.Prelude.{fold}
+use Rattle.std.proofs.lemmas.List.{length-append, take-take, take-append-le, take_all}
 use Rattle.zy_base.specs.declared.ids.Digest.{Digest}
 use Rattle.zy_chain.specs.declared.entry.Entry.{Entry}
 use Rattle.zy_chain.specs.Heads.{empty_head}
-use Rattle.zy_chain.specs.Stretch.{Mark, Stretch}
-use Rattle.zy_choose.specs.Marks.{Has}
-use Rattle.zy_law.specs.Histories.{Passes, IsFront, IsEntryAt, AreKept, mark_of_all, origin}
+use Rattle.zy_chain.specs.Stretch.{Mark}
+use Rattle.zy_law.specs.Histories.{Passes, IsFront, AreKept, mark_of_all, origin}
 
 module _ (kept : Digest → Entry → Bool) (next : Digest → Entry → Digest)
     (one_text : (h k : Digest) (d e : Entry) → kept h d ≡ true → kept k e ≡ true → next h d ≡ next k e → (h ≡ k) × (d ≡ e)) where

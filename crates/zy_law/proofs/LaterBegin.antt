@@ -1,6 +1,6 @@
 -- Where the greatest last view is above that in which a mark is fixed, its begin carries the mark, and so does the
 -- anchor.
-use Rattle.std.proofs.Common.{ℕ, ◌<◌, ◌≤◌, arith}
+use Rattle.std.proofs.Common.{ℕ, ◌<◌}
 use Rattle.zy_chain.specs.Stretch.{Mark}
 use Rattle.zy_law.specs.Fixed.{IsFixed}
 use Rattle.zy_law.specs.World.{World}

@@ -4,6 +4,7 @@ pub mod ChoiceIsKnown
 pub mod CompletedLemmas
 pub mod CountLemmas
 pub mod EntriesAskedFor
+pub mod ExampleLemmas
 pub mod FastPlaces
 pub mod FixedForGood
 pub mod GreatestView

@@ -1,5 +1,5 @@
 -- Marks that one correct history passes lie on one list.
-use Rattle.std.proofs.Common.{◌≡◌, ℕ, ◌≤◌, List, [], length, take, refl, sym, ap, ◌∙◌, subst, arith}
+use Rattle.std.proofs.Common.{◌≡◌, ◌≤◌, List, take, refl, sym, ap, ◌∙◌, subst, arith}
 use Rattle.std.specs.Prelude.{fold}
 use Rattle.std.proofs.lemmas.List.{length-take-le, take-take, take_all}
 use Rattle.zy_chain.specs.declared.entry.Entry.{Entry}
@@ -49,10 +49,10 @@ module _ (w : World) (lawful : IsLawful w) where
       record {
         order = order;
         front = λ list is.
-          let whole : list ≡ take far.place t.stand.history = one_list far list (take far.place t.stand.history) is (list_passed t far y) in
-          let front : take near.place t.stand.history ≡ take near.place list =
+            let whole : list ≡ take far.place t.stand.history = one_list far list (take far.place t.stand.history) is (list_passed t far y) in
+            let front : take near.place t.stand.history ≡ take near.place list =
             sym (ap (λ (l : List Entry). take near.place l) whole ∙ take-take near.place far.place t.stand.history order) in
-          subst (λ (l : List Entry). IsListOf w near l) front (list_passed t near x);
+            subst (λ (l : List Entry). IsListOf w near l) front (list_passed t near x);
       }
 
   pub passed_below : (t : Moment w) (near far : Mark) → Extends w near far → At t far → At t near

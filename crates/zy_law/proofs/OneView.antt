@@ -1,18 +1,17 @@
 -- Inside one view all that is certified, fast or stable lies on one list, and on that of the view's begin.
-use Rattle.std.proofs.Common.{◌≡◌, ℕ, ◌+◌, ◌*◌, ◌<◌, ◌≤◌, ◌⊎◌, inl, inr, refl, sym, ap, ◌∙◌, subst, arith}
+use Rattle.std.proofs.Common.{◌≡◌, ℕ, ◌+◌, ◌<◌, ◌≤◌, inl, inr, refl, sym, ◌∙◌, subst, arith}
 use Rattle.std.proofs.lemmas.Bool.{cases_lt}
 use Rattle.zy_chain.specs.Stretch.{Mark}
 use Rattle.zy_law.specs.Fixed.{IsCertified, IsFixed}
 use Rattle.zy_law.specs.Fixed.IsFixed.{fast, slow, stable}
-use Rattle.zy_law.specs.Histories.{Passes}
-use Rattle.zy_law.specs.World.{Answer, Statement, World}
-use Rattle.zy_law.specs.World.Statement.{Spec, Local, Check}
+use Rattle.zy_law.specs.World.{Answer, World}
+use Rattle.zy_law.specs.World.Statement.{Spec, Check}
 use Rattle.zy_law.specs.Said.{IsCorrect, Moment, At, HasSaid, IsBacked}
 use Rattle.zy_law.specs.Lawful.{IsLawful, StoodAt}
-use Rattle.zy_law.specs.Lists.{Extends, IsKnown, AreChoicesSafe}
+use Rattle.zy_law.specs.Lists.{Extends, IsKnown}
 use Rattle.zy_law.proofs.HistoryLemmas.{Passes-longer}
 use Rattle.zy_law.proofs.PastLemmas.{later_front}
-use Rattle.zy_law.proofs.ListLemmas.{Extends-itself, Extends-origin, Extends-passed, passed_below}
+use Rattle.zy_law.proofs.ListLemmas.{Extends-passed, passed_below}
 use Rattle.zy_law.proofs.QuorumLemmas.{both_said, one_said}
 use Rattle.zy_law.proofs.BeganOnce.{IsBegin, begin_passed}
 

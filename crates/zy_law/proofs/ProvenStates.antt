@@ -1,5 +1,5 @@
 -- What more than f replicas say of a checkpoint is the state of every correct history with its mark.
-use Rattle.std.proofs.Common.{◌≡◌, ℕ, ◌+◌, ◌-◌, ◌<◌, ◌≤◌, List, ◌++◌, length, take, drop, refl, sym, ap, ◌∙◌, subst, arith}
+use Rattle.std.proofs.Common.{◌≡◌, ℕ, ◌-◌, ◌<◌, List, length, take, drop, sym, ap, ◌∙◌, arith}
 use Rattle.std.specs.Prelude.{fold}
 use Rattle.std.proofs.lemmas.List.{length-take-le, length-drop}
 use Rattle.std.proofs.lemmas.List.Sums.{fold-append}
@@ -37,16 +37,16 @@ module _ (w : World) (lawful : IsLawful w) where
     same_chain =
         let order = has.above in
         let long : length (take (m.place - s.base.place) (drop s.base.place t.stand.history)) ≡ length (take (m.place - s.base.place) s.entries) =
-          length-take-le (m.place - s.base.place) (drop s.base.place t.stand.history) (omega (arith, passes.within, length-drop s.base.place t.stand.history))
-          ∙ sym (length-take-le (m.place - s.base.place) s.entries (omega (arith, has.below))) in
+        length-take-le (m.place - s.base.place) (drop s.base.place t.stand.history) (omega (arith, passes.within, length-drop s.base.place t.stand.history))
+        ∙ sym (length-take-le (m.place - s.base.place) s.entries (omega (arith, has.below))) in
         let heads = fold-append w.next empty_head (take s.base.place t.stand.history) (take (m.place - s.base.place) (drop s.base.place t.stand.history)) in
         let whole = ap (λ (l : List Entry). fold w.next empty_head l) (take_split s.base.place m.place t.stand.history order) in
         same_texts w.kept w.next lawful.one_text (fold w.next empty_head (take s.base.place t.stand.history)) s.base.head
-          (take (m.place - s.base.place) (drop s.base.place t.stand.history)) (take (m.place - s.base.place) s.entries) long
-          (AreKept-take w.kept w.next (m.place - s.base.place) (fold w.next empty_head (take s.base.place t.stand.history)) (drop s.base.place t.stand.history)
-            (AreKept-drop w.kept w.next s.base.place empty_head t.stand.history (lawful.texts t)))
-          (AreKept-take w.kept w.next (m.place - s.base.place) s.base.head s.entries texts)
-          (sym heads ∙ sym whole ∙ passes.head ∙ sym has.head)
+        (take (m.place - s.base.place) (drop s.base.place t.stand.history)) (take (m.place - s.base.place) s.entries) long
+        (AreKept-take w.kept w.next (m.place - s.base.place) (fold w.next empty_head (take s.base.place t.stand.history)) (drop s.base.place t.stand.history)
+        (AreKept-drop w.kept w.next s.base.place empty_head t.stand.history (lawful.texts t)))
+        (AreKept-take w.kept w.next (m.place - s.base.place) s.base.head s.entries texts)
+        (sym heads ∙ sym whole ∙ passes.head ∙ sym has.head)
 
     pub chain_base : At t s.base
     chain_base = record { within = omega (arith, has.above, passes.within); head = same_chain.0 }

@@ -1,16 +1,16 @@
 -- Which replicas two quorums share, and that they are correct.
-use Rattle.std.proofs.Common.{◌≡◌, ◌≢◌, ℕ, suc, ◌+◌, ◌<◌, ◌≤◌, Bool, true, false, not, ◌&&◌, ◌⊎◌, inl, inr, List, length, Option, Some, refl, sym, ap, ◌∙◌, subst, arith}
+use Rattle.std.proofs.Common.{◌≡◌, ℕ, ◌+◌, ◌<◌, Bool, true, false, not, ◌&&◌, ◌⊎◌, inl, inr, List, Some, refl, ap, ◌∙◌, subst, arith}
 use Rattle.std.specs.Prelude.{All, count_by, slice_get}
-use Rattle.std.proofs.lemmas.Bool.{and_parts, and_from, not-true}
-use Rattle.std.proofs.lemmas.Option.{get_or_from_slice_get, slice_get_within, slice_get-get_or}
+use Rattle.std.proofs.lemmas.Bool.{and_parts, not-true}
+use Rattle.std.proofs.lemmas.Option.{get_or_from_slice_get, slice_get_within}
 use Rattle.zy_choose.specs.Reports.{PlainReport}
 use Rattle.zy_law.specs.Counting.{count_below}
-use Rattle.zy_law.specs.World.{Statement, Spoken, World}
+use Rattle.zy_law.specs.World.{Statement, World}
 use Rattle.zy_law.specs.World.Statement.{Change}
-use Rattle.zy_law.specs.Said.{IsCorrect, Says, HasSaid, IsVouched, IsBacked}
+use Rattle.zy_law.specs.Said.{IsCorrect, HasSaid, IsVouched, IsBacked}
 use Rattle.zy_law.specs.Reports.{IsProven, IsValidReport, IsValidNew}
 use Rattle.zy_law.specs.Lawful.{IsLawful}
-use Rattle.zy_law.proofs.CountLemmas.{named, named_found, named_from, count_named, count_all, count_everyone, count_shared, counted}
+use Rattle.zy_law.proofs.CountLemmas.{named, named_found, count_named, count_all, count_everyone, count_shared, counted}
 
 pub All_at : {A : Type 0} (P : A → Type 0) (xs : List A) (k : ℕ) (x : A) → slice_get xs k ≡ Some x → All P xs → P x
 All_at P xs k x at all = subst P (get_or_from_slice_get xs k x x at) (all k x (slice_get_within xs k x at))
@@ -31,6 +31,9 @@ pub record IsReporter (w : World) (view : ℕ) (reports : List PlainReport) (r :
   pub by : report.by ≡ r
   pub said : HasSaid w r (Change view report)
   pub proven : IsProven w view report
+
+passes_too : (test : PlainReport → Bool) (r s : PlainReport) → r ≡ s → test s ≡ true → test r ≡ true
+passes_too test r s same passes = ap test same ∙ passes
 
 module _ (w : World) (lawful : IsLawful w) where
   pub vouchers_count : (k : ℕ) (s : Statement) (b : IsBacked w k s) → count_below w.counts.n (vouchers b) ≡ k
@@ -98,10 +101,11 @@ module _ (w : World) (lawful : IsLawful w) where
       → IsCorrect w r × (reporter : IsReporter w view reports r) × (reporter.report ≡ report)
   reporter_of view reports valid r place report at by honest =
       let own : IsValidReport w view report = All_at (IsValidReport w view) reports place report at valid.each in
-      let vouched : IsVouched w (Change view report) r = subst (λ (q : ℕ). IsVouched w (Change view report) q) by own.signed in
-      (record { within = vouched.within; honest = honest },
-       record { place = place; report = report; at = at; by = by; said = said_if_honest r (Change view report) honest vouched.said; proven = own.proven },
-       refl)
+      let vouched : IsVouched w (Change view report) r = subst (λ (q : ℕ). IsVouched w (Change view report) q) by own.signed in (
+        record { within = vouched.within; honest = honest },
+        record { place = place; report = report; at = at; by = by; said = said_if_honest r (Change view report) honest vouched.said; proven = own.proven },
+        refl,
+      )
 
   -- a quorum and the reports share a correct replica
   pub said_and_reported : (k : ℕ) (s : Statement) (view : ℕ) (reports : List PlainReport) → IsBacked w k s → IsValidNew w view reports
@@ -109,9 +113,12 @@ module _ (w : World) (lawful : IsLawful w) where
   unfolding everyone
   said_and_reported k s view reports a valid enough =
       let one = both_among (vouchers a) (everyone reports) (omega (arith, vouchers_count k s a, everyone_count view reports valid)) in
-      let found = named_found (λ (c : PlainReport). c.by) (λ c. true) reports one.0 one.2 in
-      (one.0, (vouchers_said k s a one.0 one.1 one.3).0, (vouchers_said k s a one.0 one.1 one.3).1,
-       (reporter_of view reports valid one.0 found.0 found.1 found.2 found.4 one.3).1)
+      let found = named_found (λ (c : PlainReport). c.by) (λ c. true) reports one.0 one.2 in (
+        one.0,
+        (vouchers_said k s a one.0 one.1 one.3).0,
+        (vouchers_said k s a one.0 one.1 one.3).1,
+        (reporter_of view reports valid one.0 found.0 found.1 found.2 found.4 one.3).1,
+      )
 
   -- among more than f reports that pass a test one is a correct replica's
   pub one_reported : (view : ℕ) (reports : List PlainReport) (test : PlainReport → Bool) → IsValidNew w view reports → w.counts.f < count_by test reports
@@ -120,4 +127,4 @@ module _ (w : World) (lawful : IsLawful w) where
       let one = both_among (named (λ (c : PlainReport). c.by) test reports) (λ i. true) (omega (arith, reporters_count view reports test valid, count_everyone w.counts.n)) in
       let found = named_found (λ (c : PlainReport). c.by) test reports one.0 one.1 in
       let own = reporter_of view reports valid one.0 found.0 found.1 found.2 found.4 one.3 in
-      (one.0, own.0, own.1, subst (λ (c : PlainReport). test c ≡ true) (sym own.2) found.3)
+      (one.0, own.0, own.1, passes_too test own.1.report found.1 own.2 found.3)

@@ -1,5 +1,5 @@
 -- What a choice says of its reports, and what a true report says of its replica's history.
-use Rattle.std.proofs.Common.{◌≡◌, ℕ, zero, suc, ◌+◌, ◌-◌, ◌<◌, ◌≤◌, ◌==◌, Bool, true, false, cond, ◌&&◌, ◌⊎◌, inl, inr, List, [], ◌∷◌, ◌++◌, length, take, drop, Option, Some, None, refl, sym, ap, ◌∙◌, subst, arith}
+use Rattle.std.proofs.Common.{◌≡◌, ℕ, zero, suc, ◌+◌, ◌-◌, ◌≤◌, ◌==◌, Bool, true, false, cond, ◌&&◌, inl, inr, List, [], ◌∷◌, ◌++◌, length, take, drop, get_or, Option, Some, refl, sym, ap, ◌∙◌, subst, arith}
 use Rattle.std.specs.Prelude.{Contains, Any, All, filter, count_by, fold, slice_get, option_to_list}
 use Rattle.std.proofs.lemmas.Bool.{cases_Bool, and_parts, and_from, eqb-true, eq-eqb}
 use Rattle.std.proofs.lemmas.List.{take-append-drop, take-take, drop-take, length-drop}
@@ -11,27 +11,15 @@ use Rattle.zy_chain.specs.Heads.{empty_head}
 use Rattle.zy_chain.specs.Stretch.{Mark, Stretch}
 use Rattle.zy_choose.specs.Marks.{Has, has_mark}
 use Rattle.zy_choose.specs.Reports.{PlainReport, proven}
+use Rattle.zy_choose.proofs.ChoiceLemmas.{of_filtered}
 use Rattle.zy_choose.proofs.MarkLemmas.{has_mark-Has, Has-has_mark}
-use Rattle.zy_choose.specs.Choice.{IsGreatestView, last_in, IsAnchor, IsAgreed, IsPicked, IsChoice}
+use Rattle.zy_choose.proofs.ProviderLemmas.{proven_cases}
+use Rattle.zy_choose.specs.Choice.{IsGreatestView, last_in, IsAnchor}
 use Rattle.zy_law.specs.Histories.{Passes}
 use Rattle.zy_law.proofs.CountLemmas.{bit}
 use Rattle.zy_law.proofs.QuorumLemmas.{All_at}
 
 -- ---- lists
-
-cons_at : {A : Type 0} (b : Bool) (y : A) (rest : List A) (k : ℕ) (x : A) → slice_get (cond b (y ∷ rest) rest) k ≡ Some x
-    → ((b ≡ true) × (y ≡ x)) ⊎ ((j : ℕ) × (slice_get rest j ≡ Some x))
-cons_at true y rest zero x at = inl (refl, same_Some y x at)
-cons_at true y rest (suc k) x at = inr (k, at)
-cons_at false y rest k x at = inr (k, at)
-
-filter_at : {A : Type 0} (p : A → Bool) (xs : List A) (k : ℕ) (x : A) → slice_get (filter p xs) k ≡ Some x → (j : ℕ) × (slice_get xs j ≡ Some x) × (p x ≡ true)
-filter_at p [] k x at = absurd cc
-filter_at {A} p (y ∷ xs) k x at =
-    elim (cons_at (p y) y (filter p xs) k x at) [
-      | inl here ↦ (0, ap (λ (z : A). Some z) here.1, subst (λ (z : A). p z ≡ true) here.1 here.0)
-      | inr there ↦ let rest = filter_at p xs there.0 x there.1 in (suc rest.0, rest.1, rest.2)
-    ]
 
 filter_has : {A : Type 0} (p : A → Bool) (xs : List A) (j : ℕ) (x : A) → slice_get xs j ≡ Some x → p x ≡ true → (k : ℕ) × (slice_get (filter p xs) k ≡ Some x)
 filter_has p [] j x at passes = absurd cc
@@ -66,18 +54,13 @@ pub data IsProvenBy (r : PlainReport) (m : Mark) : Type 0 where
   began : m ≡ r.began → IsProvenBy r m
   spec : r.spec ≡ Some m → IsProvenBy r m
 
-option_at : (o : Option Mark) (k : ℕ) (m : Mark) → slice_get (option_to_list o) k ≡ Some m → o ≡ Some m
-option_at (Some x) zero m at = at
-option_at (Some x) (suc k) m at = absurd cc
-option_at None k m at = absurd cc
-
-pub proven_at : (r : PlainReport) (k : ℕ) (m : Mark) → slice_get (proven r) k ≡ Some m → IsProvenBy r m
-proven_at r zero m at = stable (sym (same_Some r.stretch.base m at))
-proven_at r (suc zero) m at = began (sym (same_Some r.began m at))
-proven_at r (suc (suc k)) m at = spec (option_at r.spec k m at)
-
-proven_by : (r : PlainReport) (m : Mark) → Contains (proven r) m → IsProvenBy r m
-proven_by r m has = proven_at r has.0 m (slice_get_read (proven r) (length (proven r)) has.0 m refl has.1 (sym has.2))
+pub proven_by : (r : PlainReport) (m : Mark) → Contains (proven r) m → IsProvenBy r m
+proven_by r m has =
+    elim (proven_cases r m has) [
+      | inl is ↦ stable is
+      | inr (inl is) ↦ began is
+      | inr (inr is) ↦ spec is
+    ]
 
 proven_place : (r : PlainReport) (m : Mark) → IsProvenBy r m → (k : ℕ) × (slice_get (proven r) k ≡ Some m)
 proven_place r m (stable e) = (0, ap (λ (x : Mark). Some x) (sym e))
@@ -90,10 +73,14 @@ pub record IsLastIn (reports : List PlainReport) (view : ℕ) (r : PlainReport) 
   pub at : slice_get reports place ≡ Some r
   pub last : r.last_view ≡ view
 
-pub last_at : (view : ℕ) (reports : List PlainReport) (k : ℕ) (r : PlainReport) → slice_get (last_in view reports) k ≡ Some r → IsLastIn reports view r
-last_at view reports k r at =
-    let found = filter_at (λ (c : PlainReport). c.last_view == view) reports k r at in
-    record { place = found.0; at = found.1; last = eqb-true r.last_view view found.2 }
+pub last_among : (view : ℕ) (reports : List PlainReport) (r : PlainReport) → Contains (last_in view reports) r → IsLastIn reports view r
+last_among view reports r has =
+    let (k, x, within, is, found) = of_filtered (λ (c : PlainReport). c ≡ r) (λ (c : PlainReport). c.last_view == view) reports (has.0, r, has.1, has.2, refl) in
+    record {
+      place = k;
+      at = slice_get_read reports (length reports) k r refl within (sym (subst (λ (c : PlainReport). get_or reports k c ≡ c) found.1 is));
+      last = eqb-true r.last_view view (subst (λ (c : PlainReport). (c.last_view == view) ≡ true) found.1 found.0);
+    }
 
 pub greatest_has : (reports : List PlainReport) (view : ℕ) → IsGreatestView reports view → (r : PlainReport) × IsLastIn reports view r
 greatest_has reports view greatest =
@@ -105,8 +92,8 @@ greatest_of reports view place r greatest at = All_at (λ (c : PlainReport). c.l
 
 pub anchor_proven : (reports : List PlainReport) (view : ℕ) (m : Mark) → IsAnchor (last_in view reports) m → (r : PlainReport) × IsLastIn reports view r × IsProvenBy r m
 anchor_proven reports view m anchor =
-    let one = Any_at (λ (r : PlainReport). Contains (proven r) m) (last_in view reports) anchor.proved in
-    (one.1, last_at view reports one.0 one.1 one.2, proven_by one.1 m one.3)
+    let (k, r, within, is, proved) = anchor.proved in
+    (r, last_among view reports r (k, within, is), proven_by r m proved)
 
 pub anchor_furthest : (reports : List PlainReport) (view : ℕ) (m k : Mark) (r : PlainReport) → IsAnchor (last_in view reports) m → IsLastIn reports view r
     → IsProvenBy r k → k.place ≤ m.place

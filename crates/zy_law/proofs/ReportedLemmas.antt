@@ -1,6 +1,6 @@
 -- A valid new view with an anchor, where the choices of all earlier views are safe: all that its reports prove lies on
 -- one list with the begin of their greatest last view.
-use Rattle.std.proofs.Common.{◌≡◌, ℕ, ◌+◌, ◌<◌, ◌≤◌, ◌⊎◌, inl, inr, List, [], Option, Some, refl, sym, ap, ◌∙◌, subst, arith}
+use Rattle.std.proofs.Common.{◌≡◌, ℕ, ◌+◌, ◌<◌, ◌≤◌, inl, inr, List, [], Option, Some, refl, sym, ◌∙◌, subst, arith}
 use Rattle.std.specs.Prelude.{slice_get, IfSome}
 use Rattle.std.proofs.lemmas.Bool.{cases_lt}
 use Rattle.zy_chain.specs.Stretch.{Mark}
@@ -9,15 +9,14 @@ use Rattle.zy_choose.specs.Choice.{IsGreatestView, last_in, IsAnchor}
 use Rattle.zy_law.specs.Fixed.{IsCertified, IsFixed}
 use Rattle.zy_law.specs.Histories.{origin}
 use Rattle.zy_law.specs.Reports.{IsProven, IsValidReport, IsValidNew}
-use Rattle.zy_law.specs.World.{Stand, World}
-use Rattle.zy_law.specs.World.Statement.{Change}
+use Rattle.zy_law.specs.World.{World}
 use Rattle.zy_law.specs.Said.{IsCorrect, Moment, At}
 use Rattle.zy_law.specs.Lawful.{IsLawful, IsTrueReport}
-use Rattle.zy_law.specs.Lists.{Extends, IsKnown, IsSafeStart, AreChoicesSafe}
+use Rattle.zy_law.specs.Lists.{Extends, IsKnown, AreChoicesSafe}
 use Rattle.zy_law.proofs.HistoryLemmas.{Passes-origin}
 use Rattle.zy_law.proofs.ListLemmas.{Extends-itself, Extends-origin}
 use Rattle.zy_law.proofs.QuorumLemmas.{All_at, IsReporter, someone}
-use Rattle.zy_law.proofs.ReportLemmas.{IsLastIn, IsProvenBy, greatest_has, anchor_proven, anchor_furthest}
+use Rattle.zy_law.proofs.ReportLemmas.{IsProvenBy, greatest_has, anchor_proven, anchor_furthest}
 use Rattle.zy_law.proofs.ReportLemmas.IsProvenBy.{stable, began, spec}
 use Rattle.zy_law.proofs.BeganOnce.{IsBegin, one_begin, begin_safe, begin_extends}
 use Rattle.zy_law.proofs.OneView.{IsHeld, IsSolid, certified_held, fixed_held}

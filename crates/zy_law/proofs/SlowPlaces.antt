@@ -1,8 +1,7 @@
 -- Where a mark is fixed by local commits or checkpoints in the greatest last view itself, a correct reporter voted for
 -- it, so its certificate is as far, and the anchor is.
-use Rattle.std.proofs.Common.{◌≡◌, ℕ, ◌+◌, ◌<◌, ◌≤◌, List, refl, sym, ap, ◌∙◌, subst, arith}
+use Rattle.std.proofs.Common.{◌≡◌, ℕ, ◌≤◌, sym, subst, arith}
 use Rattle.zy_chain.specs.Stretch.{Mark}
-use Rattle.zy_choose.specs.Reports.{PlainReport}
 use Rattle.zy_law.specs.Fixed.{IsFixed}
 use Rattle.zy_law.specs.World.{Statement, World}
 use Rattle.zy_law.specs.Said.{IsCorrect, HasSaid, IsBacked}
@@ -34,13 +33,13 @@ module _ (w : World) (lawful : IsLawful w) (view : ℕ) (c : Reported w view) wh
       let told = told_truly w lawful view c.reports r correct reporter in
       let at = spoken_later w lawful view c r c.last k s g.earlier of correct said reporter in
       let last : reporter.report.last_view ≡ c.last =
-        omega (arith, at.order, greatest_of c.reports c.last reporter.place reporter.report c.greatest reporter.at) in
+      omega (arith, at.order, greatest_of c.reports c.last reporter.place reporter.report c.greatest reporter.at) in
       let first = spoke_first w lawful r said.0 reporter.said.0 said.1 reporter.said.1 c.last view k reporter.report correct said.2 reporter.said.2
-        (subst (λ (x : Statement). IsOf c.last k x) (sym said.3) of) reporter.said.3 g.earlier in
+      (subst (λ (x : Statement). IsOf c.last k x) (sym said.3) of) reporter.said.3 g.earlier in
       let covered = told.covered said.0 said.1 k first said.2
-        (subst (λ (v : ℕ). IsVote v k said.1.what) (sym last) (subst (λ (x : Statement). IsVote c.last k x) (sym said.3) vote)) in
+      (subst (λ (v : ℕ). IsVote v k said.1.what) (sym last) (subst (λ (x : Statement). IsVote c.last k x) (sym said.3) vote)) in
       let furthest = anchor_furthest c.reports c.last c.anchor covered.spec reporter.report c.anchored
-        (record { place = reporter.place; at = reporter.at; last = last }) (spec covered.held) in
+      (record { place = reporter.place; at = reporter.at; last = last }) (spec covered.held) in
       omega (arith, covered.far, furthest)
 
   pub voted_carried : (k : Mark) (s : Statement) → IsOf c.last k s → IsVote c.last k s → IsFixed w c.last k → IsBacked w w.counts.local s → Extends w k c.anchor

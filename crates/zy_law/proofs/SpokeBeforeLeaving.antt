@@ -1,6 +1,6 @@
 -- A correct replica that took part in a view and left for a later one took part first. So its report is of that view
 -- or a later one, and where it is of that view, its history passes what it spoke of.
-use Rattle.std.proofs.Common.{◌≡◌, ℕ, ◌<◌, ◌≤◌, ◌⊎◌, inl, inr, Option, Some, None, refl, sym, ap, ◌∙◌, subst, arith}
+use Rattle.std.proofs.Common.{◌≡◌, ℕ, ◌<◌, ◌≤◌, inl, inr, Some, sym, ap, ◌∙◌, subst, arith}
 use Rattle.std.specs.Prelude.{slice_get}
 use Rattle.std.proofs.lemmas.Bool.{cases_order}
 use Rattle.std.proofs.lemmas.Option.{same_Some}
@@ -63,5 +63,5 @@ module _ (w : World) (lawful : IsLawful w) where
       record {
         order = omega (arith, later_view w lawful r x.when y.when at.stand report_is.stand correct when at.stood report_is.stood, at.view_is, report_is.last);
         passes = λ same. Passes-longer w.next at.stand.history report_is.stand.history m
-          (later_front w lawful r x.when y.when at.stand report_is.stand correct when at.stood report_is.stood (at.view_is ∙ sym same ∙ report_is.last)) at.passes;
+            (later_front w lawful r x.when y.when at.stand report_is.stand correct when at.stood report_is.stood (at.view_is ∙ sym same ∙ report_is.last)) at.passes;
       }

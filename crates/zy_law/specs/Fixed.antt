@@ -2,7 +2,7 @@
 use Rattle.std.specs.Prelude.{ℕ}
 use Rattle.zy_base.specs.declared.ids.Digest.{Digest}
 use Rattle.zy_chain.specs.Stretch.{Mark}
-use Rattle.zy_law.specs.World.{Answer, Statement, World}
+use Rattle.zy_law.specs.World.{Answer, World}
 use Rattle.zy_law.specs.World.Statement.{Spec, Local, Check}
 use Rattle.zy_law.specs.Said.{IsBacked}
 

@@ -1,5 +1,5 @@
 -- Lawful conduct: what the correct replicas of a world keep, and what holds of the world besides.
-use Rattle.std.specs.Prelude.{◌≡◌, ◌⊎◌, ℕ, ◌+◌, ◌%◌, ◌<◌, ◌≤◌, true, List, [], length, take, drop, slice_get, Option, Some, None, Contains}
+use Rattle.std.specs.Prelude.{◌≡◌, ◌⊎◌, ℕ, ◌+◌, ◌%◌, ◌<◌, ◌≤◌, true, List, [], length, take, drop, Option, Some, None, Contains}
 use Rattle.zy_base.specs.declared.ids.Digest.{Digest}
 use Rattle.zy_chain.specs.declared.entry.Entry.{Entry}
 use Rattle.zy_chain.specs.Heads.{empty_head}
@@ -27,14 +27,9 @@ view_of Other = None
 
 -- a local commit or a checkpoint
 abbrev pub IsVote : ℕ → Mark → Statement → Type 0
-IsVote view m (Order u k request) = ⊥
-IsVote view m (Spec u k a) = ⊥
 IsVote view m (Local u k) = (u ≡ view) × (k ≡ m)
 IsVote view m (Check u k state) = (u ≡ view) × (k ≡ m)
-IsVote view m (Began u k) = ⊥
-IsVote view m (Change u report) = ⊥
-IsVote view m (New u reports) = ⊥
-IsVote view m Other = ⊥
+IsVote view m _ = ⊥
 
 -- at this stand the replica was active in the view, and its history passes the mark
 pub record StoodAt (w : World) (r when view : ℕ) (m : Mark) : Type 0 where
@@ -43,10 +38,9 @@ pub record StoodAt (w : World) (r when view : ℕ) (m : Mark) : Type 0 where
   pub view_is : stand.view ≡ view
   pub passes : Passes w.next stand.history m
 
--- ---- the nine rules, each for one replica
+-- ---- the nine rules of conduct, each of every correct replica
 
--- True responses: a speculative response is said while active in its view, of the own history up to a place, for the
--- request there with its reply.
+-- the entry at the mark's place is the request, and the reply is that of the history up to there
 pub record IsTrueAnswer (w : World) (history : List Entry) (m : Mark) (a : Answer) : Type 0 where
   pub entry : Entry
   pub last : IsEntryAt history m.place entry
@@ -58,22 +52,45 @@ pub record IsTrueResponse (w : World) (r when view : ℕ) (m : Mark) (a : Answer
   pub at : StoodAt w r when view m
   pub answer : IsTrueAnswer w at.stand.history m a
 
--- Growth within a view: from one stand to the next the view is the same and the history grows, or the view is greater.
+-- 1. True responses: a speculative response is said while active in its view, of the own history up to a place, for the
+-- request there with its reply.
+abbrev pub TrueResponses : World → Type 0
+TrueResponses w =
+    (r number : ℕ) (x : Spoken) (view : ℕ) (m : Mark) (a : Answer) → IsCorrect w r → Says w r number x → x.what ≡ Spec view m a
+    → IsTrueResponse w r x.when view m a
+
 abbrev pub IsNext : Stand → Stand → Type 0
 IsNext a b = ((a.view ≡ b.view) × IsFront a.history b.history) ⊎ (a.view < b.view)
 
--- Commits follow certificates: a local commit or a checkpoint is said while active in its view, of the own history up
--- to a mark that a commit certificate proves. A checkpoint tells the own snapshot there.
+-- 2. Growth within a view: from one stand to the next the view is the same and the history grows, or the view is greater.
+abbrev pub GrowthWithinAView : World → Type 0
+GrowthWithinAView w = (r number : ℕ) (a b : Stand) → IsCorrect w r → Stood w r number a → Stood w r (number + 1) b → IsNext a b
+
 pub record IsTrueVote (w : World) (r when view : ℕ) (m : Mark) : Type 0 where
   pub at : StoodAt w r when view m
   pub certified : IsCertified w view m
 
+-- a checkpoint tells the own snapshot
 pub record IsTrueCheck (w : World) (r when view : ℕ) (m : Mark) (state : Digest) : Type 0 where
   pub vote : IsTrueVote w r when view m
   pub snapshot : w.state (take m.place vote.at.stand.history) ≡ state
 
--- True reports: the report of a leave names the last view and the last history. Its certificates are backed, and its
--- commit certificate is at least as far as each vote said in that view before.
+-- 3. Commits follow certificates: a local commit or a checkpoint is said while active in its view, of the own history up
+-- to a mark that a commit certificate proves.
+pub record CommitsFollowCertificates (w : World) : Type 0 where
+  pub true_commits : (r number : ℕ) (x : Spoken) (view : ℕ) (m : Mark) → IsCorrect w r → Says w r number x → x.what ≡ Local view m
+      → IsTrueVote w r x.when view m
+  pub true_checks : (r number : ℕ) (x : Spoken) (view : ℕ) (m : Mark) (state : Digest) → IsCorrect w r → Says w r number x → x.what ≡ Check view m state
+      → IsTrueCheck w r x.when view m state
+
+-- 4. Silence after leaving: after a leave for a view nothing is said of a smaller view, and no stand has one.
+pub record SilenceAfterLeaving (w : World) : Type 0 where
+  pub silence : (r number later : ℕ) (x y : Spoken) (view spoken : ℕ) (report : PlainReport) → IsCorrect w r → Says w r number x → Says w r later y
+      → number < later → x.what ≡ Change view report → view_of y.what ≡ Some spoken → view ≤ spoken
+  pub no_return : (r number later : ℕ) (x : Spoken) (b : Stand) (view : ℕ) (report : PlainReport) → IsCorrect w r → Says w r number x → Stood w r later b
+      → x.when < later → x.what ≡ Change view report → view ≤ b.view
+
+-- the commit certificate is at least as far
 pub record IsCovered (report : PlainReport) (m : Mark) : Type 0 where
   pub spec : Mark
   pub held : report.spec ≡ Some spec
@@ -88,28 +105,64 @@ pub record IsTrueReport (w : World) (r number when view : ℕ) (report : PlainRe
   pub proven : IsProven w view report
   pub covered : (earlier : ℕ) (y : Spoken) (m : Mark) → earlier < number → Says w r earlier y → IsVote report.last_view m y.what → IsCovered report m
 
--- One confirmation per view, and that for the choice of a valid new view.
+-- 5. True reports: a leave's report names the last view and the last history. Its certificates are backed, and its commit
+-- certificate is at least as far as each vote that was said in that view before. There is one report for a view.
+pub record TrueReports (w : World) : Type 0 where
+  pub true_reports : (r number : ℕ) (x : Spoken) (view : ℕ) (report : PlainReport) → IsCorrect w r → Says w r number x → x.what ≡ Change view report
+      → IsTrueReport w r number x.when view report
+  pub one_report : (r number other : ℕ) (x y : Spoken) (view : ℕ) (report second : PlainReport) → IsCorrect w r → Says w r number x → Says w r other y
+      → x.what ≡ Change view report → y.what ≡ Change view second → report ≡ second
+
 pub record IsChosenStart (w : World) (view : ℕ) (m : Mark) : Type 0 where
   pub reports : List PlainReport
   pub valid : IsValidNew w view reports
   pub choice : IsChoice w.next w.counts.agree reports m
 
--- One order per place: an order is said by the primary of the view, and where the history of a stand of the view has
--- an entry at its place, the history up to there is the order's, and the entry is the request.
+-- 6. One confirmation per view, and that for the choice of a valid new view.
+pub record OneConfirmationPerView (w : World) : Type 0 where
+  pub chosen_confirmations : (r number : ℕ) (x : Spoken) (view : ℕ) (m : Mark) → IsCorrect w r → Says w r number x → x.what ≡ Began view m
+      → IsChosenStart w view m
+  pub one_confirmation : (r number other : ℕ) (x y : Spoken) (view : ℕ) (m k : Mark) → IsCorrect w r → Says w r number x → Says w r other y
+      → x.what ≡ Began view m → y.what ≡ Began view k → m ≡ k
+
+-- 7. Views begin by certificate: a stand of a greater view than the last comes with that view's certificate for exactly
+-- its history.
+abbrev pub ViewsBeginByCertificate : World → Type 0
+ViewsBeginByCertificate w =
+    (r number : ℕ) (a b : Stand) → IsCorrect w r → Stood w r number a → Stood w r (number + 1) b → a.view < b.view
+    → IsBacked w w.counts.cert (Began b.view (mark_of_all w.next b.history))
+
+-- the history passes the order's mark, and its entry there is the request
 pub record IsOrdered (w : World) (history : List Entry) (m : Mark) (request : Digest) : Type 0 where
   pub passes : Passes w.next history m
   pub entry : Entry
   pub there : IsEntryAt history m.place entry
   pub digest : w.digest entry ≡ request
 
--- Entries are asked for: each entry past a place of the history is of a client who asked for it or lies, and its stamp
--- is above those of the client's earlier entries.
+-- 8. One order per place: an order is said by the primary of the view, one for each view and place, and it is of each
+-- history of that view which is as long.
+pub record OneOrderPerPlace (w : World) : Type 0 where
+  pub ordered_by_primary : (r number : ℕ) (x : Spoken) (view : ℕ) (m : Mark) (request : Digest) → IsCorrect w r → Says w r number x → x.what ≡ Order view m request
+      → (view % w.counts.n ≡ r) × (0 < m.place)
+  pub one_order : (r number other : ℕ) (x y : Spoken) (view : ℕ) (m k : Mark) (request second : Digest) → IsCorrect w r → Says w r number x → Says w r other y
+      → x.what ≡ Order view m request → y.what ≡ Order view k second → m.place ≡ k.place → (m ≡ k) × (request ≡ second)
+  pub ordered_entries : (r number at : ℕ) (x : Spoken) (b : Stand) (m : Mark) (request : Digest) → IsCorrect w r → Says w r number x → Stood w r at b
+      → x.what ≡ Order b.view m request → m.place ≤ length b.history → IsOrdered w b.history m request
+
+-- the entry's client asked for it or lies, and its stamp is above those of the client's earlier entries
 pub record IsAskedFor (w : World) (history : List Entry) (place : ℕ) (e : Entry) : Type 0 where
   pub asked : (w.lying e.client.0 ≡ true) ⊎ Contains (w.asked e.client.0) e
   pub newer : (earlier : ℕ) (d : Entry) → earlier < place → IsEntryAt history earlier d → d.client ≡ e.client → d.stamp.0 < e.stamp.0
 
+-- so each entry past a place
 abbrev pub AreAskedFor : World → ℕ → List Entry → Type 0
 AreAskedFor w after history = (place : ℕ) (e : Entry) → after < place → IsEntryAt history place e → IsAskedFor w history place e
+
+-- 9. Entries are asked for: the entries by which a history grows within a view.
+abbrev pub EntriesAreAskedFor : World → Type 0
+EntriesAreAskedFor w =
+    (r number : ℕ) (a b : Stand) → IsCorrect w r → Stood w r number a → Stood w r (number + 1) b → a.view ≡ b.view
+    → AreAskedFor w (length a.history) b.history
 
 -- ---- the whole
 
@@ -120,49 +173,23 @@ pub record IsLawful (w : World) : Type 0 where
   pub one_text : (h k : Digest) (d e : Entry) → w.kept h d ≡ true → w.kept k e ≡ true → w.next h d ≡ w.next k e → (h ≡ k) × (d ≡ e)
   -- the texts of each history in which a correct replica stood are kept
   pub texts : (t : Moment w) → AreKept w.kept w.next empty_head t.stand.history
-  -- it begins in view 0 with the empty history
+  -- a correct replica begins in view 0 with the empty history
   pub begins : (r : ℕ) → IsCorrect w r → Stood w r 0 (record { view = 0; history = [] })
   -- what it says is said at a stand, and later statements at no earlier stands
   pub said_at : (r number : ℕ) (x : Spoken) → IsCorrect w r → Says w r number x → x.when < length (w.past r)
   pub said_in_order : (r number later : ℕ) (x y : Spoken) → IsCorrect w r → Says w r number x → Says w r later y → number < later → x.when ≤ y.when
-
-  pub true_responses : (r number : ℕ) (x : Spoken) (view : ℕ) (m : Mark) (a : Answer) → IsCorrect w r → Says w r number x
-      → x.what ≡ Spec view m a → IsTrueResponse w r x.when view m a
-
-  pub growth : (r number : ℕ) (a b : Stand) → IsCorrect w r → Stood w r number a → Stood w r (number + 1) b → IsNext a b
-
-  pub true_commits : (r number : ℕ) (x : Spoken) (view : ℕ) (m : Mark) → IsCorrect w r → Says w r number x
-      → x.what ≡ Local view m → IsTrueVote w r x.when view m
-  pub true_checks : (r number : ℕ) (x : Spoken) (view : ℕ) (m : Mark) (state : Digest) → IsCorrect w r → Says w r number x
-      → x.what ≡ Check view m state → IsTrueCheck w r x.when view m state
-
-  -- Silence after leaving: after a leave for a view nothing is said of a smaller view, and no stand has one.
-  pub silence : (r number later : ℕ) (x y : Spoken) (view spoken : ℕ) (report : PlainReport) → IsCorrect w r → Says w r number x → Says w r later y
-      → number < later → x.what ≡ Change view report → view_of y.what ≡ Some spoken → view ≤ spoken
-  pub no_return : (r number later : ℕ) (x : Spoken) (b : Stand) (view : ℕ) (report : PlainReport) → IsCorrect w r → Says w r number x → Stood w r later b
-      → x.when < later → x.what ≡ Change view report → view ≤ b.view
-
-  pub true_reports : (r number : ℕ) (x : Spoken) (view : ℕ) (report : PlainReport) → IsCorrect w r → Says w r number x
-      → x.what ≡ Change view report → IsTrueReport w r number x.when view report
-  pub one_report : (r number other : ℕ) (x y : Spoken) (view : ℕ) (report second : PlainReport) → IsCorrect w r → Says w r number x → Says w r other y
-      → x.what ≡ Change view report → y.what ≡ Change view second → report ≡ second
-
-  pub chosen_confirmations : (r number : ℕ) (x : Spoken) (view : ℕ) (m : Mark) → IsCorrect w r → Says w r number x
-      → x.what ≡ Began view m → IsChosenStart w view m
-  pub one_confirmation : (r number other : ℕ) (x y : Spoken) (view : ℕ) (m k : Mark) → IsCorrect w r → Says w r number x → Says w r other y
-      → x.what ≡ Began view m → y.what ≡ Began view k → m ≡ k
-
-  -- Views begin by certificate: a stand of a greater view than the last comes with that view's certificate for exactly
-  -- its history.
-  pub begun : (r number : ℕ) (a b : Stand) → IsCorrect w r → Stood w r number a → Stood w r (number + 1) b
-      → a.view < b.view → IsBacked w w.counts.cert (Began b.view (mark_of_all w.next b.history))
-
-  pub ordered_by_primary : (r number : ℕ) (x : Spoken) (view : ℕ) (m : Mark) (request : Digest) → IsCorrect w r → Says w r number x
-      → x.what ≡ Order view m request → (view % w.counts.n ≡ r) × (0 < m.place)
-  pub one_order : (r number other : ℕ) (x y : Spoken) (view : ℕ) (m k : Mark) (request second : Digest) → IsCorrect w r → Says w r number x → Says w r other y
-      → x.what ≡ Order view m request → y.what ≡ Order view k second → m.place ≡ k.place → (m ≡ k) × (request ≡ second)
-  pub ordered_entries : (r number at : ℕ) (x : Spoken) (b : Stand) (m : Mark) (request : Digest) → IsCorrect w r → Says w r number x → Stood w r at b
-      → x.what ≡ Order b.view m request → m.place ≤ length b.history → IsOrdered w b.history m request
-
-  pub asked_for : (r number : ℕ) (a b : Stand) → IsCorrect w r → Stood w r number a → Stood w r (number + 1) b
-      → a.view ≡ b.view → AreAskedFor w (length a.history) b.history
+  -- the nine rules
+  pub true_responses : TrueResponses w
+  pub growth : GrowthWithinAView w
+  pub commits : CommitsFollowCertificates w
+  pub open commits use *
+  pub leaving : SilenceAfterLeaving w
+  pub open leaving use *
+  pub reports : TrueReports w
+  pub open reports use *
+  pub confirmations : OneConfirmationPerView w
+  pub open confirmations use *
+  pub begun : ViewsBeginByCertificate w
+  pub orders : OneOrderPerPlace w
+  pub open orders use *
+  pub asked_for : EntriesAreAskedFor w

@@ -1,5 +1,6 @@
 pub mod Completed
 pub mod Counting
+pub mod Example
 pub mod Fixed
 pub mod Histories
 pub mod Lawful

@@ -1,5 +1,5 @@
 -- What a correct replica may say, and where it may stand next. A world in which each step keeps to this is lawful.
-use Rattle.std.specs.Prelude.{◌≡◌, ℕ, ◌+◌, ◌%◌, ◌<◌, ◌≤◌, Bool, true, nat_eq, if◌then◌else◌, List, [], ◌∷◌, ◌++◌, length, Some}
+use Rattle.std.specs.Prelude.{◌≡◌, ℕ, ◌+◌, ◌%◌, ◌<◌, ◌≤◌, Bool, true, nat_eq, if◌then◌else◌, List, [], ◌∷◌, ◌++◌, length, slice_get, Some, Contains}
 use Rattle.zy_base.specs.declared.ids.Digest.{Digest}
 use Rattle.zy_chain.specs.declared.entry.Entry.{Entry}
 use Rattle.zy_chain.specs.Heads.{empty_head}
@@ -46,6 +46,13 @@ after_asking w client e = grown w (with_last w.asked client e) w.said w.past w.k
 
 abbrev pub after_keeping : World → (Digest → Entry → Bool) → World
 after_keeping w kept = grown w w.asked w.said w.past kept
+
+-- the lists of a later world: nothing that was asked, said, stood or kept is gone
+pub record IsGrown (w : World) (asked : ℕ → List Entry) (said : ℕ → List Spoken) (past : ℕ → List Stand) (kept : Digest → Entry → Bool) : Type 0 where
+  pub asks : (q : ℕ) (e : Entry) → Contains (w.asked q) e → Contains (asked q) e
+  pub says : (q number : ℕ) (x : Spoken) → Says w q number x → slice_get (said q) number ≡ Some x
+  pub stands : (q number : ℕ) (b : Stand) → Stood w q number b → slice_get (past q) number ≡ Some b
+  pub keeps : (h : Digest) (e : Entry) → w.kept h e ≡ true → kept h e ≡ true
 
 -- ---- what is owed for each act
 

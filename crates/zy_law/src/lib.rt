@@ -3,9 +3,11 @@
 #![tactic(auto)]
 
 mod agreement;
+mod example;
 mod results;
 mod steps;
 
 pub use agreement::{choice_extends, fixed_for_good, no_clash, one_view, views};
+pub use example::a_lawful_world;
 pub use results::{completions, histories, proven_states};
 pub use steps::stays_lawful;

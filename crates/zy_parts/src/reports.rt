@@ -9,9 +9,9 @@ ghost use Rattle.zy_parts.specs.ReportsExact.{began-exact, began-in_range, fetch
 
 use crate::{Check, Signed, Spec, Statement};
 use std::alloc::Global;
-use zy_base::{Digest, Place, View, Want};
+use zy_base::{Digest, Items, Place, View, Want};
 use zy_chain::Entry;
-use zy_wire::{Cut, GetFault, Items, Put, Spelled};
+use zy_wire::{Cut, GetFault, Put, Spelled, get_items, put_items};
 
 /// A replica confirms the choice of a new view: the place and the head with which the view begins.
 #[derive(Clone, Copy, Debug, PartialEq, Eq)]
@@ -132,14 +132,14 @@ impl Spelled for Told {
         out.u64(self.last_view.0)?;
         out.u64(self.began_place.0)?;
         out.digest(&self.began_head)?;
-        self.began.put(out)?;
+        put_items(&self.began, out)?;
         put_specs(&self.specs, out)?;
         out.u64(self.stable_view.0)?;
         out.u64(self.stable_place.0)?;
         out.digest(&self.stable_head)?;
         out.digest(&self.state)?;
-        self.checks.put(out)?;
-        self.entries.put(out)
+        put_items(&self.checks, out)?;
+        put_items(&self.entries, out)
     }
 
     #[tactic(auto, unfolding(crate::specs::Reports::told_fields))]
@@ -149,14 +149,14 @@ impl Spelled for Told {
             last_view: View(ahead.u62(0)?),
             began_place: Place(ahead.u62(0)?),
             began_head: ahead.digest()?,
-            began: Items::get(alloc, &mut ahead, 0, 16)?,
+            began: get_items(alloc, &mut ahead, 0, 16)?,
             specs: get_specs(alloc, &mut ahead)?,
             stable_view: View(ahead.u62(0)?),
             stable_place: Place(ahead.u62(0)?),
             stable_head: ahead.digest()?,
             state: ahead.digest()?,
-            checks: Items::get(alloc, &mut ahead, 0, 16)?,
-            entries: Items::get(alloc, &mut ahead, 0, 64)?,
+            checks: get_items(alloc, &mut ahead, 0, 16)?,
+            entries: get_items(alloc, &mut ahead, 0, 64)?,
         };
         *cut = ahead;
         Ok(told)
@@ -173,7 +173,7 @@ fn put_specs(specs: &Option<Items<Signed<Spec>>>, out: &mut Put) -> Result<(), W
         None => out.u8(0),
         Some(specs) => {
             out.u8(1)?;
-            specs.put(out)
+            put_items(specs, out)
         }
     }
 }
@@ -185,7 +185,7 @@ fn get_specs(alloc: Global, cut: &mut Cut<'_>) -> Result<Option<Items<Signed<Spe
 {
     let mut ahead = cut.ahead();
     let specs = if ahead.flag()? {
-        Some(Items::get(alloc, &mut ahead, 1, 16)?)
+        Some(get_items(alloc, &mut ahead, 1, 16)?)
     } else {
         None
     };
@@ -232,7 +232,7 @@ impl Spelled for New {
     #[tactic(auto, unfolding(crate::specs::Reports::new_fields))]
     fn put(&self, out: &mut Put) -> Result<(), Want> {
         out.u64(self.view.0)?;
-        self.changes.put(out)
+        put_items(&self.changes, out)
     }
 
     #[tactic(auto, unfolding(crate::specs::Reports::new_fields))]
@@ -240,7 +240,7 @@ impl Spelled for New {
         let mut ahead = cut.ahead();
         let new = New {
             view: View(ahead.u62(1)?),
-            changes: Items::get(alloc, &mut ahead, 1, 16)?,
+            changes: get_items(alloc, &mut ahead, 1, 16)?,
         };
         *cut = ahead;
         Ok(new)

@@ -136,9 +136,7 @@ fn ends(rt: HostRuntime) -> Result<(), Fail> {
         length: Place(1),
         head: digest(HEAD),
     };
-    let told = |mode: &str| {
-        format!(in alloc; "r3 {mode} length 1 head {HEAD} state {STATE}\n")
-    };
+    let told = |mode: &str| { format!(in alloc; "r3 {mode} length 1 head {HEAD} state {STATE}\n") };
     let active = stood(Mode::Active(View(0)));
     let leaving = stood(Mode::Leaving(View(2)));
     let id = ReplicaId(3);
@@ -169,12 +167,10 @@ const REPLICA_0: &str = "party = \"r0\"\n\
 fn secret_file(rt: HostRuntime) -> Result<(), Fail> {
     let alloc = rt.alloc();
     let seed = digest("01dffe160173b6550875b2bdc89010b901af701b1cc76376b86c4cad9243345a").0;
-    let id = <[u8; 16] as FromHex>::from_hex("2a0364144cf93af321d40b40279de74a")
-        .unwrap_or([0; 16]);
+    let id = <[u8; 16] as FromHex>::from_hex("2a0364144cf93af321d40b40279de74a").unwrap_or([0; 16]);
     let public = <[u8; 56] as FromHex>::from_hex(
         "00000005000000032A0364144CF93AF321D40B40279DE74A5AF23FBE1233237C58A6609FB6F2B10C198FBDB60B004B46515D402318465E91",
-    )
-    .unwrap_or([0; 56]);
+    ).unwrap_or([0; 56]);
     let party = Party::Replica(ReplicaId(0));
     check(
         &rt,

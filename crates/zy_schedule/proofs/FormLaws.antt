@@ -1,5 +1,5 @@
 -- The form of each line behind its first word: what is read was spelled so, and what is spelled so is read again.
-use Rattle.std.proofs.Common.{◌≡◌, ◌≢◌, ℕ, suc, ◌+◌, ◌<◌, ◌≤◌, ◌^◌, Bool, true, false, cond, eqb, List, [], ◌∷◌, ◌++◌, length, Option, Some, None, Result, Ok, Err, refl, sym, ap, subst, ◌∙◌, append_assoc, append-nil, arith, lit≤}
+use Rattle.std.proofs.Common.{◌≡◌, ℕ, ◌<◌, ◌≤◌, ◌^◌, Bool, true, false, cond, eqb, List, [], ◌∷◌, ◌++◌, length, Option, Some, None, Result, Ok, Err, refl, sym, ap, subst, ◌∙◌, append_assoc, append-nil, arith, lit≤}
 use Rattle.std.specs.Prelude.{codes}
 use Rattle.std.specs.Fmt.{decimal}
 use Rattle.zy_base.specs.declared.ids.ClientId.{ClientId}
@@ -12,7 +12,7 @@ use Rattle.zy_tuple.specs.declared.values.Reply.{Reply}
 use Rattle.zy_tuple.specs.declared.values.Reply.TheVariants.{Done, Got, Nothing, True, False, Full, Bad}
 use Rattle.zy_tuple.specs.Parties.{IsParty, party_text}
 use Rattle.zy_tuple.specs.Reading.{◌>>=◌, finished, op_read, reply_read, space_at}
-use Rattle.zy_tuple.specs.Texts.{behind_space, op_text, reply_text}
+use Rattle.zy_tuple.specs.Texts.{op_text, reply_text}
 use Rattle.zy_tuple.specs.Values.{IsOp, IsReply}
 use Rattle.zy_tuple.proofs.OpLaws.{op_again, op_takes, reply_again, reply_takes}
 use Rattle.zy_tuple.proofs.Results.{bind_ok, ok_is}
@@ -24,7 +24,7 @@ use Rattle.zy_schedule.specs.declared.list.ListEnd.TheVariants as ends
 use Rattle.zy_schedule.specs.Reading.{ask_read, bytes_read, client_read, deliver_read, deliver_to, digits_read, drop_read, flow_read, forge_read, frame_read, history_at, keyword_at, kind_read, mute_read, number_read, op_behind, order_read, parties_at, asks_at, party_read, raw_read, reply_behind, spec_read, statement_read, timer_read, unmute_read, value_at}
 use Rattle.zy_schedule.specs.Texts.{AreAsks, AreDigits, AreParties, IsFrame, IsLine, IsMaybeParty, IsView, history_text, kind_text, line_text, numbers_text, parties_text, to_text}
 use Rattle.zy_schedule.proofs.PartLaws.{IsPart, ends_part, part_takes, space_takes, value_again, value_parts}
-use Rattle.zy_schedule.proofs.PartsLaws.{AreFurther, IsBehind, IsLeft, IsRead, end_text, items_text, item_again, item_takes, keyword_again, keyword_takes, list_again, list_takes}
+use Rattle.zy_schedule.proofs.PartsLaws.{IsBehind, IsLeft, IsRead, end_text, items_text, item_again, item_takes, keyword_again, keyword_takes, list_again, list_takes}
 use Rattle.zy_schedule.proofs.ValueLaws.{client_read_again, client_read_takes, digits_part, digits_read_again, digits_read_takes, kind_part, kind_read_again, kind_read_takes, number_part, number_read_again, number_read_takes, party_part, party_read_again, party_read_takes}
 
 -- ---- values

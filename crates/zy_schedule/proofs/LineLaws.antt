@@ -1,11 +1,10 @@
 -- Lines of a schedule: what is read was spelled so, and what is spelled so is read again.
-use Rattle.std.proofs.Common.{◌≡◌, ℕ, Bool, true, false, cond, List, [], ◌∷◌, ◌++◌, length, drop, Option, Some, None, Result, Ok, Err, refl, sym, ap, ◌∙◌, inl, inr}
+use Rattle.std.proofs.Common.{◌≡◌, ℕ, cond, List, ◌∷◌, ◌++◌, length, drop, Result, Ok, Err, ap, ◌∙◌, inl, inr}
 use Rattle.std.specs.Prelude.{codes, take_while}
 use Rattle.std.specs.Str.{bytes_eq}
 use Rattle.zy_tuple.specs.Reading.{in_word}
 use Rattle.zy_tuple.proofs.NumberLaws.{take_while_parts}
-use Rattle.zy_tuple.proofs.Results.{chosen, ok_chosen}
-use Rattle.zy_base.specs.declared.ids.Party.TheVariants.{Client}
+use Rattle.zy_tuple.proofs.Results.{chosen}
 use Rattle.zy_tuple.specs.Parties.{party_text}
 use Rattle.zy_tuple.specs.Texts.{reply_text}
 use Rattle.zy_schedule.specs.declared.line.Line.{Line}

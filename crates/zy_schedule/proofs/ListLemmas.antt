@@ -1,10 +1,10 @@
 -- Reading a list of parts one after the other, as a loop does.
-use Rattle.std.proofs.Common.{◌≡◌, ℕ, zero, suc, ◌-◌, ◌+◌, ◌≤◌, ◌<◌, List, [], ◌∷◌, ◌++◌, length, Result, Ok, Err, Option, Some, None, refl, sym, ap, ◌∙◌, append_assoc, append-nil, length-append, arith}
+use Rattle.std.proofs.Common.{◌≡◌, ℕ, zero, suc, ◌-◌, ◌≤◌, ◌<◌, List, [], ◌∷◌, ◌++◌, length, Result, Ok, Err, Some, None, refl, sym, ap, ◌∙◌, append_assoc, append-nil, length-append, arith}
 use Rattle.zy_tuple.specs.declared.fault.LineFault.{LineFault}
 use Rattle.zy_tuple.specs.declared.fault.LineFault.TheVariants as faults
 use Rattle.zy_tuple.specs.Reading.{◌>>=◌, Fails}
 use Rattle.zy_schedule.specs.declared.list.ListEnd.{ListEnd}
-use Rattle.zy_schedule.specs.Reading.{ended_at, further_at, list_at, one_too_many, unless_ended, value_at}
+use Rattle.zy_schedule.specs.Reading.{ended_at, further_at, list_at, value_at}
 
 -- what was read before, and what is still read
 abbrev pub with_front : {A : Type 0} → List A → Result (List A × List ℕ) ℕ → Result (List A × List ℕ) ℕ

@@ -1,5 +1,5 @@
 -- Parts of a line: what is read was spelled so, and what is spelled so is read again.
-use Rattle.std.proofs.Common.{◌≡◌, ◌≢◌, ℕ, suc, ◌+◌, ◌<◌, ◌≤◌, ◌^◌, Bool, true, false, cond, eqb, List, [], ◌∷◌, ◌++◌, length, drop, Option, Some, None, Result, Ok, Err, refl, sym, ap, subst, ◌∙◌, inl, inr, append_assoc, append-nil, length-append, arith}
+use Rattle.std.proofs.Common.{◌≡◌, ℕ, ◌<◌, ◌≤◌, Bool, true, eqb, List, [], ◌∷◌, ◌++◌, length, drop, Result, Ok, refl, ap, subst, ◌∙◌, append-nil, length-append, arith}
 use Rattle.std.specs.Prelude.{take_while}
 use Rattle.std.proofs.lemmas.Bool.{eqb-true}
 use Rattle.std.proofs.lemmas.List.{drop_at}
@@ -7,7 +7,7 @@ use Rattle.std.proofs.lemmas.List.Sums.{take_while-cons}
 use Rattle.zy_tuple.specs.Reading.{◌>>=◌, in_word, space_at}
 use Rattle.zy_tuple.proofs.NumberLaws.{Passes, take_while_again, take_while_parts}
 use Rattle.zy_tuple.proofs.Results.{bind_ok, ok_chosen, ok_is}
-use Rattle.zy_schedule.specs.Reading.{keyword_at, part_at, some_part, value_at}
+use Rattle.zy_schedule.specs.Reading.{part_at, some_part, value_at}
 
 -- ---- spaces and parts
 

@@ -1,5 +1,5 @@
 -- Keywords and lists of parts: what is read was spelled so, and what is spelled so is read again.
-use Rattle.std.proofs.Common.{◌≡◌, ℕ, zero, suc, ◌-◌, ◌+◌, ◌<◌, ◌≤◌, Bool, true, false, cond, eqb, List, [], ◌∷◌, ◌++◌, length, map, Option, Some, None, Result, Ok, Err, refl, sym, ap, subst, ◌∙◌, inl, inr, ◌⊎◌, append_assoc, arith}
+use Rattle.std.proofs.Common.{◌≡◌, ℕ, zero, suc, ◌-◌, ◌≤◌, true, false, cond, List, [], ◌∷◌, ◌++◌, length, map, Option, Some, None, Result, Ok, Err, refl, sym, ap, subst, ◌∙◌, inl, inr, ◌⊎◌, append_assoc, arith}
 use Rattle.std.specs.Prelude.{codes}
 use Rattle.std.specs.List.{AllByRecursion, flat_map}
 use Rattle.std.specs.Str.{bytes_eq}
@@ -9,7 +9,7 @@ use Rattle.zy_tuple.specs.Texts.{behind_space}
 use Rattle.zy_tuple.proofs.Results.{bind_ok, ok_chosen, ok_is, some_is}
 use Rattle.zy_schedule.specs.declared.list.ListEnd.{ListEnd}
 use Rattle.zy_schedule.specs.declared.list.ListEnd.TheVariants as ends
-use Rattle.zy_schedule.specs.Reading.{at_end, behind_word, ended_at, further_at, keyword_at, list_at, one_too_many, part_at, unless_ended, value_at}
+use Rattle.zy_schedule.specs.Reading.{behind_word, ended_at, further_at, keyword_at, list_at, one_too_many, part_at, unless_ended, value_at}
 use Rattle.zy_schedule.proofs.PartLaws.{IsPart, ends_part, part_again, part_takes, value_again, value_parts}
 use Rattle.zy_schedule.proofs.ValueLaws.{word_is}
 

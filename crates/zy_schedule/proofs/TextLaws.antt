@@ -1,11 +1,11 @@
 -- What a text says line by line: what is read was spelled so, and what is spelled so is read again.
-use Rattle.std.proofs.Common.{◌≡◌, ℕ, suc, Bool, true, false, cond, List, [], ◌∷◌, Result, Ok, Err, Vec, refl, sym, ap, subst, ◌∙◌, inl, inr}
-use Rattle.std.specs.Prelude.{filter, not, IfOk}
+use Rattle.std.proofs.Common.{◌≡◌, ℕ, suc, true, false, cond, List, [], ◌∷◌, Result, Ok, Err, Vec, refl, subst}
+use Rattle.std.specs.Prelude.{All, filter, not, IfOk}
 use Rattle.std.specs.List.{AllZip}
 use Rattle.std.specs.declared.alloc.Global.{Global}
 use Rattle.zy_schedule.specs.Lines.{IsTextRead, TextFault, before_others, is_said, is_skipped, items_from, lines_of, said_lines, text_of}
 use Rattle.zy_schedule.specs.declared.fault.ScheduleFault.{ScheduleFault}
-use Rattle.zy_tuple.proofs.Results.{ok_is}
+use Rattle.std.proofs.lemmas.List.Elements.{All-cons, All-nil}
 
 abbrev all_read : {A : Type 0} → List A → Result (List A) TextFault
 all_read xs = Ok xs
@@ -61,3 +61,17 @@ is_found read IsLine takes text (Err fault) h = tt
 pub is_only : {A : Type 0} (read : List ℕ → Result A ℕ) (IsLine : A → List ℕ → Type 0) → ((line : List ℕ) (x : A) → IsLine x line → read line ≡ Ok x)
     → (text : List ℕ) (result : Result (Vec A Global) ScheduleFault) → IsTextRead (text_of read text) result → (xs : List A) → AllZip IsLine xs (said_lines text) → IsTextRead (Ok xs) result
 is_only read IsLine again text result h xs spelled = subst (λ r. IsTextRead r result) (lines_again read IsLine again 1 (lines_of text) xs spelled) h
+
+-- ---- what is said of each item alone
+
+-- what each item's line shows of it
+all_fit : {A : Type 0} (IsLine : A → List ℕ → Type 0) (Fits : A → Type 0) → ((x : A) (line : List ℕ) → IsLine x line → Fits x) → (xs : List A) (lines : List (List ℕ)) → AllZip IsLine xs lines → All Fits xs
+all_fit IsLine Fits shows [] [] spelled = All-nil Fits
+all_fit IsLine Fits shows [] (line ∷ lines) spelled = All-nil Fits
+all_fit IsLine Fits shows (x ∷ xs) [] spelled = absurd spelled
+all_fit IsLine Fits shows (x ∷ xs) (line ∷ lines) spelled = All-cons Fits x xs (shows x line spelled.0) (all_fit IsLine Fits shows xs lines spelled.1)
+
+pub is_fit : {A : Type 0} (read : List ℕ → Result A ℕ) (IsLine : A → List ℕ → Type 0) (Fits : A → Type 0) → ((line : List ℕ) (x : A) → read line ≡ Ok x → IsLine x line) → ((x : A) (line : List ℕ) → IsLine x line → Fits x)
+    → (text : List ℕ) (result : Result (Vec A Global) ScheduleFault) → IsTextRead (text_of read text) result → IfOk result (λ items. All Fits items.items)
+is_fit read IsLine Fits takes shows text (Ok items) h = all_fit IsLine Fits shows items.items (said_lines text) (lines_take read IsLine takes 1 (lines_of text) items.items h)
+is_fit read IsLine Fits takes shows text (Err fault) h = tt

@@ -1,9 +1,8 @@
 -- The lines of a schedule: what each may say, and its text.
-use Rattle.std.specs.Prelude.{◌≡◌, ℕ, ◌≤◌, ◌<◌, ◌^◌, List, [], ◌∷◌, ◌++◌, length, map, codes, Option, Some, None, Ok, ⊤}
+use Rattle.std.specs.Prelude.{◌≡◌, ℕ, ◌≤◌, ◌<◌, ◌^◌, List, [], ◌++◌, length, map, codes, Option, Some, None, Ok, ⊤}
 use Rattle.std.specs.Fmt.{decimal}
 use Rattle.std.specs.List.{AllByRecursion, flat_map}
 use Rattle.hex.specs.Hex.{decode_of}
-use Rattle.zy_base.specs.declared.ids.ClientId.{ClientId}
 use Rattle.zy_base.specs.declared.ids.Party.{Party}
 use Rattle.zy_base.specs.declared.ids.Party.TheVariants.{Client}
 use Rattle.zy_base.specs.declared.ids.View.{View}
@@ -54,6 +53,10 @@ IsLine digits (Flow events) = events ≤ 100000
 IsLine digits (Drop frame) = IsFrame frame
 IsLine digits (Mute party) = IsParty party
 IsLine digits (Unmute party) = IsParty party
+
+-- what may be said on some line
+abbrev pub IsSaid : Line → Type 0
+IsSaid line = (digits : List ℕ) × IsLine digits line
 
 -- ---- its text
 

@@ -12,3 +12,6 @@ mod reading;
 pub use fault::ScheduleFault;
 pub use line::Line;
 pub use reading::{read_schedule, read_script};
+
+#[cfg(test)]
+mod tests;

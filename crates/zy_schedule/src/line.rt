@@ -6,11 +6,20 @@ use zy_tuple::{Op, Reply};
 #[derive(Debug, Drop)]
 pub enum Line {
     /// A client asks.
-    Ask { client: ClientId, op: Op },
+    Ask {
+        client: ClientId,
+        op: Op,
+    },
     /// A frame reaches the named party, or the one that it is addressed to.
-    Deliver { frame: u64, to: Option<Party> },
+    Deliver {
+        frame: u64,
+        to: Option<Party>,
+    },
     /// A timer runs out at a party.
-    Timer { party: Party, kind: TimerKind },
+    Timer {
+        party: Party,
+        kind: TimerKind,
+    },
     /// A liar signs the order whose history is that of 1 to 64 requests, and an ORDER with the last of them goes to
     /// 1 to 80 parties.
     Order {
@@ -34,7 +43,10 @@ pub enum Line {
         to: Items<Party>,
     },
     /// These bytes are sent as they are.
-    Raw { bytes: Bytes, to: Items<Party> },
+    Raw {
+        bytes: Bytes,
+        to: Items<Party>,
+    },
     /// A statement is signed under a correct party's key.
     Forge {
         party: Party,

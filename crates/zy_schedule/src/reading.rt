@@ -1,18 +1,18 @@
 //! Schedules and scripts.
 
-ghost use Rattle.std.specs.Prelude.{◌≡◌, Ok, IfOk, List};
+ghost use Rattle.std.specs.Prelude.{◌≡◌, Ok, All, IfOk, List};
 ghost use Rattle.std.specs.List.{AllZip};
 ghost use Rattle.zy_schedule.specs.Lines.{IsOpLine, IsTextRead, said_lines, script_of};
 ghost use Rattle.zy_schedule.specs.Reading.{line_read, schedule_of, worded_read};
-ghost use Rattle.zy_schedule.specs.Texts.{IsScheduleLine};
+ghost use Rattle.zy_schedule.specs.Texts.{IsSaid, IsScheduleLine};
 ghost use Rattle.zy_tuple.specs.Reading.{Gives, op_read};
+ghost use Rattle.zy_tuple.specs.Values.{IsOp};
 ghost use Rattle.zy_tuple.specs.declared.values.Op as ops;
 ghost use Rattle.zy_schedule.specs.declared.line.Line as schedule;
 
-use crate::forms;
 use crate::lines::{FromLine, read_text};
 use crate::parts::first_word;
-use crate::{Line, ScheduleFault};
+use crate::{Line, ScheduleFault, forms};
 use std::alloc::Global;
 use zy_tuple::{LineFault, Op, op_text_read};
 
@@ -74,6 +74,7 @@ fn worded(alloc: Global, word: &[u8], rest: &[u8]) -> Result<Line, LineFault>
 pub fn read_schedule(alloc: Global, bytes: &[u8]) -> Result<Vec<Line>, ScheduleFault>
     // What is read are the lines whose texts stand there.
     ensures found { IfOk result (λ lines. AllZip IsScheduleLine lines.items (said_lines bytes.now)) }
+    ensures said { IfOk result (λ lines. All IsSaid lines.items) }
     // Where the texts of lines stand there, they are read, unless memory runs out.
     ensures only { (lines : List schedule.Line) → AllZip IsScheduleLine lines (said_lines bytes.now) → IsTextRead (Ok lines) result }
     // Which line and which rule it is.
@@ -86,6 +87,7 @@ pub fn read_schedule(alloc: Global, bytes: &[u8]) -> Result<Vec<Line>, ScheduleF
 /// that is no operation's text.
 pub fn read_script(alloc: Global, bytes: &[u8]) -> Result<Vec<Op>, ScheduleFault>
     ensures found { IfOk result (λ ops. AllZip IsOpLine ops.items (said_lines bytes.now)) }
+    ensures ops { IfOk result (λ ops. All IsOp ops.items) }
     ensures only { (ops : List ops.Op) → AllZip IsOpLine ops (said_lines bytes.now) → IsTextRead (Ok ops) result }
     ensures exact { IsTextRead (script_of bytes.now) result }
 {

@@ -1,7 +1,12 @@
+-- what a reader must believe
 pub mod TupleSpace
+pub mod Timeline
+pub mod Service
+
+-- inner forms, which only private contracts and representations cite
 pub mod Tag
 pub mod Place
 pub mod Marks
-pub mod Timeline
-pub mod Service
+
+-- the laws of a replicated machine, which are proved
 pub mod Laws

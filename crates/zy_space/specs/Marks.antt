@@ -1,4 +1,5 @@
--- A space kept as a vector of marked tuples, with the changes that lead back to its earlier states.
+-- Inner forms, which only private contracts and representations cite: a space kept as a vector of marked tuples, with
+-- the changes that lead back to its earlier states.
 use Rattle.std.specs.Prelude.{◌≡◌, ℕ, zero, suc, ◌+◌, ◌-◌, ◌<◌, ◌≤◌, Bool, true, false, not, if◌then◌else◌, List, [], ◌∷◌, ◌++◌, length, take, reverse, Option, option_map, slice_get}
 use Rattle.std.specs.List.{AllByRecursion}
 use Rattle.zy_tuple.specs.declared.values.Field.{Field}

@@ -1,4 +1,4 @@
--- Where the oldest match stands in the list.
+-- Inner forms, which only private contracts cite: where the oldest match stands in the list.
 use Rattle.std.specs.Prelude.{◌≡◌, ℕ, ◌<◌, List, length, None}
 use Rattle.zy_tuple.specs.declared.values.Field.{Field}
 use Rattle.zy_tuple.specs.declared.values.Slot.{Slot as TemplateSlot}

@@ -1,4 +1,5 @@
--- Tags of tuples. A search passes over a tuple whose tags aren't those of each match, without looking at its fields.
+-- Inner forms, which only private contracts cite: tags of tuples. A search passes over a tuple whose tags aren't those
+-- of each match, without looking at its fields. All that is used of a tag is that equal fields have equal ones.
 use Rattle.std.specs.Prelude.{ℕ, ◌+◌, ◌*◌, ◌%◌, ◌/◌, ◌^◌, List, [], ◌∷◌, Option, Some, None, length, drop, fold, map}
 use Rattle.std.specs.List.{slice_get}
 use Rattle.std.specs.Int.{w64, cast_unsigned, from_le_bytes}
@@ -8,10 +9,11 @@ use Rattle.zy_tuple.specs.declared.values.Field.TheVariants.{Int, Text}
 use Rattle.zy_tuple.specs.declared.values.Slot.{Slot}
 use Rattle.zy_tuple.specs.declared.values.Slot.TheVariants.{Any, Is}
 use Rattle.zy_space.specs.declared.tagged.WantedTags.{WantedTags}
+use Rattle.zy_space.specs.declared.tagged.TheConstants.{SPREAD}
 
--- a hash with one part more, by 2^64 over the golden ratio (Knuth, The Art of Computer Programming, section 6.4)
+-- a hash with one part more, by multiplication (Knuth, The Art of Computer Programming, section 6.4)
 abbrev pub with_part : ℕ → ℕ → ℕ
-with_part hash part = ((hash + part) * 11400714819323198485) % 2 ^ 64
+with_part hash part = ((hash + part) * SPREAD) % 2 ^ 64
 
 -- a text's parts in turn: each eight bytes are one (the least first), those that are left are one each
 abbrev pub hash_of_text : List ℕ → ℕ

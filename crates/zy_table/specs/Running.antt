@@ -43,16 +43,20 @@ spec_of view ask known =
 abbrev pub next_known : {S : Type 0} → Rules S → State S → Signed Ask → Known
 next_known R s ask = known_of R (now_of R s.kept) (entry_of ask)
 
-abbrev pub got_of : {S : Type 0} → Rules S → State S → Signed Ask → Got
-got_of R s ask =
+-- what is gained by an entry that is executed on a head
+abbrev pub got_from : Digest → Signed Ask → Known → Got
+got_from before ask known =
     record {
-      place = (next_known R s ask).place;
-      before = (now_of R s.kept).head;
+      place = known.place;
+      before = before;
       entry = entry_of ask;
-      head = (next_known R s ask).head;
-      reply = (next_known R s ask).reply;
+      head = known.head;
+      reply = known.reply;
       snapshot = None;
     }
+
+abbrev pub got_of : {S : Type 0} → Rules S → State S → Signed Ask → Got
+got_of R s ask = got_from (now_of R s.kept).head ask (next_known R s ask)
 
 -- the history gets the entry
 abbrev pub executed : {S : Type 0} → Rules S → Signed Ask → Going S → Going S
@@ -60,17 +64,17 @@ executed R ask g =
     act (Gains (got_of R g.state ask)) (record g { state = record g.state { kept = longer g.state.kept (entry_of ask) } })
 
 -- the response is signed, kept, and sent to the client with its order
-abbrev pub respond : {S : Type 0} → Rules S → OrderFrame → Spec → List ℕ → Going S → Going S
-respond R o spec reply g =
+abbrev pub respond : {S : Type 0} → Rules S → Signed Order → Spec → List ℕ → Going S → Going S
+respond R order spec reply g =
     let signed = sealed_by numbers.spec spec_fields g.state.sealer spec in
-    send (One (Client spec.client)) (frames.SpecResponse signed reply (Some o.order))
+    send (One (Client spec.client)) (frames.SpecResponse signed reply (Some order))
     (act (Says (record { body = bodies.Spec spec; stood = stood_of R g.state }))
     (record g { state = with_spec (spent g.state) signed }))
 
 -- one order: its entry is executed, and then answered
 unfoldable pub run_one : {S : Type 0} → Rules S → OrderFrame → Going S → Going S
 run_one R o g =
-    respond R o (spec_of (own_view g.state) o.ask (next_known R g.state o.ask)) (next_known R g.state o.ask).reply
+    respond R o.order (spec_of (own_view g.state) o.ask (next_known R g.state o.ask)) (next_known R g.state o.ask).reply
     (executed R o.ask g)
 
 -- the order has the head and the stamp that the next one has to have

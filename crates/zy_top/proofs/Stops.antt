@@ -1,9 +1,9 @@
 -- What stops before the first write has written nothing.
 use Rattle.std.proofs.Common.{◌≡◌, ℕ, List, [], Option, Some, None, IfSome, Result, Err, refl, subst}
 use Rattle.std.proofs.KnownBytes.{Appends-nil, Keeps-refl}
-use Rattle.zy_tuple.specs.Script.{TextFault}
-use Rattle.zy_tuple.specs.declared.values.Op.{Op}
-use Rattle.zy_top.specs.Calls.{IsFileRead, IsScriptRead}
+use Rattle.zy_schedule.specs.declared.fault.ScheduleFault.{ScheduleFault}
+use Rattle.zy_schedule.specs.declared.fault.ScheduleFault.TheVariants as faults
+use Rattle.zy_top.specs.Calls.{IsFileRead, exit_of_fault}
 use Rattle.zy_top.specs.Verdict.{AppendsFront, IsWritten, Verdict}
 use Rattle.zy_top.specs.declared.exit.Exit.{Exit}
 use Rattle.zy_top.specs.declared.exit.Exit.TheVariants as exits
@@ -29,5 +29,6 @@ IsWritten-stopped (Some held) verdict exit taken stops = IsWritten-none (verdict
 pub IsFileRead-stops : (told : Option (List ℕ)) (exit : Exit) → IsFileRead told (Err exit) → exit ≡ exits.Done → ⊥
 IsFileRead-stops told exit read done = subst (λ e. IsFileRead told (Err e)) done read
 
-pub IsScriptRead-stops : (said : Result (List Op) TextFault) (exit : Exit) → IsScriptRead said (Err exit) → exit ≡ exits.Done → ⊥
-IsScriptRead-stops said exit read done = subst (λ e. IsScriptRead said (Err e)) done read
+pub fault-stops : (fault : ScheduleFault) → exit_of_fault fault ≡ exits.Done → ⊥
+fault-stops (faults.Text line rule) done = cc
+fault-stops faults.Want done = cc

@@ -2,8 +2,8 @@
 use Rattle.std.specs.Prelude.{◌≡◌, ℕ, ◌<◌, ◌≤◌, Bool, false, List, length, Option, IfSome, Result, Ok, Err, Vec, ⊤}
 use Rattle.std.specs.declared.alloc.Global.{Global}
 use Rattle.std.specs.Io.KnownBytes.{Appends}
-use Rattle.zy_tuple.specs.Script.{TextFault}
-use Rattle.zy_tuple.specs.declared.values.Op.{Op}
+use Rattle.zy_schedule.specs.declared.fault.ScheduleFault.{ScheduleFault}
+use Rattle.zy_schedule.specs.declared.fault.ScheduleFault.TheVariants as faults
 use Rattle.zy_top.specs.Words.{Command}
 use Rattle.zy_top.specs.declared.words.Command as commands
 use Rattle.zy_top.specs.Verdict.{AppendsFront, limit, is_read_fault, is_write_fault}
@@ -27,12 +27,10 @@ abbrev pub stops_writing : {T : Type 0} → Result T Exit → Bool
 stops_writing (Ok _) = false
 stops_writing (Err exit) = is_write_fault exit
 
--- the operations of a script, or its first fault
-abbrev pub IsScriptRead : Result (List Op) TextFault → Result (Vec Op Global) Exit → Type 0
-IsScriptRead read (Ok ops) = read ≡ Ok ops.items
-IsScriptRead read (Err (exits.Text line rule)) = read ≡ Err (record { line = line; rule = rule })
-IsScriptRead read (Err exits.Want) = ⊤
-IsScriptRead read (Err exit) = ⊥
+-- how a call ends that a script's fault stops
+abbrev pub exit_of_fault : ScheduleFault → Exit
+exit_of_fault (faults.Text line rule) = exits.Text line rule
+exit_of_fault faults.Want = exits.Want
 
 -- all was written, or a front of it
 abbrev pub IsSent : Option (List ℕ) → Option (List ℕ) → List ℕ → Result (Unit {0}) Exit → Type 0
@@ -46,13 +44,6 @@ abbrev pub IsCommand : Result Command ℕ → Result commands.Command ℕ → Ty
 IsCommand read (Ok (commands.TheVariants.Space script)) = read ≡ Ok (Command.Space script.now)
 IsCommand read (Ok (commands.TheVariants.Keys seed by height)) = read ≡ Ok (Command.Keys seed by height)
 IsCommand read (Err word) = read ≡ Err word
-
--- the operation of the line with this number, or its first fault
-abbrev pub IsOpRead : ℕ → Result Op ℕ → Result Op Exit → Type 0
-IsOpRead number read (Ok op) = read ≡ Ok op
-IsOpRead number read (Err (exits.Text line rule)) = (line ≡ number) × (read ≡ Err rule)
-IsOpRead number read (Err exits.Want) = ⊤
-IsOpRead number read (Err exit) = ⊥
 
 -- how the program ends
 abbrev pub exit_of : Result (Unit {0}) Exit → Exit

@@ -3,7 +3,7 @@ use Rattle.std.specs.Prelude.{◌≡◌, ℕ, nat_lt, Bool, true, false, if◌th
 use Rattle.std.specs.List.{flat_map}
 use Rattle.std.specs.Io.KnownBytes.{Keeps, Appends}
 use Rattle.zy_edge.specs.Files.{Held, content_of}
-use Rattle.zy_tuple.specs.Script.{TextFault, script_of}
+use Rattle.zy_schedule.specs.Lines.{TextFault, script_of}
 use Rattle.zy_tuple.specs.Texts.{reply_text}
 use Rattle.zy_tuple.specs.declared.values.Field.{Field}
 use Rattle.zy_tuple.specs.declared.values.Op.{Op}

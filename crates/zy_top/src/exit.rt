@@ -1,8 +1,10 @@
 ghost use Rattle.std.specs.Prelude.{◌≡◌};
+ghost use Rattle.zy_top.specs.Calls.{exit_of_fault};
 ghost use Rattle.zy_top.specs.Verdict.{status_of};
 ghost use Rattle.zy_top.specs.declared.exit.Exit.TheVariants as exits;
 
 use std::alloc::{AllocError, AllocFailed};
+use zy_schedule::ScheduleFault;
 
 /// How a run ended.
 #[derive(Clone, Copy, Debug, PartialEq, Eq)]
@@ -61,5 +63,16 @@ impl From<zy_base::Want> for Exit {
 
     fn from(_: zy_base::Want) -> Exit {
         Exit::Want
+    }
+}
+
+impl From<ScheduleFault> for Exit {
+    ghost from_gives = { λ f e. e ≡ exit_of_fault f };
+
+    fn from(fault: ScheduleFault) -> Exit {
+        match fault {
+            ScheduleFault::Text { line, rule } => Exit::Text { line, rule },
+            ScheduleFault::Want => Exit::Want,
+        }
     }
 }

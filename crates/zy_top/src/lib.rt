@@ -4,7 +4,6 @@
 mod exit;
 mod keys;
 mod reading;
-mod script;
 mod space;
 mod top;
 mod words;

@@ -9,7 +9,6 @@ ghost use Rattle.zy_top.specs.Words.{command_of, texts};
 use crate::Exit;
 use crate::keys::key_file;
 use crate::reading::read_file;
-use crate::script::read_script;
 use crate::space::run_script;
 use crate::words::{Command, command_of};
 use crate::writing::write_all;
@@ -17,6 +16,7 @@ use std::alloc::Global;
 use zy_base::Party;
 use zy_edge::{Files, Sink};
 use zy_lms::Height;
+use zy_schedule::read_script;
 
 /// Runs the command that the words ask for. Words are judged first, then the file that they name, whole, and
 /// nothing is written before.

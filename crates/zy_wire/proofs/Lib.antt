@@ -4,3 +4,4 @@ pub mod Choices
 pub mod KindLaws
 pub mod Lengths
 pub mod Loop
+pub mod FramingLaws

@@ -3,3 +3,4 @@ pub mod Fields
 pub mod Reading
 pub mod Kind
 pub mod Getting
+pub mod Framing

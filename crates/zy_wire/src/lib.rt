@@ -3,7 +3,9 @@
 #![tactic(auto)]
 
 mod cut;
+mod encode_fault;
 mod exact;
+mod framed;
 mod get_fault;
 mod items;
 mod kind;
@@ -13,9 +15,11 @@ mod put;
 mod spelled;
 
 pub use cut::Cut;
+pub use encode_fault::EncodeFault;
 pub use exact::{fields, spellings};
+pub use framed::{Framed, decode, encode};
 pub use get_fault::GetFault;
-pub use items::Items;
+pub use items::{get_items, put_items};
 pub use kind::{MAX_FRAME, MAX_KIND, VERSION, kind_of};
 pub use optional::{get_optional, put_optional};
 pub use party::party_array;

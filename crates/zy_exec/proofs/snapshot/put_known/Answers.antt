@@ -10,8 +10,8 @@ bytes_of_is w n = refl
 in_a_row : (out a b c d e f : List ℕ) → out ++ a ++ b ++ c ++ d ++ e ++ f ≡ out ++ (a ++ b ++ c ++ d ++ e ++ f)
 in_a_row out a b c d e f = simp append_assoc
 
-pub returns : goal.returns
-returns c =
+pub returns-clause-bytes : goal.returns-clause-bytes
+returns-clause-bytes c =
     let known = c.args.known.now in
     let client : c.to_be_bytes.result ≡ bytes_of w32 c.args.client.0 = c.to_be_bytes.ensures ∙ bytes_of_is w32 c.args.client.0 in
     let stamp : c.to_be_bytes-2.result ≡ bytes_of w64 known.stamp.0 = c.to_be_bytes-2.ensures ∙ bytes_of_is w64 known.stamp.0 in

@@ -1,4 +1,3 @@
-use Rattle.zy_law.specs.World.Statement.{Order}
 use Rattle.zy_law.proofs.ProvenStates.{proven_state, chain_base, chain_entries}
 use Rattle.zy_law.proofs.results.proven_states.Goals as goal
 
@@ -9,5 +8,5 @@ returns c =
       base = λ w t s m lawful texts has passes. chain_base w lawful t s m texts has passes;
       entries = λ w t s m lawful texts has passes. chain_entries w lawful t s m texts has passes;
       orders = λ w r view m k request second lawful correct x y same.
-        lawful.one_order r x.0 y.0 x.1 y.1 view m k request second correct x.2 y.2 x.3 y.3 same;
+          lawful.one_order r x.0 y.0 x.1 y.1 view m k request second correct x.2 y.2 x.3 y.3 same;
     }

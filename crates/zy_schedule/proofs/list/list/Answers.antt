@@ -1,4 +1,4 @@
-use Rattle.std.proofs.Common.{◌≡◌, ◌<◌, ◌++◌, length, ◌∷◌, [], Ok, None, List, sym, ap, ◌∙◌, arith, length-append}
+use Rattle.std.proofs.Common.{◌≡◌, ◌<◌, length, ◌∷◌, [], Ok, None, sym, ap, ◌∙◌, arith, length-append}
 use Rattle.std.proofs.lemmas.Result.{err_from_is_err_and}
 use Rattle.zy_schedule.specs.Reading.{ended_at}
 use Rattle.zy_schedule.proofs.ListLemmas.{is_ended, no_room, one_fails, one_more}

@@ -1,9 +1,10 @@
 use Rattle.std.proofs.Common.{◌≡◌, List, ℕ, Ok, ap, ◌∙◌}
 use Rattle.zy_tuple.specs.Reading.{op_read}
+use Rattle.zy_tuple.specs.Values.{IsOp}
 use Rattle.zy_tuple.specs.declared.values.Op.{Op}
 use Rattle.zy_tuple.proofs.OpLaws.{op_again, op_takes}
 use Rattle.zy_schedule.specs.Lines.{IsOpLine}
-use Rattle.zy_schedule.proofs.TextLaws.{is_found, is_only}
+use Rattle.zy_schedule.proofs.TextLaws.{is_fit, is_found, is_only}
 use Rattle.zy_schedule.proofs.reading.read_script.Goals as goal
 
 takes : (line : List ℕ) (op : Op) → op_read line ≡ Ok op → IsOpLine op line
@@ -17,3 +18,6 @@ returns-clause-found c = is_found op_read IsOpLine takes c.args.bytes.now c.read
 
 pub returns-clause-only : goal.returns-clause-only
 returns-clause-only c = is_only op_read IsOpLine again c.args.bytes.now c.read_text.result c.read_text.ensures
+
+pub returns-clause-ops : goal.returns-clause-ops
+returns-clause-ops c = is_fit op_read IsOpLine IsOp takes (λ op line spelled. spelled.0) c.args.bytes.now c.read_text.result c.read_text.ensures

@@ -1,7 +1,7 @@
 use Rattle.std.proofs.lemmas.Result.{err_from_is_err_and}
 use Rattle.zy_edge.specs.Files.{Held, content_of}
 use Rattle.zy_top.specs.Verdict.{space_verdict}
-use Rattle.zy_top.proofs.Stops.{IsWritten-stopped, IsFileRead-stops, IsScriptRead-stops}
+use Rattle.zy_top.proofs.Stops.{IsWritten-stopped, IsFileRead-stops, fault-stops}
 use Rattle.zy_top.proofs.top.run_space.Goals as goal
 
 pub returns-in_err-text-clause-written : goal.returns-in_err-text-clause-written
@@ -14,4 +14,4 @@ pub returns-in_err-ops-clause-written : goal.returns-in_err-ops-clause-written
 returns-in_err-ops-clause-written g c =
     let p = err_from_is_err_and c.from_residual-in_err-ops.result c.from_residual-in_err-ops.ensures.1 in
     rw (p.1, p.2) (IsWritten-stopped {A = Held} (g.F.Files.held c.args.files.now) (λ held. space_verdict (content_of held c.args.script.now)) _ (g.S.Sink.taken c.args.out.now)
-    (IsScriptRead-stops _ _ c.in_err-ops.ensures.said))
+    (fault-stops c.in_err-ops.field-0.0))

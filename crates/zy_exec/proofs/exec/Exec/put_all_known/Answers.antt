@@ -15,7 +15,13 @@ loop-client-preserved g c =
       | in-Some+in_ok-put_known-in-Some w ↦
           let more = listed_some known client w.in-Some.known.now within w.in-Some.ensures.known in
           let bytes = ap (flat_map known_bytes) more ∙ flat_map_more (listed 0 (take client known)) (client, w.in-Some.known.now) in
-          rw (w.out-is, w.in_ok-put_known-in-Some.ensures, c.loop-client.invariant, bytes) (append_assoc c.args.out.now.items (flat_map known_bytes (listed 0 (take client known))) (known_bytes (client, w.in-Some.known.now)))
+          record {
+            bytes = rw (w.out-is, w.in_ok-put_known-in-Some.ensures.bytes, c.loop-client.invariant.bytes, bytes) (append_assoc c.args.out.now.items (flat_map known_bytes (listed 0 (take client known))) (known_bytes (client, w.in-Some.known.now)));
+            short = rw w.out-is (omega (arith, w.in_ok-put_known-in-Some.ensures.short, c.loop-client.invariant.short));
+          }
       | in-None w ↦
-          rw (w.out-is, listed_none known client within w.in-None.ensures.known) c.loop-client.invariant
+          record {
+            bytes = rw (w.out-is, listed_none known client within w.in-None.ensures.known) c.loop-client.invariant.bytes;
+            short = rw w.out-is (omega (arith, c.loop-client.invariant.short));
+          }
     ]

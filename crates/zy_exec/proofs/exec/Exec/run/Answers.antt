@@ -2,8 +2,10 @@ use Rattle.std.proofs.Common.{length, ◌∙◌, ap, arith, None}
 use Rattle.std.proofs.lemmas.List.{length-replicate}
 use Rattle.std.specs.Prelude.{Option}
 use Rattle.zy_base.specs.declared.ids.Place.{Place}
+use Rattle.zy_exec.specs.Kept.{Kept, now_of}
+use Rattle.zy_exec.specs.Replay.{step}
 use Rattle.zy_exec.specs.Trail.{nowhere}
-use Rattle.zy_exec.proofs.ReplayLemmas.{length-last, replayed_push}
+use Rattle.zy_exec.proofs.ReplayLemmas.{length-last, now_next, replayed_push}
 use Rattle.zy_exec.proofs.exec.Exec.run.Goals as goal
 
 pub push_done-requires-clause-client : goal.push_done-requires-clause-client
@@ -22,3 +24,11 @@ invariant_of-self-2 g c =
     c.self.invariant c.requires.client c.in_default-push.ensures.ok (rw c.as_slice.ensures.value at c.in-Ok.ensures.state) c.in-Ok.ensures.trail
     c.requires.entry.stamp c.in-Ok.ensures.short_kept (rw (← c.self.view_is) at c.requires.room)
     c.end.ensures.place c.head.ensures (rw c.as_slice.ensures.value at c.in-Ok.ensures.kept) (rw c.in_default.ensures.items at c.push_done.ensures.done) c.push_done.ensures.last
+
+pub returns-clause-now : goal.returns-clause-now
+returns-clause-now g c =
+    let x = c.self.inside in
+    let M = g.M.Machine in
+    now_next M.rules x.spine c.push.new.self x.base_known.items (M.state x.machine) (M.state c.apply.new.machine) (M.trail x.machine) (M.trail c.apply.new.machine) c.args.e
+    c.in_default-push.ensures.ok c.in-Ok.ensures.trail
+    ∙ ap (λ (k : Kept _). step M.rules (now_of M.rules k) c.args.e) c.self.view_is
