@@ -5,7 +5,7 @@ mod asking;
 mod client;
 mod moved;
 mod responses;
-// mod step;
+mod step;
 
 pub use client::{Client, ClientStepped};
 pub use zy_table::{Done, Path};

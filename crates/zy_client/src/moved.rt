@@ -22,6 +22,10 @@ impl Model for Moved {
     ghost Value = { ClientOutcome };
 
     ghost view = { λ m. record { answer = m.answer; state = m.client; sent = m.sent.items; said = m.said.items } };
+
+    ghost use Rattle.zy_client.specs.Ready.{AreInRange};
+
+    ghost invariant = { λ m. AreInRange m.sent.items m.said.items };
 }
 
 impl Client {

@@ -17,7 +17,6 @@ impl Client {
     // A response of the replica with this number.
     #[tactic(auto, unfolding(zy_table::specs::ClientRows::respond))]
     pub(crate) fn responds(self, id: ReplicaId, response: Response) -> Result<Moved, Want>
-        requires { id.0 < self.counts.n }
         ensures { IfOk result (λ m. m ≡ respond_row self id.0 response) }
     {
         let cause = match &self.waiting {
@@ -108,16 +107,23 @@ impl Client {
 
     // The response is kept, and with enough equal ones the request is complete.
     fn keep(mut self, id: ReplicaId, response: Response) -> Result<Client, Want>
-        requires { id.0 < self.counts.n }
         ensures { IfOk result (λ c. c ≡ completed_if (keep_row self id.0 response) response) }
     {
         let done = done_by(&response)?;
         let spec = response.spec.stmt;
-        self.responses[id.0 as usize] = Some(response);
+        self.put(id, response);
         if agreeing(&self.responses, &spec) >= self.counts.fast {
             Ok(self.complete(done))
         } else {
             Ok(self)
+        }
+    }
+
+    fn put(&mut self, id: ReplicaId, response: Response)
+        ensures { self.new ≡ keep_row self.old id.0 response }
+    {
+        if (id.0 as usize) < self.responses.len() {
+            self.responses[id.0 as usize] = Some(response);
         }
     }
 

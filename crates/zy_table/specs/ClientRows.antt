@@ -84,12 +84,12 @@ abbrev pub response_cause : ClientState → Signed Ask → ℕ → Response → 
 response_cause s waiting id r =
     if nat_eq r.spec.stmt.client.0 s.me.0
     then (if nat_lt r.spec.stmt.stamp.0 waiting.stmt.stamp.0 then Some causes.OldStamp
-      else (if nat_lt waiting.stmt.stamp.0 r.spec.stmt.stamp.0 then Some causes.Unmatched
-      else (if same_digest (record { 0 = sha256 r.reply }) r.spec.stmt.reply
-        then (if is_own_order_if s waiting r.spec.stmt r.order
-          then (if is_repeated (kept_of s id) r.spec.stmt then Some causes.Repeat else None)
-          else Some causes.Unmatched)
-        else Some causes.Unmatched)))
+    else (if nat_lt waiting.stmt.stamp.0 r.spec.stmt.stamp.0 then Some causes.Unmatched
+    else (if same_digest (record { 0 = sha256 r.reply }) r.spec.stmt.reply
+    then (if is_own_order_if s waiting r.spec.stmt r.order
+    then (if is_repeated (kept_of s id) r.spec.stmt then Some causes.Repeat else None)
+    else Some causes.Unmatched)
+    else Some causes.Unmatched)))
     else Some causes.Unmatched
 
 abbrev pub keep : ClientState → ℕ → Response → ClientState

@@ -1,6 +1,6 @@
 -- What a client is, as far as its answers tell, and what a step of it does.
 use Rattle.std.specs.Prelude.{ℕ, ◌+◌, ◌-◌, ◌%◌, ◌^◌, Bool, true, false, List, [], ◌∷◌, ◌++◌, map, replicate, Option, Some, None}
-use Rattle.std.specs.List.{flat_map, range_with_len}
+use Rattle.std.specs.List.{range_with_len}
 use Rattle.zy_base.specs.declared.counts.Counts.{Counts}
 use Rattle.zy_base.specs.declared.cause.Cause.{Cause}
 use Rattle.zy_base.specs.declared.ids.ReplicaId.{ReplicaId}
@@ -21,9 +21,7 @@ use Rattle.zy_parts.specs.Signing.{text_of}
 use Rattle.zy_parts.specs.Statements.{ask_fields}
 use Rattle.zy_parts.specs.declared.signed.Signed.{Signed}
 use Rattle.zy_parts.specs.declared.statements.Ask.{Ask}
-use Rattle.zy_frames.specs.Frames.{spelling}
-use Rattle.zy_table.specs.declared.deeds.To.{To}
-use Rattle.zy_table.specs.declared.deeds.To.TheVariants.{All, One}
+use Rattle.zy_table.specs.Sending.{outgoing_to}
 use Rattle.zy_table.specs.declared.deeds.Sent.{Sent}
 use Rattle.zy_table.specs.declared.client.Done.{Done}
 use Rattle.zy_table.specs.declared.client.Response.{Response}
@@ -91,12 +89,12 @@ taken s = record { answer = Taken; state = s; sent = []; said = [] }
 
 -- ---- what others see
 
-abbrev pub receivers : ℕ → To → List Party
-receivers n All = map (λ id. Replica (record { 0 = id })) (range_with_len 0 n)
-receivers n (One party) = party ∷ []
+-- all replicas, in rising number
+abbrev pub all_replicas : ℕ → List Party
+all_replicas n = map (λ id. Replica (record { 0 = id })) (range_with_len 0 n)
 
-abbrev pub outgoing_of : ℕ → List Sent → List (Party × List ℕ)
-outgoing_of n sent = flat_map (λ s. map (λ to. (to, spelling s.frame)) (receivers n s.to)) sent
+abbrev pub client_outgoing : ℕ → List Sent → List (Party × List ℕ)
+client_outgoing n sent = outgoing_to (all_replicas n) sent
 
 abbrev pub spoken_of : ClientId → Ask → Spoken
 spoken_of me ask = record { text = text_of numbers.ask ask_fields (Client me) ask; stood = None; pairs = 0 }

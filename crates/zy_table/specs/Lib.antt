@@ -8,3 +8,4 @@ pub mod Roles
 pub mod Step
 pub mod ClientState
 pub mod ClientRows
+pub mod Sending

@@ -4,6 +4,8 @@
 
 mod client;
 mod deeds;
+mod sending;
 
 pub use client::{Done, Path, Response};
 pub use deeds::{Act, Body, Deeds, Gains, Got, Remark, Sent, To};
+pub use sending::outgoing;

@@ -26,9 +26,16 @@ in_range s stamp is fits op sig = (((omega arith, omega arith), op), sig)
 pub invariant_of-result : goal.invariant_of-result
 invariant_of-result c =
     let leaf : 1 ≤ leaves_of (record {
-      me = c.self.inside.me; counts = c.self.inside.counts; keys = c.self.inside.directory; sealer = c.self.inside.sealer;
-      known_view = c.self.inside.known_view; stamp = c.self.inside.stamp; waiting = c.self.inside.waiting;
-      responses = c.self.inside.responses.items; done = c.self.inside.done }) = rw (← c.self.view_is) at c.requires.leaf in
+      me = c.self.inside.me;
+      counts = c.self.inside.counts;
+      keys = c.self.inside.directory;
+      sealer = c.self.inside.sealer;
+      known_view = c.self.inside.known_view;
+      stamp = c.self.inside.stamp;
+      waiting = c.self.inside.waiting;
+      responses = c.self.inside.responses.items;
+      done = c.self.inside.done;
+    }) = rw (← c.self.view_is) at c.requires.leaf in
     let seen = ap (λ (s : ClientState). s.stamp.0) c.self.view_is in
     let stamp : c.args.ask.stamp.0 ≡ c.self.inside.stamp.0 + 1 = omega (arith, c.requires.stamp, seen) in
     let stmt = ap (λ (s : Signed Ask). s.stmt) c.in_ok-signed.ensures.value in
@@ -38,7 +45,7 @@ invariant_of-result c =
     record {
       signer = rw c.in_ok-signed.ensures.spent c.self.invariant.signer;
       stamp = rw (c.in_ok-said.ensures, c.in_ok-signed.ensures.spent, stamp)
-        (stamp_goes_on c.self.inside.stamp.0 (2 ^ levels_of c.self.inside.sealer.key.height) c.self.inside.sealer.key.next _ leaf c.self.invariant.stamp);
+          (stamp_goes_on c.self.inside.stamp.0 (2 ^ levels_of c.self.inside.sealer.key.height) c.self.inside.sealer.key.next _ leaf c.self.invariant.stamp);
       waiting = λ x is. let same : c.in_ok-signed.signed ≡ x = cc in subst (IsSignedInRange IsAskInRange) same (in_range c.in_ok-signed.signed _ told fits op c.in_ok-signed.ensures.short);
       responses = rw c.in_ok-responses.ensures (length-replicate _ _);
     }
