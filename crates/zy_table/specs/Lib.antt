@@ -6,3 +6,6 @@ pub mod Orders
 pub mod Holes
 pub mod Roles
 pub mod Step
+pub mod ClientState
+pub mod ClientRows
+pub mod Sending

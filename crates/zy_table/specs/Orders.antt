@@ -73,8 +73,8 @@ abbrev pub hold_order : {S : Type 0} → Rules S → State S → OrderFrame → 
 hold_order R s frame =
     if owes_hole s
     then (if nat_le 1 (leaves_of s)
-      then ends Held (ask_for_missing R (record s { orders = with_order s.orders frame }))
-      else refused causes.KeySpent s)
+    then ends Held (ask_for_missing R (record s { orders = with_order s.orders frame }))
+    else refused causes.KeySpent s)
     else ends Held (begin (record s { orders = with_order s.orders frame }))
 
 -- ---- the row

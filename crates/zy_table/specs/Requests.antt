@@ -46,8 +46,8 @@ abbrev pub respond_anew : {S : Type 0} → Rules S → State S → Spec → Know
 respond_anew R s spec known =
     if nat_le 1 (leaves_of s)
     then (let signed = sealed_by numbers.spec spec_fields s.sealer spec in
-      ends Taken (response_of s signed known
-      (act (Says (record { body = bodies.Spec spec; stood = stood_of R s })) (begin (with_spec (spent s) signed)))))
+    ends Taken (response_of s signed known
+    (act (Says (record { body = bodies.Spec spec; stood = stood_of R s })) (begin (with_spec (spent s) signed)))))
     else refused causes.KeySpent s
 
 -- the response that was signed last, where it is this one

@@ -2,6 +2,10 @@
 //! what a step does. The code that follows the table stands in the crates above.
 #![tactic(auto)]
 
+mod client;
 mod deeds;
+mod sending;
 
+pub use client::{Done, Path, Response};
 pub use deeds::{Act, Body, Deeds, Gains, Got, Remark, Sent, To};
+pub use sending::outgoing;

@@ -1,0 +1,24 @@
+-- What holds of every client.
+use Rattle.std.specs.Prelude.{◌≡◌, ◌≤◌, ◌<◌, ◌+◌, ◌^◌, ℕ, List, length}
+use Rattle.std.specs.List.{AllByRecursion}
+use Rattle.std.specs.Option.{ForSome}
+use Rattle.zy_base.specs.declared.ids.Party.TheVariants.{Client}
+use Rattle.zy_parts.specs.Signing.{IsSignedInRange}
+use Rattle.zy_parts.specs.Statements.{IsAskInRange}
+use Rattle.zy_parts.specs.declared.statements.Ask.{Ask}
+use Rattle.zy_frames.specs.Frames.{IsFrameInRange}
+use Rattle.zy_table.specs.declared.deeds.Sent.{Sent}
+use Rattle.zy_table.specs.ClientState.{ClientState, leaves_of}
+
+pub record IsReady (s : ClientState) : Type 0 where
+  -- it signs as itself
+  pub signer : s.sealer.me ≡ Client s.me
+  -- each request raises the stamp by one and spends a leaf, and a key has at most 1,024 of them
+  pub stamp : s.stamp.0 + leaves_of s ≤ 2 ^ 61 + 2 ^ 10
+  pub waiting : ForSome s.waiting (IsSignedInRange IsAskInRange)
+  pub responses : length s.responses ≡ s.counts.n
+
+-- what a step sends and signs can be spelled
+pub record AreInRange (sent : List Sent) (said : List Ask) : Type 0 where
+  pub frames : AllByRecursion (λ s. IsFrameInRange s.frame) sent
+  pub asks : AllByRecursion IsAskInRange said

@@ -1,0 +1,11 @@
+//! The client's core: it asks, keeps the replicas' responses, and decides from them when its request is complete.
+#![tactic(auto)]
+
+mod asking;
+mod client;
+mod moved;
+mod responses;
+mod step;
+
+pub use client::{Client, ClientStepped};
+pub use zy_table::{Done, Path};

@@ -1,0 +1,56 @@
+ghost use Rattle.std.specs.Prelude.{◌≡◌, ◌∷◌, ◌++◌, []};
+ghost use Rattle.zy_table.specs.ClientState.{refused, taken};
+
+use crate::Client;
+use std::marker::Model;
+use zy_base::{Answer, Cause};
+use zy_parts::Ask;
+use zy_table::Sent;
+
+// What an event made of a client, with the frames and the requests as they are.
+#[derive(Drop)]
+pub(crate) struct Moved {
+    pub(crate) answer: Answer,
+    pub(crate) client: Client,
+    pub(crate) sent: Vec<Sent>,
+    pub(crate) said: Vec<Ask>,
+}
+
+impl Model for Moved {
+    ghost use Rattle.zy_table.specs.ClientState.{ClientOutcome};
+
+    ghost Value = { ClientOutcome };
+
+    ghost view = { λ m. record { answer = m.answer; state = m.client; sent = m.sent.items; said = m.said.items } };
+
+    ghost use Rattle.zy_client.specs.Ready.{AreInRange};
+
+    ghost invariant = { λ m. AreInRange m.sent.items m.said.items };
+}
+
+impl Client {
+    pub(crate) fn refused(self, cause: Cause) -> Moved
+        ensures { result ≡ refused cause self }
+    {
+        self.answered(Answer::Refused(cause))
+    }
+
+    pub(crate) fn taken(self) -> Moved
+        ensures { result ≡ taken self }
+    {
+        self.answered(Answer::Taken)
+    }
+
+    // With nothing sent and nothing said.
+    fn answered(self, answer: Answer) -> Moved
+        ensures { result ≡ record { answer = answer; state = self; sent = []; said = [] } }
+    {
+        let alloc = self.alloc;
+        Moved {
+            answer,
+            client: self,
+            sent: Vec::new(alloc),
+            said: Vec::new(alloc),
+        }
+    }
+}

@@ -1,0 +1,203 @@
+ghost use Rattle.std.specs.Prelude.{◌≡◌, ◌≤◌, length, map, IfOk, Ok, if◌then◌else◌};
+ghost use Rattle.std.specs.List.{AllByRecursion};
+ghost use Rattle.zy_frames.specs.Frames.{IsFrameInRange, frame_in};
+ghost use Rattle.zy_parts.specs.Statements.{IsAskInRange};
+ghost use Rattle.zy_table.specs.ClientState.{spoken_of, timers_of, all_replicas};
+ghost use Rattle.zy_base.specs.declared.cause.Cause.TheVariants as causes;
+ghost use Rattle.zy_table.specs.Roles.{is_replica};
+ghost use Rattle.zy_table.specs.ClientState.{refused};
+ghost use Rattle.zy_table.specs.ClientRows.{ask as ask_row, hear as hear_row, hear_response as hear_response_row, is_by_primary, local_while, decoded, timer as timer_row, client_step};
+ghost use Rattle.zy_client.specs.Stepped.{IsStepped};
+
+use crate::moved::Moved;
+use crate::{Client, ClientStepped};
+use std::alloc::Global;
+use zy_base::{
+    Bytes, Cause, ClientId, Event, Items, Party, ReplicaId, Said, Spoken, TimerKind, Want,
+};
+use zy_frames::{DecodeFault, Frame, decode, parts};
+use zy_parts::{Ask, Order, Signed, signed_text};
+use zy_seal::screen_parts;
+use zy_table::{Response, outgoing};
+
+impl Client {
+    /// Asks: the request with the next stamp goes to the primary of the known view. Refused as `Waiting` while an
+    /// earlier request waits, and as `KeySpent` where no leaf is left.
+    pub fn ask(self, op: Bytes) -> Result<ClientStepped, Want>
+        requires { length op ≤ 1100 }
+        ensures { IfOk result (IsStepped (ask_row self op)) }
+    {
+        self.asks(op)?.finish()
+    }
+
+    /// What an event makes of the client.
+    pub fn step(self, event: Event) -> Result<ClientStepped, Want>
+        ensures { IfOk result (IsStepped (client_step self event)) }
+    {
+        self.moves(event)?.finish()
+    }
+
+    #[tactic(auto, unfolding(zy_table::specs::ClientRows::client_step))]
+    fn moves(self, event: Event) -> Result<Moved, Want>
+        ensures { IfOk result (λ m. m ≡ client_step self event) }
+    {
+        match event {
+            Event::Heard(bytes) => self.hears_bytes(&bytes),
+            Event::Timer(kind) => self.runs_out(kind),
+        }
+    }
+
+    fn runs_out(self, kind: TimerKind) -> Result<Moved, Want>
+        ensures { IfOk result (λ m. m ≡ timer_row self kind) }
+    {
+        match kind {
+            TimerKind::Answer => self.ask_again(),
+            TimerKind::Request => Ok(self.taken()),
+            TimerKind::Change => Ok(self.taken()),
+        }
+    }
+
+    fn hears_bytes(self, bytes: &Bytes) -> Result<Moved, Want>
+        ensures { IfOk result (λ m. m ≡ decoded self (frame_in bytes.now)) }
+    {
+        match decode(self.alloc, bytes.as_slice()) {
+            Ok(frame) => self.hears(frame),
+            Err(DecodeFault::Frame(fault)) => Ok(self.refused(Cause::NotFrame(fault))),
+            Err(DecodeFault::Want) => Err(Want),
+        }
+    }
+
+    fn hears(self, frame: Frame) -> Result<Moved, Want>
+        requires { IsFrameInRange frame }
+        ensures { IfOk result (λ m. m ≡ decoded self (Ok frame)) }
+    {
+        let parts = parts(self.alloc, &frame)?;
+        match screen_parts(&self.directory, &parts) {
+            Some(cause) => Ok(self.refused(cause)),
+            None => self.hear(frame),
+        }
+    }
+
+    // A frame whose parts are verified.
+    fn hear(self, frame: Frame) -> Result<Moved, Want>
+        requires { IsFrameInRange frame }
+        ensures { IfOk result (λ m. m ≡ hear_row self frame) }
+    {
+        match frame {
+            Frame::SpecResponse { spec, reply, order } => {
+                let by = spec.by;
+                self.hear_response(Response { spec, reply, order }, by)
+            }
+            Frame::LocalCommit(local) => Ok(self.hear_local(local.by)),
+            Frame::Request(_) => Ok(self.refused(Cause::WrongRole)),
+            Frame::Order(_) => Ok(self.refused(Cause::WrongRole)),
+            Frame::Commit(_) => Ok(self.refused(Cause::WrongRole)),
+            Frame::ConfirmReq { .. } => Ok(self.refused(Cause::WrongRole)),
+            Frame::FillHole(_) => Ok(self.refused(Cause::WrongRole)),
+            Frame::Hate(_) => Ok(self.refused(Cause::WrongRole)),
+            Frame::Pom(_, _) => Ok(self.refused(Cause::WrongRole)),
+            Frame::Checkpoint(_) => Ok(self.refused(Cause::WrongRole)),
+        }
+    }
+
+    fn hear_response(self, response: Response, by: Party) -> Result<Moved, Want>
+        ensures { IfOk result (λ m. m ≡ hear_response_row self response by) }
+    {
+        match by {
+            Party::Client(_) => Ok(self.refused(Cause::WrongRole)),
+            Party::Replica(id) => {
+                if self.is_by_primary(&response.order) {
+                    self.responds(id, response)
+                } else {
+                    Ok(self.refused(Cause::WrongRole))
+                }
+            }
+        }
+    }
+
+    // An order beside a response is signed by the primary of its view.
+    fn is_by_primary(&self, order: &Option<Signed<Order>>) -> bool
+        ensures { result ≡ is_by_primary self.now order.now }
+    {
+        match order {
+            None => true,
+            Some(order) => match order.by {
+                Party::Client(_) => false,
+                Party::Replica(id) => self.counts.primary(order.stmt.view) == id,
+            },
+        }
+    }
+
+    // No certificate was sent yet that a local commit could belong to.
+    fn hear_local(self, by: Party) -> Moved
+        ensures { result ≡ (if is_replica by then local_while self self.waiting else refused causes.WrongRole self) }
+    {
+        match by {
+            Party::Client(_) => self.refused(Cause::WrongRole),
+            Party::Replica(_) => match self.waiting() {
+                None => self.refused(Cause::Finished),
+                Some(_) => self.refused(Cause::Unmatched),
+            },
+        }
+    }
+}
+
+impl Moved {
+    // Frames and requests as bytes.
+    fn finish(self) -> Result<ClientStepped, Want>
+        ensures { IfOk result (IsStepped self) }
+    {
+        let Moved {
+            answer,
+            client,
+            sent,
+            said,
+        } = self;
+        let all = all_replicas_of(client.alloc, client.counts.n)?;
+        let out = outgoing(client.alloc, &all, &sent)?;
+        let said = said_as(client.alloc, client.me, &said)?;
+        let timers = client.timers();
+        Ok(ClientStepped {
+            client,
+            answer,
+            out,
+            timers,
+            said,
+        })
+    }
+}
+
+// All replicas, in rising number.
+fn all_replicas_of(alloc: Global, replicas: u64) -> Result<Vec<Party>, Want>
+    requires { replicas ≤ 16 }
+    ensures { IfOk result (λ v. v.items ≡ all_replicas replicas) }
+{
+    let mut all = Vec::new(alloc);
+    for id in 0..replicas {
+        all.push(Party::Replica(ReplicaId(id as u8)))?;
+    }
+    Ok(all)
+}
+
+// The signed texts of some requests.
+fn said_as(alloc: Global, me: ClientId, asks: &[Ask]) -> Result<Said, Want>
+    requires { AllByRecursion IsAskInRange asks.now }
+    ensures { IfOk result (λ said. said ≡ map (spoken_of me) asks.now) }
+{
+    let mut said = Items::new(alloc);
+    for ask in asks {
+        said.push(spoken(alloc, me, ask)?)?;
+    }
+    Ok(said)
+}
+
+fn spoken(alloc: Global, me: ClientId, ask: &Ask) -> Result<Spoken, Want>
+    requires { IsAskInRange ask.now }
+    ensures { IfOk result (λ spoken. spoken ≡ spoken_of me ask.now) }
+{
+    Ok(Spoken {
+        text: signed_text(alloc, Party::Client(me), ask)?,
+        stood: None,
+        pairs: 0,
+    })
+}

@@ -1,0 +1,189 @@
+-- What a client makes of an event.
+use Rattle.std.specs.Prelude.{ℕ, ◌+◌, ◌%◌, nat_lt, nat_le, nat_eq, ◌&&◌, Bool, true, false, if◌then◌else◌, List, [], ◌∷◌, count_by, slice_set, slice_index_or, Option, Some, None, Result, Ok, Err}
+use Rattle.sha2.specs.Sha256.{sha256}
+use Rattle.zy_base.specs.declared.counts.Counts.{Counts}
+use Rattle.zy_base.specs.declared.frame_fault.FrameFault.{FrameFault}
+use Rattle.zy_base.specs.declared.cause.Cause.{Cause}
+use Rattle.zy_base.specs.declared.cause.Cause.TheVariants as causes
+use Rattle.zy_base.specs.declared.ids.Party.{Party}
+use Rattle.zy_base.specs.declared.ids.Party.TheVariants.{Replica, Client}
+use Rattle.zy_base.specs.declared.step.Answer.TheVariants.{Taken}
+use Rattle.zy_base.specs.declared.step.Event.{Event}
+use Rattle.zy_base.specs.declared.step.Event.TheVariants.{Heard, Timer}
+use Rattle.zy_base.specs.declared.step.TimerKind.{TimerKind}
+use Rattle.zy_base.specs.declared.step.TimerKind.TheVariants as timers
+use Rattle.zy_chain.specs.Entries.{digest_of_request}
+use Rattle.zy_parts.specs.Numbers as numbers
+use Rattle.zy_parts.specs.Statements.{ask_fields}
+use Rattle.zy_parts.specs.declared.signed.Signed.{Signed}
+use Rattle.zy_parts.specs.declared.statements.Ask.{Ask}
+use Rattle.zy_parts.specs.declared.statements.Order.{Order}
+use Rattle.zy_parts.specs.declared.statements.Spec.{Spec}
+use Rattle.zy_frames.specs.declared.frame.Frame.{Frame}
+use Rattle.zy_frames.specs.declared.frame.Frame.TheVariants as frames
+use Rattle.zy_frames.specs.Frames.{frame_in, parts_of}
+use Rattle.zy_seal.specs.Screening.{screen}
+use Rattle.zy_seal.specs.Sealing.{sealed_by, spent_one}
+use Rattle.zy_admit.specs.Judging.{same_digest}
+use Rattle.zy_table.specs.declared.deeds.To.TheVariants.{All, One}
+use Rattle.zy_table.specs.Roles.{is_replica, is_primary_of}
+use Rattle.zy_table.specs.Requests.{same_spec}
+use Rattle.zy_table.specs.declared.client.Done.{Done}
+use Rattle.zy_table.specs.declared.client.Path.TheVariants.{Fast}
+use Rattle.zy_table.specs.declared.client.Response.{Response}
+use Rattle.zy_table.specs.ClientState.{ClientState, ClientOutcome, no_responses, leaves_of, refused, taken}
+
+-- ---- asking
+
+abbrev pub next_ask : ClientState → List ℕ → Ask
+next_ask s op = record { stamp = record { 0 = s.stamp.0 + 1 }; op = op }
+
+-- the request is signed, kept, and sent to the primary of the known view; responses to earlier ones are dropped
+abbrev pub asked : ClientState → Ask → ClientOutcome
+asked s ask =
+    let signed = sealed_by numbers.ask ask_fields s.sealer ask in
+    record {
+      answer = Taken;
+      state = record s { sealer = spent_one s.sealer; stamp = ask.stamp; waiting = Some signed; responses = no_responses s.counts };
+      sent = record { to = One (Replica (record { 0 = s.known_view.0 % s.counts.n })); frame = frames.Request signed } ∷ [];
+      said = ask ∷ [];
+    }
+
+abbrev pub ask_while : ClientState → Option (Signed Ask) → List ℕ → ClientOutcome
+ask_while s (Some waiting) op = refused (causes.Waiting waiting.stmt.stamp) s
+ask_while s None op = if nat_le 1 (leaves_of s) then asked s (next_ask s op) else refused causes.KeySpent s
+
+-- a new request
+unfoldable pub ask : ClientState → List ℕ → ClientOutcome
+ask s op = ask_while s s.waiting op
+
+-- ---- a speculative response
+
+-- the order is that of the response, and for the client's own request
+abbrev pub is_own_order : ClientState → Signed Ask → Spec → Order → Bool
+is_own_order s waiting spec order =
+    nat_eq order.view.0 spec.view.0
+    && (nat_eq order.place.0 spec.place.0
+    && (same_digest order.head spec.head
+    && same_digest order.request (digest_of_request s.me waiting.stmt.stamp waiting.stmt.op)))
+
+abbrev pub is_own_order_if : ClientState → Signed Ask → Spec → Option (Signed Order) → Bool
+is_own_order_if s waiting spec None = true
+is_own_order_if s waiting spec (Some order) = is_own_order s waiting spec order.stmt
+
+-- a response of this view or a greater one is kept already
+abbrev pub is_repeated : Option Response → Spec → Bool
+is_repeated None spec = false
+is_repeated (Some kept) spec = nat_le spec.view.0 kept.spec.stmt.view.0
+
+abbrev pub kept_of : ClientState → ℕ → Option Response
+kept_of s id = slice_index_or s.responses id None
+
+-- why a response to the waiting request isn't kept
+abbrev pub response_cause : ClientState → Signed Ask → ℕ → Response → Option Cause
+response_cause s waiting id r =
+    if nat_eq r.spec.stmt.client.0 s.me.0
+    then (if nat_lt r.spec.stmt.stamp.0 waiting.stmt.stamp.0 then Some causes.OldStamp
+    else (if nat_lt waiting.stmt.stamp.0 r.spec.stmt.stamp.0 then Some causes.Unmatched
+    else (if same_digest (record { 0 = sha256 r.reply }) r.spec.stmt.reply
+    then (if is_own_order_if s waiting r.spec.stmt r.order
+    then (if is_repeated (kept_of s id) r.spec.stmt then Some causes.Repeat else None)
+    else Some causes.Unmatched)
+    else Some causes.Unmatched)))
+    else Some causes.Unmatched
+
+abbrev pub keep : ClientState → ℕ → Response → ClientState
+keep s id r = record s { responses = slice_set s.responses id (Some r) }
+
+-- the kept responses that are equal to one in all fields
+abbrev pub agrees : Spec → Option Response → Bool
+agrees spec None = false
+agrees spec (Some kept) = same_spec kept.spec.stmt spec
+
+abbrev pub agreeing : ClientState → Spec → ℕ
+agreeing s spec = count_by (agrees spec) s.responses
+
+-- what the client counts as complete by a response that has enough equals
+abbrev pub done_of : Response → Done
+done_of r =
+    record {
+      stamp = r.spec.stmt.stamp;
+      view = r.spec.stmt.view;
+      place = r.spec.stmt.place;
+      head = r.spec.stmt.head;
+      path = Fast;
+      reply = r.reply;
+    }
+
+abbrev pub complete : ClientState → Response → ClientState
+complete s r = record s { known_view = r.spec.stmt.view; waiting = None; done = Some (done_of r) }
+
+-- with enough equal responses the request is complete
+abbrev pub completed_if : ClientState → Response → ClientState
+completed_if s r = if nat_le s.counts.fast (agreeing s r.spec.stmt) then complete s r else s
+
+abbrev pub keep_unless : Option Cause → ClientState → ℕ → Response → ClientOutcome
+keep_unless (Some cause) s id r = refused cause s
+keep_unless None s id r = taken (completed_if (keep s id r) r)
+
+abbrev pub respond_while : ClientState → Option (Signed Ask) → ℕ → Response → ClientOutcome
+respond_while s None id r = refused causes.Finished s
+respond_while s (Some waiting) id r = keep_unless (response_cause s waiting id r) s id r
+
+-- a response of the replica with this number
+unfoldable pub respond : ClientState → ℕ → Response → ClientOutcome
+respond s id r = respond_while s s.waiting id r
+
+-- ---- the other rows
+
+-- no certificate was sent yet that a local commit could belong to
+abbrev pub local_while : ClientState → Option (Signed Ask) → ClientOutcome
+local_while s None = refused causes.Finished s
+local_while s (Some waiting) = refused causes.Unmatched s
+
+-- the request goes to all replicas
+abbrev pub ask_again : ClientState → Option (Signed Ask) → ClientOutcome
+ask_again s None = taken s
+ask_again s (Some waiting) = record { answer = Taken; state = s; sent = record { to = All; frame = frames.Request waiting } ∷ []; said = [] }
+
+-- ---- frames
+
+-- an order beside a response is signed by the primary of its view
+abbrev pub is_by_primary : ClientState → Option (Signed Order) → Bool
+is_by_primary s None = true
+is_by_primary s (Some order) = is_primary_of s.counts order.stmt.view.0 order.by
+
+-- of a client only responses and local commits are heard, each from a replica
+abbrev pub hear_response : ClientState → Response → Party → ClientOutcome
+hear_response s r (Client id) = refused causes.WrongRole s
+hear_response s r (Replica id) = if is_by_primary s r.order then respond s id.0 r else refused causes.WrongRole s
+
+abbrev pub hear : ClientState → Frame → ClientOutcome
+hear s (frames.SpecResponse spec reply order) = hear_response s (record { spec = spec; reply = reply; order = order }) spec.by
+hear s (frames.LocalCommit local) = if is_replica local.by then local_while s s.waiting else refused causes.WrongRole s
+hear s (frames.Request ask) = refused causes.WrongRole s
+hear s (frames.Order both) = refused causes.WrongRole s
+hear s (frames.Commit specs) = refused causes.WrongRole s
+hear s (frames.ConfirmReq confirm ask) = refused causes.WrongRole s
+hear s (frames.FillHole hole) = refused causes.WrongRole s
+hear s (frames.Hate hate) = refused causes.WrongRole s
+hear s (frames.Pom first second) = refused causes.WrongRole s
+hear s (frames.Checkpoint check) = refused causes.WrongRole s
+
+abbrev pub unless : Option Cause → ClientState → ClientOutcome → ClientOutcome
+unless None s outcome = outcome
+unless (Some cause) s outcome = refused cause s
+
+abbrev pub decoded : ClientState → Result Frame FrameFault → ClientOutcome
+decoded s (Err fault) = refused (causes.NotFrame fault) s
+decoded s (Ok frame) = unless (screen s.keys (parts_of frame)) s (hear s frame)
+
+abbrev pub timer : ClientState → TimerKind → ClientOutcome
+timer s timers.Answer = ask_again s s.waiting
+timer s timers.Request = taken s
+timer s timers.Change = taken s
+
+-- the outcome of an event
+unfoldable pub client_step : ClientState → Event → ClientOutcome
+client_step s (Heard bytes) = decoded s (frame_in bytes)
+client_step s (Timer kind) = timer s kind
