@@ -94,6 +94,13 @@ impl<M: Machine> Exec<M> {
         self.spine.head()
     }
 
+    /// How many places lie between two snapshots.
+    pub fn interval(&self) -> u64
+        ensures { result ≡ self.now.interval }
+    {
+        self.interval
+    }
+
     /// The base, the entries above it and the heads.
     pub fn spine(&self) -> &Spine
         ensures { result.now ≡ stretch_of self.now }
