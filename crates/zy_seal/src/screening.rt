@@ -41,7 +41,12 @@ fn is_unknown_signer(directory: &Directory, part: &Part) -> bool
 fn is_bad_signature(directory: &Directory, part: &Part) -> bool
     ensures { result ≡ is_bad (answer_to directory.now part.now) }
 {
-    match check(directory, part.by, part.text.as_slice(), part.sig.as_slice()) {
+    match check(
+        directory,
+        part.by,
+        part.text.as_slice(),
+        part.sig.as_slice(),
+    ) {
         SealAnswer::Yes => false,
         SealAnswer::UnknownParty => false,
         SealAnswer::BadSignature => true,

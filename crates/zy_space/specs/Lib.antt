@@ -2,11 +2,9 @@
 pub mod TupleSpace
 pub mod Timeline
 pub mod Service
-
 -- inner forms, which only private contracts and representations cite
 pub mod Tag
 pub mod Place
 pub mod Marks
-
 -- the laws of a replicated machine, which are proved
 pub mod Laws
