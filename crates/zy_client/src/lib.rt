@@ -9,3 +9,6 @@ mod step;
 
 pub use client::{Client, ClientStepped};
 pub use zy_table::{Done, Path};
+
+#[cfg(test)]
+mod tests;
