@@ -1,0 +1,6 @@
+use Rattle.zy_lawful.proofs.Records.{records}
+use Rattle.zy_lawful.proofs.Goes.{lead_saying}
+use Rattle.zy_lawful.proofs.steps.lawful_steps.Goals as goal
+
+pub returns : goal.returns
+returns g c = ?

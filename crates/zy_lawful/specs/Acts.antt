@@ -1,0 +1,44 @@
+-- The deeds of a step as acts of the law: what a replica says, and where it stands after each entry.
+use Rattle.std.specs.Prelude.{ℕ, ◌+◌, ◌-◌, List, [], ◌∷◌, ◌++◌, length}
+use Rattle.zy_chain.specs.declared.entry.Entry.{Entry}
+use Rattle.zy_law.specs.Steps as law
+use Rattle.zy_law.specs.Steps.Act.{Say, Move}
+use Rattle.zy_law.specs.World.{Statement, World}
+use Rattle.zy_law.specs.World.Statement.{Order, Spec, Other}
+use Rattle.zy_table.specs.Deeds.{Outcome}
+use Rattle.zy_table.specs.State.{State, own_view}
+use Rattle.zy_table.specs.declared.deeds.Act.{Act}
+use Rattle.zy_table.specs.declared.deeds.Act.TheVariants.{Says, Gains}
+use Rattle.zy_table.specs.declared.deeds.Body.{Body}
+use Rattle.zy_table.specs.declared.deeds.Body.TheVariants as bodies
+
+-- what the law reads in a statement; safety rests on no hole
+abbrev pub statement_of : Body → Statement
+statement_of (bodies.Order order) =
+    Order order.view.0 (record { place = order.place.0; head = order.head }) order.request
+statement_of (bodies.Spec spec) =
+    Spec spec.view.0 (record { place = spec.place.0; head = spec.head })
+    (record { client = spec.client.0; stamp = spec.stamp.0; reply = spec.reply })
+statement_of (bodies.Hole hole) = Other
+
+-- A replica's acts in a view. Each statement has the number of the last stand so far, and each entry makes one stand more.
+abbrev pub law_acts : ℕ → ℕ → List Entry → List Act → List law.Act
+law_acts view number history [] = []
+law_acts view number history (Says remark ∷ acts) =
+    Say (record { what = statement_of remark.body; when = number }) ∷ law_acts view number history acts
+law_acts view number history (Gains got ∷ acts) =
+    Move (record { view = view; history = history ++ got.entry ∷ [] })
+    ∷ law_acts view (number + 1) (history ++ got.entry ∷ []) acts
+
+-- the history with the entries that were gained
+abbrev pub history_after : List Entry → List Act → List Entry
+history_after history [] = history
+history_after history (Says remark ∷ acts) = history_after history acts
+history_after history (Gains got ∷ acts) = history_after (history ++ got.entry ∷ []) acts
+
+-- the acts of a replica with a history, by the outcome of its step
+abbrev pub acts_of : {S : Type 0} → World → ℕ → State S → List Entry → Outcome S → List law.Act
+acts_of w r s history outcome = law_acts (own_view s) (length (w.past r) - 1) history outcome.deeds.acts
+
+abbrev pub world_after : {S : Type 0} → World → ℕ → State S → List Entry → Outcome S → World
+world_after w r s history outcome = law.after_acts w r (acts_of w r s history outcome)

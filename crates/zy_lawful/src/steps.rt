@@ -1,0 +1,18 @@
+ghost use Rattle.std.specs.Prelude.{◌≡◌, ℕ, List};
+ghost use Rattle.zy_base.specs.declared.step.Event.{Event};
+ghost use Rattle.zy_chain.specs.declared.entry.Entry.{Entry};
+ghost use Rattle.zy_law.specs.Steps.{AllMay};
+ghost use Rattle.zy_law.specs.World.{World};
+ghost use Rattle.zy_lawful.specs.Acts.{acts_of, world_after, history_after};
+ghost use Rattle.zy_lawful.specs.Tied.{IsTied, IsHonestStep};
+ghost use Rattle.zy_table.specs.State.{State};
+ghost use Rattle.zy_table.specs.Step.{step};
+
+use zy_base::Machine;
+
+/// Where a correct replica is tied to a lawful world, each event is answered lawfully: what it says and where it stands
+/// next are allowed, one after another, and it is tied to the world after them with the history after them.
+pub fn lawful_steps<M: Machine>()
+    ensures acts { (w : World) (r : ℕ) (s : State M.State) (h : List Entry) (event : Event) → IsHonestStep M.rules w r s h event → AllMay w r (acts_of w r s h (step M.rules s event)) }
+    ensures tied { (w : World) (r : ℕ) (s : State M.State) (h : List Entry) (event : Event) → IsHonestStep M.rules w r s h event → IsTied M.rules (world_after w r s h (step M.rules s event)) r (step M.rules s event).state (history_after h (step M.rules s event).deeds.acts) }
+{}
