@@ -1,2 +1,4 @@
 pub mod Records
 pub mod Goes
+pub mod OneEntry
+pub mod Runs
