@@ -2,3 +2,5 @@ pub mod Records
 pub mod Goes
 pub mod OneEntry
 pub mod Runs
+pub mod Rows
+pub mod EachStep
