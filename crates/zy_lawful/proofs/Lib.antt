@@ -4,3 +4,4 @@ pub mod OneEntry
 pub mod Runs
 pub mod Rows
 pub mod EachStep
+pub mod TieLemmas

@@ -1,9 +1,9 @@
 -- The deeds of a step as acts of the law: what a replica says, and where it stands after each entry.
-use Rattle.std.specs.Prelude.{ℕ, ◌+◌, ◌-◌, List, [], ◌∷◌, ◌++◌, length}
+use Rattle.std.specs.Prelude.{ℕ, ◌+◌, ◌-◌, nat_eq, if◌then◌else◌, List, [], ◌∷◌, ◌++◌, length}
 use Rattle.zy_chain.specs.declared.entry.Entry.{Entry}
 use Rattle.zy_law.specs.Steps as law
 use Rattle.zy_law.specs.Steps.Act.{Say, Move}
-use Rattle.zy_law.specs.World.{Statement, World}
+use Rattle.zy_law.specs.World.{Spoken, Stand, Statement, World}
 use Rattle.zy_law.specs.World.Statement.{Order, Spec, Other}
 use Rattle.zy_table.specs.Deeds.{Outcome}
 use Rattle.zy_table.specs.State.{State, own_view}
@@ -42,3 +42,19 @@ acts_of w r s history outcome = law_acts (own_view s) (length (w.past r) - 1) hi
 
 abbrev pub world_after : {S : Type 0} → World → ℕ → State S → List Entry → Outcome S → World
 world_after w r s history outcome = law.after_acts w r (acts_of w r s history outcome)
+
+-- what is said by some acts, each with the number of the last stand then, and where the replica stands by them
+abbrev pub spoken_in : ℕ → List Act → List Spoken
+spoken_in number [] = []
+spoken_in number (Says remark ∷ acts) = record { what = statement_of remark.body; when = number } ∷ spoken_in number acts
+spoken_in number (Gains got ∷ acts) = spoken_in (number + 1) acts
+
+abbrev pub stands_in : ℕ → List Entry → List Act → List Stand
+stands_in view history [] = []
+stands_in view history (Says remark ∷ acts) = stands_in view history acts
+stands_in view history (Gains got ∷ acts) =
+    record { view = view; history = history ++ got.entry ∷ [] } ∷ stands_in view (history ++ got.entry ∷ []) acts
+
+-- more items at the end of one party's list
+abbrev pub with_more : {A : Type 0} → (ℕ → List A) → ℕ → List A → ℕ → List A
+with_more lists of more q = if nat_eq q of then lists q ++ more else lists q

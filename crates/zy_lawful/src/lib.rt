@@ -3,5 +3,7 @@
 #![tactic(auto)]
 
 mod steps;
+mod ties;
 
 pub use steps::lawful_steps;
+pub use ties::{acts_told, ties_hold};
