@@ -1,5 +1,5 @@
 -- Each step of a tied replica is lawful.
-use Rattle.std.proofs.Common.{◌≡◌, ℕ, ◌+◌, ◌-◌, List, [], length, refl, sym, subst, arith}
+use Rattle.std.proofs.Common.{ℕ, ◌-◌, List, [], length, refl, sym, subst, arith}
 use Rattle.zy_base.specs.Machine.{Rules}
 use Rattle.zy_base.specs.declared.step.Event.{Event}
 use Rattle.zy_chain.specs.declared.entry.Entry.{Entry}

@@ -1,12 +1,11 @@
 -- Acts one after another: with one more at the end.
 use Rattle.std.proofs.Common.{◌≡◌, ℕ, ◌+◌, List, [], ◌∷◌, ◌++◌, refl, sym, ap, ◌∙◌, subst}
-use Rattle.std.specs.List.{AllByRecursion}
 use Rattle.zy_chain.specs.declared.entry.Entry.{Entry}
 use Rattle.zy_law.specs.Steps as law
 use Rattle.zy_law.specs.Steps.Act.{Say, Move}
 use Rattle.zy_law.specs.Steps.{AllMay, MaySay, MayStand, after_act, after_acts, after_saying, after_standing}
 use Rattle.zy_law.specs.World.{World}
-use Rattle.zy_lawful.specs.Acts.{law_acts, history_after, statement_of}
+use Rattle.zy_lawful.specs.Acts.{law_acts, history_after, spoken_at, stand_with}
 use Rattle.zy_lawful.specs.Tied.{IsLinkKept, AreLinksKept}
 use Rattle.zy_table.specs.declared.deeds.Act.{Act}
 use Rattle.zy_table.specs.declared.deeds.Got.{Got}
@@ -34,8 +33,8 @@ law_acts-append : (view number : ℕ) (h : List Entry) (xs ys : List Act)
     → law_acts view number h (xs ++ ys) ≡ law_acts view number h xs ++ law_acts view (number_after number xs) (history_after h xs) ys
 unfolding number_after
 law_acts-append view number h [] ys = refl
-law_acts-append view number h (Says remark ∷ xs) ys = ap (λ (l : List law.Act). Say (record { what = statement_of remark.body; when = number }) ∷ l) (law_acts-append view number h xs ys)
-law_acts-append view number h (Gains got ∷ xs) ys = ap (λ (l : List law.Act). Move (record { view = view; history = h ++ got.entry ∷ [] }) ∷ l) (law_acts-append view (number + 1) (h ++ got.entry ∷ []) xs ys)
+law_acts-append view number h (Says remark ∷ xs) ys = ap (λ (l : List law.Act). Say (spoken_at number remark) ∷ l) (law_acts-append view number h xs ys)
+law_acts-append view number h (Gains got ∷ xs) ys = ap (λ (l : List law.Act). Move (stand_with view h got) ∷ l) (law_acts-append view (number + 1) (h ++ got.entry ∷ []) xs ys)
 
 history_after-append : (h : List Entry) (xs ys : List Act) → history_after h (xs ++ ys) ≡ history_after (history_after h xs) ys
 history_after-append h [] ys = refl
@@ -80,14 +79,14 @@ lead_on w r view number h acts more v at now lead may =
 
 -- one statement more, and one entry more
 pub lead_saying : (w : World) (r view number : ℕ) (h : List Entry) (acts : List Act) (remark : Remark) (v : World) (at : ℕ) (now : List Entry) → LeadTo w r view number h acts v at now
-    → MaySay v r (record { what = statement_of remark.body; when = at })
-    → LeadTo w r view number h (acts ++ Says remark ∷ []) (after_saying v r (record { what = statement_of remark.body; when = at })) at now
+    → MaySay v r (spoken_at at remark)
+    → LeadTo w r view number h (acts ++ Says remark ∷ []) (after_saying v r (spoken_at at remark)) at now
 unfolding number_after
 lead_saying w r view number h acts remark v at now lead may = lead_on w r view number h acts (Says remark ∷ []) v at now lead (may, tt)
 
 pub lead_moving : (w : World) (r view number : ℕ) (h : List Entry) (acts : List Act) (got : Got) (v : World) (at : ℕ) (now : List Entry) → LeadTo w r view number h acts v at now
-    → MayStand v r (record { view = view; history = now ++ got.entry ∷ [] })
-    → LeadTo w r view number h (acts ++ Gains got ∷ []) (after_standing v r (record { view = view; history = now ++ got.entry ∷ [] })) (at + 1) (now ++ got.entry ∷ [])
+    → MayStand v r (stand_with view now got)
+    → LeadTo w r view number h (acts ++ Gains got ∷ []) (after_standing v r (stand_with view now got)) (at + 1) (now ++ got.entry ∷ [])
 unfolding number_after
 lead_moving w r view number h acts got v at now lead may = lead_on w r view number h acts (Gains got ∷ []) v at now lead (may, tt)
 

@@ -1,9 +1,9 @@
 -- What a replica that stands in the world may say there, and where it may stand next.
-use Rattle.std.proofs.Common.{◌≡◌, ◌≢◌, ℕ, zero, suc, ◌+◌, ◌-◌, ◌%◌, ◌<◌, ◌≤◌, inl, inr, Bool, true, false, cond, eqb, List, [], ◌∷◌, ◌++◌, length, take, drop, get_or, Option, Some, None, refl, sym, ap, ◌∙◌, subst, arith, eq-eqb, ltb-true}
+use Rattle.std.proofs.Common.{◌≡◌, ℕ, ◌+◌, ◌-◌, ◌%◌, ◌<◌, ◌≤◌, inl, inr, Bool, true, cond, List, [], ◌∷◌, ◌++◌, length, take, drop, get_or, Option, Some, None, refl, sym, ap, ◌∙◌, subst, arith, eq-eqb, ltb-true}
 use Rattle.std.specs.Prelude.{slice_get, option_map, unwrap_or, fold}
 use Rattle.std.specs.List.{AllByRecursion}
-use Rattle.std.proofs.lemmas.List.{length-append, take-append-drop, length-take-le, take_all}
-use Rattle.std.proofs.lemmas.Bool.{cases_order, cases_lt}
+use Rattle.std.proofs.lemmas.List.{length-append, take-append-drop, length-take-le}
+use Rattle.std.proofs.lemmas.Bool.{cases_lt}
 use Rattle.std.proofs.lemmas.Option.{same_Some, slice_get_within}
 use Rattle.sha2.specs.Sha256.{sha256}
 use Rattle.zy_base.specs.Machine.{Rules}
@@ -21,11 +21,11 @@ use Rattle.zy_choose.specs.Reports.{PlainReport}
 use Rattle.zy_admit.specs.Judging.{newer, entry_of}
 use Rattle.zy_frames.specs.declared.frame.OrderFrame.{OrderFrame}
 use Rattle.zy_exec.specs.declared.known.Known.{Known}
-use Rattle.zy_exec.specs.Replay.{Point, origin, along, answer_at, known_of}
+use Rattle.zy_exec.specs.Replay.{Point, origin, answer_at, known_of}
 use Rattle.zy_exec.specs.Kept.{Kept, StandsFor, longer, now_of, known_in}
 use Rattle.zy_exec.proofs.ReplayLemmas.{place-along, head-along}
 use Rattle.zy_exec.proofs.HistoryLemmas.{stands_leads, stands_run}
-use Rattle.zy_law.specs.Histories.{Passes, IsEntryAt, IsFront, AreKept}
+use Rattle.zy_law.specs.Histories.{IsEntryAt, AreKept}
 use Rattle.zy_law.specs.Lawful.{IsLawful, IsOrdered, IsAskedFor}
 use Rattle.zy_law.specs.Said.{IsCorrect, Says, Stood, Moment}
 use Rattle.zy_law.specs.Steps.{MaySay, MayStand, after_saying, after_standing, with_last}
@@ -35,7 +35,7 @@ use Rattle.zy_law.proofs.EntriesAskedFor.{entry_within, entry_longer, all_asked_
 use Rattle.zy_law.proofs.GrownLemmas.{each_item}
 use Rattle.zy_law.proofs.HistoryLemmas.{Passes-longer}
 use Rattle.zy_law.proofs.PastLemmas.{later_front}
-use Rattle.zy_lawful.specs.Tied.{Agrees, IsOfClient, MayRun, MaySlotRun, IsStanding, AreOrdersUpTo, last_reply}
+use Rattle.zy_lawful.specs.Tied.{Agrees, IsOfClient, MayRun, MaySlotRun, IsStanding, AreOrdersUpTo}
 use Rattle.zy_lawful.proofs.Records.{IsLastOf, IsRecord, records, last_of_next, entry_last, entry_before, entry_pushed, answer_longer, of_clients_push}
 use Rattle.zy_table.specs.State.{State, own_view, is_leaving_mode}
 
@@ -99,9 +99,9 @@ module _ {S : Type 0} (R : Rules S) (w : World) (r : ℕ) (s : State S) (h : Lis
       elim (cases_lt place k.place.0) [
         | inl before ↦ omega (arith, asked.newer place d before at (same ∙ sym client))
         | inr from ↦ elim (cases_lt k.place.0 place) [
-            | inl after ↦ absurd (is.last place d after at (ap (λ (c : ClientId). c.0) same))
-            | inr to ↦ omega (arith, equal (omega arith))
-          ]
+          | inl after ↦ absurd (is.last place d after at (ap (λ (c : ClientId). c.0) same))
+          | inr to ↦ omega (arith, equal (omega arith))
+        ]
       ]
 
   -- it may stand next with one entry more, which was asked for with a newer stamp, and whose link is kept

@@ -1,22 +1,22 @@
 -- What is known of a client after a history is its last entry there.
-use Rattle.std.proofs.Common.{◌≡◌, ◌≢◌, ℕ, zero, suc, ◌+◌, ◌-◌, ◌<◌, ◌≤◌, ◌⊎◌, inl, inr, List, [], ◌∷◌, ◌++◌, length, take, get_or, set, replicate, Option, Some, None, refl, sym, ap, ◌∙◌, subst, arith, append_assoc, append-nil}
-use Rattle.std.specs.Prelude.{slice_get, option_map, unwrap_or}
+use Rattle.std.proofs.Common.{◌≡◌, ◌≢◌, ℕ, zero, suc, ◌+◌, ◌-◌, ◌<◌, ◌≤◌, inl, inr, List, [], ◌∷◌, ◌++◌, length, take, get_or, set, replicate, Option, Some, None, refl, sym, ap, ◌∙◌, subst, arith}
+use Rattle.std.specs.Prelude.{slice_get, option_map}
 use Rattle.std.specs.List.{AllByRecursion}
-use Rattle.std.proofs.lemmas.List.{length-append, length-set, length-replicate, get_or-set_same, get_or-set_other, take-append-le, take-take, take_all, length-take-le}
+use Rattle.std.proofs.lemmas.List.{length-append, length-replicate, get_or-set_same, get_or-set_other, take-append-le, take_all}
 use Rattle.std.proofs.lemmas.List.Sums.{fold-append}
 use Rattle.std.proofs.lemmas.Bool.{cases_eq, cases_lt}
-use Rattle.std.proofs.lemmas.Option.{same_Some, slice_get_within, slice_get_past}
+use Rattle.std.proofs.lemmas.Option.{same_Some}
 use Rattle.zy_base.specs.Machine.{Rules}
 use Rattle.zy_base.specs.declared.ids.Digest.{Digest}
 use Rattle.zy_chain.specs.declared.entry.Entry.{Entry}
 use Rattle.zy_chain.specs.Entries.{digest_of_entry}
 use Rattle.zy_chain.specs.Heads.{head_after, head_of, empty_head}
 use Rattle.zy_exec.specs.declared.known.Known.{Known}
-use Rattle.zy_exec.specs.Replay.{Point, origin, known_of, step, along, answer_at}
+use Rattle.zy_exec.specs.Replay.{Point, origin, known_of, along, answer_at}
 use Rattle.zy_exec.proofs.ReplayLemmas.{by_last, along-append, along-nil, place-along, head-along, length-known-along}
-use Rattle.zy_law.specs.Histories.{IsEntryAt, IsFront}
+use Rattle.zy_law.specs.Histories.{IsEntryAt}
 use Rattle.zy_law.proofs.EntriesAskedFor.{entry_within, entry_longer, entry_shorter}
-use Rattle.zy_lawful.specs.Tied.{IsOfClient, last_reply}
+use Rattle.zy_lawful.specs.Tied.{IsOfClient}
 
 -- ---- the reply to an entry of a longer history
 

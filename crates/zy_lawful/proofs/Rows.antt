@@ -1,14 +1,12 @@
 -- Each row of the table keeps the rules of lawful conduct, and the tie.
-use Rattle.std.proofs.Common.{◌≡◌, ℕ, ◌+◌, ◌-◌, ◌%◌, ◌<◌, ◌≤◌, Bool, true, false, List, [], ◌∷◌, ◌++◌, length, replicate, Option, Some, None, refl, sym, ap, ◌∙◌, subst, arith, inl, inr, eqb-true, ltb-false, lt-ltb}
-use Rattle.std.specs.Prelude.{option_map, if◌then◌else◌, nat_le, nat_lt, nat_eq, Result, Ok, Err}
+use Rattle.std.proofs.Common.{◌≡◌, ℕ, ◌+◌, ◌-◌, ◌%◌, ◌≤◌, true, false, List, [], ◌∷◌, ◌++◌, length, replicate, Option, Some, None, refl, sym, ap, ◌∙◌, subst, arith, inl, inr, eqb-true, ltb-false, lt-ltb}
+use Rattle.std.specs.Prelude.{option_map, nat_le, nat_lt, nat_eq, Result, Ok, Err}
 use Rattle.std.specs.List.{AllByRecursion}
 use Rattle.std.proofs.lemmas.Bool.{and_parts, cases_lt, eqb-false}
 use Rattle.std.proofs.lemmas.List.{length-append}
 use Rattle.zy_base.specs.Machine.{Rules}
 use Rattle.zy_base.specs.declared.cause.Cause.{Cause}
-use Rattle.zy_base.specs.declared.cause.Cause.TheVariants as causes
 use Rattle.zy_base.specs.declared.frame_fault.FrameFault.{FrameFault}
-use Rattle.zy_base.specs.declared.step.Answer.TheVariants.{Taken, Held}
 use Rattle.zy_base.specs.declared.step.Event.{Event}
 use Rattle.zy_base.specs.declared.step.Event.TheVariants.{Heard, Timer}
 use Rattle.zy_base.specs.declared.step.Mode.{Mode}
@@ -31,7 +29,7 @@ use Rattle.zy_frames.specs.declared.frame.Frame.{Frame}
 use Rattle.zy_frames.specs.declared.frame.Frame.TheVariants as frames
 use Rattle.zy_frames.specs.declared.frame.OrderFrame.{OrderFrame}
 use Rattle.zy_parts.specs.Numbers as numbers
-use Rattle.zy_parts.specs.Statements.{order_fields, spec_fields, hole_fields}
+use Rattle.zy_parts.specs.Statements.{spec_fields, hole_fields}
 use Rattle.zy_parts.specs.declared.signed.Signed.{Signed}
 use Rattle.zy_parts.specs.declared.statements.Ask.{Ask}
 use Rattle.zy_parts.specs.declared.statements.Hole.{Hole}
@@ -40,26 +38,25 @@ use Rattle.zy_parts.specs.declared.statements.Spec.{Spec}
 use Rattle.zy_seal.specs.Screening.{screen}
 use Rattle.zy_seal.specs.Sealing.{sealed_by}
 use Rattle.zy_exec.specs.declared.known.Known.{Known}
-use Rattle.zy_exec.specs.Kept.{now_of, known_in, last_place}
+use Rattle.zy_exec.specs.Kept.{known_in, last_place}
 use Rattle.zy_law.specs.Lawful.{IsOrdered}
-use Rattle.zy_law.specs.Steps.{MaySay}
 use Rattle.zy_law.specs.World.{Spoken, World}
-use Rattle.zy_law.specs.World.Statement.{Order, Change}
+use Rattle.zy_law.specs.World.Statement.{Order}
 use Rattle.zy_lawful.specs.Acts.{statement_of}
-use Rattle.zy_lawful.specs.Tied.{MayRun, MaySlotRun, MayFrameRun, MayEventRun, IsStanding, IsTied, AreOrdersUpTo, AreLinksKept}
+use Rattle.zy_lawful.specs.Tied.{MayRun, MaySlotRun, MayFrameRun, MayEventRun, AreOrdersUpTo, AreLinksKept}
 use Rattle.zy_lawful.proofs.Records.{IsLastOf, IsRecord}
-use Rattle.zy_lawful.proofs.OneEntry.{AreOrdersOf, may_respond, may_order, may_tell, known_now, next_ordered, orders_of_longer, orders_of_said, up_to_said, place_now, standing_said, standing_as}
+use Rattle.zy_lawful.proofs.OneEntry.{AreOrdersOf, may_respond, may_order, may_tell, known_now, next_ordered, orders_of_longer, orders_of_said, up_to_said, place_now}
 use Rattle.zy_lawful.proofs.Runs.{IsGoing, IsTiedGoing, by_test, slots_from, slots_with, slots_free, going_as, going_said, one_goes, next_goes, one_links, held_links, held_goes}
-use Rattle.zy_table.specs.Deeds.{Going, Outcome, begin, no_deeds}
+use Rattle.zy_table.specs.Deeds.{Going, Outcome, begin}
 use Rattle.zy_table.specs.Holes.{fill_with, fill_hole, ask_again, orders_from}
-use Rattle.zy_table.specs.Orders.{take_order, hold_order, order_as, order, position_of, hole_of, owes_hole, ask_for_missing}
-use Rattle.zy_table.specs.Requests.{same_spec, respond_anew, respond_as, respond_again, order_of, sealed_order, ordered, take_request, new_request, request_after, request}
+use Rattle.zy_table.specs.Orders.{take_order, hold_order, order_as, order, position_of, hole_of, owes_hole}
+use Rattle.zy_table.specs.Requests.{same_spec, respond_anew, respond_as, order_of, sealed_order, ordered, take_request, new_request, request_after, request}
 use Rattle.zy_table.specs.Roles.{is_client, in_role, view_cause}
-use Rattle.zy_table.specs.Running.{run_one, run_held, run, next_known, spec_of}
+use Rattle.zy_table.specs.Running.{run_one, run, next_known, spec_of}
 use Rattle.zy_table.specs.State.{State, own_view, is_leaving, is_primary, window_of, stood_of, leaves_of, spent, with_spec, spec_to}
 use Rattle.zy_table.specs.Step.{unless, row, hear, decoded, timer, step}
 use Rattle.zy_table.specs.declared.deeds.Act.{Act}
-use Rattle.zy_table.specs.declared.deeds.Act.TheVariants.{Says, Gains}
+use Rattle.zy_table.specs.declared.deeds.Act.TheVariants.{Says}
 use Rattle.zy_table.specs.declared.deeds.Body.TheVariants as bodies
 use Rattle.zy_table.specs.declared.deeds.Remark.{Remark}
 
@@ -76,9 +73,9 @@ next_fresh : (order : OrderStatement) (ask : Signed Ask) (now : Position) → Is
 next_fresh order ask now =
     by_test (IsNewer ask now) (nat_le order.place.0 now.end.0) _ _ (λ old is. absurd cc)
     (λ fresh. by_test (IsNewer ask now) (nat_lt now.window.0 order.place.0) _ _ (λ past is. absurd cc)
-      (λ inside. by_test (IsNewer ask now) (same_digest order.request (digest_of_entry (entry_of ask))) _ _
-        (λ same. by_test (IsNewer ask now) (nat_lt (now.end.0 + 1) order.place.0) _ _ (λ later is. absurd cc) (λ next. next_at_end order ask now))
-        (λ other is. absurd cc)))
+    (λ inside. by_test (IsNewer ask now) (same_digest order.request (digest_of_entry (entry_of ask))) _ _
+    (λ same. by_test (IsNewer ask now) (nat_lt (now.end.0 + 1) order.place.0) _ _ (λ later is. absurd cc) (λ next. next_at_end order ask now))
+    (λ other is. absurd cc)))
 
 next_beside : (order : OrderStatement) (ask : Signed Ask) (now : Position) (kept : Option OrderFrame) → IsNewer ask now (judge_beside kept order ask now)
 next_beside order ask now None = next_fresh order ask now
@@ -174,7 +171,7 @@ module _ {S : Type 0} (R : Rules S) (w : World) (r number : ℕ) (h : List Entry
         let of : AreOrdersOf going.world r (own_view s) (start.now ++ e ∷ []) =
         orders_of_said start.world r (own_view s) (start.now ++ e ∷ []) y
         (λ k request same. let marks : m ≡ k = cc in let requests : digest_of_entry e ≡ request = cc in
-          subst (λ (d : Digest). IsOrdered start.world (start.now ++ e ∷ []) k d) requests (subst (λ (j : Mark). IsOrdered start.world (start.now ++ e ∷ []) j (digest_of_entry e)) marks is))
+        subst (λ (d : Digest). IsOrdered start.world (start.now ++ e ∷ []) k d) requests (subst (λ (j : Mark). IsOrdered start.world (start.now ++ e ∷ []) j (digest_of_entry e)) marks is))
         (orders_of_longer R start.world r s start.now start.lawful start.agrees start.correct start.standing e tied.ordered) in
         let up : AreOrdersUpTo going.world r (own_view s) (length (start.now ++ e ∷ [])) =
         up_to_said start.world r (own_view s) (length (start.now ++ e ∷ [])) y
@@ -182,7 +179,7 @@ module _ {S : Type 0} (R : Rules S) (w : World) (r number : ℕ) (h : List Entry
         (λ at x k request says what. omega (arith, tied.ordered at x k request says what, length-append start.now (e ∷ []))) in
         by_test Keeps (nat_le 2 (leaves_of s)) _ _
         (λ left. run_goes o g (slots_put w s.orders o asks may)
-          (λ links. one_goes R w r (own_view s) number h o g going may new (one_links R w r (own_view s) number h o g links).1 of up))
+        (λ links. one_goes R w r (own_view s) number h o g going may new (one_links R w r (own_view s) number h o g links).1 of up))
         (λ none links. tied)
 
     new_request_keeps : (ask : Signed Ask) → is_primary s ≡ true → MayRun w (entry_of ask)
@@ -197,10 +194,10 @@ module _ {S : Type 0} (R : Rules S) (w : World) (r number : ℕ) (h : List Entry
         by_test Keeps (nat_lt ask.stmt.stamp.0 known.stamp.0) _ _
         (λ old links. tied)
         (λ from. by_test Keeps (nat_eq ask.stmt.stamp.0 known.stamp.0) _ _
-          (λ same. respond_as_keeps ask known (spec_to s (entry_of ask).client)
-            (subst (λ (o : Option Known). IsRecord R start.now (entry_of ask).client.0 o) is (known_now R start.world r s start.now start.lawful start.agrees start.correct start.standing (entry_of ask).client.0)))
-          (λ other. new_request_keeps ask primary may
-            (ap (λ (o : Option Known). newer ask.stmt.stamp (option_map (λ (k : Known). k.stamp) o)) is ∙ stamp_above known.stamp.0 ask.stmt.stamp.0 from other)))
+        (λ same. respond_as_keeps ask known (spec_to s (entry_of ask).client)
+        (subst (λ (o : Option Known). IsRecord R start.now (entry_of ask).client.0 o) is (known_now R start.world r s start.now start.lawful start.agrees start.correct start.standing (entry_of ask).client.0)))
+        (λ other. new_request_keeps ask primary may
+        (ap (λ (o : Option Known). newer ask.stmt.stamp (option_map (λ (k : Known). k.stamp) o)) is ∙ stamp_above known.stamp.0 ask.stmt.stamp.0 from other)))
 
     pub request_keeps : (ask : Signed Ask) → is_primary s ≡ true → MayRun w (entry_of ask) → Keeps (request R s ask)
     unfolding request
@@ -220,7 +217,7 @@ module _ {S : Type 0} (R : Rules S) (w : World) (r number : ℕ) (h : List Entry
         } in
         by_test Keeps (nat_le 1 (leaves_of s)) _ _
         (λ left. run_goes o (begin s') (slots_put w s.orders o asks may)
-          (λ links. next_goes R w r (own_view s) number h o (begin s') put may new (one_links R w r (own_view s) number h o (begin s') links).1))
+        (λ links. next_goes R w r (own_view s) number h o (begin s') put may new (one_links R w r (own_view s) number h o (begin s') links).1))
         (λ none links. tied)
 
     hold_order_keeps : (o : OrderFrame) → MayRun w (entry_of o.ask) → Keeps (hold_order R s o)
@@ -235,11 +232,11 @@ module _ {S : Type 0} (R : Rules S) (w : World) (r number : ℕ) (h : List Entry
         going_said R w r (own_view s) number h [] s' put remark (may_tell R put.world r s' put.now put.lawful put.agrees put.correct put.standing) (λ v report same. absurd cc) in
         by_test Keeps (owes_hole s) _ _
         (λ owes. by_test Keeps (nat_le 1 (leaves_of s)) _ _
-          (λ left links. record {
-            going = going_as R w r (own_view s) number h (Says remark ∷ []) s' (record (spent s') { hole = Some signed }) said refl refl refl refl said.standing.asks;
-            ordered = up_to_said start.world r (own_view s) (length start.now) (record { what = statement_of remark.body; when = start.at }) (λ m request same. absurd cc) tied.ordered;
-          })
-          (λ none links. tied))
+        (λ left links. record {
+          going = going_as R w r (own_view s) number h (Says remark ∷ []) s' (record (spent s') { hole = Some signed }) said refl refl refl refl said.standing.asks;
+          ordered = up_to_said start.world r (own_view s) (length start.now) (record { what = statement_of remark.body; when = start.at }) (λ m request same. absurd cc) tied.ordered;
+        })
+        (λ none links. tied))
         (λ asked links. record { going = put; ordered = tied.ordered })
 
     order_as_keeps : (o : OrderFrame) (a : Admit) → judge_in s.orders o.order.stmt o.ask (position_of R s o) ≡ a → MayRun w (entry_of o.ask) → Keeps (order_as R s o a)

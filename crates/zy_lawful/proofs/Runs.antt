@@ -1,36 +1,32 @@
 -- A replica on its way through a step, and what running an order adds.
-use Rattle.std.proofs.Common.{◌≡◌, ℕ, ◌+◌, ◌-◌, ◌<◌, ◌≤◌, Bool, true, false, List, [], ◌∷◌, ◌++◌, length, drop, replicate, set, zero, suc, Option, Some, None, refl, sym, ap, ◌∙◌, subst, arith}
+use Rattle.std.proofs.Common.{◌≡◌, ℕ, ◌+◌, ◌-◌, Bool, true, false, List, [], ◌∷◌, ◌++◌, length, drop, replicate, set, zero, suc, Option, Some, None, refl, sym, ap, ◌∙◌, subst, arith}
 use Rattle.std.specs.Prelude.{option_map, if◌then◌else◌, nat_le}
 use Rattle.std.specs.List.{AllByRecursion}
 use Rattle.std.proofs.lemmas.Bool.{and_parts}
 use Rattle.std.proofs.lemmas.List.{length-append}
-use Rattle.sha2.specs.Sha256.{sha256}
 use Rattle.zy_base.specs.Machine.{Rules}
 use Rattle.zy_base.specs.Step.{view_of}
 use Rattle.zy_base.specs.declared.ids.Digest.{Digest}
 use Rattle.zy_base.specs.declared.step.Mode.{Mode}
 use Rattle.zy_chain.specs.declared.entry.Entry.{Entry}
-use Rattle.zy_chain.specs.Stretch.{Mark}
 use Rattle.zy_choose.specs.Reports.{PlainReport}
 use Rattle.zy_admit.specs.Judging.{newer, entry_of, same_digest}
-use Rattle.zy_admit.specs.Orders.{Orders, slots_above, without_order}
+use Rattle.zy_admit.specs.Orders.{without_order}
 use Rattle.zy_chain.specs.Entries.{digest_of_entry}
 use Rattle.zy_chain.specs.Heads.{head_after}
 use Rattle.zy_frames.specs.declared.frame.OrderFrame.{OrderFrame}
-use Rattle.zy_parts.specs.declared.signed.Signed.{Signed}
-use Rattle.zy_parts.specs.declared.statements.Ask.{Ask}
 use Rattle.zy_exec.specs.declared.known.Known.{Known}
 use Rattle.zy_exec.specs.Kept.{longer, now_of, known_in, last_place}
-use Rattle.zy_law.specs.Lawful.{IsLawful, IsOrdered}
+use Rattle.zy_law.specs.Lawful.{IsLawful}
 use Rattle.zy_law.specs.Said.{IsCorrect}
 use Rattle.zy_law.specs.Steps.{MaySay, MayStand, after_saying, after_standing}
 use Rattle.zy_law.specs.World.{Spoken, Stand, World}
-use Rattle.zy_law.specs.World.Statement.{Order, Spec, Change}
+use Rattle.zy_law.specs.World.Statement.{Change}
 use Rattle.zy_law.proofs.StepsLawful.{saying_lawful, standing_lawful}
 use Rattle.zy_lawful.specs.Acts.{statement_of}
-use Rattle.zy_lawful.specs.Tied.{Agrees, MayRun, MaySlotRun, IsStanding, AreOrdersUpTo, AreLinksKept, IsTied}
+use Rattle.zy_lawful.specs.Tied.{Agrees, MayRun, MaySlotRun, IsStanding, AreOrdersUpTo, AreLinksKept}
 use Rattle.zy_lawful.proofs.Goes.{LeadTo, lead_saying, lead_moving, links_of_front, link_of_last}
-use Rattle.zy_lawful.proofs.OneEntry.{AreOrdersOf, slots_more, may_stand, standing_moved, standing_said, standing_as, moving_runs, saying_runs, may_respond, known_next, orders_of_longer, up_to_said}
+use Rattle.zy_lawful.proofs.OneEntry.{AreOrdersOf, may_stand, standing_moved, standing_said, standing_as, moving_runs, saying_runs, may_respond, known_next, orders_of_longer, up_to_said}
 use Rattle.zy_table.specs.Deeds.{Going}
 use Rattle.zy_table.specs.Running.{run_one, run_held, run, fits_end, next_known, got_of, spec_of}
 use Rattle.zy_table.specs.State.{State, own_view, stood_of, leaves_of}
@@ -175,7 +171,7 @@ module _ {S : Type 0} (R : Rules S) (w : World) (r view number : ℕ) (h : List 
       let said : Goes ((g.deeds.acts ++ Gains (got_of R s o.ask) ∷ []) ++ Says remark ∷ []) (record s { kept = longer s.kept e }) =
       going_said (g.deeds.acts ++ Gains (got_of R s o.ask) ∷ []) (record s { kept = longer s.kept e }) moved remark
       (may_respond R moved.world r (record s { kept = longer s.kept e }) moved.now moved.lawful moved.agrees moved.correct moved.standing e.client.0 known
-        (known_next R going.world r s going.now going.lawful going.agrees going.correct going.standing e))
+      (known_next R going.world r s going.now going.lawful going.agrees going.correct going.standing e))
       (λ v report same. absurd cc) in
       record {
         going = going_as ((g.deeds.acts ++ Gains (got_of R s o.ask) ∷ []) ++ Says remark ∷ []) (record s { kept = longer s.kept e }) (run_one R o g).state said refl refl refl refl said.standing.asks;
@@ -208,8 +204,8 @@ module _ {S : Type 0} (R : Rules S) (w : World) (r view number : ℕ) (h : List 
   held_links (Some o ∷ slots) g =
       by_test (λ (g' : Going S). AreLinksKept w g'.deeds.acts → AreLinksKept w g.deeds.acts) (fits_end R g.state o) _ _
       (λ fits. by_test (λ (g' : Going S). AreLinksKept w g'.deeds.acts → AreLinksKept w g.deeds.acts) (nat_le 1 (leaves_of g.state)) _ _
-        (λ left links. (one_links o g (held_links slots (run_one R o g) links)).0)
-        (λ none links. links))
+      (λ left links. (one_links o g (held_links slots (run_one R o g) links)).0)
+      (λ none links. links))
       (λ differs links. links)
 
   -- ---- the orders that are held
@@ -222,13 +218,13 @@ module _ {S : Type 0} (R : Rules S) (w : World) (r view number : ℕ) (h : List 
   held_goes (Some o ∷ slots) g all tied =
       by_test (λ (g' : Going S). AreLinksKept w g'.deeds.acts → GoesTied g'.deeds.acts g'.state) (fits_end R g.state o) _ _
       (λ fits. by_test (λ (g' : Going S). AreLinksKept w g'.deeds.acts → GoesTied g'.deeds.acts g'.state) (nat_le 1 (leaves_of g.state)) _ _
-        (λ left links.
-          let new = (and_parts (same_digest o.order.stmt.head (head_after (now_of R g.state.kept).head (digest_of_entry (entry_of o.ask)))) (newer o.ask.stmt.stamp (option_map (λ (known : Known). known.stamp) (known_in R g.state.kept (entry_of o.ask).client.0))) fits).1 in
-          held_goes slots (run_one R o g) all.1 (next_goes o g tied all.0 new (one_links o g (held_links slots (run_one R o g) links)).1) links)
-        (λ none links. tied))
+      (λ left links.
+      let new = (and_parts (same_digest o.order.stmt.head (head_after (now_of R g.state.kept).head (digest_of_entry (entry_of o.ask)))) (newer o.ask.stmt.stamp (option_map (λ (known : Known). known.stamp) (known_in R g.state.kept (entry_of o.ask).client.0))) fits).1 in
+      held_goes slots (run_one R o g) all.1 (next_goes o g tied all.0 new (one_links o g (held_links slots (run_one R o g) links)).1) links)
+      (λ none links. tied))
       (λ differs links.
-        let s' : State S = record g.state { orders = without_order g.state.orders (last_place g.state.kept + 1) } in
-        record {
-          going = going_as g.deeds.acts g.state s' tied.going refl refl refl refl (slots_with tied.going.world g.state.orders.slots (last_place g.state.kept + 1 - g.state.orders.base - 1) None tied.going.standing.asks tt);
-          ordered = tied.ordered;
-        })
+      let s' : State S = record g.state { orders = without_order g.state.orders (last_place g.state.kept + 1) } in
+      record {
+        going = going_as g.deeds.acts g.state s' tied.going refl refl refl refl (slots_with tied.going.world g.state.orders.slots (last_place g.state.kept + 1 - g.state.orders.base - 1) None tied.going.standing.asks tt);
+        ordered = tied.ordered;
+      })

@@ -1,5 +1,5 @@
 -- The tie at the start, and as others act.
-use Rattle.std.proofs.Common.{◌≡◌, ◌≢◌, ℕ, ◌+◌, ◌≤◌, Bool, true, false, cond, eqb, List, [], ◌∷◌, ◌++◌, length, map, Option, Some, None, ◌⊎◌, inl, inr, refl, sym, ap, ◌∙◌, subst, arith, append_assoc, append-nil, ne_eqb}
+use Rattle.std.proofs.Common.{◌≡◌, ◌≢◌, ℕ, ◌+◌, Bool, true, false, cond, eqb, List, [], ◌∷◌, ◌++◌, length, map, Some, inl, inr, refl, sym, ap, ◌∙◌, arith, append_assoc, append-nil, ne_eqb}
 use Rattle.std.specs.Prelude.{slice_get, Contains}
 use Rattle.zy_base.specs.Machine.{Rules}
 use Rattle.zy_base.specs.declared.counts.Counts.{Counts}
@@ -9,18 +9,18 @@ use Rattle.zy_base.specs.declared.ids.ReplicaId.{ReplicaId}
 use Rattle.zy_base.specs.declared.step.Spoken.{Spoken as StepSpoken}
 use Rattle.zy_chain.specs.declared.entry.Entry.{Entry}
 use Rattle.zy_exec.proofs.HistoryLemmas.{stands_at_origin}
-use Rattle.zy_law.specs.Said.{IsCorrect, Says, Stood}
+use Rattle.zy_law.specs.Said.{IsCorrect, Says}
 use Rattle.zy_law.specs.Steps as law
 use Rattle.zy_law.specs.Steps.Act.{Say, Move}
 use Rattle.zy_law.specs.Steps.{IsStart, after_act, after_acts, grown, with_last}
 use Rattle.zy_law.specs.World.{Spoken, Stand, World}
-use Rattle.zy_lawful.specs.Acts.{law_acts, spoken_in, stands_in, with_more, statement_of}
-use Rattle.zy_lawful.specs.Tied.{IsTied, IsStanding, MayRun}
+use Rattle.zy_lawful.specs.Acts.{law_acts, spoken_in, stands_in, with_more, spoken_at, stand_with}
+use Rattle.zy_lawful.specs.Tied.{IsTied, MayRun}
 use Rattle.zy_lawful.proofs.OneEntry.{slots_more}
 use Rattle.zy_seal.specs.Keys.{Keys}
 use Rattle.zy_seal.specs.Sealing.{SealerState}
 use Rattle.zy_table.specs.Deeds.{said_from}
-use Rattle.zy_table.specs.State.{State, own_view, start_of}
+use Rattle.zy_table.specs.State.{State, start_of}
 use Rattle.zy_table.specs.declared.deeds.Act.{Act}
 use Rattle.zy_table.specs.declared.deeds.Act.TheVariants.{Says as SaysIt, Gains}
 
@@ -111,11 +111,11 @@ lists_after w r view number h [] =
     ap (λ (said : ℕ → List Spoken). grown w w.asked said w.past w.kept) (more_none w.said r)
     ∙ ap (λ (past : ℕ → List Stand). grown w w.asked (with_more w.said r []) past w.kept) (more_none w.past r)
 lists_after w r view number h (SaysIt remark ∷ acts) =
-    let x : Spoken = record { what = statement_of remark.body; when = number } in
+    let x : Spoken = spoken_at number remark in
     lists_after (after_act w r (Say x)) r view number h acts
     ∙ ap (λ (said : ℕ → List Spoken). grown w w.asked said (with_more w.past r (stands_in view h acts)) w.kept) (more_last w.said r x (spoken_in number acts))
 lists_after w r view number h (Gains got ∷ acts) =
-    let b : Stand = record { view = view; history = h ++ got.entry ∷ [] } in
+    let b : Stand = stand_with view h got in
     lists_after (after_act w r (Move b)) r view (number + 1) (h ++ got.entry ∷ []) acts
     ∙ ap (λ (past : ℕ → List Stand). grown w w.asked (with_more w.said r (spoken_in (number + 1) acts)) past w.kept) (more_last w.past r b (stands_in view (h ++ got.entry ∷ []) acts))
 

@@ -11,6 +11,8 @@ use Rattle.zy_table.specs.declared.deeds.Act.{Act}
 use Rattle.zy_table.specs.declared.deeds.Act.TheVariants.{Says, Gains}
 use Rattle.zy_table.specs.declared.deeds.Body.{Body}
 use Rattle.zy_table.specs.declared.deeds.Body.TheVariants as bodies
+use Rattle.zy_table.specs.declared.deeds.Got.{Got}
+use Rattle.zy_table.specs.declared.deeds.Remark.{Remark}
 
 -- what the law reads in a statement; safety rests on no hole
 abbrev pub statement_of : Body → Statement
@@ -21,14 +23,21 @@ statement_of (bodies.Spec spec) =
     (record { client = spec.client.0; stamp = spec.stamp.0; reply = spec.reply })
 statement_of (bodies.Hole hole) = Other
 
+-- a remark as the law reads it, by the number of the last stand when it was said
+abbrev pub spoken_at : ℕ → Remark → Spoken
+spoken_at number remark = record { what = statement_of remark.body; when = number }
+
+-- where a replica stands once it gained an entry
+abbrev pub stand_with : ℕ → List Entry → Got → Stand
+stand_with view history got = record { view = view; history = history ++ got.entry ∷ [] }
+
 -- A replica's acts in a view. Each statement has the number of the last stand so far, and each entry makes one stand more.
 abbrev pub law_acts : ℕ → ℕ → List Entry → List Act → List law.Act
 law_acts view number history [] = []
 law_acts view number history (Says remark ∷ acts) =
-    Say (record { what = statement_of remark.body; when = number }) ∷ law_acts view number history acts
+    Say (spoken_at number remark) ∷ law_acts view number history acts
 law_acts view number history (Gains got ∷ acts) =
-    Move (record { view = view; history = history ++ got.entry ∷ [] })
-    ∷ law_acts view (number + 1) (history ++ got.entry ∷ []) acts
+    Move (stand_with view history got) ∷ law_acts view (number + 1) (history ++ got.entry ∷ []) acts
 
 -- the history with the entries that were gained
 abbrev pub history_after : List Entry → List Act → List Entry
@@ -46,14 +55,14 @@ world_after w r s history outcome = law.after_acts w r (acts_of w r s history ou
 -- what is said by some acts, each with the number of the last stand then, and where the replica stands by them
 abbrev pub spoken_in : ℕ → List Act → List Spoken
 spoken_in number [] = []
-spoken_in number (Says remark ∷ acts) = record { what = statement_of remark.body; when = number } ∷ spoken_in number acts
+spoken_in number (Says remark ∷ acts) = spoken_at number remark ∷ spoken_in number acts
 spoken_in number (Gains got ∷ acts) = spoken_in (number + 1) acts
 
 abbrev pub stands_in : ℕ → List Entry → List Act → List Stand
 stands_in view history [] = []
 stands_in view history (Says remark ∷ acts) = stands_in view history acts
 stands_in view history (Gains got ∷ acts) =
-    record { view = view; history = history ++ got.entry ∷ [] } ∷ stands_in view (history ++ got.entry ∷ []) acts
+    stand_with view history got ∷ stands_in view (history ++ got.entry ∷ []) acts
 
 -- more items at the end of one party's list
 abbrev pub with_more : {A : Type 0} → (ℕ → List A) → ℕ → List A → ℕ → List A
