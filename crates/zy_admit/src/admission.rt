@@ -55,10 +55,10 @@ impl Admission {
         }
     }
 
-    /// Keeps an order at its place, above the stable one. After `Want` all is as before, and the order comes back.
+    /// Keeps an order at its place, above the stable one, in place of one that is kept there. After `Want` all is as
+    /// before, and the order comes back.
     pub fn put(&mut self, frame: OrderFrame) -> Result<(), (OrderFrame, Want)>
-        requires above { self.old.base < frame.order.stmt.place.0 }
-        requires free { stored_in self.old frame.order.stmt.place.0 ≡ None }
+        requires { self.old.base < frame.order.stmt.place.0 }
         ensures ok { OnOk result (self.new ≡ with_order self.old frame) }
         ensures err { OnErr result (self.new ≡ self.old) }
         ensures back { IfErr result (λ e. e.0 ≡ frame) }

@@ -50,14 +50,20 @@ respond_anew R s spec known =
       (act (Says (record { body = bodies.Spec spec; stood = stood_of R s })) (begin (with_spec (spent s) signed)))))
     else refused causes.KeySpent s
 
+-- the response that was signed last, where it is this one
+abbrev pub said_already : Option (Signed Spec) → Spec → Option (Signed Spec)
+said_already None spec = None
+said_already (Some signed) spec = if same_spec signed.stmt spec then Some signed else None
+
 abbrev pub respond_as : {S : Type 0} → Rules S → State S → Option (Signed Spec) → Spec → Known → Outcome S
 respond_as R s None spec known = respond_anew R s spec known
-respond_as R s (Some signed) spec known =
-    if same_spec signed.stmt spec then ends Taken (response_of s signed known (begin s)) else respond_anew R s spec known
+respond_as R s (Some signed) spec known = ends Taken (response_of s signed known (begin s))
+
+abbrev pub respond_with : {S : Type 0} → Rules S → State S → Spec → Known → Outcome S
+respond_with R s spec known = respond_as R s (said_already (spec_to s spec.client) spec) spec known
 
 abbrev pub respond_again : {S : Type 0} → Rules S → State S → Signed Ask → Known → Outcome S
-respond_again R s ask known =
-    respond_as R s (spec_to s (entry_of ask).client) (spec_of (own_view s) ask known) known
+respond_again R s ask known = respond_with R s (spec_of (own_view s) ask known) known
 
 -- ---- a new request at the primary
 
