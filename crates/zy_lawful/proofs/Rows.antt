@@ -50,7 +50,7 @@ use Rattle.zy_lawful.proofs.Runs.{IsGoing, IsTiedGoing, by_test, slots_from, slo
 use Rattle.zy_table.specs.Deeds.{Going, Outcome, begin}
 use Rattle.zy_table.specs.Holes.{fill_with, fill_hole, ask_again, orders_from}
 use Rattle.zy_table.specs.Orders.{take_order, hold_order, order_as, order, position_of, hole_of, owes_hole}
-use Rattle.zy_table.specs.Requests.{same_spec, respond_anew, respond_as, order_of, sealed_order, ordered, take_request, new_request, request_after, request}
+use Rattle.zy_table.specs.Requests.{said_already, respond_anew, respond_as, order_of, sealed_order, ordered, take_request, new_request, request_after, request}
 use Rattle.zy_table.specs.Roles.{is_client, in_role, view_cause}
 use Rattle.zy_table.specs.Running.{run_one, run, next_known, spec_of}
 use Rattle.zy_table.specs.State.{State, own_view, is_leaving, is_primary, window_of, stood_of, leaves_of, spent, with_spec, spec_to}
@@ -144,8 +144,7 @@ module _ {S : Type 0} (R : Rules S) (w : World) (r number : ℕ) (h : List Entry
 
     respond_as_keeps : (ask : Signed Ask) (known : Known) (signed : Option (Signed Spec)) → IsLastOf R start.now (entry_of ask).client.0 known → Keeps (respond_as R s signed (spec_of (own_view s) ask known) known)
     respond_as_keeps ask known None is = respond_anew_keeps ask known is
-    respond_as_keeps ask known (Some signed) is =
-        by_test Keeps (same_spec signed.stmt (spec_of (own_view s) ask known)) _ _ (λ same links. tied) (λ differs. respond_anew_keeps ask known is)
+    respond_as_keeps ask known (Some signed) is = λ links. tied
 
     take_request_keeps : (ask : Signed Ask) → is_primary s ≡ true → MayRun w (entry_of ask)
         → newer ask.stmt.stamp (option_map (λ (known : Known). known.stamp) (known_in R s.kept (entry_of ask).client.0)) ≡ true → Keeps (take_request R s ask)
@@ -194,7 +193,7 @@ module _ {S : Type 0} (R : Rules S) (w : World) (r number : ℕ) (h : List Entry
         by_test Keeps (nat_lt ask.stmt.stamp.0 known.stamp.0) _ _
         (λ old links. tied)
         (λ from. by_test Keeps (nat_eq ask.stmt.stamp.0 known.stamp.0) _ _
-        (λ same. respond_as_keeps ask known (spec_to s (entry_of ask).client)
+        (λ same. respond_as_keeps ask known (said_already (spec_to s (entry_of ask).client) (spec_of (own_view s) ask known))
         (subst (λ (o : Option Known). IsRecord R start.now (entry_of ask).client.0 o) is (known_now R start.world r s start.now start.lawful start.agrees start.correct start.standing (entry_of ask).client.0)))
         (λ other. new_request_keeps ask primary may
         (ap (λ (o : Option Known). newer ask.stmt.stamp (option_map (λ (k : Known). k.stamp) o)) is ∙ stamp_above known.stamp.0 ask.stmt.stamp.0 from other)))
