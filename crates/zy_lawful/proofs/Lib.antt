@@ -5,3 +5,4 @@ pub mod Runs
 pub mod Rows
 pub mod EachStep
 pub mod TieLemmas
+pub mod RefusedRows

@@ -23,7 +23,7 @@ use Rattle.zy_frames.specs.declared.frame.OrderFrame.{OrderFrame}
 use Rattle.zy_exec.specs.declared.known.Known.{Known}
 use Rattle.zy_exec.specs.Replay.{Point, origin, answer_at, known_of}
 use Rattle.zy_exec.specs.Kept.{Kept, StandsFor, longer, now_of, known_in}
-use Rattle.zy_exec.proofs.ReplayLemmas.{place-along, head-along}
+use Rattle.zy_exec.proofs.ReplayLemmas.{place-along, head-along, clients_push}
 use Rattle.zy_exec.proofs.HistoryLemmas.{stands_leads, stands_run}
 use Rattle.zy_law.specs.Histories.{IsEntryAt, AreKept}
 use Rattle.zy_law.specs.Lawful.{IsLawful, IsOrdered, IsAskedFor}
@@ -36,7 +36,7 @@ use Rattle.zy_law.proofs.GrownLemmas.{each_item}
 use Rattle.zy_law.proofs.HistoryLemmas.{Passes-longer}
 use Rattle.zy_law.proofs.PastLemmas.{later_front}
 use Rattle.zy_lawful.specs.Tied.{Agrees, IsOfClient, MayRun, MaySlotRun, IsStanding, AreOrdersUpTo}
-use Rattle.zy_lawful.proofs.Records.{IsLastOf, IsRecord, records, last_of_next, entry_last, entry_before, entry_pushed, answer_longer, of_clients_push}
+use Rattle.zy_lawful.proofs.Records.{IsLastOf, IsRecord, records, last_of_next, entry_last, entry_before, entry_pushed, answer_longer}
 use Rattle.zy_table.specs.State.{State, own_view, is_leaving_mode}
 
 -- ---- lists
@@ -61,6 +61,11 @@ slots_more w v more (o ∷ slots) all = (slot_more w v more o all.0, slots_more 
 abbrev pub AreOrdersOf : World → ℕ → ℕ → List Entry → Type 0
 AreOrdersOf w r view history =
     (said : ℕ) (x : Spoken) (m : Mark) (request : Digest) → Says w r said x → x.what ≡ Order view m request → m.place ≤ length history → IsOrdered w history m request
+
+-- what holds of all that a replica said, and of one thing more
+pub own_said : (w : World) (r : ℕ) (y : Spoken) (P : Spoken → Type 0) → ((number : ℕ) (z : Spoken) → Says w r number z → P z) → P y → (number : ℕ) (z : Spoken) → Says (after_saying w r y) r number z → P z
+own_said w r y P all one number z says =
+    each_item w.said r y (λ q i z. q ≡ r → P z) (λ q i z at own. all i z (subst (λ (p : ℕ). Says w p i z) own at)) (λ own. one) r number z says refl
 
 -- ---- a replica that stands in a lawful world
 
@@ -142,7 +147,7 @@ module _ {S : Type 0} (R : Rules S) (w : World) (r : ℕ) (s : State S) (h : Lis
         stood = ap (λ (l : List Stand). slice_get l (x.number + 1)) (last_own w.past r b) ∙ ap (λ (i : ℕ). slice_get (w.past r ++ b ∷ []) i) x.last ∙ entry_pushed (w.past r) b;
         last = omega (arith, x.last, ap (λ (l : List Stand). length l) (last_own w.past r b), length-append (w.past r) (b ∷ []));
         stands = stands_run R s.kept h e x.stands;
-        clients = of_clients_push h e x.clients client;
+        clients = clients_push h e x.clients client;
         left = x.left;
         asks = slots_more w (after_standing w r b) (moving_runs b) s.orders.slots x.asks;
       }
@@ -180,10 +185,7 @@ module _ {S : Type 0} (R : Rules S) (w : World) (r : ℕ) (s : State S) (h : Lis
         stands = x.stands;
         clients = x.clients;
         left = λ number z view report says what.
-            each_item w.said r y (λ q i z. q ≡ r → z.what ≡ Change view report → view ≤ own_view s)
-            (λ q i z at own is. x.left i z view report (subst (λ (p : ℕ). Says w p i z) own at) is)
-            (λ own is. absurd (stays view report is))
-            r number z says refl what;
+            own_said w r y (λ z. z.what ≡ Change view report → view ≤ own_view s) (λ i z at is. x.left i z view report at is) (λ is. absurd (stays view report is)) number z says what;
         asks = slots_more w (after_saying w r y) (saying_runs y) s.orders.slots x.asks;
       }
 
@@ -263,17 +265,11 @@ module _ {S : Type 0} (R : Rules S) (w : World) (r : ℕ) (s : State S) (h : Lis
 pub up_to_said : (w : World) (r view place : ℕ) (y : Spoken) → ((m : Mark) (request : Digest) → y.what ≡ Order view m request → m.place ≤ place) → AreOrdersUpTo w r view place
     → AreOrdersUpTo (after_saying w r y) r view place
 up_to_said w r view place y new up number z m request says what =
-    each_item w.said r y (λ q i z. q ≡ r → z.what ≡ Order view m request → m.place ≤ place)
-    (λ q i z at own is. up i z m request (subst (λ (p : ℕ). Says w p i z) own at) is)
-    (λ own is. new m request is)
-    r number z says refl what
+    own_said w r y (λ z. z.what ≡ Order view m request → m.place ≤ place) (λ i z at is. up i z m request at is) (λ is. new m request is) number z says what
 
 pub orders_of_said : (w : World) (r view : ℕ) (history : List Entry) (y : Spoken) → ((m : Mark) (request : Digest) → y.what ≡ Order view m request → IsOrdered w history m request) → AreOrdersOf w r view history
     → AreOrdersOf (after_saying w r y) r view history
 orders_of_said w r view history y new of number z m request says what far =
     let is : IsOrdered w history m request =
-    each_item w.said r y (λ q i z. q ≡ r → z.what ≡ Order view m request → IsOrdered w history m request)
-    (λ q i z at own is. of i z m request (subst (λ (p : ℕ). Says w p i z) own at) is far)
-    (λ own is. new m request is)
-    r number z says refl what in
+    own_said w r y (λ z. z.what ≡ Order view m request → IsOrdered w history m request) (λ i z at is. of i z m request at is far) (λ is. new m request is) number z says what in
     record { passes = is.passes; entry = is.entry; there = is.there; digest = is.digest }

@@ -13,7 +13,7 @@ use Rattle.zy_chain.specs.Entries.{digest_of_entry}
 use Rattle.zy_chain.specs.Heads.{head_after, head_of, empty_head}
 use Rattle.zy_exec.specs.declared.known.Known.{Known}
 use Rattle.zy_exec.specs.Replay.{Point, origin, known_of, along, answer_at}
-use Rattle.zy_exec.proofs.ReplayLemmas.{by_last, along-append, along-nil, place-along, head-along, length-known-along}
+use Rattle.zy_exec.proofs.ReplayLemmas.{by_last, along-append, along-nil, place-along, head-along, length-known-along, clients_pop}
 use Rattle.zy_law.specs.Histories.{IsEntryAt}
 use Rattle.zy_law.proofs.EntriesAskedFor.{entry_within, entry_longer, entry_shorter}
 use Rattle.zy_lawful.specs.Tied.{IsOfClient}
@@ -140,17 +140,9 @@ record_start {S} R client =
     (sym (ap (λ (q : Point S). get_or q.known client None) (along-nil R (origin R)) ∙ none_of 64 client))
     (λ place d at same. let within = entry_within [] place d at in let first = at.first in absurd (omega arith))
 
-of_clients_pop : (h : List Entry) (e : Entry) → AllByRecursion IsOfClient (h ++ e ∷ []) → AllByRecursion IsOfClient h × IsOfClient e
-of_clients_pop [] e all = (tt, all.0)
-of_clients_pop (first ∷ h) e all = let rest = of_clients_pop h e all.1 in ((all.0, rest.0), rest.1)
-
-pub of_clients_push : (h : List Entry) (e : Entry) → AllByRecursion IsOfClient h → IsOfClient e → AllByRecursion IsOfClient (h ++ e ∷ [])
-of_clients_push [] e all one = (one, tt)
-of_clients_push (first ∷ h) e all one = (all.0, of_clients_push h e all.1 one)
-
 -- what is known of each client after a history is its last entry
 pub records : {S : Type 0} (R : Rules S) (client : ℕ) (h : List Entry) → AllByRecursion IsOfClient h → IsRecord R h client (known_after R h client)
 records R client =
     by_last (λ h. AllByRecursion IsOfClient h → IsRecord R h client (known_after R h client))
     (λ all. record_start R client)
-    (λ h e before all. let parts = of_clients_pop h e all in record_next R h e client parts.1 (before parts.0))
+    (λ h e before all. let parts = clients_pop h e all in record_next R h e client parts.1 (before parts.0))

@@ -5,5 +5,5 @@
 mod steps;
 mod ties;
 
-pub use steps::lawful_steps;
+pub use steps::{lawful_steps, refusals};
 pub use ties::{acts_told, ties_hold};

@@ -1,10 +1,13 @@
 ghost use Rattle.std.specs.Prelude.{◌≡◌, ℕ, List};
+ghost use Rattle.zy_base.specs.declared.cause.Cause.{Cause};
+ghost use Rattle.zy_base.specs.declared.step.Answer.TheVariants.{Refused};
 ghost use Rattle.zy_base.specs.declared.step.Event.{Event};
 ghost use Rattle.zy_chain.specs.declared.entry.Entry.{Entry};
 ghost use Rattle.zy_law.specs.Steps.{AllMay};
 ghost use Rattle.zy_law.specs.World.{World};
 ghost use Rattle.zy_lawful.specs.Acts.{acts_of, world_after, history_after};
 ghost use Rattle.zy_lawful.specs.Tied.{IsTied, IsHonestStep};
+ghost use Rattle.zy_table.specs.Deeds.{no_deeds};
 ghost use Rattle.zy_table.specs.State.{State};
 ghost use Rattle.zy_table.specs.Step.{step};
 
@@ -15,4 +18,9 @@ use zy_base::Machine;
 pub fn lawful_steps<M: Machine>()
     ensures acts { (w : World) (r : ℕ) (s : State M.State) (h : List Entry) (event : Event) → IsHonestStep M.rules w r s h event → AllMay w r (acts_of w r s h (step M.rules s event)) }
     ensures tied { (w : World) (r : ℕ) (s : State M.State) (h : List Entry) (event : Event) → IsHonestStep M.rules w r s h event → IsTied M.rules (world_after w r s h (step M.rules s event)) r (step M.rules s event).state (history_after h (step M.rules s event).deeds.acts) }
+{}
+
+/// A refused event changes nothing: the state is as before, and nothing is sent, said or gained.
+pub fn refusals<M: Machine>()
+    ensures { (s : State M.State) (event : Event) (cause : Cause) → (step M.rules s event).answer ≡ Refused cause → ((step M.rules s event).state ≡ s) × ((step M.rules s event).deeds ≡ no_deeds) }
 {}
