@@ -6,3 +6,4 @@ pub mod Rows
 pub mod EachStep
 pub mod TieLemmas
 pub mod RefusedRows
+pub mod FirstRequest

@@ -2,8 +2,10 @@
 //! nothing, and whose contracts speak of all worlds and all replicas.
 #![tactic(auto)]
 
+mod example;
 mod steps;
 mod ties;
 
+pub use example::a_first_request;
 pub use steps::{lawful_steps, refusals};
 pub use ties::{acts_told, ties_hold};
