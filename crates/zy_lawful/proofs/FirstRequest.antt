@@ -1,6 +1,6 @@
 -- The acts of the first request.
-use Rattle.std.proofs.Common.{◌≡◌, ℕ, ◌<◌, ◌≤◌, Bool, true, false, List, [], Option, None, refl, ap, ◌∙◌, arith, lt-ltb, le-leb}
-use Rattle.std.specs.Prelude.{nat_lt, nat_le, if◌then◌else◌}
+use Rattle.std.proofs.Common.{◌≡◌, ℕ, ◌<◌, ◌≤◌, Bool, true, List, [], Option, None, refl, ap, ◌∙◌, arith, lt-ltb, le-leb}
+use Rattle.std.specs.Prelude.{nat_lt, if◌then◌else◌}
 use Rattle.zy_admit.specs.Judging.{entry_of}
 use Rattle.zy_base.specs.Machine.{Rules}
 use Rattle.zy_base.specs.declared.cause.Cause.TheVariants as causes

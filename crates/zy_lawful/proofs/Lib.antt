@@ -2,6 +2,7 @@ pub mod Records
 pub mod Goes
 pub mod OneEntry
 pub mod Runs
+pub mod Cases
 pub mod Rows
 pub mod EachStep
 pub mod TieLemmas
