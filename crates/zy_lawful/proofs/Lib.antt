@@ -8,3 +8,4 @@ pub mod EachStep
 pub mod TieLemmas
 pub mod RefusedRows
 pub mod FirstRequest
+pub mod GainedEntries

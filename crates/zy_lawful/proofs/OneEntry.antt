@@ -133,7 +133,7 @@ module _ {S : Type 0} (R : Rules S) (w : World) (r : ℕ) (s : State S) (h : Lis
       }
 
   pub moving_runs : (b : Stand) (e : Entry) → MayRun w e → MayRun (after_standing w r b) e
-  moving_runs b e may = record { client = may.client; asked = may.asked }
+  moving_runs b e may = record { client = may.client; range = may.range; asked = may.asked }
 
   -- and it stands there then
   unfoldable pub standing_moved : (e : Entry) → IsOfClient e → IsStanding R (after_standing w r (record { view = own_view s; history = h ++ e ∷ [] })) r (record s { kept = longer s.kept e }) (h ++ e ∷ [])
@@ -170,7 +170,7 @@ module _ {S : Type 0} (R : Rules S) (w : World) (r : ℕ) (s : State S) (h : Lis
       }
 
   pub saying_runs : (y : Spoken) (e : Entry) → MayRun w e → MayRun (after_saying w r y) e
-  saying_runs y e may = record { client = may.client; asked = may.asked }
+  saying_runs y e may = record { client = may.client; range = may.range; asked = may.asked }
 
   -- after it said what is no leave
   unfoldable pub standing_said : (y : Spoken) → ((view : ℕ) (report : PlainReport) → y.what ≡ Change view report → ⊥) → IsStanding R (after_saying w r y) r s h

@@ -1,5 +1,5 @@
 -- Each row of the table keeps the rules of lawful conduct, and the tie.
-use Rattle.std.proofs.Common.{◌≡◌, ℕ, ◌+◌, ◌-◌, ◌%◌, ◌≤◌, true, List, [], ◌∷◌, ◌++◌, length, replicate, Option, Some, None, refl, sym, ap, ◌∙◌, subst, arith, eqb-true}
+use Rattle.std.proofs.Common.{◌≡◌, ℕ, ◌+◌, ◌-◌, ◌%◌, ◌≤◌, true, List, [], ◌∷◌, ◌++◌, length, Option, Some, None, refl, sym, ap, ◌∙◌, subst, arith, eqb-true}
 use Rattle.std.specs.List.{AllByRecursion}
 use Rattle.std.proofs.lemmas.List.{length-append}
 use Rattle.zy_base.specs.Machine.{Rules}
@@ -11,7 +11,7 @@ use Rattle.zy_chain.specs.Entries.{digest_of_entry}
 use Rattle.zy_chain.specs.declared.entry.Entry.{Entry}
 use Rattle.zy_chain.specs.Stretch.{Mark}
 use Rattle.zy_admit.specs.Judging.{entry_of}
-use Rattle.zy_admit.specs.Orders.{Orders, slots_above, with_order}
+use Rattle.zy_admit.specs.Orders.{slots_above}
 use Rattle.zy_frames.specs.declared.frame.OrderFrame.{OrderFrame}
 use Rattle.zy_parts.specs.Numbers as numbers
 use Rattle.zy_parts.specs.Statements.{spec_fields}
@@ -29,7 +29,7 @@ use Rattle.zy_lawful.specs.Tied.{MayRun, MaySlotRun, MayFrameRun, MayEventRun, A
 use Rattle.zy_lawful.proofs.Records.{IsLastOf, IsRecord}
 use Rattle.zy_lawful.proofs.OneEntry.{AreOrdersOf, may_respond, may_order, may_tell, known_now, next_ordered, orders_of_longer, orders_of_said, up_to_said, place_now}
 use Rattle.zy_lawful.proofs.Cases.{Cases, IsNew, responded, with_held, heard_case, timer_step_case}
-use Rattle.zy_lawful.proofs.Runs.{IsGoing, IsTiedGoing, slots_from, slots_with, slots_free, going_as, going_said, one_goes, next_goes, one_links, held_links, held_goes}
+use Rattle.zy_lawful.proofs.Runs.{IsGoing, IsTiedGoing, slots_from, slots_put, going_as, going_said, one_goes, next_goes, one_links, held_links, held_goes}
 use Rattle.zy_table.specs.Deeds.{ends, Going, Outcome, begin}
 use Rattle.zy_table.specs.Orders.{hole_of, ask_for_missing}
 use Rattle.zy_table.specs.Requests.{order_of, sealed_order, ordered}
@@ -65,11 +65,6 @@ module _ {S : Type 0} (R : Rules S) (w : World) (r number : ℕ) (h : List Entry
       let slots = slots_above (last_place g.state.kept + 1) g.state.orders in
       held_goes R w r (own_view s) number h slots (run_one R o g) (slots_from w (last_place g.state.kept + 1 - g.state.orders.base) g.state.orders.slots all)
       (one (held_links R w r (own_view s) number h slots (run_one R o g) links)) links
-
-  slots_put : (v : World) (orders : Orders) (o : OrderFrame) → AllByRecursion (MaySlotRun v) orders.slots → MayRun v (entry_of o.ask) → AllByRecursion (MaySlotRun v) (with_order orders o).slots
-  slots_put v orders o all may =
-      let at = o.order.stmt.place.0 - orders.base - 1 in
-      slots_with v (orders.slots ++ replicate (at + 1 - length orders.slots) None) at (Some o) (slots_free v orders.slots (at + 1 - length orders.slots) all) may
 
   -- what is kept to be run may be run
   module _ (asks : AllByRecursion (MaySlotRun w) s.orders.slots) where

@@ -11,7 +11,7 @@ use Rattle.zy_base.specs.declared.step.Mode.{Mode}
 use Rattle.zy_chain.specs.declared.entry.Entry.{Entry}
 use Rattle.zy_choose.specs.Reports.{PlainReport}
 use Rattle.zy_admit.specs.Judging.{newer, entry_of, same_digest}
-use Rattle.zy_admit.specs.Orders.{without_order}
+use Rattle.zy_admit.specs.Orders.{Orders, with_order, without_order}
 use Rattle.zy_chain.specs.Entries.{digest_of_entry}
 use Rattle.zy_chain.specs.Heads.{head_after}
 use Rattle.zy_frames.specs.declared.frame.OrderFrame.{OrderFrame}
@@ -57,6 +57,11 @@ pub slots_free : (w : World) (slots : List (Option OrderFrame)) (n : ℕ) → Al
 slots_free w [] zero all = tt
 slots_free w [] (suc n) all = (tt, slots_free w [] n tt)
 slots_free w (first ∷ slots) n all = (all.0, slots_free w slots n all.1)
+
+pub slots_put : (v : World) (orders : Orders) (o : OrderFrame) → AllByRecursion (MaySlotRun v) orders.slots → MayRun v (entry_of o.ask) → AllByRecursion (MaySlotRun v) (with_order orders o).slots
+slots_put v orders o all may =
+    let at = o.order.stmt.place.0 - orders.base - 1 in
+    slots_with v (orders.slots ++ replicate (at + 1 - length orders.slots) None) at (Some o) (slots_free v orders.slots (at + 1 - length orders.slots) all) may
 
 -- ---- on the way
 

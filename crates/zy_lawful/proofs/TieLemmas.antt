@@ -59,7 +59,7 @@ tied_grown R w r s h asked said past kept asks told stood tied =
     let was : (number : ℕ) (y : Spoken) → slice_get (said r) number ≡ Some y → Says w r number y =
     λ number y at. ap (λ (l : List Spoken). slice_get l number) (sym told) ∙ at in
     let runs : (e : Entry) → MayRun w e → MayRun (grown w asked said past kept) e =
-    λ e may. record { client = may.client; asked = elim may.asked [ inl lies ↦ inl lies | inr did ↦ inr (asks e.client.0 e did) ] } in
+    λ e may. record { client = may.client; range = may.range; asked = elim may.asked [ inl lies ↦ inl lies | inr did ↦ inr (asks e.client.0 e did) ] } in
     record {
       standing = record {
         me = x.me;

@@ -6,7 +6,7 @@ use Rattle.zy_base.specs.Machine.{Rules}
 use Rattle.zy_base.specs.declared.ids.Digest.{Digest}
 use Rattle.zy_base.specs.declared.step.Event.{Event}
 use Rattle.zy_base.specs.declared.step.Event.TheVariants.{Heard, Timer}
-use Rattle.zy_chain.specs.Entries.{digest_of_entry}
+use Rattle.zy_chain.specs.Entries.{IsEntryInRange, digest_of_entry}
 use Rattle.zy_chain.specs.Heads.{head_after}
 use Rattle.zy_chain.specs.Stretch.{Mark}
 use Rattle.zy_chain.specs.declared.entry.Entry.{Entry}
@@ -51,9 +51,10 @@ pub record Agrees {S : Type 0} (R : Rules S) (w : World) : Type 0 where
 abbrev pub IsOfClient : Entry → Type 0
 IsOfClient e = e.client.0 < 64
 
--- its client asked for it, or lies
+-- an entry in its ranges, whose client asked for it or lies
 pub record MayRun (w : World) (e : Entry) : Type 0 where
   pub client : IsOfClient e
+  pub range : IsEntryInRange e
   pub asked : (w.lying e.client.0 ≡ true) ⊎ Contains (w.asked e.client.0) e
 
 abbrev pub MaySlotRun : World → Option OrderFrame → Type 0
@@ -99,6 +100,11 @@ abbrev pub MayEventRun : {S : Type 0} → World → State S → Event → Type 0
 MayEventRun w s (Heard bytes) =
     (frame : Frame) → frame_in bytes ≡ Ok frame → screen s.keys (parts_of frame) ≡ None → in_role s frame ≡ true → MayFrameRun w frame
 MayEventRun w s (Timer kind) = Unit {0}
+
+-- a gained entry may run, and leads from the head before it to the head after it
+pub record IsGained (w : World) (got : Got) : Type 0 where
+  pub run : MayRun w got.entry
+  pub head : got.head ≡ next_head got.before got.entry
 
 -- the text of the link by which an entry was gained is kept
 abbrev pub IsLinkKept : World → Got → Type 0

@@ -7,5 +7,5 @@ mod steps;
 mod ties;
 
 pub use example::a_first_request;
-pub use steps::{lawful_steps, refusals};
+pub use steps::{gained_entries, lawful_steps, refusals};
 pub use ties::{acts_told, ties_hold};
