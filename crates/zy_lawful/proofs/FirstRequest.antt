@@ -1,0 +1,51 @@
+-- The acts of the first request.
+use Rattle.std.proofs.Common.{◌≡◌, ℕ, ◌<◌, ◌≤◌, Bool, true, List, [], Option, None, refl, ap, ◌∙◌, arith, lt-ltb, le-leb}
+use Rattle.std.specs.Prelude.{nat_lt, if◌then◌else◌}
+use Rattle.zy_admit.specs.Judging.{entry_of}
+use Rattle.zy_base.specs.Machine.{Rules}
+use Rattle.zy_base.specs.declared.cause.Cause.TheVariants as causes
+use Rattle.zy_base.specs.declared.counts.Counts.{Counts}
+use Rattle.zy_base.specs.declared.ids.ReplicaId.{ReplicaId}
+use Rattle.zy_exec.specs.Kept.{last_place, known_in}
+use Rattle.zy_exec.specs.Replay.{along}
+use Rattle.zy_exec.specs.declared.known.Known.{Known}
+use Rattle.zy_law.specs.Steps as law
+use Rattle.zy_lawful.specs.Acts.{law_acts}
+use Rattle.zy_lawful.specs.Example.{first_acts}
+use Rattle.zy_lawful.proofs.Records.{none_of}
+use Rattle.zy_parts.specs.declared.signed.Signed.{Signed}
+use Rattle.zy_parts.specs.declared.statements.Ask.{Ask}
+use Rattle.zy_seal.specs.Keys.{Keys}
+use Rattle.zy_seal.specs.Sealing.{SealerState}
+use Rattle.zy_table.specs.Deeds.{Outcome, refused}
+use Rattle.zy_table.specs.Requests.{request, request_after, new_request, take_request}
+use Rattle.zy_table.specs.Running.{run_one, run_held}
+use Rattle.zy_table.specs.State.{State, start_of, leaves_of, window_of}
+
+module _ {S : Type 0} (R : Rules S) (interval : ℕ) (me : ReplicaId) (counts : Counts) (keys : Keys) (sealer : SealerState) (ask : Signed Ask) where
+  abbrev begins : State S
+  begins = start_of R interval me counts keys sealer
+
+  abbrev acts : Outcome S → List law.Act
+  acts o = law_acts 0 0 [] o.deeds.acts
+
+  nobody : (client : ℕ) → known_in R begins.kept client ≡ None
+  unfolding along
+  nobody client = none_of 64 client
+
+  taken : 2 ≤ leaves_of begins → acts (take_request R begins ask) ≡ first_acts R (entry_of ask)
+  unfolding along run_one run_held
+  taken left = rw (le-leb 2 (leaves_of begins) left) refl
+
+  room : 0 < interval → nat_lt (last_place begins.kept) (window_of begins) ≡ true
+  room some = lt-ltb (last_place begins.kept) (window_of begins) (omega arith)
+
+  new : 0 < interval → 2 ≤ leaves_of begins → acts (new_request R begins ask) ≡ first_acts R (entry_of ask)
+  new some left =
+      ap (λ (b : Bool). acts (if b then take_request R begins ask else refused (causes.WindowFull (record { 0 = window_of begins })) begins)) (room some)
+      ∙ taken left
+
+  pub first_request : 0 < interval → 2 ≤ leaves_of begins → acts (request R begins ask) ≡ first_acts R (entry_of ask)
+  unfolding request
+  first_request some left =
+      ap (λ (o : Option Known). acts (request_after R begins ask o)) (nobody (entry_of ask).client.0) ∙ new some left

@@ -1,0 +1,81 @@
+-- The entries that a step gains may run, each on the head before it.
+use Rattle.std.proofs.Common.{◌+◌, ◌-◌, List, [], ◌∷◌, ◌++◌, Option, Some, None, refl}
+use Rattle.std.specs.Prelude.{nat_le}
+use Rattle.std.specs.List.{AllByRecursion}
+use Rattle.zy_admit.specs.Judging.{entry_of}
+use Rattle.zy_admit.specs.Orders.{slots_above}
+use Rattle.zy_base.specs.Machine.{Rules}
+use Rattle.zy_base.specs.declared.step.Event.{Event}
+use Rattle.zy_base.specs.declared.step.Event.TheVariants.{Heard, Timer}
+use Rattle.zy_exec.specs.Kept.{longer, last_place}
+use Rattle.zy_frames.specs.declared.frame.OrderFrame.{OrderFrame}
+use Rattle.zy_law.specs.World.{World}
+use Rattle.zy_lawful.specs.Tied.{IsGained, MayRun, MaySlotRun, MayFrameRun, MayEventRun}
+use Rattle.zy_lawful.proofs.Cases.{Cases, with_held, heard_case, timer_step_case}
+use Rattle.zy_lawful.proofs.Runs.{by_test, slots_from, slots_put}
+use Rattle.zy_table.specs.Deeds.{Going, Outcome, begin, gains_in}
+use Rattle.zy_table.specs.Requests.{ordered, sealed_order}
+use Rattle.zy_table.specs.Running.{got_of, next_known, spec_of, run_one, run_held, run, fits_end}
+use Rattle.zy_table.specs.State.{State, own_view, stood_of, leaves_of}
+use Rattle.zy_table.specs.Step.{step}
+use Rattle.zy_table.specs.declared.deeds.Act.{Act}
+use Rattle.zy_table.specs.declared.deeds.Act.TheVariants.{Says, Gains}
+use Rattle.zy_table.specs.declared.deeds.Body.TheVariants as bodies
+use Rattle.zy_table.specs.declared.deeds.Remark.{Remark}
+use Rattle.zy_table.specs.declared.deeds.Got.{Got}
+
+module _ {S : Type 0} (R : Rules S) (w : World) where
+  abbrev AreGained : List Act → Type 0
+  AreGained acts = AllByRecursion (IsGained w) (gains_in acts)
+
+  gained_said : (acts : List Act) (remark : Remark) → AreGained acts → AreGained (acts ++ Says remark ∷ [])
+  gained_said [] remark all = tt
+  gained_said (Says first ∷ acts) remark all = gained_said acts remark all
+  gained_said (Gains got ∷ acts) remark all = (all.0, gained_said acts remark all.1)
+
+  gained_more : (acts : List Act) (got : Got) → AreGained acts → IsGained w got → AreGained (acts ++ Gains got ∷ [])
+  gained_more [] got all one = (one, tt)
+  gained_more (Says first ∷ acts) got all one = gained_more acts got all one
+  gained_more (Gains first ∷ acts) got all one = (all.0, gained_more acts got all.1 one)
+
+  one_gained : (o : OrderFrame) (g : Going S) → MayRun w (entry_of o.ask) → AreGained g.deeds.acts → AreGained (run_one R o g).deeds.acts
+  unfolding run_one
+  one_gained o g may all =
+      let got : Got = got_of R g.state o.ask in
+      let remark : Remark = record { body = bodies.Spec (spec_of (own_view g.state) o.ask (next_known R g.state o.ask)); stood = stood_of R (record g.state { kept = longer g.state.kept (entry_of o.ask) }) } in
+      gained_said (g.deeds.acts ++ Gains got ∷ []) remark (gained_more g.deeds.acts got all (record { run = may; head = refl }))
+
+  held_gained : (slots : List (Option OrderFrame)) (g : Going S) → AllByRecursion (MaySlotRun w) slots → AreGained g.deeds.acts → AreGained (run_held R slots g).deeds.acts
+  unfolding run_held
+  held_gained [] g may all = all
+  held_gained (None ∷ slots) g may all = all
+  held_gained (Some o ∷ slots) g may all =
+      by_test (λ (g' : Going S). AreGained g'.deeds.acts) (fits_end R g.state o) _ _
+      (λ fits. by_test (λ (g' : Going S). AreGained g'.deeds.acts) (nat_le 1 (leaves_of g.state)) _ _
+      (λ left. held_gained slots (run_one R o g) may.1 (one_gained o g may.0 all))
+      (λ none. all))
+      (λ differs. all)
+
+  run_gained : (o : OrderFrame) (g : Going S) → AllByRecursion (MaySlotRun w) g.state.orders.slots → MayRun w (entry_of o.ask) → AreGained g.deeds.acts → AreGained (run R o g).deeds.acts
+  run_gained o g slots may all =
+      held_gained (slots_above (last_place g.state.kept + 1) g.state.orders) (run_one R o g) (slots_from w (last_place g.state.kept + 1 - g.state.orders.base) g.state.orders.slots slots) (one_gained o g may all)
+
+  module _ (s : State S) (slots : AllByRecursion (MaySlotRun w) s.orders.slots) where
+    abbrev Gained : Outcome S → Type 0
+    Gained o = AreGained o.deeds.acts
+
+    cases : Cases R s (MayFrameRun w) Gained
+    cases =
+        record {
+          refuses = λ cause. tt;
+          stays = λ sent. tt;
+          responds = λ ask known known_is. tt;
+          orders = λ ask may primary new. run_gained (sealed_order R s ask) (ordered R s ask) (slots_put w s.orders (sealed_order R s ask) slots may) may tt;
+          takes = λ o may new. run_gained o (begin (record (with_held s o) { hole = None })) (slots_put w s.orders o slots may) may tt;
+          asks = λ o may. tt;
+          holds = λ o may. tt;
+        }
+
+    pub step_gained : (event : Event) → MayEventRun w s event → Gained (step R s event)
+    step_gained (Heard bytes) may = heard_case R s (MayFrameRun w) Gained cases bytes may
+    step_gained (Timer kind) may = timer_step_case R s (MayFrameRun w) Gained cases kind

@@ -1,0 +1,11 @@
+pub mod Records
+pub mod Goes
+pub mod OneEntry
+pub mod Runs
+pub mod Cases
+pub mod Rows
+pub mod EachStep
+pub mod TieLemmas
+pub mod RefusedRows
+pub mod FirstRequest
+pub mod GainedEntries

@@ -1,0 +1,124 @@
+-- How a replica's state is tied to what it said and where it stood.
+use Rattle.std.specs.Prelude.{◌≡◌, ◌⊎◌, ℕ, ◌+◌, ◌<◌, ◌≤◌, true, false, List, [], length, Option, Some, None, unwrap_or, Contains, Ok}
+use Rattle.std.specs.List.{AllByRecursion}
+use Rattle.sha2.specs.Sha256.{sha256}
+use Rattle.zy_base.specs.Machine.{Rules}
+use Rattle.zy_base.specs.declared.ids.Digest.{Digest}
+use Rattle.zy_base.specs.declared.step.Event.{Event}
+use Rattle.zy_base.specs.declared.step.Event.TheVariants.{Heard, Timer}
+use Rattle.zy_chain.specs.Entries.{IsEntryInRange, digest_of_entry}
+use Rattle.zy_chain.specs.Heads.{head_after}
+use Rattle.zy_chain.specs.Stretch.{Mark}
+use Rattle.zy_chain.specs.declared.entry.Entry.{Entry}
+use Rattle.zy_admit.specs.Judging.{entry_of}
+use Rattle.zy_exec.specs.Kept.{StandsFor}
+use Rattle.zy_exec.specs.Replay.{answer_at}
+use Rattle.zy_frames.specs.Frames.{frame_in, parts_of}
+use Rattle.zy_frames.specs.declared.frame.Frame.{Frame}
+use Rattle.zy_frames.specs.declared.frame.Frame.TheVariants as frames
+use Rattle.zy_frames.specs.declared.frame.OrderFrame.{OrderFrame}
+use Rattle.zy_law.specs.Lawful.{IsLawful}
+use Rattle.zy_law.specs.Said.{IsCorrect, Says, Stood}
+use Rattle.zy_law.specs.World.{Spoken, World}
+use Rattle.zy_law.specs.World.Statement.{Order, Change}
+use Rattle.zy_choose.specs.Reports.{PlainReport}
+use Rattle.zy_seal.specs.Screening.{screen}
+use Rattle.zy_table.specs.Deeds.{gains_in}
+use Rattle.zy_table.specs.Roles.{in_role}
+use Rattle.zy_table.specs.State.{State, own_view, is_leaving}
+use Rattle.zy_table.specs.Step.{step}
+use Rattle.zy_table.specs.declared.deeds.Act.{Act}
+use Rattle.zy_table.specs.declared.deeds.Got.{Got}
+
+-- ---- heads, digests and replies of the law
+
+abbrev pub next_head : Digest → Entry → Digest
+next_head head e = head_after head (digest_of_entry e)
+
+-- the digest of the reply to a history's last entry
+abbrev pub last_reply : {S : Type 0} → Rules S → List Entry → Digest
+last_reply R history = record { 0 = sha256 (unwrap_or (answer_at R history (length history)) []) }
+
+-- the law speaks of this machine's replies, and of heads and digests by SHA-256
+pub record Agrees {S : Type 0} (R : Rules S) (w : World) : Type 0 where
+  pub next : w.next ≡ next_head
+  pub digest : w.digest ≡ digest_of_entry
+  pub reply : w.reply ≡ last_reply R
+
+-- ---- what may run
+
+-- the clients have numbers below 64
+abbrev pub IsOfClient : Entry → Type 0
+IsOfClient e = e.client.0 < 64
+
+-- an entry in its ranges, whose client asked for it or lies
+pub record MayRun (w : World) (e : Entry) : Type 0 where
+  pub client : IsOfClient e
+  pub range : IsEntryInRange e
+  pub asked : (w.lying e.client.0 ≡ true) ⊎ Contains (w.asked e.client.0) e
+
+abbrev pub MaySlotRun : World → Option OrderFrame → Type 0
+MaySlotRun w None = Unit {0}
+MaySlotRun w (Some o) = MayRun w (entry_of o.ask)
+
+-- ---- the tie
+
+-- A replica stands in the world where its state says: in its view, with a history that it stands for.
+pub record IsStanding {S : Type 0} (R : Rules S) (w : World) (r : ℕ) (s : State S) (history : List Entry) : Type 0 where
+  pub me : s.me.0 ≡ r
+  pub counts : s.counts ≡ w.counts
+  pub active : is_leaving s ≡ false
+  -- its last stand
+  pub number : ℕ
+  pub stood : Stood w r number (record { view = own_view s; history = history })
+  pub last : number + 1 ≡ length (w.past r)
+  pub stands : StandsFor R s.kept history
+  pub clients : AllByRecursion IsOfClient history
+  -- it left for no greater view
+  pub left : (said : ℕ) (x : Spoken) (view : ℕ) (report : PlainReport) → Says w r said x → x.what ≡ Change view report → view ≤ own_view s
+  -- what is kept to be run may be run
+  pub asks : AllByRecursion (MaySlotRun w) s.orders.slots
+
+-- the orders that it gave in a view are of places up to this one
+abbrev pub AreOrdersUpTo : World → ℕ → ℕ → ℕ → Type 0
+AreOrdersUpTo w r view place =
+    (said : ℕ) (x : Spoken) (m : Mark) (request : Digest) → Says w r said x → x.what ≡ Order view m request → m.place ≤ place
+
+pub record IsTied {S : Type 0} (R : Rules S) (w : World) (r : ℕ) (s : State S) (history : List Entry) : Type 0 where
+  pub standing : IsStanding R w r s history
+  pub ordered : AreOrdersUpTo w r (own_view s) (length history)
+
+-- ---- what an event brings
+
+abbrev pub MayFrameRun : World → Frame → Type 0
+MayFrameRun w (frames.Request ask) = MayRun w (entry_of ask)
+MayFrameRun w (frames.Order both) = MayRun w (entry_of both.ask)
+MayFrameRun w _ = Unit {0}
+
+-- the requests of a verified frame may be run
+abbrev pub MayEventRun : {S : Type 0} → World → State S → Event → Type 0
+MayEventRun w s (Heard bytes) =
+    (frame : Frame) → frame_in bytes ≡ Ok frame → screen s.keys (parts_of frame) ≡ None → in_role s frame ≡ true → MayFrameRun w frame
+MayEventRun w s (Timer kind) = Unit {0}
+
+-- a gained entry may run, and leads from the head before it to the head after it
+pub record IsGained (w : World) (got : Got) : Type 0 where
+  pub run : MayRun w got.entry
+  pub head : got.head ≡ next_head got.before got.entry
+
+-- the text of the link by which an entry was gained is kept
+abbrev pub IsLinkKept : World → Got → Type 0
+IsLinkKept w got = w.kept got.before got.entry ≡ true
+
+abbrev pub AreLinksKept : World → List Act → Type 0
+AreLinksKept w acts = AllByRecursion (IsLinkKept w) (gains_in acts)
+
+-- A correct replica, tied to a lawful world with a history, meets an event: its requests are signed by clients that asked
+-- or lie, and the texts of the entries that it runs are kept.
+pub record IsHonestStep {S : Type 0} (R : Rules S) (w : World) (r : ℕ) (s : State S) (history : List Entry) (event : Event) : Type 0 where
+  pub lawful : IsLawful w
+  pub agrees : Agrees R w
+  pub correct : IsCorrect w r
+  pub tied : IsTied R w r s history
+  pub asks : MayEventRun w s event
+  pub links : AreLinksKept w (step R s event).deeds.acts

@@ -1,0 +1,11 @@
+//! Each step of the answer table is lawful. The crate has no code: its functions are laws, which have no argument and do
+//! nothing, and whose contracts speak of all worlds and all replicas.
+#![tactic(auto)]
+
+mod example;
+mod steps;
+mod ties;
+
+pub use example::a_first_request;
+pub use steps::{gained_entries, lawful_steps, refusals};
+pub use ties::{acts_told, ties_hold};
