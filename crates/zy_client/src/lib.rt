@@ -3,11 +3,13 @@
 
 mod asking;
 mod client;
+mod laws;
 mod moved;
 mod responses;
 mod step;
 
 pub use client::{Client, ClientStepped};
+pub use laws::held_responses;
 pub use zy_table::{Done, Path};
 
 #[cfg(test)]
