@@ -1,5 +1,5 @@
 -- The orders of the active view, executed or held: one slot for each place above the stable one.
-use Rattle.std.specs.Prelude.{ℕ, ◌+◌, ◌-◌, nat_le, if◌then◌else◌, List, [], ◌++◌, length, take, drop, replicate, position, slice_set, slice_index_or, Option, Some, None, is_some}
+use Rattle.std.specs.Prelude.{ℕ, ◌+◌, ◌-◌, nat_le, max, if◌then◌else◌, List, [], ◌∷◌, ◌++◌, length, take, drop, replicate, position, slice_set, slice_index_or, Option, Some, None, is_some}
 use Rattle.zy_frames.specs.declared.frame.OrderFrame.{OrderFrame}
 
 pub record Orders : Type 0 where
@@ -45,3 +45,14 @@ gap_in (Some places) = if nat_le places 0 then None else Some places
 
 abbrev pub gap_above : ℕ → Orders → Option ℕ
 gap_above place o = gap_in (position is_some (slots_above place o))
+
+-- the orders in some slots
+abbrev pub filled : List (Option OrderFrame) → List OrderFrame
+filled [] = []
+filled (None ∷ slots) = filled slots
+filled (Some o ∷ slots) = o ∷ filled slots
+
+-- the kept orders from a place to a place
+abbrev pub orders_from : ℕ → ℕ → Orders → List OrderFrame
+orders_from from to o =
+    let first = max from (o.base + 1) in filled (take (to + 1 - first) (slots_above (first - 1) o))

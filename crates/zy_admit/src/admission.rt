@@ -1,8 +1,8 @@
-ghost use Rattle.std.specs.Prelude.{◌≡◌, ◌+◌, ◌<◌, ◌≤◌, ◌^◌, ◌-◌, length, option_copied, option_map, OnOk, OnErr, IfErr, None};
+ghost use Rattle.std.specs.Prelude.{◌≡◌, [], ◌∷◌, ◌++◌, ◌+◌, ◌<◌, ◌≤◌, ◌^◌, ◌-◌, length, slice_index_or, option_copied, option_map, IfOk, OnOk, OnErr, IfErr, None};
 ghost use Rattle.zy_chain.specs.Entries.{IsEntryInRange};
 ghost use Rattle.zy_parts.specs.Signing.{IsSignedInRange};
 ghost use Rattle.zy_parts.specs.Statements.{IsAskInRange, IsOrderInRange};
-ghost use Rattle.zy_admit.specs.Orders.{no_orders, stored_in, with_order, without_order, orders_above, orders_up_to, gap_above};
+ghost use Rattle.zy_admit.specs.Orders.{no_orders, stored_in, with_order, without_order, orders_above, orders_up_to, gap_above, filled, orders_from};
 ghost use Rattle.zy_admit.specs.Judging.{judge_in};
 
 use crate::judging::judge_new;
@@ -49,7 +49,14 @@ impl Admission {
         if place.0 <= self.base.0 {
             return None;
         }
-        match self.slots.get((place.0 - self.base.0 - 1) as usize) {
+        self.slot((place.0 - self.base.0 - 1) as usize)
+    }
+
+    // The order in a slot.
+    fn slot(&self, at: usize) -> Option<&OrderFrame>
+        ensures { option_copied result ≡ slice_index_or self.now.slots at None }
+    {
+        match self.slots.get(at) {
             Some(Some(order)) => Some(order),
             _ => None,
         }
@@ -70,6 +77,22 @@ impl Admission {
         }
         self.slots[at] = Some(frame);
         Ok(())
+    }
+
+    /// Copies of the orders that are kept from a place to a place, in the order of their places.
+    pub fn orders_from(&self, alloc: Global, from: Place, to: Place) -> Result<Vec<OrderFrame>, Want>
+        requires base { self.now.base < 2 ^ 62 }
+        requires to { to.0 < 2 ^ 62 }
+        ensures { IfOk result (λ v. v.items ≡ orders_from from.0 to.0 self.now) }
+    {
+        let first = from.0.max(self.base.0 + 1);
+        let skipped = (first - 1 - self.base.0) as usize;
+        let count = (to.0 + 1).saturating_sub(first) as usize;
+        let mut orders = Vec::new(alloc);
+        for at in skipped..self.slots.len().min(skipped + count) {
+            push_copy(&mut orders, self.slot(at))?;
+        }
+        Ok(orders)
     }
 
     /// How many places lie between a place and the least order that is held above it. `None` exactly where no order
@@ -132,4 +155,19 @@ impl Admission {
     {
         self.slots.clear();
     }
+}
+
+fn push_copy(orders: &mut Vec<OrderFrame>, slot: Option<&OrderFrame>) -> Result<(), Want>
+    ensures { OnOk result (orders.new.items ≡ orders.old.items ++ filled (option_copied slot.entry ∷ [])) }
+{
+    if let Some(order) = slot {
+        orders.push(copy_of(order)?)?;
+    }
+    Ok(())
+}
+
+fn copy_of(order: &OrderFrame) -> Result<OrderFrame, Want>
+    ensures { IfOk result (λ copy. copy ≡ order.now) }
+{
+    Ok(order.clone()?)
 }

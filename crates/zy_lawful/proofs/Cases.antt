@@ -33,7 +33,8 @@ use Rattle.zy_seal.specs.Sealing.{sealed_by}
 use Rattle.zy_exec.specs.declared.known.Known.{Known}
 use Rattle.zy_exec.specs.Kept.{known_in, last_place}
 use Rattle.zy_table.specs.Deeds.{Outcome, begin, refused, ends, act}
-use Rattle.zy_table.specs.Holes.{fill_with, fill_hole, ask_again, orders_from}
+use Rattle.zy_admit.specs.Orders.{orders_from}
+use Rattle.zy_table.specs.Holes.{fill_with, fill_hole, ask_again}
 use Rattle.zy_table.specs.Orders.{order_as, order, position_of, owes_hole, ask_for_missing}
 use Rattle.zy_table.specs.Requests.{said_already, respond_as, sealed_order, ordered, new_request, request_after, request, response_of}
 use Rattle.zy_table.specs.Roles.{is_client, in_role, view_cause}

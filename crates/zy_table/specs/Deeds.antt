@@ -23,6 +23,7 @@ use Rattle.zy_table.specs.declared.deeds.Got.{Got}
 use Rattle.zy_table.specs.declared.deeds.Act.{Act}
 use Rattle.zy_table.specs.declared.deeds.Act.TheVariants.{Says, Gains}
 use Rattle.zy_table.specs.declared.deeds.Deeds.{Deeds}
+use Rattle.zy_table.specs.Sending.{outgoing_to}
 use Rattle.zy_table.specs.State.{State}
 
 abbrev pub no_deeds : Deeds
@@ -63,16 +64,9 @@ begin s = record { state = s; deeds = no_deeds }
 abbrev pub others : ℕ → ℕ → List Party
 others me n = map (λ id. Replica (record { 0 = id })) (filter (λ id. if nat_eq id me then false else true) (range_with_len 0 n))
 
-abbrev pub receivers : ℕ → ℕ → To → List Party
-receivers me n All = others me n
-receivers me n (One party) = party ∷ []
-
--- the frames with their receivers, as bytes
-abbrev pub sendings_of : ℕ → ℕ → Sent → List (Party × List ℕ)
-sendings_of me n sent = map (λ to. (to, spelling sent.frame)) (receivers me n sent.to)
-
+-- the frames as bytes, each for its receivers
 abbrev pub outgoing_of : ℕ → ℕ → List Sent → List (Party × List ℕ)
-outgoing_of me n sent = flat_map (sendings_of me n) sent
+outgoing_of me n sent = outgoing_to (others me n) sent
 
 -- a statement's text
 abbrev pub text_by : Party → Body → List ℕ

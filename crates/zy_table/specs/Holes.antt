@@ -1,5 +1,5 @@
 -- What a replica answers to one that lacks orders, and when it asks again for those that it lacks itself.
-use Rattle.std.specs.Prelude.{ℕ, ◌+◌, ◌-◌, max, nat_le, if◌then◌else◌, List, [], ◌∷◌, map, take, Option, Some, None}
+use Rattle.std.specs.Prelude.{nat_le, if◌then◌else◌, List, [], ◌∷◌, map, Option, Some, None}
 use Rattle.zy_base.specs.declared.ids.Party.{Party}
 use Rattle.zy_base.specs.declared.cause.Cause.TheVariants as causes
 use Rattle.zy_base.specs.declared.step.Answer.TheVariants.{Taken}
@@ -10,22 +10,11 @@ use Rattle.zy_parts.specs.declared.statements.Hole.{Hole}
 use Rattle.zy_frames.specs.declared.frame.OrderFrame.{OrderFrame}
 use Rattle.zy_frames.specs.declared.frame.Frame.TheVariants as frames
 use Rattle.zy_exec.specs.Kept.{last_place}
-use Rattle.zy_admit.specs.Orders.{Orders, slots_above}
+use Rattle.zy_admit.specs.Orders.{orders_from}
 use Rattle.zy_table.specs.declared.deeds.To.TheVariants.{All, One}
 use Rattle.zy_table.specs.declared.deeds.Sent.{Sent}
 use Rattle.zy_table.specs.State.{State}
 use Rattle.zy_table.specs.Deeds.{Outcome, send, refused, ends, begin}
-
--- the orders in some slots
-abbrev pub filled : List (Option OrderFrame) → List OrderFrame
-filled [] = []
-filled (None ∷ slots) = filled slots
-filled (Some o ∷ slots) = o ∷ filled slots
-
--- the kept orders from a place to a place
-abbrev pub orders_from : ℕ → ℕ → Orders → List OrderFrame
-orders_from from to o =
-    let first = max from (o.base + 1) in filled (take (to + 1 - first) (slots_above (first - 1) o))
 
 abbrev pub order_to : Party → OrderFrame → Sent
 order_to by frame = record { to = One by; frame = frames.Order frame }

@@ -1,0 +1,5 @@
+mod HeldLemmas
+mod OthersLemmas
+mod ReadyLemmas
+mod SlotLemmas
+mod ToldLemmas

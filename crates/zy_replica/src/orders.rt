@@ -1,0 +1,128 @@
+//! What a replica answers to an order.
+
+ghost use Rattle.std.specs.Prelude.{◌≡◌, ◌≤◌, ◌<◌, ◌+◌, IfOk, is_some, if◌then◌else◌, true, false};
+ghost use Rattle.zy_exec.specs.Kept.{last_place};
+ghost use Rattle.zy_admit.specs.Judging.{judge_in};
+ghost use Rattle.zy_table.specs.State.{leaves_of, window_of, own_view};
+ghost use Rattle.zy_table.specs.Orders.{position_of as position_for, take_order as taken, asked_from as asked_at, owes_hole as owes, hole_of as hole_for, ask_for_missing as asked, hold_order as held, order as order_row};
+ghost use Rattle.zy_parts.specs.Statements.{IsHoleInRange};
+ghost use Rattle.zy_replica.specs.Ready.{IsOrderReady};
+
+use crate::Replica;
+use crate::copies::{frame_copy, hole_copy};
+use crate::progress::{Moved, Progress};
+use zy_admit::{Admit, Position, client_of};
+use zy_base::{Answer, Cause, Machine, Party, Place, Want};
+use zy_frames::{Frame, OrderFrame};
+use zy_parts::{Hole, Signed};
+use zy_table::{Act, Body, Remark, To};
+
+impl<M: Machine> Replica<M> {
+    fn position_of(&self, frame: &OrderFrame) -> Position
+        ensures { result ≡ position_for M.rules self.now frame.now }
+    {
+        Position {
+            end: self.exec.end(),
+            head: self.exec.head(),
+            window: self.window(),
+            last: self.last_stamp(client_of(frame.ask.by)),
+        }
+    }
+
+    // An order that is next.
+    fn take_order(self, frame: OrderFrame) -> Result<Moved<M>, Want>
+        requires order { IsOrderReady frame }
+        requires above { last_place self.kept < frame.order.stmt.place.0 }
+        requires within { frame.order.stmt.place.0 ≤ window_of self }
+        ensures { IfOk result (λ m. m ≡ taken M.rules self frame) }
+    {
+        if self.leaves() == 0 {
+            return Ok(self.refused(Cause::KeySpent));
+        }
+        let replica = self.keep_order(frame_copy(&frame)?)?.keep_hole(None);
+        Ok(replica.begin().run(&frame)?.ends(Answer::Taken))
+    }
+
+    // The missing orders have to be asked for: nothing is held at the next place, and nothing was asked for there.
+    fn owes_hole(&self) -> bool
+        ensures { result ≡ owes self.now }
+    {
+        let next = Place(self.exec.end().0 + 1);
+        self.orders.stored(next).is_none() && !self.has_asked_from(next)
+    }
+
+    fn has_asked_from(&self, place: Place) -> bool
+        ensures { result ≡ asked_at self.now.hole place.0 }
+    {
+        match &self.hole {
+            None => false,
+            Some(hole) => hole.stmt.from == place,
+        }
+    }
+
+    // From the next place to the one before the least that is held.
+    fn hole_of(&self) -> Hole
+        ensures { result ≡ hole_for self.now }
+    {
+        let end = self.exec.end();
+        Hole {
+            view: self.view(),
+            from: Place(end.0 + 1),
+            to: Place(end.0 + self.orders.gap(end).unwrap_or(1)),
+        }
+    }
+
+    // The primary is asked for them.
+    fn ask_for_missing(self) -> Result<Progress<M>, Want>
+        requires leaf { 1 ≤ leaves_of self }
+        requires room { last_place self.kept < window_of self }
+        ensures { IfOk result (λ g. g ≡ asked M.rules self) }
+    {
+        let stood = self.stood();
+        let hole = self.hole_of();
+        let body = Body::Hole(hole);
+        let primary = self.counts.primary(self.view());
+        let (replica, signed) = self.seal(hole)?;
+        let replica = replica.keep_hole(Some(hole_copy(&signed)?));
+        replica
+            .begin()
+            .act(Act::Says(Remark { body, stood }))?
+            .send(To::One(Party::Replica(primary)), Frame::FillHole(signed))
+    }
+
+    // An order that is held.
+    fn hold_order(self, frame: OrderFrame) -> Result<Moved<M>, Want>
+        requires order { IsOrderReady frame }
+        requires above { last_place self.kept < frame.order.stmt.place.0 }
+        requires within { frame.order.stmt.place.0 ≤ window_of self }
+        ensures { IfOk result (λ m. m ≡ held M.rules self frame) }
+    {
+        if !self.owes_hole() {
+            let replica = self.keep_order(frame)?;
+            return Ok(replica.begin().ends(Answer::Held));
+        }
+        if self.leaves() == 0 {
+            return Ok(self.refused(Cause::KeySpent));
+        }
+        let progress = self.keep_order(frame)?.ask_for_missing()?;
+        Ok(progress.ends(Answer::Held))
+    }
+
+    // The row.
+    #[tactic(auto, unfolding(zy_table::specs::Orders::order))]
+    pub(crate) fn hear_order(self, frame: OrderFrame) -> Result<Moved<M>, Want>
+        requires order { IsOrderReady frame }
+        ensures { IfOk result (λ m. m ≡ order_row M.rules self frame) }
+    {
+        let position = self.position_of(&frame);
+        match self
+            .orders
+            .judge(&frame.order.stmt, &frame.ask, &position)
+        {
+            Admit::Next => self.take_order(frame),
+            Admit::Held => self.hold_order(frame),
+            Admit::Refused(cause) => Ok(self.refused(cause)),
+            Admit::Evidence => Ok(self.refused(Cause::Unmatched)),
+        }
+    }
+}

@@ -1,0 +1,102 @@
+//! What a step did, as its caller sees it: frames and statements as bytes.
+
+ghost use Rattle.std.specs.Prelude.{◌≡◌, ◌≤◌, ◌<◌, ◌+◌, ◌++◌, ◌∷◌, [], length, nat_eq, if◌then◌else◌, Some, IfOk, OnOk};
+ghost use Rattle.zy_base.specs.declared.ids.Party.TheVariants as parties;
+ghost use Rattle.std.specs.List.{AllByRecursion};
+ghost use Rattle.zy_table.specs.State.{timers_of};
+ghost use Rattle.zy_table.specs.Deeds.{outgoing_of, others, text_by, said_from, gains_in};
+ghost use Rattle.zy_replica.specs.Ready.{IsActInRange, IsBodyInRange};
+
+use crate::Stepped;
+use crate::progress::{Moved, Progress};
+use std::alloc::Global;
+use zy_base::{Bytes, Items, Machine, Party, ReplicaId, Said, Spoken, Want};
+use zy_parts::signed_text;
+use zy_table::{Act, Body, Deeds, Gains, Remark, outgoing};
+
+impl<M: Machine> Moved<M> {
+    pub(crate) fn finish(self) -> Result<Stepped<M>, Want>
+        ensures answer { IfOk result (λ s. s.answer ≡ self.answer) }
+        ensures replica { IfOk result (λ s. s.replica ≡ self.state) }
+        ensures out { IfOk result (λ s. s.out ≡ outgoing_of self.state.me.0 self.state.counts.n self.deeds.sent) }
+        ensures timers { IfOk result (λ s. s.timers ≡ timers_of self.state) }
+        ensures said { IfOk result (λ s. s.said ≡ said_from (parties.Replica self.state.me) 0 self.deeds.acts) }
+        ensures got { IfOk result (λ s. s.got ≡ gains_in self.deeds.acts) }
+    {
+        let Moved { answer, progress } = self;
+        let Progress { replica, deeds } = progress;
+        let all = others_of(replica.alloc, replica.me, replica.counts.n)?;
+        let out = outgoing(replica.alloc, &all, deeds.sent.as_slice())?;
+        let (said, got) = told(replica.alloc, replica.me, deeds.acts)?;
+        let timers = replica.timers();
+        Ok(Stepped {
+            replica,
+            answer,
+            out,
+            timers,
+            said,
+            got,
+        })
+    }
+}
+
+// All replicas but one, in rising number.
+fn others_of(alloc: Global, me: ReplicaId, replicas: u64) -> Result<Vec<Party>, Want>
+    requires { replicas ≤ 16 }
+    ensures { IfOk result (λ v. v.items ≡ others me.0 replicas) }
+{
+    let mut all = Vec::new(alloc);
+    for id in 0..replicas {
+        push_other(&mut all, me, ReplicaId(id as u8))?;
+    }
+    Ok(all)
+}
+
+fn push_other(all: &mut Vec<Party>, me: ReplicaId, id: ReplicaId) -> Result<(), Want>
+    ensures { OnOk result (all.new.items ≡ all.old.items ++ (if nat_eq id.0 me.0 then [] else parties.Replica id ∷ [])) }
+{
+    if id != me {
+        all.push(Party::Replica(id))?;
+    }
+    Ok(())
+}
+
+// The statements with their signed texts, and the entries.
+fn told(alloc: Global, me: ReplicaId, acts: Items<Act>) -> Result<(Said, Gains), Want>
+    requires { AllByRecursion IsActInRange acts }
+    ensures said { IfOk result (λ r. r.0 ≡ said_from (parties.Replica me) 0 acts) }
+    ensures got { IfOk result (λ r. r.1 ≡ gains_in acts) }
+{
+    let mut said = Items::new(alloc);
+    let mut got = Items::new(alloc);
+    for act in acts.into_vec() {
+        match act {
+            Act::Says(remark) => said.push(spoken(alloc, me, &remark, got.len() as u64)?)?,
+            Act::Gains(entry) => got.push(entry)?,
+        }
+    }
+    Ok((said, got))
+}
+
+fn spoken(alloc: Global, me: ReplicaId, remark: &Remark, pairs: u64) -> Result<Spoken, Want>
+    requires { IsBodyInRange remark.now.body }
+    ensures { IfOk result (λ s. s ≡ record { text = text_by (parties.Replica me) remark.now.body; stood = Some remark.now.stood; pairs = pairs }) }
+{
+    Ok(Spoken {
+        text: text_of(alloc, me, &remark.body)?,
+        stood: Some(remark.stood),
+        pairs,
+    })
+}
+
+fn text_of(alloc: Global, me: ReplicaId, body: &Body) -> Result<Bytes, Want>
+    requires { IsBodyInRange body.now }
+    ensures { IfOk result (λ text. text ≡ text_by (parties.Replica me) body.now) }
+{
+    let me = Party::Replica(me);
+    match body {
+        Body::Order(order) => signed_text(alloc, me, order),
+        Body::Spec(spec) => signed_text(alloc, me, spec),
+        Body::Hole(hole) => signed_text(alloc, me, hole),
+    }
+}

@@ -1,0 +1,226 @@
+//! What a replica answers to a request.
+
+ghost use Rattle.std.specs.Prelude.{◌≡◌, ◌≤◌, ◌<◌, length, option_copied, option_map, Some, None, IfOk};
+ghost use Rattle.std.specs.Option.{ForSome};
+ghost use Rattle.zy_admit.specs.Orders.{stored_in};
+ghost use Rattle.zy_parts.specs.Signing.{IsSignedInRange};
+ghost use Rattle.zy_parts.specs.Statements.{IsSpecInRange, IsOrderInRange};
+ghost use Rattle.zy_parts.specs.Numbers as numbers;
+ghost use Rattle.zy_exec.specs.Kept.{last_place, known_in};
+ghost use Rattle.zy_exec.specs.Known.{IsKnownInRange};
+ghost use Rattle.zy_table.specs.State.{leaves_of, window_of, spec_to as last_spec};
+ghost use Rattle.zy_table.specs.Running.{spec_of as spec_for};
+ghost use Rattle.zy_table.specs.Requests.{response_of, respond_anew as anew, respond_as as answered_as, respond_with as answered_with, said_already as already, order_of as order_for, sealed_order as sealed, ordered as ordered_by, take_request as taken, new_request as fresh, request_after as after, request as request_row};
+ghost use Rattle.zy_replica.specs.Ready.{IsAskReady, IsOrderReady, IsKeptSpec};
+
+use crate::Replica;
+use crate::copies::{bytes_copy, frame_copy, order_copy, spec_copy};
+use crate::progress::{Moved, Progress};
+use crate::running::spec_of;
+use zy_admit::{client_of, request_digest_of};
+use zy_base::{Answer, Bytes, Cause, ClientId, Machine, Party, Place, Want};
+use zy_chain::next_head;
+use zy_exec::Known;
+use zy_frames::{Frame, OrderFrame};
+use zy_parts::{Ask, Order, Signed, Spec};
+use zy_table::{Act, Body, Remark, To};
+
+// ---- a request that was executed last
+
+fn said_already(last: Option<&Signed<Spec>>, spec: &Spec) -> Result<Option<Signed<Spec>>, Want>
+    ensures { IfOk result (λ said. said ≡ already (option_copied last.entry) spec.now) }
+{
+    match last {
+        Some(last) if last.stmt == *spec => Ok(Some(spec_copy(last)?)),
+        _ => Ok(None),
+    }
+}
+
+fn known_copy(known: &Known) -> Result<Known, Want>
+    ensures { IfOk result (λ copy. copy ≡ known.now) }
+{
+    Ok(Known {
+        stamp: known.stamp,
+        place: known.place,
+        head: known.head,
+        reply: bytes_copy(&known.reply)?,
+    })
+}
+
+impl<M: Machine> Progress<M> {
+    // The response with its order, where it is kept.
+    fn send_response(self, spec: Signed<Spec>, known: Known) -> Result<Progress<M>, Want>
+        requires spec { IsSignedInRange IsSpecInRange spec }
+        requires known { IsKnownInRange known }
+        ensures { IfOk result (λ g. g ≡ response_of self.state spec known self) }
+    {
+        let order = self.replica.order_at(known.place)?;
+        let to = To::One(Party::Client(spec.stmt.client));
+        self.send(
+            to,
+            Frame::SpecResponse {
+                spec,
+                reply: known.reply,
+                order,
+            },
+        )
+    }
+}
+
+impl<M: Machine> Replica<M> {
+    // A copy of the order that is kept at a place.
+    fn order_at(&self, place: Place) -> Result<Option<Signed<Order>>, Want>
+        ensures order { IfOk result (λ order. order ≡ option_map (λ o. o.order) (stored_in self.now.orders place.0)) }
+        ensures range { IfOk result (λ order. ForSome order (IsSignedInRange IsOrderInRange)) }
+    {
+        match self.orders.stored(place) {
+            Some(kept) => Ok(Some(order_copy(&kept.order)?)),
+            None => Ok(None),
+        }
+    }
+
+    // The response is signed anew.
+    fn respond_anew(self, spec: Spec, known: Known) -> Result<Moved<M>, Want>
+        requires spec { IsSpecInRange spec }
+        requires client { spec.client.0 < 64 }
+        requires known { IsKnownInRange known }
+        ensures { IfOk result (λ m. m ≡ anew M.rules self spec known) }
+    {
+        if self.leaves() == 0 {
+            return Ok(self.refused(Cause::KeySpent));
+        }
+        let stood = self.stood();
+        let (replica, signed) = self.seal(spec)?;
+        let replica = replica.keep_spec(spec_copy(&signed)?);
+        let body = Body::Spec(spec);
+        let progress = replica
+            .begin()
+            .act(Act::Says(Remark { body, stood }))?
+            .send_response(signed, known)?;
+        Ok(progress.ends(Answer::Taken))
+    }
+
+    // The response that was signed last, where it is this one.
+    fn respond_with(self, spec: Spec, known: Known) -> Result<Moved<M>, Want>
+        requires spec { IsSpecInRange spec }
+        requires client { spec.client.0 < 64 }
+        requires known { IsKnownInRange known }
+        ensures { IfOk result (λ m. m ≡ answered_with M.rules self spec known) }
+    {
+        match said_already(self.spec_to(spec.client), &spec)? {
+            None => self.respond_anew(spec, known),
+            Some(said) => Ok(self
+                .begin()
+                .send_response(said, known)?
+                .ends(Answer::Taken)),
+        }
+    }
+
+    // ---- a new request at the primary
+
+    fn order_of(&self, ask: &Signed<Ask>) -> Order
+        requires ask { IsAskReady ask.now }
+        requires room { last_place self.now.kept < window_of self.now }
+        ensures order { result ≡ order_for M.rules self.now ask.now }
+    {
+        let request = request_digest_of(ask);
+        Order {
+            view: self.view(),
+            place: Place(self.exec.end().0 + 1),
+            head: next_head(&self.exec.head(), &request),
+            request,
+        }
+    }
+
+    // The order is signed, kept and sent to all.
+    fn order(self, ask: Signed<Ask>) -> Result<(Progress<M>, OrderFrame), Want>
+        requires leaf { 1 ≤ leaves_of self }
+        requires ask { IsAskReady ask }
+        requires room { last_place self.kept < window_of self }
+        ensures progress { IfOk result (λ r. r.0 ≡ ordered_by M.rules self ask) }
+        ensures order { IfOk result (λ r. r.1 ≡ sealed M.rules self ask) }
+        ensures ready { IfOk result (λ r. IsOrderReady r.1) }
+    {
+        let stood = self.stood();
+        let order = self.order_of(&ask);
+        let body = Body::Order(order);
+        let (replica, order) = self.seal(order)?;
+        let frame = OrderFrame { order, ask };
+        let progress = replica
+            .keep_order(frame_copy(&frame)?)?
+            .begin()
+            .act(Act::Says(Remark { body, stood }))?
+            .send(To::All, Frame::Order(frame_copy(&frame)?))?;
+        Ok((progress, frame))
+    }
+
+    // The order and the response want a leaf each.
+    fn take_request(self, ask: Signed<Ask>) -> Result<Moved<M>, Want>
+        requires ask { IsAskReady ask }
+        requires room { last_place self.kept < window_of self }
+        ensures { IfOk result (λ m. m ≡ taken M.rules self ask) }
+    {
+        if self.leaves() < 2 {
+            return Ok(self.refused(Cause::KeySpent));
+        }
+        let (progress, frame) = self.order(ask)?;
+        Ok(progress.run(&frame)?.ends(Answer::Taken))
+    }
+
+    fn new_request(self, ask: Signed<Ask>) -> Result<Moved<M>, Want>
+        requires ask { IsAskReady ask }
+        ensures { IfOk result (λ m. m ≡ fresh M.rules self ask) }
+    {
+        let window = self.window();
+        if self.exec.end() < window {
+            self.take_request(ask)
+        } else {
+            Ok(self.refused(Cause::WindowFull(window)))
+        }
+    }
+
+    // ---- the row
+
+    // A copy of what is known of a client's last entry.
+    fn known_of(&self, client: ClientId) -> Result<Option<Known>, Want>
+        ensures known { IfOk result (λ known. known ≡ known_in M.rules self.now.kept client.0) }
+        ensures range { IfOk result (λ known. ForSome known IsKnownInRange) }
+    {
+        match self.exec.known(client) {
+            Some(known) => Ok(Some(known_copy(known)?)),
+            None => Ok(None),
+        }
+    }
+
+    fn request_after(self, ask: Signed<Ask>, known: Option<Known>) -> Result<Moved<M>, Want>
+        requires ask { IsAskReady ask }
+        requires known { ForSome known IsKnownInRange }
+        ensures { IfOk result (λ m. m ≡ after M.rules self ask known) }
+    {
+        let known = match known {
+            None => return self.new_request(ask),
+            Some(known) => known,
+        };
+        if ask.stmt.stamp < known.stamp {
+            return Ok(self.refused(Cause::OldStamp));
+        }
+        if ask.stmt.stamp == known.stamp {
+            let spec = spec_of(self.view(), &ask, &known);
+            self.respond_with(spec, known)
+        } else {
+            self.new_request(ask)
+        }
+    }
+
+    #[tactic(auto, unfolding(zy_table::specs::Requests::request))]
+    pub(crate) fn hear_request(self, ask: Signed<Ask>) -> Result<Moved<M>, Want>
+        requires ask { IsAskReady ask }
+        ensures { IfOk result (λ m. m ≡ request_row M.rules self ask) }
+    {
+        if self.is_leaving() {
+            return Ok(self.refused(Cause::NotActive));
+        }
+        let known = self.known_of(client_of(ask.by))?;
+        self.request_after(ask, known)
+    }
+}

@@ -1,0 +1,181 @@
+ghost use Rattle.std.specs.Prelude.{◌≡◌, ◌≤◌, ◌<◌, ◌%◌, length, IfOk, Ok, true};
+ghost use Rattle.zy_base.specs.declared.ids.Party.TheVariants as parties;
+ghost use Rattle.zy_base.specs.declared.cause.Cause.TheVariants as causes;
+ghost use Rattle.zy_frames.specs.Frames.{IsFrameInRange, frame_in, parts_of};
+ghost use Rattle.zy_seal.specs.Screening.{screen};
+ghost use Rattle.zy_table.specs.State.{timers_of, own_view, is_leaving as leaves_view, is_primary as leads};
+ghost use Rattle.zy_table.specs.Deeds.{outgoing_of, said_from, gains_in, refused as refused_with};
+ghost use Rattle.zy_table.specs.Roles.{in_role as has_role, is_primary_of, is_client, is_replica, view_cause as against_view};
+ghost use Rattle.zy_table.specs.Step.{step as step_row, decoded, hear as hear_row, row as row_of, timer as timer_row};
+ghost use Rattle.zy_replica.specs.Ready.{IsAskReady, IsOrderReady};
+
+use crate::progress::Moved;
+use crate::{Replica, Stepped};
+use zy_base::{Answer, Bytes, Cause, Event, Machine, Mode, Party, TimerKind, View, Want};
+use zy_frames::{DecodeFault, Frame, decode, parts};
+use zy_seal::screen_parts;
+
+impl<M: Machine> Replica<M> {
+    /// What an event makes of the replica.
+    pub fn step(self, event: Event) -> Result<Stepped<M>, Want>
+        ensures answer { IfOk result (λ s. s.answer ≡ (step_row M.rules self event).answer) }
+        ensures replica { IfOk result (λ s. s.replica ≡ (step_row M.rules self event).state) }
+        ensures out { IfOk result (λ s. s.out ≡ outgoing_of self.me.0 self.counts.n (step_row M.rules self event).deeds.sent) }
+        ensures timers { IfOk result (λ s. s.timers ≡ timers_of (step_row M.rules self event).state) }
+        ensures said { IfOk result (λ s. s.said ≡ said_from (parties.Replica self.me) 0 (step_row M.rules self event).deeds.acts) }
+        ensures got { IfOk result (λ s. s.got ≡ gains_in (step_row M.rules self event).deeds.acts) }
+    {
+        self.moves(event)?.finish()
+    }
+
+    #[tactic(auto, unfolding(zy_table::specs::Step::step))]
+    fn moves(self, event: Event) -> Result<Moved<M>, Want>
+        ensures { IfOk result (λ m. m ≡ step_row M.rules self event) }
+    {
+        match event {
+            Event::Heard(bytes) => self.hears_bytes(&bytes),
+            Event::Timer(kind) => self.runs_out(kind),
+        }
+    }
+
+    fn runs_out(self, kind: TimerKind) -> Result<Moved<M>, Want>
+        ensures { IfOk result (λ m. m ≡ timer_row self kind) }
+    {
+        match kind {
+            TimerKind::Request => self.ask_again(),
+            TimerKind::Change => Ok(self.begin().ends(Answer::Taken)),
+            TimerKind::Answer => Ok(self.begin().ends(Answer::Taken)),
+        }
+    }
+
+    fn hears_bytes(self, bytes: &Bytes) -> Result<Moved<M>, Want>
+        ensures { IfOk result (λ m. m ≡ decoded M.rules self (frame_in bytes.now)) }
+    {
+        match decode(self.alloc, bytes.as_slice()) {
+            Ok(frame) => self.hears(frame),
+            Err(DecodeFault::Frame(fault)) => Ok(self.refused(Cause::NotFrame(fault))),
+            Err(DecodeFault::Want) => Err(Want),
+        }
+    }
+
+    fn hears(self, frame: Frame) -> Result<Moved<M>, Want>
+        requires { IsFrameInRange frame }
+        ensures { IfOk result (λ m. m ≡ decoded M.rules self (Ok frame)) }
+    {
+        let parts = parts(self.alloc, &frame)?;
+        match screen_parts(&self.directory, &parts) {
+            Some(cause) => Ok(self.refused(cause)),
+            None => self.hear(frame),
+        }
+    }
+
+    // A frame whose parts are verified.
+    fn hear(self, frame: Frame) -> Result<Moved<M>, Want>
+        requires range { IsFrameInRange frame }
+        requires verified { screen self.keys (parts_of frame) ≡ None }
+        ensures { IfOk result (λ m. m ≡ hear_row M.rules self frame) }
+    {
+        if self.in_role(&frame) {
+            self.row(frame)
+        } else {
+            Ok(self.refused(Cause::WrongRole))
+        }
+    }
+
+    // The signers are those that may say such a thing, and the replica is one that hears it.
+    fn in_role(&self, frame: &Frame) -> bool
+        ensures { result ≡ has_role self.now frame.now }
+    {
+        match frame {
+            Frame::Request(ask) => is_by_client(ask.by) && self.is_primary(),
+            Frame::Order(both) => {
+                self.is_primary_of(both.order.stmt.view, both.order.by) && is_by_client(both.ask.by)
+            }
+            Frame::FillHole(hole) => !is_by_client(hole.by),
+            Frame::SpecResponse { .. } => false,
+            Frame::Commit(_) => false,
+            Frame::LocalCommit(_) => false,
+            Frame::ConfirmReq { .. } => false,
+            Frame::Hate(_) => false,
+            Frame::Pom(_, _) => false,
+            Frame::Checkpoint(_) => false,
+        }
+    }
+
+    fn is_primary(&self) -> bool
+        ensures { result ≡ leads self.now }
+    {
+        self.counts.primary(self.view()) == self.me
+    }
+
+    fn is_primary_of(&self, view: View, by: Party) -> bool
+        ensures { result ≡ is_primary_of self.now.counts view.0 by }
+    {
+        match by {
+            Party::Replica(id) => self.counts.primary(view) == id,
+            Party::Client(_) => false,
+        }
+    }
+
+    pub(crate) fn is_leaving(&self) -> bool
+        ensures { result ≡ leaves_view self.now }
+    {
+        match self.mode {
+            Mode::Active(_) => false,
+            Mode::Leaving(_) => true,
+        }
+    }
+
+    // Why a frame of a view is refused.
+    fn view_cause(&self, view: View) -> Option<Cause>
+        ensures { result ≡ against_view self.now view.0 }
+    {
+        if view < self.view() {
+            return Some(Cause::OldView);
+        }
+        if view > self.view() {
+            return Some(Cause::NewerView);
+        }
+        if self.is_leaving() {
+            Some(Cause::NotActive)
+        } else {
+            None
+        }
+    }
+
+    // The row of a frame.
+    fn row(self, frame: Frame) -> Result<Moved<M>, Want>
+        requires range { IsFrameInRange frame }
+        requires verified { screen self.keys (parts_of frame) ≡ None }
+        requires role { has_role self frame ≡ true }
+        ensures { IfOk result (λ m. m ≡ row_of M.rules self frame) }
+    {
+        match frame {
+            Frame::Request(ask) => self.hear_request(ask),
+            Frame::Order(both) => match self.view_cause(both.order.stmt.view) {
+                Some(cause) => Ok(self.refused(cause)),
+                None => self.hear_order(both),
+            },
+            Frame::FillHole(hole) => match self.view_cause(hole.stmt.view) {
+                Some(cause) => Ok(self.refused(cause)),
+                None => self.fill_hole(hole),
+            },
+            Frame::SpecResponse { .. } => Ok(self.refused(Cause::WrongRole)),
+            Frame::Commit(_) => Ok(self.refused(Cause::WrongRole)),
+            Frame::LocalCommit(_) => Ok(self.refused(Cause::WrongRole)),
+            Frame::ConfirmReq { .. } => Ok(self.refused(Cause::WrongRole)),
+            Frame::Hate(_) => Ok(self.refused(Cause::WrongRole)),
+            Frame::Pom(_, _) => Ok(self.refused(Cause::WrongRole)),
+            Frame::Checkpoint(_) => Ok(self.refused(Cause::WrongRole)),
+        }
+    }
+}
+
+fn is_by_client(by: Party) -> bool
+    ensures { result ≡ is_client by }
+{
+    match by {
+        Party::Client(_) => true,
+        Party::Replica(_) => false,
+    }
+}
