@@ -1,9 +1,13 @@
 //! What a replica answers to an order.
 
-ghost use Rattle.std.specs.Prelude.{◌≡◌, ◌≤◌, ◌<◌, ◌+◌, IfOk, is_some, if◌then◌else◌, true, false};
+ghost use Rattle.std.specs.Prelude.{◌≡◌, ◌≤◌, ◌<◌, ◌+◌, IfOk, is_some, if◌then◌else◌, true, false, None};
 ghost use Rattle.zy_exec.specs.Kept.{last_place};
 ghost use Rattle.zy_admit.specs.Judging.{judge_in};
+ghost use Rattle.zy_admit.specs.Orders.{with_order};
 ghost use Rattle.zy_table.specs.State.{leaves_of, window_of, own_view};
+ghost use Rattle.zy_base.specs.declared.step.Answer.TheVariants as Answer;
+ghost use Rattle.zy_table.specs.Deeds.{ends, begin};
+ghost use Rattle.zy_table.specs.Running.{run};
 ghost use Rattle.zy_table.specs.Orders.{position_of as position_for, take_order as taken, asked_from as asked_at, owes_hole as owes, hole_of as hole_for, ask_for_missing as asked, hold_order as held, order as order_row};
 ghost use Rattle.zy_parts.specs.Statements.{IsHoleInRange};
 ghost use Rattle.zy_replica.specs.Ready.{IsOrderReady};
@@ -29,6 +33,16 @@ impl<M: Machine> Replica<M> {
         }
     }
 
+    // The order is kept, and nothing is missing any more.
+    fn accept(self, frame: OrderFrame) -> Result<Replica<M>, Want>
+        requires order { IsOrderReady frame }
+        requires above { last_place self.kept < frame.order.stmt.place.0 }
+        requires within { frame.order.stmt.place.0 ≤ window_of self }
+        ensures { IfOk result (λ r. r ≡ record self { orders = with_order self.orders frame; hole = None }) }
+    {
+        Ok(self.keep_order(frame)?.keep_hole(None))
+    }
+
     // An order that is next.
     fn take_order(self, frame: OrderFrame) -> Result<Moved<M>, Want>
         requires order { IsOrderReady frame }
@@ -39,7 +53,17 @@ impl<M: Machine> Replica<M> {
         if self.leaves() == 0 {
             return Ok(self.refused(Cause::KeySpent));
         }
-        let replica = self.keep_order(frame_copy(&frame)?)?.keep_hole(None);
+        self.accept_and_run(frame)
+    }
+
+    fn accept_and_run(self, frame: OrderFrame) -> Result<Moved<M>, Want>
+        requires leaf { 1 ≤ leaves_of self }
+        requires order { IsOrderReady frame }
+        requires above { last_place self.kept < frame.order.stmt.place.0 }
+        requires within { frame.order.stmt.place.0 ≤ window_of self }
+        ensures { IfOk result (λ m. m ≡ ends Answer.Taken (run M.rules frame (begin (record self { orders = with_order self.orders frame; hole = None })))) }
+    {
+        let replica = self.accept(frame_copy(&frame)?)?;
         Ok(replica.begin().run(&frame)?.ends(Answer::Taken))
     }
 
@@ -62,7 +86,9 @@ impl<M: Machine> Replica<M> {
 
     // From the next place to the one before the least that is held.
     fn hole_of(&self) -> Hole
-        ensures { result ≡ hole_for self.now }
+        requires room { last_place self.now.kept < window_of self.now }
+        ensures hole { result ≡ hole_for self.now }
+        ensures range { IsHoleInRange result }
     {
         let end = self.exec.end();
         Hole {

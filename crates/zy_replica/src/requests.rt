@@ -1,6 +1,6 @@
 //! What a replica answers to a request.
 
-ghost use Rattle.std.specs.Prelude.{◌≡◌, ◌≤◌, ◌<◌, length, option_copied, option_map, Some, None, IfOk};
+ghost use Rattle.std.specs.Prelude.{◌≡◌, ◌≤◌, ◌<◌, ◌+◌, length, option_copied, option_map, Some, None, IfOk};
 ghost use Rattle.std.specs.Option.{ForSome};
 ghost use Rattle.zy_admit.specs.Orders.{stored_in};
 ghost use Rattle.zy_parts.specs.Signing.{IsSignedInRange};
@@ -8,10 +8,12 @@ ghost use Rattle.zy_parts.specs.Statements.{IsSpecInRange, IsOrderInRange};
 ghost use Rattle.zy_parts.specs.Numbers as numbers;
 ghost use Rattle.zy_exec.specs.Kept.{last_place, known_in};
 ghost use Rattle.zy_exec.specs.Known.{IsKnownInRange};
-ghost use Rattle.zy_table.specs.State.{leaves_of, window_of, spec_to as last_spec};
-ghost use Rattle.zy_table.specs.Running.{spec_of as spec_for};
+ghost use Rattle.zy_table.specs.State.{leaves_of, window_of, spent};
+ghost use Rattle.zy_base.specs.declared.step.Answer.TheVariants as Answer;
+ghost use Rattle.zy_table.specs.Deeds.{ends};
+ghost use Rattle.zy_table.specs.Running.{spec_of as spec_for, run};
 ghost use Rattle.zy_table.specs.Requests.{response_of, respond_anew as anew, respond_as as answered_as, respond_with as answered_with, said_already as already, order_of as order_for, sealed_order as sealed, ordered as ordered_by, take_request as taken, new_request as fresh, request_after as after, request as request_row};
-ghost use Rattle.zy_replica.specs.Ready.{IsAskReady, IsOrderReady, IsKeptSpec};
+ghost use Rattle.zy_replica.specs.Ready.{IsAskReady, IsOrderReady};
 
 use crate::Replica;
 use crate::copies::{bytes_copy, frame_copy, order_copy, spec_copy};
@@ -122,6 +124,8 @@ impl<M: Machine> Replica<M> {
         requires ask { IsAskReady ask.now }
         requires room { last_place self.now.kept < window_of self.now }
         ensures order { result ≡ order_for M.rules self.now ask.now }
+        ensures range { IsOrderInRange result }
+        ensures next { result.place.0 ≡ last_place self.now.kept + 1 }
     {
         let request = request_digest_of(ask);
         Order {
@@ -130,6 +134,20 @@ impl<M: Machine> Replica<M> {
             head: next_head(&self.exec.head(), &request),
             request,
         }
+    }
+
+    fn seal_order(self, ask: Signed<Ask>) -> Result<(Replica<M>, OrderFrame), Want>
+        requires leaf { 1 ≤ leaves_of self }
+        requires ask { IsAskReady ask }
+        requires room { last_place self.kept < window_of self }
+        ensures replica { IfOk result (λ r. r.0 ≡ spent self) }
+        ensures order { IfOk result (λ r. r.1 ≡ sealed M.rules self ask) }
+        ensures ready { IfOk result (λ r. IsOrderReady r.1) }
+        ensures next { IfOk result (λ r. r.1.order.stmt.place.0 ≡ last_place self.kept + 1) }
+    {
+        let order = self.order_of(&ask);
+        let (replica, order) = self.seal(order)?;
+        Ok((replica, OrderFrame { order, ask }))
     }
 
     // The order is signed, kept and sent to all.
@@ -142,10 +160,8 @@ impl<M: Machine> Replica<M> {
         ensures ready { IfOk result (λ r. IsOrderReady r.1) }
     {
         let stood = self.stood();
-        let order = self.order_of(&ask);
-        let body = Body::Order(order);
-        let (replica, order) = self.seal(order)?;
-        let frame = OrderFrame { order, ask };
+        let (replica, frame) = self.seal_order(ask)?;
+        let body = Body::Order(frame.order.stmt);
         let progress = replica
             .keep_order(frame_copy(&frame)?)?
             .begin()
@@ -163,6 +179,15 @@ impl<M: Machine> Replica<M> {
         if self.leaves() < 2 {
             return Ok(self.refused(Cause::KeySpent));
         }
+        self.order_and_run(ask)
+    }
+
+    fn order_and_run(self, ask: Signed<Ask>) -> Result<Moved<M>, Want>
+        requires leaves { 2 ≤ leaves_of self }
+        requires ask { IsAskReady ask }
+        requires room { last_place self.kept < window_of self }
+        ensures { IfOk result (λ m. m ≡ ends Answer.Taken (run M.rules (sealed M.rules self ask) (ordered_by M.rules self ask))) }
+    {
         let (progress, frame) = self.order(ask)?;
         Ok(progress.run(&frame)?.ends(Answer::Taken))
     }
