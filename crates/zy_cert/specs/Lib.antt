@@ -1,0 +1,5 @@
+pub mod Signers
+pub mod Equal
+pub mod Votes
+pub mod Certificates
+pub mod Misbehaviour
