@@ -14,14 +14,14 @@ ghost use Rattle.zy_cert.specs.Misbehaviour.{IsConflict, conflict};
 use crate::{Located, Matching};
 
 /// What the tests say by which votes and certificates are judged.
-pub fn tests_of<S: Matching>()
+pub fn signers_and_statements<S: Matching>()
     ensures signer { (by : Party) (list : List (Signed S)) → Decides (has_signer by list) (Any (λ s. s.by ≡ by) list) }
     ensures repeat { (list : List (Signed S)) → Decides (has_repeat list) (AreDifferent list → ⊥) }
     ensures other { (stmt : S) (list : List (Signed S)) → Decides (has_other S.eq stmt list) (Any (λ s. s.stmt ≢ stmt) list) }
 {}
 
 /// Votes stay of different parties and equal, whatever vote comes.
-pub fn stay_votes<S: Matching>()
+pub fn equal_votes<S: Matching>()
     ensures { (poll : Poll S) (vote : Signed S) → AreVotes poll.votes → AreVotes (poll_after S.eq poll vote).votes }
 {}
 

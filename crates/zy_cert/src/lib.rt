@@ -11,7 +11,7 @@ mod signers;
 mod votes;
 
 pub use certificate::check_cert;
-pub use laws::{certificates, conflicts, stay_votes, tests_of};
+pub use laws::{certificates, conflicts, equal_votes, signers_and_statements};
 pub use located::Located;
 pub use matching::Matching;
 pub use misbehaviour::pom;

@@ -74,10 +74,34 @@ specs-shorter (Some specs) fits short = list-shorter _ 1 specs fits short
 
 report-shorter : (t : Told) → told_fields.Fits t → IsShortReport t → short_report.Fits t
 unfolding told_fields short_report
-report-shorter t fits short =
-    (fits.0, (fits.1.0, (fits.1.1.0, (list-shorter _ 0 t.began fits.1.1.1.0 short.began, (specs-shorter t.specs fits.1.1.1.1.0 short.specs,
-    (fits.1.1.1.1.1.0, (fits.1.1.1.1.1.1.0, (fits.1.1.1.1.1.1.1.0, (fits.1.1.1.1.1.1.1.1.0,
-    (list-shorter _ 0 t.checks fits.1.1.1.1.1.1.1.1.1.0 short.checks, fits.1.1.1.1.1.1.1.1.1.1))))))))))
+report-shorter t fits short = (
+  fits.0,
+  (
+    fits.1.0,
+    (
+      fits.1.1.0,
+      (
+        list-shorter _ 0 t.began fits.1.1.1.0 short.began,
+        (
+          specs-shorter t.specs fits.1.1.1.1.0 short.specs,
+          (
+            fits.1.1.1.1.1.0,
+            (
+              fits.1.1.1.1.1.1.0,
+              (
+                fits.1.1.1.1.1.1.1.0,
+                (
+                  fits.1.1.1.1.1.1.1.1.0,
+                  (list-shorter _ 0 t.checks fits.1.1.1.1.1.1.1.1.1.0 short.checks, fits.1.1.1.1.1.1.1.1.1.1),
+                ),
+              ),
+            ),
+          ),
+        ),
+      ),
+    ),
+  ),
+)
 
 -- ---- changes, and new views of short ones
 

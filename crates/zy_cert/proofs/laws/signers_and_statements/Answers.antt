@@ -1,5 +1,5 @@
 use Rattle.zy_cert.proofs.SignerLemmas.{has_signer-told, has_repeat-told, has_other-told}
-use Rattle.zy_cert.proofs.laws.tests_of.Goals as goal
+use Rattle.zy_cert.proofs.laws.signers_and_statements.Goals as goal
 
 pub returns-clause-signer : goal.returns-clause-signer
 returns-clause-signer g c = has_signer-told

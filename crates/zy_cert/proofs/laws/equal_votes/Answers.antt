@@ -1,5 +1,5 @@
 use Rattle.zy_cert.proofs.VoteLemmas.{stays}
-use Rattle.zy_cert.proofs.laws.stay_votes.Goals as goal
+use Rattle.zy_cert.proofs.laws.equal_votes.Goals as goal
 
 pub returns : goal.returns
 returns g c = stays g.S.PartialEq.eq g.met.S.Matching.equal
