@@ -6,10 +6,7 @@ use Rattle.zy_base.specs.declared.ids.View.{View}
 use Rattle.zy_parts.specs.declared.signed.Signed.{Signed}
 use Rattle.zy_parts.specs.declared.statements.Order.{Order}
 use Rattle.zy_cert.specs.Signers.{same_party}
-use Rattle.zy_cert.specs.Equal.{same_digest}
-
-abbrev pub same_order : Order → Order → Bool
-same_order a b = nat_eq a.view.0 b.view.0 && (nat_eq a.place.0 b.place.0 && (same_digest a.head b.head && same_digest a.request b.request))
+use Rattle.zy_cert.specs.Equal.{same_order}
 
 -- one signer gives one place of one view to different histories or requests
 abbrev pub conflict : Signed Order → Signed Order → Bool

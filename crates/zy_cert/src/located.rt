@@ -2,6 +2,7 @@ ghost use Rattle.std.specs.Prelude.{◌≡◌};
 ghost use Rattle.zy_base.specs.declared.ids.View.{View};
 ghost use Rattle.zy_base.specs.declared.ids.Place.{Place};
 ghost use Rattle.zy_base.specs.declared.ids.Digest.{Digest};
+ghost use Rattle.zy_cert.specs.Points.{point_of_spec, point_of_local, point_of_check, point_of_began};
 
 use crate::Matching;
 use zy_base::{Digest, Place, View};
@@ -17,7 +18,7 @@ pub trait Located: Matching {
 }
 
 impl Located for Spec {
-    ghost point_of = { λ s. (s.view, s.place, s.head) };
+    ghost point_of = { point_of_spec };
 
     fn point(&self) -> (View, Place, Digest) {
         (self.view, self.place, self.head)
@@ -25,7 +26,7 @@ impl Located for Spec {
 }
 
 impl Located for Local {
-    ghost point_of = { λ s. (s.view, s.place, s.head) };
+    ghost point_of = { point_of_local };
 
     fn point(&self) -> (View, Place, Digest) {
         (self.view, self.place, self.head)
@@ -33,7 +34,7 @@ impl Located for Local {
 }
 
 impl Located for Check {
-    ghost point_of = { λ s. (s.view, s.place, s.head) };
+    ghost point_of = { point_of_check };
 
     fn point(&self) -> (View, Place, Digest) {
         (self.view, self.place, self.head)
@@ -41,7 +42,7 @@ impl Located for Check {
 }
 
 impl Located for Began {
-    ghost point_of = { λ s. (s.view, s.place, s.head) };
+    ghost point_of = { point_of_began };
 
     fn point(&self) -> (View, Place, Digest) {
         (self.view, self.place, self.head)
