@@ -1,0 +1,4 @@
+pub mod SignerLemmas
+pub mod VoteLemmas
+pub mod CertificateLemmas
+pub mod ConflictLemmas

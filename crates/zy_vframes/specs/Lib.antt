@@ -1,0 +1,3 @@
+pub mod ViewFrames
+pub mod Parts
+pub mod ViewFrameLaws
