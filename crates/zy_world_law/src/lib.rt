@@ -1,0 +1,9 @@
+//! The world of a replay and its law: what each event of a schedule makes of all parties, the frames and the kept texts, as
+//! definitions, and that every run is safe. The functions here are laws, which have no argument and do nothing.
+#![tactic(auto)]
+
+mod event;
+mod note;
+
+pub use event::WorldEvent;
+pub use note::Note;
