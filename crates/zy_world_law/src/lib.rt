@@ -3,7 +3,11 @@
 #![tactic(auto)]
 
 mod event;
+mod honest;
 mod note;
+mod runs;
 
 pub use event::WorldEvent;
+pub use honest::honest_keeps;
 pub use note::Note;
+pub use runs::runs_are_safe;
