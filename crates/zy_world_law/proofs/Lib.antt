@@ -3,3 +3,9 @@ pub mod ReadBack
 pub mod KeptTexts
 pub mod OneText
 pub mod Seats
+pub mod GainedReplies
+pub mod ShortHistories
+pub mod DecodedInRange
+pub mod KeptOrHeard
+pub mod ToldSteps
+pub mod ReplicaStep

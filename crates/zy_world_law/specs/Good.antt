@@ -1,5 +1,5 @@
 -- Good worlds: what honest events keep, and from which safety follows.
-use Rattle.std.specs.Prelude.{◌≡◌, ◌⊎◌, ℕ, ◌+◌, ◌<◌, ◌≤◌, ◌^◌, List, length, Option, Some, None, Contains, map}
+use Rattle.std.specs.Prelude.{◌≡◌, ◌⊎◌, ℕ, ◌<◌, ◌≤◌, ◌^◌, List, length, Option, Some, None, Contains, map}
 use Rattle.std.specs.List.{AllByRecursion}
 use Rattle.zy_base.specs.Machine.{Rules}
 use Rattle.zy_base.specs.declared.ids.Party.TheVariants.{Replica}
@@ -11,6 +11,7 @@ use Rattle.zy_law.specs.Completed.{IsCompleted}
 use Rattle.zy_law.specs.Lawful.{IsLawful}
 use Rattle.zy_law.specs.World.{Stand}
 use Rattle.zy_lawful.specs.Tied as lawful
+use Rattle.zy_lms.specs.Height.{levels_of}
 use Rattle.zy_parts.specs.Numbers as numbers
 use Rattle.zy_parts.specs.Signing.{text_of}
 use Rattle.zy_parts.specs.Statements.{spec_fields}
@@ -33,12 +34,12 @@ IsKept texts text = texts (digest_of text) ≡ Some text
 abbrev pub AreRepliesKept : {S : Type 0} → Rules S → Texts → List Entry → Type 0
 AreRepliesKept R texts history = (place : ℕ) (reply : List ℕ) → answer_at R history place ≡ Some reply → IsKept texts reply
 
--- the places of its history can be spelled: they aren't past those of the orders that it keeps, and these are below 2^62
+-- The places of its history can be spelled: each entry that it executed was answered with a leaf of its key.
 pub record IsShort {S : Type 0} (s : State S) : Type 0 where
   pub number : s.me.0 < 2 ^ 8
   pub view : own_view s < 2 ^ 62
-  pub end : last_place s.kept ≤ s.orders.base + length s.orders.slots
-  pub slots : s.orders.base + length s.orders.slots < 2 ^ 62
+  pub end : last_place s.kept ≤ s.sealer.key.next
+  pub leaves : s.sealer.key.next ≤ 2 ^ levels_of s.sealer.key.height
 
 -- a correct replica is tied to what it said and where it stood, and the replies along its histories are kept
 pub record IsTied {S : Type 0} (R : Rules S) (w : World S) (id : ℕ) (x : world.Replica S) : Type 0 where
