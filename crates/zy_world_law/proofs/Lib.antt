@@ -6,6 +6,11 @@ pub mod Seats
 pub mod GainedReplies
 pub mod ShortHistories
 pub mod DecodedInRange
+pub mod Screened
 pub mod KeptOrHeard
 pub mod ToldSteps
 pub mod ReplicaStep
+pub mod NotForged
+pub mod EventRuns
+pub mod BagStays
+pub mod TextsStay

@@ -268,6 +268,7 @@ module _ {S : Type 0} (R : Rules S) (w : World S) (good : IsGood R w) (id : Repl
         within = b.within;
         said = elim b.said [ inl none ↦ inl (nobody_after number none) | inr has ↦ inr (text_after number _ has) ];
         reply = b.reply;
+        spelled = b.spelled;
       }
 
   client_after : (q : ℕ) (y : Client) → client_at w' q ≡ Some y → IsClientTied w' q y

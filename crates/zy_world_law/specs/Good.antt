@@ -53,6 +53,8 @@ pub record IsBackedBy {S : Type 0} (w : World S) (id : ℕ) (r : Response) : Typ
   pub within : id < w.setup.counts.n
   pub said : (replica_at w id ≡ None) ⊎ ((x : world.Replica S) × (replica_at w id ≡ Some x) × Contains (map (λ remark. remark.text) x.said) (text_of numbers.spec spec_fields (Replica (record { 0 = id })) r.spec.stmt))
   pub reply : IsKept w.texts r.reply
+  -- it can be spelled, if its client can
+  pub spelled : r.spec.stmt.client.0 < 2 ^ 32 → spec_fields.Fits r.spec.stmt
 
 -- what a correct client holds is backed
 pub record IsClientTied {S : Type 0} (w : World S) (id : ℕ) (x : Client) : Type 0 where
