@@ -14,3 +14,8 @@ pub mod NotForged
 pub mod EventRuns
 pub mod BagStays
 pub mod TextsStay
+pub mod Agreeing
+pub mod ClientStep
+pub mod DoneStays
+pub mod HeldLaw
+pub mod Completing
