@@ -138,11 +138,9 @@ module _ {S : Type 0} (R : Rules S) (w : World S) where
     statement_is : statement_of (bodies.Spec spec) ≡ Statement.Spec (completion_of told).view (completion_of told).mark (completion_of told).answer
     statement_is = λ i. Statement.Spec spec.view.0 (record { place = spec.place.0; head = spec.head }) (record { client = own_is i; stamp = spec.stamp.0; reply = sym c.own.reply i })
 
-    completed : IsCompleted (seen R w) (completion_of told)
+    pub completed : IsCompleted (seen R w) (completion_of told)
     completed = fast (subst (λ (s : Statement). IsBacked (seen R w) w.setup.counts.fast s) statement_is backed)
 
-    reply_kept : kept_of x.state c.id ≡ Some c.response → IsKept w.texts c.response.reply
-    reply_kept kept = (tie.backed c.id c.response kept).reply
 
 -- ---- which step completes
 

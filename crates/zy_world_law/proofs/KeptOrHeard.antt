@@ -2,6 +2,7 @@
 use Rattle.std.proofs.Common.{◌≡◌, ◌⊎◌, inl, inr, ℕ, zero, suc, Bool, true, false, List, [], ◌∷◌, replicate, Option, Some, None, Result, Ok, Err, refl, sym, ap, ◌∙◌, subst}
 use Rattle.std.specs.Prelude.{if◌then◌else◌, nat_le, slice_set, slice_index_or}
 use Rattle.std.specs.List.{AllByRecursion}
+use Rattle.std.proofs.lemmas.Option.{same_Some}
 use Rattle.zy_base.specs.declared.cause.Cause.{Cause}
 use Rattle.zy_base.specs.declared.cause.Cause.TheVariants as causes
 use Rattle.zy_base.specs.declared.counts.Counts.{Counts}
@@ -24,10 +25,12 @@ use Rattle.zy_parts.specs.declared.statements.Ask.{Ask}
 use Rattle.zy_seal.specs.Keys.{Keys}
 use Rattle.zy_seal.specs.Screening.{screen, answer_to}
 use Rattle.zy_seal.specs.declared.directory.SealAnswer.TheVariants as answers
-use Rattle.zy_table.specs.ClientRows.{ask, ask_while, asked, next_ask, client_step, kept_of, keep, completed_if, complete, agreeing, response_cause, keep_unless, respond, respond_while, local_while, ask_again, is_by_primary, hear_response, hear, unless, decoded}
-use Rattle.zy_table.specs.ClientState.{ClientState, ClientOutcome, leaves_of, refused, taken}
+use Rattle.zy_table.specs.ClientRows.{ask, ask_while, asked, next_ask, client_step, kept_of, keep, completed_if, complete, done_of, agreeing, response_cause, keep_unless, respond, respond_while, local_while, ask_again, is_by_primary, hear_response, hear, unless, decoded}
+use Rattle.zy_table.specs.ClientState.{ClientState, ClientOutcome, leaves_of, refused, taken, is_waiting}
 use Rattle.zy_table.specs.Roles.{is_replica}
+use Rattle.zy_table.specs.declared.client.Done.{Done}
 use Rattle.zy_table.specs.declared.client.Response.{Response}
+use Rattle.zy_world_law.specs.Events.{completed_by}
 use Rattle.zy_world_law.proofs.Screened.{all_verify}
 
 -- a response that came with the frame, which the replica of its slot signed
@@ -158,6 +161,30 @@ step_same s Brought o (same silent is) = same_as s o.state is
 step_same s Brought o (fills id r brought is) =
     subst (λ (p : ClientOutcome). IsSame s p.state) (sym is) (same_if s id r (nat_le (keep s id r).counts.fast (agreeing (keep s id r) r.spec.stmt)))
 
+-- ---- what is complete
+
+stays_open : (s t : ClientState) (d : Done) (b : Bool) → (if b then (if b then None else t.done) else None) ≡ Some d → ⊥
+stays_open s t d true is = cc
+stays_open s t d false is = cc
+
+filled_done : (s : ClientState) (id : ℕ) (r : Response) (d : Done) (b enough : Bool) → is_waiting s.waiting ≡ b
+    → (if b then (if is_waiting (if enough then complete (keep s id r) r else keep s id r).waiting then None else (if enough then complete (keep s id r) r else keep s id r).done) else None) ≡ Some d → d ≡ done_of r
+filled_done s id r d true true waits is = let back : Some (done_of r) ≡ Some d = is in sym (same_Some (done_of r) d back)
+filled_done s id r d true false waits is =
+    let open_still : (if true then (if true then None else s.done) else None) ≡ Some d =
+    ap (λ (b : Bool). if true then (if b then None else s.done) else None) (sym waits) ∙ is in
+    absurd (stays_open s s d true open_still)
+filled_done s id r d false enough waits is = absurd cc
+
+-- a completion is of a response that came with the frame
+pub completed_reply : (s : ClientState) (Brought : ℕ → Response → Type 0) (o : ClientOutcome) (d : Done) → Comes s Brought o → completed_by s o.state ≡ Some d → (id : ℕ) × (r : Response) × Brought id r × (d ≡ done_of r)
+completed_reply s Brought o d (same silent is) done =
+    absurd (stays_open s s d (is_waiting s.waiting) (ap (λ (t : ClientState). completed_by s t) (sym is) ∙ done))
+completed_reply s Brought o d (fills id r brought is) done =
+    (id, r, brought,
+     filled_done s id r d (is_waiting s.waiting) (nat_le (keep s id r).counts.fast (agreeing (keep s id r) r.spec.stmt)) refl
+     (ap (λ (p : ClientOutcome). completed_by s p.state) (sym is) ∙ done))
+
 -- ---- a request
 
 none_filled : (n at : ℕ) (q : Response) → slice_index_or (replicate n None) at None ≡ Some q → ⊥
@@ -169,13 +196,27 @@ none_filled (suc n) (suc at) q is = none_filled n at q is
 pub record IsAsked (s : ClientState) (o : ClientOutcome) : Type 0 where
   pub same : IsSame s o.state
   pub kept : (at : ℕ) (q : Response) → kept_of o.state at ≡ Some q → kept_of s at ≡ Some q
+  pub incomplete : completed_by s o.state ≡ None
+
+stays_incomplete : (s : ClientState) (b : Bool) → (if b then (if b then None else s.done) else None) ≡ None
+stays_incomplete s true = refl
+stays_incomplete s false = refl
+
+waits_incomplete : (s t : ClientState) (b : Bool) → (if b then (if true then None else t.done) else None) ≡ None
+waits_incomplete s t true = refl
+waits_incomplete s t false = refl
 
 with_leaf : (s : ClientState) (op : List ℕ) (leaf : Bool) → IsAsked s (if leaf then asked s (next_ask s op) else refused causes.KeySpent s)
-with_leaf s op true = record { same = record { me = refl; counts = refl; keys = refl }; kept = λ at q is. absurd (none_filled s.counts.n at q is) }
-with_leaf s op false = record { same = record { me = refl; counts = refl; keys = refl }; kept = λ at q is. is }
+with_leaf s op true =
+    record {
+      same = record { me = refl; counts = refl; keys = refl };
+      kept = λ at q is. absurd (none_filled s.counts.n at q is);
+      incomplete = waits_incomplete s (asked s (next_ask s op)).state (is_waiting s.waiting);
+    }
+with_leaf s op false = record { same = record { me = refl; counts = refl; keys = refl }; kept = λ at q is. is; incomplete = stays_incomplete s (is_waiting s.waiting) }
 
 asks_while : (s : ClientState) (wait : Option (Signed Ask)) (op : List ℕ) → IsAsked s (ask_while s wait op)
-asks_while s (Some waiting) op = record { same = record { me = refl; counts = refl; keys = refl }; kept = λ at q is. is }
+asks_while s (Some waiting) op = record { same = record { me = refl; counts = refl; keys = refl }; kept = λ at q is. is; incomplete = stays_incomplete s (is_waiting s.waiting) }
 asks_while s None op = with_leaf s op (nat_le 1 (leaves_of s))
 
 pub ask_comes : (s : ClientState) (op : List ℕ) → IsAsked s (ask s op)

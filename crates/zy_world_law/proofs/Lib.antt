@@ -19,3 +19,4 @@ pub mod ClientStep
 pub mod DoneStays
 pub mod HeldLaw
 pub mod Completing
+pub mod Goings
