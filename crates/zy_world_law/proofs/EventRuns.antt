@@ -57,7 +57,7 @@ contains_mapped f (first ∷ xs) x y (suc k, within, is) maps = contains_behind 
 
 -- ---- keys
 
-under_some : (o : Option (List ℕ)) (text sig : List ℕ) → answer_under o text sig ≡ answers.Yes → (key : List ℕ) × (o ≡ Some key)
+pub under_some : (o : Option (List ℕ)) (text sig : List ℕ) → answer_under o text sig ≡ answers.Yes → (key : List ℕ) × (o ≡ Some key)
 under_some None text sig is = absurd cc
 under_some (Some key) text sig is = (key, refl)
 

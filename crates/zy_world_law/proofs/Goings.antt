@@ -57,7 +57,7 @@ module _ {S : Type 0} (R : Rules S) (w : World S) (good : IsGood R w) where
   -- ---- a replica's step
 
   pub replica_goes_good : (id : ReplicaId) (x : Replica S) (texts : List (List ℕ)) (event : Event) (v : World S) (note : Note) → replica_at w id.0 ≡ Some x
-      → ((more : Texts) → MayEventRun (seen R (record w { texts = more })) x.state event) → replica_goes w id x texts (step R x.state event) ≡ Goes v note → IsGood R v
+      → ((more : Texts) → IsGood R (record w { texts = more }) → MayEventRun (seen R (record w { texts = more })) x.state event) → replica_goes w id x texts (step R x.state event) ≡ Goes v note → IsGood R v
   replica_goes_good id x texts event v note at asks is =
       let o = step R x.state event in
       let k = kept_goes w v (texts ++ step_texts o.deeds.acts)
@@ -65,7 +65,7 @@ module _ {S : Type 0} (R : Rules S) (w : World S) (good : IsGood R w) where
       let w1 : World S = record w { texts = k.texts' } in
       let good1 : IsGood R w1 = texts_good R w k.texts' k.keeping.stay good in
       let good2 : IsGood R (with_replica w1 id (stepped x o)) =
-      replica_good R w1 good1 id x at event (asks k.texts') (kept_behind texts (step_texts o.deeds.acts) k.texts' k.keeping.kept) in
+      replica_good R w1 good1 id x at event (asks k.texts' good1) (kept_behind texts (step_texts o.deeds.acts) k.texts' k.keeping.kept) in
       let w2 : World S = with_replica w1 id (stepped x o) in
       let good3 : IsGood R (with_sent w2 (outgoing_of o.state.me.0 o.state.counts.n o.deeds.sent)) = bag_good R w2 w2.leaves _ w2.muted good2 in
       subst (λ (u : World S). IsGood R u) k.world good3

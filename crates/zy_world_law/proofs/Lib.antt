@@ -20,3 +20,4 @@ pub mod DoneStays
 pub mod HeldLaw
 pub mod Completing
 pub mod Goings
+pub mod EachEvent
