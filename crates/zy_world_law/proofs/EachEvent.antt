@@ -1,5 +1,5 @@
 -- Each honest event keeps a good world good.
-use Rattle.std.proofs.Common.{◌≡◌, ◌⊎◌, inl, inr, ℕ, ◌<◌, Bool, true, false, ◌&&◌, List, [], ◌∷◌, length, map, Option, Some, None, Result, Ok, Err, refl, sym, ap, ◌∙◌, subst, arith}
+use Rattle.std.proofs.Common.{append-nil, ◌≡◌, ◌⊎◌, inl, inr, ℕ, ◌<◌, Bool, true, false, ◌&&◌, List, [], ◌∷◌, length, map, Option, Some, None, Result, Ok, Err, refl, sym, ap, ◌∙◌, subst, arith}
 use Rattle.std.specs.Prelude.{if◌then◌else◌, slice_get, option_map, unwrap_or, nat_lt}
 use Rattle.std.specs.List.{AllByRecursion}
 use Rattle.std.specs.Option.{option_and_then}
@@ -45,7 +45,7 @@ use Rattle.zy_world_law.proofs.BagStays.{bag_good}
 use Rattle.zy_world_law.proofs.Completing.{completes}
 use Rattle.zy_world_law.proofs.DecodedInRange.{decoded_readable}
 use Rattle.zy_world_law.proofs.EventRuns.{event_runs, under_some}
-use Rattle.zy_world_law.proofs.Goings.{goes_is, replica_goes_good, client_goes_good, IsCompletion}
+use Rattle.zy_world_law.proofs.Goings.{IsAfter, goes_is, replica_goes_good, client_goes_good, IsCompletion}
 use Rattle.zy_world_law.proofs.HeldLaw.{HeldLaw}
 use Rattle.zy_world_law.proofs.KeptOrHeard.{Comes, IsHeard, IsAsked, Nothing, heard_comes, timer_comes, ask_comes, kept_or_brought, completed_reply, step_same}
 use Rattle.zy_world_law.proofs.KeptTexts.{IsKeeping}
@@ -53,18 +53,24 @@ use Rattle.zy_world_law.proofs.NotForged.{IsSaid, parts_said}
 
 module _ {S : Type 0} (R : Rules S) (law : HeldLaw) where
   -- a world that an event led to is good
-  abbrev pub GoesGood : Happened S → Type 0
-  GoesGood h = (v : World S) (note : Note) → h ≡ Goes v note → IsGood R v
+  abbrev pub GoesGood : World S → Happened S → Type 0
+  GoesGood w h = (v : World S) (note : Note) → h ≡ Goes v note → IsAfter R w v
 
-  stays : (w : World S) (note : Note) → IsGood R w → GoesGood (Goes w note)
-  stays w n good v note is = subst (λ (u : World S). IsGood R u) (goes_is w v n note is) good
+  stays_as : (w u : World S) (note : Note) → IsAfter R w u → GoesGood w (Goes u note)
+  stays_as w u n after v note is = subst (λ (u : World S). IsAfter R w u) (goes_is u v n note is) after
 
-  breaks : (broken : Broken) → GoesGood (Breaks broken)
-  breaks broken v note is = absurd cc
+  after_itself : (w : World S) → IsGood R w → IsAfter R w w
+  after_itself w good = record { good = good; texts = λ d text was. was; more = []; done = sym (append-nil w.done) }
 
-  by_test : (b : Bool) (x y : Happened S) → GoesGood x → GoesGood y → GoesGood (if b then x else y)
-  by_test true x y one other = one
-  by_test false x y one other = other
+  stays : (w : World S) (note : Note) → IsGood R w → GoesGood w (Goes w note)
+  stays w n good = stays_as w w n (after_itself w good)
+
+  breaks : (w : World S) (broken : Broken) → GoesGood w (Breaks broken)
+  breaks w broken v note is = absurd cc
+
+  by_test : (w : World S) (b : Bool) (x y : Happened S) → GoesGood w x → GoesGood w y → GoesGood w (if b then x else y)
+  by_test w true x y one other = one
+  by_test w false x y one other = other
 
   -- ---- what a client hears
 
@@ -110,7 +116,7 @@ module _ {S : Type 0} (R : Rules S) (law : HeldLaw) where
   -- ---- events of correct parties
 
   module _ (w : World S) (good : IsGood R w) where
-    asked_goes : (id : ClientId) (op : List ℕ) (o : Option (Option Client)) → slice_get w.clients id.0 ≡ o → GoesGood (ask_in w id op o)
+    asked_goes : (id : ClientId) (op : List ℕ) (o : Option (Option Client)) → slice_get w.clients id.0 ≡ o → GoesGood w (ask_in w id op o)
     asked_goes id op None at v note is = stays w _ good v note is
     asked_goes id op (Some None) at v note is = stays w _ good v note is
     asked_goes id op (Some (Some x)) at v note is =
@@ -122,7 +128,7 @@ module _ {S : Type 0} (R : Rules S) (law : HeldLaw) where
 
     -- a frame: the world may have marked it
     heard_by_client : (u : World S) → IsGood R u → (id : ClientId) (x : Client) → client_at u id.0 ≡ Some x → (bytes : List ℕ) → forger_in u bytes ≡ None
-        → GoesGood (client_goes u id x (texts_in bytes) (client_step x.state (Heard bytes)))
+        → GoesGood u (client_goes u id x (texts_in bytes) (client_step x.state (Heard bytes)))
     heard_by_client u fine id x seat bytes none v note is =
         let comes = heard_comes x.state bytes in
         let tie = fine.client_tied id.0 x seat in
@@ -138,49 +144,55 @@ module _ {S : Type 0} (R : Rules S) (law : HeldLaw) where
           record { waiting = c.0; complete = c.1; done = c.2; reply = subst (λ (e : Done). IsKept more e.reply) (sym one) brought.0 }) is
 
     client_hears : (u : World S) → IsGood R u → (id : ClientId) (x : Client) → client_at u id.0 ≡ Some x → (bytes : List ℕ) (forger : Option Party) → forger_in u bytes ≡ forger
-        → GoesGood (unless_forged forger (client_goes u id x (texts_in bytes) (client_step x.state (Heard bytes))))
+        → GoesGood u (unless_forged forger (client_goes u id x (texts_in bytes) (client_step x.state (Heard bytes))))
     client_hears u fine id x seat bytes None none = heard_by_client u fine id x seat bytes none
-    client_hears u fine id x seat bytes (Some party) forged = breaks (Broken.Forged party)
+    client_hears u fine id x seat bytes (Some party) forged = breaks u (Broken.Forged party)
 
     heard_by_replica : (u : World S) → IsGood R u → (id : ReplicaId) (x : Replica S) → replica_at u id.0 ≡ Some x → (bytes : List ℕ) (forger : Option Party) → forger_in u bytes ≡ forger
-        → GoesGood (unless_forged forger (replica_goes u id x (texts_in bytes) (Rattle.zy_table.specs.Step.step R x.state (Heard bytes))))
+        → GoesGood u (unless_forged forger (replica_goes u id x (texts_in bytes) (Rattle.zy_table.specs.Step.step R x.state (Heard bytes))))
     heard_by_replica u fine id x seat bytes None none v note is =
         replica_goes_good R u fine id x (texts_in bytes) (Heard bytes) v note seat
         (λ more good1. event_runs R (record u { texts = more }) good1 x.state (fine.tied id.0 x seat).keys bytes none) is
-    heard_by_replica u fine id x seat bytes (Some party) forged v note is = breaks (Broken.Forged party) v note is
+    heard_by_replica u fine id x seat bytes (Some party) forged v note is = breaks u (Broken.Forged party) v note is
 
-    brought_to_replica : (marked : World S) → IsGood R marked → (id : ReplicaId) (bytes : List ℕ) (o : Option (Option (Replica S))) → slice_get marked.replicas id.0 ≡ o → forger_in w bytes ≡ forger_in marked bytes
-        → GoesGood (bring_to_replica R w marked id bytes o)
-    brought_to_replica marked fine id bytes None at one = stays w _ good
-    brought_to_replica marked fine id bytes (Some None) at one = stays marked _ fine
-    brought_to_replica marked fine id bytes (Some (Some x)) at one =
-        heard_by_replica marked fine id x (ap (λ (o : Option (Option (Replica S))). correct_in o) at) bytes (forger_in w bytes) (sym one)
+    -- a marked world is as the world
+    from_marked : (bag : List Mail) (h : Happened S) → GoesGood (record w { bag = bag }) h → GoesGood w h
+    from_marked bag h goes v note is = let after = goes v note is in record { good = after.good; texts = after.texts; more = after.more; done = after.done }
 
-    brought_to_client : (marked : World S) → IsGood R marked → (id : ClientId) (bytes : List ℕ) (o : Option (Option Client)) → slice_get marked.clients id.0 ≡ o → forger_in w bytes ≡ forger_in marked bytes
-        → GoesGood (bring_to_client w marked id bytes o)
-    brought_to_client marked fine id bytes None at one = stays w _ good
-    brought_to_client marked fine id bytes (Some None) at one = stays marked _ fine
-    brought_to_client marked fine id bytes (Some (Some x)) at one =
-        client_hears marked fine id x (ap (λ (o : Option (Option Client)). correct_in o) at) bytes (forger_in w bytes) (sym one)
+    marked_good : (bag : List Mail) → IsGood R (record w { bag = bag })
+    marked_good bag = bag_good R w w.leaves bag w.muted good
 
-    brought : (bag : List Mail) (to : Party) (bytes : List ℕ) → GoesGood (bring R w (record w { bag = bag }) to bytes)
-    brought bag (parties.Replica id) bytes =
-        brought_to_replica (record w { bag = bag }) (bag_good R w w.leaves bag w.muted good) id bytes (slice_get w.replicas id.0) refl refl
-    brought bag (parties.Client id) bytes =
-        brought_to_client (record w { bag = bag }) (bag_good R w w.leaves bag w.muted good) id bytes (slice_get w.clients id.0) refl refl
+    marks : (bag : List Mail) → IsAfter R w (record w { bag = bag })
+    marks bag = record { good = marked_good bag; texts = λ d text was. was; more = []; done = sym (append-nil w.done) }
 
-    delivery : (number : ℕ) (to : Option Party) (mail : Option Mail) → GoesGood (deliver R w number to mail)
+    brought_to_replica : (bag : List Mail) (id : ReplicaId) (bytes : List ℕ) (o : Option (Option (Replica S))) → slice_get w.replicas id.0 ≡ o → GoesGood w (bring_to_replica R w (record w { bag = bag }) id bytes o)
+    brought_to_replica bag id bytes None at = stays w _ good
+    brought_to_replica bag id bytes (Some None) at = stays_as w (record w { bag = bag }) _ (marks bag)
+    brought_to_replica bag id bytes (Some (Some x)) at =
+        from_marked bag _ (heard_by_replica (record w { bag = bag }) (marked_good bag) id x (ap (λ (o : Option (Option (Replica S))). correct_in o) at) bytes (forger_in w bytes) refl)
+
+    brought_to_client : (bag : List Mail) (id : ClientId) (bytes : List ℕ) (o : Option (Option Client)) → slice_get w.clients id.0 ≡ o → GoesGood w (bring_to_client w (record w { bag = bag }) id bytes o)
+    brought_to_client bag id bytes None at = stays w _ good
+    brought_to_client bag id bytes (Some None) at = stays_as w (record w { bag = bag }) _ (marks bag)
+    brought_to_client bag id bytes (Some (Some x)) at =
+        from_marked bag _ (client_hears (record w { bag = bag }) (marked_good bag) id x (ap (λ (o : Option (Option Client)). correct_in o) at) bytes (forger_in w bytes) refl)
+
+    brought : (bag : List Mail) (to : Party) (bytes : List ℕ) → GoesGood w (bring R w (record w { bag = bag }) to bytes)
+    brought bag (parties.Replica id) bytes = brought_to_replica bag id bytes (slice_get w.replicas id.0) refl
+    brought bag (parties.Client id) bytes = brought_to_client bag id bytes (slice_get w.clients id.0) refl
+
+    delivery : (number : ℕ) (to : Option Party) (mail : Option Mail) → GoesGood w (deliver R w number to mail)
     delivery number to None = stays w _ good
     delivery number to (Some mail) = brought (delivered w number mail).bag (unwrap_or to mail.to) mail.bytes
 
     -- ---- timers
 
-    replica_rings : (id : ReplicaId) (x : Replica S) → replica_at w id.0 ≡ Some x → (kind : TimerKind) → GoesGood (replica_timer R w id x kind)
+    replica_rings : (id : ReplicaId) (x : Replica S) → replica_at w id.0 ≡ Some x → (kind : TimerKind) → GoesGood w (replica_timer R w id x kind)
     replica_rings id x seat timers.Request v note is = replica_goes_good R w good id x [] (Timer timers.Request) v note seat (λ more good1. tt) is
     replica_rings id x seat timers.Change v note is = replica_goes_good R w good id x [] (Timer timers.Change) v note seat (λ more good1. tt) is
     replica_rings id x seat timers.Answer v note is = stays w _ good v note is
 
-    client_rings : (id : ClientId) (x : Client) → client_at w id.0 ≡ Some x → (kind : TimerKind) → GoesGood (client_timer w id x kind)
+    client_rings : (id : ClientId) (x : Client) → client_at w id.0 ≡ Some x → (kind : TimerKind) → GoesGood w (client_timer w id x kind)
     client_rings id x seat timers.Answer v note is =
         let comes = timer_comes x.state timers.Answer in
         client_goes_good R w good id x [] (client_step x.state (Timer timers.Answer)) v note seat (step_same x.state _ _ comes) (law.steps x.state (Timer timers.Answer) (good.client_tied id.0 x seat).holds)
@@ -192,37 +204,38 @@ module _ {S : Type 0} (R : Rules S) (law : HeldLaw) where
     client_rings id x seat timers.Request v note is = stays w _ good v note is
     client_rings id x seat timers.Change v note is = stays w _ good v note is
 
-    replica_rings_in : (id : ReplicaId) (kind : TimerKind) (o : Option (Option (Replica S))) → slice_get w.replicas id.0 ≡ o → GoesGood (replica_timer_in R w id kind o)
+    replica_rings_in : (id : ReplicaId) (kind : TimerKind) (o : Option (Option (Replica S))) → slice_get w.replicas id.0 ≡ o → GoesGood w (replica_timer_in R w id kind o)
     replica_rings_in id kind None at = stays w _ good
     replica_rings_in id kind (Some None) at = stays w _ good
     replica_rings_in id kind (Some (Some x)) at = replica_rings id x (ap (λ (o : Option (Option (Replica S))). correct_in o) at) kind
 
-    client_rings_in : (id : ClientId) (kind : TimerKind) (o : Option (Option Client)) → slice_get w.clients id.0 ≡ o → GoesGood (client_timer_in w id kind o)
+    client_rings_in : (id : ClientId) (kind : TimerKind) (o : Option (Option Client)) → slice_get w.clients id.0 ≡ o → GoesGood w (client_timer_in w id kind o)
     client_rings_in id kind None at = stays w _ good
     client_rings_in id kind (Some None) at = stays w _ good
     client_rings_in id kind (Some (Some x)) at = client_rings id x (ap (λ (o : Option (Option Client)). correct_in o) at) kind
 
-    rings : (party : Party) (kind : TimerKind) → GoesGood (timer_of R w party kind)
+    rings : (party : Party) (kind : TimerKind) → GoesGood w (timer_of R w party kind)
     rings (parties.Replica id) kind = replica_rings_in id kind (slice_get w.replicas id.0) refl
     rings (parties.Client id) kind = client_rings_in id kind (slice_get w.clients id.0) refl
 
     -- ---- lies
 
-    sends : (leaves : Party → ℕ) (bag : List Mail) (note : Note) → GoesGood (Goes (record w { leaves = leaves; bag = bag }) note)
-    sends leaves bag note = stays (record w { leaves = leaves; bag = bag }) note (bag_good R w leaves bag w.muted good)
+    sends : (leaves : Party → ℕ) (bag : List Mail) (note : Note) → GoesGood w (Goes (record w { leaves = leaves; bag = bag }) note)
+    sends leaves bag note =
+        stays_as w (record w { leaves = leaves; bag = bag }) note (record { good = bag_good R w leaves bag w.muted good; texts = λ d text was. was; more = []; done = sym (append-nil w.done) })
 
-    lies : (liar : Party) (to : List Party) (telling : Option Telling) → GoesGood (lie w liar to telling)
+    lies : (liar : Party) (to : List Party) (telling : Option Telling) → GoesGood w (lie w liar to telling)
     lies liar to None = stays w _ good
     lies liar to (Some telling) =
-        by_test (is_liar w liar && are_parties w to) _ _
-        (by_test (nat_lt (w.leaves liar) (leaves_in w)) _ _ (sends _ _ notes.Quiet) (stays w _ good))
+        by_test w (is_liar w liar && are_parties w to) _ _
+        (by_test w (nat_lt (w.leaves liar) (leaves_in w)) _ _ (sends _ _ notes.Quiet) (stays w _ good))
         (stays w _ good)
 
-    forges : (party : Party) (to : List Party) (telling : Option Telling) → GoesGood (forge w party to telling)
+    forges : (party : Party) (to : List Party) (telling : Option Telling) → GoesGood w (forge w party to telling)
     forges party to None = stays w _ good
-    forges party to (Some telling) = by_test (is_correct w party && are_parties w to) _ _ (sends w.leaves _ notes.Quiet) (stays w _ good)
+    forges party to (Some telling) = by_test w (is_correct w party && are_parties w to) _ _ (sends w.leaves _ notes.Quiet) (stays w _ good)
 
-    pub event_good : (event : WorldEvent) → GoesGood (happens R w event)
+    pub event_good : (event : WorldEvent) → GoesGood w (happens R w event)
     unfolding happens
     event_good (events.Ask client op) = asked_goes client op (slice_get w.clients client.0) refl
     event_good (events.Deliver number to) = delivery number to (mail_at w number)
@@ -230,5 +243,5 @@ module _ {S : Type 0} (R : Rules S) (law : HeldLaw) where
     event_good (events.Order liar view asks to) = lies liar to (by_replica liar (option_and_then (order_told view) (requests_at w asks)))
     event_good (events.Spec liar view asks to reply) = lies liar to (by_replica liar (option_and_then (spec_told view reply) (requests_at w asks)))
     event_good (events.Statement liar bytes to) = lies liar to (statement_told bytes)
-    event_good (events.Raw bytes to) = by_test (are_parties w to) _ _ (sends w.leaves _ notes.Quiet) (stays w _ good)
+    event_good (events.Raw bytes to) = by_test w (are_parties w to) _ _ (sends w.leaves _ notes.Quiet) (stays w _ good)
     event_good (events.Forge party bytes to) = forges party to (statement_told bytes)

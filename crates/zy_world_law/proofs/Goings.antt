@@ -1,5 +1,6 @@
 -- An event that goes on led to this world.
-use Rattle.std.proofs.Common.{◌≡◌, ◌⊎◌, inl, inr, ℕ, List, ◌++◌, Option, Some, None, Result, Ok, Err, refl, sym, ap, ◌∙◌, subst}
+use Rattle.std.specs.Prelude.{option_map, option_to_list}
+use Rattle.std.proofs.Common.{append-nil, [], ◌≡◌, ◌⊎◌, inl, inr, ℕ, List, ◌++◌, Option, Some, None, Result, Ok, Err, refl, sym, ap, ◌∙◌, subst}
 use Rattle.std.specs.List.{AllByRecursion}
 use Rattle.zy_base.specs.Machine.{Rules}
 use Rattle.zy_base.specs.declared.ids.ClientId.{ClientId}
@@ -28,7 +29,7 @@ use Rattle.zy_world_law.proofs.ClientStep.{client_good, own_seat}
 use Rattle.zy_world_law.proofs.Completing.{completed}
 use Rattle.zy_world_law.proofs.DoneStays.{done_good}
 use Rattle.zy_world_law.proofs.KeptOrHeard.{IsSame}
-use Rattle.zy_world_law.proofs.KeptTexts.{IsKeeping, all_kept, kept_front, kept_behind}
+use Rattle.zy_world_law.proofs.KeptTexts.{IsKeeping, Stay, all_kept, kept_front, kept_behind}
 use Rattle.zy_world_law.proofs.ReplicaStep.{replica_good}
 use Rattle.zy_world_law.proofs.TextsStay.{texts_good}
 use Rattle.std.proofs.lemmas.Option.{same_Some}
@@ -53,11 +54,18 @@ gone w v texts change n m (Ok texts') kept is =
 pub kept_goes : {S : Type 0} (w v : World S) (texts : List (List ℕ)) (change : World S → World S) (n m : Note) → keeping w texts change n ≡ Goes v m → Kept w texts change v
 kept_goes w v texts change n m is = gone w v texts change n m (keep_all texts w.texts) refl is
 
+-- a good world later on: its kept texts stay, and its completions are a front of the later ones
+pub record IsAfter {S : Type 0} (R : Rules S) (w v : World S) : Type 0 where
+  pub good : IsGood R v
+  pub texts : Stay w.texts v.texts
+  pub more : List Completed
+  pub done : v.done ≡ w.done ++ more
+
 module _ {S : Type 0} (R : Rules S) (w : World S) (good : IsGood R w) where
   -- ---- a replica's step
 
   pub replica_goes_good : (id : ReplicaId) (x : Replica S) (texts : List (List ℕ)) (event : Event) (v : World S) (note : Note) → replica_at w id.0 ≡ Some x
-      → ((more : Texts) → IsGood R (record w { texts = more }) → MayEventRun (seen R (record w { texts = more })) x.state event) → replica_goes w id x texts (step R x.state event) ≡ Goes v note → IsGood R v
+      → ((more : Texts) → IsGood R (record w { texts = more }) → MayEventRun (seen R (record w { texts = more })) x.state event) → replica_goes w id x texts (step R x.state event) ≡ Goes v note → IsAfter R w v
   replica_goes_good id x texts event v note at asks is =
       let o = step R x.state event in
       let k = kept_goes w v (texts ++ step_texts o.deeds.acts)
@@ -68,7 +76,7 @@ module _ {S : Type 0} (R : Rules S) (w : World S) (good : IsGood R w) where
       replica_good R w1 good1 id x at event (asks k.texts' good1) (kept_behind texts (step_texts o.deeds.acts) k.texts' k.keeping.kept) in
       let w2 : World S = with_replica w1 id (stepped x o) in
       let good3 : IsGood R (with_sent w2 (outgoing_of o.state.me.0 o.state.counts.n o.deeds.sent)) = bag_good R w2 w2.leaves _ w2.muted good2 in
-      subst (λ (u : World S). IsGood R u) k.world good3
+      subst (λ (u : World S). IsAfter R w u) k.world (record { good = good3; texts = k.keeping.stay; more = []; done = sym (append-nil w.done) })
 
   -- ---- a client's step
 
@@ -81,7 +89,7 @@ module _ {S : Type 0} (R : Rules S) (w : World S) (good : IsGood R w) where
   pub client_goes_good : (id : ClientId) (x : Client) (texts : List (List ℕ)) (o : ClientOutcome) (v : World S) (note : Note) → client_at w id.0 ≡ Some x → IsSame x.state o.state → HoldsResponses o.state
       → ((more : Texts) → IsKeeping w.texts texts more → IsGood R (record w { texts = more }) → (number : ℕ) (r : Response) → kept_of o.state number ≡ Some r → IsBackedBy (record w { texts = more }) number r)
       → ((more : Texts) → IsKeeping w.texts texts more → (d : Done) → completed_by x.state o.state ≡ Some d → IsCompletion o more d)
-      → client_goes w id x texts o ≡ Goes v note → IsGood R v
+      → client_goes w id x texts o ≡ Goes v note → IsAfter R w v
   client_goes_good id x texts o v note at same holds backed completes is =
       let done : Option Done = completed_by x.state o.state in
       let k = kept_goes w v texts
@@ -105,4 +113,10 @@ module _ {S : Type 0} (R : Rules S) (w : World S) (good : IsGood R w) where
                 (completed R w3 good3 id (client_stepped x o) seat c.waiting c.complete);
             reply = c.reply;
           } in
-      subst (λ (u : World S). IsGood R u) k.world (done_good R w3 good3 id done is_done)
+      subst (λ (u : World S). IsAfter R w u) k.world
+      (record {
+        good = done_good R w3 good3 id done is_done;
+        texts = k.keeping.stay;
+        more = option_to_list (option_map (λ (d : Done). let c : Completed = record { client = id; done = d } in c) done);
+        done = refl;
+      })
