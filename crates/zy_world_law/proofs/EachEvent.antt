@@ -59,7 +59,7 @@ module _ {S : Type 0} (R : Rules S) (law : HeldLaw) where
   stays_as : (w u : World S) (note : Note) → IsAfter R w u → GoesGood w (Goes u note)
   stays_as w u n after v note is = subst (λ (u : World S). IsAfter R w u) (goes_is u v n note is) after
 
-  after_itself : (w : World S) → IsGood R w → IsAfter R w w
+  pub after_itself : (w : World S) → IsGood R w → IsAfter R w w
   after_itself w good = record { good = good; texts = λ d text was. was; more = []; done = sym (append-nil w.done) }
 
   stays : (w : World S) (note : Note) → IsGood R w → GoesGood w (Goes w note)

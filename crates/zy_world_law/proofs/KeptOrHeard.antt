@@ -187,7 +187,7 @@ completed_reply s Brought o d (fills id r brought is) done =
 
 -- ---- a request
 
-none_filled : (n at : ℕ) (q : Response) → slice_index_or (replicate n None) at None ≡ Some q → ⊥
+pub none_filled : (n at : ℕ) (q : Response) → slice_index_or (replicate n None) at None ≡ Some q → ⊥
 none_filled zero at q is = cc
 none_filled (suc n) zero q is = cc
 none_filled (suc n) (suc at) q is = none_filled n at q is

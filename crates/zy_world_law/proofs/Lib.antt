@@ -21,3 +21,6 @@ pub mod HeldLaw
 pub mod Completing
 pub mod Goings
 pub mod EachEvent
+pub mod SafeFromGood
+pub mod RunsSafe
+pub mod StartGood

@@ -89,7 +89,7 @@ replies_kept R texts view h (Gains got ∷ acts) all answers kept =
     let longer : AreRepliesKept R texts (h ++ got.entry ∷ []) = reply_pushed R texts h got.entry all (subst (λ (reply : List ℕ). IsKept texts reply) answers.0 kept.0) in
     (longer, replies_kept R texts view (h ++ got.entry ∷ []) acts longer answers.1 kept.1)
 
-none_replied : {S : Type 0} (R : Rules S) (texts : Texts) → AreRepliesKept R texts []
+pub none_replied : {S : Type 0} (R : Rules S) (texts : Texts) → AreRepliesKept R texts []
 none_replied R texts zero reply is = absurd cc
 none_replied R texts (suc before) reply is = absurd cc
 
