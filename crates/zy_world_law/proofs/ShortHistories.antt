@@ -1,4 +1,4 @@
--- What a step says of orders and responses can be spelled, and the history stays short; the public keys stay.
+-- What a step says of orders and responses can be spelled, and the history stays short.
 use Rattle.std.proofs.Common.{◌≡◌, ℕ, true, List}
 use Rattle.zy_base.specs.Machine.{Rules}
 use Rattle.zy_base.specs.declared.ids.Digest.{Digest}
@@ -15,6 +15,3 @@ use Rattle.zy_world_law.proofs.ReadBack.{FitAll}
 pub short_steps : {S : Type 0} (R : Rules S) (w : World) (r : ℕ) (s : State S) (h : List Entry) (event : Event) → IsHonestStep R w r s h event → IsShort s
     → ((d : Digest) (e : Entry) → w.kept d e ≡ true → IsEntryInRange e) → FitAll (step R s event).deeds.acts × IsShort (step R s event).state
 short_steps R w r s h event honest short ranges = ?
-
-pub step_keys : {S : Type 0} (R : Rules S) (s : State S) (event : Event) → (step R s event).state.keys ≡ s.keys
-step_keys R s event = ?
