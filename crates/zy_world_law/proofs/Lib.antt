@@ -4,7 +4,6 @@ pub mod KeptTexts
 pub mod OneText
 pub mod Seats
 pub mod GainedReplies
-pub mod SameKeys
 pub mod ShortHistories
 pub mod DecodedInRange
 pub mod Screened

@@ -43,8 +43,7 @@ use Rattle.zy_world_law.proofs.KeptTexts.{kept_front, kept_behind}
 use Rattle.zy_world_law.proofs.OneText.{link_of, link_is}
 use Rattle.zy_world_law.proofs.ReadBack.{FitAll}
 use Rattle.zy_world_law.proofs.Seats.{get_set, get_set_other, seat_of}
-use Rattle.zy_world_law.proofs.SameKeys.{step_keys}
-use Rattle.zy_world_law.proofs.ShortHistories.{short_steps}
+use Rattle.zy_world_law.proofs.ShortHistories.{short_steps, step_keys}
 use Rattle.zy_world_law.proofs.ToldSteps.{own_more, other_more, more_kept, map_append, spoken_told, replies_kept, history_replied, all_of_both}
 
 -- ---- a tied replica's last stand
