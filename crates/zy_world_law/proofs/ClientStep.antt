@@ -1,5 +1,5 @@
 -- A step of a correct client keeps a good world good.
-use Rattle.std.proofs.Common.{◌≡◌, ◌≢◌, ◌⊎◌, inl, inr, ℕ, Bool, List, [], ◌∷◌, ◌++◌, length, map, Option, Some, None, refl, sym, ap, ◌∙◌, subst}
+use Rattle.std.proofs.Common.{◌≡◌, ◌≢◌, inl, inr, ℕ, Bool, List, [], ◌∷◌, map, Option, Some, refl, sym, ap, ◌∙◌, subst}
 use Rattle.std.specs.Prelude.{is_none, Contains, slice_get}
 use Rattle.std.specs.List.{AllByRecursion, filter_map}
 use Rattle.std.proofs.lemmas.Bool.{cases_eq}
@@ -49,10 +49,10 @@ module _ {S : Type 0} (R : Rules S) (w : World S) (good : IsGood R w) (id : Clie
 
   liars_same : (q : ℕ) → v.lying q ≡ is_none (client_at w' q)
   liars_same q = elim (cases_eq q id.0) [
-      | inl one ↦ subst (λ (q : ℕ). is_none (client_at w q) ≡ is_none (client_at w' q)) (sym one)
+    | inl one ↦ subst (λ (q : ℕ). is_none (client_at w q) ≡ is_none (client_at w' q)) (sym one)
         (ap (λ (o : Option Client). is_none o) at ∙ sym (ap (λ (o : Option Client). is_none o) own_seat))
-      | inr other ↦ ap (λ (o : Option Client). is_none o) (sym (other_seat q other))
-    ]
+    | inr other ↦ ap (λ (o : Option Client). is_none o) (sym (other_seat q other))
+  ]
 
   abbrev new_texts : List (List ℕ)
   new_texts = map (λ (spoken : Spoken). spoken.text) (map (spoken_of o.state.me) o.said)
@@ -64,12 +64,12 @@ module _ {S : Type 0} (R : Rules S) (w : World S) (good : IsGood R w) (id : Clie
 
   asks_stay : (q : ℕ) (e : Entry) → Contains (asked_by w q) e → Contains (asked_by w' q) e
   asks_stay q e has = elim (cases_eq q id.0) [
-      | inl one ↦
+    | inl one ↦
         let here : Contains (asked_by w id.0) e = subst (λ (q : ℕ). Contains (asked_by w q) e) one has in
         let own : Contains (asked_of id (Some x)) e = subst (λ (o : Option Client). Contains (asked_of id o) e) at here in
         subst (λ (q : ℕ). Contains (asked_by w' q) e) (sym one) (subst (λ (o : Option Client). Contains (asked_of id o) e) (sym own_seat) (own_asks e own))
-      | inr other ↦ subst (λ (o : Option Client). Contains (asked_of (record { 0 = q }) o) e) (sym (other_seat q other)) has
-    ]
+    | inr other ↦ subst (λ (o : Option Client). Contains (asked_of (record { 0 = q }) o) e) (sym (other_seat q other)) has
+  ]
 
   abbrev later : law.World
   later = grown v (asked_by w') v.said v.past v.kept
@@ -123,10 +123,10 @@ module _ {S : Type 0} (R : Rules S) (w : World S) (good : IsGood R w) (id : Clie
 
   client_after : (q : ℕ) (y : Client) → client_at w' q ≡ Some y → IsClientTied w' q y
   client_after q y y_at = elim (cases_eq q id.0) [
-      | inl one ↦
+    | inl one ↦
         let is : x' ≡ y = same_Some x' y (sym own_seat ∙ ap (λ (q : ℕ). client_at w' q) (sym one) ∙ y_at) in
         subst (λ (q : ℕ). IsClientTied w' q y) (sym one) (subst (λ (z : Client). IsClientTied w' id.0 z) is own_after)
-      | inr other ↦
+    | inr other ↦
         let before = good.client_tied q y (sym (other_seat q other) ∙ y_at) in
         record {
           me = before.me;
@@ -135,7 +135,7 @@ module _ {S : Type 0} (R : Rules S) (w : World S) (good : IsGood R w) (id : Clie
           holds = before.holds;
           backed = λ number r is. backed_after number r (before.backed number r is);
         }
-    ]
+  ]
 
   completed_after : (c : Completion) → IsCompleted v c → IsCompleted (seen R w') c
   completed_after c is =
@@ -143,9 +143,9 @@ module _ {S : Type 0} (R : Rules S) (w : World S) (good : IsGood R w) (id : Clie
 
   correct_after : (q : ℕ) (y : Client) → client_at w q ≡ Some y → (z : Client) × (client_at w' q ≡ Some z)
   correct_after q y y_at = elim (cases_eq q id.0) [
-      | inl one ↦ (x', ap (λ (q : ℕ). client_at w' q) one ∙ own_seat)
-      | inr other ↦ (y, other_seat q other ∙ y_at)
-    ]
+    | inl one ↦ (x', ap (λ (q : ℕ). client_at w' q) one ∙ own_seat)
+    | inr other ↦ (y, other_seat q other ∙ y_at)
+  ]
 
   done_after : (c : Completed) → IsDone R w c → IsDone R w' c
   done_after c is =

@@ -1,21 +1,18 @@
 -- A completion rests on responses of so many different replicas.
-use Rattle.std.proofs.Common.{◌≡◌, ◌⊎◌, inl, inr, ℕ, ◌+◌, ◌<◌, ◌≤◌, Bool, true, false, ◌&&◌, nat_eq, List, [], ◌∷◌, length, map, get_or, Option, Some, None, refl, sym, ap, ◌∙◌, subst, arith, eqb-true}
+use Rattle.std.proofs.Common.{◌≡◌, inl, inr, ℕ, ◌+◌, ◌<◌, ◌≤◌, Bool, true, false, nat_eq, List, length, map, get_or, Option, Some, None, refl, sym, ap, ◌∙◌, subst, arith, eqb-true}
 use Rattle.std.specs.Prelude.{is_none, Contains, slice_get, option_map, if◌then◌else◌, count_by}
 use Rattle.std.proofs.lemmas.Bool.{and_parts}
 use Rattle.std.proofs.lemmas.Option.{same_Some, slice_get-get_or, slice_get-map, slice_get_within}
-use Rattle.sha2.specs.Sha256.{sha256}
 use Rattle.zy_base.specs.Machine.{Rules}
 use Rattle.zy_base.specs.declared.counts.Counts.{Counts}
 use Rattle.zy_base.specs.declared.ids.ClientId.{ClientId}
-use Rattle.zy_base.specs.declared.ids.Digest.{Digest}
 use Rattle.zy_base.specs.declared.ids.Party.TheVariants as parties
 use Rattle.zy_base.specs.declared.step.Event.{Event}
 use Rattle.zy_admit.specs.Judging.{same_digest}
-use Rattle.zy_client.specs.Held.{HoldsResponses, IsComplete, IsHeldBy, AreHeld}
+use Rattle.zy_client.specs.Held.{HoldsResponses, IsComplete, IsHeldBy}
 use Rattle.zy_law.specs.Completed.{IsCompleted}
 use Rattle.zy_law.specs.Completed.IsCompleted.{fast}
 use Rattle.zy_law.specs.Said.{HasSaid, IsVouched, IsBacked}
-use Rattle.zy_law.specs.World as law
 use Rattle.zy_law.specs.World.{Statement}
 use Rattle.zy_lawful.specs.Acts.{statement_of}
 use Rattle.zy_parts.specs.Numbers as numbers
@@ -24,17 +21,16 @@ use Rattle.zy_parts.specs.Statements.{spec_fields}
 use Rattle.zy_parts.specs.declared.signed.Signed.{Signed}
 use Rattle.zy_parts.specs.declared.statements.Ask.{Ask}
 use Rattle.zy_parts.specs.declared.statements.Spec.{Spec}
-use Rattle.zy_table.specs.ClientRows.{client_step, kept_of, agrees, agreeing, done_of}
+use Rattle.zy_table.specs.ClientRows.{client_step, agrees, done_of}
 use Rattle.zy_table.specs.ClientState.{ClientState, is_waiting}
 use Rattle.zy_table.specs.Requests.{same_spec}
 use Rattle.zy_table.specs.declared.client.Done.{Done}
 use Rattle.zy_table.specs.declared.client.Response.{Response}
 use Rattle.zy_table.specs.declared.deeds.Body.TheVariants as bodies
 use Rattle.zy_world_law.specs.Events.{completed_by}
-use Rattle.zy_world_law.specs.Good.{IsGood, IsClientTied, IsBackedBy, IsDone, IsKept}
+use Rattle.zy_world_law.specs.Good.{IsGood, IsClientTied, IsBackedBy}
 use Rattle.zy_world_law.specs.Safe.{completion_of}
 use Rattle.zy_world_law.specs.Seen.{seen, said_of, spoken_by}
-use Rattle.zy_world_law.specs.Texts.{digest_of}
 use Rattle.zy_world_law.specs.World.{World, Replica, Client, Completed, Remark, replica_at, client_at}
 use Rattle.zy_world_law.proofs.Agreeing.{Picked, picked, rising_differ, all_from}
 use Rattle.zy_world_law.proofs.HeldLaw.{HeldLaw}
@@ -89,9 +85,9 @@ module _ {S : Type 0} (R : Rules S) (w : World S) where
       record {
         within = b.within;
         said = elim b.said [
-            | inl none ↦ inl (ap (λ (o : Option (Replica S)). is_none o) none)
-            | inr there ↦ let (y, at, has) = there in inr (said_so id y r.spec.stmt at (b.spelled (omega (arith, client))) has)
-          ];
+          | inl none ↦ inl (ap (λ (o : Option (Replica S)). is_none o) none)
+          | inr there ↦ let (y, at, has) = there in inr (said_so id y r.spec.stmt at (b.spelled (omega (arith, client))) has)
+        ];
       }
 
   -- ---- a completion
@@ -140,7 +136,6 @@ module _ {S : Type 0} (R : Rules S) (w : World S) where
 
     pub completed : IsCompleted (seen R w) (completion_of told)
     completed = fast (subst (λ (s : Statement). IsBacked (seen R w) w.setup.counts.fast s) statement_is backed)
-
 
 -- ---- which step completes
 

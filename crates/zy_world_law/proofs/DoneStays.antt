@@ -1,14 +1,13 @@
 -- A completion more, if it is one, keeps a good world good.
-use Rattle.std.proofs.Common.{◌≡◌, ℕ, List, [], ◌∷◌, ◌++◌, Option, Some, None, refl}
+use Rattle.std.proofs.Common.{◌≡◌, List, [], ◌∷◌, Option, Some, None, refl}
 use Rattle.std.specs.Prelude.{option_map, option_to_list}
 use Rattle.std.specs.List.{AllByRecursion}
 use Rattle.zy_base.specs.Machine.{Rules}
 use Rattle.zy_base.specs.declared.ids.ClientId.{ClientId}
 use Rattle.zy_table.specs.declared.client.Done.{Done}
-use Rattle.zy_table.specs.declared.client.Response.{Response}
 use Rattle.zy_world_law.specs.Events.{with_done}
-use Rattle.zy_world_law.specs.Good.{IsGood, IsTied, IsClientTied, IsBackedBy, IsDone}
-use Rattle.zy_world_law.specs.World.{World, Replica, Client, Completed}
+use Rattle.zy_world_law.specs.Good.{IsGood, IsDone}
+use Rattle.zy_world_law.specs.World.{World, Completed}
 use Rattle.zy_world_law.proofs.ToldSteps.{all_of_both}
 
 module _ {S : Type 0} (R : Rules S) (w : World S) (good : IsGood R w) (id : ClientId) (o : Option Done) (is_done : (d : Done) → o ≡ Some d → IsDone R w (record { client = id; done = d })) where

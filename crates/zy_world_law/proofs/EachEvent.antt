@@ -1,12 +1,11 @@
 -- Each honest event keeps a good world good.
-use Rattle.std.proofs.Common.{append-nil, ◌≡◌, ◌⊎◌, inl, inr, ℕ, ◌<◌, Bool, true, false, ◌&&◌, List, [], ◌∷◌, length, map, Option, Some, None, Result, Ok, Err, refl, sym, ap, ◌∙◌, subst, arith}
+use Rattle.std.proofs.Common.{append-nil, ◌≡◌, ◌⊎◌, inl, inr, ℕ, ◌<◌, Bool, true, false, ◌&&◌, List, [], ◌∷◌, length, map, Option, Some, None, Result, refl, sym, ap, ◌∙◌, subst, arith}
 use Rattle.std.specs.Prelude.{if◌then◌else◌, slice_get, option_map, unwrap_or, nat_lt}
 use Rattle.std.specs.List.{AllByRecursion}
 use Rattle.std.specs.Option.{option_and_then}
 use Rattle.std.proofs.lemmas.List.FromFn.{length-map-range_with_len}
 use Rattle.std.proofs.lemmas.Option.{same_Some, slice_get_within}
 use Rattle.zy_base.specs.Machine.{Rules}
-use Rattle.zy_base.specs.declared.cause.Cause.TheVariants as causes
 use Rattle.zy_base.specs.declared.frame_fault.FrameFault.{FrameFault}
 use Rattle.zy_base.specs.declared.ids.ClientId.{ClientId}
 use Rattle.zy_base.specs.declared.ids.Party.{Party}
@@ -15,28 +14,26 @@ use Rattle.zy_base.specs.declared.ids.ReplicaId.{ReplicaId}
 use Rattle.zy_base.specs.declared.step.Event.TheVariants.{Heard, Timer}
 use Rattle.zy_base.specs.declared.step.TimerKind.{TimerKind}
 use Rattle.zy_base.specs.declared.step.TimerKind.TheVariants as timers
-use Rattle.zy_frames.specs.Frames.{frame_in, parts_of}
 use Rattle.zy_frames.specs.declared.frame.Frame.{Frame}
 use Rattle.zy_frames.specs.declared.frame.Frame.TheVariants as frames
 use Rattle.zy_parts.specs.Numbers as numbers
 use Rattle.zy_parts.specs.Signing.{part_of, text_of}
 use Rattle.zy_parts.specs.Statements.{spec_fields}
-use Rattle.zy_seal.specs.Checking.{answer_under}
 use Rattle.zy_seal.specs.Keys.{Keys}
 use Rattle.zy_seal.specs.Screening.{answer_to}
 use Rattle.zy_seal.specs.declared.directory.SealAnswer.TheVariants as answers
-use Rattle.zy_table.specs.ClientRows.{ask, client_step, kept_of, done_of}
+use Rattle.zy_table.specs.ClientRows.{ask, client_step}
 use Rattle.zy_table.specs.ClientState.{ClientState}
 use Rattle.zy_table.specs.declared.client.Done.{Done}
 use Rattle.zy_table.specs.declared.client.Response.{Response}
-use Rattle.zy_world_law.specs.Events.{Happened, Broken, no_subject, unless_forged, ask_in, deliver, bring, bring_to_replica, bring_to_client, timer_of, replica_timer_in, client_timer_in, replica_timer, client_timer, lie, forge, raw, happens, completed_by, replica_goes, client_goes, leaves_in}
+use Rattle.zy_world_law.specs.Events.{Happened, Broken, unless_forged, ask_in, deliver, bring, bring_to_replica, bring_to_client, timer_of, replica_timer_in, client_timer_in, replica_timer, client_timer, lie, forge, happens, replica_goes, client_goes, leaves_in}
 use Rattle.zy_world_law.specs.Events.Happened.{Goes, Breaks}
 use Rattle.zy_world_law.specs.Good.{IsGood, IsBackedBy, IsKept}
 use Rattle.zy_world_law.specs.Honest.{forger_in}
 use Rattle.zy_world_law.specs.Liars.{Telling, requests_at, order_told, spec_told, by_replica, statement_told}
 use Rattle.zy_world_law.specs.Setup.{keys_of, public_key_of}
 use Rattle.zy_world_law.specs.Texts.{texts_in, texts_read}
-use Rattle.zy_world_law.specs.World.{World, Replica, Client, Mail, Texts, replica_at, client_at, correct_in, mail_at, delivered, texts_said, is_liar, is_correct, are_parties, is_told}
+use Rattle.zy_world_law.specs.World.{World, Replica, Client, Mail, replica_at, client_at, correct_in, mail_at, delivered, texts_said, is_liar, is_correct, are_parties}
 use Rattle.zy_world_law.specs.declared.event.WorldEvent.{WorldEvent}
 use Rattle.zy_world_law.specs.declared.event.WorldEvent.TheVariants as events
 use Rattle.zy_world_law.specs.declared.note.Note.{Note}
@@ -45,10 +42,9 @@ use Rattle.zy_world_law.proofs.BagStays.{bag_good}
 use Rattle.zy_world_law.proofs.Completing.{completes}
 use Rattle.zy_world_law.proofs.DecodedInRange.{decoded_readable}
 use Rattle.zy_world_law.proofs.EventRuns.{event_runs, under_some}
-use Rattle.zy_world_law.proofs.Goings.{IsAfter, goes_is, replica_goes_good, client_goes_good, IsCompletion}
+use Rattle.zy_world_law.proofs.Goings.{IsAfter, goes_is, replica_goes_good, client_goes_good}
 use Rattle.zy_world_law.proofs.HeldLaw.{HeldLaw}
-use Rattle.zy_world_law.proofs.KeptOrHeard.{Comes, IsHeard, IsAsked, Nothing, heard_comes, timer_comes, ask_comes, kept_or_brought, completed_reply, step_same}
-use Rattle.zy_world_law.proofs.KeptTexts.{IsKeeping}
+use Rattle.zy_world_law.proofs.KeptOrHeard.{IsHeard, IsAsked, heard_comes, timer_comes, ask_comes, kept_or_brought, completed_reply, step_same}
 use Rattle.zy_world_law.proofs.NotForged.{IsSaid, parts_said}
 
 module _ {S : Type 0} (R : Rules S) (law : HeldLaw) where
@@ -88,11 +84,11 @@ module _ {S : Type 0} (R : Rules S) (law : HeldLaw) where
         → (replica_at w number ≡ None) ⊎ ((x : Replica S) × (replica_at w number ≡ Some x) × Rattle.std.specs.Prelude.Contains (map (λ remark. remark.text) x.said) text)
     said_or_lies number text None at said = inl at
     said_or_lies number text (Some x) at said = elim said.said [
-        | inl none ↦ absurd cc
-        | inr there ↦
+      | inl none ↦ absurd cc
+      | inr there ↦
           let (texts, is, has) = there in
           inr (x, at, subst (λ (l : List (List ℕ)). Rattle.std.specs.Prelude.Contains l text) (sym (same_Some (map (λ remark. remark.text) x.said) texts is)) has)
-      ]
+    ]
 
     heard_backed : (s : ClientState) → s.keys ≡ keys_of w.setup → (bytes : List ℕ) → forger_in w bytes ≡ None → AllByRecursion (IsKept w.texts) (texts_in bytes)
         → (number : ℕ) (r : Response) → IsHeard s bytes number r → IsBackedBy w number r
@@ -138,10 +134,10 @@ module _ {S : Type 0} (R : Rules S) (law : HeldLaw) where
           | inr heard ↦ heard_backed (record u { texts = more }) good1 x.state tie.keys bytes none keeping.kept number r heard
         ])
         (λ more keeping d ends.
-          let (number, r, heard, one) = completed_reply x.state _ _ d comes ends in
-          let brought : AllByRecursion (IsKept more) (r.reply ∷ []) = subst (λ (f : Result Frame FrameFault). AllByRecursion (IsKept more) (texts_read f)) heard.frame keeping.kept in
-          let c = completes law x.state (Heard bytes) d tie.holds ends in
-          record { waiting = c.0; complete = c.1; done = c.2; reply = subst (λ (e : Done). IsKept more e.reply) (sym one) brought.0 }) is
+        let (number, r, heard, one) = completed_reply x.state _ _ d comes ends in
+        let brought : AllByRecursion (IsKept more) (r.reply ∷ []) = subst (λ (f : Result Frame FrameFault). AllByRecursion (IsKept more) (texts_read f)) heard.frame keeping.kept in
+        let c = completes law x.state (Heard bytes) d tie.holds ends in
+        record { waiting = c.0; complete = c.1; done = c.2; reply = subst (λ (e : Done). IsKept more e.reply) (sym one) brought.0 }) is
 
     client_hears : (u : World S) → IsGood R u → (id : ClientId) (x : Client) → client_at u id.0 ≡ Some x → (bytes : List ℕ) (forger : Option Party) → forger_in u bytes ≡ forger
         → GoesGood u (unless_forged forger (client_goes u id x (texts_in bytes) (client_step x.state (Heard bytes))))

@@ -1,7 +1,7 @@
 -- The requests of a frame that isn't forged may run.
-use Rattle.std.proofs.Common.{◌≡◌, ◌⊎◌, inl, inr, ℕ, zero, suc, ◌<◌, ◌≤◌, true, false, List, [], ◌∷◌, length, map, get_or, Option, Some, None, Ok, refl, sym, ap, ◌∙◌, subst, arith}
+use Rattle.std.proofs.Common.{◌≡◌, ◌⊎◌, inl, inr, ℕ, zero, suc, ◌<◌, true, List, [], ◌∷◌, length, Option, Some, None, refl, sym, ap, ◌∙◌, subst, arith}
 use Rattle.std.specs.Prelude.{option_map, is_none, Contains, slice_get}
-use Rattle.std.specs.List.{AllByRecursion, filter_map, cons_option, range_with_len}
+use Rattle.std.specs.List.{AllByRecursion, filter_map, cons_option}
 use Rattle.std.proofs.lemmas.Bool.{and_parts}
 use Rattle.std.proofs.lemmas.List.FromFn.{length-map-range_with_len}
 use Rattle.std.proofs.lemmas.Option.{same_Some, slice_get_within}
@@ -10,9 +10,8 @@ use Rattle.zy_base.specs.declared.ids.ClientId.{ClientId}
 use Rattle.zy_base.specs.declared.ids.Party.{Party}
 use Rattle.zy_base.specs.declared.ids.Party.TheVariants as parties
 use Rattle.zy_base.specs.declared.step.Event.TheVariants.{Heard}
-use Rattle.zy_chain.specs.declared.entry.Entry.{Entry}
 use Rattle.zy_admit.specs.Judging.{entry_of}
-use Rattle.zy_frames.specs.Frames.{frame_in, parts_of}
+use Rattle.zy_frames.specs.Frames.{parts_of}
 use Rattle.zy_frames.specs.declared.frame.Frame.{Frame}
 use Rattle.zy_frames.specs.declared.frame.Frame.TheVariants as frames
 use Rattle.zy_lawful.specs.Tied.{MayRun, MayFrameRun, MayEventRun}
@@ -21,11 +20,10 @@ use Rattle.zy_parts.specs.Signing.{part_of, text_of}
 use Rattle.zy_parts.specs.Statements.{ask_fields}
 use Rattle.zy_parts.specs.Statements as statements
 use Rattle.zy_parts.specs.declared.signed.Part.{Part}
-use Rattle.zy_parts.specs.declared.signed.Signed.{Signed}
 use Rattle.zy_parts.specs.declared.statements.Ask.{Ask}
 use Rattle.zy_seal.specs.Checking.{answer_under}
-use Rattle.zy_seal.specs.Keys.{Keys, key_of}
-use Rattle.zy_seal.specs.Screening.{answer_to, screen}
+use Rattle.zy_seal.specs.Keys.{Keys}
+use Rattle.zy_seal.specs.Screening.{answer_to}
 use Rattle.zy_seal.specs.declared.directory.SealAnswer.TheVariants as answers
 use Rattle.zy_table.specs.Roles.{in_role, is_client, is_primary_of}
 use Rattle.zy_table.specs.State.{State, is_primary}
@@ -34,7 +32,7 @@ use Rattle.zy_world_law.specs.Good.{IsGood}
 use Rattle.zy_world_law.specs.Honest.{forger_in}
 use Rattle.zy_world_law.specs.Seen.{seen, asked_by, asked_of, entry_in}
 use Rattle.zy_world_law.specs.Setup.{keys_of, public_key_of}
-use Rattle.zy_world_law.specs.World.{World, Replica, Client, client_at, replica_at, texts_said}
+use Rattle.zy_world_law.specs.World.{World, Client, client_at, texts_said}
 use Rattle.zy_world_law.proofs.DecodedInRange.{IsReadable, decoded_readable}
 use Rattle.zy_world_law.proofs.NotForged.{IsSaid, parts_said}
 use Rattle.zy_world_law.proofs.ReadBack.{entry_back}
@@ -79,14 +77,14 @@ module _ {S : Type 0} (R : Rules S) (w : World S) (good : IsGood R w) where
       → (is_none (client_at w id.0) ≡ true) ⊎ Contains (asked_by w id.0) (statements.entry_of id ask)
   asked_text id ask None at fits said = inl (ap (λ (o : Option Client). is_none o) at)
   asked_text id ask (Some x) at fits said = elim said.said [
-      | inl none ↦ absurd cc
-      | inr there ↦
+    | inl none ↦ absurd cc
+    | inr there ↦
         let (texts, is, has) = there in
         let own : Contains x.said (text_of numbers.ask ask_fields (parties.Client id) ask) =
         subst (λ (l : List (List ℕ)). Contains l (text_of numbers.ask ask_fields (parties.Client id) ask)) (sym (same_Some x.said texts is)) has in
         inr (subst (λ (o : Option Client). Contains (asked_of id o) (statements.entry_of id ask)) (sym at)
         (contains_mapped (entry_in id) x.said (text_of numbers.ask ask_fields (parties.Client id) ask) (statements.entry_of id ask) own (entry_back id (parties.Client id) ask fits)))
-    ]
+  ]
 
   request_by : (by : Party) (stmt : Ask) (sig : List ℕ) → is_client by ≡ true → ask_fields.Fits stmt
       → answer_to (keys_of w.setup) (part_of numbers.ask ask_fields (record { by = by; stmt = stmt; sig = sig })) ≡ answers.Yes

@@ -1,7 +1,6 @@
 -- An event that goes on led to this world.
 use Rattle.std.specs.Prelude.{option_map, option_to_list}
-use Rattle.std.proofs.Common.{append-nil, [], ◌≡◌, ◌⊎◌, inl, inr, ℕ, List, ◌++◌, Option, Some, None, Result, Ok, Err, refl, sym, ap, ◌∙◌, subst}
-use Rattle.std.specs.List.{AllByRecursion}
+use Rattle.std.proofs.Common.{append-nil, [], ◌≡◌, ℕ, List, ◌++◌, Option, Some, Result, Ok, Err, refl, sym, ap, ◌∙◌, subst}
 use Rattle.zy_base.specs.Machine.{Rules}
 use Rattle.zy_base.specs.declared.ids.ClientId.{ClientId}
 use Rattle.zy_base.specs.declared.ids.Digest.{Digest}
@@ -17,19 +16,19 @@ use Rattle.zy_table.specs.Deeds.{outgoing_of}
 use Rattle.zy_table.specs.Step.{step}
 use Rattle.zy_table.specs.declared.client.Done.{Done}
 use Rattle.zy_table.specs.declared.client.Response.{Response}
-use Rattle.zy_world_law.specs.Events.{Happened, Broken, go_with, keeping, replica_goes, client_goes, stepped, client_stepped, with_replica, with_client, with_done, completed_by, replica_note, client_note}
+use Rattle.zy_world_law.specs.Events.{Happened, go_with, keeping, replica_goes, client_goes, stepped, client_stepped, with_replica, with_client, with_done, completed_by, replica_note, client_note}
 use Rattle.zy_world_law.specs.Events.Happened.{Goes, Breaks}
 use Rattle.zy_world_law.specs.Good.{IsGood, IsBackedBy, IsDone, IsKept}
 use Rattle.zy_world_law.specs.Seen.{seen}
 use Rattle.zy_world_law.specs.Texts.{step_texts, keep_all}
-use Rattle.zy_world_law.specs.World.{World, Replica, Client, Completed, Texts, mail_to, replica_at, client_at, with_sent}
+use Rattle.zy_world_law.specs.World.{World, Replica, Client, Completed, Texts, replica_at, client_at, with_sent}
 use Rattle.zy_world_law.specs.declared.note.Note.{Note}
 use Rattle.zy_world_law.proofs.BagStays.{bag_good}
 use Rattle.zy_world_law.proofs.ClientStep.{client_good, own_seat}
 use Rattle.zy_world_law.proofs.Completing.{completed}
 use Rattle.zy_world_law.proofs.DoneStays.{done_good}
 use Rattle.zy_world_law.proofs.KeptOrHeard.{IsSame}
-use Rattle.zy_world_law.proofs.KeptTexts.{IsKeeping, Stay, all_kept, kept_front, kept_behind}
+use Rattle.zy_world_law.proofs.KeptTexts.{IsKeeping, Stay, all_kept, kept_behind}
 use Rattle.zy_world_law.proofs.ReplicaStep.{replica_good}
 use Rattle.zy_world_law.proofs.TextsStay.{texts_good}
 use Rattle.std.proofs.lemmas.Option.{same_Some}
@@ -104,15 +103,15 @@ module _ {S : Type 0} (R : Rules S) (w : World S) (good : IsGood R w) where
       let seat : client_at w3 id.0 ≡ Some (client_stepped x o) = own_seat R w1 good1 id x at o same holds backed1 in
       let is_done : (d : Done) → done ≡ Some d → IsDone R w3 (record { client = id; done = d }) =
       λ d ends.
-          let c = completes k.texts' k.keeping d ends in
-          let one : done_of c.complete.response ≡ d = same_Some (done_of c.complete.response) d (sym c.complete.done ∙ c.done) in
-          record {
-            client = client_stepped x o;
-            correct = seat;
-            completed = subst (λ (e : Done). Rattle.zy_law.specs.Completed.IsCompleted (seen R w3) (Rattle.zy_world_law.specs.Safe.completion_of (record { client = id; done = e }))) one
-                (completed R w3 good3 id (client_stepped x o) seat c.waiting c.complete);
-            reply = c.reply;
-          } in
+      let c = completes k.texts' k.keeping d ends in
+      let one : done_of c.complete.response ≡ d = same_Some (done_of c.complete.response) d (sym c.complete.done ∙ c.done) in
+      record {
+        client = client_stepped x o;
+        correct = seat;
+        completed = subst (λ (e : Done). Rattle.zy_law.specs.Completed.IsCompleted (seen R w3) (Rattle.zy_world_law.specs.Safe.completion_of (record { client = id; done = e }))) one
+            (completed R w3 good3 id (client_stepped x o) seat c.waiting c.complete);
+        reply = c.reply;
+      } in
       subst (λ (u : World S). IsAfter R w u) k.world
       (record {
         good = done_good R w3 good3 id done is_done;

@@ -1,16 +1,12 @@
 -- What a client keeps after a step was kept before, or came with the frame; and what a step leaves as it is.
 use Rattle.std.proofs.Common.{◌≡◌, ◌⊎◌, inl, inr, ℕ, zero, suc, Bool, true, false, List, [], ◌∷◌, replicate, Option, Some, None, Result, Ok, Err, refl, sym, ap, ◌∙◌, subst}
 use Rattle.std.specs.Prelude.{if◌then◌else◌, nat_le, slice_set, slice_index_or}
-use Rattle.std.specs.List.{AllByRecursion}
 use Rattle.std.proofs.lemmas.Option.{same_Some}
 use Rattle.zy_base.specs.declared.cause.Cause.{Cause}
 use Rattle.zy_base.specs.declared.cause.Cause.TheVariants as causes
-use Rattle.zy_base.specs.declared.counts.Counts.{Counts}
 use Rattle.zy_base.specs.declared.frame_fault.FrameFault.{FrameFault}
-use Rattle.zy_base.specs.declared.ids.ClientId.{ClientId}
 use Rattle.zy_base.specs.declared.ids.Party.{Party}
 use Rattle.zy_base.specs.declared.ids.Party.TheVariants.{Replica, Client}
-use Rattle.zy_base.specs.declared.step.Event.{Event}
 use Rattle.zy_base.specs.declared.step.Event.TheVariants.{Heard, Timer}
 use Rattle.zy_base.specs.declared.step.TimerKind.{TimerKind}
 use Rattle.zy_base.specs.declared.step.TimerKind.TheVariants as timers
@@ -22,7 +18,6 @@ use Rattle.zy_parts.specs.Signing.{part_of}
 use Rattle.zy_parts.specs.Statements.{spec_fields}
 use Rattle.zy_parts.specs.declared.signed.Signed.{Signed}
 use Rattle.zy_parts.specs.declared.statements.Ask.{Ask}
-use Rattle.zy_seal.specs.Keys.{Keys}
 use Rattle.zy_seal.specs.Screening.{screen, answer_to}
 use Rattle.zy_seal.specs.declared.directory.SealAnswer.TheVariants as answers
 use Rattle.zy_table.specs.ClientRows.{ask, ask_while, asked, next_ask, client_step, kept_of, keep, completed_if, complete, done_of, agreeing, response_cause, keep_unless, respond, respond_while, local_while, ask_again, is_by_primary, hear_response, hear, unless, decoded}
@@ -180,10 +175,13 @@ filled_done s id r d false enough waits is = absurd cc
 pub completed_reply : (s : ClientState) (Brought : ℕ → Response → Type 0) (o : ClientOutcome) (d : Done) → Comes s Brought o → completed_by s o.state ≡ Some d → (id : ℕ) × (r : Response) × Brought id r × (d ≡ done_of r)
 completed_reply s Brought o d (same silent is) done =
     absurd (stays_open s s d (is_waiting s.waiting) (ap (λ (t : ClientState). completed_by s t) (sym is) ∙ done))
-completed_reply s Brought o d (fills id r brought is) done =
-    (id, r, brought,
-     filled_done s id r d (is_waiting s.waiting) (nat_le (keep s id r).counts.fast (agreeing (keep s id r) r.spec.stmt)) refl
-     (ap (λ (p : ClientOutcome). completed_by s p.state) (sym is) ∙ done))
+completed_reply s Brought o d (fills id r brought is) done = (
+  id,
+  r,
+  brought,
+  filled_done s id r d (is_waiting s.waiting) (nat_le (keep s id r).counts.fast (agreeing (keep s id r) r.spec.stmt)) refl
+      (ap (λ (p : ClientOutcome). completed_by s p.state) (sym is) ∙ done),
+)
 
 -- ---- a request
 

@@ -2,7 +2,6 @@
 use Rattle.std.proofs.Common.{◌≡◌, ℕ, Bool, true, false, cond, List, [], ◌∷◌, ◌++◌, Option, Some, None, Result, Ok, Err, refl, sym, ap, ◌∙◌, subst}
 use Rattle.std.specs.List.{AllByRecursion}
 use Rattle.std.specs.Str.{bytes_eq}
-use Rattle.std.proofs.lemmas.Option.{same_Some}
 use Rattle.zy_base.specs.declared.ids.Digest.{Digest}
 use Rattle.zy_admit.specs.Judging.{same_digest}
 use Rattle.zy_world_law.specs.Good.{IsKept}
@@ -36,9 +35,10 @@ module _ (texts : Texts) (text : List ℕ) where
   one_kept : (more : Texts) (o : Option (List ℕ)) → texts (digest_of text) ≡ o → keep_beside texts text o ≡ Ok more → IsKept more text × Stay texts more
   one_kept more None free e =
       let is : with_text texts text ≡ more = ok_is (with_text texts text) more e in
-      subst (λ (t : Texts). IsKept t text × Stay texts t) is
-      (text_in (same_digest (digest_of text) (digest_of text)) (digest_same (digest_of text)),
-       λ d other was. beside free d other (same_digest d (digest_of text)) refl was)
+      subst (λ (t : Texts). IsKept t text × Stay texts t) is (
+        text_in (same_digest (digest_of text) (digest_of text)) (digest_same (digest_of text)),
+        λ d other was. beside free d other (same_digest d (digest_of text)) refl was,
+      )
   one_kept more (Some kept) there e = same_kept (bytes_eq kept text) refl e where
     same_kept : (b : Bool) → bytes_eq kept text ≡ b → cond b (Ok texts) (Err (digest_of text)) ≡ Ok more → IsKept more text × Stay texts more
     same_kept true same is =

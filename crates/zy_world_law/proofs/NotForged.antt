@@ -1,16 +1,14 @@
 -- In a frame without a forged part each part that verifies was said by its party, or that lies.
-use Rattle.std.proofs.Common.{◌≡◌, ◌⊎◌, inl, inr, ℕ, Bool, true, false, cond, ◌&&◌, not, List, [], ◌∷◌, Option, Some, None, Result, Ok, Err, refl, sym, ap, ◌∙◌}
+use Rattle.std.proofs.Common.{◌≡◌, ◌⊎◌, inl, inr, ℕ, Bool, true, false, cond, ◌&&◌, not, List, [], ◌∷◌, Option, Some, None, Result, Ok, refl, sym, ap, ◌∙◌}
 use Rattle.std.specs.Prelude.{option_map, Contains}
 use Rattle.std.specs.List.{AllByRecursion, find, list_any}
 use Rattle.std.specs.Str.{bytes_eq}
 use Rattle.std.proofs.lemmas.Map.Views.{Contains-from_any}
 use Rattle.zy_base.specs.declared.frame_fault.FrameFault.{FrameFault}
-use Rattle.zy_base.specs.declared.ids.Party.{Party}
 use Rattle.zy_frames.specs.Frames.{frame_in, parts_of}
 use Rattle.zy_frames.specs.declared.frame.Frame.{Frame}
 use Rattle.zy_parts.specs.declared.signed.Part.{Part}
 use Rattle.zy_seal.specs.Screening.{answer_to}
-use Rattle.zy_seal.specs.declared.directory.SealAnswer.{SealAnswer}
 use Rattle.zy_seal.specs.declared.directory.SealAnswer.TheVariants as answers
 use Rattle.zy_world_law.specs.Honest.{is_yes, is_unsaid, is_forged, parts_read, forger_in}
 use Rattle.zy_world_law.specs.Setup.{keys_of}

@@ -1,5 +1,5 @@
 -- Of kept links one head has one text.
-use Rattle.std.proofs.Common.{◌≡◌, ℕ, ◌+◌, ◌<◌, ◌≤◌, ◌^◌, Bool, true, List, ◌++◌, length, take, drop, Some, refl, sym, ap, ◌∙◌, arith, ltb-true, leb-true, lt-ltb, le-leb}
+use Rattle.std.proofs.Common.{◌≡◌, ℕ, ◌^◌, true, List, ◌++◌, length, take, drop, refl, sym, ap, ◌∙◌, arith, ltb-true, leb-true, lt-ltb, le-leb}
 use Rattle.std.proofs.Math.Seq.{take-append_seam, drop-append_seam}
 use Rattle.std.proofs.lemmas.List.{length-append}
 use Rattle.std.proofs.lemmas.Bool.{and_parts}
@@ -8,7 +8,7 @@ use Rattle.std.specs.Prelude.{nat_lt, nat_le}
 use Rattle.sha2.specs.Sha256.{sha256}
 use Rattle.sha2.proofs.Facts256.{length-sha256}
 use Rattle.zy_base.specs.declared.ids.Digest.{Digest}
-use Rattle.zy_chain.specs.Entries.{IsEntryInRange, bytes_of_entry, bytes_of_request, digest_of_entry, digest_of_request}
+use Rattle.zy_chain.specs.Entries.{IsEntryInRange, bytes_of_entry, digest_of_entry, digest_of_request}
 use Rattle.zy_chain.specs.Fields.{entry_fields, entry-exact, entry-is_bytes}
 use Rattle.zy_chain.specs.Heads.{head_after}
 use Rattle.zy_chain.specs.declared.entry.Entry.{Entry}
@@ -75,9 +75,10 @@ one_kept_text texts a b a_is b_is same =
 split : (a b c d : List ℕ) → length c ≡ length d → a ++ c ≡ b ++ d → (a ≡ b) × (c ≡ d)
 split a b c d long same =
     let whole : length (a ++ c) ≡ length (b ++ d) = ap length same in
-    let sizes : length a ≡ length b = omega (arith, length-append a c, length-append b d) in
-    (sym (take-append_seam a c) ∙ ap (λ (l : List ℕ). take (length a) l) same ∙ ap (λ (n : ℕ). take n (b ++ d)) sizes ∙ take-append_seam b d,
-     sym (drop-append_seam a c) ∙ ap (λ (l : List ℕ). drop (length a) l) same ∙ ap (λ (n : ℕ). drop n (b ++ d)) sizes ∙ drop-append_seam b d)
+    let sizes : length a ≡ length b = omega (arith, length-append a c, length-append b d) in (
+      sym (take-append_seam a c) ∙ ap (λ (l : List ℕ). take (length a) l) same ∙ ap (λ (n : ℕ). take n (b ++ d)) sizes ∙ take-append_seam b d,
+      sym (drop-append_seam a c) ∙ ap (λ (l : List ℕ). drop (length a) l) same ∙ ap (λ (n : ℕ). drop n (b ++ d)) sizes ∙ drop-append_seam b d,
+    )
 
 pub one_text : (texts : Texts) → HaveOneText (is_link texts) next_head
 unfolding head_after digest_of_request

@@ -1,13 +1,10 @@
 -- What was signed is read back out of its text.
-use Rattle.std.proofs.Common.{◌≡◌, ℕ, List, ◌++◌, length, drop, Option, Some, Result, Ok, refl, sym, ap, ◌∙◌, arith}
+use Rattle.std.proofs.Common.{◌≡◌, ℕ, List, ◌++◌, length, drop, Some, Ok, refl, sym, ap, ◌∙◌, arith}
 use Rattle.std.proofs.Math.Seq.{drop-append_seam}
 use Rattle.std.proofs.lemmas.List.{length-append}
 use Rattle.std.specs.Int.{w8, w32}
-use Rattle.zy_base.specs.declared.frame_fault.FrameFault.{FrameFault}
 use Rattle.zy_base.specs.declared.ids.ClientId.{ClientId}
 use Rattle.zy_base.specs.declared.ids.Party.{Party}
-use Rattle.zy_chain.specs.declared.entry.Entry.{Entry}
-use Rattle.zy_law.specs.World.{Statement}
 use Rattle.zy_lawful.specs.Acts.{statement_of}
 use Rattle.zy_parts.specs.Exact.{ask-exact, order-exact, spec-exact}
 use Rattle.zy_parts.specs.Numbers as numbers

@@ -1,5 +1,5 @@
 -- A step of a correct replica keeps a good world good.
-use Rattle.std.proofs.Common.{◌≡◌, ◌≢◌, ◌⊎◌, ℕ, ◌+◌, ◌-◌, inl, inr, Bool, true, false, List, [], ◌∷◌, ◌++◌, length, map, Option, Some, None, refl, sym, ap, ◌∙◌, subst, arith}
+use Rattle.std.proofs.Common.{◌≡◌, ◌≢◌, ℕ, ◌+◌, ◌-◌, inl, inr, Bool, List, [], ◌∷◌, ◌++◌, length, map, Option, Some, None, refl, sym, ap, ◌∙◌, subst, arith}
 use Rattle.std.specs.Prelude.{slice_get, option_map, unwrap_or, is_none, Contains}
 use Rattle.std.specs.List.{AllByRecursion, flat_map}
 use Rattle.std.proofs.lemmas.Bool.{cases_eq}
@@ -30,7 +30,6 @@ use Rattle.zy_table.specs.Deeds.{Outcome, gains_in, said_from}
 use Rattle.zy_table.specs.State.{State, own_view}
 use Rattle.zy_table.specs.Step.{step}
 use Rattle.zy_table.specs.declared.client.Response.{Response}
-use Rattle.zy_table.specs.declared.deeds.Act.{Act}
 use Rattle.zy_table.specs.declared.deeds.Got.{Got}
 use Rattle.zy_world_law.specs.Events.{stepped, with_replica, remark_after, history_of}
 use Rattle.zy_world_law.specs.Good.{IsGood, IsTied, IsShort, IsClientTied, IsBackedBy, IsDone, IsKept, AreRepliesKept}
@@ -67,10 +66,11 @@ module _ (texts : Texts) (v : law.World) (kept_is : v.kept ≡ (λ head e. Rattl
   pub links_kept : (gots : List Got) → AllByRecursion (IsGained v) gots → AllByRecursion (IsKept texts) (flat_map got_texts gots) → AllByRecursion (IsLinkKept v) gots
   links_kept [] gained all = tt
   links_kept (got ∷ gots) gained all =
-      let both = one_of got gots all in
-      (ap (λ (f : _). f got.before got.entry) kept_is
-       ∙ link_is texts got.before got.entry (record { usable = record { client = gained.0.run.client; range = gained.0.run.range }; entry = both.0.0; link = both.0.1.0 }),
-       links_kept gots gained.1 both.1)
+      let both = one_of got gots all in (
+        ap (λ (f : _). f got.before got.entry) kept_is
+            ∙ link_is texts got.before got.entry (record { usable = record { client = gained.0.run.client; range = gained.0.run.range }; entry = both.0.0; link = both.0.1.0 }),
+        links_kept gots gained.1 both.1,
+      )
 
   pub got_replies : (gots : List Got) → AllByRecursion (IsKept texts) (flat_map got_texts gots) → AllByRecursion (λ (got : Got). IsKept texts got.reply) gots
   got_replies [] all = tt
@@ -143,30 +143,30 @@ module _ {S : Type 0} (R : Rules S) (w : World S) (good : IsGood R w) (id : Repl
 
   liars_same : (q : ℕ) → v.liar q ≡ is_none (replica_at w' q)
   liars_same q = elim (cases_eq q id.0) [
-      | inl same ↦ subst (λ (q : ℕ). is_none (replica_at w q) ≡ is_none (replica_at w' q)) (sym same)
+    | inl same ↦ subst (λ (q : ℕ). is_none (replica_at w q) ≡ is_none (replica_at w' q)) (sym same)
         (ap (λ (o : Option (Replica S)). is_none o) at ∙ sym (ap (λ (o : Option (Replica S)). is_none o) own_seat))
-      | inr other ↦ ap (λ (o : Option (Replica S)). is_none o) (sym (other_seat q other))
-    ]
+    | inr other ↦ ap (λ (o : Option (Replica S)). is_none o) (sym (other_seat q other))
+  ]
 
   said_same : (q : ℕ) → with_more v.said id.0 new_said q ≡ said_of (replica_at w' q)
   said_same q = elim (cases_eq q id.0) [
-      | inl same ↦ subst (λ (q : ℕ). with_more v.said id.0 new_said q ≡ said_of (replica_at w' q)) (sym same)
+    | inl same ↦ subst (λ (q : ℕ). with_more v.said id.0 new_said q ≡ said_of (replica_at w' q)) (sym same)
         (own_more v.said id.0 new_said
-         ∙ ap (λ (o : Option (Replica S)). said_of o ++ new_said) at
-         ∙ ap (λ (l : List law.Spoken). map spoken_by x.said ++ l) (sym told)
-         ∙ sym (map_append spoken_by x.said (map (remark_after x.past) (said_from (parties.Replica o.state.me) 0 o.deeds.acts)))
-         ∙ ap (λ (o : Option (Replica S)). said_of o) (sym own_seat))
-      | inr other ↦ other_more v.said id.0 new_said q other ∙ ap (λ (o : Option (Replica S)). said_of o) (sym (other_seat q other))
-    ]
+        ∙ ap (λ (o : Option (Replica S)). said_of o ++ new_said) at
+        ∙ ap (λ (l : List law.Spoken). map spoken_by x.said ++ l) (sym told)
+        ∙ sym (map_append spoken_by x.said (map (remark_after x.past) (said_from (parties.Replica o.state.me) 0 o.deeds.acts)))
+        ∙ ap (λ (o : Option (Replica S)). said_of o) (sym own_seat))
+    | inr other ↦ other_more v.said id.0 new_said q other ∙ ap (λ (o : Option (Replica S)). said_of o) (sym (other_seat q other))
+  ]
 
   past_same : (q : ℕ) → with_more v.past id.0 new_stands q ≡ past_of (replica_at w' q)
   past_same q = elim (cases_eq q id.0) [
-      | inl same ↦ subst (λ (q : ℕ). with_more v.past id.0 new_stands q ≡ past_of (replica_at w' q)) (sym same)
+    | inl same ↦ subst (λ (q : ℕ). with_more v.past id.0 new_stands q ≡ past_of (replica_at w' q)) (sym same)
         (own_more v.past id.0 new_stands
-         ∙ ap (λ (o : Option (Replica S)). past_of o ++ new_stands) at
-         ∙ ap (λ (o : Option (Replica S)). past_of o) (sym own_seat))
-      | inr other ↦ other_more v.past id.0 new_stands q other ∙ ap (λ (o : Option (Replica S)). past_of o) (sym (other_seat q other))
-    ]
+        ∙ ap (λ (o : Option (Replica S)). past_of o ++ new_stands) at
+        ∙ ap (λ (o : Option (Replica S)). past_of o) (sym own_seat))
+    | inr other ↦ other_more v.past id.0 new_stands q other ∙ ap (λ (o : Option (Replica S)). past_of o) (sym (other_seat q other))
+  ]
 
   abbrev built : (ℕ → Bool) → (ℕ → List law.Spoken) → (ℕ → List Stand) → law.World
   built liar said past =
@@ -233,11 +233,11 @@ module _ {S : Type 0} (R : Rules S) (w : World S) (good : IsGood R w) (id : Repl
 
   tied_after : (q : ℕ) (y : Replica S) → replica_at w' q ≡ Some y → IsTied R w' q y
   tied_after q y y_at = elim (cases_eq q id.0) [
-      | inl same ↦
+    | inl same ↦
         let is : x' ≡ y = same_Some x' y (sym own_seat ∙ ap (λ (q : ℕ). replica_at w' q) (sym same) ∙ y_at) in
         subst (λ (q : ℕ). IsTied R w' q y) (sym same) (subst (λ (z : Replica S). IsTied R w' id.0 z) is own_after)
-      | inr other ↦ other_after q y other (sym (other_seat q other) ∙ y_at)
-    ]
+    | inr other ↦ other_after q y other (sym (other_seat q other) ∙ y_at)
+  ]
 
   -- ---- clients and completions
 
@@ -246,21 +246,23 @@ module _ {S : Type 0} (R : Rules S) (w : World S) (good : IsGood R w) (id : Repl
 
   text_after : (number : ℕ) (text : List ℕ) → HasText w number text → HasText w' number text
   text_after number text (y, y_at, has) = elim (cases_eq number id.0) [
-      | inl same ↦
+    | inl same ↦
         let is : y ≡ x = same_Some y x (sym y_at ∙ ap (λ (q : ℕ). replica_at w q) same ∙ at) in
         let own : Contains (map (λ (remark : Remark). remark.text) x.said) text = subst (λ (z : Replica S). Contains (map (λ (remark : Remark). remark.text) z.said) text) is has in
-        let new : List Remark = map (remark_after x.past) (said_from (parties.Replica o.state.me) 0 o.deeds.acts) in
-        (x', ap (λ (q : ℕ). replica_at w' q) same ∙ own_seat,
-         subst (λ (l : List (List ℕ)). Contains l text) (sym (map_append (λ (remark : Remark). remark.text) x.said new))
-         (Contains-append_left (map (λ (remark : Remark). remark.text) x.said) (map (λ (remark : Remark). remark.text) new) text own))
-      | inr other ↦ (y, other_seat number other ∙ y_at, has)
-    ]
+        let new : List Remark = map (remark_after x.past) (said_from (parties.Replica o.state.me) 0 o.deeds.acts) in (
+          x',
+          ap (λ (q : ℕ). replica_at w' q) same ∙ own_seat,
+          subst (λ (l : List (List ℕ)). Contains l text) (sym (map_append (λ (remark : Remark). remark.text) x.said new))
+              (Contains-append_left (map (λ (remark : Remark). remark.text) x.said) (map (λ (remark : Remark). remark.text) new) text own),
+        )
+    | inr other ↦ (y, other_seat number other ∙ y_at, has)
+  ]
 
   nobody_after : (number : ℕ) → replica_at w number ≡ None → replica_at w' number ≡ None
   nobody_after number none = elim (cases_eq number id.0) [
-      | inl same ↦ let both : Some x ≡ None = sym at ∙ ap (λ (q : ℕ). replica_at w q) (sym same) ∙ none in absurd cc
-      | inr other ↦ other_seat number other ∙ none
-    ]
+    | inl same ↦ let both : Some x ≡ None = sym at ∙ ap (λ (q : ℕ). replica_at w q) (sym same) ∙ none in absurd cc
+    | inr other ↦ other_seat number other ∙ none
+  ]
 
   backed_after : (number : ℕ) (r : Response) → IsBackedBy w number r → IsBackedBy w' number r
   backed_after number r b =

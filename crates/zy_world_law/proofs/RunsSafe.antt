@@ -8,11 +8,11 @@ use Rattle.zy_base.specs.declared.ids.Party.{Party}
 use Rattle.zy_schedule.specs.declared.line.Line.{Line}
 use Rattle.zy_schedule.specs.declared.line.Line.TheVariants as lines
 use Rattle.zy_tuple.specs.Bytes.{op_bytes, reply_bytes}
-use Rattle.zy_world_law.specs.Events.{Broken, Happened, happens}
+use Rattle.zy_world_law.specs.Events.{Happened, happens}
 use Rattle.zy_world_law.specs.Events.Happened.{Goes, Breaks}
 use Rattle.zy_world_law.specs.Good.{IsGood}
-use Rattle.zy_world_law.specs.Runs.{Run, Rest, ends, comes_to, goes_on, flow_on, flow, run_line, run}
-use Rattle.zy_world_law.specs.Safe.{IsSafe, Grows, AllGrow}
+use Rattle.zy_world_law.specs.Runs.{Rest, comes_to, goes_on, flow_on, flow, run_line, run}
+use Rattle.zy_world_law.specs.Safe.{IsSafe, AllGrow}
 use Rattle.zy_world_law.specs.World.{World, Mail, is_party, same_party, next_undelivered, drop_frame, dropped_if, mail_at, with_mail_at, set_muted}
 use Rattle.zy_world_law.specs.declared.event.WorldEvent.{WorldEvent}
 use Rattle.zy_world_law.specs.declared.event.WorldEvent.TheVariants as events

@@ -1,45 +1,42 @@
 -- A good world is safe, and the agreed list only grows.
-use Rattle.std.proofs.Common.{◌≡◌, ◌⊎◌, inl, inr, ℕ, zero, suc, ◌+◌, ◌-◌, ◌<◌, ◌≤◌, true, false, List, [], ◌∷◌, ◌++◌, length, map, take, drop, Option, Some, None, refl, sym, ap, ◌∙◌, subst, arith}
-use Rattle.std.specs.Prelude.{slice_get, option_map, unwrap_or, is_none, Contains, All, fold}
+use Rattle.std.proofs.Common.{◌≡◌, inl, inr, ℕ, zero, suc, ◌+◌, ◌-◌, ◌≤◌, true, false, List, [], ◌∷◌, ◌++◌, length, map, take, drop, Option, Some, None, refl, sym, ap, ◌∙◌, subst, arith}
+use Rattle.std.specs.Prelude.{slice_get, option_map, unwrap_or, is_none, Contains, All}
 use Rattle.std.specs.List.{AllByRecursion}
 use Rattle.std.proofs.lemmas.Bool.{cases_lt}
-use Rattle.std.proofs.lemmas.List.{length-append, take-append-drop, length-take-le}
+use Rattle.std.proofs.lemmas.List.{take-append-drop, length-take-le}
 use Rattle.std.proofs.lemmas.Option.{slice_get-map}
 use Rattle.sha2.specs.Sha256.{sha256}
 use Rattle.zy_base.specs.Machine.{Rules}
 use Rattle.zy_base.specs.declared.ids.ClientId.{ClientId}
 use Rattle.zy_base.specs.declared.ids.Digest.{Digest}
 use Rattle.zy_base.specs.declared.ids.Stamp.{Stamp}
-use Rattle.zy_chain.specs.Entries.{digest_of_entry}
 use Rattle.zy_chain.specs.Heads.{empty_head}
-use Rattle.zy_chain.specs.Stretch.{Mark}
 use Rattle.zy_chain.specs.declared.entry.Entry.{Entry}
 use Rattle.zy_exec.proofs.HistoryLemmas.{stands_leads}
 use Rattle.zy_exec.specs.Replay.{origin, along, answer_at}
 use Rattle.zy_law.proofs.CompletedLemmas.{completed_fixed, agreed_list, agreed_asked, agreed_grows, completed_result}
-use Rattle.zy_law.proofs.EntriesAskedFor.{entry_within}
 use Rattle.zy_law.proofs.GrownLemmas.{AreKept-more}
 use Rattle.zy_law.proofs.HistoryLemmas.{AreKept-take}
 use Rattle.zy_law.proofs.ListLemmas.{one_list, list_passed}
 use Rattle.zy_law.proofs.OneView.{fixed_known}
 use Rattle.zy_law.specs.Completed.{Completion, IsCompleted, IsAgreedList, IsResultOf}
-use Rattle.zy_law.specs.Histories.{AreKept, IsEntryAt, IsFront, Passes}
-use Rattle.zy_law.specs.Lawful.{AreAskedFor, IsTrueAnswer}
+use Rattle.zy_law.specs.Histories.{IsEntryAt}
+use Rattle.zy_law.specs.Lawful.{AreAskedFor}
 use Rattle.zy_law.specs.Lists.{IsListOf, IsKnown}
-use Rattle.zy_law.specs.Said.{At, IsCorrect, Moment, Stood}
+use Rattle.zy_law.specs.Said.{Moment}
 use Rattle.zy_law.specs.World as law
 use Rattle.zy_law.specs.World.{Stand}
 use Rattle.zy_lawful.proofs.Records.{answer_longer}
-use Rattle.zy_lawful.specs.Tied.{next_head, last_reply}
+use Rattle.zy_lawful.specs.Tied.{next_head}
 use Rattle.zy_world_law.specs.Events.{history_of}
 use Rattle.zy_world_law.specs.Good.{IsGood, IsDone, IsKept, AreRepliesKept}
 use Rattle.zy_world_law.specs.Safe.{IsSafe, IsResult, IsAgreed, IsReplay, Grows, completion_of, completions_of, mark_of}
 use Rattle.zy_world_law.specs.Seen.{seen, past_of, asked_by}
-use Rattle.zy_world_law.specs.Texts.{digest_of, is_link}
-use Rattle.zy_world_law.specs.World.{World, Replica, Client, Completed, Texts, replica_at, client_at}
+use Rattle.zy_world_law.specs.Texts.{is_link}
+use Rattle.zy_world_law.specs.World.{World, Replica, Client, Completed, replica_at, client_at}
 use Rattle.zy_world_law.proofs.Agreeing.{all_from}
 use Rattle.zy_world_law.proofs.Goings.{IsAfter}
-use Rattle.zy_world_law.proofs.KeptTexts.{Stay, stay_kept}
+use Rattle.zy_world_law.proofs.KeptTexts.{stay_kept}
 use Rattle.zy_world_law.proofs.OneText.{one_kept_text, link_of, link_is}
 use Rattle.zy_world_law.proofs.ToldSteps.{at_of, map_append}
 
@@ -52,9 +49,10 @@ replied : {S : Type 0} (R : Rules S) (list : List Entry) (place : ℕ) (e : Entr
 replied R list zero e at = absurd (omega (arith, at.first))
 replied {S} R list (suc before) e at =
     let here : before ≡ suc before - 1 = omega arith in
-    let there : slice_get list before ≡ Some e = ap (λ (n : ℕ). slice_get list n) here ∙ at.there in
-    (R.reply (along R (origin R) (take before list)).state e.client e.op,
-     ap (λ (o : Option Entry). option_map (λ (d : Entry). R.reply (along R (origin R) (take before list)).state d.client d.op) o) there)
+    let there : slice_get list before ≡ Some e = ap (λ (n : ℕ). slice_get list n) here ∙ at.there in (
+      R.reply (along R (origin R) (take before list)).state e.client e.op,
+      ap (λ (o : Option Entry). option_map (λ (d : Entry). R.reply (along R (origin R) (take before list)).state d.client d.op) o) there,
+    )
 
 answer_front : {S : Type 0} (R : Rules S) (list : List Entry) (place : ℕ) → place ≤ length list → answer_at R (take place list) place ≡ answer_at R list place
 answer_front R list place within =
@@ -84,18 +82,18 @@ module _ {S : Type 0} (R : Rules S) (w : World S) (good : IsGood R w) where
 
     asked_of : (place : ℕ) (e : Entry) (x : Client) → IsEntryAt list place e → client_at w e.client.0 ≡ Some x → Contains (asked_by w e.client.0) e
     asked_of place e x at seat = elim (asked place e at.first at).asked [
-        | inl lies ↦ let tells : false ≡ true = ap (λ (o : Option Client). is_none o) (sym seat) ∙ lies in absurd cc
-        | inr did ↦ did
-      ]
+      | inl lies ↦ let tells : false ≡ true = ap (λ (o : Option Client). is_none o) (sym seat) ∙ lies in absurd cc
+      | inr did ↦ did
+    ]
 
     once : (place other : ℕ) (d e : Entry) → IsEntryAt list place d → IsEntryAt list other e → d.client ≡ e.client → d.stamp ≡ e.stamp → place ≡ other
     once place other d e first second clients stamps = elim (cases_lt place other) [
-        | inl before ↦ absurd (omega (arith, (asked other e second.first second).newer place d before first clients, ap (λ (t : Stamp). t.0) stamps))
-        | inr least ↦ elim (cases_lt other place) [
-          | inl behind ↦ absurd (omega (arith, (asked place d first.first first).newer other e behind second (sym clients), ap (λ (t : Stamp). t.0) stamps))
-          | inr most ↦ omega arith
-        ]
+      | inl before ↦ absurd (omega (arith, (asked other e second.first second).newer place d before first clients, ap (λ (t : Stamp). t.0) stamps))
+      | inr least ↦ elim (cases_lt other place) [
+        | inl behind ↦ absurd (omega (arith, (asked place d first.first first).newer other e behind second (sym clients), ap (λ (t : Stamp). t.0) stamps))
+        | inr most ↦ omega arith
       ]
+    ]
 
     result : (c : Completed) → IsDone R w c → IsResultOf v list (completion_of c) → IsResult R w list c
     result c done is =

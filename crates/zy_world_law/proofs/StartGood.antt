@@ -1,10 +1,10 @@
 -- The start is good.
-use Rattle.std.proofs.Common.{◌≡◌, ◌≢◌, ◌⊎◌, inl, inr, ℕ, zero, suc, ◌+◌, ◌<◌, ◌≤◌, Bool, true, false, cond, ◌||◌, eqb, List, [], ◌∷◌, length, map, get_or, Option, Some, None, refl, sym, ap, ◌∙◌, subst, arith}
+use Rattle.std.proofs.Common.{◌≡◌, inl, inr, ℕ, zero, suc, ◌+◌, ◌<◌, ◌≤◌, Bool, true, false, cond, ◌||◌, List, [], ◌∷◌, length, map, Option, Some, None, refl, sym, ap, ◌∙◌, subst, arith}
 use Rattle.std.specs.Prelude.{slice_get, option_map, is_none, if◌then◌else◌, nat_eq}
 use Rattle.std.specs.List.{list_any, range_with_len}
-use Rattle.std.proofs.lemmas.Bool.{cases_lt, cases_eq, eqb-true}
+use Rattle.std.proofs.lemmas.Bool.{cases_lt, eqb-true}
 use Rattle.std.proofs.lemmas.List.FromFn.{length-range_with_len, get_or-range_with_len, length-map-range_with_len}
-use Rattle.std.proofs.lemmas.Option.{same_Some, slice_get-map, slice_get-get_or, slice_get_past, slice_get_within}
+use Rattle.std.proofs.lemmas.Option.{same_Some, slice_get-map, slice_get-get_or, slice_get_past}
 use Rattle.zy_base.specs.Machine.{Rules}
 use Rattle.zy_base.specs.declared.ids.Party.TheVariants as parties
 use Rattle.zy_law.proofs.StepsLawful.{start_lawful}
@@ -14,7 +14,6 @@ use Rattle.zy_law.specs.Steps.{IsStart}
 use Rattle.zy_law.specs.World as law
 use Rattle.zy_law.specs.World.{Stand}
 use Rattle.zy_lawful.proofs.TieLemmas.{tied_at_start}
-use Rattle.zy_table.specs.declared.client.Response.{Response}
 use Rattle.zy_world_law.specs.Good.{IsGood, IsTied, IsClientTied}
 use Rattle.zy_world_law.specs.Seen.{seen, said_of, past_of}
 use Rattle.zy_world_law.specs.Setup.{Setup, IsSetup, keys_of, sealer_of}
@@ -50,11 +49,11 @@ module _ {A : Type 0} (n : ℕ) (lying : List ℕ) (starts : ℕ → A) where
   -- whoever sits there started so
   seated : (q : ℕ) (x : A) → correct_in (slice_get (seats n lying starts) q) ≡ Some x → (q < n) × (x ≡ starts q)
   seated q x at = elim (cases_lt q n) [
-      | inl within ↦ (within, in_seat q x (list_any (nat_eq q) lying) (ap (λ (o : Option (Option A)). correct_in o) (sym (seat_at q within)) ∙ at))
-      | inr past ↦
+    | inl within ↦ (within, in_seat q x (list_any (nat_eq q) lying) (ap (λ (o : Option (Option A)). correct_in o) (sym (seat_at q within)) ∙ at))
+    | inr past ↦
         let nobody : correct_in (slice_get (seats n lying starts) q) ≡ None = ap (λ (o : Option (Option A)). correct_in o) (slice_get_past (seats n lying starts) q (omega (arith, length-seats))) in
         absurd (let both : None ≡ Some x = sym nobody ∙ at in cc)
-    ]
+  ]
 
   lies_in : (b : Bool) (x : A) → is_none (if b then None else Some x) ≡ b
   lies_in true x = refl
@@ -120,8 +119,12 @@ module _ {S : Type 0} (R : Rules S) (held : HeldLaw) (setup : Setup) (is : IsSet
 
   few : count_below setup.counts.n v.liar ≤ setup.counts.f
   few =
-      omega (arith, count_same setup.counts.n v.liar (λ i. list_any (nat_eq i) setup.liars) (λ q within. lies_at setup.counts.n setup.liars (starting_replica R setup) q within),
-      count_listed setup.counts.n setup.liars, is.few)
+      omega (
+        arith,
+        count_same setup.counts.n v.liar (λ i. list_any (nat_eq i) setup.liars) (λ q within. lies_at setup.counts.n setup.liars (starting_replica R setup) q within),
+        count_listed setup.counts.n setup.liars,
+        is.few,
+      )
 
   said_nothing : (o : Option (Replica S)) → ((x : Replica S) → o ≡ Some x → x.said ≡ []) → said_of o ≡ []
   said_nothing None each = refl

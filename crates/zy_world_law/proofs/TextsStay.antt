@@ -6,7 +6,6 @@ use Rattle.zy_base.specs.declared.ids.Digest.{Digest}
 use Rattle.zy_chain.specs.declared.entry.Entry.{Entry}
 use Rattle.zy_law.proofs.GrownLemmas.{completed_grown}
 use Rattle.zy_law.proofs.StepsLawful.{more_lawful}
-use Rattle.zy_law.specs.Lawful.{IsLawful}
 use Rattle.zy_law.specs.World as law
 use Rattle.zy_law.specs.World.{Stand}
 use Rattle.zy_lawful.proofs.TieLemmas.{tied_grown}
@@ -53,13 +52,15 @@ module _ {S : Type 0} (R : Rules S) (w : World S) (texts : Texts) (stay : Stay w
 
   all_done : (done : List Completed) → AllByRecursion (IsDone R w) done → AllByRecursion (IsDone R w') done
   all_done [] all = tt
-  all_done (c ∷ done) all =
-      (record {
-        client = all.0.client;
-        correct = all.0.correct;
-        completed = completed_grown v v.asked v.said v.past (is_link texts) (λ q e has. has) (λ q i y has. has) (λ q i y has. has) (completion_of c) all.0.completed;
-        reply = stay_kept w.texts texts stay c.done.reply all.0.reply;
-      }, all_done done all.1)
+  all_done (c ∷ done) all = (
+    record {
+      client = all.0.client;
+      correct = all.0.correct;
+      completed = completed_grown v v.asked v.said v.past (is_link texts) (λ q e has. has) (λ q i y has. has) (λ q i y has. has) (completion_of c) all.0.completed;
+      reply = stay_kept w.texts texts stay c.done.reply all.0.reply;
+    },
+    all_done done all.1,
+  )
 
   pub texts_good : IsGood R w → IsGood R w'
   texts_good good =

@@ -1,5 +1,5 @@
 -- What the law sees of a step: what was said is read back out of the texts, and the replies along the new stands are kept.
-use Rattle.std.proofs.Common.{◌≡◌, ◌≢◌, ℕ, zero, suc, ◌+◌, ◌-◌, ◌≤◌, inl, inr, Bool, true, false, cond, eqb, List, [], ◌∷◌, ◌++◌, length, map, take, Option, Some, None, refl, sym, ap, ◌∙◌, subst, arith, eq-eqb, ne_eqb, eqb-true}
+use Rattle.std.proofs.Common.{◌≡◌, ◌≢◌, ℕ, zero, suc, ◌+◌, ◌-◌, inl, inr, Bool, true, false, cond, eqb, List, [], ◌∷◌, ◌++◌, length, map, take, Option, Some, None, refl, sym, ap, ◌∙◌, subst, arith, eq-eqb, ne_eqb}
 use Rattle.std.specs.Prelude.{slice_get, option_map, unwrap_or}
 use Rattle.std.specs.List.{AllByRecursion}
 use Rattle.std.proofs.lemmas.List.{length-append}
@@ -7,22 +7,19 @@ use Rattle.std.proofs.lemmas.Bool.{cases_lt, cases_eq}
 use Rattle.std.proofs.lemmas.Option.{same_Some, slice_get_past}
 use Rattle.zy_base.specs.Machine.{Rules}
 use Rattle.zy_base.specs.declared.ids.Party.{Party}
-use Rattle.zy_base.specs.declared.step.Spoken.{Spoken as StepSpoken}
-use Rattle.zy_chain.specs.Entries.{bytes_of_entry, digest_of_entry}
 use Rattle.zy_chain.specs.declared.entry.Entry.{Entry}
 use Rattle.zy_exec.specs.Replay.{origin, along, answer_at}
-use Rattle.zy_law.proofs.EntriesAskedFor.{entry_within}
 use Rattle.zy_law.specs.World.{Spoken, Stand, Statement}
 use Rattle.zy_lawful.proofs.Records.{answer_longer, answer_pushed}
-use Rattle.zy_lawful.specs.Acts.{spoken_in, stands_in, stand_with, statement_of, spoken_at, with_more}
-use Rattle.zy_table.specs.Deeds.{said_from, gains_in, text_by}
+use Rattle.zy_lawful.specs.Acts.{spoken_in, stands_in, spoken_at, with_more}
+use Rattle.zy_table.specs.Deeds.{said_from, gains_in}
 use Rattle.zy_table.specs.declared.deeds.Act.{Act}
 use Rattle.zy_table.specs.declared.deeds.Act.TheVariants.{Says, Gains}
 use Rattle.zy_table.specs.declared.deeds.Got.{Got}
 use Rattle.zy_world_law.specs.Events.{remark_after, history_of}
 use Rattle.zy_world_law.specs.Good.{IsKept, AreRepliesKept}
 use Rattle.zy_world_law.specs.Seen.{spoken_by}
-use Rattle.zy_world_law.specs.World.{Remark, Texts}
+use Rattle.zy_world_law.specs.World.{Texts}
 use Rattle.zy_world_law.proofs.GainedReplies.{AreAnswers}
 use Rattle.zy_world_law.proofs.ReadBack.{FitAll, body_back}
 
@@ -67,19 +64,19 @@ spoken_told me past pairs (Gains got ∷ acts) fit =
 reply_pushed : {S : Type 0} (R : Rules S) (texts : Texts) (h : List Entry) (e : Entry) → AreRepliesKept R texts h → IsKept texts (R.reply (along R (origin R) h).state e.client e.op) → AreRepliesKept R texts (h ++ e ∷ [])
 reply_pushed R texts h e all one zero reply is = absurd cc
 reply_pushed {S} R texts h e all one (suc before) reply is = elim (cases_lt before (length h)) [
-    | inl less ↦ all (suc before) reply (sym (answer_longer R h (e ∷ []) (suc before) (omega arith)) ∙ is)
-    | inr least ↦ elim (cases_eq before (length h)) [
-      | inl same ↦
+  | inl less ↦ all (suc before) reply (sym (answer_longer R h (e ∷ []) (suc before) (omega arith)) ∙ is)
+  | inr least ↦ elim (cases_eq before (length h)) [
+    | inl same ↦
         let answer : answer_at R (h ++ e ∷ []) (suc before) ≡ Some (R.reply (along R (origin R) h).state e.client e.op) =
         ap (λ (n : ℕ). answer_at R (h ++ e ∷ []) (suc n)) same ∙ answer_pushed R h e in
         subst (λ (l : List ℕ). IsKept texts l) (same_Some _ _ (sym answer ∙ is)) one
-      | inr other ↦
+    | inr other ↦
         let past : slice_get (h ++ e ∷ []) before ≡ None = slice_get_past (h ++ e ∷ []) before (omega (arith, length-append h (e ∷ []))) in
         let nothing : answer_at R (h ++ e ∷ []) (suc before) ≡ None =
         ap (λ (o : Option Entry). option_map (λ (d : Entry). R.reply (along R (origin R) (take before (h ++ e ∷ []))).state d.client d.op) o) past in
         absurd cc
-    ]
   ]
+]
 
 pub replies_kept : {S : Type 0} (R : Rules S) (texts : Texts) (view : ℕ) (h : List Entry) (acts : List Act) → AreRepliesKept R texts h → AreAnswers R h acts
     → AllByRecursion (λ (got : Got). IsKept texts got.reply) (gains_in acts) → AllByRecursion (λ (b : Stand). AreRepliesKept R texts b.history) (stands_in view h acts)

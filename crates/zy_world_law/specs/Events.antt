@@ -1,8 +1,7 @@
 -- What an event makes of a world.
-use Rattle.std.specs.Prelude.{ℕ, ◌+◌, ◌-◌, ◌^◌, nat_lt, ◌&&◌, if◌then◌else◌, List, [], ◌∷◌, ◌++◌, length, map, slice_get, slice_set, Option, Some, None, option_map, unwrap_or, option_to_list, Result, Ok, Err}
+use Rattle.std.specs.Prelude.{ℕ, ◌+◌, ◌-◌, ◌^◌, nat_lt, ◌&&◌, if◌then◌else◌, List, [], ◌++◌, length, map, slice_get, slice_set, Option, Some, None, option_map, unwrap_or, option_to_list, Result, Ok, Err}
 use Rattle.std.specs.Option.{option_and_then}
 use Rattle.zy_base.specs.Machine.{Rules}
-use Rattle.zy_base.specs.declared.cause.Cause.{Cause}
 use Rattle.zy_base.specs.declared.cause.Cause.TheVariants as causes
 use Rattle.zy_base.specs.declared.ids.ClientId.{ClientId}
 use Rattle.zy_base.specs.declared.ids.Digest.{Digest}
@@ -31,7 +30,7 @@ use Rattle.zy_world_law.specs.Honest.{forger_in}
 use Rattle.zy_world_law.specs.Liars.{Telling, requests_at, order_told, spec_told, by_replica, statement_told}
 use Rattle.zy_world_law.specs.Setup.{sealer_of}
 use Rattle.zy_world_law.specs.Texts.{texts_in, step_texts, keep_all}
-use Rattle.zy_world_law.specs.World.{World, Replica, Client, Remark, Mail, Completed, Texts, same_party, is_party, is_correct, is_liar, are_parties, mail_at, with_sent, delivered}
+use Rattle.zy_world_law.specs.World.{World, Replica, Client, Remark, Mail, Texts, same_party, is_correct, is_liar, are_parties, mail_at, with_sent, delivered}
 use Rattle.zy_world_law.specs.declared.event.WorldEvent.{WorldEvent}
 use Rattle.zy_world_law.specs.declared.event.WorldEvent.TheVariants as events
 use Rattle.zy_world_law.specs.declared.note.Note.{Note}

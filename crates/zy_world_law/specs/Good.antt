@@ -1,5 +1,5 @@
 -- Good worlds: what honest events keep, and from which safety follows.
-use Rattle.std.specs.Prelude.{◌≡◌, ◌⊎◌, ℕ, ◌<◌, ◌≤◌, ◌^◌, List, length, Option, Some, None, Contains, map}
+use Rattle.std.specs.Prelude.{◌≡◌, ◌⊎◌, ℕ, ◌<◌, ◌≤◌, ◌^◌, List, length, Some, None, Contains, map}
 use Rattle.std.specs.List.{AllByRecursion}
 use Rattle.zy_base.specs.Machine.{Rules}
 use Rattle.zy_base.specs.declared.ids.Party.TheVariants.{Replica}
@@ -9,20 +9,18 @@ use Rattle.zy_exec.specs.Kept.{last_place}
 use Rattle.zy_exec.specs.Replay.{answer_at}
 use Rattle.zy_law.specs.Completed.{IsCompleted}
 use Rattle.zy_law.specs.Lawful.{IsLawful}
-use Rattle.zy_law.specs.World.{Stand}
 use Rattle.zy_lawful.specs.Tied as lawful
 use Rattle.zy_lms.specs.Height.{levels_of}
 use Rattle.zy_parts.specs.Numbers as numbers
 use Rattle.zy_parts.specs.Signing.{text_of}
 use Rattle.zy_parts.specs.Statements.{spec_fields}
-use Rattle.zy_parts.specs.declared.statements.Spec.{Spec}
 use Rattle.zy_table.specs.ClientRows.{kept_of}
 use Rattle.zy_table.specs.State.{State, own_view}
 use Rattle.zy_table.specs.declared.client.Response.{Response}
 use Rattle.zy_world_law.specs.Events.{history_of}
 use Rattle.zy_world_law.specs.Safe.{completion_of}
 use Rattle.zy_world_law.specs.Seen.{seen}
-use Rattle.zy_world_law.specs.Setup.{Setup, IsSetup, keys_of}
+use Rattle.zy_world_law.specs.Setup.{IsSetup, keys_of}
 use Rattle.zy_world_law.specs.Texts.{digest_of}
 use Rattle.zy_world_law.specs.World.{World, Client, Completed, Texts, replica_at, client_at, texts_said}
 use Rattle.zy_world_law.specs.World as world

@@ -21,7 +21,7 @@ use Rattle.zy_parts.specs.declared.statements.Spec.{Spec}
 use Rattle.zy_seal.specs.Sealing.{SealerState, sealed_by}
 use Rattle.zy_table.specs.Roles.{is_client}
 use Rattle.zy_wire.specs.Spelling.{Spelling, whole}
-use Rattle.zy_world_law.specs.World.{World, Mail, mail_at}
+use Rattle.zy_world_law.specs.World.{World, mail_at}
 
 -- a frame as whoever signs it makes it
 abbrev pub Telling : Type 0

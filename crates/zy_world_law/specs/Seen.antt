@@ -1,7 +1,6 @@
 -- What the law of safety sees of a world.
-use Rattle.std.specs.Prelude.{ℕ, ◌==◌, Bool, true, false, if◌then◌else◌, List, [], map, drop, slice_index, Option, Some, None, Result, Ok, Err, is_none}
+use Rattle.std.specs.Prelude.{ℕ, ◌==◌, if◌then◌else◌, List, [], map, drop, slice_index, Option, Some, None, Result, Ok, Err, is_none}
 use Rattle.std.specs.List.{filter_map}
-use Rattle.std.specs.Option.{option_map_or}
 use Rattle.sha2.specs.Sha256.{sha256}
 use Rattle.zy_base.specs.Machine.{Rules}
 use Rattle.zy_base.specs.declared.frame_fault.FrameFault.{FrameFault}

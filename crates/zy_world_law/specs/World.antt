@@ -1,5 +1,5 @@
 -- The world: the parties, the frames that were sent, what completed, and the texts that are kept.
-use Rattle.std.specs.Prelude.{ℕ, ◌+◌, ◌-◌, zero, suc, nat_eq, nat_lt, ◌&&◌, Bool, true, false, not, if◌then◌else◌, List, [], ◌∷◌, ◌++◌, length, map, position, replicate, slice_get, slice_set, Option, Some, None, option_map, unwrap_or}
+use Rattle.std.specs.Prelude.{ℕ, ◌+◌, ◌-◌, zero, suc, nat_eq, nat_lt, ◌&&◌, Bool, true, false, not, if◌then◌else◌, List, [], ◌∷◌, ◌++◌, length, map, position, slice_get, slice_set, Option, Some, None, option_map}
 use Rattle.std.specs.List.{range_with_len, list_any, list_all}
 use Rattle.zy_base.specs.Machine.{Rules}
 use Rattle.zy_base.specs.declared.ids.ClientId.{ClientId}
@@ -7,7 +7,6 @@ use Rattle.zy_base.specs.declared.ids.Digest.{Digest}
 use Rattle.zy_base.specs.declared.ids.Party.{Party}
 use Rattle.zy_base.specs.declared.ids.Party.TheVariants as parties
 use Rattle.zy_chain.specs.Heads.{empty_head}
-use Rattle.zy_chain.specs.declared.entry.Entry.{Entry}
 use Rattle.zy_admit.specs.Judging.{same_digest}
 use Rattle.zy_law.specs.World.{Stand}
 use Rattle.zy_table.specs.ClientState.{ClientState, client_start}
