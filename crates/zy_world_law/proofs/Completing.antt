@@ -30,7 +30,7 @@ use Rattle.zy_table.specs.declared.deeds.Body.TheVariants as bodies
 use Rattle.zy_world_law.specs.Events.{completed_by}
 use Rattle.zy_world_law.specs.Good.{IsGood, IsClientTied, IsBackedBy}
 use Rattle.zy_world_law.specs.Safe.{completion_of}
-use Rattle.zy_world_law.specs.Seen.{seen, said_of, spoken_by}
+use Rattle.zy_world_law.specs.Seen.{seen, said_of, spoken_by, statement_in}
 use Rattle.zy_world_law.specs.World.{World, Replica, Client, Completed, Remark, replica_at, client_at}
 use Rattle.zy_world_law.proofs.Agreeing.{Picked, picked, rising_differ, all_from}
 use Rattle.zy_world_law.proofs.HeldLaw.{HeldLaw}
@@ -78,7 +78,7 @@ module _ {S : Type 0} (R : Rules S) (w : World S) where
       let (k, remark, there, is) = remark_with y.said text has in
       let spoken : slice_get (said_of (replica_at w id)) k ≡ Some (spoken_by remark) =
       ap (λ (o : Option (Replica S)). slice_get (said_of o) k) at ∙ slice_get-map spoken_by y.said k ∙ ap (λ (o : Option Remark). option_map spoken_by o) there in
-      (k, spoken_by remark, spoken, ap Rattle.zy_world_law.specs.Seen.statement_in is ∙ spec_back (parties.Replica (record { 0 = id })) spec fits)
+      (k, spoken_by remark, spoken, ap statement_in is ∙ spec_back (parties.Replica (record { 0 = id })) spec fits)
 
   vouched : (id : ℕ) (r : Response) → IsBackedBy w id r → r.spec.stmt.client.0 < 64 → IsVouched (seen R w) (statement_of (bodies.Spec r.spec.stmt)) id
   vouched id r b client =

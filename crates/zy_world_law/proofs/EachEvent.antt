@@ -1,6 +1,7 @@
 -- Each honest event keeps a good world good.
+use Rattle.zy_table.specs.Step.{step}
 use Rattle.std.proofs.Common.{append-nil, ◌≡◌, ◌⊎◌, inl, inr, ℕ, ◌<◌, Bool, true, false, ◌&&◌, List, [], ◌∷◌, length, map, Option, Some, None, Result, refl, sym, ap, ◌∙◌, subst, arith}
-use Rattle.std.specs.Prelude.{if◌then◌else◌, slice_get, option_map, unwrap_or, nat_lt}
+use Rattle.std.specs.Prelude.{if◌then◌else◌, slice_get, option_map, unwrap_or, nat_lt, Contains}
 use Rattle.std.specs.List.{AllByRecursion}
 use Rattle.std.specs.Option.{option_and_then}
 use Rattle.std.proofs.lemmas.List.FromFn.{length-map-range_with_len}
@@ -81,13 +82,13 @@ module _ {S : Type 0} (R : Rules S) (law : HeldLaw) where
         omega arith
 
     said_or_lies : (number : ℕ) (text : List ℕ) (o : Option (Replica S)) → replica_at w number ≡ o → IsSaid (option_map (λ (x : Replica S). map (λ remark. remark.text) x.said) o) text
-        → (replica_at w number ≡ None) ⊎ ((x : Replica S) × (replica_at w number ≡ Some x) × Rattle.std.specs.Prelude.Contains (map (λ remark. remark.text) x.said) text)
+        → (replica_at w number ≡ None) ⊎ ((x : Replica S) × (replica_at w number ≡ Some x) × Contains (map (λ remark. remark.text) x.said) text)
     said_or_lies number text None at said = inl at
     said_or_lies number text (Some x) at said = elim said.said [
       | inl none ↦ absurd cc
       | inr there ↦
           let (texts, is, has) = there in
-          inr (x, at, subst (λ (l : List (List ℕ)). Rattle.std.specs.Prelude.Contains l text) (sym (same_Some (map (λ remark. remark.text) x.said) texts is)) has)
+          inr (x, at, subst (λ (l : List (List ℕ)). Contains l text) (sym (same_Some (map (λ remark. remark.text) x.said) texts is)) has)
     ]
 
     heard_backed : (s : ClientState) → s.keys ≡ keys_of w.setup → (bytes : List ℕ) → forger_in w bytes ≡ None → AllByRecursion (IsKept w.texts) (texts_in bytes)
@@ -145,7 +146,7 @@ module _ {S : Type 0} (R : Rules S) (law : HeldLaw) where
     client_hears u fine id x seat bytes (Some party) forged = breaks u (Broken.Forged party)
 
     heard_by_replica : (u : World S) → IsGood R u → (id : ReplicaId) (x : Replica S) → replica_at u id.0 ≡ Some x → (bytes : List ℕ) (forger : Option Party) → forger_in u bytes ≡ forger
-        → GoesGood u (unless_forged forger (replica_goes u id x (texts_in bytes) (Rattle.zy_table.specs.Step.step R x.state (Heard bytes))))
+        → GoesGood u (unless_forged forger (replica_goes u id x (texts_in bytes) (step R x.state (Heard bytes))))
     heard_by_replica u fine id x seat bytes None none v note is =
         replica_goes_good R u fine id x (texts_in bytes) (Heard bytes) v note seat
         (λ more good1. event_runs R (record u { texts = more }) good1 x.state (fine.tied id.0 x seat).keys bytes none) is

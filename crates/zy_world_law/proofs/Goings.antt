@@ -1,4 +1,6 @@
 -- An event that goes on led to this world.
+use Rattle.zy_world_law.specs.Safe.{completion_of}
+use Rattle.zy_law.specs.Completed.{IsCompleted}
 use Rattle.std.specs.Prelude.{option_map, option_to_list}
 use Rattle.std.proofs.Common.{append-nil, [], ◌≡◌, ℕ, List, ◌++◌, Option, Some, Result, Ok, Err, refl, sym, ap, ◌∙◌, subst}
 use Rattle.zy_base.specs.Machine.{Rules}
@@ -108,7 +110,7 @@ module _ {S : Type 0} (R : Rules S) (w : World S) (good : IsGood R w) where
       record {
         client = client_stepped x o;
         correct = seat;
-        completed = subst (λ (e : Done). Rattle.zy_law.specs.Completed.IsCompleted (seen R w3) (Rattle.zy_world_law.specs.Safe.completion_of (record { client = id; done = e }))) one
+        completed = subst (λ (e : Done). IsCompleted (seen R w3) (completion_of (record { client = id; done = e }))) one
             (completed R w3 good3 id (client_stepped x o) seat c.waiting c.complete);
         reply = c.reply;
       } in

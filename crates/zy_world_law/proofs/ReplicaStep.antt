@@ -35,7 +35,7 @@ use Rattle.zy_world_law.specs.Events.{stepped, with_replica, remark_after, histo
 use Rattle.zy_world_law.specs.Good.{IsGood, IsTied, IsShort, IsClientTied, IsBackedBy, IsDone, IsKept, AreRepliesKept}
 use Rattle.zy_world_law.specs.Safe.{completion_of}
 use Rattle.zy_world_law.specs.Seen.{seen, said_of, past_of, spoken_by}
-use Rattle.zy_world_law.specs.Texts.{step_texts, got_texts, snapshot_texts}
+use Rattle.zy_world_law.specs.Texts.{step_texts, got_texts, snapshot_texts, is_link}
 use Rattle.zy_world_law.specs.World.{World, Replica, Client, Completed, Remark, Texts, replica_at, client_at, correct_in}
 use Rattle.zy_world_law.proofs.GainedReplies.{gained_replies}
 use Rattle.zy_world_law.proofs.KeptTexts.{kept_front, kept_behind}
@@ -57,7 +57,7 @@ tied_history R u r s h past tied is =
 
 -- ---- the texts of the entries that a step gained
 
-module _ (texts : Texts) (v : law.World) (kept_is : v.kept ≡ (λ head e. Rattle.zy_world_law.specs.Texts.is_link texts head e)) where
+module _ (texts : Texts) (v : law.World) (kept_is : v.kept ≡ (λ head e. is_link texts head e)) where
   one_of : (got : Got) (gots : List Got) → AllByRecursion (IsKept texts) (flat_map got_texts (got ∷ gots)) → AllByRecursion (IsKept texts) (got_texts got) × AllByRecursion (IsKept texts) (flat_map got_texts gots)
   one_of got gots all =
       let apart : AllByRecursion (IsKept texts) (got_texts got ++ flat_map got_texts gots) = subst (λ (l : List (List ℕ)). AllByRecursion (IsKept texts) l) (flat_map-cons got_texts got gots) all in

@@ -15,7 +15,7 @@ use Rattle.zy_law.specs.World as law
 use Rattle.zy_law.specs.World.{Stand}
 use Rattle.zy_lawful.proofs.TieLemmas.{tied_at_start}
 use Rattle.zy_world_law.specs.Good.{IsGood, IsTied, IsClientTied}
-use Rattle.zy_world_law.specs.Seen.{seen, said_of, past_of}
+use Rattle.zy_world_law.specs.Seen.{seen, said_of, past_of, spoken_by}
 use Rattle.zy_world_law.specs.Setup.{Setup, IsSetup, keys_of, sealer_of}
 use Rattle.zy_world_law.specs.World.{World, Replica, Client, first_texts, replica_at, client_at, correct_in, seats, start, starting_replica, starting_client}
 use Rattle.zy_world_law.proofs.HeldLaw.{HeldLaw}
@@ -128,7 +128,7 @@ module _ {S : Type 0} (R : Rules S) (held : HeldLaw) (setup : Setup) (is : IsSet
 
   said_nothing : (o : Option (Replica S)) → ((x : Replica S) → o ≡ Some x → x.said ≡ []) → said_of o ≡ []
   said_nothing None each = refl
-  said_nothing (Some x) each = ap (λ (l : List _). map Rattle.zy_world_law.specs.Seen.spoken_by l) (each x refl)
+  said_nothing (Some x) each = ap (λ (l : List _). map spoken_by l) (each x refl)
 
   stands_first : (o : Option (Replica S)) → is_none o ≡ false → ((x : Replica S) → o ≡ Some x → x.past ≡ record { view = 0; history = [] } ∷ []) → past_of o ≡ record { view = 0; history = [] } ∷ []
   stands_first None correct each = absurd cc
