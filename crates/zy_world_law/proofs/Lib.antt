@@ -24,3 +24,4 @@ pub mod EachEvent
 pub mod SafeFromGood
 pub mod RunsSafe
 pub mod StartGood
+pub mod SmallRun

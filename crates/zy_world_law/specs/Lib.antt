@@ -8,3 +8,4 @@ pub mod Runs
 pub mod Seen
 pub mod Safe
 pub mod Good
+pub mod Example

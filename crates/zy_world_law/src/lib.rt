@@ -3,11 +3,13 @@
 #![tactic(auto)]
 
 mod event;
+mod example;
 mod honest;
 mod note;
 mod runs;
 
 pub use event::WorldEvent;
+pub use example::a_small_run;
 pub use honest::honest_keeps;
 pub use note::Note;
 pub use runs::runs_are_safe;
