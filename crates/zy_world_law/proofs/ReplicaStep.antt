@@ -35,7 +35,7 @@ use Rattle.zy_world_law.specs.Events.{stepped, with_replica, remark_after, histo
 use Rattle.zy_world_law.specs.Good.{IsGood, IsTied, IsShort, IsClientTied, IsBackedBy, IsDone, IsKept, AreRepliesKept}
 use Rattle.zy_world_law.specs.Safe.{completion_of}
 use Rattle.zy_world_law.specs.Seen.{seen, said_of, past_of, spoken_by}
-use Rattle.zy_world_law.specs.Texts.{step_texts, got_texts, snapshot_texts, is_link}
+use Rattle.zy_world_law.specs.Texts.{step_texts, got_texts, is_link}
 use Rattle.zy_world_law.specs.World.{World, Replica, Client, Completed, Remark, Texts, replica_at, client_at, correct_in}
 use Rattle.zy_world_law.proofs.GainedReplies.{gained_replies}
 use Rattle.zy_world_law.proofs.KeptTexts.{kept_front, kept_behind}
