@@ -1,0 +1,37 @@
+-- What is sent, the marks of frames, muted parties and the leaves of liars are nothing to a good world.
+use Rattle.std.proofs.Common.{ℕ, Bool, List, [], ◌∷◌}
+use Rattle.std.specs.List.{AllByRecursion}
+use Rattle.zy_base.specs.Machine.{Rules}
+use Rattle.zy_base.specs.declared.ids.Party.{Party}
+use Rattle.zy_table.specs.declared.client.Response.{Response}
+use Rattle.zy_world_law.specs.Good.{IsGood, IsTied, IsClientTied, IsBackedBy, IsDone}
+use Rattle.zy_world_law.specs.World.{World, Replica, Client, Completed, Mail}
+
+module _ {S : Type 0} (R : Rules S) (w : World S) (leaves : Party → ℕ) (bag : List Mail) (muted : Party → Bool) where
+  abbrev w' : World S
+  w' = record w { leaves = leaves; bag = bag; muted = muted }
+
+  tied_same : (id : ℕ) (x : Replica S) → IsTied R w id x → IsTied R w' id x
+  tied_same id x t = record { tied = t.tied; keys = t.keys; short = t.short; replies = t.replies }
+
+  backed_same : (id : ℕ) (r : Response) → IsBackedBy w id r → IsBackedBy w' id r
+  backed_same id r b = record { within = b.within; said = b.said; reply = b.reply; spelled = b.spelled }
+
+  client_same : (id : ℕ) (x : Client) → IsClientTied w id x → IsClientTied w' id x
+  client_same id x t = record { me = t.me; counts = t.counts; keys = t.keys; holds = t.holds; backed = λ number r is. backed_same number r (t.backed number r is) }
+
+  all_done : (done : List Completed) → AllByRecursion (IsDone R w) done → AllByRecursion (IsDone R w') done
+  all_done [] all = tt
+  all_done (c ∷ done) all = (record { client = all.0.client; correct = all.0.correct; completed = all.0.completed; reply = all.0.reply }, all_done done all.1)
+
+  pub bag_good : IsGood R w → IsGood R w'
+  bag_good good =
+      record {
+        setup = good.setup;
+        replicas = good.replicas;
+        clients = good.clients;
+        lawful = good.lawful;
+        tied = λ id x at. tied_same id x (good.tied id x at);
+        client_tied = λ id x at. client_same id x (good.client_tied id x at);
+        done = all_done w.done good.done;
+      }

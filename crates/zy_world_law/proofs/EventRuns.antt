@@ -1,0 +1,125 @@
+-- The requests of a frame that isn't forged may run.
+use Rattle.std.proofs.Common.{◌≡◌, ◌⊎◌, inl, inr, ℕ, zero, suc, ◌<◌, true, List, [], ◌∷◌, length, Option, Some, None, refl, sym, ap, ◌∙◌, subst, arith}
+use Rattle.std.specs.Prelude.{option_map, is_none, Contains, slice_get}
+use Rattle.std.specs.List.{AllByRecursion, filter_map, cons_option}
+use Rattle.std.proofs.lemmas.Bool.{and_parts}
+use Rattle.std.proofs.lemmas.List.FromFn.{length-map-range_with_len}
+use Rattle.std.proofs.lemmas.Option.{same_Some, slice_get_within}
+use Rattle.zy_base.specs.Machine.{Rules}
+use Rattle.zy_base.specs.declared.ids.ClientId.{ClientId}
+use Rattle.zy_base.specs.declared.ids.Party.{Party}
+use Rattle.zy_base.specs.declared.ids.Party.TheVariants as parties
+use Rattle.zy_base.specs.declared.step.Event.TheVariants.{Heard}
+use Rattle.zy_admit.specs.Judging.{entry_of}
+use Rattle.zy_frames.specs.Frames.{parts_of}
+use Rattle.zy_frames.specs.declared.frame.Frame.{Frame}
+use Rattle.zy_frames.specs.declared.frame.Frame.TheVariants as frames
+use Rattle.zy_lawful.specs.Tied.{MayRun, MayFrameRun, MayEventRun}
+use Rattle.zy_parts.specs.Numbers as numbers
+use Rattle.zy_parts.specs.Signing.{part_of, text_of}
+use Rattle.zy_parts.specs.Statements.{ask_fields}
+use Rattle.zy_parts.specs.Statements as statements
+use Rattle.zy_parts.specs.declared.signed.Part.{Part}
+use Rattle.zy_parts.specs.declared.statements.Ask.{Ask}
+use Rattle.zy_seal.specs.Checking.{answer_under}
+use Rattle.zy_seal.specs.Keys.{Keys}
+use Rattle.zy_seal.specs.Screening.{answer_to}
+use Rattle.zy_seal.specs.declared.directory.SealAnswer.TheVariants as answers
+use Rattle.zy_table.specs.Roles.{in_role, is_client, is_primary_of}
+use Rattle.zy_table.specs.State.{State, is_primary}
+use Rattle.zy_parts.specs.Exact.{ask-in_range}
+use Rattle.zy_world_law.specs.Good.{IsGood}
+use Rattle.zy_world_law.specs.Honest.{forger_in}
+use Rattle.zy_world_law.specs.Seen.{seen, asked_by, asked_of, entry_in}
+use Rattle.zy_world_law.specs.Setup.{keys_of, public_key_of}
+use Rattle.zy_world_law.specs.World.{World, Client, client_at, texts_said}
+use Rattle.zy_world_law.proofs.DecodedInRange.{IsReadable, decoded_readable}
+use Rattle.zy_world_law.proofs.NotForged.{IsSaid, parts_said}
+use Rattle.zy_world_law.proofs.ReadBack.{entry_back}
+use Rattle.zy_world_law.proofs.Screened.{all_verify}
+
+-- ---- lists
+
+contains_behind : {B : Type 0} (o : Option B) (ys : List B) (y : B) → Contains ys y → Contains (cons_option o ys) y
+contains_behind None ys y has = has
+contains_behind (Some z) ys y (k, within, is) = (suc k, omega arith, is)
+
+contains_first : {B : Type 0} (o : Option B) (ys : List B) (y : B) → o ≡ Some y → Contains (cons_option o ys) y
+contains_first None ys y is = absurd cc
+contains_first (Some z) ys y is = (0, omega arith, same_Some z y is)
+
+pub contains_mapped : {A B : Type 0} (f : A → Option B) (xs : List A) (x : A) (y : B) → Contains xs x → f x ≡ Some y → Contains (filter_map f xs) y
+contains_mapped f [] x y (k, within, is) maps = absurd (omega arith)
+contains_mapped f (first ∷ xs) x y (zero, within, is) maps = contains_first (f first) (filter_map f xs) y (ap f is ∙ maps)
+contains_mapped f (first ∷ xs) x y (suc k, within, is) maps = contains_behind (f first) (filter_map f xs) y (contains_mapped f xs x y (k, omega arith, is) maps)
+
+-- ---- keys
+
+pub under_some : (o : Option (List ℕ)) (text sig : List ℕ) → answer_under o text sig ≡ answers.Yes → (key : List ℕ) × (o ≡ Some key)
+under_some None text sig is = absurd cc
+under_some (Some key) text sig is = (key, refl)
+
+module _ {S : Type 0} (R : Rules S) (w : World S) (good : IsGood R w) where
+  -- a signature verifies only under the key of one of the clients
+  client_within : (id : ClientId) (text sig : List ℕ) → answer_to (keys_of w.setup) (record { by = parties.Client id; text = text; sig = sig }) ≡ answers.Yes → id.0 < 64
+  unfolding keys_of
+  client_within id text sig signed =
+      let key = under_some (slice_get (keys_of w.setup).clients id.0) text sig signed in
+      let within : id.0 < length (keys_of w.setup).clients = slice_get_within (keys_of w.setup).clients id.0 key.0 key.1 in
+      let many : length (keys_of w.setup).clients ≡ w.setup.clients =
+      length-map-range_with_len (λ (n : ℕ). public_key_of w.setup (parties.Client (record { 0 = n }))) 0 w.setup.clients in
+      omega (arith, good.setup.clients)
+
+  -- ---- a client's request
+
+  asked_text : (id : ClientId) (ask : Ask) (o : Option Client) → client_at w id.0 ≡ o → ask_fields.Fits ask
+      → IsSaid (option_map (λ (x : Client). x.said) o) (text_of numbers.ask ask_fields (parties.Client id) ask)
+      → (is_none (client_at w id.0) ≡ true) ⊎ Contains (asked_by w id.0) (statements.entry_of id ask)
+  asked_text id ask None at fits said = inl (ap (λ (o : Option Client). is_none o) at)
+  asked_text id ask (Some x) at fits said = elim said.said [
+    | inl none ↦ absurd cc
+    | inr there ↦
+        let (texts, is, has) = there in
+        let own : Contains x.said (text_of numbers.ask ask_fields (parties.Client id) ask) =
+        subst (λ (l : List (List ℕ)). Contains l (text_of numbers.ask ask_fields (parties.Client id) ask)) (sym (same_Some x.said texts is)) has in
+        inr (subst (λ (o : Option Client). Contains (asked_of id o) (statements.entry_of id ask)) (sym at)
+        (contains_mapped (entry_in id) x.said (text_of numbers.ask ask_fields (parties.Client id) ask) (statements.entry_of id ask) own (entry_back id (parties.Client id) ask fits)))
+  ]
+
+  request_by : (by : Party) (stmt : Ask) (sig : List ℕ) → is_client by ≡ true → ask_fields.Fits stmt
+      → answer_to (keys_of w.setup) (part_of numbers.ask ask_fields (record { by = by; stmt = stmt; sig = sig })) ≡ answers.Yes
+      → IsSaid (texts_said w by) (text_of numbers.ask ask_fields by stmt) → MayRun (seen R w) (entry_of (record { by = by; stmt = stmt; sig = sig }))
+  request_by (parties.Client id) stmt sig client fits signed said =
+      let ranges = ask-in_range stmt fits in
+      record {
+        client = client_within id (text_of numbers.ask ask_fields (parties.Client id) stmt) sig signed;
+        range = record { stamp = ranges.0.1; op = ranges.1 };
+        asked = asked_text id stmt (client_at w id.0) refl fits said;
+      }
+  request_by (parties.Replica id) stmt sig client fits signed said = absurd cc
+
+  abbrev Verifies : Part → Type 0
+  Verifies part = answer_to (keys_of w.setup) part ≡ answers.Yes
+
+  abbrev WasSaid : Part → Type 0
+  WasSaid part = answer_to (keys_of w.setup) part ≡ answers.Yes → IsSaid (texts_said w part.by) part.text
+
+  frame_runs : (s : State S) (frame : Frame) → IsReadable frame → in_role s frame ≡ true → AllByRecursion Verifies (parts_of frame) → AllByRecursion WasSaid (parts_of frame) → MayFrameRun (seen R w) frame
+  frame_runs s (frames.Request ask) fits role signed said =
+      request_by ask.by ask.stmt ask.sig (and_parts (is_client ask.by) (is_primary s) role).0 fits signed.0 (said.0 signed.0)
+  frame_runs s (frames.Order both) fits role signed said =
+      request_by both.ask.by both.ask.stmt both.ask.sig (and_parts (is_primary_of s.counts both.order.stmt.view.0 both.order.by) (is_client both.ask.by) role).1 fits signed.1.0 (said.1.0 signed.1.0)
+  frame_runs s (frames.SpecResponse spec reply with_order) fits role signed said = tt
+  frame_runs s (frames.Commit specs) fits role signed said = tt
+  frame_runs s (frames.LocalCommit local) fits role signed said = tt
+  frame_runs s (frames.ConfirmReq confirm ask) fits role signed said = tt
+  frame_runs s (frames.FillHole hole) fits role signed said = tt
+  frame_runs s (frames.Hate hate) fits role signed said = tt
+  frame_runs s (frames.Pom first second) fits role signed said = tt
+  frame_runs s (frames.Checkpoint check) fits role signed said = tt
+
+  pub event_runs : (s : State S) → s.keys ≡ keys_of w.setup → (bytes : List ℕ) → forger_in w bytes ≡ None → MayEventRun (seen R w) s (Heard bytes)
+  event_runs s keys bytes none frame is clear role =
+      frame_runs s frame (decoded_readable bytes frame is) role
+      (subst (λ (k : Keys). AllByRecursion (λ (part : Part). answer_to k part ≡ answers.Yes) (parts_of frame)) keys (all_verify s.keys (parts_of frame) clear))
+      (parts_said w bytes frame none is)

@@ -1,0 +1,66 @@
+-- What was signed is read back out of its text.
+use Rattle.std.proofs.Common.{◌≡◌, ℕ, List, ◌++◌, length, drop, Some, Ok, refl, sym, ap, ◌∙◌, arith}
+use Rattle.std.proofs.Math.Seq.{drop-append_seam}
+use Rattle.std.proofs.lemmas.List.{length-append}
+use Rattle.std.specs.Int.{w8, w32}
+use Rattle.zy_base.specs.declared.ids.ClientId.{ClientId}
+use Rattle.zy_base.specs.declared.ids.Party.{Party}
+use Rattle.zy_lawful.specs.Acts.{statement_of}
+use Rattle.zy_parts.specs.Exact.{ask-exact, order-exact, spec-exact}
+use Rattle.zy_parts.specs.Numbers as numbers
+use Rattle.zy_parts.specs.Signing.{text_of}
+use Rattle.zy_parts.specs.Statements.{ask_fields, order_fields, spec_fields, entry_of}
+use Rattle.zy_parts.specs.declared.statements.Ask.{Ask}
+use Rattle.zy_parts.specs.declared.statements.Order.{Order}
+use Rattle.zy_parts.specs.declared.statements.Spec.{Spec}
+use Rattle.zy_table.specs.Deeds.{text_by}
+use Rattle.zy_table.specs.declared.deeds.Act.{Act}
+use Rattle.zy_table.specs.declared.deeds.Act.TheVariants.{Says, Gains}
+use Rattle.zy_table.specs.declared.deeds.Body.{Body}
+use Rattle.zy_table.specs.declared.deeds.Body.TheVariants as bodies
+use Rattle.zy_wire.proofs.Parts.{wide8, wide32, whole_again}
+use Rattle.zy_wire.specs.Fields.{party_bytes, party_fields}
+use Rattle.zy_wire.specs.Spelling.{Spelling, IsExact, bytes_of, whole}
+use Rattle.zy_world_law.specs.Seen.{fields_of, statement_in, entry_in, order_read, spec_read, ask_read}
+use Rattle.std.specs.Prelude.{[], ◌∷◌}
+
+-- what can be spelled; of a statement that asks for orders nothing is read
+abbrev pub FitsBody : Body → Type 0
+FitsBody (bodies.Order order) = order_fields.Fits order
+FitsBody (bodies.Spec spec) = spec_fields.Fits spec
+FitsBody (bodies.Hole hole) = Unit {0}
+
+abbrev pub FitAll : List Act → Type 0
+FitAll [] = Unit {0}
+FitAll (Says remark ∷ acts) = FitsBody remark.body × FitAll acts
+FitAll (Gains got ∷ acts) = FitAll acts
+
+five : (by : Party) → length (party_bytes by) ≡ 5
+unfolding party_bytes bytes_of
+five by = omega (arith, length-append (bytes_of w8 (party_fields by).0) (bytes_of w32 (party_fields by).1), wide8.len (party_fields by).0, wide32.len (party_fields by).1)
+
+module _ {A : Type 0} (number : ℕ) (fields : Spelling A) (exact : IsExact fields) (by : Party) (x : A) where
+  behind_signer : fields_of (text_of number fields by x) ≡ fields.spell x
+  unfolding text_of
+  behind_signer = ap (λ (n : ℕ). drop n (party_bytes by ++ fields.spell x)) (sym (five by)) ∙ drop-append_seam (party_bytes by) (fields.spell x)
+
+  fields_back : fields.Fits x → whole fields (fields_of (text_of number fields by x)) ≡ Ok x
+  fields_back fits = ap (λ (bytes : List ℕ). whole fields bytes) behind_signer ∙ whole_again fields exact x fits
+
+pub order_back : (by : Party) (order : Order) → order_fields.Fits order → statement_in (text_of numbers.order order_fields by order) ≡ statement_of (bodies.Order order)
+unfolding statement_in text_of
+order_back by order fits = ap order_read (fields_back numbers.order order_fields order-exact by order fits)
+
+pub spec_back : (by : Party) (spec : Spec) → spec_fields.Fits spec → statement_in (text_of numbers.spec spec_fields by spec) ≡ statement_of (bodies.Spec spec)
+unfolding statement_in text_of
+spec_back by spec fits = ap spec_read (fields_back numbers.spec spec_fields spec-exact by spec fits)
+
+pub entry_back : (client : ClientId) (by : Party) (ask : Ask) → ask_fields.Fits ask → entry_in client (text_of numbers.ask ask_fields by ask) ≡ Some (entry_of client ask)
+unfolding entry_in text_of
+entry_back client by ask fits = ap (ask_read client) (fields_back numbers.ask ask_fields ask-exact by ask fits)
+
+pub body_back : (by : Party) (body : Body) → FitsBody body → statement_in (text_by by body) ≡ statement_of body
+unfolding statement_in text_of
+body_back by (bodies.Order order) fits = order_back by order fits
+body_back by (bodies.Spec spec) fits = spec_back by spec fits
+body_back by (bodies.Hole hole) fits = refl

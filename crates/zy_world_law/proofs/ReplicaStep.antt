@@ -1,0 +1,310 @@
+-- A step of a correct replica keeps a good world good.
+use Rattle.std.proofs.Common.{◌≡◌, ◌≢◌, ℕ, ◌+◌, ◌-◌, inl, inr, Bool, List, [], ◌∷◌, ◌++◌, length, map, Option, Some, None, refl, sym, ap, ◌∙◌, subst, arith}
+use Rattle.std.specs.Prelude.{slice_get, option_map, unwrap_or, is_none, Contains}
+use Rattle.std.specs.List.{AllByRecursion, flat_map}
+use Rattle.std.proofs.lemmas.Bool.{cases_eq}
+use Rattle.std.proofs.lemmas.List.{length-set}
+use Rattle.std.proofs.lemmas.List.Concat.{flat_map-cons}
+use Rattle.std.proofs.lemmas.List.Elements.{Contains-append_left}
+use Rattle.std.proofs.lemmas.Option.{same_Some, slice_get_within}
+use Rattle.zy_base.specs.Machine.{Rules}
+use Rattle.zy_base.specs.declared.ids.Party.TheVariants as parties
+use Rattle.zy_base.specs.declared.ids.ReplicaId.{ReplicaId}
+use Rattle.zy_base.specs.declared.step.Event.{Event}
+use Rattle.zy_chain.specs.declared.entry.Entry.{Entry}
+use Rattle.zy_law.proofs.GrownLemmas.{completed_grown}
+use Rattle.zy_law.proofs.StepsLawful.{acts_lawful}
+use Rattle.zy_law.specs.Completed.{Completion, IsCompleted}
+use Rattle.zy_law.specs.Lawful.{IsLawful}
+use Rattle.zy_law.specs.Said.{IsCorrect}
+use Rattle.zy_law.specs.Steps.{grown}
+use Rattle.zy_law.specs.World as law
+use Rattle.zy_law.specs.World.{Stand}
+use Rattle.zy_lawful.proofs.EachStep as each
+use Rattle.zy_lawful.proofs.GainedEntries.{step_gained}
+use Rattle.zy_lawful.proofs.TieLemmas.{lists_after, tied_after_acts}
+use Rattle.zy_lawful.specs.Acts.{acts_of, world_after, history_after, spoken_in, stands_in, with_more}
+use Rattle.zy_lawful.specs.Tied as lawful
+use Rattle.zy_lawful.specs.Tied.{MayEventRun, IsGained, IsLinkKept, IsHonestStep}
+use Rattle.zy_table.specs.Deeds.{Outcome, gains_in, said_from}
+use Rattle.zy_table.specs.State.{State, own_view}
+use Rattle.zy_table.specs.Step.{step}
+use Rattle.zy_table.specs.declared.client.Response.{Response}
+use Rattle.zy_table.specs.declared.deeds.Got.{Got}
+use Rattle.zy_world_law.specs.Events.{stepped, with_replica, remark_after, history_of}
+use Rattle.zy_world_law.specs.Good.{IsGood, IsTied, IsShort, IsClientTied, IsBackedBy, IsDone, IsKept, AreRepliesKept}
+use Rattle.zy_world_law.specs.Safe.{completion_of}
+use Rattle.zy_world_law.specs.Seen.{seen, said_of, past_of, spoken_by}
+use Rattle.zy_world_law.specs.Texts.{step_texts, got_texts, is_link}
+use Rattle.zy_world_law.specs.World.{World, Replica, Client, Completed, Remark, Texts, replica_at, client_at, correct_in}
+use Rattle.zy_world_law.proofs.GainedReplies.{gained_replies}
+use Rattle.zy_world_law.proofs.KeptTexts.{kept_front, kept_behind}
+use Rattle.zy_world_law.proofs.OneText.{link_of, link_is}
+use Rattle.zy_world_law.proofs.ReadBack.{FitAll}
+use Rattle.zy_world_law.proofs.Seats.{get_set, get_set_other, seat_of}
+use Rattle.zy_world_law.proofs.ShortHistories.{short_steps, step_keys}
+use Rattle.zy_world_law.proofs.ToldSteps.{own_more, other_more, more_kept, map_append, spoken_told, replies_kept, history_replied, all_of_both}
+
+-- ---- a tied replica's last stand
+
+pub tied_history : {S : Type 0} (R : Rules S) (u : law.World) (r : ℕ) (s : State S) (h : List Entry) (past : List Stand) → lawful.IsTied R u r s h → u.past r ≡ past → history_of past ≡ h
+tied_history R u r s h past tied is =
+    let x = tied.standing in
+    let before : length (u.past r) - 1 ≡ x.number = omega (arith, x.last) in
+    ap (λ (p : List Stand). unwrap_or (option_map (λ (b : Stand). b.history) (slice_get p (length p - 1))) []) (sym is)
+    ∙ ap (λ (n : ℕ). unwrap_or (option_map (λ (b : Stand). b.history) (slice_get (u.past r) n)) []) before
+    ∙ ap (λ (o : Option Stand). unwrap_or (option_map (λ (b : Stand). b.history) o) []) x.stood
+
+-- ---- the texts of the entries that a step gained
+
+module _ (texts : Texts) (v : law.World) (kept_is : v.kept ≡ (λ head e. is_link texts head e)) where
+  one_of : (got : Got) (gots : List Got) → AllByRecursion (IsKept texts) (flat_map got_texts (got ∷ gots)) → AllByRecursion (IsKept texts) (got_texts got) × AllByRecursion (IsKept texts) (flat_map got_texts gots)
+  one_of got gots all =
+      let apart : AllByRecursion (IsKept texts) (got_texts got ++ flat_map got_texts gots) = subst (λ (l : List (List ℕ)). AllByRecursion (IsKept texts) l) (flat_map-cons got_texts got gots) all in
+      (kept_front (got_texts got) (flat_map got_texts gots) texts apart, kept_behind (got_texts got) (flat_map got_texts gots) texts apart)
+
+  pub links_kept : (gots : List Got) → AllByRecursion (IsGained v) gots → AllByRecursion (IsKept texts) (flat_map got_texts gots) → AllByRecursion (IsLinkKept v) gots
+  links_kept [] gained all = tt
+  links_kept (got ∷ gots) gained all =
+      let both = one_of got gots all in (
+        ap (λ (f : _). f got.before got.entry) kept_is
+            ∙ link_is texts got.before got.entry (record { usable = record { client = gained.0.run.client; range = gained.0.run.range }; entry = both.0.0; link = both.0.1.0 }),
+        links_kept gots gained.1 both.1,
+      )
+
+  pub got_replies : (gots : List Got) → AllByRecursion (IsKept texts) (flat_map got_texts gots) → AllByRecursion (λ (got : Got). IsKept texts got.reply) gots
+  got_replies [] all = tt
+  got_replies (got ∷ gots) all = let both = one_of got gots all in (both.0.1.1.0, got_replies gots both.1)
+
+module _ {S : Type 0} (R : Rules S) (w : World S) (good : IsGood R w) (id : ReplicaId) (x : Replica S) (at : replica_at w id.0 ≡ Some x) (event : Event)
+    (asks : MayEventRun (seen R w) x.state event) (kept : AllByRecursion (IsKept w.texts) (step_texts (step R x.state event).deeds.acts)) where
+  abbrev v : law.World
+  v = seen R w
+
+  abbrev s : State S
+  s = x.state
+
+  abbrev h : List Entry
+  h = history_of x.past
+
+  abbrev o : Outcome S
+  o = step R s event
+
+  abbrev x' : Replica S
+  x' = stepped x o
+
+  abbrev w' : World S
+  w' = with_replica w id x'
+
+  tie : IsTied R w id.0 x
+  tie = good.tied id.0 x at
+
+  seat : slice_get w.replicas id.0 ≡ Some (Some x)
+  seat = seat_of (slice_get w.replicas id.0) x at
+
+  correct : IsCorrect v id.0
+  correct = record { within = omega (arith, slice_get_within w.replicas id.0 (Some x) seat, good.replicas); honest = ap (λ (o : Option (Replica S)). is_none o) at }
+
+  gained : AllByRecursion (IsGained v) (gains_in o.deeds.acts)
+  gained = step_gained R v s tie.tied.standing.asks event asks
+
+  honest : IsHonestStep R v id.0 s h event
+  honest =
+      record {
+        lawful = good.lawful;
+        agrees = record { next = refl; digest = refl; reply = refl };
+        correct = correct;
+        tied = tie.tied;
+        asks = asks;
+        links = links_kept w.texts v refl (gains_in o.deeds.acts) gained kept;
+      }
+
+  short : FitAll o.deeds.acts × IsShort o.state
+  short = short_steps R v id.0 s h event honest tie.short (λ d e is. (link_of w.texts d e is).usable.range)
+
+  -- ---- what the law sees of the world after it
+
+  abbrev new_said : List law.Spoken
+  new_said = spoken_in (length (v.past id.0) - 1) o.deeds.acts
+
+  abbrev new_stands : List Stand
+  new_stands = stands_in (own_view s) h o.deeds.acts
+
+  own_seat : replica_at w' id.0 ≡ Some x'
+  own_seat = ap (λ (o : Option (Option (Replica S))). correct_in o) (get_set w.replicas id.0 (Some x') (Some x) seat)
+
+  other_seat : (q : ℕ) → q ≢ id.0 → replica_at w' q ≡ replica_at w q
+  other_seat q other = ap (λ (o : Option (Option (Replica S))). correct_in o) (get_set_other w.replicas id.0 q (Some x') other)
+
+  told : map spoken_by (map (remark_after x.past) (said_from (parties.Replica o.state.me) 0 o.deeds.acts)) ≡ new_said
+  told =
+      let number : length x.past - 1 + 0 ≡ length (v.past id.0) - 1 = omega (arith, ap (λ (o : Option (Replica S)). length (past_of o)) at) in
+      spoken_told (parties.Replica o.state.me) x.past 0 o.deeds.acts short.0 ∙ ap (λ (n : ℕ). spoken_in n o.deeds.acts) number
+
+  liars_same : (q : ℕ) → v.liar q ≡ is_none (replica_at w' q)
+  liars_same q = elim (cases_eq q id.0) [
+    | inl same ↦ subst (λ (q : ℕ). is_none (replica_at w q) ≡ is_none (replica_at w' q)) (sym same)
+        (ap (λ (o : Option (Replica S)). is_none o) at ∙ sym (ap (λ (o : Option (Replica S)). is_none o) own_seat))
+    | inr other ↦ ap (λ (o : Option (Replica S)). is_none o) (sym (other_seat q other))
+  ]
+
+  said_same : (q : ℕ) → with_more v.said id.0 new_said q ≡ said_of (replica_at w' q)
+  said_same q = elim (cases_eq q id.0) [
+    | inl same ↦ subst (λ (q : ℕ). with_more v.said id.0 new_said q ≡ said_of (replica_at w' q)) (sym same)
+        (own_more v.said id.0 new_said
+        ∙ ap (λ (o : Option (Replica S)). said_of o ++ new_said) at
+        ∙ ap (λ (l : List law.Spoken). map spoken_by x.said ++ l) (sym told)
+        ∙ sym (map_append spoken_by x.said (map (remark_after x.past) (said_from (parties.Replica o.state.me) 0 o.deeds.acts)))
+        ∙ ap (λ (o : Option (Replica S)). said_of o) (sym own_seat))
+    | inr other ↦ other_more v.said id.0 new_said q other ∙ ap (λ (o : Option (Replica S)). said_of o) (sym (other_seat q other))
+  ]
+
+  past_same : (q : ℕ) → with_more v.past id.0 new_stands q ≡ past_of (replica_at w' q)
+  past_same q = elim (cases_eq q id.0) [
+    | inl same ↦ subst (λ (q : ℕ). with_more v.past id.0 new_stands q ≡ past_of (replica_at w' q)) (sym same)
+        (own_more v.past id.0 new_stands
+        ∙ ap (λ (o : Option (Replica S)). past_of o ++ new_stands) at
+        ∙ ap (λ (o : Option (Replica S)). past_of o) (sym own_seat))
+    | inr other ↦ other_more v.past id.0 new_stands q other ∙ ap (λ (o : Option (Replica S)). past_of o) (sym (other_seat q other))
+  ]
+
+  abbrev built : (ℕ → Bool) → (ℕ → List law.Spoken) → (ℕ → List Stand) → law.World
+  built liar said past =
+      record {
+        counts = v.counts;
+        liar = liar;
+        lying = v.lying;
+        asked = v.asked;
+        said = said;
+        past = past;
+        next = v.next;
+        digest = v.digest;
+        reply = v.reply;
+        state = v.state;
+        kept = v.kept;
+      }
+
+  abbrev later : law.World
+  later = grown v v.asked (with_more v.said id.0 new_said) (with_more v.past id.0 new_stands) v.kept
+
+  seen_is : later ≡ seen R w'
+  seen_is =
+      ap (λ (f : ℕ → Bool). built f (with_more v.said id.0 new_said) (with_more v.past id.0 new_stands)) (λ i q. liars_same q i)
+      ∙ ap (λ (f : ℕ → List law.Spoken). built (seen R w').liar f (with_more v.past id.0 new_stands)) (λ i q. said_same q i)
+      ∙ ap (λ (f : ℕ → List Stand). built (seen R w').liar (seen R w').said f) (λ i q. past_same q i)
+
+  after_is : world_after v id.0 s h o ≡ seen R w'
+  after_is = lists_after v id.0 (own_view s) (length (v.past id.0) - 1) h o.deeds.acts ∙ seen_is
+
+  lawful_after : IsLawful (seen R w')
+  lawful_after = subst IsLawful after_is (acts_lawful v id.0 (acts_of v id.0 s h o) good.lawful (each.acts_lawful R v id.0 s h event honest))
+
+  -- ---- ties
+
+  own_tied : lawful.IsTied R (seen R w') id.0 o.state (history_of x'.past)
+  own_tied =
+      let there : lawful.IsTied R (seen R w') id.0 o.state (history_after h o.deeds.acts) =
+      subst (λ (u : law.World). lawful.IsTied R u id.0 o.state (history_after h o.deeds.acts)) after_is (each.tied_after R v id.0 s h event honest) in
+      let history : history_of x'.past ≡ history_after h o.deeds.acts =
+      tied_history R (seen R w') id.0 o.state (history_after h o.deeds.acts) x'.past there (ap (λ (o : Option (Replica S)). past_of o) own_seat) in
+      subst (λ (l : List Entry). lawful.IsTied R (seen R w') id.0 o.state l) (sym history) there
+
+  own_after : IsTied R w' id.0 x'
+  own_after =
+      record {
+        tied = own_tied;
+        keys = step_keys R s event ∙ tie.keys;
+        short = short.1;
+        replies = all_of_both (λ (b : Stand). AreRepliesKept R w.texts b.history) x.past new_stands tie.replies
+            (replies_kept R w.texts (own_view s) h o.deeds.acts (history_replied R w.texts x.past tie.replies)
+            (gained_replies R s h tie.tied.standing.stands event) (got_replies w.texts v refl (gains_in o.deeds.acts) kept));
+      }
+
+  other_after : (q : ℕ) (y : Replica S) → q ≢ id.0 → replica_at w q ≡ Some y → IsTied R w' q y
+  other_after q y other y_at =
+      let before = good.tied q y y_at in
+      record {
+        tied = subst (λ (u : law.World). lawful.IsTied R u q y.state (history_of y.past)) after_is
+            (tied_after_acts R v q id.0 y.state (history_of y.past) (acts_of v id.0 s h o) other before.tied);
+        keys = before.keys;
+        short = before.short;
+        replies = before.replies;
+      }
+
+  tied_after : (q : ℕ) (y : Replica S) → replica_at w' q ≡ Some y → IsTied R w' q y
+  tied_after q y y_at = elim (cases_eq q id.0) [
+    | inl same ↦
+        let is : x' ≡ y = same_Some x' y (sym own_seat ∙ ap (λ (q : ℕ). replica_at w' q) (sym same) ∙ y_at) in
+        subst (λ (q : ℕ). IsTied R w' q y) (sym same) (subst (λ (z : Replica S). IsTied R w' id.0 z) is own_after)
+    | inr other ↦ other_after q y other (sym (other_seat q other) ∙ y_at)
+  ]
+
+  -- ---- clients and completions
+
+  abbrev HasText : World S → ℕ → List ℕ → Type 0
+  HasText u number text = (y : Replica S) × (replica_at u number ≡ Some y) × Contains (map (λ (remark : Remark). remark.text) y.said) text
+
+  text_after : (number : ℕ) (text : List ℕ) → HasText w number text → HasText w' number text
+  text_after number text (y, y_at, has) = elim (cases_eq number id.0) [
+    | inl same ↦
+        let is : y ≡ x = same_Some y x (sym y_at ∙ ap (λ (q : ℕ). replica_at w q) same ∙ at) in
+        let own : Contains (map (λ (remark : Remark). remark.text) x.said) text = subst (λ (z : Replica S). Contains (map (λ (remark : Remark). remark.text) z.said) text) is has in
+        let new : List Remark = map (remark_after x.past) (said_from (parties.Replica o.state.me) 0 o.deeds.acts) in (
+          x',
+          ap (λ (q : ℕ). replica_at w' q) same ∙ own_seat,
+          subst (λ (l : List (List ℕ)). Contains l text) (sym (map_append (λ (remark : Remark). remark.text) x.said new))
+              (Contains-append_left (map (λ (remark : Remark). remark.text) x.said) (map (λ (remark : Remark). remark.text) new) text own),
+        )
+    | inr other ↦ (y, other_seat number other ∙ y_at, has)
+  ]
+
+  nobody_after : (number : ℕ) → replica_at w number ≡ None → replica_at w' number ≡ None
+  nobody_after number none = elim (cases_eq number id.0) [
+    | inl same ↦ let both : Some x ≡ None = sym at ∙ ap (λ (q : ℕ). replica_at w q) (sym same) ∙ none in absurd cc
+    | inr other ↦ other_seat number other ∙ none
+  ]
+
+  backed_after : (number : ℕ) (r : Response) → IsBackedBy w number r → IsBackedBy w' number r
+  backed_after number r b =
+      record {
+        within = b.within;
+        said = elim b.said [ inl none ↦ inl (nobody_after number none) | inr has ↦ inr (text_after number _ has) ];
+        reply = b.reply;
+        spelled = b.spelled;
+      }
+
+  client_after : (q : ℕ) (y : Client) → client_at w' q ≡ Some y → IsClientTied w' q y
+  client_after q y y_at =
+      let before = good.client_tied q y y_at in
+      record {
+        me = before.me;
+        counts = before.counts;
+        keys = before.keys;
+        holds = before.holds;
+        backed = λ number r is. backed_after number r (before.backed number r is);
+      }
+
+  completed_after : (c : Completion) → IsCompleted v c → IsCompleted (seen R w') c
+  completed_after c is =
+      subst (λ (u : law.World). IsCompleted u c) seen_is
+      (completed_grown v v.asked (with_more v.said id.0 new_said) (with_more v.past id.0 new_stands) v.kept (λ q e has. has)
+      (λ q i y has. more_kept v.said id.0 new_said q i y has) (λ q i y has. more_kept v.past id.0 new_stands q i y has) c is)
+
+  done_after : (c : Completed) → IsDone R w c → IsDone R w' c
+  done_after c is = record { client = is.client; correct = is.correct; completed = completed_after (completion_of c) is.completed; reply = is.reply }
+
+  all_done : (done : List Completed) → AllByRecursion (IsDone R w) done → AllByRecursion (IsDone R w') done
+  all_done [] all = tt
+  all_done (c ∷ done) all = (done_after c all.0, all_done done all.1)
+
+  pub replica_good : IsGood R w'
+  replica_good =
+      record {
+        setup = good.setup;
+        replicas = length-set w.replicas id.0 (Some x') ∙ good.replicas;
+        clients = good.clients;
+        lawful = lawful_after;
+        tied = tied_after;
+        client_tied = client_after;
+        done = all_done w.done good.done;
+      }

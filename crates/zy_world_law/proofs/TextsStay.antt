@@ -1,0 +1,75 @@
+-- More kept texts keep a good world good.
+use Rattle.std.proofs.Common.{◌≡◌, ℕ, true, List, [], ◌∷◌, refl}
+use Rattle.std.specs.List.{AllByRecursion}
+use Rattle.zy_base.specs.Machine.{Rules}
+use Rattle.zy_base.specs.declared.ids.Digest.{Digest}
+use Rattle.zy_chain.specs.declared.entry.Entry.{Entry}
+use Rattle.zy_law.proofs.GrownLemmas.{completed_grown}
+use Rattle.zy_law.proofs.StepsLawful.{more_lawful}
+use Rattle.zy_law.specs.World as law
+use Rattle.zy_law.specs.World.{Stand}
+use Rattle.zy_lawful.proofs.TieLemmas.{tied_grown}
+use Rattle.zy_table.specs.declared.client.Response.{Response}
+use Rattle.zy_world_law.specs.Events.{history_of}
+use Rattle.zy_world_law.specs.Good.{IsGood, IsTied, IsClientTied, IsBackedBy, IsDone, AreRepliesKept}
+use Rattle.zy_world_law.specs.Safe.{completion_of}
+use Rattle.zy_world_law.specs.Seen.{seen}
+use Rattle.zy_world_law.specs.Texts.{is_link}
+use Rattle.zy_world_law.specs.World.{World, Replica, Client, Completed, Texts}
+use Rattle.zy_world_law.proofs.KeptTexts.{Stay, stay_kept}
+use Rattle.zy_world_law.proofs.OneText.{one_text, link_of, link_is}
+
+module _ {S : Type 0} (R : Rules S) (w : World S) (texts : Texts) (stay : Stay w.texts texts) where
+  abbrev w' : World S
+  w' = record w { texts = texts }
+
+  abbrev v : law.World
+  v = seen R w
+
+  link_stays : (d : Digest) (e : Entry) → is_link w.texts d e ≡ true → is_link texts d e ≡ true
+  link_stays d e is =
+      let link = link_of w.texts d e is in
+      link_is texts d e (record { usable = link.usable; entry = stay_kept w.texts texts stay _ link.entry; link = stay_kept w.texts texts stay _ link.link })
+
+  stands_stay : (past : List Stand) → AllByRecursion (λ (b : Stand). AreRepliesKept R w.texts b.history) past → AllByRecursion (λ (b : Stand). AreRepliesKept R texts b.history) past
+  stands_stay [] all = tt
+  stands_stay (b ∷ past) all = (λ place reply is. stay_kept w.texts texts stay reply (all.0 place reply is), stands_stay past all.1)
+
+  tied_stays : (id : ℕ) (x : Replica S) → IsTied R w id x → IsTied R w' id x
+  tied_stays id x t =
+      record {
+        tied = tied_grown R v id x.state (history_of x.past) v.asked v.said v.past (is_link texts) (λ q e has. has) refl refl t.tied;
+        keys = t.keys;
+        short = t.short;
+        replies = stands_stay x.past t.replies;
+      }
+
+  backed_stays : (id : ℕ) (r : Response) → IsBackedBy w id r → IsBackedBy w' id r
+  backed_stays id r b = record { within = b.within; said = b.said; reply = stay_kept w.texts texts stay r.reply b.reply; spelled = b.spelled }
+
+  client_stays : (id : ℕ) (x : Client) → IsClientTied w id x → IsClientTied w' id x
+  client_stays id x t = record { me = t.me; counts = t.counts; keys = t.keys; holds = t.holds; backed = λ number r is. backed_stays number r (t.backed number r is) }
+
+  all_done : (done : List Completed) → AllByRecursion (IsDone R w) done → AllByRecursion (IsDone R w') done
+  all_done [] all = tt
+  all_done (c ∷ done) all = (
+    record {
+      client = all.0.client;
+      correct = all.0.correct;
+      completed = completed_grown v v.asked v.said v.past (is_link texts) (λ q e has. has) (λ q i y has. has) (λ q i y has. has) (completion_of c) all.0.completed;
+      reply = stay_kept w.texts texts stay c.done.reply all.0.reply;
+    },
+    all_done done all.1,
+  )
+
+  pub texts_good : IsGood R w → IsGood R w'
+  texts_good good =
+      record {
+        setup = good.setup;
+        replicas = good.replicas;
+        clients = good.clients;
+        lawful = more_lawful v good.lawful v.asked (is_link texts) (λ q e has. has) (record { more = link_stays; one_text = one_text texts });
+        tied = λ id x at. tied_stays id x (good.tied id x at);
+        client_tied = λ id x at. client_stays id x (good.client_tied id x at);
+        done = all_done w.done good.done;
+      }

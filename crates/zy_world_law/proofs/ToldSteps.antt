@@ -1,0 +1,108 @@
+-- What the law sees of a step: what was said is read back out of the texts, and the replies along the new stands are kept.
+use Rattle.std.proofs.Common.{◌≡◌, ◌≢◌, ℕ, zero, suc, ◌+◌, ◌-◌, inl, inr, Bool, true, false, cond, eqb, List, [], ◌∷◌, ◌++◌, length, map, take, Option, Some, None, refl, sym, ap, ◌∙◌, subst, arith, eq-eqb, ne_eqb}
+use Rattle.std.specs.Prelude.{slice_get, option_map, unwrap_or}
+use Rattle.std.specs.List.{AllByRecursion}
+use Rattle.std.proofs.lemmas.List.{length-append}
+use Rattle.std.proofs.lemmas.Bool.{cases_lt, cases_eq}
+use Rattle.std.proofs.lemmas.Option.{same_Some, slice_get_past}
+use Rattle.zy_base.specs.Machine.{Rules}
+use Rattle.zy_base.specs.declared.ids.Party.{Party}
+use Rattle.zy_chain.specs.declared.entry.Entry.{Entry}
+use Rattle.zy_exec.specs.Replay.{origin, along, answer_at}
+use Rattle.zy_law.specs.World.{Spoken, Stand, Statement}
+use Rattle.zy_lawful.proofs.Records.{answer_longer, answer_pushed}
+use Rattle.zy_lawful.specs.Acts.{spoken_in, stands_in, spoken_at, with_more}
+use Rattle.zy_table.specs.Deeds.{said_from, gains_in}
+use Rattle.zy_table.specs.declared.deeds.Act.{Act}
+use Rattle.zy_table.specs.declared.deeds.Act.TheVariants.{Says, Gains}
+use Rattle.zy_table.specs.declared.deeds.Got.{Got}
+use Rattle.zy_world_law.specs.Events.{remark_after, history_of}
+use Rattle.zy_world_law.specs.Good.{IsKept, AreRepliesKept}
+use Rattle.zy_world_law.specs.Seen.{spoken_by}
+use Rattle.zy_world_law.specs.World.{Texts}
+use Rattle.zy_world_law.proofs.GainedReplies.{AreAnswers}
+use Rattle.zy_world_law.proofs.ReadBack.{FitAll, body_back}
+
+-- ---- lists of several parties
+
+pub own_more : {A : Type 0} (lists : ℕ → List A) (of : ℕ) (more : List A) → with_more lists of more of ≡ lists of ++ more
+own_more lists of more = ap (λ (b : Bool). cond b (lists of ++ more) (lists of)) (eq-eqb of of refl)
+
+pub other_more : {A : Type 0} (lists : ℕ → List A) (of : ℕ) (more : List A) (q : ℕ) → q ≢ of → with_more lists of more q ≡ lists q
+other_more lists of more q other = ap (λ (b : Bool). cond b (lists q ++ more) (lists q)) (ne_eqb q of other)
+
+pub get_front : {A : Type 0} (xs ys : List A) (i : ℕ) (y : A) → slice_get xs i ≡ Some y → slice_get (xs ++ ys) i ≡ Some y
+get_front [] ys i y is = absurd cc
+get_front (x ∷ xs) ys zero y is = is
+get_front (x ∷ xs) ys (suc i) y is = get_front xs ys i y is
+
+more_by : {A : Type 0} (b : Bool) (xs more : List A) (i : ℕ) (y : A) → slice_get xs i ≡ Some y → slice_get (cond b (xs ++ more) xs) i ≡ Some y
+more_by true xs more i y is = get_front xs more i y is
+more_by false xs more i y is = is
+
+pub more_kept : {A : Type 0} (lists : ℕ → List A) (of : ℕ) (more : List A) (q i : ℕ) (y : A) → slice_get (lists q) i ≡ Some y → slice_get (with_more lists of more q) i ≡ Some y
+more_kept lists of more q i y is = more_by (eqb q of) (lists q) more i y is
+
+pub map_append : {A B : Type 0} (f : A → B) (xs ys : List A) → map f (xs ++ ys) ≡ map f xs ++ map f ys
+map_append f [] ys = refl
+map_append f (x ∷ xs) ys = ap (λ (l : List _). f x ∷ l) (map_append f xs ys)
+
+-- ---- statements
+
+pub spoken_told : (me : Party) (past : List Stand) (pairs : ℕ) (acts : List Act) → FitAll acts
+    → map spoken_by (map (remark_after past) (said_from me pairs acts)) ≡ spoken_in (length past - 1 + pairs) acts
+spoken_told me past pairs [] fit = refl
+spoken_told me past pairs (Says remark ∷ acts) fit =
+    ap (λ (what : Statement). record { what = what; when = length past - 1 + pairs } ∷ map spoken_by (map (remark_after past) (said_from me pairs acts))) (body_back me remark.body fit.0)
+    ∙ ap (λ (l : List Spoken). spoken_at (length past - 1 + pairs) remark ∷ l) (spoken_told me past pairs acts fit.1)
+spoken_told me past pairs (Gains got ∷ acts) fit =
+    let one : length past - 1 + (pairs + 1) ≡ length past - 1 + pairs + 1 = omega arith in
+    spoken_told me past (pairs + 1) acts fit ∙ ap (λ (n : ℕ). spoken_in n acts) one
+
+-- ---- replies
+
+reply_pushed : {S : Type 0} (R : Rules S) (texts : Texts) (h : List Entry) (e : Entry) → AreRepliesKept R texts h → IsKept texts (R.reply (along R (origin R) h).state e.client e.op) → AreRepliesKept R texts (h ++ e ∷ [])
+reply_pushed R texts h e all one zero reply is = absurd cc
+reply_pushed {S} R texts h e all one (suc before) reply is = elim (cases_lt before (length h)) [
+  | inl less ↦ all (suc before) reply (sym (answer_longer R h (e ∷ []) (suc before) (omega arith)) ∙ is)
+  | inr least ↦ elim (cases_eq before (length h)) [
+    | inl same ↦
+        let answer : answer_at R (h ++ e ∷ []) (suc before) ≡ Some (R.reply (along R (origin R) h).state e.client e.op) =
+        ap (λ (n : ℕ). answer_at R (h ++ e ∷ []) (suc n)) same ∙ answer_pushed R h e in
+        subst (λ (l : List ℕ). IsKept texts l) (same_Some _ _ (sym answer ∙ is)) one
+    | inr other ↦
+        let past : slice_get (h ++ e ∷ []) before ≡ None = slice_get_past (h ++ e ∷ []) before (omega (arith, length-append h (e ∷ []))) in
+        let nothing : answer_at R (h ++ e ∷ []) (suc before) ≡ None =
+        ap (λ (o : Option Entry). option_map (λ (d : Entry). R.reply (along R (origin R) (take before (h ++ e ∷ []))).state d.client d.op) o) past in
+        absurd cc
+  ]
+]
+
+pub replies_kept : {S : Type 0} (R : Rules S) (texts : Texts) (view : ℕ) (h : List Entry) (acts : List Act) → AreRepliesKept R texts h → AreAnswers R h acts
+    → AllByRecursion (λ (got : Got). IsKept texts got.reply) (gains_in acts) → AllByRecursion (λ (b : Stand). AreRepliesKept R texts b.history) (stands_in view h acts)
+replies_kept R texts view h [] all answers kept = tt
+replies_kept R texts view h (Says remark ∷ acts) all answers kept = replies_kept R texts view h acts all answers kept
+replies_kept R texts view h (Gains got ∷ acts) all answers kept =
+    let longer : AreRepliesKept R texts (h ++ got.entry ∷ []) = reply_pushed R texts h got.entry all (subst (λ (reply : List ℕ). IsKept texts reply) answers.0 kept.0) in
+    (longer, replies_kept R texts view (h ++ got.entry ∷ []) acts longer answers.1 kept.1)
+
+pub none_replied : {S : Type 0} (R : Rules S) (texts : Texts) → AreRepliesKept R texts []
+none_replied R texts zero reply is = absurd cc
+none_replied R texts (suc before) reply is = absurd cc
+
+pub at_of : {A : Type 0} (P : A → Type 0) (xs : List A) (i : ℕ) (x : A) → AllByRecursion P xs → slice_get xs i ≡ Some x → P x
+at_of P [] i x all is = absurd cc
+at_of P (first ∷ xs) zero x all is = subst P (same_Some first x is) all.0
+at_of P (first ∷ xs) (suc i) x all is = at_of P xs i x all.1 is
+
+last_replied : {S : Type 0} (R : Rules S) (texts : Texts) (o : Option Stand) → ((b : Stand) → o ≡ Some b → AreRepliesKept R texts b.history) → AreRepliesKept R texts (unwrap_or (option_map (λ (b : Stand). b.history) o) [])
+last_replied R texts None each = none_replied R texts
+last_replied R texts (Some b) each = each b refl
+
+pub history_replied : {S : Type 0} (R : Rules S) (texts : Texts) (past : List Stand) → AllByRecursion (λ (b : Stand). AreRepliesKept R texts b.history) past → AreRepliesKept R texts (history_of past)
+history_replied R texts past all =
+    last_replied R texts (slice_get past (length past - 1)) (λ b is. at_of (λ (b : Stand). AreRepliesKept R texts b.history) past (length past - 1) b all is)
+
+pub all_of_both : {A : Type 0} (P : A → Type 0) (xs ys : List A) → AllByRecursion P xs → AllByRecursion P ys → AllByRecursion P (xs ++ ys)
+all_of_both P [] ys first others = others
+all_of_both P (x ∷ xs) ys first others = (first.0, all_of_both P xs ys first.1 others)

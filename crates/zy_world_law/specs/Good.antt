@@ -1,0 +1,80 @@
+-- Good worlds: what honest events keep, and from which safety follows.
+use Rattle.std.specs.Prelude.{◌≡◌, ◌⊎◌, ℕ, ◌<◌, ◌≤◌, ◌^◌, List, length, Some, None, Contains, map}
+use Rattle.std.specs.List.{AllByRecursion}
+use Rattle.zy_base.specs.Machine.{Rules}
+use Rattle.zy_base.specs.declared.ids.Party.TheVariants.{Replica}
+use Rattle.zy_chain.specs.declared.entry.Entry.{Entry}
+use Rattle.zy_client.specs.Held.{HoldsResponses}
+use Rattle.zy_exec.specs.Kept.{last_place}
+use Rattle.zy_exec.specs.Replay.{answer_at}
+use Rattle.zy_law.specs.Completed.{IsCompleted}
+use Rattle.zy_law.specs.Lawful.{IsLawful}
+use Rattle.zy_lawful.specs.Tied as lawful
+use Rattle.zy_lms.specs.Height.{levels_of}
+use Rattle.zy_parts.specs.Numbers as numbers
+use Rattle.zy_parts.specs.Signing.{text_of}
+use Rattle.zy_parts.specs.Statements.{spec_fields}
+use Rattle.zy_table.specs.ClientRows.{kept_of}
+use Rattle.zy_table.specs.State.{State, own_view}
+use Rattle.zy_table.specs.declared.client.Response.{Response}
+use Rattle.zy_world_law.specs.Events.{history_of}
+use Rattle.zy_world_law.specs.Safe.{completion_of}
+use Rattle.zy_world_law.specs.Seen.{seen}
+use Rattle.zy_world_law.specs.Setup.{IsSetup, keys_of}
+use Rattle.zy_world_law.specs.Texts.{digest_of}
+use Rattle.zy_world_law.specs.World.{World, Client, Completed, Texts, replica_at, client_at, texts_said}
+use Rattle.zy_world_law.specs.World as world
+
+abbrev pub IsKept : Texts → List ℕ → Type 0
+IsKept texts text = texts (digest_of text) ≡ Some text
+
+-- the reply to each entry of a history is kept
+abbrev pub AreRepliesKept : {S : Type 0} → Rules S → Texts → List Entry → Type 0
+AreRepliesKept R texts history = (place : ℕ) (reply : List ℕ) → answer_at R history place ≡ Some reply → IsKept texts reply
+
+-- The places of its history can be spelled: each entry that it executed was answered with a leaf of its key.
+pub record IsShort {S : Type 0} (s : State S) : Type 0 where
+  pub number : s.me.0 < 2 ^ 8
+  pub view : own_view s < 2 ^ 62
+  pub end : last_place s.kept ≤ s.sealer.key.next
+  pub leaves : s.sealer.key.next ≤ 2 ^ levels_of s.sealer.key.height
+
+-- a correct replica is tied to what it said and where it stood, and the replies along its histories are kept
+pub record IsTied {S : Type 0} (R : Rules S) (w : World S) (id : ℕ) (x : world.Replica S) : Type 0 where
+  pub tied : lawful.IsTied R (seen R w) id x.state (history_of x.past)
+  pub keys : x.state.keys ≡ keys_of w.setup
+  pub short : IsShort x.state
+  pub replies : AllByRecursion (λ stand. AreRepliesKept R w.texts stand.history) x.past
+
+-- a response is one that its replica said, unless that lies, and its reply is kept
+pub record IsBackedBy {S : Type 0} (w : World S) (id : ℕ) (r : Response) : Type 0 where
+  pub within : id < w.setup.counts.n
+  pub said : (replica_at w id ≡ None) ⊎ ((x : world.Replica S) × (replica_at w id ≡ Some x) × Contains (map (λ remark. remark.text) x.said) (text_of numbers.spec spec_fields (Replica (record { 0 = id })) r.spec.stmt))
+  pub reply : IsKept w.texts r.reply
+  -- it can be spelled, if its client can
+  pub spelled : r.spec.stmt.client.0 < 2 ^ 32 → spec_fields.Fits r.spec.stmt
+
+-- what a correct client holds is backed
+pub record IsClientTied {S : Type 0} (w : World S) (id : ℕ) (x : Client) : Type 0 where
+  pub me : x.state.me.0 ≡ id
+  pub counts : x.state.counts ≡ w.setup.counts
+  pub keys : x.state.keys ≡ keys_of w.setup
+  pub holds : HoldsResponses x.state
+  pub backed : (number : ℕ) (r : Response) → kept_of x.state number ≡ Some r → IsBackedBy w number r
+
+-- a completion is of a correct client and fixed, and its reply is kept
+pub record IsDone {S : Type 0} (R : Rules S) (w : World S) (c : Completed) : Type 0 where
+  pub client : Client
+  pub correct : client_at w c.client.0 ≡ Some client
+  pub completed : IsCompleted (seen R w) (completion_of c)
+  pub reply : IsKept w.texts c.done.reply
+
+pub record IsGood {S : Type 0} (R : Rules S) (w : World S) : Type 0 where
+  pub setup : IsSetup w.setup
+  -- there is a seat for each replica and each client
+  pub replicas : length w.replicas ≡ w.setup.counts.n
+  pub clients : length w.clients ≡ w.setup.clients
+  pub lawful : IsLawful (seen R w)
+  pub tied : (id : ℕ) (x : world.Replica S) → replica_at w id ≡ Some x → IsTied R w id x
+  pub client_tied : (id : ℕ) (x : Client) → client_at w id ≡ Some x → IsClientTied w id x
+  pub done : AllByRecursion (IsDone R w) w.done

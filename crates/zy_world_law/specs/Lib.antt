@@ -1,0 +1,11 @@
+pub mod Setup
+pub mod World
+pub mod Texts
+pub mod Honest
+pub mod Liars
+pub mod Events
+pub mod Runs
+pub mod Seen
+pub mod Safe
+pub mod Good
+pub mod Example

@@ -1,0 +1,15 @@
+//! The world of a replay and its law: what each event of a schedule makes of all parties, the frames and the kept texts, as
+//! definitions, and that every run is safe. The functions here are laws, which have no argument and do nothing.
+#![tactic(auto)]
+
+mod event;
+mod example;
+mod honest;
+mod note;
+mod runs;
+
+pub use event::WorldEvent;
+pub use example::a_small_run;
+pub use honest::honest_keeps;
+pub use note::Note;
+pub use runs::runs_are_safe;

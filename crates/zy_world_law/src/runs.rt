@@ -1,0 +1,19 @@
+ghost use Rattle.std.specs.Prelude.{List};
+ghost use Rattle.std.specs.List.{AllByRecursion};
+ghost use Rattle.zy_schedule.specs.declared.line.Line.{Line};
+ghost use Rattle.zy_world_law.specs.Runs.{run, worlds_of};
+ghost use Rattle.zy_world_law.specs.Safe.{AllGrow, IsSafe};
+ghost use Rattle.zy_world_law.specs.Setup.{IsSetup, Setup};
+ghost use Rattle.zy_world_law.specs.World.{start};
+
+use zy_base::Machine;
+use zy_client::held_responses;
+
+/// Every run is safe: for each setup in which at most f replicas lie, and each schedule, each world of the run is safe, and
+/// the agreed list before each event is a front of the one after it.
+pub fn runs_are_safe<M: Machine>()
+    ensures safe { (setup : Setup) (schedule : List Line) → IsSetup setup → AllByRecursion (IsSafe M.rules) (worlds_of M.rules setup schedule) }
+    ensures grows { (setup : Setup) (schedule : List Line) → IsSetup setup → AllGrow M.rules (start M.rules setup) (run M.rules schedule (start M.rules setup)).worlds }
+{
+    held_responses();
+}
