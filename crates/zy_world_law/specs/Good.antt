@@ -22,7 +22,7 @@ use Rattle.zy_world_law.specs.Safe.{completion_of}
 use Rattle.zy_world_law.specs.Seen.{seen}
 use Rattle.zy_world_law.specs.Setup.{IsSetup, keys_of}
 use Rattle.zy_world_law.specs.Texts.{digest_of}
-use Rattle.zy_world_law.specs.World.{World, Client, Completed, Texts, replica_at, client_at, texts_said}
+use Rattle.zy_world_law.specs.World.{World, Client, Completed, Texts, replica_at, client_at}
 use Rattle.zy_world_law.specs.World as world
 
 abbrev pub IsKept : Texts → List ℕ → Type 0
