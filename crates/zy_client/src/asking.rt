@@ -1,18 +1,24 @@
-ghost use Rattle.std.specs.Prelude.{◌≡◌, ◌≤◌, ◌+◌, ◌-◌, ◌^◌, length, IfOk, OnOk, OnErr};
-ghost use Rattle.zy_table.specs.ClientState.{leaves_of};
+ghost use Rattle.std.specs.Prelude.{◌≡◌, ◌≤◌, ◌+◌, ◌-◌, ◌^◌, ◌∷◌, [], length, option_map, Some, IfOk, OnOk, OnErr};
+ghost use Rattle.std.specs.List.{AllByRecursion};
+ghost use Rattle.std.specs.Option.{ForSome};
+ghost use Rattle.zy_frames.specs.declared.frame.Frame.TheVariants as frames;
+ghost use Rattle.zy_frames.specs.Frames.{IsFrameInRange};
+ghost use Rattle.zy_table.specs.ClientState.{leaves_of, no_responses};
 ghost use Rattle.zy_table.specs.ClientRows.{ask as ask_row, asked as asked_row, next_ask, ask_again as ask_again_row};
 ghost use Rattle.zy_parts.specs.Numbers as numbers;
+ghost use Rattle.zy_parts.specs.Signing.{IsSignedInRange};
 ghost use Rattle.zy_parts.specs.Statements.{IsAskInRange, ask_fields};
 ghost use Rattle.zy_seal.specs.Sealing.{sealed_by, spent_one};
 ghost use Rattle.zy_lms.specs.Height.{levels_of};
 
 use crate::client::{Client, no_responses};
 use crate::moved::Moved;
-use zy_base::{Answer, Bytes, Cause, Party, Stamp, Want};
+use std::alloc::Global;
+use zy_base::{Bytes, Cause, Party, Stamp, Want};
 use zy_frames::Frame;
 use zy_parts::{Ask, Signed};
 use zy_seal::{SealFault, Sealer};
-use zy_table::{Sent, To};
+use zy_table::To;
 
 impl Client {
     // A new request.
@@ -34,44 +40,66 @@ impl Client {
     }
 
     // The request is signed, kept and sent to the primary of the known view.
-    fn asked(mut self, ask: Ask) -> Result<Moved, Want>
+    fn asked(self, ask: Ask) -> Result<Moved, Want>
         requires leaf { 1 ≤ leaves_of self }
         requires stamp { ask.stamp.0 ≡ self.stamp.0 + 1 }
         requires op { length ask.op ≤ 1100 }
         ensures { IfOk result (λ m. m ≡ asked_row self ask) }
     {
-        let responses = no_responses(self.alloc, self.counts.n)?;
-        let said = copy_of(&ask)?;
-        let signed = seal(&mut self.sealer, ask)?;
-        let frame = Frame::Request(signed_copy(&signed)?);
         let to = To::One(Party::Replica(self.counts.primary(self.known_view)));
-        self.stamp = said.stamp;
+        let (client, signed) = self.signs(ask)?;
+        let said = said_of(client.alloc, &signed)?;
+        let client = client.awaits(signed_copy(&signed)?)?;
+        client.sends(to, Frame::Request(signed), said)
+    }
+
+    // The request signed by the next leaf, and the client that has come to its stamp.
+    fn signs(mut self, ask: Ask) -> Result<(Client, Signed<Ask>), Want>
+        requires leaf { 1 ≤ leaves_of self }
+        requires stamp { ask.stamp.0 ≡ self.stamp.0 + 1 }
+        requires op { length ask.op ≤ 1100 }
+        ensures client { IfOk result (λ r. r.0 ≡ record self { sealer = spent_one self.sealer; stamp = ask.stamp }) }
+        ensures signed { IfOk result (λ r. r.1 ≡ sealed_by numbers.ask ask_fields self.sealer ask) }
+        ensures range { IfOk result (λ r. IsSignedInRange IsAskInRange r.1) }
+    {
+        let stamp = ask.stamp;
+        let signed = seal(&mut self.sealer, ask)?;
+        self.stamp = stamp;
+        Ok((self, signed))
+    }
+
+    // The request is kept, and no response to it yet.
+    fn awaits(mut self, signed: Signed<Ask>) -> Result<Client, Want>
+        requires { IsSignedInRange IsAskInRange signed }
+        ensures { IfOk result (λ c. c ≡ record self { waiting = Some signed; responses = no_responses self.counts }) }
+    {
+        self.responses = no_responses(self.alloc, self.counts.n)?;
         self.waiting = Some(signed);
-        self.responses = responses;
-        let alloc = self.alloc;
-        Ok(Moved {
-            answer: Answer::Taken,
-            client: self,
-            sent: vec![in alloc; Sent { to, frame }]?,
-            said: vec![in alloc; said]?,
-        })
+        Ok(self)
     }
 
     // The request that waits goes to all replicas.
     pub(crate) fn ask_again(self) -> Result<Moved, Want>
         ensures { IfOk result (λ m. m ≡ ask_again_row self self.waiting) }
     {
-        let alloc = self.alloc;
-        let frame = match &self.waiting {
-            Some(waiting) => Frame::Request(signed_copy(waiting)?),
-            None => return Ok(self.taken()),
-        };
-        Ok(Moved {
-            answer: Answer::Taken,
-            client: self,
-            sent: vec![in alloc; Sent { to: To::All, frame }]?,
-            said: Vec::new(alloc),
-        })
+        match self.request()? {
+            None => Ok(self.taken()),
+            Some(frame) => {
+                let said = Vec::new(self.alloc);
+                self.sends(To::All, frame, said)
+            }
+        }
+    }
+
+    // A frame with the request that waits.
+    fn request(&self) -> Result<Option<Frame>, Want>
+        ensures value { IfOk result (λ frame. frame ≡ option_map frames.Request self.now.waiting) }
+        ensures range { IfOk result (λ frame. ForSome frame IsFrameInRange) }
+    {
+        match &self.waiting {
+            None => Ok(None),
+            Some(waiting) => Ok(Some(Frame::Request(signed_copy(waiting)?))),
+        }
     }
 }
 
@@ -91,13 +119,22 @@ fn seal(sealer: &mut Sealer, ask: Ask) -> Result<Signed<Ask>, Want>
     }
 }
 
+// What was signed.
+fn said_of(alloc: Global, signed: &Signed<Ask>) -> Result<Vec<Ask>, Want>
+    requires { IsSignedInRange IsAskInRange signed.now }
+    ensures value { IfOk result (λ said. said.items ≡ signed.now.stmt ∷ []) }
+    ensures range { IfOk result (λ said. AllByRecursion IsAskInRange said.items) }
+{
+    Ok(vec![in alloc; copy_of(&signed.stmt)?]?)
+}
+
 fn copy_of(ask: &Ask) -> Result<Ask, Want>
     ensures { IfOk result (λ copy. copy ≡ ask.now) }
 {
     Ok(ask.clone()?)
 }
 
-pub(crate) fn signed_copy(ask: &Signed<Ask>) -> Result<Signed<Ask>, Want>
+fn signed_copy(ask: &Signed<Ask>) -> Result<Signed<Ask>, Want>
     ensures { IfOk result (λ copy. copy ≡ ask.now) }
 {
     Ok(Signed {

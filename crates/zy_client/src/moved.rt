@@ -1,11 +1,16 @@
-ghost use Rattle.std.specs.Prelude.{◌≡◌, ◌∷◌, ◌++◌, []};
+ghost use Rattle.std.specs.Prelude.{◌≡◌, ◌∷◌, ◌++◌, [], IfOk};
+ghost use Rattle.std.specs.List.{AllByRecursion};
+ghost use Rattle.zy_base.specs.declared.step.Answer.TheVariants as answers;
+ghost use Rattle.zy_frames.specs.Frames.{IsFrameInRange};
+ghost use Rattle.zy_parts.specs.Statements.{IsAskInRange};
 ghost use Rattle.zy_table.specs.ClientState.{refused, taken};
 
 use crate::Client;
 use std::marker::Model;
-use zy_base::{Answer, Cause};
+use zy_base::{Answer, Cause, Want};
+use zy_frames::Frame;
 use zy_parts::Ask;
-use zy_table::Sent;
+use zy_table::{Sent, To};
 
 // What an event made of a client, with the frames and the requests as they are.
 #[derive(Drop)]
@@ -39,6 +44,21 @@ impl Client {
         ensures { result ≡ taken self }
     {
         self.answered(Answer::Taken)
+    }
+
+    // With one frame sent.
+    pub(crate) fn sends(self, to: To, frame: Frame, said: Vec<Ask>) -> Result<Moved, Want>
+        requires frame { IsFrameInRange frame }
+        requires said { AllByRecursion IsAskInRange said.items }
+        ensures { IfOk result (λ m. m ≡ record { answer = answers.Taken; state = self; sent = record { to = to; frame = frame } ∷ []; said = said.items }) }
+    {
+        let sent = vec![in self.alloc; Sent { to, frame }]?;
+        Ok(Moved {
+            answer: Answer::Taken,
+            client: self,
+            sent,
+            said,
+        })
     }
 
     // With nothing sent and nothing said.

@@ -1,8 +1,9 @@
 ghost use Rattle.std.specs.Prelude.{◌≡◌, ◌≤◌, length, map, IfOk, Ok, if◌then◌else◌};
 ghost use Rattle.std.specs.List.{AllByRecursion};
-ghost use Rattle.zy_frames.specs.Frames.{IsFrameInRange, frame_in};
+ghost use Rattle.zy_frames.specs.Frames.{IsFrameInRange, frame_in, parts_of};
+ghost use Rattle.zy_seal.specs.Screening.{screen};
 ghost use Rattle.zy_parts.specs.Statements.{IsAskInRange};
-ghost use Rattle.zy_table.specs.ClientState.{spoken_of, timers_of, all_replicas};
+ghost use Rattle.zy_table.specs.ClientState.{spoken_of, timers_of, all_replicas, client_outgoing};
 ghost use Rattle.zy_base.specs.declared.cause.Cause.TheVariants as causes;
 ghost use Rattle.zy_table.specs.Roles.{is_replica};
 ghost use Rattle.zy_table.specs.ClientState.{refused};
@@ -13,12 +14,12 @@ use crate::moved::Moved;
 use crate::{Client, ClientStepped};
 use std::alloc::Global;
 use zy_base::{
-    Bytes, Cause, ClientId, Event, Items, Party, ReplicaId, Said, Spoken, TimerKind, Want,
+    Bytes, Cause, ClientId, Event, Items, Outgoing, Party, ReplicaId, Said, Spoken, TimerKind, Want,
 };
 use zy_frames::{DecodeFault, Frame, decode, parts};
 use zy_parts::{Ask, Order, Signed, signed_text};
 use zy_seal::screen_parts;
-use zy_table::{Response, outgoing};
+use zy_table::{Response, Sent, outgoing};
 
 impl Client {
     /// Asks: the request with the next stamp goes to the primary of the known view. Refused as `Waiting` while an
@@ -71,11 +72,19 @@ impl Client {
         requires { IsFrameInRange frame }
         ensures { IfOk result (λ m. m ≡ decoded self (Ok frame)) }
     {
-        let parts = parts(self.alloc, &frame)?;
-        match screen_parts(&self.directory, &parts) {
+        match self.screened(&frame)? {
             Some(cause) => Ok(self.refused(cause)),
             None => self.hear(frame),
         }
+    }
+
+    // Why a part of the frame isn't taken.
+    fn screened(&self, frame: &Frame) -> Result<Option<Cause>, Want>
+        requires { IsFrameInRange frame.now }
+        ensures { IfOk result (λ cause. cause ≡ screen self.now.keys (parts_of frame.now)) }
+    {
+        let parts = parts(self.alloc, frame)?;
+        Ok(screen_parts(&self.directory, &parts))
     }
 
     // A frame whose parts are verified.
@@ -153,8 +162,7 @@ impl Moved {
             sent,
             said,
         } = self;
-        let all = all_replicas_of(client.alloc, client.counts.n)?;
-        let out = outgoing(client.alloc, &all, &sent)?;
+        let out = out_of(client.alloc, client.counts.n, &sent)?;
         let said = said_as(client.alloc, client.me, &said)?;
         let timers = client.timers();
         Ok(ClientStepped {
@@ -165,6 +173,16 @@ impl Moved {
             said,
         })
     }
+}
+
+// The frames as bytes.
+fn out_of(alloc: Global, replicas: u64, sent: &[Sent]) -> Result<Outgoing, Want>
+    requires replicas { replicas ≤ 16 }
+    requires frames { AllByRecursion (λ s. IsFrameInRange s.frame) sent.now }
+    ensures { IfOk result (λ out. out ≡ client_outgoing replicas sent.now) }
+{
+    let all = all_replicas_of(alloc, replicas)?;
+    outgoing(alloc, &all, sent)
 }
 
 // All replicas, in rising number.

@@ -2,15 +2,17 @@ mod fixture;
 
 use crate::Path;
 use fixture::{
-    CLIENT, Case, FIRST, FITTING, ORDER, OUTSIDER, RESPONSE, SECOND, asked, heard, kept, refused, response, seen, signed, start,
+    CLIENT, Case, FIRST, FITTING, ORDER, OUTSIDER, RESPONSE, SECOND, asked, heard, keeps, refused,
+    refuses, seen, signed, start,
 };
 use sha2::{Digest as Hasher, Sha256};
 use std::test::Fail;
 use zy_base::{
-    Answer, Bytes, Cause, ClientId, Digest, Event, FrameFault, Party, Place, ReplicaId, Stamp, TimerKind, View,
+    Answer, Bytes, Cause, ClientId, Digest, Event, FrameFault, Party, Place, ReplicaId, Stamp,
+    TimerKind, View,
 };
 use zy_frames::Frame;
-use zy_parts::{Ask, Local, Order, Spec};
+use zy_parts::{Hate, Local, Order, Spec};
 
 // SHA-256 of the frame of the first request of c0, `out ("j" 0)`, as another program made it.
 const REQUEST_FRAME: [u8; 32] = [
@@ -19,7 +21,8 @@ const REQUEST_FRAME: [u8; 32] = [
 ];
 
 // Its signed text.
-const REQUEST_TEXT: [u8; 33] = *b"\x5a\x59\x01\x01\x01\x00\x00\x00\x00\x00\x00\x00\x00\x00\x00\x00\x01\x00\x0e\x01\x02\x02\x01\x6a\x01\x00\x00\x00\x00\x00\x00\x00\x00";
+const REQUEST_TEXT: [u8; 33] =
+    *b"\x5a\x59\x01\x01\x01\x00\x00\x00\x00\x00\x00\x00\x00\x00\x00\x00\x01\x00\x0e\x01\x02\x02\x01\x6a\x01\x00\x00\x00\x00\x00\x00\x00\x00";
 
 #[test]
 fn asks_in_the_bytes_of_another_program(rt: HostRuntime) -> Result<(), Fail> {
@@ -49,7 +52,7 @@ fn completes_with_the_fourth_of_four(rt: HostRuntime) -> Result<(), Fail> {
             signed_as: by,
             ..FITTING
         };
-        client = kept(client, response(alloc, &mut key, &case)?)?;
+        client = keeps(alloc, client, &mut key, &case)?;
     }
     let done = client.done().ok_or("complete")?;
     assert_eq!(rt;
@@ -75,11 +78,117 @@ fn a_response_of_a_greater_view_takes_the_place(rt: HostRuntime) -> Result<(), F
     let alloc = rt.alloc();
     let (client, mut key) = start(alloc, 0)?;
     let mut client = asked(alloc, client)?.client;
-    client = kept(client, response(alloc, &mut key, &FITTING)?)?;
-    client = refused(client, response(alloc, &mut key, &FITTING)?, Cause::Repeat)?;
-    client = kept(client, response(alloc, &mut key, &OF_THE_NEXT_VIEW)?)?;
-    client = refused(client, response(alloc, &mut key, &FITTING)?, Cause::Repeat)?;
+    client = keeps(alloc, client, &mut key, &FITTING)?;
+    client = refuses(alloc, client, &mut key, &FITTING, Cause::Repeat)?;
+    client = keeps(alloc, client, &mut key, &OF_THE_NEXT_VIEW)?;
+    client = refuses(alloc, client, &mut key, &FITTING, Cause::Repeat)?;
     assert_eq!(rt; seen(&client).kept, [Some(View(1)), None, None, None]);
+    Ok(())
+}
+
+const OF_AN_OUTSIDER: Case = Case {
+    by: OUTSIDER,
+    signed_as: OUTSIDER,
+    ..FITTING
+};
+
+const WITH_A_SIGNATURE_OF_ANOTHER: Case = Case {
+    signed_as: SECOND,
+    ..FITTING
+};
+
+const OF_A_CLIENT: Case = Case {
+    by: CLIENT,
+    signed_as: CLIENT,
+    ..FITTING
+};
+
+#[test]
+fn signers_that_are_not_heard(rt: HostRuntime) -> Result<(), Fail> {
+    let alloc = rt.alloc();
+    let (client, mut key) = start(alloc, 0)?;
+    let client = asked(alloc, client)?.client;
+    let client = refuses(
+        alloc,
+        client,
+        &mut key,
+        &OF_AN_OUTSIDER,
+        Cause::UnknownParty,
+    )?;
+    let client = refuses(
+        alloc,
+        client,
+        &mut key,
+        &WITH_A_SIGNATURE_OF_ANOTHER,
+        Cause::BadSignature,
+    )?;
+    refuses(alloc, client, &mut key, &OF_A_CLIENT, Cause::WrongRole)?;
+    Ok(())
+}
+
+const OF_ANOTHER_CLIENT: Case = Case {
+    spec: Spec {
+        client: ClientId(1),
+        ..RESPONSE
+    },
+    ..FITTING
+};
+
+const OF_AN_EARLIER_REQUEST: Case = Case {
+    spec: Spec {
+        stamp: Stamp(0),
+        ..RESPONSE
+    },
+    ..FITTING
+};
+
+const OF_A_LATER_REQUEST: Case = Case {
+    spec: Spec {
+        stamp: Stamp(2),
+        ..RESPONSE
+    },
+    ..FITTING
+};
+
+const WITH_ANOTHER_REPLY: Case = Case {
+    reply: 1,
+    ..FITTING
+};
+
+#[test]
+fn responses_that_are_not_kept(rt: HostRuntime) -> Result<(), Fail> {
+    let alloc = rt.alloc();
+    let (client, mut key) = start(alloc, 0)?;
+    let client = refuses(alloc, client, &mut key, &FITTING, Cause::Finished)?;
+    let client = asked(alloc, client)?.client;
+    let client = refuses(
+        alloc,
+        client,
+        &mut key,
+        &OF_ANOTHER_CLIENT,
+        Cause::Unmatched,
+    )?;
+    let client = refuses(
+        alloc,
+        client,
+        &mut key,
+        &OF_AN_EARLIER_REQUEST,
+        Cause::OldStamp,
+    )?;
+    let client = refuses(
+        alloc,
+        client,
+        &mut key,
+        &OF_A_LATER_REQUEST,
+        Cause::Unmatched,
+    )?;
+    refuses(
+        alloc,
+        client,
+        &mut key,
+        &WITH_ANOTHER_REPLY,
+        Cause::Unmatched,
+    )?;
     Ok(())
 }
 
@@ -89,113 +198,42 @@ const WITH_ORDER: Case = Case {
     ..FITTING
 };
 
-const NOT_KEPT: [(Case, Cause); 10] = [
-    (
-        Case {
-            by: OUTSIDER,
-            signed_as: OUTSIDER,
-            ..FITTING
+const ORDERED_BY_A_BACKUP: Case = Case {
+    order: Some((SECOND, ORDER)),
+    ..FITTING
+};
+
+const ORDERED_AS_ANOTHER_ENTRY: Case = Case {
+    order: Some((
+        FIRST,
+        Order {
+            request: Digest([6; 32]),
+            ..ORDER
         },
-        Cause::UnknownParty,
-    ),
-    (
-        Case {
-            signed_as: SECOND,
-            ..FITTING
-        },
-        Cause::BadSignature,
-    ),
-    (
-        Case {
-            by: CLIENT,
-            signed_as: CLIENT,
-            ..FITTING
-        },
-        Cause::WrongRole,
-    ),
-    (
-        Case {
-            order: Some((SECOND, ORDER)),
-            ..FITTING
-        },
-        Cause::WrongRole,
-    ),
-    (
-        Case {
-            spec: Spec {
-                client: ClientId(1),
-                ..RESPONSE
-            },
-            ..FITTING
-        },
-        Cause::Unmatched,
-    ),
-    (
-        Case {
-            spec: Spec {
-                stamp: Stamp(0),
-                ..RESPONSE
-            },
-            ..FITTING
-        },
-        Cause::OldStamp,
-    ),
-    (
-        Case {
-            spec: Spec {
-                stamp: Stamp(2),
-                ..RESPONSE
-            },
-            ..FITTING
-        },
-        Cause::Unmatched,
-    ),
-    (
-        Case {
-            reply: 1,
-            ..FITTING
-        },
-        Cause::Unmatched,
-    ),
-    (
-        Case {
-            order: Some((
-                FIRST,
-                Order {
-                    request: Digest([6; 32]),
-                    ..ORDER
-                },
-            )),
-            ..FITTING
-        },
-        Cause::Unmatched,
-    ),
-    (
-        Case {
-            order: Some((
-                FIRST,
-                Order {
-                    place: Place(2),
-                    ..ORDER
-                },
-            )),
-            ..FITTING
-        },
-        Cause::Unmatched,
-    ),
-];
+    )),
+    ..FITTING
+};
 
 #[test]
-fn responses_that_are_not_kept(rt: HostRuntime) -> Result<(), Fail> {
+fn orders_beside_a_response(rt: HostRuntime) -> Result<(), Fail> {
     let alloc = rt.alloc();
     let (client, mut key) = start(alloc, 0)?;
-    let client = refused(client, response(alloc, &mut key, &FITTING)?, Cause::Finished)?;
-    let mut client = asked(alloc, client)?.client;
-    for (case, cause) in NOT_KEPT {
-        client = refused(client, response(alloc, &mut key, &case)?, cause)?;
-    }
-    client = kept(client, response(alloc, &mut key, &WITH_ORDER)?)?;
-    assert_eq!(rt; seen(&client).kept, [Some(View(0)), None, None, None]);
+    let client = asked(alloc, client)?.client;
+    let client = refuses(
+        alloc,
+        client,
+        &mut key,
+        &ORDERED_BY_A_BACKUP,
+        Cause::WrongRole,
+    )?;
+    let client = refuses(
+        alloc,
+        client,
+        &mut key,
+        &ORDERED_AS_ANOTHER_ENTRY,
+        Cause::Unmatched,
+    )?;
+    keeps(alloc, client, &mut key, &WITH_ORDER)?;
     Ok(())
 }
 
@@ -203,7 +241,11 @@ fn responses_that_are_not_kept(rt: HostRuntime) -> Result<(), Fail> {
 fn bytes_that_are_no_frame(rt: HostRuntime) -> Result<(), Fail> {
     let alloc = rt.alloc();
     let (mut client, _) = start(alloc, 0)?;
-    for (kind, fault) in [(10, FrameFault::Short), (11, FrameFault::Kind), (16, FrameFault::Kind)] {
+    for (kind, fault) in [
+        (10, FrameFault::Short),
+        (11, FrameFault::Kind),
+        (16, FrameFault::Kind),
+    ] {
         let event = Event::Heard(Bytes::from_slice(alloc, &[1, kind])?);
         client = refused(client, event, Cause::NotFrame(fault))?;
     }
@@ -222,12 +264,12 @@ fn frames_that_are_no_responses(rt: HostRuntime) -> Result<(), Fail> {
     let (client, mut key) = start(alloc, 0)?;
     let of_replica = Frame::LocalCommit(signed(alloc, &mut key, FIRST, FIRST, LOCAL)?);
     let of_client = Frame::LocalCommit(signed(alloc, &mut key, CLIENT, CLIENT, LOCAL)?);
-    let request = Frame::Hate(signed(alloc, &mut key, FIRST, FIRST, zy_parts::Hate { view: View(0) })?);
+    let hate = Frame::Hate(signed(alloc, &mut key, FIRST, FIRST, Hate { view: View(0) })?);
     let client = refused(client, heard(alloc, &of_replica)?, Cause::Finished)?;
     let client = asked(alloc, client)?.client;
     let client = refused(client, heard(alloc, &of_replica)?, Cause::Unmatched)?;
     let client = refused(client, heard(alloc, &of_client)?, Cause::WrongRole)?;
-    refused(client, heard(alloc, &request)?, Cause::WrongRole)?;
+    refused(client, heard(alloc, &hate)?, Cause::WrongRole)?;
     Ok(())
 }
 

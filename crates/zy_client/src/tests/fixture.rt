@@ -128,7 +128,7 @@ pub fn heard(alloc: Global, frame: &Frame) -> Result<Event, Fail>
 }
 
 // The frame of a case, whose numbers are small.
-pub fn response(alloc: Global, key: &mut LmsKey, case: &Case) -> Result<Event, Fail> {
+fn response(alloc: Global, key: &mut LmsKey, case: &Case) -> Result<Event, Fail> {
     let spec = case.spec;
     if spec.view.0 > 1 || spec.place.0 != 1 || spec.stamp.0 > 2 {
         return Err(Fail::from("small numbers"));
@@ -195,10 +195,7 @@ pub fn refused(client: Client, event: Event, cause: Cause) -> Result<Client, Fai
     let before = seen(&client);
     let stepped = client.step(event)?;
     if stepped.answer != Answer::Refused(cause) {
-        return Err(Fail::new(format_args!(
-            "{:?} in place of {cause:?}",
-            stepped.answer
-        )));
+        return Err(Fail::new(format_args!("{:?} in place of {cause:?}", stepped.answer)));
     }
     if seen(&stepped.client) != before {
         return Err(Fail::from("a refusal changes nothing"));
@@ -206,9 +203,20 @@ pub fn refused(client: Client, event: Event, cause: Cause) -> Result<Client, Fai
     quiet(stepped)
 }
 
-// The client after a response that it keeps.
-pub fn kept(client: Client, event: Event) -> Result<Client, Fail> {
-    let stepped = client.step(event)?;
+// The same of the frame of a case.
+pub fn refuses(
+    alloc: Global,
+    client: Client,
+    key: &mut LmsKey,
+    case: &Case,
+    cause: Cause,
+) -> Result<Client, Fail> {
+    refused(client, response(alloc, key, case)?, cause)
+}
+
+// The client after the response of a case, which it keeps.
+pub fn keeps(alloc: Global, client: Client, key: &mut LmsKey, case: &Case) -> Result<Client, Fail> {
+    let stepped = client.step(response(alloc, key, case)?)?;
     if stepped.answer != Answer::Taken {
         return Err(Fail::new(format_args!("{:?}", stepped.answer)));
     }
