@@ -1,5 +1,4 @@
 -- The test by which two orders are judged.
-use Rattle.std.proofs.Common.{◌≡◌, ◌≢◌}
 use Rattle.std.specs.Bool.{Decides}
 use Rattle.std.proofs.lemmas.Bool.Decides.{Decides-like, Decides-and, Decides-not}
 use Rattle.zy_parts.specs.declared.signed.Signed.{Signed}

@@ -1,6 +1,6 @@
 -- The test of equality that is derived for these statements is that of all their fields.
 use Rattle.std.proofs.Common.{◌≡◌, ap}
-use Rattle.std.specs.Prelude.{Bool, true, nat_eq, ◌&&◌}
+use Rattle.std.specs.Prelude.{Bool, nat_eq, ◌&&◌}
 use Rattle.std.specs.Bool.{Decides}
 use Rattle.std.specs.Cmp.Lexicographic.{pointwise, bytes_decides}
 use Rattle.std.proofs.lemmas.Bool.Decides.{Decides-eqb, Decides-and, Decides-like}

@@ -1,5 +1,5 @@
 -- Who signed, in lists of signed statements.
-use Rattle.std.specs.Prelude.{◌≢◌, AllPairs, Bool, true, false, not, nat_eq, ◌||◌, List, [], ◌∷◌}
+use Rattle.std.specs.Prelude.{◌≢◌, AllPairs, Bool, false, not, nat_eq, ◌||◌, List, [], ◌∷◌}
 use Rattle.std.specs.List.{list_any}
 use Rattle.zy_base.specs.declared.ids.Party.{Party}
 use Rattle.zy_base.specs.declared.ids.Party.TheVariants.{Replica, Client}

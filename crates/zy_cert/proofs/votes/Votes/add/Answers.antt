@@ -1,4 +1,3 @@
-use Rattle.std.proofs.Common.{◌≡◌, true, false, sym, ◌∙◌}
 use Rattle.zy_cert.proofs.VoteLemmas.{AreVotes-push}
 use Rattle.zy_cert.proofs.votes.Votes.add.Goals as goal
 
