@@ -20,11 +20,11 @@ skipped_slot (x ∷ xs) (suc n) k =
 
 -- the slot at a place, behind those that are skipped
 pub filled_on : (xs : List (Option OrderFrame)) (skipped at : ℕ) → skipped ≤ at
-  → filled (take (at + 1 - skipped) (drop skipped xs)) ≡ filled (take (at - skipped) (drop skipped xs)) ++ filled (slice_index_or xs at None ∷ [])
+    → filled (take (at + 1 - skipped) (drop skipped xs)) ≡ filled (take (at - skipped) (drop skipped xs)) ++ filled (slice_index_or xs at None ∷ [])
 filled_on xs skipped at within =
     let next : at + 1 - skipped ≡ suc (at - skipped) = omega (arith, within) in
     let there : skipped + (at - skipped) ≡ at = omega (arith, within) in
     ap (λ (k : ℕ). filled (take k (drop skipped xs))) next
     ∙ filled_next (drop skipped xs) (at - skipped)
     ∙ ap (λ (slot : Option OrderFrame). filled (take (at - skipped) (drop skipped xs)) ++ filled (slot ∷ []))
-      (skipped_slot xs skipped (at - skipped) ∙ ap (λ (i : ℕ). slice_index_or xs i None) there)
+    (skipped_slot xs skipped (at - skipped) ∙ ap (λ (i : ℕ). slice_index_or xs i None) there)

@@ -80,7 +80,12 @@ impl Admission {
     }
 
     /// Copies of the orders that are kept from a place to a place, in the order of their places.
-    pub fn orders_from(&self, alloc: Global, from: Place, to: Place) -> Result<Vec<OrderFrame>, Want>
+    pub fn orders_from(
+        &self,
+        alloc: Global,
+        from: Place,
+        to: Place,
+    ) -> Result<Vec<OrderFrame>, Want>
         requires base { self.now.base < 2 ^ 62 }
         requires to { to.0 < 2 ^ 62 }
         ensures { IfOk result (λ v. v.items ≡ orders_from from.0 to.0 self.now) }
