@@ -8,7 +8,7 @@ ghost use Rattle.zy_table.specs.State.{leaves_of, window_of, spent};
 ghost use Rattle.zy_base.specs.declared.step.Answer.TheVariants as Answer;
 ghost use Rattle.zy_table.specs.Deeds.{ends, begin};
 ghost use Rattle.zy_table.specs.Running.{run};
-ghost use Rattle.zy_table.specs.Orders.{position_of as position_for, take_order as taken, asked_from as asked_at, owes_hole as owes, hole_of as hole_for, ask_for_missing as asked, hold_order as held, order as order_row};
+ghost use Rattle.zy_table.specs.Orders.{position_of as position_for, take_order as taken, asked_from as asked_at, owes_hole as owes, hole_of as hole_for, ask_for_missing as asked, hold_order as held, order_as as answered_as, order as order_row};
 ghost use Rattle.zy_parts.specs.Numbers as numbers;
 ghost use Rattle.zy_parts.specs.Signing.{IsSignedInRange};
 ghost use Rattle.zy_seal.specs.Sealing.{sealed_by};
@@ -148,21 +148,34 @@ impl<M: Machine> Replica<M> {
         Ok(progress.ends(Answer::Held))
     }
 
+    fn judge(&self, frame: &OrderFrame) -> Admit
+        requires { IsOrderReady frame.now }
+        ensures { result ≡ judge_in self.now.orders frame.now.order.stmt frame.now.ask (position_for M.rules self.now frame.now) }
+    {
+        let position = self.position_of(frame);
+        self.orders.judge(&frame.order.stmt, &frame.ask, &position)
+    }
+
+    fn order_as(self, frame: OrderFrame, admit: Admit) -> Result<Moved<M>, Want>
+        requires order { IsOrderReady frame }
+        requires judged { admit ≡ judge_in self.orders frame.order.stmt frame.ask (position_for M.rules self frame) }
+        ensures { IfOk result (λ m. m ≡ answered_as M.rules self frame admit) }
+    {
+        match admit {
+            Admit::Next => self.take_order(frame),
+            Admit::Held => self.hold_order(frame),
+            Admit::Refused(cause) => Ok(self.refused(cause)),
+            Admit::Evidence => Ok(self.refused(Cause::Unmatched)),
+        }
+    }
+
     // The row.
     #[tactic(auto, unfolding(zy_table::specs::Orders::order))]
     pub(crate) fn hear_order(self, frame: OrderFrame) -> Result<Moved<M>, Want>
         requires order { IsOrderReady frame }
         ensures { IfOk result (λ m. m ≡ order_row M.rules self frame) }
     {
-        let position = self.position_of(&frame);
-        match self
-            .orders
-            .judge(&frame.order.stmt, &frame.ask, &position)
-        {
-            Admit::Next => self.take_order(frame),
-            Admit::Held => self.hold_order(frame),
-            Admit::Refused(cause) => Ok(self.refused(cause)),
-            Admit::Evidence => Ok(self.refused(Cause::Unmatched)),
-        }
+        let admit = self.judge(&frame);
+        self.order_as(frame, admit)
     }
 }
