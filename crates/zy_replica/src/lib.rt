@@ -4,7 +4,6 @@
 
 mod changes;
 mod copies;
-
 mod holes;
 mod orders;
 mod outcome;

@@ -149,10 +149,7 @@ impl<M: Machine> Replica<M> {
     {
         match self.said_already(&spec)? {
             None => self.respond_anew(spec, known),
-            Some(said) => Ok(self
-                .begin()
-                .send_response(said, known)?
-                .ends(Answer::Taken)),
+            Some(said) => Ok(self.begin().send_response(said, known)?.ends(Answer::Taken)),
         }
     }
 
