@@ -15,3 +15,6 @@ mod step;
 
 pub use replica::{Replica, Stepped};
 pub use zy_table::{Gains, Got};
+
+#[cfg(test)]
+mod tests;
