@@ -64,6 +64,6 @@ module _ {S : Type 0} (R : Rules S) (g : Going S) where
     held_waits fits spent = first ∙ rw (fits, spent) refl
 
     pub held_runs : fits_end R g.state o ≡ true → nat_le 1 (leaves_of g.state) ≡ true
-      → run_held R held_slots g ≡ run_held R (slots_above (last_place (run_one R o g).state.kept) (run_one R o g).state.orders) (run_one R o g)
+        → run_held R held_slots g ≡ run_held R (slots_above (last_place (run_one R o g).state.kept) (run_one R o g).state.orders) (run_one R o g)
     unfolding run_held
     held_runs fits left = first ∙ rw (fits, left) (run_is o)

@@ -1,5 +1,7 @@
+mod FillLemmas
 mod HeldLemmas
 mod OthersLemmas
 mod ReadyLemmas
+mod ScreenLemmas
 mod SlotLemmas
 mod ToldLemmas

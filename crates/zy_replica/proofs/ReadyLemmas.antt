@@ -1,8 +1,9 @@
 -- What each change of a replica leaves of what holds of every one.
 use Rattle.std.proofs.Common.{◌≡◌, ◌+◌, ◌-◌, ◌≤◌, ◌<◌, ◌++◌, ◌∷◌, [], ℕ, zero, suc, Bool, true, false, List, take, drop, length, replicate, set, slice_index_or, Option, Some, None, refl, ap, ◌∙◌, sym, subst, arith}
-use Rattle.std.specs.Prelude.{if◌then◌else◌, nat_le, max}
+use Rattle.std.specs.Prelude.{if◌then◌else◌, nat_le, nat_lt, max}
 use Rattle.std.specs.List.{AllByRecursion}
 use Rattle.std.specs.Option.{ForSome}
+use Rattle.std.proofs.lemmas.Bool.{ltb-true}
 use Rattle.std.proofs.lemmas.Option.{same_Some}
 use Rattle.std.proofs.lemmas.List.{length-append, length-set, length-replicate}
 use Rattle.zy_frames.specs.declared.frame.OrderFrame.{OrderFrame}
@@ -51,10 +52,19 @@ slots_take zero xs all = tt
 slots_take (suc n) [] all = tt
 slots_take (suc n) (x ∷ xs) all = (all.0, slots_take n xs all.1)
 
-slot_ready : (xs : List (Option OrderFrame)) (i : ℕ) → AllByRecursion IsSlotReady xs → IsSlotReady (slice_index_or xs i None)
-slot_ready [] i all = λ x is. cc
-slot_ready (x ∷ xs) zero all = all.0
-slot_ready (x ∷ xs) (suc i) all = slot_ready xs i all.1
+-- an item that is there
+item_there : {A : Type 0} (P : A → Type 0) (xs : List (Option A)) (i : ℕ) (d : Option A) → i < length xs → AllByRecursion (λ (o : Option A). ForSome o P) xs → ForSome (slice_index_or xs i d) P
+item_there P [] i d within all = let never : ⊥ = omega (arith, within) in absurd never
+item_there P (x ∷ xs) zero d within all = all.0
+item_there P (x ∷ xs) (suc i) d within all = item_there P xs i d (omega (arith, within)) all.1
+
+pub item_is : {A : Type 0} (P : A → Type 0) (xs : List (Option A)) (i : ℕ) (item : Option A) → nat_lt i (length xs) ≡ true → item ≡ slice_index_or xs i item → AllByRecursion (λ (o : Option A). ForSome o P) xs → ForSome item P
+item_is {A = A} P xs i item within is all = subst (λ (o : Option A). ForSome o P) (sym is) (item_there P xs i item (ltb-true i (length xs) within) all)
+
+pub item_ready : {A : Type 0} (P : A → Type 0) (xs : List (Option A)) (i : ℕ) → AllByRecursion (λ (o : Option A). ForSome o P) xs → ForSome (slice_index_or xs i None) P
+item_ready P [] i all = λ x is. cc
+item_ready P (x ∷ xs) zero all = all.0
+item_ready P (x ∷ xs) (suc i) all = item_ready P xs i all.1
 
 filled_ready : (xs : List (Option OrderFrame)) → AllByRecursion IsSlotReady xs → AllByRecursion IsOrderReady (filled xs)
 filled_ready [] all = tt
@@ -64,7 +74,7 @@ filled_ready (Some o ∷ xs) all = (all.0 o refl, filled_ready xs all.1)
 -- what is stored
 stored_if : (b : Bool) (o : Orders) (place : ℕ) → AllByRecursion IsSlotReady o.slots → IsSlotReady (if b then None else slice_index_or o.slots (place - o.base - 1) None)
 stored_if true o place all = λ x is. cc
-stored_if false o place all = slot_ready o.slots (place - o.base - 1) all
+stored_if false o place all = item_ready IsOrderReady o.slots (place - o.base - 1) all
 
 pub stored_ready : (o : Orders) (place : ℕ) → AllByRecursion IsSlotReady o.slots → IsSlotReady (stored_in o place)
 stored_ready o place all = stored_if (nat_le place o.base) o place all

@@ -23,5 +23,5 @@ pub all_told : {A B : Type 0} (front : List A) (f : List B → List A) (rest : L
 all_told {A = A} front f rest all ends is empty = sym (append-nil front) ∙ ap (λ (xs : List A). front ++ xs) (sym ends ∙ ap f (sym (none_left rest empty))) ∙ is
 
 pub gained_one : (me : Party) (said : List Spoken) (got : List Got) (e : Got) (rest : List Act) (all : List Spoken)
-  → said ++ said_from me (length got + 1) rest ≡ all → said ++ said_from me (length (got ++ e ∷ [])) rest ≡ all
+    → said ++ said_from me (length got + 1) rest ≡ all → said ++ said_from me (length (got ++ e ∷ [])) rest ≡ all
 gained_one me said got e rest all is = ap (λ (n : ℕ). said ++ said_from me n rest) (length-append got (e ∷ [])) ∙ is

@@ -53,7 +53,8 @@ impl<M: Machine> Replica<M> {
 
     // The own last response to a client.
     pub(crate) fn spec_to(&self, client: ClientId) -> Option<&Signed<Spec>>
-        ensures { option_copied result ≡ spec_to self.now client }
+        ensures spec { option_copied result ≡ spec_to self.now client }
+        ensures range { IsKeptSpec (option_copied result) }
     {
         match self.specs.get(client.0 as usize) {
             Some(Some(spec)) => Some(spec),

@@ -1,6 +1,10 @@
 //! What a replica answers to one that lacks orders, and when it asks again for those that it lacks itself.
 
-ghost use Rattle.std.specs.Prelude.{◌≡◌, ◌≤◌, ◌<◌, ◌^◌, IfOk, map, []};
+ghost use Rattle.std.specs.Prelude.{◌≡◌, ◌≤◌, ◌<◌, ◌^◌, IfOk, map, [], nat_le, if◌then◌else◌};
+ghost use Rattle.zy_base.specs.declared.cause.Cause.TheVariants as causes;
+ghost use Rattle.zy_base.specs.declared.step.Answer.TheVariants as Answer;
+ghost use Rattle.zy_exec.specs.Kept.{last_place};
+ghost use Rattle.zy_table.specs.Deeds.{refused as refused_with};
 ghost use Rattle.std.specs.List.{AllByRecursion};
 ghost use Rattle.zy_parts.specs.Signing.{IsSignedInRange};
 ghost use Rattle.zy_parts.specs.Statements.{IsHoleInRange};
@@ -32,21 +36,24 @@ fn orders_to(alloc: Global, by: Party, orders: Vec<OrderFrame>) -> Result<Items<
 }
 
 impl<M: Machine> Replica<M> {
-    fn fill_with(self, hole: Signed<Hole>, orders: Vec<OrderFrame>) -> Result<Moved<M>, Want>
-        requires hole { IsSignedInRange IsHoleInRange hole }
-        requires orders { AllByRecursion IsOrderReady orders.items }
-        ensures { IfOk result (λ m. m ≡ filled_with self hole orders.items) }
+    // Nothing is kept in the range: it lies before, or it hasn't come.
+    fn nothing_kept(self, hole: &Hole) -> Moved<M>
+        ensures { result ≡ (if nat_le hole.now.to.0 (last_place self.kept) then refused_with causes.OldPlace self else refused_with (causes.Behind hole.now.to) self) }
     {
-        if orders.is_empty() {
-            return Ok(if hole.stmt.to <= self.exec.end() {
-                self.refused(Cause::OldPlace)
-            } else {
-                self.refused(Cause::Behind(hole.stmt.to))
-            });
+        if hole.to <= self.exec.end() {
+            self.refused(Cause::OldPlace)
+        } else {
+            self.refused(Cause::Behind(hole.to))
         }
+    }
+
+    fn send_orders(self, by: Party, orders: Vec<OrderFrame>) -> Result<Moved<M>, Want>
+        requires { AllByRecursion IsOrderReady orders.items }
+        ensures { IfOk result (λ m. m ≡ record { answer = Answer.Taken; state = self; deeds = record { sent = map (order_to by) orders.items; acts = [] } }) }
+    {
         let alloc = self.alloc;
         let deeds = Deeds {
-            sent: orders_to(alloc, hole.by, orders)?,
+            sent: orders_to(alloc, by, orders)?,
             acts: Items::new(alloc),
         };
         Ok(Progress {
@@ -54,6 +61,19 @@ impl<M: Machine> Replica<M> {
             deeds,
         }
         .ends(Answer::Taken))
+    }
+
+    #[tactic(auto, using(crate::proofs::FillLemmas::fill_none, crate::proofs::FillLemmas::fill_some))]
+    fn fill_with(self, hole: Signed<Hole>, orders: Vec<OrderFrame>) -> Result<Moved<M>, Want>
+        requires hole { IsSignedInRange IsHoleInRange hole }
+        requires orders { AllByRecursion IsOrderReady orders.items }
+        ensures { IfOk result (λ m. m ≡ filled_with self hole orders.items) }
+    {
+        if orders.is_empty() {
+            Ok(self.nothing_kept(&hole.stmt))
+        } else {
+            self.send_orders(hole.by, orders)
+        }
     }
 
     // The kept orders in a range.

@@ -4,7 +4,6 @@
 
 mod changes;
 mod copies;
-
 mod holes;
 mod orders;
 mod outcome;
@@ -16,3 +15,6 @@ mod step;
 
 pub use replica::{Replica, Stepped};
 pub use zy_table::{Gains, Got};
+
+#[cfg(test)]
+mod tests;

@@ -1,15 +1,18 @@
 //! What a replica answers to an order.
 
-ghost use Rattle.std.specs.Prelude.{◌≡◌, ◌≤◌, ◌<◌, ◌+◌, IfOk, is_some, if◌then◌else◌, true, false, None};
+ghost use Rattle.std.specs.Prelude.{◌≡◌, ◌≤◌, ◌<◌, ◌+◌, IfOk, is_some, if◌then◌else◌, true, false, Some, None};
 ghost use Rattle.zy_exec.specs.Kept.{last_place};
 ghost use Rattle.zy_admit.specs.Judging.{judge_in};
 ghost use Rattle.zy_admit.specs.Orders.{with_order};
-ghost use Rattle.zy_table.specs.State.{leaves_of, window_of, own_view};
+ghost use Rattle.zy_table.specs.State.{leaves_of, window_of, spent};
 ghost use Rattle.zy_base.specs.declared.step.Answer.TheVariants as Answer;
 ghost use Rattle.zy_table.specs.Deeds.{ends, begin};
 ghost use Rattle.zy_table.specs.Running.{run};
-ghost use Rattle.zy_table.specs.Orders.{position_of as position_for, take_order as taken, asked_from as asked_at, owes_hole as owes, hole_of as hole_for, ask_for_missing as asked, hold_order as held, order as order_row};
-ghost use Rattle.zy_parts.specs.Statements.{IsHoleInRange};
+ghost use Rattle.zy_table.specs.Orders.{position_of as position_for, take_order as taken, asked_from as asked_at, owes_hole as owes, hole_of as hole_for, ask_for_missing as asked, hold_order as held, order_as as answered_as, order as order_row};
+ghost use Rattle.zy_parts.specs.Numbers as numbers;
+ghost use Rattle.zy_parts.specs.Signing.{IsSignedInRange};
+ghost use Rattle.zy_seal.specs.Sealing.{sealed_by};
+ghost use Rattle.zy_parts.specs.Statements.{IsHoleInRange, hole_fields};
 ghost use Rattle.zy_replica.specs.Ready.{IsOrderReady};
 
 use crate::Replica;
@@ -98,6 +101,19 @@ impl<M: Machine> Replica<M> {
         }
     }
 
+    fn seal_hole(self) -> Result<(Replica<M>, Signed<Hole>), Want>
+        requires leaf { 1 ≤ leaves_of self }
+        requires room { last_place self.kept < window_of self }
+        ensures replica { IfOk result (λ r. r.0 ≡ record (spent self) { hole = Some (sealed_by numbers.hole hole_fields self.sealer (hole_for self)) }) }
+        ensures hole { IfOk result (λ r. r.1 ≡ sealed_by numbers.hole hole_fields self.sealer (hole_for self)) }
+        ensures range { IfOk result (λ r. IsSignedInRange IsHoleInRange r.1) }
+    {
+        let hole = self.hole_of();
+        let (replica, signed) = self.seal(hole)?;
+        let copy = hole_copy(&signed)?;
+        Ok((replica.keep_hole(Some(copy)), signed))
+    }
+
     // The primary is asked for them.
     fn ask_for_missing(self) -> Result<Progress<M>, Want>
         requires leaf { 1 ≤ leaves_of self }
@@ -105,15 +121,13 @@ impl<M: Machine> Replica<M> {
         ensures { IfOk result (λ g. g ≡ asked M.rules self) }
     {
         let stood = self.stood();
-        let hole = self.hole_of();
-        let body = Body::Hole(hole);
-        let primary = self.counts.primary(self.view());
-        let (replica, signed) = self.seal(hole)?;
-        let replica = replica.keep_hole(Some(hole_copy(&signed)?));
+        let to = To::One(Party::Replica(self.counts.primary(self.view())));
+        let (replica, signed) = self.seal_hole()?;
+        let body = Body::Hole(signed.stmt);
         replica
             .begin()
             .act(Act::Says(Remark { body, stood }))?
-            .send(To::One(Party::Replica(primary)), Frame::FillHole(signed))
+            .send(to, Frame::FillHole(signed))
     }
 
     // An order that is held.
@@ -134,21 +148,34 @@ impl<M: Machine> Replica<M> {
         Ok(progress.ends(Answer::Held))
     }
 
+    fn judge(&self, frame: &OrderFrame) -> Admit
+        requires { IsOrderReady frame.now }
+        ensures { result ≡ judge_in self.now.orders frame.now.order.stmt frame.now.ask (position_for M.rules self.now frame.now) }
+    {
+        let position = self.position_of(frame);
+        self.orders.judge(&frame.order.stmt, &frame.ask, &position)
+    }
+
+    fn order_as(self, frame: OrderFrame, admit: Admit) -> Result<Moved<M>, Want>
+        requires order { IsOrderReady frame }
+        requires judged { admit ≡ judge_in self.orders frame.order.stmt frame.ask (position_for M.rules self frame) }
+        ensures { IfOk result (λ m. m ≡ answered_as M.rules self frame admit) }
+    {
+        match admit {
+            Admit::Next => self.take_order(frame),
+            Admit::Held => self.hold_order(frame),
+            Admit::Refused(cause) => Ok(self.refused(cause)),
+            Admit::Evidence => Ok(self.refused(Cause::Unmatched)),
+        }
+    }
+
     // The row.
     #[tactic(auto, unfolding(zy_table::specs::Orders::order))]
     pub(crate) fn hear_order(self, frame: OrderFrame) -> Result<Moved<M>, Want>
         requires order { IsOrderReady frame }
         ensures { IfOk result (λ m. m ≡ order_row M.rules self frame) }
     {
-        let position = self.position_of(&frame);
-        match self
-            .orders
-            .judge(&frame.order.stmt, &frame.ask, &position)
-        {
-            Admit::Next => self.take_order(frame),
-            Admit::Held => self.hold_order(frame),
-            Admit::Refused(cause) => Ok(self.refused(cause)),
-            Admit::Evidence => Ok(self.refused(Cause::Unmatched)),
-        }
+        let admit = self.judge(&frame);
+        self.order_as(frame, admit)
     }
 }

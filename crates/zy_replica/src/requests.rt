@@ -1,18 +1,21 @@
 //! What a replica answers to a request.
 
-ghost use Rattle.std.specs.Prelude.{◌≡◌, ◌≤◌, ◌<◌, ◌+◌, length, option_copied, option_map, Some, None, IfOk};
+ghost use Rattle.std.specs.Prelude.{◌≡◌, ◌≤◌, ◌<◌, ◌+◌, nat_eq, nat_lt, if◌then◌else◌, option_map, IfOk};
 ghost use Rattle.std.specs.Option.{ForSome};
 ghost use Rattle.zy_admit.specs.Orders.{stored_in};
 ghost use Rattle.zy_parts.specs.Signing.{IsSignedInRange};
-ghost use Rattle.zy_parts.specs.Statements.{IsSpecInRange, IsOrderInRange};
+ghost use Rattle.zy_parts.specs.Statements.{IsSpecInRange, IsOrderInRange, spec_fields};
 ghost use Rattle.zy_parts.specs.Numbers as numbers;
 ghost use Rattle.zy_exec.specs.Kept.{last_place, known_in};
 ghost use Rattle.zy_exec.specs.Known.{IsKnownInRange};
-ghost use Rattle.zy_table.specs.State.{leaves_of, window_of, spent};
+ghost use Rattle.zy_table.specs.State.{leaves_of, window_of, spent, stood_of, with_spec, spec_to as last_spec};
 ghost use Rattle.zy_base.specs.declared.step.Answer.TheVariants as Answer;
-ghost use Rattle.zy_table.specs.Deeds.{ends};
+ghost use Rattle.zy_table.specs.Deeds.{ends, begin, act as acting};
+ghost use Rattle.zy_table.specs.declared.deeds.Act.TheVariants as acts;
+ghost use Rattle.zy_table.specs.declared.deeds.Body.TheVariants as bodies;
+ghost use Rattle.zy_seal.specs.Sealing.{sealed_by};
 ghost use Rattle.zy_table.specs.Running.{spec_of as spec_for, run};
-ghost use Rattle.zy_table.specs.Requests.{response_of, respond_anew as anew, respond_as as answered_as, respond_with as answered_with, said_already as already, order_of as order_for, sealed_order as sealed, ordered as ordered_by, take_request as taken, new_request as fresh, request_after as after, request as request_row};
+ghost use Rattle.zy_table.specs.Requests.{response_of, respond_anew as anew, respond_with as answered_with, respond_again as answered_again, said_already as already, order_of as order_for, sealed_order as sealed, ordered as ordered_by, take_request as taken, new_request as fresh, request_after as after, request as request_row};
 ghost use Rattle.zy_replica.specs.Ready.{IsAskReady, IsOrderReady};
 
 use crate::Replica;
@@ -20,7 +23,7 @@ use crate::copies::{bytes_copy, frame_copy, order_copy, spec_copy};
 use crate::progress::{Moved, Progress};
 use crate::running::spec_of;
 use zy_admit::{client_of, request_digest_of};
-use zy_base::{Answer, Bytes, Cause, ClientId, Machine, Party, Place, Want};
+use zy_base::{Answer, Bytes, Cause, ClientId, Machine, Party, Place, Stamp, Want};
 use zy_chain::next_head;
 use zy_exec::Known;
 use zy_frames::{Frame, OrderFrame};
@@ -28,15 +31,6 @@ use zy_parts::{Ask, Order, Signed, Spec};
 use zy_table::{Act, Body, Remark, To};
 
 // ---- a request that was executed last
-
-fn said_already(last: Option<&Signed<Spec>>, spec: &Spec) -> Result<Option<Signed<Spec>>, Want>
-    ensures { IfOk result (λ said. said ≡ already (option_copied last.entry) spec.now) }
-{
-    match last {
-        Some(last) if last.stmt == *spec => Ok(Some(spec_copy(last)?)),
-        _ => Ok(None),
-    }
-}
 
 fn known_copy(known: &Known) -> Result<Known, Want>
     ensures { IfOk result (λ copy. copy ≡ known.now) }
@@ -47,6 +41,18 @@ fn known_copy(known: &Known) -> Result<Known, Want>
         head: known.head,
         reply: bytes_copy(&known.reply)?,
     })
+}
+
+fn is_older(stamp: Stamp, last: Stamp) -> bool
+    ensures { result ≡ nat_lt stamp.0 last.0 }
+{
+    stamp < last
+}
+
+fn is_same(stamp: Stamp, last: Stamp) -> bool
+    ensures { result ≡ nat_eq stamp.0 last.0 }
+{
+    stamp == last
 }
 
 impl<M: Machine> Progress<M> {
@@ -81,6 +87,36 @@ impl<M: Machine> Replica<M> {
         }
     }
 
+    // The response, signed and kept.
+    fn seal_spec(self, spec: Spec) -> Result<(Replica<M>, Signed<Spec>), Want>
+        requires leaf { 1 ≤ leaves_of self }
+        requires spec { IsSpecInRange spec }
+        requires client { spec.client.0 < 64 }
+        ensures replica { IfOk result (λ r. r.0 ≡ with_spec (spent self) (sealed_by numbers.spec spec_fields self.sealer spec)) }
+        ensures spec { IfOk result (λ r. r.1 ≡ sealed_by numbers.spec spec_fields self.sealer spec) }
+        ensures range { IfOk result (λ r. IsSignedInRange IsSpecInRange r.1) }
+    {
+        let (replica, signed) = self.seal(spec)?;
+        let copy = spec_copy(&signed)?;
+        Ok((replica.keep_spec(copy), signed))
+    }
+
+    fn sign_response(self, spec: Spec, known: Known) -> Result<Progress<M>, Want>
+        requires leaf { 1 ≤ leaves_of self }
+        requires spec { IsSpecInRange spec }
+        requires client { spec.client.0 < 64 }
+        requires known { IsKnownInRange known }
+        ensures { IfOk result (λ g. g ≡ response_of self (sealed_by numbers.spec spec_fields self.sealer spec) known (acting (acts.Says (record { body = bodies.Spec spec; stood = stood_of M.rules self })) (begin (with_spec (spent self) (sealed_by numbers.spec spec_fields self.sealer spec))))) }
+    {
+        let stood = self.stood();
+        let (replica, signed) = self.seal_spec(spec)?;
+        let body = Body::Spec(spec);
+        replica
+            .begin()
+            .act(Act::Says(Remark { body, stood }))?
+            .send_response(signed, known)
+    }
+
     // The response is signed anew.
     fn respond_anew(self, spec: Spec, known: Known) -> Result<Moved<M>, Want>
         requires spec { IsSpecInRange spec }
@@ -91,31 +127,39 @@ impl<M: Machine> Replica<M> {
         if self.leaves() == 0 {
             return Ok(self.refused(Cause::KeySpent));
         }
-        let stood = self.stood();
-        let (replica, signed) = self.seal(spec)?;
-        let replica = replica.keep_spec(spec_copy(&signed)?);
-        let body = Body::Spec(spec);
-        let progress = replica
-            .begin()
-            .act(Act::Says(Remark { body, stood }))?
-            .send_response(signed, known)?;
-        Ok(progress.ends(Answer::Taken))
+        Ok(self.sign_response(spec, known)?.ends(Answer::Taken))
     }
 
-    // The response that was signed last, where it is this one.
+    // A copy of the response that was signed last, where it is this one.
+    fn said_already(&self, spec: &Spec) -> Result<Option<Signed<Spec>>, Want>
+        ensures said { IfOk result (λ said. said ≡ already (last_spec self.now spec.now.client) spec.now) }
+        ensures range { IfOk result (λ said. ForSome said (IsSignedInRange IsSpecInRange)) }
+    {
+        match self.spec_to(spec.client) {
+            Some(last) if last.stmt == *spec => Ok(Some(spec_copy(last)?)),
+            _ => Ok(None),
+        }
+    }
+
     fn respond_with(self, spec: Spec, known: Known) -> Result<Moved<M>, Want>
         requires spec { IsSpecInRange spec }
         requires client { spec.client.0 < 64 }
         requires known { IsKnownInRange known }
         ensures { IfOk result (λ m. m ≡ answered_with M.rules self spec known) }
     {
-        match said_already(self.spec_to(spec.client), &spec)? {
+        match self.said_already(&spec)? {
             None => self.respond_anew(spec, known),
-            Some(said) => Ok(self
-                .begin()
-                .send_response(said, known)?
-                .ends(Answer::Taken)),
+            Some(said) => Ok(self.begin().send_response(said, known)?.ends(Answer::Taken)),
         }
+    }
+
+    fn respond_again(self, ask: &Signed<Ask>, known: Known) -> Result<Moved<M>, Want>
+        requires ask { IsAskReady ask.now }
+        requires known { IsKnownInRange known }
+        ensures { IfOk result (λ m. m ≡ answered_again M.rules self ask.now known) }
+    {
+        let spec = spec_of(self.view(), ask, &known);
+        self.respond_with(spec, known)
     }
 
     // ---- a new request at the primary
@@ -226,12 +270,20 @@ impl<M: Machine> Replica<M> {
             None => return self.new_request(ask),
             Some(known) => known,
         };
-        if ask.stmt.stamp < known.stamp {
+        if is_older(ask.stmt.stamp, known.stamp) {
             return Ok(self.refused(Cause::OldStamp));
         }
-        if ask.stmt.stamp == known.stamp {
-            let spec = spec_of(self.view(), &ask, &known);
-            self.respond_with(spec, known)
+        self.repeat_or_take(ask, known)
+    }
+
+    // A request that isn't older than the last one.
+    fn repeat_or_take(self, ask: Signed<Ask>, known: Known) -> Result<Moved<M>, Want>
+        requires ask { IsAskReady ask }
+        requires known { IsKnownInRange known }
+        ensures { IfOk result (λ m. m ≡ (if nat_eq ask.stmt.stamp.0 known.stamp.0 then answered_again M.rules self ask known else fresh M.rules self ask)) }
+    {
+        if is_same(ask.stmt.stamp, known.stamp) {
+            self.respond_again(&ask, known)
         } else {
             self.new_request(ask)
         }

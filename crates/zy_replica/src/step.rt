@@ -2,6 +2,7 @@ ghost use Rattle.std.specs.Prelude.{◌≡◌, ◌≤◌, ◌<◌, ◌%◌, leng
 ghost use Rattle.zy_base.specs.declared.ids.Party.TheVariants as parties;
 ghost use Rattle.zy_base.specs.declared.cause.Cause.TheVariants as causes;
 ghost use Rattle.zy_frames.specs.Frames.{IsFrameInRange, frame_in, parts_of};
+ghost use Rattle.zy_frames.specs.declared.frame.Frame.TheVariants as frames;
 ghost use Rattle.zy_seal.specs.Screening.{screen};
 ghost use Rattle.zy_table.specs.State.{timers_of, own_view, is_leaving as leaves_view, is_primary as leads};
 ghost use Rattle.zy_table.specs.Deeds.{outgoing_of, said_from, gains_in, refused as refused_with};
@@ -12,7 +13,7 @@ ghost use Rattle.zy_replica.specs.Ready.{IsAskReady, IsOrderReady};
 use crate::progress::Moved;
 use crate::{Replica, Stepped};
 use zy_base::{Answer, Bytes, Cause, Event, Machine, Mode, Party, TimerKind, View, Want};
-use zy_frames::{DecodeFault, Frame, decode, parts};
+use zy_frames::{DecodeFault, Frame, OrderFrame, decode, parts};
 use zy_seal::screen_parts;
 
 impl<M: Machine> Replica<M> {
@@ -20,9 +21,9 @@ impl<M: Machine> Replica<M> {
     pub fn step(self, event: Event) -> Result<Stepped<M>, Want>
         ensures answer { IfOk result (λ s. s.answer ≡ (step_row M.rules self event).answer) }
         ensures replica { IfOk result (λ s. s.replica ≡ (step_row M.rules self event).state) }
-        ensures out { IfOk result (λ s. s.out ≡ outgoing_of self.me.0 self.counts.n (step_row M.rules self event).deeds.sent) }
+        ensures out { IfOk result (λ s. s.out ≡ outgoing_of (step_row M.rules self event).state.me.0 (step_row M.rules self event).state.counts.n (step_row M.rules self event).deeds.sent) }
         ensures timers { IfOk result (λ s. s.timers ≡ timers_of (step_row M.rules self event).state) }
-        ensures said { IfOk result (λ s. s.said ≡ said_from (parties.Replica self.me) 0 (step_row M.rules self event).deeds.acts) }
+        ensures said { IfOk result (λ s. s.said ≡ said_from (parties.Replica (step_row M.rules self event).state.me) 0 (step_row M.rules self event).deeds.acts) }
         ensures got { IfOk result (λ s. s.got ≡ gains_in (step_row M.rules self event).deeds.acts) }
     {
         self.moves(event)?.finish()
@@ -71,6 +72,7 @@ impl<M: Machine> Replica<M> {
 
     // A frame whose parts are verified.
     fn hear(self, frame: Frame) -> Result<Moved<M>, Want>
+        requires clients { length self.keys.clients ≤ 64 }
         requires range { IsFrameInRange frame }
         requires verified { screen self.keys (parts_of frame) ≡ None }
         ensures { IfOk result (λ m. m ≡ hear_row M.rules self frame) }
@@ -145,6 +147,7 @@ impl<M: Machine> Replica<M> {
 
     // The row of a frame.
     fn row(self, frame: Frame) -> Result<Moved<M>, Want>
+        requires clients { length self.keys.clients ≤ 64 }
         requires range { IsFrameInRange frame }
         requires verified { screen self.keys (parts_of frame) ≡ None }
         requires role { has_role self frame ≡ true }
@@ -152,10 +155,7 @@ impl<M: Machine> Replica<M> {
     {
         match frame {
             Frame::Request(ask) => self.hear_request(ask),
-            Frame::Order(both) => match self.view_cause(both.order.stmt.view) {
-                Some(cause) => Ok(self.refused(cause)),
-                None => self.hear_order(both),
-            },
+            Frame::Order(both) => self.order_in_view(both),
             Frame::FillHole(hole) => match self.view_cause(hole.stmt.view) {
                 Some(cause) => Ok(self.refused(cause)),
                 None => self.fill_hole(hole),
@@ -167,6 +167,22 @@ impl<M: Machine> Replica<M> {
             Frame::Hate(_) => Ok(self.refused(Cause::WrongRole)),
             Frame::Pom(_, _) => Ok(self.refused(Cause::WrongRole)),
             Frame::Checkpoint(_) => Ok(self.refused(Cause::WrongRole)),
+        }
+    }
+}
+
+impl<M: Machine> Replica<M> {
+    // An order of the own view.
+    fn order_in_view(self, both: OrderFrame) -> Result<Moved<M>, Want>
+        requires clients { length self.keys.clients ≤ 64 }
+        requires range { IsFrameInRange (frames.Order both) }
+        requires verified { screen self.keys (parts_of (frames.Order both)) ≡ None }
+        requires role { has_role self (frames.Order both) ≡ true }
+        ensures { IfOk result (λ m. m ≡ row_of M.rules self (frames.Order both)) }
+    {
+        match self.view_cause(both.order.stmt.view) {
+            Some(cause) => Ok(self.refused(cause)),
+            None => self.hear_order(both),
         }
     }
 }

@@ -7,11 +7,12 @@ use Rattle.zy_replica.proofs.holes.orders_to.Goals as goal
 pub loop-order-preserved : goal.loop-order-preserved
 loop-order-preserved c =
     let steps = c.in-Some.ensures.steps in
-    let held = c.loop-order.invariant in
-    (rw c.in_ok-push.ensures.ok
-     (moved c.loop-order.sent (order_to c.args.by c.in-Some.order) _ _
-      (ap (λ (xs : List OrderFrame). c.loop-order.sent ++ map (order_to c.args.by) xs) (sym steps.0) ∙ held.0)),
-     omega (arith, ap length steps.0, steps.1, held.1))
+    let held = c.loop-order.invariant in (
+      rw c.in_ok-push.ensures.ok
+          (moved c.loop-order.sent (order_to c.args.by c.in-Some.order) _ _
+          (ap (λ (xs : List OrderFrame). c.loop-order.sent ++ map (order_to c.args.by) xs) (sym steps.0) ∙ held.0)),
+      omega (arith, ap length steps.0, steps.1, held.1),
+    )
 
 pub returns : goal.returns
 returns c =

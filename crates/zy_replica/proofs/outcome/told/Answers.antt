@@ -10,25 +10,27 @@ loop-act-preserved-in_ok-push-in-Says c =
     let steps = c.in-Some.ensures.steps in
     let held = c.loop-act.invariant in
     let left = c.next.new.self.rest.items in
-    let is = steps.0 ∙ ap (λ (act : Act). act ∷ left) c.in-Says.is in
-    (rw (c.in_ok-push-in-Says.ensures.ok, c.in_ok-spoken-in-Says.ensures, c.len.ensures)
-     (moved c.loop-act.said _ _ _
-      (ap (λ (xs : List Act). c.loop-act.said ++ said_from (parties.Replica c.args.me) (length c.loop-act.got) xs) (sym is) ∙ held.0)),
-     ap (λ (xs : List Act). c.loop-act.got ++ gains_in xs) (sym is) ∙ held.1,
-     omega (arith, ap length steps.0, steps.1, held.2))
+    let is = steps.0 ∙ ap (λ (act : Act). act ∷ left) c.in-Says.is in (
+      rw (c.in_ok-push-in-Says.ensures.ok, c.in_ok-spoken-in-Says.ensures, c.len.ensures)
+          (moved c.loop-act.said _ _ _
+          (ap (λ (xs : List Act). c.loop-act.said ++ said_from (parties.Replica c.args.me) (length c.loop-act.got) xs) (sym is) ∙ held.0)),
+      ap (λ (xs : List Act). c.loop-act.got ++ gains_in xs) (sym is) ∙ held.1,
+      omega (arith, ap length steps.0, steps.1, held.2),
+    )
 
 pub loop-act-preserved : goal.loop-act-preserved
 loop-act-preserved c =
     let steps = c.in-Some.ensures.steps in
     let held = c.loop-act.invariant in
     let left = c.next.new.self.rest.items in
-    let is = steps.0 ∙ ap (λ (act : Act). act ∷ left) c.in-Gains.is in
-    (rw c.in_ok-push-in-Gains.ensures.ok
-     (gained_one (parties.Replica c.args.me) c.loop-act.said c.loop-act.got c.in-Gains.entry left _
-      (ap (λ (xs : List Act). c.loop-act.said ++ said_from (parties.Replica c.args.me) (length c.loop-act.got) xs) (sym is) ∙ held.0)),
-     rw c.in_ok-push-in-Gains.ensures.ok
-     (moved c.loop-act.got c.in-Gains.entry _ _ (ap (λ (xs : List Act). c.loop-act.got ++ gains_in xs) (sym is) ∙ held.1)),
-     omega (arith, ap length steps.0, steps.1, held.2))
+    let is = steps.0 ∙ ap (λ (act : Act). act ∷ left) c.in-Gains.is in (
+      rw c.in_ok-push-in-Gains.ensures.ok
+          (gained_one (parties.Replica c.args.me) c.loop-act.said c.loop-act.got c.in-Gains.entry left _
+          (ap (λ (xs : List Act). c.loop-act.said ++ said_from (parties.Replica c.args.me) (length c.loop-act.got) xs) (sym is) ∙ held.0)),
+      rw c.in_ok-push-in-Gains.ensures.ok
+          (moved c.loop-act.got c.in-Gains.entry _ _ (ap (λ (xs : List Act). c.loop-act.got ++ gains_in xs) (sym is) ∙ held.1)),
+      omega (arith, ap length steps.0, steps.1, held.2),
+    )
 
 pub returns-clause-said : goal.returns-clause-said
 returns-clause-said c =

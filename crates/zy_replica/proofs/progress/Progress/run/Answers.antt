@@ -8,4 +8,4 @@ pub returns : goal.returns
 returns g c =
     rw (run_is g.M.Machine.rules c.args.self c.args.frame.now)
     (subst (λ (x : Going g.row.M-State.Denot). IfOk c.run_held.result (λ (held : Going g.row.M-State.Denot). held ≡ run_held g.M.Machine.rules (held_slots g.M.Machine.rules x) x))
-     c.in_ok-run_one.ensures c.run_held.ensures)
+    c.in_ok-run_one.ensures c.run_held.ensures)

@@ -12,7 +12,7 @@ returns-then-not-fits_end-clause-goes_on g c =
     let here = ap (λ (x : Going g.row.M-State.Denot). fits_end g.M.Machine.rules x.state c.args.held.now) (sym c.self.view_is) in
     rw c.drop_next.ensures
     (drops_last g.M.Machine.rules c.args.self c.args.held.now c.requires.base c.requires.stored
-     ∙ held_drops g.M.Machine.rules c.args.self c.args.held.now c.requires.base c.requires.stored (here ∙ sym c.fits_end.ensures ∙ c.if-not-fits_end.true))
+    ∙ held_drops g.M.Machine.rules c.args.self c.args.held.now c.requires.base c.requires.stored (here ∙ sym c.fits_end.ensures ∙ c.if-not-fits_end.true))
 
 pub returns-then-not-fits_end-clause-ended : goal.returns-then-not-fits_end-clause-ended
 returns-then-not-fits_end-clause-ended g c ended =
@@ -32,7 +32,7 @@ returns-clause-goes_on g c =
     let some : 1 ≤ leaves_of c.self.inside.replica = omega (arith, c.if-leaves-eq0.false, c.leaves.ensures) in
     rw c.in_ok-run_one.ensures
     (sym (held_runs g.M.Machine.rules c.args.self c.args.held.now c.requires.base c.requires.stored (here ∙ sym c.fits_end.ensures ∙ c.if-not-fits_end.false)
-     (left ∙ le-leb 1 (leaves_of c.self.inside.replica) some)))
+    (left ∙ le-leb 1 (leaves_of c.self.inside.replica) some)))
 
 pub returns-clause-room : goal.returns-clause-room
 returns-clause-room g c = rw c.in_ok-run_one.ensures (room_after g.M.Machine.rules c.args.self c.args.held.now c.requires.room)

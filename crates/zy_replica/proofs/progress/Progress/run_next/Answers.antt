@@ -10,4 +10,4 @@ returns-in-None-clause-ended g c ended =
     next_none g.M.Machine.rules c.args.self.state.orders (last_place c.args.self.state.kept) c.args.self
     (subst (λ (x : Going g.row.M-State.Denot). x.state.orders.base ≤ last_place x.state.kept) c.self.view_is c.in_ok-next_held.ensures.base)
     (subst (λ (x : Going g.row.M-State.Denot). stored_in x.state.orders (last_place x.state.kept + 1) ≡ None) c.self.view_is
-     (sym c.in_ok-next_held.ensures.held ∙ c.in-None.is))
+    (sym c.in_ok-next_held.ensures.held ∙ c.in-None.is))

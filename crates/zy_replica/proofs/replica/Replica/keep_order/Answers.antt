@@ -9,5 +9,5 @@ invariant_of-self g c =
     let place = c.args.order.order.stmt.place.0 in
     rw c.in-Ok.ensures.ok
     (ready_with_order _ c.args.order c.self.invariant c.requires.order
-     (subst (λ (s : State g.row.M-State.Denot). last_place s.kept < place) (sym c.self.view_is) c.requires.above)
-     (subst (λ (s : State g.row.M-State.Denot). place ≤ window_of s) (sym c.self.view_is) c.requires.within))
+    (subst (λ (s : State g.row.M-State.Denot). last_place s.kept < place) (sym c.self.view_is) c.requires.above)
+    (subst (λ (s : State g.row.M-State.Denot). place ≤ window_of s) (sym c.self.view_is) c.requires.within))

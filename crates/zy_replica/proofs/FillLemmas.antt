@@ -1,0 +1,30 @@
+-- What a hole is answered with.
+use Rattle.std.proofs.Common.{◌≡◌, ◌<◌, ◌∷◌, [], ℕ, List, length, map, refl, ap, arith}
+use Rattle.std.specs.Prelude.{if◌then◌else◌, nat_le}
+use Rattle.std.specs.List.{AllByRecursion}
+use Rattle.zy_base.specs.declared.ids.Party.{Party}
+use Rattle.zy_base.specs.declared.cause.Cause.TheVariants as causes
+use Rattle.zy_base.specs.declared.step.Answer.TheVariants as answers
+use Rattle.zy_parts.specs.declared.signed.Signed.{Signed}
+use Rattle.zy_parts.specs.declared.statements.Hole.{Hole}
+use Rattle.zy_frames.specs.declared.frame.OrderFrame.{OrderFrame}
+use Rattle.zy_frames.specs.Frames.{IsFrameInRange}
+use Rattle.zy_exec.specs.Kept.{last_place}
+use Rattle.zy_table.specs.declared.deeds.Sent.{Sent}
+use Rattle.zy_table.specs.State.{State}
+use Rattle.zy_table.specs.Deeds.{Outcome, refused}
+use Rattle.zy_table.specs.Holes.{order_to, fill_with}
+use Rattle.zy_replica.specs.Ready.{IsOrderReady}
+
+pub fill_none : {S : Type 0} (s : State S) (hole : Signed Hole) (orders : List OrderFrame) → orders ≡ []
+    → fill_with s hole orders ≡ (if nat_le hole.stmt.to.0 (last_place s.kept) then refused causes.OldPlace s else refused (causes.Behind hole.stmt.to) s)
+fill_none s hole orders is = ap (fill_with s hole) is
+
+pub fill_some : {S : Type 0} (s : State S) (hole : Signed Hole) (orders : List OrderFrame) → 0 < length orders
+    → fill_with s hole orders ≡ record { answer = answers.Taken; state = s; deeds = record { sent = map (order_to hole.by) orders; acts = [] } }
+fill_some s hole [] some = let never : ⊥ = omega (arith, some) in absurd never
+fill_some s hole (o ∷ orders) some = refl
+
+pub sent_in_range : (by : Party) (orders : List OrderFrame) → AllByRecursion IsOrderReady orders → AllByRecursion (λ (s : Sent). IsFrameInRange s.frame) (map (order_to by) orders)
+sent_in_range by [] all = tt
+sent_in_range by (o ∷ orders) all = ((all.0.order, all.0.ask.range), sent_in_range by orders all.1)

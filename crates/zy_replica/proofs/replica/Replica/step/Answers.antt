@@ -1,0 +1,8 @@
+use Rattle.std.proofs.Common.{◌≡◌, IfOk, subst}
+use Rattle.zy_table.specs.Deeds.{Outcome, outgoing_of}
+use Rattle.zy_replica.proofs.replica.Replica.step.Goals as goal
+
+pub returns-clause-out : goal.returns-clause-out
+returns-clause-out g c =
+    subst (λ (o : Outcome g.row.M-State.Denot). IfOk c.finish.result (λ s. s.out ≡ outgoing_of o.state.me.0 o.state.counts.n o.deeds.sent))
+    c.in_ok-moves.ensures c.finish.ensures.out
