@@ -7,18 +7,15 @@ use crate::{Replica, Stepped};
 use sha2::{Digest as Hasher, Sha256};
 use std::alloc::Global;
 use std::test::Fail;
-use zy_base::{
-    Answer, Bytes, Cause, ClientId, Counts, Digest, Event, Mode, Outgoing, Party, Place, ReplicaId,
-    Stamp, Stood, Timers, View,
-};
-use zy_frames::{Frame, OrderFrame, encode};
+use zy_base::{Answer, Bytes, ClientId, Counts, Event, Outgoing, Party, ReplicaId, Stamp};
+use zy_frames::{Frame, encode};
 use zy_lms::{Height, LmsKey};
 use zy_ots::{OtsType, ots_sign};
-use zy_parts::{Ask, Hole, Order, Signed, Statement, signed_text};
+use zy_parts::{Ask, Signed, Statement, signed_text};
 use zy_seal::{Directory, Sealer, party_id, party_seed};
 use zy_space::Space;
 
-pub const PRIMARY: Party = Party::Replica(ReplicaId(0));
+const PRIMARY: Party = Party::Replica(ReplicaId(0));
 
 pub const BACKUP: Party = Party::Replica(ReplicaId(1));
 
@@ -30,67 +27,6 @@ pub const CLIENT: Party = Party::Client(ClientId(0));
 
 // `out ("job" 1)`, which every request asks for.
 const OPERATION: [u8; 16] = *b"\x01\x02\x02\x03job\x01\x00\x00\x00\x00\x00\x00\x00\x01";
-
-// The digests of the entries of stamps 1 and 2, and the heads of the histories of the first alone and of both.
-pub const REQUEST: Digest = Digest([
-    0x50, 0xa5, 0xb8, 0xbb, 0x97, 0xd8, 0xe4, 0x2d, 0xb3, 0x32, 0x4f, 0x0c, 0x72, 0xb2, 0x0a, 0x6d,
-    0x43, 0xbf, 0xf0, 0x51, 0xf4, 0x21, 0xe5, 0xaf, 0x6c, 0xf9, 0x7a, 0xee, 0x45, 0x2f, 0xf7, 0xd1,
-]);
-
-pub const HEAD: Digest = Digest([
-    0xcf, 0xb4, 0x96, 0x37, 0x2e, 0x0e, 0xc6, 0x21, 0x0f, 0xaf, 0x88, 0x27, 0x25, 0xbb, 0xbd, 0x79,
-    0x5d, 0x1b, 0x86, 0xa5, 0x2e, 0xe1, 0xcc, 0x3d, 0x4e, 0xce, 0x11, 0x8a, 0xcd, 0xa1, 0xb6, 0x1e,
-]);
-
-const SECOND_REQUEST: Digest = Digest([
-    0xfd, 0xa0, 0xaa, 0x28, 0x39, 0x5f, 0xb4, 0x24, 0xfb, 0x19, 0xde, 0xaa, 0x5c, 0xf5, 0xc3, 0x3a,
-    0x20, 0xf0, 0x24, 0xac, 0x11, 0x64, 0x0c, 0x2f, 0x7e, 0x7e, 0x5f, 0xe7, 0x42, 0x40, 0xfe, 0x7b,
-]);
-
-pub const SECOND_HEAD: Digest = Digest([
-    0xa3, 0x7c, 0xed, 0x0c, 0xb2, 0x74, 0xff, 0xb0, 0x8e, 0x20, 0xf3, 0x89, 0x60, 0x8b, 0x32, 0x1d,
-    0xdc, 0x33, 0x31, 0x94, 0x36, 0xc3, 0x43, 0xfb, 0xd3, 0x76, 0x24, 0x44, 0x10, 0x85, 0x82, 0x5a,
-]);
-
-// An order of a request: by whom each is, and as whose the order was signed.
-#[derive(Clone, Copy)]
-pub struct Case {
-    pub by: Party,
-    pub signed_as: Party,
-    pub order: Order,
-    pub asker: Party,
-    pub stamp: Stamp,
-}
-
-pub const FIRST_ORDER: Order = Order {
-    view: View(0),
-    place: Place(1),
-    head: HEAD,
-    request: REQUEST,
-};
-
-const SECOND_ORDER: Order = Order {
-    view: View(0),
-    place: Place(2),
-    head: SECOND_HEAD,
-    request: SECOND_REQUEST,
-};
-
-// The order of place 1.
-pub const FIRST: Case = Case {
-    by: PRIMARY,
-    signed_as: PRIMARY,
-    order: FIRST_ORDER,
-    asker: CLIENT,
-    stamp: Stamp(1),
-};
-
-// The order of place 2.
-pub const SECOND: Case = Case {
-    order: SECOND_ORDER,
-    stamp: Stamp(2),
-    ..FIRST
-};
 
 // The key that every party has: its seed and identifier are those of r0 in a group whose seed is zero.
 fn key(alloc: Global, next: u32) -> Result<LmsKey, Fail>
@@ -193,65 +129,6 @@ pub fn request(alloc: Global, by: Party, stamp: u64) -> Result<Event, Fail>
     heard(alloc, &Frame::Request(ask(alloc, by, Stamp(stamp))?))
 }
 
-// The frame of a case, whose numbers are small.
-pub fn order(alloc: Global, case: &Case) -> Result<Event, Fail> {
-    let stmt = case.order;
-    if stmt.view.0 > 1 || stmt.place.0 == 0 || stmt.place.0 > 20 || case.stamp.0 > 20 {
-        return Err(Fail::from("small numbers"));
-    }
-    let order = signed(alloc, case.by, case.signed_as, stmt)?;
-    let ask = ask(alloc, case.asker, case.stamp)?;
-    heard(alloc, &Frame::Order(OrderFrame { order, ask }))
-}
-
-// What asks for the orders in a range.
-pub fn fill_hole(alloc: Global, by: Party, hole: Hole) -> Result<Event, Fail> {
-    if hole.view.0 > 1 || hole.from.0 == 0 || hole.from > hole.to || hole.to.0 > 20 {
-        return Err(Fail::from("small numbers"));
-    }
-    heard(alloc, &Frame::FillHole(signed(alloc, by, by, hole)?))
-}
-
-// What is seen of a replica: its mode, length and head, the next leaf, its timers, and at which of the first three
-// places it keeps an order.
-#[derive(Clone, Copy, Debug, PartialEq, Eq)]
-pub struct Shown {
-    pub stood: Stood,
-    pub leaf: u32,
-    pub timers: Timers,
-    pub kept: [bool; 3],
-}
-
-pub fn seen(replica: &Replica<Space>) -> Shown {
-    Shown {
-        stood: replica.stood(),
-        leaf: replica.key_next(),
-        timers: replica.timers(),
-        kept: [
-            replica.orders.stored(Place(1)).is_some(),
-            replica.orders.stored(Place(2)).is_some(),
-            replica.orders.stored(Place(3)).is_some(),
-        ],
-    }
-}
-
-// The replica after an event that it refuses for this cause, which leaves it as it was.
-pub fn refused(
-    replica: Replica<Space>,
-    event: Event,
-    cause: Cause,
-) -> Result<Replica<Space>, Fail> {
-    let before = seen(&replica);
-    let stepped = does(replica, event, Answer::Refused(cause))?;
-    if seen(&stepped.replica) != before {
-        return Err(Fail::from("a refusal changes nothing"));
-    }
-    if !stepped.out.is_empty() || !stepped.said.is_empty() || !stepped.got.is_empty() {
-        return Err(Fail::from("nothing is sent"));
-    }
-    Ok(stepped.replica)
-}
-
 // What an event makes of a replica, where this is the answer.
 pub fn does(replica: Replica<Space>, event: Event, answer: Answer) -> Result<Stepped<Space>, Fail> {
     let stepped = replica.step(event)?;
@@ -267,19 +144,4 @@ pub fn sent(out: &Outgoing, at: usize) -> Result<(Party, usize, [u8; 32]), Fail>
     let mut hasher = Sha256::new();
     hasher.update(frame.as_slice());
     Ok((*to, frame.len(), hasher.finalize()))
-}
-
-// A replica in another mode than steps lead to so far.
-pub fn in_mode(mut replica: Replica<Space>, mode: Mode) -> Result<Replica<Space>, Fail> {
-    if mode.view().0 > 1 {
-        return Err(Fail::from("small numbers"));
-    }
-    replica.mode = mode;
-    Ok(replica)
-}
-
-// A replica that has dropped its orders, as a checkpoint will let it.
-pub fn without_orders(mut replica: Replica<Space>) -> Replica<Space> {
-    replica.orders.clear();
-    replica
 }
