@@ -20,7 +20,7 @@ use Rattle.zy_chain.specs.Entries.{IsEntryInRange, digest_of_entry, digest_of_re
 use Rattle.zy_chain.specs.Heads.{empty_head, head_after, head_from}
 use Rattle.zy_chain.specs.declared.entry.Entry.{Entry}
 use Rattle.zy_admit.specs.Judging.{entry_of, judge_in}
-use Rattle.zy_admit.specs.Orders.{slots_above}
+use Rattle.zy_admit.specs.Orders.{orders_from, slots_above}
 use Rattle.zy_admit.specs.declared.judging.Admit.{Admit}
 use Rattle.zy_admit.specs.declared.judging.Admit.TheVariants as admits
 use Rattle.zy_exec.specs.Kept.{known_in, last_place, longer, now_of}
@@ -51,7 +51,7 @@ use Rattle.zy_parts.specs.declared.statements.Hole.{Hole}
 use Rattle.zy_parts.specs.declared.statements.Spec.{Spec}
 use Rattle.zy_seal.specs.Screening.{screen}
 use Rattle.zy_table.specs.Deeds.{Going, Outcome, begin}
-use Rattle.zy_table.specs.Holes.{fill_with, fill_hole, ask_again, orders_from}
+use Rattle.zy_table.specs.Holes.{fill_with, fill_hole, ask_again}
 use Rattle.zy_table.specs.Orders.{order, order_as, owes_hole, position_of}
 use Rattle.zy_table.specs.Requests.{new_request, ordered, request, request_after, respond_as, said_already, sealed_order}
 use Rattle.zy_table.specs.Roles.{in_role, view_cause}
