@@ -31,11 +31,11 @@ IsTellable (tellables.Hate hate) = IsHateInRange hate
 IsTellable (tellables.Check check) = IsCheckInRange check
 
 -- a view, and the requests of a history with at least one and at most 64 entries
-pub record IsOrderable (view : View) (asks : List (Signed Ask)) : Type 0 where
-  pub view : view.0 < 2 ^ 62
-  pub some : 1 ≤ length asks
-  pub few : length asks ≤ 64
-  pub asks : AllByRecursion (IsSignedInRange IsAskInRange) asks
+pub record IsOrderable (at : View) (history : List (Signed Ask)) : Type 0 where
+  pub view : at.0 < 2 ^ 62
+  pub some : 1 ≤ length history
+  pub few : length history ≤ 64
+  pub asks : AllByRecursion (IsSignedInRange IsAskInRange) history
 
 -- the bytes of the frame that is told, as this sealer signs it
 abbrev pub IsToldBy : Option Telling → SealerState → List ℕ → Type 0

@@ -85,6 +85,7 @@ impl Keys {
     }
 }
 
+#[tactic(auto, unfolding(zy_world_law::specs::Setup::keys_of))]
 fn replica_keys(alloc: Global, setup: &Setup) -> Result<Keys, Want>
     ensures sealers { IfOk result (λ keys. keys.sealers.items ≡ replica_sealers setup.now) }
     ensures public { IfOk result (λ keys. keys.public.items ≡ (keys_of setup.now).replicas) }
@@ -96,6 +97,7 @@ fn replica_keys(alloc: Global, setup: &Setup) -> Result<Keys, Want>
     Ok(keys)
 }
 
+#[tactic(auto, unfolding(zy_world_law::specs::Setup::keys_of))]
 fn client_keys(alloc: Global, setup: &Setup) -> Result<Keys, Want>
     ensures sealers { IfOk result (λ keys. keys.sealers.items ≡ client_sealers setup.now) }
     ensures public { IfOk result (λ keys. keys.public.items ≡ (keys_of setup.now).clients) }

@@ -29,6 +29,7 @@ pub enum Tellable {
 }
 
 /// The statement whose number and fields all of the bytes spell. `None` where they spell none of these.
+#[tactic(auto, unfolding(zy_world_law::specs::Liars::statement_told))]
 pub fn read_statement(alloc: Global, bytes: &[u8]) -> Result<Option<Tellable>, Want>
     ensures value { IfOk result (λ told. option_map telling_of told ≡ statement_told bytes.now) }
     ensures in_range { IfOk result (λ told. ForSome told IsTellable) }
