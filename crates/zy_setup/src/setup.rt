@@ -7,11 +7,11 @@ use zy_ots::OtsType;
 #[derive(Drop)]
 pub struct Setup {
     pub counts: Counts,
-    /// After how many places a checkpoint is taken.
+    /// After how many places a checkpoint is taken, from 4 to 32.
     pub interval: u64,
-    /// How many clients there are.
+    /// How many clients there are, from 1 to 64.
     pub clients: u32,
-    /// The replicas that lie.
+    /// The replicas that lie, at most f.
     pub liars: Vec<ReplicaId>,
     /// The clients that lie.
     pub lying_clients: Vec<ClientId>,
