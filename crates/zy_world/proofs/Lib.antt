@@ -1,0 +1,10 @@
+pub mod SeatLemmas
+pub mod ShownSeats
+pub mod Changes
+pub mod Muting
+pub mod Stepped
+pub mod Gone
+pub mod Heard
+pub mod Due
+pub mod Lied
+pub mod Begun

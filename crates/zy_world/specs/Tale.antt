@@ -1,0 +1,24 @@
+-- What a liar or a forger is told to sign.
+use Rattle.std.specs.Prelude.{◌≤◌, length, Option, Some, None}
+use Rattle.zy_base.specs.declared.ids.Party.{Party}
+use Rattle.zy_base.specs.declared.ids.Party.TheVariants as parties
+use Rattle.zy_setup.specs.Telling.{IsOrderable, IsTellable, telling_of}
+use Rattle.zy_world.specs.declared.tale.Tale.{Tale}
+use Rattle.zy_world.specs.declared.tale.Tale.TheVariants.{Order, Spec, Statement}
+use Rattle.zy_world_law.specs.Liars.{Telling, order_told, spec_told}
+
+abbrev pub told_in : Tale → Option Telling
+told_in (Order view asks) = order_told view asks
+told_in (Spec view asks reply) = spec_told view reply asks
+told_in (Statement statement) = Some (telling_of statement)
+
+-- it can be spelled
+abbrev pub IsTale : Tale → Type 0
+IsTale (Order view asks) = IsOrderable view asks
+IsTale (Spec view asks reply) = IsOrderable view asks × (length reply ≤ 1100)
+IsTale (Statement statement) = IsTellable statement
+
+-- only replicas sign what is said of a history
+abbrev pub if_replica : {A : Type 0} → Party → Option A → Option A
+if_replica (parties.Replica id) found = found
+if_replica (parties.Client id) found = None

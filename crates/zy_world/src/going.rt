@@ -1,0 +1,155 @@
+//! A correct party hears a frame and makes a step.
+
+ghost use Rattle.std.specs.Prelude.{◌≡◌, ◌≤◌, ℕ, List, [], length, slice_get, None, Some, Ok, IfOk, IfErr};
+ghost use Rattle.zy_frames.specs.Frames.{IsFrameInRange, frame_in};
+ghost use Rattle.zy_world.specs.Answered.{GoesTo, IsBrokenBy, HeardTo, IsUnheardBy, replica_steps, client_steps};
+ghost use Rattle.zy_world.specs.Shows.{Shows};
+ghost use Rattle.zy_table.specs.ClientState.{ClientOutcome};
+ghost use Rattle.zy_table.specs.Deeds.{Outcome};
+ghost use Rattle.zy_world.specs.Stepping.{HasReplicaStepped, HasClientStepped};
+ghost use Rattle.zy_world_law.specs.Events.{ask_in, no_subject, replica_goes, client_goes, replica_note, client_note as noted_client, client_answer};
+ghost use Rattle.zy_world_law.specs.World.{World as Whole, Replica as AReplica, Client as AClient};
+
+use crate::seats::{ClientStep, ReplicaStep};
+use crate::{World, WorldFault, WorldStepped};
+use zy_base::{Answer, Bytes, Cause, ClientId, Event, Machine, Party, ReplicaId, Want};
+use zy_frames::{DecodeFault, Frame, decode};
+use zy_table::Done;
+use zy_world_law::Note;
+
+impl<M: Machine> World<M> {
+    pub(crate) fn noted(self, note: Note) -> WorldStepped<M>
+        ensures world { result.world ≡ self }
+        ensures note { result.note ≡ note }
+    {
+        WorldStepped { world: self, note }
+    }
+
+    /// The event has no subject, and changes nothing.
+    pub(crate) fn no_subject(self) -> WorldStepped<M>
+        ensures { (g : Whole M.State) → Shows g self → GoesTo (no_subject g) result.note result.world }
+    {
+        self.noted(Note::Refused(None, Cause::NoSubject))
+    }
+
+    /// No part of the bytes' frame is forged, and what it brings is kept.
+    pub(crate) fn hears(self, bytes: &Bytes) -> Result<World<M>, WorldFault>
+        ensures heard { (g : Whole M.State) → Shows g self → IfOk result (HeardTo g bytes.now) }
+        ensures unheard { (g : Whole M.State) → Shows g self → IfErr result (IsUnheardBy g bytes.now) }
+    {
+        match decode(self.alloc, bytes.as_slice()) {
+            Ok(frame) => self.hears_frame(&frame),
+            Err(DecodeFault::Frame(_)) => Ok(self),
+            Err(DecodeFault::Want) => Err(WorldFault::Want),
+        }
+    }
+
+    fn hears_frame(mut self, frame: &Frame) -> Result<World<M>, WorldFault>
+        requires { IsFrameInRange frame.now }
+        ensures heard { (g : Whole M.State) (bytes : List ℕ) → Shows g self → frame_in bytes ≡ Ok frame.now → IfOk result (HeardTo g bytes) }
+        ensures unheard { (g : Whole M.State) (bytes : List ℕ) → Shows g self → frame_in bytes ≡ Ok frame.now → IfErr result (IsUnheardBy g bytes) }
+    {
+        if let Some(by) = self.said.forger(&self.directory, frame)? {
+            return Err(WorldFault::Forged(by));
+        }
+        self.texts.keep_frame(frame)?;
+        Ok(self)
+    }
+
+    /// The replica of this number makes a step.
+    pub(crate) fn replica_steps(
+        mut self,
+        id: ReplicaId,
+        event: Event,
+    ) -> Result<WorldStepped<M>, WorldFault>
+        ensures goes { (g : Whole M.State) → Shows g self → IfOk result (λ r. GoesTo (replica_steps M.rules g id event (slice_get g.replicas id.0)) r.note r.world) }
+        ensures broken { (g : Whole M.State) → Shows g self → IfErr result (IsBrokenBy (replica_steps M.rules g id event (slice_get g.replicas id.0))) }
+    {
+        match self.seats.step_replica(id, event)? {
+            None => Ok(self.no_subject()),
+            Some(step) => self.replica_stepped(id, step),
+        }
+    }
+
+    // A replica has made its step, and nothing else was done yet.
+    fn replica_stepped(
+        mut self,
+        id: ReplicaId,
+        step: ReplicaStep,
+    ) -> Result<WorldStepped<M>, WorldFault>
+        ensures goes { (g : Whole M.State) (x : AReplica M.State) (o : Outcome M.State) → HasReplicaStepped g id x o step self → IfOk result (λ r. GoesTo (replica_goes g id x [] o) r.note r.world) }
+        ensures broken { (g : Whole M.State) (x : AReplica M.State) (o : Outcome M.State) → HasReplicaStepped g id x o step self → IfErr result (IsBrokenBy (replica_goes g id x [] o)) }
+    {
+        let note = replica_note(id, step.answer);
+        self.texts.keep_step(&step.got)?;
+        self.said.add(Party::Replica(id), step.said)?;
+        self.bag.send(step.out)?;
+        Ok(self.noted(note))
+    }
+
+    /// The client of this number makes a step.
+    pub(crate) fn client_steps(
+        mut self,
+        id: ClientId,
+        event: Event,
+    ) -> Result<WorldStepped<M>, WorldFault>
+        ensures goes { (g : Whole M.State) → Shows g self → IfOk result (λ r. GoesTo (client_steps g id event (slice_get g.clients id.0)) r.note r.world) }
+        ensures broken { (g : Whole M.State) → Shows g self → IfErr result (IsBrokenBy (client_steps g id event (slice_get g.clients id.0))) }
+    {
+        match self.seats.step_client(id, event)? {
+            None => Ok(self.no_subject()),
+            Some(step) => Ok(self.client_stepped(id, step)?),
+        }
+    }
+
+    /// The client of this number asks.
+    pub(crate) fn client_asks(mut self, id: ClientId, op: Bytes) -> Result<WorldStepped<M>, WorldFault>
+        requires { length op ≤ 1100 }
+        ensures goes { (g : Whole M.State) → Shows g self → IfOk result (λ r. GoesTo (ask_in g id op (slice_get g.clients id.0)) r.note r.world) }
+        ensures broken { (g : Whole M.State) → Shows g self → IfErr result (IsBrokenBy (ask_in g id op (slice_get g.clients id.0))) }
+    {
+        match self.seats.ask_client(id, op)? {
+            None => Ok(self.no_subject()),
+            Some(step) => Ok(self.client_stepped(id, step)?),
+        }
+    }
+
+    // A client has made its step, and nothing else was done yet.
+    fn client_stepped(mut self, id: ClientId, step: ClientStep) -> Result<WorldStepped<M>, Want>
+        ensures { (g : Whole M.State) (x : AClient) (o : ClientOutcome) → HasClientStepped g id x o step self → IfOk result (λ r. GoesTo (client_goes g id x [] o) r.note r.world) }
+    {
+        self.said.add(Party::Client(id), step.said)?;
+        self.bag.send(step.out)?;
+        self.agreed.complete(&step.done);
+        Ok(self.noted(client_note(id, step.done, step.answer)))
+    }
+}
+
+fn replica_note(id: ReplicaId, answer: Answer) -> Note
+    ensures { result ≡ replica_note id answer }
+{
+    match answer {
+        Answer::Taken => Note::Quiet,
+        Answer::Held => Note::Quiet,
+        Answer::Refused(cause) => Note::Refused(Some(Party::Replica(id)), cause),
+    }
+}
+
+fn client_note(id: ClientId, done: Option<Done>, answer: Answer) -> Note
+    ensures { result ≡ noted_client id done answer }
+{
+    match done {
+        Some(done) => Note::Done(id, done),
+        None => client_answer(id, answer),
+    }
+}
+
+fn client_answer(id: ClientId, answer: Answer) -> Note
+    ensures { result ≡ client_answer id answer }
+{
+    match answer {
+        Answer::Taken => Note::Quiet,
+        Answer::Held => Note::Quiet,
+        Answer::Refused(cause) => Note::Refused(Some(Party::Client(id)), cause),
+    }
+}

@@ -1,0 +1,76 @@
+ghost use Rattle.std.specs.Prelude.{◌≡◌, ◌≢◌, ◌^◌, None, Some, Err, IfOk, OnOk};
+ghost use Rattle.zy_lms.specs.Height.{levels_of};
+ghost use Rattle.zy_seal.specs.Sealing.{SealerState, spent_one};
+ghost use Rattle.zy_seal.specs.declared.sealer.SealFault.TheVariants.{KeySpent};
+ghost use Rattle.zy_setup.specs.Telling.{IsToldBy};
+ghost use Rattle.zy_world.specs.Tale.{IsTale, told_in};
+ghost use Rattle.zy_world.specs.Shown.{key_in, with_key};
+
+use crate::seat::{put_in, take_from};
+use crate::tale::Tale;
+use std::alloc::Global;
+use std::marker::Model;
+use zy_base::{Bytes, ClientId, Party, ReplicaId};
+use zy_seal::{SealFault, Sealer};
+
+/// The keys of the liars, each at its next leaf, none where a party doesn't lie.
+#[derive(Drop)]
+pub(crate) struct Liars {
+    pub(crate) replicas: Vec<Option<Sealer>>,
+    pub(crate) clients: Vec<Option<Sealer>>,
+}
+
+impl Model for Liars {
+    ghost use Rattle.zy_world.specs.Shown.{Keyed};
+
+    ghost Value = { Keyed };
+
+    ghost view = { λ k. record { replicas = k.replicas.items; clients = k.clients.items } };
+}
+
+impl Liars {
+    // The liar's key, which is taken out.
+    fn take(&mut self, liar: Party) -> Option<Sealer>
+        ensures taken { result ≡ key_in self.old liar }
+        ensures left { self.new ≡ with_key self.old liar None }
+    {
+        match liar {
+            Party::Replica(ReplicaId(id)) => take_from(&mut self.replicas, id as usize),
+            Party::Client(ClientId(id)) => take_from(&mut self.clients, id as usize),
+        }
+    }
+
+    // Changes nothing where there is no such party.
+    fn put(&mut self, liar: Party, key: Sealer)
+        ensures { self.new ≡ with_key self.old liar (Some key) }
+    {
+        match liar {
+            Party::Replica(ReplicaId(id)) => put_in(&mut self.replicas, id as usize, key),
+            Party::Client(ClientId(id)) => put_in(&mut self.clients, id as usize, key),
+        }
+    }
+
+    /// A liar signs by its next leaf. `KeySpent` where no leaf is left.
+    pub(crate) fn sign(
+        &mut self,
+        alloc: Global,
+        liar: Party,
+        tale: Tale,
+    ) -> Result<Bytes, SealFault>
+        requires { IsTale tale }
+        ensures frame { (key : SealerState) → key_in self.old liar ≡ Some key → IfOk result (IsToldBy (told_in tale) key) }
+        ensures spent_one { (key : SealerState) → key_in self.old liar ≡ Some key → OnOk result (self.new ≡ with_key self.old liar (Some (spent_one key))) }
+        ensures left { (key : SealerState) → key_in self.old liar ≡ Some key → OnOk result (key.key.next ≢ 2 ^ levels_of key.key.height) }
+        ensures spent { (key : SealerState) → key_in self.old liar ≡ Some key → result ≡ Err KeySpent → key.key.next ≡ 2 ^ levels_of key.key.height }
+        ensures same { (key : SealerState) → key_in self.old liar ≡ Some key → result ≡ Err KeySpent → self.new ≡ self.old }
+    {
+        match self.take(liar) {
+            None => Err(SealFault::KeySpent),
+            Some(mut key) => {
+                let frame = tale.frame(alloc, &mut key);
+                self.put(liar, key);
+                frame
+            }
+        }
+    }
+}

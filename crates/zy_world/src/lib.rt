@@ -1,0 +1,25 @@
+//! The world of a replay: all parties by their cores, the frames that were sent, the texts that are kept, and what each event
+//! of a schedule makes of them.
+#![tactic(auto)]
+
+mod agreed;
+mod bag;
+mod events;
+mod fault;
+mod going;
+mod liars;
+mod lying;
+mod marks;
+mod mutes;
+mod seat;
+mod seats;
+mod start;
+mod tale;
+mod world;
+
+pub use events::WorldStepped;
+pub use fault::WorldFault;
+pub use world::World;
+
+#[cfg(test)]
+mod tests;

@@ -1,0 +1,174 @@
+//! What liars and forgers sign, and bytes that are sent as they are.
+
+ghost use Rattle.std.specs.Prelude.{◌≡◌, ◌≤◌, ◌-◌, ◌^◌, length, Some, None, IfOk, IfSome};
+ghost use Rattle.std.specs.Option.{option_and_then};
+ghost use Rattle.std.specs.List.{AllByRecursion};
+ghost use Rattle.zy_lms.specs.Height.{levels_of};
+ghost use Rattle.zy_parts.specs.Signing.{IsSignedInRange};
+ghost use Rattle.zy_parts.specs.Statements.{IsAskInRange};
+ghost use Rattle.zy_world.specs.Answered.{GoesTo};
+ghost use Rattle.zy_world.specs.Event.{IsHistoryTold};
+ghost use Rattle.zy_world.specs.Shows.{Shows};
+ghost use Rattle.zy_setup.specs.Telling.{IsToldBy};
+ghost use Rattle.zy_table.specs.Sending.{copies};
+ghost use Rattle.zy_world.specs.Tale.{IsTale, if_replica, told_in};
+ghost use Rattle.zy_world_law.specs.Events.{lie, forge, raw};
+ghost use Rattle.zy_world_law.specs.Events.Happened.{Goes};
+ghost use Rattle.zy_world_law.specs.Setup.{sealer_of};
+ghost use Rattle.zy_world_law.specs.declared.note.Note.TheVariants.{Quiet};
+ghost use Rattle.zy_world_law.specs.Liars.{by_replica, order_told, spec_told, requests_at, statement_told};
+ghost use Rattle.zy_world_law.specs.World.{World as Whole, are_parties, with_sent};
+
+use crate::seat::Seat;
+use crate::tale::Tale;
+use crate::{World, WorldStepped};
+use zy_base::{Bytes, Cause, Items, Machine, Party, View, Want};
+use zy_parts::{Ask, Signed};
+use zy_seal::SealFault;
+use zy_setup::{read_statement, sealer_at};
+use zy_world_law::Note;
+
+impl<M: Machine> World<M> {
+    /// A liar orders the requests of these frames as one history.
+    pub(crate) fn lie_order(
+        self,
+        liar: Party,
+        view: View,
+        asks: &Items<u64>,
+        to: &Items<Party>,
+    ) -> Result<WorldStepped<M>, Want>
+        requires { IsHistoryTold view asks.now }
+        ensures { (g : Whole M.State) → Shows g self → IfOk result (λ r. GoesTo (lie g liar to.now (by_replica liar (option_and_then (order_told view) (requests_at g asks.now)))) r.note r.world) }
+    {
+        match self.requests_of(liar, asks)? {
+            Some(asks) => self.lie(liar, to, Tale::Order { view, asks }),
+            None => Ok(self.no_subject()),
+        }
+    }
+
+    /// A liar likewise signs a speculative response.
+    pub(crate) fn lie_spec(
+        self,
+        liar: Party,
+        view: View,
+        asks: &Items<u64>,
+        to: &Items<Party>,
+        reply: Bytes,
+    ) -> Result<WorldStepped<M>, Want>
+        requires history { IsHistoryTold view asks.now }
+        requires reply { length reply ≤ 1100 }
+        ensures { (g : Whole M.State) → Shows g self → IfOk result (λ r. GoesTo (lie g liar to.now (by_replica liar (option_and_then (spec_told view reply) (requests_at g asks.now)))) r.note r.world) }
+    {
+        match self.requests_of(liar, asks)? {
+            Some(asks) => self.lie(liar, to, Tale::Spec { view, asks, reply }),
+            None => Ok(self.no_subject()),
+        }
+    }
+
+    /// A liar signs a statement by its number and fields.
+    pub(crate) fn lie_statement(
+        self,
+        liar: Party,
+        bytes: &Bytes,
+        to: &Items<Party>,
+    ) -> Result<WorldStepped<M>, Want>
+        ensures { (g : Whole M.State) → Shows g self → IfOk result (λ r. GoesTo (lie g liar to.now (statement_told bytes.now)) r.note r.world) }
+    {
+        match read_statement(self.alloc, bytes.as_slice())? {
+            Some(statement) => self.lie(liar, to, Tale::Statement(statement)),
+            None => Ok(self.no_subject()),
+        }
+    }
+
+    /// Whoever made a correct party's key anew signs a statement by its last leaf.
+    pub(crate) fn forge_statement(
+        self,
+        party: Party,
+        bytes: &Bytes,
+        to: &Items<Party>,
+    ) -> Result<WorldStepped<M>, Want>
+        ensures { (g : Whole M.State) → Shows g self → IfOk result (λ r. GoesTo (forge g party to.now (statement_told bytes.now)) r.note r.world) }
+    {
+        match read_statement(self.alloc, bytes.as_slice())? {
+            Some(statement) => self.forge(party, to, Tale::Statement(statement)),
+            None => Ok(self.no_subject()),
+        }
+    }
+
+    /// Bytes are sent as they are.
+    pub(crate) fn raw(self, bytes: &Bytes, to: &Items<Party>) -> Result<WorldStepped<M>, Want>
+        ensures { (g : Whole M.State) → Shows g self → IfOk result (λ r. GoesTo (raw g bytes.now to.now) r.note r.world) }
+    {
+        if !self.are_parties(to) {
+            return Ok(self.no_subject());
+        }
+        self.sends(bytes, to)
+    }
+
+    // The requests of these frames. Only a replica may sign what is said of them.
+    fn requests_of(&self, liar: Party, asks: &Items<u64>) -> Result<Option<Items<Signed<Ask>>>, Want>
+        ensures value { (g : Whole M.State) → Shows g self.now → IfOk result (λ found. found ≡ if_replica liar (requests_at g asks.now)) }
+        ensures long { IfOk result (λ found. IfSome found (λ a. length a ≡ length asks.now)) }
+        ensures range { IfOk result (λ found. IfSome found (AllByRecursion (IsSignedInRange IsAskInRange))) }
+    {
+        match liar {
+            Party::Replica(_) => self.bag.requests(self.alloc, asks),
+            Party::Client(_) => Ok(None),
+        }
+    }
+
+    // A liar signs by its next leaf.
+    fn lie(mut self, liar: Party, to: &Items<Party>, tale: Tale) -> Result<WorldStepped<M>, Want>
+        requires { IsTale tale }
+        ensures { (g : Whole M.State) → Shows g self → IfOk result (λ r. GoesTo (lie g liar to.now (told_in tale)) r.note r.world) }
+    {
+        if self.seats.seat(liar) != Seat::Liar || !self.are_parties(to) {
+            return Ok(self.no_subject());
+        }
+        match self.liars.sign(self.alloc, liar, tale) {
+            Ok(bytes) => self.sends(&bytes, to),
+            Err(SealFault::KeySpent) => Ok(self.noted(Note::Refused(None, Cause::KeySpent))),
+            Err(SealFault::Want) => Err(Want),
+        }
+    }
+
+    fn forge(self, party: Party, to: &Items<Party>, tale: Tale) -> Result<WorldStepped<M>, Want>
+        requires { IsTale tale }
+        ensures { (g : Whole M.State) → Shows g self → IfOk result (λ r. GoesTo (forge g party to.now (told_in tale)) r.note r.world) }
+    {
+        if self.seats.seat(party) != Seat::Correct || !self.are_parties(to) {
+            return Ok(self.no_subject());
+        }
+        let bytes = self.forged(party, tale)?;
+        self.sends(&bytes, to)
+    }
+
+    // The frame under the party's key, made anew, by its last leaf.
+    fn forged(&self, party: Party, tale: Tale) -> Result<Bytes, Want>
+        requires { IsTale tale }
+        ensures { IfOk result (IsToldBy (told_in tale) (sealer_of self.now.setup party (2 ^ levels_of self.now.setup.height - 1))) }
+    {
+        let last = self.setup.height.leaf_count() - 1;
+        let mut sealer = sealer_at(self.alloc, &self.setup, party, last)?;
+        match tale.frame(self.alloc, &mut sealer) {
+            Ok(bytes) => Ok(bytes),
+            Err(SealFault::KeySpent) => unreachable!(),
+            Err(SealFault::Want) => Err(Want),
+        }
+    }
+
+    fn are_parties(&self, to: &Items<Party>) -> bool
+        ensures { (g : Whole M.State) → Shows g self.now → result ≡ are_parties g to.now }
+    {
+        to.as_slice()
+            .iter()
+            .all(|party| self.seats.seat(*party) != Seat::Nobody)
+    }
+
+    fn sends(mut self, bytes: &Bytes, to: &Items<Party>) -> Result<WorldStepped<M>, Want>
+        ensures { (g : Whole M.State) → Shows g self → IfOk result (λ r. GoesTo (Goes (with_sent g (copies bytes.now to.now)) Quiet) r.note r.world) }
+    {
+        self.bag.send_copies(bytes, to)?;
+        Ok(self.noted(Note::Quiet))
+    }
+}

@@ -1,0 +1,71 @@
+//! What flows have left.
+
+ghost use Rattle.std.specs.Prelude.{◌≡◌, true, false};
+ghost use Rattle.zy_world.specs.Passed.{ArePast, is_past};
+ghost use Rattle.zy_world.specs.Shows.{Shows};
+ghost use Rattle.zy_world_law.specs.World.{World as Whole, drop_frame, next_undelivered, set_muted};
+
+use crate::World;
+use crate::bag::{Bag, Mail};
+use crate::seat::Seat;
+use crate::seats::Seats;
+use zy_base::{Machine, Party};
+
+impl<M: Machine> World<M> {
+    /// The least number of a frame that was never delivered or dropped and goes to a correct party that isn't muted.
+    pub fn next_undelivered(&self) -> Option<u64>
+        ensures { (g : Whole M.State) → Shows g self.now → result ≡ next_undelivered g }
+    {
+        let passed = self.bag.passed;
+        match self.bag.mails[passed..].iter().position(|mail| self.is_due(mail)) {
+            Some(ahead) => Some((passed + ahead + 1) as u64),
+            None => None,
+        }
+    }
+
+    fn is_due(&self, mail: &Mail) -> bool
+        ensures { result ≡ is_due_in self.now mail.now }
+    {
+        !is_past(&self.seats, mail) && !self.muted.is_muted(mail.to)
+    }
+
+    /// Flows pass over the frame of this number; it may still be delivered by its number. Changes nothing where there is no
+    /// such frame. Takes no memory.
+    pub fn drop_frame(&mut self, frame: u64)
+        ensures { (g : Whole M.State) → Shows g self.old → Shows (drop_frame g frame) self.new }
+    {
+        self.bag.drop_frame(frame);
+        pass(&mut self.bag, &self.seats);
+    }
+
+    /// Flows pass over the frames to this party. Changes nothing where there is no such party. Takes no memory.
+    pub fn mute(&mut self, party: Party)
+        ensures { (g : Whole M.State) → Shows g self.old → Shows (set_muted g party true) self.new }
+    {
+        self.muted.set(party, true);
+    }
+
+    /// Flows pass over the frames to this party no longer. Changes nothing where there is no such party. Takes no memory.
+    pub fn unmute(&mut self, party: Party)
+        ensures { (g : Whole M.State) → Shows g self.old → Shows (set_muted g party false) self.new }
+    {
+        self.muted.set(party, false);
+    }
+}
+
+// Flows have nothing left of the frame, whoever is muted: it was delivered or dropped, or goes to no correct party.
+fn is_past<M: Machine>(seats: &Seats<M>, mail: &Mail) -> bool
+    ensures { result ≡ is_past seats.now mail.now }
+{
+    mail.delivered || mail.dropped || seats.seat(mail.to) != Seat::Correct
+}
+
+// Goes on over the frames of which flows have nothing left.
+pub(crate) fn pass<M: Machine>(bag: &mut Bag, seats: &Seats<M>)
+    ensures mails { bag.new.mails ≡ bag.old.mails }
+    ensures past { ArePast seats.now bag.old → ArePast seats.now bag.new }
+{
+    while bag.passed < bag.mails.len() && is_past(seats, &bag.mails[bag.passed]) {
+        bag.passed += 1;
+    }
+}

@@ -1,0 +1,189 @@
+ghost use Rattle.std.specs.Prelude.{◌≡◌, ◌≤◌, length, slice_get, slice_set, None, Some, option_copied, if◌then◌else◌, IfOk, IsSomeAnd, OnOk};
+ghost use Rattle.zy_table.specs.ClientRows.{ask as ask_row, client_step};
+ghost use Rattle.zy_table.specs.ClientState.{ClientState as AClient, ClientOutcome, is_waiting};
+ghost use Rattle.zy_table.specs.State.{State};
+ghost use Rattle.zy_table.specs.Step.{step as step_row};
+ghost use Rattle.zy_client.specs.Stepped.{IsStepped};
+ghost use Rattle.zy_world.specs.Shown.{seat_of, with_replica, with_client};
+ghost use Rattle.zy_world.specs.Stepping.{IsReplicaStep, IsClientStep, done_if};
+ghost use Rattle.zy_world_law.specs.World.{correct_in};
+
+use crate::seat::{Seat, put_in, seat_at, sitting, take_from};
+use std::marker::Model;
+use zy_base::{Answer, Bytes, ClientId, Event, Machine, Outgoing, Party, ReplicaId, Said, Want};
+use zy_client::{Client, ClientStepped};
+use zy_replica::Replica;
+use zy_table::{Done, Gains};
+
+/// The correct parties by their numbers, none where a party lies.
+#[derive(Drop)]
+pub(crate) struct Seats<M: Machine> {
+    pub(crate) replicas: Vec<Option<Replica<M>>>,
+    pub(crate) clients: Vec<Option<Client>>,
+}
+
+impl<M: Machine> Model for Seats<M> {
+    ghost use Rattle.zy_world.specs.Shown.{Seated};
+
+    ghost Value = { Seated M.State };
+
+    ghost view = { λ s. record { replicas = s.replicas.items; clients = s.clients.items } };
+}
+
+/// What a replica's step did beside changing it.
+#[derive(Drop)]
+pub(crate) struct ReplicaStep {
+    pub(crate) answer: Answer,
+    pub(crate) out: Outgoing,
+    pub(crate) said: Said,
+    pub(crate) got: Gains,
+}
+
+/// What a client's step did beside changing it; by a completion the request that waited became complete.
+#[derive(Drop)]
+pub(crate) struct ClientStep {
+    pub(crate) answer: Answer,
+    pub(crate) out: Outgoing,
+    pub(crate) said: Said,
+    pub(crate) done: Option<Done>,
+}
+
+impl<M: Machine> Seats<M> {
+    pub(crate) fn seat(&self, party: Party) -> Seat
+        ensures { result ≡ seat_of self.now party }
+    {
+        match party {
+            Party::Replica(ReplicaId(id)) => seat_at(&self.replicas, id as usize),
+            Party::Client(ClientId(id)) => seat_at(&self.clients, id as usize),
+        }
+    }
+
+    pub(crate) fn replica(&self, id: ReplicaId) -> Option<&Replica<M>>
+        ensures { option_copied result ≡ correct_in (slice_get self.now.replicas id.0) }
+    {
+        sitting(&self.replicas, id.0 as usize)
+    }
+
+    pub(crate) fn client(&self, id: ClientId) -> Option<&Client>
+        ensures { option_copied result ≡ correct_in (slice_get self.now.clients id.0) }
+    {
+        sitting(&self.clients, id.0 as usize)
+    }
+
+    /// The replica of this number makes a step, if there is such a correct one.
+    pub(crate) fn step_replica(
+        &mut self,
+        id: ReplicaId,
+        event: Event,
+    ) -> Result<Option<ReplicaStep>, Want>
+        ensures missing { correct_in (slice_get self.old.replicas id.0) ≡ None → IfOk result (λ step. (step ≡ None) × (self.new ≡ self.old)) }
+        ensures stepped { (s : State M.State) → correct_in (slice_get self.old.replicas id.0) ≡ Some s → IfOk result (λ step. IsSomeAnd step (IsReplicaStep (step_row M.rules s event))) }
+        ensures state { (s : State M.State) → correct_in (slice_get self.old.replicas id.0) ≡ Some s → OnOk result (self.new ≡ with_replica self.old id.0 (Some (step_row M.rules s event).state)) }
+    {
+        match take_from(&mut self.replicas, id.0 as usize) {
+            None => Ok(None),
+            Some(replica) => Ok(Some(self.replica_steps(id, replica, event)?)),
+        }
+    }
+
+    // The replica takes the seat of this number behind its step.
+    fn replica_steps(
+        &mut self,
+        id: ReplicaId,
+        replica: Replica<M>,
+        event: Event,
+    ) -> Result<ReplicaStep, Want>
+        ensures stepped { IfOk result (IsReplicaStep (step_row M.rules replica event)) }
+        ensures state { OnOk result (self.new ≡ with_replica self.old id.0 (Some (step_row M.rules replica event).state)) }
+    {
+        let stepped = replica.step(event)?;
+        put_in(&mut self.replicas, id.0 as usize, stepped.replica);
+        Ok(ReplicaStep {
+            answer: stepped.answer,
+            out: stepped.out,
+            said: stepped.said,
+            got: stepped.got,
+        })
+    }
+
+    /// The client of this number makes a step, if there is such a correct one.
+    pub(crate) fn step_client(
+        &mut self,
+        id: ClientId,
+        event: Event,
+    ) -> Result<Option<ClientStep>, Want>
+        ensures missing { correct_in (slice_get self.old.clients id.0) ≡ None → IfOk result (λ step. (step ≡ None) × (self.new ≡ self.old)) }
+        ensures stepped { (s : AClient) → correct_in (slice_get self.old.clients id.0) ≡ Some s → IfOk result (λ step. IsSomeAnd step (IsClientStep s (client_step s event))) }
+        ensures state { (s : AClient) → correct_in (slice_get self.old.clients id.0) ≡ Some s → OnOk result (self.new ≡ with_client self.old id.0 (Some (client_step s event).state)) }
+    {
+        match take_from(&mut self.clients, id.0 as usize) {
+            None => Ok(None),
+            Some(client) => {
+                let waited = client.waiting().is_some();
+                let stepped = client.step(event)?;
+                Ok(Some(self.client_made(id, waited, stepped)?))
+            }
+        }
+    }
+
+    /// The client of this number asks, if there is such a correct one.
+    pub(crate) fn ask_client(
+        &mut self,
+        id: ClientId,
+        op: Bytes,
+    ) -> Result<Option<ClientStep>, Want>
+        requires { length op ≤ 1100 }
+        ensures missing { correct_in (slice_get self.old.clients id.0) ≡ None → IfOk result (λ step. (step ≡ None) × (self.new ≡ self.old)) }
+        ensures stepped { (s : AClient) → correct_in (slice_get self.old.clients id.0) ≡ Some s → IfOk result (λ step. IsSomeAnd step (IsClientStep s (ask_row s op))) }
+        ensures state { (s : AClient) → correct_in (slice_get self.old.clients id.0) ≡ Some s → OnOk result (self.new ≡ with_client self.old id.0 (Some (ask_row s op).state)) }
+    {
+        match take_from(&mut self.clients, id.0 as usize) {
+            None => Ok(None),
+            Some(client) => {
+                let waited = client.waiting().is_some();
+                let stepped = client.ask(op)?;
+                Ok(Some(self.client_made(id, waited, stepped)?))
+            }
+        }
+    }
+
+    // The client takes the seat of this number behind its step; `waited` if a request had waited before.
+    fn client_made(
+        &mut self,
+        id: ClientId,
+        waited: bool,
+        stepped: ClientStepped,
+    ) -> Result<ClientStep, Want>
+        ensures stepped { (s : AClient) (o : ClientOutcome) → is_waiting s.waiting ≡ waited → IsStepped o stepped → IfOk result (IsClientStep s o) }
+        ensures state { OnOk result (self.new ≡ with_client self.old id.0 (Some stepped.client)) }
+    {
+        let done = done_now(&stepped.client, waited)?;
+        put_in(&mut self.clients, id.0 as usize, stepped.client);
+        Ok(ClientStep {
+            answer: stepped.answer,
+            out: stepped.out,
+            said: stepped.said,
+            done,
+        })
+    }
+}
+
+// The completion of the request that had waited, if it waits no longer.
+fn done_now(client: &Client, waited: bool) -> Result<Option<Done>, Want>
+    ensures { IfOk result (λ done. done ≡ done_if waited client.now) }
+{
+    if waited && client.waiting().is_none() {
+        copy_of(client.done())
+    } else {
+        Ok(None)
+    }
+}
+
+fn copy_of(done: Option<&Done>) -> Result<Option<Done>, Want>
+    ensures { IfOk result (λ copy. copy ≡ option_copied done) }
+{
+    match done {
+        Some(done) => Ok(Some(done.clone()?)),
+        None => Ok(None),
+    }
+}

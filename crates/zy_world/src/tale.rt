@@ -1,0 +1,46 @@
+ghost use Rattle.std.specs.Prelude.{◌≡◌, ◌↔◌, ◌^◌, IfOk, OnOk, IsErrOf};
+ghost use Rattle.zy_lms.specs.Height.{levels_of};
+ghost use Rattle.zy_seal.specs.Sealing.{spent_one};
+ghost use Rattle.zy_setup.specs.Telling.{IsToldBy};
+ghost use Rattle.zy_world.specs.Tale.{IsTale, told_in};
+
+use std::alloc::Global;
+use zy_base::{Bytes, Items, View};
+use zy_parts::{Ask, Signed};
+use zy_seal::{SealFault, Sealer};
+use zy_setup::{Tellable, order_frame, spec_frame};
+
+/// What a liar or a forger is told to sign.
+#[derive(Drop)]
+pub(crate) enum Tale {
+    /// The order whose history is that of these requests.
+    Order {
+        view: View,
+        asks: Items<Signed<Ask>>,
+    },
+    /// Likewise a speculative response with this reply.
+    Spec {
+        view: View,
+        asks: Items<Signed<Ask>>,
+        reply: Bytes,
+    },
+    Statement(Tellable),
+}
+
+impl Tale {
+    /// The frame, signed by the next leaf. `KeySpent` exactly where no leaf is left.
+    pub(crate) fn frame(self, alloc: Global, sealer: &mut Sealer) -> Result<Bytes, SealFault>
+        requires { IsTale self }
+        ensures frame { IfOk result (IsToldBy (told_in self) sealer.old) }
+        ensures spent_one { OnOk result (sealer.new ≡ spent_one sealer.old) }
+        ensures spent { IsErrOf result SealFault.KeySpent ↔ (sealer.old.key.next ≡ 2 ^ levels_of sealer.old.key.height) }
+    {
+        match self {
+            Tale::Order { view, asks } => order_frame(alloc, sealer, view, asks.as_slice()),
+            Tale::Spec { view, asks, reply } => {
+                spec_frame(alloc, sealer, view, asks.as_slice(), reply)
+            }
+            Tale::Statement(statement) => statement.frame(alloc, sealer),
+        }
+    }
+}
