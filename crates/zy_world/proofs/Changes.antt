@@ -1,7 +1,7 @@
 -- What a world shows after a change of one part.
-use Rattle.std.proofs.Common.{◌≡◌, ◌≢◌, ℕ, zero, suc, ◌+◌, ◌<◌, ◌≤◌, Bool, true, false, not, ◌||◌, List, [], ◌∷◌, ◌++◌, length, map, Option, Some, None, refl, sym, ap, ap₂, ◌∙◌, subst, arith, inl, inr}
+use Rattle.std.proofs.Common.{◌≡◌, ◌≢◌, ℕ, zero, suc, ◌+◌, ◌-◌, ◌<◌, ◌≤◌, Bool, true, false, not, ◌||◌, List, [], ◌∷◌, ◌++◌, length, map, Option, Some, None, refl, sym, ap, ap₂, ◌∙◌, subst, arith, inl, inr}
 use Rattle.std.specs.Prelude.{slice_get, slice_set, option_map, option_to_list, nat_eq, if◌then◌else◌}
-use Rattle.std.proofs.lemmas.Bool.{eqb-true, eqb-false}
+use Rattle.std.proofs.lemmas.Bool.{cases_lt, eqb-true, eqb-false}
 use Rattle.std.proofs.lemmas.List.{append-nil, length-set, map-append}
 use Rattle.std.proofs.lemmas.List.Sums.{fold-append}
 use Rattle.std.proofs.lemmas.Option.{same_Some, slice_get_within}
@@ -78,7 +78,7 @@ true_or false = refl
 past_delivered_if : {S : Type 0} (seats : Seated S) (bag : Posted) (before : ℕ) (o : Option Mail) → slice_get bag.mails before ≡ o → ArePast seats bag
     → ArePast seats (record { mails = delivered_if bag.mails (suc before) o; passed = bag.passed })
 past_delivered_if seats bag before None there past = past
-past_delivered_if seats bag before (Some mail) there past = past_set seats bag before mail (record mail { delivered = true }) there refl past
+past_delivered_if seats bag before (Some mail) there past = let one : suc before - 1 ≡ before = omega arith in rw one (past_set seats bag before mail (record mail { delivered = true }) there refl past)
 
 pub past_delivered : {S : Type 0} (seats : Seated S) (bag : Posted) (number : ℕ) → ArePast seats bag → ArePast seats (record { mails = with_delivered bag.mails number; passed = bag.passed })
 past_delivered seats bag zero past = past
@@ -87,7 +87,7 @@ past_delivered seats bag (suc before) past = past_delivered_if seats bag before 
 past_dropped_if : {S : Type 0} (seats : Seated S) (bag : Posted) (before : ℕ) (o : Option Mail) → slice_get bag.mails before ≡ o → ArePast seats bag
     → ArePast seats (record { mails = dropped_if bag.mails (suc before) o; passed = bag.passed })
 past_dropped_if seats bag before None there past = past
-past_dropped_if seats bag before (Some mail) there past = past_set seats bag before mail (record mail { dropped = true }) there (true_or mail.delivered) past
+past_dropped_if seats bag before (Some mail) there past = let one : suc before - 1 ≡ before = omega arith in rw one (past_set seats bag before mail (record mail { dropped = true }) there (true_or mail.delivered) past)
 
 pub past_dropped : {S : Type 0} (seats : Seated S) (bag : Posted) (number : ℕ) → ArePast seats bag → ArePast seats (record { mails = with_dropped bag.mails number; passed = bag.passed })
 past_dropped seats bag zero past = past
@@ -170,3 +170,14 @@ shows_done g v id done m s is =
       texts = s.texts;
       said = s.said;
     }
+
+-- flows pass over one frame more
+pub past_one : {S : Type 0} (seats : Seated S) (mails : List Mail) (passed : ℕ) (here : Mail) → slice_get mails passed ≡ Some here → is_past seats here ≡ true → ArePast seats (record { mails = mails; passed = passed })
+    → ArePast seats (record { mails = mails; passed = passed + 1 })
+past_one {S = S} seats mails passed here at gone past before mail below is = elim (cases_lt before passed) [
+  | inl within ↦ past before mail within is
+  | inr behind ↦
+      let same : before ≡ passed = omega (arith, below, behind) in
+      let found : Some here ≡ Some mail = sym at ∙ ap (λ (k : ℕ). slice_get mails k) (sym same) ∙ is in
+      subst (λ (m : Mail). is_past seats m ≡ true) (same_Some here mail found) gone
+]

@@ -15,7 +15,7 @@ use Rattle.zy_world.proofs.ShownSeats.{correct_is, seat_shown}
 -- ---- the first that passes, behind some that don't
 
 len_past : {A : Type 0} (p : A → Bool) (xs : List A) (n : ℕ) → n ≤ length xs → ((k : ℕ) (x : A) → k < n → slice_get xs k ≡ Some x → p x ≡ false) → position_or_len p xs ≡ n + position_or_len p (drop n xs)
-len_past p xs zero within none = refl
+len_past p xs zero within none = let none : position_or_len p xs ≡ 0 + position_or_len p xs = omega arith in none
 len_past p [] (suc n) within none = absurd (omega (arith, within))
 len_past p (x ∷ xs) (suc n) within none =
     let first : p x ≡ false = none 0 x (omega arith) refl in

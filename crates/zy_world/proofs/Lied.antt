@@ -81,7 +81,7 @@ module _ {S : Type 0} (seats : Seated S) (setup : Setup) (leaves : Party → ℕ
   key_of_other other false differs has = has
 
   leaf_within : (other : Party) (b : Bool) → same_party other liar ≡ b → leaves other ≤ 2 ^ levels_of setup.height → leaf_at b other ≤ 2 ^ levels_of setup.height
-  leaf_within other true same within = let as : leaves other ≡ leaves liar = ap leaves (same_is other liar same) in omega (arith, as, left)
+  leaf_within other true same within = let like : leaves other ≡ leaves liar = ap leaves (same_is other liar same) in omega (arith, like, left)
   leaf_within other false differs within = within
 
   keys_spent : ShowsKeys seats setup (λ other. if same_party other liar then leaves other + 1 else leaves other) (with_key k liar (Some (spent_one (sealer_of setup liar (leaves liar)))))
@@ -133,10 +133,10 @@ lie_sent {S = S} w liar to told bytes is left tells =
 
 pub lie_unsent : {S : Type 0} (w : World S) (liar : Party) (to : List Party) (told : Option Telling) (telling : Telling) → (is_liar w liar && are_parties w to) ≡ true → leaves_in w ≤ w.leaves liar
     → told ≡ Some telling → lie w liar to told ≡ Goes w (notes.Refused None causes.KeySpent)
-lie_unsent {S = S} w liar to told telling is spent tells =
+lie_unsent {S = S} w liar to told telling is used tells =
     let sent : Happened S = Goes (with_sent (spent w liar) (copies (spelling (telling (sealer_of w.setup liar (w.leaves liar)))) to)) notes.Quiet in
     ap (lie w liar to) tells
-    ∙ ap₂ (λ (b c : Bool). if b then (if c then sent else Goes w (notes.Refused None causes.KeySpent)) else no_subject w) is (le-ltb (w.leaves liar) (leaves_in w) spent)
+    ∙ ap₂ (λ (b c : Bool). if b then (if c then sent else Goes w (notes.Refused None causes.KeySpent)) else no_subject w) is (le-ltb (w.leaves liar) (leaves_in w) used)
 
 pub forge_sent : {S : Type 0} (w : World S) (party : Party) (to : List Party) (told : Option Telling) (bytes : List ℕ) → (is_correct w party && are_parties w to) ≡ true
     → IsToldBy told (sealer_of w.setup party (leaves_in w - 1)) bytes → forge w party to told ≡ Goes (with_sent w (copies bytes to)) notes.Quiet

@@ -1,6 +1,7 @@
 -- Lists of seats after one of them changed.
-use Rattle.std.proofs.Common.{◌≡◌, ◌≢◌, ℕ, zero, suc, ◌<◌, Bool, true, false, List, [], ◌∷◌, length, map, Option, Some, None, refl, sym, ap, ◌∙◌}
+use Rattle.std.proofs.Common.{◌≡◌, ◌≢◌, ℕ, zero, suc, ◌+◌, ◌<◌, ◌≤◌, arith, inl, inr, Bool, true, false, List, [], ◌∷◌, length, map, Option, Some, None, refl, sym, ap, ◌∙◌}
 use Rattle.std.specs.Prelude.{slice_get, slice_set, option_map, nat_lt}
+use Rattle.std.proofs.lemmas.Bool.{cases_lt, lt-ltb, le-ltb}
 use Rattle.std.proofs.lemmas.Option.{slice_get-map}
 use Rattle.zy_world.specs.Shown.{seat_in, is_seated, is_correct_seat}
 use Rattle.zy_world.specs.declared.seat.Seat.{Seat}
@@ -55,11 +56,16 @@ some_kind : {A : Type 0} (o : Option A) → is_seated (seat_in (Some o)) ≡ tru
 some_kind None = refl
 some_kind (Some x) = refl
 
+same_lt : (i m n : ℕ) → m ≡ n + 1 → nat_lt (suc i) m ≡ nat_lt i n
+same_lt i m n is = elim (cases_lt i n) [
+  | inl below ↦ lt-ltb (suc i) m (omega (arith, below, is)) ∙ sym (lt-ltb i n below)
+  | inr above ↦ le-ltb (suc i) m (omega (arith, above, is)) ∙ sym (le-ltb i n above)
+]
+
 pub within_kind : {A : Type 0} (xs : List (Option A)) (i : ℕ) → nat_lt i (length xs) ≡ is_seated (seat_in (slice_get xs i))
-within_kind [] zero = refl
-within_kind [] (suc i) = refl
-within_kind (x ∷ xs) zero = sym (some_kind x)
-within_kind (x ∷ xs) (suc i) = within_kind xs i
+within_kind [] i = le-ltb i 0 (omega arith)
+within_kind (x ∷ xs) zero = lt-ltb 0 (length (x ∷ xs)) (omega arith) ∙ sym (some_kind x)
+within_kind (x ∷ xs) (suc i) = same_lt i (length (x ∷ xs)) (length xs) (omega arith) ∙ within_kind xs i
 
 -- ---- who sits there
 

@@ -18,7 +18,7 @@ use Rattle.zy_world.specs.Shows.{Shows}
 use Rattle.zy_world.specs.declared.fault.WorldFault.{WorldFault}
 use Rattle.zy_world.specs.declared.fault.WorldFault.TheVariants as faults
 use Rattle.zy_world_law.specs.Events.{Broken, Happened, no_subject, replica_goes, client_goes}
-use Rattle.zy_world_law.specs.Events.Broken as broken
+use Rattle.zy_world_law.specs.Events.Broken.{Forged as ShowsForged, Clash as ShowsClash}
 use Rattle.zy_world_law.specs.Events.Happened.{Goes, Breaks}
 use Rattle.zy_world_law.specs.Honest.{forger_in}
 use Rattle.zy_world_law.specs.Texts.{texts_in, keep_all}
@@ -33,15 +33,15 @@ pub record GoesTo {S : Type 0} (happened : Happened S) (note : Note) (shown : Sh
 
 -- it isn't honest, for what this fault tells; want of memory tells nothing
 abbrev pub IsBrokenBy : {S : Type 0} → Happened S → WorldFault → Type 0
-IsBrokenBy happened (faults.Forged by) = happened ≡ Breaks (broken.Forged by)
-IsBrokenBy happened (faults.Clash digest) = happened ≡ Breaks (broken.Clash digest)
+IsBrokenBy happened (faults.Forged by) = happened ≡ Breaks (ShowsForged by)
+IsBrokenBy happened (faults.Clash digest) = happened ≡ Breaks (ShowsClash digest)
 IsBrokenBy happened faults.Want = ⊤
 
 -- ---- a frame is heard: no part of it is forged, and what it brings is kept
 
 abbrev pub heard_of : Option Party → Result Texts Digest → Result Texts Broken
-heard_of (Some by) kept = Err (broken.Forged by)
-heard_of None (Err digest) = Err (broken.Clash digest)
+heard_of (Some by) kept = Err (ShowsForged by)
+heard_of None (Err digest) = Err (ShowsClash digest)
 heard_of None (Ok texts) = Ok texts
 
 unfoldable pub heard : {S : Type 0} → World S → List ℕ → Result Texts Broken
@@ -54,8 +54,8 @@ pub record HeardTo {S : Type 0} (w : World S) (bytes : List ℕ) (shown : Shown 
   pub shows : Shows (record w { texts = texts }) shown
 
 abbrev pub IsUnheardBy : {S : Type 0} → World S → List ℕ → WorldFault → Type 0
-IsUnheardBy w bytes (faults.Forged by) = heard w bytes ≡ Err (broken.Forged by)
-IsUnheardBy w bytes (faults.Clash digest) = heard w bytes ≡ Err (broken.Clash digest)
+IsUnheardBy w bytes (faults.Forged by) = heard w bytes ≡ Err (ShowsForged by)
+IsUnheardBy w bytes (faults.Clash digest) = heard w bytes ≡ Err (ShowsClash digest)
 IsUnheardBy w bytes faults.Want = ⊤
 
 -- ---- a party in a seat makes a step; where none is correct the event has no subject

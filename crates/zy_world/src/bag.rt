@@ -1,4 +1,4 @@
-ghost use Rattle.std.specs.Prelude.{◌≡◌, ◌++◌, ◌∷◌, [], map, option_copied, option_map, IfOk, IfSome, OnOk};
+ghost use Rattle.std.specs.Prelude.{◌≡◌, ◌≤◌, ◌++◌, ◌∷◌, [], length, map, option_copied, option_map, IfOk, IfSome, OnOk};
 ghost use Rattle.std.specs.List.{AllByRecursion};
 ghost use Rattle.std.specs.Option.{ForSome};
 ghost use Rattle.zy_parts.specs.Signing.{IsSignedInRange};
@@ -67,8 +67,10 @@ impl Bag {
 
     /// Puts frames in at the end.
     pub(crate) fn send(&mut self, sent: Outgoing) -> Result<(), Want>
-        ensures { OnOk result (self.new ≡ record { mails = self.old.mails ++ map mail_to sent; passed = self.old.passed }) }
+        ensures sent { OnOk result (self.new ≡ record { mails = self.old.mails ++ map mail_to sent; passed = self.old.passed }) }
+        ensures within { self.old.passed ≤ length self.old.mails }
     {
+        let _ = &self.mails;
         for (to, bytes) in sent.into_vec() {
             self.put(to, bytes)?;
         }
@@ -130,8 +132,10 @@ impl Bag {
 
     /// Puts a frame in for each of these parties.
     pub(crate) fn send_copies(&mut self, bytes: &Bytes, to: &Items<Party>) -> Result<(), Want>
-        ensures { OnOk result (self.new ≡ record { mails = self.old.mails ++ map mail_to (copies bytes.now to.now); passed = self.old.passed }) }
+        ensures sent { OnOk result (self.new ≡ record { mails = self.old.mails ++ map mail_to (copies bytes.now to.now); passed = self.old.passed }) }
+        ensures within { self.old.passed ≤ length self.old.mails }
     {
+        let _ = &self.mails;
         for party in to.as_slice() {
             self.put(*party, bytes.clone()?)?;
         }

@@ -6,7 +6,7 @@ ghost use Rattle.zy_world.specs.Event.{IsEvent};
 ghost use Rattle.zy_world.specs.Shows.{Shows};
 ghost use Rattle.zy_world.specs.declared.fault.WorldFault.TheVariants.{Forged, Clash};
 ghost use Rattle.zy_world_law.specs.Events.{happens, bring, deliver, timer_of};
-ghost use Rattle.zy_world_law.specs.Events.Broken as broken;
+ghost use Rattle.zy_world_law.specs.Events.Broken.{Forged as ShowsForged, Clash as ShowsClash};
 ghost use Rattle.zy_world_law.specs.Events.Happened.{Goes, Breaks};
 ghost use Rattle.zy_world_law.specs.World.{World as Whole, mail_at};
 
@@ -30,8 +30,8 @@ impl<M: Machine> World<M> {
     pub fn step(self, event: WorldEvent) -> Result<WorldStepped<M>, WorldFault>
         requires { IsEvent event }
         ensures goes { (g : Whole M.State) → Shows g self → IfOk result (λ r. (v : Whole M.State) × (happens M.rules g event ≡ Goes v r.note) × Shows v r.world) }
-        ensures forged { (g : Whole M.State) (by : Somebody) → Shows g self → result ≡ Err (Forged by) → happens M.rules g event ≡ Breaks (broken.Forged by) }
-        ensures clash { (g : Whole M.State) (digest : Sum) → Shows g self → result ≡ Err (Clash digest) → happens M.rules g event ≡ Breaks (broken.Clash digest) }
+        ensures forged { (g : Whole M.State) (by : Somebody) → Shows g self → result ≡ Err (Forged by) → happens M.rules g event ≡ Breaks (ShowsForged by) }
+        ensures clash { (g : Whole M.State) (digest : Sum) → Shows g self → result ≡ Err (Clash digest) → happens M.rules g event ≡ Breaks (ShowsClash digest) }
     {
         self.goes(event)
     }

@@ -160,9 +160,7 @@ impl<M: Machine> World<M> {
     fn are_parties(&self, to: &Items<Party>) -> bool
         ensures { (g : Whole M.State) → Shows g self.now → result ≡ are_parties g to.now }
     {
-        to.as_slice()
-            .iter()
-            .all(|party| self.seats.seat(*party) != Seat::Nobody)
+        self.seats.are_seated(to.as_slice())
     }
 
     fn sends(mut self, bytes: &Bytes, to: &Items<Party>) -> Result<WorldStepped<M>, Want>

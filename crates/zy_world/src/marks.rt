@@ -1,7 +1,7 @@
 //! What flows have left.
 
-ghost use Rattle.std.specs.Prelude.{◌≡◌, true, false};
-ghost use Rattle.zy_world.specs.Passed.{ArePast, is_past};
+ghost use Rattle.std.specs.Prelude.{◌≡◌, ◌≤◌, length, drop, position, true, false};
+ghost use Rattle.zy_world.specs.Passed.{ArePast, is_due_in, is_past};
 ghost use Rattle.zy_world.specs.Shows.{Shows};
 ghost use Rattle.zy_world_law.specs.World.{World as Whole, drop_frame, next_undelivered, set_muted};
 
@@ -16,11 +16,20 @@ impl<M: Machine> World<M> {
     pub fn next_undelivered(&self) -> Option<u64>
         ensures { (g : Whole M.State) → Shows g self.now → result ≡ next_undelivered g }
     {
-        let passed = self.bag.passed;
-        match self.bag.mails[passed..].iter().position(|mail| self.is_due(mail)) {
-            Some(ahead) => Some((passed + ahead + 1) as u64),
+        match self.first_due() {
+            Some(ahead) => Some((self.bag.passed + ahead + 1) as u64),
             None => None,
         }
+    }
+
+    // The first such frame of those that flows have not passed over.
+    fn first_due(&self) -> Option<usize>
+        ensures within { self.now.bag.passed ≤ length self.now.bag.mails }
+        ensures first { result ≡ position (is_due_in self.now) (drop self.now.bag.passed self.now.bag.mails) }
+    {
+        self.bag.mails[self.bag.passed..]
+            .iter()
+            .position(|mail| self.is_due(mail))
     }
 
     fn is_due(&self, mail: &Mail) -> bool

@@ -1,10 +1,11 @@
 ghost use Rattle.std.specs.Prelude.{◌≡◌, ◌≤◌, length, slice_get, slice_set, None, Some, option_copied, if◌then◌else◌, IfOk, IsSomeAnd, OnOk};
+ghost use Rattle.std.specs.List.{list_all};
 ghost use Rattle.zy_table.specs.ClientRows.{ask as ask_row, client_step};
 ghost use Rattle.zy_table.specs.ClientState.{ClientState as AClient, ClientOutcome, is_waiting};
 ghost use Rattle.zy_table.specs.State.{State};
 ghost use Rattle.zy_table.specs.Step.{step as step_row};
 ghost use Rattle.zy_client.specs.Stepped.{IsStepped};
-ghost use Rattle.zy_world.specs.Shown.{seat_of, with_replica, with_client};
+ghost use Rattle.zy_world.specs.Shown.{is_seated, seat_of, with_replica, with_client};
 ghost use Rattle.zy_world.specs.Stepping.{IsReplicaStep, IsClientStep, done_if};
 ghost use Rattle.zy_world_law.specs.World.{correct_in};
 
@@ -55,6 +56,23 @@ impl<M: Machine> Seats<M> {
         match party {
             Party::Replica(ReplicaId(id)) => seat_at(&self.replicas, id as usize),
             Party::Client(ClientId(id)) => seat_at(&self.clients, id as usize),
+        }
+    }
+
+    /// There is each of these parties.
+    pub(crate) fn are_seated(&self, to: &[Party]) -> bool
+        ensures { result ≡ list_all (λ party. is_seated (seat_of self.now party)) to.now }
+    {
+        to.iter().all(|party| self.is_seated(*party))
+    }
+
+    fn is_seated(&self, party: Party) -> bool
+        ensures { result ≡ is_seated (seat_of self.now party) }
+    {
+        match self.seat(party) {
+            Seat::Nobody => false,
+            Seat::Liar => true,
+            Seat::Correct => true,
         }
     }
 
@@ -119,7 +137,7 @@ impl<M: Machine> Seats<M> {
         match take_from(&mut self.clients, id.0 as usize) {
             None => Ok(None),
             Some(client) => {
-                let waited = client.waiting().is_some();
+                let waited = is_waiting(&client);
                 let stepped = client.step(event)?;
                 Ok(Some(self.client_made(id, waited, stepped)?))
             }
@@ -140,7 +158,7 @@ impl<M: Machine> Seats<M> {
         match take_from(&mut self.clients, id.0 as usize) {
             None => Ok(None),
             Some(client) => {
-                let waited = client.waiting().is_some();
+                let waited = is_waiting(&client);
                 let stepped = client.ask(op)?;
                 Ok(Some(self.client_made(id, waited, stepped)?))
             }
@@ -168,11 +186,20 @@ impl<M: Machine> Seats<M> {
     }
 }
 
+fn is_waiting(client: &Client) -> bool
+    ensures { result ≡ is_waiting client.now.waiting }
+{
+    match client.waiting() {
+        Some(_) => true,
+        None => false,
+    }
+}
+
 // The completion of the request that had waited, if it waits no longer.
 fn done_now(client: &Client, waited: bool) -> Result<Option<Done>, Want>
     ensures { IfOk result (λ done. done ≡ done_if waited client.now) }
 {
-    if waited && client.waiting().is_none() {
+    if waited && !is_waiting(client) {
         copy_of(client.done())
     } else {
         Ok(None)
@@ -180,7 +207,7 @@ fn done_now(client: &Client, waited: bool) -> Result<Option<Done>, Want>
 }
 
 fn copy_of(done: Option<&Done>) -> Result<Option<Done>, Want>
-    ensures { IfOk result (λ copy. copy ≡ option_copied done) }
+    ensures { IfOk result (λ copy. copy ≡ option_copied done.entry) }
 {
     match done {
         Some(done) => Ok(Some(done.clone()?)),
