@@ -104,7 +104,7 @@ heard_then w texts more change note None = ap (go_with w change note) (keep_all-
 
 to_replica : {S : Type 0} (R : Rules S) (w : World S) (id : ReplicaId) (bytes : List ℕ) (o : Option (Option (Replica S))) → seat_in o ≡ sat.Correct
     → bring_to_replica R w w id bytes o ≡ carried (heard w bytes) (λ texts. replica_steps R (record w { texts = texts }) id (Heard bytes) o)
-unfolding heard, replica_steps
+unfolding heard replica_steps
 to_replica R w id bytes (Some (Some x)) is =
     let o = step R x.state (Heard bytes) in
     heard_then w (texts_in bytes) (step_texts o.deeds.acts)
@@ -115,7 +115,7 @@ to_replica R w id bytes None is = absurd cc
 
 to_client : {S : Type 0} (w : World S) (id : ClientId) (bytes : List ℕ) (o : Option (Option Client)) → seat_in o ≡ sat.Correct
     → bring_to_client w w id bytes o ≡ carried (heard w bytes) (λ texts. client_steps (record w { texts = texts }) id (Heard bytes) o)
-unfolding heard, client_steps
+unfolding heard client_steps
 to_client {S = S} w id bytes (Some (Some x)) is =
     let o = client_step x.state (Heard bytes) in
     let done = completed_by x.state o.state in
