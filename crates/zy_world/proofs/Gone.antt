@@ -18,7 +18,9 @@ use Rattle.zy_table.specs.declared.client.Done.{Done}
 use Rattle.zy_table.specs.declared.deeds.Got.{Got}
 use Rattle.zy_texts.specs.Kept.{Pairs, Keeps, Clashes}
 use Rattle.zy_texts.specs.Said.{Told, AreShown, also_said}
-use Rattle.zy_world.specs.Answered.{GoesTo}
+use Rattle.zy_texts.specs.declared.fault.TextFault.{TextFault}
+use Rattle.zy_texts.specs.declared.fault.TextFault.TheVariants as text_faults
+use Rattle.zy_world.specs.Answered.{GoesTo, IsBrokenBy, world_fault}
 use Rattle.zy_world.specs.Shown.{Shown, Posted, mark_after}
 use Rattle.zy_world.specs.Shows.{Shows, texts_of}
 use Rattle.zy_world.specs.Stepping.{HasReplicaStepped, HasClientStepped}
@@ -104,3 +106,8 @@ module _ {S : Type 0} (w : World S) (id : ClientId) (x : Client) (o : ClientOutc
         shows = shows_done (with_sent (with_client w id (client_stepped x o)) out) (record v { said = told; bag = bag }) id done mark s2
             (further ∙ ap (mark_after v.agreed) has.step.done);
       }
+
+-- a text that clashed is told as the fault of the world
+pub broken_by_text : {S : Type 0} (happened : Happened S) (fault : TextFault) → ((d : Digest) → fault ≡ text_faults.Clash d → happened ≡ Breaks (Clash d)) → IsBrokenBy happened (world_fault fault)
+broken_by_text happened (text_faults.Clash d) breaks = breaks d refl
+broken_by_text happened text_faults.Want breaks = tt

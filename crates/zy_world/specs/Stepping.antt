@@ -1,10 +1,8 @@
 -- A party's step, and what it did beside changing the party.
 use Rattle.std.specs.Prelude.{◌≡◌, Bool, if◌then◌else◌, List, map, slice_get, Option, Some, None}
-use Rattle.std.specs.List.{AllByRecursion}
 use Rattle.zy_base.specs.declared.ids.ClientId.{ClientId}
 use Rattle.zy_base.specs.declared.ids.Party.TheVariants as parties
 use Rattle.zy_base.specs.declared.ids.ReplicaId.{ReplicaId}
-use Rattle.zy_chain.specs.Entries.{IsEntryInRange}
 use Rattle.zy_table.specs.ClientState.{ClientState, ClientOutcome, client_outgoing, spoken_of, is_waiting}
 use Rattle.zy_table.specs.Deeds.{Outcome, outgoing_of, said_from, gains_in}
 use Rattle.zy_table.specs.declared.client.Done.{Done}
@@ -20,7 +18,6 @@ pub record IsReplicaStep {S : Type 0} (o : Outcome S) (r : ReplicaStep) : Type 0
   pub out : r.out ≡ outgoing_of o.state.me.0 o.state.counts.n o.deeds.sent
   pub said : r.said ≡ said_from (parties.Replica o.state.me) 0 o.deeds.acts
   pub got : r.got ≡ gains_in o.deeds.acts
-  pub entries : AllByRecursion (λ got. IsEntryInRange got.entry) r.got
 
 -- the completion that a client has where no request waits any more
 abbrev pub done_if : Bool → ClientState → Option Done

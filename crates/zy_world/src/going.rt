@@ -49,11 +49,13 @@ impl<M: Machine> World<M> {
         ensures heard { (g : Whole M.State) (bytes : List ℕ) → Shows g self → frame_in bytes ≡ Ok frame.now → IfOk result (HeardTo g bytes) }
         ensures unheard { (g : Whole M.State) (bytes : List ℕ) → Shows g self → frame_in bytes ≡ Ok frame.now → IfErr result (IsUnheardBy g bytes) }
     {
-        if let Some(by) = self.said.forger(&self.directory, frame)? {
-            return Err(WorldFault::Forged(by));
+        match self.said.forger(&self.directory, frame)? {
+            Some(by) => Err(WorldFault::Forged(by)),
+            None => {
+                self.texts.keep_frame(frame)?;
+                Ok(self)
+            }
         }
-        self.texts.keep_frame(frame)?;
-        Ok(self)
     }
 
     /// The replica of this number makes a step.

@@ -1,5 +1,6 @@
 ghost use Rattle.std.specs.Prelude.{◌≡◌, ◌≤◌, length, slice_get, slice_set, None, Some, option_copied, if◌then◌else◌, IfOk, IsSomeAnd, OnOk};
-ghost use Rattle.std.specs.List.{list_all};
+ghost use Rattle.std.specs.List.{AllByRecursion, list_all};
+ghost use Rattle.zy_chain.specs.Entries.{IsEntryInRange};
 ghost use Rattle.zy_table.specs.ClientRows.{ask as ask_row, client_step};
 ghost use Rattle.zy_table.specs.ClientState.{ClientState as AClient, ClientOutcome, is_waiting};
 ghost use Rattle.zy_table.specs.State.{State};
@@ -38,6 +39,7 @@ pub(crate) struct ReplicaStep {
     pub(crate) out: Outgoing,
     pub(crate) said: Said,
     pub(crate) got: Gains,
+    pub(crate) ghost in_range: { AllByRecursion (λ g. IsEntryInRange g.entry) got },
 }
 
 /// What a client's step did beside changing it; by a completion the request that waited became complete.

@@ -5,5 +5,5 @@ use Rattle.zy_world.proofs.bag.Bag.send_copies.Given as goal
 
 abbrev pub invariant-loop-party : goal.invariant-loop-party
 invariant-loop-party l =
-    (l.self.mails ≡ l.fn.self.mails ++ map mail_to (copies l.bytes (take l.party-index l.fn.to.now)))
+    (l.self.mails ≡ l.fn.self.mails ++ map mail_to (copies l.bytes (take l.party-index l.fn.to)))
     × (l.self.passed ≡ l.fn.self.passed)
