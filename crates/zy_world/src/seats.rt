@@ -139,7 +139,7 @@ impl<M: Machine> Seats<M> {
         match take_from(&mut self.clients, id.0 as usize) {
             None => Ok(None),
             Some(client) => {
-                let waited = is_waiting(&client);
+                let waited = waits(&client);
                 let stepped = client.step(event)?;
                 Ok(Some(self.client_made(id, waited, stepped)?))
             }
@@ -160,7 +160,7 @@ impl<M: Machine> Seats<M> {
         match take_from(&mut self.clients, id.0 as usize) {
             None => Ok(None),
             Some(client) => {
-                let waited = is_waiting(&client);
+                let waited = waits(&client);
                 let stepped = client.ask(op)?;
                 Ok(Some(self.client_made(id, waited, stepped)?))
             }
@@ -188,7 +188,7 @@ impl<M: Machine> Seats<M> {
     }
 }
 
-fn is_waiting(client: &Client) -> bool
+fn waits(client: &Client) -> bool
     ensures { result ≡ is_waiting client.now.waiting }
 {
     match client.waiting() {
@@ -201,7 +201,7 @@ fn is_waiting(client: &Client) -> bool
 fn done_now(client: &Client, waited: bool) -> Result<Option<Done>, Want>
     ensures { IfOk result (λ done. done ≡ done_if waited client.now) }
 {
-    if waited && !is_waiting(client) {
+    if waited && !waits(client) {
         copy_of(client.done())
     } else {
         Ok(None)
