@@ -24,8 +24,8 @@ use Rattle.zy_world.specs.Answered.{GoesTo, IsBrokenBy, world_fault}
 use Rattle.zy_world.specs.Shown.{Shown, Posted, mark_after}
 use Rattle.zy_world.specs.Shows.{Shows, texts_of}
 use Rattle.zy_world.specs.Stepping.{HasReplicaStepped, HasClientStepped}
-use Rattle.zy_world.specs.declared.seats.ClientStep.{ClientStep}
-use Rattle.zy_world.specs.declared.seats.ReplicaStep.{ReplicaStep}
+use Rattle.zy_world.specs.declared.step.ClientStep.{ClientStep}
+use Rattle.zy_world.specs.declared.step.ReplicaStep.{ReplicaStep}
 use Rattle.zy_world_law.specs.Events.{Broken, Happened, go_with, stepped, client_stepped, remark_after, with_replica, with_client, with_done, replica_goes, client_goes, replica_note, client_note, completed_by}
 use Rattle.zy_world_law.specs.Events.Broken.{Clash}
 use Rattle.zy_world_law.specs.Events.Happened.{Goes, Breaks}

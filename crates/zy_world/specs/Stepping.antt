@@ -8,8 +8,8 @@ use Rattle.zy_table.specs.Deeds.{Outcome, outgoing_of, said_from, gains_in}
 use Rattle.zy_table.specs.declared.client.Done.{Done}
 use Rattle.zy_world.specs.Shown.{Shown, Seated, with_replica, with_client}
 use Rattle.zy_world.specs.Shows.{Shows}
-use Rattle.zy_world.specs.declared.seats.ClientStep.{ClientStep}
-use Rattle.zy_world.specs.declared.seats.ReplicaStep.{ReplicaStep}
+use Rattle.zy_world.specs.declared.step.ClientStep.{ClientStep}
+use Rattle.zy_world.specs.declared.step.ReplicaStep.{ReplicaStep}
 use Rattle.zy_world_law.specs.Events.{completed_by}
 use Rattle.zy_world_law.specs.World.{World, Replica, Client}
 

@@ -10,7 +10,7 @@ ghost use Rattle.zy_world.specs.Stepping.{HasReplicaStepped, HasClientStepped};
 ghost use Rattle.zy_world_law.specs.Events.{ask_in, no_subject, replica_goes, client_goes, replica_note, client_note as noted_client, client_answer};
 ghost use Rattle.zy_world_law.specs.World.{World as Whole, Replica as AReplica, Client as AClient};
 
-use crate::seats::{ClientStep, ReplicaStep};
+use crate::step::{ClientStep, ReplicaStep};
 use crate::{World, WorldFault, WorldStepped};
 use zy_base::{Answer, Bytes, Cause, ClientId, Event, Machine, Party, ReplicaId, Want};
 use zy_frames::{DecodeFault, Frame, decode};

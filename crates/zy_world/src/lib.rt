@@ -14,6 +14,7 @@ mod mutes;
 mod seat;
 mod seats;
 mod start;
+mod step;
 mod tale;
 mod world;
 

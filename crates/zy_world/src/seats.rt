@@ -1,6 +1,5 @@
 ghost use Rattle.std.specs.Prelude.{◌≡◌, ◌≤◌, length, slice_get, slice_set, None, Some, option_copied, if◌then◌else◌, IfOk, IsSomeAnd, OnOk};
-ghost use Rattle.std.specs.List.{AllByRecursion, list_all};
-ghost use Rattle.zy_chain.specs.Entries.{IsEntryInRange};
+ghost use Rattle.std.specs.List.{list_all};
 ghost use Rattle.zy_table.specs.ClientRows.{ask as ask_row, client_step};
 ghost use Rattle.zy_table.specs.ClientState.{ClientState as AClient, ClientOutcome, is_waiting};
 ghost use Rattle.zy_table.specs.State.{State};
@@ -10,12 +9,13 @@ ghost use Rattle.zy_world.specs.Shown.{is_seated, seat_of, with_replica, with_cl
 ghost use Rattle.zy_world.specs.Stepping.{IsReplicaStep, IsClientStep, done_if};
 ghost use Rattle.zy_world_law.specs.World.{correct_in};
 
+use crate::step::{ClientStep, ReplicaStep};
 use crate::seat::{Seat, put_in, seat_at, sitting, take_from};
 use std::marker::Model;
-use zy_base::{Answer, Bytes, ClientId, Event, Machine, Outgoing, Party, ReplicaId, Said, Want};
+use zy_base::{Bytes, ClientId, Event, Machine, Party, ReplicaId, Want};
 use zy_client::{Client, ClientStepped};
 use zy_replica::Replica;
-use zy_table::{Done, Gains};
+use zy_table::Done;
 
 /// The correct parties by their numbers, none where a party lies.
 #[derive(Drop)]
@@ -30,25 +30,6 @@ impl<M: Machine> Model for Seats<M> {
     ghost Value = { Seated M.State };
 
     ghost view = { λ s. record { replicas = s.replicas.items; clients = s.clients.items } };
-}
-
-/// What a replica's step did beside changing it.
-#[derive(Drop)]
-pub(crate) struct ReplicaStep {
-    pub(crate) answer: Answer,
-    pub(crate) out: Outgoing,
-    pub(crate) said: Said,
-    pub(crate) got: Gains,
-    pub(crate) ghost in_range: { AllByRecursion (λ g. IsEntryInRange g.entry) got },
-}
-
-/// What a client's step did beside changing it; by a completion the request that waited became complete.
-#[derive(Drop)]
-pub(crate) struct ClientStep {
-    pub(crate) answer: Answer,
-    pub(crate) out: Outgoing,
-    pub(crate) said: Said,
-    pub(crate) done: Option<Done>,
 }
 
 impl<M: Machine> Seats<M> {
