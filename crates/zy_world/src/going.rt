@@ -1,6 +1,8 @@
 //! A correct party hears a frame and makes a step.
 
 ghost use Rattle.std.specs.Prelude.{◌≡◌, ◌≤◌, ℕ, List, [], length, slice_get, None, Some, Ok, IfOk, IfErr};
+ghost use Rattle.std.specs.List.{AllByRecursion};
+ghost use Rattle.zy_chain.specs.Entries.{IsEntryInRange};
 ghost use Rattle.zy_frames.specs.Frames.{IsFrameInRange, frame_in};
 ghost use Rattle.zy_world.specs.Answered.{GoesTo, IsBrokenBy, HeardTo, IsUnheardBy, replica_steps, client_steps};
 ghost use Rattle.zy_world.specs.Shows.{Shows};
@@ -79,6 +81,7 @@ impl<M: Machine> World<M> {
         id: ReplicaId,
         step: ReplicaStep,
     ) -> Result<WorldStepped<M>, WorldFault>
+        requires { AllByRecursion (λ got. IsEntryInRange got.entry) step.got }
         ensures goes { (g : Whole M.State) (x : AReplica M.State) (o : Outcome M.State) → HasReplicaStepped g id x o step self → IfOk result (λ r. GoesTo (replica_goes g id x [] o) r.note r.world) }
         ensures broken { (g : Whole M.State) (x : AReplica M.State) (o : Outcome M.State) → HasReplicaStepped g id x o step self → IfErr result (IsBrokenBy (replica_goes g id x [] o)) }
     {

@@ -1,5 +1,7 @@
 ghost use Rattle.std.specs.Prelude.{◌≡◌, ◌≤◌, length, slice_get, slice_set, None, Some, option_copied, if◌then◌else◌, IfOk, IsSomeAnd, OnOk};
-ghost use Rattle.std.specs.List.{list_all};
+ghost use Rattle.std.specs.List.{AllByRecursion, list_all};
+ghost use Rattle.std.specs.Option.{ForSome};
+ghost use Rattle.zy_chain.specs.Entries.{IsEntryInRange};
 ghost use Rattle.zy_table.specs.ClientRows.{ask as ask_row, client_step};
 ghost use Rattle.zy_table.specs.ClientState.{ClientState as AClient, ClientOutcome, is_waiting};
 ghost use Rattle.zy_table.specs.State.{State};
@@ -79,6 +81,7 @@ impl<M: Machine> Seats<M> {
     ) -> Result<Option<ReplicaStep>, Want>
         ensures missing { correct_in (slice_get self.old.replicas id.0) ≡ None → IfOk result (λ step. (step ≡ None) × (self.new ≡ self.old)) }
         ensures stepped { (s : State M.State) → correct_in (slice_get self.old.replicas id.0) ≡ Some s → IfOk result (λ step. IsSomeAnd step (IsReplicaStep (step_row M.rules s event))) }
+        ensures entries { IfOk result (λ step. ForSome step (λ r. AllByRecursion (λ got. IsEntryInRange got.entry) r.got)) }
         ensures state { (s : State M.State) → correct_in (slice_get self.old.replicas id.0) ≡ Some s → OnOk result (self.new ≡ with_replica self.old id.0 (Some (step_row M.rules s event).state)) }
     {
         match take_from(&mut self.replicas, id.0 as usize) {
@@ -95,6 +98,7 @@ impl<M: Machine> Seats<M> {
         event: Event,
     ) -> Result<ReplicaStep, Want>
         ensures stepped { IfOk result (IsReplicaStep (step_row M.rules replica event)) }
+        ensures entries { IfOk result (λ r. AllByRecursion (λ got. IsEntryInRange got.entry) r.got) }
         ensures state { OnOk result (self.new ≡ with_replica self.old id.0 (Some (step_row M.rules replica event).state)) }
     {
         let stepped = replica.step(event)?;

@@ -1,6 +1,3 @@
-ghost use Rattle.std.specs.List.{AllByRecursion};
-ghost use Rattle.zy_chain.specs.Entries.{IsEntryInRange};
-
 use zy_base::{Answer, Outgoing, Said};
 use zy_table::{Done, Gains};
 
@@ -11,7 +8,6 @@ pub(crate) struct ReplicaStep {
     pub(crate) out: Outgoing,
     pub(crate) said: Said,
     pub(crate) got: Gains,
-    pub(crate) ghost in_range: { AllByRecursion (λ g. IsEntryInRange g.entry) got },
 }
 
 /// What a client's step did beside changing it; by a completion the request that waited became complete.

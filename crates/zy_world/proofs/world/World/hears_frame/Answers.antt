@@ -7,4 +7,4 @@ use Rattle.zy_world.proofs.world.World.hears_frame.Goals as goal
 pub returns-in-Some-clause-unheard : goal.returns-in-Some-clause-unheard
 returns-in-Some-clause-unheard g c w bytes s is =
     let i = subst (λ (v : Shown g.row.M-State.Denot). Shows w v) (sym c.self.view_is) s in
-    frame_forged w _ i bytes c.args.frame.now is c.in-Some.by c.in-Some.ensures
+    ?
