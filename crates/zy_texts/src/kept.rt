@@ -1,4 +1,4 @@
-ghost use Rattle.std.specs.Prelude.{◌≡◌, ◌∷◌, ◌++◌, ◌≤◌, [], length, None, Some, if◌then◌else◌, IfOk, OnOk, OnErr, Err};
+ghost use Rattle.std.specs.Prelude.{◌≡◌, ◌∷◌, ◌++◌, ◌≤◌, [], length, None, Some, option_copied, if◌then◌else◌, IfOk, OnOk, OnErr, Err};
 ghost use Rattle.std.specs.HashMap.{get};
 ghost use Rattle.zy_base.specs.declared.ids.Digest.{Digest as Sum};
 ghost use Rattle.zy_chain.specs.Entries.{bytes_of_request};
@@ -6,7 +6,7 @@ ghost use Rattle.zy_frames.specs.Frames.{IsFrameInRange};
 ghost use Rattle.zy_parts.specs.Statements.{IsAskInRange};
 ghost use Rattle.zy_world_law.specs.Texts.{ask_texts, digest_of, frame_texts};
 ghost use Rattle.zy_world_law.specs.World.{first_texts};
-ghost use Rattle.zy_texts.specs.Kept.{IsShown, Keeps, Clashes};
+ghost use Rattle.zy_texts.specs.Kept.{Clashes, IsShown, Keeps, look_up};
 ghost use Rattle.zy_texts.specs.declared.fault.TextFault.TheVariants.{Clash};
 
 use crate::TextFault;
@@ -43,6 +43,16 @@ impl KeptTexts {
         let mut texts = HashMap::new(alloc);
         put(&mut texts, EMPTY_HEAD, Bytes::new(alloc))?;
         Ok(KeptTexts { alloc, texts })
+    }
+
+    /// The text that is kept under a digest.
+    pub fn text(&self, digest: &Digest) -> Option<&[u8]>
+        ensures { option_copied result ≡ look_up self.now digest.now }
+    {
+        match self.texts.get(digest) {
+            Some(text) => Some(text.as_slice()),
+            None => None,
+        }
     }
 
     /// Keeps a text, unless another is kept under its digest. A text that is kept already takes no memory.

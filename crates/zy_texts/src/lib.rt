@@ -11,3 +11,6 @@ mod text_set;
 pub use fault::TextFault;
 pub use kept::KeptTexts;
 pub use said::SaidTexts;
+
+#[cfg(test)]
+mod tests;
