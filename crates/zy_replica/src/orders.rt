@@ -20,9 +20,9 @@ use crate::copies::{frame_copy, hole_copy};
 use crate::progress::{Moved, Progress};
 use zy_admit::{Admit, Position, client_of};
 use zy_base::{Answer, Cause, Machine, Party, Place, Want};
-use zy_frames::{Frame, OrderFrame};
+use zy_frames::OrderFrame;
 use zy_parts::{Hole, Signed};
-use zy_table::{Act, Body, Remark, To};
+use zy_table::{Body, To};
 
 impl<M: Machine> Replica<M> {
     fn position_of(&self, frame: &OrderFrame) -> Position
@@ -123,11 +123,8 @@ impl<M: Machine> Replica<M> {
         let stood = self.stood();
         let to = To::One(Party::Replica(self.counts.primary(self.view())));
         let (replica, signed) = self.seal_hole()?;
-        let body = Body::Hole(signed.stmt);
-        replica
-            .begin()
-            .act(Act::Says(Remark { body, stood }))?
-            .send(to, Frame::FillHole(signed))
+        let progress = replica.begin().says(Body::Hole(signed.stmt), stood)?;
+        progress.send_hole(to, signed)
     }
 
     // An order that is held.

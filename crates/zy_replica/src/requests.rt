@@ -23,12 +23,12 @@ use crate::copies::{bytes_copy, frame_copy, order_copy, spec_copy};
 use crate::progress::{Moved, Progress};
 use crate::running::spec_of;
 use zy_admit::{client_of, request_digest_of};
-use zy_base::{Answer, Bytes, Cause, ClientId, Machine, Party, Place, Stamp, Want};
+use zy_base::{Answer, Cause, ClientId, Machine, Place, Stamp, Want};
 use zy_chain::next_head;
 use zy_exec::Known;
-use zy_frames::{Frame, OrderFrame};
+use zy_frames::OrderFrame;
 use zy_parts::{Ask, Order, Signed, Spec};
-use zy_table::{Act, Body, Remark, To};
+use zy_table::Body;
 
 // ---- a request that was executed last
 
@@ -63,15 +63,7 @@ impl<M: Machine> Progress<M> {
         ensures { IfOk result (λ g. g ≡ response_of self.state spec known self) }
     {
         let order = self.replica.order_at(known.place)?;
-        let to = To::One(Party::Client(spec.stmt.client));
-        self.send(
-            to,
-            Frame::SpecResponse {
-                spec,
-                reply: known.reply,
-                order,
-            },
-        )
+        self.send_spec(spec, known.reply, order)
     }
 }
 
@@ -88,7 +80,7 @@ impl<M: Machine> Replica<M> {
     }
 
     // The response, signed and kept.
-    fn seal_spec(self, spec: Spec) -> Result<(Replica<M>, Signed<Spec>), Want>
+    pub(crate) fn seal_spec(self, spec: Spec) -> Result<(Replica<M>, Signed<Spec>), Want>
         requires leaf { 1 ≤ leaves_of self }
         requires spec { IsSpecInRange spec }
         requires client { spec.client.0 < 64 }
@@ -110,11 +102,8 @@ impl<M: Machine> Replica<M> {
     {
         let stood = self.stood();
         let (replica, signed) = self.seal_spec(spec)?;
-        let body = Body::Spec(spec);
-        replica
-            .begin()
-            .act(Act::Says(Remark { body, stood }))?
-            .send_response(signed, known)
+        let progress = replica.begin().says(Body::Spec(spec), stood)?;
+        progress.send_response(signed, known)
     }
 
     // The response is signed anew.
@@ -209,8 +198,8 @@ impl<M: Machine> Replica<M> {
         let progress = replica
             .keep_order(frame_copy(&frame)?)?
             .begin()
-            .act(Act::Says(Remark { body, stood }))?
-            .send(To::All, Frame::Order(frame_copy(&frame)?))?;
+            .says(body, stood)?
+            .send_order(frame_copy(&frame)?)?;
         Ok((progress, frame))
     }
 

@@ -14,16 +14,16 @@ ghost use Rattle.zy_table.specs.Running.{executed, next_known, got_from, spec_of
 ghost use Rattle.zy_replica.specs.Ready.{IsAskReady, IsOrderReady, room_of};
 
 use crate::Replica;
-use crate::copies::{bytes_copy, entry_of, frame_copy, order_copy, spec_copy};
+use crate::copies::{bytes_copy, entry_of, frame_copy, order_copy};
 use crate::progress::Progress;
 use sha2::{Digest as Hasher, Sha256};
 use zy_admit::{client_of, is_newer, request_digest_of};
-use zy_base::{Bytes, Digest, Machine, Party, Place, View, Want};
+use zy_base::{Bytes, Digest, Machine, Place, View, Want};
 use zy_chain::next_head;
 use zy_exec::Known;
-use zy_frames::{Frame, OrderFrame};
+use zy_frames::OrderFrame;
 use zy_parts::{Ask, Order, Signed, Spec};
-use zy_table::{Act, Body, Got, Remark, To};
+use zy_table::{Act, Body, Got};
 
 // What an executed entry is answered with.
 pub(crate) fn spec_of(view: View, ask: &Signed<Ask>, known: &Known) -> Spec
@@ -89,17 +89,10 @@ impl<M: Machine> Progress<M> {
     {
         let Progress { replica, deeds } = self;
         let stood = replica.stood();
-        let (replica, signed) = replica.seal(spec)?;
-        let replica = replica.keep_spec(spec_copy(&signed)?);
-        let body = Body::Spec(spec);
-        let frame = Frame::SpecResponse {
-            spec: signed,
-            reply,
-            order: Some(order),
-        };
+        let (replica, signed) = replica.seal_spec(spec)?;
         Progress { replica, deeds }
-            .act(Act::Says(Remark { body, stood }))?
-            .send(To::One(Party::Client(spec.client)), frame)
+            .says(Body::Spec(spec), stood)?
+            .send_spec(signed, reply, Some(order))
     }
 
     // One order: its entry is executed, and then answered.
