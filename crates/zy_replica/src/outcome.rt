@@ -3,6 +3,7 @@
 ghost use Rattle.std.specs.Prelude.{◌≡◌, ◌≤◌, ◌<◌, ◌+◌, ◌++◌, ◌∷◌, [], length, nat_eq, if◌then◌else◌, Some, IfOk, OnOk};
 ghost use Rattle.zy_base.specs.declared.ids.Party.TheVariants as parties;
 ghost use Rattle.std.specs.List.{AllByRecursion};
+ghost use Rattle.zy_frames.specs.Frames.{IsFrameInRange};
 ghost use Rattle.zy_table.specs.State.{timers_of};
 ghost use Rattle.zy_table.specs.Deeds.{outgoing_of, others, text_by, said_from, gains_in};
 ghost use Rattle.zy_replica.specs.Ready.{IsActInRange, IsBodyInRange};
@@ -10,9 +11,9 @@ ghost use Rattle.zy_replica.specs.Ready.{IsActInRange, IsBodyInRange};
 use crate::Stepped;
 use crate::progress::{Moved, Progress};
 use std::alloc::Global;
-use zy_base::{Bytes, Items, Machine, Party, ReplicaId, Said, Spoken, Want};
+use zy_base::{Bytes, Items, Machine, Outgoing, Party, ReplicaId, Said, Spoken, Want};
 use zy_parts::signed_text;
-use zy_table::{Act, Body, Deeds, Gains, Remark, outgoing};
+use zy_table::{Act, Body, Deeds, Gains, Remark, Sent, outgoing};
 
 impl<M: Machine> Moved<M> {
     pub(crate) fn finish(self) -> Result<Stepped<M>, Want>
@@ -25,9 +26,21 @@ impl<M: Machine> Moved<M> {
     {
         let Moved { answer, progress } = self;
         let Progress { replica, deeds } = progress;
-        let all = others_of(replica.alloc, replica.me, replica.counts.n)?;
-        let out = outgoing(replica.alloc, &all, deeds.sent.as_slice())?;
-        let (said, got) = told(replica.alloc, replica.me, deeds.acts)?;
+        let Deeds { sent, acts } = deeds;
+        let out = match sendings(replica.alloc, replica.me, replica.counts.n, sent) {
+            Ok(out) => out,
+            Err(want) => {
+                drop(acts);
+                return Err(want);
+            }
+        };
+        let (said, got) = match told(replica.alloc, replica.me, acts) {
+            Ok(told) => told,
+            Err(want) => {
+                drop(out);
+                return Err(want);
+            }
+        };
         let timers = replica.timers();
         Ok(Stepped {
             replica,
@@ -38,6 +51,21 @@ impl<M: Machine> Moved<M> {
             got,
         })
     }
+}
+
+// The frames as bytes, each for its receivers.
+fn sendings(
+    alloc: Global,
+    me: ReplicaId,
+    replicas: u64,
+    sent: Items<Sent>,
+) -> Result<Outgoing, Want>
+    requires count { replicas ≤ 16 }
+    requires frames { AllByRecursion (λ s. IsFrameInRange s.frame) sent }
+    ensures { IfOk result (λ out. out ≡ outgoing_of me.0 replicas sent) }
+{
+    let all = others_of(alloc, me, replicas)?;
+    outgoing(alloc, &all, sent.as_slice())
 }
 
 // All replicas but one, in rising number.

@@ -10,6 +10,7 @@ ghost use Rattle.zy_table.specs.declared.deeds.Act.TheVariants as acts;
 ghost use Rattle.zy_replica.specs.Ready.{IsActInRange, IsBodyInRange, IsOrderReady};
 
 use crate::Replica;
+use crate::copies::frame_copy;
 use std::marker::Model;
 use zy_base::{Answer, Bytes, Cause, Items, Machine, Party, Stood, Want};
 use zy_frames::{Frame, OrderFrame};
@@ -101,11 +102,12 @@ impl<M: Machine> Progress<M> {
     }
 
     // A frame of each kind is made where it is sent: nothing that can fail comes between.
-    pub(crate) fn send_order(self, order: OrderFrame) -> Result<Progress<M>, Want>
-        requires { IsOrderReady order }
-        ensures { IfOk result (λ g. g ≡ sending tos.All (frames.Order order) self) }
+    pub(crate) fn send_order(self, order: &OrderFrame) -> Result<Progress<M>, Want>
+        requires { IsOrderReady order.now }
+        ensures { IfOk result (λ g. g ≡ sending tos.All (frames.Order order.now) self) }
     {
-        self.send(To::All, Frame::Order(order))
+        let copy = frame_copy(order)?;
+        self.send(To::All, Frame::Order(copy))
     }
 
     pub(crate) fn send_spec(

@@ -85,8 +85,8 @@ impl<M: Machine> Replica<M> {
         Ok(screen_parts(&self.directory, &parts))
     }
 
-    // What is not heard is let go here, and nowhere else: a frame has ten kinds.
-    fn not_heard<T: Drop>(self, content: T, cause: Cause) -> Result<Moved<M>, Want>
+    // A refusal that lets go what was refused. A frame has ten kinds: that it is let go is said here alone.
+    pub(crate) fn not_heard<T: Drop>(self, content: T, cause: Cause) -> Result<Moved<M>, Want>
         ensures { IfOk result (λ m. m ≡ refused_with cause self) }
     {
         drop(content);
