@@ -4,6 +4,7 @@ ghost use Rattle.std.specs.Prelude.{◌≡◌, ◌≤◌, ◌<◌, ◌+◌, ◌+
 ghost use Rattle.zy_base.specs.declared.ids.Party.TheVariants as parties;
 ghost use Rattle.std.specs.List.{AllByRecursion};
 ghost use Rattle.zy_frames.specs.Frames.{IsFrameInRange};
+ghost use Rattle.zy_chain.specs.Entries.{IsEntryInRange};
 ghost use Rattle.zy_table.specs.State.{timers_of};
 ghost use Rattle.zy_table.specs.Deeds.{outgoing_of, others, text_by, said_from, gains_in};
 ghost use Rattle.zy_replica.specs.Ready.{IsActInRange, IsBodyInRange};
@@ -23,6 +24,7 @@ impl<M: Machine> Moved<M> {
         ensures timers { IfOk result (λ s. s.timers ≡ timers_of self.state) }
         ensures said { IfOk result (λ s. s.said ≡ said_from (parties.Replica self.state.me) 0 self.deeds.acts) }
         ensures got { IfOk result (λ s. s.got ≡ gains_in self.deeds.acts) }
+        ensures range { IfOk result (λ s. AllByRecursion (λ got. IsEntryInRange got.entry) s.got) }
     {
         let Moved { answer, progress } = self;
         let Progress { replica, deeds } = progress;
@@ -94,6 +96,7 @@ fn told(alloc: Global, me: ReplicaId, acts: Items<Act>) -> Result<(Said, Gains),
     requires { AllByRecursion IsActInRange acts }
     ensures said { IfOk result (λ r. r.0 ≡ said_from (parties.Replica me) 0 acts) }
     ensures got { IfOk result (λ r. r.1 ≡ gains_in acts) }
+    ensures range { IfOk result (λ r. AllByRecursion (λ got. IsEntryInRange got.entry) r.1) }
 {
     let mut said = Items::new(alloc);
     let mut got = Items::new(alloc);

@@ -17,7 +17,7 @@ ghost use Rattle.zy_table.specs.Deeds.{ends, act as acting};
 ghost use Rattle.zy_table.specs.declared.deeds.Act.TheVariants as acts;
 ghost use Rattle.zy_table.specs.declared.deeds.Body.TheVariants as bodies;
 ghost use Rattle.zy_table.specs.Running.{executed, next_known, got_from, spec_of as spec_for, respond as respond_with, run_one as one_run, run_held as held_run, fits_end as fits, run as whole_run};
-ghost use Rattle.zy_replica.specs.Ready.{IsAskReady, IsOrderReady, room_of};
+ghost use Rattle.zy_replica.specs.Ready.{IsAskReady, IsGotInRange, IsOrderReady, room_of};
 
 use crate::Replica;
 use crate::copies::{bytes_copy, entry_of, frame_copy, order_copy};
@@ -55,7 +55,10 @@ fn digest_of(reply: &Bytes) -> Digest
 }
 
 fn got_of(before: Digest, ask: &Signed<Ask>, known: &Known) -> Result<Got, Want>
-    ensures { IfOk result (λ got. got ≡ got_from before ask.now known.now) }
+    requires ask { IsAskReady ask.now }
+    requires known { IsKnownInRange known.now }
+    ensures got { IfOk result (λ got. got ≡ got_from before ask.now known.now) }
+    ensures range { IfOk result IsGotInRange }
 {
     Ok(Got {
         place: known.place,
@@ -105,6 +108,7 @@ impl<M: Machine> Progress<M> {
     }
 
     fn gains(self, before: Digest, ask: &Signed<Ask>, known: &Known) -> Result<Progress<M>, Want>
+        requires ask { IsAskReady ask.now }
         requires known { IsKnownInRange known.now }
         ensures { IfOk result (λ g. g ≡ acting (acts.Gains (got_from before ask.now known.now)) self) }
     {

@@ -1,4 +1,6 @@
 ghost use Rattle.std.specs.Prelude.{◌≡◌, ◌≤◌, ◌<◌, ◌%◌, length, IfOk, Ok, true};
+ghost use Rattle.std.specs.List.{AllByRecursion};
+ghost use Rattle.zy_chain.specs.Entries.{IsEntryInRange};
 ghost use Rattle.zy_base.specs.declared.ids.Party.TheVariants as parties;
 ghost use Rattle.zy_base.specs.declared.cause.Cause.TheVariants as causes;
 ghost use Rattle.zy_frames.specs.Frames.{IsFrameInRange, frame_in, parts_of};
@@ -28,6 +30,7 @@ impl<M: Machine> Replica<M> {
         ensures timers { IfOk result (λ s. s.timers ≡ timers_of (step_row M.rules self event).state) }
         ensures said { IfOk result (λ s. s.said ≡ said_from (parties.Replica (step_row M.rules self event).state.me) 0 (step_row M.rules self event).deeds.acts) }
         ensures got { IfOk result (λ s. s.got ≡ gains_in (step_row M.rules self event).deeds.acts) }
+        ensures range { IfOk result (λ s. AllByRecursion (λ got. IsEntryInRange got.entry) s.got) }
     {
         self.moves(event)?.finish()
     }
