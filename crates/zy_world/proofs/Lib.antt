@@ -8,3 +8,5 @@ pub mod Heard
 pub mod Due
 pub mod Lied
 pub mod Begun
+pub mod Seating
+pub mod Posting
