@@ -1,5 +1,5 @@
 -- What the start shows.
-use Rattle.std.proofs.Common.{◌≡◌, ℕ, zero, suc, ◌+◌, ◌<◌, ◌≤◌, Bool, true, false, List, [], ◌∷◌, ◌++◌, length, map, replicate, Option, Some, None, refl, sym, ap, ap₂, ◌∙◌, subst, arith, inl, inr}
+use Rattle.std.proofs.Common.{◌≡◌, ℕ, ◌+◌, ◌<◌, ◌≤◌, Bool, true, false, List, [], ◌∷◌, length, map, replicate, Option, Some, None, refl, sym, ap, ap₂, ◌∙◌, subst, arith, inl, inr}
 use Rattle.std.specs.Prelude.{slice_get, slice_index_or, option_map, nat_eq, if◌then◌else◌}
 use Rattle.std.specs.List.{list_any, range_with_len}
 use Rattle.std.proofs.lemmas.Bool.{cases_lt}
@@ -9,19 +9,17 @@ use Rattle.std.proofs.lemmas.Option.{slice_get-map, slice_get-get_or, slice_get_
 use Rattle.zy_base.specs.Machine.{Rules}
 use Rattle.zy_base.specs.declared.ids.Party.{Party}
 use Rattle.zy_base.specs.declared.ids.Party.TheVariants as parties
-use Rattle.zy_seal.specs.Keys.{Keys}
-use Rattle.zy_seal.specs.Sealing.{SealerState}
-use Rattle.zy_table.specs.ClientState.{ClientState, client_start}
-use Rattle.zy_table.specs.State.{State, start_of}
+use Rattle.zy_table.specs.ClientState.{client_start}
+use Rattle.zy_table.specs.State.{start_of}
 use Rattle.zy_texts.proofs.SaidLemmas.{same_shown, start_shown}
 use Rattle.zy_texts.specs.Kept.{IsShown}
-use Rattle.zy_texts.specs.Said.{none_said, AreShown}
+use Rattle.zy_texts.specs.Said.{none_said}
 use Rattle.zy_law.specs.Histories.{origin}
 use Rattle.zy_world.specs.Shown.{Shown, Seated, Keyed, Mutes, seat_in, seat_of, is_liar_seat, key_in, muted_in}
 use Rattle.zy_world.specs.Shows.{Shows, ShowsSeats, ShowsKeys, ShowsMutes, texts_of}
 use Rattle.zy_world.specs.Starting.{replica_seat, client_seat, replica_key, client_key}
 use Rattle.zy_world_law.specs.Setup.{Setup, keys_of, sealer_of}
-use Rattle.zy_world_law.specs.World.{World, Replica, Client, correct_in, first_texts, seats, start, starting_replica, starting_client, texts_said}
+use Rattle.zy_world_law.specs.World.{World, correct_in, first_texts, seats, start, starting_replica, starting_client, texts_said}
 use Rattle.zy_world.proofs.ShownSeats.{said_is}
 
 -- ---- a list with an item for each number

@@ -1,6 +1,5 @@
-use Rattle.std.proofs.Common.{◌≡◌, ℕ, ◌+◌, length, List, sym, ap, ◌∙◌, subst, arith}
+use Rattle.std.proofs.Common.{◌≡◌, ℕ, length, sym, ap, ◌∙◌, subst, arith}
 use Rattle.zy_base.specs.declared.ids.Party.TheVariants as parties
-use Rattle.zy_seal.specs.Sealing.{SealerState}
 use Rattle.zy_world.specs.Starting.{replica_seat, replica_key}
 use Rattle.zy_world_law.specs.Setup.{sealer_of}
 use Rattle.zy_world.proofs.Seating.{IsLeft, made_none, made_more, length_more, next_left, all_left}

@@ -1,8 +1,8 @@
-use Rattle.std.proofs.Common.{◌≡◌, List, ℕ, get_or, sym, ap, ◌∙◌}
+use Rattle.std.proofs.Common.{List, ℕ, get_or, ap, ◌∙◌}
 use Rattle.zy_base.specs.declared.ids.Party.{Party}
 use Rattle.zy_base.specs.declared.ids.Party.TheVariants as parties
 use Rattle.zy_world.specs.Shown.{Posted}
-use Rattle.zy_world_law.specs.World.{Mail, mail_to}
+use Rattle.zy_world_law.specs.World.{mail_to}
 use Rattle.zy_world.proofs.Posting.{mails_more}
 use Rattle.zy_world.proofs.bag.Bag.send_copies.Goals as goal
 

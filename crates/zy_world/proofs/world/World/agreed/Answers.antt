@@ -1,4 +1,4 @@
-use Rattle.std.proofs.Common.{◌≡◌, sym, ap, ◌∙◌, subst}
+use Rattle.std.proofs.Common.{sym, ap, ◌∙◌, subst}
 use Rattle.zy_chain.specs.Stretch.{Mark}
 use Rattle.zy_world.specs.Shown.{Shown}
 use Rattle.zy_world.specs.Shows.{Shows}

@@ -1,4 +1,4 @@
-use Rattle.std.proofs.Common.{◌≡◌, List, Option, length, map, ap, ap₂, ◌∙◌, arith}
+use Rattle.std.proofs.Common.{List, Option, length, map, ap, ap₂, ◌∙◌, arith}
 use Rattle.std.specs.List.{range_with_len}
 use Rattle.std.proofs.lemmas.List.FromFn.{length-map-range_with_len}
 use Rattle.zy_base.specs.declared.ids.ClientId.{ClientId}
