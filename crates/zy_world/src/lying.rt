@@ -1,6 +1,6 @@
 //! What liars and forgers sign, and bytes that are sent as they are.
 
-ghost use Rattle.std.specs.Prelude.{◌≡◌, ◌≤◌, ◌-◌, ◌^◌, length, Some, None, IfOk, IfSome};
+ghost use Rattle.std.specs.Prelude.{◌≡◌, ◌≤◌, ◌-◌, ◌^◌, ◌&&◌, true, length, Some, None, IfOk, IfSome};
 ghost use Rattle.std.specs.Option.{option_and_then};
 ghost use Rattle.std.specs.List.{AllByRecursion};
 ghost use Rattle.zy_lms.specs.Height.{levels_of};
@@ -17,9 +17,8 @@ ghost use Rattle.zy_world_law.specs.Events.Happened.{Goes};
 ghost use Rattle.zy_world_law.specs.Setup.{sealer_of};
 ghost use Rattle.zy_world_law.specs.declared.note.Note.TheVariants.{Quiet};
 ghost use Rattle.zy_world_law.specs.Liars.{by_replica, order_told, spec_told, requests_at, statement_told};
-ghost use Rattle.zy_world_law.specs.World.{World as Whole, are_parties, with_sent};
+ghost use Rattle.zy_world_law.specs.World.{World as Whole, are_parties, is_correct, is_liar, with_sent};
 
-use crate::seat::Seat;
 use crate::tale::Tale;
 use crate::{World, WorldStepped};
 use zy_base::{Bytes, Cause, Items, Machine, Party, View, Want};
@@ -99,10 +98,11 @@ impl<M: Machine> World<M> {
     pub(crate) fn raw(self, bytes: &Bytes, to: &Items<Party>) -> Result<WorldStepped<M>, Want>
         ensures { (g : Whole M.State) → Shows g self → IfOk result (λ r. GoesTo (raw g bytes.now to.now) r.note r.world) }
     {
-        if !self.are_parties(to) {
-            return Ok(self.no_subject());
+        if self.are_parties(to) {
+            self.sends(bytes, to)
+        } else {
+            Ok(self.no_subject())
         }
-        self.sends(bytes, to)
     }
 
     // The requests of these frames. Only a replica may sign what is said of them.
@@ -118,13 +118,28 @@ impl<M: Machine> World<M> {
     }
 
     // A liar signs by its next leaf.
-    fn lie(mut self, liar: Party, to: &Items<Party>, tale: Tale) -> Result<WorldStepped<M>, Want>
+    fn lie(self, liar: Party, to: &Items<Party>, tale: Tale) -> Result<WorldStepped<M>, Want>
         requires { IsTale tale }
         ensures { (g : Whole M.State) → Shows g self → IfOk result (λ r. GoesTo (lie g liar to.now (told_in tale)) r.note r.world) }
     {
-        if self.seats.seat(liar) != Seat::Liar || !self.are_parties(to) {
-            return Ok(self.no_subject());
+        if self.can_lie(liar, to) {
+            self.lies(liar, to, tale)
+        } else {
+            Ok(self.no_subject())
         }
+    }
+
+    fn can_lie(&self, liar: Party, to: &Items<Party>) -> bool
+        ensures { (g : Whole M.State) → Shows g self.now → result ≡ (is_liar g liar && are_parties g to.now) }
+    {
+        self.seats.is_liar(liar) && self.are_parties(to)
+    }
+
+    // Signs, and sends the frame.
+    fn lies(mut self, liar: Party, to: &Items<Party>, tale: Tale) -> Result<WorldStepped<M>, Want>
+        requires { IsTale tale }
+        ensures { (g : Whole M.State) → Shows g self → (is_liar g liar && are_parties g to.now) ≡ true → IfOk result (λ r. GoesTo (lie g liar to.now (told_in tale)) r.note r.world) }
+    {
         match self.liars.sign(self.alloc, liar, tale) {
             Ok(bytes) => self.sends(&bytes, to),
             Err(SealFault::KeySpent) => Ok(self.noted(Note::Refused(None, Cause::KeySpent))),
@@ -136,9 +151,24 @@ impl<M: Machine> World<M> {
         requires { IsTale tale }
         ensures { (g : Whole M.State) → Shows g self → IfOk result (λ r. GoesTo (forge g party to.now (told_in tale)) r.note r.world) }
     {
-        if self.seats.seat(party) != Seat::Correct || !self.are_parties(to) {
-            return Ok(self.no_subject());
+        if self.can_forge(party, to) {
+            self.forges(party, to, tale)
+        } else {
+            Ok(self.no_subject())
         }
+    }
+
+    fn can_forge(&self, party: Party, to: &Items<Party>) -> bool
+        ensures { (g : Whole M.State) → Shows g self.now → result ≡ (is_correct g party && are_parties g to.now) }
+    {
+        self.seats.is_correct(party) && self.are_parties(to)
+    }
+
+    // Signs by the party's last leaf, and sends the frame.
+    fn forges(self, party: Party, to: &Items<Party>, tale: Tale) -> Result<WorldStepped<M>, Want>
+        requires { IsTale tale }
+        ensures { (g : Whole M.State) → Shows g self → (is_correct g party && are_parties g to.now) ≡ true → IfOk result (λ r. GoesTo (forge g party to.now (told_in tale)) r.note r.world) }
+    {
         let bytes = self.forged(party, tale)?;
         self.sends(&bytes, to)
     }
