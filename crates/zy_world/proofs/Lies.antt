@@ -1,5 +1,5 @@
 -- A liar or a forger signs a frame, and the world goes on.
-use Rattle.std.proofs.Common.{◌≡◌, ◌≢◌, ℕ, suc, ◌-◌, ◌^◌, ◌<◌, ◌≤◌, Bool, true, false, ◌&&◌, List, [], ◌∷◌, length, Option, Some, None, Result, Ok, Err, refl, sym, ap, ◌∙◌, subst, arith}
+use Rattle.std.proofs.Common.{◌≡◌, ◌≢◌, ℕ, suc, ◌-◌, ◌^◌, ◌<◌, ◌≤◌, Bool, true, false, ◌&&◌, List, [], ◌∷◌, length, Option, Some, None, Result, Ok, Err, refl, sym, ap, ap₂, ◌∙◌, subst, arith}
 use Rattle.std.specs.Prelude.{option_map, IfOk, IfSome}
 use Rattle.std.specs.Option.{option_and_then}
 use Rattle.std.proofs.lemmas.Option.{same_Some}
@@ -17,7 +17,7 @@ use Rattle.zy_setup.specs.Telling.{IsToldBy, telling_of}
 use Rattle.zy_table.specs.Sending.{copies}
 use Rattle.zy_world.specs.Shown.{Shown, Keyed, seat_of, is_liar_seat, key_in, with_key, request_in, requests_in}
 use Rattle.zy_world.specs.Shows.{Shows}
-use Rattle.zy_world.specs.Tale.{IsTale, if_replica, told_in}
+use Rattle.zy_world.specs.Tale.{IsTale, can_forge, can_lie, if_replica, told_in}
 use Rattle.zy_world.specs.declared.tale.Tale.{Tale}
 use Rattle.zy_world.specs.declared.tale.Tale.TheVariants as tales
 use Rattle.zy_world_law.specs.Events.{Happened, lie, forge, leaves_in, spent}
@@ -26,7 +26,7 @@ use Rattle.zy_world_law.specs.Liars.{Telling, by_replica, last_of, requests_at}
 use Rattle.zy_world_law.specs.Setup.{Setup, sealer_of}
 use Rattle.zy_world_law.specs.World.{World, Mail, is_liar, is_correct, are_parties, with_sent}
 use Rattle.zy_world_law.specs.declared.note.Note.TheVariants as notes
-use Rattle.zy_world.proofs.Lied.{lies_is, shows_spent, lie_sent, lie_unsent, forge_sent, requests_is, told_if, last_there}
+use Rattle.zy_world.proofs.Lied.{lies_is, is_right, all_there, shows_spent, lie_sent, lie_unsent, forge_sent, requests_is, told_if, last_there}
 
 -- ---- what is told can be signed
 
@@ -38,6 +38,14 @@ pub told_there : (tale : Tale) → IsTale tale → (telling : Telling) × (told_
 told_there (tales.Order view asks) is = history_told _ asks is.some
 told_there (tales.Spec view asks reply) is = history_told _ asks is.0.some
 told_there (tales.Statement statement) is = (telling_of statement, refl)
+
+-- ---- who may
+
+pub can_lie_is : {S : Type 0} (g : World S) (v : Shown S) → Shows g v → (liar : Party) (to : List Party) → (is_liar g liar && are_parties g to) ≡ can_lie v.seats liar to
+can_lie_is g v s liar to = ap₂ (λ (a b : Bool). a && b) (lies_is g v s liar) (all_there g v s to)
+
+pub can_forge_is : {S : Type 0} (g : World S) (v : Shown S) → Shows g v → (party : Party) (to : List Party) → (is_correct g party && are_parties g to) ≡ can_forge v.seats party to
+can_forge_is g v s party to = ap₂ (λ (a b : Bool). a && b) (is_right g v s party) (all_there g v s to)
 
 -- ---- a liar signs
 
@@ -64,6 +72,10 @@ module _ {S : Type 0} (g : World S) (v : Shown S) (s : Shows g v) (liar : Party)
 
   pub unlied : (tale : Tale) → IsTale tale → g.leaves liar ≡ leaves_in g → lie g liar to (told_in tale) ≡ Goes g (notes.Refused None causes.KeySpent)
   unlied tale can_tell used = let told = told_there tale can_tell in lie_unsent g liar to (told_in tale) told.0 can (omega (arith, used)) told.1
+
+-- no leaf was spent
+pub same_keys : {S : Type 0} (g : World S) (v : Shown S) → Shows g v → (keys : Keyed) → keys ≡ v.liars → Shows g (record v { liars = keys })
+same_keys g v s keys is = subst (λ (k : Keyed). Shows g (record v { liars = k })) (sym is) s
 
 -- ---- whoever made a key anew signs
 

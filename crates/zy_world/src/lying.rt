@@ -11,7 +11,7 @@ ghost use Rattle.zy_world.specs.Event.{IsHistoryTold};
 ghost use Rattle.zy_world.specs.Shows.{Shows};
 ghost use Rattle.zy_setup.specs.Telling.{IsToldBy};
 ghost use Rattle.zy_table.specs.Sending.{copies};
-ghost use Rattle.zy_world.specs.Tale.{IsTale, if_replica, told_in};
+ghost use Rattle.zy_world.specs.Tale.{IsTale, can_forge, can_lie, if_replica, told_in};
 ghost use Rattle.zy_world_law.specs.Events.{lie, forge, raw};
 ghost use Rattle.zy_world_law.specs.Events.Happened.{Goes};
 ghost use Rattle.zy_world_law.specs.Setup.{sealer_of};
@@ -130,9 +130,9 @@ impl<M: Machine> World<M> {
     }
 
     fn can_lie(&self, liar: Party, to: &Items<Party>) -> bool
-        ensures { (g : Whole M.State) → Shows g self.now → result ≡ (is_liar g liar && are_parties g to.now) }
+        ensures { result ≡ can_lie self.now.seats liar to.now }
     {
-        self.seats.is_liar(liar) && self.are_parties(to)
+        self.seats.is_liar(liar) && self.seats.are_seated(to.as_slice())
     }
 
     // Signs, and sends the frame.
@@ -159,9 +159,9 @@ impl<M: Machine> World<M> {
     }
 
     fn can_forge(&self, party: Party, to: &Items<Party>) -> bool
-        ensures { (g : Whole M.State) → Shows g self.now → result ≡ (is_correct g party && are_parties g to.now) }
+        ensures { result ≡ can_forge self.now.seats party to.now }
     {
-        self.seats.is_correct(party) && self.are_parties(to)
+        self.seats.is_correct(party) && self.seats.are_seated(to.as_slice())
     }
 
     // Signs by the party's last leaf, and sends the frame.
@@ -174,6 +174,7 @@ impl<M: Machine> World<M> {
     }
 
     // The frame under the party's key, made anew, by its last leaf.
+    #[tactic(auto, using(crate::proofs::Lies::has_leaves))]
     fn forged(&self, party: Party, tale: Tale) -> Result<Bytes, Want>
         requires { IsTale tale }
         ensures { IfOk result (IsToldBy (told_in tale) (sealer_of self.now.setup party (2 ^ levels_of self.now.setup.height - 1))) }
