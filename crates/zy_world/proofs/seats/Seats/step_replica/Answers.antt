@@ -6,7 +6,7 @@ use Rattle.zy_table.specs.Step.{step as step_row}
 use Rattle.zy_world.specs.Shown.{Seated, with_replica}
 use Rattle.zy_world.specs.Stepping.{IsReplicaStep}
 use Rattle.zy_world_law.specs.World.{correct_in}
-use Rattle.zy_world.proofs.Seating.{no_replica, replica_again}
+use Rattle.zy_world.proofs.Returning.{no_replica, replica_again}
 use Rattle.zy_world.proofs.seats.Seats.step_replica.Goals.{in-Heard-1, in-Timer-1}
 use Rattle.zy_world.proofs.seats.Seats.step_replica.Goals as goal
 
