@@ -1,5 +1,5 @@
 -- Correct parties that are taken out of their seats and come back.
-use Rattle.std.proofs.Common.{◌≡◌, ℕ, List, Option, Some, None, ap}
+use Rattle.std.proofs.Common.{◌≡◌, ℕ, List, Option, None, ap}
 use Rattle.std.specs.Prelude.{slice_get}
 use Rattle.zy_table.specs.ClientState.{ClientState}
 use Rattle.zy_table.specs.State.{State}
