@@ -8,5 +8,8 @@ pub mod Heard
 pub mod Due
 pub mod Lied
 pub mod Begun
+pub mod Lies
+pub mod KeyLemmas
+pub mod Returning
 pub mod Seating
 pub mod Posting
