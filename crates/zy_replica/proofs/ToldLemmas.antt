@@ -1,13 +1,16 @@
 -- What was told of the first acts, and what is left to tell.
 use Rattle.std.proofs.Common.{◌≡◌, ◌+◌, ◌∷◌, [], ◌++◌, ℕ, zero, List, length, map, Some, refl, ap, ◌∙◌, sym, arith}
 use Rattle.std.proofs.lemmas.List.{length-append, append_assoc, append-nil}
+use Rattle.std.specs.List.{AllByRecursion}
 use Rattle.zy_base.specs.declared.ids.Party.{Party}
 use Rattle.zy_base.specs.declared.step.Spoken.{Spoken}
+use Rattle.zy_chain.specs.Entries.{IsEntryInRange}
 use Rattle.zy_table.specs.Deeds.{said_from, gains_in, text_by}
 use Rattle.zy_table.specs.declared.deeds.Act.{Act}
 use Rattle.zy_table.specs.declared.deeds.Act.TheVariants.{Says, Gains}
 use Rattle.zy_table.specs.declared.deeds.Got.{Got}
 use Rattle.zy_table.specs.declared.deeds.Remark.{Remark}
+use Rattle.zy_replica.specs.Ready.{IsActInRange}
 
 -- an item that goes over from what is left
 pub moved : {A : Type 0} (front : List A) (x : A) (rest all : List A) → front ++ x ∷ rest ≡ all → (front ++ x ∷ []) ++ rest ≡ all
@@ -25,3 +28,8 @@ all_told {A = A} front f rest all ends is empty = sym (append-nil front) ∙ ap 
 pub gained_one : (me : Party) (said : List Spoken) (got : List Got) (e : Got) (rest : List Act) (all : List Spoken)
     → said ++ said_from me (length got + 1) rest ≡ all → said ++ said_from me (length (got ++ e ∷ [])) rest ≡ all
 gained_one me said got e rest all is = ap (λ (n : ℕ). said ++ said_from me n rest) (length-append got (e ∷ [])) ∙ is
+
+pub gains_in_range : (acts : List Act) → AllByRecursion IsActInRange acts → AllByRecursion (λ (got : Got). IsEntryInRange got.entry) (gains_in acts)
+gains_in_range [] all = tt
+gains_in_range (Says remark ∷ acts) all = gains_in_range acts all.1
+gains_in_range (Gains got ∷ acts) all = (all.0.entry, gains_in_range acts all.1)

@@ -12,6 +12,7 @@ use Rattle.zy_parts.specs.declared.statements.Order.{Order}
 use Rattle.zy_parts.specs.declared.statements.Spec.{Spec}
 use Rattle.zy_frames.specs.Frames.{IsFrameInRange}
 use Rattle.zy_frames.specs.declared.frame.OrderFrame.{OrderFrame}
+use Rattle.zy_chain.specs.Entries.{IsEntryInRange}
 use Rattle.zy_exec.specs.Kept.{last_place}
 use Rattle.zy_admit.specs.Judging.{asking}
 use Rattle.zy_table.specs.declared.deeds.Body.{Body}
@@ -19,6 +20,7 @@ use Rattle.zy_table.specs.declared.deeds.Body.TheVariants as bodies
 use Rattle.zy_table.specs.declared.deeds.Act.{Act}
 use Rattle.zy_table.specs.declared.deeds.Act.TheVariants.{Says, Gains}
 use Rattle.zy_table.specs.declared.deeds.Deeds.{Deeds}
+use Rattle.zy_table.specs.declared.deeds.Got.{Got}
 use Rattle.zy_table.specs.State.{State, own_view, window_of}
 
 -- a request that can be executed
@@ -61,9 +63,14 @@ IsBodyInRange (bodies.Order order) = IsOrderInRange order
 IsBodyInRange (bodies.Spec spec) = IsSpecInRange spec
 IsBodyInRange (bodies.Hole hole) = IsHoleInRange hole
 
+-- an entry that it executes
+pub record IsGotInRange (got : Got) : Type 0 where
+  pub entry : IsEntryInRange got.entry
+  pub reply : length got.reply ≤ 1100
+
 abbrev pub IsActInRange : Act → Type 0
 IsActInRange (Says remark) = IsBodyInRange remark.body
-IsActInRange (Gains got) = length got.reply ≤ 1100
+IsActInRange (Gains got) = IsGotInRange got
 
 -- and what it sends
 pub record AreInRange (deeds : Deeds) : Type 0 where

@@ -13,6 +13,7 @@ ghost use Rattle.zy_table.specs.State.{own_view, window_of, leaves_of, spent, sp
 ghost use Rattle.zy_replica.specs.Ready.{IsOrderReady, IsKeptSpec};
 
 use crate::Replica;
+use crate::copies::frame_copy;
 use zy_base::{Bytes, ClientId, Machine, Place, Stamp, View, Want};
 use zy_chain::Entry;
 use zy_frames::OrderFrame;
@@ -114,6 +115,16 @@ impl<M: Machine> Replica<M> {
             Ok(()) => Ok(self),
             Err((_, want)) => Err(want),
         }
+    }
+
+    pub(crate) fn keep_copy(self, order: &OrderFrame) -> Result<Replica<M>, Want>
+        requires order { IsOrderReady order.now }
+        requires above { last_place self.kept < order.now.order.stmt.place.0 }
+        requires within { order.now.order.stmt.place.0 ≤ window_of self }
+        ensures { IfOk result (λ r. r ≡ record self { orders = with_order self.orders order.now }) }
+    {
+        let copy = frame_copy(order)?;
+        self.keep_order(copy)
     }
 
     pub(crate) fn drop_order(mut self, place: Place) -> Replica<M>

@@ -102,7 +102,7 @@ impl<M: Machine> Replica<M> {
             (Mode::Active(_), Some(hole)) => hole_copy(hole)?,
             _ => return Ok(self.begin().ends(Answer::Taken)),
         };
-        let progress = self.begin().send(To::All, Frame::FillHole(hole))?;
+        let progress = self.begin().send_hole(To::All, hole)?;
         Ok(progress.ends(Answer::Taken))
     }
 }

@@ -16,13 +16,13 @@ ghost use Rattle.zy_parts.specs.Statements.{IsHoleInRange, hole_fields};
 ghost use Rattle.zy_replica.specs.Ready.{IsOrderReady};
 
 use crate::Replica;
-use crate::copies::{frame_copy, hole_copy};
+use crate::copies::hole_copy;
 use crate::progress::{Moved, Progress};
 use zy_admit::{Admit, Position, client_of};
 use zy_base::{Answer, Cause, Machine, Party, Place, Want};
-use zy_frames::{Frame, OrderFrame};
+use zy_frames::OrderFrame;
 use zy_parts::{Hole, Signed};
-use zy_table::{Act, Body, Remark, To};
+use zy_table::{Body, To};
 
 impl<M: Machine> Replica<M> {
     fn position_of(&self, frame: &OrderFrame) -> Position
@@ -37,13 +37,13 @@ impl<M: Machine> Replica<M> {
     }
 
     // The order is kept, and nothing is missing any more.
-    fn accept(self, frame: OrderFrame) -> Result<Replica<M>, Want>
-        requires order { IsOrderReady frame }
-        requires above { last_place self.kept < frame.order.stmt.place.0 }
-        requires within { frame.order.stmt.place.0 ≤ window_of self }
-        ensures { IfOk result (λ r. r ≡ record self { orders = with_order self.orders frame; hole = None }) }
+    fn accept(self, frame: &OrderFrame) -> Result<Replica<M>, Want>
+        requires order { IsOrderReady frame.now }
+        requires above { last_place self.kept < frame.now.order.stmt.place.0 }
+        requires within { frame.now.order.stmt.place.0 ≤ window_of self }
+        ensures { IfOk result (λ r. r ≡ record self { orders = with_order self.orders frame.now; hole = None }) }
     {
-        Ok(self.keep_order(frame)?.keep_hole(None))
+        Ok(self.keep_copy(frame)?.keep_hole(None))
     }
 
     // An order that is next.
@@ -54,20 +54,21 @@ impl<M: Machine> Replica<M> {
         ensures { IfOk result (λ m. m ≡ taken M.rules self frame) }
     {
         if self.leaves() == 0 {
-            return Ok(self.refused(Cause::KeySpent));
+            return self.not_heard(frame, Cause::KeySpent);
         }
-        self.accept_and_run(frame)
+        let ran = self.accept_and_run(&frame);
+        drop(frame);
+        ran
     }
 
-    fn accept_and_run(self, frame: OrderFrame) -> Result<Moved<M>, Want>
+    fn accept_and_run(self, frame: &OrderFrame) -> Result<Moved<M>, Want>
         requires leaf { 1 ≤ leaves_of self }
-        requires order { IsOrderReady frame }
-        requires above { last_place self.kept < frame.order.stmt.place.0 }
-        requires within { frame.order.stmt.place.0 ≤ window_of self }
-        ensures { IfOk result (λ m. m ≡ ends Answer.Taken (run M.rules frame (begin (record self { orders = with_order self.orders frame; hole = None })))) }
+        requires order { IsOrderReady frame.now }
+        requires above { last_place self.kept < frame.now.order.stmt.place.0 }
+        requires within { frame.now.order.stmt.place.0 ≤ window_of self }
+        ensures { IfOk result (λ m. m ≡ ends Answer.Taken (run M.rules frame.now (begin (record self { orders = with_order self.orders frame.now; hole = None })))) }
     {
-        let replica = self.accept(frame_copy(&frame)?)?;
-        Ok(replica.begin().run(&frame)?.ends(Answer::Taken))
+        self.accept(frame)?.begin().run_all(frame)
     }
 
     // The missing orders have to be asked for: nothing is held at the next place, and nothing was asked for there.
@@ -123,11 +124,8 @@ impl<M: Machine> Replica<M> {
         let stood = self.stood();
         let to = To::One(Party::Replica(self.counts.primary(self.view())));
         let (replica, signed) = self.seal_hole()?;
-        let body = Body::Hole(signed.stmt);
-        replica
-            .begin()
-            .act(Act::Says(Remark { body, stood }))?
-            .send(to, Frame::FillHole(signed))
+        let progress = replica.begin().says(Body::Hole(signed.stmt), stood)?;
+        progress.send_hole(to, signed)
     }
 
     // An order that is held.
@@ -142,7 +140,7 @@ impl<M: Machine> Replica<M> {
             return Ok(replica.begin().ends(Answer::Held));
         }
         if self.leaves() == 0 {
-            return Ok(self.refused(Cause::KeySpent));
+            return self.not_heard(frame, Cause::KeySpent);
         }
         let progress = self.keep_order(frame)?.ask_for_missing()?;
         Ok(progress.ends(Answer::Held))
@@ -164,8 +162,8 @@ impl<M: Machine> Replica<M> {
         match admit {
             Admit::Next => self.take_order(frame),
             Admit::Held => self.hold_order(frame),
-            Admit::Refused(cause) => Ok(self.refused(cause)),
-            Admit::Evidence => Ok(self.refused(Cause::Unmatched)),
+            Admit::Refused(cause) => self.not_heard(frame, cause),
+            Admit::Evidence => self.not_heard(frame, Cause::Unmatched),
         }
     }
 

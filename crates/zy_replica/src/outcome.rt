@@ -3,6 +3,8 @@
 ghost use Rattle.std.specs.Prelude.{◌≡◌, ◌≤◌, ◌<◌, ◌+◌, ◌++◌, ◌∷◌, [], length, nat_eq, if◌then◌else◌, Some, IfOk, OnOk};
 ghost use Rattle.zy_base.specs.declared.ids.Party.TheVariants as parties;
 ghost use Rattle.std.specs.List.{AllByRecursion};
+ghost use Rattle.zy_frames.specs.Frames.{IsFrameInRange};
+ghost use Rattle.zy_chain.specs.Entries.{IsEntryInRange};
 ghost use Rattle.zy_table.specs.State.{timers_of};
 ghost use Rattle.zy_table.specs.Deeds.{outgoing_of, others, text_by, said_from, gains_in};
 ghost use Rattle.zy_replica.specs.Ready.{IsActInRange, IsBodyInRange};
@@ -10,9 +12,9 @@ ghost use Rattle.zy_replica.specs.Ready.{IsActInRange, IsBodyInRange};
 use crate::Stepped;
 use crate::progress::{Moved, Progress};
 use std::alloc::Global;
-use zy_base::{Bytes, Items, Machine, Party, ReplicaId, Said, Spoken, Want};
+use zy_base::{Bytes, Items, Machine, Outgoing, Party, ReplicaId, Said, Spoken, Want};
 use zy_parts::signed_text;
-use zy_table::{Act, Body, Deeds, Gains, Remark, outgoing};
+use zy_table::{Act, Body, Deeds, Gains, Remark, Sent, outgoing};
 
 impl<M: Machine> Moved<M> {
     pub(crate) fn finish(self) -> Result<Stepped<M>, Want>
@@ -22,12 +24,25 @@ impl<M: Machine> Moved<M> {
         ensures timers { IfOk result (λ s. s.timers ≡ timers_of self.state) }
         ensures said { IfOk result (λ s. s.said ≡ said_from (parties.Replica self.state.me) 0 self.deeds.acts) }
         ensures got { IfOk result (λ s. s.got ≡ gains_in self.deeds.acts) }
+        ensures range { IfOk result (λ s. AllByRecursion (λ got. IsEntryInRange got.entry) s.got) }
     {
         let Moved { answer, progress } = self;
         let Progress { replica, deeds } = progress;
-        let all = others_of(replica.alloc, replica.me, replica.counts.n)?;
-        let out = outgoing(replica.alloc, &all, deeds.sent.as_slice())?;
-        let (said, got) = told(replica.alloc, replica.me, deeds.acts)?;
+        let Deeds { sent, acts } = deeds;
+        let out = match sendings(replica.alloc, replica.me, replica.counts.n, sent) {
+            Ok(out) => out,
+            Err(want) => {
+                drop(acts);
+                return Err(want);
+            }
+        };
+        let (said, got) = match told(replica.alloc, replica.me, acts) {
+            Ok(told) => told,
+            Err(want) => {
+                drop(out);
+                return Err(want);
+            }
+        };
         let timers = replica.timers();
         Ok(Stepped {
             replica,
@@ -38,6 +53,21 @@ impl<M: Machine> Moved<M> {
             got,
         })
     }
+}
+
+// The frames as bytes, each for its receivers.
+fn sendings(
+    alloc: Global,
+    me: ReplicaId,
+    replicas: u64,
+    sent: Items<Sent>,
+) -> Result<Outgoing, Want>
+    requires count { replicas ≤ 16 }
+    requires frames { AllByRecursion (λ s. IsFrameInRange s.frame) sent }
+    ensures { IfOk result (λ out. out ≡ outgoing_of me.0 replicas sent) }
+{
+    let all = others_of(alloc, me, replicas)?;
+    outgoing(alloc, &all, sent.as_slice())
 }
 
 // All replicas but one, in rising number.
@@ -66,6 +96,7 @@ fn told(alloc: Global, me: ReplicaId, acts: Items<Act>) -> Result<(Said, Gains),
     requires { AllByRecursion IsActInRange acts }
     ensures said { IfOk result (λ r. r.0 ≡ said_from (parties.Replica me) 0 acts) }
     ensures got { IfOk result (λ r. r.1 ≡ gains_in acts) }
+    ensures range { IfOk result (λ r. AllByRecursion (λ got. IsEntryInRange got.entry) r.1) }
 {
     let mut said = Items::new(alloc);
     let mut got = Items::new(alloc);

@@ -1,12 +1,21 @@
-ghost use Rattle.std.specs.Prelude.{◌≡◌, IfOk};
+ghost use Rattle.std.specs.Prelude.{◌≡◌, ◌≤◌, length, IfOk};
+ghost use Rattle.std.specs.Option.{ForSome};
+ghost use Rattle.zy_base.specs.declared.ids.Party.TheVariants as parties;
+ghost use Rattle.zy_parts.specs.Signing.{IsSignedInRange};
+ghost use Rattle.zy_parts.specs.Statements.{IsOrderInRange, IsSpecInRange, IsHoleInRange};
 ghost use Rattle.zy_frames.specs.Frames.{IsFrameInRange};
-ghost use Rattle.zy_replica.specs.Ready.{IsActInRange};
+ghost use Rattle.zy_frames.specs.declared.frame.Frame.TheVariants as frames;
+ghost use Rattle.zy_table.specs.declared.deeds.To.TheVariants as tos;
+ghost use Rattle.zy_table.specs.declared.deeds.Act.TheVariants as acts;
+ghost use Rattle.zy_replica.specs.Ready.{IsActInRange, IsBodyInRange, IsOrderReady};
 
 use crate::Replica;
+use crate::copies::frame_copy;
 use std::marker::Model;
-use zy_base::{Answer, Cause, Items, Machine, Want};
-use zy_frames::Frame;
-use zy_table::{Act, Deeds, Sent, To};
+use zy_base::{Answer, Bytes, Cause, Items, Machine, Party, Stood, Want};
+use zy_frames::{Frame, OrderFrame};
+use zy_parts::{Hole, Order, Signed, Spec};
+use zy_table::{Act, Body, Deeds, Remark, Sent, To};
 
 // A replica on its way through a step, with what the step did so far.
 #[derive(Drop)]
@@ -82,6 +91,45 @@ impl<M: Machine> Progress<M> {
     {
         self.deeds.acts.push(act)?;
         Ok(self)
+    }
+
+    // A statement that was signed, with what stood before it.
+    pub(crate) fn says(self, body: Body, stood: Stood) -> Result<Progress<M>, Want>
+        requires { IsBodyInRange body }
+        ensures { IfOk result (λ g. g ≡ acting (acts.Says (record { body = body; stood = stood })) self) }
+    {
+        self.act(Act::Says(Remark { body, stood }))
+    }
+
+    // A frame of each kind is made where it is sent: nothing that can fail comes between.
+    pub(crate) fn send_order(self, order: &OrderFrame) -> Result<Progress<M>, Want>
+        requires { IsOrderReady order.now }
+        ensures { IfOk result (λ g. g ≡ sending tos.All (frames.Order order.now) self) }
+    {
+        let copy = frame_copy(order)?;
+        self.send(To::All, Frame::Order(copy))
+    }
+
+    pub(crate) fn send_spec(
+        self,
+        spec: Signed<Spec>,
+        reply: Bytes,
+        order: Option<Signed<Order>>,
+    ) -> Result<Progress<M>, Want>
+        requires spec { IsSignedInRange IsSpecInRange spec }
+        requires reply { length reply ≤ 1100 }
+        requires order { ForSome order (IsSignedInRange IsOrderInRange) }
+        ensures { IfOk result (λ g. g ≡ sending (tos.One (parties.Client spec.stmt.client)) (frames.SpecResponse spec reply order) self) }
+    {
+        let to = To::One(Party::Client(spec.stmt.client));
+        self.send(to, Frame::SpecResponse { spec, reply, order })
+    }
+
+    pub(crate) fn send_hole(self, to: To, hole: Signed<Hole>) -> Result<Progress<M>, Want>
+        requires { IsSignedInRange IsHoleInRange hole }
+        ensures { IfOk result (λ g. g ≡ sending to (frames.FillHole hole) self) }
+    {
+        self.send(to, Frame::FillHole(hole))
     }
 
     pub(crate) fn ends(self, answer: Answer) -> Moved<M>

@@ -19,7 +19,6 @@ use zy_seal::{Directory, Sealer};
 use zy_table::Gains;
 
 /// A replica: its keys, its view, its history with the machine at the end, and the orders that it keeps.
-#[derive(Drop)]
 pub struct Replica<M: Machine> {
     pub(crate) alloc: Global,
     pub(crate) me: ReplicaId,
@@ -32,6 +31,25 @@ pub struct Replica<M: Machine> {
     pub(crate) orders: Admission,
     pub(crate) hole: Option<Signed<Hole>>,
     pub(crate) specs: Vec<Option<Signed<Spec>>>,
+}
+
+// What a replica holds is let go here. A derived drop would be written out again at each way out of a function.
+impl<M: Machine> Drop for Replica<M> {
+    fn drop(self) {
+        let Replica {
+            alloc: _,
+            me: _,
+            counts: _,
+            directory: _,
+            sealer: _,
+            mode: _,
+            last_view: _,
+            exec: _,
+            orders: _,
+            hole: _,
+            specs: _,
+        } = self;
+    }
 }
 
 impl<M: Machine> Model for Replica<M> {

@@ -2,7 +2,7 @@
 
 ghost use Rattle.std.specs.Prelude.{◌≡◌, ◌≤◌, ◌<◌, ◌+◌, nat_eq, nat_lt, if◌then◌else◌, option_map, IfOk};
 ghost use Rattle.std.specs.Option.{ForSome};
-ghost use Rattle.zy_admit.specs.Orders.{stored_in};
+ghost use Rattle.zy_admit.specs.Orders.{stored_in, with_order};
 ghost use Rattle.zy_parts.specs.Signing.{IsSignedInRange};
 ghost use Rattle.zy_parts.specs.Statements.{IsSpecInRange, IsOrderInRange, spec_fields};
 ghost use Rattle.zy_parts.specs.Numbers as numbers;
@@ -10,7 +10,9 @@ ghost use Rattle.zy_exec.specs.Kept.{last_place, known_in};
 ghost use Rattle.zy_exec.specs.Known.{IsKnownInRange};
 ghost use Rattle.zy_table.specs.State.{leaves_of, window_of, spent, stood_of, with_spec, spec_to as last_spec};
 ghost use Rattle.zy_base.specs.declared.step.Answer.TheVariants as Answer;
-ghost use Rattle.zy_table.specs.Deeds.{ends, begin, act as acting};
+ghost use Rattle.zy_table.specs.Deeds.{ends, begin, act as acting, send as sending};
+ghost use Rattle.zy_frames.specs.declared.frame.Frame.TheVariants as frames;
+ghost use Rattle.zy_table.specs.declared.deeds.To.TheVariants as tos;
 ghost use Rattle.zy_table.specs.declared.deeds.Act.TheVariants as acts;
 ghost use Rattle.zy_table.specs.declared.deeds.Body.TheVariants as bodies;
 ghost use Rattle.zy_seal.specs.Sealing.{sealed_by};
@@ -19,16 +21,16 @@ ghost use Rattle.zy_table.specs.Requests.{response_of, respond_anew as anew, res
 ghost use Rattle.zy_replica.specs.Ready.{IsAskReady, IsOrderReady};
 
 use crate::Replica;
-use crate::copies::{bytes_copy, frame_copy, order_copy, spec_copy};
+use crate::copies::{bytes_copy, order_copy, spec_copy};
 use crate::progress::{Moved, Progress};
 use crate::running::spec_of;
 use zy_admit::{client_of, request_digest_of};
-use zy_base::{Answer, Bytes, Cause, ClientId, Machine, Party, Place, Stamp, Want};
+use zy_base::{Answer, Cause, ClientId, Machine, Place, Stamp, Stood, Want};
 use zy_chain::next_head;
 use zy_exec::Known;
-use zy_frames::{Frame, OrderFrame};
+use zy_frames::OrderFrame;
 use zy_parts::{Ask, Order, Signed, Spec};
-use zy_table::{Act, Body, Remark, To};
+use zy_table::Body;
 
 // ---- a request that was executed last
 
@@ -63,15 +65,7 @@ impl<M: Machine> Progress<M> {
         ensures { IfOk result (λ g. g ≡ response_of self.state spec known self) }
     {
         let order = self.replica.order_at(known.place)?;
-        let to = To::One(Party::Client(spec.stmt.client));
-        self.send(
-            to,
-            Frame::SpecResponse {
-                spec,
-                reply: known.reply,
-                order,
-            },
-        )
+        self.send_spec(spec, known.reply, order)
     }
 }
 
@@ -88,7 +82,7 @@ impl<M: Machine> Replica<M> {
     }
 
     // The response, signed and kept.
-    fn seal_spec(self, spec: Spec) -> Result<(Replica<M>, Signed<Spec>), Want>
+    pub(crate) fn seal_spec(self, spec: Spec) -> Result<(Replica<M>, Signed<Spec>), Want>
         requires leaf { 1 ≤ leaves_of self }
         requires spec { IsSpecInRange spec }
         requires client { spec.client.0 < 64 }
@@ -108,13 +102,13 @@ impl<M: Machine> Replica<M> {
         requires known { IsKnownInRange known }
         ensures { IfOk result (λ g. g ≡ response_of self (sealed_by numbers.spec spec_fields self.sealer spec) known (acting (acts.Says (record { body = bodies.Spec spec; stood = stood_of M.rules self })) (begin (with_spec (spent self) (sealed_by numbers.spec spec_fields self.sealer spec))))) }
     {
-        let stood = self.stood();
-        let (replica, signed) = self.seal_spec(spec)?;
-        let body = Body::Spec(spec);
-        replica
-            .begin()
-            .act(Act::Says(Remark { body, stood }))?
-            .send_response(signed, known)
+        match self.begin().sign_spec(spec) {
+            Ok((progress, signed)) => progress.send_response(signed, known),
+            Err(want) => {
+                drop(known);
+                Err(want)
+            }
+        }
     }
 
     // The response is signed anew.
@@ -205,13 +199,27 @@ impl<M: Machine> Replica<M> {
     {
         let stood = self.stood();
         let (replica, frame) = self.seal_order(ask)?;
+        match replica.say_order(&frame, stood) {
+            Ok(progress) => Ok((progress, frame)),
+            Err(want) => {
+                drop(frame);
+                Err(want)
+            }
+        }
+    }
+
+    // The order that was signed is kept, and sent to all. Beside it what stood before.
+    fn say_order(self, frame: &OrderFrame, stood: Stood) -> Result<Progress<M>, Want>
+        requires order { IsOrderReady frame.now }
+        requires above { last_place self.kept < frame.now.order.stmt.place.0 }
+        requires within { frame.now.order.stmt.place.0 ≤ window_of self }
+        ensures { IfOk result (λ g. g ≡ sending tos.All (frames.Order frame.now) (acting (acts.Says (record { body = bodies.Order frame.now.order.stmt; stood = stood })) (begin (record self { orders = with_order self.orders frame.now })))) }
+    {
         let body = Body::Order(frame.order.stmt);
-        let progress = replica
-            .keep_order(frame_copy(&frame)?)?
+        self.keep_copy(frame)?
             .begin()
-            .act(Act::Says(Remark { body, stood }))?
-            .send(To::All, Frame::Order(frame_copy(&frame)?))?;
-        Ok((progress, frame))
+            .says(body, stood)?
+            .send_order(frame)
     }
 
     // The order and the response want a leaf each.
@@ -221,7 +229,7 @@ impl<M: Machine> Replica<M> {
         ensures { IfOk result (λ m. m ≡ taken M.rules self ask) }
     {
         if self.leaves() < 2 {
-            return Ok(self.refused(Cause::KeySpent));
+            return self.not_heard(ask, Cause::KeySpent);
         }
         self.order_and_run(ask)
     }
@@ -233,7 +241,9 @@ impl<M: Machine> Replica<M> {
         ensures { IfOk result (λ m. m ≡ ends Answer.Taken (run M.rules (sealed M.rules self ask) (ordered_by M.rules self ask))) }
     {
         let (progress, frame) = self.order(ask)?;
-        Ok(progress.run(&frame)?.ends(Answer::Taken))
+        let ran = progress.run_all(&frame);
+        drop(frame);
+        ran
     }
 
     fn new_request(self, ask: Signed<Ask>) -> Result<Moved<M>, Want>
@@ -244,7 +254,7 @@ impl<M: Machine> Replica<M> {
         if self.exec.end() < window {
             self.take_request(ask)
         } else {
-            Ok(self.refused(Cause::WindowFull(window)))
+            self.not_heard(ask, Cause::WindowFull(window))
         }
     }
 

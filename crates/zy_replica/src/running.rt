@@ -4,26 +4,32 @@ ghost use Rattle.std.specs.Prelude.{◌≡◌, ◌≤◌, ◌<◌, ◌+◌, leng
 ghost use Rattle.std.specs.Option.{ForSome};
 ghost use Rattle.sha2.specs.Sha256.{sha256};
 ghost use Rattle.zy_parts.specs.Signing.{IsSignedInRange};
-ghost use Rattle.zy_parts.specs.Statements.{IsOrderInRange, IsSpecInRange};
+ghost use Rattle.zy_parts.specs.Statements.{IsOrderInRange, IsSpecInRange, spec_fields};
 ghost use Rattle.zy_exec.specs.Kept.{last_place, longer};
 ghost use Rattle.zy_admit.specs.Judging.{entry_of as entry_asked};
 ghost use Rattle.zy_exec.specs.Known.{IsKnownInRange};
 ghost use Rattle.zy_admit.specs.Orders.{slots_above, without_order, stored_in};
-ghost use Rattle.zy_table.specs.State.{own_view, window_of, leaves_of};
+ghost use Rattle.zy_table.specs.State.{own_view, window_of, leaves_of, spent, stood_of, with_spec};
+ghost use Rattle.zy_base.specs.declared.step.Answer.TheVariants as Answer;
+ghost use Rattle.zy_parts.specs.Numbers as numbers;
+ghost use Rattle.zy_seal.specs.Sealing.{sealed_by};
+ghost use Rattle.zy_table.specs.Deeds.{ends, act as acting};
+ghost use Rattle.zy_table.specs.declared.deeds.Act.TheVariants as acts;
+ghost use Rattle.zy_table.specs.declared.deeds.Body.TheVariants as bodies;
 ghost use Rattle.zy_table.specs.Running.{executed, next_known, got_from, spec_of as spec_for, respond as respond_with, run_one as one_run, run_held as held_run, fits_end as fits, run as whole_run};
-ghost use Rattle.zy_replica.specs.Ready.{IsAskReady, IsOrderReady, room_of};
+ghost use Rattle.zy_replica.specs.Ready.{IsAskReady, IsGotInRange, IsOrderReady, room_of};
 
 use crate::Replica;
-use crate::copies::{bytes_copy, entry_of, frame_copy, order_copy, spec_copy};
-use crate::progress::Progress;
+use crate::copies::{bytes_copy, entry_of, frame_copy, order_copy};
+use crate::progress::{Moved, Progress};
 use sha2::{Digest as Hasher, Sha256};
 use zy_admit::{client_of, is_newer, request_digest_of};
-use zy_base::{Bytes, Digest, Machine, Party, Place, View, Want};
+use zy_base::{Answer, Bytes, Digest, Machine, Place, View, Want};
 use zy_chain::next_head;
 use zy_exec::Known;
-use zy_frames::{Frame, OrderFrame};
+use zy_frames::OrderFrame;
 use zy_parts::{Ask, Order, Signed, Spec};
-use zy_table::{Act, Body, Got, Remark, To};
+use zy_table::{Act, Body, Got};
 
 // What an executed entry is answered with.
 pub(crate) fn spec_of(view: View, ask: &Signed<Ask>, known: &Known) -> Spec
@@ -49,7 +55,10 @@ fn digest_of(reply: &Bytes) -> Digest
 }
 
 fn got_of(before: Digest, ask: &Signed<Ask>, known: &Known) -> Result<Got, Want>
-    ensures { IfOk result (λ got. got ≡ got_from before ask.now known.now) }
+    requires ask { IsAskReady ask.now }
+    requires known { IsKnownInRange known.now }
+    ensures got { IfOk result (λ got. got ≡ got_from before ask.now known.now) }
+    ensures range { IfOk result IsGotInRange }
 {
     Ok(Got {
         place: known.place,
@@ -70,12 +79,79 @@ impl<M: Machine> Progress<M> {
         ensures known { IfOk result (λ r. r.1 ≡ next_known M.rules self.state ask.now) }
         ensures range { IfOk result (λ r. IsKnownInRange r.1) }
     {
+        let before = self.replica.exec.head();
+        let (progress, known) = self.run_ask(ask)?;
+        match progress.gains(before, ask, &known) {
+            Ok(progress) => Ok((progress, known)),
+            Err(want) => {
+                drop(known);
+                Err(want)
+            }
+        }
+    }
+
+    fn run_ask(self, ask: &Signed<Ask>) -> Result<(Progress<M>, Known), Want>
+        requires room { last_place self.state.kept < window_of self.state }
+        requires ask { IsAskReady ask.now }
+        ensures progress { IfOk result (λ r. r.0 ≡ record self { state = record self.state { kept = longer self.state.kept (entry_asked ask.now) } }) }
+        ensures known { IfOk result (λ r. r.1 ≡ next_known M.rules self.state ask.now) }
+        ensures range { IfOk result (λ r. IsKnownInRange r.1) }
+    {
         let Progress { replica, deeds } = self;
-        let before = replica.exec.head();
-        let (replica, known) = replica.run_ask(ask)?;
-        let got = got_of(before, ask, &known)?;
-        let progress = Progress { replica, deeds }.act(Act::Gains(got))?;
-        Ok((progress, known))
+        match replica.run_ask(ask) {
+            Ok((replica, known)) => Ok((Progress { replica, deeds }, known)),
+            Err(want) => {
+                drop(deeds);
+                Err(want)
+            }
+        }
+    }
+
+    fn gains(self, before: Digest, ask: &Signed<Ask>, known: &Known) -> Result<Progress<M>, Want>
+        requires ask { IsAskReady ask.now }
+        requires known { IsKnownInRange known.now }
+        ensures { IfOk result (λ g. g ≡ acting (acts.Gains (got_from before ask.now known.now)) self) }
+    {
+        let got = got_of(before, ask, known)?;
+        self.act(Act::Gains(got))
+    }
+
+    // The response is signed and kept.
+    pub(crate) fn sign_spec(self, spec: Spec) -> Result<(Progress<M>, Signed<Spec>), Want>
+        requires leaf { 1 ≤ leaves_of self.state }
+        requires spec { IsSpecInRange spec }
+        requires client { spec.client.0 < 64 }
+        ensures progress { IfOk result (λ r. r.0 ≡ acting (acts.Says (record { body = bodies.Spec spec; stood = stood_of M.rules self.state })) (record self { state = with_spec (spent self.state) (sealed_by numbers.spec spec_fields self.state.sealer spec) })) }
+        ensures spec { IfOk result (λ r. r.1 ≡ sealed_by numbers.spec spec_fields self.state.sealer spec) }
+        ensures range { IfOk result (λ r. IsSignedInRange IsSpecInRange r.1) }
+    {
+        let stood = self.replica.stood();
+        let (progress, signed) = self.seal_spec(spec)?;
+        match progress.says(Body::Spec(spec), stood) {
+            Ok(progress) => Ok((progress, signed)),
+            Err(want) => {
+                drop(signed);
+                Err(want)
+            }
+        }
+    }
+
+    fn seal_spec(self, spec: Spec) -> Result<(Progress<M>, Signed<Spec>), Want>
+        requires leaf { 1 ≤ leaves_of self.state }
+        requires spec { IsSpecInRange spec }
+        requires client { spec.client.0 < 64 }
+        ensures progress { IfOk result (λ r. r.0 ≡ record self { state = with_spec (spent self.state) (sealed_by numbers.spec spec_fields self.state.sealer spec) }) }
+        ensures spec { IfOk result (λ r. r.1 ≡ sealed_by numbers.spec spec_fields self.state.sealer spec) }
+        ensures range { IfOk result (λ r. IsSignedInRange IsSpecInRange r.1) }
+    {
+        let Progress { replica, deeds } = self;
+        match replica.seal_spec(spec) {
+            Ok((replica, signed)) => Ok((Progress { replica, deeds }, signed)),
+            Err(want) => {
+                drop(deeds);
+                Err(want)
+            }
+        }
     }
 
     // The response is signed, kept, and sent to the client with its order.
@@ -87,19 +163,13 @@ impl<M: Machine> Progress<M> {
         requires reply { length reply ≤ 1100 }
         ensures { IfOk result (λ g. g ≡ respond_with M.rules order spec reply self) }
     {
-        let Progress { replica, deeds } = self;
-        let stood = replica.stood();
-        let (replica, signed) = replica.seal(spec)?;
-        let replica = replica.keep_spec(spec_copy(&signed)?);
-        let body = Body::Spec(spec);
-        let frame = Frame::SpecResponse {
-            spec: signed,
-            reply,
-            order: Some(order),
-        };
-        Progress { replica, deeds }
-            .act(Act::Says(Remark { body, stood }))?
-            .send(To::One(Party::Client(spec.client)), frame)
+        match self.sign_spec(spec) {
+            Ok((progress, signed)) => progress.send_spec(signed, reply, Some(order)),
+            Err(want) => {
+                drop((order, reply));
+                Err(want)
+            }
+        }
     }
 
     // One order: its entry is executed, and then answered.
@@ -136,7 +206,11 @@ impl<M: Machine> Progress<M> {
     {
         match self.replica.next_held()? {
             None => Ok((self, false)),
-            Some(held) => self.run_if_fits(&held),
+            Some(held) => {
+                let ran = self.run_if_fits(&held);
+                drop(held);
+                ran
+            }
         }
     }
 
@@ -177,6 +251,18 @@ impl<M: Machine> Progress<M> {
         ensures { IfOk result (λ g. g ≡ whole_run M.rules frame.now self) }
     {
         self.run_one(frame)?.run_held()
+    }
+}
+
+impl<M: Machine> Progress<M> {
+    // And with that the step ends.
+    pub(crate) fn run_all(self, frame: &OrderFrame) -> Result<Moved<M>, Want>
+        requires leaf { 1 ≤ leaves_of self.state }
+        requires room { last_place self.state.kept < window_of self.state }
+        requires order { IsOrderReady frame.now }
+        ensures { IfOk result (λ m. m ≡ ends Answer.Taken (whole_run M.rules frame.now self)) }
+    {
+        Ok(self.run(frame)?.ends(Answer::Taken))
     }
 }
 

@@ -1,8 +1,12 @@
 ghost use Rattle.std.specs.Prelude.{◌≡◌, ◌≤◌, ◌<◌, ◌%◌, length, IfOk, Ok, true};
+ghost use Rattle.std.specs.List.{AllByRecursion};
+ghost use Rattle.zy_chain.specs.Entries.{IsEntryInRange};
 ghost use Rattle.zy_base.specs.declared.ids.Party.TheVariants as parties;
 ghost use Rattle.zy_base.specs.declared.cause.Cause.TheVariants as causes;
 ghost use Rattle.zy_frames.specs.Frames.{IsFrameInRange, frame_in, parts_of};
 ghost use Rattle.zy_frames.specs.declared.frame.Frame.TheVariants as frames;
+ghost use Rattle.zy_parts.specs.Signing.{IsSignedInRange};
+ghost use Rattle.zy_parts.specs.Statements.{IsHoleInRange};
 ghost use Rattle.zy_seal.specs.Screening.{screen};
 ghost use Rattle.zy_table.specs.State.{timers_of, own_view, is_leaving as leaves_view, is_primary as leads};
 ghost use Rattle.zy_table.specs.Deeds.{outgoing_of, said_from, gains_in, refused as refused_with};
@@ -14,6 +18,7 @@ use crate::progress::Moved;
 use crate::{Replica, Stepped};
 use zy_base::{Answer, Bytes, Cause, Event, Machine, Mode, Party, TimerKind, View, Want};
 use zy_frames::{DecodeFault, Frame, OrderFrame, decode, parts};
+use zy_parts::{Hole, Signed};
 use zy_seal::screen_parts;
 
 impl<M: Machine> Replica<M> {
@@ -25,6 +30,7 @@ impl<M: Machine> Replica<M> {
         ensures timers { IfOk result (λ s. s.timers ≡ timers_of (step_row M.rules self event).state) }
         ensures said { IfOk result (λ s. s.said ≡ said_from (parties.Replica (step_row M.rules self event).state.me) 0 (step_row M.rules self event).deeds.acts) }
         ensures got { IfOk result (λ s. s.got ≡ gains_in (step_row M.rules self event).deeds.acts) }
+        ensures range { IfOk result (λ s. AllByRecursion (λ got. IsEntryInRange got.entry) s.got) }
     {
         self.moves(event)?.finish()
     }
@@ -63,11 +69,31 @@ impl<M: Machine> Replica<M> {
         requires { IsFrameInRange frame }
         ensures { IfOk result (λ m. m ≡ decoded M.rules self (Ok frame)) }
     {
-        let parts = parts(self.alloc, &frame)?;
-        match screen_parts(&self.directory, &parts) {
-            Some(cause) => Ok(self.refused(cause)),
-            None => self.hear(frame),
+        match self.screens(&frame) {
+            Ok(None) => self.hear(frame),
+            Ok(Some(cause)) => self.not_heard(frame, cause),
+            Err(want) => {
+                drop(frame);
+                Err(want)
+            }
         }
+    }
+
+    // What stands against the signatures of a frame.
+    fn screens(&self, frame: &Frame) -> Result<Option<Cause>, Want>
+        requires { IsFrameInRange frame.now }
+        ensures { IfOk result (λ cause. cause ≡ screen self.now.keys (parts_of frame.now)) }
+    {
+        let parts = parts(self.alloc, frame)?;
+        Ok(screen_parts(&self.directory, &parts))
+    }
+
+    // A refusal that lets go what was refused. A frame has ten kinds: that it is let go is said here alone.
+    pub(crate) fn not_heard<T: Drop>(self, content: T, cause: Cause) -> Result<Moved<M>, Want>
+        ensures { IfOk result (λ m. m ≡ refused_with cause self) }
+    {
+        drop(content);
+        Ok(self.refused(cause))
     }
 
     // A frame whose parts are verified.
@@ -80,7 +106,7 @@ impl<M: Machine> Replica<M> {
         if self.in_role(&frame) {
             self.row(frame)
         } else {
-            Ok(self.refused(Cause::WrongRole))
+            self.not_heard(frame, Cause::WrongRole)
         }
     }
 
@@ -156,17 +182,17 @@ impl<M: Machine> Replica<M> {
         match frame {
             Frame::Request(ask) => self.hear_request(ask),
             Frame::Order(both) => self.order_in_view(both),
-            Frame::FillHole(hole) => match self.view_cause(hole.stmt.view) {
-                Some(cause) => Ok(self.refused(cause)),
-                None => self.fill_hole(hole),
-            },
-            Frame::SpecResponse { .. } => Ok(self.refused(Cause::WrongRole)),
-            Frame::Commit(_) => Ok(self.refused(Cause::WrongRole)),
-            Frame::LocalCommit(_) => Ok(self.refused(Cause::WrongRole)),
-            Frame::ConfirmReq { .. } => Ok(self.refused(Cause::WrongRole)),
-            Frame::Hate(_) => Ok(self.refused(Cause::WrongRole)),
-            Frame::Pom(_, _) => Ok(self.refused(Cause::WrongRole)),
-            Frame::Checkpoint(_) => Ok(self.refused(Cause::WrongRole)),
+            Frame::FillHole(hole) => self.hole_in_view(hole),
+            Frame::SpecResponse { spec, reply, order } => self.not_heard(
+                (spec, reply, order),
+                Cause::WrongRole,
+            ),
+            Frame::Commit(specs) => self.not_heard(specs, Cause::WrongRole),
+            Frame::LocalCommit(local) => self.not_heard(local, Cause::WrongRole),
+            Frame::ConfirmReq { confirm, ask } => self.not_heard((confirm, ask), Cause::WrongRole),
+            Frame::Hate(hate) => self.not_heard(hate, Cause::WrongRole),
+            Frame::Pom(first, second) => self.not_heard((first, second), Cause::WrongRole),
+            Frame::Checkpoint(check) => self.not_heard(check, Cause::WrongRole),
         }
     }
 }
@@ -183,6 +209,17 @@ impl<M: Machine> Replica<M> {
         match self.view_cause(both.order.stmt.view) {
             Some(cause) => Ok(self.refused(cause)),
             None => self.hear_order(both),
+        }
+    }
+
+    // What asks for orders of the own view.
+    fn hole_in_view(self, hole: Signed<Hole>) -> Result<Moved<M>, Want>
+        requires { IsSignedInRange IsHoleInRange hole }
+        ensures { IfOk result (λ m. m ≡ row_of M.rules self (frames.FillHole hole)) }
+    {
+        match self.view_cause(hole.stmt.view) {
+            Some(cause) => Ok(self.refused(cause)),
+            None => self.fill_hole(hole),
         }
     }
 }

@@ -1,8 +1,11 @@
-use Rattle.std.proofs.Common.{◌≡◌, ◌++◌, ◌∷◌, List, length, refl, sym, ◌∙◌, ap, arith}
+use Rattle.std.proofs.Common.{◌≡◌, ◌++◌, ◌∷◌, List, length, refl, sym, ◌∙◌, ap, subst, arith}
+use Rattle.std.specs.List.{AllByRecursion}
+use Rattle.zy_chain.specs.Entries.{IsEntryInRange}
 use Rattle.zy_base.specs.declared.ids.Party.TheVariants as parties
 use Rattle.zy_table.specs.Deeds.{said_from, gains_in}
 use Rattle.zy_table.specs.declared.deeds.Act.{Act}
-use Rattle.zy_replica.proofs.ToldLemmas.{moved, all_told, gained_one}
+use Rattle.zy_table.specs.declared.deeds.Got.{Got}
+use Rattle.zy_replica.proofs.ToldLemmas.{moved, all_told, gained_one, gains_in_range}
 use Rattle.zy_replica.proofs.outcome.told.Goals as goal
 
 pub loop-act-preserved-in_ok-push-in-Says : goal.loop-act-preserved-in_ok-push-in-Says
@@ -41,3 +44,9 @@ pub returns-clause-got : goal.returns-clause-got
 returns-clause-got c =
     let held = c.loop-act.invariant in
     all_told c.loop-act.got gains_in _ _ refl held.1 (held.2 ∙ c.in-None.ensures.steps.0)
+
+pub returns-clause-range : goal.returns-clause-range
+returns-clause-range c =
+    let held = c.loop-act.invariant in
+    let is = all_told c.loop-act.got gains_in _ _ refl held.1 (held.2 ∙ c.in-None.ensures.steps.0) in
+    subst (λ (got : List Got). AllByRecursion (λ (g : Got). IsEntryInRange g.entry) got) (sym is) (gains_in_range c.args.acts c.requires)
