@@ -1,0 +1,112 @@
+ghost use Rattle.std.specs.Prelude.{◌≡◌, ◌⊎◌, ◌↔◌, ◌^◌, IfOk, OnOk, OnErr, IsErrOf, option_map};
+ghost use Rattle.std.specs.Option.{ForSome};
+ghost use Rattle.std.specs.Result.{result_ok};
+ghost use Rattle.zy_lms.specs.Height.{levels_of};
+ghost use Rattle.zy_frames.specs.Frames.{IsFrameInRange, spelling};
+ghost use Rattle.zy_seal.specs.Sealing.{spent_one};
+ghost use Rattle.zy_seal.specs.declared.sealer.SealFault.{SealFault};
+ghost use Rattle.zy_setup.specs.Telling.{IsTellable, telling_of};
+ghost use Rattle.zy_wire.specs.Getting.{Decodes};
+ghost use Rattle.zy_wire.specs.Spelling.{whole};
+ghost use Rattle.zy_world_law.specs.Liars.{statement_numbered, statement_told};
+
+use crate::frames::encoded;
+use std::alloc::Global;
+use zy_base::{Bytes, Want};
+use zy_frames::Frame;
+use zy_parts::{Ask, Check, Hate, Hole, Local, Statement};
+use zy_seal::{SealFault, Sealer};
+use zy_wire::{Cut, GetFault, Spelled};
+
+/// A statement that whoever has a key can be told to sign by its number and fields. Each goes in its own frame.
+#[derive(Debug, Drop)]
+pub enum Tellable {
+    Ask(Ask),
+    Local(Local),
+    Hole(Hole),
+    Hate(Hate),
+    Check(Check),
+}
+
+/// The statement whose number and fields all of the bytes spell. `None` where they spell none of these.
+#[tactic(auto, unfolding(zy_world_law::specs::Liars::statement_told))]
+pub fn read_statement(alloc: Global, bytes: &[u8]) -> Result<Option<Tellable>, Want>
+    ensures value { IfOk result (λ told. option_map telling_of told ≡ statement_told bytes.now) }
+    ensures in_range { IfOk result (λ told. ForSome told IsTellable) }
+{
+    match bytes {
+        [] => Ok(None),
+        [number, fields @ ..] => read_numbered(alloc, *number, fields),
+    }
+}
+
+// The statement of this number whose fields the bytes spell.
+fn read_numbered(alloc: Global, number: u8, fields: &[u8]) -> Result<Option<Tellable>, Want>
+    ensures value { IfOk result (λ told. option_map telling_of told ≡ statement_numbered number fields.now) }
+    ensures in_range { IfOk result (λ told. ForSome told IsTellable) }
+{
+    match number {
+        1 => Ok(read_fields(alloc, fields)?.map(Tellable::Ask)),
+        4 => Ok(read_fields(alloc, fields)?.map(Tellable::Local)),
+        6 => Ok(read_fields(alloc, fields)?.map(Tellable::Hole)),
+        7 => Ok(read_fields(alloc, fields)?.map(Tellable::Hate)),
+        8 => Ok(read_fields(alloc, fields)?.map(Tellable::Check)),
+        _ => Ok(None),
+    }
+}
+
+// The statement whose fields all of the bytes spell.
+fn read_fields<S: Statement>(alloc: Global, bytes: &[u8]) -> Result<Option<S>, Want>
+    ensures value { IfOk result (λ stmt. stmt ≡ result_ok (whole S.spelling bytes.now)) }
+    ensures in_range { IfOk result (λ stmt. ForSome stmt S.in_range) }
+{
+    match read_whole(alloc, bytes) {
+        Ok(stmt) => Ok(Some(stmt)),
+        Err(GetFault::Frame(_)) => Ok(None),
+        Err(GetFault::Want) => Err(Want),
+    }
+}
+
+fn read_whole<S: Spelled>(alloc: Global, bytes: &[u8]) -> Result<S, GetFault>
+    ensures value { Decodes result (whole S.spelling bytes.now) }
+    ensures in_range { IfOk result S.in_range }
+{
+    let mut cut = Cut::new(bytes);
+    let value = S::get(alloc, &mut cut)?;
+    cut.end()?;
+    Ok(value)
+}
+
+impl Tellable {
+    /// The frame with the statement, signed by the next leaf. `KeySpent` exactly where no leaf is left.
+    pub fn frame(self, alloc: Global, sealer: &mut Sealer) -> Result<Bytes, SealFault>
+        requires { IsTellable self }
+        ensures frame { IfOk result (λ bytes. bytes ≡ spelling (telling_of self sealer.old)) }
+        ensures spent_one { OnOk result (sealer.new ≡ spent_one sealer.old) }
+        ensures spent { IsErrOf result SealFault.KeySpent ↔ (sealer.old.key.next ≡ 2 ^ levels_of sealer.old.key.height) }
+        ensures unchanged { IsErrOf result SealFault.KeySpent → sealer.new ≡ sealer.old }
+        // After `Want` the leaf may be spent.
+        ensures want { IsErrOf result SealFault.Want → (sealer.new ≡ sealer.old) ⊎ (sealer.new ≡ spent_one sealer.old) }
+    {
+        let frame = self.signed(sealer)?;
+        Ok(encoded(alloc, frame)?)
+    }
+
+    // Signed by the next leaf.
+    fn signed(self, sealer: &mut Sealer) -> Result<Frame, SealFault>
+        requires { IsTellable self }
+        ensures frame { IfOk result (λ frame. frame ≡ telling_of self sealer.old) }
+        ensures in_range { IfOk result IsFrameInRange }
+        ensures spent_one { OnOk result (sealer.new ≡ spent_one sealer.old) }
+        ensures spent { IsErrOf result SealFault.KeySpent ↔ (sealer.old.key.next ≡ 2 ^ levels_of sealer.old.key.height) }
+        ensures unchanged { OnErr result (sealer.new ≡ sealer.old) }
+    {
+        match self {
+            Tellable::Ask(ask) => Ok(Frame::Request(sealer.seal(ask)?)),
+            Tellable::Local(local) => Ok(Frame::LocalCommit(sealer.seal(local)?)),
+            Tellable::Hole(hole) => Ok(Frame::FillHole(sealer.seal(hole)?)),
+            Tellable::Hate(hate) => Ok(Frame::Hate(sealer.seal(hate)?)),
+            Tellable::Check(check) => Ok(Frame::Checkpoint(sealer.seal(check)?)),
+        }
+    }
+}
