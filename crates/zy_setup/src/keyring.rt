@@ -1,4 +1,4 @@
-ghost use Rattle.std.specs.Prelude.{◌≡◌, ◌≤◌, ◌++◌, ◌∷◌, ◌^◌, [], IfOk, OnOk, map};
+ghost use Rattle.std.specs.Prelude.{◌≡◌, ◌≤◌, ◌++◌, ◌∷◌, ◌^◌, [], IfOk, OnOk};
 ghost use Rattle.zy_lms.specs.Height.{levels_of};
 ghost use Rattle.zy_setup.specs.Starting.{client_sealers, replica_sealers};
 ghost use Rattle.zy_world_law.specs.Setup.{key_of_party, keys_of, public_key_of, sealer_of};
