@@ -9,3 +9,6 @@ pub mod Heard
 pub mod Due
 pub mod Lied
 pub mod Begun
+pub mod Lies
+pub mod KeyLemmas
+pub mod Seating

@@ -1,8 +1,10 @@
 -- What a liar or a forger is told to sign.
-use Rattle.std.specs.Prelude.{◌≤◌, length, Option, Some, None}
+use Rattle.std.specs.Prelude.{◌≤◌, ◌&&◌, Bool, List, length, Option, Some, None}
+use Rattle.std.specs.List.{list_all}
 use Rattle.zy_base.specs.declared.ids.Party.{Party}
 use Rattle.zy_base.specs.declared.ids.Party.TheVariants as parties
 use Rattle.zy_setup.specs.Telling.{IsOrderable, IsTellable, telling_of}
+use Rattle.zy_world.specs.Shown.{Seated, seat_of, is_seated, is_liar_seat, is_correct_seat}
 use Rattle.zy_world.specs.declared.tale.Tale.{Tale}
 use Rattle.zy_world.specs.declared.tale.Tale.TheVariants.{Order, Spec, Statement}
 use Rattle.zy_world_law.specs.Liars.{Telling, order_told, spec_told}
@@ -22,3 +24,10 @@ IsTale (Statement statement) = IsTellable statement
 abbrev pub if_replica : {A : Type 0} → Party → Option A → Option A
 if_replica (parties.Replica id) found = found
 if_replica (parties.Client id) found = None
+
+-- this party lies, or is correct, and there is each of the others
+abbrev pub can_lie : {S : Type 0} → Seated S → Party → List Party → Bool
+can_lie seats liar to = is_liar_seat (seat_of seats liar) && list_all (λ party. is_seated (seat_of seats party)) to
+
+abbrev pub can_forge : {S : Type 0} → Seated S → Party → List Party → Bool
+can_forge seats party to = is_correct_seat (seat_of seats party) && list_all (λ other. is_seated (seat_of seats other)) to

@@ -1,4 +1,4 @@
-ghost use Rattle.std.specs.Prelude.{◌≡◌, ◌≢◌, ◌^◌, None, Some, Err, IfOk, OnOk};
+ghost use Rattle.std.specs.Prelude.{◌≡◌, ◌≢◌, ◌^◌, ◌↔◌, None, Some, Err, IfOk, OnOk, IsErrOf};
 ghost use Rattle.zy_lms.specs.Height.{levels_of};
 ghost use Rattle.zy_seal.specs.Sealing.{SealerState, spent_one};
 ghost use Rattle.zy_seal.specs.declared.sealer.SealFault.TheVariants.{KeySpent};
@@ -66,11 +66,26 @@ impl Liars {
     {
         match self.take(liar) {
             None => Err(SealFault::KeySpent),
-            Some(mut key) => {
-                let frame = tale.frame(alloc, &mut key);
-                self.put(liar, key);
-                frame
-            }
+            Some(key) => self.sign_with(alloc, liar, key, tale),
         }
+    }
+
+    // The key takes its place again behind the frame that it signs.
+    fn sign_with(
+        &mut self,
+        alloc: Global,
+        liar: Party,
+        mut key: Sealer,
+        tale: Tale,
+    ) -> Result<Bytes, SealFault>
+        requires { IsTale tale }
+        ensures frame { IfOk result (IsToldBy (told_in tale) key) }
+        ensures spent_one { OnOk result (self.new ≡ with_key self.old liar (Some (spent_one key))) }
+        ensures spent { IsErrOf result SealFault.KeySpent ↔ (key.key.next ≡ 2 ^ levels_of key.key.height) }
+        ensures unchanged { IsErrOf result SealFault.KeySpent → self.new ≡ with_key self.old liar (Some key) }
+    {
+        let frame = tale.frame(alloc, &mut key);
+        self.put(liar, key);
+        frame
     }
 }

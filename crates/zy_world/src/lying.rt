@@ -1,6 +1,6 @@
 //! What liars and forgers sign, and bytes that are sent as they are.
 
-ghost use Rattle.std.specs.Prelude.{◌≡◌, ◌≤◌, ◌-◌, ◌^◌, length, Some, None, IfOk, IfSome};
+ghost use Rattle.std.specs.Prelude.{◌≡◌, ◌≤◌, ◌-◌, ◌^◌, ◌&&◌, true, length, Some, None, IfOk, IfSome};
 ghost use Rattle.std.specs.Option.{option_and_then};
 ghost use Rattle.std.specs.List.{AllByRecursion};
 ghost use Rattle.zy_lms.specs.Height.{levels_of};
@@ -11,15 +11,14 @@ ghost use Rattle.zy_world.specs.Event.{IsHistoryTold};
 ghost use Rattle.zy_world.specs.Shows.{Shows};
 ghost use Rattle.zy_setup.specs.Telling.{IsToldBy};
 ghost use Rattle.zy_table.specs.Sending.{copies};
-ghost use Rattle.zy_world.specs.Tale.{IsTale, if_replica, told_in};
+ghost use Rattle.zy_world.specs.Tale.{IsTale, can_forge, can_lie, if_replica, told_in};
 ghost use Rattle.zy_world_law.specs.Events.{lie, forge, raw};
 ghost use Rattle.zy_world_law.specs.Events.Happened.{Goes};
 ghost use Rattle.zy_world_law.specs.Setup.{sealer_of};
 ghost use Rattle.zy_world_law.specs.declared.note.Note.TheVariants.{Quiet};
 ghost use Rattle.zy_world_law.specs.Liars.{by_replica, order_told, spec_told, requests_at, statement_told};
-ghost use Rattle.zy_world_law.specs.World.{World as Whole, are_parties, with_sent};
+ghost use Rattle.zy_world_law.specs.World.{World as Whole, are_parties, is_correct, is_liar, with_sent};
 
-use crate::seat::Seat;
 use crate::tale::Tale;
 use crate::{World, WorldStepped};
 use zy_base::{Bytes, Cause, Items, Machine, Party, View, Want};
@@ -99,10 +98,11 @@ impl<M: Machine> World<M> {
     pub(crate) fn raw(self, bytes: &Bytes, to: &Items<Party>) -> Result<WorldStepped<M>, Want>
         ensures { (g : Whole M.State) → Shows g self → IfOk result (λ r. GoesTo (raw g bytes.now to.now) r.note r.world) }
     {
-        if !self.are_parties(to) {
-            return Ok(self.no_subject());
+        if self.are_parties(to) {
+            self.sends(bytes, to)
+        } else {
+            Ok(self.no_subject())
         }
-        self.sends(bytes, to)
     }
 
     // The requests of these frames. Only a replica may sign what is said of them.
@@ -118,13 +118,28 @@ impl<M: Machine> World<M> {
     }
 
     // A liar signs by its next leaf.
-    fn lie(mut self, liar: Party, to: &Items<Party>, tale: Tale) -> Result<WorldStepped<M>, Want>
+    fn lie(self, liar: Party, to: &Items<Party>, tale: Tale) -> Result<WorldStepped<M>, Want>
         requires { IsTale tale }
         ensures { (g : Whole M.State) → Shows g self → IfOk result (λ r. GoesTo (lie g liar to.now (told_in tale)) r.note r.world) }
     {
-        if self.seats.seat(liar) != Seat::Liar || !self.are_parties(to) {
-            return Ok(self.no_subject());
+        if self.can_lie(liar, to) {
+            self.lies(liar, to, tale)
+        } else {
+            Ok(self.no_subject())
         }
+    }
+
+    fn can_lie(&self, liar: Party, to: &Items<Party>) -> bool
+        ensures { result ≡ can_lie self.now.seats liar to.now }
+    {
+        self.seats.is_liar(liar) && self.seats.are_seated(to.as_slice())
+    }
+
+    // Signs, and sends the frame.
+    fn lies(mut self, liar: Party, to: &Items<Party>, tale: Tale) -> Result<WorldStepped<M>, Want>
+        requires { IsTale tale }
+        ensures { (g : Whole M.State) → Shows g self → (is_liar g liar && are_parties g to.now) ≡ true → IfOk result (λ r. GoesTo (lie g liar to.now (told_in tale)) r.note r.world) }
+    {
         match self.liars.sign(self.alloc, liar, tale) {
             Ok(bytes) => self.sends(&bytes, to),
             Err(SealFault::KeySpent) => Ok(self.noted(Note::Refused(None, Cause::KeySpent))),
@@ -136,14 +151,30 @@ impl<M: Machine> World<M> {
         requires { IsTale tale }
         ensures { (g : Whole M.State) → Shows g self → IfOk result (λ r. GoesTo (forge g party to.now (told_in tale)) r.note r.world) }
     {
-        if self.seats.seat(party) != Seat::Correct || !self.are_parties(to) {
-            return Ok(self.no_subject());
+        if self.can_forge(party, to) {
+            self.forges(party, to, tale)
+        } else {
+            Ok(self.no_subject())
         }
+    }
+
+    fn can_forge(&self, party: Party, to: &Items<Party>) -> bool
+        ensures { result ≡ can_forge self.now.seats party to.now }
+    {
+        self.seats.is_correct(party) && self.seats.are_seated(to.as_slice())
+    }
+
+    // Signs by the party's last leaf, and sends the frame.
+    fn forges(self, party: Party, to: &Items<Party>, tale: Tale) -> Result<WorldStepped<M>, Want>
+        requires { IsTale tale }
+        ensures { (g : Whole M.State) → Shows g self → (is_correct g party && are_parties g to.now) ≡ true → IfOk result (λ r. GoesTo (forge g party to.now (told_in tale)) r.note r.world) }
+    {
         let bytes = self.forged(party, tale)?;
         self.sends(&bytes, to)
     }
 
     // The frame under the party's key, made anew, by its last leaf.
+    #[tactic(auto, using(crate::proofs::Lies::has_leaves))]
     fn forged(&self, party: Party, tale: Tale) -> Result<Bytes, Want>
         requires { IsTale tale }
         ensures { IfOk result (IsToldBy (told_in tale) (sealer_of self.now.setup party (2 ^ levels_of self.now.setup.height - 1))) }

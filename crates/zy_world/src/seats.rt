@@ -7,7 +7,7 @@ ghost use Rattle.zy_table.specs.ClientState.{ClientState as AClient, ClientOutco
 ghost use Rattle.zy_table.specs.State.{State};
 ghost use Rattle.zy_table.specs.Step.{step as step_row};
 ghost use Rattle.zy_client.specs.Stepped.{IsStepped};
-ghost use Rattle.zy_world.specs.Shown.{is_seated, seat_of, with_replica, with_client};
+ghost use Rattle.zy_world.specs.Shown.{is_correct_seat, is_liar_seat, is_seated, seat_of, with_replica, with_client};
 ghost use Rattle.zy_world.specs.Stepping.{IsReplicaStep, IsClientStep, done_if};
 ghost use Rattle.zy_world_law.specs.World.{correct_in};
 
@@ -57,6 +57,26 @@ impl<M: Machine> Seats<M> {
         match self.seat(party) {
             Seat::Nobody => false,
             Seat::Liar => true,
+            Seat::Correct => true,
+        }
+    }
+
+    pub(crate) fn is_liar(&self, party: Party) -> bool
+        ensures { result ≡ is_liar_seat (seat_of self.now party) }
+    {
+        match self.seat(party) {
+            Seat::Nobody => false,
+            Seat::Liar => true,
+            Seat::Correct => false,
+        }
+    }
+
+    pub(crate) fn is_correct(&self, party: Party) -> bool
+        ensures { result ≡ is_correct_seat (seat_of self.now party) }
+    {
+        match self.seat(party) {
+            Seat::Nobody => false,
+            Seat::Liar => false,
             Seat::Correct => true,
         }
     }

@@ -34,6 +34,7 @@ impl Tale {
         ensures frame { IfOk result (IsToldBy (told_in self) sealer.old) }
         ensures spent_one { OnOk result (sealer.new ≡ spent_one sealer.old) }
         ensures spent { IsErrOf result SealFault.KeySpent ↔ (sealer.old.key.next ≡ 2 ^ levels_of sealer.old.key.height) }
+        ensures unchanged { IsErrOf result SealFault.KeySpent → sealer.new ≡ sealer.old }
     {
         match self {
             Tale::Order { view, asks } => order_frame(alloc, sealer, view, asks.as_slice()),

@@ -1,0 +1,31 @@
+use Rattle.std.proofs.Common.{◌≡◌, Err, refl, sym, ◌∙◌, subst}
+use Rattle.std.specs.Prelude.{IfOk}
+use Rattle.zy_seal.specs.declared.sealer.SealFault.TheVariants.{KeySpent}
+use Rattle.zy_world.specs.Answered.{GoesTo}
+use Rattle.zy_world.specs.Shown.{Shown}
+use Rattle.zy_world.specs.Shows.{Shows}
+use Rattle.zy_world.specs.Tale.{told_in}
+use Rattle.zy_world_law.specs.Events.{Happened, spent}
+use Rattle.zy_world.proofs.Lies.{has_key, lied, same_keys, shows_lied, unlied}
+use Rattle.zy_world.proofs.world.World.lies.Goals as goal
+
+pub returns-in-Ok : goal.returns-in-Ok
+returns-in-Ok g c w s can =
+    let i = subst (λ (v : Shown g.row.M-State.Denot). Shows w v) (sym c.self.view_is) s in
+    let key = has_key w _ i c.args.liar c.args.to.now can in
+    let left = c.in-Ok.ensures.left _ key in
+    subst (λ (h : Happened g.row.M-State.Denot). IfOk c.sends.result (λ r. GoesTo h r.note r.world))
+    (sym (lied w _ i c.args.liar c.args.to.now can (told_in c.args.tale) c.in-Ok.bytes left (c.in-Ok.ensures.frame _ key)))
+    (c.sends.ensures (spent w c.args.liar) (shows_lied w _ i c.args.liar c.args.to.now can c.sign.new.self left (c.in-Ok.ensures.spent_one _ key)))
+
+pub returns-in-Err-KeySpent : goal.returns-in-Err-KeySpent
+returns-in-Err-KeySpent g c w s can =
+    let i = subst (λ (v : Shown g.row.M-State.Denot). Shows w v) (sym c.self.view_is) s in
+    let key = has_key w _ i c.args.liar c.args.to.now can in
+    let err : c.sign.result ≡ Err KeySpent = cc in
+    rw (c.noted.ensures.world, c.noted.ensures.note)
+    (record {
+      world = w;
+      goes = unlied w _ i c.args.liar c.args.to.now can c.args.tale c.requires (c.sign.ensures.spent _ key err);
+      shows = same_keys w _ i c.sign.new.self (c.sign.ensures.same _ key err);
+    })
