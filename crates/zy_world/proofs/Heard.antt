@@ -25,7 +25,9 @@ use Rattle.zy_texts.proofs.KeptLemmas.{keep_all-append}
 use Rattle.zy_texts.proofs.SaidLemmas.{same_shown}
 use Rattle.zy_texts.specs.Kept.{Pairs, Keeps, Clashes}
 use Rattle.zy_texts.specs.Said.{AreShown, forger_among}
-use Rattle.zy_world.specs.Answered.{HeardTo, IsBrokenBy, IsUnheardBy, heard, heard_of, steps, replica_steps, client_steps, has_timer}
+use Rattle.zy_texts.specs.declared.fault.TextFault.{TextFault}
+use Rattle.zy_texts.specs.declared.fault.TextFault.TheVariants as text_faults
+use Rattle.zy_world.specs.Answered.{HeardTo, IsBrokenBy, IsUnheardBy, world_fault, heard, heard_of, steps, replica_steps, client_steps, has_timer}
 use Rattle.zy_world.specs.Shown.{Shown, seat_in}
 use Rattle.zy_world.specs.Shows.{Shows, texts_of}
 use Rattle.zy_world.specs.declared.fault.WorldFault.{WorldFault}
@@ -82,6 +84,11 @@ module _ {S : Type 0} (w : World S) (v : Shown S) (s : Shows w v) (bytes : List 
 
   pub frame_clashes : (d : Digest) → IsNamed None → Clashes (frame_texts frame) v.texts d → heard w bytes ≡ Err (Clash d)
   frame_clashes d none clash = heard_frame_is w bytes frame is ∙ ap₂ heard_of (named None none) (clash w.texts s.texts)
+
+-- a text that clashed is told as the fault of the world
+pub unheard_by_text : {S : Type 0} (w : World S) (bytes : List ℕ) (fault : TextFault) → ((d : Digest) → fault ≡ text_faults.Clash d → heard w bytes ≡ Err (Clash d)) → IsUnheardBy w bytes (world_fault fault)
+unheard_by_text w bytes (text_faults.Clash d) breaks = breaks d refl
+unheard_by_text w bytes text_faults.Want breaks = tt
 
 -- ---- what is heard comes to a party
 

@@ -1,5 +1,5 @@
 -- A party in its seat makes a step.
-use Rattle.std.proofs.Common.{◌≡◌, ⊥, ℕ, List, [], Option, Some, None, refl, sym, ap, ◌∙◌, subst}
+use Rattle.std.proofs.Common.{◌≡◌, ℕ, List, [], Option, Some, None, refl, sym, ap, ◌∙◌, subst}
 use Rattle.std.specs.Prelude.{slice_get, option_map, IsSomeAnd}
 use Rattle.zy_base.specs.Machine.{Rules}
 use Rattle.zy_base.specs.declared.ids.ClientId.{ClientId}
