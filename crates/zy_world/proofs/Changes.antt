@@ -99,6 +99,9 @@ pub mail_is : {S : Type 0} (g : World S) (number : ℕ) → mail_at g number ≡
 mail_is g zero = refl
 mail_is g (suc before) = refl
 
+pub mail_there : {S : Type 0} (g : World S) (v : Shown S) (number : ℕ) (o : Option Mail) → Shows g v → o ≡ numbered v.bag.mails number → mail_at g number ≡ o
+mail_there g v number o s is = mail_is g number ∙ ap (λ (mails : List Mail). numbered mails number) s.mails ∙ sym is
+
 delivered_by : {S : Type 0} (g : World S) (before : ℕ) (mail : Mail) (o : Option Mail) → o ≡ Some mail → delivered g (suc before) mail ≡ record g { bag = delivered_if g.bag (suc before) o }
 delivered_by g before mail None is = absurd cc
 delivered_by {S = S} g before mail (Some other) is = ap (λ (m : Mail). record g { bag = slice_set g.bag (suc before - 1) (record m { delivered = true }) }) (sym (same_Some other mail is))

@@ -1,6 +1,6 @@
 -- A frame is heard, and what it brings to a party.
-use Rattle.std.proofs.Common.{◌≡◌, ℕ, Bool, true, false, List, [], ◌∷◌, ◌++◌, length, map, Option, Some, None, Result, Ok, Err, refl, sym, ap, ap₂, ◌∙◌, subst}
-use Rattle.std.specs.Prelude.{slice_get, option_map}
+use Rattle.std.proofs.Common.{◌≡◌, ℕ, ◌-◌, Bool, true, false, List, [], ◌∷◌, ◌++◌, length, map, Option, Some, None, Result, Ok, Err, refl, sym, ap, ap₂, ◌∙◌, subst}
+use Rattle.std.specs.Prelude.{slice_get, slice_set, option_map}
 use Rattle.std.specs.List.{find}
 use Rattle.std.proofs.lemmas.List.{append-nil}
 use Rattle.zy_base.specs.Machine.{Rules}
@@ -25,9 +25,13 @@ use Rattle.zy_texts.proofs.KeptLemmas.{keep_all-append}
 use Rattle.zy_texts.proofs.SaidLemmas.{same_shown}
 use Rattle.zy_texts.specs.Kept.{Pairs, Keeps, Clashes}
 use Rattle.zy_texts.specs.Said.{AreShown, forger_among}
-use Rattle.zy_world.specs.Answered.{HeardTo, heard, heard_of, steps, replica_steps, client_steps, has_timer}
+use Rattle.zy_texts.specs.declared.fault.TextFault.{TextFault}
+use Rattle.zy_texts.specs.declared.fault.TextFault.TheVariants as text_faults
+use Rattle.zy_world.specs.Answered.{HeardTo, IsBrokenBy, IsUnheardBy, world_fault, heard, heard_of, steps, replica_steps, client_steps, has_timer}
 use Rattle.zy_world.specs.Shown.{Shown, seat_in}
 use Rattle.zy_world.specs.Shows.{Shows, texts_of}
+use Rattle.zy_world.specs.declared.fault.WorldFault.{WorldFault}
+use Rattle.zy_world.specs.declared.fault.WorldFault.TheVariants as faults
 use Rattle.zy_world.specs.declared.seat.Seat.{Seat}
 use Rattle.zy_world.specs.declared.seat.Seat.TheVariants as sat
 use Rattle.zy_world_law.specs.Events.{Broken, Happened, no_subject, go_with, keeping, unless_forged, stepped, client_stepped, with_replica, with_client, with_done, replica_note, client_note, completed_by, bring, bring_to_replica, bring_to_client, timer_of, replica_timer_in, client_timer_in}
@@ -36,7 +40,7 @@ use Rattle.zy_world_law.specs.Events.Happened.{Goes, Breaks}
 use Rattle.zy_world_law.specs.Honest.{forger_in, parts_read, is_forged}
 use Rattle.zy_world_law.specs.Setup.{keys_of}
 use Rattle.zy_world_law.specs.Texts.{texts_in, texts_read, frame_texts, step_texts, keep_all, and_then}
-use Rattle.zy_world_law.specs.World.{World, Replica, Client, Texts, texts_said, with_sent}
+use Rattle.zy_world_law.specs.World.{World, Replica, Client, Mail, Texts, texts_said, with_sent, delivered}
 use Rattle.zy_world_law.specs.declared.note.Note.{Note}
 use Rattle.zy_world_law.specs.declared.note.Note.TheVariants.{Quiet}
 use Rattle.zy_world.proofs.Changes.{with_texts}
@@ -81,6 +85,11 @@ module _ {S : Type 0} (w : World S) (v : Shown S) (s : Shows w v) (bytes : List 
   pub frame_clashes : (d : Digest) → IsNamed None → Clashes (frame_texts frame) v.texts d → heard w bytes ≡ Err (Clash d)
   frame_clashes d none clash = heard_frame_is w bytes frame is ∙ ap₂ heard_of (named None none) (clash w.texts s.texts)
 
+-- a text that clashed is told as the fault of the world
+pub unheard_by_text : {S : Type 0} (w : World S) (bytes : List ℕ) (fault : TextFault) → ((d : Digest) → fault ≡ text_faults.Clash d → heard w bytes ≡ Err (Clash d)) → IsUnheardBy w bytes (world_fault fault)
+unheard_by_text w bytes (text_faults.Clash d) breaks = breaks d refl
+unheard_by_text w bytes text_faults.Want breaks = tt
+
 -- ---- what is heard comes to a party
 
 -- what is heard, and then what happens
@@ -102,63 +111,80 @@ heard_then : {S : Type 0} (w : World S) (texts more : List (List ℕ)) (change :
 heard_then w texts more change note (Some by) = refl
 heard_then w texts more change note None = ap (go_with w change note) (keep_all-append texts more w.texts) ∙ kept_then w more change note (keep_all texts w.texts)
 
-to_replica : {S : Type 0} (R : Rules S) (w : World S) (id : ReplicaId) (bytes : List ℕ) (o : Option (Option (Replica S))) → seat_in o ≡ sat.Correct
-    → bring_to_replica R w w id bytes o ≡ carried (heard w bytes) (λ texts. replica_steps R (record w { texts = texts }) id (Heard bytes) o)
+to_replica : {S : Type 0} (R : Rules S) (w : World S) (bag : List Mail) (id : ReplicaId) (bytes : List ℕ) (o : Option (Option (Replica S))) → seat_in o ≡ sat.Correct
+    → bring_to_replica R w (record w { bag = bag }) id bytes o ≡ carried (heard (record w { bag = bag }) bytes) (λ texts. replica_steps R (record w { bag = bag; texts = texts }) id (Heard bytes) o)
 unfolding heard replica_steps
-to_replica R w id bytes (Some (Some x)) is =
+to_replica {S = S} R w bag id bytes (Some (Some x)) is =
     let o = step R x.state (Heard bytes) in
-    heard_then w (texts_in bytes) (step_texts o.deeds.acts)
+    let m : World S = record w { bag = bag } in
+    heard_then m (texts_in bytes) (step_texts o.deeds.acts)
     (λ v. with_sent (with_replica v id (stepped x o)) (outgoing_of o.state.me.0 o.state.counts.n o.deeds.sent))
-    (replica_note id o.answer) (forger_in w bytes)
-to_replica R w id bytes (Some None) is = absurd cc
-to_replica R w id bytes None is = absurd cc
+    (replica_note id o.answer) (forger_in m bytes)
+to_replica R w bag id bytes (Some None) is = absurd cc
+to_replica R w bag id bytes None is = absurd cc
 
-to_client : {S : Type 0} (w : World S) (id : ClientId) (bytes : List ℕ) (o : Option (Option Client)) → seat_in o ≡ sat.Correct
-    → bring_to_client w w id bytes o ≡ carried (heard w bytes) (λ texts. client_steps (record w { texts = texts }) id (Heard bytes) o)
+to_client : {S : Type 0} (w : World S) (bag : List Mail) (id : ClientId) (bytes : List ℕ) (o : Option (Option Client)) → seat_in o ≡ sat.Correct
+    → bring_to_client w (record w { bag = bag }) id bytes o ≡ carried (heard (record w { bag = bag }) bytes) (λ texts. client_steps (record w { bag = bag; texts = texts }) id (Heard bytes) o)
 unfolding heard client_steps
-to_client {S = S} w id bytes (Some (Some x)) is =
+to_client {S = S} w bag id bytes (Some (Some x)) is =
     let o = client_step x.state (Heard bytes) in
+    let m : World S = record w { bag = bag } in
     let done = completed_by x.state o.state in
     let change : World S → World S = λ v. with_done (with_sent (with_client v id (client_stepped x o)) (client_outgoing o.state.counts.n o.sent)) id done in
     let note = client_note id done o.answer in
-    ap (λ (texts : List (List ℕ)). unless_forged (forger_in w bytes) (keeping w texts change note)) (sym (append-nil (texts_in bytes)))
-    ∙ heard_then w (texts_in bytes) [] change note (forger_in w bytes)
-to_client w id bytes (Some None) is = absurd cc
-to_client w id bytes None is = absurd cc
+    ap (λ (texts : List (List ℕ)). unless_forged (forger_in m bytes) (keeping m texts change note)) (sym (append-nil (texts_in bytes)))
+    ∙ heard_then m (texts_in bytes) [] change note (forger_in m bytes)
+to_client w bag id bytes (Some None) is = absurd cc
+to_client w bag id bytes None is = absurd cc
 
-pub brought : {S : Type 0} (R : Rules S) (w : World S) (party : Party) (bytes : List ℕ) → whole_seat w party ≡ sat.Correct
-    → bring R w w party bytes ≡ carried (heard w bytes) (λ texts. steps R (record w { texts = texts }) party (Heard bytes))
+brought_marked : {S : Type 0} (R : Rules S) (w : World S) (bag : List Mail) (party : Party) (bytes : List ℕ) → whole_seat w party ≡ sat.Correct
+    → bring R w (record w { bag = bag }) party bytes ≡ carried (heard (record w { bag = bag }) bytes) (λ texts. steps R (record w { bag = bag; texts = texts }) party (Heard bytes))
 unfolding steps
-brought R w (parties.Replica id) bytes is = to_replica R w id bytes (slice_get w.replicas id.0) is
-brought R w (parties.Client id) bytes is = to_client w id bytes (slice_get w.clients id.0) is
+brought_marked R w bag (parties.Replica id) bytes is = to_replica R w bag id bytes (slice_get w.replicas id.0) is
+brought_marked R w bag (parties.Client id) bytes is = to_client w bag id bytes (slice_get w.clients id.0) is
 
-replica_liar : {S : Type 0} (R : Rules S) (w : World S) (id : ReplicaId) (bytes : List ℕ) (o : Option (Option (Replica S))) → seat_in o ≡ sat.Liar → bring_to_replica R w w id bytes o ≡ Goes w Quiet
-replica_liar R w id bytes (Some (Some x)) is = absurd cc
-replica_liar R w id bytes (Some None) is = refl
-replica_liar R w id bytes None is = absurd cc
+module _ {S : Type 0} (R : Rules S) (w : World S) (number : ℕ) (mail : Mail) (party : Party) (bytes : List ℕ) (correct : whole_seat w party ≡ sat.Correct) where
+  brought : bring R w (delivered w number mail) party bytes
+      ≡ carried (heard (delivered w number mail) bytes) (λ texts. steps R (record (delivered w number mail) { texts = texts }) party (Heard bytes))
+  brought = brought_marked R w (slice_set w.bag (number - 1) (record mail { delivered = true })) party bytes correct
 
-client_liar : {S : Type 0} (w : World S) (id : ClientId) (bytes : List ℕ) (o : Option (Option Client)) → seat_in o ≡ sat.Liar → bring_to_client w w id bytes o ≡ Goes w Quiet
-client_liar w id bytes (Some (Some x)) is = absurd cc
-client_liar w id bytes (Some None) is = refl
-client_liar w id bytes None is = absurd cc
+  -- what is heard is kept, and the party makes its step
+  pub brought_heard : (v : Shown S) (h : HeardTo (delivered w number mail) bytes v)
+      → bring R w (delivered w number mail) party bytes ≡ steps R (record (delivered w number mail) { texts = h.texts }) party (Heard bytes)
+  brought_heard v h = brought ∙ ap (λ (r : Result Texts Broken). carried r (λ texts. steps R (record (delivered w number mail) { texts = texts }) party (Heard bytes))) h.kept
 
-pub brought_liar : {S : Type 0} (R : Rules S) (w : World S) (party : Party) (bytes : List ℕ) → whole_seat w party ≡ sat.Liar → bring R w w party bytes ≡ Goes w Quiet
-brought_liar R w (parties.Replica id) bytes is = replica_liar R w id bytes (slice_get w.replicas id.0) is
-brought_liar R w (parties.Client id) bytes is = client_liar w id bytes (slice_get w.clients id.0) is
+  pub brought_unheard : (fault : WorldFault) → IsUnheardBy (delivered w number mail) bytes fault → IsBrokenBy (bring R w (delivered w number mail) party bytes) fault
+  brought_unheard (faults.Forged by) is = brought ∙ ap (λ (r : Result Texts Broken). carried r (λ texts. steps R (record (delivered w number mail) { texts = texts }) party (Heard bytes))) is
+  brought_unheard (faults.Clash d) is = brought ∙ ap (λ (r : Result Texts Broken). carried r (λ texts. steps R (record (delivered w number mail) { texts = texts }) party (Heard bytes))) is
+  brought_unheard faults.Want is = tt
 
-replica_nobody : {S : Type 0} (R : Rules S) (w : World S) (id : ReplicaId) (bytes : List ℕ) (o : Option (Option (Replica S))) → seat_in o ≡ sat.Nobody → bring_to_replica R w w id bytes o ≡ no_subject w
-replica_nobody R w id bytes (Some (Some x)) is = absurd cc
-replica_nobody R w id bytes (Some None) is = absurd cc
-replica_nobody R w id bytes None is = refl
+replica_liar : {S : Type 0} (R : Rules S) (w marked : World S) (id : ReplicaId) (bytes : List ℕ) (o : Option (Option (Replica S))) → seat_in o ≡ sat.Liar → bring_to_replica R w marked id bytes o ≡ Goes marked Quiet
+replica_liar R w marked id bytes (Some (Some x)) is = absurd cc
+replica_liar R w marked id bytes (Some None) is = refl
+replica_liar R w marked id bytes None is = absurd cc
 
-client_nobody : {S : Type 0} (w : World S) (id : ClientId) (bytes : List ℕ) (o : Option (Option Client)) → seat_in o ≡ sat.Nobody → bring_to_client w w id bytes o ≡ no_subject w
-client_nobody w id bytes (Some (Some x)) is = absurd cc
-client_nobody w id bytes (Some None) is = absurd cc
-client_nobody w id bytes None is = refl
+client_liar : {S : Type 0} (w marked : World S) (id : ClientId) (bytes : List ℕ) (o : Option (Option Client)) → seat_in o ≡ sat.Liar → bring_to_client w marked id bytes o ≡ Goes marked Quiet
+client_liar w marked id bytes (Some (Some x)) is = absurd cc
+client_liar w marked id bytes (Some None) is = refl
+client_liar w marked id bytes None is = absurd cc
 
-pub brought_nobody : {S : Type 0} (R : Rules S) (w : World S) (party : Party) (bytes : List ℕ) → whole_seat w party ≡ sat.Nobody → bring R w w party bytes ≡ no_subject w
-brought_nobody R w (parties.Replica id) bytes is = replica_nobody R w id bytes (slice_get w.replicas id.0) is
-brought_nobody R w (parties.Client id) bytes is = client_nobody w id bytes (slice_get w.clients id.0) is
+pub brought_liar : {S : Type 0} (R : Rules S) (w marked : World S) (party : Party) (bytes : List ℕ) → whole_seat w party ≡ sat.Liar → bring R w marked party bytes ≡ Goes marked Quiet
+brought_liar R w marked (parties.Replica id) bytes is = replica_liar R w marked id bytes (slice_get w.replicas id.0) is
+brought_liar R w marked (parties.Client id) bytes is = client_liar w marked id bytes (slice_get w.clients id.0) is
+
+replica_nobody : {S : Type 0} (R : Rules S) (w marked : World S) (id : ReplicaId) (bytes : List ℕ) (o : Option (Option (Replica S))) → seat_in o ≡ sat.Nobody → bring_to_replica R w marked id bytes o ≡ no_subject w
+replica_nobody R w marked id bytes (Some (Some x)) is = absurd cc
+replica_nobody R w marked id bytes (Some None) is = absurd cc
+replica_nobody R w marked id bytes None is = refl
+
+client_nobody : {S : Type 0} (w marked : World S) (id : ClientId) (bytes : List ℕ) (o : Option (Option Client)) → seat_in o ≡ sat.Nobody → bring_to_client w marked id bytes o ≡ no_subject w
+client_nobody w marked id bytes (Some (Some x)) is = absurd cc
+client_nobody w marked id bytes (Some None) is = absurd cc
+client_nobody w marked id bytes None is = refl
+
+pub brought_nobody : {S : Type 0} (R : Rules S) (w marked : World S) (party : Party) (bytes : List ℕ) → whole_seat w party ≡ sat.Nobody → bring R w marked party bytes ≡ no_subject w
+brought_nobody R w marked (parties.Replica id) bytes is = replica_nobody R w marked id bytes (slice_get w.replicas id.0) is
+brought_nobody R w marked (parties.Client id) bytes is = client_nobody w marked id bytes (slice_get w.clients id.0) is
 
 -- ---- timers
 

@@ -4,6 +4,7 @@ pub mod Changes
 pub mod Muting
 pub mod Stepped
 pub mod Gone
+pub mod Turns
 pub mod Heard
 pub mod Due
 pub mod Lied

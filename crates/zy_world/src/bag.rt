@@ -98,23 +98,15 @@ impl Bag {
         self.mails.get((number - 1) as usize)
     }
 
-    /// Marks the frame of this number as delivered: to whom it goes, and a copy of its bytes.
-    pub(crate) fn deliver(
-        &mut self,
-        number: u64,
-    ) -> Result<Option<(Party, Bytes)>, Want>
-        ensures frame { IfOk result (λ frame. frame ≡ option_map (λ m. (m.to, m.bytes)) (numbered self.old.mails number)) }
-        ensures marked { self.new ≡ record { mails = with_delivered self.old.mails number; passed = self.old.passed } }
+    /// Marks the frame of this number as delivered.
+    pub(crate) fn deliver(&mut self, number: u64)
+        ensures { self.new ≡ record { mails = with_delivered self.old.mails number; passed = self.old.passed } }
     {
         if number == 0 {
-            return Ok(None);
+            return;
         }
-        match self.mails.get_mut((number - 1) as usize) {
-            None => Ok(None),
-            Some(mail) => {
-                mail.delivered = true;
-                Ok(Some((mail.to, mail.bytes.clone()?)))
-            }
+        if let Some(mail) = self.mails.get_mut((number - 1) as usize) {
+            mail.delivered = true;
         }
     }
 

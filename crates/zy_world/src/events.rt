@@ -1,4 +1,4 @@
-ghost use Rattle.std.specs.Prelude.{◌≡◌, Err, IfOk, IfErr};
+ghost use Rattle.std.specs.Prelude.{◌≡◌, Some, Err, IfOk, IfErr};
 ghost use Rattle.zy_base.specs.declared.ids.Digest.{Digest as Sum};
 ghost use Rattle.zy_base.specs.declared.ids.Party.{Party as Somebody};
 ghost use Rattle.zy_world.specs.Answered.{GoesTo, IsBrokenBy, steps, has_timer};
@@ -8,7 +8,7 @@ ghost use Rattle.zy_world.specs.declared.fault.WorldFault.TheVariants.{Forged, C
 ghost use Rattle.zy_world_law.specs.Events.{happens, bring, deliver, timer_of};
 ghost use Rattle.zy_world_law.specs.Events.Broken.{Forged as ShowsForged, Clash as ShowsClash};
 ghost use Rattle.zy_world_law.specs.Events.Happened.{Goes, Breaks};
-ghost use Rattle.zy_world_law.specs.World.{World as Whole, mail_at};
+ghost use Rattle.zy_world_law.specs.World.{World as Whole, Mail as Post, delivered, mail_at};
 
 use crate::marks::pass;
 use crate::seat::Seat;
@@ -65,30 +65,48 @@ impl<M: Machine> World<M> {
         }
     }
 
-    // The frame of this number is marked, and reaches the named party or the one that it is addressed to.
-    fn deliver(mut self, number: u64, to: Option<Party>) -> Result<WorldStepped<M>, WorldFault>
+    // The frame of this number reaches the named party, or the one that it is addressed to.
+    fn deliver(self, number: u64, to: Option<Party>) -> Result<WorldStepped<M>, WorldFault>
         ensures goes { (g : Whole M.State) → Shows g self → IfOk result (λ r. GoesTo (deliver M.rules g number to (mail_at g number)) r.note r.world) }
         ensures broken { (g : Whole M.State) → Shows g self → IfErr result (IsBrokenBy (deliver M.rules g number to (mail_at g number))) }
     {
-        match self.bag.deliver(number)? {
+        match self.bag.frame(number) {
             None => Ok(self.no_subject()),
-            Some((addressee, bytes)) => {
-                pass(&mut self.bag, &self.seats);
-                self.bring(to.unwrap_or(addressee), bytes)
+            Some(mail) => {
+                let to = to.unwrap_or(mail.to);
+                let bytes = mail.bytes.clone()?;
+                self.bring(number, to, bytes)
             }
         }
     }
 
-    // Bytes reach a party.
-    fn bring(self, to: Party, bytes: Bytes) -> Result<WorldStepped<M>, WorldFault>
-        ensures goes { (g : Whole M.State) → Shows g self → IfOk result (λ r. GoesTo (bring M.rules g g to bytes) r.note r.world) }
-        ensures broken { (g : Whole M.State) → Shows g self → IfErr result (IsBrokenBy (bring M.rules g g to bytes)) }
+    // The frame of this number, which has these bytes, reaches a party.
+    fn bring(
+        self,
+        number: u64,
+        to: Party,
+        bytes: Bytes,
+    ) -> Result<WorldStepped<M>, WorldFault>
+        ensures goes { (g : Whole M.State) (mail : Post) → Shows g self → mail_at g number ≡ Some mail → IfOk result (λ r. GoesTo (bring M.rules g (delivered g number mail) to bytes) r.note r.world) }
+        ensures broken { (g : Whole M.State) (mail : Post) → Shows g self → mail_at g number ≡ Some mail → IfErr result (IsBrokenBy (bring M.rules g (delivered g number mail) to bytes)) }
     {
         match self.seats.seat(to) {
             Seat::Nobody => Ok(self.no_subject()),
-            Seat::Liar => Ok(self.noted(Note::Quiet)),
-            Seat::Correct => self.hears(&bytes)?.steps(to, Event::Heard(bytes)),
+            Seat::Liar => Ok(self.delivered(number).noted(Note::Quiet)),
+            Seat::Correct => self
+                .delivered(number)
+                .hears(&bytes)?
+                .steps(to, Event::Heard(bytes)),
         }
+    }
+
+    // The frame of this number is marked.
+    fn delivered(mut self, number: u64) -> World<M>
+        ensures { (g : Whole M.State) (mail : Post) → Shows g self → mail_at g number ≡ Some mail → Shows (delivered g number mail) result }
+    {
+        self.bag.deliver(number);
+        pass(&mut self.bag, &self.seats);
+        self
     }
 
     // A party makes a step.

@@ -1,3 +1,4 @@
+use std::alloc::AllocError;
 use zy_base::{Digest, Party, Want};
 use zy_texts::TextFault;
 
@@ -18,6 +19,17 @@ impl From<Want> for WorldFault {
     ghost from_gives = { λ _ fault. fault ≡ faults.Want };
 
     fn from(_: Want) -> WorldFault {
+        WorldFault::Want
+    }
+}
+
+impl From<AllocError> for WorldFault {
+    ghost use Rattle.std.specs.Prelude.{◌≡◌};
+    ghost use Rattle.zy_world.specs.declared.fault.WorldFault.TheVariants as faults;
+
+    ghost from_gives = { λ _ fault. fault ≡ faults.Want };
+
+    fn from(_: AllocError) -> WorldFault {
         WorldFault::Want
     }
 }

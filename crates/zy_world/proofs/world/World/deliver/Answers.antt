@@ -1,0 +1,28 @@
+use Rattle.std.proofs.Common.{◌≡◌, Some, None, refl, sym, ap, ◌∙◌, subst}
+use Rattle.std.specs.Prelude.{IfOk, IfErr, option_copied}
+use Rattle.zy_world.specs.Answered.{GoesTo, IsBrokenBy}
+use Rattle.zy_world.specs.Shown.{Shown}
+use Rattle.zy_world.specs.Shows.{Shows}
+use Rattle.zy_world_law.specs.Events.{Happened, deliver}
+use Rattle.zy_world_law.specs.World.{mail_at}
+use Rattle.zy_world.proofs.Changes.{mail_there}
+use Rattle.zy_world.proofs.world.World.deliver.Goals as goal
+
+pub returns-in-None-clause-goes : goal.returns-in-None-clause-goes
+returns-in-None-clause-goes g c w s =
+    let i = subst (λ (v : Shown g.row.M-State.Denot). Shows w v) (sym c.self.view_is) s in
+    subst (λ (h : Happened g.row.M-State.Denot). GoesTo h c.no_subject.result.note c.no_subject.result.world)
+    (sym (ap (deliver g.M.Machine.rules w c.args.number c.args.to) (mail_there w _ c.args.number None i (ap option_copied (sym c.in-None.is) ∙ c.frame.ensures))))
+    (c.no_subject.ensures w s)
+
+pub returns-in_ok-bytes-in-Some-clause-goes : goal.returns-in_ok-bytes-in-Some-clause-goes
+returns-in_ok-bytes-in-Some-clause-goes g c w s =
+    let i = subst (λ (v : Shown g.row.M-State.Denot). Shows w v) (sym c.self.view_is) s in
+    let there : mail_at w c.args.number ≡ Some c.in-Some.mail.now = mail_there w _ c.args.number (Some c.in-Some.mail.now) i (ap option_copied (sym c.in-Some.is) ∙ c.frame.ensures) in
+    ?
+
+pub returns-in_ok-bytes-in-Some-clause-broken : goal.returns-in_ok-bytes-in-Some-clause-broken
+returns-in_ok-bytes-in-Some-clause-broken g c w s =
+    let i = subst (λ (v : Shown g.row.M-State.Denot). Shows w v) (sym c.self.view_is) s in
+    let there : mail_at w c.args.number ≡ Some c.in-Some.mail.now = mail_there w _ c.args.number (Some c.in-Some.mail.now) i (ap option_copied (sym c.in-Some.is) ∙ c.frame.ensures) in
+    ?

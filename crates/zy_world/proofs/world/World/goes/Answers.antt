@@ -1,0 +1,47 @@
+use Rattle.std.proofs.Common.{◌≡◌}
+use Rattle.zy_world_law.specs.Events.{happens}
+use Rattle.zy_world.proofs.world.World.goes.Goals as goal
+
+pub returns-in-Ask-clause-goes : goal.returns-in-Ask-clause-goes
+unfolding happens
+returns-in-Ask-clause-goes g c w s = rw c.in-Ask.is (c.client_asks.ensures.goes w s)
+
+pub returns-in-Ask-clause-broken : goal.returns-in-Ask-clause-broken
+unfolding happens
+returns-in-Ask-clause-broken g c w s = rw c.in-Ask.is (c.client_asks.ensures.broken w s)
+
+pub returns-in-Deliver-clause-goes : goal.returns-in-Deliver-clause-goes
+unfolding happens
+returns-in-Deliver-clause-goes g c w s = rw c.in-Deliver.is (c.deliver.ensures.goes w s)
+
+pub returns-in-Deliver-clause-broken : goal.returns-in-Deliver-clause-broken
+unfolding happens
+returns-in-Deliver-clause-broken g c w s = rw c.in-Deliver.is (c.deliver.ensures.broken w s)
+
+pub returns-in-Timer-clause-goes : goal.returns-in-Timer-clause-goes
+unfolding happens
+returns-in-Timer-clause-goes g c w s = rw c.in-Timer.is (c.runs_out.ensures.goes w s)
+
+pub returns-in-Timer-clause-broken : goal.returns-in-Timer-clause-broken
+unfolding happens
+returns-in-Timer-clause-broken g c w s = rw c.in-Timer.is (c.runs_out.ensures.broken w s)
+
+pub returns-in_ok-lie_order-in-Order-clause-goes : goal.returns-in_ok-lie_order-in-Order-clause-goes
+unfolding happens
+returns-in_ok-lie_order-in-Order-clause-goes g c w s = rw c.in-Order.is (c.in_ok-lie_order-in-Order.ensures w s)
+
+pub returns-in_ok-lie_spec-in-Spec-clause-goes : goal.returns-in_ok-lie_spec-in-Spec-clause-goes
+unfolding happens
+returns-in_ok-lie_spec-in-Spec-clause-goes g c w s = rw c.in-Spec.is (c.in_ok-lie_spec-in-Spec.ensures w s)
+
+pub returns-in_ok-lie_statement-in-Statement-clause-goes : goal.returns-in_ok-lie_statement-in-Statement-clause-goes
+unfolding happens
+returns-in_ok-lie_statement-in-Statement-clause-goes g c w s = rw c.in-Statement.is (c.in_ok-lie_statement-in-Statement.ensures w s)
+
+pub returns-in_ok-raw-in-Raw-clause-goes : goal.returns-in_ok-raw-in-Raw-clause-goes
+unfolding happens
+returns-in_ok-raw-in-Raw-clause-goes g c w s = rw c.in-Raw.is (c.in_ok-raw-in-Raw.ensures w s)
+
+pub returns-in_ok-forge_statement-in-Forge-clause-goes : goal.returns-in_ok-forge_statement-in-Forge-clause-goes
+unfolding happens
+returns-in_ok-forge_statement-in-Forge-clause-goes g c w s = rw c.in-Forge.is (c.in_ok-forge_statement-in-Forge.ensures w s)
