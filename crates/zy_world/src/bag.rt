@@ -80,12 +80,14 @@ impl Bag {
     fn put(&mut self, to: Party, bytes: Bytes) -> Result<(), Want>
         ensures { OnOk result (self.new ≡ record { mails = self.old.mails ++ mail_to (to, bytes) ∷ []; passed = self.old.passed }) }
     {
-        Ok(self.mails.push(Mail {
-            to,
-            bytes,
-            delivered: false,
-            dropped: false,
-        })?)
+        Ok(
+            self.mails.push(Mail {
+                to,
+                bytes,
+                delivered: false,
+                dropped: false,
+            })?,
+        )
     }
 
     /// The frame of this number, if there is one.

@@ -81,12 +81,7 @@ impl<M: Machine> World<M> {
     }
 
     // The frame of this number, which has these bytes, reaches a party.
-    fn bring(
-        self,
-        number: u64,
-        to: Party,
-        bytes: Bytes,
-    ) -> Result<WorldStepped<M>, WorldFault>
+    fn bring(self, number: u64, to: Party, bytes: Bytes) -> Result<WorldStepped<M>, WorldFault>
         ensures goes { (g : Whole M.State) (mail : Post) → Shows g self → mail_at g number ≡ Some mail → IfOk result (λ r. GoesTo (bring M.rules g (delivered g number mail) to bytes) r.note r.world) }
         ensures broken { (g : Whole M.State) (mail : Post) → Shows g self → mail_at g number ≡ Some mail → IfErr result (IsBrokenBy (bring M.rules g (delivered g number mail) to bytes)) }
     {

@@ -108,7 +108,11 @@ impl<M: Machine> World<M> {
     }
 
     /// The client of this number asks.
-    pub(crate) fn client_asks(mut self, id: ClientId, op: Bytes) -> Result<WorldStepped<M>, WorldFault>
+    pub(crate) fn client_asks(
+        mut self,
+        id: ClientId,
+        op: Bytes,
+    ) -> Result<WorldStepped<M>, WorldFault>
         requires { length op ≤ 1100 }
         ensures goes { (g : Whole M.State) → Shows g self → IfOk result (λ r. GoesTo (ask_in g id op (slice_get g.clients id.0)) r.note r.world) }
         ensures broken { (g : Whole M.State) → Shows g self → IfErr result (IsBrokenBy (ask_in g id op (slice_get g.clients id.0))) }

@@ -21,6 +21,3 @@ mod world;
 pub use events::WorldStepped;
 pub use fault::WorldFault;
 pub use world::World;
-
-#[cfg(test)]
-mod tests;
