@@ -1,10 +1,10 @@
-use Rattle.std.proofs.Common.{◌≡◌, Some, None, refl, sym, ap, ◌∙◌, subst}
+use Rattle.std.proofs.Common.{◌≡◌, Some, None, refl, sym, ap, ap₂, ◌∙◌, subst}
 use Rattle.std.specs.Prelude.{IfOk, IfErr, option_copied}
 use Rattle.zy_world.specs.Answered.{GoesTo, IsBrokenBy}
 use Rattle.zy_world.specs.Shown.{Shown}
 use Rattle.zy_world.specs.Shows.{Shows}
-use Rattle.zy_world_law.specs.Events.{Happened, deliver}
-use Rattle.zy_world_law.specs.World.{mail_at}
+use Rattle.zy_world_law.specs.Events.{Happened, bring, deliver}
+use Rattle.zy_world_law.specs.World.{mail_at, delivered}
 use Rattle.zy_world.proofs.Changes.{mail_there}
 use Rattle.zy_world.proofs.world.World.deliver.Goals as goal
 
@@ -18,11 +18,19 @@ returns-in-None-clause-goes g c w s =
 pub returns-in_ok-bytes-in-Some-clause-goes : goal.returns-in_ok-bytes-in-Some-clause-goes
 returns-in_ok-bytes-in-Some-clause-goes g c w s =
     let i = subst (λ (v : Shown g.row.M-State.Denot). Shows w v) (sym c.self.view_is) s in
-    let there : mail_at w c.args.number ≡ Some c.in-Some.mail.now = mail_there w _ c.args.number (Some c.in-Some.mail.now) i (ap option_copied (sym c.in-Some.is) ∙ c.frame.ensures) in
-    ?
+    let mail = c.in-Some.mail.now in
+    let there : mail_at w c.args.number ≡ Some mail = mail_there w _ c.args.number (Some mail) i (ap option_copied (sym c.in-Some.is) ∙ c.frame.ensures) in
+    let same : bring g.M.Machine.rules w (delivered w c.args.number mail) c.unwrap_or-to.result c.in_ok-bytes-in-Some.bytes ≡ deliver g.M.Machine.rules w c.args.number c.args.to (mail_at w c.args.number) =
+    ap₂ (bring g.M.Machine.rules w (delivered w c.args.number mail)) c.unwrap_or-to.ensures c.in_ok-bytes-in-Some.ensures
+    ∙ sym (ap (deliver g.M.Machine.rules w c.args.number c.args.to) there) in
+    subst (λ (h : Happened g.row.M-State.Denot). IfOk c.bring.result (λ r. GoesTo h r.note r.world)) same (c.bring.ensures.goes w mail s there)
 
 pub returns-in_ok-bytes-in-Some-clause-broken : goal.returns-in_ok-bytes-in-Some-clause-broken
 returns-in_ok-bytes-in-Some-clause-broken g c w s =
     let i = subst (λ (v : Shown g.row.M-State.Denot). Shows w v) (sym c.self.view_is) s in
-    let there : mail_at w c.args.number ≡ Some c.in-Some.mail.now = mail_there w _ c.args.number (Some c.in-Some.mail.now) i (ap option_copied (sym c.in-Some.is) ∙ c.frame.ensures) in
-    ?
+    let mail = c.in-Some.mail.now in
+    let there : mail_at w c.args.number ≡ Some mail = mail_there w _ c.args.number (Some mail) i (ap option_copied (sym c.in-Some.is) ∙ c.frame.ensures) in
+    let same : bring g.M.Machine.rules w (delivered w c.args.number mail) c.unwrap_or-to.result c.in_ok-bytes-in-Some.bytes ≡ deliver g.M.Machine.rules w c.args.number c.args.to (mail_at w c.args.number) =
+    ap₂ (bring g.M.Machine.rules w (delivered w c.args.number mail)) c.unwrap_or-to.ensures c.in_ok-bytes-in-Some.ensures
+    ∙ sym (ap (deliver g.M.Machine.rules w c.args.number c.args.to) there) in
+    subst (λ (h : Happened g.row.M-State.Denot). IfErr c.bring.result (IsBrokenBy h)) same (c.bring.ensures.broken w mail s there)
