@@ -110,8 +110,8 @@ module _ {S : Type 0} (R : Rules S) (setup : Setup) where
       → ShowsMutes (length g.replicas) (length g.clients) (λ party. false) (record { replicas = replicate r false; clients = replicate c false })
   mutes_begun r c replicas clients =
       record {
-        all_replicas = length-replicate r false ∙ replicas ∙ ap length (sym seats_begun.of_replicas) ∙ length-map (option_map (λ x. x.state)) g.replicas;
-        all_clients = length-replicate c false ∙ clients ∙ ap length (sym seats_begun.of_clients) ∙ length-map (option_map (λ x. x.state)) g.clients;
+        all_replicas = length-replicate r false ∙ replicas ∙ ap length (sym seats_begun.of_replicas) ∙ length-map g.replicas (option_map (λ x. x.state));
+        all_clients = length-replicate c false ∙ clients ∙ ap length (sym seats_begun.of_clients) ∙ length-map g.clients (option_map (λ x. x.state));
         marks = none_muted r c;
       }
 

@@ -11,4 +11,6 @@ pub mod Lied
 pub mod Begun
 pub mod Lies
 pub mod KeyLemmas
+pub mod Returning
 pub mod Seating
+pub mod Posting

@@ -5,14 +5,12 @@ use Rattle.std.specs.Option.{option_and_then}
 use Rattle.std.proofs.lemmas.Option.{same_Some}
 use Rattle.zy_base.specs.declared.cause.Cause.TheVariants as causes
 use Rattle.zy_base.specs.declared.ids.Party.{Party}
-use Rattle.zy_base.specs.declared.ids.Party.TheVariants as parties
-use Rattle.zy_base.specs.declared.ids.View.{View}
 use Rattle.zy_lms.specs.Height.{levels_of}
 use Rattle.zy_lms.specs.declared.height.Height.{Height}
 use Rattle.zy_lms.specs.declared.height.Height.TheVariants.{H5, H10}
 use Rattle.zy_parts.specs.declared.signed.Signed.{Signed}
 use Rattle.zy_parts.specs.declared.statements.Ask.{Ask}
-use Rattle.zy_seal.specs.Sealing.{SealerState, spent_one}
+use Rattle.zy_seal.specs.Sealing.{spent_one}
 use Rattle.zy_setup.specs.Telling.{IsToldBy, telling_of}
 use Rattle.zy_table.specs.Sending.{copies}
 use Rattle.zy_world.specs.Shown.{Shown, Keyed, seat_of, is_liar_seat, key_in, with_key, request_in, requests_in}
@@ -20,7 +18,7 @@ use Rattle.zy_world.specs.Shows.{Shows}
 use Rattle.zy_world.specs.Tale.{IsTale, can_forge, can_lie, if_replica, told_in}
 use Rattle.zy_world.specs.declared.tale.Tale.{Tale}
 use Rattle.zy_world.specs.declared.tale.Tale.TheVariants as tales
-use Rattle.zy_world_law.specs.Events.{Happened, lie, forge, leaves_in, spent}
+use Rattle.zy_world_law.specs.Events.{lie, forge, leaves_in, spent}
 use Rattle.zy_world_law.specs.Events.Happened.{Goes}
 use Rattle.zy_world_law.specs.Liars.{Telling, by_replica, last_of, requests_at}
 use Rattle.zy_world_law.specs.Setup.{Setup, sealer_of}

@@ -106,7 +106,11 @@ impl<M: Machine> World<M> {
     }
 
     // The requests of these frames. Only a replica may sign what is said of them.
-    fn requests_of(&self, liar: Party, asks: &Items<u64>) -> Result<Option<Items<Signed<Ask>>>, Want>
+    fn requests_of(
+        &self,
+        liar: Party,
+        asks: &Items<u64>,
+    ) -> Result<Option<Items<Signed<Ask>>>, Want>
         ensures value { (g : Whole M.State) → Shows g self.now → IfOk result (λ found. found ≡ if_replica liar (requests_at g asks.now)) }
         ensures long { IfOk result (λ found. IfSome found (λ a. length a ≡ length asks.now)) }
         ensures range { IfOk result (λ found. IfSome found (AllByRecursion (IsSignedInRange IsAskInRange))) }

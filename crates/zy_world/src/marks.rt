@@ -27,9 +27,13 @@ impl<M: Machine> World<M> {
         ensures within { self.now.bag.passed ≤ length self.now.bag.mails }
         ensures first { result ≡ position (is_due_in self.now) (drop self.now.bag.passed self.now.bag.mails) }
     {
-        self.bag.mails[self.bag.passed..]
-            .iter()
-            .position(|mail| self.is_due(mail))
+        self.first_among(&self.bag.mails[self.bag.passed..])
+    }
+
+    fn first_among(&self, mails: &[Mail]) -> Option<usize>
+        ensures { result ≡ position (is_due_in self.now) mails.now }
+    {
+        mails.iter().position(|mail| self.is_due(mail))
     }
 
     fn is_due(&self, mail: &Mail) -> bool

@@ -11,8 +11,8 @@ ghost use Rattle.zy_world.specs.Shown.{is_correct_seat, is_liar_seat, is_seated,
 ghost use Rattle.zy_world.specs.Stepping.{IsReplicaStep, IsClientStep, done_if};
 ghost use Rattle.zy_world_law.specs.World.{correct_in};
 
-use crate::step::{ClientStep, ReplicaStep};
 use crate::seat::{Seat, put_in, seat_at, sitting, take_from};
+use crate::step::{ClientStep, ReplicaStep};
 use std::marker::Model;
 use zy_base::{Bytes, ClientId, Event, Machine, Party, ReplicaId, Want};
 use zy_client::{Client, ClientStepped};
@@ -152,11 +152,7 @@ impl<M: Machine> Seats<M> {
     }
 
     /// The client of this number asks, if there is such a correct one.
-    pub(crate) fn ask_client(
-        &mut self,
-        id: ClientId,
-        op: Bytes,
-    ) -> Result<Option<ClientStep>, Want>
+    pub(crate) fn ask_client(&mut self, id: ClientId, op: Bytes) -> Result<Option<ClientStep>, Want>
         requires { length op ≤ 1100 }
         ensures missing { correct_in (slice_get self.old.clients id.0) ≡ None → IfOk result (λ step. (step ≡ None) × (self.new ≡ self.old)) }
         ensures stepped { (s : AClient) → correct_in (slice_get self.old.clients id.0) ≡ Some s → IfOk result (λ step. IsSomeAnd step (IsClientStep s (ask_row s op))) }

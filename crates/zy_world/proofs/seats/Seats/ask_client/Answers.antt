@@ -6,7 +6,7 @@ use Rattle.zy_table.specs.ClientState.{ClientState}
 use Rattle.zy_world.specs.Shown.{Seated, with_client}
 use Rattle.zy_world.specs.Stepping.{IsClientStep}
 use Rattle.zy_world_law.specs.World.{correct_in}
-use Rattle.zy_world.proofs.Seating.{no_client, client_again}
+use Rattle.zy_world.proofs.Returning.{no_client, client_again}
 use Rattle.zy_world.proofs.seats.Seats.ask_client.Goals as goal
 
 pub returns-in-None-clause-missing : goal.returns-in-None-clause-missing

@@ -6,7 +6,7 @@ use Rattle.zy_table.specs.ClientState.{ClientState}
 use Rattle.zy_world.specs.Shown.{Seated, with_client}
 use Rattle.zy_world.specs.Stepping.{IsClientStep}
 use Rattle.zy_world_law.specs.World.{correct_in}
-use Rattle.zy_world.proofs.Seating.{no_client, client_again}
+use Rattle.zy_world.proofs.Returning.{no_client, client_again}
 use Rattle.zy_world.proofs.seats.Seats.step_client.Goals.{in-Heard-1, in-Timer-1}
 use Rattle.zy_world.proofs.seats.Seats.step_client.Goals as goal
 
@@ -16,7 +16,7 @@ returns-in-None-clause-missing g c is =
     let put : List (Option ClientState) → Seated g.row.M-State.Denot = λ xs. record seats { clients = xs } in
     let none : correct_in (slice_get seats.clients c.args.id.0) ≡ None = ap (λ (v : Seated g.row.M-State.Denot). correct_in (slice_get v.clients c.args.id.0)) c.self.view_is ∙ is in
     let same : put c.take_from.new.seats.items ≡ c.args.self.now = ap put c.take_from.ensures.left ∙ no_client seats c.args.id.0 none ∙ c.self.view_is in
-    (refl, elim c.match-event.branch [ | in-Heard-1 w ↦ w.self-is ∙ same | in-Timer-1 w ↦ w.self-is ∙ same ])
+    (refl, elim c.match-event.branch [ in-Heard-1 w ↦ w.self-is ∙ same | in-Timer-1 w ↦ w.self-is ∙ same ])
 
 pub returns-in_ok-client_made-in-Some-clause-stepped : goal.returns-in_ok-client_made-in-Some-clause-stepped
 returns-in_ok-client_made-in-Some-clause-stepped g c s is =

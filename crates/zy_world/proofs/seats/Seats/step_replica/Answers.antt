@@ -6,7 +6,7 @@ use Rattle.zy_table.specs.Step.{step as step_row}
 use Rattle.zy_world.specs.Shown.{Seated, with_replica}
 use Rattle.zy_world.specs.Stepping.{IsReplicaStep}
 use Rattle.zy_world_law.specs.World.{correct_in}
-use Rattle.zy_world.proofs.Seating.{no_replica, replica_again}
+use Rattle.zy_world.proofs.Returning.{no_replica, replica_again}
 use Rattle.zy_world.proofs.seats.Seats.step_replica.Goals.{in-Heard-1, in-Timer-1}
 use Rattle.zy_world.proofs.seats.Seats.step_replica.Goals as goal
 
@@ -16,7 +16,7 @@ returns-in-None-clause-missing g c is =
     let put : List (Option (State g.row.M-State.Denot)) → Seated g.row.M-State.Denot = λ xs. record seats { replicas = xs } in
     let none : correct_in (slice_get seats.replicas c.args.id.0) ≡ None = ap (λ (v : Seated g.row.M-State.Denot). correct_in (slice_get v.replicas c.args.id.0)) c.self.view_is ∙ is in
     let same : put c.take_from.new.seats.items ≡ c.args.self.now = ap put c.take_from.ensures.left ∙ no_replica seats c.args.id.0 none ∙ c.self.view_is in
-    (refl, elim c.match-event.branch [ | in-Heard-1 w ↦ w.self-is ∙ same | in-Timer-1 w ↦ w.self-is ∙ same ])
+    (refl, elim c.match-event.branch [ in-Heard-1 w ↦ w.self-is ∙ same | in-Timer-1 w ↦ w.self-is ∙ same ])
 
 pub returns-in_ok-replica_steps-in-Some-clause-stepped : goal.returns-in_ok-replica_steps-in-Some-clause-stepped
 returns-in_ok-replica_steps-in-Some-clause-stepped g c s is =

@@ -1,4 +1,4 @@
-use Rattle.std.proofs.Common.{◌≡◌, Err, refl, sym, ◌∙◌, subst}
+use Rattle.std.proofs.Common.{◌≡◌, Err, sym, subst}
 use Rattle.std.specs.Prelude.{IfOk}
 use Rattle.zy_seal.specs.declared.sealer.SealFault.TheVariants.{KeySpent}
 use Rattle.zy_world.specs.Answered.{GoesTo}

@@ -1,0 +1,41 @@
+use Rattle.std.proofs.Common.{◌≡◌, ℕ, ◌++◌, ◌∷◌, [], Bool, true, false, List, Option, Some, None, sym, ap, ap₂, ◌∙◌, subst}
+use Rattle.std.specs.Prelude.{nat_eq}
+use Rattle.std.specs.List.{list_any}
+use Rattle.std.specs.Result.{OnOk}
+use Rattle.zy_base.specs.declared.ids.Party.TheVariants as parties
+use Rattle.zy_seal.specs.Keys.{Keys}
+use Rattle.zy_seal.specs.Sealing.{SealerState}
+use Rattle.zy_table.specs.ClientState.{ClientState, client_start}
+use Rattle.zy_world.specs.Starting.{client_seat, client_key}
+use Rattle.zy_world_law.specs.Setup.{Setup, sealer_of}
+use Rattle.zy_world.proofs.Seating.{among, liar_leaves, liar_signs, correct_sits, correct_keeps}
+use Rattle.zy_world.proofs.start.seat_client.Goals as goal
+
+pub returns-then-contains : goal.returns-then-contains
+returns-then-contains c =
+    let s = c.args.setup.now in
+    let lies = among (λ id. id.0) c.args.id.0 c.setup.inside.lying_clients.items c.deref.result.now s.lying_clients c.contains.result true c.contains.ensures.value c.deref.ensures.value
+    (ap (λ (v : Setup). v.lying_clients) c.setup.view_is) c.if-contains.true in
+    record {
+      seats = subst (λ (seat : Option (ClientState)). OnOk c.leave.result (c.leave.new.self.seats.items ≡ c.args.row.now.seats.items ++ seat ∷ []))
+          (liar_leaves (list_any (nat_eq c.args.id.0) s.lying_clients) _ lies) c.leave.ensures.seats;
+      keys = subst (λ (key : Option SealerState). OnOk c.leave.result (c.leave.new.self.keys.items ≡ c.args.row.now.keys.items ++ key ∷ []))
+          (liar_signs (list_any (nat_eq c.args.id.0) s.lying_clients) c.args.sealer (sealer_of s (parties.Client c.args.id) 0) lies c.requires) c.leave.ensures.keys;
+    }
+
+pub returns : goal.returns
+returns c =
+    let s = c.args.setup.now in
+    let id = c.args.id in
+    let lies = among (λ id. id.0) id.0 c.setup.inside.lying_clients.items c.deref.result.now s.lying_clients c.contains.result false c.contains.ensures.value c.deref.ensures.value
+    (ap (λ (v : Setup). v.lying_clients) c.setup.view_is) c.if-contains.false in
+    let starts : c.in_ok-start.field-0 ≡ client_start id s.counts c.args.directory.now (sealer_of s (parties.Client id) 0) (record { 0 = 0 }) =
+    c.in_ok-start.ensures
+    ∙ ap (λ (v : Setup). client_start id v.counts c.in_ok-clone.field-0 c.args.sealer (record { 0 = 0 })) c.setup.view_is
+    ∙ ap₂ (λ (keys : Keys) (sealer : SealerState). client_start id s.counts keys sealer (record { 0 = 0 })) c.in_ok-clone.ensures.cases c.requires in
+    record {
+      seats = subst (λ (seat : Option (ClientState)). OnOk c.seat.result (c.seat.new.self.seats.items ≡ c.args.row.now.seats.items ++ seat ∷ []))
+          (correct_sits (list_any (nat_eq id.0) s.lying_clients) c.in_ok-start.field-0 _ lies starts) c.seat.ensures.seats;
+      keys = subst (λ (key : Option SealerState). OnOk c.seat.result (c.seat.new.self.keys.items ≡ c.args.row.now.keys.items ++ key ∷ []))
+          (correct_keeps (list_any (nat_eq id.0) s.lying_clients) _ lies) c.seat.ensures.keys;
+    }
