@@ -1,10 +1,11 @@
-use Rattle.std.proofs.Common.{◌≡◌, Some, None, refl, sym, ap, ◌∙◌, subst}
+use Rattle.std.proofs.Common.{◌≡◌, Some, None, refl, sym, ap, ap₂, ◌∙◌, subst}
+use Rattle.std.proofs.lemmas.Result.{err_from_is_err_and}
 use Rattle.std.specs.Prelude.{IfOk, IfErr, option_copied}
 use Rattle.zy_world.specs.Answered.{GoesTo, IsBrokenBy}
 use Rattle.zy_world.specs.Shown.{Shown}
 use Rattle.zy_world.specs.Shows.{Shows}
-use Rattle.zy_world_law.specs.Events.{Happened, deliver}
-use Rattle.zy_world_law.specs.World.{mail_at}
+use Rattle.zy_world_law.specs.Events.{Happened, bring, deliver}
+use Rattle.zy_world_law.specs.World.{Mail, mail_at, delivered}
 use Rattle.zy_world.proofs.Changes.{mail_there}
 use Rattle.zy_world.proofs.world.World.deliver.Goals as goal
 
@@ -18,11 +19,26 @@ returns-in-None-clause-goes g c w s =
 pub returns-in_ok-bytes-in-Some-clause-goes : goal.returns-in_ok-bytes-in-Some-clause-goes
 returns-in_ok-bytes-in-Some-clause-goes g c w s =
     let i = subst (λ (v : Shown g.row.M-State.Denot). Shows w v) (sym c.self.view_is) s in
-    let there : mail_at w c.args.number ≡ Some c.in-Some.mail.now = mail_there w _ c.args.number (Some c.in-Some.mail.now) i (ap option_copied (sym c.in-Some.is) ∙ c.frame.ensures) in
-    ?
+    let mail : Mail = record { to = c.mail.inside.to; bytes = c.mail.inside.bytes; delivered = c.mail.inside.delivered; dropped = c.mail.inside.dropped } in
+    let there : mail_at w c.args.number ≡ Some mail =
+    mail_there w _ c.args.number (Some c.in-Some.mail.now) i (ap option_copied (sym c.in-Some.is) ∙ c.frame.ensures) ∙ ap (λ (m : Mail). Some m) (sym c.mail.view_is) in
+    let same : bring g.M.Machine.rules w (delivered w c.args.number mail) c.unwrap_or-to.result c.in_ok-bytes-in-Some.bytes ≡ deliver g.M.Machine.rules w c.args.number c.args.to (mail_at w c.args.number) =
+    ap₂ (bring g.M.Machine.rules w (delivered w c.args.number mail)) c.unwrap_or-to.ensures c.in_ok-bytes-in-Some.ensures.cases
+    ∙ sym (ap (deliver g.M.Machine.rules w c.args.number c.args.to) there) in
+    subst (λ (h : Happened g.row.M-State.Denot). IfOk c.bring.result (λ r. GoesTo h r.note r.world)) same (c.bring.ensures.goes w mail s there)
 
 pub returns-in_ok-bytes-in-Some-clause-broken : goal.returns-in_ok-bytes-in-Some-clause-broken
 returns-in_ok-bytes-in-Some-clause-broken g c w s =
     let i = subst (λ (v : Shown g.row.M-State.Denot). Shows w v) (sym c.self.view_is) s in
-    let there : mail_at w c.args.number ≡ Some c.in-Some.mail.now = mail_there w _ c.args.number (Some c.in-Some.mail.now) i (ap option_copied (sym c.in-Some.is) ∙ c.frame.ensures) in
-    ?
+    let mail : Mail = record { to = c.mail.inside.to; bytes = c.mail.inside.bytes; delivered = c.mail.inside.delivered; dropped = c.mail.inside.dropped } in
+    let there : mail_at w c.args.number ≡ Some mail =
+    mail_there w _ c.args.number (Some c.in-Some.mail.now) i (ap option_copied (sym c.in-Some.is) ∙ c.frame.ensures) ∙ ap (λ (m : Mail). Some m) (sym c.mail.view_is) in
+    let same : bring g.M.Machine.rules w (delivered w c.args.number mail) c.unwrap_or-to.result c.in_ok-bytes-in-Some.bytes ≡ deliver g.M.Machine.rules w c.args.number c.args.to (mail_at w c.args.number) =
+    ap₂ (bring g.M.Machine.rules w (delivered w c.args.number mail)) c.unwrap_or-to.ensures c.in_ok-bytes-in-Some.ensures.cases
+    ∙ sym (ap (deliver g.M.Machine.rules w c.args.number c.args.to) there) in
+    subst (λ (h : Happened g.row.M-State.Denot). IfErr c.bring.result (IsBrokenBy h)) same (c.bring.ensures.broken w mail s there)
+
+pub returns-in_err-bytes-in-Some-clause-broken : goal.returns-in_err-bytes-in-Some-clause-broken
+returns-in_err-bytes-in-Some-clause-broken g c w s =
+    let p = err_from_is_err_and c.from_residual.result c.from_residual.ensures.1 in
+    rw (p.1, p.2) tt
