@@ -1,3 +1,9 @@
+pub mod GroupLaws
+pub mod Headline
+pub mod JudgeLaws
 pub mod Known
+pub mod ReplayLaws
 pub mod Report
+pub mod RunParts
+pub mod SaidLaws
 pub mod Stops

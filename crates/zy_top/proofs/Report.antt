@@ -77,6 +77,8 @@ IsSent-part then bytes exits.Done reported same sent = absurd sent
 IsSent-part then bytes (exits.Usage word) reported same sent = absurd sent
 IsSent-part then bytes exits.ReadFault reported same sent = absurd sent
 IsSent-part then bytes (exits.Text line rule) reported same sent = absurd sent
+IsSent-part then bytes (exits.Group field) reported same sent = absurd sent
+IsSent-part then bytes (exits.Premise event what) reported same sent = absurd sent
 IsSent-part then bytes exits.TooLong reported same sent = absurd sent
 
 -- the last write decides

@@ -1,7 +1,9 @@
 -- What the parts of the top call give, and how each may stop.
-use Rattle.std.specs.Prelude.{◌≡◌, ℕ, ◌<◌, ◌≤◌, Bool, false, List, length, Option, IfSome, Result, Ok, Err, Vec, ⊤}
+use Rattle.std.specs.Prelude.{◌≡◌, ℕ, ◌<◌, ◌≤◌, Bool, true, false, List, length, Option, IfSome, Result, Ok, Err, Vec, ⊤}
 use Rattle.std.specs.declared.alloc.Global.{Global}
 use Rattle.std.specs.Io.KnownBytes.{Appends}
+use Rattle.zy_group.specs.declared.fault.GroupFault.{GroupFault}
+use Rattle.zy_group.specs.declared.fault.GroupFault.TheVariants as group_faults
 use Rattle.zy_schedule.specs.declared.fault.ScheduleFault.{ScheduleFault}
 use Rattle.zy_schedule.specs.declared.fault.ScheduleFault.TheVariants as faults
 use Rattle.zy_top.specs.Words.{Command}
@@ -18,6 +20,15 @@ IsFileRead told (Err exits.ReadFault) = ⊤
 IsFileRead told (Err exits.Want) = ⊤
 IsFileRead told (Err exit) = ⊥
 
+-- how a file stops a call that reads and judges it
+abbrev pub is_reading : Exit → Bool
+is_reading (exits.Text line rule) = true
+is_reading (exits.Group field) = true
+is_reading exits.TooLong = true
+is_reading exits.ReadFault = true
+is_reading exits.Want = true
+is_reading exit = false
+
 -- whether a call stopped at a fault of the files, or of the sink
 abbrev pub stops_reading : {T : Type 0} → Result T Exit → Bool
 stops_reading (Ok _) = false
@@ -32,6 +43,10 @@ abbrev pub exit_of_fault : ScheduleFault → Exit
 exit_of_fault (faults.Text line rule) = exits.Text line rule
 exit_of_fault faults.Want = exits.Want
 
+abbrev pub exit_of_group_fault : GroupFault → Exit
+exit_of_group_fault (group_faults.Field field) = exits.Group field
+exit_of_group_fault group_faults.Want = exits.Want
+
 -- all was written, or a front of it
 abbrev pub IsSent : Option (List ℕ) → Option (List ℕ) → List ℕ → Result (Unit {0}) Exit → Type 0
 IsSent old new bytes (Ok _) = Appends old new bytes
@@ -42,6 +57,7 @@ IsSent old new bytes (Err exit) = ⊥
 -- the command that the words ask for, or the first word that is wrong
 abbrev pub IsCommand : Result Command ℕ → Result commands.Command ℕ → Type 0
 IsCommand read (Ok (commands.TheVariants.Space script)) = read ≡ Ok (Command.Space script.now)
+IsCommand read (Ok (commands.TheVariants.Replay group schedule)) = read ≡ Ok (Command.Replay group.now schedule.now)
 IsCommand read (Ok (commands.TheVariants.Keys seed by height)) = read ≡ Ok (Command.Keys seed by height)
 IsCommand read (Err word) = read ≡ Err word
 

@@ -1,5 +1,5 @@
 -- What the words and the files call for.
-use Rattle.std.specs.Prelude.{◌≡◌, ◌≢◌, ◌⊎◌, ℕ, nat_lt, Bool, true, false, if◌then◌else◌, List, [], ◌∷◌, ◌++◌, length, Result, Ok, Err, Option, Some, None, ⊤}
+use Rattle.std.specs.Prelude.{◌≡◌, ◌≢◌, ◌⊎◌, ℕ, nat_lt, ◌+◌, Bool, true, false, if◌then◌else◌, List, [], ◌∷◌, ◌++◌, length, Result, Ok, Err, Option, Some, None, ⊤}
 use Rattle.std.specs.List.{flat_map}
 use Rattle.std.specs.Io.KnownBytes.{Keeps, Appends}
 use Rattle.zy_edge.specs.Faults.{Rose}
@@ -10,18 +10,34 @@ use Rattle.zy_tuple.specs.declared.values.Field.{Field}
 use Rattle.zy_tuple.specs.declared.values.Op.{Op}
 use Rattle.zy_tuple.specs.declared.values.Reply.{Reply}
 use Rattle.zy_space.specs.TupleSpace.{replies_from}
+use Rattle.zy_base.specs.Machine.{Rules}
+use Rattle.zy_space.specs.Service.{space_rules}
+use Rattle.zy_schedule.specs.Reading.{schedule_of}
+use Rattle.zy_schedule.specs.declared.line.Line.{Line}
+use Rattle.zy_group.specs.declared.replay.ReplayGroup.{ReplayGroup}
+use Rattle.zy_world_law.specs.Events as events
+use Rattle.zy_world_law.specs.Runs.{End, Run, run}
+use Rattle.zy_world_law.specs.Setup.{Setup}
+use Rattle.zy_world_law.specs.World.{start}
+use Rattle.zy_world_law.specs.declared.note.Note.{Note}
+use Rattle.zy_top.specs.Group.{group_of, setup_of}
 use Rattle.zy_top.specs.Keys.{key_file}
+use Rattle.zy_top.specs.Telling.{note_lines, end_lines}
 use Rattle.zy_top.specs.Words.{Command, command_of}
+use Rattle.zy_top.specs.declared.exit.Broken.{Broken}
+use Rattle.zy_top.specs.declared.exit.Broken.TheVariants as broken
 use Rattle.zy_top.specs.declared.exit.Exit.{Exit}
 use Rattle.zy_top.specs.declared.exit.Exit.TheVariants as exits
 
--- a refusal, which writes nothing, or a report, which is written whole
+-- a refusal, which writes nothing, or what is written before a refusal, or a report, which is written whole
 pub data Verdict : Type 0 where
   Refused : Exit → Verdict
+  Broke : List ℕ → Exit → Verdict
   Report : List ℕ → Verdict
 
 abbrev pub IsReport : Verdict → Type 0
 IsReport (Refused exit) = ⊥
+IsReport (Broke front exit) = ⊥
 IsReport (Report report) = ⊤
 
 -- a reply's text, and a line feed (10)
@@ -44,12 +60,44 @@ limit = 16777216
 abbrev pub space_verdict : List ℕ → Verdict
 space_verdict text = if nat_lt limit (length text) then Refused exits.TooLong else script_verdict (script_of text)
 
+-- ---- replays
+
+abbrev pub what_broke : events.Broken → Broken
+what_broke (events.Broken.Forged party) = broken.Forged
+what_broke (events.Broken.Clash digest) = broken.Clash
+
+-- the report of a run, or what is written of the events before the one that isn't honest
+abbrev pub told_verdict : {S : Type 0} → Rules S → List Note → End S → Verdict
+told_verdict R notes (End.At w) = Report (note_lines 1 notes ++ end_lines R w)
+told_verdict R notes (End.Stopped what) = Broke (note_lines 1 notes) (exits.Premise (length notes + 1) (what_broke what))
+
+abbrev pub run_verdict : {S : Type 0} → Rules S → Run S → Verdict
+run_verdict R r = told_verdict R r.notes r.end
+
+-- a schedule runs from the start of its world
+abbrev pub schedule_verdict : Setup → Result (List Line) TextFault → Verdict
+schedule_verdict setup (Err fault) = Refused (exits.Text fault.line fault.rule)
+schedule_verdict setup (Ok schedule) = run_verdict space_rules (run space_rules schedule (start space_rules setup))
+
+abbrev pub group_verdict : Result ReplayGroup ℕ → List ℕ → Verdict
+group_verdict (Err field) text = Refused (exits.Group field)
+group_verdict (Ok group) text =
+    if nat_lt limit (length text) then Refused exits.TooLong else schedule_verdict (setup_of group) (schedule_of text)
+
+-- the group is judged before the schedule is read
+abbrev pub replay_verdict : List ℕ → List ℕ → Verdict
+replay_verdict group schedule =
+    if nat_lt limit (length group) then Refused exits.TooLong else group_verdict (group_of group) schedule
+
+-- ---- all commands
+
 abbrev pub command_verdict : Held → Result Command ℕ → Verdict
 command_verdict files (Err word) = Refused (exits.Usage word)
 command_verdict files (Ok (Command.Space script)) = space_verdict (content_of files script)
+command_verdict files (Ok (Command.Replay group schedule)) = replay_verdict (content_of files group) (content_of files schedule)
 command_verdict files (Ok (Command.Keys seed by height)) = Report (key_file seed by height)
 
--- words are judged first, then the file that they name
+-- words are judged first, then the files that they name, each before the next is read
 abbrev pub verdict : List (List ℕ) → Held → Verdict
 verdict words files = command_verdict files (command_of words)
 
@@ -57,18 +105,21 @@ verdict words files = command_verdict files (command_of words)
 abbrev pub own_verdict : Result Command ℕ → Option Verdict
 own_verdict (Err word) = Some (Refused (exits.Usage word))
 own_verdict (Ok (Command.Space script)) = None
+own_verdict (Ok (Command.Replay group schedule)) = None
 own_verdict (Ok (Command.Keys seed by height)) = Some (Report (key_file seed by height))
 
 abbrev pub answer_to : Verdict → Exit
 answer_to (Refused exit) = exit
+answer_to (Broke front exit) = exit
 answer_to (Report report) = exits.Done
 
 -- The answer is that of the verdict. Want of memory and a read fault may come in its place, and a write fault
--- where there is a report; of each fault another clause says when.
+-- where anything is to be written; of each fault another clause says when.
 abbrev pub IsAnswer : Verdict → Exit → Type 0
 IsAnswer verdict exits.Want = ⊤
 IsAnswer verdict exits.ReadFault = ⊤
 IsAnswer (Report report) exits.WriteFault = ⊤
+IsAnswer (Broke front refusal) exits.WriteFault = ⊤
 IsAnswer verdict exit = exit ≡ answer_to verdict
 
 -- known bytes grew by the part of these that stands before the rest
@@ -81,9 +132,12 @@ pub record AppendsUpTo (old new : Option (List ℕ)) (bytes rest : List ℕ) : T
 abbrev pub AppendsFront : Option (List ℕ) → Option (List ℕ) → List ℕ → Type 0
 AppendsFront old new bytes = (rest : List ℕ) × AppendsUpTo old new bytes rest
 
--- A refusal writes nothing. A report is written whole at Done, and else a front of it.
+-- A refusal writes nothing. A report is written whole at Done, and what stands before a refusal is written whole at that
+-- refusal; else a front of it.
 abbrev pub IsWritten : Verdict → Exit → Option (List ℕ) → Option (List ℕ) → Type 0
 IsWritten (Refused refusal) exit old new = Keeps old new
+IsWritten (Broke front refusal) (exits.Premise event what) old new = Appends old new front
+IsWritten (Broke front refusal) exit old new = AppendsFront old new front
 IsWritten (Report report) exits.Done old new = Appends old new report
 IsWritten (Report report) exit old new = AppendsFront old new report
 
@@ -111,6 +165,7 @@ is_usage exit = false
 abbrev pub is_refusal : Exit → Bool
 is_refusal (exits.Usage word) = true
 is_refusal (exits.Text line rule) = true
+is_refusal (exits.Group field) = true
 is_refusal exits.TooLong = true
 is_refusal exits.ReadFault = true
 is_refusal exit = false
@@ -122,5 +177,7 @@ status_of (exits.Usage word) = 2
 status_of exits.ReadFault = 3
 status_of exits.WriteFault = 4
 status_of (exits.Text line rule) = 5
+status_of (exits.Group field) = 6
+status_of (exits.Premise event what) = 7
 status_of exits.Want = 9
 status_of exits.TooLong = 11

@@ -13,6 +13,8 @@ use Rattle.zy_top.specs.Keys.{height_read}
 pub data Command : Type 0 where
   -- run the script in the file with this name
   Space : List ℕ → Command
+  -- run the schedule in the world of the group; the files of both have these names
+  Replay : List ℕ → List ℕ → Command
   -- write the secret file of a party's key
   Keys : List ℕ → Party → Height → Command
 
@@ -32,6 +34,17 @@ abbrev pub space_words : List (List ℕ) → Result Command ℕ
 space_words [] = Err 2
 space_words (script ∷ []) = if begins_with_dash script then Err 2 else Ok (Space script)
 space_words (script ∷ word ∷ words) = if begins_with_dash script then Err 2 else Err 3
+
+-- behind the name of a group file stands that of a schedule
+abbrev pub behind_group : List ℕ → List (List ℕ) → Result Command ℕ
+behind_group group [] = Err 3
+behind_group group (schedule ∷ []) = if begins_with_dash schedule then Err 3 else Ok (Replay group schedule)
+behind_group group (schedule ∷ word ∷ words) = if begins_with_dash schedule then Err 3 else Err 4
+
+-- behind `replay` stand both
+abbrev pub replay_words : List (List ℕ) → Result Command ℕ
+replay_words [] = Err 2
+replay_words (group ∷ words) = if begins_with_dash group then Err 2 else behind_group group words
 
 -- behind a height no word stands
 abbrev pub behind_height : List ℕ → Party → Option Height → List (List ℕ) → Result Command ℕ
@@ -58,4 +71,6 @@ keys_words (seed ∷ words) = behind_seed (decode_sized seed 32) words
 abbrev pub command_of : List (List ℕ) → Result Command ℕ
 command_of [] = Err 1
 command_of (word ∷ words) =
-    if is_word word (codes "space") then space_words words else (if is_word word (codes "keys") then keys_words words else Err 1)
+    if is_word word (codes "space") then space_words words
+    else (if is_word word (codes "replay") then replay_words words
+    else (if is_word word (codes "keys") then keys_words words else Err 1))

@@ -1,10 +1,19 @@
 ghost use Rattle.std.specs.Prelude.{◌≡◌};
-ghost use Rattle.zy_top.specs.Calls.{exit_of_fault};
+ghost use Rattle.zy_top.specs.Calls.{exit_of_fault, exit_of_group_fault};
 ghost use Rattle.zy_top.specs.Verdict.{status_of};
 ghost use Rattle.zy_top.specs.declared.exit.Exit.TheVariants as exits;
 
 use std::alloc::{AllocError, AllocFailed};
+use zy_group::GroupFault;
 use zy_schedule::ScheduleFault;
+
+/// Why an event of a run isn't honest: it shows a signature of a correct party that this party didn't make, or a digest of
+/// two texts.
+#[derive(Clone, Copy, Debug, PartialEq, Eq)]
+pub enum Broken {
+    Forged,
+    Clash,
+}
 
 /// How a run ended.
 #[derive(Clone, Copy, Debug, PartialEq, Eq)]
@@ -19,6 +28,10 @@ pub enum Exit {
     WriteFault,
     /// The first line that can't be read, counted from 1, and the rule of its first fault.
     Text { line: u64, rule: u8 },
+    /// The first field of a group file that is missing, of another type or out of its range.
+    Group(u8),
+    /// The event with this number, counted from 1, is the first that isn't honest. What was written is of those before it.
+    Premise { event: u64, what: Broken },
     /// Want of memory.
     Want,
     /// A file gave more than 16,777,216 bytes.
@@ -36,6 +49,8 @@ impl Exit {
             Exit::ReadFault => 3,
             Exit::WriteFault => 4,
             Exit::Text { .. } => 5,
+            Exit::Group(_) => 6,
+            Exit::Premise { .. } => 7,
             Exit::Want => 9,
             Exit::TooLong => 11,
         }
@@ -73,6 +88,17 @@ impl From<ScheduleFault> for Exit {
         match fault {
             ScheduleFault::Text { line, rule } => Exit::Text { line, rule },
             ScheduleFault::Want => Exit::Want,
+        }
+    }
+}
+
+impl From<GroupFault> for Exit {
+    ghost from_gives = { λ f e. e ≡ exit_of_group_fault f };
+
+    fn from(fault: GroupFault) -> Exit {
+        match fault {
+            GroupFault::Field(field) => Exit::Group(field),
+            GroupFault::Want => Exit::Want,
         }
     }
 }

@@ -2,14 +2,19 @@
 #![tactic(auto)]
 
 mod exit;
+mod group;
 mod keys;
 mod reading;
+mod replayed;
+mod replays;
+mod running;
 mod space;
+mod tale;
 mod top;
 mod words;
 mod writing;
 
-pub use exit::Exit;
+pub use exit::{Broken, Exit};
 pub use top::zyzzyva;
 
 #[cfg(test)]

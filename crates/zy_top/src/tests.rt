@@ -124,12 +124,20 @@ fn faults(rt: HostRuntime) -> Result<(), Fail> {
 #[test]
 fn words(rt: HostRuntime) -> Result<(), Fail> {
     let alloc = rt.alloc();
-    let table: [(&[&str], u64); 11] = [
+    let table: [(&[&str], u64); 19] = [
         (&[], 1),
         (&["spaces"], 1),
         (&["-space", "script"], 1),
         (&["", "script"], 1),
-        (&["replay", "script", "script"], 1),
+        (&["replays", "script", "script"], 1),
+        (&["replay"], 2),
+        (&["replay", "-script", "script"], 2),
+        (&["replay", "", "-", "script"], 3),
+        (&["replay", "-", "-", "script"], 2),
+        (&["replay", "script"], 3),
+        (&["replay", "script", "-script"], 3),
+        (&["replay", "script", "script", "script"], 4),
+        (&["replay", "script", "", "", "-"], 4),
         (&["space"], 2),
         (&["space", "-script"], 2),
         (&["space", "-", "script"], 2),
@@ -217,5 +225,72 @@ fn keys(rt: HostRuntime) -> Result<(), Fail> {
     let mut out = MemSink::new(alloc, Vec::from_slice(alloc, &[1])?, 1_000)?;
     let answer = zyzzyva(alloc, &words, &mut files, &mut out);
     assert_eq!(rt; answer, Exit::WriteFault);
+    Ok(())
+}
+
+const ZEROS: &str = "0000000000000000000000000000000000000000000000000000000000000000";
+
+/// How a replay of a group and a schedule ends over files whose listed calls fail, and what the sink took.
+fn replay(
+    alloc: Global,
+    group: &[u8],
+    schedule: &[u8],
+    failing: &[u64],
+) -> Result<(Exit, Vec<u8>), Fail> {
+    let mut held = Vec::new(alloc);
+    held.push((
+        bytes(alloc, "group")?,
+        Bytes::from(Vec::from_slice(alloc, group)?),
+    ))?;
+    held.push((
+        bytes(alloc, "schedule")?,
+        Bytes::from(Vec::from_slice(alloc, schedule)?),
+    ))?;
+    let mut files = MemFiles::new(alloc, held, Vec::from_slice(alloc, failing)?);
+    let mut out = MemSink::new(alloc, Vec::new(alloc), 100_000)?;
+    let words = strings(alloc, &["replay", "group", "schedule"])?;
+    let exit = zyzzyva(alloc, &words, &mut files, &mut out);
+    Ok((exit, Vec::from_slice(alloc, out.taken())?))
+}
+
+/// A group of four replicas and one client, with further lines.
+fn group_text(alloc: Global, f: &str, lines: &str) -> Result<String, AllocError> {
+    format!(in alloc; "f = {f}\nk = 8\nclients = 1\nseed = \"{ZEROS}\"\nheight = 5\n{lines}")
+}
+
+#[test]
+fn refused_groups(rt: HostRuntime) -> Result<(), Fail> {
+    let alloc = rt.alloc();
+    // The group is judged before the schedule, whose first line can't be read.
+    let table: [(&str, &str, Exit); 6] = [
+        ("5", "", Exit::Group(1)),
+        ("1", "liars = [1, 2]", Exit::Group(4)),
+        ("1", "lying_clients = [1]", Exit::Group(5)),
+        ("1", "ots = 5", Exit::Group(8)),
+        ("1", "f = 1", Exit::Group(0)),
+        ("1", "", Exit::Text { line: 2, rule: 1 }),
+    ];
+    for (f, lines, exit) in table {
+        let group = group_text(alloc, f, lines)?;
+        let answer = replay(alloc, group.as_bytes(), b"# first\nasks c0 out (1)", &[])?;
+        assert_eq!(rt; answer.0, exit);
+        assert!(rt; answer.1.is_empty());
+    }
+    let answer = replay(alloc, b"f = 1 # \xff", b"", &[])?;
+    assert_eq!(rt; answer.0, Exit::Group(0));
+    Ok(())
+}
+
+#[test]
+fn files_that_fail(rt: HostRuntime) -> Result<(), Fail> {
+    let alloc = rt.alloc();
+    let group = group_text(alloc, "1", "")?;
+    for call in 1..=6 {
+        let answer = replay(alloc, group.as_bytes(), b"asks", &[call])?;
+        assert_eq!(rt; answer.0, Exit::ReadFault);
+        assert!(rt; answer.1.is_empty());
+    }
+    let answer = replay(alloc, group.as_bytes(), b"asks", &[7])?;
+    assert_eq!(rt; answer.0, Exit::Text { line: 1, rule: 1 });
     Ok(())
 }

@@ -4,11 +4,13 @@ ghost use Rattle.zy_edge.specs.Files.{content_of};
 ghost use Rattle.zy_top.specs.Calls.{exit_of, IsSent, stops_writing};
 ghost use Rattle.zy_top.specs.Verdict.{IsAnswer, IsOwnAnswer, IsReport, IsWritten, is_read_fault, is_refusal, is_usage, is_write_fault, own_verdict, space_verdict, verdict};
 ghost use Rattle.zy_top.specs.Keys.{key_file};
+ghost use Rattle.zy_top.specs.Replaying.{IsSafeCommand};
 ghost use Rattle.zy_top.specs.Words.{command_of, texts};
 
 use crate::Exit;
 use crate::keys::key_file;
 use crate::reading::read_file;
+use crate::replays::{replays_are_safe, run_replay};
 use crate::space::run_script;
 use crate::words::{Command, command_of};
 use crate::writing::write_all;
@@ -22,7 +24,8 @@ use zy_schedule::read_script;
 /// nothing is written before.
 ///
 /// `space SCRIPT` runs the operations of a script, one on a line, on one empty space, and writes the text of each
-/// reply on a line of its own. `keys SEED PARTY HEIGHT` writes the secret file of a party's key, made from a seed of
+/// reply on a line of its own. `replay GROUP SCHEDULE` runs a schedule in the world of a group, and writes a line for each
+/// completion and each refusal, then where each replica stands, then the agreed list. `keys SEED PARTY HEIGHT` writes the secret file of a party's key, made from a seed of
 /// 64 hexadecimal digits, with its public key.
 pub fn zyzzyva<F: Files, S: Sink>(
     alloc: Global,
@@ -47,6 +50,10 @@ pub fn zyzzyva<F: Files, S: Sink>(
         → ¬ Rose (F.faults files.old) (F.faults files.new) → ¬ Rose (S.faults out.old) (S.faults out.new)
         → (result ≡ Exit.Done) ⊎ (result ≡ Exit.Want)) }
 
+    // Whatever the answer is: in the run that a told group and a told schedule spell, every world is safe, and the agreed
+    // list only grows.
+    ensures headline { IfSome (F.held files.old) (λ held. IsSafeCommand held (command_of (texts words.now))) }
+
     // Over any files, a refusal has not touched the sink.
     ensures refused { IsTrue (is_refusal result) → out.new ≡ out.old }
 
@@ -55,11 +62,18 @@ pub fn zyzzyva<F: Files, S: Sink>(
     ensures write_faults { IsCounted (is_write_fault result) (S.faults out.old) (S.faults out.new) }
     ensures held { F.held files.new ≡ F.held files.old }
 {
+    replays_are_safe();
     match command_of(words) {
         Ok(Command::Space(script)) => match run_space(alloc, script, files, out) {
             Ok(()) => Exit::Done,
             Err(exit) => exit,
         },
+        Ok(Command::Replay { group, schedule }) => {
+            match run_replay(alloc, group, schedule, files, out) {
+                Ok(()) => Exit::Done,
+                Err(exit) => exit,
+            }
+        }
         Ok(Command::Keys { seed, by, height }) => match run_keys(alloc, &seed, by, height, out) {
             Ok(()) => Exit::Done,
             Err(exit) => exit,

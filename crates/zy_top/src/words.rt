@@ -1,7 +1,7 @@
 // The words of the command line, judged by hand: the number of the first that isn't allowed is exact.
 ghost use Rattle.std.specs.Prelude.{◌≡◌};
 ghost use Rattle.zy_top.specs.Calls.{IsCommand};
-ghost use Rattle.zy_top.specs.Words.{command_of, space_words, keys_words, behind_seed, texts};
+ghost use Rattle.zy_top.specs.Words.{command_of, space_words, behind_group, replay_words, keys_words, behind_seed, texts};
 
 use crate::keys::height_read;
 use hex::FromHex;
@@ -14,6 +14,11 @@ use zy_tuple::party_text_read;
 pub(crate) enum Command<'a> {
     /// Run the script in the file with this name.
     Space(&'a str),
+    /// Run the schedule in the world of the group; the files of both have these names.
+    Replay {
+        group: &'a str,
+        schedule: &'a str,
+    },
     /// Write the secret file of a party's key, made from the seed of its group.
     Keys {
         seed: [u8; 32],
@@ -31,6 +36,7 @@ pub(crate) fn command_of(words: &[String]) -> Result<Command<'_>, u64>
     };
     match word.as_str() {
         "space" => space_words(others),
+        "replay" => replay_words(others),
         "keys" => keys_words(others),
         _ => Err(1),
     }
@@ -50,6 +56,37 @@ fn space_words(words: &[String]) -> Result<Command<'_>, u64>
         return Err(3);
     }
     Ok(Command::Space(script.as_str()))
+}
+
+/// Behind `replay` stand the names of a group file and of a schedule.
+fn replay_words(words: &[String]) -> Result<Command<'_>, u64>
+    ensures { IsCommand (replay_words (texts words.now)) result }
+{
+    let [group, others @ ..] = words else {
+        return Err(2);
+    };
+    if group.as_str().starts_with('-') {
+        return Err(2);
+    }
+    behind_group(group.as_str(), others)
+}
+
+fn behind_group<'a>(group: &'a str, words: &'a [String]) -> Result<Command<'a>, u64>
+    ensures { IsCommand (behind_group group.now (texts words.now)) result }
+{
+    let [schedule, others @ ..] = words else {
+        return Err(3);
+    };
+    if schedule.as_str().starts_with('-') {
+        return Err(3);
+    }
+    if !others.is_empty() {
+        return Err(4);
+    }
+    Ok(Command::Replay {
+        group,
+        schedule: schedule.as_str(),
+    })
 }
 
 /// Behind `keys` stand 64 hexadecimal digits, a party and a height.

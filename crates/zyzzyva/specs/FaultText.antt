@@ -1,7 +1,13 @@
 -- What the program writes on standard error.
 use Rattle.std.specs.Prelude.{ℕ, List, [], ◌++◌, codes, decimal, Option, Some, None}
+use Rattle.zy_top.specs.declared.exit.Broken.{Broken}
+use Rattle.zy_top.specs.declared.exit.Broken.TheVariants.{Forged, Clash}
 use Rattle.zy_top.specs.declared.exit.Exit.{Exit}
-use Rattle.zy_top.specs.declared.exit.Exit.TheVariants.{Done, Usage, ReadFault, WriteFault, Text, Want, TooLong}
+use Rattle.zy_top.specs.declared.exit.Exit.TheVariants.{Done, Usage, ReadFault, WriteFault, Text, Group, Premise, Want, TooLong}
+
+abbrev pub broken_text : Broken → List ℕ
+broken_text Forged = codes "forged"
+broken_text Clash = codes "clash"
 
 abbrev pub fault_text : Exit → List ℕ
 fault_text Done = []
@@ -9,6 +15,8 @@ fault_text (Usage word) = codes "word " ++ decimal word
 fault_text ReadFault = codes "read fault"
 fault_text WriteFault = codes "write fault"
 fault_text (Text line rule) = codes "line " ++ decimal line ++ codes " rule " ++ decimal rule
+fault_text (Group field) = codes "group field " ++ decimal field
+fault_text (Premise event what) = codes "premise " ++ broken_text what ++ codes " at event " ++ decimal event
 fault_text Want = codes "out of memory"
 fault_text TooLong = codes "too long"
 

@@ -1,9 +1,9 @@
 ghost use Rattle.std.specs.Prelude.{◌≡◌, Some, option_map};
 ghost use Rattle.zy_top.specs.Verdict.{status_of};
-ghost use Rattle.zyzzyva.specs.FaultText.{fault_text, error_line};
+ghost use Rattle.zyzzyva.specs.FaultText.{broken_text, fault_text, error_line};
 
 use std::fmt;
-use zy_top::Exit;
+use zy_top::{Broken, Exit};
 
 /// The text of an exit on standard error, empty for `Done`.
 #[derive(Clone, Copy)]
@@ -19,9 +19,22 @@ impl fmt::Display for FaultText {
             Exit::ReadFault => write!(f, "read fault"),
             Exit::WriteFault => write!(f, "write fault"),
             Exit::Text { line, rule } => write!(f, "line {line} rule {rule}"),
+            Exit::Group(field) => write!(f, "group field {field}"),
+            Exit::Premise { event, what } => {
+                write!(f, "premise {} at event {event}", broken_text(what))
+            }
             Exit::Want => write!(f, "out of memory"),
             Exit::TooLong => write!(f, "too long"),
         }
+    }
+}
+
+fn broken_text(what: Broken) -> &'static str
+    ensures { result.now ≡ broken_text what }
+{
+    match what {
+        Broken::Forged => "forged",
+        Broken::Clash => "clash",
     }
 }
 

@@ -73,12 +73,21 @@ fn bytes(alloc: Global, text: &[u8]) -> Result<Bytes, AllocError> {
     Ok(Bytes::from(Vec::from_slice(alloc, text)?))
 }
 
-/// A run whose command line is `line`, where `script.txt` is the only file: what it writes, and how it ends.
-fn run(alloc: Global, line: &[&[u8]], script: &[u8]) -> Result<(Vec<u8>, u8, String), Fail> {
+/// A run whose command line is `line` over these files: what it writes, and how it ends.
+fn run(
+    alloc: Global,
+    line: &[&[u8]],
+    held: &[(&str, &str)],
+) -> Result<(Vec<u8>, u8, String), Fail> {
     let words = words(&Line(line), alloc)?;
-    let mut held = Vec::new(alloc);
-    held.push((bytes(alloc, b"script.txt")?, bytes(alloc, script)?))?;
-    let mut files = MemFiles::new(alloc, held, Vec::new(alloc));
+    let mut files = Vec::new(alloc);
+    for (name, text) in held {
+        files.push((
+            bytes(alloc, name.as_bytes())?,
+            bytes(alloc, text.as_bytes())?,
+        ))?;
+    }
+    let mut files = MemFiles::new(alloc, files, Vec::new(alloc));
     let mut out = MemSink::new(alloc, Vec::new(alloc), 100_000)?;
     let (status, line) = ending(zyzzyva(alloc, &words, &mut files, &mut out));
     let error = match line {
@@ -151,9 +160,92 @@ fn whole_runs(rt: HostRuntime) -> Result<(), Fail> {
         (space, "out (1)\nrdp (*)", "ok\ntuple (1)\n", 0, ""),
     ];
     for (line, script, written, status, error) in table {
-        let (out, ended, line) = run(alloc, line, script.as_bytes())?;
+        let (out, ended, line) = run(alloc, line, &[("script.txt", script)])?;
         assert_eq!(rt; out.as_slice(), written.as_bytes());
         assert_eq!(rt; (ended, line.as_str()), (status, error));
+    }
+    Ok(())
+}
+
+/// Four replicas and one client.
+const GROUP: &str = "f = 1\n\
+    k = 8\n\
+    clients = 1\n\
+    seed = \"0000000000000000000000000000000000000000000000000000000000000000\"\n\
+    height = 5\n";
+
+const FAST: &str = "9 done c0 stamp 1 view 0 place 1 fast ok\n\
+    r0 active 0 length 1 head cfb496372e0ec6210faf882725bbbd795d1b86a52ee1cc3d4ece118acda1b61e state 5918d7c6693a9633cf0f2734d8b6469c4d31d53afbb89ee6a719507e8fe38b74\n\
+    r1 active 0 length 1 head cfb496372e0ec6210faf882725bbbd795d1b86a52ee1cc3d4ece118acda1b61e state 5918d7c6693a9633cf0f2734d8b6469c4d31d53afbb89ee6a719507e8fe38b74\n\
+    r2 active 0 length 1 head cfb496372e0ec6210faf882725bbbd795d1b86a52ee1cc3d4ece118acda1b61e state 5918d7c6693a9633cf0f2734d8b6469c4d31d53afbb89ee6a719507e8fe38b74\n\
+    r3 active 0 length 1 head cfb496372e0ec6210faf882725bbbd795d1b86a52ee1cc3d4ece118acda1b61e state 5918d7c6693a9633cf0f2734d8b6469c4d31d53afbb89ee6a719507e8fe38b74\n\
+    agreed 1 cfb496372e0ec6210faf882725bbbd795d1b86a52ee1cc3d4ece118acda1b61e\n";
+
+const REPEAT_SCHEDULE: &str = "ask c0 out (\"job\" 1)\n\
+    deliver 1\n\
+    deliver 2\n\
+    deliver 3\n\
+    deliver 5\n\
+    deliver 5\n\
+    deliver 6\n\
+    deliver 7\n";
+
+const REPEAT: &str = "6 refused c0 12 Repeat\n\
+    r0 active 0 length 1 head cfb496372e0ec6210faf882725bbbd795d1b86a52ee1cc3d4ece118acda1b61e state 5918d7c6693a9633cf0f2734d8b6469c4d31d53afbb89ee6a719507e8fe38b74\n\
+    r1 active 0 length 1 head cfb496372e0ec6210faf882725bbbd795d1b86a52ee1cc3d4ece118acda1b61e state 5918d7c6693a9633cf0f2734d8b6469c4d31d53afbb89ee6a719507e8fe38b74\n\
+    r2 active 0 length 1 head cfb496372e0ec6210faf882725bbbd795d1b86a52ee1cc3d4ece118acda1b61e state 5918d7c6693a9633cf0f2734d8b6469c4d31d53afbb89ee6a719507e8fe38b74\n\
+    r3 active 0 length 0 head 0000000000000000000000000000000000000000000000000000000000000000 state baf00e0b9e04a2563ee664311136c4f84d22d5790ea9171c344e6093d6b0bd12\n\
+    agreed 0 0000000000000000000000000000000000000000000000000000000000000000\n";
+
+const RAW: &str = "2 refused r1 1 NotFrame\n\
+    3 refused world 27 NoSubject\n\
+    r0 active 0 length 0 head 0000000000000000000000000000000000000000000000000000000000000000 state baf00e0b9e04a2563ee664311136c4f84d22d5790ea9171c344e6093d6b0bd12\n\
+    r1 active 0 length 0 head 0000000000000000000000000000000000000000000000000000000000000000 state baf00e0b9e04a2563ee664311136c4f84d22d5790ea9171c344e6093d6b0bd12\n\
+    r2 active 0 length 0 head 0000000000000000000000000000000000000000000000000000000000000000 state baf00e0b9e04a2563ee664311136c4f84d22d5790ea9171c344e6093d6b0bd12\n\
+    r3 active 0 length 0 head 0000000000000000000000000000000000000000000000000000000000000000 state baf00e0b9e04a2563ee664311136c4f84d22d5790ea9171c344e6093d6b0bd12\n\
+    agreed 0 0000000000000000000000000000000000000000000000000000000000000000\n";
+
+#[test]
+fn replays(rt: HostRuntime) -> Result<(), Fail> {
+    let alloc = rt.alloc();
+    let line: &[&[u8]] = &[b"zyzzyva", b"replay", b"group.toml", b"schedule.txt"];
+    let table: [(&str, &str, u8, &str); 4] = [
+        ("ask c0 out (\"job\" 1)\nflow 100\n", FAST, 0, ""),
+        (REPEAT_SCHEDULE, REPEAT, 0, ""),
+        ("raw 01 to r1\nflow 1\ndeliver 9\n", RAW, 0, ""),
+        (
+            "forge r1 070000000000000000 to r2\nflow 1\n",
+            "",
+            7,
+            "premise forged at event 2\n",
+        ),
+    ];
+    for (schedule, written, status, error) in table {
+        let held = [("group.toml", GROUP), ("schedule.txt", schedule)];
+        let (out, ended, line) = run(alloc, line, &held)?;
+        assert_eq!(rt; out.as_slice(), written.as_bytes());
+        assert_eq!(rt; (ended, line.as_str()), (status, error));
+    }
+    Ok(())
+}
+
+#[test]
+fn refused_groups(rt: HostRuntime) -> Result<(), Fail> {
+    let alloc = rt.alloc();
+    let line: &[&[u8]] = &[b"zyzzyva", b"replay", b"group.toml", b"schedule.txt"];
+    let table = [
+        ("f = 5\nk = 8\nclients = 1\n", "group field 1\n"),
+        (
+            "f = 1\nk = 8\nclients = 1\nliars = [1, 2]\n",
+            "group field 4\n",
+        ),
+        ("f = ", "group field 0\n"),
+    ];
+    for (group, error) in table {
+        let held = [("group.toml", group), ("schedule.txt", "asks")];
+        let (out, ended, line) = run(alloc, line, &held)?;
+        assert!(rt; out.is_empty());
+        assert_eq!(rt; (ended, line.as_str()), (6, error));
     }
     Ok(())
 }

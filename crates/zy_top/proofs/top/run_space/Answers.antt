@@ -1,14 +1,14 @@
 use Rattle.std.proofs.lemmas.Result.{err_from_is_err_and}
 use Rattle.zy_edge.specs.Files.{Held, content_of}
 use Rattle.zy_top.specs.Verdict.{space_verdict}
-use Rattle.zy_top.proofs.Stops.{IsWritten-stopped, IsFileRead-stops, fault-stops}
+use Rattle.zy_top.proofs.Stops.{IsWritten-stopped, unread-stops, fault-stops}
 use Rattle.zy_top.proofs.top.run_space.Goals as goal
 
 pub returns-in_err-text-clause-written : goal.returns-in_err-text-clause-written
 returns-in_err-text-clause-written g c =
     let p = err_from_is_err_and c.from_residual.result c.from_residual.ensures.1 in
     rw (p.1, p.2) (IsWritten-stopped {A = Held} (g.F.Files.held c.args.files.now) (λ held. space_verdict (content_of held c.args.script.now)) _ (g.S.Sink.taken c.args.out.now)
-    (IsFileRead-stops _ _ c.in_err-text.ensures.bytes))
+    (unread-stops _ _ c.in_err-text.ensures.bytes))
 
 pub returns-in_err-ops-clause-written : goal.returns-in_err-ops-clause-written
 returns-in_err-ops-clause-written g c =

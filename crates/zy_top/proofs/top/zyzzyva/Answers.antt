@@ -1,5 +1,6 @@
 use Rattle.std.proofs.Common.{◌≡◌, Ok, refl, inl}
 use Rattle.zy_top.specs.Words.{Command, command_of, texts}
+use Rattle.zy_top.proofs.Headline.{commands_are_safe}
 use Rattle.zy_top.proofs.top.zyzzyva.Goals as goal
 
 pub returns-in-Ok-run_keys-clause-own : goal.returns-in-Ok-run_keys-clause-own
@@ -14,3 +15,9 @@ returns-in-Ok-run_keys-clause-own g c =
         complete = λ due calm. inl refl;
       },
     )
+
+pub returns-in-Ok-run_replay-clause-headline : goal.returns-in-Ok-run_replay-clause-headline
+returns-in-Ok-run_replay-clause-headline g c = commands_are_safe c.replays_are_safe.ensures (g.F.Files.held c.args.files.now) (command_of (texts c.args.words.now))
+
+pub returns-in-Err-run_replay-clause-headline : goal.returns-in-Err-run_replay-clause-headline
+returns-in-Err-run_replay-clause-headline g c = commands_are_safe c.replays_are_safe.ensures (g.F.Files.held c.args.files.now) (command_of (texts c.args.words.now))

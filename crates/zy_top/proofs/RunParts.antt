@@ -1,0 +1,232 @@
+-- How the parts of a run follow one another.
+use Rattle.std.proofs.Common.{◌≡◌, ℕ, zero, suc, ◌+◌, ◌-◌, ◌<◌, List, [], ◌∷◌, ◌++◌, length, Some, None, Result, Ok, Err, refl, sym, ap, ◌∙◌, subst, append_assoc, append-nil, length-append, arith}
+use Rattle.zy_base.specs.Machine.{Rules}
+use Rattle.zy_schedule.specs.declared.line.Line.{Line}
+use Rattle.zy_world.specs.Shown.{Shown}
+use Rattle.zy_world.specs.Shows.{Shows}
+use Rattle.zy_world_law.specs.Events as events
+use Rattle.zy_world_law.specs.Events.{Happened, happens}
+use Rattle.zy_world_law.specs.Events.Happened.{Goes, Breaks}
+use Rattle.zy_world_law.specs.Runs.{Rest, comes_to, ends, flow, flow_on, goes_on, run, run_line}
+use Rattle.zy_world_law.specs.World.{World, next_undelivered}
+use Rattle.zy_world_law.specs.declared.event.WorldEvent.{WorldEvent}
+use Rattle.zy_world_law.specs.declared.event.WorldEvent.TheVariants as world_events
+use Rattle.zy_world_law.specs.declared.note.Note.{Note}
+use Rattle.zy_top.specs.Replaying.{Adds, IsFar, IsPartRun, IsRun, IsTold, Passes, Stops, all_done, event_part}
+use Rattle.zy_top.specs.Telling.{note_line, note_lines}
+use Rattle.zy_top.specs.Verdict.{what_broke}
+use Rattle.zy_top.specs.declared.exit.Broken.{Broken}
+use Rattle.zy_top.specs.declared.running.Stop as stops
+use Rattle.zy_top.specs.declared.tale.Tale.{Tale}
+
+-- ---- what is told
+
+pub note_lines_append : (n : ℕ) (a b : List Note) → note_lines n (a ++ b) ≡ note_lines n a ++ note_lines (n + length a) b
+note_lines_append n [] b = let same : n ≡ n + 0 = omega arith in ap (λ m. note_lines m b) same
+note_lines_append n (note ∷ a) b =
+    let same : n + 1 + length a ≡ n + length (note ∷ a) = omega arith in
+    ap (λ l. note_line n note ++ l) (note_lines_append (n + 1) a b ∙ ap (λ m. note_lines (n + 1) a ++ note_lines m b) same)
+    ∙ sym (append_assoc (note_line n note) (note_lines (n + 1) a) (note_lines (n + length (note ∷ a)) b))
+
+pub Adds-none : (t : Tale) → Adds t t []
+Adds-none t = record { events = omega arith; text = sym (append-nil t.text.items) }
+
+pub Adds-then : (a b c : Tale) (first second : List Note) → Adds a b first → Adds b c second → Adds a c (first ++ second)
+Adds-then a b c first second before after =
+    let number : b.events + 1 ≡ a.events + 1 + length first = omega (arith, before.events) in
+    record {
+      events = omega (arith, before.events, after.events, length-append first second);
+      text =
+          after.text ∙ ap (λ t. t ++ note_lines (b.events + 1) second) before.text
+          ∙ append_assoc a.text.items (note_lines (a.events + 1) first) (note_lines (b.events + 1) second)
+          ∙ ap (λ l. a.text.items ++ l)
+          (ap (λ n. note_lines (a.events + 1) first ++ note_lines n second) number ∙ sym (note_lines_append (a.events + 1) first second));
+    }
+
+-- ---- parts of a run
+
+module _ {S : Type 0} where
+  pub Passes-none : (part : Rest S → Rest S) (g : World S) → Passes part g part g []
+  Passes-none part g = record { notes = λ rest. refl; end = λ rest. refl }
+
+  -- one part more, where what was left begins with it
+  pub Passes-then : (part left step next : Rest S → Rest S) (g v w : World S) (a b : List Note) → Passes part g left v a → Passes step v all_done w b
+      → ((rest : Rest S) → left rest v ≡ step (next rest) v) → Passes part g next w (a ++ b)
+  Passes-then part left step next g v w a b before after begins = record {
+    notes = λ rest.
+        before.notes rest ∙ ap (λ l. a ++ l) (ap (λ r. r.notes) (begins rest) ∙ after.notes (next rest)) ∙ sym (append_assoc a b (next rest w).notes);
+    end = λ rest. before.end rest ∙ ap (λ r. r.end) (begins rest) ∙ after.end (next rest);
+  }
+
+  pub Stops-then : (part left step next : Rest S → Rest S) (g v : World S) (a b : List Note) (broken : events.Broken) → Passes part g left v a → Stops step v b broken
+      → ((rest : Rest S) → left rest v ≡ step (next rest) v) → Stops part g (a ++ b) broken
+  Stops-then part left step next g v a b broken before after begins = record {
+    notes = λ rest. before.notes rest ∙ ap (λ l. a ++ l) (ap (λ r. r.notes) (begins rest) ∙ after.notes (next rest));
+    end = λ rest. before.end rest ∙ ap (λ r. r.end) (begins rest) ∙ after.end (next rest);
+  }
+
+  -- nothing is left
+  pub Passes-all : (part left : Rest S → Rest S) (g v : World S) (a : List Note) → Passes part g left v a → ((rest : Rest S) → left rest v ≡ rest v) → Passes part g all_done v a
+  Passes-all part left g v a before begins = record {
+    notes = λ rest. before.notes rest ∙ ap (λ r. a ++ r.notes) (begins rest);
+    end = λ rest. before.end rest ∙ ap (λ r. r.end) (begins rest);
+  }
+
+  -- ---- one event
+
+  pub event_passes : (R : Rules S) (event : WorldEvent) (g v : World S) (note : Note) → happens R g event ≡ Goes v note → Passes (event_part R event) g all_done v (note ∷ [])
+  event_passes R event g v note goes = record {
+    notes = λ rest. ap (λ h. (goes_on h rest).notes) goes;
+    end = λ rest. ap (λ h. (goes_on h rest).end) goes;
+  }
+
+  pub event_stops : (R : Rules S) (event : WorldEvent) (g : World S) (broken : events.Broken) → happens R g event ≡ Breaks broken → Stops (event_part R event) g [] broken
+  event_stops R event g broken breaks = record {
+    notes = λ rest. ap (λ h. (goes_on h rest).notes) breaks;
+    end = λ rest. ap (λ h. (goes_on h rest).end) breaks;
+  }
+
+  -- ---- what is run and told
+
+  -- a part more is run
+  pub far_then : (part left step next : Rest S → Rest S) (g : World S) (a b c : Tale) (x y : Shown S) → IsFar part g left a b x
+      → ((v : World S) → Shows v x → IsFar step v all_done b c y) → ((v : World S) → Shows v x → (rest : Rest S) → left rest v ≡ step (next rest) v)
+      → IsFar part g next a c y
+  far_then part left step next g a b c x y far more begins =
+      let v = far.0 in
+      let told = far.1.0 in
+      let shows = far.1.1 in
+      let on = more v shows in
+      let then = on.1.0 in (
+        on.0,
+        (
+          told ++ then,
+          on.1.1,
+          Passes-then part left step next g v on.0 told then far.1.2 on.1.2 (begins v shows),
+          Adds-then a b c told then far.1.3 on.1.3,
+        ),
+      )
+
+  -- it ends at an event that isn't honest
+  pub stops_then : (part left step next : Rest S → Rest S) (g : World S) (a b c : Tale) (x : Shown S) (what : Broken) → IsFar part g left a b x
+      → ((v : World S) → Shows v x → IsPartRun {S = S} step v b c (Err (stops.TheVariants.Broke what))) → ((v : World S) → Shows v x → (rest : Rest S) → left rest v ≡ step (next rest) v)
+      → IsPartRun {S = S} part g a c (Err (stops.TheVariants.Broke what))
+  stops_then part left step next g a b c x what far more begins =
+      let v = far.0 in
+      let told = far.1.0 in
+      let shows = far.1.1 in
+      let on = more v shows in
+      let broken = on.1.0 in (
+        told ++ on.0,
+        (
+          broken,
+          on.1.1,
+          Stops-then part left step next g v told on.0 broken far.1.2 on.1.2 (begins v shows),
+          Adds-then a b c told on.0 far.1.3 on.1.3,
+        ),
+      )
+
+  -- and so where memory is wanted, or it ends so
+  pub ends_then : (part left step next : Rest S → Rest S) (g : World S) (a b c : Tale) (x : Shown S) (stop : stops.Stop) → IsFar part g left a b x
+      → ((v : World S) → Shows v x → IsPartRun {S = S} step v b c (Err stop)) → ((v : World S) → Shows v x → (rest : Rest S) → left rest v ≡ step (next rest) v)
+      → IsPartRun {S = S} part g a c (Err stop)
+  ends_then part left step next g a b c x (stops.TheVariants.Broke what) far more begins = stops_then part left step next g a b c x what far more begins
+  ends_then part left step next g a b c x stops.TheVariants.Want far more begins = tt
+
+  -- nothing is left
+  pub far_all : (part left : Rest S → Rest S) (g : World S) (a b : Tale) (x : Shown S) → IsFar part g left a b x
+      → ((v : World S) → Shows v x → (rest : Rest S) → left rest v ≡ rest v) → IsFar part g all_done a b x
+  far_all part left g a b x far begins =
+      (far.0, (far.1.0, far.1.1, Passes-all part left g far.0 far.1.0 far.1.2 (begins far.0 far.1.1), far.1.3))
+
+  pub far_none : (part : Rest S → Rest S) (g : World S) (a : Tale) (x : Shown S) → Shows g x → IsFar part g part a a x
+  far_none part g a x shows = (g, ([], shows, Passes-none part g, Adds-none a))
+
+  pub event_told : (R : Rules S) (event : WorldEvent) (g v : World S) (note : Note) (shown : Shown S) (a b : Tale) (r : Result (Shown S) stops.Stop) → happens R g event ≡ Goes v note
+      → Shows v shown → IsTold shown note a b r → IsPartRun (event_part R event) g a b r
+  event_told R event g v note shown a b (Ok x) goes shows told =
+      (v, (note ∷ [], subst (Shows v) (sym told.0) shows, event_passes R event g v note goes, told.1))
+  event_told R event g v note shown a b (Err (stops.TheVariants.Broke what)) goes shows told = absurd told
+  event_told R event g v note shown a b (Err stops.TheVariants.Want) goes shows told = tt
+
+  pub event_broke : (R : Rules S) (event : WorldEvent) (g : World S) (broken : events.Broken) (what : Broken) (t : Tale) → happens R g event ≡ Breaks broken → what ≡ what_broke broken
+      → IsPartRun {S = S} (event_part R event) g t t (Err (stops.TheVariants.Broke what))
+  event_broke R event g broken what t breaks is = ([], (broken, is, event_stops R event g broken breaks, Adds-none t))
+
+  -- a part that makes the same of this world
+  pub part_like : (part other : Rest S → Rest S) (g : World S) (a b : Tale) (r : Result (Shown S) stops.Stop) → ((rest : Rest S) → other rest g ≡ part rest g)
+      → IsPartRun part g a b r → IsPartRun other g a b r
+  part_like part other g a b (Ok x) same made = (
+    made.0,
+    (
+      made.1.0,
+      made.1.1,
+      record {
+        notes = λ rest. ap (λ r. r.notes) (same rest) ∙ made.1.2.notes rest;
+        end = λ rest. ap (λ r. r.end) (same rest) ∙ made.1.2.end rest;
+      },
+      made.1.3,
+    ),
+  )
+  part_like part other g a b (Err (stops.TheVariants.Broke what)) same made = (
+    made.0,
+    (
+      made.1.0,
+      made.1.1,
+      record {
+        notes = λ rest. ap (λ r. r.notes) (same rest) ∙ made.1.2.notes rest;
+        end = λ rest. ap (λ r. r.end) (same rest) ∙ made.1.2.end rest;
+      },
+      made.1.3,
+    ),
+  )
+  part_like part other g a b (Err stops.TheVariants.Want) same made = tt
+
+  -- a world is come to without an event
+  pub come_to : (part : Rest S → Rest S) (g w : World S) (t : Tale) (x : Shown S) → ((rest : Rest S) → part rest g ≡ comes_to w rest) → Shows w x → IsFar part g all_done t t x
+  come_to part g w t x comes shows = (
+    w,
+    ([], shows, record { notes = λ rest. ap (λ r. r.notes) (comes rest); end = λ rest. ap (λ r. r.end) (comes rest) }, Adds-none t),
+  )
+
+  -- ---- flows
+
+  flow_next : (R : Rules S) (m : ℕ) (v : World S) (frame : ℕ) → next_undelivered v ≡ Some frame → (rest : Rest S)
+      → flow R (suc m) rest v ≡ event_part R (world_events.Deliver frame None) (flow R m rest) v
+  unfolding flow
+  flow_next R m v frame next rest = ap (flow_on R v rest (flow R m rest)) next
+
+  -- a flow that isn't done begins with the next frame
+  pub flow_begins : (R : Rules S) (n i : ℕ) (v : World S) (frame : ℕ) → i < n → next_undelivered v ≡ Some frame → (rest : Rest S)
+      → flow R (n - i) rest v ≡ event_part R (world_events.Deliver frame None) (flow R (n - (i + 1)) rest) v
+  flow_begins R n i v frame below next rest =
+      let left : n - i ≡ suc (n - (i + 1)) = omega (arith, below) in ap (λ k. flow R k rest v) left ∙ flow_next R (n - (i + 1)) v frame next rest
+
+  -- where no frame is left, it does nothing
+  pub flow_ends : (R : Rules S) (m : ℕ) (v : World S) → next_undelivered v ≡ None → (rest : Rest S) → flow R m rest v ≡ rest v
+  unfolding flow
+  flow_ends R zero v next rest = refl
+  flow_ends R (suc m) v next rest = ap (flow_on R v rest (flow R m rest)) next
+
+  pub flow_done : (R : Rules S) (m : ℕ) (v : World S) → m ≡ 0 → (rest : Rest S) → flow R m rest v ≡ rest v
+  unfolding flow
+  flow_done R m v done rest = ap (λ k. flow R k rest v) done
+
+  -- ---- schedules
+
+  pub line_begins : (R : Rules S) (line : Line) (more : List Line) (v : World S) (rest : Rest S) → run R (line ∷ more) v ≡ run_line R line (run R more) v
+  unfolding run
+  line_begins R line more v rest = refl
+
+  pub run_done : (R : Rules S) (lines : List Line) (g : World S) (a b : Tale) (x : Shown S) → IsFar (λ rest. run R lines) g (λ rest. run R []) a b x
+      → IsRun {S = S} (run R lines g) a b (Ok x)
+  unfolding run
+  run_done R lines g a b x far =
+      let told = far.1.0 in
+      let notes : (run R lines g).notes ≡ told = far.1.2.notes ends ∙ append-nil told in
+      (far.0, far.1.2.end ends, far.1.1, subst (Adds a b) (sym notes) far.1.3)
+
+  pub run_broke : (R : Rules S) (lines : List Line) (g : World S) (a b : Tale) (stop : stops.Stop) → IsPartRun {S = S} (λ rest. run R lines) g a b (Err stop)
+      → IsRun {S = S} (run R lines g) a b (Err stop)
+  run_broke R lines g a b (stops.TheVariants.Broke what) part = (part.1.0, part.1.2.end ends, part.1.1, subst (Adds a b) (sym (part.1.2.notes ends)) part.1.3)
+  run_broke R lines g a b stops.TheVariants.Want part = tt

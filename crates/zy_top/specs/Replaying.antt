@@ -1,0 +1,149 @@
+-- What the parts of a replay give.
+use Rattle.std.specs.Prelude.{◌≡◌, ℕ, ◌+◌, nat_lt, Bool, true, false, IsTrue, if◌then◌else◌, List, [], ◌∷◌, ◌++◌, length, Result, Ok, Err, Vec, ⊤}
+use Rattle.std.specs.List.{AllByRecursion}
+use Rattle.std.specs.declared.alloc.Global.{Global}
+use Rattle.zy_base.specs.Machine.{Rules}
+use Rattle.zy_group.specs.declared.replay.ReplayGroup.{ReplayGroup}
+use Rattle.zy_edge.specs.Files.{Held, content_of}
+use Rattle.zy_schedule.specs.Reading.{schedule_of}
+use Rattle.zy_schedule.specs.declared.line.Line.{Line}
+use Rattle.zy_setup.specs.Starting.{IsStart}
+use Rattle.zy_space.specs.Service.{space_rules}
+use Rattle.zy_world.specs.Shown.{Shown}
+use Rattle.zy_world.specs.Shows.{Shows}
+use Rattle.zy_world_law.specs.Events as events
+use Rattle.zy_world_law.specs.Events.{happens}
+use Rattle.zy_world_law.specs.Runs.{End, Rest, Run, goes_on, run, worlds_of}
+use Rattle.zy_world_law.specs.Safe.{AllGrow, IsSafe}
+use Rattle.zy_world_law.specs.Setup.{Setup}
+use Rattle.zy_world_law.specs.World.{World, start}
+use Rattle.zy_world_law.specs.declared.event.WorldEvent.{WorldEvent}
+use Rattle.zy_world_law.specs.declared.note.Note.{Note}
+use Rattle.zy_top.specs.Calls.{is_reading}
+use Rattle.zy_top.specs.Group.{group_of, setup_of}
+use Rattle.zy_top.specs.Telling.{note_lines}
+use Rattle.zy_top.specs.Verdict.{Verdict, limit, replay_verdict, run_verdict, schedule_verdict, what_broke}
+use Rattle.zy_top.specs.Words.{Command}
+use Rattle.zy_top.specs.declared.exit.Exit.{Exit}
+use Rattle.zy_top.specs.declared.exit.Exit.TheVariants as exits
+use Rattle.zy_top.specs.declared.replayed.Replayed as replayed
+use Rattle.zy_top.specs.declared.running.Stop as stops
+use Rattle.zy_top.specs.declared.tale.Tale.{Tale}
+
+-- ---- groups
+
+-- the group told of this setup, or a field of it fails, or memory is wanted
+abbrev pub IsSetupRead : Result ReplayGroup ℕ → Result Setup Exit → Type 0
+IsSetupRead read (Ok setup) = IsStart setup × ((group : ReplayGroup) × (read ≡ Ok group) × (setup ≡ setup_of group))
+IsSetupRead read (Err (exits.Group field)) = read ≡ Err field
+IsSetupRead read (Err exits.Want) = ⊤
+IsSetupRead read (Err exit) = ⊥
+
+-- ---- what is told
+
+-- what was told grew by what is told of further events
+pub record Adds (old new : Tale) (notes : List Note) : Type 0 where
+  pub events : new.events ≡ old.events + length notes
+  pub text : new.text.items ≡ old.text.items ++ note_lines (old.events + 1) notes
+
+-- ---- runs
+
+-- a part of a run led from a world to another, behind what is told of its events; this is left of it
+pub record Passes {S : Type 0} (part : Rest S → Rest S) (g : World S) (left : Rest S → Rest S) (v : World S) (told : List Note) : Type 0 where
+  pub notes : (rest : Rest S) → (part rest g).notes ≡ told ++ (left rest v).notes
+  pub end : (rest : Rest S) → (part rest g).end ≡ (left rest v).end
+
+-- or it ended at an event that isn't honest
+pub record Stops {S : Type 0} (part : Rest S → Rest S) (g : World S) (told : List Note) (broken : events.Broken) : Type 0 where
+  pub notes : (rest : Rest S) → (part rest g).notes ≡ told
+  pub end : (rest : Rest S) → (part rest g).end ≡ End.Stopped broken
+
+-- nothing is left
+abbrev pub all_done : {S : Type 0} → Rest S → Rest S
+all_done rest = rest
+
+-- one event
+abbrev pub event_part : {S : Type 0} → Rules S → WorldEvent → Rest S → Rest S
+event_part R event rest w = goes_on (happens R w event) rest
+
+-- one event was told
+abbrev pub IsTold : {S : Type 0} → Shown S → Note → Tale → Tale → Result (Shown S) stops.Stop → Type 0
+IsTold world note old new (Ok shown) = (shown ≡ world) × Adds old new (note ∷ [])
+IsTold world note old new (Err (stops.TheVariants.Broke what)) = ⊥
+IsTold world note old new (Err stops.TheVariants.Want) = ⊤
+
+-- a part of a run was made and told, and this is left of it
+abbrev pub IsFar : {S : Type 0} → (Rest S → Rest S) → World S → (Rest S → Rest S) → Tale → Tale → Shown S → Type 0
+IsFar {S} part g left old new shown = (v : World S) × ((told : List Note) × Shows v shown × Passes part g left v told × Adds old new told)
+
+-- all of it was, or it ended at an event that isn't honest
+abbrev pub IsPartRun : {S : Type 0} → (Rest S → Rest S) → World S → Tale → Tale → Result (Shown S) stops.Stop → Type 0
+IsPartRun part g old new (Ok shown) = IsFar part g all_done old new shown
+IsPartRun part g old new (Err (stops.TheVariants.Broke what)) =
+    (told : List Note) × ((broken : events.Broken) × (what ≡ what_broke broken) × Stops part g told broken × Adds old new told)
+IsPartRun part g old new (Err stops.TheVariants.Want) = ⊤
+
+-- a whole run was made and told
+abbrev pub IsRun : {S : Type 0} → Run S → Tale → Tale → Result (Shown S) stops.Stop → Type 0
+IsRun {S} r old new (Ok shown) = (v : World S) × (r.end ≡ End.At v) × Shows v shown × Adds old new r.notes
+IsRun r old new (Err (stops.TheVariants.Broke what)) = (broken : events.Broken) × (r.end ≡ End.Stopped broken) × (what ≡ what_broke broken) × Adds old new r.notes
+IsRun r old new (Err stops.TheVariants.Want) = ⊤
+
+-- the verdict that a replay came to
+abbrev pub verdict_in : replayed.Replayed → Verdict
+verdict_in (replayed.TheVariants.Whole text) = Verdict.Report text.items
+verdict_in (replayed.TheVariants.Broke text event what) = Verdict.Broke text.items (exits.Premise event what)
+
+-- ---- files
+
+-- the verdict on a schedule's text where the group is read
+abbrev pub text_verdict : Setup → List ℕ → Verdict
+text_verdict setup text = if nat_lt limit (length text) then Verdict.Refused exits.TooLong else schedule_verdict setup (schedule_of text)
+
+-- a group was read, or it is refused
+abbrev pub IsGroupJudged : List ℕ → Result Setup Exit → Type 0
+IsGroupJudged group (Ok setup) = (schedule : List ℕ) → replay_verdict group schedule ≡ text_verdict setup schedule
+IsGroupJudged group (Err exits.Want) = ⊤
+IsGroupJudged group (Err exits.ReadFault) = ⊤
+IsGroupJudged group (Err exit) = (schedule : List ℕ) → replay_verdict group schedule ≡ Verdict.Refused exit
+
+-- a schedule was read, or it is refused
+abbrev pub IsScheduleJudged : List ℕ → Result (Vec Line Global) Exit → Type 0
+IsScheduleJudged text (Ok lines) = (setup : Setup) → text_verdict setup text ≡ run_verdict space_rules (run space_rules lines.items (start space_rules setup))
+IsScheduleJudged text (Err exits.Want) = ⊤
+IsScheduleJudged text (Err exits.ReadFault) = ⊤
+IsScheduleJudged text (Err exit) = (setup : Setup) → text_verdict setup text ≡ Verdict.Refused exit
+
+-- a file that is read and judged ends by no other exit
+abbrev pub IsReading : {A : Type 0} → Result A Exit → Type 0
+IsReading (Ok x) = ⊤
+IsReading (Err exit) = IsTrue (is_reading exit)
+
+-- and a run that is made and written by no other
+abbrev pub is_running : Exit → Bool
+is_running (exits.Premise event what) = true
+is_running exits.WriteFault = true
+is_running exits.Want = true
+is_running exit = false
+
+abbrev pub IsRunning : {A : Type 0} → Result A Exit → Type 0
+IsRunning (Ok x) = ⊤
+IsRunning (Err exit) = IsTrue (is_running exit)
+
+-- ---- the headline
+
+-- every world of the run that a group and a schedule tell of is safe, and the agreed list before each event is a front of the
+-- one after it
+pub record IsSafeRun (setup : Setup) (schedule : List Line) : Type 0 where
+  pub safe : AllByRecursion (IsSafe space_rules) (worlds_of space_rules setup schedule)
+  pub grows : AllGrow space_rules (start space_rules setup) (run space_rules schedule (start space_rules setup)).worlds
+
+abbrev pub IsSafeReplay : List ℕ → List ℕ → Type 0
+IsSafeReplay group schedule =
+    (told : ReplayGroup) (lines : List Line) → group_of group ≡ Ok told → schedule_of schedule ≡ Ok lines → IsSafeRun (setup_of told) lines
+
+abbrev pub IsSafeCommand : Held → Result Command ℕ → Type 0
+IsSafeCommand files (Ok (Command.Replay group schedule)) = IsSafeReplay (content_of files group) (content_of files schedule)
+IsSafeCommand files (Ok (Command.Space script)) = ⊤
+IsSafeCommand files (Ok (Command.Keys seed by height)) = ⊤
+IsSafeCommand files (Err word) = ⊤

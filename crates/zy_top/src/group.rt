@@ -1,0 +1,70 @@
+// What the world of a group begins with.
+ghost use Rattle.std.specs.Prelude.{◌≡◌, ◌≤◌, IfOk, map};
+ghost use Rattle.zy_top.specs.Group as groups;
+ghost use Rattle.zy_top.specs.Replaying.{IsSetupRead};
+
+use crate::Exit;
+use std::alloc::Global;
+use zy_base::{ClientId, Counts, ReplicaId, Want};
+use zy_group::{ReplayGroup, read_replay_group};
+use zy_setup::Setup;
+
+/// What the world of the group that a file's text tells of begins with.
+pub(crate) fn read_setup(alloc: Global, text: &[u8]) -> Result<Setup, Exit>
+    ensures { IsSetupRead (groups.group_of text.now) result }
+{
+    let group = read_replay_group(alloc, text)?;
+    Ok(setup_of(alloc, group)?)
+}
+
+fn setup_of(alloc: Global, group: ReplayGroup) -> Result<Setup, Want>
+    requires least { 1 ≤ group.f }
+    requires most { group.f ≤ 4 }
+    ensures { IfOk result (λ setup. setup ≡ groups.setup_of group) }
+{
+    let counts = plain_counts(group.f);
+    let liars = replica_ids(alloc, group.liars.as_slice())?;
+    let lying_clients = client_ids(alloc, group.lying_clients.as_slice())?;
+    Ok(Setup {
+        counts,
+        interval: u64::from(group.k),
+        clients: u32::from(group.clients),
+        liars,
+        lying_clients,
+        seed: group.seed,
+        height: group.height,
+        ots: group.ots,
+    })
+}
+
+/// The counts of 3f + 1 replicas.
+fn plain_counts(f: u8) -> Counts
+    requires least { 1 ≤ f }
+    requires most { f ≤ 4 }
+    ensures { result ≡ groups.plain_counts f }
+{
+    match Counts::plain(u64::from(f)) {
+        Some(counts) => counts,
+        None => unreachable!(),
+    }
+}
+
+fn replica_ids(alloc: Global, numbers: &[u8]) -> Result<Vec<ReplicaId>, Want>
+    ensures { IfOk result (λ ids. map (λ id. id.0) ids.items ≡ numbers.now) }
+{
+    let mut ids = Vec::new(alloc);
+    for number in numbers {
+        ids.push(ReplicaId(*number))?;
+    }
+    Ok(ids)
+}
+
+fn client_ids(alloc: Global, numbers: &[u8]) -> Result<Vec<ClientId>, Want>
+    ensures { IfOk result (λ ids. map (λ id. id.0) ids.items ≡ numbers.now) }
+{
+    let mut ids = Vec::new(alloc);
+    for number in numbers {
+        ids.push(ClientId(u32::from(*number)))?;
+    }
+    Ok(ids)
+}

@@ -1,0 +1,91 @@
+// The command `replay`.
+ghost use Rattle.std.specs.Prelude.{◌≡◌, ℕ, List, All, IfOk, IfSome, IsTrue, ◌≤◌, length};
+ghost use Rattle.zy_edge.specs.Faults.{IsCounted};
+ghost use Rattle.zy_edge.specs.Files.{content_of};
+ghost use Rattle.zy_schedule.specs.Texts.{IsSaid};
+ghost use Rattle.zy_setup.specs.Starting.{IsStart};
+ghost use Rattle.zy_top.specs.Calls.{exit_of, stops_reading};
+ghost use Rattle.zy_top.specs.Replaying.{IsGroupJudged, IsReading, IsRunning, IsSafeReplay, IsScheduleJudged};
+ghost use Rattle.zy_top.specs.Verdict.{IsAnswer, IsWritten, is_read_fault, is_refusal, is_usage, is_write_fault, limit, replay_verdict, run_verdict};
+ghost use Rattle.zy_space.specs.Service.{space_rules};
+ghost use Rattle.zy_world_law.specs.Runs.{run};
+ghost use Rattle.zy_world_law.specs.World.{start};
+
+use crate::Exit;
+use crate::group::read_setup;
+use crate::reading::read_file;
+use crate::replayed::{replay, write_replayed};
+use std::alloc::Global;
+use zy_edge::{Files, Sink};
+use zy_schedule::{Line, read_schedule};
+use zy_setup::Setup;
+use zy_space::Space;
+use zy_world_law::runs_are_safe;
+
+/// Every world of a run that a group and a schedule tell of is safe, and the agreed list only grows.
+pub(crate) fn replays_are_safe()
+    ensures { (group schedule : List ℕ) → IsSafeReplay group schedule }
+{
+    runs_are_safe::<Space>();
+}
+
+/// Runs the schedule in the world of the group.
+pub(crate) fn run_replay<F: Files, S: Sink>(
+    alloc: Global,
+    group: &str,
+    schedule: &str,
+    files: &mut F,
+    out: &mut S,
+) -> Result<(), Exit>
+    ensures answer { IfSome (F.held files.old) (λ held. IsAnswer (replay_verdict (content_of held group.now) (content_of held schedule.now)) (exit_of result)) }
+    ensures written { IfSome (F.held files.old) (λ held.
+        IsWritten (replay_verdict (content_of held group.now) (content_of held schedule.now)) (exit_of result) (S.taken out.old) (S.taken out.new)) }
+    ensures judged { IsTrue (is_usage (exit_of result)) → ⊥ }
+    ensures refused { IsTrue (is_refusal (exit_of result)) → out.new ≡ out.old }
+    ensures read_faults { IsCounted (is_read_fault (exit_of result)) (F.faults files.old) (F.faults files.new) }
+    ensures write_faults { IsCounted (is_write_fault (exit_of result)) (S.faults out.old) (S.faults out.new) }
+    ensures held { F.held files.new ≡ F.held files.old }
+{
+    let setup = read_group(alloc, group, files)?;
+    let lines = read_lines(alloc, schedule, files)?;
+    run_told(alloc, setup, lines, out)
+}
+
+/// The group in the file with this name.
+fn read_group<F: Files>(alloc: Global, group: &str, files: &mut F) -> Result<Setup, Exit>
+    ensures told { IfSome (F.held files.old) (λ held. IsGroupJudged (content_of held group.now) result) }
+    ensures start { IfOk result IsStart }
+    ensures exit { IsReading result }
+    ensures count { IsCounted (stops_reading result) (F.faults files.old) (F.faults files.new) }
+    ensures held { F.held files.new ≡ F.held files.old }
+{
+    let text = read_file(alloc, files, group)?;
+    read_setup(alloc, &text)
+}
+
+/// The schedule in the file with this name.
+fn read_lines<F: Files>(alloc: Global, schedule: &str, files: &mut F) -> Result<Vec<Line>, Exit>
+    ensures told { IfSome (F.held files.old) (λ held. IsScheduleJudged (content_of held schedule.now) result) }
+    ensures said { IfOk result (λ lines. All IsSaid lines.items) }
+    ensures few { IfOk result (λ lines. length lines.items ≤ limit) }
+    ensures exit { IsReading result }
+    ensures count { IsCounted (stops_reading result) (F.faults files.old) (F.faults files.new) }
+    ensures held { F.held files.new ≡ F.held files.old }
+{
+    let text = read_file(alloc, files, schedule)?;
+    Ok(read_schedule(alloc, &text)?)
+}
+
+/// Runs what was read, and writes what is told of it.
+fn run_told<S: Sink>(alloc: Global, setup: Setup, lines: Vec<Line>, out: &mut S) -> Result<(), Exit>
+    requires start { IsStart setup }
+    requires said { All IsSaid lines.items }
+    requires few { length lines.items ≤ limit }
+    ensures answer { IsAnswer (run_verdict space_rules (run space_rules lines.items (start space_rules setup))) (exit_of result) }
+    ensures written { IsWritten (run_verdict space_rules (run space_rules lines.items (start space_rules setup))) (exit_of result) (S.taken out.old) (S.taken out.new) }
+    ensures exit { IsRunning result }
+    ensures count { IsCounted (is_write_fault (exit_of result)) (S.faults out.old) (S.faults out.new) }
+{
+    let replayed = replay::<Space>(alloc, setup, lines)?;
+    write_replayed(replayed, out)
+}

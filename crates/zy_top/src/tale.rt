@@ -1,0 +1,141 @@
+// What is told of a run.
+ghost use Rattle.std.specs.Prelude.{◌≡◌, ◌++◌, ◌∷◌, [], ◌<◌, ◌≤◌, ◌+◌, ◌^◌, IfOk, OnOk, option_copied};
+ghost use Rattle.zy_top.specs.Replaying.{Adds};
+ghost use Rattle.zy_top.specs.Telling as telling;
+ghost use Rattle.zy_world.specs.Shows.{Shows};
+ghost use Rattle.zy_world_law.specs.World.{World as Whole};
+
+use std::alloc::Global;
+use zy_base::{Bytes, ClientId, Digest, Machine, ReplicaId, Want};
+use zy_replica::Replica;
+use zy_report::{agreed_line, done_line, refused_line, replica_line, reply_line};
+use zy_table::{Done, Path};
+use zy_world::World;
+use zy_world_law::Note;
+
+/// How many events there were, and what is written of them.
+#[derive(Drop)]
+pub(crate) struct Tale {
+    pub(crate) events: u64,
+    pub(crate) text: Vec<u8>,
+}
+
+impl Tale {
+    /// Nothing.
+    pub(crate) fn new(alloc: Global) -> Tale
+        ensures events { result.events ≡ 0 }
+        ensures text { result.text.items ≡ [] }
+    {
+        Tale {
+            events: 0,
+            text: Vec::new(alloc),
+        }
+    }
+
+    /// One event more.
+    pub(crate) fn add(&mut self, alloc: Global, note: &Note) -> Result<(), Want>
+        requires { self.old.events + 1 < 2 ^ 64 }
+        ensures told { OnOk result (Adds self.old self.new (note.now ∷ [])) }
+        ensures count { self.new.events ≤ self.old.events + 1 }
+    {
+        let line = note_line(alloc, self.events + 1, note)?;
+        self.text.extend_from_slice(line.as_slice())?;
+        self.events += 1;
+        Ok(())
+    }
+}
+
+/// What is written of the event with this number.
+fn note_line(alloc: Global, number: u64, note: &Note) -> Result<Bytes, Want>
+    ensures { IfOk result (λ line. line ≡ telling.note_line number note.now) }
+{
+    match note {
+        Note::Quiet => Ok(Bytes::from(Vec::new(alloc))),
+        Note::Done(client, done) => completion_line(alloc, number, *client, done),
+        Note::Refused(party, cause) => refused_line(alloc, number, *party, cause),
+    }
+}
+
+fn completion_line(alloc: Global, number: u64, client: ClientId, done: &Done) -> Result<Bytes, Want>
+    ensures { IfOk result (λ line. line ≡ telling.completion_line number client done.now) }
+{
+    let reply = reply_line(alloc, done.reply.as_slice())?;
+    done_line(
+        alloc,
+        Some(number),
+        client,
+        done.stamp,
+        done.view,
+        done.place,
+        is_fast(done.path),
+        reply.as_slice(),
+    )
+}
+
+fn is_fast(path: Path) -> bool
+    ensures { result ≡ telling.is_fast path }
+{
+    match path {
+        Path::Fast => true,
+        Path::Slow => false,
+    }
+}
+
+/// A line for each replica, and the agreed list.
+pub(crate) fn put_end<M: Machine>(
+    alloc: Global,
+    world: &World<M>,
+    text: &mut Vec<u8>,
+) -> Result<(), Want>
+    ensures { (g : Whole M.State) → Shows g world.now → OnOk result (text.new.items ≡ text.old.items ++ telling.end_lines M.rules g) }
+{
+    put_standings(alloc, world, text)?;
+    let (place, head) = world.agreed();
+    let line = agreed_line(alloc, place, &head)?;
+    text.extend_from_slice(line.as_slice())?;
+    Ok(())
+}
+
+fn put_standings<M: Machine>(
+    alloc: Global,
+    world: &World<M>,
+    text: &mut Vec<u8>,
+) -> Result<(), Want>
+    ensures { (g : Whole M.State) → Shows g world.now → OnOk result (text.new.items ≡ text.old.items ++ telling.standing_lines M.rules g) }
+{
+    let replicas = world.setup().counts.n as u8;
+    for id in 0..replicas {
+        put_standing(alloc, world, ReplicaId(id), text)?;
+    }
+    Ok(())
+}
+
+fn put_standing<M: Machine>(
+    alloc: Global,
+    world: &World<M>,
+    id: ReplicaId,
+    text: &mut Vec<u8>,
+) -> Result<(), Want>
+    ensures { (g : Whole M.State) → Shows g world.now → OnOk result (text.new.items ≡ text.old.items ++ telling.standing_of M.rules g id.0) }
+{
+    let line = standing_line(alloc, id, world.replica(id))?;
+    text.extend_from_slice(line.as_slice())?;
+    Ok(())
+}
+
+/// Where a replica stands, or that it lies.
+fn standing_line<M: Machine>(
+    alloc: Global,
+    id: ReplicaId,
+    replica: Option<&Replica<M>>,
+) -> Result<Bytes, Want>
+    ensures { IfOk result (λ line. line ≡ telling.standing_line M.rules id.0 (option_copied replica.entry)) }
+{
+    match replica {
+        None => replica_line(alloc, id, None, &Digest([0; 32])),
+        Some(replica) => {
+            let state = replica.state_digest()?;
+            replica_line(alloc, id, Some(&replica.stood()), &state)
+        }
+    }
+}
