@@ -1,4 +1,5 @@
 use Rattle.std.proofs.Common.{◌≡◌}
+use Rattle.std.proofs.lemmas.Result.{err_from_is_err_and}
 use Rattle.zy_world_law.specs.Events.{happens}
 use Rattle.zy_world.proofs.world.World.goes.Goals as goal
 
@@ -45,3 +46,28 @@ returns-in_ok-raw-in-Raw-clause-goes g c w s = rw c.in-Raw.is (c.in_ok-raw-in-Ra
 pub returns-in_ok-forge_statement-in-Forge-clause-goes : goal.returns-in_ok-forge_statement-in-Forge-clause-goes
 unfolding happens
 returns-in_ok-forge_statement-in-Forge-clause-goes g c w s = rw c.in-Forge.is (c.in_ok-forge_statement-in-Forge.ensures w s)
+
+pub returns-in_err-lie_order-in-Order-clause-broken : goal.returns-in_err-lie_order-in-Order-clause-broken
+returns-in_err-lie_order-in-Order-clause-broken g c w s =
+    let p = err_from_is_err_and c.from_residual.result c.from_residual.ensures.1 in
+    rw (p.1, p.2) tt
+
+pub returns-in_err-lie_spec-in-Spec-clause-broken : goal.returns-in_err-lie_spec-in-Spec-clause-broken
+returns-in_err-lie_spec-in-Spec-clause-broken g c w s =
+    let p = err_from_is_err_and c.from_residual-in_err-lie_spec-in-Spec.result c.from_residual-in_err-lie_spec-in-Spec.ensures.1 in
+    rw (p.1, p.2) tt
+
+pub returns-in_err-lie_statement-in-Statement-clause-broken : goal.returns-in_err-lie_statement-in-Statement-clause-broken
+returns-in_err-lie_statement-in-Statement-clause-broken g c w s =
+    let p = err_from_is_err_and c.from_residual-in_err-lie_statement-in-Statement.result c.from_residual-in_err-lie_statement-in-Statement.ensures.1 in
+    rw (p.1, p.2) tt
+
+pub returns-in_err-raw-in-Raw-clause-broken : goal.returns-in_err-raw-in-Raw-clause-broken
+returns-in_err-raw-in-Raw-clause-broken g c w s =
+    let p = err_from_is_err_and c.from_residual-in_err-raw-in-Raw.result c.from_residual-in_err-raw-in-Raw.ensures.1 in
+    rw (p.1, p.2) tt
+
+pub returns-in_err-forge_statement-in-Forge-clause-broken : goal.returns-in_err-forge_statement-in-Forge-clause-broken
+returns-in_err-forge_statement-in-Forge-clause-broken g c w s =
+    let p = err_from_is_err_and c.from_residual-in_err-forge_statement-in-Forge.result c.from_residual-in_err-forge_statement-in-Forge.ensures.1 in
+    rw (p.1, p.2) tt
