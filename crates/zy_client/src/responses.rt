@@ -3,7 +3,7 @@ ghost use Rattle.sha2.specs.Sha256.{sha256};
 ghost use Rattle.zy_parts.specs.Statements.{IsAskInRange};
 ghost use Rattle.zy_parts.specs.Signing.{IsSignedInRange};
 ghost use Rattle.zy_table.specs.ClientRows.{response_cause, is_own_order_if, is_repeated, kept_of, keep as keep_row, agrees, agreeing, done_of, completed_if, keep_unless, respond as respond_row};
-ghost use Rattle.zy_table.specs.Requests.{same_spec};
+ghost use Rattle.zy_cert.specs.Equal.{same_spec};
 
 use crate::Client;
 use crate::moved::Moved;

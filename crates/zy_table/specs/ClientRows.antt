@@ -1,5 +1,6 @@
 -- What a client makes of an event.
-use Rattle.std.specs.Prelude.{ℕ, ◌+◌, ◌%◌, nat_lt, nat_le, nat_eq, ◌&&◌, Bool, true, false, if◌then◌else◌, List, [], ◌∷◌, count_by, slice_set, slice_index_or, Option, Some, None, Result, Ok, Err}
+use Rattle.std.specs.Prelude.{ℕ, ◌+◌, ◌%◌, nat_lt, nat_le, nat_eq, ◌&&◌, Bool, true, false, if◌then◌else◌, List, [], ◌∷◌, take, count_by, slice_set, slice_index_or, unwrap_or, Option, Some, None, Result, Ok, Err}
+use Rattle.std.specs.List.{find}
 use Rattle.sha2.specs.Sha256.{sha256}
 use Rattle.zy_base.specs.declared.counts.Counts.{Counts}
 use Rattle.zy_base.specs.declared.frame_fault.FrameFault.{FrameFault}
@@ -17,6 +18,7 @@ use Rattle.zy_parts.specs.Numbers as numbers
 use Rattle.zy_parts.specs.Statements.{ask_fields}
 use Rattle.zy_parts.specs.declared.signed.Signed.{Signed}
 use Rattle.zy_parts.specs.declared.statements.Ask.{Ask}
+use Rattle.zy_parts.specs.declared.statements.Local.{Local}
 use Rattle.zy_parts.specs.declared.statements.Order.{Order}
 use Rattle.zy_parts.specs.declared.statements.Spec.{Spec}
 use Rattle.zy_frames.specs.declared.frame.Frame.{Frame}
@@ -25,11 +27,15 @@ use Rattle.zy_frames.specs.Frames.{frame_in, parts_of}
 use Rattle.zy_seal.specs.Screening.{screen}
 use Rattle.zy_seal.specs.Sealing.{sealed_by, spent_one}
 use Rattle.zy_admit.specs.Judging.{same_digest}
+use Rattle.zy_cert.specs.Equal.{same_spec, same_local}
+use Rattle.zy_cert.specs.Votes.{Poll, answer_to, poll_after}
+use Rattle.zy_cert.specs.declared.votes.Vote.{Vote}
+use Rattle.zy_cert.specs.declared.votes.Vote.TheVariants.{Counted, Full, Repeat, Mixed}
 use Rattle.zy_table.specs.declared.deeds.To.TheVariants.{All, One}
 use Rattle.zy_table.specs.Roles.{is_replica, is_primary_of}
-use Rattle.zy_table.specs.Requests.{same_spec}
+use Rattle.zy_table.specs.declared.client.Commit.{Commit}
 use Rattle.zy_table.specs.declared.client.Done.{Done}
-use Rattle.zy_table.specs.declared.client.Path.TheVariants.{Fast}
+use Rattle.zy_table.specs.declared.client.Path.TheVariants.{Fast, Slow}
 use Rattle.zy_table.specs.declared.client.Response.{Response}
 use Rattle.zy_table.specs.ClientState.{ClientState, ClientOutcome, no_responses, leaves_of, refused, taken}
 
@@ -44,7 +50,7 @@ asked s ask =
     let signed = sealed_by numbers.ask ask_fields s.sealer ask in
     record {
       answer = Taken;
-      state = record s { sealer = spent_one s.sealer; stamp = ask.stamp; waiting = Some signed; responses = no_responses s.counts };
+      state = record s { sealer = spent_one s.sealer; stamp = ask.stamp; waiting = Some signed; responses = no_responses s.counts; commit = None };
       sent = record { to = One (Replica (record { 0 = s.known_view.0 % s.counts.n })); frame = frames.Request signed } ∷ [];
       said = ask ∷ [];
     }
@@ -134,17 +140,101 @@ respond_while s (Some waiting) id r = keep_unless (response_cause s waiting id r
 unfoldable pub respond : ClientState → ℕ → Response → ClientOutcome
 respond s id r = respond_while s s.waiting id r
 
--- ---- the other rows
+-- ---- a local commit
 
--- no certificate was sent yet that a local commit could belong to
-abbrev pub local_while : ClientState → Option (Signed Ask) → ClientOutcome
-local_while s None = refused causes.Finished s
-local_while s (Some waiting) = refused causes.Unmatched s
+-- it is for the responses of the certificate
+abbrev pub is_for : Spec → Local → Bool
+is_for spec local = nat_eq local.view.0 spec.view.0 && (nat_eq local.place.0 spec.place.0 && same_digest local.head spec.head)
+
+-- what the client counts as complete by local commits of a certificate
+abbrev pub done_by : Commit → Done
+done_by commit =
+    record {
+      stamp = commit.spec.stamp;
+      view = commit.spec.view;
+      place = commit.spec.place;
+      head = commit.spec.head;
+      path = Slow;
+      reply = commit.reply;
+    }
+
+abbrev pub complete_by : ClientState → Commit → ClientState
+complete_by s commit = record s { known_view = commit.spec.view; waiting = None; commit = None; done = Some (done_by commit) }
+
+abbrev pub vote_on : ClientState → Commit → Signed Local → Vote → ClientOutcome
+vote_on s commit vote Repeat = refused causes.Repeat s
+vote_on s commit vote Mixed = refused causes.Unmatched s
+vote_on s commit vote (Counted number) =
+    taken (record s { commit = Some (record commit { locals = poll_after same_local commit.locals vote }) })
+vote_on s commit vote Full = taken (complete_by s commit)
+
+abbrev pub local_beside : ClientState → Option Commit → Signed Local → ClientOutcome
+local_beside s None vote = refused causes.Unmatched s
+local_beside s (Some commit) vote =
+    if is_for commit.spec vote.stmt
+    then vote_on s commit vote (answer_to same_local commit.locals vote)
+    else refused causes.Unmatched s
+
+abbrev pub local_while : ClientState → Option (Signed Ask) → Signed Local → ClientOutcome
+local_while s None vote = refused causes.Finished s
+local_while s (Some waiting) vote = local_beside s s.commit vote
+
+unfoldable pub count_local : ClientState → Signed Local → ClientOutcome
+count_local s vote = local_while s s.waiting vote
+
+-- ---- the timer
+
+-- the kept responses that equal one, by replica number
+abbrev pub equals_of : Spec → List (Option Response) → List (Signed Spec)
+equals_of spec [] = []
+equals_of spec (None ∷ responses) = equals_of spec responses
+equals_of spec (Some kept ∷ responses) =
+    if same_spec kept.spec.stmt spec then kept.spec ∷ equals_of spec responses else equals_of spec responses
+
+-- a response has as many equals as a certificate takes
+abbrev pub is_certified : ClientState → Option Response → Bool
+is_certified s None = false
+is_certified s (Some kept) = nat_le s.counts.cert (agreeing s kept.spec.stmt)
+
+-- the first of them
+abbrev pub certified_in : ClientState → Option Response
+certified_in s = unwrap_or (find (is_certified s) s.responses) None
+
+abbrev pub certificate_of : ClientState → Spec → List (Signed Spec)
+certificate_of s spec = take s.counts.cert (equals_of spec s.responses)
+
+-- local commits count on where the statement of the certificate is the same
+abbrev pub locals_for : ℕ → Spec → Option Commit → Poll Local
+locals_for wanted spec None = record { count = wanted; votes = [] }
+locals_for wanted spec (Some commit) =
+    if same_spec commit.spec spec then commit.locals else record { count = wanted; votes = [] }
+
+-- the certificate goes to all replicas
+abbrev pub send_commit : ClientState → Response → ClientOutcome
+send_commit s r =
+    record {
+      answer = Taken;
+      state = record s {
+        commit = Some (record { spec = r.spec.stmt; reply = r.reply; locals = locals_for s.counts.local r.spec.stmt s.commit })
+      };
+      sent = record { to = All; frame = frames.Commit (certificate_of s r.spec.stmt) } ∷ [];
+      said = [];
+    }
 
 -- the request goes to all replicas
-abbrev pub ask_again : ClientState → Option (Signed Ask) → ClientOutcome
-ask_again s None = taken s
-ask_again s (Some waiting) = record { answer = Taken; state = s; sent = record { to = All; frame = frames.Request waiting } ∷ []; said = [] }
+abbrev pub ask_all : ClientState → Signed Ask → ClientOutcome
+ask_all s waiting = record { answer = Taken; state = s; sent = record { to = All; frame = frames.Request waiting } ∷ []; said = [] }
+
+abbrev pub ask_or_commit : ClientState → Signed Ask → Option Response → ClientOutcome
+ask_or_commit s waiting None = ask_all s waiting
+ask_or_commit s waiting (Some r) = send_commit s r
+
+abbrev pub run_out_while : ClientState → Option (Signed Ask) → ClientOutcome
+run_out_while s None = taken s
+run_out_while s (Some waiting) = ask_or_commit s waiting (certified_in s)
+
+unfoldable pub run_out : ClientState → ClientOutcome
+run_out s = run_out_while s s.waiting
 
 -- ---- frames
 
@@ -160,7 +250,7 @@ hear_response s r (Replica id) = if is_by_primary s r.order then respond s id.0 
 
 abbrev pub hear : ClientState → Frame → ClientOutcome
 hear s (frames.SpecResponse spec reply order) = hear_response s (record { spec = spec; reply = reply; order = order }) spec.by
-hear s (frames.LocalCommit local) = if is_replica local.by then local_while s s.waiting else refused causes.WrongRole s
+hear s (frames.LocalCommit local) = if is_replica local.by then count_local s local else refused causes.WrongRole s
 hear s (frames.Request ask) = refused causes.WrongRole s
 hear s (frames.Order both) = refused causes.WrongRole s
 hear s (frames.Commit specs) = refused causes.WrongRole s
@@ -179,7 +269,7 @@ decoded s (Err fault) = refused (causes.NotFrame fault) s
 decoded s (Ok frame) = unless (screen s.keys (parts_of frame)) s (hear s frame)
 
 abbrev pub timer : ClientState → TimerKind → ClientOutcome
-timer s timers.Answer = ask_again s s.waiting
+timer s timers.Answer = run_out s
 timer s timers.Request = taken s
 timer s timers.Change = taken s
 

@@ -23,6 +23,7 @@ use Rattle.zy_parts.specs.declared.signed.Signed.{Signed}
 use Rattle.zy_parts.specs.declared.statements.Ask.{Ask}
 use Rattle.zy_table.specs.Sending.{outgoing_to}
 use Rattle.zy_table.specs.declared.deeds.Sent.{Sent}
+use Rattle.zy_table.specs.declared.client.Commit.{Commit}
 use Rattle.zy_table.specs.declared.client.Done.{Done}
 use Rattle.zy_table.specs.declared.client.Response.{Response}
 
@@ -40,6 +41,8 @@ pub record ClientState : Type 0 where
   pub waiting : Option (Signed Ask)
   -- for each replica its response to this request, that of the greatest view
   pub responses : List (Option Response)
+  -- the certificate that it sent for this request
+  pub commit : Option Commit
   -- the last completion
   pub done : Option Done
 
@@ -59,6 +62,7 @@ client_start me counts keys sealer stamp =
       stamp = stamp;
       waiting = None;
       responses = no_responses counts;
+      commit = None;
       done = None;
     }
 

@@ -10,7 +10,7 @@ use Rattle.zy_base.specs.declared.step.Answer.TheVariants.{Taken, Held, Refused}
 use Rattle.zy_base.specs.declared.step.Spoken.{Spoken}
 use Rattle.zy_parts.specs.Numbers as numbers
 use Rattle.zy_parts.specs.Signing.{text_of}
-use Rattle.zy_parts.specs.Statements.{order_fields, spec_fields, hole_fields}
+use Rattle.zy_parts.specs.Statements.{order_fields, spec_fields, local_fields, confirm_fields, hole_fields}
 use Rattle.zy_frames.specs.declared.frame.Frame.{Frame}
 use Rattle.zy_frames.specs.Frames.{spelling}
 use Rattle.zy_table.specs.declared.deeds.To.{To}
@@ -72,6 +72,8 @@ outgoing_of me n sent = outgoing_to (others me n) sent
 abbrev pub text_by : Party → Body → List ℕ
 text_by me (bodies.Order order) = text_of numbers.order order_fields me order
 text_by me (bodies.Spec spec) = text_of numbers.spec spec_fields me spec
+text_by me (bodies.Local local) = text_of numbers.local local_fields me local
+text_by me (bodies.Confirm confirm) = text_of numbers.confirm confirm_fields me confirm
 text_by me (bodies.Hole hole) = text_of numbers.hole hole_fields me hole
 
 -- the statements in order, each with what stood, and the number of entries that were executed before it

@@ -4,6 +4,8 @@ pub mod Running
 pub mod Requests
 pub mod Orders
 pub mod Holes
+pub mod Commits
+pub mod Confirms
 pub mod Roles
 pub mod Step
 pub mod ClientState

@@ -1,5 +1,5 @@
 -- What a replica answers to a request.
-use Rattle.std.specs.Prelude.{ℕ, ◌+◌, nat_lt, nat_le, nat_eq, ◌&&◌, Bool, if◌then◌else◌, Option, Some, None, option_map}
+use Rattle.std.specs.Prelude.{ℕ, ◌+◌, nat_lt, nat_le, nat_eq, ◌&&◌, Bool, false, if◌then◌else◌, Option, Some, None, option_map}
 use Rattle.zy_base.specs.Machine.{Rules}
 use Rattle.zy_base.specs.declared.ids.ClientId.{ClientId}
 use Rattle.zy_base.specs.declared.ids.Party.TheVariants.{Client}
@@ -7,9 +7,10 @@ use Rattle.zy_base.specs.declared.cause.Cause.TheVariants as causes
 use Rattle.zy_base.specs.declared.step.Answer.TheVariants.{Taken}
 use Rattle.zy_chain.specs.Entries.{digest_of_entry}
 use Rattle.zy_parts.specs.Numbers as numbers
-use Rattle.zy_parts.specs.Statements.{order_fields, spec_fields}
+use Rattle.zy_parts.specs.Statements.{order_fields, spec_fields, confirm_fields}
 use Rattle.zy_parts.specs.declared.signed.Signed.{Signed}
 use Rattle.zy_parts.specs.declared.statements.Ask.{Ask}
+use Rattle.zy_parts.specs.declared.statements.Confirm.{Confirm}
 use Rattle.zy_parts.specs.declared.statements.Order.{Order}
 use Rattle.zy_parts.specs.declared.statements.Spec.{Spec}
 use Rattle.zy_frames.specs.declared.frame.OrderFrame.{OrderFrame}
@@ -18,22 +19,17 @@ use Rattle.zy_seal.specs.Sealing.{sealed_by}
 use Rattle.zy_exec.specs.declared.known.Known.{Known}
 use Rattle.zy_exec.specs.Kept.{last_place, known_in}
 use Rattle.zy_admit.specs.Orders.{stored_in, with_order}
-use Rattle.zy_admit.specs.Judging.{same_digest, entry_of}
+use Rattle.zy_admit.specs.Judging.{entry_of}
+use Rattle.zy_cert.specs.Equal.{same_spec}
 use Rattle.zy_table.specs.declared.deeds.To.TheVariants.{All, One}
 use Rattle.zy_table.specs.declared.deeds.Body.TheVariants as bodies
 use Rattle.zy_table.specs.declared.deeds.Act.TheVariants.{Says}
-use Rattle.zy_table.specs.State.{State, own_view, is_leaving, is_primary, window_of, stood_of, leaves_of, spent, spec_to, with_spec}
+use Rattle.zy_table.specs.declared.kept.Pending.{Pending}
+use Rattle.zy_table.specs.State.{State, own_view, is_leaving, is_primary, primary_of, window_of, stood_of, leaves_of, spent, spec_to, with_spec, pending_of, with_pending}
 use Rattle.zy_table.specs.Deeds.{Going, Outcome, send, act, refused, ends, begin}
 use Rattle.zy_table.specs.Running.{spec_of, next_known, run}
 
 -- ---- a request that was executed last
-
-abbrev pub same_spec : Spec → Spec → Bool
-same_spec a b =
-    nat_eq a.view.0 b.view.0
-    && (nat_eq a.place.0 b.place.0
-    && (same_digest a.head b.head
-    && (same_digest a.reply b.reply && (nat_eq a.client.0 b.client.0 && nat_eq a.stamp.0 b.stamp.0))))
 
 -- the response with its order, where it is kept
 abbrev pub response_of : {S : Type 0} → State S → Signed Spec → Known → Going S → Going S
@@ -93,11 +89,45 @@ abbrev pub take_request : {S : Type 0} → Rules S → State S → Signed Ask �
 take_request R s ask =
     if nat_le 2 (leaves_of s) then ends Taken (run R (sealed_order R s ask) (ordered R s ask)) else refused causes.KeySpent s
 
-abbrev pub new_request : {S : Type 0} → Rules S → State S → Signed Ask → Outcome S
-new_request R s ask =
+abbrev pub request_at_primary : {S : Type 0} → Rules S → State S → Signed Ask → Outcome S
+request_at_primary R s ask =
     if nat_lt (last_place s.kept) (window_of s)
     then take_request R s ask
     else refused (causes.WindowFull (record { 0 = window_of s })) s
+
+-- ---- a new request at a backup
+
+abbrev pub confirm_of : {S : Type 0} → State S → Signed Ask → Confirm
+confirm_of s ask = record { view = record { 0 = own_view s }; request = digest_of_entry (entry_of ask) }
+
+abbrev pub sealed_confirm : {S : Type 0} → State S → Signed Ask → Pending
+sealed_confirm s ask = record { confirm = sealed_by numbers.confirm confirm_fields s.sealer (confirm_of s ask); ask = ask }
+
+-- the primary is told of a request that waits
+abbrev pub tell_primary : {S : Type 0} → State S → Pending → Going S → Going S
+tell_primary s pending g =
+    send (One (primary_of s.counts (own_view s))) (frames.ConfirmReq pending.confirm pending.ask) g
+
+-- the request waits for its order from now on, in place of its client's earlier one
+abbrev pub request_waits : {S : Type 0} → Rules S → State S → Signed Ask → Going S
+request_waits R s ask =
+    let pending = sealed_confirm s ask in
+    tell_primary s pending
+    (act (Says (record { body = bodies.Confirm pending.confirm.stmt; stood = stood_of R s }))
+    (begin (with_pending (spent s) (entry_of ask).client (Some pending))))
+
+abbrev pub forward : {S : Type 0} → Rules S → State S → Signed Ask → Outcome S
+forward R s ask = if nat_le 1 (leaves_of s) then ends Taken (request_waits R s ask) else refused causes.KeySpent s
+
+-- what was said of a request that waits already is sent again
+abbrev pub request_at_backup : {S : Type 0} → Rules S → State S → Signed Ask → Option Pending → Outcome S
+request_at_backup R s ask None = forward R s ask
+request_at_backup R s ask (Some pending) =
+    if nat_eq ask.stmt.stamp.0 pending.ask.stmt.stamp.0 then ends Taken (tell_primary s pending (begin s)) else forward R s ask
+
+abbrev pub new_request : {S : Type 0} → Rules S → State S → Signed Ask → Outcome S
+new_request R s ask =
+    if is_primary s then request_at_primary R s ask else request_at_backup R s ask (pending_of s (entry_of ask).client)
 
 -- ---- the row
 
@@ -107,7 +137,13 @@ request_after R s ask (Some known) =
     if nat_lt ask.stmt.stamp.0 known.stamp.0 then refused causes.OldStamp s
     else (if nat_eq ask.stmt.stamp.0 known.stamp.0 then respond_again R s ask known else new_request R s ask)
 
+-- a newer request of the client waits
+abbrev pub is_behind : Signed Ask → Option Pending → Bool
+is_behind ask None = false
+is_behind ask (Some pending) = nat_lt ask.stmt.stamp.0 pending.ask.stmt.stamp.0
+
 unfoldable pub request : {S : Type 0} → Rules S → State S → Signed Ask → Outcome S
 request R s ask =
     if is_leaving s then refused causes.NotActive s
-    else request_after R s ask (known_in R s.kept (entry_of ask).client.0)
+    else (if is_behind ask (pending_of s (entry_of ask).client) then refused causes.OldStamp s
+    else request_after R s ask (known_in R s.kept (entry_of ask).client.0))

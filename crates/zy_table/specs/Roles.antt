@@ -1,5 +1,6 @@
 -- Who may say a frame to whom, and in which view.
 use Rattle.std.specs.Prelude.{ℕ, ◌%◌, nat_lt, nat_eq, ◌&&◌, Bool, true, false, if◌then◌else◌, Option, Some, None}
+use Rattle.std.specs.List.{list_all}
 use Rattle.zy_base.specs.declared.cause.Cause.{Cause}
 use Rattle.zy_base.specs.declared.cause.Cause.TheVariants as causes
 use Rattle.zy_base.specs.declared.ids.Party.{Party}
@@ -7,7 +8,7 @@ use Rattle.zy_base.specs.declared.ids.Party.TheVariants.{Replica, Client}
 use Rattle.zy_base.specs.declared.counts.Counts.{Counts}
 use Rattle.zy_frames.specs.declared.frame.Frame.{Frame}
 use Rattle.zy_frames.specs.declared.frame.Frame.TheVariants as frames
-use Rattle.zy_table.specs.State.{State, own_view, is_leaving, is_primary}
+use Rattle.zy_table.specs.State.{State, own_view, is_leaving}
 
 -- ---- roles
 
@@ -23,15 +24,15 @@ abbrev pub is_primary_of : Counts → ℕ → Party → Bool
 is_primary_of counts view (Replica id) = nat_eq (view % counts.n) id.0
 is_primary_of counts view (Client id) = false
 
--- The signers are those that may say such a thing, and the replica is one that hears it. Of the frames of normal
--- operation a replica takes requests while it is the primary, orders, and what asks for orders.
+-- The signers are those that may say such a thing, and the replica is one that hears it.
 abbrev pub in_role : {S : Type 0} → State S → Frame → Bool
-in_role s (frames.Request ask) = is_client ask.by && is_primary s
+in_role s (frames.Request ask) = is_client ask.by
 in_role s (frames.Order both) = is_primary_of s.counts both.order.stmt.view.0 both.order.by && is_client both.ask.by
 in_role s (frames.SpecResponse spec reply with_order) = false
-in_role s (frames.Commit specs) = false
+in_role s (frames.Commit specs) = list_all (λ spec. is_replica spec.by) specs
 in_role s (frames.LocalCommit local) = false
-in_role s (frames.ConfirmReq confirm ask) = false
+in_role s (frames.ConfirmReq confirm ask) =
+    is_replica confirm.by && (is_client ask.by && is_primary_of s.counts confirm.stmt.view.0 (Replica s.me))
 in_role s (frames.FillHole hole) = is_replica hole.by
 in_role s (frames.Hate hate) = false
 in_role s (frames.Pom first second) = false

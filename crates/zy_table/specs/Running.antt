@@ -1,10 +1,12 @@
 -- Running an order: its entry is executed and answered in the same step, and then the orders that were held for it.
-use Rattle.std.specs.Prelude.{ℕ, ◌+◌, nat_le, ◌&&◌, Bool, if◌then◌else◌, List, [], ◌∷◌, Option, Some, None, option_map}
+use Rattle.std.specs.Prelude.{ℕ, ◌+◌, nat_lt, nat_le, ◌&&◌, Bool, if◌then◌else◌, List, [], ◌∷◌, Option, Some, None, option_map}
 use Rattle.sha2.specs.Sha256.{sha256}
 use Rattle.zy_base.specs.Machine.{Rules}
 use Rattle.zy_base.specs.declared.ids.Digest.{Digest}
+use Rattle.zy_base.specs.declared.ids.Stamp.{Stamp}
 use Rattle.zy_base.specs.declared.ids.Party.TheVariants.{Client}
 use Rattle.zy_chain.specs.Entries.{digest_of_entry}
+use Rattle.zy_chain.specs.declared.entry.Entry.{Entry}
 use Rattle.zy_chain.specs.Heads.{head_after}
 use Rattle.zy_parts.specs.Numbers as numbers
 use Rattle.zy_parts.specs.Statements.{spec_fields}
@@ -24,7 +26,8 @@ use Rattle.zy_table.specs.declared.deeds.To.TheVariants.{One}
 use Rattle.zy_table.specs.declared.deeds.Body.TheVariants as bodies
 use Rattle.zy_table.specs.declared.deeds.Got.{Got}
 use Rattle.zy_table.specs.declared.deeds.Act.TheVariants.{Says, Gains}
-use Rattle.zy_table.specs.State.{State, own_view, stood_of, leaves_of, spent, with_spec}
+use Rattle.zy_table.specs.declared.kept.Pending.{Pending}
+use Rattle.zy_table.specs.State.{State, own_view, stood_of, leaves_of, spent, with_spec, pending_of, with_pending}
 use Rattle.zy_table.specs.Deeds.{Going, send, act}
 
 -- what an executed entry is answered with
@@ -58,10 +61,20 @@ got_from before ask known =
 abbrev pub got_of : {S : Type 0} → Rules S → State S → Signed Ask → Got
 got_of R s ask = got_from (now_of R s.kept).head ask (next_known R s ask)
 
--- the history gets the entry
+-- a request that waits still, where one of its client with this stamp was executed
+abbrev pub still_pending : Stamp → Option Pending → Option Pending
+still_pending stamp None = None
+still_pending stamp (Some pending) = if nat_lt stamp.0 pending.ask.stmt.stamp.0 then Some pending else None
+
+-- without the client's request that waited, where it isn't newer
+abbrev pub without_pending : {S : Type 0} → State S → Entry → State S
+without_pending s e = with_pending s e.client (still_pending e.stamp (pending_of s e.client))
+
+-- the history gets the entry, and its request waits no longer
 abbrev pub executed : {S : Type 0} → Rules S → Signed Ask → Going S → Going S
 executed R ask g =
-    act (Gains (got_of R g.state ask)) (record g { state = record g.state { kept = longer g.state.kept (entry_of ask) } })
+    act (Gains (got_of R g.state ask))
+    (record g { state = without_pending (record g.state { kept = longer g.state.kept (entry_of ask) }) (entry_of ask) })
 
 -- the response is signed, kept, and sent to the client with its order
 abbrev pub respond : {S : Type 0} → Rules S → Signed Order → Spec → List ℕ → Going S → Going S

@@ -1,5 +1,6 @@
 -- What a replica is, as far as its answers tell.
-use Rattle.std.specs.Prelude.{◌≡◌, ℕ, ◌+◌, ◌-◌, ◌*◌, ◌%◌, ◌^◌, min, nat_eq, Bool, true, false, if◌then◌else◌, List, [], slice_index_or, slice_set, replicate, Option, Some, None, option_map}
+use Rattle.std.specs.Prelude.{◌≡◌, ℕ, ◌+◌, ◌-◌, ◌*◌, ◌%◌, ◌^◌, min, nat_eq, ◌||◌, Bool, true, false, if◌then◌else◌, List, [], slice_index_or, slice_set, replicate, Option, Some, None, option_map, is_some}
+use Rattle.std.specs.List.{list_any}
 use Rattle.zy_base.specs.Machine.{Rules}
 use Rattle.zy_base.specs.Step.{view_of}
 use Rattle.zy_base.specs.declared.counts.Counts.{Counts}
@@ -18,9 +19,12 @@ use Rattle.zy_seal.specs.Sealing.{SealerState, spent_one}
 use Rattle.zy_parts.specs.declared.signed.Signed.{Signed}
 use Rattle.zy_parts.specs.declared.statements.Spec.{Spec}
 use Rattle.zy_parts.specs.declared.statements.Hole.{Hole}
+use Rattle.zy_parts.specs.declared.statements.Local.{Local}
 use Rattle.zy_exec.specs.Replay.{origin}
 use Rattle.zy_exec.specs.Kept.{Kept, last_place, now_of, known_in}
 use Rattle.zy_admit.specs.Orders.{Orders, no_orders}
+use Rattle.zy_table.specs.declared.kept.Certificate.{Certificate}
+use Rattle.zy_table.specs.declared.kept.Pending.{Pending}
 
 pub record State (S : Type 0) : Type 0 where
   pub me : ReplicaId
@@ -39,6 +43,12 @@ pub record State (S : Type 0) : Type 0 where
   pub hole : Option (Signed Hole)
   -- its last response to each client
   pub specs : List (Option (Signed Spec))
+  -- for each client the request that waits for its order
+  pub pending : List (Option Pending)
+  -- its furthest commit certificate
+  pub certificate : Option Certificate
+  -- the local commits that it said
+  pub locals : List (Signed Local)
 
 -- a replica that begins
 abbrev pub start_of : {S : Type 0} → Rules S → ℕ → ReplicaId → Counts → Keys → SealerState → State S
@@ -54,6 +64,9 @@ start_of R interval me counts keys sealer =
       orders = no_orders 0;
       hole = None;
       specs = replicate 64 None;
+      pending = replicate 64 None;
+      certificate = None;
+      locals = [];
     }
 
 -- ---- what is read of it
@@ -97,14 +110,21 @@ spec_to s client = slice_index_or s.specs client.0 None
 abbrev pub with_spec : {S : Type 0} → State S → Signed Spec → State S
 with_spec s spec = record s { specs = slice_set s.specs spec.stmt.client.0 (Some spec) }
 
--- the timers that are to run
-abbrev pub has_hole : Option (Signed Hole) → Bool
-has_hole None = false
-has_hole (Some hole) = true
+-- a client's request that waits for its order
+abbrev pub pending_of : {S : Type 0} → State S → ClientId → Option Pending
+pending_of s client = slice_index_or s.pending client.0 None
 
-abbrev pub timers_in : Mode → Option (Signed Hole) → Timers
-timers_in (Active view) hole = record { request = has_hole hole; change = false; answer = false }
-timers_in (Leaving view) hole = record { request = false; change = true; answer = false }
+abbrev pub with_pending : {S : Type 0} → State S → ClientId → Option Pending → State S
+with_pending s client pending = record s { pending = slice_set s.pending client.0 pending }
+
+-- something is missing, or a request waits
+abbrev pub waits : {S : Type 0} → State S → Bool
+waits s = is_some s.hole || list_any is_some s.pending
+
+-- the timers that are to run
+abbrev pub timers_in : Mode → Bool → Timers
+timers_in (Active view) waiting = record { request = waiting; change = false; answer = false }
+timers_in (Leaving view) waiting = record { request = false; change = true; answer = false }
 
 abbrev pub timers_of : {S : Type 0} → State S → Timers
-timers_of s = timers_in s.mode s.hole
+timers_of s = timers_in s.mode (waits s)

@@ -1,5 +1,5 @@
 -- What a replica makes of an event.
-use Rattle.std.specs.Prelude.{ℕ, Bool, if◌then◌else◌, List, Option, Some, None, Result, Ok, Err}
+use Rattle.std.specs.Prelude.{ℕ, Bool, if◌then◌else◌, List, [], ◌∷◌, Option, Some, None, Result, Ok, Err}
 use Rattle.zy_base.specs.Machine.{Rules}
 use Rattle.zy_base.specs.declared.frame_fault.FrameFault.{FrameFault}
 use Rattle.zy_base.specs.declared.cause.Cause.{Cause}
@@ -9,6 +9,8 @@ use Rattle.zy_base.specs.declared.step.Event.{Event}
 use Rattle.zy_base.specs.declared.step.Event.TheVariants.{Heard, Timer}
 use Rattle.zy_base.specs.declared.step.TimerKind.{TimerKind}
 use Rattle.zy_base.specs.declared.step.TimerKind.TheVariants as timers
+use Rattle.zy_parts.specs.declared.signed.Signed.{Signed}
+use Rattle.zy_parts.specs.declared.statements.Spec.{Spec}
 use Rattle.zy_frames.specs.declared.frame.Frame.{Frame}
 use Rattle.zy_frames.specs.declared.frame.Frame.TheVariants as frames
 use Rattle.zy_frames.specs.Frames.{frame_in, parts_of}
@@ -19,20 +21,27 @@ use Rattle.zy_table.specs.Roles.{in_role, view_cause}
 use Rattle.zy_table.specs.Requests.{request}
 use Rattle.zy_table.specs.Orders.{order}
 use Rattle.zy_table.specs.Holes.{fill_hole, ask_again}
+use Rattle.zy_table.specs.Commits.{commit}
+use Rattle.zy_table.specs.Confirms.{confirm}
 
 -- an outcome, unless there is a cause against it
 abbrev pub unless : {S : Type 0} → Option Cause → State S → Outcome S → Outcome S
 unless None s outcome = outcome
 unless (Some cause) s outcome = refused cause s
 
+-- a commit certificate of the own view, by its first response
+abbrev pub commit_in_view : {S : Type 0} → Rules S → State S → List (Signed Spec) → Outcome S
+commit_in_view R s [] = refused (causes.TooFew 0) s
+commit_in_view R s (first ∷ others) = unless (view_cause s first.stmt.view.0) s (commit R s first.stmt (first ∷ others))
+
 -- the row of a frame
 abbrev pub row : {S : Type 0} → Rules S → State S → Frame → Outcome S
 row R s (frames.Request ask) = request R s ask
 row R s (frames.Order both) = unless (view_cause s both.order.stmt.view.0) s (order R s both)
 row R s (frames.SpecResponse spec reply with_order) = refused causes.WrongRole s
-row R s (frames.Commit specs) = refused causes.WrongRole s
+row R s (frames.Commit specs) = commit_in_view R s specs
 row R s (frames.LocalCommit local) = refused causes.WrongRole s
-row R s (frames.ConfirmReq confirm ask) = refused causes.WrongRole s
+row R s (frames.ConfirmReq confirmed ask) = unless (view_cause s confirmed.stmt.view.0) s (confirm R s confirmed ask)
 row R s (frames.FillHole hole) = unless (view_cause s hole.stmt.view.0) s (fill_hole s hole)
 row R s (frames.Hate hate) = refused causes.WrongRole s
 row R s (frames.Pom first second) = refused causes.WrongRole s

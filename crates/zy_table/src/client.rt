@@ -1,5 +1,6 @@
 use zy_base::{Bytes, Digest, Place, Stamp, View};
-use zy_parts::{Order, Signed, Spec};
+use zy_cert::Votes;
+use zy_parts::{Local, Order, Signed, Spec};
 
 /// How a request became complete: on matching responses alone, or on local commits of a commit certificate.
 #[derive(Clone, Copy, Debug, PartialEq, Eq)]
@@ -25,4 +26,13 @@ pub struct Response {
     pub spec: Signed<Spec>,
     pub reply: Bytes,
     pub order: Option<Signed<Order>>,
+}
+
+/// The commit certificate that a client sent: what its responses say, the reply of the first of them, and the local
+/// commits to it.
+#[derive(Debug, Drop)]
+pub struct Commit {
+    pub spec: Spec,
+    pub reply: Bytes,
+    pub locals: Votes<Local>,
 }

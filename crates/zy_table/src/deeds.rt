@@ -1,7 +1,7 @@
 use zy_base::{Bytes, Digest, Items, Party, Place, Stood};
 use zy_chain::Entry;
 use zy_frames::Frame;
-use zy_parts::{Hole, Order, Spec};
+use zy_parts::{Confirm, Hole, Local, Order, Spec};
 
 /// To whom a frame goes.
 #[derive(Clone, Copy, Debug, PartialEq, Eq)]
@@ -23,6 +23,8 @@ pub struct Sent {
 pub enum Body {
     Order(Order),
     Spec(Spec),
+    Local(Local),
+    Confirm(Confirm),
     Hole(Hole),
 }
 

@@ -4,8 +4,10 @@
 
 mod client;
 mod deeds;
+mod kept;
 mod sending;
 
-pub use client::{Done, Path, Response};
+pub use client::{Commit, Done, Path, Response};
 pub use deeds::{Act, Body, Deeds, Gains, Got, Remark, Sent, To};
+pub use kept::{Certificate, Pending};
 pub use sending::outgoing;

@@ -23,7 +23,7 @@ use Rattle.zy_parts.specs.declared.statements.Ask.{Ask}
 use Rattle.zy_parts.specs.declared.statements.Spec.{Spec}
 use Rattle.zy_table.specs.ClientRows.{client_step, agrees, done_of}
 use Rattle.zy_table.specs.ClientState.{ClientState, is_waiting}
-use Rattle.zy_table.specs.Requests.{same_spec}
+use Rattle.zy_cert.specs.Equal.{same_spec}
 use Rattle.zy_table.specs.declared.client.Done.{Done}
 use Rattle.zy_table.specs.declared.client.Response.{Response}
 use Rattle.zy_table.specs.declared.deeds.Body.TheVariants as bodies

@@ -1,0 +1,16 @@
+use zy_base::{Items, Place};
+use zy_parts::{Ask, Confirm, Signed, Spec};
+
+/// A request that waits at a backup for its order, and what was said of it to the primary.
+#[derive(Clone, Debug, Drop)]
+pub struct Pending {
+    pub confirm: Signed<Confirm>,
+    pub ask: Signed<Ask>,
+}
+
+/// A commit certificate: equal signed responses of different replicas, and the place that they name.
+#[derive(Clone, Debug, Drop)]
+pub struct Certificate {
+    pub place: Place,
+    pub specs: Items<Signed<Spec>>,
+}
