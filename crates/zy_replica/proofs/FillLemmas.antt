@@ -14,7 +14,7 @@ use Rattle.zy_table.specs.declared.deeds.Sent.{Sent}
 use Rattle.zy_table.specs.State.{State}
 use Rattle.zy_table.specs.Deeds.{Outcome, refused}
 use Rattle.zy_table.specs.Holes.{order_to, fill_with}
-use Rattle.zy_replica.specs.Ready.{IsOrderReady}
+use Rattle.zy_core.specs.Ready.{IsOrderReady}
 
 pub fill_none : {S : Type 0} (s : State S) (hole : Signed Hole) (orders : List OrderFrame) → orders ≡ []
     → fill_with s hole orders ≡ (if nat_le hole.stmt.to.0 (last_place s.kept) then refused causes.OldPlace s else refused (causes.Behind hole.stmt.to) s)

@@ -10,7 +10,7 @@ use Rattle.zy_table.specs.declared.deeds.Act.{Act}
 use Rattle.zy_table.specs.declared.deeds.Act.TheVariants.{Says, Gains}
 use Rattle.zy_table.specs.declared.deeds.Got.{Got}
 use Rattle.zy_table.specs.declared.deeds.Remark.{Remark}
-use Rattle.zy_replica.specs.Ready.{IsActInRange}
+use Rattle.zy_core.specs.Ready.{IsActInRange}
 
 -- an item that goes over from what is left
 pub moved : {A : Type 0} (front : List A) (x : A) (rest all : List A) → front ++ x ∷ rest ≡ all → (front ++ x ∷ []) ++ rest ≡ all

@@ -10,13 +10,11 @@ ghost use Rattle.zy_parts.specs.Signing.{IsSignedInRange};
 ghost use Rattle.zy_parts.specs.Statements.{IsHoleInRange};
 ghost use Rattle.zy_admit.specs.Orders.{orders_from};
 ghost use Rattle.zy_table.specs.Holes.{order_to, fill_with as filled_with, fill_hole as fill_row, ask_again as again};
-ghost use Rattle.zy_replica.specs.Ready.{IsOrderReady};
+ghost use Rattle.zy_core.specs.Ready.{IsOrderReady};
 
-use crate::Replica;
-use crate::copies::hole_copy;
-use crate::progress::{Moved, Progress};
 use std::alloc::Global;
-use zy_base::{Answer, Cause, Items, Machine, Mode, Party, Place, Want};
+use zy_base::{Answer, Cause, Items, Machine, Mode, Party, Want};
+use zy_core::{Core, Moved, Progress, hole_copy};
 use zy_frames::{Frame, OrderFrame};
 use zy_parts::{Hole, Signed};
 use zy_table::{Deeds, Sent, To};
@@ -35,74 +33,67 @@ fn orders_to(alloc: Global, by: Party, orders: Vec<OrderFrame>) -> Result<Items<
     Ok(sent)
 }
 
-impl<M: Machine> Replica<M> {
-    // Nothing is kept in the range: it lies before, or it hasn't come.
-    fn nothing_kept(self, hole: &Hole) -> Moved<M>
-        ensures { result ≡ (if nat_le hole.now.to.0 (last_place self.kept) then refused_with causes.OldPlace self else refused_with (causes.Behind hole.now.to) self) }
-    {
-        if hole.to <= self.exec.end() {
-            self.refused(Cause::OldPlace)
-        } else {
-            self.refused(Cause::Behind(hole.to))
-        }
+// Nothing is kept in the range: it lies before, or it hasn't come.
+fn nothing_kept<M: Machine>(core: Core<M>, hole: &Hole) -> Moved<M>
+    ensures { result ≡ (if nat_le hole.now.to.0 (last_place core.kept) then refused_with causes.OldPlace core else refused_with (causes.Behind hole.now.to) core) }
+{
+    if hole.to <= core.length() {
+        core.refused(Cause::OldPlace)
+    } else {
+        core.refused(Cause::Behind(hole.to))
     }
+}
 
-    fn send_orders(self, by: Party, orders: Vec<OrderFrame>) -> Result<Moved<M>, Want>
-        requires { AllByRecursion IsOrderReady orders.items }
-        ensures { IfOk result (λ m. m ≡ record { answer = Answer.Taken; state = self; deeds = record { sent = map (order_to by) orders.items; acts = [] } }) }
-    {
-        let alloc = self.alloc;
-        let deeds = Deeds {
-            sent: orders_to(alloc, by, orders)?,
-            acts: Items::new(alloc),
-        };
-        Ok(Progress {
-            replica: self,
-            deeds,
-        }
-        .ends(Answer::Taken))
-    }
+fn send_orders<M: Machine>(
+    core: Core<M>,
+    by: Party,
+    orders: Vec<OrderFrame>,
+) -> Result<Moved<M>, Want>
+    requires { AllByRecursion IsOrderReady orders.items }
+    ensures { IfOk result (λ m. m ≡ record { answer = Answer.Taken; state = core; deeds = record { sent = map (order_to by) orders.items; acts = [] } }) }
+{
+    let alloc = core.allocator();
+    let deeds = Deeds {
+        sent: orders_to(alloc, by, orders)?,
+        acts: Items::new(alloc),
+    };
+    Ok(Progress { core, deeds }.ends(Answer::Taken))
+}
 
-    #[tactic(auto, using(crate::proofs::FillLemmas::fill_none, crate::proofs::FillLemmas::fill_some))]
-    fn fill_with(self, hole: Signed<Hole>, orders: Vec<OrderFrame>) -> Result<Moved<M>, Want>
-        requires hole { IsSignedInRange IsHoleInRange hole }
-        requires orders { AllByRecursion IsOrderReady orders.items }
-        ensures { IfOk result (λ m. m ≡ filled_with self hole orders.items) }
-    {
-        if orders.is_empty() {
-            Ok(self.nothing_kept(&hole.stmt))
-        } else {
-            self.send_orders(hole.by, orders)
-        }
+#[tactic(auto, using(crate::proofs::FillLemmas::fill_none, crate::proofs::FillLemmas::fill_some))]
+fn fill_with<M: Machine>(
+    core: Core<M>,
+    hole: Signed<Hole>,
+    orders: Vec<OrderFrame>,
+) -> Result<Moved<M>, Want>
+    requires hole { IsSignedInRange IsHoleInRange hole }
+    requires orders { AllByRecursion IsOrderReady orders.items }
+    ensures { IfOk result (λ m. m ≡ filled_with core hole orders.items) }
+{
+    if orders.is_empty() {
+        Ok(nothing_kept(core, &hole.stmt))
+    } else {
+        send_orders(core, hole.by, orders)
     }
+}
 
-    // The kept orders in a range.
-    fn orders_asked(&self, hole: &Hole) -> Result<Vec<OrderFrame>, Want>
-        requires { IsHoleInRange hole.now }
-        ensures orders { IfOk result (λ v. v.items ≡ orders_from hole.now.from.0 hole.now.to.0 self.now.orders) }
-        ensures ready { IfOk result (λ v. AllByRecursion IsOrderReady v.items) }
-    {
-        Ok(self.orders.orders_from(self.alloc, hole.from, hole.to)?)
-    }
+#[tactic(auto, unfolding(zy_table::specs::Holes::fill_hole))]
+pub(crate) fn fill_hole<M: Machine>(core: Core<M>, hole: Signed<Hole>) -> Result<Moved<M>, Want>
+    requires { IsSignedInRange IsHoleInRange hole }
+    ensures { IfOk result (λ m. m ≡ fill_row core hole) }
+{
+    let orders = core.orders_asked(&hole.stmt)?;
+    fill_with(core, hole, orders)
+}
 
-    #[tactic(auto, unfolding(zy_table::specs::Holes::fill_hole))]
-    pub(crate) fn fill_hole(self, hole: Signed<Hole>) -> Result<Moved<M>, Want>
-        requires { IsSignedInRange IsHoleInRange hole }
-        ensures { IfOk result (λ m. m ≡ fill_row self hole) }
-    {
-        let orders = self.orders_asked(&hole.stmt)?;
-        self.fill_with(hole, orders)
-    }
-
-    // The missing orders are asked for again, of all replicas.
-    pub(crate) fn ask_again(self) -> Result<Moved<M>, Want>
-        ensures { IfOk result (λ m. m ≡ again self self.mode self.hole) }
-    {
-        let hole = match (&self.mode, &self.hole) {
-            (Mode::Active(_), Some(hole)) => hole_copy(hole)?,
-            _ => return Ok(self.begin().ends(Answer::Taken)),
-        };
-        let progress = self.begin().send_hole(To::All, hole)?;
-        Ok(progress.ends(Answer::Taken))
-    }
+// The missing orders are asked for again, of all replicas.
+pub(crate) fn ask_again<M: Machine>(core: Core<M>) -> Result<Moved<M>, Want>
+    ensures { IfOk result (λ m. m ≡ again core core.mode core.hole) }
+{
+    let hole = match (core.mode(), core.hole()) {
+        (Mode::Active(_), Some(hole)) => hole_copy(hole)?,
+        _ => return Ok(core.begin().ends(Answer::Taken)),
+    };
+    let progress = core.begin().send_hole(To::All, hole)?;
+    Ok(progress.ends(Answer::Taken))
 }

@@ -13,167 +13,155 @@ ghost use Rattle.zy_parts.specs.Numbers as numbers;
 ghost use Rattle.zy_parts.specs.Signing.{IsSignedInRange};
 ghost use Rattle.zy_seal.specs.Sealing.{sealed_by};
 ghost use Rattle.zy_parts.specs.Statements.{IsHoleInRange, hole_fields};
-ghost use Rattle.zy_replica.specs.Ready.{IsOrderReady};
+ghost use Rattle.zy_core.specs.Ready.{IsOrderReady};
 
-use crate::Replica;
-use crate::copies::hole_copy;
-use crate::progress::{Moved, Progress};
 use zy_admit::{Admit, Position, client_of};
-use zy_base::{Answer, Cause, Machine, Party, Place, Want};
+use zy_base::{Answer, Cause, Machine, Place, Want};
+use zy_core::{Core, Moved, Progress, hole_copy};
 use zy_frames::OrderFrame;
 use zy_parts::{Hole, Signed};
 use zy_table::{Body, To};
 
-impl<M: Machine> Replica<M> {
-    fn position_of(&self, frame: &OrderFrame) -> Position
-        ensures { result ≡ position_for M.rules self.now frame.now }
-    {
-        Position {
-            end: self.exec.end(),
-            head: self.exec.head(),
-            window: self.window(),
-            last: self.last_stamp(client_of(frame.ask.by)),
+fn position_of<M: Machine>(core: &Core<M>, frame: &OrderFrame) -> Position
+    ensures { result ≡ position_for M.rules core.now frame.now }
+{
+    Position {
+        end: core.length(),
+        head: core.head(),
+        window: core.window(),
+        last: core.last_stamp(client_of(frame.ask.by)),
+    }
+}
+
+// The order is kept, and nothing is missing any more.
+fn accept<M: Machine>(core: Core<M>, frame: &OrderFrame) -> Result<Core<M>, Want>
+    requires order { IsOrderReady frame.now }
+    requires above { last_place core.kept < frame.now.order.stmt.place.0 }
+    requires within { frame.now.order.stmt.place.0 ≤ window_of core }
+    ensures { IfOk result (λ r. r ≡ record core { orders = with_order core.orders frame.now; hole = None }) }
+{
+    Ok(core.keep_copy(frame)?.keep_hole(None))
+}
+
+// An order that is next.
+fn take_order<M: Machine>(core: Core<M>, frame: OrderFrame) -> Result<Moved<M>, Want>
+    requires order { IsOrderReady frame }
+    requires above { last_place core.kept < frame.order.stmt.place.0 }
+    requires within { frame.order.stmt.place.0 ≤ window_of core }
+    ensures { IfOk result (λ m. m ≡ taken M.rules core frame) }
+{
+    if core.leaves() == 0 {
+        return core.not_heard(frame, Cause::KeySpent);
+    }
+    let ran = accept_and_run(core, &frame);
+    drop(frame);
+    ran
+}
+
+fn accept_and_run<M: Machine>(core: Core<M>, frame: &OrderFrame) -> Result<Moved<M>, Want>
+    requires leaf { 1 ≤ leaves_of core }
+    requires order { IsOrderReady frame.now }
+    requires above { last_place core.kept < frame.now.order.stmt.place.0 }
+    requires within { frame.now.order.stmt.place.0 ≤ window_of core }
+    ensures { IfOk result (λ m. m ≡ ends Answer.Taken (run M.rules frame.now (begin (record core { orders = with_order core.orders frame.now; hole = None })))) }
+{
+    accept(core, frame)?.begin().run_all(frame)
+}
+
+// The missing orders have to be asked for: nothing is held at the next place, and nothing was asked for there.
+fn owes_hole<M: Machine>(core: &Core<M>) -> bool
+    ensures { result ≡ owes core.now }
+{
+    let next = Place(core.length().0 + 1);
+    core.orders().stored(next).is_none() && !has_asked_from(core, next)
+}
+
+fn has_asked_from<M: Machine>(core: &Core<M>, place: Place) -> bool
+    ensures { result ≡ asked_at core.now.hole place.0 }
+{
+    match core.hole() {
+        None => false,
+        Some(hole) => hole.stmt.from == place,
+    }
+}
+
+fn seal_hole<M: Machine>(core: Core<M>) -> Result<(Core<M>, Signed<Hole>), Want>
+    requires leaf { 1 ≤ leaves_of core }
+    requires room { last_place core.kept < window_of core }
+    ensures core { IfOk result (λ r. r.0 ≡ record (spent core) { hole = Some (sealed_by numbers.hole hole_fields core.sealer (hole_for core)) }) }
+    ensures hole { IfOk result (λ r. r.1 ≡ sealed_by numbers.hole hole_fields core.sealer (hole_for core)) }
+    ensures range { IfOk result (λ r. IsSignedInRange IsHoleInRange r.1) }
+{
+    let hole = core.hole_of();
+    let (core, signed) = core.seal(hole)?;
+    let copy = hole_copy(&signed)?;
+    Ok((core.keep_hole(Some(copy)), signed))
+}
+
+// The primary is asked for them.
+fn ask_for_missing<M: Machine>(core: Core<M>) -> Result<Progress<M>, Want>
+    requires leaf { 1 ≤ leaves_of core }
+    requires room { last_place core.kept < window_of core }
+    ensures { IfOk result (λ g. g ≡ asked M.rules core) }
+{
+    let stood = core.stood();
+    let to = To::One(core.primary());
+    let (core, signed) = seal_hole(core)?;
+    match core.begin().says(Body::Hole(signed.stmt), stood) {
+        Ok(progress) => progress.send_hole(to, signed),
+        Err(want) => {
+            drop(signed);
+            Err(want)
         }
     }
+}
 
-    // The order is kept, and nothing is missing any more.
-    fn accept(self, frame: &OrderFrame) -> Result<Replica<M>, Want>
-        requires order { IsOrderReady frame.now }
-        requires above { last_place self.kept < frame.now.order.stmt.place.0 }
-        requires within { frame.now.order.stmt.place.0 ≤ window_of self }
-        ensures { IfOk result (λ r. r ≡ record self { orders = with_order self.orders frame.now; hole = None }) }
-    {
-        Ok(self.keep_copy(frame)?.keep_hole(None))
+// An order that is held.
+fn hold_order<M: Machine>(core: Core<M>, frame: OrderFrame) -> Result<Moved<M>, Want>
+    requires order { IsOrderReady frame }
+    requires above { last_place core.kept < frame.order.stmt.place.0 }
+    requires within { frame.order.stmt.place.0 ≤ window_of core }
+    ensures { IfOk result (λ m. m ≡ held M.rules core frame) }
+{
+    if !owes_hole(&core) {
+        let core = core.keep_order(frame)?;
+        return Ok(core.begin().ends(Answer::Held));
     }
+    if core.leaves() == 0 {
+        return core.not_heard(frame, Cause::KeySpent);
+    }
+    let progress = ask_for_missing(core.keep_order(frame)?)?;
+    Ok(progress.ends(Answer::Held))
+}
 
-    // An order that is next.
-    fn take_order(self, frame: OrderFrame) -> Result<Moved<M>, Want>
-        requires order { IsOrderReady frame }
-        requires above { last_place self.kept < frame.order.stmt.place.0 }
-        requires within { frame.order.stmt.place.0 ≤ window_of self }
-        ensures { IfOk result (λ m. m ≡ taken M.rules self frame) }
-    {
-        if self.leaves() == 0 {
-            return self.not_heard(frame, Cause::KeySpent);
-        }
-        let ran = self.accept_and_run(&frame);
-        drop(frame);
-        ran
-    }
+fn judge<M: Machine>(core: &Core<M>, frame: &OrderFrame) -> Admit
+    requires { IsOrderReady frame.now }
+    ensures { result ≡ judge_in core.now.orders frame.now.order.stmt frame.now.ask (position_for M.rules core.now frame.now) }
+{
+    let position = position_of(core, frame);
+    core.orders()
+        .judge(&frame.order.stmt, &frame.ask, &position)
+}
 
-    fn accept_and_run(self, frame: &OrderFrame) -> Result<Moved<M>, Want>
-        requires leaf { 1 ≤ leaves_of self }
-        requires order { IsOrderReady frame.now }
-        requires above { last_place self.kept < frame.now.order.stmt.place.0 }
-        requires within { frame.now.order.stmt.place.0 ≤ window_of self }
-        ensures { IfOk result (λ m. m ≡ ends Answer.Taken (run M.rules frame.now (begin (record self { orders = with_order self.orders frame.now; hole = None })))) }
-    {
-        self.accept(frame)?.begin().run_all(frame)
+fn order_as<M: Machine>(core: Core<M>, frame: OrderFrame, admit: Admit) -> Result<Moved<M>, Want>
+    requires order { IsOrderReady frame }
+    requires judged { admit ≡ judge_in core.orders frame.order.stmt frame.ask (position_for M.rules core frame) }
+    ensures { IfOk result (λ m. m ≡ answered_as M.rules core frame admit) }
+{
+    match admit {
+        Admit::Next => take_order(core, frame),
+        Admit::Held => hold_order(core, frame),
+        Admit::Refused(cause) => core.not_heard(frame, cause),
+        Admit::Evidence => core.not_heard(frame, Cause::Unmatched),
     }
+}
 
-    // The missing orders have to be asked for: nothing is held at the next place, and nothing was asked for there.
-    fn owes_hole(&self) -> bool
-        ensures { result ≡ owes self.now }
-    {
-        let next = Place(self.exec.end().0 + 1);
-        self.orders.stored(next).is_none() && !self.has_asked_from(next)
-    }
-
-    fn has_asked_from(&self, place: Place) -> bool
-        ensures { result ≡ asked_at self.now.hole place.0 }
-    {
-        match &self.hole {
-            None => false,
-            Some(hole) => hole.stmt.from == place,
-        }
-    }
-
-    // From the next place to the one before the least that is held.
-    fn hole_of(&self) -> Hole
-        requires room { last_place self.now.kept < window_of self.now }
-        ensures hole { result ≡ hole_for self.now }
-        ensures range { IsHoleInRange result }
-    {
-        let end = self.exec.end();
-        Hole {
-            view: self.view(),
-            from: Place(end.0 + 1),
-            to: Place(end.0 + self.orders.gap(end).unwrap_or(1)),
-        }
-    }
-
-    fn seal_hole(self) -> Result<(Replica<M>, Signed<Hole>), Want>
-        requires leaf { 1 ≤ leaves_of self }
-        requires room { last_place self.kept < window_of self }
-        ensures replica { IfOk result (λ r. r.0 ≡ record (spent self) { hole = Some (sealed_by numbers.hole hole_fields self.sealer (hole_for self)) }) }
-        ensures hole { IfOk result (λ r. r.1 ≡ sealed_by numbers.hole hole_fields self.sealer (hole_for self)) }
-        ensures range { IfOk result (λ r. IsSignedInRange IsHoleInRange r.1) }
-    {
-        let hole = self.hole_of();
-        let (replica, signed) = self.seal(hole)?;
-        let copy = hole_copy(&signed)?;
-        Ok((replica.keep_hole(Some(copy)), signed))
-    }
-
-    // The primary is asked for them.
-    fn ask_for_missing(self) -> Result<Progress<M>, Want>
-        requires leaf { 1 ≤ leaves_of self }
-        requires room { last_place self.kept < window_of self }
-        ensures { IfOk result (λ g. g ≡ asked M.rules self) }
-    {
-        let stood = self.stood();
-        let to = To::One(Party::Replica(self.counts.primary(self.view())));
-        let (replica, signed) = self.seal_hole()?;
-        let progress = replica.begin().says(Body::Hole(signed.stmt), stood)?;
-        progress.send_hole(to, signed)
-    }
-
-    // An order that is held.
-    fn hold_order(self, frame: OrderFrame) -> Result<Moved<M>, Want>
-        requires order { IsOrderReady frame }
-        requires above { last_place self.kept < frame.order.stmt.place.0 }
-        requires within { frame.order.stmt.place.0 ≤ window_of self }
-        ensures { IfOk result (λ m. m ≡ held M.rules self frame) }
-    {
-        if !self.owes_hole() {
-            let replica = self.keep_order(frame)?;
-            return Ok(replica.begin().ends(Answer::Held));
-        }
-        if self.leaves() == 0 {
-            return self.not_heard(frame, Cause::KeySpent);
-        }
-        let progress = self.keep_order(frame)?.ask_for_missing()?;
-        Ok(progress.ends(Answer::Held))
-    }
-
-    fn judge(&self, frame: &OrderFrame) -> Admit
-        requires { IsOrderReady frame.now }
-        ensures { result ≡ judge_in self.now.orders frame.now.order.stmt frame.now.ask (position_for M.rules self.now frame.now) }
-    {
-        let position = self.position_of(frame);
-        self.orders.judge(&frame.order.stmt, &frame.ask, &position)
-    }
-
-    fn order_as(self, frame: OrderFrame, admit: Admit) -> Result<Moved<M>, Want>
-        requires order { IsOrderReady frame }
-        requires judged { admit ≡ judge_in self.orders frame.order.stmt frame.ask (position_for M.rules self frame) }
-        ensures { IfOk result (λ m. m ≡ answered_as M.rules self frame admit) }
-    {
-        match admit {
-            Admit::Next => self.take_order(frame),
-            Admit::Held => self.hold_order(frame),
-            Admit::Refused(cause) => self.not_heard(frame, cause),
-            Admit::Evidence => self.not_heard(frame, Cause::Unmatched),
-        }
-    }
-
-    // The row.
-    #[tactic(auto, unfolding(zy_table::specs::Orders::order))]
-    pub(crate) fn hear_order(self, frame: OrderFrame) -> Result<Moved<M>, Want>
-        requires order { IsOrderReady frame }
-        ensures { IfOk result (λ m. m ≡ order_row M.rules self frame) }
-    {
-        let admit = self.judge(&frame);
-        self.order_as(frame, admit)
-    }
+// The row.
+#[tactic(auto, unfolding(zy_table::specs::Orders::order))]
+pub(crate) fn hear_order<M: Machine>(core: Core<M>, frame: OrderFrame) -> Result<Moved<M>, Want>
+    requires order { IsOrderReady frame }
+    ensures { IfOk result (λ m. m ≡ order_row M.rules core frame) }
+{
+    let admit = judge(&core, &frame);
+    order_as(core, frame, admit)
 }

@@ -7,52 +7,52 @@ ghost use Rattle.zy_frames.specs.Frames.{IsFrameInRange};
 ghost use Rattle.zy_chain.specs.Entries.{IsEntryInRange};
 ghost use Rattle.zy_table.specs.State.{timers_of};
 ghost use Rattle.zy_table.specs.Deeds.{outgoing_of, others, text_by, said_from, gains_in};
-ghost use Rattle.zy_replica.specs.Ready.{IsActInRange, IsBodyInRange};
+ghost use Rattle.zy_core.specs.Ready.{IsActInRange, IsBodyInRange};
 
-use crate::Stepped;
-use crate::progress::{Moved, Progress};
+use crate::{Replica, Stepped};
 use std::alloc::Global;
 use zy_base::{Bytes, Items, Machine, Outgoing, Party, ReplicaId, Said, Spoken, Want};
+use zy_core::{Moved, Progress};
 use zy_parts::signed_text;
 use zy_table::{Act, Body, Deeds, Gains, Remark, Sent, outgoing};
 
-impl<M: Machine> Moved<M> {
-    pub(crate) fn finish(self) -> Result<Stepped<M>, Want>
-        ensures answer { IfOk result (λ s. s.answer ≡ self.answer) }
-        ensures replica { IfOk result (λ s. s.replica ≡ self.state) }
-        ensures out { IfOk result (λ s. s.out ≡ outgoing_of self.state.me.0 self.state.counts.n self.deeds.sent) }
-        ensures timers { IfOk result (λ s. s.timers ≡ timers_of self.state) }
-        ensures said { IfOk result (λ s. s.said ≡ said_from (parties.Replica self.state.me) 0 self.deeds.acts) }
-        ensures got { IfOk result (λ s. s.got ≡ gains_in self.deeds.acts) }
-        ensures range { IfOk result (λ s. AllByRecursion (λ got. IsEntryInRange got.entry) s.got) }
-    {
-        let Moved { answer, progress } = self;
-        let Progress { replica, deeds } = progress;
-        let Deeds { sent, acts } = deeds;
-        let out = match sendings(replica.alloc, replica.me, replica.counts.n, sent) {
-            Ok(out) => out,
-            Err(want) => {
-                drop(acts);
-                return Err(want);
-            }
-        };
-        let (said, got) = match told(replica.alloc, replica.me, acts) {
-            Ok(told) => told,
-            Err(want) => {
-                drop(out);
-                return Err(want);
-            }
-        };
-        let timers = replica.timers();
-        Ok(Stepped {
-            replica,
-            answer,
-            out,
-            timers,
-            said,
-            got,
-        })
-    }
+// With frames and statements as bytes the step is done.
+pub(crate) fn finish<M: Machine>(moved: Moved<M>) -> Result<Stepped<M>, Want>
+    ensures answer { IfOk result (λ s. s.answer ≡ moved.answer) }
+    ensures replica { IfOk result (λ s. s.replica ≡ moved.state) }
+    ensures out { IfOk result (λ s. s.out ≡ outgoing_of moved.state.me.0 moved.state.counts.n moved.deeds.sent) }
+    ensures timers { IfOk result (λ s. s.timers ≡ timers_of moved.state) }
+    ensures said { IfOk result (λ s. s.said ≡ said_from (parties.Replica moved.state.me) 0 moved.deeds.acts) }
+    ensures got { IfOk result (λ s. s.got ≡ gains_in moved.deeds.acts) }
+    ensures range { IfOk result (λ s. AllByRecursion (λ got. IsEntryInRange got.entry) s.got) }
+{
+    let Moved { answer, progress } = moved;
+    let Progress { core, deeds } = progress;
+    let Deeds { sent, acts } = deeds;
+    let (alloc, me) = (core.allocator(), core.me());
+    let out = match sendings(alloc, me, core.counts().n, sent) {
+        Ok(out) => out,
+        Err(want) => {
+            drop(acts);
+            return Err(want);
+        }
+    };
+    let (said, got) = match told(alloc, me, acts) {
+        Ok(told) => told,
+        Err(want) => {
+            drop(out);
+            return Err(want);
+        }
+    };
+    let timers = core.timers();
+    Ok(Stepped {
+        replica: Replica { core },
+        answer,
+        out,
+        timers,
+        said,
+        got,
+    })
 }
 
 // The frames as bytes, each for its receivers.
@@ -128,6 +128,8 @@ fn text_of(alloc: Global, me: ReplicaId, body: &Body) -> Result<Bytes, Want>
     match body {
         Body::Order(order) => signed_text(alloc, me, order),
         Body::Spec(spec) => signed_text(alloc, me, spec),
+        Body::Local(local) => signed_text(alloc, me, local),
+        Body::Confirm(confirm) => signed_text(alloc, me, confirm),
         Body::Hole(hole) => signed_text(alloc, me, hole),
     }
 }

@@ -1,55 +1,30 @@
-ghost use Rattle.std.specs.Prelude.{◌≡◌, ◌≤◌, ◌<◌, length, [], IfOk};
+ghost use Rattle.std.specs.Prelude.{◌≡◌, ◌≤◌, length, IfOk};
+ghost use Rattle.std.specs.List.{AllByRecursion};
 ghost use Rattle.sha2.specs.Sha256.{sha256};
-ghost use Rattle.zy_base.specs.Step.{view_of};
 ghost use Rattle.zy_base.specs.declared.ids.Party.TheVariants as parties;
+ghost use Rattle.zy_chain.specs.Entries.{IsEntryInRange};
 ghost use Rattle.zy_exec.specs.Kept.{now_of, last_place};
 ghost use Rattle.zy_exec.specs.Snapshot.{snapshot_of};
+ghost use Rattle.zy_table.specs.Step.{step as step_row};
+ghost use Rattle.zy_table.specs.Deeds.{outgoing_of, said_from, gains_in};
 
-use sha2::{Digest as Hasher, Sha256};
+use crate::outcome::finish;
+use crate::step::moves;
 use std::alloc::Global;
 use std::marker::Model;
-use zy_admit::Admission;
 use zy_base::{
-    Answer, Counts, Digest, Machine, Mode, Outgoing, Place, ReplicaId, Said, Stood, Timers, View,
-    Want,
+    Answer, Counts, Digest, Event, Machine, Mode, Outgoing, Place, ReplicaId, Said, Stood, Timers,
+    View, Want,
 };
-use zy_exec::{Exec, nothing};
-use zy_parts::{Hole, Signed, Spec};
+use zy_core::Core;
+use zy_exec::Exec;
 use zy_seal::{Directory, Sealer};
 use zy_table::Gains;
 
 /// A replica: its keys, its view, its history with the machine at the end, and the orders that it keeps.
+#[derive(Drop)]
 pub struct Replica<M: Machine> {
-    pub(crate) alloc: Global,
-    pub(crate) me: ReplicaId,
-    pub(crate) counts: Counts,
-    pub(crate) directory: Directory,
-    pub(crate) sealer: Sealer,
-    pub(crate) mode: Mode,
-    pub(crate) last_view: View,
-    pub(crate) exec: Exec<M>,
-    pub(crate) orders: Admission,
-    pub(crate) hole: Option<Signed<Hole>>,
-    pub(crate) specs: Vec<Option<Signed<Spec>>>,
-}
-
-// What a replica holds is let go here. A derived drop would be written out again at each way out of a function.
-impl<M: Machine> Drop for Replica<M> {
-    fn drop(self) {
-        let Replica {
-            alloc: _,
-            me: _,
-            counts: _,
-            directory: _,
-            sealer: _,
-            mode: _,
-            last_view: _,
-            exec: _,
-            orders: _,
-            hole: _,
-            specs: _,
-        } = self;
-    }
+    pub(crate) core: Core<M>,
 }
 
 impl<M: Machine> Model for Replica<M> {
@@ -57,33 +32,7 @@ impl<M: Machine> Model for Replica<M> {
 
     ghost Value = { State M.State };
 
-    ghost view = { λ r. record {
-      me = r.me;
-      counts = r.counts;
-      keys = r.directory;
-      sealer = r.sealer;
-      mode = r.mode;
-      last_view = r.last_view;
-      kept = r.exec;
-      orders = r.orders;
-      hole = r.hole;
-      specs = r.specs.items;
-    } };
-
-    ghost use Rattle.zy_replica.specs.Ready.{IsReady};
-
-    ghost invariant = { λ r. IsReady (record {
-      me = r.me;
-      counts = r.counts;
-      keys = r.directory;
-      sealer = r.sealer;
-      mode = r.mode;
-      last_view = r.last_view;
-      kept = r.exec;
-      orders = r.orders;
-      hole = r.hole;
-      specs = r.specs.items;
-    }) };
+    ghost view = { λ r. r.core };
 }
 
 /// What a step made of its event: the replica after it, the answer, the frames to send, the timers that are to run
@@ -116,101 +65,86 @@ impl<M: Machine> Replica<M> {
         requires most { k ≤ 32 }
         ensures { IfOk result (λ r. r ≡ start_of M.rules k me counts directory sealer) }
     {
-        let exec = Exec::start(alloc, M::empty(alloc)?, k)?;
-        let specs = nothing(alloc)?;
-        Ok(Replica {
-            alloc,
-            me,
-            counts,
-            directory,
-            sealer,
-            mode: Mode::Active(View(0)),
-            last_view: View(0),
-            exec,
-            orders: Admission::start(alloc),
-            hole: None,
-            specs,
-        })
+        match Core::start(alloc, counts, me, k, sealer, directory) {
+            Ok(core) => Ok(Replica { core }),
+            Err(want) => Err(want),
+        }
+    }
+
+    /// What an event makes of the replica.
+    pub fn step(self, event: Event) -> Result<Stepped<M>, Want>
+        ensures answer { IfOk result (λ s. s.answer ≡ (step_row M.rules self event).answer) }
+        ensures replica { IfOk result (λ s. s.replica ≡ (step_row M.rules self event).state) }
+        ensures out { IfOk result (λ s. s.out ≡ outgoing_of (step_row M.rules self event).state.me.0 (step_row M.rules self event).state.counts.n (step_row M.rules self event).deeds.sent) }
+        ensures timers { IfOk result (λ s. s.timers ≡ timers_of (step_row M.rules self event).state) }
+        ensures said { IfOk result (λ s. s.said ≡ said_from (parties.Replica (step_row M.rules self event).state.me) 0 (step_row M.rules self event).deeds.acts) }
+        ensures got { IfOk result (λ s. s.got ≡ gains_in (step_row M.rules self event).deeds.acts) }
+        ensures range { IfOk result (λ s. AllByRecursion (λ got. IsEntryInRange got.entry) s.got) }
+    {
+        let Replica { core } = self;
+        finish(moves(core, event)?)
     }
 
     /// Whether it takes part in its view, and which that is.
     pub fn mode(&self) -> Mode
         ensures { result ≡ self.now.mode }
     {
-        self.mode
+        self.core.mode()
     }
 
     /// The last view in which it was active.
     pub fn last_view(&self) -> View
         ensures { result ≡ self.now.last_view }
     {
-        self.last_view
+        self.core.last_view()
     }
 
     /// The place of the last entry of its history.
     pub fn length(&self) -> Place
         ensures { result.0 ≡ last_place self.now.kept }
     {
-        self.exec.end()
+        self.core.length()
     }
 
     /// The head of its history.
     pub fn head(&self) -> Digest
         ensures { result ≡ (now_of M.rules self.now.kept).head }
     {
-        self.exec.head()
+        self.core.head()
     }
 
     /// The number of the leaf that signs next.
     pub fn key_next(&self) -> u32
         ensures { result ≡ self.now.sealer.key.next }
     {
-        self.sealer.next_leaf()
+        self.core.key_next()
     }
 
     /// The timers that are to run now.
     pub fn timers(&self) -> Timers
         ensures { result ≡ timers_of self.now }
     {
-        match self.mode {
-            Mode::Active(_) => Timers {
-                request: self.hole.is_some(),
-                change: false,
-                answer: false,
-            },
-            Mode::Leaving(_) => Timers {
-                request: false,
-                change: true,
-                answer: false,
-            },
-        }
+        self.core.timers()
     }
 
     /// Its history, as far as it is kept.
     pub fn exec(&self) -> &Exec<M>
         ensures { result.now ≡ self.now.kept }
     {
-        &self.exec
+        self.core.exec()
     }
 
     /// SHA-256 (FIPS 180-4) of the snapshot at the end of its history.
     pub fn state_digest(&self) -> Result<Digest, Want>
         ensures { IfOk result (λ digest. digest ≡ record { 0 = sha256 (snapshot_of M.rules (now_of M.rules self.now.kept)) }) }
     {
-        let snapshot = self.exec.snapshot()?;
-        let mut hasher = Sha256::new();
-        hasher.update(snapshot.as_slice());
-        Ok(Digest(hasher.finalize()))
+        self.core.state_digest()
     }
 
     /// Its mode, and the length and head of its history.
     pub fn stood(&self) -> Stood
         ensures { result ≡ stood_of M.rules self.now }
     {
-        Stood {
-            mode: self.mode,
-            length: self.exec.end(),
-            head: self.exec.head(),
-        }
+        self.core.stood()
     }
 }

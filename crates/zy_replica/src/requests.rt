@@ -1,313 +1,450 @@
 //! What a replica answers to a request.
 
-ghost use Rattle.std.specs.Prelude.{◌≡◌, ◌≤◌, ◌<◌, ◌+◌, nat_eq, nat_lt, if◌then◌else◌, option_map, IfOk};
+ghost use Rattle.std.specs.Prelude.{◌≡◌, ◌≤◌, ◌<◌, ◌+◌, nat_eq, nat_lt, if◌then◌else◌, Some, IfOk};
 ghost use Rattle.std.specs.Option.{ForSome};
-ghost use Rattle.zy_admit.specs.Orders.{stored_in, with_order};
+ghost use Rattle.zy_admit.specs.Judging.{entry_of};
+ghost use Rattle.zy_admit.specs.Orders.{with_order};
 ghost use Rattle.zy_parts.specs.Signing.{IsSignedInRange};
-ghost use Rattle.zy_parts.specs.Statements.{IsSpecInRange, IsOrderInRange, spec_fields};
+ghost use Rattle.zy_parts.specs.Statements.{IsConfirmInRange, IsOrderInRange, IsSpecInRange, spec_fields};
 ghost use Rattle.zy_parts.specs.Numbers as numbers;
-ghost use Rattle.zy_exec.specs.Kept.{last_place, known_in};
+ghost use Rattle.zy_exec.specs.Kept.{last_place};
 ghost use Rattle.zy_exec.specs.Known.{IsKnownInRange};
-ghost use Rattle.zy_table.specs.State.{leaves_of, window_of, spent, stood_of, with_spec, spec_to as last_spec};
 ghost use Rattle.zy_base.specs.declared.step.Answer.TheVariants as Answer;
-ghost use Rattle.zy_table.specs.Deeds.{ends, begin, act as acting, send as sending};
 ghost use Rattle.zy_frames.specs.declared.frame.Frame.TheVariants as frames;
+ghost use Rattle.zy_seal.specs.Sealing.{sealed_by};
 ghost use Rattle.zy_table.specs.declared.deeds.To.TheVariants as tos;
 ghost use Rattle.zy_table.specs.declared.deeds.Act.TheVariants as acts;
 ghost use Rattle.zy_table.specs.declared.deeds.Body.TheVariants as bodies;
-ghost use Rattle.zy_seal.specs.Sealing.{sealed_by};
+ghost use Rattle.zy_table.specs.State.{leaves_of, window_of, spent, stood_of, with_spec, with_pending, pending_of, spec_to as last_spec};
+ghost use Rattle.zy_table.specs.Deeds.{ends, begin, act as acting, send as sending};
 ghost use Rattle.zy_table.specs.Running.{spec_of as spec_for, run};
-ghost use Rattle.zy_table.specs.Requests.{response_of, respond_anew as anew, respond_with as answered_with, respond_again as answered_again, said_already as already, order_of as order_for, sealed_order as sealed, ordered as ordered_by, take_request as taken, new_request as fresh, request_after as after, request as request_row};
-ghost use Rattle.zy_replica.specs.Ready.{IsAskReady, IsOrderReady};
+ghost use Rattle.zy_table.specs.Requests.{response_of, respond_anew as anew, respond_with as answered_with, respond_again as answered_again, said_already as already, order_of as order_for, sealed_order as sealed, ordered as ordered_by, take_request as taken, request_at_primary as at_primary, confirm_of as confirm_for, sealed_confirm as confirmed, tell_primary as told_of, request_waits as waiting, forward as forwarded, request_at_backup as at_backup, new_request as fresh, request_after as after, is_behind as behind, request as request_row};
+ghost use Rattle.zy_core.specs.Ready.{IsAskReady, IsKeptPending, IsOrderReady, IsPendingReady};
 
-use crate::Replica;
-use crate::copies::{bytes_copy, order_copy, spec_copy};
-use crate::progress::{Moved, Progress};
-use crate::running::spec_of;
 use zy_admit::{client_of, request_digest_of};
 use zy_base::{Answer, Cause, ClientId, Machine, Place, Stamp, Stood, Want};
 use zy_chain::next_head;
+use zy_core::{Core, Moved, Progress, pending_copy, spec_copy, spec_of};
 use zy_exec::Known;
 use zy_frames::OrderFrame;
-use zy_parts::{Ask, Order, Signed, Spec};
-use zy_table::Body;
+use zy_parts::{Ask, Confirm, Order, Signed, Spec};
+use zy_table::{Body, Pending};
 
-// ---- a request that was executed last
-
-fn known_copy(known: &Known) -> Result<Known, Want>
-    ensures { IfOk result (λ copy. copy ≡ known.now) }
-{
-    Ok(Known {
-        stamp: known.stamp,
-        place: known.place,
-        head: known.head,
-        reply: bytes_copy(&known.reply)?,
-    })
-}
-
-fn is_older(stamp: Stamp, last: Stamp) -> bool
+pub(crate) fn is_older(stamp: Stamp, last: Stamp) -> bool
     ensures { result ≡ nat_lt stamp.0 last.0 }
 {
     stamp < last
 }
 
-fn is_same(stamp: Stamp, last: Stamp) -> bool
+pub(crate) fn is_same(stamp: Stamp, last: Stamp) -> bool
     ensures { result ≡ nat_eq stamp.0 last.0 }
 {
     stamp == last
 }
 
-impl<M: Machine> Progress<M> {
-    // The response with its order, where it is kept.
-    fn send_response(self, spec: Signed<Spec>, known: Known) -> Result<Progress<M>, Want>
-        requires spec { IsSignedInRange IsSpecInRange spec }
-        requires known { IsKnownInRange known }
-        ensures { IfOk result (λ g. g ≡ response_of self.state spec known self) }
-    {
-        let order = self.replica.order_at(known.place)?;
-        self.send_spec(spec, known.reply, order)
+// ---- a request that was executed last
+
+// The response with its order, where it is kept.
+fn send_response<M: Machine>(
+    progress: Progress<M>,
+    spec: Signed<Spec>,
+    known: Known,
+) -> Result<Progress<M>, Want>
+    requires spec { IsSignedInRange IsSpecInRange spec }
+    requires known { IsKnownInRange known }
+    ensures { IfOk result (λ g. g ≡ response_of progress.state spec known progress) }
+{
+    match progress.core.order_at(known.place) {
+        Ok(order) => progress.send_spec(spec, known.reply, order),
+        Err(want) => {
+            drop((spec, known));
+            Err(want)
+        }
     }
 }
 
-impl<M: Machine> Replica<M> {
-    // A copy of the order that is kept at a place.
-    fn order_at(&self, place: Place) -> Result<Option<Signed<Order>>, Want>
-        ensures order { IfOk result (λ order. order ≡ option_map (λ o. o.order) (stored_in self.now.orders place.0)) }
-        ensures range { IfOk result (λ order. ForSome order (IsSignedInRange IsOrderInRange)) }
-    {
-        match self.orders.stored(place) {
-            Some(kept) => Ok(Some(order_copy(&kept.order)?)),
-            None => Ok(None),
+fn sign_response<M: Machine>(core: Core<M>, spec: Spec, known: Known) -> Result<Progress<M>, Want>
+    requires leaf { 1 ≤ leaves_of core }
+    requires spec { IsSpecInRange spec }
+    requires client { spec.client.0 < 64 }
+    requires known { IsKnownInRange known }
+    ensures { IfOk result (λ g. g ≡ response_of core (sealed_by numbers.spec spec_fields core.sealer spec) known (acting (acts.Says (record { body = bodies.Spec spec; stood = stood_of M.rules core })) (begin (with_spec (spent core) (sealed_by numbers.spec spec_fields core.sealer spec))))) }
+{
+    match core.begin().sign_spec(spec) {
+        Ok((progress, signed)) => send_response(progress, signed, known),
+        Err(want) => {
+            drop(known);
+            Err(want)
         }
     }
+}
 
-    // The response, signed and kept.
-    pub(crate) fn seal_spec(self, spec: Spec) -> Result<(Replica<M>, Signed<Spec>), Want>
-        requires leaf { 1 ≤ leaves_of self }
-        requires spec { IsSpecInRange spec }
-        requires client { spec.client.0 < 64 }
-        ensures replica { IfOk result (λ r. r.0 ≡ with_spec (spent self) (sealed_by numbers.spec spec_fields self.sealer spec)) }
-        ensures spec { IfOk result (λ r. r.1 ≡ sealed_by numbers.spec spec_fields self.sealer spec) }
-        ensures range { IfOk result (λ r. IsSignedInRange IsSpecInRange r.1) }
-    {
-        let (replica, signed) = self.seal(spec)?;
-        let copy = spec_copy(&signed)?;
-        Ok((replica.keep_spec(copy), signed))
+// The response is signed anew.
+fn respond_anew<M: Machine>(core: Core<M>, spec: Spec, known: Known) -> Result<Moved<M>, Want>
+    requires spec { IsSpecInRange spec }
+    requires client { spec.client.0 < 64 }
+    requires known { IsKnownInRange known }
+    ensures { IfOk result (λ m. m ≡ anew M.rules core spec known) }
+{
+    if core.leaves() == 0 {
+        return core.not_heard(known, Cause::KeySpent);
     }
+    Ok(sign_response(core, spec, known)?.ends(Answer::Taken))
+}
 
-    fn sign_response(self, spec: Spec, known: Known) -> Result<Progress<M>, Want>
-        requires leaf { 1 ≤ leaves_of self }
-        requires spec { IsSpecInRange spec }
-        requires client { spec.client.0 < 64 }
-        requires known { IsKnownInRange known }
-        ensures { IfOk result (λ g. g ≡ response_of self (sealed_by numbers.spec spec_fields self.sealer spec) known (acting (acts.Says (record { body = bodies.Spec spec; stood = stood_of M.rules self })) (begin (with_spec (spent self) (sealed_by numbers.spec spec_fields self.sealer spec))))) }
-    {
-        match self.begin().sign_spec(spec) {
-            Ok((progress, signed)) => progress.send_response(signed, known),
-            Err(want) => {
-                drop(known);
-                Err(want)
-            }
+// A copy of the response that was signed last, where it is this one.
+fn said_already<M: Machine>(core: &Core<M>, spec: &Spec) -> Result<Option<Signed<Spec>>, Want>
+    ensures said { IfOk result (λ said. said ≡ already (last_spec core.now spec.now.client) spec.now) }
+    ensures range { IfOk result (λ said. ForSome said (IsSignedInRange IsSpecInRange)) }
+{
+    match core.spec_to(spec.client) {
+        Some(last) if last.stmt == *spec => Ok(Some(spec_copy(last)?)),
+        _ => Ok(None),
+    }
+}
+
+fn respond_with<M: Machine>(core: Core<M>, spec: Spec, known: Known) -> Result<Moved<M>, Want>
+    requires spec { IsSpecInRange spec }
+    requires client { spec.client.0 < 64 }
+    requires known { IsKnownInRange known }
+    ensures { IfOk result (λ m. m ≡ answered_with M.rules core spec known) }
+{
+    match said_already(&core, &spec) {
+        Ok(None) => respond_anew(core, spec, known),
+        Ok(Some(said)) => Ok(send_response(core.begin(), said, known)?.ends(Answer::Taken)),
+        Err(want) => {
+            drop(known);
+            Err(want)
         }
     }
+}
 
-    // The response is signed anew.
-    fn respond_anew(self, spec: Spec, known: Known) -> Result<Moved<M>, Want>
-        requires spec { IsSpecInRange spec }
-        requires client { spec.client.0 < 64 }
-        requires known { IsKnownInRange known }
-        ensures { IfOk result (λ m. m ≡ anew M.rules self spec known) }
-    {
-        if self.leaves() == 0 {
-            return Ok(self.refused(Cause::KeySpent));
-        }
-        Ok(self.sign_response(spec, known)?.ends(Answer::Taken))
+fn respond_again<M: Machine>(
+    core: Core<M>,
+    ask: &Signed<Ask>,
+    known: Known,
+) -> Result<Moved<M>, Want>
+    requires ask { IsAskReady ask.now }
+    requires known { IsKnownInRange known }
+    ensures { IfOk result (λ m. m ≡ answered_again M.rules core ask.now known) }
+{
+    let spec = spec_of(core.view(), ask, &known);
+    respond_with(core, spec, known)
+}
+
+// ---- a new request at the primary
+
+fn order_of<M: Machine>(core: &Core<M>, ask: &Signed<Ask>) -> Order
+    requires ask { IsAskReady ask.now }
+    requires room { last_place core.now.kept < window_of core.now }
+    ensures order { result ≡ order_for M.rules core.now ask.now }
+    ensures range { IsOrderInRange result }
+    ensures next { result.place.0 ≡ last_place core.now.kept + 1 }
+{
+    let request = request_digest_of(ask);
+    Order {
+        view: core.view(),
+        place: Place(core.length().0 + 1),
+        head: next_head(&core.head(), &request),
+        request,
     }
+}
 
-    // A copy of the response that was signed last, where it is this one.
-    fn said_already(&self, spec: &Spec) -> Result<Option<Signed<Spec>>, Want>
-        ensures said { IfOk result (λ said. said ≡ already (last_spec self.now spec.now.client) spec.now) }
-        ensures range { IfOk result (λ said. ForSome said (IsSignedInRange IsSpecInRange)) }
-    {
-        match self.spec_to(spec.client) {
-            Some(last) if last.stmt == *spec => Ok(Some(spec_copy(last)?)),
-            _ => Ok(None),
-        }
-    }
-
-    fn respond_with(self, spec: Spec, known: Known) -> Result<Moved<M>, Want>
-        requires spec { IsSpecInRange spec }
-        requires client { spec.client.0 < 64 }
-        requires known { IsKnownInRange known }
-        ensures { IfOk result (λ m. m ≡ answered_with M.rules self spec known) }
-    {
-        match self.said_already(&spec)? {
-            None => self.respond_anew(spec, known),
-            Some(said) => Ok(self.begin().send_response(said, known)?.ends(Answer::Taken)),
-        }
-    }
-
-    fn respond_again(self, ask: &Signed<Ask>, known: Known) -> Result<Moved<M>, Want>
-        requires ask { IsAskReady ask.now }
-        requires known { IsKnownInRange known }
-        ensures { IfOk result (λ m. m ≡ answered_again M.rules self ask.now known) }
-    {
-        let spec = spec_of(self.view(), ask, &known);
-        self.respond_with(spec, known)
-    }
-
-    // ---- a new request at the primary
-
-    fn order_of(&self, ask: &Signed<Ask>) -> Order
-        requires ask { IsAskReady ask.now }
-        requires room { last_place self.now.kept < window_of self.now }
-        ensures order { result ≡ order_for M.rules self.now ask.now }
-        ensures range { IsOrderInRange result }
-        ensures next { result.place.0 ≡ last_place self.now.kept + 1 }
-    {
-        let request = request_digest_of(ask);
-        Order {
-            view: self.view(),
-            place: Place(self.exec.end().0 + 1),
-            head: next_head(&self.exec.head(), &request),
-            request,
+fn seal_order<M: Machine>(core: Core<M>, ask: Signed<Ask>) -> Result<(Core<M>, OrderFrame), Want>
+    requires leaf { 1 ≤ leaves_of core }
+    requires ask { IsAskReady ask }
+    requires room { last_place core.kept < window_of core }
+    ensures core { IfOk result (λ r. r.0 ≡ spent core) }
+    ensures order { IfOk result (λ r. r.1 ≡ sealed M.rules core ask) }
+    ensures ready { IfOk result (λ r. IsOrderReady r.1) }
+    ensures next { IfOk result (λ r. r.1.order.stmt.place.0 ≡ last_place core.kept + 1) }
+{
+    let order = order_of(&core, &ask);
+    match core.seal(order) {
+        Ok((core, order)) => Ok((core, OrderFrame { order, ask })),
+        Err(want) => {
+            drop(ask);
+            Err(want)
         }
     }
+}
 
-    fn seal_order(self, ask: Signed<Ask>) -> Result<(Replica<M>, OrderFrame), Want>
-        requires leaf { 1 ≤ leaves_of self }
-        requires ask { IsAskReady ask }
-        requires room { last_place self.kept < window_of self }
-        ensures replica { IfOk result (λ r. r.0 ≡ spent self) }
-        ensures order { IfOk result (λ r. r.1 ≡ sealed M.rules self ask) }
-        ensures ready { IfOk result (λ r. IsOrderReady r.1) }
-        ensures next { IfOk result (λ r. r.1.order.stmt.place.0 ≡ last_place self.kept + 1) }
-    {
-        let order = self.order_of(&ask);
-        let (replica, order) = self.seal(order)?;
-        Ok((replica, OrderFrame { order, ask }))
-    }
-
-    // The order is signed, kept and sent to all.
-    fn order(self, ask: Signed<Ask>) -> Result<(Progress<M>, OrderFrame), Want>
-        requires leaf { 1 ≤ leaves_of self }
-        requires ask { IsAskReady ask }
-        requires room { last_place self.kept < window_of self }
-        ensures progress { IfOk result (λ r. r.0 ≡ ordered_by M.rules self ask) }
-        ensures order { IfOk result (λ r. r.1 ≡ sealed M.rules self ask) }
-        ensures ready { IfOk result (λ r. IsOrderReady r.1) }
-    {
-        let stood = self.stood();
-        let (replica, frame) = self.seal_order(ask)?;
-        match replica.say_order(&frame, stood) {
-            Ok(progress) => Ok((progress, frame)),
-            Err(want) => {
-                drop(frame);
-                Err(want)
-            }
+// The order is signed, kept and sent to all.
+fn order<M: Machine>(core: Core<M>, ask: Signed<Ask>) -> Result<(Progress<M>, OrderFrame), Want>
+    requires leaf { 1 ≤ leaves_of core }
+    requires ask { IsAskReady ask }
+    requires room { last_place core.kept < window_of core }
+    ensures progress { IfOk result (λ r. r.0 ≡ ordered_by M.rules core ask) }
+    ensures order { IfOk result (λ r. r.1 ≡ sealed M.rules core ask) }
+    ensures ready { IfOk result (λ r. IsOrderReady r.1) }
+{
+    let stood = core.stood();
+    let (core, frame) = seal_order(core, ask)?;
+    match say_order(core, &frame, stood) {
+        Ok(progress) => Ok((progress, frame)),
+        Err(want) => {
+            drop(frame);
+            Err(want)
         }
     }
+}
 
-    // The order that was signed is kept, and sent to all. Beside it what stood before.
-    fn say_order(self, frame: &OrderFrame, stood: Stood) -> Result<Progress<M>, Want>
-        requires order { IsOrderReady frame.now }
-        requires above { last_place self.kept < frame.now.order.stmt.place.0 }
-        requires within { frame.now.order.stmt.place.0 ≤ window_of self }
-        ensures { IfOk result (λ g. g ≡ sending tos.All (frames.Order frame.now) (acting (acts.Says (record { body = bodies.Order frame.now.order.stmt; stood = stood })) (begin (record self { orders = with_order self.orders frame.now })))) }
-    {
-        let body = Body::Order(frame.order.stmt);
-        self.keep_copy(frame)?
-            .begin()
-            .says(body, stood)?
-            .send_order(frame)
+// The order that was signed is kept, and sent to all. Beside it what stood before.
+fn say_order<M: Machine>(
+    core: Core<M>,
+    frame: &OrderFrame,
+    stood: Stood,
+) -> Result<Progress<M>, Want>
+    requires order { IsOrderReady frame.now }
+    requires above { last_place core.kept < frame.now.order.stmt.place.0 }
+    requires within { frame.now.order.stmt.place.0 ≤ window_of core }
+    ensures { IfOk result (λ g. g ≡ sending tos.All (frames.Order frame.now) (acting (acts.Says (record { body = bodies.Order frame.now.order.stmt; stood = stood })) (begin (record core { orders = with_order core.orders frame.now })))) }
+{
+    let body = Body::Order(frame.order.stmt);
+    core.keep_copy(frame)?
+        .begin()
+        .says(body, stood)?
+        .send_order(frame)
+}
+
+// The order and the response want a leaf each.
+fn take_request<M: Machine>(core: Core<M>, ask: Signed<Ask>) -> Result<Moved<M>, Want>
+    requires ask { IsAskReady ask }
+    requires room { last_place core.kept < window_of core }
+    ensures { IfOk result (λ m. m ≡ taken M.rules core ask) }
+{
+    if core.leaves() < 2 {
+        return core.not_heard(ask, Cause::KeySpent);
     }
+    order_and_run(core, ask)
+}
 
-    // The order and the response want a leaf each.
-    fn take_request(self, ask: Signed<Ask>) -> Result<Moved<M>, Want>
-        requires ask { IsAskReady ask }
-        requires room { last_place self.kept < window_of self }
-        ensures { IfOk result (λ m. m ≡ taken M.rules self ask) }
-    {
-        if self.leaves() < 2 {
-            return self.not_heard(ask, Cause::KeySpent);
-        }
-        self.order_and_run(ask)
+fn order_and_run<M: Machine>(core: Core<M>, ask: Signed<Ask>) -> Result<Moved<M>, Want>
+    requires leaves { 2 ≤ leaves_of core }
+    requires ask { IsAskReady ask }
+    requires room { last_place core.kept < window_of core }
+    ensures { IfOk result (λ m. m ≡ ends Answer.Taken (run M.rules (sealed M.rules core ask) (ordered_by M.rules core ask))) }
+{
+    let (progress, frame) = order(core, ask)?;
+    let ran = progress.run_all(&frame);
+    drop(frame);
+    ran
+}
+
+fn request_at_primary<M: Machine>(core: Core<M>, ask: Signed<Ask>) -> Result<Moved<M>, Want>
+    requires ask { IsAskReady ask }
+    ensures { IfOk result (λ m. m ≡ at_primary M.rules core ask) }
+{
+    let window = core.window();
+    if core.length() < window {
+        take_request(core, ask)
+    } else {
+        core.not_heard(ask, Cause::WindowFull(window))
     }
+}
 
-    fn order_and_run(self, ask: Signed<Ask>) -> Result<Moved<M>, Want>
-        requires leaves { 2 ≤ leaves_of self }
-        requires ask { IsAskReady ask }
-        requires room { last_place self.kept < window_of self }
-        ensures { IfOk result (λ m. m ≡ ends Answer.Taken (run M.rules (sealed M.rules self ask) (ordered_by M.rules self ask))) }
-    {
-        let (progress, frame) = self.order(ask)?;
-        let ran = progress.run_all(&frame);
-        drop(frame);
-        ran
+// ---- a new request at a backup
+
+fn confirm_of<M: Machine>(core: &Core<M>, ask: &Signed<Ask>) -> Confirm
+    requires ask { IsAskReady ask.now }
+    ensures confirm { result ≡ confirm_for core.now ask.now }
+    ensures range { IsConfirmInRange result }
+{
+    Confirm {
+        view: core.view(),
+        request: request_digest_of(ask),
     }
+}
 
-    fn new_request(self, ask: Signed<Ask>) -> Result<Moved<M>, Want>
-        requires ask { IsAskReady ask }
-        ensures { IfOk result (λ m. m ≡ fresh M.rules self ask) }
-    {
-        let window = self.window();
-        if self.exec.end() < window {
-            self.take_request(ask)
-        } else {
-            self.not_heard(ask, Cause::WindowFull(window))
-        }
-    }
-
-    // ---- the row
-
-    // A copy of what is known of a client's last entry.
-    fn known_of(&self, client: ClientId) -> Result<Option<Known>, Want>
-        ensures known { IfOk result (λ known. known ≡ known_in M.rules self.now.kept client.0) }
-        ensures range { IfOk result (λ known. ForSome known IsKnownInRange) }
-    {
-        match self.exec.known(client) {
-            Some(known) => Ok(Some(known_copy(known)?)),
-            None => Ok(None),
-        }
-    }
-
-    fn request_after(self, ask: Signed<Ask>, known: Option<Known>) -> Result<Moved<M>, Want>
-        requires ask { IsAskReady ask }
-        requires known { ForSome known IsKnownInRange }
-        ensures { IfOk result (λ m. m ≡ after M.rules self ask known) }
-    {
-        let known = match known {
-            None => return self.new_request(ask),
-            Some(known) => known,
-        };
-        if is_older(ask.stmt.stamp, known.stamp) {
-            return Ok(self.refused(Cause::OldStamp));
-        }
-        self.repeat_or_take(ask, known)
-    }
-
-    // A request that isn't older than the last one.
-    fn repeat_or_take(self, ask: Signed<Ask>, known: Known) -> Result<Moved<M>, Want>
-        requires ask { IsAskReady ask }
-        requires known { IsKnownInRange known }
-        ensures { IfOk result (λ m. m ≡ (if nat_eq ask.stmt.stamp.0 known.stamp.0 then answered_again M.rules self ask known else fresh M.rules self ask)) }
-    {
-        if is_same(ask.stmt.stamp, known.stamp) {
-            self.respond_again(&ask, known)
-        } else {
-            self.new_request(ask)
+fn seal_confirm<M: Machine>(core: Core<M>, ask: Signed<Ask>) -> Result<(Core<M>, Pending), Want>
+    requires leaf { 1 ≤ leaves_of core }
+    requires ask { IsAskReady ask }
+    ensures core { IfOk result (λ r. r.0 ≡ spent core) }
+    ensures pending { IfOk result (λ r. r.1 ≡ confirmed core ask) }
+    ensures ready { IfOk result (λ r. IsPendingReady r.1) }
+{
+    let confirm = confirm_of(&core, &ask);
+    match core.seal(confirm) {
+        Ok((core, confirm)) => Ok((core, Pending { confirm, ask })),
+        Err(want) => {
+            drop(ask);
+            Err(want)
         }
     }
+}
 
-    #[tactic(auto, unfolding(zy_table::specs::Requests::request))]
-    pub(crate) fn hear_request(self, ask: Signed<Ask>) -> Result<Moved<M>, Want>
-        requires ask { IsAskReady ask }
-        ensures { IfOk result (λ m. m ≡ request_row M.rules self ask) }
-    {
-        if self.is_leaving() {
-            return Ok(self.refused(Cause::NotActive));
+// A request that waits from now on. Beside it what stood before.
+fn say_confirm<M: Machine>(
+    core: Core<M>,
+    client: ClientId,
+    pending: &Pending,
+    stood: Stood,
+) -> Result<Progress<M>, Want>
+    requires client { client.0 < 64 }
+    requires ready { IsPendingReady pending.now }
+    ensures { IfOk result (λ g. g ≡ acting (acts.Says (record { body = bodies.Confirm pending.now.confirm.stmt; stood = stood })) (begin (with_pending core client (Some pending.now)))) }
+{
+    let copy = pending_copy(pending)?;
+    let body = Body::Confirm(pending.confirm.stmt);
+    core.keep_pending(client, Some(copy))
+        .begin()
+        .says(body, stood)
+}
+
+// The request waits for its order from now on, in place of its client's earlier one, and the primary is told.
+fn request_waits<M: Machine>(core: Core<M>, ask: Signed<Ask>) -> Result<Progress<M>, Want>
+    requires leaf { 1 ≤ leaves_of core }
+    requires ask { IsAskReady ask }
+    ensures { IfOk result (λ g. g ≡ waiting M.rules core ask) }
+{
+    let (stood, primary, client) = (core.stood(), core.primary(), client_of(ask.by));
+    let (core, pending) = seal_confirm(core, ask)?;
+    match say_confirm(core, client, &pending, stood) {
+        Ok(progress) => progress.send_pending(primary, pending),
+        Err(want) => {
+            drop(pending);
+            Err(want)
         }
-        let known = self.known_of(client_of(ask.by))?;
-        self.request_after(ask, known)
+    }
+}
+
+fn forward<M: Machine>(core: Core<M>, ask: Signed<Ask>) -> Result<Moved<M>, Want>
+    requires ask { IsAskReady ask }
+    ensures { IfOk result (λ m. m ≡ forwarded M.rules core ask) }
+{
+    if core.leaves() == 0 {
+        return core.not_heard(ask, Cause::KeySpent);
+    }
+    Ok(request_waits(core, ask)?.ends(Answer::Taken))
+}
+
+// The primary is told again of a request that waits.
+fn tell_again<M: Machine>(core: Core<M>, pending: Pending) -> Result<Moved<M>, Want>
+    requires { IsPendingReady pending }
+    ensures { IfOk result (λ m. m ≡ ends Answer.Taken (told_of core pending (begin core))) }
+{
+    let primary = core.primary();
+    let progress = core.begin().send_pending(primary, pending)?;
+    Ok(progress.ends(Answer::Taken))
+}
+
+// Beside the request a copy of the one of its client that waits.
+fn request_at_backup<M: Machine>(
+    core: Core<M>,
+    ask: Signed<Ask>,
+    pending: Option<Pending>,
+) -> Result<Moved<M>, Want>
+    requires ask { IsAskReady ask }
+    requires pending { IsKeptPending pending }
+    ensures { IfOk result (λ m. m ≡ at_backup M.rules core ask pending) }
+{
+    let pending = match pending {
+        None => return forward(core, ask),
+        Some(pending) => pending,
+    };
+    if is_same(ask.stmt.stamp, pending.ask.stmt.stamp) {
+        drop(ask);
+        tell_again(core, pending)
+    } else {
+        drop(pending);
+        forward(core, ask)
+    }
+}
+
+// A copy of a client's request that waits.
+fn waiting_of<M: Machine>(core: &Core<M>, client: ClientId) -> Result<Option<Pending>, Want>
+    ensures pending { IfOk result (λ pending. pending ≡ pending_of core.now client) }
+    ensures ready { IfOk result IsKeptPending }
+{
+    match core.pending_of(client) {
+        Some(pending) => Ok(Some(pending_copy(pending)?)),
+        None => Ok(None),
+    }
+}
+
+fn new_request<M: Machine>(core: Core<M>, ask: Signed<Ask>) -> Result<Moved<M>, Want>
+    requires ask { IsAskReady ask }
+    ensures { IfOk result (λ m. m ≡ fresh M.rules core ask) }
+{
+    if core.is_primary() {
+        return request_at_primary(core, ask);
+    }
+    match waiting_of(&core, client_of(ask.by)) {
+        Ok(pending) => request_at_backup(core, ask, pending),
+        Err(want) => {
+            drop(ask);
+            Err(want)
+        }
+    }
+}
+
+// ---- the row
+
+fn request_after<M: Machine>(
+    core: Core<M>,
+    ask: Signed<Ask>,
+    known: Option<Known>,
+) -> Result<Moved<M>, Want>
+    requires ask { IsAskReady ask }
+    requires known { ForSome known IsKnownInRange }
+    ensures { IfOk result (λ m. m ≡ after M.rules core ask known) }
+{
+    let known = match known {
+        None => return new_request(core, ask),
+        Some(known) => known,
+    };
+    if is_older(ask.stmt.stamp, known.stamp) {
+        return core.not_heard((ask, known), Cause::OldStamp);
+    }
+    repeat_or_take(core, ask, known)
+}
+
+// A request that isn't older than the last one.
+fn repeat_or_take<M: Machine>(
+    core: Core<M>,
+    ask: Signed<Ask>,
+    known: Known,
+) -> Result<Moved<M>, Want>
+    requires ask { IsAskReady ask }
+    requires known { IsKnownInRange known }
+    ensures { IfOk result (λ m. m ≡ (if nat_eq ask.stmt.stamp.0 known.stamp.0 then answered_again M.rules core ask known else fresh M.rules core ask)) }
+{
+    if is_same(ask.stmt.stamp, known.stamp) {
+        let again = respond_again(core, &ask, known);
+        drop(ask);
+        again
+    } else {
+        drop(known);
+        new_request(core, ask)
+    }
+}
+
+// A newer request of the client waits.
+fn is_behind<M: Machine>(core: &Core<M>, ask: &Signed<Ask>) -> bool
+    ensures { result ≡ behind ask.now (pending_of core.now (entry_of ask.now).client) }
+{
+    match core.pending_of(client_of(ask.by)) {
+        Some(pending) => ask.stmt.stamp < pending.ask.stmt.stamp,
+        None => false,
+    }
+}
+
+#[tactic(auto, unfolding(zy_table::specs::Requests::request))]
+pub(crate) fn hear_request<M: Machine>(core: Core<M>, ask: Signed<Ask>) -> Result<Moved<M>, Want>
+    requires ask { IsAskReady ask }
+    ensures { IfOk result (λ m. m ≡ request_row M.rules core ask) }
+{
+    if core.is_leaving() {
+        return core.not_heard(ask, Cause::NotActive);
+    }
+    if is_behind(&core, &ask) {
+        return core.not_heard(ask, Cause::OldStamp);
+    }
+    match core.known_of(client_of(ask.by)) {
+        Ok(known) => request_after(core, ask, known),
+        Err(want) => {
+            drop(ask);
+            Err(want)
+        }
     }
 }

@@ -1,0 +1,11 @@
+use Rattle.std.proofs.Common.{◌≡◌, IfOk, subst}
+use Rattle.zy_table.specs.Deeds.{Going}
+use Rattle.zy_table.specs.Running.{run_held}
+use Rattle.zy_core.proofs.HeldLemmas.{held_slots, run_is}
+use Rattle.zy_core.proofs.progress.Progress.run.Goals as goal
+
+pub returns : goal.returns
+returns g c =
+    rw (run_is g.M.Machine.rules c.args.self c.args.frame.now)
+    (subst (λ (x : Going g.row.M-State.Denot). IfOk c.run_held.result (λ (held : Going g.row.M-State.Denot). held ≡ run_held g.M.Machine.rules (held_slots g.M.Machine.rules x) x))
+    c.in_ok-run_one.ensures c.run_held.ensures)

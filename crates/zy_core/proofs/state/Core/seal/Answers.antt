@@ -1,0 +1,8 @@
+use Rattle.std.proofs.Common.{◌≡◌, sym, subst}
+use Rattle.zy_seal.specs.Sealing.{SealerState}
+use Rattle.zy_core.specs.Ready.{IsReady}
+use Rattle.zy_core.proofs.ReadyLemmas.{ready_spent}
+use Rattle.zy_core.proofs.state.Core.seal.Goals as goal
+
+pub invariant_of-self : goal.invariant_of-self
+invariant_of-self g c = rw c.in-Ok.ensures.spent_one (ready_spent _ c.self.invariant)

@@ -1,8 +1,0 @@
-use Rattle.std.proofs.Common.{◌≡◌, sym, subst}
-use Rattle.zy_seal.specs.Sealing.{SealerState}
-use Rattle.zy_replica.specs.Ready.{IsReady}
-use Rattle.zy_replica.proofs.ReadyLemmas.{ready_spent}
-use Rattle.zy_replica.proofs.replica.Replica.seal.Goals as goal
-
-pub invariant_of-self : goal.invariant_of-self
-invariant_of-self g c = rw c.in-Ok.ensures.spent_one (ready_spent _ c.self.invariant)

@@ -1,0 +1,152 @@
+//! What a replica answers to a commit certificate.
+
+ghost use Rattle.std.specs.Prelude.{◌≡◌, ◌≤◌, ◌++◌, ◌∷◌, [], IfOk};
+ghost use Rattle.std.specs.Option.{ForSome};
+ghost use Rattle.zy_parts.specs.Numbers as numbers;
+ghost use Rattle.zy_parts.specs.Signing.{IsSignedInRange};
+ghost use Rattle.zy_parts.specs.Statements.{IsLocalInRange, local_fields};
+ghost use Rattle.zy_frames.specs.Frames.{IsFrameInRange};
+ghost use Rattle.zy_frames.specs.declared.frame.Frame.TheVariants as frames;
+ghost use Rattle.zy_seal.specs.Sealing.{sealed_by};
+ghost use Rattle.zy_table.specs.State.{leaves_of, spent};
+ghost use Rattle.zy_table.specs.Commits.{local_at as local_for, local_said, say_local as local_by, commit_as as committed, commit_beside as beside, commit_judged as judged_as, commit as commit_row};
+
+use zy_base::{Answer, Cause, ClientId, Digest, Items, Machine, Place, View, Want};
+use zy_cert::check_cert;
+use zy_core::{Core, Moved, Progress, local_copy};
+use zy_parts::{Local, Signed, Spec};
+use zy_table::Body;
+
+fn local_at(point: (View, Place, Digest)) -> Local
+    ensures { result ≡ local_for point }
+{
+    let (view, place, head) = point;
+    Local { view, place, head }
+}
+
+// The local commit, signed and kept.
+fn seal_local<M: Machine>(core: Core<M>, local: Local) -> Result<(Core<M>, Signed<Local>), Want>
+    requires leaf { 1 ≤ leaves_of core }
+    requires range { IsLocalInRange local }
+    ensures core { IfOk result (λ r. r.0 ≡ record (spent core) { locals = core.locals ++ sealed_by numbers.local local_fields core.sealer local ∷ [] }) }
+    ensures local { IfOk result (λ r. r.1 ≡ sealed_by numbers.local local_fields core.sealer local) }
+    ensures range { IfOk result (λ r. IsSignedInRange IsLocalInRange r.1) }
+{
+    let (core, signed) = core.seal(local)?;
+    let copy = local_copy(&signed)?;
+    match core.keep_local(copy) {
+        Ok(core) => Ok((core, signed)),
+        Err(want) => {
+            drop(signed);
+            Err(want)
+        }
+    }
+}
+
+// It is signed, kept and sent to the client.
+fn say_local<M: Machine>(core: Core<M>, client: ClientId, local: Local) -> Result<Progress<M>, Want>
+    requires leaf { 1 ≤ leaves_of core }
+    requires range { IsLocalInRange local }
+    ensures { IfOk result (λ g. g ≡ local_by M.rules client local core) }
+{
+    let stood = core.stood();
+    let (core, signed) = seal_local(core, local)?;
+    match core.begin().says(Body::Local(local), stood) {
+        Ok(progress) => progress.send_local(client, signed),
+        Err(want) => {
+            drop(signed);
+            Err(want)
+        }
+    }
+}
+
+// The certificate is kept, and its local commit goes to the client. Beside it a copy of the local commit where it was
+// said before.
+fn commit_as<M: Machine>(
+    core: Core<M>,
+    specs: Items<Signed<Spec>>,
+    client: ClientId,
+    local: Local,
+    said: Option<Signed<Local>>,
+) -> Result<Moved<M>, Want>
+    requires local { IsLocalInRange local }
+    requires said { ForSome said (IsSignedInRange IsLocalInRange) }
+    ensures { IfOk result (λ m. m ≡ committed M.rules core specs client local said) }
+{
+    if let Some(said) = said {
+        let core = core.keep_certificate(local.place, specs);
+        return Ok(core.begin().send_local(client, said)?.ends(Answer::Taken));
+    }
+    if core.leaves() == 0 {
+        return core.not_heard(specs, Cause::KeySpent);
+    }
+    let core = core.keep_certificate(local.place, specs);
+    Ok(say_local(core, client, local)?.ends(Answer::Taken))
+}
+
+// Beside the own head at its place.
+fn commit_beside<M: Machine>(
+    core: Core<M>,
+    specs: Items<Signed<Spec>>,
+    client: ClientId,
+    local: Local,
+    own: Option<Digest>,
+) -> Result<Moved<M>, Want>
+    requires { IsLocalInRange local }
+    ensures { IfOk result (λ m. m ≡ beside M.rules core specs client local own) }
+{
+    let own = match own {
+        None => return core.not_heard(specs, Cause::Behind(local.place)),
+        Some(own) => own,
+    };
+    if own != local.head {
+        return core.not_heard(specs, Cause::OtherHistory(own, local.head));
+    }
+    match core.local_said(&local) {
+        Ok(said) => commit_as(core, specs, client, local, said),
+        Err(want) => {
+            drop(specs);
+            Err(want)
+        }
+    }
+}
+
+// Beside what the responses certify.
+fn commit_judged<M: Machine>(
+    core: Core<M>,
+    specs: Items<Signed<Spec>>,
+    client: ClientId,
+    point: Result<(View, Place, Digest), Cause>,
+) -> Result<Moved<M>, Want>
+    requires { IfOk point (λ point. IsLocalInRange (local_for point)) }
+    ensures { IfOk result (λ m. m ≡ judged_as M.rules core specs client point) }
+{
+    match point {
+        Err(cause) => core.not_heard(specs, cause),
+        Ok(point) => {
+            let local = local_at(point);
+            let own = core.exec().head_at(local.place);
+            commit_beside(core, specs, client, local, own)
+        }
+    }
+}
+
+// The row. Beside the responses what the first of them says.
+#[tactic(auto, unfolding(zy_table::specs::Commits::commit))]
+pub(crate) fn commit<M: Machine>(
+    core: Core<M>,
+    first: Spec,
+    specs: Items<Signed<Spec>>,
+) -> Result<Moved<M>, Want>
+    requires { IsFrameInRange (frames.Commit specs) }
+    ensures { IfOk result (λ m. m ≡ commit_row M.rules core first specs) }
+{
+    if first.place < core.stable() {
+        return core.not_heard(specs, Cause::OldPlace);
+    }
+    if core.length() < first.place {
+        return core.not_heard(specs, Cause::Behind(first.place));
+    }
+    let point = check_cert(core.counts().cert, specs.as_slice());
+    commit_judged(core, specs, first.client, point)
+}
