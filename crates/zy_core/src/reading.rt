@@ -1,13 +1,14 @@
 //! What is read of a replica.
 
 ghost use Rattle.std.specs.Prelude.{◌≡◌, ◌≤◌, ◌<◌, ◌+◌, ◌^◌, length, option_copied, option_map, if◌then◌else◌, None, IfOk, OnSome};
-ghost use Rattle.std.specs.List.{AllByRecursion};
+ghost use Rattle.std.specs.List.{AllByRecursion, find};
 ghost use Rattle.std.specs.Option.{ForSome};
 ghost use Rattle.zy_parts.specs.Signing.{IsSignedInRange};
 ghost use Rattle.zy_parts.specs.Statements.{IsHoleInRange, IsLocalInRange, IsOrderInRange};
 ghost use Rattle.zy_exec.specs.Kept.{last_place, known_in};
 ghost use Rattle.zy_exec.specs.Known.{IsKnownInRange};
 ghost use Rattle.zy_admit.specs.Orders.{stored_in, orders_from};
+ghost use Rattle.zy_cert.specs.Equal.{same_local};
 ghost use Rattle.zy_table.specs.State.{own_view, is_leaving, is_primary, primary_of, window_of, leaves_of, spec_to, pending_of};
 ghost use Rattle.zy_table.specs.Roles.{is_primary_of, view_cause};
 ghost use Rattle.zy_table.specs.Running.{still_pending};
@@ -25,6 +26,13 @@ use zy_frames::OrderFrame;
 use zy_parts::{Hole, Local, Order, Signed, Spec};
 use zy_seal::Directory;
 use zy_table::Pending;
+
+// The first of some local commits that says this.
+fn local_among<'a>(said: &'a [Signed<Local>], local: &Local) -> Option<&'a Signed<Local>>
+    ensures { option_copied result ≡ find (λ one. same_local one.stmt local.now) said.now }
+{
+    said.iter().find(|one| one.stmt == *local)
+}
 
 impl<M: Machine> Core<M> {
     /// Where what it makes takes its memory.
@@ -271,8 +279,7 @@ impl<M: Machine> Core<M> {
         ensures said { IfOk result (λ said. said ≡ local_said self.now local.now) }
         ensures range { IfOk result (λ said. ForSome said (IsSignedInRange IsLocalInRange)) }
     {
-        let said = self.locals.as_slice();
-        match said.iter().find(|said| said.stmt == *local) {
+        match local_among(self.locals.as_slice(), local) {
             Some(said) => Ok(Some(local_copy(said)?)),
             None => Ok(None),
         }

@@ -1,4 +1,5 @@
-ghost use Rattle.std.specs.Prelude.{◌≡◌, ◌≤◌, ◌<◌, ◌^◌, length, [], IfOk};
+ghost use Rattle.std.specs.Prelude.{◌≡◌, ◌≤◌, ◌<◌, ◌^◌, length, [], is_some, IfOk};
+ghost use Rattle.std.specs.List.{list_any};
 ghost use Rattle.sha2.specs.Sha256.{sha256};
 ghost use Rattle.zy_base.specs.declared.ids.Party.TheVariants as parties;
 ghost use Rattle.zy_exec.specs.Kept.{now_of, last_place};
@@ -95,6 +96,13 @@ impl<M: Machine> Model for Core<M> {
     }) };
 }
 
+// Some request waits.
+fn some_wait(pending: &[Option<Pending>]) -> bool
+    ensures { result ≡ list_any is_some pending.now }
+{
+    pending.iter().any(|slot| slot.is_some())
+}
+
 impl<M: Machine> Core<M> {
     ghost use Rattle.zy_table.specs.State.{start_of, stood_of, timers_of, waits};
 
@@ -174,7 +182,7 @@ impl<M: Machine> Core<M> {
     fn waits(&self) -> bool
         ensures { result ≡ waits self.now }
     {
-        self.hole.is_some() || self.pending.iter().any(|slot| slot.is_some())
+        self.hole.is_some() || some_wait(&self.pending)
     }
 
     /// The timers that are to run now.

@@ -1,7 +1,5 @@
+mod CommitLemmas
 mod FillLemmas
-mod HeldLemmas
 mod OthersLemmas
-mod ReadyLemmas
 mod ScreenLemmas
-mod SlotLemmas
 mod ToldLemmas
