@@ -1,13 +1,10 @@
 -- The certificate is as long as it has to be, and can be spelled.
-use Rattle.std.proofs.Common.{◌≡◌, ℕ, zero, suc, ◌+◌, ◌<◌, ◌≤◌, min, Bool, true, false, if◌then◌else◌, List, [], ◌∷◌, ◌++◌, length, take, get_or, option_to_list, replicate, filter, count_by, subst, Option, Some, None, refl, sym, ap, ◌∙◌, arith}
-use Rattle.std.specs.Prelude.{slice_set}
+use Rattle.std.proofs.Common.{◌≡◌, ℕ, zero, suc, ◌+◌, ◌<◌, ◌≤◌, Bool, true, false, if◌then◌else◌, List, [], ◌∷◌, ◌++◌, length, take, get_or, option_to_list, filter, count_by, Option, Some, None, refl, sym, ap, ◌∙◌, arith}
 use Rattle.std.specs.List.{AllByRecursion, filter_map, cons_option}
 use Rattle.std.specs.Option.{ForSome}
 use Rattle.std.proofs.lemmas.List.{length-take-le, take_more}
 use Rattle.std.proofs.lemmas.List.Sums.{length-filter}
-use Rattle.std.proofs.lemmas.Option.{same_Some}
 use Rattle.std.proofs.lemmas.List.Elements.{All-from_recursion, filter_map-append}
-use Rattle.zy_base.specs.declared.counts.Counts.{Counts}
 use Rattle.zy_parts.specs.Signing.{IsSignedInRange}
 use Rattle.zy_parts.specs.Statements.{IsSpecInRange}
 use Rattle.zy_parts.specs.declared.signed.Signed.{Signed}
@@ -21,19 +18,8 @@ use Rattle.zy_table.specs.ClientRows.{agrees, agreeing, equal_in, certificate_of
 use Rattle.zy_client.specs.Ready.{IsReady}
 
 -- a response whose statement can stand in a certificate, in a slot
-abbrev pub IsFit : Option Response → Type 0
+abbrev IsFit : Option Response → Type 0
 IsFit kept = ForSome kept (λ r. IsSignedInRange IsSpecInRange r.spec)
-
--- ---- slots
-
-pub none_fit : (n : ℕ) → AllByRecursion IsFit (replicate n None)
-none_fit zero = tt
-none_fit (suc n) = ((λ r is. absurd cc), none_fit n)
-
-pub filled_fit : (xs : List (Option Response)) (id : ℕ) (r : Response) → IsSignedInRange IsSpecInRange r.spec → AllByRecursion IsFit xs → AllByRecursion IsFit (slice_set xs id (Some r))
-filled_fit [] id r new all = tt
-filled_fit (x ∷ xs) zero r new all = ((λ q is. subst (λ (p : Response). IsSignedInRange IsSpecInRange p.spec) (same_Some r q is) new), all.1)
-filled_fit (x ∷ xs) (suc id) r new all = (all.0, filled_fit xs id r new all.1)
 
 -- ---- the responses that are equal to one
 

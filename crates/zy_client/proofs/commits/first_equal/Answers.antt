@@ -1,4 +1,4 @@
-use Rattle.std.proofs.Common.{◌≡◌, ◌++◌, take, option_to_list, ap, ◌∙◌}
+use Rattle.std.proofs.Common.{◌++◌, take, option_to_list, ap, ◌∙◌}
 use Rattle.zy_table.specs.ClientRows.{equal_in}
 use Rattle.zy_client.proofs.CertificateLemmas.{next_taken}
 use Rattle.zy_client.proofs.commits.first_equal.Goals as goal

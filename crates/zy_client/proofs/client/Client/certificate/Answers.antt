@@ -1,4 +1,4 @@
-use Rattle.std.proofs.Common.{◌≡◌, ◌≤◌, ◌∙◌, List, Option, take, ap, sym, subst}
+use Rattle.std.proofs.Common.{◌≤◌, ◌∙◌, List, Option, take, ap, sym, subst}
 use Rattle.std.specs.List.{filter_map}
 use Rattle.zy_table.specs.ClientRows.{agreeing, equal_in}
 use Rattle.zy_table.specs.ClientState.{ClientState}
