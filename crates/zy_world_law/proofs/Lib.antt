@@ -11,6 +11,7 @@ pub mod KeptOrHeard
 pub mod ToldSteps
 pub mod ReplicaStep
 pub mod NotForged
+pub mod Vouched
 pub mod EventRuns
 pub mod BagStays
 pub mod TextsStay
