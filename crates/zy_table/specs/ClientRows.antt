@@ -1,6 +1,6 @@
 -- What a client makes of an event.
 use Rattle.std.specs.Prelude.{ℕ, ◌+◌, ◌%◌, nat_lt, nat_le, nat_eq, ◌&&◌, Bool, true, false, if◌then◌else◌, List, [], ◌∷◌, take, count_by, slice_set, slice_index_or, unwrap_or, Option, Some, None, Result, Ok, Err}
-use Rattle.std.specs.List.{find}
+use Rattle.std.specs.List.{find, filter_map}
 use Rattle.sha2.specs.Sha256.{sha256}
 use Rattle.zy_base.specs.declared.counts.Counts.{Counts}
 use Rattle.zy_base.specs.declared.frame_fault.FrameFault.{FrameFault}
@@ -184,13 +184,6 @@ count_local s vote = local_while s s.waiting vote
 
 -- ---- the timer
 
--- the kept responses that equal one, by replica number
-abbrev pub equals_of : Spec → List (Option Response) → List (Signed Spec)
-equals_of spec [] = []
-equals_of spec (None ∷ responses) = equals_of spec responses
-equals_of spec (Some kept ∷ responses) =
-    if same_spec kept.spec.stmt spec then kept.spec ∷ equals_of spec responses else equals_of spec responses
-
 -- a response has as many equals as a certificate takes
 abbrev pub is_certified : ClientState → Option Response → Bool
 is_certified s None = false
@@ -200,8 +193,14 @@ is_certified s (Some kept) = nat_le s.counts.cert (agreeing s kept.spec.stmt)
 abbrev pub certified_in : ClientState → Option Response
 certified_in s = unwrap_or (find (is_certified s) s.responses) None
 
+-- what a kept response says, where it is equal to one
+abbrev pub equal_in : Spec → Option Response → Option (Signed Spec)
+equal_in spec None = None
+equal_in spec (Some kept) = if same_spec kept.spec.stmt spec then Some kept.spec else None
+
+-- the first equal ones by replica number, as many as a certificate takes
 abbrev pub certificate_of : ClientState → Spec → List (Signed Spec)
-certificate_of s spec = take s.counts.cert (equals_of spec s.responses)
+certificate_of s spec = take s.counts.cert (filter_map (equal_in spec) s.responses)
 
 -- local commits count on where the statement of the certificate is the same
 abbrev pub locals_for : ℕ → Spec → Option Commit → Poll Local
@@ -209,15 +208,13 @@ locals_for wanted spec None = record { count = wanted; votes = [] }
 locals_for wanted spec (Some commit) =
     if same_spec commit.spec spec then commit.locals else record { count = wanted; votes = [] }
 
--- the certificate goes to all replicas
-abbrev pub send_commit : ClientState → Response → ClientOutcome
-send_commit s r =
+-- the certificate goes to all replicas, and is kept with the reply
+abbrev pub send_commit : ClientState → Spec → List ℕ → ClientOutcome
+send_commit s spec reply =
     record {
       answer = Taken;
-      state = record s {
-        commit = Some (record { spec = r.spec.stmt; reply = r.reply; locals = locals_for s.counts.local r.spec.stmt s.commit })
-      };
-      sent = record { to = All; frame = frames.Commit (certificate_of s r.spec.stmt) } ∷ [];
+      state = record s { commit = Some (record { spec = spec; reply = reply; locals = locals_for s.counts.local spec s.commit }) };
+      sent = record { to = All; frame = frames.Commit (certificate_of s spec) } ∷ [];
       said = [];
     }
 
@@ -227,7 +224,7 @@ ask_all s waiting = record { answer = Taken; state = s; sent = record { to = All
 
 abbrev pub ask_or_commit : ClientState → Signed Ask → Option Response → ClientOutcome
 ask_or_commit s waiting None = ask_all s waiting
-ask_or_commit s waiting (Some r) = send_commit s r
+ask_or_commit s waiting (Some r) = send_commit s r.spec.stmt r.reply
 
 abbrev pub run_out_while : ClientState → Option (Signed Ask) → ClientOutcome
 run_out_while s None = taken s
