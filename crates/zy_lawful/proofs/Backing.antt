@@ -18,7 +18,6 @@ use Rattle.zy_cert.specs.Signers.{AreDifferent}
 use Rattle.zy_law.specs.Fixed.{IsCertified}
 use Rattle.zy_law.specs.Said.{IsVouched, IsBacked}
 use Rattle.zy_law.specs.World.{Answer, Statement, World}
-use Rattle.zy_law.specs.World.Statement as statements
 use Rattle.zy_lawful.specs.Tied.{IsVouchedBy, AreVouched, response_with}
 use Rattle.zy_parts.specs.declared.signed.Signed.{Signed}
 use Rattle.zy_parts.specs.declared.statements.Spec.{Spec}
@@ -34,16 +33,16 @@ number_of : Party → ℕ
 number_of (Replica id) = id.0
 number_of (Client id) = id.0
 
-replica_of : ℕ → Party
+abbrev replica_of : ℕ → Party
 replica_of number = Replica (record { 0 = number })
 
 module _ (w : World) (s : Statement) where
   number_differs : (a b : Party) → IsVouchedBy w s a → IsVouchedBy w s b → a ≢ b → number_of a ≢ number_of b
   unfolding number_of
   number_differs (Replica a) (Replica b) one other differ same = differ (ap replica_of same)
-  number_differs (Replica a) (Client b) one other differ = absurd other
-  number_differs (Client a) (Replica b) one other differ = absurd one
-  number_differs (Client a) (Client b) one other differ = absurd one
+  number_differs (Replica a) (Client b) one other differ same = absurd other
+  number_differs (Client a) (Replica b) one other differ same = absurd one
+  number_differs (Client a) (Client b) one other differ same = absurd one
 
   vouched_number : (by : Party) → IsVouchedBy w s by → IsVouched w s (number_of by)
   unfolding number_of
@@ -63,7 +62,7 @@ module _ (w : World) (s : Statement) where
     numbers_differ (x ∷ list) all different =
         AllPairs-cons (λ (a b : ℕ). a ≢ b) (number_of x.by) (numbers_of list)
         (λ k d within.
-        let small : k < length list = omega (arith, length-map (λ (y : Signed A). number_of y.by) list) in
+        let small : k < length list = omega (arith, length-map list (λ (y : Signed A). number_of y.by)) in
         subst (λ (n : ℕ). number_of x.by ≢ n) (sym (get_or-map (λ (y : Signed A). number_of y.by) list k x d small))
         (number_differs x.by (get_or list k x).by all.0 (all_from (λ (y : Signed A). IsVouchedBy w s y.by) list all.1 k x small) (different 0 (suc k) x (omega arith) (omega arith))))
         (numbers_differ list all.1 (λ i j d before within. different (suc i) (suc j) d (omega arith) (omega arith)))
@@ -79,7 +78,7 @@ module _ (w : World) (s : Statement) where
     signed_backed count list long different all =
         record {
           who = numbers_of list;
-          many = length-map (λ (x : Signed A). number_of x.by) list ∙ long;
+          many = length-map list (λ (x : Signed A). number_of x.by) ∙ long;
           different = numbers_differ list all different;
           vouched = all_from (IsVouched w s) (numbers_of list) (numbers_vouched list all);
         }
@@ -97,7 +96,7 @@ module _ (w : World) (answer : Spec → Answer) where
   )
 
 abbrev response_at : Answer → View × Place × Digest → Statement
-response_at a point = statements.Spec point.0.0 (record { place = point.1.0; head = point.2 }) a
+response_at a point = Statement.Spec point.0.0 (record { place = point.1.0; head = point.2 }) a
 
 -- a commit certificate of responses that were said, or that liars signed, is one of the law
 pub certified_in : (w : World) (specs : List (Signed Spec)) (point : View × Place × Digest) → AreVouched w specs → certified same_spec point_of_spec w.counts.cert specs ≡ Ok point

@@ -30,8 +30,7 @@ use Rattle.zy_exec.specs.declared.known.Known.{Known}
 use Rattle.zy_exec.specs.Kept.{known_in, last_place}
 use Rattle.zy_law.specs.Fixed.{IsCertified}
 use Rattle.zy_law.specs.Lawful.{IsOrdered, IsVote}
-use Rattle.zy_law.specs.World.{Spoken, World}
-use Rattle.zy_law.specs.World.Statement as statements
+use Rattle.zy_law.specs.World.{Spoken, Statement, World}
 use Rattle.zy_law.specs.World.Statement.{Order}
 use Rattle.zy_lawful.specs.Acts.{statement_of}
 use Rattle.zy_lawful.specs.Tied.{MayRun, MaySlotRun, MayFrameRun, MayEventRun, AreOrdersUpTo, AreLinksKept, AreVouched, IsBackedIn, IsHeldFrom, IsCommitted}
@@ -157,9 +156,9 @@ module _ {S : Type 0} (R : Rules S) (w : World) (r number : ℕ) (h : List Entry
         run_goes o (begin s') (slots_put w s.orders o asks may)
         (λ links. next_goes R w r (own_view s) number h o (begin s') put may new (one_links R w r (own_view s) number h o (begin s') links).1)
 
-    held : (o : OrderFrame) → MayRun w (entry_of o.ask) → GoesTied [] (with_held s o)
+    holding_order : (o : OrderFrame) → MayRun w (entry_of o.ask) → GoesTied [] (with_held s o)
     unfolding going_as
-    held o may =
+    holding_order o may =
         record {
           going = going_as R w r (own_view s) number h [] s (with_held s o) start refl refl refl refl (slots_put start.world s.orders o start.standing.asks (start.runs (entry_of o.ask) may));
           ordered = tied.ordered;
@@ -171,7 +170,7 @@ module _ {S : Type 0} (R : Rules S) (w : World) (r number : ℕ) (h : List Entry
     asks_for_missing o may left links =
         let s' : State S = with_held s o in
         let remark : Remark = record { body = bodies.Hole (hole_of s'); stood = stood_of R s' } in
-        let put : GoesTied [] s' = held o may in
+        let put : GoesTied [] s' = holding_order o may in
         let g : Goes [] s' = put.going in
         let said : Goes (Says remark ∷ []) s' =
         going_said R w r (own_view s) number h [] s' g remark (may_tell R g.world r s' g.now g.lawful g.agrees g.correct g.standing) (λ v report same. absurd cc) in
@@ -213,14 +212,14 @@ module _ {S : Type 0} (R : Rules S) (w : World) (r number : ℕ) (h : List Entry
 
     commits : (specs : List (Signed Spec)) (client : ClientId) (local : Local) (held : Option Certificate) → AreVouched w specs → IsOwnCommit s specs local → IsFurthest local.place specs s.certificate held
         → HasLeaves s 1 → Keeps (ends Taken (say_local R client local (holding s held)))
-    unfolding going_as going_said
+    unfolding going_as going_said holds_certificate certificate_backed
     commits specs client local held vouched own furthest left links =
         let s' : State S = holding s held in
         let m : Mark = record { place = local.place.0; head = local.head } in
         let put : GoesTied [] s' = holds_certificate held (covers specs local held vouched own furthest) in
         let g : Goes [] s' = put.going in
         let remark : Remark = record { body = bodies.Local local; stood = stood_of R s' } in
-        let y : Spoken = record { what = statements.Local local.view.0 m; when = g.at } in
+        let y : Spoken = record { what = Statement.Local local.view.0 m; when = g.at } in
         let certified : IsCertified g.world local.view.0 m =
         subst (λ (n : ℕ). IsCertified g.world n m) (sym own.view) (certificate_backed specs local vouched own).backed in
         let said : Goes (Says remark ∷ []) s' =
@@ -246,7 +245,7 @@ module _ {S : Type 0} (R : Rules S) (w : World) (r number : ℕ) (h : List Entry
           waits = waits;
           takes = takes_order;
           asks = asks_for_missing;
-          holds = λ o may links. held o may;
+          holds = λ o may links. holding_order o may;
           commits = commits;
           commits_again = commits_again;
           confirms = λ confirm ask may. may;

@@ -28,7 +28,6 @@ use Rattle.zy_law.specs.Fixed.{IsCertified}
 use Rattle.zy_law.specs.Lawful.{IsLawful, IsVote}
 use Rattle.zy_law.specs.Said.{IsCorrect, Says, Stood, IsVouched}
 use Rattle.zy_law.specs.World.{Answer, Spoken, Statement, World}
-use Rattle.zy_law.specs.World.Statement as statements
 use Rattle.zy_law.specs.World.Statement.{Order, Change}
 use Rattle.zy_choose.specs.Reports.{PlainReport}
 use Rattle.zy_parts.specs.declared.signed.Signed.{Signed}
@@ -82,7 +81,7 @@ IsVouchedBy w statement (Client id) = ⊥
 
 -- a response with its answer as the law reads it
 abbrev pub response_with : Answer → Spec → Statement
-response_with answer spec = statements.Spec spec.view.0 (record { place = spec.place.0; head = spec.head }) answer
+response_with answer spec = Statement.Spec spec.view.0 (record { place = spec.place.0; head = spec.head }) answer
 
 -- each response is of a replica that said so, or lies; equal ones are read with one answer
 pub record AreVouched (w : World) (specs : List (Signed Spec)) : Type 0 where

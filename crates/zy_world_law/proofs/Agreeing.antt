@@ -25,11 +25,6 @@ rising_differ least (n ∷ ns) rising zero (suc j) d before within = λ same. le
 rising_differ least (n ∷ ns) rising (suc i) zero d before within = absurd (omega arith)
 rising_differ least (n ∷ ns) rising (suc i) (suc j) d before within = rising_differ (n + 1) ns rising.1 i j d (omega arith) (omega arith)
 
-pub all_from : {A : Type 0} (P : A → Type 0) (xs : List A) → AllByRecursion P xs → All P xs
-all_from P [] all k d within = absurd (omega arith)
-all_from P (x ∷ xs) all zero d within = all.0
-all_from P (x ∷ xs) all (suc k) d within = all_from P xs all.1 k d (omega arith)
-
 pub record Picked (least count : ℕ) (P : ℕ → Type 0) : Type 0 where
   pub numbers : List ℕ
   pub many : length numbers ≡ count

@@ -11,7 +11,6 @@ use Rattle.zy_law.specs.Completed.{IsCompleted}
 use Rattle.zy_law.specs.Lawful.{IsLawful}
 use Rattle.zy_law.specs.Said.{IsBacked}
 use Rattle.zy_law.specs.World as law
-use Rattle.zy_law.specs.World.Statement as statements
 use Rattle.zy_lawful.specs.Acts.{statement_of}
 use Rattle.zy_lawful.specs.Tied as lawful
 use Rattle.zy_lawful.specs.Tied.{IsVouchedBy}
@@ -66,7 +65,7 @@ pub record IsBackedBy {S : Type 0} (w : World S) (id : ℕ) (r : Response) : Typ
 
 -- the local commit to a response
 abbrev pub local_to : Spec → law.Statement
-local_to spec = statements.Local spec.view.0 (record { place = spec.place.0; head = spec.head })
+local_to spec = law.Statement.Local spec.view.0 (record { place = spec.place.0; head = spec.head })
 
 -- A certificate that a client sent is backed and its reply is kept, and each local commit that was counted is one that its
 -- replica said, unless that lies.
