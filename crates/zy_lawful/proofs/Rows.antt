@@ -9,7 +9,6 @@ use Rattle.zy_base.specs.declared.counts.Counts.{Counts}
 use Rattle.zy_base.specs.declared.ids.ClientId.{ClientId}
 use Rattle.zy_base.specs.declared.ids.Digest.{Digest}
 use Rattle.zy_base.specs.declared.ids.View.{View}
-use Rattle.zy_base.specs.declared.ids.Place.{Place}
 use Rattle.zy_chain.specs.Entries.{digest_of_entry}
 use Rattle.zy_chain.specs.declared.entry.Entry.{Entry}
 use Rattle.zy_chain.specs.Stretch.{Mark}
@@ -17,7 +16,7 @@ use Rattle.zy_admit.specs.Judging.{entry_of}
 use Rattle.zy_admit.specs.Orders.{slots_above}
 use Rattle.zy_frames.specs.declared.frame.OrderFrame.{OrderFrame}
 use Rattle.zy_parts.specs.Numbers as numbers
-use Rattle.zy_parts.specs.Statements.{spec_fields, local_fields}
+use Rattle.zy_parts.specs.Statements.{spec_fields}
 use Rattle.zy_parts.specs.declared.signed.Signed.{Signed}
 use Rattle.zy_parts.specs.declared.statements.Ask.{Ask}
 use Rattle.zy_parts.specs.declared.statements.Local.{Local}
@@ -29,7 +28,7 @@ use Rattle.zy_seal.specs.Sealing.{sealed_by}
 use Rattle.zy_exec.specs.declared.known.Known.{Known}
 use Rattle.zy_exec.specs.Kept.{known_in, last_place}
 use Rattle.zy_law.specs.Fixed.{IsCertified}
-use Rattle.zy_law.specs.Lawful.{IsOrdered, IsVote}
+use Rattle.zy_law.specs.Lawful.{IsOrdered}
 use Rattle.zy_law.specs.World.{Spoken, Statement, World}
 use Rattle.zy_law.specs.World.Statement.{Order}
 use Rattle.zy_lawful.specs.Acts.{statement_of}
