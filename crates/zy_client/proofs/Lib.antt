@@ -1,1 +1,3 @@
+mod PollLemmas
+mod CertificateLemmas
 mod HeldLemmas

@@ -4,7 +4,7 @@ use Rattle.std.specs.List.{AllByRecursion}
 use Rattle.std.specs.Option.{ForSome}
 use Rattle.zy_base.specs.declared.ids.Party.TheVariants.{Client}
 use Rattle.zy_parts.specs.Signing.{IsSignedInRange}
-use Rattle.zy_parts.specs.Statements.{IsAskInRange}
+use Rattle.zy_parts.specs.Statements.{IsAskInRange, IsSpecInRange}
 use Rattle.zy_parts.specs.declared.statements.Ask.{Ask}
 use Rattle.zy_frames.specs.Frames.{IsFrameInRange}
 use Rattle.zy_table.specs.declared.deeds.Sent.{Sent}
@@ -17,6 +17,8 @@ pub record IsReady (s : ClientState) : Type 0 where
   pub stamp : s.stamp.0 + leaves_of s ≤ 2 ^ 61 + 2 ^ 10
   pub waiting : ForSome s.waiting (IsSignedInRange IsAskInRange)
   pub responses : length s.responses ≡ s.counts.n
+  -- what it keeps can stand in a certificate
+  pub specs : AllByRecursion (λ kept. ForSome kept (λ r. IsSignedInRange IsSpecInRange r.spec)) s.responses
 
 -- what a step sends and signs can be spelled
 pub record AreInRange (sent : List Sent) (said : List Ask) : Type 0 where

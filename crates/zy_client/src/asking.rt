@@ -1,10 +1,7 @@
-ghost use Rattle.std.specs.Prelude.{◌≡◌, ◌≤◌, ◌+◌, ◌-◌, ◌^◌, ◌∷◌, [], length, option_map, Some, IfOk, OnOk, OnErr};
+ghost use Rattle.std.specs.Prelude.{◌≡◌, ◌≤◌, ◌+◌, ◌-◌, ◌^◌, ◌∷◌, [], length, Some, None, IfOk, OnOk, OnErr};
 ghost use Rattle.std.specs.List.{AllByRecursion};
-ghost use Rattle.std.specs.Option.{ForSome};
-ghost use Rattle.zy_frames.specs.declared.frame.Frame.TheVariants as frames;
-ghost use Rattle.zy_frames.specs.Frames.{IsFrameInRange};
 ghost use Rattle.zy_table.specs.ClientState.{leaves_of, no_responses};
-ghost use Rattle.zy_table.specs.ClientRows.{ask as ask_row, asked as asked_row, next_ask, ask_again as ask_again_row};
+ghost use Rattle.zy_table.specs.ClientRows.{ask as ask_row, asked as asked_row, next_ask};
 ghost use Rattle.zy_parts.specs.Numbers as numbers;
 ghost use Rattle.zy_parts.specs.Signing.{IsSignedInRange};
 ghost use Rattle.zy_parts.specs.Statements.{IsAskInRange, ask_fields};
@@ -68,38 +65,15 @@ impl Client {
         Ok((self, signed))
     }
 
-    // The request is kept, and no response to it yet.
+    // The request is kept, and no response to it yet, nor a certificate.
     fn awaits(mut self, signed: Signed<Ask>) -> Result<Client, Want>
         requires { IsSignedInRange IsAskInRange signed }
-        ensures { IfOk result (λ c. c ≡ record self { waiting = Some signed; responses = no_responses self.counts }) }
+        ensures { IfOk result (λ c. c ≡ record self { waiting = Some signed; responses = no_responses self.counts; commit = None }) }
     {
         self.responses = no_responses(self.alloc, self.counts.n)?;
         self.waiting = Some(signed);
+        self.commit = None;
         Ok(self)
-    }
-
-    // The request that waits goes to all replicas.
-    pub(crate) fn ask_again(self) -> Result<Moved, Want>
-        ensures { IfOk result (λ m. m ≡ ask_again_row self self.waiting) }
-    {
-        match self.request()? {
-            None => Ok(self.taken()),
-            Some(frame) => {
-                let said = Vec::new(self.alloc);
-                self.sends(To::All, frame, said)
-            }
-        }
-    }
-
-    // A frame with the request that waits.
-    fn request(&self) -> Result<Option<Frame>, Want>
-        ensures value { IfOk result (λ frame. frame ≡ option_map frames.Request self.now.waiting) }
-        ensures range { IfOk result (λ frame. ForSome frame IsFrameInRange) }
-    {
-        match &self.waiting {
-            None => Ok(None),
-            Some(waiting) => Ok(Some(Frame::Request(signed_copy(waiting)?))),
-        }
     }
 }
 
@@ -134,7 +108,7 @@ fn copy_of(ask: &Ask) -> Result<Ask, Want>
     Ok(ask.clone()?)
 }
 
-fn signed_copy(ask: &Signed<Ask>) -> Result<Signed<Ask>, Want>
+pub(crate) fn signed_copy(ask: &Signed<Ask>) -> Result<Signed<Ask>, Want>
     ensures { IfOk result (λ copy. copy ≡ ask.now) }
 {
     Ok(Signed {

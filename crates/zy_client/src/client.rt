@@ -6,9 +6,9 @@ use std::marker::Model;
 use zy_base::{Answer, ClientId, Counts, Outgoing, Party, Said, Stamp, Timers, View, Want};
 use zy_parts::{Ask, Signed};
 use zy_seal::{Directory, Sealer};
-use zy_table::{Done, Response};
+use zy_table::{Commit, Done, Response};
 
-/// A client: its keys, the request that waits, and the responses to it.
+/// A client: its keys, the request that waits, the responses to it, and the commit certificate that it sent for it.
 #[derive(Drop)]
 pub struct Client {
     pub(crate) alloc: Global,
@@ -20,6 +20,7 @@ pub struct Client {
     pub(crate) stamp: Stamp,
     pub(crate) waiting: Option<Signed<Ask>>,
     pub(crate) responses: Vec<Option<Response>>,
+    pub(crate) commit: Option<Commit>,
     pub(crate) done: Option<Done>,
 }
 
@@ -37,6 +38,7 @@ impl Model for Client {
       stamp = c.stamp;
       waiting = c.waiting;
       responses = c.responses.items;
+      commit = c.commit;
       done = c.done;
     } };
 
@@ -51,6 +53,7 @@ impl Model for Client {
       stamp = c.stamp;
       waiting = c.waiting;
       responses = c.responses.items;
+      commit = c.commit;
       done = c.done;
     }) };
 }
@@ -93,6 +96,7 @@ impl Client {
             stamp,
             waiting: None,
             responses,
+            commit: None,
             done: None,
         })
     }

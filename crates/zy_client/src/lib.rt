@@ -3,6 +3,7 @@
 
 mod asking;
 mod client;
+mod commits;
 mod laws;
 mod moved;
 mod responses;

@@ -1,6 +1,6 @@
 ghost use Rattle.std.specs.Prelude.{◌≡◌, ◌<◌, length, count_by, slice_index_or, option_copied, None, Some, IfOk, List, ℕ};
 ghost use Rattle.sha2.specs.Sha256.{sha256};
-ghost use Rattle.zy_parts.specs.Statements.{IsAskInRange};
+ghost use Rattle.zy_parts.specs.Statements.{IsAskInRange, IsSpecInRange};
 ghost use Rattle.zy_parts.specs.Signing.{IsSignedInRange};
 ghost use Rattle.zy_table.specs.ClientRows.{response_cause, is_own_order_if, is_repeated, kept_of, keep as keep_row, agrees, agreeing, done_of, completed_if, keep_unless, respond as respond_row};
 ghost use Rattle.zy_cert.specs.Equal.{same_spec};
@@ -17,6 +17,7 @@ impl Client {
     // A response of the replica with this number.
     #[tactic(auto, unfolding(zy_table::specs::ClientRows::respond))]
     pub(crate) fn responds(self, id: ReplicaId, response: Response) -> Result<Moved, Want>
+        requires { IsSignedInRange IsSpecInRange response.spec }
         ensures { IfOk result (λ m. m ≡ respond_row self id.0 response) }
     {
         let cause = match &self.waiting {
@@ -107,9 +108,10 @@ impl Client {
 
     // The response is kept, and with enough equal ones the request is complete.
     fn keep(mut self, id: ReplicaId, response: Response) -> Result<Client, Want>
+        requires { IsSignedInRange IsSpecInRange response.spec }
         ensures { IfOk result (λ c. c ≡ completed_if (keep_row self id.0 response) response) }
     {
-        let done = done_by(&response)?;
+        let done = done_of(&response)?;
         let spec = response.spec.stmt;
         self.put(id, response);
         if agreeing(&self.responses, &spec) >= self.counts.fast {
@@ -120,6 +122,7 @@ impl Client {
     }
 
     fn put(&mut self, id: ReplicaId, response: Response)
+        requires { IsSignedInRange IsSpecInRange response.spec }
         ensures { self.new ≡ keep_row self.old id.0 response }
     {
         if (id.0 as usize) < self.responses.len() {
@@ -138,7 +141,7 @@ impl Client {
 }
 
 // The completion that a response brings, where enough are equal to it.
-fn done_by(response: &Response) -> Result<Done, Want>
+fn done_of(response: &Response) -> Result<Done, Want>
     ensures { IfOk result (λ done. done ≡ done_of response.now) }
 {
     let spec = &response.spec.stmt;
@@ -153,7 +156,7 @@ fn done_by(response: &Response) -> Result<Done, Want>
 }
 
 // How many of the kept responses are equal to one.
-fn agreeing(responses: &[Option<Response>], spec: &Spec) -> u64
+pub(crate) fn agreeing(responses: &[Option<Response>], spec: &Spec) -> u64
     ensures { result ≡ count_by (agrees spec.now) responses.now }
 {
     responses

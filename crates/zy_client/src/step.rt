@@ -2,12 +2,13 @@ ghost use Rattle.std.specs.Prelude.{◌≡◌, ◌≤◌, length, map, IfOk, Ok,
 ghost use Rattle.std.specs.List.{AllByRecursion};
 ghost use Rattle.zy_frames.specs.Frames.{IsFrameInRange, frame_in, parts_of};
 ghost use Rattle.zy_seal.specs.Screening.{screen};
-ghost use Rattle.zy_parts.specs.Statements.{IsAskInRange};
+ghost use Rattle.zy_parts.specs.Signing.{IsSignedInRange};
+ghost use Rattle.zy_parts.specs.Statements.{IsAskInRange, IsSpecInRange};
 ghost use Rattle.zy_table.specs.ClientState.{spoken_of, timers_of, all_replicas, client_outgoing};
 ghost use Rattle.zy_base.specs.declared.cause.Cause.TheVariants as causes;
 ghost use Rattle.zy_table.specs.Roles.{is_replica};
 ghost use Rattle.zy_table.specs.ClientState.{refused};
-ghost use Rattle.zy_table.specs.ClientRows.{ask as ask_row, hear as hear_row, hear_response as hear_response_row, is_by_primary, local_while, decoded, timer as timer_row, client_step};
+ghost use Rattle.zy_table.specs.ClientRows.{ask as ask_row, hear as hear_row, hear_response as hear_response_row, is_by_primary, count_local, decoded, timer as timer_row, client_step};
 ghost use Rattle.zy_client.specs.Stepped.{IsStepped};
 
 use crate::moved::Moved;
@@ -17,7 +18,7 @@ use zy_base::{
     Bytes, Cause, ClientId, Event, Items, Outgoing, Party, ReplicaId, Said, Spoken, TimerKind, Want,
 };
 use zy_frames::{DecodeFault, Frame, decode, parts};
-use zy_parts::{Ask, Order, Signed, signed_text};
+use zy_parts::{Ask, Local, Order, Signed, signed_text};
 use zy_seal::screen_parts;
 use zy_table::{Response, Sent, outgoing};
 
@@ -52,7 +53,7 @@ impl Client {
         ensures { IfOk result (λ m. m ≡ timer_row self kind) }
     {
         match kind {
-            TimerKind::Answer => self.ask_again(),
+            TimerKind::Answer => self.run_out(),
             TimerKind::Request => Ok(self.taken()),
             TimerKind::Change => Ok(self.taken()),
         }
@@ -97,7 +98,7 @@ impl Client {
                 let by = spec.by;
                 self.hear_response(Response { spec, reply, order }, by)
             }
-            Frame::LocalCommit(local) => Ok(self.hear_local(local.by)),
+            Frame::LocalCommit(local) => self.hear_local(local),
             Frame::Request(_) => Ok(self.refused(Cause::WrongRole)),
             Frame::Order(_) => Ok(self.refused(Cause::WrongRole)),
             Frame::Commit(_) => Ok(self.refused(Cause::WrongRole)),
@@ -110,6 +111,7 @@ impl Client {
     }
 
     fn hear_response(self, response: Response, by: Party) -> Result<Moved, Want>
+        requires { IsSignedInRange IsSpecInRange response.spec }
         ensures { IfOk result (λ m. m ≡ hear_response_row self response by) }
     {
         match by {
@@ -137,16 +139,12 @@ impl Client {
         }
     }
 
-    // No certificate was sent yet that a local commit could belong to.
-    fn hear_local(self, by: Party) -> Moved
-        ensures { result ≡ (if is_replica by then local_while self self.waiting else refused causes.WrongRole self) }
+    fn hear_local(self, local: Signed<Local>) -> Result<Moved, Want>
+        ensures { IfOk result (λ m. m ≡ (if is_replica local.by then count_local self local else refused causes.WrongRole self)) }
     {
-        match by {
-            Party::Client(_) => self.refused(Cause::WrongRole),
-            Party::Replica(_) => match self.waiting() {
-                None => self.refused(Cause::Finished),
-                Some(_) => self.refused(Cause::Unmatched),
-            },
+        match local.by {
+            Party::Client(_) => Ok(self.refused(Cause::WrongRole)),
+            Party::Replica(_) => self.count_local(local),
         }
     }
 }

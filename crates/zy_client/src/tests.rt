@@ -1,18 +1,18 @@
 mod fixture;
 
-use crate::Path;
+use crate::{Client, ClientStepped, Path};
 use fixture::{
-    CLIENT, Case, FIRST, FITTING, ORDER, OUTSIDER, RESPONSE, SECOND, asked, heard, keeps, refused,
-    refuses, seen, signed, start,
+    CLIENT, Case, FIRST, FITTING, LOCAL, ORDER, OUTSIDER, RESPONSE, SECOND, Scene, Shown, THIRD,
+    first_ask,
 };
 use sha2::{Digest as Hasher, Sha256};
+use std::alloc::Global;
 use std::test::Fail;
 use zy_base::{
     Answer, Bytes, Cause, ClientId, Digest, Event, FrameFault, Party, Place, ReplicaId, Stamp,
     TimerKind, View,
 };
-use zy_frames::Frame;
-use zy_parts::{Hate, Local, Order, Spec};
+use zy_parts::{Local, Order, Spec};
 
 // SHA-256 of the frame of the first request of c0, `out ("j" 0)`, as another program made it.
 const REQUEST_FRAME: [u8; 32] = [
@@ -26,63 +26,126 @@ const REQUEST_TEXT: [u8; 33] =
 
 #[test]
 fn asks_in_the_bytes_of_another_program(rt: HostRuntime) -> Result<(), Fail> {
-    let alloc = rt.alloc();
-    let (client, _) = start(alloc, 0)?;
-    let stepped = asked(alloc, client)?;
-    let (to, frame) = stepped.out.as_slice().first().ok_or("one frame")?;
-    assert_eq!(rt; (*to, frame.len()), (FIRST, 2381));
+    let stepped = first_ask(rt.alloc())?;
+    if is_frame_of_another_program(&stepped) && is_text_of_another_program(&stepped) {
+        Ok(())
+    } else {
+        Err(Fail::from("other bytes"))
+    }
+}
+
+fn is_frame_of_another_program(stepped: &ClientStepped) -> bool {
+    match stepped.out.as_slice() {
+        [(to, frame)] => *to == FIRST && frame.len() == 2381 && digest_of(frame) == REQUEST_FRAME,
+        _ => false,
+    }
+}
+
+fn digest_of(frame: &Bytes) -> [u8; 32] {
     let mut hasher = Sha256::new();
     hasher.update(frame.as_slice());
-    assert_eq!(rt; hasher.finalize(), REQUEST_FRAME);
-    let said = stepped.said.as_slice().first().ok_or("one request")?;
-    assert_eq!(rt; said.text.as_slice(), REQUEST_TEXT.as_slice());
+    hasher.finalize()
+}
+
+fn is_text_of_another_program(stepped: &ClientStepped) -> bool {
+    match stepped.said.as_slice() {
+        [said] => said.text.as_slice() == REQUEST_TEXT.as_slice(),
+        _ => false,
+    }
+}
+
+#[test]
+fn asks_once_at_a_time(rt: HostRuntime) -> Result<(), Fail> {
+    Scene::start(rt.alloc(), 31)?
+        .asks()?
+        .refuses_to_ask(Cause::Waiting(Stamp(1)))?;
     Ok(())
+}
+
+#[test]
+fn asks_nothing_without_a_leaf(rt: HostRuntime) -> Result<(), Fail> {
+    Scene::start(rt.alloc(), 32)?.refuses_to_ask(Cause::KeySpent)?;
+    Ok(())
+}
+
+// ---- responses
+
+// The response of this replica.
+const fn of(id: u8) -> Case {
+    let by = Party::Replica(ReplicaId(id));
+    Case {
+        by,
+        signed_as: by,
+        ..FITTING
+    }
+}
+
+// Its response of the next view.
+const fn of_next(id: u8) -> Case {
+    Case {
+        spec: Spec {
+            view: View(1),
+            ..RESPONSE
+        },
+        ..of(id)
+    }
+}
+
+// It waits after three matching responses.
+fn three_respond(alloc: Global) -> Result<Scene, Fail> {
+    Scene::start(alloc, 0)?
+        .asks()?
+        .keeps(&of(3))?
+        .keeps(&of(1))?
+        .keeps(&of(2))
+}
+
+fn is_done(client: &Client, path: Path) -> bool {
+    match client.done() {
+        None => false,
+        Some(done) => {
+            done.stamp == Stamp(1)
+                && done.view == View(0)
+                && done.place == Place(1)
+                && done.head == RESPONSE.head
+                && done.path == path
+                && done.reply.as_slice() == [0].as_slice()
+        }
+    }
 }
 
 #[test]
 fn completes_with_the_fourth_of_four(rt: HostRuntime) -> Result<(), Fail> {
-    let alloc = rt.alloc();
-    let (client, mut key) = start(alloc, 0)?;
-    let mut client = asked(alloc, client)?.client;
-    for id in 0..4u8 {
-        assert!(rt; client.done().is_none());
-        let by = Party::Replica(ReplicaId(id));
-        let case = Case {
-            by,
-            signed_as: by,
-            ..FITTING
-        };
-        client = keeps(alloc, client, &mut key, &case)?;
+    let scene = three_respond(rt.alloc())?.shows(THREE)?.keeps(&of(0))?;
+    if is_done(&scene.client, Path::Fast) && scene.client.waiting().is_none() {
+        Ok(())
+    } else {
+        Err(Fail::from("complete"))
     }
-    let done = client.done().ok_or("complete")?;
-    assert_eq!(rt;
-        (done.stamp, done.place, done.path),
-        (Stamp(1), Place(1), Path::Fast)
-    );
-    assert_eq!(rt; done.reply.as_slice(), [0].as_slice());
-    assert_eq!(rt; client.waiting(), None);
-    Ok(())
 }
 
-// The second view's response of a replica isn't counted with the first view's of the others.
-const OF_THE_NEXT_VIEW: Case = Case {
-    spec: Spec {
-        view: View(1),
-        ..RESPONSE
-    },
-    ..FITTING
+// After three responses it waits.
+const THREE: Shown = Shown {
+    waiting: Some(Stamp(1)),
+    stamp: Stamp(1),
+    leaf: 1,
+    kept: [None, Some(View(0)), Some(View(0)), Some(View(0))],
+    certified: None,
 };
 
+// The second view's response of a replica takes the place of the first view's, with which it isn't counted.
 #[test]
 fn a_response_of_a_greater_view_takes_the_place(rt: HostRuntime) -> Result<(), Fail> {
-    let alloc = rt.alloc();
-    let (client, mut key) = start(alloc, 0)?;
-    let mut client = asked(alloc, client)?.client;
-    client = keeps(alloc, client, &mut key, &FITTING)?;
-    client = refuses(alloc, client, &mut key, &FITTING, Cause::Repeat)?;
-    client = keeps(alloc, client, &mut key, &OF_THE_NEXT_VIEW)?;
-    client = refuses(alloc, client, &mut key, &FITTING, Cause::Repeat)?;
-    assert_eq!(rt; seen(&client).kept, [Some(View(1)), None, None, None]);
+    Scene::start(rt.alloc(), 0)?
+        .asks()?
+        .keeps(&FITTING)?
+        .refuses(&FITTING, Cause::Repeat)?
+        .keeps(&of_next(0))?
+        .refuses(&FITTING, Cause::Repeat)?
+        .shows(Shown {
+            kept: [Some(View(1)), None, None, None],
+            ..THREE
+        })?;
     Ok(())
 }
 
@@ -105,24 +168,11 @@ const OF_A_CLIENT: Case = Case {
 
 #[test]
 fn signers_that_are_not_heard(rt: HostRuntime) -> Result<(), Fail> {
-    let alloc = rt.alloc();
-    let (client, mut key) = start(alloc, 0)?;
-    let client = asked(alloc, client)?.client;
-    let client = refuses(
-        alloc,
-        client,
-        &mut key,
-        &OF_AN_OUTSIDER,
-        Cause::UnknownParty,
-    )?;
-    let client = refuses(
-        alloc,
-        client,
-        &mut key,
-        &WITH_A_SIGNATURE_OF_ANOTHER,
-        Cause::BadSignature,
-    )?;
-    refuses(alloc, client, &mut key, &OF_A_CLIENT, Cause::WrongRole)?;
+    Scene::start(rt.alloc(), 0)?
+        .asks()?
+        .refuses(&OF_AN_OUTSIDER, Cause::UnknownParty)?
+        .refuses(&WITH_A_SIGNATURE_OF_ANOTHER, Cause::BadSignature)?
+        .refuses(&OF_A_CLIENT, Cause::WrongRole)?;
     Ok(())
 }
 
@@ -157,38 +207,13 @@ const WITH_ANOTHER_REPLY: Case = Case {
 
 #[test]
 fn responses_that_are_not_kept(rt: HostRuntime) -> Result<(), Fail> {
-    let alloc = rt.alloc();
-    let (client, mut key) = start(alloc, 0)?;
-    let client = refuses(alloc, client, &mut key, &FITTING, Cause::Finished)?;
-    let client = asked(alloc, client)?.client;
-    let client = refuses(
-        alloc,
-        client,
-        &mut key,
-        &OF_ANOTHER_CLIENT,
-        Cause::Unmatched,
-    )?;
-    let client = refuses(
-        alloc,
-        client,
-        &mut key,
-        &OF_AN_EARLIER_REQUEST,
-        Cause::OldStamp,
-    )?;
-    let client = refuses(
-        alloc,
-        client,
-        &mut key,
-        &OF_A_LATER_REQUEST,
-        Cause::Unmatched,
-    )?;
-    refuses(
-        alloc,
-        client,
-        &mut key,
-        &WITH_ANOTHER_REPLY,
-        Cause::Unmatched,
-    )?;
+    Scene::start(rt.alloc(), 0)?
+        .refuses(&FITTING, Cause::Finished)?
+        .asks()?
+        .refuses(&OF_ANOTHER_CLIENT, Cause::Unmatched)?
+        .refuses(&OF_AN_EARLIER_REQUEST, Cause::OldStamp)?
+        .refuses(&OF_A_LATER_REQUEST, Cause::Unmatched)?
+        .refuses(&WITH_ANOTHER_REPLY, Cause::Unmatched)?;
     Ok(())
 }
 
@@ -216,84 +241,163 @@ const ORDERED_AS_ANOTHER_ENTRY: Case = Case {
 
 #[test]
 fn orders_beside_a_response(rt: HostRuntime) -> Result<(), Fail> {
-    let alloc = rt.alloc();
-    let (client, mut key) = start(alloc, 0)?;
-    let client = asked(alloc, client)?.client;
-    let client = refuses(
-        alloc,
-        client,
-        &mut key,
-        &ORDERED_BY_A_BACKUP,
-        Cause::WrongRole,
-    )?;
-    let client = refuses(
-        alloc,
-        client,
-        &mut key,
-        &ORDERED_AS_ANOTHER_ENTRY,
-        Cause::Unmatched,
-    )?;
-    keeps(alloc, client, &mut key, &WITH_ORDER)?;
+    Scene::start(rt.alloc(), 0)?
+        .asks()?
+        .refuses(&ORDERED_BY_A_BACKUP, Cause::WrongRole)?
+        .refuses(&ORDERED_AS_ANOTHER_ENTRY, Cause::Unmatched)?
+        .keeps(&WITH_ORDER)?;
     Ok(())
 }
 
 #[test]
-fn bytes_that_are_no_frame(rt: HostRuntime) -> Result<(), Fail> {
-    let alloc = rt.alloc();
-    let (mut client, _) = start(alloc, 0)?;
-    for (kind, fault) in [
-        (10, FrameFault::Short),
-        (11, FrameFault::Kind),
-        (16, FrameFault::Kind),
-    ] {
-        let event = Event::Heard(Bytes::from_slice(alloc, &[1, kind])?);
-        client = refused(client, event, Cause::NotFrame(fault))?;
-    }
+fn frames_that_are_not_heard(rt: HostRuntime) -> Result<(), Fail> {
+    Scene::start(rt.alloc(), 0)?
+        .refuses_bytes(&[1, 10], Cause::NotFrame(FrameFault::Short))?
+        .refuses_bytes(&[1, 11], Cause::NotFrame(FrameFault::Kind))?
+        .refuses_bytes(&[1, 16], Cause::NotFrame(FrameFault::Kind))?
+        .refuses_hate(Cause::WrongRole)?;
     Ok(())
 }
 
-const LOCAL: Local = Local {
-    view: View(0),
-    place: Place(1),
-    head: Digest([5; 32]),
+// ---- certificates and local commits
+
+// How a REQUEST of c0 begins: the version, the kind and the signer.
+const REQUEST_TO_ALL: [u8; 7] = [1, 1, 1, 0, 0, 0, 0];
+
+// How a COMMIT of three responses begins, the first of them by r1 or by r0: the version, the kind, the number of
+// responses and the signer.
+const COMMIT_FROM_SECOND: [u8; 9] = [1, 4, 0, 3, 0, 0, 0, 0, 1];
+
+const COMMIT_FROM_FIRST: [u8; 9] = [1, 4, 0, 3, 0, 0, 0, 0, 0];
+
+// It sent the certificate of three responses, and so many local commits are counted.
+const fn certified(locals: usize) -> Shown {
+    Shown {
+        certified: Some((View(0), locals)),
+        ..THREE
+    }
+}
+
+fn sends_a_certificate(alloc: Global) -> Result<Scene, Fail> {
+    three_respond(alloc)?.sends_to_all(&COMMIT_FROM_SECOND)
+}
+
+#[test]
+fn with_two_responses_it_asks_all(rt: HostRuntime) -> Result<(), Fail> {
+    Scene::start(rt.alloc(), 0)?
+        .asks()?
+        .keeps(&of(0))?
+        .keeps(&of(1))?
+        .sends_to_all(&REQUEST_TO_ALL)?;
+    Ok(())
+}
+
+#[test]
+fn with_three_responses_it_sends_the_certificate(rt: HostRuntime) -> Result<(), Fail> {
+    let client = three_respond(rt.alloc())?.client;
+    let stepped = client.step(Event::Timer(TimerKind::Answer))?;
+    if stepped.answer == Answer::Taken && is_certificate(&stepped) {
+        Ok(())
+    } else {
+        Err(Fail::from("the three by replica number"))
+    }
+}
+
+// To the last replica, by r1, r2 and r3 in this order: each response is a signer of 5 bytes, 92 bytes of fields and a
+// signature of 2,348 bytes behind its length.
+fn is_certificate(stepped: &ClientStepped) -> bool {
+    match stepped.out.as_slice() {
+        [_, _, _, (to, frame)] => {
+            *to == Party::Replica(ReplicaId(3))
+                && frame.len() == 7345
+                && has_at(frame, 0, &COMMIT_FROM_SECOND)
+                && has_at(frame, 2451, &[0, 0, 0, 0, 2])
+                && has_at(frame, 4898, &[0, 0, 0, 0, 3])
+        }
+        _ => false,
+    }
+}
+
+fn has_at(frame: &Bytes, at: usize, part: &[u8]) -> bool {
+    at <= frame.len() && frame.as_slice()[at..].starts_with(part)
+}
+
+#[test]
+fn local_commits_without_a_certificate(rt: HostRuntime) -> Result<(), Fail> {
+    Scene::start(rt.alloc(), 0)?
+        .refuses_local(FIRST, LOCAL, Cause::Finished)?
+        .asks()?
+        .refuses_local(FIRST, LOCAL, Cause::Unmatched)?
+        .refuses_local(CLIENT, LOCAL, Cause::WrongRole)?;
+    Ok(())
+}
+
+#[test]
+fn local_commits_that_are_not_counted(rt: HostRuntime) -> Result<(), Fail> {
+    sends_a_certificate(rt.alloc())?
+        .refuses_local(FIRST, OF_ANOTHER_VIEW, Cause::Unmatched)?
+        .refuses_local(FIRST, OF_ANOTHER_PLACE, Cause::Unmatched)?
+        .refuses_local(FIRST, OF_ANOTHER_HEAD, Cause::Unmatched)?
+        .refuses_local(CLIENT, LOCAL, Cause::WrongRole)?
+        .counts(FIRST, LOCAL)?
+        .refuses_local(FIRST, LOCAL, Cause::Repeat)?
+        .refuses_local(SECOND, OF_ANOTHER_HEAD, Cause::Unmatched)?
+        .shows(certified(1))?;
+    Ok(())
+}
+
+const OF_ANOTHER_VIEW: Local = Local {
+    view: View(1),
+    ..LOCAL
+};
+
+const OF_ANOTHER_PLACE: Local = Local {
+    place: Place(2),
+    ..LOCAL
+};
+
+const OF_ANOTHER_HEAD: Local = Local {
+    head: Digest([6; 32]),
+    ..LOCAL
 };
 
 #[test]
-fn frames_that_are_no_responses(rt: HostRuntime) -> Result<(), Fail> {
-    let alloc = rt.alloc();
-    let (client, mut key) = start(alloc, 0)?;
-    let of_replica = Frame::LocalCommit(signed(alloc, &mut key, FIRST, FIRST, LOCAL)?);
-    let of_client = Frame::LocalCommit(signed(alloc, &mut key, CLIENT, CLIENT, LOCAL)?);
-    let hate = Frame::Hate(signed(alloc, &mut key, FIRST, FIRST, Hate { view: View(0) })?);
-    let client = refused(client, heard(alloc, &of_replica)?, Cause::Finished)?;
-    let client = asked(alloc, client)?.client;
-    let client = refused(client, heard(alloc, &of_replica)?, Cause::Unmatched)?;
-    let client = refused(client, heard(alloc, &of_client)?, Cause::WrongRole)?;
-    refused(client, heard(alloc, &hate)?, Cause::WrongRole)?;
+fn completes_with_the_third_local_commit(rt: HostRuntime) -> Result<(), Fail> {
+    let scene = sends_a_certificate(rt.alloc())?
+        .counts(FIRST, LOCAL)?
+        .counts(SECOND, LOCAL)?
+        .shows(certified(2))?
+        .counts(THIRD, LOCAL)?;
+    if is_done(&scene.client, Path::Slow) && scene.client.waiting().is_none() {
+        Ok(())
+    } else {
+        Err(Fail::from("complete"))
+    }
+}
+
+#[test]
+fn a_certificate_that_is_sent_again(rt: HostRuntime) -> Result<(), Fail> {
+    sends_a_certificate(rt.alloc())?
+        .counts(FIRST, LOCAL)?
+        .sends_to_all(&COMMIT_FROM_SECOND)?
+        .shows(certified(1))?;
     Ok(())
 }
 
 #[test]
-fn asks_again_of_all(rt: HostRuntime) -> Result<(), Fail> {
-    let alloc = rt.alloc();
-    let (client, _) = start(alloc, 31)?;
-    let stepped = asked(alloc, client)?;
-    let before = seen(&stepped.client);
-    let stepped = asked(alloc, stepped.client)?;
-    assert_eq!(rt; stepped.answer, Answer::Refused(Cause::Waiting(Stamp(1))));
-    let stepped = stepped.client.step(Event::Timer(TimerKind::Answer))?;
-    assert_eq!(rt; (stepped.answer, stepped.out.len()), (Answer::Taken, 4));
-    assert_eq!(rt; seen(&stepped.client), before);
-    Ok(())
-}
-
-#[test]
-fn asks_nothing_without_a_leaf(rt: HostRuntime) -> Result<(), Fail> {
-    let alloc = rt.alloc();
-    let (client, _) = start(alloc, 32)?;
-    let before = seen(&client);
-    let stepped = asked(alloc, client)?;
-    assert_eq!(rt; stepped.answer, Answer::Refused(Cause::KeySpent));
-    assert_eq!(rt; seen(&stepped.client), before);
+fn a_certificate_of_another_statement(rt: HostRuntime) -> Result<(), Fail> {
+    sends_a_certificate(rt.alloc())?
+        .counts(FIRST, LOCAL)?
+        .keeps(&of_next(0))?
+        .keeps(&of_next(1))?
+        .keeps(&of_next(2))?
+        .sends_to_all(&COMMIT_FROM_FIRST)?
+        .refuses_local(SECOND, LOCAL, Cause::Unmatched)?
+        .counts(SECOND, OF_ANOTHER_VIEW)?
+        .shows(Shown {
+            kept: [Some(View(1)), Some(View(1)), Some(View(1)), Some(View(0))],
+            certified: Some((View(1), 1)),
+            ..THREE
+        })?;
     Ok(())
 }

@@ -8,17 +8,20 @@ use crate::{Client, ClientStepped};
 use std::alloc::Global;
 use std::test::Fail;
 use zy_base::{
-    Answer, Bytes, Cause, ClientId, Counts, Digest, Event, Party, Place, ReplicaId, Stamp, View,
+    Answer, Bytes, Cause, ClientId, Counts, Digest, Event, Party, Place, ReplicaId, Stamp,
+    TimerKind, View,
 };
 use zy_frames::{Frame, encode};
 use zy_lms::{Height, LmsKey};
 use zy_ots::OtsType;
-use zy_parts::{Order, Signed, Spec, Statement, signed_text};
+use zy_parts::{Hate, Local, Order, Signed, Spec, Statement, signed_text};
 use zy_seal::{Directory, Sealer, party_id, party_seed};
 
 pub const FIRST: Party = Party::Replica(ReplicaId(0));
 
 pub const SECOND: Party = Party::Replica(ReplicaId(1));
+
+pub const THIRD: Party = Party::Replica(ReplicaId(2));
 
 pub const OUTSIDER: Party = Party::Replica(ReplicaId(4));
 
@@ -57,6 +60,13 @@ pub const ORDER: Order = Order {
     request: REQUEST,
 };
 
+// The local commit that goes with it.
+pub const LOCAL: Local = Local {
+    view: View(0),
+    place: Place(1),
+    head: Digest([5; 32]),
+};
+
 // A frame with a response: by whom it is, as whose it was signed, the reply's byte, and the order with its signer.
 #[derive(Clone, Copy)]
 pub struct Case {
@@ -84,26 +94,132 @@ fn key(alloc: Global, next: u32) -> Result<LmsKey, Fail>
     Ok(LmsKey::make(alloc, &seed, &id, Height::H5, OtsType::W4, next)?)
 }
 
-// A client of four replicas, whose key signs next by this leaf. Every party has the same key, of which this is another copy.
-pub fn start(alloc: Global, next: u32) -> Result<(Client, LmsKey), Fail>
+// A client of four replicas, and the key by which every party of the group signs.
+#[derive(Drop)]
+pub struct Scene {
+    alloc: Global,
+    key: LmsKey,
+    pub client: Client,
+}
+
+// What a scene goes through: each function takes it and hands it on, or fails.
+impl Scene {
+    // The client's own copy of the key signs next by this leaf.
+    pub fn start(alloc: Global, next: u32) -> Result<Scene, Fail>
+        requires { next ≤ 32 }
+    {
+        let key = key(alloc, 0)?;
+        let client = client(alloc, key.public(), next)?;
+        Ok(Scene { alloc, key, client })
+    }
+
+    pub fn asks(self) -> Result<Scene, Fail> {
+        self.after_ask(Answer::Taken)
+    }
+
+    pub fn refuses_to_ask(self, cause: Cause) -> Result<Scene, Fail> {
+        let before = seen(&self.client);
+        let scene = self.after_ask(Answer::Refused(cause))?;
+        scene.is_still(before)
+    }
+
+    fn after_ask(self, want: Answer) -> Result<Scene, Fail> {
+        let Scene { alloc, key, client } = self;
+        match asked(alloc, client, want) {
+            Ok(client) => Ok(Scene { alloc, key, client }),
+            Err(fail) => Err(fail),
+        }
+    }
+
+    pub fn keeps(mut self, case: &Case) -> Result<Scene, Fail> {
+        let event = response(self.alloc, &mut self.key, case)?;
+        self.takes(event)
+    }
+
+    pub fn refuses(mut self, case: &Case, cause: Cause) -> Result<Scene, Fail> {
+        let event = response(self.alloc, &mut self.key, case)?;
+        self.refuses_event(event, cause)
+    }
+
+    pub fn counts(mut self, by: Party, local: Local) -> Result<Scene, Fail> {
+        let event = local_commit(self.alloc, &mut self.key, by, local)?;
+        self.takes(event)
+    }
+
+    pub fn refuses_local(mut self, by: Party, local: Local, cause: Cause) -> Result<Scene, Fail> {
+        let event = local_commit(self.alloc, &mut self.key, by, local)?;
+        self.refuses_event(event, cause)
+    }
+
+    pub fn refuses_hate(mut self, cause: Cause) -> Result<Scene, Fail> {
+        let event = hate(self.alloc, &mut self.key)?;
+        self.refuses_event(event, cause)
+    }
+
+    pub fn refuses_bytes(self, bytes: &[u8], cause: Cause) -> Result<Scene, Fail> {
+        let event = Event::Heard(Bytes::from_slice(self.alloc, bytes)?);
+        self.refuses_event(event, cause)
+    }
+
+    // The Answer timer, at which a frame that begins so goes to each replica.
+    pub fn sends_to_all(self, begins: &[u8]) -> Result<Scene, Fail> {
+        let Scene { alloc, key, client } = self;
+        match run_out(client, begins) {
+            Ok(client) => Ok(Scene { alloc, key, client }),
+            Err(fail) => Err(fail),
+        }
+    }
+
+    // With nothing sent.
+    fn takes(self, event: Event) -> Result<Scene, Fail> {
+        let Scene { alloc, key, client } = self;
+        match quiet_after(client, event, Answer::Taken) {
+            Ok(client) => Ok(Scene { alloc, key, client }),
+            Err(fail) => Err(fail),
+        }
+    }
+
+    // With nothing sent, and the client as it was.
+    fn refuses_event(self, event: Event, cause: Cause) -> Result<Scene, Fail> {
+        let before = seen(&self.client);
+        let Scene { alloc, key, client } = self;
+        match quiet_after(client, event, Answer::Refused(cause)) {
+            Ok(client) => Scene { alloc, key, client }.is_still(before),
+            Err(fail) => Err(fail),
+        }
+    }
+
+    // A refusal changes nothing.
+    fn is_still(self, before: Shown) -> Result<Scene, Fail> {
+        if seen(&self.client) == before {
+            Ok(self)
+        } else {
+            Err(Fail::from("a refusal changes nothing"))
+        }
+    }
+
+    // So much is seen of the client.
+    pub fn shows(self, want: Shown) -> Result<Scene, Fail> {
+        if seen(&self.client) == want {
+            Ok(self)
+        } else {
+            Err(Fail::new(format_args!("{:?} in place of {want:?}", seen(&self.client))))
+        }
+    }
+}
+
+fn client(alloc: Global, public: [u8; 56], next: u32) -> Result<Client, Fail>
     requires { next ≤ 32 }
 {
-    let others = key(alloc, 0)?;
-    let public = others.public();
     let replicas = vec![in alloc; public, public, public, public]?;
     let directory = Directory::new(alloc, replicas, vec![in alloc; public]?);
     let counts = Counts::plain(1).ok_or("one may lie")?;
     let sealer = Sealer::new(alloc, CLIENT, key(alloc, next)?);
-    let client = Client::start(alloc, counts, ClientId(0), sealer, directory, Stamp(0))?;
-    Ok((client, others))
-}
-
-pub fn asked(alloc: Global, client: Client) -> Result<ClientStepped, Fail> {
-    Ok(client.ask(Bytes::from_slice(alloc, &OPERATION)?)?)
+    Ok(Client::start(alloc, counts, ClientId(0), sealer, directory, Stamp(0))?)
 }
 
 // A statement by one party with a signature on the text of another.
-pub fn signed<S: Statement>(
+fn signed<S: Statement>(
     alloc: Global,
     key: &mut LmsKey,
     by: Party,
@@ -121,7 +237,7 @@ pub fn signed<S: Statement>(
     Ok(Signed { by, stmt, sig })
 }
 
-pub fn heard(alloc: Global, frame: &Frame) -> Result<Event, Fail>
+fn heard(alloc: Global, frame: &Frame) -> Result<Event, Fail>
     requires { IsFrameInRange frame.now }
 {
     Ok(Event::Heard(encode(alloc, frame)?))
@@ -160,16 +276,18 @@ fn signed_order(
     }
 }
 
-// What is seen of a client: the stamp that waits, the last stamp, the next leaf, and the views of the kept responses.
+// What is seen of a client: the stamp that waits, the last stamp, the next leaf, the views of the kept responses, and
+// the view of the certificate that was sent with the number of local commits to it.
 #[derive(Clone, Copy, Debug, PartialEq, Eq)]
 pub struct Shown {
     pub waiting: Option<Stamp>,
     pub stamp: Stamp,
     pub leaf: u32,
     pub kept: [Option<View>; 4],
+    pub certified: Option<(View, usize)>,
 }
 
-pub fn seen(client: &Client) -> Shown {
+fn seen(client: &Client) -> Shown {
     Shown {
         waiting: client.waiting(),
         stamp: client.stamp(),
@@ -180,6 +298,7 @@ pub fn seen(client: &Client) -> Shown {
             view_of(client, 2),
             view_of(client, 3),
         ],
+        certified: certified_of(client),
     }
 }
 
@@ -190,43 +309,88 @@ fn view_of(client: &Client, id: usize) -> Option<View> {
     }
 }
 
-// The client after an event that it refuses for this cause, which leaves it as it was.
-pub fn refused(client: Client, event: Event, cause: Cause) -> Result<Client, Fail> {
-    let before = seen(&client);
+fn certified_of(client: &Client) -> Option<(View, usize)> {
+    match &client.commit {
+        None => None,
+        Some(commit) => Some((commit.spec.view, commit.locals.votes().len())),
+    }
+}
+
+// The first request of a client.
+pub fn first_ask(alloc: Global) -> Result<ClientStepped, Fail> {
+    let public = key(alloc, 0)?.public();
+    ask(alloc, client(alloc, public, 0)?)
+}
+
+fn ask(alloc: Global, client: Client) -> Result<ClientStepped, Fail> {
+    Ok(client.ask(Bytes::from_slice(alloc, &OPERATION)?)?)
+}
+
+// The client after a request, which is answered so.
+fn asked(alloc: Global, client: Client, want: Answer) -> Result<Client, Fail> {
+    answered(ask(alloc, client)?, want)
+}
+
+// The client after an event that is answered so, at which it sends nothing and signs nothing.
+fn quiet_after(client: Client, event: Event, want: Answer) -> Result<Client, Fail> {
     let stepped = client.step(event)?;
-    if stepped.answer != Answer::Refused(cause) {
-        return Err(Fail::new(format_args!("{:?} in place of {cause:?}", stepped.answer)));
+    if is_quiet(&stepped) {
+        answered(stepped, want)
+    } else {
+        Err(Fail::from("nothing is sent"))
     }
-    if seen(&stepped.client) != before {
-        return Err(Fail::from("a refusal changes nothing"));
-    }
-    quiet(stepped)
 }
 
-// The same of the frame of a case.
-pub fn refuses(
-    alloc: Global,
-    client: Client,
-    key: &mut LmsKey,
-    case: &Case,
-    cause: Cause,
-) -> Result<Client, Fail> {
-    refused(client, response(alloc, key, case)?, cause)
+fn is_quiet(stepped: &ClientStepped) -> bool {
+    stepped.out.is_empty() && stepped.said.is_empty()
 }
 
-// The client after the response of a case, which it keeps.
-pub fn keeps(alloc: Global, client: Client, key: &mut LmsKey, case: &Case) -> Result<Client, Fail> {
-    let stepped = client.step(response(alloc, key, case)?)?;
-    if stepped.answer != Answer::Taken {
-        return Err(Fail::new(format_args!("{:?}", stepped.answer)));
+fn answered(stepped: ClientStepped, want: Answer) -> Result<Client, Fail> {
+    if stepped.answer == want {
+        Ok(stepped.client)
+    } else {
+        Err(Fail::new(format_args!("{:?} in place of {want:?}", stepped.answer)))
     }
-    quiet(stepped)
 }
 
-// The client of a step that sent nothing and signed nothing.
-fn quiet(stepped: ClientStepped) -> Result<Client, Fail> {
-    if !stepped.out.is_empty() || !stepped.said.is_empty() {
-        return Err(Fail::from("nothing is sent"));
+// The client after the Answer timer, at which a frame that begins so goes to each replica.
+fn run_out(client: Client, begins: &[u8]) -> Result<Client, Fail> {
+    let stepped = client.step(Event::Timer(TimerKind::Answer))?;
+    if sends_to_all(&stepped, begins) {
+        answered(stepped, Answer::Taken)
+    } else {
+        Err(Fail::from("to each replica"))
     }
-    Ok(stepped.client)
+}
+
+fn sends_to_all(stepped: &ClientStepped, begins: &[u8]) -> bool {
+    let out = stepped.out.as_slice();
+    out.len() == 4
+        && is_sent_to(0, out.first(), begins)
+        && is_sent_to(1, out.get(1), begins)
+        && is_sent_to(2, out.get(2), begins)
+        && is_sent_to(3, out.get(3), begins)
+}
+
+fn is_sent_to(id: u8, sending: Option<&(Party, Bytes)>, begins: &[u8]) -> bool {
+    match sending {
+        None => false,
+        Some((to, frame)) => {
+            *to == Party::Replica(ReplicaId(id)) && frame.as_slice().starts_with(begins)
+        }
+    }
+}
+
+// A local commit by a party, whose numbers are small.
+fn local_commit(alloc: Global, key: &mut LmsKey, by: Party, local: Local) -> Result<Event, Fail> {
+    if local.view.0 > 1 || local.place.0 == 0 || local.place.0 > 2 {
+        return Err(Fail::from("small numbers"));
+    }
+    let frame = Frame::LocalCommit(signed(alloc, key, by, by, local)?);
+    heard(alloc, &frame)
+}
+
+fn hate(alloc: Global, key: &mut LmsKey) -> Result<Event, Fail> {
+    let frame = Frame::Hate(signed(alloc, key, FIRST, FIRST, Hate { view: View(0) })?);
+    heard(alloc, &frame)
 }
