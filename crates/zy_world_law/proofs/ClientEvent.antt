@@ -74,7 +74,7 @@ pub heard_vouched : {S : Type 0} (R : Rules S) (w : World S) (s : ClientState) �
     → IsHeardLocal s (Heard bytes) spec vote → IsVouchedBy (seen R w) (local_to spec) vote.by
 heard_vouched R w s keys bytes none spec vote heard =
     let frame : Frame = frames.LocalCommit vote in
-    let is : frame_in bytes ≡ Ok frame = ap frame_in (same_bytes_heard bytes heard.bytes heard.event) ∙ heard.frame in
+    let is : frame_in bytes ≡ Ok frame = ap frame_in (same_bytes_heard bytes heard.bytes heard.heard) ∙ heard.frame in
     let signed : answer_to (keys_of w.setup) (part_of numbers.local local_fields vote) ≡ answers.Yes =
     subst (λ (k : Keys). answer_to k (part_of numbers.local local_fields vote) ≡ answers.Yes) keys heard.counted.signed in
     let said = (parts_said w bytes frame none is).0 signed in

@@ -168,7 +168,7 @@ module _ {S : Type 0} (R : Rules S) (law : HeldLaw) where
     client_rings : (id : ClientId) (x : Client) → client_at w id.0 ≡ Some x → (kind : TimerKind) → GoesGood w (client_timer w id x kind)
     client_rings id x seat timers.Answer v note is =
         client_event R law w good id x seat (Timer timers.Answer) [] Nothing (timer_comes x.state timers.Answer) (λ more keeping number r nothing. absurd nothing)
-        (λ more spec vote heard. let never = heard.event in absurd cc) v note is
+        (λ more spec vote heard. let never = heard.heard in absurd cc) v note is
     client_rings id x seat timers.Request v note is = stays w _ good v note is
     client_rings id x seat timers.Change v note is = stays w _ good v note is
 

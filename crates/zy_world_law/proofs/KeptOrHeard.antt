@@ -168,7 +168,7 @@ pub record IsSame (s t : ClientState) : Type 0 where
   pub keys : t.keys ≡ s.keys
 
 same_as : (s u t : ClientState) → t ≡ u → IsSame s u → IsSame s t
-same_as s u t is same = subst (λ (x : ClientState). IsSame s x) (sym is) same
+same_as s u t is alike = subst (λ (x : ClientState). IsSame s x) (sym is) alike
 
 same_if : (s : ClientState) (id : ℕ) (r : Response) (b : Bool) → IsSame s (if b then complete (keep s id r) r else keep s id r)
 same_if s id r true = record { me = refl; counts = refl; keys = refl }

@@ -84,7 +84,7 @@ four_bytes n (suc (suc (suc zero))) = omega arith
 four_bytes n (suc (suc (suc (suc i)))) = omega arith
 
 -- the number of 32 bits that has its bytes
-cut_number : ℕ → ℕ
+pub cut_number : ℕ → ℕ
 cut_number n = from_be_bytes w32 (to_be_bytes w32 n)
 
 cut_small : (n : ℕ) → cut_number n < 2 ^ 32
