@@ -12,7 +12,6 @@ use Rattle.zy_base.specs.declared.ids.View.{View}
 use Rattle.zy_base.specs.declared.step.Event.{Event}
 use Rattle.zy_base.specs.declared.step.Event.TheVariants.{Heard}
 use Rattle.zy_cert.specs.Equal.{same_spec, spec-equal}
-use Rattle.zy_cert.specs.Points.{point_of_local, point_of_spec}
 use Rattle.zy_client.specs.Held.{IsHeardLocal, CommitComes, IsComplete}
 use Rattle.zy_client.specs.Held.CommitComes.{stays, counts, certifies}
 use Rattle.zy_client.specs.Held.IsComplete.{fast, slow}
@@ -20,7 +19,6 @@ use Rattle.zy_frames.specs.Frames.{frame_in}
 use Rattle.zy_frames.specs.declared.frame.Frame.{Frame}
 use Rattle.zy_frames.specs.declared.frame.Frame.TheVariants as frames
 use Rattle.zy_law.specs.World.{Statement}
-use Rattle.zy_lawful.specs.Acts.{statement_of}
 use Rattle.zy_lawful.specs.Tied.{IsVouchedBy}
 use Rattle.zy_parts.specs.Numbers as numbers
 use Rattle.zy_parts.specs.Signing.{part_of, text_of}
@@ -38,7 +36,6 @@ use Rattle.zy_table.specs.Roles.{is_replica}
 use Rattle.zy_table.specs.declared.client.Commit.{Commit}
 use Rattle.zy_table.specs.declared.client.Done.{Done}
 use Rattle.zy_table.specs.declared.client.Response.{Response}
-use Rattle.zy_table.specs.declared.deeds.Body.TheVariants as bodies
 use Rattle.zy_world_law.specs.Events.{client_goes, completed_by}
 use Rattle.zy_world_law.specs.Events.Happened.{Goes}
 use Rattle.zy_world_law.specs.Good.{IsGood, IsClientTied, IsBackedBy, IsCommitBacked, IsKept, local_to}

@@ -12,9 +12,6 @@ use Rattle.zy_frames.specs.declared.frame.Frame.{Frame}
 use Rattle.zy_frames.specs.declared.frame.Frame.TheVariants as frames
 use Rattle.zy_parts.specs.Signing.{signed}
 use Rattle.zy_parts.specs.Statements.{IsU62, ask_fields, order_fields, spec_fields, local_fields, confirm_fields, hole_fields, hate_fields, check_fields}
-use Rattle.zy_parts.specs.declared.signed.Signed.{Signed}
-use Rattle.zy_parts.specs.declared.statements.Local.{Local}
-use Rattle.zy_parts.specs.declared.statements.Spec.{Spec}
 use Rattle.zy_wire.proofs.Parts.{bind_ok, guard_ok, ok_is, ended_ok}
 use Rattle.zy_wire.specs.Fields.{u62, digest, digest_at, party, bytes16, bytes_at, list, list_at}
 use Rattle.zy_wire.specs.Framing.{framed_in}

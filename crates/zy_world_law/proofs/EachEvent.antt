@@ -1,11 +1,9 @@
 -- Each honest event keeps a good world good.
 use Rattle.zy_table.specs.Step.{step}
-use Rattle.std.proofs.Common.{append-nil, ◌≡◌, ◌⊎◌, inl, inr, ℕ, ◌<◌, Bool, true, false, ◌&&◌, List, [], ◌∷◌, length, map, Option, Some, None, Result, refl, sym, ap, ◌∙◌, subst, arith}
-use Rattle.std.specs.Prelude.{if◌then◌else◌, slice_get, option_map, unwrap_or, nat_lt, Contains}
+use Rattle.std.proofs.Common.{append-nil, ◌≡◌, ℕ, Bool, true, false, ◌&&◌, List, [], ◌∷◌, Option, Some, None, Result, refl, sym, ap, ◌∙◌, subst}
+use Rattle.std.specs.Prelude.{if◌then◌else◌, slice_get, unwrap_or, nat_lt}
 use Rattle.std.specs.List.{AllByRecursion}
 use Rattle.std.specs.Option.{option_and_then}
-use Rattle.std.proofs.lemmas.List.FromFn.{length-map-range_with_len}
-use Rattle.std.proofs.lemmas.Option.{same_Some, slice_get_within}
 use Rattle.zy_base.specs.Machine.{Rules}
 use Rattle.zy_base.specs.declared.frame_fault.FrameFault.{FrameFault}
 use Rattle.zy_base.specs.declared.ids.ClientId.{ClientId}
@@ -25,14 +23,13 @@ use Rattle.zy_seal.specs.Screening.{answer_to}
 use Rattle.zy_seal.specs.declared.directory.SealAnswer.TheVariants as answers
 use Rattle.zy_table.specs.ClientRows.{ask, client_step}
 use Rattle.zy_table.specs.ClientState.{ClientState}
-use Rattle.zy_table.specs.declared.client.Done.{Done}
 use Rattle.zy_table.specs.declared.client.Response.{Response}
 use Rattle.zy_world_law.specs.Events.{Happened, Broken, unless_forged, ask_in, deliver, bring, bring_to_replica, bring_to_client, timer_of, replica_timer_in, client_timer_in, replica_timer, client_timer, lie, forge, happens, replica_goes, client_goes, leaves_in}
 use Rattle.zy_world_law.specs.Events.Happened.{Goes, Breaks}
 use Rattle.zy_world_law.specs.Good.{IsGood, IsBackedBy, IsKept}
 use Rattle.zy_world_law.specs.Honest.{forger_in}
 use Rattle.zy_world_law.specs.Liars.{Telling, requests_at, order_told, spec_told, by_replica, statement_told}
-use Rattle.zy_world_law.specs.Setup.{keys_of, public_key_of}
+use Rattle.zy_world_law.specs.Setup.{keys_of}
 use Rattle.zy_world_law.specs.Texts.{texts_in, texts_read}
 use Rattle.zy_world_law.specs.World.{World, Replica, Client, Mail, replica_at, client_at, correct_in, mail_at, delivered, texts_said, is_liar, is_correct, are_parties}
 use Rattle.zy_world_law.specs.declared.event.WorldEvent.{WorldEvent}

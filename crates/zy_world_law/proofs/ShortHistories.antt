@@ -1,5 +1,5 @@
 -- What a step says of orders and responses can be spelled, and the history stays short; the public keys stay.
-use Rattle.std.proofs.Common.{◌≡◌, ℕ, zero, suc, ◌+◌, ◌-◌, ◌<◌, ◌≤◌, ◌^◌, Bool, true, List, [], ◌∷◌, ◌++◌, length, take, Option, Some, None, Ok, refl, sym, ap, ◌∙◌, subst, arith}
+use Rattle.std.proofs.Common.{◌≡◌, ℕ, zero, suc, ◌+◌, ◌-◌, ◌<◌, ◌≤◌, ◌^◌, Bool, true, List, [], ◌∷◌, ◌++◌, length, take, Option, Some, None, refl, sym, ap, ◌∙◌, subst, arith}
 use Rattle.std.specs.Prelude.{nat_le, slice_get}
 use Rattle.std.specs.List.{AllByRecursion}
 use Rattle.std.proofs.lemmas.Bool.{leb-true}
@@ -285,9 +285,9 @@ module _ {S : Type 0} (R : Rules S) (w : World) (r : ℕ) (s : State S) (h : Lis
         asks = λ o brings left. ((tt, tt), spends_short (ask_for_missing R (with_held s o)).state refl refl refl refl left);
         holds = λ o brings. (tt, holds_short (with_held s o) refl refl refl refl);
         commits = λ specs client local held brings own furthest left. (
-            (local_fits specs local brings.1 (certified-taken same_spec spec-equal point_of_spec s.counts.cert specs (local.view, local.place, local.head) own.proves), tt),
-            spends_short (say_local R client local (holding s held)).state refl refl refl refl left,
-          );
+          (local_fits specs local brings.1 (certified-taken same_spec spec-equal point_of_spec s.counts.cert specs (local.view, local.place, local.head) own.proves), tt),
+          spends_short (say_local R client local (holding s held)).state refl refl refl refl left,
+        );
         commits_again = λ specs client local held said brings own furthest. (tt, holds_short (holding s held) refl refl refl refl);
         confirms = λ confirm ask brings. brings;
       }
