@@ -1,10 +1,15 @@
 -- What a step can come to. What holds of each of these outcomes holds of the outcome of each event.
-use Rattle.std.proofs.Common.{◌≡◌, ℕ, ◌+◌, ◌≤◌, true, false, List, [], ◌∷◌, Option, Some, None, refl, ap, ◌∙◌, arith, inl, inr, ltb-false, lt-ltb}
-use Rattle.std.specs.Prelude.{option_map, nat_le, nat_lt, nat_eq, Result, Ok, Err}
-use Rattle.std.proofs.lemmas.Bool.{and_parts, cases_lt, eqb-false}
+use Rattle.std.proofs.Common.{◌≡◌, ℕ, ◌+◌, ◌<◌, ◌≤◌, Bool, true, false, List, [], ◌∷◌, Option, Some, None, refl, sym, ap, ◌∙◌, subst, arith, inl, inr, ltb-false, ltb-true, lt-ltb}
+use Rattle.std.specs.Prelude.{option_map, nat_le, nat_lt, nat_eq, if◌then◌else◌, Result, Ok, Err}
+use Rattle.std.proofs.lemmas.Bool.{cases_lt, eqb-false}
 use Rattle.zy_base.specs.Machine.{Rules}
 use Rattle.zy_base.specs.declared.cause.Cause.{Cause}
 use Rattle.zy_base.specs.declared.frame_fault.FrameFault.{FrameFault}
+use Rattle.zy_base.specs.declared.ids.ClientId.{ClientId}
+use Rattle.zy_base.specs.declared.ids.Digest.{Digest}
+use Rattle.zy_base.specs.declared.ids.Party.{Party}
+use Rattle.zy_base.specs.declared.ids.Place.{Place}
+use Rattle.zy_base.specs.declared.ids.View.{View}
 use Rattle.zy_base.specs.declared.step.Event.TheVariants as events
 use Rattle.zy_base.specs.declared.step.Mode.{Mode}
 use Rattle.zy_base.specs.declared.step.Mode.TheVariants.{Active, Leaving}
@@ -12,6 +17,11 @@ use Rattle.zy_base.specs.declared.step.TimerKind.{TimerKind}
 use Rattle.zy_base.specs.declared.step.TimerKind.TheVariants as timers
 use Rattle.zy_chain.specs.Entries.{digest_of_entry}
 use Rattle.zy_chain.specs.Heads.{head_after}
+use Rattle.zy_chain.specs.Stretch.{head_in}
+use Rattle.zy_cert.proofs.CertificateLemmas.{certified-taken}
+use Rattle.zy_cert.specs.Certificates.{IsCertificate, certified}
+use Rattle.zy_cert.specs.Equal.{same_spec, spec-equal, digest-equal}
+use Rattle.zy_cert.specs.Points.{point_of_spec}
 use Rattle.zy_admit.specs.Judging.{newer, entry_of, same_digest, same_order, judge_at_end, judge_fresh, judge_beside, judge_in}
 use Rattle.zy_admit.specs.declared.judging.Admit.{Admit}
 use Rattle.zy_admit.specs.declared.judging.Admit.TheVariants as admits
@@ -25,26 +35,34 @@ use Rattle.zy_parts.specs.Numbers as numbers
 use Rattle.zy_parts.specs.Statements.{spec_fields}
 use Rattle.zy_parts.specs.declared.signed.Signed.{Signed}
 use Rattle.zy_parts.specs.declared.statements.Ask.{Ask}
+use Rattle.zy_parts.specs.declared.statements.Confirm.{Confirm}
 use Rattle.zy_parts.specs.declared.statements.Hole.{Hole}
+use Rattle.zy_parts.specs.declared.statements.Local.{Local}
 use Rattle.zy_parts.specs.declared.statements.Order.{Order as OrderStatement}
 use Rattle.zy_parts.specs.declared.statements.Spec.{Spec}
 use Rattle.zy_seal.specs.Screening.{screen}
 use Rattle.zy_seal.specs.Sealing.{sealed_by}
 use Rattle.zy_exec.specs.declared.known.Known.{Known}
-use Rattle.zy_exec.specs.Kept.{known_in, last_place}
+use Rattle.zy_exec.specs.Kept.{known_in, last_place, stretch_of}
+use Rattle.zy_table.specs.Commits.{is_further, with_certificate, local_at, local_said, send_local, say_local, commit_as, commit_beside, commit_judged, commit}
+use Rattle.zy_table.specs.Confirms.{order_again, confirm_after, confirm}
 use Rattle.zy_table.specs.Deeds.{Outcome, begin, refused, ends, act}
 use Rattle.zy_admit.specs.Orders.{orders_from}
 use Rattle.zy_table.specs.Holes.{fill_with, fill_hole, ask_again}
 use Rattle.zy_table.specs.Orders.{order_as, order, position_of, owes_hole, ask_for_missing}
-use Rattle.zy_table.specs.Requests.{said_already, respond_as, sealed_order, ordered, new_request, request_after, request, response_of}
-use Rattle.zy_table.specs.Roles.{is_client, in_role, view_cause}
+use Rattle.zy_table.specs.Requests.{said_already, respond_as, sealed_order, ordered, request_at_primary, request_waits, forward, request_at_backup, tell_primary, new_request, request_after, is_behind, request, response_of}
+use Rattle.zy_table.specs.Roles.{in_role, view_cause}
 use Rattle.zy_table.specs.Running.{run, spec_of}
-use Rattle.zy_table.specs.State.{State, own_view, is_leaving, is_primary, window_of, stood_of, leaves_of, spent, with_spec, spec_to}
-use Rattle.zy_table.specs.Step.{unless, row, hear, decoded, timer, step}
+use Rattle.zy_table.specs.State.{State, own_view, is_leaving, is_primary, window_of, stood_of, leaves_of, spent, with_spec, spec_to, pending_of}
+use Rattle.zy_table.specs.Step.{unless, commit_in_view, row, hear, decoded, timer, step}
 use Rattle.zy_table.specs.declared.deeds.Act.TheVariants.{Says}
 use Rattle.zy_table.specs.declared.deeds.Body.TheVariants as bodies
+use Rattle.zy_lawful.proofs.Committed.{IsFurthest}
 use Rattle.zy_lawful.proofs.Runs.{by_test}
+use Rattle.zy_lawful.specs.Tied.{IsHeldFrom}
 use Rattle.zy_table.specs.declared.deeds.Sent.{Sent}
+use Rattle.zy_table.specs.declared.kept.Certificate.{Certificate}
+use Rattle.zy_table.specs.declared.kept.Pending.{Pending}
 use Rattle.zy_base.specs.declared.cause.Cause.TheVariants as causes
 use Rattle.zy_base.specs.declared.step.Answer.TheVariants.{Taken, Held}
 
@@ -95,52 +113,169 @@ with_held s o = record s { orders = with_order s.orders o }
 abbrev pub IsNew : {S : Type 0} → Rules S → State S → Signed Ask → Type 0
 IsNew R s ask = newer ask.stmt.stamp (option_map (λ (known : Known). known.stamp) (known_in R s.kept (entry_of ask).client.0)) ≡ true
 
+-- so many statements can still be signed
+abbrev pub HasLeaves : {S : Type 0} → State S → ℕ → Type 0
+HasLeaves s n = nat_le n (leaves_of s) ≡ true
+
+-- another certificate is held
+abbrev pub holding : {S : Type 0} → State S → Option Certificate → State S
+holding s held = record s { certificate = held }
+
+-- a local commit in the own view, of a place that the responses certify and of the own head there
+pub record IsOwnCommit {S : Type 0} (s : State S) (specs : List (Signed Spec)) (local : Local) : Type 0 where
+  pub view : local.view.0 ≡ own_view s
+  pub proves : certified same_spec point_of_spec s.counts.cert specs ≡ Ok (local.view, local.place, local.head)
+  pub own : head_in (stretch_of s.kept) local.place.0 ≡ Some local.head
+
 -- What is to be shown of a step's outcomes, where Heard holds of each frame that is answered by its row.
 pub record Cases {S : Type 0} (R : Rules S) (s : State S) (Heard : Frame → Type 0) (P : Outcome S → Type 0) : Type 0 where
   pub refuses : (cause : Cause) → P (refused cause s)
   pub stays : (sent : List Sent) → P (record { answer = Taken; state = s; deeds = record { sent = sent; acts = [] } })
-  pub responds : (ask : Signed Ask) (known : Known) → known_in R s.kept (entry_of ask).client.0 ≡ Some known → P (responded R s (spec_of (own_view s) ask known) known)
-  pub orders : (ask : Signed Ask) → Heard (frames.Request ask) → is_primary s ≡ true → IsNew R s ask → P (ends Taken (run R (sealed_order R s ask) (ordered R s ask)))
-  pub takes : (o : OrderFrame) → Heard (frames.Order o) → IsNew R s o.ask → P (ends Taken (run R o (begin (record (with_held s o) { hole = None }))))
-  pub asks : (o : OrderFrame) → Heard (frames.Order o) → P (ends Held (ask_for_missing R (with_held s o)))
+  pub responds : (ask : Signed Ask) (known : Known) → known_in R s.kept (entry_of ask).client.0 ≡ Some known → HasLeaves s 1 → P (responded R s (spec_of (own_view s) ask known) known)
+  pub orders : (ask : Signed Ask) → Heard (frames.Request ask) → is_primary s ≡ true → IsNew R s ask → HasLeaves s 2 → P (ends Taken (run R (sealed_order R s ask) (ordered R s ask)))
+  pub waits : (ask : Signed Ask) → HasLeaves s 1 → P (ends Taken (request_waits R s ask))
+  pub takes : (o : OrderFrame) → Heard (frames.Order o) → IsNew R s o.ask → HasLeaves s 1 → P (ends Taken (run R o (begin (record (with_held s o) { hole = None }))))
+  pub asks : (o : OrderFrame) → Heard (frames.Order o) → HasLeaves s 1 → P (ends Held (ask_for_missing R (with_held s o)))
   pub holds : (o : OrderFrame) → Heard (frames.Order o) → P (ends Held (begin (with_held s o)))
+  pub commits : (specs : List (Signed Spec)) (client : ClientId) (local : Local) (held : Option Certificate) → Heard (frames.Commit specs) → IsOwnCommit s specs local → IsFurthest local.place specs s.certificate held
+      → HasLeaves s 1 → P (ends Taken (say_local R client local (holding s held)))
+  pub commits_again : (specs : List (Signed Spec)) (client : ClientId) (local : Local) (held : Option Certificate) (said : Signed Local) → Heard (frames.Commit specs) → IsOwnCommit s specs local
+      → IsFurthest local.place specs s.certificate held → P (ends Taken (send_local client said (begin (holding s held))))
+  -- a request that a backup passes on may do what one of its client may
+  pub confirms : (confirm : Signed Confirm) (ask : Signed Ask) → Heard (frames.ConfirmReq confirm ask) → Heard (frames.Request ask)
 
 module _ {S : Type 0} (R : Rules S) (s : State S) (Heard : Frame → Type 0) (P : Outcome S → Type 0) (of : Cases R s Heard P) where
   -- ---- REQUEST
 
   respond_as_case : (ask : Signed Ask) (known : Known) (signed : Option (Signed Spec)) → known_in R s.kept (entry_of ask).client.0 ≡ Some known → P (respond_as R s signed (spec_of (own_view s) ask known) known)
-  respond_as_case ask known None is = by_test P (nat_le 1 (leaves_of s)) _ _ (λ left. of.responds ask known is) (λ none. of.refuses causes.KeySpent)
+  respond_as_case ask known None is = by_test P (nat_le 1 (leaves_of s)) _ _ (of.responds ask known is) (λ none. of.refuses causes.KeySpent)
   respond_as_case ask known (Some signed) is = of.stays (response_of s signed known (begin s)).deeds.sent
 
-  new_request_case : (ask : Signed Ask) → Heard (frames.Request ask) → is_primary s ≡ true → IsNew R s ask → P (new_request R s ask)
-  new_request_case ask heard primary new =
+  primary_case : (ask : Signed Ask) → Heard (frames.Request ask) → is_primary s ≡ true → IsNew R s ask → P (request_at_primary R s ask)
+  primary_case ask heard primary new =
       by_test P (nat_lt (last_place s.kept) (window_of s)) _ _
-      (λ room. by_test P (nat_le 2 (leaves_of s)) _ _ (λ left. of.orders ask heard primary new) (λ none. of.refuses causes.KeySpent))
+      (λ room. by_test P (nat_le 2 (leaves_of s)) _ _ (of.orders ask heard primary new) (λ none. of.refuses causes.KeySpent))
       (λ full. of.refuses (causes.WindowFull (record { 0 = window_of s })))
 
-  request_after_case : (ask : Signed Ask) (known : Option Known) → known_in R s.kept (entry_of ask).client.0 ≡ known → Heard (frames.Request ask) → is_primary s ≡ true → P (request_after R s ask known)
-  request_after_case ask None is heard primary =
-      new_request_case ask heard primary (ap (λ (o : Option Known). newer ask.stmt.stamp (option_map (λ (known : Known). known.stamp) o)) is)
-  request_after_case ask (Some known) is heard primary =
+  forward_case : (ask : Signed Ask) → P (forward R s ask)
+  forward_case ask = by_test P (nat_le 1 (leaves_of s)) _ _ (of.waits ask) (λ none. of.refuses causes.KeySpent)
+
+  backup_case : (ask : Signed Ask) (pending : Option Pending) → P (request_at_backup R s ask pending)
+  backup_case ask None = forward_case ask
+  backup_case ask (Some pending) =
+      by_test P (nat_eq ask.stmt.stamp.0 pending.ask.stmt.stamp.0) _ _
+      (λ same. of.stays (tell_primary s pending (begin s)).deeds.sent)
+      (λ other. forward_case ask)
+
+  new_request_case : (ask : Signed Ask) → Heard (frames.Request ask) → IsNew R s ask → P (new_request R s ask)
+  new_request_case ask heard new =
+      by_test P (is_primary s) _ _ (λ primary. primary_case ask heard primary new) (λ backup. backup_case ask (pending_of s (entry_of ask).client))
+
+  request_after_case : (ask : Signed Ask) (known : Option Known) → known_in R s.kept (entry_of ask).client.0 ≡ known → Heard (frames.Request ask) → P (request_after R s ask known)
+  request_after_case ask None is heard =
+      new_request_case ask heard (ap (λ (o : Option Known). newer ask.stmt.stamp (option_map (λ (known : Known). known.stamp) o)) is)
+  request_after_case ask (Some known) is heard =
       by_test P (nat_lt ask.stmt.stamp.0 known.stamp.0) _ _
       (λ old. of.refuses causes.OldStamp)
       (λ from. by_test P (nat_eq ask.stmt.stamp.0 known.stamp.0) _ _
       (λ same. respond_as_case ask known (said_already (spec_to s (entry_of ask).client) (spec_of (own_view s) ask known)) is)
-      (λ other. new_request_case ask heard primary
+      (λ other. new_request_case ask heard
       (ap (λ (o : Option Known). newer ask.stmt.stamp (option_map (λ (k : Known). k.stamp) o)) is ∙ stamp_above known.stamp.0 ask.stmt.stamp.0 from other)))
 
-  request_case : (ask : Signed Ask) → Heard (frames.Request ask) → is_primary s ≡ true → P (request R s ask)
+  request_case : (ask : Signed Ask) → Heard (frames.Request ask) → P (request R s ask)
   unfolding request
-  request_case ask heard primary =
-      by_test P (is_leaving s) _ _ (λ leaving. of.refuses causes.NotActive) (λ active. request_after_case ask (known_in R s.kept (entry_of ask).client.0) refl heard primary)
+  request_case ask heard =
+      by_test P (is_leaving s) _ _ (λ leaving. of.refuses causes.NotActive)
+      (λ active. by_test P (is_behind ask (pending_of s (entry_of ask).client)) _ _ (λ behind. of.refuses causes.OldStamp)
+      (λ newest. request_after_case ask (known_in R s.kept (entry_of ask).client.0) refl heard))
+
+  -- ---- CONFIRM-REQ
+
+  order_again_case : (by : Party) (kept : Option OrderFrame) → P (order_again s by kept)
+  order_again_case by None = of.refuses causes.OldPlace
+  order_again_case by (Some kept) = of.stays (order_again s by (Some kept)).deeds.sent
+
+  confirm_after_case : (by : Party) (ask : Signed Ask) (known : Option Known) → Heard (frames.Request ask) → P (confirm_after R s by ask known)
+  confirm_after_case by ask None heard = request_case ask heard
+  confirm_after_case by ask (Some known) heard =
+      by_test P (nat_lt ask.stmt.stamp.0 known.stamp.0) _ _
+      (λ old. of.refuses causes.OldStamp)
+      (λ from. by_test P (nat_eq ask.stmt.stamp.0 known.stamp.0) _ _
+      (λ same. order_again_case by (stored_in s.orders known.place.0))
+      (λ other. request_case ask heard))
+
+  confirm_case : (confirmed : Signed Confirm) (ask : Signed Ask) → Heard (frames.Request ask) → P (confirm R s confirmed ask)
+  unfolding confirm
+  confirm_case confirmed ask heard =
+      by_test P (same_digest confirmed.stmt.request (digest_of_entry (entry_of ask))) _ _
+      (λ same. confirm_after_case confirmed.by ask (known_in R s.kept (entry_of ask).client.0) heard)
+      (λ other. of.refuses causes.Unmatched)
+
+  -- ---- COMMIT
+
+  further : (place : Place) (specs : List (Signed Spec)) (before : Option Certificate) → is_further place before ≡ true → (c : Certificate) → before ≡ Some c → c.place.0 < place.0
+  further place specs None is c before = absurd cc
+  further place specs (Some kept) is c before = let same : kept ≡ c = cc in subst (λ (d : Certificate). d.place.0 < place.0) same (ltb-true kept.place.0 place.0 is)
+
+  not_further : (place : Place) (before : Option Certificate) → is_further place before ≡ false → IsHeldFrom before place.0
+  not_further place None is = absurd cc
+  not_further place (Some kept) is = record { certificate = kept; is = refl; far = ltb-false kept.place.0 place.0 is }
+
+  -- what holds whichever certificate is held then
+  by_certificate : (Q : State S → Type 0) (place : Place) (specs : List (Signed Spec)) → ((held : Option Certificate) → IsFurthest place specs s.certificate held → Q (holding s held)) → Q (with_certificate s place specs)
+  by_certificate Q place specs holds =
+      by_test Q (is_further place s.certificate) _ _
+      (λ is. holds (Some (record { place = place; specs = specs })) (IsFurthest.came refl (further place specs s.certificate is)))
+      (λ is. holds s.certificate (IsFurthest.stays refl (not_further place s.certificate is)))
+
+  commit_as_case : (specs : List (Signed Spec)) (client : ClientId) (local : Local) (said : Option (Signed Local)) → Heard (frames.Commit specs) → IsOwnCommit s specs local → P (commit_as R s specs client local said)
+  commit_as_case specs client local None heard own =
+      by_test P (nat_le 1 (leaves_of s)) _ _
+      (λ left. by_certificate (λ (s' : State S). P (ends Taken (say_local R client local s'))) local.place specs (λ held furthest. of.commits specs client local held heard own furthest left))
+      (λ none. of.refuses causes.KeySpent)
+  commit_as_case specs client local (Some said) heard own =
+      by_certificate (λ (s' : State S). P (ends Taken (send_local client said (begin s')))) local.place specs (λ held furthest. of.commits_again specs client local held said heard own furthest)
+
+  same_head : (own head : Digest) → same_digest own head ≡ true → own ≡ head
+  same_head own head is = (digest-equal own head).0 is
+
+  commit_beside_case : (specs : List (Signed Spec)) (client : ClientId) (local : Local) (own : Option Digest) → Heard (frames.Commit specs) → local.view.0 ≡ own_view s
+      → certified same_spec point_of_spec s.counts.cert specs ≡ Ok (local.view, local.place, local.head) → head_in (stretch_of s.kept) local.place.0 ≡ own → P (commit_beside R s specs client local own)
+  commit_beside_case specs client local None heard view proves is = of.refuses (causes.Behind local.place)
+  commit_beside_case specs client local (Some own) heard view proves is =
+      by_test P (same_digest own local.head) _ _
+      (λ same. commit_as_case specs client local (local_said s local) heard
+      (record { view = view; proves = proves; own = is ∙ ap (λ (d : Digest). Some d) (same_head own local.head same) }))
+      (λ other. of.refuses (causes.OtherHistory own local.head))
+
+  commit_judged_case : (specs : List (Signed Spec)) (client : ClientId) (point : Result (View × Place × Digest) Cause) → Heard (frames.Commit specs)
+      → ((p : View × Place × Digest) → point ≡ Ok p → p.0.0 ≡ own_view s) → certified same_spec point_of_spec s.counts.cert specs ≡ point → P (commit_judged R s specs client point)
+  commit_judged_case specs client (Err cause) heard view is = of.refuses cause
+  commit_judged_case specs client (Ok point) heard view is =
+      commit_beside_case specs client (local_at point) (head_in (stretch_of s.kept) point.1.0) heard (view point refl) is refl
+
+  -- the first of the responses is of the view that they certify
+  first_view : (first : Signed Spec) (others : List (Signed Spec)) (p : View × Place × Digest) → certified same_spec point_of_spec s.counts.cert (first ∷ others) ≡ Ok p → first.stmt.view.0 ≡ p.0.0
+  first_view first others p proves =
+      let is : IsCertificate point_of_spec s.counts.cert (first ∷ others) p = certified-taken same_spec spec-equal point_of_spec s.counts.cert (first ∷ others) p proves in
+      let one : first.stmt ≡ is.stmt = is.equal 0 first (omega arith) in
+      ap (λ (spec : Spec). spec.view.0) one ∙ ap (λ (q : View × Place × Digest). q.0.0) is.located
+
+  commit_case : (first : Signed Spec) (others : List (Signed Spec)) → Heard (frames.Commit (first ∷ others)) → first.stmt.view.0 ≡ own_view s → P (commit R s first.stmt (first ∷ others))
+  unfolding commit
+  commit_case first others heard view =
+      by_test P (nat_lt first.stmt.place.0 s.orders.base) _ _ (λ old. of.refuses causes.OldPlace)
+      (λ above. by_test P (nat_lt (last_place s.kept) first.stmt.place.0) _ _ (λ behind. of.refuses (causes.Behind first.stmt.place))
+      (λ inside. commit_judged_case (first ∷ others) first.stmt.client (certified same_spec point_of_spec s.counts.cert (first ∷ others)) heard
+      (λ p is. sym (first_view first others p is) ∙ view) refl))
 
   -- ---- ORDER
 
   order_as_case : (o : OrderFrame) (a : Admit) → judge_in s.orders o.order.stmt o.ask (position_of R s o) ≡ a → Heard (frames.Order o) → P (order_as R s o a)
   order_as_case o admits.Next is heard =
-      by_test P (nat_le 1 (leaves_of s)) _ _ (λ left. of.takes o heard (next_is_newer s.orders o.order.stmt o.ask (position_of R s o) is)) (λ none. of.refuses causes.KeySpent)
+      by_test P (nat_le 1 (leaves_of s)) _ _ (of.takes o heard (next_is_newer s.orders o.order.stmt o.ask (position_of R s o) is)) (λ none. of.refuses causes.KeySpent)
   order_as_case o admits.Held is heard =
-      by_test P (owes_hole s) _ _ (λ owes. by_test P (nat_le 1 (leaves_of s)) _ _ (λ left. of.asks o heard) (λ none. of.refuses causes.KeySpent)) (λ asked. of.holds o heard)
+      by_test P (owes_hole s) _ _ (λ owes. by_test P (nat_le 1 (leaves_of s)) _ _ (of.asks o heard) (λ none. of.refuses causes.KeySpent)) (λ asked. of.holds o heard)
   order_as_case o (admits.Refused cause) is heard = of.refuses cause
   order_as_case o admits.Evidence is heard = of.refuses causes.Unmatched
 
@@ -175,20 +310,36 @@ module _ {S : Type 0} (R : Rules S) (s : State S) (Heard : Frame → Type 0) (P 
   unless_case None o holds = holds refl
   unless_case (Some cause) o holds = of.refuses cause
 
-  row_case : (frame : Frame) → in_role s frame ≡ true → Heard frame → P (row R s frame)
-  row_case (frames.Request ask) role heard = request_case ask heard (and_parts (is_client ask.by) (is_primary s) role).1
-  row_case (frames.Order both) role heard = unless_case (view_cause s both.order.stmt.view.0) (order R s both) (λ current. order_case both heard)
-  row_case (frames.SpecResponse spec reply with_order) role heard = of.refuses causes.WrongRole
-  row_case (frames.Commit specs) role heard = of.refuses causes.WrongRole
-  row_case (frames.LocalCommit local) role heard = of.refuses causes.WrongRole
-  row_case (frames.ConfirmReq confirm ask) role heard = of.refuses causes.WrongRole
-  row_case (frames.FillHole hole) role heard = unless_case (view_cause s hole.stmt.view.0) (fill_hole s hole) (λ current. fill_hole_case hole)
-  row_case (frames.Hate hate) role heard = of.refuses causes.WrongRole
-  row_case (frames.Pom first second) role heard = of.refuses causes.WrongRole
-  row_case (frames.Checkpoint check) role heard = of.refuses causes.WrongRole
+  view_is : (view own : ℕ) (leaving : Bool) → (if nat_lt view own then Some causes.OldView else (if nat_lt own view then Some causes.NewerView else (if leaving then Some causes.NotActive else None))) ≡ None → view ≡ own
+  view_is view own leaving =
+      by_test (λ (o : Option Cause). o ≡ None → view ≡ own) (nat_lt view own) _ _ (λ old is. absurd cc)
+      (λ least. by_test (λ (o : Option Cause). o ≡ None → view ≡ own) (nat_lt own view) _ _ (λ newer is. absurd cc)
+      (λ most is. omega (arith, ltb-false view own least, ltb-false own view most)))
+
+  -- a frame's view that there is nothing against is the own
+  current_view : (view : ℕ) → view_cause s view ≡ None → view ≡ own_view s
+  current_view view is = view_is view (own_view s) (is_leaving s) is
+
+  commit_in_view_case : (specs : List (Signed Spec)) → Heard (frames.Commit specs) → P (commit_in_view R s specs)
+  commit_in_view_case [] heard = of.refuses (causes.TooFew 0)
+  commit_in_view_case (first ∷ others) heard =
+      unless_case (view_cause s first.stmt.view.0) (commit R s first.stmt (first ∷ others)) (λ current. commit_case first others heard (current_view first.stmt.view.0 current))
+
+  row_case : (frame : Frame) → Heard frame → P (row R s frame)
+  row_case (frames.Request ask) heard = request_case ask heard
+  row_case (frames.Order both) heard = unless_case (view_cause s both.order.stmt.view.0) (order R s both) (λ current. order_case both heard)
+  row_case (frames.SpecResponse spec reply with_order) heard = of.refuses causes.WrongRole
+  row_case (frames.Commit specs) heard = commit_in_view_case specs heard
+  row_case (frames.LocalCommit local) heard = of.refuses causes.WrongRole
+  row_case (frames.ConfirmReq confirmed ask) heard =
+      unless_case (view_cause s confirmed.stmt.view.0) (confirm R s confirmed ask) (λ current. confirm_case confirmed ask (of.confirms confirmed ask heard))
+  row_case (frames.FillHole hole) heard = unless_case (view_cause s hole.stmt.view.0) (fill_hole s hole) (λ current. fill_hole_case hole)
+  row_case (frames.Hate hate) heard = of.refuses causes.WrongRole
+  row_case (frames.Pom first second) heard = of.refuses causes.WrongRole
+  row_case (frames.Checkpoint check) heard = of.refuses causes.WrongRole
 
   hear_case : (frame : Frame) → (in_role s frame ≡ true → Heard frame) → P (hear R s frame)
-  hear_case frame heard = by_test P (in_role s frame) _ _ (λ role. row_case frame role (heard role)) (λ wrong. of.refuses causes.WrongRole)
+  hear_case frame heard = by_test P (in_role s frame) _ _ (λ role. row_case frame (heard role)) (λ wrong. of.refuses causes.WrongRole)
 
   pub decoded_case : (read : Result Frame FrameFault) → ((frame : Frame) → read ≡ Ok frame → screen s.keys (parts_of frame) ≡ None → in_role s frame ≡ true → Heard frame) → P (decoded R s read)
   decoded_case (Err fault) heard = of.refuses (causes.NotFrame fault)

@@ -32,6 +32,7 @@ module _ {S : Type 0} (R : Rules S) (w : World) (r : ℕ) (s : State S) (h : Lis
           links = λ d e kept. kept;
         };
         ordered = honest.tied.ordered;
+        committed = honest.tied.committed;
       }
 
   after : IsTiedGoing R w r (own_view s) (length (w.past r) - 1) h (step R s event).deeds.acts (step R s event).state
@@ -43,6 +44,6 @@ module _ {S : Type 0} (R : Rules S) (w : World) (r : ℕ) (s : State S) (h : Lis
   pub tied_after : IsTied R (world_after w r s h (step R s event)) r (step R s event).state (history_after h (step R s event).deeds.acts)
   tied_after =
       let going = after.going in
-      let there : IsTied R going.world r (step R s event).state going.now = record { standing = going.standing; ordered = after.ordered } in
+      let there : IsTied R going.world r (step R s event).state going.now = record { standing = going.standing; ordered = after.ordered; committed = after.committed } in
       subst (λ (v : World). IsTied R v r (step R s event).state (history_after h (step R s event).deeds.acts)) (sym going.lead.world)
       (subst (λ (l : List Entry). IsTied R going.world r (step R s event).state l) (sym going.lead.history) there)

@@ -18,9 +18,10 @@ use Rattle.zy_parts.specs.declared.statements.Ask.{Ask}
 use Rattle.zy_seal.specs.Keys.{Keys}
 use Rattle.zy_seal.specs.Sealing.{SealerState}
 use Rattle.zy_table.specs.Deeds.{Outcome, refused}
-use Rattle.zy_table.specs.Requests.{request, request_after, new_request, take_request}
+use Rattle.zy_table.specs.Requests.{request, request_after, request_at_primary, request_at_backup, is_behind, new_request, take_request}
 use Rattle.zy_table.specs.Running.{run_one, run_held}
-use Rattle.zy_table.specs.State.{State, start_of, leaves_of, window_of}
+use Rattle.zy_table.specs.State.{State, start_of, is_primary, leaves_of, pending_of, window_of}
+use Rattle.zy_table.specs.declared.kept.Pending.{Pending}
 
 module _ {S : Type 0} (R : Rules S) (interval : ℕ) (me : ReplicaId) (counts : Counts) (keys : Keys) (sealer : SealerState) (ask : Signed Ask) where
   abbrev begins : State S
@@ -40,12 +41,23 @@ module _ {S : Type 0} (R : Rules S) (interval : ℕ) (me : ReplicaId) (counts : 
   room : 0 < interval → nat_lt (last_place begins.kept) (window_of begins) ≡ true
   room some = lt-ltb (last_place begins.kept) (window_of begins) (omega arith)
 
-  new : 0 < interval → 2 ≤ leaves_of begins → acts (new_request R begins ask) ≡ first_acts R (entry_of ask)
-  new some left =
+  ordered : 0 < interval → 2 ≤ leaves_of begins → acts (request_at_primary R begins ask) ≡ first_acts R (entry_of ask)
+  ordered some left =
       ap (λ (b : Bool). acts (if b then take_request R begins ask else refused (causes.WindowFull (record { 0 = window_of begins })) begins)) (room some)
       ∙ taken left
 
-  pub first_request : 0 < interval → 2 ≤ leaves_of begins → acts (request R begins ask) ≡ first_acts R (entry_of ask)
+  new : is_primary begins ≡ true → 0 < interval → 2 ≤ leaves_of begins → acts (new_request R begins ask) ≡ first_acts R (entry_of ask)
+  new primary some left =
+      ap (λ (b : Bool). acts (if b then request_at_primary R begins ask else request_at_backup R begins ask (pending_of begins (entry_of ask).client))) primary
+      ∙ ordered some left
+
+  after : is_primary begins ≡ true → 0 < interval → 2 ≤ leaves_of begins → acts (request_after R begins ask (known_in R begins.kept (entry_of ask).client.0)) ≡ first_acts R (entry_of ask)
+  after primary some left =
+      ap (λ (o : Option Known). acts (request_after R begins ask o)) (nobody (entry_of ask).client.0) ∙ new primary some left
+
+  pub first_request : is_primary begins ≡ true → 0 < interval → 2 ≤ leaves_of begins → acts (request R begins ask) ≡ first_acts R (entry_of ask)
   unfolding request
-  first_request some left =
-      ap (λ (o : Option Known). acts (request_after R begins ask o)) (nobody (entry_of ask).client.0) ∙ new some left
+  first_request primary some left =
+      ap (λ (o : Option Pending). acts (if is_behind ask o then refused causes.OldStamp begins else request_after R begins ask (known_in R begins.kept (entry_of ask).client.0)))
+      (none_of 64 (entry_of ask).client.0)
+      ∙ after primary some left

@@ -69,11 +69,15 @@ module _ {S : Type 0} (R : Rules S) (w : World) where
         record {
           refuses = λ cause. tt;
           stays = λ sent. tt;
-          responds = λ ask known known_is. tt;
-          orders = λ ask may primary new. run_gained (sealed_order R s ask) (ordered R s ask) (slots_put w s.orders (sealed_order R s ask) slots may) may tt;
-          takes = λ o may new. run_gained o (begin (record (with_held s o) { hole = None })) (slots_put w s.orders o slots may) may tt;
-          asks = λ o may. tt;
+          responds = λ ask known known_is left. tt;
+          orders = λ ask may primary new left. run_gained (sealed_order R s ask) (ordered R s ask) (slots_put w s.orders (sealed_order R s ask) slots may) may tt;
+          waits = λ ask left. tt;
+          takes = λ o may new left. run_gained o (begin (record (with_held s o) { hole = None })) (slots_put w s.orders o slots may) may tt;
+          asks = λ o may left. tt;
           holds = λ o may. tt;
+          commits = λ specs client local held may own furthest left. tt;
+          commits_again = λ specs client local held said may own furthest. tt;
+          confirms = λ confirm ask may. may;
         }
 
     pub step_gained : (event : Event) → MayEventRun w s event → Gained (step R s event)

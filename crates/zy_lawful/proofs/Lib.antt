@@ -1,6 +1,8 @@
 pub mod Records
+pub mod Backing
 pub mod Goes
 pub mod OneEntry
+pub mod Committed
 pub mod Runs
 pub mod Cases
 pub mod Rows

@@ -1,9 +1,9 @@
 -- What a replica that stands in the world may say there, and where it may stand next.
-use Rattle.std.proofs.Common.{◌≡◌, ℕ, ◌+◌, ◌-◌, ◌%◌, ◌<◌, ◌≤◌, inl, inr, Bool, true, cond, List, [], ◌∷◌, ◌++◌, length, take, drop, get_or, Option, Some, None, refl, sym, ap, ◌∙◌, subst, arith, eq-eqb, ltb-true}
-use Rattle.std.specs.Prelude.{slice_get, option_map, unwrap_or, fold}
+use Rattle.std.proofs.Common.{◌≡◌, ℕ, ◌+◌, ◌-◌, ◌%◌, ◌<◌, ◌≤◌, inl, inr, Bool, true, false, cond, ◌||◌, List, [], ◌∷◌, ◌++◌, length, take, drop, get_or, Option, Some, None, refl, sym, ap, ◌∙◌, subst, arith, eq-eqb, ltb-true}
+use Rattle.std.specs.Prelude.{slice_get, option_map, unwrap_or, fold, nat_lt, if◌then◌else◌}
 use Rattle.std.specs.List.{AllByRecursion}
 use Rattle.std.proofs.lemmas.List.{length-append, take-append-drop, length-take-le}
-use Rattle.std.proofs.lemmas.Bool.{cases_lt}
+use Rattle.std.proofs.lemmas.Bool.{cases_lt, or_parts, ltb-false}
 use Rattle.std.proofs.lemmas.Option.{same_Some, slice_get_within}
 use Rattle.sha2.specs.Sha256.{sha256}
 use Rattle.zy_base.specs.Machine.{Rules}
@@ -16,21 +16,23 @@ use Rattle.zy_base.specs.declared.ids.Stamp.{Stamp}
 use Rattle.zy_chain.specs.declared.entry.Entry.{Entry}
 use Rattle.zy_chain.specs.Entries.{digest_of_entry}
 use Rattle.zy_chain.specs.Heads.{empty_head, head_of}
-use Rattle.zy_chain.specs.Stretch.{Mark}
+use Rattle.zy_chain.specs.Places.{head_at}
+use Rattle.zy_chain.specs.Stretch.{Mark, head_in, end_of}
 use Rattle.zy_choose.specs.Reports.{PlainReport}
 use Rattle.zy_admit.specs.Judging.{newer, entry_of}
 use Rattle.zy_frames.specs.declared.frame.OrderFrame.{OrderFrame}
 use Rattle.zy_exec.specs.declared.known.Known.{Known}
 use Rattle.zy_exec.specs.Replay.{Point, origin, answer_at, known_of}
-use Rattle.zy_exec.specs.Kept.{Kept, StandsFor, longer, now_of, known_in}
+use Rattle.zy_exec.specs.Kept.{Kept, StandsFor, longer, now_of, known_in, stretch_of}
 use Rattle.zy_exec.proofs.ReplayLemmas.{place-along, head-along, clients_push}
-use Rattle.zy_exec.proofs.HistoryLemmas.{stands_leads, stands_run}
-use Rattle.zy_law.specs.Histories.{IsEntryAt, AreKept}
+use Rattle.zy_exec.proofs.HistoryLemmas.{stands_leads, stands_run, stands_head}
+use Rattle.zy_law.specs.Fixed.{IsCertified}
+use Rattle.zy_law.specs.Histories.{IsEntryAt, AreKept, Passes}
 use Rattle.zy_law.specs.Lawful.{IsLawful, IsOrdered, IsAskedFor}
 use Rattle.zy_law.specs.Said.{IsCorrect, Says, Stood, Moment}
 use Rattle.zy_law.specs.Steps.{MaySay, MayStand, after_saying, after_standing, with_last}
 use Rattle.zy_law.specs.World.{Spoken, Stand, World}
-use Rattle.zy_law.specs.World.Statement.{Order, Spec, Change, Other}
+use Rattle.zy_law.specs.World.Statement.{Order, Spec, Local, Change, Other}
 use Rattle.zy_law.proofs.EntriesAskedFor.{entry_within, entry_longer, all_asked_for}
 use Rattle.zy_law.proofs.GrownLemmas.{each_item}
 use Rattle.zy_law.proofs.HistoryLemmas.{Passes-longer}
@@ -56,6 +58,10 @@ slot_more w v more (Some o) may = more (entry_of o.ask) may
 pub slots_more : (w v : World) → ((e : Entry) → MayRun w e → MayRun v e) → (slots : List (Option OrderFrame)) → AllByRecursion (MaySlotRun w) slots → AllByRecursion (MaySlotRun v) slots
 slots_more w v more [] all = tt
 slots_more w v more (o ∷ slots) all = (slot_more w v more o all.0, slots_more w v more slots all.1)
+
+some_unless : {A : Type 0} (b : Bool) (x y : A) → (if b then None else Some x) ≡ Some y → (b ≡ false) × (x ≡ y)
+some_unless true x y is = absurd cc
+some_unless false x y is = (refl, same_Some x y is)
 
 -- each order that the replica gave in a view is one of this history
 abbrev pub AreOrdersOf : World → ℕ → ℕ → List Entry → Type 0
@@ -231,6 +237,32 @@ module _ {S : Type 0} (R : Rules S) (w : World) (r : ℕ) (s : State S) (h : Lis
               let before : at ≤ x.number = let within = slice_get_within (w.past r) at b stood in omega (arith, x.last) in
               let front = later_front w lawful r at x.number b (record { view = own_view s; history = h }) correct before stood x.stood view in
               absurd (omega (arith, ap (λ (l : List Entry). length l) front.1, length-append b.history front.0));
+        };
+      }
+
+  -- the history passes a place where this is its head
+  pub passes_own : (place : ℕ) (head : Digest) → head_in (stretch_of s.kept) place ≡ Some head → Passes w.next h (record { place = place; head = head })
+  passes_own place head is =
+      let inside = some_unless (nat_lt place s.kept.base.place || nat_lt (end_of (stretch_of s.kept)) place) _ head is in
+      let above = or_parts (nat_lt place s.kept.base.place) (nat_lt (end_of (stretch_of s.kept)) place) inside.0 in
+      let own : head_at h place ≡ Some head = sym (stands_head R s.kept h place x.stands (ltb-false place s.kept.base.place above.0)) ∙ is in
+      let there = some_unless (nat_lt (length h) place) (head_of (take place h)) head own in
+      record { within = ltb-false (length h) place there.0; head = fold_is (take place h) ∙ there.1 }
+
+  -- it may commit its history up to a place that a commit certificate proves
+  pub may_commit : (view : ℕ) (m : Mark) → view ≡ own_view s → head_in (stretch_of s.kept) m.place ≡ Some m.head → IsCertified w view m → MaySay w r (record { what = Local view m; when = x.number })
+  may_commit view m current own certified =
+      record {
+        now = x.last;
+        silence = λ number y left spoken report says what of. let same = same_Some view spoken of in omega (arith, x.left number y left report says what);
+        told = record {
+          at = record {
+            stand = record { view = own_view s; history = h };
+            stood = x.stood;
+            view_is = sym current;
+            passes = passes_own m.place m.head own;
+          };
+          certified = certified;
         };
       }
 

@@ -129,7 +129,7 @@ record_next {S} R h e client small is =
           (sym (get_or-set_other p.known e.client.0 client (Some (known_of R p e)) None (λ same. other (sym same)))) (record_longer R h e client (known_after R h client) other is)
     ])
 
-pub none_of : (n i : ℕ) → ◌≡◌ {A = Option Known} (get_or (replicate n None) i None) None
+pub none_of : {A : Type 0} (n i : ℕ) → ◌≡◌ {A = Option A} (get_or (replicate n None) i None) None
 none_of zero i = refl
 none_of (suc n) zero = refl
 none_of (suc n) (suc i) = none_of n i

@@ -24,11 +24,15 @@ module _ {S : Type 0} (R : Rules S) (s : State S) where
       record {
         refuses = λ why cause is. (refl, refl);
         stays = λ sent cause is. absurd cc;
-        responds = λ ask known is_known cause is. absurd cc;
-        orders = λ ask heard primary new cause is. absurd cc;
-        takes = λ o heard new cause is. absurd cc;
-        asks = λ o heard cause is. absurd cc;
+        responds = λ ask known is_known left cause is. absurd cc;
+        orders = λ ask heard primary new left cause is. absurd cc;
+        waits = λ ask left cause is. absurd cc;
+        takes = λ o heard new left cause is. absurd cc;
+        asks = λ o heard left cause is. absurd cc;
         holds = λ o heard cause is. absurd cc;
+        commits = λ specs client local held heard own furthest left cause is. absurd cc;
+        commits_again = λ specs client local held said heard own furthest cause is. absurd cc;
+        confirms = λ confirm ask heard. tt;
       }
 
   pub step_stays : (event : Event) → Stays (step R s event)

@@ -24,7 +24,8 @@ use Rattle.zy_law.specs.World.{Spoken, Stand, World}
 use Rattle.zy_law.specs.World.Statement.{Change}
 use Rattle.zy_law.proofs.StepsLawful.{saying_lawful, standing_lawful}
 use Rattle.zy_lawful.specs.Acts.{statement_of}
-use Rattle.zy_lawful.specs.Tied.{Agrees, MayRun, MaySlotRun, IsStanding, AreOrdersUpTo, AreLinksKept}
+use Rattle.zy_lawful.specs.Tied.{Agrees, MayRun, MaySlotRun, IsStanding, AreOrdersUpTo, AreLinksKept, IsCommitted}
+use Rattle.zy_lawful.proofs.Committed.{committed_said, committed_moved}
 use Rattle.zy_lawful.proofs.Goes.{LeadTo, lead_saying, lead_moving, links_of_front, link_of_last}
 use Rattle.zy_lawful.proofs.OneEntry.{AreOrdersOf, may_stand, standing_moved, standing_said, standing_as, moving_runs, saying_runs, may_respond, known_next, orders_of_longer, up_to_said}
 use Rattle.zy_table.specs.Deeds.{Going}
@@ -80,10 +81,11 @@ pub record IsGoing {S : Type 0} (R : Rules S) (w : World) (r view number : ℕ) 
   pub runs : (e : Entry) → MayRun w e → MayRun world e
   pub links : (d : Digest) (e : Entry) → w.kept d e ≡ true → world.kept d e ≡ true
 
--- and its orders are of places of its history
+-- and its orders are of places of its history, and its certificate covers what it committed
 pub record IsTiedGoing {S : Type 0} (R : Rules S) (w : World) (r view number : ℕ) (h : List Entry) (acts : List Act) (s : State S) : Type 0 where
   pub going : IsGoing R w r view number h acts s
   pub ordered : AreOrdersUpTo going.world r (own_view s) (length going.now)
+  pub committed : IsCommitted going.world r (own_view s) s.certificate
 
 module _ {S : Type 0} (R : Rules S) (w : World) (r view number : ℕ) (h : List Entry) where
   abbrev Goes : List Act → State S → Type 0
@@ -163,9 +165,10 @@ module _ {S : Type 0} (R : Rules S) (w : World) (r view number : ℕ) (h : List 
       → w.kept (now_of R g.state.kept).head (entry_of o.ask) ≡ true
       → AreOrdersOf going.world r (own_view g.state) (going.now ++ entry_of o.ask ∷ [])
       → AreOrdersUpTo going.world r (own_view g.state) (length (going.now ++ entry_of o.ask ∷ []))
+      → IsCommitted going.world r (own_view g.state) g.state.certificate
       → GoesTied (run_one R o g).deeds.acts (run_one R o g).state
   unfolding run_one going_moved going_said going_as standing_moved
-  one_goes o g going run new link of up =
+  one_goes o g going run new link of up committed =
       let e : Entry = entry_of o.ask in
       let s : State S = g.state in
       let moved : Goes (g.deeds.acts ++ Gains (got_of R s o.ask) ∷ []) (record s { kept = longer s.kept e }) =
@@ -181,6 +184,8 @@ module _ {S : Type 0} (R : Rules S) (w : World) (r view number : ℕ) (h : List 
       record {
         going = going_as ((g.deeds.acts ++ Gains (got_of R s o.ask) ∷ []) ++ Says remark ∷ []) (record s { kept = longer s.kept e }) (run_one R o g).state said refl refl refl refl said.standing.asks;
         ordered = up_to_said moved.world r (own_view s) (length moved.now) (record { what = statement_of remark.body; when = moved.at }) (λ m request same. absurd cc) up;
+        committed = committed_said moved.world r (own_view s) s.certificate (record { what = statement_of remark.body; when = moved.at }) (λ m vote. absurd vote)
+            (committed_moved going.world r (own_view s) s.certificate (record { view = own_view s; history = going.now ++ e ∷ [] }) committed);
       }
 
   -- where the orders so far are of places of the history
@@ -193,6 +198,7 @@ module _ {S : Type 0} (R : Rules S) (w : World) (r view number : ℕ) (h : List 
       one_goes o g going run new link
       (orders_of_longer R going.world r g.state going.now going.lawful going.agrees going.correct going.standing (entry_of o.ask) tied.ordered)
       (λ number x m request says what. omega (arith, tied.ordered number x m request says what, length-append going.now (entry_of o.ask ∷ [])))
+      tied.committed
 
   -- ---- links
 
@@ -232,4 +238,5 @@ module _ {S : Type 0} (R : Rules S) (w : World) (r view number : ℕ) (h : List 
       record {
         going = going_as g.deeds.acts g.state s' tied.going refl refl refl refl (slots_with tied.going.world g.state.orders.slots (last_place g.state.kept + 1 - g.state.orders.base - 1) None tied.going.standing.asks tt);
         ordered = tied.ordered;
+        committed = tied.committed;
       })

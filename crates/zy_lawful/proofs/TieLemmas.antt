@@ -9,18 +9,20 @@ use Rattle.zy_base.specs.declared.ids.ReplicaId.{ReplicaId}
 use Rattle.zy_base.specs.declared.step.Spoken.{Spoken as StepSpoken}
 use Rattle.zy_chain.specs.declared.entry.Entry.{Entry}
 use Rattle.zy_exec.proofs.HistoryLemmas.{stands_at_origin}
-use Rattle.zy_law.specs.Said.{IsCorrect, Says}
+use Rattle.zy_law.proofs.GrownLemmas.{with_last-kept}
+use Rattle.zy_law.specs.Said.{IsCorrect, Says, Stood}
 use Rattle.zy_law.specs.Steps as law
 use Rattle.zy_law.specs.Steps.Act.{Say, Move}
 use Rattle.zy_law.specs.Steps.{IsStart, after_act, after_acts, grown, with_last}
 use Rattle.zy_law.specs.World.{Spoken, Stand, World}
 use Rattle.zy_lawful.specs.Acts.{law_acts, spoken_in, stands_in, with_more, spoken_at, stand_with}
 use Rattle.zy_lawful.specs.Tied.{IsTied, MayRun}
+use Rattle.zy_lawful.proofs.Committed.{committed_grown}
 use Rattle.zy_lawful.proofs.OneEntry.{slots_more}
 use Rattle.zy_seal.specs.Keys.{Keys}
 use Rattle.zy_seal.specs.Sealing.{SealerState}
 use Rattle.zy_table.specs.Deeds.{said_from}
-use Rattle.zy_table.specs.State.{State, start_of}
+use Rattle.zy_table.specs.State.{State, start_of, own_view}
 use Rattle.zy_table.specs.declared.deeds.Act.{Act}
 use Rattle.zy_table.specs.declared.deeds.Act.TheVariants.{Says as SaysIt, Gains}
 
@@ -48,13 +50,15 @@ tied_at_start R w r interval me counts keys sealer start correct is counted =
         asks = tt;
       };
       ordered = λ number x m request says what. none_said w r (start.silent r correct) number x says;
+      committed = record { backed = tt; far = λ number x m says vote. none_said w r (start.silent r correct) number x says };
     }
 
 -- ---- as others act
 
 pub tied_grown : {S : Type 0} (R : Rules S) (w : World) (r : ℕ) (s : State S) (h : List Entry) (asked : ℕ → List Entry) (said : ℕ → List Spoken) (past : ℕ → List Stand) (kept : Digest → Entry → Bool)
-    → ((q : ℕ) (e : Entry) → Contains (w.asked q) e → Contains (asked q) e) → said r ≡ w.said r → past r ≡ w.past r → IsTied R w r s h → IsTied R (grown w asked said past kept) r s h
-tied_grown R w r s h asked said past kept asks told stood tied =
+    → ((q : ℕ) (e : Entry) → Contains (w.asked q) e → Contains (asked q) e) → ((q i : ℕ) (y : Spoken) → Says w q i y → slice_get (said q) i ≡ Some y)
+    → ((q i : ℕ) (b : Stand) → Stood w q i b → slice_get (past q) i ≡ Some b) → said r ≡ w.said r → past r ≡ w.past r → IsTied R w r s h → IsTied R (grown w asked said past kept) r s h
+tied_grown R w r s h asked said past kept asks says stands told stood tied =
     let x = tied.standing in
     let was : (number : ℕ) (y : Spoken) → slice_get (said r) number ≡ Some y → Says w r number y =
     λ number y at. ap (λ (l : List Spoken). slice_get l number) (sym told) ∙ at in
@@ -74,6 +78,7 @@ tied_grown R w r s h asked said past kept asks told stood tied =
         asks = slots_more w (grown w asked said past kept) runs s.orders.slots x.asks;
       };
       ordered = λ number y m request says what. tied.ordered number y m request (was number y says) what;
+      committed = committed_grown w asked said past kept asks says stands r (own_view s) s.certificate was tied.committed;
     }
 
 last_other : {A : Type 0} (lists : ℕ → List A) (of : ℕ) (x : A) (q : ℕ) → q ≢ of → with_last lists of x q ≡ lists q
@@ -81,9 +86,9 @@ last_other lists of x q other = ap (λ (b : Bool). cond b (lists q ++ x ∷ []) 
 
 tied_after_act : {S : Type 0} (R : Rules S) (w : World) (r other : ℕ) (s : State S) (h : List Entry) (act : law.Act) → r ≢ other → IsTied R w r s h → IsTied R (after_act w other act) r s h
 tied_after_act R w r other s h (Say x) differs tied =
-    tied_grown R w r s h w.asked (with_last w.said other x) w.past w.kept (λ q e did. did) (last_other w.said other x r differs) refl tied
+    tied_grown R w r s h w.asked (with_last w.said other x) w.past w.kept (λ q e did. did) (λ q i y did. with_last-kept w.said other x q i y did) (λ q i b did. did) (last_other w.said other x r differs) refl tied
 tied_after_act R w r other s h (Move b) differs tied =
-    tied_grown R w r s h w.asked w.said (with_last w.past other b) w.kept (λ q e did. did) refl (last_other w.past other b r differs) tied
+    tied_grown R w r s h w.asked w.said (with_last w.past other b) w.kept (λ q e did. did) (λ q i y did. did) (λ q i c did. with_last-kept w.past other b q i c did) refl (last_other w.past other b r differs) tied
 
 pub tied_after_acts : {S : Type 0} (R : Rules S) (w : World) (r other : ℕ) (s : State S) (h : List Entry) (acts : List law.Act) → r ≢ other → IsTied R w r s h → IsTied R (after_acts w other acts) r s h
 tied_after_acts R w r other s h [] differs tied = tied

@@ -4,7 +4,7 @@ use Rattle.zy_chain.specs.declared.entry.Entry.{Entry}
 use Rattle.zy_law.specs.Steps as law
 use Rattle.zy_law.specs.Steps.Act.{Say, Move}
 use Rattle.zy_law.specs.World.{Spoken, Stand, Statement, World}
-use Rattle.zy_law.specs.World.Statement.{Order, Spec, Other}
+use Rattle.zy_law.specs.World.Statement.{Order, Spec, Local, Other}
 use Rattle.zy_table.specs.Deeds.{Outcome}
 use Rattle.zy_table.specs.State.{State, own_view}
 use Rattle.zy_table.specs.declared.deeds.Act.{Act}
@@ -14,13 +14,15 @@ use Rattle.zy_table.specs.declared.deeds.Body.TheVariants as bodies
 use Rattle.zy_table.specs.declared.deeds.Got.{Got}
 use Rattle.zy_table.specs.declared.deeds.Remark.{Remark}
 
--- what the law reads in a statement; safety rests on no hole
+-- what the law reads in a statement; safety rests on nothing that only asks for orders
 abbrev pub statement_of : Body → Statement
 statement_of (bodies.Order order) =
     Order order.view.0 (record { place = order.place.0; head = order.head }) order.request
 statement_of (bodies.Spec spec) =
     Spec spec.view.0 (record { place = spec.place.0; head = spec.head })
     (record { client = spec.client.0; stamp = spec.stamp.0; reply = spec.reply })
+statement_of (bodies.Local local) = Local local.view.0 (record { place = local.place.0; head = local.head })
+statement_of (bodies.Confirm confirm) = Other
 statement_of (bodies.Hole hole) = Other
 
 -- a remark as the law reads it, by the number of the last stand when it was said

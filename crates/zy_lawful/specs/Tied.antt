@@ -1,9 +1,13 @@
 -- How a replica's state is tied to what it said and where it stood.
-use Rattle.std.specs.Prelude.{◌≡◌, ◌⊎◌, ℕ, ◌+◌, ◌<◌, ◌≤◌, true, false, List, [], length, Option, Some, None, unwrap_or, Contains, Ok}
+use Rattle.std.specs.Prelude.{◌≡◌, ◌⊎◌, ℕ, ◌+◌, ◌<◌, ◌≤◌, true, false, List, [], length, Option, Some, None, IfSome, unwrap_or, Contains, Ok}
 use Rattle.std.specs.List.{AllByRecursion}
 use Rattle.sha2.specs.Sha256.{sha256}
 use Rattle.zy_base.specs.Machine.{Rules}
 use Rattle.zy_base.specs.declared.ids.Digest.{Digest}
+use Rattle.zy_base.specs.declared.ids.Party.{Party}
+use Rattle.zy_base.specs.declared.ids.Party.TheVariants.{Replica, Client}
+use Rattle.zy_base.specs.declared.ids.Place.{Place}
+use Rattle.zy_base.specs.declared.ids.View.{View}
 use Rattle.zy_base.specs.declared.step.Event.{Event}
 use Rattle.zy_base.specs.declared.step.Event.TheVariants.{Heard, Timer}
 use Rattle.zy_chain.specs.Entries.{IsEntryInRange, digest_of_entry}
@@ -11,17 +15,23 @@ use Rattle.zy_chain.specs.Heads.{head_after}
 use Rattle.zy_chain.specs.Stretch.{Mark}
 use Rattle.zy_chain.specs.declared.entry.Entry.{Entry}
 use Rattle.zy_admit.specs.Judging.{entry_of}
+use Rattle.zy_cert.specs.Certificates.{certified}
+use Rattle.zy_cert.specs.Equal.{same_spec}
+use Rattle.zy_cert.specs.Points.{point_of_spec}
 use Rattle.zy_exec.specs.Kept.{StandsFor}
 use Rattle.zy_exec.specs.Replay.{answer_at}
 use Rattle.zy_frames.specs.Frames.{frame_in, parts_of}
 use Rattle.zy_frames.specs.declared.frame.Frame.{Frame}
 use Rattle.zy_frames.specs.declared.frame.Frame.TheVariants as frames
 use Rattle.zy_frames.specs.declared.frame.OrderFrame.{OrderFrame}
-use Rattle.zy_law.specs.Lawful.{IsLawful}
-use Rattle.zy_law.specs.Said.{IsCorrect, Says, Stood}
-use Rattle.zy_law.specs.World.{Spoken, World}
+use Rattle.zy_law.specs.Fixed.{IsCertified}
+use Rattle.zy_law.specs.Lawful.{IsLawful, IsVote}
+use Rattle.zy_law.specs.Said.{IsCorrect, Says, Stood, IsVouched}
+use Rattle.zy_law.specs.World.{Answer, Spoken, Statement, World}
 use Rattle.zy_law.specs.World.Statement.{Order, Change}
 use Rattle.zy_choose.specs.Reports.{PlainReport}
+use Rattle.zy_parts.specs.declared.signed.Signed.{Signed}
+use Rattle.zy_parts.specs.declared.statements.Spec.{Spec}
 use Rattle.zy_seal.specs.Screening.{screen}
 use Rattle.zy_table.specs.Deeds.{gains_in}
 use Rattle.zy_table.specs.Roles.{in_role}
@@ -29,6 +39,7 @@ use Rattle.zy_table.specs.State.{State, own_view, is_leaving}
 use Rattle.zy_table.specs.Step.{step}
 use Rattle.zy_table.specs.declared.deeds.Act.{Act}
 use Rattle.zy_table.specs.declared.deeds.Got.{Got}
+use Rattle.zy_table.specs.declared.kept.Certificate.{Certificate}
 
 -- ---- heads, digests and replies of the law
 
@@ -61,6 +72,22 @@ abbrev pub MaySlotRun : World → Option OrderFrame → Type 0
 MaySlotRun w None = Unit {0}
 MaySlotRun w (Some o) = MayRun w (entry_of o.ask)
 
+-- ---- what may be counted
+
+-- a statement of a replica that said so, or lies
+abbrev pub IsVouchedBy : World → Statement → Party → Type 0
+IsVouchedBy w statement (Replica id) = IsVouched w statement id.0
+IsVouchedBy w statement (Client id) = ⊥
+
+-- a response with its answer as the law reads it
+abbrev pub response_with : Answer → Spec → Statement
+response_with answer spec = Statement.Spec spec.view.0 (record { place = spec.place.0; head = spec.head }) answer
+
+-- each response is of a replica that said so, or lies; equal ones are read with one answer
+pub record AreVouched (w : World) (specs : List (Signed Spec)) : Type 0 where
+  pub answer : Spec → Answer
+  pub each : AllByRecursion (λ spec. IsVouchedBy w (response_with (answer spec.stmt) spec.stmt) spec.by) specs
+
 -- ---- the tie
 
 -- A replica stands in the world where its state says: in its view, with a history that it stands for.
@@ -84,18 +111,41 @@ abbrev pub AreOrdersUpTo : World → ℕ → ℕ → ℕ → Type 0
 AreOrdersUpTo w r view place =
     (said : ℕ) (x : Spoken) (m : Mark) (request : Digest) → Says w r said x → x.what ≡ Order view m request → m.place ≤ place
 
+abbrev pub point_at : ℕ → Place → Digest → View × Place × Digest
+point_at view place head = (record { 0 = view }, place, head)
+
+-- the responses certify the place of a history in the view, and so the law says
+pub record IsBackedIn (w : World) (view : ℕ) (certificate : Certificate) : Type 0 where
+  pub head : Digest
+  pub proves : certified same_spec point_of_spec w.counts.cert certificate.specs ≡ Ok (point_at view certificate.place head)
+  pub backed : IsCertified w view (record { place = certificate.place.0; head = head })
+
+-- a certificate is held, of this place or one further on
+pub record IsHeldFrom (held : Option Certificate) (place : ℕ) : Type 0 where
+  pub certificate : Certificate
+  pub is : held ≡ Some certificate
+  pub far : place ≤ certificate.place.0
+
+-- the certificate that it holds is of the view, and at least as far as each local commit that it said there
+pub record IsCommitted (w : World) (r view : ℕ) (held : Option Certificate) : Type 0 where
+  pub backed : IfSome held (IsBackedIn w view)
+  pub far : (said : ℕ) (x : Spoken) (m : Mark) → Says w r said x → IsVote view m x.what → IsHeldFrom held m.place
+
 pub record IsTied {S : Type 0} (R : Rules S) (w : World) (r : ℕ) (s : State S) (history : List Entry) : Type 0 where
   pub standing : IsStanding R w r s history
   pub ordered : AreOrdersUpTo w r (own_view s) (length history)
+  pub committed : IsCommitted w r (own_view s) s.certificate
 
 -- ---- what an event brings
 
 abbrev pub MayFrameRun : World → Frame → Type 0
 MayFrameRun w (frames.Request ask) = MayRun w (entry_of ask)
 MayFrameRun w (frames.Order both) = MayRun w (entry_of both.ask)
+MayFrameRun w (frames.Commit specs) = AreVouched w specs
+MayFrameRun w (frames.ConfirmReq confirm ask) = MayRun w (entry_of ask)
 MayFrameRun w _ = Unit {0}
 
--- the requests of a verified frame may be run
+-- the requests of a verified frame may be run, and the responses of its certificate counted
 abbrev pub MayEventRun : {S : Type 0} → World → State S → Event → Type 0
 MayEventRun w s (Heard bytes) =
     (frame : Frame) → frame_in bytes ≡ Ok frame → screen s.keys (parts_of frame) ≡ None → in_role s frame ≡ true → MayFrameRun w frame
@@ -114,7 +164,7 @@ abbrev pub AreLinksKept : World → List Act → Type 0
 AreLinksKept w acts = AllByRecursion (IsLinkKept w) (gains_in acts)
 
 -- A correct replica, tied to a lawful world with a history, meets an event: its requests are signed by clients that asked
--- or lie, and the texts of the entries that it runs are kept.
+-- or lie, its responses by replicas that said them or lie, and the texts of the entries that it runs are kept.
 pub record IsHonestStep {S : Type 0} (R : Rules S) (w : World) (r : ℕ) (s : State S) (history : List Entry) (event : Event) : Type 0 where
   pub lawful : IsLawful w
   pub agrees : Agrees R w

@@ -1,6 +1,6 @@
 -- So many different places of a list pass a test as the count says.
 use Rattle.std.proofs.Common.{◌≡◌, ◌≢◌, ℕ, zero, suc, ◌+◌, ◌<◌, ◌≤◌, Bool, true, false, cond, List, [], ◌∷◌, length, get_or, refl, ap, ◌∙◌, subst, arith}
-use Rattle.std.specs.Prelude.{All, count_by}
+use Rattle.std.specs.Prelude.{count_by}
 use Rattle.std.specs.List.{AllByRecursion, AllPairs}
 use Rattle.std.proofs.lemmas.List.Sums.{sum_by-cons}
 
@@ -24,11 +24,6 @@ rising_differ least (n ∷ ns) rising zero zero d before within = absurd (omega 
 rising_differ least (n ∷ ns) rising zero (suc j) d before within = λ same. let behind = rising_at (n + 1) ns j d rising.1 (omega arith) in omega (arith, behind, same)
 rising_differ least (n ∷ ns) rising (suc i) zero d before within = absurd (omega arith)
 rising_differ least (n ∷ ns) rising (suc i) (suc j) d before within = rising_differ (n + 1) ns rising.1 i j d (omega arith) (omega arith)
-
-pub all_from : {A : Type 0} (P : A → Type 0) (xs : List A) → AllByRecursion P xs → All P xs
-all_from P [] all k d within = absurd (omega arith)
-all_from P (x ∷ xs) all zero d within = all.0
-all_from P (x ∷ xs) all (suc k) d within = all_from P xs all.1 k d (omega arith)
 
 pub record Picked (least count : ℕ) (P : ℕ → Type 0) : Type 0 where
   pub numbers : List ℕ

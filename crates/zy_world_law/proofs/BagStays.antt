@@ -17,8 +17,16 @@ module _ {S : Type 0} (R : Rules S) (w : World S) (leaves : Party → ℕ) (bag 
   backed_same : (id : ℕ) (r : Response) → IsBackedBy w id r → IsBackedBy w' id r
   backed_same id r b = record { within = b.within; said = b.said; reply = b.reply; spelled = b.spelled }
 
-  client_same : (id : ℕ) (x : Client) → IsClientTied w id x → IsClientTied w' id x
-  client_same id x t = record { me = t.me; counts = t.counts; keys = t.keys; holds = t.holds; backed = λ number r is. backed_same number r (t.backed number r is) }
+  client_same : (id : ℕ) (x : Client) → IsClientTied R w id x → IsClientTied R w' id x
+  client_same id x t =
+      record {
+        me = t.me;
+        counts = t.counts;
+        keys = t.keys;
+        holds = t.holds;
+        backed = λ number r is. backed_same number r (t.backed number r is);
+        committed = t.committed;
+      }
 
   all_done : (done : List Completed) → AllByRecursion (IsDone R w) done → AllByRecursion (IsDone R w') done
   all_done [] all = tt

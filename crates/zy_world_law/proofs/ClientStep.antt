@@ -10,7 +10,7 @@ use Rattle.zy_base.specs.Machine.{Rules}
 use Rattle.zy_base.specs.declared.ids.ClientId.{ClientId}
 use Rattle.zy_base.specs.declared.step.Spoken.{Spoken}
 use Rattle.zy_chain.specs.declared.entry.Entry.{Entry}
-use Rattle.zy_client.specs.Held.{HoldsResponses}
+use Rattle.zy_client.specs.Held.{Holds}
 use Rattle.zy_law.proofs.GrownLemmas.{completed_grown}
 use Rattle.zy_law.proofs.StepsLawful.{more_lawful}
 use Rattle.zy_law.specs.Completed.{Completion, IsCompleted}
@@ -19,19 +19,24 @@ use Rattle.zy_law.specs.Steps.{grown}
 use Rattle.zy_law.specs.World as law
 use Rattle.zy_lawful.proofs.TieLemmas.{tied_grown}
 use Rattle.zy_lawful.specs.Tied as lawful
+use Rattle.zy_parts.specs.declared.signed.Signed.{Signed}
+use Rattle.zy_parts.specs.declared.statements.Ask.{Ask}
 use Rattle.zy_table.specs.ClientRows.{kept_of}
 use Rattle.zy_table.specs.ClientState.{ClientOutcome, spoken_of}
+use Rattle.zy_table.specs.declared.client.Commit.{Commit}
 use Rattle.zy_table.specs.declared.client.Response.{Response}
 use Rattle.zy_world_law.specs.Events.{client_stepped, with_client, history_of}
-use Rattle.zy_world_law.specs.Good.{IsGood, IsTied, IsClientTied, IsBackedBy, IsDone}
+use Rattle.zy_world_law.specs.Good.{IsGood, IsTied, IsClientTied, IsBackedBy, IsCommitBacked, IsDone}
 use Rattle.zy_world_law.specs.Safe.{completion_of}
 use Rattle.zy_world_law.specs.Seen.{seen, asked_by, asked_of, entry_in}
 use Rattle.zy_world_law.specs.World.{World, Replica, Client, Completed, replica_at, client_at, correct_in}
+use Rattle.zy_world_law.proofs.CommitStays.{commit_later}
 use Rattle.zy_world_law.proofs.KeptOrHeard.{IsSame}
 use Rattle.zy_world_law.proofs.Seats.{get_set, get_set_other, seat_of}
 
 module _ {S : Type 0} (R : Rules S) (w : World S) (good : IsGood R w) (id : ClientId) (x : Client) (at : client_at w id.0 ≡ Some x) (o : ClientOutcome)
-    (same : IsSame x.state o.state) (holds : HoldsResponses o.state) (backed : (number : ℕ) (r : Response) → kept_of o.state number ≡ Some r → IsBackedBy w number r) where
+    (same : IsSame x.state o.state) (holds : Holds o.state) (backed : (number : ℕ) (r : Response) → kept_of o.state number ≡ Some r → IsBackedBy w number r)
+    (committed : (waiting : Signed Ask) (c : Commit) → o.state.waiting ≡ Some waiting → o.state.commit ≡ Some c → IsCommitBacked (seen R w) w.texts c) where
   abbrev v : law.World
   v = seen R w
 
@@ -101,7 +106,7 @@ module _ {S : Type 0} (R : Rules S) (w : World S) (good : IsGood R w) (id : Clie
       let before = good.tied q y y_at in
       record {
         tied = subst (λ (u : law.World). lawful.IsTied R u q y.state (history_of y.past)) seen_is
-            (tied_grown R v q y.state (history_of y.past) (asked_by w') v.said v.past v.kept asks_stay refl refl before.tied);
+            (tied_grown R v q y.state (history_of y.past) (asked_by w') v.said v.past v.kept asks_stay (λ q i z has. has) (λ q i b has. has) refl refl before.tied);
         keys = before.keys;
         short = before.short;
         replies = before.replies;
@@ -110,7 +115,12 @@ module _ {S : Type 0} (R : Rules S) (w : World S) (good : IsGood R w) (id : Clie
   backed_after : (number : ℕ) (r : Response) → IsBackedBy w number r → IsBackedBy w' number r
   backed_after number r b = record { within = b.within; said = b.said; reply = b.reply; spelled = b.spelled }
 
-  own_after : IsClientTied w' id.0 x'
+  commit_after : (c : Commit) → IsCommitBacked v w.texts c → IsCommitBacked (seen R w') w.texts c
+  commit_after c is =
+      subst (λ (u : law.World). IsCommitBacked u w.texts c) seen_is
+      (commit_later v (asked_by w') v.said v.past v.kept asks_stay (λ q i z has. has) (λ q i b has. has) w.texts w.texts (λ d text kept. kept) c is)
+
+  own_after : IsClientTied R w' id.0 x'
   own_after =
       let before = good.client_tied id.0 x at in
       record {
@@ -119,13 +129,14 @@ module _ {S : Type 0} (R : Rules S) (w : World S) (good : IsGood R w) (id : Clie
         keys = same.keys ∙ before.keys;
         holds = holds;
         backed = λ number r is. backed_after number r (backed number r is);
+        committed = λ waiting c waits held. commit_after c (committed waiting c waits held);
       }
 
-  client_after : (q : ℕ) (y : Client) → client_at w' q ≡ Some y → IsClientTied w' q y
+  client_after : (q : ℕ) (y : Client) → client_at w' q ≡ Some y → IsClientTied R w' q y
   client_after q y y_at = elim (cases_eq q id.0) [
     | inl one ↦
         let is : x' ≡ y = same_Some x' y (sym own_seat ∙ ap (λ (q : ℕ). client_at w' q) (sym one) ∙ y_at) in
-        subst (λ (q : ℕ). IsClientTied w' q y) (sym one) (subst (λ (z : Client). IsClientTied w' id.0 z) is own_after)
+        subst (λ (q : ℕ). IsClientTied R w' q y) (sym one) (subst (λ (z : Client). IsClientTied R w' id.0 z) is own_after)
     | inr other ↦
         let before = good.client_tied q y (sym (other_seat q other) ∙ y_at) in
         record {
@@ -134,10 +145,11 @@ module _ {S : Type 0} (R : Rules S) (w : World S) (good : IsGood R w) (id : Clie
           keys = before.keys;
           holds = before.holds;
           backed = λ number r is. backed_after number r (before.backed number r is);
+          committed = λ waiting c waits held. commit_after c (before.committed waiting c waits held);
         }
   ]
 
-  completed_after : (c : Completion) → IsCompleted v c → IsCompleted (seen R w') c
+  pub completed_after : (c : Completion) → IsCompleted v c → IsCompleted (seen R w') c
   completed_after c is =
       subst (λ (u : law.World). IsCompleted u c) seen_is (completed_grown v (asked_by w') v.said v.past v.kept asks_stay (λ q i y has. has) (λ q i y has. has) c is)
 

@@ -1,123 +1,94 @@
--- A completion rests on responses of so many different replicas.
-use Rattle.std.proofs.Common.{◌≡◌, inl, inr, ℕ, ◌+◌, ◌<◌, ◌≤◌, Bool, true, false, nat_eq, List, length, map, get_or, Option, Some, None, refl, sym, ap, ◌∙◌, subst, arith, eqb-true}
-use Rattle.std.specs.Prelude.{is_none, Contains, slice_get, option_map, if◌then◌else◌, count_by}
-use Rattle.std.proofs.lemmas.Bool.{and_parts}
-use Rattle.std.proofs.lemmas.Option.{same_Some, slice_get-get_or, slice_get-map, slice_get_within}
+-- A completion rests on responses, or local commits of a certificate, of so many different replicas.
+use Rattle.std.proofs.Common.{◌≡◌, ℕ, ◌+◌, ◌<◌, ◌≤◌, Bool, true, false, List, [], ◌∷◌, ◌++◌, length, get_or, Option, Some, None, refl, sym, ap, ◌∙◌, subst, arith}
+use Rattle.std.specs.Prelude.{slice_get, if◌then◌else◌}
+use Rattle.std.specs.List.{AllByRecursion}
+use Rattle.std.proofs.lemmas.List.{length-append}
+use Rattle.std.proofs.lemmas.Option.{slice_get_within}
+use Rattle.sha2.specs.Sha256.{sha256}
 use Rattle.zy_base.specs.Machine.{Rules}
 use Rattle.zy_base.specs.declared.counts.Counts.{Counts}
 use Rattle.zy_base.specs.declared.ids.ClientId.{ClientId}
+use Rattle.zy_base.specs.declared.ids.Digest.{Digest}
 use Rattle.zy_base.specs.declared.ids.Party.TheVariants as parties
 use Rattle.zy_base.specs.declared.step.Event.{Event}
-use Rattle.zy_admit.specs.Judging.{same_digest}
-use Rattle.zy_client.specs.Held.{HoldsResponses, IsComplete, IsHeldBy}
+use Rattle.zy_cert.specs.Equal.{spec-equal}
+use Rattle.zy_cert.specs.Votes.{AreVotes}
+use Rattle.zy_client.specs.Held.{Holds, AreHeld, IsHeldBy, IsCommitHeld, IsCompleteFast, IsComplete}
 use Rattle.zy_law.specs.Completed.{IsCompleted}
-use Rattle.zy_law.specs.Completed.IsCompleted.{fast}
-use Rattle.zy_law.specs.Said.{HasSaid, IsVouched, IsBacked}
+use Rattle.zy_law.specs.Completed.IsCompleted.{fast, slow}
+use Rattle.zy_law.specs.Said.{IsVouched, IsBacked}
 use Rattle.zy_law.specs.World.{Statement}
+use Rattle.zy_lawful.proofs.Backing.{all_from, signed_backed}
 use Rattle.zy_lawful.specs.Acts.{statement_of}
+use Rattle.zy_lawful.specs.Tied.{IsVouchedBy}
 use Rattle.zy_parts.specs.Numbers as numbers
 use Rattle.zy_parts.specs.Signing.{text_of}
 use Rattle.zy_parts.specs.Statements.{spec_fields}
 use Rattle.zy_parts.specs.declared.signed.Signed.{Signed}
 use Rattle.zy_parts.specs.declared.statements.Ask.{Ask}
+use Rattle.zy_parts.specs.declared.statements.Local.{Local}
 use Rattle.zy_parts.specs.declared.statements.Spec.{Spec}
-use Rattle.zy_table.specs.ClientRows.{client_step, agrees, done_of}
+use Rattle.zy_table.specs.ClientRows.{client_step, kept_of, agrees, agreeing, done_of, done_by}
 use Rattle.zy_table.specs.ClientState.{ClientState, is_waiting}
-use Rattle.zy_cert.specs.Equal.{same_spec}
+use Rattle.zy_table.specs.declared.client.Commit.{Commit}
 use Rattle.zy_table.specs.declared.client.Done.{Done}
 use Rattle.zy_table.specs.declared.client.Response.{Response}
 use Rattle.zy_table.specs.declared.deeds.Body.TheVariants as bodies
 use Rattle.zy_world_law.specs.Events.{completed_by}
-use Rattle.zy_world_law.specs.Good.{IsGood, IsClientTied, IsBackedBy}
+use Rattle.zy_world_law.specs.Good.{IsGood, IsClientTied, IsBackedBy, IsCommitBacked, local_to}
 use Rattle.zy_world_law.specs.Safe.{completion_of}
-use Rattle.zy_world_law.specs.Seen.{seen, said_of, spoken_by, statement_in}
-use Rattle.zy_world_law.specs.World.{World, Replica, Client, Completed, Remark, replica_at, client_at}
-use Rattle.zy_world_law.proofs.Agreeing.{Picked, picked, rising_differ, all_from}
+use Rattle.zy_world_law.specs.Seen.{seen}
+use Rattle.zy_world_law.specs.World.{World, Client, client_at}
+use Rattle.zy_world_law.proofs.Agreeing.{Picked, picked, rising_differ}
 use Rattle.zy_world_law.proofs.HeldLaw.{HeldLaw}
+use Rattle.zy_world_law.proofs.KeptOrHeard.{IsSame}
 use Rattle.zy_world_law.proofs.ReadBack.{spec_back}
 use Rattle.zy_world_law.proofs.Seats.{seat_of}
-use Rattle.zy_world_law.proofs.Tests.{digest_is}
+use Rattle.zy_world_law.proofs.ToldSteps.{all_of_both}
+use Rattle.zy_world_law.proofs.Vouched.{text_vouched}
 
 -- ---- equal responses
 
-spec_is : (a b : Spec) → same_spec a b ≡ true → a ≡ b
-spec_is a b is =
-    let view = and_parts (nat_eq a.view.0 b.view.0) _ is in
-    let place = and_parts (nat_eq a.place.0 b.place.0) _ view.1 in
-    let head = and_parts (same_digest a.head b.head) _ place.1 in
-    let reply = and_parts (same_digest a.reply b.reply) _ head.1 in
-    let client = and_parts (nat_eq a.client.0 b.client.0) (nat_eq a.stamp.0 b.stamp.0) reply.1 in
-    let v : a.view.0 ≡ b.view.0 = eqb-true a.view.0 b.view.0 view.0 in
-    let p : a.place.0 ≡ b.place.0 = eqb-true a.place.0 b.place.0 place.0 in
-    let h : a.head ≡ b.head = digest_is a.head b.head head.0 in
-    let d : a.reply ≡ b.reply = digest_is a.reply b.reply reply.0 in
-    let c : a.client.0 ≡ b.client.0 = eqb-true a.client.0 b.client.0 client.0 in
-    let t : a.stamp.0 ≡ b.stamp.0 = eqb-true a.stamp.0 b.stamp.0 client.1 in
-    λ i. record { view = record { 0 = v i }; place = record { 0 = p i }; head = h i; reply = d i; client = record { 0 = c i }; stamp = record { 0 = t i } }
-
 agreed_by : (spec : Spec) (o : Option Response) → agrees spec o ≡ true → (r : Response) × (o ≡ Some r) × (r.spec.stmt ≡ spec)
 agreed_by spec None is = absurd cc
-agreed_by spec (Some r) is = (r, refl, spec_is r.spec.stmt spec is)
+agreed_by spec (Some r) is = (r, refl, (spec-equal r.spec.stmt spec).0 is)
 
--- ---- what is backed is vouched for
+-- ---- kept responses
 
-module _ {S : Type 0} (R : Rules S) (w : World S) where
-  remark_with : (said : List Remark) (text : List ℕ) → Contains (map (λ (remark : Remark). remark.text) said) text → (k : ℕ) × (remark : Remark) × (slice_get said k ≡ Some remark) × (remark.text ≡ text)
-  remark_with said text (k, within, is) =
-      let there : slice_get (map (λ (remark : Remark). remark.text) said) k ≡ Some text = slice_get-get_or (map (λ (remark : Remark). remark.text) said) k text within ∙ ap (λ (t : List ℕ). Some t) is in
-      from (slice_get said k) refl (sym (slice_get-map (λ (remark : Remark). remark.text) said k) ∙ there)
-    where
-      from : (o : Option Remark) → slice_get said k ≡ o → option_map (λ (remark : Remark). remark.text) o ≡ Some text → (k : ℕ) × (remark : Remark) × (slice_get said k ≡ Some remark) × (remark.text ≡ text)
-      from None at is = absurd cc
-      from (Some remark) at is = (k, remark, at, same_Some remark.text text is)
+module _ {S : Type 0} (R : Rules S) (w : World S) (good : IsGood R w) (id : ClientId) (x : Client) (at : client_at w id.0 ≡ Some x) (t : ClientState) (same : IsSame x.state t)
+    (kept : (number : ℕ) (r : Response) → kept_of t number ≡ Some r → IsBackedBy w number r) where
+  tie : IsClientTied R w id.0 x
+  tie = good.client_tied id.0 x at
 
-  said_so : (id : ℕ) (y : Replica S) (spec : Spec) → replica_at w id ≡ Some y → spec_fields.Fits spec
-      → Contains (map (λ (remark : Remark). remark.text) y.said) (text_of numbers.spec spec_fields (parties.Replica (record { 0 = id })) spec) → HasSaid (seen R w) id (statement_of (bodies.Spec spec))
-  said_so id y spec at fits has =
-      let text : List ℕ = text_of numbers.spec spec_fields (parties.Replica (record { 0 = id })) spec in
-      let (k, remark, there, is) = remark_with y.said text has in
-      let spoken : slice_get (said_of (replica_at w id)) k ≡ Some (spoken_by remark) =
-      ap (λ (o : Option (Replica S)). slice_get (said_of o) k) at ∙ slice_get-map spoken_by y.said k ∙ ap (λ (o : Option Remark). option_map spoken_by o) there in
-      (k, spoken_by remark, spoken, ap statement_in is ∙ spec_back (parties.Replica (record { 0 = id })) spec fits)
+  own_number : id.0 < 64
+  own_number = omega (arith, slice_get_within w.clients id.0 (Some x) (seat_of (slice_get w.clients id.0) x at), good.clients, good.setup.clients)
 
-  vouched : (id : ℕ) (r : Response) → IsBackedBy w id r → r.spec.stmt.client.0 < 64 → IsVouched (seen R w) (statement_of (bodies.Spec r.spec.stmt)) id
-  vouched id r b client =
-      record {
-        within = b.within;
-        said = elim b.said [
-          | inl none ↦ inl (ap (λ (o : Option (Replica S)). is_none o) none)
-          | inr there ↦ let (y, at, has) = there in inr (said_so id y r.spec.stmt at (b.spelled (omega (arith, client))) has)
-        ];
-      }
+  me_is : t.me.0 ≡ id.0
+  me_is = ap (λ (c : ClientId). c.0) same.me ∙ tie.me
 
-  -- ---- a completion
+  counts_are : t.counts ≡ w.setup.counts
+  counts_are = same.counts ∙ tie.counts
 
-  module _ (good : IsGood R w) (id : ClientId) (x : Client) (at : client_at w id.0 ≡ Some x) (waiting : Signed Ask) (c : IsComplete x.state waiting) where
-    tie : IsClientTied w id.0 x
-    tie = good.client_tied id.0 x at
+  vouched : (number : ℕ) (r : Response) → IsBackedBy w number r → r.spec.stmt.client.0 < 64 → IsVouched (seen R w) (statement_of (bodies.Spec r.spec.stmt)) number
+  vouched number r b client =
+      text_vouched R w number (text_of numbers.spec spec_fields (parties.Replica (record { 0 = number })) r.spec.stmt) (statement_of (bodies.Spec r.spec.stmt)) b.within b.said
+      (spec_back (parties.Replica (record { 0 = number })) r.spec.stmt (b.spelled (omega (arith, client))))
 
-    abbrev spec : Spec
-    spec = c.response.spec.stmt
-
-    own_number : id.0 < 64
-    own_number = omega (arith, slice_get_within w.clients id.0 (Some x) (seat_of (slice_get w.clients id.0) x at), good.clients, good.setup.clients)
-
-    vouched_at : (number : ℕ) → number < length x.state.responses → agrees spec (get_or x.state.responses number None) ≡ true → IsVouched (seen R w) (statement_of (bodies.Spec spec)) (0 + number)
-    vouched_at number within is =
-        let (r, kept, same) = agreed_by spec (get_or x.state.responses number None) is in
-        let held : IsHeldBy x.state waiting number r = c.held number r kept in
-        let client : r.spec.stmt.client.0 < 64 = omega (arith, held.client, tie.me, own_number) in
-        let one : IsVouched (seen R w) (statement_of (bodies.Spec r.spec.stmt)) number = vouched number r (tie.backed number r kept) client in
+  module _ (waiting : Signed Ask) (held : AreHeld t waiting) where
+    vouched_at : (spec : Spec) (number : ℕ) → number < length t.responses → agrees spec (get_or t.responses number None) ≡ true → IsVouched (seen R w) (statement_of (bodies.Spec spec)) (0 + number)
+    vouched_at spec number within is =
+        let (r, there, same) = agreed_by spec (get_or t.responses number None) is in
+        let own : IsHeldBy t waiting number r = held number r there in
+        let client : r.spec.stmt.client.0 < 64 = omega (arith, own.client, me_is, own_number) in
+        let one : IsVouched (seen R w) (statement_of (bodies.Spec r.spec.stmt)) number = vouched number r (kept number r there) client in
         let none : number ≡ 0 + number = omega arith in
         subst (λ (n : ℕ). IsVouched (seen R w) (statement_of (bodies.Spec spec)) n) none (subst (λ (s : Spec). IsVouched (seen R w) (statement_of (bodies.Spec s)) number) same one)
 
-    enough : w.setup.counts.fast ≤ count_by (agrees spec) x.state.responses
-    enough = omega (arith, c.enough, ap (λ (n : Counts). n.fast) tie.counts)
-
-    backed : IsBacked (seen R w) w.setup.counts.fast (statement_of (bodies.Spec spec))
-    backed =
-        let them : Picked 0 w.setup.counts.fast (IsVouched (seen R w) (statement_of (bodies.Spec spec))) =
-        picked (agrees spec) None (IsVouched (seen R w) (statement_of (bodies.Spec spec))) x.state.responses 0 w.setup.counts.fast vouched_at enough in
+    -- as many responses as are equal to one stand behind it
+    pub backed : (spec : Spec) (count : ℕ) → count ≤ agreeing t spec → IsBacked (seen R w) count (statement_of (bodies.Spec spec))
+    backed spec count enough =
+        let them : Picked 0 count (IsVouched (seen R w) (statement_of (bodies.Spec spec))) =
+        picked (agrees spec) None (IsVouched (seen R w) (statement_of (bodies.Spec spec))) t.responses 0 count (vouched_at spec) enough in
         record {
           who = them.numbers;
           many = them.many;
@@ -125,17 +96,34 @@ module _ {S : Type 0} (R : Rules S) (w : World S) where
           vouched = all_from (IsVouched (seen R w) (statement_of (bodies.Spec spec))) them.numbers them.each;
         }
 
-    abbrev told : Completed
-    told = record { client = id; done = done_of c.response }
+  -- ---- completions
 
-    own_is : spec.client.0 ≡ id.0
-    own_is = c.own.client ∙ tie.me
+  -- what the law reads of a response to this client, with a reply that has its digest
+  told_is : (spec : Spec) (reply : List ℕ) (d : Done) → spec.client.0 ≡ id.0 → record { 0 = sha256 reply } ≡ spec.reply → d.view ≡ spec.view → d.place ≡ spec.place → d.head ≡ spec.head → d.stamp ≡ spec.stamp → d.reply ≡ reply
+      → statement_of (bodies.Spec spec) ≡ Statement.Spec (completion_of (record { client = id; done = d })).view (completion_of (record { client = id; done = d })).mark (completion_of (record { client = id; done = d })).answer
+  told_is spec reply d client digest view place head stamp told =
+      λ i. Statement.Spec (sym view i).0 (record { place = (sym place i).0; head = sym head i })
+      (record { client = client i; stamp = (sym stamp i).0; reply = (sym digest ∙ ap (λ (l : List ℕ). let d : Digest = record { 0 = sha256 l } in d) (sym told)) i })
 
-    statement_is : statement_of (bodies.Spec spec) ≡ Statement.Spec (completion_of told).view (completion_of told).mark (completion_of told).answer
-    statement_is = λ i. Statement.Spec spec.view.0 (record { place = spec.place.0; head = spec.head }) (record { client = own_is i; stamp = spec.stamp.0; reply = sym c.own.reply i })
+  pub fast_completed : (waiting : Signed Ask) (c : IsCompleteFast t waiting) → IsCompleted (seen R w) (completion_of (record { client = id; done = done_of c.response }))
+  fast_completed waiting c =
+      let spec : Spec = c.response.spec.stmt in
+      let enough : w.setup.counts.fast ≤ agreeing t spec = omega (arith, c.enough, ap (λ (n : Counts). n.fast) counts_are) in
+      fast (subst (λ (s : Statement). IsBacked (seen R w) w.setup.counts.fast s)
+      (told_is spec c.response.reply (done_of c.response) (c.own.client ∙ me_is) c.own.reply refl refl refl refl refl)
+      (backed waiting c.held spec w.setup.counts.fast enough))
 
-    pub completed : IsCompleted (seen R w) (completion_of told)
-    completed = fast (subst (λ (s : Statement). IsBacked (seen R w) w.setup.counts.fast s) statement_is backed)
+  pub slow_completed : (waiting : Signed Ask) (commit : Commit) (vote : Signed Local) → IsCommitHeld x.state waiting commit → IsCommitBacked (seen R w) w.texts commit
+      → IsVouchedBy (seen R w) (local_to commit.spec) vote.by → AreVotes (commit.locals.votes ++ vote ∷ []) → length commit.locals.votes + 1 ≡ x.state.counts.local
+      → IsCompleted (seen R w) (completion_of (record { client = id; done = done_by commit }))
+  slow_completed waiting commit vote held is counted votes enough =
+      let list : List (Signed Local) = commit.locals.votes ++ vote ∷ [] in
+      let long : length list ≡ w.setup.counts.local = length-append commit.locals.votes (vote ∷ []) ∙ enough ∙ ap (λ (n : Counts). n.local) tie.counts in
+      let all : AllByRecursion (λ (v : Signed Local). IsVouchedBy (seen R w) (local_to commit.spec) v.by) list =
+      all_of_both (λ (v : Signed Local). IsVouchedBy (seen R w) (local_to commit.spec) v.by) commit.locals.votes (vote ∷ []) is.counted (counted, tt) in
+      slow (subst (λ (s : Statement). IsBacked (seen R w) w.setup.counts.cert s)
+      (told_is commit.spec commit.reply (done_by commit) (held.client ∙ tie.me) held.reply refl refl refl refl refl) is.certified)
+      (signed_backed (seen R w) (local_to commit.spec) w.setup.counts.local list long votes.different all)
 
 -- ---- which step completes
 
@@ -152,10 +140,16 @@ waits_not : (o : Option (Signed Ask)) → is_waiting o ≡ false → o ≡ None
 waits_not None is = refl
 waits_not (Some ask) is = absurd cc
 
-pub completes : HeldLaw → (s : ClientState) (event : Event) (d : Done) → HoldsResponses s → completed_by s (client_step s event).state ≡ Some d
-    → (waiting : Signed Ask) × IsComplete (client_step s event).state waiting × ((client_step s event).state.done ≡ Some d)
+-- a step that completes a request ends its waiting
+pub record IsEnded (s : ClientState) (event : Event) (d : Done) : Type 0 where
+  pub waiting : Signed Ask
+  pub waited : s.waiting ≡ Some waiting
+  pub complete : IsComplete s event (client_step s event).state waiting
+  pub done : (client_step s event).state.done ≡ Some d
+
+pub completes : HeldLaw → (s : ClientState) (event : Event) (d : Done) → Holds s → completed_by s (client_step s event).state ≡ Some d → IsEnded s event d
 completes law s event d holds is =
     let t : ClientState = (client_step s event).state in
     let ends = ends_waiting s t d (is_waiting s.waiting) (is_waiting t.waiting) is in
     let (ask, waited) = waits s.waiting ends.0 in
-    (ask, law.completes s event ask holds waited (waits_not t.waiting ends.1), ends.2)
+    record { waiting = ask; waited = waited; complete = law.completes s event ask holds waited (waits_not t.waiting ends.1); done = ends.2 }

@@ -1,5 +1,6 @@
 -- What is decoded can be spelled again, whatever the bytes are.
-use Rattle.std.proofs.Common.{◌≡◌, ℕ, ◌+◌, ◌<◌, ◌≤◌, ◌^◌, Bool, true, false, List, length, take, drop, Result, Ok, Err, ap, subst, arith, ltb, ltb-false, ltb-true}
+use Rattle.std.proofs.Common.{◌≡◌, ℕ, zero, suc, ◌+◌, ◌<◌, ◌≤◌, ◌^◌, Bool, true, false, List, [], ◌∷◌, length, take, drop, Result, Ok, Err, ap, subst, arith, ltb, ltb-false, ltb-true}
+use Rattle.std.specs.List.{AllByRecursion}
 use Rattle.std.specs.Int.{Width, w16, w32}
 use Rattle.std.specs.Prelude.{Option, if◌then◌else◌}
 use Rattle.std.proofs.lemmas.List.{length-take}
@@ -10,20 +11,23 @@ use Rattle.zy_frames.specs.Frames.{frame_in, frame_at, request, order, ordered, 
 use Rattle.zy_frames.specs.declared.frame.Frame.{Frame}
 use Rattle.zy_frames.specs.declared.frame.Frame.TheVariants as frames
 use Rattle.zy_parts.specs.Signing.{signed}
-use Rattle.zy_parts.specs.Statements.{IsU62, ask_fields, order_fields, spec_fields, local_fields, hole_fields, hate_fields, check_fields}
-use Rattle.zy_parts.specs.declared.statements.Spec.{Spec}
+use Rattle.zy_parts.specs.Statements.{IsU62, ask_fields, order_fields, spec_fields, local_fields, confirm_fields, hole_fields, hate_fields, check_fields}
 use Rattle.zy_wire.proofs.Parts.{bind_ok, guard_ok, ok_is, ended_ok}
-use Rattle.zy_wire.specs.Fields.{u62, digest, digest_at, party, bytes16, bytes_at}
+use Rattle.zy_wire.specs.Fields.{u62, digest, digest_at, party, bytes16, bytes_at, list, list_at}
 use Rattle.zy_wire.specs.Framing.{framed_in}
 use Rattle.zy_wire.specs.Kind.{kind_in}
-use Rattle.zy_wire.specs.Spelling.{Spelling, ◌>>=◌, ended, word, word_at, exactly, exactly_at, pair, made, or_range, within, number_at}
+use Rattle.zy_wire.specs.Spelling.{Spelling, ◌>>=◌, ended, word, word_at, exactly, exactly_at, pair, made, or_range, within, number_at, repeated_at}
 use Rattle.zy_lawful.proofs.Runs.{by_test}
+use Rattle.zy_world_law.proofs.ReadBack.{FitsForClients}
 
--- the request of a frame, and its response but for the client's number
+-- the request of a frame, its local commit, and its responses but for the client's number
 abbrev pub IsReadable : Frame → Type 0
 IsReadable (frames.Request ask) = ask_fields.Fits ask.stmt
 IsReadable (frames.Order both) = ask_fields.Fits both.ask.stmt
-IsReadable (frames.SpecResponse spec reply with_order) = spec.stmt.client.0 < 2 ^ 32 → spec_fields.Fits spec.stmt
+IsReadable (frames.SpecResponse spec reply with_order) = FitsForClients spec.stmt
+IsReadable (frames.Commit specs) = AllByRecursion (λ spec. FitsForClients spec.stmt) specs
+IsReadable (frames.LocalCommit local) = local_fields.Fits local.stmt
+IsReadable (frames.ConfirmReq confirm ask) = ask_fields.Fits ask.stmt
 IsReadable _ = Unit {0}
 
 -- what holds of all that a reader gives
@@ -90,6 +94,20 @@ module _ {A B : Type 0} (make : A → B) (S : Spelling A) (P : A → Type 0) (Q 
       let a = bind_ok (S.at bytes) (λ x. Ok (make x.0, x.1)) (y, rest) e in
       subst (λ (p : B × List ℕ). Q p.0) (ok_is _ _ a.2) (whole a.0.0 (parts bytes a.0.0 a.0.1 a.1))
 
+module _ {A : Type 0} (S : Spelling A) (P : A → Type 0) (gives : Gives S.at P) where
+  repeated_gives : (n : ℕ) → Gives (repeated_at S n) (AllByRecursion P)
+  repeated_gives zero bytes xs rest e = subst (λ (p : List A × List ℕ). AllByRecursion P p.0) (ok_is ([], bytes) (xs, rest) e) tt
+  repeated_gives (suc n) bytes xs rest e =
+      let a = bind_ok (S.at bytes) (λ first. repeated_at S n first.1 >>= λ others. Ok (first.0 ∷ others.0, others.1)) (xs, rest) e in
+      let b = bind_ok (repeated_at S n a.0.1) (λ others. Ok (a.0.0 ∷ others.0, others.1)) (xs, rest) a.2 in
+      subst (λ (p : List A × List ℕ). AllByRecursion P p.0) (ok_is _ _ b.2) (gives bytes a.0.0 a.0.1 a.1, repeated_gives n a.0.1 b.0.0 b.0.1 b.1)
+
+  list_gives : (min max : ℕ) → Gives (list min max S).at (AllByRecursion P)
+  unfolding list_at
+  list_gives min max bytes xs rest e =
+      let a = bind_ok (number_at w16 min (max + 1) bytes) (λ n. repeated_at S n.0 n.1) (xs, rest) e in
+      repeated_gives a.0.0 a.0.1 xs rest a.2
+
 -- ---- statements
 
 u62_gives : (least : ℕ) → Gives (u62 least).at (IsU62 least)
@@ -99,19 +117,22 @@ ask_gives : Gives ask_fields.at ask_fields.Fits
 unfolding ask_fields
 ask_gives = made_gives _ (pair (u62 0) (bytes16 1100)) _ _ (pair_gives (u62 0) (bytes16 1100) _ _ (u62_gives 0) (sized_gives w16 1100)) (λ x fits. fits)
 
-abbrev FitsButClient : Spec → Type 0
-FitsButClient spec = spec.client.0 < 2 ^ 32 → spec_fields.Fits spec
-
-spec_gives : Gives spec_fields.at FitsButClient
+spec_gives : Gives spec_fields.at FitsForClients
 unfolding spec_fields
 spec_gives =
-    made_gives _ (pair (u62 0) (pair (u62 1) (pair digest (pair digest (pair (word w32) (u62 0)))))) _ FitsButClient
+    made_gives _ (pair (u62 0) (pair (u62 1) (pair digest (pair digest (pair (word w32) (u62 0)))))) _ FitsForClients
     (pair_gives (u62 0) (pair (u62 1) (pair digest (pair digest (pair (word w32) (u62 0))))) _ _ (u62_gives 0)
     (pair_gives (u62 1) (pair digest (pair digest (pair (word w32) (u62 0)))) _ _ (u62_gives 1)
     (pair_gives digest (pair digest (pair (word w32) (u62 0))) _ _ digest_gives
     (pair_gives digest (pair (word w32) (u62 0)) _ _ digest_gives
     (pair_gives (word w32) (u62 0) _ _ (all_give (word_at w32)) (u62_gives 0))))))
-    (λ x fits client. (fits.0, (fits.1.0, (fits.1.1.0, (fits.1.1.1.0, (client, fits.1.1.1.1.1))))))
+    (λ x fits client small. (fits.0, (fits.1.0, (fits.1.1.0, (fits.1.1.1.0, (small, fits.1.1.1.1.1))))))
+
+local_gives : Gives local_fields.at local_fields.Fits
+unfolding local_fields
+local_gives =
+    made_gives _ (pair (u62 0) (pair (u62 1) digest)) _ _
+    (pair_gives (u62 0) (pair (u62 1) digest) _ _ (u62_gives 0) (pair_gives (u62 1) digest _ _ (u62_gives 1) digest_gives)) (λ x fits. fits)
 
 module _ {A : Type 0} (fields : Spelling A) (P : A → Type 0) where
   signed_gives : Gives fields.at P → Gives (signed fields).at (λ s. P s.stmt)
@@ -140,20 +161,28 @@ order_gives =
     (pair_gives (signed order_fields) (signed ask_fields) (λ x. Unit {0}) (λ ask. ask_fields.Fits ask.stmt) (all_give (signed order_fields).at) (signed_gives ask_fields ask_fields.Fits ask_gives))
     (λ x fits. fits.1)
 
-response_gives : Gives spec_response.at (λ x. FitsButClient x.0.stmt × Unit {0})
+response_gives : Gives spec_response.at (λ x. FitsForClients x.0.stmt × Unit {0})
 response_gives =
-    pair_gives (signed spec_fields) (pair (bytes16 1100) ordered) (λ spec. FitsButClient spec.stmt) (λ x. Unit {0})
-    (signed_gives spec_fields FitsButClient spec_gives) (all_give (pair (bytes16 1100) ordered).at)
+    pair_gives (signed spec_fields) (pair (bytes16 1100) ordered) (λ spec. FitsForClients spec.stmt) (λ x. Unit {0})
+    (signed_gives spec_fields FitsForClients spec_gives) (all_give (pair (bytes16 1100) ordered).at)
+
+commit_gives : Gives commit.at (AllByRecursion (λ spec. FitsForClients spec.stmt))
+commit_gives = list_gives (signed spec_fields) (λ spec. FitsForClients spec.stmt) (signed_gives spec_fields FitsForClients spec_gives) 1 16
+
+confirm_gives : Gives confirm_request.at (λ x. Unit {0} × ask_fields.Fits x.1.stmt)
+confirm_gives =
+    pair_gives (signed confirm_fields) (signed ask_fields) (λ x. Unit {0}) (λ ask. ask_fields.Fits ask.stmt)
+    (all_give (signed confirm_fields).at) (signed_gives ask_fields ask_fields.Fits ask_gives)
 
 frame_gives : (kind : ℕ) → Gives (frame_at kind) IsReadable
 unfolding frame_at
 frame_gives kind =
     or_gives _ _ _ (made_gives frames.Request request _ IsReadable (signed_gives ask_fields ask_fields.Fits ask_gives) (λ ask fits. fits))
     (or_gives _ _ _ (made_gives frames.Order order (λ both. ask_fields.Fits both.ask.stmt) IsReadable order_gives (λ both fits. fits))
-    (or_gives _ _ _ (made_gives (λ x. frames.SpecResponse x.0 x.1.0 x.1.1) spec_response (λ x. FitsButClient x.0.stmt × Unit {0}) IsReadable response_gives (λ x fits. fits.0))
-    (or_gives _ _ _ (other_gives frames.Commit commit (λ x. tt))
-    (or_gives _ _ _ (other_gives frames.LocalCommit (signed local_fields) (λ x. tt))
-    (or_gives _ _ _ (other_gives (λ x. frames.ConfirmReq x.0 x.1) confirm_request (λ x. tt))
+    (or_gives _ _ _ (made_gives (λ x. frames.SpecResponse x.0 x.1.0 x.1.1) spec_response (λ x. FitsForClients x.0.stmt × Unit {0}) IsReadable response_gives (λ x fits. fits.0))
+    (or_gives _ _ _ (made_gives frames.Commit commit (AllByRecursion (λ spec. FitsForClients spec.stmt)) IsReadable commit_gives (λ x fits. fits))
+    (or_gives _ _ _ (made_gives frames.LocalCommit (signed local_fields) (λ local. local_fields.Fits local.stmt) IsReadable (signed_gives local_fields local_fields.Fits local_gives) (λ local fits. fits))
+    (or_gives _ _ _ (made_gives (λ x. frames.ConfirmReq x.0 x.1) confirm_request (λ x. Unit {0} × ask_fields.Fits x.1.stmt) IsReadable confirm_gives (λ x fits. fits.1))
     (or_gives _ _ _ (other_gives frames.FillHole (signed hole_fields) (λ x. tt))
     (or_gives _ _ _ (other_gives frames.Hate (signed hate_fields) (λ x. tt))
     (or_gives _ _ _ (other_gives (λ x. frames.Pom x.0 x.1) misbehaviour (λ x. tt))

@@ -41,6 +41,7 @@ module _ {S : Type 0} (R : Rules S) (w : World S) (good : IsGood R w) (id : Clie
               keys = t.keys;
               holds = t.holds;
               backed = λ number r is. let b = t.backed number r is in record { within = b.within; said = b.said; reply = b.reply; spelled = b.spelled };
+              committed = t.committed;
             };
         done = all_of_both (IsDone R w') w.done (option_to_list (option_map (λ (d : Done). let c : Completed = record { client = id; done = d } in c) o)) (all_done w.done good.done) (new_done o is_done);
       }

@@ -1,11 +1,9 @@
 -- Each honest event keeps a good world good.
 use Rattle.zy_table.specs.Step.{step}
-use Rattle.std.proofs.Common.{append-nil, ◌≡◌, ◌⊎◌, inl, inr, ℕ, ◌<◌, Bool, true, false, ◌&&◌, List, [], ◌∷◌, length, map, Option, Some, None, Result, refl, sym, ap, ◌∙◌, subst, arith}
-use Rattle.std.specs.Prelude.{if◌then◌else◌, slice_get, option_map, unwrap_or, nat_lt, Contains}
+use Rattle.std.proofs.Common.{append-nil, ◌≡◌, ℕ, Bool, true, false, ◌&&◌, List, [], ◌∷◌, Option, Some, None, Result, refl, sym, ap, ◌∙◌, subst}
+use Rattle.std.specs.Prelude.{if◌then◌else◌, slice_get, unwrap_or, nat_lt}
 use Rattle.std.specs.List.{AllByRecursion}
 use Rattle.std.specs.Option.{option_and_then}
-use Rattle.std.proofs.lemmas.List.FromFn.{length-map-range_with_len}
-use Rattle.std.proofs.lemmas.Option.{same_Some, slice_get_within}
 use Rattle.zy_base.specs.Machine.{Rules}
 use Rattle.zy_base.specs.declared.frame_fault.FrameFault.{FrameFault}
 use Rattle.zy_base.specs.declared.ids.ClientId.{ClientId}
@@ -25,14 +23,13 @@ use Rattle.zy_seal.specs.Screening.{answer_to}
 use Rattle.zy_seal.specs.declared.directory.SealAnswer.TheVariants as answers
 use Rattle.zy_table.specs.ClientRows.{ask, client_step}
 use Rattle.zy_table.specs.ClientState.{ClientState}
-use Rattle.zy_table.specs.declared.client.Done.{Done}
 use Rattle.zy_table.specs.declared.client.Response.{Response}
 use Rattle.zy_world_law.specs.Events.{Happened, Broken, unless_forged, ask_in, deliver, bring, bring_to_replica, bring_to_client, timer_of, replica_timer_in, client_timer_in, replica_timer, client_timer, lie, forge, happens, replica_goes, client_goes, leaves_in}
 use Rattle.zy_world_law.specs.Events.Happened.{Goes, Breaks}
 use Rattle.zy_world_law.specs.Good.{IsGood, IsBackedBy, IsKept}
 use Rattle.zy_world_law.specs.Honest.{forger_in}
 use Rattle.zy_world_law.specs.Liars.{Telling, requests_at, order_told, spec_told, by_replica, statement_told}
-use Rattle.zy_world_law.specs.Setup.{keys_of, public_key_of}
+use Rattle.zy_world_law.specs.Setup.{keys_of}
 use Rattle.zy_world_law.specs.Texts.{texts_in, texts_read}
 use Rattle.zy_world_law.specs.World.{World, Replica, Client, Mail, replica_at, client_at, correct_in, mail_at, delivered, texts_said, is_liar, is_correct, are_parties}
 use Rattle.zy_world_law.specs.declared.event.WorldEvent.{WorldEvent}
@@ -40,13 +37,14 @@ use Rattle.zy_world_law.specs.declared.event.WorldEvent.TheVariants as events
 use Rattle.zy_world_law.specs.declared.note.Note.{Note}
 use Rattle.zy_world_law.specs.declared.note.Note.TheVariants as notes
 use Rattle.zy_world_law.proofs.BagStays.{bag_good}
-use Rattle.zy_world_law.proofs.Completing.{completes}
+use Rattle.zy_world_law.proofs.ClientEvent.{client_event, heard_vouched}
 use Rattle.zy_world_law.proofs.DecodedInRange.{decoded_readable}
-use Rattle.zy_world_law.proofs.EventRuns.{event_runs, under_some}
+use Rattle.zy_world_law.proofs.EventRuns.{event_runs}
 use Rattle.zy_world_law.proofs.Goings.{IsAfter, goes_is, replica_goes_good, client_goes_good}
 use Rattle.zy_world_law.proofs.HeldLaw.{HeldLaw}
-use Rattle.zy_world_law.proofs.KeptOrHeard.{IsHeard, IsAsked, heard_comes, timer_comes, ask_comes, kept_or_brought, completed_reply, step_same}
+use Rattle.zy_world_law.proofs.KeptOrHeard.{IsHeard, IsAsked, Nothing, heard_comes, timer_comes, ask_comes}
 use Rattle.zy_world_law.proofs.NotForged.{IsSaid, parts_said}
+use Rattle.zy_world_law.proofs.Vouched.{verified_said}
 
 module _ {S : Type 0} (R : Rules S) (law : HeldLaw) where
   -- a world that an event led to is good
@@ -71,26 +69,7 @@ module _ {S : Type 0} (R : Rules S) (law : HeldLaw) where
 
   -- ---- what a client hears
 
-  module _ (w : World S) (good : IsGood R w) where
-    replica_within : (number : ℕ) (text sig : List ℕ) → answer_to (keys_of w.setup) (record { by = parties.Replica (record { 0 = number }); text = text; sig = sig }) ≡ answers.Yes → number < w.setup.counts.n
-    unfolding keys_of
-    replica_within number text sig signed =
-        let key = under_some (slice_get (keys_of w.setup).replicas number) text sig signed in
-        let within : number < length (keys_of w.setup).replicas = slice_get_within (keys_of w.setup).replicas number key.0 key.1 in
-        let many : length (keys_of w.setup).replicas ≡ w.setup.counts.n =
-        length-map-range_with_len (λ (n : ℕ). public_key_of w.setup (parties.Replica (record { 0 = n }))) 0 w.setup.counts.n in
-        omega arith
-
-    said_or_lies : (number : ℕ) (text : List ℕ) (o : Option (Replica S)) → replica_at w number ≡ o → IsSaid (option_map (λ (x : Replica S). map (λ remark. remark.text) x.said) o) text
-        → (replica_at w number ≡ None) ⊎ ((x : Replica S) × (replica_at w number ≡ Some x) × Contains (map (λ remark. remark.text) x.said) text)
-    said_or_lies number text None at said = inl at
-    said_or_lies number text (Some x) at said = elim said.said [
-      | inl none ↦ absurd cc
-      | inr there ↦
-          let (texts, is, has) = there in
-          inr (x, at, subst (λ (l : List (List ℕ)). Contains l text) (sym (same_Some (map (λ remark. remark.text) x.said) texts is)) has)
-    ]
-
+  module _ (w : World S) where
     heard_backed : (s : ClientState) → s.keys ≡ keys_of w.setup → (bytes : List ℕ) → forger_in w bytes ≡ None → AllByRecursion (IsKept w.texts) (texts_in bytes)
         → (number : ℕ) (r : Response) → IsHeard s bytes number r → IsBackedBy w number r
     heard_backed s keys bytes none kept number r heard =
@@ -103,11 +82,12 @@ module _ {S : Type 0} (R : Rules S) (law : HeldLaw) where
         let said : IsSaid (texts_said w (parties.Replica (record { 0 = number }))) text =
         subst (λ (by : Party). IsSaid (texts_said w by) (text_of numbers.spec spec_fields by r.spec.stmt)) heard.by ((parts_said w bytes frame none heard.frame).0 signed) in
         let brought : AllByRecursion (IsKept w.texts) (r.reply ∷ []) = subst (λ (f : Result Frame FrameFault). AllByRecursion (IsKept w.texts) (texts_read f)) heard.frame kept in
+        let both = verified_said w number text r.spec.sig own said in
         record {
-          within = replica_within number text r.spec.sig own;
-          said = said_or_lies number text (replica_at w number) refl said;
+          within = both.0;
+          said = both.1;
           reply = brought.0;
-          spelled = decoded_readable bytes frame heard.frame;
+          spelled = decoded_readable bytes frame heard.frame r.spec.stmt.client.0;
         }
 
   -- ---- events of correct parties
@@ -121,24 +101,17 @@ module _ {S : Type 0} (R : Rules S) (law : HeldLaw) where
         let asked : IsAsked x.state (ask x.state op) = ask_comes x.state op in
         client_goes_good R w good id x [] (ask x.state op) v note seat asked.same (law.asks x.state op (good.client_tied id.0 x seat).holds)
         (λ more keeping good1 number r kept. (good1.client_tied id.0 x seat).backed number r (asked.kept number r kept))
-        (λ more keeping d ends. let never : None ≡ Some d = sym asked.incomplete ∙ ends in absurd cc) is
+        (λ more keeping good1 waiting c waits held. let before = asked.committed waiting c waits held in (good1.client_tied id.0 x seat).committed waiting c before.0 before.1)
+        (λ more keeping good1 d ends. let never : None ≡ Some d = sym asked.incomplete ∙ ends in absurd cc) is
 
     -- a frame: the world may have marked it
     heard_by_client : (u : World S) → IsGood R u → (id : ClientId) (x : Client) → client_at u id.0 ≡ Some x → (bytes : List ℕ) → forger_in u bytes ≡ None
         → GoesGood u (client_goes u id x (texts_in bytes) (client_step x.state (Heard bytes)))
     heard_by_client u fine id x seat bytes none v note is =
-        let comes = heard_comes x.state bytes in
-        let tie = fine.client_tied id.0 x seat in
-        client_goes_good R u fine id x (texts_in bytes) (client_step x.state (Heard bytes)) v note seat (step_same x.state _ _ comes) (law.steps x.state (Heard bytes) tie.holds)
-        (λ more keeping good1 number r kept. elim (kept_or_brought x.state _ _ comes number r kept) [
-          | inl before ↦ (good1.client_tied id.0 x seat).backed number r before
-          | inr heard ↦ heard_backed (record u { texts = more }) good1 x.state tie.keys bytes none keeping.kept number r heard
-        ])
-        (λ more keeping d ends.
-        let (number, r, heard, one) = completed_reply x.state _ _ d comes ends in
-        let brought : AllByRecursion (IsKept more) (r.reply ∷ []) = subst (λ (f : Result Frame FrameFault). AllByRecursion (IsKept more) (texts_read f)) heard.frame keeping.kept in
-        let c = completes law x.state (Heard bytes) d tie.holds ends in
-        record { waiting = c.0; complete = c.1; done = c.2; reply = subst (λ (e : Done). IsKept more e.reply) (sym one) brought.0 }) is
+        let keys = (fine.client_tied id.0 x seat).keys in
+        client_event R law u fine id x seat (Heard bytes) (texts_in bytes) (IsHeard x.state bytes) (heard_comes x.state bytes)
+        (λ more keeping number r heard. heard_backed (record u { texts = more }) x.state keys bytes none keeping.kept number r heard)
+        (λ more spec vote heard. heard_vouched R (record u { texts = more }) x.state keys bytes none spec vote heard) v note is
 
     client_hears : (u : World S) → IsGood R u → (id : ClientId) (x : Client) → client_at u id.0 ≡ Some x → (bytes : List ℕ) (forger : Option Party) → forger_in u bytes ≡ forger
         → GoesGood u (unless_forged forger (client_goes u id x (texts_in bytes) (client_step x.state (Heard bytes))))
@@ -191,13 +164,8 @@ module _ {S : Type 0} (R : Rules S) (law : HeldLaw) where
 
     client_rings : (id : ClientId) (x : Client) → client_at w id.0 ≡ Some x → (kind : TimerKind) → GoesGood w (client_timer w id x kind)
     client_rings id x seat timers.Answer v note is =
-        let comes = timer_comes x.state timers.Answer in
-        client_goes_good R w good id x [] (client_step x.state (Timer timers.Answer)) v note seat (step_same x.state _ _ comes) (law.steps x.state (Timer timers.Answer) (good.client_tied id.0 x seat).holds)
-        (λ more keeping good1 number r kept. elim (kept_or_brought x.state _ _ comes number r kept) [
-          | inl before ↦ (good1.client_tied id.0 x seat).backed number r before
-          | inr nothing ↦ absurd nothing
-        ])
-        (λ more keeping d ends. let (number, r, nothing, one) = completed_reply x.state _ _ d comes ends in absurd nothing) is
+        client_event R law w good id x seat (Timer timers.Answer) [] Nothing (timer_comes x.state timers.Answer) (λ more keeping number r nothing. absurd nothing)
+        (λ more spec vote heard. let never = heard.heard in absurd cc) v note is
     client_rings id x seat timers.Request v note is = stays w _ good v note is
     client_rings id x seat timers.Change v note is = stays w _ good v note is
 

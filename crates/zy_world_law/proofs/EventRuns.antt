@@ -1,7 +1,7 @@
--- The requests of a frame that isn't forged may run.
-use Rattle.std.proofs.Common.{◌≡◌, ◌⊎◌, inl, inr, ℕ, zero, suc, ◌<◌, true, List, [], ◌∷◌, length, Option, Some, None, refl, sym, ap, ◌∙◌, subst, arith}
-use Rattle.std.specs.Prelude.{option_map, is_none, Contains, slice_get}
-use Rattle.std.specs.List.{AllByRecursion, filter_map, cons_option}
+-- The requests of a frame that isn't forged may run, and the responses of its certificate may be counted.
+use Rattle.std.proofs.Common.{◌≡◌, ◌⊎◌, inl, inr, ℕ, zero, suc, ◌<◌, true, ◌&&◌, List, [], ◌∷◌, length, Option, Some, None, refl, sym, ap, ◌∙◌, subst, arith}
+use Rattle.std.specs.Prelude.{option_map, is_none, Contains, slice_get, map}
+use Rattle.std.specs.List.{AllByRecursion, filter_map, cons_option, list_all}
 use Rattle.std.proofs.lemmas.Bool.{and_parts}
 use Rattle.std.proofs.lemmas.List.FromFn.{length-map-range_with_len}
 use Rattle.std.proofs.lemmas.Option.{same_Some, slice_get_within}
@@ -14,19 +14,21 @@ use Rattle.zy_admit.specs.Judging.{entry_of}
 use Rattle.zy_frames.specs.Frames.{parts_of}
 use Rattle.zy_frames.specs.declared.frame.Frame.{Frame}
 use Rattle.zy_frames.specs.declared.frame.Frame.TheVariants as frames
-use Rattle.zy_lawful.specs.Tied.{MayRun, MayFrameRun, MayEventRun}
+use Rattle.zy_law.specs.World.{Answer}
+use Rattle.zy_lawful.specs.Tied.{MayRun, MayFrameRun, MayEventRun, IsVouchedBy, response_with}
 use Rattle.zy_parts.specs.Numbers as numbers
 use Rattle.zy_parts.specs.Signing.{part_of, text_of}
-use Rattle.zy_parts.specs.Statements.{ask_fields}
+use Rattle.zy_parts.specs.Statements.{ask_fields, spec_fields}
 use Rattle.zy_parts.specs.Statements as statements
 use Rattle.zy_parts.specs.declared.signed.Part.{Part}
+use Rattle.zy_parts.specs.declared.signed.Signed.{Signed}
 use Rattle.zy_parts.specs.declared.statements.Ask.{Ask}
-use Rattle.zy_seal.specs.Checking.{answer_under}
+use Rattle.zy_parts.specs.declared.statements.Spec.{Spec}
 use Rattle.zy_seal.specs.Keys.{Keys}
 use Rattle.zy_seal.specs.Screening.{answer_to}
 use Rattle.zy_seal.specs.declared.directory.SealAnswer.TheVariants as answers
-use Rattle.zy_table.specs.Roles.{in_role, is_client, is_primary_of}
-use Rattle.zy_table.specs.State.{State, is_primary}
+use Rattle.zy_table.specs.Roles.{in_role, is_client, is_replica, is_primary_of}
+use Rattle.zy_table.specs.State.{State}
 use Rattle.zy_parts.specs.Exact.{ask-in_range}
 use Rattle.zy_world_law.specs.Good.{IsGood}
 use Rattle.zy_world_law.specs.Honest.{forger_in}
@@ -35,8 +37,9 @@ use Rattle.zy_world_law.specs.Setup.{keys_of, public_key_of}
 use Rattle.zy_world_law.specs.World.{World, Client, client_at, texts_said}
 use Rattle.zy_world_law.proofs.DecodedInRange.{IsReadable, decoded_readable}
 use Rattle.zy_world_law.proofs.NotForged.{IsSaid, parts_said}
-use Rattle.zy_world_law.proofs.ReadBack.{entry_back}
+use Rattle.zy_world_law.proofs.ReadBack.{FitsForClients, read_back, entry_back, spec_read_back}
 use Rattle.zy_world_law.proofs.Screened.{all_verify}
+use Rattle.zy_world_law.proofs.Vouched.{under_some, part_vouched}
 
 -- ---- lists
 
@@ -52,12 +55,6 @@ pub contains_mapped : {A B : Type 0} (f : A → Option B) (xs : List A) (x : A) 
 contains_mapped f [] x y (k, within, is) maps = absurd (omega arith)
 contains_mapped f (first ∷ xs) x y (zero, within, is) maps = contains_first (f first) (filter_map f xs) y (ap f is ∙ maps)
 contains_mapped f (first ∷ xs) x y (suc k, within, is) maps = contains_behind (f first) (filter_map f xs) y (contains_mapped f xs x y (k, omega arith, is) maps)
-
--- ---- keys
-
-pub under_some : (o : Option (List ℕ)) (text sig : List ℕ) → answer_under o text sig ≡ answers.Yes → (key : List ℕ) × (o ≡ Some key)
-under_some None text sig is = absurd cc
-under_some (Some key) text sig is = (key, refl)
 
 module _ {S : Type 0} (R : Rules S) (w : World S) (good : IsGood R w) where
   -- a signature verifies only under the key of one of the clients
@@ -104,15 +101,33 @@ module _ {S : Type 0} (R : Rules S) (w : World S) (good : IsGood R w) where
   abbrev WasSaid : Part → Type 0
   WasSaid part = answer_to (keys_of w.setup) part ≡ answers.Yes → IsSaid (texts_said w part.by) part.text
 
+  -- ---- the responses of a certificate
+
+  -- what a response answers, as the law reads it
+  abbrev answer_in : Spec → Answer
+  answer_in spec = record { client = (read_back spec).client.0; stamp = spec.stamp.0; reply = spec.reply }
+
+  responses_vouched : (specs : List (Signed Spec)) → AllByRecursion (λ spec. FitsForClients spec.stmt) specs → list_all (λ spec. is_replica spec.by) specs ≡ true
+      → AllByRecursion Verifies (map (part_of numbers.spec spec_fields) specs) → AllByRecursion WasSaid (map (part_of numbers.spec spec_fields) specs)
+      → AllByRecursion (λ spec. IsVouchedBy (seen R w) (response_with (answer_in spec.stmt) spec.stmt) spec.by) specs
+  responses_vouched [] fits role signed said = tt
+  responses_vouched (spec ∷ specs) fits role signed said =
+      let roles = and_parts (is_replica spec.by) (list_all (λ spec. is_replica spec.by) specs) role in (
+        part_vouched R w spec.by (text_of numbers.spec spec_fields spec.by spec.stmt) spec.sig (response_with (answer_in spec.stmt) spec.stmt) roles.0 (spec_read_back spec.by spec.stmt fits.0) signed.0 (said.0 signed.0),
+        responses_vouched specs fits.1 roles.1 signed.1 said.1,
+      )
+
   frame_runs : (s : State S) (frame : Frame) → IsReadable frame → in_role s frame ≡ true → AllByRecursion Verifies (parts_of frame) → AllByRecursion WasSaid (parts_of frame) → MayFrameRun (seen R w) frame
   frame_runs s (frames.Request ask) fits role signed said =
-      request_by ask.by ask.stmt ask.sig (and_parts (is_client ask.by) (is_primary s) role).0 fits signed.0 (said.0 signed.0)
+      request_by ask.by ask.stmt ask.sig role fits signed.0 (said.0 signed.0)
   frame_runs s (frames.Order both) fits role signed said =
       request_by both.ask.by both.ask.stmt both.ask.sig (and_parts (is_primary_of s.counts both.order.stmt.view.0 both.order.by) (is_client both.ask.by) role).1 fits signed.1.0 (said.1.0 signed.1.0)
   frame_runs s (frames.SpecResponse spec reply with_order) fits role signed said = tt
-  frame_runs s (frames.Commit specs) fits role signed said = tt
+  frame_runs s (frames.Commit specs) fits role signed said = record { answer = answer_in; each = responses_vouched specs fits role signed said }
   frame_runs s (frames.LocalCommit local) fits role signed said = tt
-  frame_runs s (frames.ConfirmReq confirm ask) fits role signed said = tt
+  frame_runs s (frames.ConfirmReq confirm ask) fits role signed said =
+      let asked = and_parts (is_replica confirm.by) (is_client ask.by && is_primary_of s.counts confirm.stmt.view.0 (parties.Replica s.me)) role in
+      request_by ask.by ask.stmt ask.sig (and_parts (is_client ask.by) (is_primary_of s.counts confirm.stmt.view.0 (parties.Replica s.me)) asked.1).0 fits signed.1.0 (said.1.0 signed.1.0)
   frame_runs s (frames.FillHole hole) fits role signed said = tt
   frame_runs s (frames.Hate hate) fits role signed said = tt
   frame_runs s (frames.Pom first second) fits role signed said = tt

@@ -105,11 +105,15 @@ module _ {S : Type 0} (R : Rules S) (h : List Entry) where
         record {
           refuses = λ cause. tt;
           stays = λ sent. tt;
-          responds = λ ask known known_is. tt;
-          orders = λ ask heard primary new. run_answered (sealed_order R s ask) (ordered R s ask) (record { answers = tt; stands = stands });
-          takes = λ o heard new. run_answered o (begin (record (with_held s o) { hole = None })) (record { answers = tt; stands = stands });
-          asks = λ o heard. tt;
+          responds = λ ask known known_is left. tt;
+          orders = λ ask heard primary new left. run_answered (sealed_order R s ask) (ordered R s ask) (record { answers = tt; stands = stands });
+          waits = λ ask left. tt;
+          takes = λ o heard new left. run_answered o (begin (record (with_held s o) { hole = None })) (record { answers = tt; stands = stands });
+          asks = λ o heard left. tt;
           holds = λ o heard. tt;
+          commits = λ specs client local held heard own furthest left. tt;
+          commits_again = λ specs client local held said heard own furthest. tt;
+          confirms = λ confirm ask heard. tt;
         }
 
     step_answers : (event : Event) → Answered (step R s event)

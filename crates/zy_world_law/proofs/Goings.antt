@@ -2,38 +2,37 @@
 use Rattle.zy_world_law.specs.Safe.{completion_of}
 use Rattle.zy_law.specs.Completed.{IsCompleted}
 use Rattle.std.specs.Prelude.{option_map, option_to_list}
-use Rattle.std.proofs.Common.{append-nil, [], ◌≡◌, ℕ, List, ◌++◌, Option, Some, Result, Ok, Err, refl, sym, ap, ◌∙◌, subst}
+use Rattle.std.proofs.Common.{append-nil, [], ◌≡◌, ℕ, List, ◌++◌, Option, Some, Result, Ok, Err, refl, sym, ap, subst}
 use Rattle.zy_base.specs.Machine.{Rules}
 use Rattle.zy_base.specs.declared.ids.ClientId.{ClientId}
 use Rattle.zy_base.specs.declared.ids.Digest.{Digest}
 use Rattle.zy_base.specs.declared.ids.ReplicaId.{ReplicaId}
 use Rattle.zy_base.specs.declared.step.Event.{Event}
-use Rattle.zy_client.specs.Held.{HoldsResponses, IsComplete}
+use Rattle.zy_client.specs.Held.{Holds}
 use Rattle.zy_lawful.specs.Tied.{MayEventRun}
 use Rattle.zy_parts.specs.declared.signed.Signed.{Signed}
 use Rattle.zy_parts.specs.declared.statements.Ask.{Ask}
-use Rattle.zy_table.specs.ClientRows.{kept_of, done_of}
+use Rattle.zy_table.specs.ClientRows.{kept_of}
 use Rattle.zy_table.specs.ClientState.{ClientOutcome, client_outgoing}
 use Rattle.zy_table.specs.Deeds.{outgoing_of}
 use Rattle.zy_table.specs.Step.{step}
+use Rattle.zy_table.specs.declared.client.Commit.{Commit}
 use Rattle.zy_table.specs.declared.client.Done.{Done}
 use Rattle.zy_table.specs.declared.client.Response.{Response}
 use Rattle.zy_world_law.specs.Events.{Happened, go_with, keeping, replica_goes, client_goes, stepped, client_stepped, with_replica, with_client, with_done, completed_by, replica_note, client_note}
 use Rattle.zy_world_law.specs.Events.Happened.{Goes, Breaks}
-use Rattle.zy_world_law.specs.Good.{IsGood, IsBackedBy, IsDone, IsKept}
+use Rattle.zy_world_law.specs.Good.{IsGood, IsBackedBy, IsCommitBacked, IsDone, IsKept}
 use Rattle.zy_world_law.specs.Seen.{seen}
 use Rattle.zy_world_law.specs.Texts.{step_texts, keep_all}
 use Rattle.zy_world_law.specs.World.{World, Replica, Client, Completed, Texts, replica_at, client_at, with_sent}
 use Rattle.zy_world_law.specs.declared.note.Note.{Note}
 use Rattle.zy_world_law.proofs.BagStays.{bag_good}
-use Rattle.zy_world_law.proofs.ClientStep.{client_good, own_seat}
-use Rattle.zy_world_law.proofs.Completing.{completed}
+use Rattle.zy_world_law.proofs.ClientStep.{client_good, own_seat, completed_after}
 use Rattle.zy_world_law.proofs.DoneStays.{done_good}
 use Rattle.zy_world_law.proofs.KeptOrHeard.{IsSame}
 use Rattle.zy_world_law.proofs.KeptTexts.{IsKeeping, Stay, all_kept, kept_behind}
 use Rattle.zy_world_law.proofs.ReplicaStep.{replica_good}
 use Rattle.zy_world_law.proofs.TextsStay.{texts_good}
-use Rattle.std.proofs.lemmas.Option.{same_Some}
 
 abbrev world_in : {S : Type 0} → World S → Happened S → World S
 world_in w (Goes v note) = v
@@ -62,6 +61,11 @@ pub record IsAfter {S : Type 0} (R : Rules S) (w v : World S) : Type 0 where
   pub more : List Completed
   pub done : v.done ≡ w.done ++ more
 
+-- what a client counts as complete is so, and its reply is kept
+pub record IsEnd {S : Type 0} (R : Rules S) (w : World S) (id : ClientId) (d : Done) : Type 0 where
+  pub completed : IsCompleted (seen R w) (completion_of (record { client = id; done = d }))
+  pub reply : IsKept w.texts d.reply
+
 module _ {S : Type 0} (R : Rules S) (w : World S) (good : IsGood R w) where
   -- ---- a replica's step
 
@@ -81,38 +85,33 @@ module _ {S : Type 0} (R : Rules S) (w : World S) (good : IsGood R w) where
 
   -- ---- a client's step
 
-  pub record IsCompletion (o : ClientOutcome) (texts : Texts) (d : Done) : Type 0 where
-    pub waiting : Signed Ask
-    pub complete : IsComplete o.state waiting
-    pub done : o.state.done ≡ Some d
-    pub reply : IsKept texts d.reply
-
-  pub client_goes_good : (id : ClientId) (x : Client) (texts : List (List ℕ)) (o : ClientOutcome) (v : World S) (note : Note) → client_at w id.0 ≡ Some x → IsSame x.state o.state → HoldsResponses o.state
+  pub client_goes_good : (id : ClientId) (x : Client) (texts : List (List ℕ)) (o : ClientOutcome) (v : World S) (note : Note) → client_at w id.0 ≡ Some x → IsSame x.state o.state → Holds o.state
       → ((more : Texts) → IsKeeping w.texts texts more → IsGood R (record w { texts = more }) → (number : ℕ) (r : Response) → kept_of o.state number ≡ Some r → IsBackedBy (record w { texts = more }) number r)
-      → ((more : Texts) → IsKeeping w.texts texts more → (d : Done) → completed_by x.state o.state ≡ Some d → IsCompletion o more d)
+      → ((more : Texts) → IsKeeping w.texts texts more → IsGood R (record w { texts = more }) → (waiting : Signed Ask) (c : Commit) → o.state.waiting ≡ Some waiting → o.state.commit ≡ Some c
+      → IsCommitBacked (seen R (record w { texts = more })) more c)
+      → ((more : Texts) → IsKeeping w.texts texts more → IsGood R (record w { texts = more }) → (d : Done) → completed_by x.state o.state ≡ Some d → IsEnd R (record w { texts = more }) id d)
       → client_goes w id x texts o ≡ Goes v note → IsAfter R w v
-  client_goes_good id x texts o v note at same holds backed completes is =
+  client_goes_good id x texts o v note at same holds backed committed ends is =
       let done : Option Done = completed_by x.state o.state in
       let k = kept_goes w v texts
       (λ v. with_done (with_sent (with_client v id (client_stepped x o)) (client_outgoing o.state.counts.n o.sent)) id done) (client_note id done o.answer) note is in
       let w1 : World S = record w { texts = k.texts' } in
       let good1 : IsGood R w1 = texts_good R w k.texts' k.keeping.stay good in
       let backed1 = backed k.texts' k.keeping good1 in
+      let committed1 = committed k.texts' k.keeping good1 in
       let w2 : World S = with_client w1 id (client_stepped x o) in
-      let good2 : IsGood R w2 = client_good R w1 good1 id x at o same holds backed1 in
+      let good2 : IsGood R w2 = client_good R w1 good1 id x at o same holds backed1 committed1 in
       let w3 : World S = with_sent w2 (client_outgoing o.state.counts.n o.sent) in
       let good3 : IsGood R w3 = bag_good R w2 w2.leaves _ w2.muted good2 in
-      let seat : client_at w3 id.0 ≡ Some (client_stepped x o) = own_seat R w1 good1 id x at o same holds backed1 in
+      let seat : client_at w3 id.0 ≡ Some (client_stepped x o) = own_seat R w1 good1 id x at o same holds backed1 committed1 in
       let is_done : (d : Done) → done ≡ Some d → IsDone R w3 (record { client = id; done = d }) =
-      λ d ends.
-      let c = completes k.texts' k.keeping d ends in
-      let one : done_of c.complete.response ≡ d = same_Some (done_of c.complete.response) d (sym c.complete.done ∙ c.done) in
+      λ d told.
+      let e = ends k.texts' k.keeping good1 d told in
       record {
         client = client_stepped x o;
         correct = seat;
-        completed = subst (λ (e : Done). IsCompleted (seen R w3) (completion_of (record { client = id; done = e }))) one
-            (completed R w3 good3 id (client_stepped x o) seat c.waiting c.complete);
-        reply = c.reply;
+        completed = completed_after R w1 good1 id x at o same holds backed1 committed1 (completion_of (record { client = id; done = d })) e.completed;
+        reply = e.reply;
       } in
       subst (λ (u : World S). IsAfter R w u) k.world
       (record {

@@ -18,11 +18,17 @@ use Rattle.zy_parts.specs.Signing.{part_of}
 use Rattle.zy_parts.specs.Statements.{spec_fields}
 use Rattle.zy_parts.specs.declared.signed.Signed.{Signed}
 use Rattle.zy_parts.specs.declared.statements.Ask.{Ask}
+use Rattle.zy_parts.specs.declared.statements.Local.{Local}
+use Rattle.zy_cert.specs.Equal.{same_local}
+use Rattle.zy_cert.specs.Votes.{answer_to as vote_answer, poll_after}
+use Rattle.zy_cert.specs.declared.votes.Vote.{Vote}
+use Rattle.zy_cert.specs.declared.votes.Vote.TheVariants as votes
 use Rattle.zy_seal.specs.Screening.{screen, answer_to}
 use Rattle.zy_seal.specs.declared.directory.SealAnswer.TheVariants as answers
-use Rattle.zy_table.specs.ClientRows.{ask, ask_while, asked, next_ask, client_step, kept_of, keep, completed_if, complete, done_of, agreeing, response_cause, keep_unless, respond, respond_while, local_while, ask_again, is_by_primary, hear_response, hear, unless, decoded}
-use Rattle.zy_table.specs.ClientState.{ClientState, ClientOutcome, leaves_of, refused, taken, is_waiting}
+use Rattle.zy_table.specs.ClientRows.{ask, ask_while, asked, next_ask, client_step, kept_of, keep, completed_if, complete, done_of, agreeing, response_cause, keep_unless, respond, respond_while, is_for, done_by, complete_by, vote_on, local_beside, local_while, count_local, certified_in, ask_or_commit, run_out_while, run_out, is_by_primary, hear_response, hear, unless, decoded}
+use Rattle.zy_table.specs.ClientState.{ClientState, ClientOutcome, leaves_of, refused, is_waiting}
 use Rattle.zy_table.specs.Roles.{is_replica}
+use Rattle.zy_table.specs.declared.client.Commit.{Commit}
 use Rattle.zy_table.specs.declared.client.Done.{Done}
 use Rattle.zy_table.specs.declared.client.Response.{Response}
 use Rattle.zy_world_law.specs.Events.{completed_by}
@@ -34,62 +40,81 @@ pub record IsHeard (s : ClientState) (bytes : List ℕ) (id : ℕ) (r : Response
   pub by : r.spec.by ≡ Replica (record { 0 = id })
   pub signed : answer_to s.keys (part_of numbers.spec spec_fields r.spec) ≡ answers.Yes
 
--- all stays, or a response is kept; nothing is said
+-- all stays; or a response is kept; or another certificate is held, or more local commits to it; or it completes
 pub data Comes (s : ClientState) (Brought : ℕ → Response → Type 0) (o : ClientOutcome) : Type 0 where
-  same : o.said ≡ [] → o.state ≡ s → Comes s Brought o
-  fills : (id : ℕ) (r : Response) → Brought id r → o ≡ taken (completed_if (keep s id r) r) → Comes s Brought o
+  same : o.state ≡ s → Comes s Brought o
+  fills : (id : ℕ) (r : Response) → Brought id r → o.state ≡ completed_if (keep s id r) r → Comes s Brought o
+  holds : (held : Option Commit) → o.state ≡ record s { commit = held } → Comes s Brought o
+  completes : (c : Commit) → s.commit ≡ Some c → o.state ≡ complete_by s c → Comes s Brought o
 
 module _ (s : ClientState) (Brought : ℕ → Response → Type 0) where
+  if_comes : (b : Bool) (x y : ClientOutcome) → Comes s Brought x → Comes s Brought y → Comes s Brought (if b then x else y)
+  if_comes true x y one other = one
+  if_comes false x y one other = other
+
   kept_unless : (cause : Option Cause) (id : ℕ) (r : Response) → Brought id r → Comes s Brought (keep_unless cause s id r)
-  kept_unless (Some cause) id r brought = same refl refl
+  kept_unless (Some cause) id r brought = same refl
   kept_unless None id r brought = fills id r brought refl
 
   responds : (wait : Option (Signed Ask)) (id : ℕ) (r : Response) → Brought id r → Comes s Brought (respond_while s wait id r)
-  responds None id r brought = same refl refl
+  responds None id r brought = same refl
   responds (Some waiting) id r brought = kept_unless (response_cause s waiting id r) id r brought
 
   if_primary : (primary : Bool) (id : ℕ) (r : Response) → Brought id r → Comes s Brought (if primary then respond s id r else refused causes.WrongRole s)
   unfolding respond
-  if_primary true id r brought = responds s.waiting id r brought
-  if_primary false id r brought = same refl refl
+  if_primary primary id r brought = if_comes primary _ _ (responds s.waiting id r brought) (same refl)
 
   hears_response : (r : Response) (by : Party) → ((id : ℕ) → by ≡ Replica (record { 0 = id }) → Brought id r) → Comes s Brought (hear_response s r by)
-  hears_response r (Client id) brought = same refl refl
+  hears_response r (Client id) brought = same refl
   hears_response r (Replica id) brought = if_primary (is_by_primary s r.order) id.0 r (brought id.0 refl)
 
-  local_stays : (wait : Option (Signed Ask)) → Comes s Brought (local_while s wait)
-  local_stays None = same refl refl
-  local_stays (Some waiting) = same refl refl
+  voted : (c : Commit) (vote : Signed Local) (answer : Vote) → s.commit ≡ Some c → Comes s Brought (vote_on s c vote answer)
+  voted c vote votes.Repeat held = same refl
+  voted c vote votes.Mixed held = same refl
+  voted c vote (votes.Counted number) held = holds (Some (record c { locals = poll_after same_local c.locals vote })) refl
+  voted c vote votes.Full held = completes c held refl
 
-  hears_local : (replica : Bool) → Comes s Brought (if replica then local_while s s.waiting else refused causes.WrongRole s)
-  hears_local true = local_stays s.waiting
-  hears_local false = same refl refl
+  beside : (commit : Option Commit) (vote : Signed Local) → s.commit ≡ commit → Comes s Brought (local_beside s commit vote)
+  beside None vote held = same refl
+  beside (Some c) vote held = if_comes (is_for c.spec vote.stmt) _ _ (voted c vote (vote_answer same_local c.locals vote) held) (same refl)
 
-  asks_again : (wait : Option (Signed Ask)) → Comes s Brought (ask_again s wait)
-  asks_again None = same refl refl
-  asks_again (Some waiting) = same refl refl
+  counts_while : (wait : Option (Signed Ask)) (vote : Signed Local) → Comes s Brought (local_while s wait vote)
+  counts_while None vote = same refl
+  counts_while (Some waiting) vote = beside s.commit vote refl
+
+  hears_local : (replica : Bool) (vote : Signed Local) → Comes s Brought (if replica then count_local s vote else refused causes.WrongRole s)
+  unfolding count_local
+  hears_local replica vote = if_comes replica _ _ (counts_while s.waiting vote) (same refl)
+
+  asks_or_commits : (waiting : Signed Ask) (certified : Option Response) → Comes s Brought (ask_or_commit s waiting certified)
+  asks_or_commits waiting None = same refl
+  asks_or_commits waiting (Some r) = holds (ask_or_commit s waiting (Some r)).state.commit refl
+
+  runs_out : (wait : Option (Signed Ask)) → Comes s Brought (run_out_while s wait)
+  runs_out None = same refl
+  runs_out (Some waiting) = asks_or_commits waiting (certified_in s)
 
 module _ (s : ClientState) (bytes : List ℕ) where
   hears : (frame : Frame) → frame_in bytes ≡ Ok frame → screen s.keys (parts_of frame) ≡ None → Comes s (IsHeard s bytes) (hear s frame)
   hears (frames.SpecResponse spec reply order) is clear =
       hears_response s (IsHeard s bytes) (record { spec = spec; reply = reply; order = order }) spec.by
       (λ id by. record { frame = is; by = by; signed = (all_verify s.keys (parts_of (frames.SpecResponse spec reply order)) clear).0 })
-  hears (frames.LocalCommit local) is clear = hears_local s (IsHeard s bytes) (is_replica local.by)
-  hears (frames.Request ask) is clear = same refl refl
-  hears (frames.Order both) is clear = same refl refl
-  hears (frames.Commit specs) is clear = same refl refl
-  hears (frames.ConfirmReq confirm ask) is clear = same refl refl
-  hears (frames.FillHole hole) is clear = same refl refl
-  hears (frames.Hate hate) is clear = same refl refl
-  hears (frames.Pom first second) is clear = same refl refl
-  hears (frames.Checkpoint check) is clear = same refl refl
+  hears (frames.LocalCommit local) is clear = hears_local s (IsHeard s bytes) (is_replica local.by) local
+  hears (frames.Request ask) is clear = same refl
+  hears (frames.Order both) is clear = same refl
+  hears (frames.Commit specs) is clear = same refl
+  hears (frames.ConfirmReq confirm ask) is clear = same refl
+  hears (frames.FillHole hole) is clear = same refl
+  hears (frames.Hate hate) is clear = same refl
+  hears (frames.Pom first second) is clear = same refl
+  hears (frames.Checkpoint check) is clear = same refl
 
   hears_unless : (frame : Frame) → frame_in bytes ≡ Ok frame → (cause : Option Cause) → screen s.keys (parts_of frame) ≡ cause → Comes s (IsHeard s bytes) (unless cause s (hear s frame))
-  hears_unless frame is (Some cause) screened = same refl refl
+  hears_unless frame is (Some cause) screened = same refl
   hears_unless frame is None screened = hears frame is screened
 
   hears_read : (read : Result Frame FrameFault) → frame_in bytes ≡ read → Comes s (IsHeard s bytes) (decoded s read)
-  hears_read (Err fault) is = same refl refl
+  hears_read (Err fault) is = same refl
   hears_read (Ok frame) is = hears_unless frame is (screen s.keys (parts_of frame)) refl
 
   pub heard_comes : Comes s (IsHeard s bytes) (client_step s (Heard bytes))
@@ -100,10 +125,10 @@ abbrev pub Nothing : ℕ → Response → Type 0
 Nothing id r = ⊥
 
 pub timer_comes : (s : ClientState) (kind : TimerKind) → Comes s Nothing (client_step s (Timer kind))
-unfolding client_step
-timer_comes s timers.Answer = asks_again s Nothing s.waiting
-timer_comes s timers.Request = same refl refl
-timer_comes s timers.Change = same refl refl
+unfolding client_step run_out
+timer_comes s timers.Answer = runs_out s Nothing s.waiting
+timer_comes s timers.Request = same refl
+timer_comes s timers.Change = same refl
 
 -- ---- what it then keeps
 
@@ -125,18 +150,16 @@ kept_filled : (s : ClientState) (id : ℕ) (r : Response) → (completed_if (kee
 kept_filled s id r = kept_if (keep s id r) r (nat_le (keep s id r).counts.fast (agreeing (keep s id r) r.spec.stmt))
 
 pub kept_or_brought : (s : ClientState) (Brought : ℕ → Response → Type 0) (o : ClientOutcome) → Comes s Brought o → (at : ℕ) (q : Response) → kept_of o.state at ≡ Some q → (kept_of s at ≡ Some q) ⊎ Brought at q
-kept_or_brought s Brought o (same silent is) at q kept = inl (ap (λ (t : ClientState). kept_of t at) (sym is) ∙ kept)
+kept_or_brought s Brought o (same is) at q kept = inl (ap (λ (t : ClientState). kept_of t at) (sym is) ∙ kept)
+kept_or_brought s Brought o (holds held is) at q kept = inl (ap (λ (t : ClientState). kept_of t at) (sym is) ∙ kept)
+kept_or_brought s Brought o (completes c held is) at q kept = inl (ap (λ (t : ClientState). kept_of t at) (sym is) ∙ kept)
 kept_or_brought s Brought o (fills id r brought is) at q kept =
-    let lists : o.state.responses ≡ slice_set s.responses id (Some r) = ap (λ (p : ClientOutcome). p.state.responses) is ∙ kept_filled s id r in
+    let lists : o.state.responses ≡ slice_set s.responses id (Some r) = ap (λ (t : ClientState). t.responses) is ∙ kept_filled s id r in
     let there : slice_index_or (slice_set s.responses id (Some r)) at None ≡ Some q = ap (λ (l : List (Option Response)). slice_index_or l at None) (sym lists) ∙ kept in
     elim (kept_or_filled s.responses id at r q there) [
       | inl both ↦ inr (subst (λ (n : ℕ). Brought n q) (sym both.0) (subst (λ (p : Response). Brought id p) (sym both.1) brought))
       | inr other ↦ inl other
     ]
-
-pub says_nothing : (s : ClientState) (Brought : ℕ → Response → Type 0) (o : ClientOutcome) → Comes s Brought o → o.said ≡ []
-says_nothing s Brought o (same silent is) = silent
-says_nothing s Brought o (fills id r brought is) = ap (λ (p : ClientOutcome). p.said) is
 
 -- who it is, the counts and the keys
 pub record IsSame (s t : ClientState) : Type 0 where
@@ -144,17 +167,32 @@ pub record IsSame (s t : ClientState) : Type 0 where
   pub counts : t.counts ≡ s.counts
   pub keys : t.keys ≡ s.keys
 
-same_as : (s t : ClientState) → t ≡ s → IsSame s t
-same_as s t is = record { me = ap (λ (u : ClientState). u.me) is; counts = ap (λ (u : ClientState). u.counts) is; keys = ap (λ (u : ClientState). u.keys) is }
+same_as : (s u t : ClientState) → t ≡ u → IsSame s u → IsSame s t
+same_as s u t is alike = subst (λ (x : ClientState). IsSame s x) (sym is) alike
 
 same_if : (s : ClientState) (id : ℕ) (r : Response) (b : Bool) → IsSame s (if b then complete (keep s id r) r else keep s id r)
 same_if s id r true = record { me = refl; counts = refl; keys = refl }
 same_if s id r false = record { me = refl; counts = refl; keys = refl }
 
 pub step_same : (s : ClientState) (Brought : ℕ → Response → Type 0) (o : ClientOutcome) → Comes s Brought o → IsSame s o.state
-step_same s Brought o (same silent is) = same_as s o.state is
+step_same s Brought o (same is) = same_as s s o.state is (record { me = refl; counts = refl; keys = refl })
+step_same s Brought o (holds held is) = same_as s (record s { commit = held }) o.state is (record { me = refl; counts = refl; keys = refl })
+step_same s Brought o (completes c held is) = same_as s (complete_by s c) o.state is (record { me = refl; counts = refl; keys = refl })
 step_same s Brought o (fills id r brought is) =
-    subst (λ (p : ClientOutcome). IsSame s p.state) (sym is) (same_if s id r (nat_le (keep s id r).counts.fast (agreeing (keep s id r) r.spec.stmt)))
+    same_as s (completed_if (keep s id r) r) o.state is (same_if s id r (nat_le (keep s id r).counts.fast (agreeing (keep s id r) r.spec.stmt)))
+
+-- a request that waits then waited before
+waits_if : (s : ClientState) (r : Response) (waiting : Signed Ask) (b : Bool) → (if b then complete s r else s).waiting ≡ Some waiting → s.waiting ≡ Some waiting
+waits_if s r waiting true waits = absurd cc
+waits_if s r waiting false waits = waits
+
+pub waited_before : (s : ClientState) (Brought : ℕ → Response → Type 0) (o : ClientOutcome) → Comes s Brought o → (waiting : Signed Ask) → o.state.waiting ≡ Some waiting → s.waiting ≡ Some waiting
+waited_before s Brought o (same is) waiting waits = ap (λ (t : ClientState). t.waiting) (sym is) ∙ waits
+waited_before s Brought o (holds held is) waiting waits = ap (λ (t : ClientState). t.waiting) (sym is) ∙ waits
+waited_before s Brought o (completes c held is) waiting waits =
+    let none : None ≡ Some waiting = ap (λ (t : ClientState). t.waiting) (sym is) ∙ waits in absurd cc
+waited_before s Brought o (fills id r brought is) waiting waits =
+    waits_if (keep s id r) r waiting (nat_le (keep s id r).counts.fast (agreeing (keep s id r) r.spec.stmt)) (ap (λ (t : ClientState). t.waiting) (sym is) ∙ waits)
 
 -- ---- what is complete
 
@@ -171,17 +209,26 @@ filled_done s id r d true false waits is =
     absurd (stays_open s s d true open_still)
 filled_done s id r d false enough waits is = absurd cc
 
--- a completion is of a response that came with the frame
-pub completed_reply : (s : ClientState) (Brought : ℕ → Response → Type 0) (o : ClientOutcome) (d : Done) → Comes s Brought o → completed_by s o.state ≡ Some d → (id : ℕ) × (r : Response) × Brought id r × (d ≡ done_of r)
-completed_reply s Brought o d (same silent is) done =
+told_by : (s : ClientState) (c : Commit) (d : Done) (b : Bool) → (if b then Some (done_by c) else None) ≡ Some d → d ≡ done_by c
+told_by s c d true is = sym (same_Some (done_by c) d is)
+told_by s c d false is = absurd cc
+
+-- a completion is of a response that came with the frame, or of the certificate
+pub data Tells (s : ClientState) (Brought : ℕ → Response → Type 0) (d : Done) : Type 0 where
+  response : (id : ℕ) (r : Response) → Brought id r → d ≡ done_of r → Tells s Brought d
+  certificate : (c : Commit) → s.commit ≡ Some c → d ≡ done_by c → Tells s Brought d
+
+pub completed_reply : (s : ClientState) (Brought : ℕ → Response → Type 0) (o : ClientOutcome) (d : Done) → Comes s Brought o → completed_by s o.state ≡ Some d → Tells s Brought d
+completed_reply s Brought o d (same is) done =
     absurd (stays_open s s d (is_waiting s.waiting) (ap (λ (t : ClientState). completed_by s t) (sym is) ∙ done))
-completed_reply s Brought o d (fills id r brought is) done = (
-  id,
-  r,
-  brought,
-  filled_done s id r d (is_waiting s.waiting) (nat_le (keep s id r).counts.fast (agreeing (keep s id r) r.spec.stmt)) refl
-      (ap (λ (p : ClientOutcome). completed_by s p.state) (sym is) ∙ done),
-)
+completed_reply s Brought o d (holds held is) done =
+    absurd (stays_open s s d (is_waiting s.waiting) (ap (λ (t : ClientState). completed_by s t) (sym is) ∙ done))
+completed_reply s Brought o d (completes c held is) done =
+    certificate c held (told_by s c d (is_waiting s.waiting) (ap (λ (t : ClientState). completed_by s t) (sym is) ∙ done))
+completed_reply s Brought o d (fills id r brought is) done =
+    response id r brought
+    (filled_done s id r d (is_waiting s.waiting) (nat_le (keep s id r).counts.fast (agreeing (keep s id r) r.spec.stmt)) refl
+    (ap (λ (t : ClientState). completed_by s t) (sym is) ∙ done))
 
 -- ---- a request
 
@@ -194,6 +241,7 @@ none_filled (suc n) (suc at) q is = none_filled n at q is
 pub record IsAsked (s : ClientState) (o : ClientOutcome) : Type 0 where
   pub same : IsSame s o.state
   pub kept : (at : ℕ) (q : Response) → kept_of o.state at ≡ Some q → kept_of s at ≡ Some q
+  pub committed : (waiting : Signed Ask) (c : Commit) → o.state.waiting ≡ Some waiting → o.state.commit ≡ Some c → (s.waiting ≡ Some waiting) × (s.commit ≡ Some c)
   pub incomplete : completed_by s o.state ≡ None
 
 stays_incomplete : (s : ClientState) (b : Bool) → (if b then (if b then None else s.done) else None) ≡ None
@@ -209,12 +257,13 @@ with_leaf s op true =
     record {
       same = record { me = refl; counts = refl; keys = refl };
       kept = λ at q is. absurd (none_filled s.counts.n at q is);
+      committed = λ waiting c waits held. absurd cc;
       incomplete = waits_incomplete s (asked s (next_ask s op)).state (is_waiting s.waiting);
     }
-with_leaf s op false = record { same = record { me = refl; counts = refl; keys = refl }; kept = λ at q is. is; incomplete = stays_incomplete s (is_waiting s.waiting) }
+with_leaf s op false = record { same = record { me = refl; counts = refl; keys = refl }; kept = λ at q is. is; committed = λ waiting c waits held. (waits, held); incomplete = stays_incomplete s (is_waiting s.waiting) }
 
 asks_while : (s : ClientState) (wait : Option (Signed Ask)) (op : List ℕ) → IsAsked s (ask_while s wait op)
-asks_while s (Some waiting) op = record { same = record { me = refl; counts = refl; keys = refl }; kept = λ at q is. is; incomplete = stays_incomplete s (is_waiting s.waiting) }
+asks_while s (Some waiting) op = record { same = record { me = refl; counts = refl; keys = refl }; kept = λ at q is. is; committed = λ waiting c waits held. (waits, held); incomplete = stays_incomplete s (is_waiting s.waiting) }
 asks_while s None op = with_leaf s op (nat_le 1 (leaves_of s))
 
 pub ask_comes : (s : ClientState) (op : List ℕ) → IsAsked s (ask s op)

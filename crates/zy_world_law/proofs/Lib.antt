@@ -4,13 +4,15 @@ pub mod KeptTexts
 pub mod OneText
 pub mod Seats
 pub mod GainedReplies
-pub mod ShortHistories
 pub mod DecodedInRange
+pub mod ShortHistories
 pub mod Screened
 pub mod KeptOrHeard
 pub mod ToldSteps
+pub mod CommitStays
 pub mod ReplicaStep
 pub mod NotForged
+pub mod Vouched
 pub mod EventRuns
 pub mod BagStays
 pub mod TextsStay
@@ -20,6 +22,7 @@ pub mod DoneStays
 pub mod HeldLaw
 pub mod Completing
 pub mod Goings
+pub mod ClientEvent
 pub mod EachEvent
 pub mod SafeFromGood
 pub mod RunsSafe

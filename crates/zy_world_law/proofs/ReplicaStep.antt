@@ -29,14 +29,16 @@ use Rattle.zy_lawful.specs.Tied.{MayEventRun, IsGained, IsLinkKept, IsHonestStep
 use Rattle.zy_table.specs.Deeds.{Outcome, gains_in, said_from}
 use Rattle.zy_table.specs.State.{State, own_view}
 use Rattle.zy_table.specs.Step.{step}
+use Rattle.zy_table.specs.declared.client.Commit.{Commit}
 use Rattle.zy_table.specs.declared.client.Response.{Response}
 use Rattle.zy_table.specs.declared.deeds.Got.{Got}
 use Rattle.zy_world_law.specs.Events.{stepped, with_replica, remark_after, history_of}
-use Rattle.zy_world_law.specs.Good.{IsGood, IsTied, IsShort, IsClientTied, IsBackedBy, IsDone, IsKept, AreRepliesKept}
+use Rattle.zy_world_law.specs.Good.{IsGood, IsTied, IsShort, IsClientTied, IsBackedBy, IsCommitBacked, IsDone, IsKept, AreRepliesKept}
 use Rattle.zy_world_law.specs.Safe.{completion_of}
 use Rattle.zy_world_law.specs.Seen.{seen, said_of, past_of, spoken_by}
 use Rattle.zy_world_law.specs.Texts.{step_texts, got_texts, is_link}
 use Rattle.zy_world_law.specs.World.{World, Replica, Client, Completed, Remark, Texts, replica_at, client_at, correct_in}
+use Rattle.zy_world_law.proofs.CommitStays.{commit_later}
 use Rattle.zy_world_law.proofs.GainedReplies.{gained_replies}
 use Rattle.zy_world_law.proofs.KeptTexts.{kept_front, kept_behind}
 use Rattle.zy_world_law.proofs.OneText.{link_of, link_is}
@@ -273,7 +275,13 @@ module _ {S : Type 0} (R : Rules S) (w : World S) (good : IsGood R w) (id : Repl
         spelled = b.spelled;
       }
 
-  client_after : (q : ℕ) (y : Client) → client_at w' q ≡ Some y → IsClientTied w' q y
+  commit_after : (c : Commit) → IsCommitBacked v w.texts c → IsCommitBacked (seen R w') w.texts c
+  commit_after c is =
+      subst (λ (u : law.World). IsCommitBacked u w.texts c) seen_is
+      (commit_later v v.asked (with_more v.said id.0 new_said) (with_more v.past id.0 new_stands) v.kept (λ q e has. has)
+      (λ q i y has. more_kept v.said id.0 new_said q i y has) (λ q i y has. more_kept v.past id.0 new_stands q i y has) w.texts w.texts (λ d text kept. kept) c is)
+
+  client_after : (q : ℕ) (y : Client) → client_at w' q ≡ Some y → IsClientTied R w' q y
   client_after q y y_at =
       let before = good.client_tied q y y_at in
       record {
@@ -282,6 +290,7 @@ module _ {S : Type 0} (R : Rules S) (w : World S) (good : IsGood R w) (id : Repl
         keys = before.keys;
         holds = before.holds;
         backed = λ number r is. backed_after number r (before.backed number r is);
+        committed = λ waiting c waits held. commit_after c (before.committed waiting c waits held);
       }
 
   completed_after : (c : Completion) → IsCompleted v c → IsCompleted (seen R w') c

@@ -26,6 +26,7 @@ use Rattle.zy_law.specs.Lists.{IsListOf, IsKnown}
 use Rattle.zy_law.specs.Said.{Moment}
 use Rattle.zy_law.specs.World as law
 use Rattle.zy_law.specs.World.{Stand}
+use Rattle.zy_lawful.proofs.Backing.{all_from}
 use Rattle.zy_lawful.proofs.Records.{answer_longer}
 use Rattle.zy_lawful.specs.Tied.{next_head}
 use Rattle.zy_world_law.specs.Events.{history_of}
@@ -34,7 +35,6 @@ use Rattle.zy_world_law.specs.Safe.{IsSafe, IsResult, IsAgreed, IsReplay, Grows,
 use Rattle.zy_world_law.specs.Seen.{seen, past_of, asked_by}
 use Rattle.zy_world_law.specs.Texts.{is_link}
 use Rattle.zy_world_law.specs.World.{World, Replica, Client, Completed, replica_at, client_at}
-use Rattle.zy_world_law.proofs.Agreeing.{all_from}
 use Rattle.zy_world_law.proofs.Goings.{IsAfter}
 use Rattle.zy_world_law.proofs.KeptTexts.{stay_kept}
 use Rattle.zy_world_law.proofs.OneText.{one_kept_text, link_of, link_is}

@@ -1,35 +1,35 @@
 -- What a step says of orders and responses can be spelled, and the history stays short; the public keys stay.
-use Rattle.std.proofs.Common.{◌≡◌, ℕ, zero, suc, ◌+◌, ◌-◌, ◌<◌, ◌≤◌, ◌^◌, Bool, true, List, [], ◌∷◌, ◌++◌, length, take, Option, Some, None, Result, Ok, Err, refl, sym, ap, ◌∙◌, subst, arith}
-use Rattle.std.specs.Prelude.{nat_le, nat_lt, nat_eq, slice_get}
+use Rattle.std.proofs.Common.{◌≡◌, ℕ, zero, suc, ◌+◌, ◌-◌, ◌<◌, ◌≤◌, ◌^◌, Bool, true, List, [], ◌∷◌, ◌++◌, length, take, Option, Some, None, refl, sym, ap, ◌∙◌, subst, arith}
+use Rattle.std.specs.Prelude.{nat_le, slice_get}
 use Rattle.std.specs.List.{AllByRecursion}
 use Rattle.std.proofs.lemmas.Bool.{leb-true}
 use Rattle.std.proofs.lemmas.List.{length-append}
 use Rattle.sha2.proofs.Facts256.{length-sha256}
 use Rattle.zy_base.specs.Machine.{Rules}
-use Rattle.zy_base.specs.declared.cause.Cause.{Cause}
-use Rattle.zy_base.specs.declared.frame_fault.FrameFault.{FrameFault}
+use Rattle.zy_base.specs.Step.{view_of}
 use Rattle.zy_base.specs.declared.ids.Digest.{Digest}
+use Rattle.zy_base.specs.declared.ids.Place.{Place}
+use Rattle.zy_base.specs.declared.ids.ReplicaId.{ReplicaId}
+use Rattle.zy_base.specs.declared.ids.View.{View}
+use Rattle.zy_base.specs.declared.step.Answer.TheVariants.{Taken}
 use Rattle.zy_base.specs.declared.ids.Stamp.{Stamp}
 use Rattle.zy_base.specs.declared.step.Event.{Event}
 use Rattle.zy_base.specs.declared.step.Event.TheVariants.{Heard, Timer}
 use Rattle.zy_base.specs.declared.step.Mode.{Mode}
-use Rattle.zy_base.specs.declared.step.Mode.TheVariants.{Active, Leaving}
-use Rattle.zy_base.specs.declared.step.TimerKind.{TimerKind}
-use Rattle.zy_base.specs.declared.step.TimerKind.TheVariants as timers
 use Rattle.zy_chain.specs.Entries.{IsEntryInRange, digest_of_entry, digest_of_request}
 use Rattle.zy_chain.specs.Heads.{empty_head, head_after, head_from}
 use Rattle.zy_chain.specs.declared.entry.Entry.{Entry}
-use Rattle.zy_admit.specs.Judging.{entry_of, judge_in}
-use Rattle.zy_admit.specs.Orders.{orders_from, slots_above}
-use Rattle.zy_admit.specs.declared.judging.Admit.{Admit}
-use Rattle.zy_admit.specs.declared.judging.Admit.TheVariants as admits
-use Rattle.zy_exec.specs.Kept.{known_in, last_place, longer, now_of}
+use Rattle.zy_admit.specs.Judging.{entry_of}
+use Rattle.zy_admit.specs.Orders.{slots_above}
+use Rattle.zy_cert.proofs.CertificateLemmas.{certified-taken}
+use Rattle.zy_cert.specs.Certificates.{IsCertificate}
+use Rattle.zy_cert.specs.Equal.{same_spec, spec-equal}
+use Rattle.zy_cert.specs.Points.{point_of_spec}
+use Rattle.zy_exec.specs.Kept.{Kept, known_in, last_place, longer, now_of}
 use Rattle.zy_exec.specs.declared.known.Known.{Known}
 use Rattle.zy_exec.proofs.HistoryLemmas.{stands_end}
 use Rattle.zy_exec.proofs.ReplayLemmas.{place-along}
-use Rattle.zy_frames.specs.Frames.{frame_in, parts_of}
 use Rattle.zy_frames.specs.declared.frame.Frame.{Frame}
-use Rattle.zy_frames.specs.declared.frame.Frame.TheVariants as frames
 use Rattle.zy_frames.specs.declared.frame.OrderFrame.{OrderFrame}
 use Rattle.zy_law.specs.Histories.{AreKept}
 use Rattle.zy_law.specs.Lawful.{IsLawful}
@@ -37,34 +37,35 @@ use Rattle.zy_law.specs.Said.{IsCorrect, Moment}
 use Rattle.zy_law.specs.World.{World}
 use Rattle.zy_law.proofs.EntriesAskedFor.{entry_within}
 use Rattle.zy_lawful.specs.Tied.{Agrees, IsHonestStep, IsOfClient, IsStanding, MayEventRun, MayFrameRun, MayRun, MaySlotRun}
-use Rattle.zy_lawful.proofs.Cases.{Cases, with_held, heard_case, timer_step_case}
+use Rattle.zy_lawful.proofs.Cases.{Cases, HasLeaves, responded, with_held, holding, heard_case, timer_step_case}
 use Rattle.zy_lawful.proofs.OneEntry.{known_now}
 use Rattle.zy_lawful.proofs.Records.{IsLastOf, IsRecord}
 use Rattle.zy_lawful.proofs.Runs.{by_test, slots_from, slots_put}
 use Rattle.zy_lms.specs.Height.{levels_of}
+use Rattle.zy_lms.specs.KeyState.{KeyState}
 use Rattle.zy_lms.specs.declared.height.Height.{Height}
 use Rattle.zy_lms.specs.declared.height.Height.TheVariants.{H5, H10}
-use Rattle.zy_parts.specs.Statements.{order_fields, spec_fields}
+use Rattle.zy_parts.specs.Statements.{order_fields, spec_fields, local_fields}
 use Rattle.zy_parts.specs.declared.signed.Signed.{Signed}
 use Rattle.zy_parts.specs.declared.statements.Ask.{Ask}
-use Rattle.zy_parts.specs.declared.statements.Hole.{Hole}
+use Rattle.zy_parts.specs.declared.statements.Local.{Local}
 use Rattle.zy_parts.specs.declared.statements.Spec.{Spec}
-use Rattle.zy_seal.specs.Screening.{screen}
-use Rattle.zy_table.specs.Deeds.{Going, Outcome, begin}
-use Rattle.zy_table.specs.Holes.{fill_with, fill_hole, ask_again}
-use Rattle.zy_table.specs.Orders.{order, order_as, owes_hole, position_of}
-use Rattle.zy_table.specs.Requests.{new_request, ordered, request, request_after, respond_as, said_already, sealed_order}
-use Rattle.zy_table.specs.Roles.{in_role, view_cause}
+use Rattle.zy_seal.specs.Sealing.{SealerState, spent_one}
+use Rattle.zy_table.specs.Commits.{say_local}
+use Rattle.zy_table.specs.Deeds.{Going, Outcome, begin, ends}
+use Rattle.zy_table.specs.Orders.{ask_for_missing}
+use Rattle.zy_table.specs.Requests.{ordered, request_waits, sealed_order}
 use Rattle.zy_table.specs.Running.{fits_end, got_of, next_known, run, run_held, run_one, spec_of}
-use Rattle.zy_table.specs.State.{State, is_leaving, leaves_of, own_view, spec_to, stood_of, window_of}
-use Rattle.zy_table.specs.Step.{decoded, hear, row, step, timer, unless}
+use Rattle.zy_table.specs.State.{State, leaves_of, own_view, stood_of}
+use Rattle.zy_table.specs.Step.{step}
 use Rattle.zy_table.specs.declared.deeds.Act.{Act}
 use Rattle.zy_table.specs.declared.deeds.Act.TheVariants.{Says, Gains}
 use Rattle.zy_table.specs.declared.deeds.Body.TheVariants as bodies
 use Rattle.zy_table.specs.declared.deeds.Got.{Got}
 use Rattle.zy_table.specs.declared.deeds.Remark.{Remark}
 use Rattle.zy_world_law.specs.Good.{IsShort}
-use Rattle.zy_world_law.proofs.ReadBack.{FitsBody, FitAll}
+use Rattle.zy_world_law.proofs.DecodedInRange.{IsReadable, decoded_readable}
+use Rattle.zy_world_law.proofs.ReadBack.{FitsBody, FitAll, FitsForClients}
 
 -- ---- sizes
 
@@ -211,129 +212,89 @@ module _ {S : Type 0} (R : Rules S) (w : World) (r : ℕ) (s : State S) (h : Lis
         head = ap (λ (d : Digest). length d.0) (sym is.head) ∙ head_long empty_head (take known.place.0 h) refl;
       }
 
-  -- ---- REQUEST
-
-  responds_fit : (ask : Signed Ask) (known : Known) (signed : Option (Signed Spec)) → known_in R s.kept (entry_of ask).client.0 ≡ Some known → Fits (respond_as R s signed (spec_of (own_view s) ask known) known)
-  responds_fit ask known None is =
-      by_test Fits (nat_le 1 (leaves_of s)) _ _
-      (λ left.
+  -- with one leaf spent
+  spends_short : (s' : State S) → s'.me ≡ s.me → s'.mode ≡ s.mode → s'.kept ≡ s.kept → s'.sealer ≡ spent_one s.sealer → HasLeaves s 1 → IsShort s'
+  spends_short s' me mode kept sealer left =
       let leaf = has_leaf R w s 1 left in
       let end = short.end in
-      ((spec_fits (own_view s) ask known short.view (known_told ask known is), tt), record { number = short.number; view = short.view; end = omega arith; leaves = omega arith }))
-      (λ none. (tt, short))
-  responds_fit ask known (Some signed) is = (tt, short)
+      let key : s'.sealer.key ≡ (spent_one s.sealer).key = ap (λ (x : SealerState). x.key) sealer in
+      record {
+        number = subst (λ (id : ReplicaId). id.0 < 2 ^ 8) (sym me) short.number;
+        view = subst (λ (m : Mode). (view_of m).0 < 2 ^ 62) (sym mode) short.view;
+        end = subst (λ (k : KeyState). last_place s'.kept ≤ k.next) (sym key) (subst (λ (k : Kept S). last_place k ≤ s.sealer.key.next + 1) (sym kept) (omega arith));
+        leaves = subst (λ (k : KeyState). k.next ≤ 2 ^ levels_of k.height) (sym key) (omega arith);
+      }
 
-  ordered_fit : (ask : Signed Ask) → MayRun w (entry_of ask) → 2 ≤ leaves_of s → IsFit R w (ordered R s ask)
+  responds_fit : (ask : Signed Ask) (known : Known) → known_in R s.kept (entry_of ask).client.0 ≡ Some known → HasLeaves s 1 → Fits (responded R s (spec_of (own_view s) ask known) known)
+  responds_fit ask known is left =
+      ((spec_fits (own_view s) ask known short.view (known_told ask known is), tt), spends_short (responded R s (spec_of (own_view s) ask known) known).state refl refl refl refl left)
+
+  ordered_fit : (ask : Signed Ask) → MayRun w (entry_of ask) → HasLeaves s 2 → IsFit R w (ordered R s ask)
   unfolding order_fields
   ordered_fit ask may left =
+      let two = has_leaf R w s 2 left in
       let told = next_told R w s ask short (omega arith) may in
       let place = told.place in
-      let end = short.end in
-      let leaves = short.leaves in (
+      let end = short.end in (
         (((omega arith, short.view), ((told.first, omega arith), (told.head, digest_long (entry_of ask)))), tt),
         record { number = short.number; view = short.view; end = omega arith; leaves = omega arith },
       )
 
-  new_request_fit : (ask : Signed Ask) → MayRun w (entry_of ask) → Fits (new_request R s ask)
-  new_request_fit ask may =
-      by_test Fits (nat_lt (last_place s.kept) (window_of s)) _ _
-      (λ room. by_test Fits (nat_le 2 (leaves_of s)) _ _
-      (λ left.
+  orders_fit : (ask : Signed Ask) → MayRun w (entry_of ask) → HasLeaves s 2 → Fits (ends Taken (run R (sealed_order R s ask) (ordered R s ask)))
+  orders_fit ask may left =
       let two = has_leaf R w s 2 left in
-      let o : OrderFrame = sealed_order R s ask in
-      run_fit R w o (ordered R s ask) (slots_put w s.orders o x.asks may) may (omega arith) (ordered_fit ask may two))
-      (λ none. (tt, short)))
-      (λ full. (tt, short))
+      run_fit R w (sealed_order R s ask) (ordered R s ask) (slots_put w s.orders (sealed_order R s ask) x.asks may) may (omega arith) (ordered_fit ask may left)
 
-  request_after_fit : (ask : Signed Ask) (known : Option Known) → known_in R s.kept (entry_of ask).client.0 ≡ known → MayRun w (entry_of ask) → Fits (request_after R s ask known)
-  request_after_fit ask None is may = new_request_fit ask may
-  request_after_fit ask (Some known) is may =
-      by_test Fits (nat_lt ask.stmt.stamp.0 known.stamp.0) _ _
-      (λ old. (tt, short))
-      (λ from. by_test Fits (nat_eq ask.stmt.stamp.0 known.stamp.0) _ _
-      (λ same. responds_fit ask known (said_already (spec_to s (entry_of ask).client) (spec_of (own_view s) ask known)) is)
-      (λ other. new_request_fit ask may))
+  takes_fit : (o : OrderFrame) → MayRun w (entry_of o.ask) → HasLeaves s 1 → Fits (ends Taken (run R o (begin (record (with_held s o) { hole = None }))))
+  takes_fit o may left =
+      run_fit R w o (begin (record (with_held s o) { hole = None })) (slots_put w s.orders o x.asks may) may (has_leaf R w s 1 left)
+      (tt, record { number = short.number; view = short.view; end = short.end; leaves = short.leaves })
 
-  request_fit : (ask : Signed Ask) → MayRun w (entry_of ask) → Fits (request R s ask)
-  unfolding request
-  request_fit ask may =
-      by_test Fits (is_leaving s) _ _ (λ leaving. (tt, short)) (λ active. request_after_fit ask (known_in R s.kept (entry_of ask).client.0) refl may)
+  holds_short : (s' : State S) → s'.me ≡ s.me → s'.mode ≡ s.mode → s'.kept ≡ s.kept → s'.sealer ≡ s.sealer → IsShort s'
+  holds_short s' me mode kept sealer =
+      record {
+        number = subst (λ (id : ReplicaId). id.0 < 2 ^ 8) (sym me) short.number;
+        view = subst (λ (m : Mode). (view_of m).0 < 2 ^ 62) (sym mode) short.view;
+        end = subst (λ (x : SealerState). last_place s'.kept ≤ x.key.next) (sym sealer) (subst (λ (k : Kept S). last_place k ≤ s.sealer.key.next) (sym kept) short.end);
+        leaves = subst (λ (x : SealerState). x.key.next ≤ 2 ^ levels_of x.key.height) (sym sealer) short.leaves;
+      }
 
-  -- ---- ORDER
+  -- a local commit to readable responses
+  local_fits : (specs : List (Signed Spec)) (local : Local) → AllByRecursion (λ spec. FitsForClients spec.stmt) specs → IsCertificate point_of_spec s.counts.cert specs (local.view, local.place, local.head) → local_fields.Fits local
+  unfolding local_fields spec_fields
+  local_fits [] local fits is = let none = is.len in let some = s.counts.sound.two_certificates in absurd (omega arith)
+  local_fits (first ∷ others) local fits is =
+      let one : first.stmt ≡ is.stmt = is.equal 0 first (omega arith) in
+      let at : point_of_spec first.stmt ≡ (local.view, local.place, local.head) = ap point_of_spec one ∙ is.located in
+      let readable = fits.0 0 (omega arith) in
+      subst (λ (p : View × Place × Digest). ((0 ≤ p.0.0) × (p.0.0 < 2 ^ 62)) × (((1 ≤ p.1.0) × (p.1.0 < 2 ^ 62)) × (length p.2.0 ≡ 32))) at (readable.0, (readable.1.0, readable.1.1.0))
 
-  held_short : (o : OrderFrame) → IsShort (with_held s o)
-  held_short o = record { number = short.number; view = short.view; end = short.end; leaves = short.leaves }
+  -- what an event brings may run, and can be read
+  abbrev Brings : Frame → Type 0
+  Brings frame = MayFrameRun w frame × IsReadable frame
 
-  order_as_fit : (o : OrderFrame) (a : Admit) → MayRun w (entry_of o.ask) → Fits (order_as R s o a)
-  order_as_fit o admits.Next may =
-      by_test Fits (nat_le 1 (leaves_of s)) _ _
-      (λ left. run_fit R w o (begin (record (with_held s o) { hole = None })) (slots_put w s.orders o x.asks may) may (has_leaf R w s 1 left)
-      (tt, record { number = short.number; view = short.view; end = short.end; leaves = short.leaves }))
-      (λ none. (tt, short))
-  order_as_fit o admits.Held may =
-      by_test Fits (owes_hole s) _ _
-      (λ owes. by_test Fits (nat_le 1 (leaves_of s)) _ _
-      (λ left.
-      let leaf = has_leaf R w s 1 left in
-      let end = short.end in
-      ((tt, tt), record { number = short.number; view = short.view; end = omega arith; leaves = omega arith }))
-      (λ none. (tt, short)))
-      (λ asked. (tt, held_short o))
-  order_as_fit o (admits.Refused cause) may = (tt, short)
-  order_as_fit o admits.Evidence may = (tt, short)
-
-  order_fit : (o : OrderFrame) → MayRun w (entry_of o.ask) → Fits (order R s o)
-  unfolding order
-  order_fit o may = order_as_fit o (judge_in s.orders o.order.stmt o.ask (position_of R s o)) may
-
-  -- ---- FILL-HOLE, and the timers
-
-  fill_with_fit : (hole : Signed Hole) (orders : List OrderFrame) → Fits (fill_with s hole orders)
-  fill_with_fit hole [] = by_test Fits (nat_le hole.stmt.to.0 (last_place s.kept)) _ _ (λ old. (tt, short)) (λ behind. (tt, short))
-  fill_with_fit hole (o ∷ orders) = (tt, short)
-
-  fill_hole_fit : (hole : Signed Hole) → Fits (fill_hole s hole)
-  unfolding fill_hole
-  fill_hole_fit hole = fill_with_fit hole (orders_from hole.stmt.from.0 hole.stmt.to.0 s.orders)
-
-  ask_again_fit : (mode : Mode) (hole : Option (Signed Hole)) → Fits (ask_again s mode hole)
-  ask_again_fit (Active view) (Some hole) = (tt, short)
-  ask_again_fit (Active view) None = (tt, short)
-  ask_again_fit (Leaving view) hole = (tt, short)
-
-  timer_fit : (kind : TimerKind) → Fits (timer s kind)
-  timer_fit timers.Request = ask_again_fit s.mode s.hole
-  timer_fit timers.Change = (tt, short)
-  timer_fit timers.Answer = (tt, short)
-
-  -- ---- the step
-
-  unless_fit : (cause : Option Cause) (o : Outcome S) → (cause ≡ None → Fits o) → Fits (unless cause s o)
-  unless_fit None o fits = fits refl
-  unless_fit (Some cause) o fits = (tt, short)
-
-  row_fit : (frame : Frame) → MayFrameRun w frame → Fits (row R s frame)
-  row_fit (frames.Request ask) may = request_fit ask may
-  row_fit (frames.Order both) may = unless_fit (view_cause s both.order.stmt.view.0) (order R s both) (λ current. order_fit both may)
-  row_fit (frames.SpecResponse spec reply with_order) may = (tt, short)
-  row_fit (frames.Commit specs) may = (tt, short)
-  row_fit (frames.LocalCommit local) may = (tt, short)
-  row_fit (frames.ConfirmReq confirm ask) may = (tt, short)
-  row_fit (frames.FillHole hole) may = unless_fit (view_cause s hole.stmt.view.0) (fill_hole s hole) (λ current. fill_hole_fit hole)
-  row_fit (frames.Hate hate) may = (tt, short)
-  row_fit (frames.Pom first second) may = (tt, short)
-  row_fit (frames.Checkpoint check) may = (tt, short)
-
-  decoded_fit : (read : Result Frame FrameFault) → ((frame : Frame) → read ≡ Ok frame → screen s.keys (parts_of frame) ≡ None → in_role s frame ≡ true → MayFrameRun w frame) → Fits (decoded R s read)
-  decoded_fit (Err fault) may = (tt, short)
-  decoded_fit (Ok frame) may =
-      unless_fit (screen s.keys (parts_of frame)) (hear R s frame)
-      (λ verified. by_test Fits (in_role s frame) _ _ (λ role. row_fit frame (may frame refl verified role)) (λ wrong. (tt, short)))
+  fit_cases : Cases R s Brings Fits
+  fit_cases =
+      record {
+        refuses = λ cause. (tt, short);
+        stays = λ sent. (tt, short);
+        responds = responds_fit;
+        orders = λ ask brings primary new left. orders_fit ask brings.0 left;
+        waits = λ ask left. ((tt, tt), spends_short (request_waits R s ask).state refl refl refl refl left);
+        takes = λ o brings new left. takes_fit o brings.0 left;
+        asks = λ o brings left. ((tt, tt), spends_short (ask_for_missing R (with_held s o)).state refl refl refl refl left);
+        holds = λ o brings. (tt, holds_short (with_held s o) refl refl refl refl);
+        commits = λ specs client local held brings own furthest left. (
+          (local_fits specs local brings.1 (certified-taken same_spec spec-equal point_of_spec s.counts.cert specs (local.view, local.place, local.head) own.proves), tt),
+          spends_short (say_local R client local (holding s held)).state refl refl refl refl left,
+        );
+        commits_again = λ specs client local held said brings own furthest. (tt, holds_short (holding s held) refl refl refl refl);
+        confirms = λ confirm ask brings. brings;
+      }
 
   step_fit : (event : Event) → MayEventRun w s event → Fits (step R s event)
-  unfolding step
-  step_fit (Heard bytes) may = decoded_fit (frame_in bytes) may
-  step_fit (Timer kind) may = timer_fit kind
+  step_fit (Heard bytes) may = heard_case R s Brings Fits fit_cases bytes (λ frame is verified role. (may frame is verified role, decoded_readable bytes frame is))
+  step_fit (Timer kind) may = timer_step_case R s Brings Fits fit_cases kind
 
 pub short_steps : {S : Type 0} (R : Rules S) (w : World) (r : ℕ) (s : State S) (h : List Entry) (event : Event) → IsHonestStep R w r s h event → IsShort s
     → ((d : Digest) (e : Entry) → w.kept d e ≡ true → IsEntryInRange e) → FitAll (step R s event).deeds.acts × IsShort (step R s event).state
@@ -370,11 +331,15 @@ module _ {S : Type 0} (R : Rules S) where
         record {
           refuses = λ cause. refl;
           stays = λ sent. refl;
-          responds = λ ask known known_is. refl;
-          orders = λ ask heard primary new. run_keys (sealed_order R s ask) (ordered R s ask);
-          takes = λ o heard new. run_keys o (begin (record (with_held s o) { hole = None }));
-          asks = λ o heard. refl;
+          responds = λ ask known known_is left. refl;
+          orders = λ ask heard primary new left. run_keys (sealed_order R s ask) (ordered R s ask);
+          waits = λ ask left. refl;
+          takes = λ o heard new left. run_keys o (begin (record (with_held s o) { hole = None }));
+          asks = λ o heard left. refl;
           holds = λ o heard. refl;
+          commits = λ specs client local held heard own furthest left. refl;
+          commits_again = λ specs client local held said heard own furthest. refl;
+          confirms = λ confirm ask heard. tt;
         }
 
     keys_after : (event : Event) → HasKeys (step R s event)

@@ -158,15 +158,16 @@ module _ {S : Type 0} (R : Rules S) (held : HeldLaw) (setup : Setup) (is : IsSet
         replies = (none_replied R first_texts, tt);
       })
 
-  client_tied : (q : ℕ) (x : Client) → client_at w q ≡ Some x → IsClientTied w q x
+  client_tied : (q : ℕ) (x : Client) → client_at w q ≡ Some x → IsClientTied R w q x
   client_tied q x at =
-      subst (λ (y : Client). IsClientTied w q y) (sym (client_is q x at).1)
+      subst (λ (y : Client). IsClientTied R w q y) (sym (client_is q x at).1)
       (record {
         me = refl;
         counts = refl;
         keys = refl;
         holds = held.starts (record { 0 = q }) setup.counts (keys_of setup) (sealer_of setup (parties.Client (record { 0 = q })) 0) (record { 0 = 0 });
         backed = λ number r kept. absurd (none_filled setup.counts.n number r kept);
+        committed = λ waiting c waits held. absurd cc;
       })
 
   pub start_good : IsGood R w

@@ -16,6 +16,7 @@ use Rattle.zy_world_law.specs.Safe.{completion_of}
 use Rattle.zy_world_law.specs.Seen.{seen}
 use Rattle.zy_world_law.specs.Texts.{is_link}
 use Rattle.zy_world_law.specs.World.{World, Replica, Client, Completed, Texts}
+use Rattle.zy_world_law.proofs.CommitStays.{commit_later}
 use Rattle.zy_world_law.proofs.KeptTexts.{Stay, stay_kept}
 use Rattle.zy_world_law.proofs.OneText.{one_text, link_of, link_is}
 
@@ -38,7 +39,7 @@ module _ {S : Type 0} (R : Rules S) (w : World S) (texts : Texts) (stay : Stay w
   tied_stays : (id : ℕ) (x : Replica S) → IsTied R w id x → IsTied R w' id x
   tied_stays id x t =
       record {
-        tied = tied_grown R v id x.state (history_of x.past) v.asked v.said v.past (is_link texts) (λ q e has. has) refl refl t.tied;
+        tied = tied_grown R v id x.state (history_of x.past) v.asked v.said v.past (is_link texts) (λ q e has. has) (λ q i y has. has) (λ q i b has. has) refl refl t.tied;
         keys = t.keys;
         short = t.short;
         replies = stands_stay x.past t.replies;
@@ -47,8 +48,17 @@ module _ {S : Type 0} (R : Rules S) (w : World S) (texts : Texts) (stay : Stay w
   backed_stays : (id : ℕ) (r : Response) → IsBackedBy w id r → IsBackedBy w' id r
   backed_stays id r b = record { within = b.within; said = b.said; reply = stay_kept w.texts texts stay r.reply b.reply; spelled = b.spelled }
 
-  client_stays : (id : ℕ) (x : Client) → IsClientTied w id x → IsClientTied w' id x
-  client_stays id x t = record { me = t.me; counts = t.counts; keys = t.keys; holds = t.holds; backed = λ number r is. backed_stays number r (t.backed number r is) }
+  client_stays : (id : ℕ) (x : Client) → IsClientTied R w id x → IsClientTied R w' id x
+  client_stays id x t =
+      record {
+        me = t.me;
+        counts = t.counts;
+        keys = t.keys;
+        holds = t.holds;
+        backed = λ number r is. backed_stays number r (t.backed number r is);
+        committed = λ waiting c waits held.
+            commit_later v v.asked v.said v.past (is_link texts) (λ q e has. has) (λ q i y has. has) (λ q i b has. has) w.texts texts stay c (t.committed waiting c waits held);
+      }
 
   all_done : (done : List Completed) → AllByRecursion (IsDone R w) done → AllByRecursion (IsDone R w') done
   all_done [] all = tt

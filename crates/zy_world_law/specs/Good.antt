@@ -4,19 +4,28 @@ use Rattle.std.specs.List.{AllByRecursion}
 use Rattle.zy_base.specs.Machine.{Rules}
 use Rattle.zy_base.specs.declared.ids.Party.TheVariants.{Replica}
 use Rattle.zy_chain.specs.declared.entry.Entry.{Entry}
-use Rattle.zy_client.specs.Held.{HoldsResponses}
+use Rattle.zy_client.specs.Held.{Holds}
 use Rattle.zy_exec.specs.Kept.{last_place}
 use Rattle.zy_exec.specs.Replay.{answer_at}
 use Rattle.zy_law.specs.Completed.{IsCompleted}
 use Rattle.zy_law.specs.Lawful.{IsLawful}
+use Rattle.zy_law.specs.Said.{IsBacked}
+use Rattle.zy_law.specs.World as law
+use Rattle.zy_lawful.specs.Acts.{statement_of}
 use Rattle.zy_lawful.specs.Tied as lawful
+use Rattle.zy_lawful.specs.Tied.{IsVouchedBy}
 use Rattle.zy_lms.specs.Height.{levels_of}
 use Rattle.zy_parts.specs.Numbers as numbers
 use Rattle.zy_parts.specs.Signing.{text_of}
 use Rattle.zy_parts.specs.Statements.{spec_fields}
+use Rattle.zy_parts.specs.declared.signed.Signed.{Signed}
+use Rattle.zy_parts.specs.declared.statements.Ask.{Ask}
+use Rattle.zy_parts.specs.declared.statements.Spec.{Spec}
 use Rattle.zy_table.specs.ClientRows.{kept_of}
 use Rattle.zy_table.specs.State.{State, own_view}
+use Rattle.zy_table.specs.declared.client.Commit.{Commit}
 use Rattle.zy_table.specs.declared.client.Response.{Response}
+use Rattle.zy_table.specs.declared.deeds.Body.TheVariants as bodies
 use Rattle.zy_world_law.specs.Events.{history_of}
 use Rattle.zy_world_law.specs.Safe.{completion_of}
 use Rattle.zy_world_law.specs.Seen.{seen}
@@ -54,13 +63,25 @@ pub record IsBackedBy {S : Type 0} (w : World S) (id : ℕ) (r : Response) : Typ
   -- it can be spelled, if its client can
   pub spelled : r.spec.stmt.client.0 < 2 ^ 32 → spec_fields.Fits r.spec.stmt
 
+-- the local commit to a response
+abbrev pub local_to : Spec → law.Statement
+local_to spec = law.Statement.Local spec.view.0 (record { place = spec.place.0; head = spec.head })
+
+-- A certificate that a client sent is backed and its reply is kept, and each local commit that was counted is one that its
+-- replica said, unless that lies.
+pub record IsCommitBacked (u : law.World) (texts : Texts) (c : Commit) : Type 0 where
+  pub certified : IsBacked u u.counts.cert (statement_of (bodies.Spec c.spec))
+  pub reply : IsKept texts c.reply
+  pub counted : AllByRecursion (λ vote. IsVouchedBy u (local_to c.spec) vote.by) c.locals.votes
+
 -- what a correct client holds is backed
-pub record IsClientTied {S : Type 0} (w : World S) (id : ℕ) (x : Client) : Type 0 where
+pub record IsClientTied {S : Type 0} (R : Rules S) (w : World S) (id : ℕ) (x : Client) : Type 0 where
   pub me : x.state.me.0 ≡ id
   pub counts : x.state.counts ≡ w.setup.counts
   pub keys : x.state.keys ≡ keys_of w.setup
-  pub holds : HoldsResponses x.state
+  pub holds : Holds x.state
   pub backed : (number : ℕ) (r : Response) → kept_of x.state number ≡ Some r → IsBackedBy w number r
+  pub committed : (waiting : Signed Ask) (c : Commit) → x.state.waiting ≡ Some waiting → x.state.commit ≡ Some c → IsCommitBacked (seen R w) w.texts c
 
 -- a completion is of a correct client and fixed, and its reply is kept
 pub record IsDone {S : Type 0} (R : Rules S) (w : World S) (c : Completed) : Type 0 where
@@ -76,5 +97,5 @@ pub record IsGood {S : Type 0} (R : Rules S) (w : World S) : Type 0 where
   pub clients : length w.clients ≡ w.setup.clients
   pub lawful : IsLawful (seen R w)
   pub tied : (id : ℕ) (x : world.Replica S) → replica_at w id ≡ Some x → IsTied R w id x
-  pub client_tied : (id : ℕ) (x : Client) → client_at w id ≡ Some x → IsClientTied w id x
+  pub client_tied : (id : ℕ) (x : Client) → client_at w id ≡ Some x → IsClientTied R w id x
   pub done : AllByRecursion (IsDone R w) w.done

@@ -15,8 +15,9 @@ use Rattle.zy_law.specs.World.Statement.{Order, Spec, Other}
 use Rattle.zy_lawful.specs.Acts.{statement_of}
 use Rattle.zy_lawful.specs.Tied.{next_head, last_reply}
 use Rattle.zy_parts.specs.Numbers as numbers
-use Rattle.zy_parts.specs.Statements.{ask_fields, order_fields, spec_fields, entry_of}
+use Rattle.zy_parts.specs.Statements.{ask_fields, order_fields, spec_fields, local_fields, entry_of}
 use Rattle.zy_parts.specs.declared.statements.Ask.{Ask}
+use Rattle.zy_parts.specs.declared.statements.Local as parts_local
 use Rattle.zy_parts.specs.declared.statements.Order as parts_order
 use Rattle.zy_parts.specs.declared.statements.Spec as parts_spec
 use Rattle.zy_table.specs.declared.deeds.Body.TheVariants as bodies
@@ -40,11 +41,16 @@ abbrev pub spec_read : Result parts_spec.Spec FrameFault → law.Statement
 spec_read (Err fault) = Other
 spec_read (Ok spec) = statement_of (bodies.Spec spec)
 
--- of the statements that replicas say in view 0, safety rests on orders and responses
+abbrev pub local_read : Result parts_local.Local FrameFault → law.Statement
+local_read (Err fault) = Other
+local_read (Ok local) = statement_of (bodies.Local local)
+
+-- of the statements that replicas say in view 0, safety rests on orders, responses and local commits
 unfoldable pub statement_in : List ℕ → law.Statement
 statement_in text =
     if number_of text == numbers.order then order_read (whole order_fields (fields_of text))
-    else (if number_of text == numbers.spec then spec_read (whole spec_fields (fields_of text)) else Other)
+    else (if number_of text == numbers.spec then spec_read (whole spec_fields (fields_of text))
+    else (if number_of text == numbers.local then local_read (whole local_fields (fields_of text)) else Other))
 
 abbrev pub ask_read : ClientId → Result Ask FrameFault → Option Entry
 ask_read client (Err fault) = None

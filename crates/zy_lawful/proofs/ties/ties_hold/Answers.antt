@@ -6,6 +6,6 @@ returns g c =
     let R = g.M.Machine.rules in
     record {
       start = tied_at_start R;
-      grows = λ w r s h asked said past kept more told stood tied. tied_grown R w r s h asked said past kept more.asks told stood tied;
+      grows = λ w r s h asked said past kept more told stood tied. tied_grown R w r s h asked said past kept more.asks more.says more.stands told stood tied;
       others = tied_after_acts R;
     }

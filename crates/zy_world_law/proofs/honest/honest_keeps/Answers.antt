@@ -8,7 +8,7 @@ pub returns : goal.returns
 returns g c =
     let R = g.M.Machine.rules in
     let promised = c.held_responses.ensures in
-    let held : HeldLaw = record { starts = promised.starts; asks = promised.asks; steps = promised.steps; completes = promised.completes } in
+    let held : HeldLaw = record { starts = promised.starts; asks = promised.asks; steps = promised.steps; commits = promised.commits; completes = promised.completes } in
     record {
       start = start_good R held;
       keeps = λ w v event note good is. (event_good R held w good event v note is).good;

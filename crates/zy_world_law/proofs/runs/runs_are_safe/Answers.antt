@@ -8,7 +8,7 @@ pub returns : goal.returns
 returns g c =
     let R = g.M.Machine.rules in
     let promised = c.held_responses.ensures in
-    let held : HeldLaw = record { starts = promised.starts; asks = promised.asks; steps = promised.steps; completes = promised.completes } in
+    let held : HeldLaw = record { starts = promised.starts; asks = promised.asks; steps = promised.steps; commits = promised.commits; completes = promised.completes } in
     record {
       safe = λ setup schedule is. run_safe R held (start R setup) (start_good R held setup is) schedule;
       grows = λ setup schedule is. run_grows R held (start R setup) (start_good R held setup is) schedule;
