@@ -1,10 +1,10 @@
 -- What each event can make of a client, and what it then holds.
-use Rattle.std.proofs.Common.{◌≡◌, ◌⊎◌, inl, inr, ℕ, zero, suc, ◌+◌, ◌≤◌, nat_le, nat_lt, nat_eq, Bool, true, false, ◌&&◌, ◌||◌, if◌then◌else◌, List, [], ◌∷◌, ◌++◌, length, replicate, Option, Some, None, Result, Ok, Err, refl, ap, ◌∙◌, sym, subst, arith}
+use Rattle.std.proofs.Common.{◌≡◌, ◌⊎◌, inl, inr, ℕ, zero, suc, ◌+◌, ◌≤◌, nat_le, nat_lt, nat_eq, Bool, true, false, ◌||◌, if◌then◌else◌, List, [], ◌∷◌, ◌++◌, length, replicate, Option, Some, None, Result, Ok, Err, refl, ap, ◌∙◌, sym, subst, arith}
 use Rattle.std.proofs.lemmas.Bool.{eqb-true, ltb-false, leb-true}
 use Rattle.std.proofs.lemmas.Option.{same_Some}
 use Rattle.std.specs.Prelude.{slice_set, slice_index_or, unwrap_or}
-use Rattle.std.specs.List.{AllByRecursion, list_any, find}
-use Rattle.std.specs.Cmp.Lexicographic.{pointwise, same_text}
+use Rattle.std.specs.List.{AllByRecursion, find}
+use Rattle.std.specs.Cmp.Lexicographic.{same_text}
 use Rattle.sha2.specs.Sha256.{sha256}
 use Rattle.zy_base.specs.declared.counts.Counts.{Counts}
 use Rattle.zy_base.specs.declared.cause.Cause.{Cause}
@@ -17,7 +17,6 @@ use Rattle.zy_base.specs.declared.ids.Party.{Party}
 use Rattle.zy_base.specs.declared.ids.Party.TheVariants.{Replica, Client}
 use Rattle.zy_base.specs.declared.step.Event.{Event}
 use Rattle.zy_base.specs.declared.step.Event.TheVariants.{Heard, Timer}
-use Rattle.zy_base.specs.declared.step.TimerKind.{TimerKind}
 use Rattle.zy_base.specs.declared.step.TimerKind.TheVariants as timers
 use Rattle.zy_parts.specs.Numbers as numbers
 use Rattle.zy_parts.specs.Signing.{part_of}
@@ -26,7 +25,6 @@ use Rattle.zy_parts.specs.declared.signed.Part.{Part}
 use Rattle.zy_parts.specs.declared.signed.Signed.{Signed}
 use Rattle.zy_parts.specs.declared.statements.Ask.{Ask}
 use Rattle.zy_parts.specs.declared.statements.Local.{Local}
-use Rattle.zy_parts.specs.declared.statements.Order.{Order}
 use Rattle.zy_parts.specs.declared.statements.Spec.{Spec}
 use Rattle.zy_frames.specs.declared.frame.Frame.{Frame}
 use Rattle.zy_frames.specs.declared.frame.Frame.TheVariants as frames
@@ -45,9 +43,9 @@ use Rattle.zy_cert.specs.declared.votes.Vote.TheVariants.{Counted, Full, Repeat,
 use Rattle.zy_table.specs.Roles.{is_replica}
 use Rattle.zy_table.specs.declared.client.Commit.{Commit}
 use Rattle.zy_table.specs.declared.client.Response.{Response}
-use Rattle.zy_table.specs.ClientState.{ClientState, ClientOutcome, client_start, leaves_of, refused}
-use Rattle.zy_table.specs.ClientRows.{ask, ask_while, asked, next_ask, kept_of, response_cause, is_own_order_if, is_repeated, keep, agreeing, done_of, completed_if, keep_unless, complete, respond, respond_while, is_for, done_by, complete_by, vote_on, local_beside, local_while, count_local, is_certified, certified_in, locals_for, send_commit, ask_or_commit, run_out, run_out_while, is_by_primary, hear_response, hear, unless, decoded, timer, client_step}
-use Rattle.zy_client.specs.Held.{IsHeldBy, AreHeld, HoldsResponses, IsCounted, IsCommitHeld, HoldsCommit, Holds, IsHeardLocal, CommitComes, IsCompleteFast, IsCompleteSlow, IsComplete}
+use Rattle.zy_table.specs.ClientState.{ClientState, client_start, leaves_of, refused}
+use Rattle.zy_table.specs.ClientRows.{ask, ask_while, asked, next_ask, kept_of, response_cause, is_own_order_if, is_repeated, keep, agreeing, completed_if, keep_unless, complete, respond, respond_while, is_for, complete_by, vote_on, local_beside, local_while, count_local, is_certified, certified_in, locals_for, send_commit, ask_or_commit, run_out, run_out_while, is_by_primary, hear_response, hear, unless, decoded, client_step}
+use Rattle.zy_client.specs.Held.{IsHeldBy, AreHeld, IsCounted, IsCommitHeld, HoldsCommit, Holds, IsHeardLocal, CommitComes, IsComplete}
 use Rattle.zy_client.specs.Held.CommitComes.{stays as from_before, counts as from_vote, certifies as from_responses}
 use Rattle.zy_client.specs.Held.IsComplete.{fast, slow}
 use Rattle.zy_client.proofs.PollLemmas.{pushed, counts as counts_vote, fills as fills_votes, votes_pushed}

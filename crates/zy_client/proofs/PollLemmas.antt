@@ -1,5 +1,5 @@
 -- What the answer to a vote tells of the votes after it.
-use Rattle.std.proofs.Common.{◌≡◌, ℕ, ◌+◌, nat_eq, Bool, true, false, if◌then◌else◌, List, [], ◌∷◌, ◌++◌, length, refl, subst, eqb-true}
+use Rattle.std.proofs.Common.{◌≡◌, ℕ, ◌+◌, nat_eq, Bool, true, false, if◌then◌else◌, [], ◌∷◌, ◌++◌, length, refl, subst, eqb-true}
 use Rattle.zy_parts.specs.declared.signed.Signed.{Signed}
 use Rattle.zy_parts.specs.declared.statements.Local.{Local}
 use Rattle.zy_cert.specs.Equal.{same_local, local-equal}
@@ -27,24 +27,6 @@ module _ (poll : Poll Local) (vote : Signed Local) where
 
   abbrev is_full : Bool
   is_full = nat_eq (length poll.votes + 1) poll.count
-
-  repeats_by : (repeat other full : Bool) → answer_by repeat other full ≡ Repeat → after_by repeat other ≡ poll
-  repeats_by true other full is = refl
-  repeats_by false true full is = absurd cc
-  repeats_by false false true is = absurd cc
-  repeats_by false false false is = absurd cc
-
-  pub repeats : answer_to same_local poll vote ≡ Repeat → poll_after same_local poll vote ≡ poll
-  repeats is = repeats_by is_repeat is_other is_full is
-
-  differs_by : (repeat other full : Bool) → answer_by repeat other full ≡ Mixed → after_by repeat other ≡ poll
-  differs_by true other full is = absurd cc
-  differs_by false true full is = refl
-  differs_by false false true is = absurd cc
-  differs_by false false false is = absurd cc
-
-  pub differs : answer_to same_local poll vote ≡ Mixed → poll_after same_local poll vote ≡ poll
-  differs is = differs_by is_repeat is_other is_full is
 
   counts_by : (number : ℕ) (repeat other full : Bool) → answer_by repeat other full ≡ Counted number → after_by repeat other ≡ pushed
   counts_by number true other full is = absurd cc

@@ -1,6 +1,5 @@
 -- A step as its caller sees it.
 use Rattle.std.specs.Prelude.{◌≡◌, map}
-use Rattle.zy_base.specs.declared.step.Answer.{Answer}
 use Rattle.zy_table.specs.ClientState.{ClientOutcome, client_outgoing, spoken_of, timers_of}
 use Rattle.zy_client.specs.declared.client.ClientStepped.{ClientStepped}
 

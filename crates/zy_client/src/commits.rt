@@ -1,5 +1,5 @@
-ghost use Rattle.std.specs.Prelude.{◌≡◌, ◌≤◌, ◌++◌, length, take, count_by, option_copied, option_to_list, Some, IfOk, OnOk, OnErr, IfSome};
-ghost use Rattle.std.specs.List.{filter_map};
+ghost use Rattle.std.specs.Prelude.{◌≡◌, ◌≤◌, ◌++◌, length, take, count_by, option_copied, option_to_list, Some, IfOk, OnOk, OnErr, IfSome, IsTrue};
+ghost use Rattle.std.specs.List.{filter_map, find};
 ghost use Rattle.zy_base.specs.declared.step.Answer.TheVariants as answers;
 ghost use Rattle.zy_frames.specs.declared.frame.Frame.TheVariants as frames;
 ghost use Rattle.zy_frames.specs.Frames.{IsFrameInRange};
@@ -111,10 +111,18 @@ impl Client {
         ensures first { option_copied result ≡ certified_in self.now }
         ensures enough { IfSome result (λ r. self.now.counts.cert ≤ agreeing self.now r.now.spec.stmt) }
     {
-        match self.responses.iter().find(|slot| self.is_certified(slot)) {
-            Some(Some(first)) => Some(first),
-            _ => None,
+        match self.first_certified() {
+            None => None,
+            Some(slot) => slot.as_ref(),
         }
+    }
+
+    // Its slot.
+    fn first_certified(&self) -> Option<&Option<Response>>
+        ensures first { option_copied result ≡ find (is_certified_row self.now) self.now.responses }
+        ensures enough { IfSome result (λ slot. IsTrue (is_certified_row self.now slot.now)) }
+    {
+        self.responses.iter().find(|slot| self.is_certified(slot))
     }
 
     fn is_certified(&self, slot: &Option<Response>) -> bool
@@ -221,7 +229,7 @@ fn push_up_to(
     one: Option<&Signed<Spec>>,
 ) -> Result<(), Want>
     requires { length list.old ≤ count }
-    ensures { OnOk result (list.new ≡ take count (list.old ++ option_to_list (option_copied one))) }
+    ensures { OnOk result (list.new ≡ take count (list.old ++ option_to_list (option_copied one.entry))) }
 {
     match one {
         Some(spec) if (list.len() as u64) < count => list.push(spec_copy(spec)?),

@@ -1,4 +1,4 @@
-use Rattle.std.proofs.Common.{◌≡◌, ◌∙◌, sym}
+use Rattle.std.proofs.Common.{◌∙◌, sym}
 use Rattle.zy_client.proofs.client.Client.hear_response.Goals as goal
 
 pub returns-then-is_by_primary : goal.returns-then-is_by_primary
