@@ -1,6 +1,5 @@
-ghost use Rattle.std.specs.Prelude.{◌≡◌, ◌≤◌, ◌++◌, length, take, count_by, option_copied, option_to_list, Some, IfOk, OnOk, OnErr, IfSome, IsTrue};
+ghost use Rattle.std.specs.Prelude.{◌≡◌, ◌≤◌, ◌++◌, length, take, option_copied, option_to_list, Some, IfOk, OnOk, IfSome, IsTrue};
 ghost use Rattle.std.specs.List.{filter_map, find};
-ghost use Rattle.zy_base.specs.declared.step.Answer.TheVariants as answers;
 ghost use Rattle.zy_frames.specs.declared.frame.Frame.TheVariants as frames;
 ghost use Rattle.zy_frames.specs.Frames.{IsFrameInRange};
 ghost use Rattle.zy_parts.specs.Signing.{IsSignedInRange};
