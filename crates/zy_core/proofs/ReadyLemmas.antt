@@ -7,8 +7,7 @@ use Rattle.std.proofs.lemmas.Bool.{ltb-true}
 use Rattle.std.proofs.lemmas.Option.{same_Some}
 use Rattle.std.proofs.lemmas.List.{length-append, length-set, length-replicate, set-get_or}
 use Rattle.zy_frames.specs.declared.frame.OrderFrame.{OrderFrame}
-use Rattle.zy_seal.specs.Sealing.{spent_one}
-use Rattle.zy_admit.specs.Orders.{Orders, with_order, with_slot, stored_in, slots_above, filled, orders_from}
+use Rattle.zy_admit.specs.Orders.{Orders, with_order, stored_in, slots_above, filled, orders_from}
 use Rattle.zy_exec.specs.Kept.{last_place}
 use Rattle.zy_base.specs.declared.ids.ClientId.{ClientId}
 use Rattle.zy_table.specs.declared.kept.Pending.{Pending}

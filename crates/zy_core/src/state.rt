@@ -159,6 +159,7 @@ impl<M: Machine> Core<M> {
     /// The place of the last entry of its history.
     pub fn length(&self) -> Place
         ensures place { result.0 ≡ last_place self.now.kept }
+        ensures now { result.0 ≡ (now_of M.rules self.now.kept).place }
         ensures fits { result.0 < 2 ^ 62 }
     {
         self.exec.end()

@@ -1,5 +1,5 @@
 -- What a hole is answered with.
-use Rattle.std.proofs.Common.{◌≡◌, ◌<◌, ◌∷◌, [], ℕ, List, length, map, refl, ap, arith}
+use Rattle.std.proofs.Common.{◌≡◌, ◌<◌, ◌∷◌, [], List, length, map, refl, ap, arith}
 use Rattle.std.specs.Prelude.{if◌then◌else◌, nat_le}
 use Rattle.std.specs.List.{AllByRecursion}
 use Rattle.zy_base.specs.declared.ids.Party.{Party}
@@ -12,7 +12,7 @@ use Rattle.zy_frames.specs.Frames.{IsFrameInRange}
 use Rattle.zy_exec.specs.Kept.{last_place}
 use Rattle.zy_table.specs.declared.deeds.Sent.{Sent}
 use Rattle.zy_table.specs.State.{State}
-use Rattle.zy_table.specs.Deeds.{Outcome, refused}
+use Rattle.zy_table.specs.Deeds.{refused}
 use Rattle.zy_table.specs.Holes.{order_to, fill_with}
 use Rattle.zy_core.specs.Ready.{IsOrderReady}
 

@@ -1,5 +1,5 @@
 -- All replicas but one, one number on.
-use Rattle.std.proofs.Common.{◌≡◌, ◌+◌, ◌∷◌, [], ◌++◌, ℕ, suc, Bool, true, false, List, map, refl, ap, ◌∙◌, arith}
+use Rattle.std.proofs.Common.{◌≡◌, ◌∷◌, [], ◌++◌, ℕ, suc, Bool, true, false, List, map, refl, ap, ◌∙◌}
 use Rattle.std.specs.Prelude.{filter, if◌then◌else◌, nat_eq}
 use Rattle.std.specs.List.{range_with_len}
 use Rattle.std.proofs.lemmas.List.{map-append}

@@ -1,11 +1,10 @@
 -- The signer of a verified part is one of the group.
-use Rattle.std.proofs.Common.{◌≡◌, ◌<◌, ◌≤◌, ◌∷◌, [], ℕ, zero, suc, Bool, true, false, List, length, Option, Some, None, refl, ap, ◌∙◌, sym, subst, arith}
+use Rattle.std.proofs.Common.{◌≡◌, ◌<◌, ◌≤◌, ◌∷◌, [], ℕ, zero, suc, Bool, true, false, List, length, Option, Some, None, refl, arith}
 use Rattle.std.specs.Prelude.{if◌then◌else◌, slice_get, ◌||◌, ◌&&◌}
 use Rattle.std.proofs.lemmas.Bool.{and_parts}
 use Rattle.std.specs.List.{list_any}
 use Rattle.zy_base.specs.declared.cause.Cause.{Cause}
 use Rattle.zy_base.specs.declared.cause.Cause.TheVariants as causes
-use Rattle.zy_base.specs.declared.ids.ClientId.{ClientId}
 use Rattle.zy_base.specs.declared.ids.Party.{Party}
 use Rattle.zy_base.specs.declared.ids.Party.TheVariants.{Replica, Client}
 use Rattle.zy_parts.specs.declared.signed.Part.{Part}
@@ -15,9 +14,9 @@ use Rattle.zy_parts.specs.declared.statements.Confirm.{Confirm}
 use Rattle.zy_frames.specs.declared.frame.OrderFrame.{OrderFrame}
 use Rattle.zy_frames.specs.declared.frame.Frame.TheVariants as frames
 use Rattle.zy_frames.specs.Frames.{parts_of, IsFrameInRange}
-use Rattle.zy_seal.specs.Keys.{Keys, key_of}
+use Rattle.zy_seal.specs.Keys.{Keys}
 use Rattle.zy_seal.specs.Checking.{answer_of, answer_under}
-use Rattle.zy_seal.specs.Screening.{screen, answer_to, is_unknown, is_bad}
+use Rattle.zy_seal.specs.Screening.{screen, answer_to, is_unknown}
 use Rattle.zy_admit.specs.Judging.{asking}
 use Rattle.zy_table.specs.Roles.{is_client, is_replica, is_primary_of, in_role}
 use Rattle.zy_table.specs.State.{State}

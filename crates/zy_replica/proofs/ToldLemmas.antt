@@ -1,15 +1,14 @@
 -- What was told of the first acts, and what is left to tell.
-use Rattle.std.proofs.Common.{◌≡◌, ◌+◌, ◌∷◌, [], ◌++◌, ℕ, zero, List, length, map, Some, refl, ap, ◌∙◌, sym, arith}
+use Rattle.std.proofs.Common.{◌≡◌, ◌+◌, ◌∷◌, [], ◌++◌, ℕ, List, length, refl, ap, ◌∙◌, sym}
 use Rattle.std.proofs.lemmas.List.{length-append, append_assoc, append-nil}
 use Rattle.std.specs.List.{AllByRecursion}
 use Rattle.zy_base.specs.declared.ids.Party.{Party}
 use Rattle.zy_base.specs.declared.step.Spoken.{Spoken}
 use Rattle.zy_chain.specs.Entries.{IsEntryInRange}
-use Rattle.zy_table.specs.Deeds.{said_from, gains_in, text_by}
+use Rattle.zy_table.specs.Deeds.{said_from, gains_in}
 use Rattle.zy_table.specs.declared.deeds.Act.{Act}
 use Rattle.zy_table.specs.declared.deeds.Act.TheVariants.{Says, Gains}
 use Rattle.zy_table.specs.declared.deeds.Got.{Got}
-use Rattle.zy_table.specs.declared.deeds.Remark.{Remark}
 use Rattle.zy_core.specs.Ready.{IsActInRange}
 
 -- an item that goes over from what is left

@@ -1,6 +1,7 @@
 //! What a replica makes of an event.
 
 ghost use Rattle.std.specs.Prelude.{◌≡◌, ◌≤◌, length, IfOk, Ok, None, true};
+ghost use Rattle.std.specs.List.{list_all};
 ghost use Rattle.zy_parts.specs.Signing.{IsSignedInRange};
 ghost use Rattle.zy_parts.specs.Statements.{IsHoleInRange};
 ghost use Rattle.zy_frames.specs.Frames.{IsFrameInRange, frame_in, parts_of};
@@ -98,7 +99,7 @@ fn in_role<M: Machine>(core: &Core<M>, frame: &Frame) -> bool
         Frame::Order(both) => {
             core.is_primary_of(both.order.stmt.view, both.order.by) && is_by_client(both.ask.by)
         }
-        Frame::Commit(specs) => specs.as_slice().iter().all(|spec| is_by_replica(spec.by)),
+        Frame::Commit(specs) => are_by_replicas(specs.as_slice()),
         Frame::ConfirmReq { confirm, ask } => {
             is_by_replica(confirm.by)
                 && is_by_client(ask.by)
@@ -129,6 +130,12 @@ fn is_by_replica(by: Party) -> bool
         Party::Client(_) => false,
         Party::Replica(_) => true,
     }
+}
+
+fn are_by_replicas(specs: &[Signed<Spec>]) -> bool
+    ensures { result ≡ list_all (λ spec. is_replica spec.by) specs.now }
+{
+    specs.iter().all(|spec| is_by_replica(spec.by))
 }
 
 // The row of a frame.

@@ -1,4 +1,4 @@
-use Rattle.std.proofs.Common.{◌≡◌, ◌++◌, List, length, map, refl, sym, ◌∙◌, ap, arith}
+use Rattle.std.proofs.Common.{◌++◌, List, length, map, refl, sym, ◌∙◌, ap, arith}
 use Rattle.zy_frames.specs.declared.frame.OrderFrame.{OrderFrame}
 use Rattle.zy_table.specs.Holes.{order_to}
 use Rattle.zy_replica.proofs.ToldLemmas.{moved, all_told}

@@ -1,4 +1,3 @@
-use Rattle.std.proofs.Common.{◌≡◌}
 use Rattle.zy_replica.proofs.FillLemmas.{sent_in_range}
 use Rattle.zy_replica.proofs.holes.send_orders.Goals as goal
 

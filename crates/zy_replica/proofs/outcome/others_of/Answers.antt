@@ -1,4 +1,4 @@
-use Rattle.std.proofs.Common.{◌≡◌, refl, sym, add-one}
+use Rattle.std.proofs.Common.{refl, sym, add-one}
 use Rattle.zy_replica.proofs.OthersLemmas.{others_next}
 use Rattle.zy_replica.proofs.outcome.others_of.Goals as goal
 

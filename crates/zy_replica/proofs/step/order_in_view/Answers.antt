@@ -1,4 +1,3 @@
-use Rattle.std.proofs.Common.{◌≡◌}
 use Rattle.zy_replica.proofs.ScreenLemmas.{order_ready}
 use Rattle.zy_replica.proofs.step.order_in_view.Goals as goal
 

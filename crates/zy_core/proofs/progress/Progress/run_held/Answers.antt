@@ -1,4 +1,4 @@
-use Rattle.std.proofs.Common.{◌≡◌, sym, ◌∙◌, refl}
+use Rattle.std.proofs.Common.{sym, ◌∙◌, refl}
 use Rattle.zy_core.proofs.HeldLemmas.{less_to_do}
 use Rattle.zy_core.proofs.progress.Progress.run_held.Goals as goal
 

@@ -1,4 +1,4 @@
-use Rattle.std.proofs.Common.{◌≡◌, Some, sym, ◌∙◌, ap}
+use Rattle.std.proofs.Common.{Some, sym, ◌∙◌, ap}
 use Rattle.std.specs.Prelude.{option_copied}
 use Rattle.zy_core.proofs.ReadyLemmas.{stored_ready}
 use Rattle.zy_core.proofs.state.Core.frame_at.Goals as goal

@@ -1,4 +1,4 @@
-use Rattle.std.proofs.Common.{◌≡◌, ◌∙◌, ap}
+use Rattle.std.proofs.Common.{◌∙◌, ap}
 use Rattle.zy_table.specs.State.{State}
 use Rattle.zy_core.proofs.state.Core.hole.Goals as goal
 

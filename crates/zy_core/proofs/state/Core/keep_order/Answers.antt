@@ -1,4 +1,4 @@
-use Rattle.std.proofs.Common.{◌≡◌, ◌<◌, ◌≤◌, sym, subst}
+use Rattle.std.proofs.Common.{◌<◌, ◌≤◌, sym, subst}
 use Rattle.zy_exec.specs.Kept.{last_place}
 use Rattle.zy_table.specs.State.{State, window_of}
 use Rattle.zy_core.proofs.ReadyLemmas.{ready_with_order}

@@ -1,4 +1,3 @@
-use Rattle.std.proofs.Common.{◌≡◌}
 use Rattle.zy_core.proofs.ReadyLemmas.{asked_ready}
 use Rattle.zy_core.proofs.state.Core.orders_asked.Goals as goal
 

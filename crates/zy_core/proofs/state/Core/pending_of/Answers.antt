@@ -1,4 +1,4 @@
-use Rattle.std.proofs.Common.{◌≡◌, sym, ◌∙◌}
+use Rattle.std.proofs.Common.{sym, ◌∙◌}
 use Rattle.zy_core.specs.Ready.{IsPendingReady}
 use Rattle.zy_core.proofs.ReadyLemmas.{item_is}
 use Rattle.zy_core.proofs.state.Core.pending_of.Goals as goal

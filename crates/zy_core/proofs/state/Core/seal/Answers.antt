@@ -1,6 +1,3 @@
-use Rattle.std.proofs.Common.{◌≡◌, sym, subst}
-use Rattle.zy_seal.specs.Sealing.{SealerState}
-use Rattle.zy_core.specs.Ready.{IsReady}
 use Rattle.zy_core.proofs.ReadyLemmas.{ready_spent}
 use Rattle.zy_core.proofs.state.Core.seal.Goals as goal
 
