@@ -1,30 +1,57 @@
-mod fixture;
+mod driver;
+mod frames;
+mod more_rows;
+mod rows;
+mod table;
 
-use fixture::{BACKUP, CLIENT, FOURTH, THIRD, does, replica, request, sent};
+use driver::{Input, Row, Step, follows, refuses_cuts};
+use more_rows::{OF_CERTIFICATES, OF_OTHER_FRAMES};
+use rows::{OF_ORDERS, OF_THE_PRIMARY, OF_WAITING_REQUESTS};
+use std::alloc::Global;
 use std::test::Fail;
-use zy_base::Answer;
 
-// SHA-256 of the order of the first request of c0, `out ("job" 1)`, and of the response of r0, as another program
-// made them.
-const ORDER_FRAME: [u8; 32] = [
-    0x77, 0x29, 0x42, 0x50, 0x5f, 0x44, 0x4c, 0xd6, 0xb2, 0xfb, 0x88, 0x29, 0x4e, 0xbb, 0x31, 0x46,
-    0x28, 0x21, 0x14, 0xdf, 0x99, 0xf1, 0x43, 0x3f, 0x33, 0xb2, 0x3f, 0xf0, 0x7e, 0x83, 0x7a, 0xfe,
-];
-
-const RESPONSE_FRAME: [u8; 32] = [
-    0xf0, 0x31, 0xe9, 0x7b, 0xbb, 0x85, 0xb2, 0x46, 0xf3, 0xb3, 0x78, 0x6a, 0xcb, 0xc7, 0x83, 0x06,
-    0xb8, 0x0a, 0xd9, 0x3a, 0x75, 0xf9, 0x7d, 0x5f, 0xad, 0x61, 0x26, 0x88, 0x07, 0x81, 0xe9, 0xce,
-];
+fn all_follow(alloc: Global, rows: &[Row]) -> Result<(), Fail> {
+    for row in rows {
+        match follows(alloc, row) {
+            Ok(()) => {}
+            Err((at, odd)) => {
+                return Err(Fail::new(format_args!("{}: step {at}: {odd:?}", row.name)));
+            }
+        }
+    }
+    Ok(())
+}
 
 #[test]
-fn orders_in_the_bytes_of_another_program(rt: HostRuntime) -> Result<(), Fail> {
-    let alloc = rt.alloc();
-    let primary = replica(alloc, 0, 0)?;
-    let stepped = does(primary, request(alloc, CLIENT, 1)?, Answer::Taken)?;
-    assert_eq!(rt; stepped.out.len(), 4);
-    for (at, to) in [(0, BACKUP), (1, THIRD), (2, FOURTH)] {
-        assert_eq!(rt; sent(&stepped.out, at)?, (to, 4818, ORDER_FRAME));
+fn the_primary(rt: HostRuntime) -> Result<(), Fail> {
+    all_follow(rt.alloc(), OF_THE_PRIMARY)
+}
+
+#[test]
+fn orders(rt: HostRuntime) -> Result<(), Fail> {
+    all_follow(rt.alloc(), OF_ORDERS)
+}
+
+#[test]
+fn waiting_requests(rt: HostRuntime) -> Result<(), Fail> {
+    all_follow(rt.alloc(), OF_WAITING_REQUESTS)
+}
+
+#[test]
+fn certificates(rt: HostRuntime) -> Result<(), Fail> {
+    all_follow(rt.alloc(), OF_CERTIFICATES)
+}
+
+#[test]
+fn other_frames(rt: HostRuntime) -> Result<(), Fail> {
+    all_follow(rt.alloc(), OF_OTHER_FRAMES)
+}
+
+// An order of 4,818 bytes is refused at each shorter length.
+#[test]
+fn orders_that_are_cut(rt: HostRuntime) -> Result<(), Fail> {
+    match refuses_cuts(rt.alloc()) {
+        Ok(()) => Ok(()),
+        Err((len, odd)) => Err(Fail::new(format_args!("cut to {len}: {odd:?}"))),
     }
-    assert_eq!(rt; sent(&stepped.out, 3)?, (CLIENT, 4888, RESPONSE_FRAME));
-    Ok(())
 }

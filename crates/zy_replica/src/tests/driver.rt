@@ -1,0 +1,416 @@
+// How a row of the table is run: a replica begins, hears one event after another, and each step is compared.
+
+ghost use Rattle.std.specs.Prelude.{◌≤◌, length, IfOk};
+ghost use Rattle.zy_core.specs.Ready.{IsOrderReady};
+
+use super::frames::{CLIENT, Hash, OPERATION, PRIMARY, PUBLIC, Part, frame};
+use super::rows::FOLLOWS;
+use super::table::{ASK_1, ENTRY_1, HEAD_1, HEADS, ORDERED_1};
+use crate::{Replica, Stepped};
+use sha2::{Digest as Hasher, Sha256};
+use std::alloc::Global;
+use zy_base::{
+    Answer, Bytes, Cause, ClientId, Counts, Digest, Event, FrameFault, Mode, Outgoing, Party,
+    Place, ReplicaId, Stamp, Stood, TimerKind, Timers, View, Want,
+};
+use zy_core::{Core, Moved, Progress};
+use zy_frames::OrderFrame;
+use zy_lms::{Height, LmsKey};
+use zy_ots::OtsType;
+use zy_parts::{Ask, Order, Signed, Spec};
+use zy_seal::{Directory, Sealer, party_id, party_seed};
+use zy_space::Space;
+
+// A replica, and what it hears one after another.
+pub struct Row {
+    pub name: &'static str,
+    pub replica: Begins,
+    pub steps: &'static [Step],
+}
+
+// The number of the replica, how many places apart its snapshots are, and the leaf that signs next.
+pub struct Begins {
+    pub id: u8,
+    pub apart: u64,
+    pub leaf: u32,
+    pub how: How,
+}
+
+// What went before, which no event brings about yet.
+pub enum How {
+    Anew,
+    // It has executed the first order and keeps none.
+    WithoutOrders,
+    // The same, and the last response that it gave is another.
+    WithAnotherResponse,
+}
+
+pub enum Step {
+    // It is refused for this cause: nothing is sent, signed or executed, and the replica is as before.
+    Refuses(Input, Cause),
+    // It has this answer, leaves this, and sends these frames.
+    Does(Input, Answer, Left, &'static [(Party, Sent)]),
+}
+
+pub enum Input {
+    // A frame of this kind with these parts.
+    Frame(u8, &'static [Part]),
+    Bytes(&'static [u8]),
+    Timer(TimerKind),
+}
+
+// A frame that is sent, by its length and its SHA-256 (FIPS 180-4).
+pub struct Sent(pub usize, pub Hash);
+
+// What a step leaves: the length of the history, the leaf that signs next, whether the request timer is to run, and how
+// many statements and entries the step had.
+#[derive(Clone, Copy, Debug, PartialEq, Eq)]
+pub struct Left(pub u64, pub u32, pub bool, pub usize, pub usize);
+
+// What differs from the row.
+#[derive(Clone, Copy, Debug, PartialEq, Eq)]
+pub enum Odd {
+    Want,
+    Begins,
+    Answer(Answer),
+    Left(Left),
+    Stood,
+    Timers,
+    Count(usize),
+    Receiver(Party),
+    Length(usize),
+    Frame([u8; 32]),
+}
+
+impl From<Want> for Odd {
+    fn from(_: Want) -> Odd {
+        Odd::Want
+    }
+}
+
+fn same(is: bool, odd: Odd) -> Result<(), Odd> {
+    if is { Ok(()) } else { Err(odd) }
+}
+
+// ---- how a replica begins
+
+fn sealer(alloc: Global, me: ReplicaId, leaf: u32) -> Result<Sealer, Want>
+    requires { leaf ≤ 32 }
+{
+    let seed = party_seed(&[0; 32], PRIMARY);
+    let id = party_id(&[0; 32], PRIMARY);
+    let key = LmsKey::make(alloc, &seed, &id, Height::H5, OtsType::W4, leaf)?;
+    Ok(Sealer::new(alloc, Party::Replica(me), key))
+}
+
+// The public keys of four replicas and one client.
+fn directory(alloc: Global) -> Result<Directory, Want>
+    ensures { IfOk result (λ d. length d.clients ≤ 64) }
+{
+    let replicas = vec![in alloc; PUBLIC, PUBLIC, PUBLIC, PUBLIC]?;
+    Ok(Directory::new(alloc, replicas, vec![in alloc; PUBLIC]?))
+}
+
+fn anew(alloc: Global, begins: &Begins) -> Result<Core<Space>, Odd> {
+    let counts = match Counts::plain(1) {
+        Some(counts) => counts,
+        None => return Err(Odd::Begins),
+    };
+    if begins.leaf > 32 || begins.apart < 4 || begins.apart > 32 {
+        return Err(Odd::Begins);
+    }
+    let me = ReplicaId(begins.id);
+    let sealer = sealer(alloc, me, begins.leaf)?;
+    let directory = directory(alloc)?;
+    Ok(Core::start(alloc, counts, me, begins.apart, sealer, directory)?)
+}
+
+// The first order, without signatures.
+fn unsigned_order(alloc: Global) -> Result<OrderFrame, Want>
+    ensures { IfOk result IsOrderReady }
+{
+    let op = Bytes::from_slice(alloc, &OPERATION)?;
+    Ok(OrderFrame {
+        order: Signed {
+            by: PRIMARY,
+            stmt: Order {
+                view: View(0),
+                place: Place(1),
+                head: Digest(*HEAD_1),
+                request: Digest(*ENTRY_1),
+            },
+            sig: Bytes::new(alloc),
+        },
+        ask: Signed {
+            by: CLIENT,
+            stmt: Ask {
+                stamp: Stamp(1),
+                op,
+            },
+            sig: Bytes::new(alloc),
+        },
+    })
+}
+
+fn run_unkept(core: Core<Space>, frame: &OrderFrame) -> Result<Core<Space>, Odd>
+    requires { IsOrderReady frame.now }
+{
+    if core.leaves() == 0 || core.length() >= core.window() {
+        drop(core);
+        return Err(Odd::Begins);
+    }
+    match core.begin().run_all(frame) {
+        Ok(
+            Moved {
+                answer: _,
+                progress,
+            },
+        ) => Ok(core_of(progress)),
+        Err(_) => Err(Odd::Want),
+    }
+}
+
+fn core_of(progress: Progress<Space>) -> Core<Space> {
+    let Progress { core, deeds } = progress;
+    drop(deeds);
+    core
+}
+
+// Another response to the first request than the one that it gives.
+const ANOTHER_RESPONSE: Spec = Spec {
+    view: View(0),
+    place: Place(1),
+    head: Digest([6; 32]),
+    reply: Digest([6; 32]),
+    client: ClientId(0),
+    stamp: Stamp(1),
+};
+
+fn say_another(core: Core<Space>) -> Result<Core<Space>, Odd> {
+    if core.leaves() == 0 {
+        drop(core);
+        return Err(Odd::Begins);
+    }
+    match core.seal_spec(ANOTHER_RESPONSE) {
+        Ok((core, spec)) => {
+            drop(spec);
+            Ok(core)
+        }
+        Err(_) => Err(Odd::Want),
+    }
+}
+
+fn begin(alloc: Global, begins: &Begins) -> Result<Replica<Space>, Odd> {
+    let order = unsigned_order(alloc)?;
+    let core = match begins.how {
+        How::Anew => anew(alloc, begins)?,
+        How::WithoutOrders => run_unkept(anew(alloc, begins)?, &order)?,
+        How::WithAnotherResponse => say_another(run_unkept(anew(alloc, begins)?, &order)?)?,
+    };
+    Ok(Replica { core })
+}
+
+// ---- what is seen of a replica
+
+// Its mode, length and head, the leaf that signs next, its timers, and the digest of its state.
+#[derive(Clone, Copy, PartialEq)]
+struct Shown {
+    stood: Stood,
+    leaf: u32,
+    timers: Timers,
+    state: Option<Digest>,
+}
+
+fn see(replica: &Replica<Space>) -> Shown {
+    Shown {
+        stood: replica.stood(),
+        leaf: replica.key_next(),
+        timers: replica.timers(),
+        state: replica.state_digest().ok(),
+    }
+}
+
+fn left_by(stepped: &Stepped<Space>) -> Left {
+    Left(
+        stepped.replica.length().0,
+        stepped.replica.key_next(),
+        stepped.timers.request,
+        stepped.said.len(),
+        stepped.got.len(),
+    )
+}
+
+fn sha256(bytes: &Bytes) -> [u8; 32] {
+    let mut hasher = Sha256::new();
+    hasher.update(bytes.as_slice());
+    hasher.finalize()
+}
+
+fn same_frame(is: &(Party, Bytes), wanted: &(Party, Sent)) -> Result<(), Odd> {
+    let (to, frame) = is;
+    let (receiver, Sent(len, hash)) = wanted;
+    same(to == receiver, Odd::Receiver(*to))?;
+    same(frame.len() == *len, Odd::Length(frame.len()))?;
+    let digest = sha256(frame);
+    same(digest == **hash, Odd::Frame(digest))
+}
+
+fn same_frames(out: &Outgoing, wanted: &[(Party, Sent)]) -> Result<(), Odd> {
+    same(out.len() == wanted.len(), Odd::Count(out.len()))?;
+    for (is, wanted) in out.as_slice().iter().zip(wanted) {
+        same_frame(is, wanted)?;
+    }
+    Ok(())
+}
+
+fn has_answer(is: Answer, wanted: Answer) -> Result<(), Odd> {
+    same(is == wanted, Odd::Answer(is))
+}
+
+// In view 0 the replica is active, and of its timers only that of requests may run.
+fn has_done(stepped: &Stepped<Space>, wanted: Left) -> Result<(), Odd> {
+    let is = left_by(stepped);
+    same(is == wanted, Odd::Left(is))?;
+    let stood = Stood {
+        mode: Mode::Active(View(0)),
+        length: Place(is.0),
+        head: Digest(**HEADS.get(is.0 as usize).ok_or(Odd::Stood)?),
+    };
+    same(stepped.replica.stood() == stood, Odd::Stood)?;
+    let timers = Timers {
+        request: is.2,
+        change: false,
+        answer: false,
+    };
+    same(stepped.timers == timers, Odd::Timers)?;
+    same(stepped.replica.timers() == timers, Odd::Timers)
+}
+
+fn is_as_before(stepped: &Stepped<Space>, before: &Shown) -> Result<(), Odd> {
+    let is = left_by(stepped);
+    same(is.3 == 0 && is.4 == 0, Odd::Left(is))?;
+    same(stepped.out.is_empty(), Odd::Count(stepped.out.len()))?;
+    same(stepped.timers == before.timers, Odd::Timers)?;
+    same(see(&stepped.replica) == *before, Odd::Stood)
+}
+
+fn compare(stepped: &Stepped<Space>, step: &Step, before: &Shown) -> Result<(), Odd> {
+    match step {
+        Step::Refuses(_, cause) => {
+            has_answer(stepped.answer, Answer::Refused(*cause))?;
+            is_as_before(stepped, before)
+        }
+        Step::Does(_, answer, left, sent) => {
+            has_answer(stepped.answer, *answer)?;
+            has_done(stepped, *left)?;
+            same_frames(&stepped.out, sent)
+        }
+    }
+}
+
+// ---- steps
+
+fn event(alloc: Global, step: &Step) -> Result<Event, Want> {
+    let input = match step {
+        Step::Refuses(input, _) => input,
+        Step::Does(input, _, _, _) => input,
+    };
+    match input {
+        Input::Frame(kind, parts) => Ok(Event::Heard(Bytes::from(frame(alloc, *kind, parts)?))),
+        Input::Bytes(bytes) => Ok(Event::Heard(Bytes::from_slice(alloc, bytes)?)),
+        Input::Timer(kind) => Ok(Event::Timer(*kind)),
+    }
+}
+
+fn replica_of(stepped: Stepped<Space>) -> Replica<Space> {
+    let Stepped {
+        replica,
+        answer: _,
+        out,
+        timers: _,
+        said,
+        got,
+    } = stepped;
+    drop((out, said, got));
+    replica
+}
+
+// The replica after a step that is as it should be.
+pub fn takes(replica: Replica<Space>, event: Event, step: &Step) -> Result<Replica<Space>, Odd> {
+    let before = see(&replica);
+    let stepped = match replica.step(event) {
+        Ok(stepped) => stepped,
+        Err(_) => return Err(Odd::Want),
+    };
+    match compare(&stepped, step, &before) {
+        Ok(()) => Ok(replica_of(stepped)),
+        Err(odd) => {
+            drop(stepped);
+            Err(odd)
+        }
+    }
+}
+
+fn takes_next(alloc: Global, replica: Replica<Space>, step: &Step) -> Result<Replica<Space>, Odd> {
+    match event(alloc, step) {
+        Ok(event) => takes(replica, event, step),
+        Err(_) => {
+            drop(replica);
+            Err(Odd::Want)
+        }
+    }
+}
+
+// The number of the step, from 0, that isn't as it should be, and what differs.
+pub fn follows(alloc: Global, row: &Row) -> Result<(), (usize, Odd)> {
+    let mut replica = match begin(alloc, &row.replica) {
+        Ok(replica) => replica,
+        Err(odd) => return Err((0, odd)),
+    };
+    for (at, step) in row.steps.iter().enumerate() {
+        replica = match takes_next(alloc, replica, step) {
+            Ok(replica) => replica,
+            Err(odd) => return Err((at, odd)),
+        };
+    }
+    drop(replica);
+    Ok(())
+}
+
+// ---- cuts
+
+const CUT: Step = Step::Refuses(Input::Bytes(&[]), Cause::NotFrame(FrameFault::Short));
+
+fn takes_cut(alloc: Global, replica: Replica<Space>, cut: &[u8]) -> Result<Replica<Space>, Odd> {
+    match Bytes::from_slice(alloc, cut) {
+        Ok(bytes) => takes(replica, Event::Heard(bytes), &CUT),
+        Err(_) => {
+            drop(replica);
+            Err(Odd::Want)
+        }
+    }
+}
+
+// The length, below that of the whole order, to which it was cut where the second replica's answer isn't as it should
+// be, and what differs.
+pub fn refuses_cuts(alloc: Global) -> Result<(), (usize, Odd)> {
+    let order = match frame(alloc, 2, &[ORDERED_1, ASK_1]) {
+        Ok(order) => order,
+        Err(_) => return Err((0, Odd::Want)),
+    };
+    if order.len() != 4818 {
+        return Err((order.len(), Odd::Length(order.len())));
+    }
+    let mut replica = match begin(alloc, &FOLLOWS) {
+        Ok(replica) => replica,
+        Err(odd) => return Err((0, odd)),
+    };
+    for len in 0..order.len() {
+        replica = match takes_cut(alloc, replica, &order[..len]) {
+            Ok(replica) => replica,
+            Err(odd) => return Err((len, odd)),
+        };
+    }
+    drop(replica);
+    Ok(())
+}
