@@ -9,7 +9,7 @@ use zy_base::{Bytes, Items, Party, TimerKind, View, Want};
 use zy_tuple::{op_text, party_text_put, reply_text};
 
 /// Lines that are refused, each with the rule of its first part that can't be read.
-const REFUSED: [(&str, u8); 98] = [
+const REFUSED: [(&str, u8); 100] = [
     ("Deliver 1", 1),
     (" deliver 1", 1),
     ("flow1", 1),
@@ -48,6 +48,17 @@ const REFUSED: [(&str, u8); 98] = [
     ("ask c0 out ()", 3),
     ("ask c0 out (1 2 3 4 5 6 7 8 9)", 3),
     ("ask c0 cas (*) ()", 3),
+    (
+        "order r0 view 0 asks 1 1 1 1 1 1 1 1 1 1 1 1 1 1 1 1 1 1 1 1 1 1 1 1 1 1 1 1 1 1 1 1 1 1 \
+        1 1 1 1 1 1 1 1 1 1 1 1 1 1 1 1 1 1 1 1 1 1 1 1 1 1 1 1 1 1 1 to r1",
+        3,
+    ),
+    (
+        "order r0 view 0 asks 1 to r1 r1 r1 r1 r1 r1 r1 r1 r1 r1 r1 r1 r1 r1 r1 r1 r1 r1 r1 r1 r1 \
+        r1 r1 r1 r1 r1 r1 r1 r1 r1 r1 r1 r1 r1 r1 r1 r1 r1 r1 r1 r1 r1 r1 r1 r1 r1 r1 r1 r1 r1 r1 \
+        r1 r1 r1 r1 r1 r1 r1 r1 r1 r1 r1 r1 r1 r1 r1 r1 r1 r1 r1 r1 r1 r1 r1 r1 r1 r1 r1 r1 r1 r1",
+        3,
+    ),
     ("deliver x", 4),
     ("deliver 01", 4),
     ("deliver 1a", 4),
@@ -111,7 +122,7 @@ const REFUSED: [(&str, u8); 98] = [
 ];
 
 /// Lines that are read.
-const READ: [&str; 30] = [
+const READ: [&str; 40] = [
     "ask c0 out (\"a\\\"\\\\\" -5)",
     "ask c4294967295 cas (\"lock\" *) (\"lock\" 7)",
     "deliver 0",
@@ -142,6 +153,19 @@ const READ: [&str; 30] = [
     "unmute r3",
     "ask c2 inp (\"job\" 1)",
     "ask c4 inp (\"job\" *)",
+    "ask c1 out (\"job\" 2)",
+    "ask c3 out (\"job\" 3)",
+    "timer c0 answer",
+    "timer c2 answer",
+    "timer c4 answer",
+    "timer r1 request",
+    "timer r2 request",
+    "order r0 view 0 asks 1 2 3 to r2",
+    "raw 01 to r1",
+    "raw 011000000000000000040000007b00010000000000000000000000040000000000000004fa2936a29e\
+    5548b1eb8fbf1e41fafe2bfddbf292f0771dece7b60a52af7da3c10001000000003e00040202036a6f6201\
+    00000000000000000202036a6f620100000000000000010202036a6f620100000000000000020202036a6f\
+    62010000000000000002 to r3",
 ];
 
 fn parties(alloc: Global, out: &mut Vec<u8>, to: &Items<Party>) -> Result<(), Want> {
@@ -321,9 +345,9 @@ fn read_lines(rt: HostRuntime) -> Result<(), Fail> {
     refuses(&rt, alloc, b"flow 1\n\n# flow\nflow 2\nflow\nput\n", 5, 2);
     refuses(&rt, alloc, b"#\n flow 1\nflow 2", 2, 1);
     refuses(&rt, alloc, b"flow 1\r\nflow 2", 1, 4);
-    let upper = read_schedule(alloc, b"raw aBCd to r1");
-    if let Ok([Line::Raw { bytes, .. }]) = upper.as_ref().map(|lines| lines.as_slice()) {
-        assert_eq!(rt; bytes.as_slice(), [0xab, 0xcd].as_slice());
+    let upper = read_schedule(alloc, b"statement c1 aB to r0");
+    if let Ok([Line::Statement { bytes, .. }]) = upper.as_ref().map(|lines| lines.as_slice()) {
+        assert_eq!(rt; bytes.as_slice(), [0xab].as_slice());
     } else {
         panic!(&rt; "{upper:?}");
     }
@@ -335,7 +359,7 @@ fn repeated(
     alloc: Global,
     front: &str,
     part: &str,
-    count: u8,
+    count: u32,
     back: &str,
 ) -> Result<Vec<u8>, Want> {
     let mut text = Vec::new(alloc);
@@ -348,6 +372,22 @@ fn repeated(
     Ok(text)
 }
 
+/// Lines of which recorded runs have many, and one as long as the frame with the certificate of a view.
+#[test]
+fn lines_of_runs(rt: HostRuntime) -> Result<(), Fail> {
+    let alloc = rt.alloc();
+    let mut all = repeated(alloc, "raw ", "4f", 61_106, " to r3")?;
+    for job in 0u64..14 {
+        number(alloc, &mut all, "ask c0 out (\"job\" ", job)?;
+        word(&mut all, ")\n")?;
+    }
+    for frame in 1u64..156 {
+        number(alloc, &mut all, "deliver ", frame)?;
+        all.push(b'\n')?;
+    }
+    reads(&rt, alloc, &all)
+}
+
 #[test]
 fn limits(rt: HostRuntime) -> Result<(), Fail> {
     let alloc = rt.alloc();
@@ -356,7 +396,7 @@ fn limits(rt: HostRuntime) -> Result<(), Fail> {
     reads(&rt, alloc, &repeated(alloc, order, " 7", 64, " to r1")?)?;
     reads(&rt, alloc, &repeated(alloc, "raw 00 to", " c7", 80, "")?)?;
     reads(&rt, alloc, &repeated(alloc, spec, " c7", 80, " reply ok")?)?;
-    let table: [(&str, &str, u8, &str, u8); 7] = [
+    let table: [(&str, &str, u32, &str, u8); 7] = [
         (order, " 7", 65, " to r1", 3),
         (order, " 7", 64, " x to r1", 4),
         (order, " 7", 64, "", 2),
