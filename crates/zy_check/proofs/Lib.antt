@@ -1,0 +1,3 @@
+pub mod VoteLemmas
+pub mod BoardLemmas
+pub mod JudgingLemmas
