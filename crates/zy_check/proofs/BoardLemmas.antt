@@ -1,5 +1,5 @@
 -- What holds of every board stays true.
-use Rattle.std.proofs.Common.{◌≡◌, ℕ, ◌+◌, ◌-◌, ◌*◌, ◌%◌, ◌<◌, ◌≤◌, Bool, true, false, cond, nat_eq, List, [], ◌∷◌, length, All, AllPairs, get_or, refl, sym, ap, ◌∙◌, subst, arith}
+use Rattle.std.proofs.Common.{◌≡◌, ℕ, ◌+◌, ◌-◌, ◌*◌, ◌%◌, ◌<◌, ◌≤◌, false, cond, nat_eq, List, [], ◌∷◌, length, All, get_or, refl, sym, ap, ◌∙◌, subst, arith}
 use Rattle.std.proofs.lemmas.Bool.{cond-true, cond-false, cond_both, eqb-true}
 use Rattle.std.proofs.lemmas.Bool.Decides.{nat_tests}
 use Rattle.std.proofs.lemmas.List.Elements.{All-nil}
@@ -167,19 +167,32 @@ with_stable-is b place proof is multiple proves =
     }
 
 -- what two rounds are after the stable place rose
-moved-near : {A : Type 0} (s k p : ℕ) (x y z : A) → 4 ≤ k → s ≤ p → cond (nat_eq (p + k - s) k) x (cond (nat_eq (p + k - s) (2 * k)) y z) ≡ cond (nat_eq (p - s) 0) x (cond (nat_eq (p - s) k) y z)
-moved-near s k p x y z least not_below = grind (arith, nat_tests)
+moved-near : {A : Type 0} (s k p above : ℕ) (x y z : A) → 4 ≤ k → s ≤ p → above ≡ p - s → cond (nat_eq above 0) x (cond (nat_eq above k) y z) ≡ cond (nat_eq (p + k - s) k) x (cond (nat_eq (p + k - s) (2 * k)) y z)
+moved-near s k p above x y z least not_below e = grind (arith, nat_tests)
 
-moved-far : {A : Type 0} (s k p : ℕ) (x y z : A) → 4 ≤ k → s ≤ p → cond (nat_eq (p + 2 * k - s) k) x (cond (nat_eq (p + 2 * k - s) (2 * k)) y z) ≡ cond (nat_eq (p - s) 0) y z
-moved-far s k p x y z least not_below = grind (arith, nat_tests)
+moved-far : {A : Type 0} (s k p above : ℕ) (x y z : A) → 4 ≤ k → s ≤ p → above ≡ p - s → cond (nat_eq above 0) y z ≡ cond (nat_eq (p + 2 * k - s) k) x (cond (nat_eq (p + 2 * k - s) (2 * k)) y z)
+moved-far s k p above x y z least not_below e = grind (arith, nat_tests)
 
-pub with_stable-moved : (b : Board) (place : ℕ) (proof : List (Signed Check)) (near far : Round) → IsBoard b → b.stable.place.0 ≤ place → IsProof place proof
-    → near ≡ cond (nat_eq (height b place) 0) b.near (cond (nat_eq (height b place) b.interval) b.far no_round)
-    → far ≡ cond (nat_eq (height b place) 0) b.far no_round
-    → ◌≡◌ {A = Board} (record { interval = b.interval; stable = stated b.stable proof; proof = proof; near = near; far = far }) (with_stable b proof)
+moved : (b : Board) (place above : ℕ) (proof : List (Signed Check)) (first : Check) (near far : Round) → IsBoard b → IsProof place proof → first ≡ stated b.stable proof
+    → near ≡ cond (nat_eq above 0) b.near (cond (nat_eq above b.interval) b.far no_round)
+    → far ≡ cond (nat_eq above 0) b.far no_round
+    → above ≡ height b place → b.stable.place.0 ≤ place
+    → ◌≡◌ {A = Board} (record { interval = b.interval; stable = first; proof = proof; near = near; far = far }) (with_stable b proof)
 unfolding with_stable
-with_stable-moved b place proof near far is not_below proves near-is far-is =
+moved b place above proof first near far is proves first-is near-is far-is above-is not_below =
     let located = stated-located b.stable place proof proves in
-    let near' = near-is ∙ sym (moved-near b.stable.place.0 b.interval place b.near b.far no_round is.at_least not_below) in
-    let far' = far-is ∙ sym (moved-far b.stable.place.0 b.interval place b.near b.far no_round is.at_least not_below) in
-    rw (near', far', located) refl
+    let near-here : near ≡ round_at b (place + b.interval) = near-is ∙ moved-near b.stable.place.0 b.interval place above b.near b.far no_round is.at_least not_below above-is in
+    let far-here : far ≡ round_at b (place + 2 * b.interval) = far-is ∙ moved-far b.stable.place.0 b.interval place above b.near b.far no_round is.at_least not_below above-is in
+    let near-there = subst (λ p. near ≡ round_at b (p + b.interval)) (sym located) near-here in
+    let far-there = subst (λ p. far ≡ round_at b (p + 2 * b.interval)) (sym located) far-here in
+    rw (first-is, near-there, far-there) refl
+
+pub with_stable-moved : (b' b : Board) (same : b' ≡ b) (place above : ℕ) → above ≡ height b place → b.stable.place.0 ≤ place → (proof : List (Signed Check)) (first : Check) (near far : Round) → IsBoard b' → IsProof place proof
+    → first ≡ stated b'.stable proof
+    → near ≡ cond (nat_eq above 0) b'.near (cond (nat_eq above b'.interval) b'.far no_round)
+    → far ≡ cond (nat_eq above 0) b'.far no_round
+    → ◌≡◌ {A = Board} (record { interval = b'.interval; stable = first; proof = proof; near = near; far = far }) (with_stable b proof)
+with_stable-moved b' b same place above above-is not_below proof first near far is proves first-is near-is far-is =
+    subst
+    (λ (x : Board). above ≡ height x place → x.stable.place.0 ≤ place → ◌≡◌ {A = Board} (record { interval = b'.interval; stable = first; proof = proof; near = near; far = far }) (with_stable x proof))
+    same (moved b' place above proof first near far is proves first-is near-is far-is) above-is not_below

@@ -1,6 +1,6 @@
 -- What is kept was judged to be new, and leaves the stable checkpoint as it is.
 use Rattle.std.proofs.Common.{◌≡◌, ℕ, ◌*◌, nat_eq, Bool, true, false, cond, List, Option, Some, None, refl, ◌∙◌}
-use Rattle.std.proofs.lemmas.Bool.{both_ways, cond_both}
+use Rattle.std.proofs.lemmas.Bool.{cond_both}
 use Rattle.zy_base.specs.declared.cause.Cause.{Cause}
 use Rattle.zy_base.specs.declared.cause.Cause.TheVariants as causes
 use Rattle.zy_base.specs.declared.ids.Party.{Party}

@@ -23,11 +23,7 @@ pub(crate) fn first_cause<S>(cause: Option<Cause>, list: &[Signed<S>], by: Party
 }
 
 // A Spec beside the own one, where these are kept.
-pub(crate) fn beside_spec(
-    list: &[Signed<Spec>],
-    vote: &Signed<Spec>,
-    own: Option<&Spec>,
-) -> Kept
+pub(crate) fn beside_spec(list: &[Signed<Spec>], vote: &Signed<Spec>, own: Option<&Spec>) -> Kept
     ensures { result ≡ beside_spec list.now vote.now (option_copied own.entry) }
 {
     match own {

@@ -41,8 +41,7 @@ pub(crate) fn equal_to<S: Matching>(list: &[Signed<S>], stmt: &S) -> u64
 fn first_behind<S>(list: &[Signed<S>], by: Party) -> Option<usize>
     ensures { result ≡ position (λ s. comes_before by s.by) list.now }
 {
-    list.iter()
-        .position(|signed| comes_before(by, signed.by))
+    list.iter().position(|signed| comes_before(by, signed.by))
 }
 
 // Where a party's statement belongs.

@@ -1,4 +1,3 @@
-use Rattle.std.proofs.Common.{◌∙◌, ap, length}
 use Rattle.zy_check.proofs.VoteLemmas.{place_for-first}
 use Rattle.zy_check.proofs.votes.place_for.Goals as goal
 
