@@ -1,0 +1,4 @@
+pub mod VoteLemmas
+pub mod BoardLemmas
+pub mod JudgingLemmas
+pub mod ChangeLemmas

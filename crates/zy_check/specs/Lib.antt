@@ -1,0 +1,3 @@
+pub mod Votes
+pub mod Board
+pub mod Judging
