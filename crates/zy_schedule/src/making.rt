@@ -1,6 +1,6 @@
 //! Schedules that are made from a number.
 
-ghost use Rattle.std.specs.Prelude.{◌≡◌, ◌++◌, ◌<◌, ◌^◌, ◌∷◌, [], All, IfOk, OnOk};
+ghost use Rattle.std.specs.Prelude.{◌≡◌, ◌++◌, ◌*◌, ◌<◌, ◌^◌, All, IfOk, OnOk, length};
 ghost use Rattle.zy_schedule.specs.Making as making;
 ghost use Rattle.zy_schedule.specs.Texts.{IsSaid};
 
@@ -23,6 +23,7 @@ const FLOW: u64 = 1_000;
 pub fn make(alloc: Global, number: u32, asks: u32) -> Result<Vec<Line>, Want>
     ensures made { IfOk result (λ lines. lines.items ≡ making.made_lines number asks) }
     ensures said { IfOk result (λ lines. All IsSaid lines.items) }
+    ensures two_each { IfOk result (λ lines. length lines.items ≡ 2 * asks) }
 {
     let mut lines = Vec::new(alloc);
     let mut draw = u64::from(number) % MODULUS;
