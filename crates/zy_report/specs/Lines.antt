@@ -86,3 +86,13 @@ agreed_line place head = codes "agreed " ++ decimal place.0 ++ 32 ∷ encode_low
 -- where a client's key and stamps go on
 abbrev pub key_line : ℕ → Stamp → List ℕ
 key_line next stamp = codes "key next " ++ decimal next ++ codes " stamp " ++ decimal stamp.0 ++ 10 ∷ []
+
+-- what a run came to: so many asks and events, the asks that were completed, on a fast and on a slow path, and the refusals
+abbrev pub summary_line : ℕ → ℕ → ℕ → ℕ → ℕ → ℕ → List ℕ
+summary_line asks events done fast slow refused =
+    codes "asks " ++ decimal asks
+    ++ codes " events " ++ decimal events
+    ++ codes " done " ++ decimal done
+    ++ codes " fast " ++ decimal fast
+    ++ codes " slow " ++ decimal slow
+    ++ codes " refused " ++ decimal refused ++ 10 ∷ []

@@ -1,4 +1,7 @@
-use crate::{agreed_line, done_line, key_line, key_lines, refused_line, replica_line, reply_line};
+use crate::{
+    agreed_line, done_line, key_line, key_lines, refused_line, replica_line, reply_line,
+    summary_line,
+};
 use hex::FromHex;
 use std::process::Abort;
 use std::test::Fail;
@@ -177,4 +180,32 @@ fn secret_file(rt: HostRuntime) -> Result<(), Fail> {
         key_lines(alloc, party, &seed, &id, 5, 3, &public),
         REPLICA_0,
     )
+}
+
+#[test]
+fn summaries(rt: HostRuntime) -> Result<(), Fail> {
+    let alloc = rt.alloc();
+    let table: [([u64; 6], &str); 4] = [
+        (
+            [3, 27, 3, 3, 0, 0],
+            "asks 3 events 27 done 3 fast 3 slow 0 refused 0\n",
+        ),
+        (
+            [300, 2_916, 300, 300, 0, 36],
+            "asks 300 events 2916 done 300 fast 300 slow 0 refused 36\n",
+        ),
+        (
+            [6, 5, 4, 3, 2, 1],
+            "asks 6 events 5 done 4 fast 3 slow 2 refused 1\n",
+        ),
+        (
+            [0, u64::MAX, 0, 0, 0, u64::MAX],
+            "asks 0 events 18446744073709551615 done 0 fast 0 slow 0 refused 18446744073709551615\n",
+        ),
+    ];
+    for ([asks, events, done, fast, slow, refused], text) in table {
+        let line = summary_line(alloc, asks, events, done, fast, slow, refused);
+        check(&rt, line, text)?;
+    }
+    Ok(())
 }

@@ -6,3 +6,4 @@ pub mod PartsLaws
 pub mod FormLaws
 pub mod LineLaws
 pub mod TextLaws
+pub mod MadeLaws

@@ -1,4 +1,4 @@
-//! Schedules of runs and scripts of operations, read from their texts.
+//! Schedules of runs and scripts of operations, read from their texts, and schedules that are made from a number.
 #![tactic(auto)]
 
 mod fault;
@@ -6,11 +6,13 @@ mod forms;
 mod line;
 mod lines;
 mod list;
+mod making;
 mod parts;
 mod reading;
 
 pub use fault::ScheduleFault;
 pub use line::Line;
+pub use making::make;
 pub use reading::{read_schedule, read_script};
 
 #[cfg(test)]

@@ -1,7 +1,7 @@
 ghost use Rattle.std.specs.Prelude.{All};
 ghost use Rattle.zy_schedule.specs.Texts.{IsSaid};
 
-use crate::{Line, ScheduleFault, read_schedule, read_script};
+use crate::{Line, ScheduleFault, make, read_schedule, read_script};
 use std::alloc::Global;
 use std::process::Abort;
 use std::test::Fail;
@@ -440,5 +440,52 @@ fn scripts(rt: HostRuntime) -> Result<(), Fail> {
             Err(fault) => assert_eq!(rt; (None, Some(fault)), (count, refused)),
         }
     }
+    Ok(())
+}
+
+/// Schedules that are made, as a program made them that was written apart from this one. The number counts modulo 2^31.
+const MADE: [(u32, u32, &str); 6] = [
+    (7, 0, ""),
+    (
+        1,
+        3,
+        "ask c0 inp (\"job\" *)\nflow 1000\nask c1 inp (\"job\" *)\nflow 1000\nask c2 rdp (\"job\" *)\nflow 1000\n",
+    ),
+    (
+        7,
+        6,
+        "ask c0 out (\"job\" 0)\nflow 1000\nask c1 inp (\"job\" *)\nflow 1000\nask c2 out (\"job\" 2)\nflow 1000\n\
+         ask c3 inp (\"job\" *)\nflow 1000\nask c0 cas (\"lock\" *) (\"lock\" 4)\nflow 1000\nask c1 rdp (\"job\" *)\nflow 1000\n",
+    ),
+    (
+        0,
+        2,
+        "ask c0 out (\"job\" 0)\nflow 1000\nask c1 out (\"job\" 1)\nflow 1000\n",
+    ),
+    (
+        2_147_483_648,
+        2,
+        "ask c0 out (\"job\" 0)\nflow 1000\nask c1 out (\"job\" 1)\nflow 1000\n",
+    ),
+    (
+        4_294_967_295,
+        2,
+        "ask c0 rdp (\"job\" *)\nflow 1000\nask c1 rdp (\"job\" *)\nflow 1000\n",
+    ),
+];
+
+#[test]
+fn made_schedules(rt: HostRuntime) -> Result<(), Fail> {
+    let alloc = rt.alloc();
+    for (number, asks, text) in &MADE {
+        let lines = make(alloc, *number, *asks)?;
+        let made = written(alloc, &lines)?;
+        assert_eq!(rt; made.as_slice(), text.as_bytes());
+    }
+    let lines = make(alloc, 7, 300)?;
+    assert_eq!(rt; lines.len(), 600);
+    let last = written(alloc, &lines[596..])?;
+    let text = b"ask c2 rdp (\"job\" *)\nflow 1000\nask c3 inp (\"job\" *)\nflow 1000\n".as_slice();
+    assert_eq!(rt; last.as_slice(), text);
     Ok(())
 }
