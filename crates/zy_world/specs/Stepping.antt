@@ -1,5 +1,5 @@
 -- A party's step, and what it did beside changing the party.
-use Rattle.std.specs.Prelude.{◌≡◌, Bool, if◌then◌else◌, List, map, slice_get, Option, Some, None}
+use Rattle.std.specs.Prelude.{◌≡◌, Bool, if◌then◌else◌, map, slice_get, Option, Some, None}
 use Rattle.zy_base.specs.declared.ids.ClientId.{ClientId}
 use Rattle.zy_base.specs.declared.ids.Party.TheVariants as parties
 use Rattle.zy_base.specs.declared.ids.ReplicaId.{ReplicaId}

@@ -1,4 +1,5 @@
 use Rattle.std.proofs.Common.{◌≡◌, sym, ◌∙◌, subst}
+use Rattle.std.proofs.lemmas.Result.{err_from_is_err_and}
 use Rattle.std.specs.Prelude.{slice_get}
 use Rattle.zy_table.specs.ClientRows.{ask}
 use Rattle.zy_table.specs.ClientState.{ClientState, ClientOutcome}
@@ -23,3 +24,13 @@ returns-in_ok-client_stepped-in-Some-clause-goes g c w s =
     subst (λ (h : Happened g.row.M-State.Denot). GoesTo h c.in_ok-client_stepped-in-Some.field-0.note c.in_ok-client_stepped-in-Some.field-0.world)
     (sym (asks_is w c.args.id c.args.op (slice_get w.clients c.args.id.0) ∙ t.is))
     (c.in_ok-client_stepped-in-Some.ensures w t.who (row t.who.state) t.has)
+
+pub returns-in_err-ask_client-clause-broken : goal.returns-in_err-ask_client-clause-broken
+returns-in_err-ask_client-clause-broken g c w s =
+    let p = err_from_is_err_and c.from_residual.result c.from_residual.ensures.1 in
+    rw (p.1, p.2) tt
+
+pub returns-in_err-client_stepped-in-Some-clause-broken : goal.returns-in_err-client_stepped-in-Some-clause-broken
+returns-in_err-client_stepped-in-Some-clause-broken g c w s =
+    let p = err_from_is_err_and c.from_residual-in_err-client_stepped-in-Some.result c.from_residual-in_err-client_stepped-in-Some.ensures.1 in
+    rw (p.1, p.2) tt

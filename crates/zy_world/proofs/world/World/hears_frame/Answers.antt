@@ -21,3 +21,8 @@ returns-in_err-keep_frame-in-None-clause-unheard g c w bytes s is =
     let p = err_from_is_err_and c.from_residual-in_err-keep_frame-in-None.result c.from_residual-in_err-keep_frame-in-None.ensures.1 in
     rw (p.1, p.2) (unheard_by_text w bytes c.in_err-keep_frame-in-None.field-0.0
     (λ d clashed. frame_clashes w _ i bytes c.args.frame.now is d (λ said shown. sym c.in-None.is ∙ c.in_ok-by.ensures said shown) (c.in_err-keep_frame-in-None.ensures.clash d (ap Err clashed))))
+
+pub returns-in_err-by-clause-unheard : goal.returns-in_err-by-clause-unheard
+returns-in_err-by-clause-unheard g c w bytes s is =
+    let p = err_from_is_err_and c.from_residual.result c.from_residual.ensures.1 in
+    rw (p.1, p.2) tt

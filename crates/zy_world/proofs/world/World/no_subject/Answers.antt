@@ -1,4 +1,4 @@
-use Rattle.std.proofs.Common.{◌≡◌, refl}
+use Rattle.std.proofs.Common.{refl}
 use Rattle.zy_world.proofs.world.World.no_subject.Goals as goal
 
 pub returns : goal.returns

@@ -1,4 +1,5 @@
 use Rattle.std.proofs.Common.{◌≡◌, sym, subst}
+use Rattle.std.proofs.lemmas.Result.{err_from_is_err_and}
 use Rattle.std.specs.Prelude.{IfOk, IfErr}
 use Rattle.zy_table.specs.Step.{step}
 use Rattle.zy_world.specs.Answered.{GoesTo, IsBrokenBy}
@@ -26,3 +27,8 @@ returns-in-Some-clause-broken g c w s =
     let t = replica_turn g.M.Machine.rules w _ i c.args.id c.args.event _ _ _ c.in-Some.is c.in_ok-step_replica.ensures.missing c.in_ok-step_replica.ensures.stepped c.in_ok-step_replica.ensures.state in
     subst (λ (h : Happened g.row.M-State.Denot). IfErr c.replica_stepped.result (IsBrokenBy h)) (sym t.is)
     (c.replica_stepped.ensures.broken w t.who (step g.M.Machine.rules t.who.state c.args.event) t.has)
+
+pub returns-in_err-step_replica-clause-broken : goal.returns-in_err-step_replica-clause-broken
+returns-in_err-step_replica-clause-broken g c w s =
+    let p = err_from_is_err_and c.from_residual.result c.from_residual.ensures.1 in
+    rw (p.1, p.2) tt
