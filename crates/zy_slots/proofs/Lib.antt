@@ -6,3 +6,6 @@ mod ListLemmas
 mod NameLemmas
 mod AgeLemmas
 mod StepLemmas
+mod PileLemmas
+mod ViewLemmas
+mod CallLemmas

@@ -26,7 +26,7 @@ module _ {T : Type 0} where
   size_of layout = length layout.live + length layout.stack + length layout.empty + length layout.loose
 
   -- places that move from one list to another
-  moved : (size : ℕ) (before after : Layout T) → IsSound size before → ((place : ℕ) → total after place ≡ total before place) → size_of after ≡ size_of before
+  pub moved : (size : ℕ) (before after : Layout T) → IsSound size before → ((place : ℕ) → total after place ≡ total before place) → size_of after ≡ size_of before
       → AreNamed (ids after.live ++ after.loose) after.stack → Rises after.age after.live → AllByRecursion (IsAged after.age) after.stack → IsSound size after
   moved size before after sound totals sizes named rises aged =
       record {

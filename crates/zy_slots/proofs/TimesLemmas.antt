@@ -1,6 +1,7 @@
 -- How often a place stands in a list, and the places of a list's ends.
-use Rattle.std.proofs.Common.{◌≡◌, ◌≢◌, ◌⊎◌, ℕ, ◌+◌, ◌<◌, ◌≤◌, Bool, true, false, eqb, cond, List, [], ◌∷◌, ◌++◌, Option, Some, None, refl, sym, ap, ◌∙◌, subst, inl, inr, arith}
+use Rattle.std.proofs.Common.{◌≡◌, ◌≢◌, ◌⊎◌, ℕ, zero, suc, ◌+◌, ◌<◌, ◌≤◌, Bool, true, false, eqb, cond, List, [], ◌∷◌, ◌++◌, Option, Some, None, refl, sym, ap, ◌∙◌, subst, inl, inr, arith}
 use Rattle.std.proofs.lemmas.Bool.{eq-eqb}
+use Rattle.std.proofs.lemmas.Bool.Decides.{eqb_tells}
 use Rattle.zy_slots.specs.Rings.{first_of, last_from, last_of}
 use Rattle.zy_slots.specs.Shape.{times, IsAmong}
 
@@ -68,3 +69,14 @@ split_cases {A} (y ∷ front) back (z ∷ earlier) x later same =
       | inl found ↦ inl (found.0, cc (ap (λ (list : List A). y ∷ list) found.1), found.2)
       | inr found ↦ inr (found.0, cc (ap (λ (list : List A). y ∷ list) found.1), found.2)
     ]
+
+pub other_place : (place other : ℕ) → place ≢ other → times place (other ∷ []) ≡ 0
+other_place place other apart =
+    elim (eqb_tells place other) [
+      | inl same ↦ absurd (apart same.1)
+      | inr not ↦ rw not.0 refl
+    ]
+
+pub never : (n limit : ℕ) → (0 < n → limit < limit) → n ≡ 0
+never zero limit inside = refl
+never (suc n) limit inside = let less : limit < limit = inside (omega arith) in absurd (omega arith)

@@ -26,6 +26,12 @@ abbrev pub IsApart : ℕ → Link → Type 0
 IsApart id link = (link.prev ≢ Some id) × (link.next ≢ Some id)
 
 module _ {T : Type 0} where
+  abbrev pub with_live : Cells T → List (Cell T) → Cells T
+  with_live cells live = record cells { live = live }
+
+  abbrev pub with_stack : Cells T → List (Kept T) → Cells T
+  with_stack cells stack = record cells { stack = stack }
+
   abbrev pub ids : List (Cell T) → List ℕ
   ids cells = map (λ cell. cell.id) cells
 

@@ -1,11 +1,13 @@
 //! What slots hold, and the two orders in which live slots stand.
-ghost use Rattle.std.specs.Prelude.{◌≡◌, ℕ, ◌<◌, ◌≤◌, ◌++◌, ◌∷◌, [], ◌≢◌, false, length, replicate, IfSome, IfOk, OnErr};
+ghost use Rattle.std.specs.Prelude.{◌≡◌, ℕ, ◌<◌, ◌≤◌, ◌++◌, ◌∷◌, [], ◌≢◌, true, false, length, replicate, option_map, IfSome, IfNone, IfOk, OnErr};
 ghost use Rattle.zy_slots.specs.declared.slot.Kind.TheVariants.{Order, Chain};
 ghost use Rattle.zy_slots.specs.Columns.{linked, slot_at, ends_at, no_link, AreWithin, StaysBeside, StaysInPiles, IsHeldNow, IsDetached, IsAttached, IsTaken};
 
+use crate::index::Index;
 use crate::link::Link;
 use crate::ring::{attach, detach};
 use crate::slot::{Held, Kind, Slot};
+use crate::slots::SlotId;
 use zy_base::Want;
 
 /// How many buckets there are.
@@ -141,4 +143,25 @@ pub fn empty_chains() -> [Link; BUCKETS]
 {
     let link = Link::none();
     [link; BUCKETS]
+}
+
+/// The name of a value at a place.
+pub fn named(place: Index) -> Option<SlotId>
+    ensures { option_map (λ id. id.0) result ≡ place }
+{
+    match place.get() {
+        Some(place) => Some(SlotId(place as u64)),
+        None => None,
+    }
+}
+
+/// The slot of a live value.
+pub fn live_slot<T>(slots: &Vec<Slot<T>>, id: u64) -> Option<&Slot<T>>
+    ensures some { IfSome result (λ slot. (slot.now ≡ slot_at slots.now.items id) × (slot.now.held.live ≡ true)) }
+    ensures none { IfNone result ((slot_at slots.now.items id).held.live ≡ false) }
+{
+    match slots.get(id as usize) {
+        Some(slot) if slot.held.live => Some(slot),
+        _ => None,
+    }
 }
