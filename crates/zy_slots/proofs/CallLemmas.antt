@@ -19,12 +19,12 @@ use Rattle.zy_slots.proofs.StepLemmas.{laid, out_shape, in_shape}
 use Rattle.zy_slots.proofs.PileLemmas.{stacked_shape, unstacked_shape, kept_after, freed_shape, taken_shape, grown_shape, held_shape, anew_shape}
 use Rattle.zy_slots.proofs.ViewLemmas.{settled}
 
-within_from_among : (limit : ℕ) (places : List ℕ) (place : Option ℕ) → ((other : ℕ) → 0 < times other places → other < limit) → IsAmong places place
+pub within_from_among : (limit : ℕ) (places : List ℕ) (place : Option ℕ) → ((other : ℕ) → 0 < times other places → other < limit) → IsAmong places place
     → IfSome place (λ p. p < limit)
 within_from_among limit places None below among = tt
 within_from_among limit places (Some place) below among = below place among
 
-between_within : (limit : ℕ) (front back : List ℕ) → ((other : ℕ) → 0 < times other front → other < limit) → ((other : ℕ) → 0 < times other back → other < limit)
+pub between_within : (limit : ℕ) (front back : List ℕ) → ((other : ℕ) → 0 < times other front → other < limit) → ((other : ℕ) → 0 < times other back → other < limit)
     → AreWithin limit (between front back)
 between_within limit front back below below' =
     (within_from_among limit front (last_of front) below (last_among front), within_from_among limit back (first_of back) below' (first_among back))

@@ -9,3 +9,4 @@ mod StepLemmas
 mod PileLemmas
 mod ViewLemmas
 mod CallLemmas
+mod SlotsLemmas

@@ -1,5 +1,5 @@
 //! What slots hold, and the two orders in which live slots stand.
-ghost use Rattle.std.specs.Prelude.{◌≡◌, ℕ, ◌<◌, ◌≤◌, ◌++◌, ◌∷◌, [], ◌≢◌, true, false, length, replicate, option_map, IfSome, IfNone, IfOk, OnErr};
+ghost use Rattle.std.specs.Prelude.{◌≡◌, ℕ, ◌<◌, ◌≤◌, ◌++◌, ◌∷◌, [], ◌≢◌, true, false, length, replicate, option_map, IfSome, IfNone, IsSome, Some, IfOk, OnErr};
 ghost use Rattle.zy_slots.specs.declared.slot.Kind.TheVariants.{Order, Chain};
 ghost use Rattle.zy_slots.specs.Columns.{linked, slot_at, ends_at, no_link, AreWithin, StaysBeside, StaysInPiles, IsHeldNow, IsDetached, IsAttached, IsTaken};
 
@@ -163,5 +163,37 @@ pub fn live_slot<T>(slots: &Vec<Slot<T>>, id: u64) -> Option<&Slot<T>>
     match slots.get(id as usize) {
         Some(slot) if slot.held.live => Some(slot),
         _ => None,
+    }
+}
+
+/// What a slot holds.
+pub fn value_in<T>(slots: &Vec<Slot<T>>, place: usize) -> &T
+    requires place { place < length slots.now.items }
+    requires some { IsSome (slot_at slots.now.items place).held.value }
+    ensures { (slot_at slots.now.items place).held.value ≡ Some result.now }
+{
+    match &slots[place].held.value {
+        Some(value) => value,
+        None => unreachable!(),
+    }
+}
+
+/// The ends of a chain.
+pub fn ends_of(chains: &[Link; BUCKETS], bucket: usize) -> Link
+    requires { bucket < 64 }
+    ensures { result ≡ ends_at chains.now bucket }
+{
+    chains[bucket]
+}
+
+/// The name of the first value of a chain. None where there is no such chain.
+pub fn first_in_chain(chains: &[Link; BUCKETS], bucket: usize) -> Option<SlotId>
+    ensures some { bucket < 64 → option_map (λ id. id.0) result ≡ (ends_at chains.now bucket).next }
+    ensures none { 64 ≤ bucket → result ≡ None }
+{
+    if bucket < BUCKETS {
+        named(ends_of(chains, bucket).next)
+    } else {
+        None
     }
 }

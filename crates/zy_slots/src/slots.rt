@@ -3,7 +3,8 @@ ghost use Rattle.zy_slots.specs.Rings.{first_of};
 ghost use Rattle.zy_slots.specs.Cells.{Cell, Kept, ids, chain_of, with_live, with_stack, Stands, IsLive, kept, relinked, CanRelink, CanTakeLast, IsFresh};
 
 use crate::cells::{
-    BUCKETS, empty_chains, hold, live_slot, named, put_in, release, set_live, take_free, take_out,
+    BUCKETS, empty_chains, ends_of, first_in_chain, hold, live_slot, named, put_in, release,
+    set_live, take_free, take_out, value_in,
 };
 use crate::index::Index;
 use crate::link::Link;
@@ -80,7 +81,7 @@ impl<T> Slots<T> {
             next: Index::none(),
         };
         let chain_sides = Link {
-            prev: self.chains[bucket as usize].prev,
+            prev: ends_of(&self.chains, bucket as usize).prev,
             next: Index::none(),
         };
         put_in(
@@ -112,20 +113,21 @@ impl<T> Slots<T> {
         requires { CanRelink self.old }
         ensures { self.new ≡ relinked self.old }
     {
-        if let Some(place) = self.stack.next.get() {
-            detach(&mut self.slots, &mut self.stack, Kind::Pile, place);
-            set_live(&mut self.slots, place, true);
-            let sides = link_in(&self.slots, Kind::Order, place);
-            let chain_sides = link_in(&self.slots, Kind::Chain, place);
-            put_in(
-                &mut self.slots,
-                &mut self.order,
-                &mut self.chains,
-                place,
-                &sides,
-                &chain_sides,
-            );
-        }
+        let Some(place) = self.stack.next.get() else {
+            unreachable!()
+        };
+        detach(&mut self.slots, &mut self.stack, Kind::Pile, place);
+        set_live(&mut self.slots, place, true);
+        let sides = link_in(&self.slots, Kind::Order, place);
+        let chain_sides = link_in(&self.slots, Kind::Chain, place);
+        put_in(
+            &mut self.slots,
+            &mut self.order,
+            &mut self.chains,
+            place,
+            &sides,
+            &chain_sides,
+        );
     }
 
     /// Takes the last live value out for good.
@@ -186,10 +188,7 @@ impl<T> Slots<T> {
     pub fn bucket_first(&self, bucket: u8) -> Option<SlotId>
         ensures { option_map (λ id. id.0) result ≡ first_of (ids (chain_of bucket self.now.live)) }
     {
-        match self.chains.get(bucket as usize) {
-            Some(ends) => named(ends.next),
-            None => None,
-        }
+        first_in_chain(&self.chains, bucket as usize)
     }
 
     /// The live value behind this one in its bucket. None where this one isn't live.
@@ -208,9 +207,6 @@ impl<T> Slots<T> {
         requires { IsLive self.now id.0 }
         ensures { (earlier : List (Cell T)) (cell : Cell T) (later : List (Cell T)) → Stands self.now id.0 earlier cell later → result.now ≡ cell.value }
     {
-        match &self.slots[id.0 as usize].held.value {
-            Some(value) => value,
-            None => unreachable!(),
-        }
+        value_in(&self.slots, id.0 as usize)
     }
 }
