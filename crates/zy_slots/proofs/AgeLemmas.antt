@@ -133,12 +133,13 @@ module _ {T : Type 0} where
       let elsewhere : cell.id ≢ place = λ same.
       let there : times place (cell.id ∷ ids cells) ≡ 1 + times place (ids cells) = subst (λ (id : ℕ). times place (id ∷ ids cells) ≡ 1 + times place (ids cells)) (sym same) (times_self place (ids cells)) in
       omega arith in
-      let here = age_other age place new cell.id elsewhere in
-      (all_among (λ (c : Cell T). c.id) (λ (c : Cell T). age cell.id < age c.id) (λ (c : Cell T). aged_anew age place new cell.id < aged_anew age place new c.id) cells
-        (λ c some less.
-          let apart : c.id ≢ place = λ same. let there : 0 < times place (ids cells) = subst (λ (id : ℕ). 0 < times id (ids cells)) same some in omega arith in
-          let there = age_other age place new c.id apart in omega arith) rises.0,
-        rises_anew age place new cells (omega arith) rises.1)
+      let here = age_other age place new cell.id elsewhere in (
+        all_among (λ (c : Cell T). c.id) (λ (c : Cell T). age cell.id < age c.id) (λ (c : Cell T). aged_anew age place new cell.id < aged_anew age place new c.id) cells
+            (λ c some less.
+            let apart : c.id ≢ place = λ same. let there : 0 < times place (ids cells) = subst (λ (id : ℕ). 0 < times id (ids cells)) same some in omega arith in
+            let there = age_other age place new c.id apart in omega arith) rises.0,
+        rises_anew age place new cells (omega arith) rises.1,
+      )
 
   pub stack_anew : (age : ℕ → ℕ) (place new : ℕ) (stack : List (Kept T)) → times place (kept_ids stack) ≡ 0 → KeptByNone stack place
       → AllByRecursion (IsAged age) stack → AllByRecursion (IsAged (aged_anew age place new)) stack
@@ -146,9 +147,10 @@ module _ {T : Type 0} where
   stack_anew age place new (item ∷ items) none apart aged =
       let elsewhere : item.cell.id ≢ place = λ same.
       let there : times place (item.cell.id ∷ kept_ids items) ≡ 1 + times place (kept_ids items) = subst (λ (id : ℕ). times place (id ∷ kept_ids items) ≡ 1 + times place (kept_ids items)) (sym same) (times_self place (kept_ids items)) in
-      omega arith in
-      ((between_anew age place new item.order item.cell.id elsewhere apart.0.0 aged.0.0, between_anew age place new item.chain item.cell.id elsewhere apart.0.1 aged.0.1),
-        stack_anew age place new items (omega arith) apart.1 aged.1)
+      omega arith in (
+        (between_anew age place new item.order item.cell.id elsewhere apart.0.0 aged.0.0, between_anew age place new item.chain item.cell.id elsewhere apart.0.1 aged.0.1),
+        stack_anew age place new items (omega arith) apart.1 aged.1,
+      )
 
   -- an age above those of all live cells
   abbrev pub next_age : (ℕ → ℕ) → List (Cell T) → ℕ

@@ -66,11 +66,11 @@ module _ {T : Type 0} where
         fits = subst (λ (held : Held T). held.bucket < 64) (sym holds.held) holds.fits;
         order = subst (AreWithin (length slots)) (sym ((order_at slots order chains stack free front cell back items empty age shape).links (ids front) cell.id (ids back) refl))
             (between_within (length slots) (ids front) (ids back)
-              (λ place some. shape.sound.within place (omega (arith, some, counts front cell back place))) (λ place some. shape.sound.within place (omega (arith, some, counts front cell back place))));
+            (λ place some. shape.sound.within place (omega (arith, some, counts front cell back place))) (λ place some. shape.sound.within place (omega (arith, some, counts front cell back place))));
         chain = subst (AreWithin (length slots)) (sym ((chain_at slots order chains stack free front cell back items empty age shape).links (ids (chain_of cell.bucket front)) cell.id (ids (chain_of cell.bucket back)) refl))
             (between_within (length slots) (ids (chain_of cell.bucket front)) (ids (chain_of cell.bucket back))
-              (λ place some. shape.sound.within place (omega (arith, some, counts front cell back place, times_chain place cell.bucket front)))
-              (λ place some. shape.sound.within place (omega (arith, some, counts front cell back place, times_chain place cell.bucket back))));
+            (λ place some. shape.sound.within place (omega (arith, some, counts front cell back place, times_chain place cell.bucket front)))
+            (λ place some. shape.sound.within place (omega (arith, some, counts front cell back place, times_chain place cell.bucket back))));
       }
 
   -- ---- unlink
@@ -92,23 +92,26 @@ module _ {T : Type 0} where
   unlinked_shape slots order chains stack slots' order' chains' stack' free front cell back items empty age shape steps =
       stacked_shape steps.marked slots' order' chains' stack stack' free (front ++ back) (kept front cell back) items empty age second steps.onto steps.beside
       (record {
-          held = steps.held.here ∙ ap (λ (held : Held T). record held { live = false }) (piles.held cell.id ∙ holds.held);
-          fits = holds.fits;
-          order = steps.held.links Order cell.id
-              ∙ detached_elsewhere (linked Order slots order) (linked Order steps.out order') (ids front) cell.id (ids back) cell.id order_was steps.from_order (omega (arith, own)) (omega (arith, own))
-              ∙ order_was.links (ids front) cell.id (ids back) refl;
-          chain = steps.held.links Chain cell.id
-              ∙ detached_elsewhere (linked Chain slots (ends_at chains cell.bucket)) (linked Chain steps.out (ends_at chains' cell.bucket)) (ids (chain_of cell.bucket front)) cell.id (ids (chain_of cell.bucket back)) cell.id chain_was from_chain
-              (omega (arith, own, times_chain cell.id cell.bucket front)) (omega (arith, own, times_chain cell.id cell.bucket back))
-              ∙ chain_was.links (ids (chain_of cell.bucket front)) cell.id (ids (chain_of cell.bucket back)) refl;
-        })
-      (among_more (ids front) (ids (front ++ back)) _ (λ place some. omega (arith, parts place)) (last_among (ids front)),
-        among_more (ids back) (ids (front ++ back)) _ (λ place some. omega (arith, parts place)) (first_among (ids back)))
-      (among_more (ids (chain_of cell.bucket front)) (ids (front ++ back)) _ (λ place some. omega (arith, parts place, times_chain place cell.bucket front)) (last_among (ids (chain_of cell.bucket front))),
-        among_more (ids (chain_of cell.bucket back)) (ids (front ++ back)) _ (λ place some. omega (arith, parts place, times_chain place cell.bucket back)) (first_among (ids (chain_of cell.bucket back))))
-      (aged_between age front cell back shape.sound.rises,
+        held = steps.held.here ∙ ap (λ (held : Held T). record held { live = false }) (piles.held cell.id ∙ holds.held);
+        fits = holds.fits;
+        order = steps.held.links Order cell.id
+            ∙ detached_elsewhere (linked Order slots order) (linked Order steps.out order') (ids front) cell.id (ids back) cell.id order_was steps.from_order (omega (arith, own)) (omega (arith, own))
+            ∙ order_was.links (ids front) cell.id (ids back) refl;
+        chain = steps.held.links Chain cell.id
+            ∙ detached_elsewhere (linked Chain slots (ends_at chains cell.bucket)) (linked Chain steps.out (ends_at chains' cell.bucket)) (ids (chain_of cell.bucket front)) cell.id (ids (chain_of cell.bucket back)) cell.id chain_was from_chain
+            (omega (arith, own, times_chain cell.id cell.bucket front)) (omega (arith, own, times_chain cell.id cell.bucket back))
+            ∙ chain_was.links (ids (chain_of cell.bucket front)) cell.id (ids (chain_of cell.bucket back)) refl;
+      }) (
+        among_more (ids front) (ids (front ++ back)) _ (λ place some. omega (arith, parts place)) (last_among (ids front)),
+        among_more (ids back) (ids (front ++ back)) _ (λ place some. omega (arith, parts place)) (first_among (ids back)),
+      ) (
+        among_more (ids (chain_of cell.bucket front)) (ids (front ++ back)) _ (λ place some. omega (arith, parts place, times_chain place cell.bucket front)) (last_among (ids (chain_of cell.bucket front))),
+        among_more (ids (chain_of cell.bucket back)) (ids (front ++ back)) _ (λ place some. omega (arith, parts place, times_chain place cell.bucket back)) (first_among (ids (chain_of cell.bucket back))),
+      ) (
+        aged_between age front cell back shape.sound.rises,
         aged_between age (chain_of cell.bucket front) cell (chain_of cell.bucket back)
-          (subst (Rises age) (chain_middle front cell back) (rises_chain age cell.bucket (front ++ cell ∷ back) shape.sound.rises)))
+            (subst (Rises age) (chain_middle front cell back) (rises_chain age cell.bucket (front ++ cell ∷ back) shape.sound.rises)),
+      )
     where
       holds : HoldsLive slots cell
       holds = (all_split (HoldsLive slots) front cell back shape.holds_live).1
@@ -163,8 +166,8 @@ module _ {T : Type 0} where
       (record { held = now; fits = holds.fits }) before behind
       (subst (IsAttached (linked Order steps.marked order) (linked Order slots' order') item.cell.id) (steps.held.links Order item.cell.id ∙ holds.order ∙ order_kept) steps.into_order)
       (subst (IsAttached (linked Chain steps.marked (ends_at chains item.cell.bucket)) (linked Chain slots' (ends_at chains' item.cell.bucket)) item.cell.id)
-        (steps.held.links Chain item.cell.id ∙ holds.chain ∙ chain_kept ∙ ap (λ (c : List (Cell T)). between (ids c) (ids chain_back)) cut.0 ∙ ap (λ (c : List (Cell T)). between (ids (chain_of item.cell.bucket front)) (ids c)) cut.1)
-        (subst (λ (b : ℕ). IsAttached (linked Chain steps.marked (ends_at chains b)) (linked Chain slots' (ends_at chains' b)) item.cell.id (slot_at steps.marked item.cell.id).chain) same_bucket steps.into_chain))
+      (steps.held.links Chain item.cell.id ∙ holds.chain ∙ chain_kept ∙ ap (λ (c : List (Cell T)). between (ids c) (ids chain_back)) cut.0 ∙ ap (λ (c : List (Cell T)). between (ids (chain_of item.cell.bucket front)) (ids c)) cut.1)
+      (subst (λ (b : ℕ). IsAttached (linked Chain steps.marked (ends_at chains b)) (linked Chain slots' (ends_at chains' b)) item.cell.id (slot_at steps.marked item.cell.id).chain) same_bucket steps.into_chain))
       (subst (StaysInPiles steps.marked slots' chains chains') same_bucket steps.in_piles)
     where
       holds : HoldsKept steps.off item
@@ -274,15 +277,19 @@ module _ {T : Type 0} where
       elim taken [
         | inl it ↦
             let first : first_of empty ≡ Some place = sym (ap next_of shape.free_ring.ends) ∙ it.0 in
-            let split = starts_with empty place first in
-            (split.0, taken_shape slots found order chains stack free free' live items place split.0 age
-                (subst (λ (e : List ℕ). IsShape slots order chains stack free (laid live items e [] age)) split.1 shape) it.1 it.2)
+            let split = starts_with empty place first in (
+              split.0,
+              taken_shape slots found order chains stack free free' live items place split.0 age
+                  (subst (λ (e : List ℕ). IsShape slots order chains stack free (laid live items e [] age)) split.1 shape) it.1 it.2,
+            )
         | inr it ↦
             let room : length slots < 4294967295 = subst (λ (p : ℕ). p < 4294967295) it.0 it.1 in
-            let grown = grown_shape slots order chains stack free live items empty age shape room in
-            (empty, subst (λ (f : Link). IsShape found order chains stack f (laid live items empty (place ∷ []) age)) (sym it.3)
-                (subst (λ (s : List (Slot T)). IsShape s order chains stack free (laid live items empty (place ∷ []) age)) (sym it.2)
-                  (subst (λ (p : ℕ). IsShape (slots ++ no_slot ∷ []) order chains stack free (laid live items empty (p ∷ []) age)) (sym it.0) grown)))
+            let grown = grown_shape slots order chains stack free live items empty age shape room in (
+              empty,
+              subst (λ (f : Link). IsShape found order chains stack f (laid live items empty (place ∷ []) age)) (sym it.3)
+                  (subst (λ (s : List (Slot T)). IsShape s order chains stack free (laid live items empty (place ∷ []) age)) (sym it.2)
+                  (subst (λ (p : ℕ). IsShape (slots ++ no_slot ∷ []) order chains stack free (laid live items empty (p ∷ []) age)) (sym it.0) grown)),
+            )
       ]
     where
       starts_with : (places : List ℕ) (p : ℕ) → first_of places ≡ Some p → (rest : List ℕ) × (places ≡ p ∷ rest)
@@ -294,11 +301,11 @@ module _ {T : Type 0} where
       → IsShape slots order chains stack free (laid live items empty (place ∷ []) age)
       → AllByRecursion (λ (item : Kept T). item.cell.id ≢ place) items × AllByRecursion (λ (cell : Cell T). cell.id ≢ place) live
   fresh_from slots order chains stack free place live items empty age shape = (
-      all_among (λ (k : Kept T). k.cell.id) (λ (k : Kept T). Unit {0}) (λ (k : Kept T). k.cell.id ≢ place) items
+    all_among (λ (k : Kept T). k.cell.id) (λ (k : Kept T). Unit {0}) (λ (k : Kept T). k.cell.id ≢ place) items
         (λ k some h same. let there : 0 < times place (kept_ids items) = subst (λ (p : ℕ). 0 < times p (kept_ids items)) same some in omega (arith, own)) (all_unit items),
-      all_among (λ (c : Cell T). c.id) (λ (c : Cell T). Unit {0}) (λ (c : Cell T). c.id ≢ place) live
+    all_among (λ (c : Cell T). c.id) (λ (c : Cell T). Unit {0}) (λ (c : Cell T). c.id ≢ place) live
         (λ c some h same. let there : 0 < times place (ids live) = subst (λ (p : ℕ). 0 < times p (ids live)) same some in omega (arith, own)) (all_unit live),
-    )
+  )
     where
       own : times place (ids live) + times place (kept_ids items) + 1 ≤ 1
       own = omega (arith, shape.sound.once place, times_self place [])
@@ -311,13 +318,15 @@ module _ {T : Type 0} where
       (cell : Cell T) (live : List (Cell T)) (items : List (Kept T)) (empty : List ℕ) (age : ℕ → ℕ)
       → IsShape slots order chains stack free (laid live items empty [] age) → cell.bucket < 64 → Inserts slots order chains free slots' order' chains' free' cell
       → (rest : List ℕ) × IsShape slots' order' chains' stack free' (laid (live ++ cell ∷ []) items rest [] (aged_anew age cell.id (next_age age live)))
-  inserted_shape slots order chains free slots' order' chains' free' stack cell live items empty age shape fits steps =
-      (found.0, in_shape steps.filled slots' order order' chains chains' stack free' live cell [] items found.0 age' third'
-          (record { held = steps.held.here; fits = fits }) before tt
-          (subst (IsAttached (linked Order steps.filled order) (linked Order slots' order') cell.id) order_link steps.into_order)
-          (subst (IsAttached (linked Chain steps.filled (ends_at chains cell.bucket)) (linked Chain slots' (ends_at chains' cell.bucket)) cell.id) chain_link
-            (subst (λ (b : ℕ). IsAttached (linked Chain steps.filled (ends_at chains b)) (linked Chain slots' (ends_at chains' b)) cell.id (record { prev = (ends_at chains cell.bucket).prev; next = None })) same_bucket steps.into_chain))
-          (subst (StaysInPiles steps.filled slots' chains chains') same_bucket steps.in_piles))
+  inserted_shape slots order chains free slots' order' chains' free' stack cell live items empty age shape fits steps = (
+    found.0,
+    in_shape steps.filled slots' order order' chains chains' stack free' live cell [] items found.0 age' third'
+        (record { held = steps.held.here; fits = fits }) before tt
+        (subst (IsAttached (linked Order steps.filled order) (linked Order slots' order') cell.id) order_link steps.into_order)
+        (subst (IsAttached (linked Chain steps.filled (ends_at chains cell.bucket)) (linked Chain slots' (ends_at chains' cell.bucket)) cell.id) chain_link
+        (subst (λ (b : ℕ). IsAttached (linked Chain steps.filled (ends_at chains b)) (linked Chain slots' (ends_at chains' b)) cell.id (record { prev = (ends_at chains cell.bucket).prev; next = None })) same_bucket steps.into_chain))
+        (subst (StaysInPiles steps.filled slots' chains chains') same_bucket steps.in_piles),
+  )
     where
       found : (rest : List ℕ) × IsShape steps.found order chains stack free' (laid live items rest (cell.id ∷ []) age)
       found = found_shape slots order chains stack free steps.found free' cell.id live items empty age shape steps.taken
@@ -351,9 +360,9 @@ module _ {T : Type 0} where
       before : AllByRecursion (λ (c : Cell T). aged_anew age cell.id (next_age age live) c.id < aged_anew age cell.id (next_age age live) cell.id) live
       before = all_among (λ (c : Cell T). c.id) (λ (c : Cell T). age c.id < next_age age live) _ live
           (λ c some less.
-            let elsewhere : c.id ≢ cell.id = λ same. let there : 0 < times cell.id (ids live) = subst (λ (p : ℕ). 0 < times p (ids live)) same some in omega (arith, own) in
-            let new = age_new age cell.id (next_age age live) in
-            let same = age_other age cell.id (next_age age live) c.id elsewhere in omega arith)
+          let elsewhere : c.id ≢ cell.id = λ same. let there : 0 < times cell.id (ids live) = subst (λ (p : ℕ). 0 < times p (ids live)) same some in omega (arith, own) in
+          let new = age_new age cell.id (next_age age live) in
+          let same = age_other age cell.id (next_age age live) c.id elsewhere in omega arith)
           (below_next age live)
 
   pub inserted_fresh : (slots : List (Slot T)) (order : Link) (chains : List Link) (stack free : Link) (found : List (Slot T)) (free' : Link) (place : ℕ)

@@ -34,7 +34,7 @@ module _ {T : Type 0} where
     both_more seen more item.order sub named.0,
     both_more seen more item.chain sub named.1,
     named_more (item.cell.id ∷ seen) (item.cell.id ∷ more) items
-      (λ place some. some_more _ (times place seen) (times place more) (sub place) some) named.2,
+        (λ place some. some_more _ (times place seen) (times place more) (sub place) some) named.2,
   )
 
   pub named_without : (seen fewer : List ℕ) (gone : ℕ) (stack : List (Kept T)) → KeptByNone stack gone
@@ -44,15 +44,16 @@ module _ {T : Type 0} where
     both_fewer seen fewer gone item.order apart.0.0 sub named.0,
     both_fewer seen fewer gone item.chain apart.0.1 sub named.1,
     named_without (item.cell.id ∷ seen) (item.cell.id ∷ fewer) gone items apart.1
-      (λ other elsewhere some. some_more _ (times other seen) (times other fewer) (sub other elsewhere) some) named.2,
+        (λ other elsewhere some. some_more _ (times other seen) (times other fewer) (sub other elsewhere) some) named.2,
   )
 
   pub kept_by_none : (seen : List ℕ) (stack : List (Kept T)) (place : ℕ) → AreNamed seen stack → times place seen ≡ 0 → times place (kept_ids stack) ≡ 0
       → KeptByNone stack place
   kept_by_none seen [] place named none none' = tt
-  kept_by_none seen (item ∷ items) place named none none' =
-      ((apart_from seen place item.order named.0 none, apart_from seen place item.chain named.1 none),
-        kept_by_none (item.cell.id ∷ seen) items place named.2 (omega arith) (omega arith))
+  kept_by_none seen (item ∷ items) place named none none' = (
+    (apart_from seen place item.order named.0 none, apart_from seen place item.chain named.1 none),
+    kept_by_none (item.cell.id ∷ seen) items place named.2 (omega arith) (omega arith),
+  )
 
   -- one less on the stack, which may still be named
   pub named_taken : (seen : List ℕ) (front : List (Kept T)) (item : Kept T) (back : List (Kept T)) → AreNamed seen (front ++ item ∷ back)

@@ -66,18 +66,20 @@ module _ {T : Type 0} where
       record {
         sound = subst (λ (n : ℕ). IsSound n (laid live (item ∷ items) empty [] age)) (sym rest.as_many)
             (moved (length slots) (laid live items empty (item.cell.id ∷ []) age) (laid live (item ∷ items) empty [] age) shape.sound
-              (λ place. omega arith) (omega arith)
-              (both_more (ids live) (ids live ++ []) item.order more among, both_more (ids live) (ids live ++ []) item.chain more among',
-                named_more (ids live ++ item.cell.id ∷ []) (item.cell.id ∷ (ids live ++ [])) items
-                  (λ place some. omega (arith, times-append place (ids live) (item.cell.id ∷ []), times-append place (ids live) [])) shape.sound.named)
-              shape.sound.rises (aged, shape.sound.aged));
+            (λ place. omega arith) (omega arith) (
+              both_more (ids live) (ids live ++ []) item.order more among,
+              both_more (ids live) (ids live ++ []) item.chain more among',
+              named_more (ids live ++ item.cell.id ∷ []) (item.cell.id ∷ (ids live ++ [])) items
+                  (λ place some. omega (arith, times-append place (ids live) (item.cell.id ∷ []), times-append place (ids live) [])) shape.sound.named,
+            )
+            shape.sound.rises (aged, shape.sound.aged));
         order_ring = order_beside slots slots' order (ids live) rest shape.order_ring;
         chain_rings = λ bucket below. chain_beside slots slots' (ends_at chains bucket) (ids (chain_of bucket live)) rest (shape.chain_rings bucket below);
         stack_ring = attached (linked Pile slots stack) (linked Pile slots' stack') [] item.cell.id (kept_ids items) shape.stack_ring
             (λ place. omega (arith, once place)) refl (omega (arith, own)) put';
         free_ring = ring_same (linked Pile slots free) (linked Pile slots' free) empty shape.free_ring refl
             (λ place some. attached_elsewhere (linked Pile slots stack) (linked Pile slots' stack') [] item.cell.id (kept_ids items) place put'
-              (λ same. let there : 0 < times item.cell.id empty = subst (λ (p : ℕ). 0 < times p empty) same some in omega (arith, own)) refl (omega (arith, once place)));
+            (λ same. let there : 0 < times item.cell.id empty = subst (λ (p : ℕ). 0 < times p empty) same some in omega (arith, own)) refl (omega (arith, once place)));
         holds_live = all_map (HoldsLive slots) (HoldsLive slots') live (live_beside slots slots' rest) shape.holds_live;
         holds_kept = (kept_beside slots slots' rest item holds, all_map (HoldsKept slots) (HoldsKept slots') items (kept_beside slots slots' rest) shape.holds_kept);
         marks = λ place none. ap (λ (held : Held T). held.live) (rest.held place) ∙ elim (cases_eq place item.cell.id) [
@@ -111,12 +113,12 @@ module _ {T : Type 0} where
       record {
         sound = subst (λ (n : ℕ). IsSound n (laid live (front ++ back) empty (item.cell.id ∷ []) age)) (sym rest.as_many)
             (moved (length slots) (laid live (front ++ item ∷ back) empty [] age) (laid live (front ++ back) empty (item.cell.id ∷ []) age) shape.sound
-              (λ place. omega (arith, counts place, counts' place)) (omega (arith, length-append front (item ∷ back), length-append front back))
-              (named_more ((ids live ++ []) ++ item.cell.id ∷ []) (ids live ++ item.cell.id ∷ []) (front ++ back)
-                (λ place some. omega (arith, times-append place (ids live ++ []) (item.cell.id ∷ []), times-append place (ids live) [], times-append place (ids live) (item.cell.id ∷ [])))
-                (named_taken (ids live ++ []) front item back shape.sound.named))
-              shape.sound.rises
-              (all_join (IsAged age) front back (all_split (IsAged age) front item back shape.sound.aged).0 (all_split (IsAged age) front item back shape.sound.aged).2));
+            (λ place. omega (arith, counts place, counts' place)) (omega (arith, length-append front (item ∷ back), length-append front back))
+            (named_more ((ids live ++ []) ++ item.cell.id ∷ []) (ids live ++ item.cell.id ∷ []) (front ++ back)
+            (λ place some. omega (arith, times-append place (ids live ++ []) (item.cell.id ∷ []), times-append place (ids live) [], times-append place (ids live) (item.cell.id ∷ [])))
+            (named_taken (ids live ++ []) front item back shape.sound.named))
+            shape.sound.rises
+            (all_join (IsAged age) front back (all_split (IsAged age) front item back shape.sound.aged).0 (all_split (IsAged age) front item back shape.sound.aged).2));
         order_ring = order_beside slots slots' order (ids live) rest shape.order_ring;
         chain_rings = λ bucket below. chain_beside slots slots' (ends_at chains bucket) (ids (chain_of bucket live)) rest (shape.chain_rings bucket below);
         stack_ring = subst (IsRing (linked Pile slots' stack')) (sym (kept_ids-append front back))
@@ -156,17 +158,17 @@ module _ {T : Type 0} where
       record {
         sound = subst (λ (n : ℕ). IsSound n (laid live items (gone ∷ empty) [] age)) (sym rest.as_many)
             (moved (length slots) (laid live items empty (gone ∷ []) age) (laid live items (gone ∷ empty) [] age) shape.sound
-              (λ place. omega arith) (omega arith)
-              (named_without (ids live ++ gone ∷ []) (ids live ++ []) gone items apart
-                (λ place elsewhere some. omega (arith, times-append place (ids live) (gone ∷ []), times-append place (ids live) [], other_place place gone elsewhere)) shape.sound.named)
-              shape.sound.rises shape.sound.aged);
+            (λ place. omega arith) (omega arith)
+            (named_without (ids live ++ gone ∷ []) (ids live ++ []) gone items apart
+            (λ place elsewhere some. omega (arith, times-append place (ids live) (gone ∷ []), times-append place (ids live) [], other_place place gone elsewhere)) shape.sound.named)
+            shape.sound.rises shape.sound.aged);
         order_ring = order_beside slots slots' order (ids live) rest shape.order_ring;
         chain_rings = λ bucket below. chain_beside slots slots' (ends_at chains bucket) (ids (chain_of bucket live)) rest (shape.chain_rings bucket below);
         free_ring = attached (linked Pile slots free) (linked Pile slots' free') [] gone empty shape.free_ring
             (λ place. omega (arith, once place)) refl (omega (arith, own)) put';
         stack_ring = ring_same (linked Pile slots stack) (linked Pile slots' stack) (kept_ids items) shape.stack_ring refl
             (λ place some. attached_elsewhere (linked Pile slots free) (linked Pile slots' free') [] gone empty place put'
-              (λ same. let there : 0 < times gone (kept_ids items) = subst (λ (p : ℕ). 0 < times p (kept_ids items)) same some in omega (arith, own)) refl (omega (arith, once place)));
+            (λ same. let there : 0 < times gone (kept_ids items) = subst (λ (p : ℕ). 0 < times p (kept_ids items)) same some in omega (arith, own)) refl (omega (arith, once place)));
         holds_live = all_map (HoldsLive slots) (HoldsLive slots') live (live_beside slots slots' rest) shape.holds_live;
         holds_kept = all_map (HoldsKept slots) (HoldsKept slots') items (kept_beside slots slots' rest) shape.holds_kept;
         marks = λ place none. ap (λ (held : Held T). held.live) (rest.held place) ∙ elim (cases_eq place gone) [
@@ -194,10 +196,10 @@ module _ {T : Type 0} where
       record {
         sound = subst (λ (n : ℕ). IsSound n (laid live items empty (place ∷ []) age)) (sym rest.as_many)
             (moved (length slots) (laid live items (place ∷ empty) [] age) (laid live items empty (place ∷ []) age) shape.sound
-              (λ other. omega arith) (omega arith)
-              (named_more (ids live ++ []) (ids live ++ place ∷ []) items
-                (λ other some. omega (arith, times-append other (ids live) [], times-append other (ids live) (place ∷ []))) shape.sound.named)
-              shape.sound.rises shape.sound.aged);
+            (λ other. omega arith) (omega arith)
+            (named_more (ids live ++ []) (ids live ++ place ∷ []) items
+            (λ other some. omega (arith, times-append other (ids live) [], times-append other (ids live) (place ∷ []))) shape.sound.named)
+            shape.sound.rises shape.sound.aged);
         order_ring = order_beside slots slots' order (ids live) rest shape.order_ring;
         chain_rings = λ bucket below. chain_beside slots slots' (ends_at chains bucket) (ids (chain_of bucket live)) rest (shape.chain_rings bucket below);
         free_ring = detached (linked Pile slots free) (linked Pile slots' free') [] place empty shape.free_ring (λ other. omega (arith, once other)) out;
@@ -281,8 +283,8 @@ module _ {T : Type 0} where
             }) shape.holds_kept;
         marks = λ other none.
             ap (λ (held : Held T). held.live) (rest.elsewhere other (λ same.
-              let there : times place (ids live) + times place (place ∷ []) ≡ 0 = subst (λ (p : ℕ). times p (ids live) + times p (place ∷ []) ≡ 0) same none in
-              omega (arith, times_self place [])))
+            let there : times place (ids live) + times place (place ∷ []) ≡ 0 = subst (λ (p : ℕ). times p (ids live) + times p (place ∷ []) ≡ 0) same none in
+            omega (arith, times_self place [])))
             ∙ shape.marks other none;
       }
     where

@@ -90,7 +90,7 @@ rejoined at at' front middle middle' back ring once joined members =
         subst (λ (list : List ℕ). IsJoined at at' (last_of list) (first_of back) (first_of (middle' ++ back)) (last_of (front ++ middle'))) split joined in
         subst (λ (list : List ℕ). at' (Some place) ≡ between earlier list) (sym split')
         (left_side at at' earlier place rest (middle ++ back) (middle' ++ back) (first_of back) _ joined'
-          (not_there place back (first_of back) (first_among back) (omega arith)) (omega arith) (ring.links earlier place (rest ++ (middle ++ back)) whole))
+        (not_there place back (first_of back) (first_among back) (omega arith)) (omega arith) (ring.links earlier place (rest ++ (middle ++ back)) whole))
 
     in_back : (place : ℕ) (later rest : List ℕ) → back ≡ rest ++ place ∷ later → at' (Some place) ≡ between (front ++ middle' ++ rest) later
     in_back place later rest split =
@@ -111,7 +111,7 @@ detached at at' front place back ring once joined =
     rejoined at at' front (place ∷ []) [] back ring
     (λ other. let few = once other in omega (arith, times-append other front (place ∷ back)))
     (subst (λ (list : List ℕ). IsJoined at at' (last_of front) (first_of back) (first_of back) (last_of list)) (sym (append-nil front))
-      (subst (λ (link : Link). IsJoined at at' link.prev link.next link.next link.prev) own joined))
+    (subst (λ (link : Link). IsJoined at at' link.prev link.next link.next link.prev) own joined))
     (λ earlier other later split. absurd (no_split earlier other later split))
   where
     no_split : (earlier : List ℕ) (other : ℕ) (later : List ℕ) → [] ≡ earlier ++ other ∷ later → ⊥
@@ -153,9 +153,9 @@ attached at at' front place back ring once not_front not_back put =
     let ring' : IsRing put.middle (front ++ back) =
     ring_same at put.middle (front ++ back) ring (put.put.elsewhere None (λ same. cc))
     (λ other some. put.put.elsewhere (Some other) (λ same.
-      let equal : other ≡ place = cc in
-      let there : 0 < times place (front ++ back) = subst (λ (at : ℕ). 0 < times at (front ++ back)) equal some in
-      omega (arith, times-append place front back))) in
+    let equal : other ≡ place = cc in
+    let there : 0 < times place (front ++ back) = subst (λ (at : ℕ). 0 < times at (front ++ back)) equal some in
+    omega (arith, times-append place front back))) in
     rejoined put.middle at' front [] (place ∷ []) back ring' once
     (subst (λ (o : Option ℕ). IsJoined put.middle at' (last_of front) (first_of back) (Some place) o) (sym (last-append None front place [])) put.joined)
     (λ earlier other later split. only earlier other later split)
@@ -166,6 +166,6 @@ attached at at' front place back ring once not_front not_back put =
         let none : [] ≡ later = cc in
         subst (λ (list : List ℕ). at' (Some other) ≡ between (front ++ []) (list ++ back)) none
         (subst (λ (list : List ℕ). at' (Some other) ≡ between list back) (sym (append-nil front))
-          (subst (λ (at : ℕ). at' (Some at) ≡ between front back) same (attached_own at at' front place back put not_front not_back)))
+        (subst (λ (at : ℕ). at' (Some at) ≡ between front back) same (attached_own at at' front place back put not_front not_back)))
     only (x ∷ []) other later split = absurd (cc)
     only (x ∷ y ∷ earlier) other later split = absurd (cc)

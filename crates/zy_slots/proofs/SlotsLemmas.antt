@@ -218,8 +218,8 @@ module _ {T : Type 0} where
             (between_within (length slots) (ids can.earlier) (ids can.later) (λ other some. shape.sound.within other (omega (arith, some, parts other))) (λ other some. shape.sound.within other (omega (arith, some, parts other))));
         chain = subst (AreWithin (length slots)) (sym (shape.holds_kept.0.chain ∙ can.chain_kept))
             (between_within (length slots) (ids can.chain_earlier) (ids can.chain_later)
-              (λ other some. shape.sound.within other (omega (arith, some, chain_parts other, times_chain other can.top.cell.bucket (can.earlier ++ can.later))))
-              (λ other some. shape.sound.within other (omega (arith, some, chain_parts other, times_chain other can.top.cell.bucket (can.earlier ++ can.later)))));
+            (λ other some. shape.sound.within other (omega (arith, some, chain_parts other, times_chain other can.top.cell.bucket (can.earlier ++ can.later))))
+            (λ other some. shape.sound.within other (omega (arith, some, chain_parts other, times_chain other can.top.cell.bucket (can.earlier ++ can.later)))));
       } in
       let here = top_place slots order chains stack free is cells same can place next in
       (subst (NeedsOut slots) here out, subst (NeedsOff slots) here off)
@@ -412,7 +412,7 @@ module _ {T : Type 0} where
   order_next slots order chains stack free is cells same id earlier cell later stands =
       subst (λ (p : ℕ). (slot_at slots p).order.next ≡ first_of (ids later)) stands.named
       (ap next_of ((order_at slots order chains stack free earlier cell later cells.stack is.layout.empty is.layout.age
-          (located slots order chains stack free is cells same (earlier ++ cell ∷ later) stands.split)).links (ids earlier) cell.id (ids later) refl))
+      (located slots order chains stack free is cells same (earlier ++ cell ∷ later) stands.split)).links (ids earlier) cell.id (ids later) refl))
 
   pub chain_next : (slots : List (Slot T)) (order : Link) (chains : List Link) (stack free : Link) (is : IsLinked slots order chains stack free) (cells : Cells T)
       → cells_of slots order stack ≡ cells → (id : ℕ) (earlier : List (Cell T)) (cell : Cell T) (later : List (Cell T)) → Stands cells id earlier cell later
@@ -420,7 +420,7 @@ module _ {T : Type 0} where
   chain_next slots order chains stack free is cells same id earlier cell later stands =
       subst (λ (p : ℕ). (slot_at slots p).chain.next ≡ first_of (ids (chain_of cell.bucket later))) stands.named
       (ap next_of ((chain_at slots order chains stack free earlier cell later cells.stack is.layout.empty is.layout.age
-          (located slots order chains stack free is cells same (earlier ++ cell ∷ later) stands.split)).links (ids (chain_of cell.bucket earlier)) cell.id (ids (chain_of cell.bucket later)) refl))
+      (located slots order chains stack free is cells same (earlier ++ cell ∷ later) stands.split)).links (ids (chain_of cell.bucket earlier)) cell.id (ids (chain_of cell.bucket later)) refl))
 
   pub held_at : (slots : List (Slot T)) (order : Link) (chains : List Link) (stack free : Link) (is : IsLinked slots order chains stack free) (cells : Cells T)
       → cells_of slots order stack ≡ cells → (id : ℕ) (earlier : List (Cell T)) (cell : Cell T) (later : List (Cell T)) → Stands cells id earlier cell later

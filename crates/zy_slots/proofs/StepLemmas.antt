@@ -52,10 +52,10 @@ module _ {T : Type 0} where
       record {
         sound = subst (λ (n : ℕ). IsSound n (laid (front ++ back) items empty (cell.id ∷ []) age)) (sym rest.as_many)
             (moved (length slots) (laid (front ++ cell ∷ back) items empty [] age) (laid (front ++ back) items empty (cell.id ∷ []) age) shape.sound
-              (λ place. omega (arith, counts place, counts' place))
-              (omega (arith, length-append front (cell ∷ back), length-append front back))
-              (named_more _ _ items (λ place some. omega (arith, counts place, counts' place, times-append place (ids (front ++ cell ∷ back)) [], times-append place (ids (front ++ back)) (cell.id ∷ []))) shape.sound.named)
-              (rises_out age front cell back shape.sound.rises) shape.sound.aged);
+            (λ place. omega (arith, counts place, counts' place))
+            (omega (arith, length-append front (cell ∷ back), length-append front back))
+            (named_more _ _ items (λ place some. omega (arith, counts place, counts' place, times-append place (ids (front ++ cell ∷ back)) [], times-append place (ids (front ++ back)) (cell.id ∷ []))) shape.sound.named)
+            (rises_out age front cell back shape.sound.rises) shape.sound.aged);
         order_ring = subst (IsRing (linked Order slots' order')) (sym (ids-append front back))
             (detached (linked Order slots order) (linked Order slots' order') (ids front) cell.id (ids back) order_was (λ place. omega (arith, once place, times_middle place (ids front) cell.id (ids back))) out);
         chain_rings = λ bucket below. elim (cases_eq bucket cell.bucket) [
@@ -64,10 +64,10 @@ module _ {T : Type 0} where
               (subst (λ (cells : List (Cell T)). IsRing (linked Chain slots (ends_at chains bucket)) (ids cells)) (chain_beside bucket front cell back apart) (shape.chain_rings bucket below))
               (rest.other_chains bucket apart)
               (λ place some.
-                let few = times_chains place bucket cell.bucket (front ++ back) apart in
-                let parts : times place (ids (chain_of cell.bucket (front ++ back))) ≡ times place (ids (chain_of cell.bucket front)) + times place (ids (chain_of cell.bucket back)) =
-                ap (times place) (ap ids (chain-append cell.bucket front back) ∙ ids-append (chain_of cell.bucket front) (chain_of cell.bucket back)) ∙ times-append place _ _ in
-                chain_elsewhere place (omega (arith, once place, counts' place)) (omega (arith, once place, counts' place)))
+              let few = times_chains place bucket cell.bucket (front ++ back) apart in
+              let parts : times place (ids (chain_of cell.bucket (front ++ back))) ≡ times place (ids (chain_of cell.bucket front)) + times place (ids (chain_of cell.bucket back)) =
+              ap (times place) (ap ids (chain-append cell.bucket front back) ∙ ids-append (chain_of cell.bucket front) (chain_of cell.bucket back)) ∙ times-append place _ _ in
+              chain_elsewhere place (omega (arith, once place, counts' place)) (omega (arith, once place, counts' place)))
         ];
         stack_ring = subst (λ (at : Option ℕ → Link). IsRing at (kept_ids items)) (sym (same_column Pile slots slots' stack rest.piles)) shape.stack_ring;
         free_ring = subst (λ (at : Option ℕ → Link). IsRing at empty) (sym (same_column Pile slots slots' free rest.piles)) shape.free_ring;
@@ -114,8 +114,8 @@ module _ {T : Type 0} where
       own_chain = subst (IsRing (linked Chain slots' (ends_at chains' cell.bucket)))
           (sym (ap ids (chain-append cell.bucket front back) ∙ ids-append (chain_of cell.bucket front) (chain_of cell.bucket back)))
           (detached (linked Chain slots (ends_at chains cell.bucket)) (linked Chain slots' (ends_at chains' cell.bucket))
-            (ids (chain_of cell.bucket front)) cell.id (ids (chain_of cell.bucket back)) chain_was
-            (λ place. omega (arith, once place, times_chain place cell.bucket front, times_chain place cell.bucket back, times_middle place (ids (chain_of cell.bucket front)) cell.id (ids (chain_of cell.bucket back)))) out')
+          (ids (chain_of cell.bucket front)) cell.id (ids (chain_of cell.bucket back)) chain_was
+          (λ place. omega (arith, once place, times_chain place cell.bucket front, times_chain place cell.bucket back, times_middle place (ids (chain_of cell.bucket front)) cell.id (ids (chain_of cell.bucket back)))) out')
 
   pub in_shape : (slots slots' : List (Slot T)) (order order' : Link) (chains chains' : List Link) (stack free : Link)
       (front : List (Cell T)) (cell : Cell T) (back : List (Cell T)) (items : List (Kept T)) (empty : List ℕ) (age : ℕ → ℕ)
@@ -130,25 +130,25 @@ module _ {T : Type 0} where
       record {
         sound = subst (λ (n : ℕ). IsSound n (laid (front ++ cell ∷ back) items empty [] age)) (sym rest.as_many)
             (moved (length slots) (laid (front ++ back) items empty (cell.id ∷ []) age) (laid (front ++ cell ∷ back) items empty [] age) shape.sound
-              (λ place. omega (arith, counts place, counts' place))
-              (omega (arith, length-append front (cell ∷ back), length-append front back))
-              (named_more _ _ items (λ place some. omega (arith, counts place, counts' place, times-append place (ids (front ++ cell ∷ back)) [], times-append place (ids (front ++ back)) (cell.id ∷ []))) shape.sound.named)
-              (rises_in age front cell back shape.sound.rises before behind) shape.sound.aged);
+            (λ place. omega (arith, counts place, counts' place))
+            (omega (arith, length-append front (cell ∷ back), length-append front back))
+            (named_more _ _ items (λ place some. omega (arith, counts place, counts' place, times-append place (ids (front ++ cell ∷ back)) [], times-append place (ids (front ++ back)) (cell.id ∷ []))) shape.sound.named)
+            (rises_in age front cell back shape.sound.rises before behind) shape.sound.aged);
         order_ring = subst (IsRing (linked Order slots' order')) (sym (ids_middle front cell back))
             (attached (linked Order slots order) (linked Order slots' order') (ids front) cell.id (ids back)
-              (subst (IsRing (linked Order slots order)) (ids-append front back) shape.order_ring)
-              (λ place. omega (arith, once place)) (omega (arith, own)) (omega (arith, own)) put);
+            (subst (IsRing (linked Order slots order)) (ids-append front back) shape.order_ring)
+            (λ place. omega (arith, once place)) (omega (arith, own)) (omega (arith, own)) put);
         chain_rings = λ bucket below. elim (cases_eq bucket cell.bucket) [
           | inl same ↦ subst (λ (b : ℕ). IsRing (linked Chain slots' (ends_at chains' b)) (ids (chain_of b (front ++ cell ∷ back)))) (sym same) own_chain
           | inr apart ↦ ring_same (linked Chain slots (ends_at chains bucket)) (linked Chain slots' (ends_at chains' bucket)) (ids (chain_of bucket (front ++ cell ∷ back)))
               (subst (λ (cells : List (Cell T)). IsRing (linked Chain slots (ends_at chains bucket)) (ids cells)) (sym (chain_beside bucket front cell back apart)) (shape.chain_rings bucket below))
               (rest.other_chains bucket apart)
               (λ place some.
-                let there : 0 < times place (ids (chain_of bucket (front ++ back))) = subst (λ (cells : List (Cell T)). 0 < times place (ids cells)) (chain_beside bucket front cell back apart) some in
-                let few = times_chains place bucket cell.bucket (front ++ back) apart in
-                let parts : times place (ids (chain_of cell.bucket (front ++ back))) ≡ times place (ids (chain_of cell.bucket front)) + times place (ids (chain_of cell.bucket back)) =
-                ap (times place) (ap ids (chain-append cell.bucket front back) ∙ ids-append (chain_of cell.bucket front) (chain_of cell.bucket back)) ∙ times-append place _ _ in
-                chain_elsewhere place (not_own place (omega (arith, few, counts' place))) (omega (arith, once place, counts' place)) (omega (arith, once place, counts' place)))
+              let there : 0 < times place (ids (chain_of bucket (front ++ back))) = subst (λ (cells : List (Cell T)). 0 < times place (ids cells)) (chain_beside bucket front cell back apart) some in
+              let few = times_chains place bucket cell.bucket (front ++ back) apart in
+              let parts : times place (ids (chain_of cell.bucket (front ++ back))) ≡ times place (ids (chain_of cell.bucket front)) + times place (ids (chain_of cell.bucket back)) =
+              ap (times place) (ap ids (chain-append cell.bucket front back) ∙ ids-append (chain_of cell.bucket front) (chain_of cell.bucket back)) ∙ times-append place _ _ in
+              chain_elsewhere place (not_own place (omega (arith, few, counts' place))) (omega (arith, once place, counts' place)) (omega (arith, once place, counts' place)))
         ];
         stack_ring = subst (λ (at : Option ℕ → Link). IsRing at (kept_ids items)) (sym (same_column Pile slots slots' stack rest.piles)) shape.stack_ring;
         free_ring = subst (λ (at : Option ℕ → Link). IsRing at empty) (sym (same_column Pile slots slots' free rest.piles)) shape.free_ring;
@@ -198,7 +198,7 @@ module _ {T : Type 0} where
       own_chain = subst (IsRing (linked Chain slots' (ends_at chains' cell.bucket)))
           (sym (ap ids (chain_middle front cell back) ∙ ids_middle (chain_of cell.bucket front) cell (chain_of cell.bucket back)))
           (attached (linked Chain slots (ends_at chains cell.bucket)) (linked Chain slots' (ends_at chains' cell.bucket))
-            (ids (chain_of cell.bucket front)) cell.id (ids (chain_of cell.bucket back))
-            (subst (IsRing (linked Chain slots (ends_at chains cell.bucket))) (ap ids (chain-append cell.bucket front back) ∙ ids-append (chain_of cell.bucket front) (chain_of cell.bucket back)) (shape.chain_rings cell.bucket holds.fits))
-            (λ place. omega (arith, once place, times_chain place cell.bucket front, times_chain place cell.bucket back))
-            (omega (arith, own, times_chain cell.id cell.bucket front)) (omega (arith, own, times_chain cell.id cell.bucket back)) put')
+          (ids (chain_of cell.bucket front)) cell.id (ids (chain_of cell.bucket back))
+          (subst (IsRing (linked Chain slots (ends_at chains cell.bucket))) (ap ids (chain-append cell.bucket front back) ∙ ids-append (chain_of cell.bucket front) (chain_of cell.bucket back)) (shape.chain_rings cell.bucket holds.fits))
+          (λ place. omega (arith, once place, times_chain place cell.bucket front, times_chain place cell.bucket back))
+          (omega (arith, own, times_chain cell.id cell.bucket front)) (omega (arith, own, times_chain cell.id cell.bucket back)) put')

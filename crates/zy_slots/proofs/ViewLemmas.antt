@@ -53,14 +53,14 @@ module _ {T : Type 0} where
       live =
           ap (λ (o : Option ℕ). cells_at slots (walk (linked Order slots order) (length slots) o)) (ap next_of shape.order_ring.ends)
           ∙ ap (cells_at slots) (walked (linked Order slots order) (ids layout.live) [] (ids layout.live) (length slots) shape.order_ring refl
-            (omega (arith, shape.sound.sized, length-map layout.live (λ (c : Cell T). c.id))))
+          (omega (arith, shape.sound.sized, length-map layout.live (λ (c : Cell T). c.id))))
           ∙ cells_held slots layout.live shape.holds_live
 
       items : stack_at slots (walk (linked Pile slots stack) (length slots) stack.next) ≡ layout.stack
       items =
           ap (λ (o : Option ℕ). stack_at slots (walk (linked Pile slots stack) (length slots) o)) (ap next_of shape.stack_ring.ends)
           ∙ ap (stack_at slots) (walked (linked Pile slots stack) (kept_ids layout.stack) [] (kept_ids layout.stack) (length slots) shape.stack_ring refl
-            (omega (arith, shape.sound.sized, length-map layout.stack (λ (k : Kept T). k.cell.id))))
+          (omega (arith, shape.sound.sized, length-map layout.stack (λ (k : Kept T). k.cell.id))))
           ∙ stack_held slots layout.stack shape.holds_kept
 
   -- the shape over the cells that are seen
@@ -91,12 +91,12 @@ module _ {T : Type 0} where
       subst (λ (o : Option ℕ). put_behind o cell ((next ∷ front) ++ back) ≡ (next ∷ front) ++ cell ∷ back) last.1 rest in
       subst (λ (o : Option ℕ). put_behind o cell ((other ∷ next ∷ front) ++ back) ≡ (other ∷ next ∷ front) ++ cell ∷ back) (sym last.1)
       (elim (eqb_tells other.id last.0) [
-          | inl same ↦ absurd (
+        | inl same ↦ absurd (
             let there : 0 < times other.id (next.id ∷ ids front) = subst (λ (p : ℕ). 0 < times p (next.id ∷ ids front)) (sym same.1) last.2 in
             let few = once other.id in
             let own = times_self other.id (next.id ∷ ids front) in
             omega arith)
-          | inr not ↦ rw not.0 (ap (λ (list : List (Cell T)). other ∷ list) rest')
+        | inr not ↦ rw not.0 (ap (λ (list : List (Cell T)). other ∷ list) rest')
       ])
 
   -- a place that stands among the ids is a cell's

@@ -78,7 +78,12 @@ fn bucket_at<T>(slots: &Vec<Slot<T>>, place: usize) -> usize
 }
 
 // Takes a slot out of a chain.
-fn detach_chain<T>(slots: &mut Vec<Slot<T>>, chains: &mut [Link; BUCKETS], bucket: usize, place: usize)
+fn detach_chain<T>(
+    slots: &mut Vec<Slot<T>>,
+    chains: &mut [Link; BUCKETS],
+    bucket: usize,
+    place: usize,
+)
     requires bucket { bucket < 64 }
     requires place { place < length slots.old.items }
     requires link { AreWithin (length slots.old.items) (slot_at slots.old.items place).chain }
@@ -92,7 +97,13 @@ fn detach_chain<T>(slots: &mut Vec<Slot<T>>, chains: &mut [Link; BUCKETS], bucke
 }
 
 // Puts a slot between two neighbours in a chain.
-fn attach_chain<T>(slots: &mut Vec<Slot<T>>, chains: &mut [Link; BUCKETS], bucket: usize, place: usize, sides: &Link)
+fn attach_chain<T>(
+    slots: &mut Vec<Slot<T>>,
+    chains: &mut [Link; BUCKETS],
+    bucket: usize,
+    place: usize,
+    sides: &Link,
+)
     requires bucket { bucket < 64 }
     requires place { place < length slots.old.items }
     requires fits { length slots.old.items ≤ 4294967295 }
@@ -107,7 +118,12 @@ fn attach_chain<T>(slots: &mut Vec<Slot<T>>, chains: &mut [Link; BUCKETS], bucke
 }
 
 /// Takes a slot out of the order and of its chain. It keeps its links.
-pub fn take_out<T>(slots: &mut Vec<Slot<T>>, order: &mut Link, chains: &mut [Link; BUCKETS], place: usize)
+pub fn take_out<T>(
+    slots: &mut Vec<Slot<T>>,
+    order: &mut Link,
+    chains: &mut [Link; BUCKETS],
+    place: usize,
+)
     requires place { place < length slots.old.items }
     requires bucket { (slot_at slots.old.items place).held.bucket < 64 }
     requires order { AreWithin (length slots.old.items) (slot_at slots.old.items place).order }
@@ -122,7 +138,14 @@ pub fn take_out<T>(slots: &mut Vec<Slot<T>>, order: &mut Link, chains: &mut [Lin
 }
 
 /// Puts a slot between neighbours in the order and in its chain.
-pub fn put_in<T>(slots: &mut Vec<Slot<T>>, order: &mut Link, chains: &mut [Link; BUCKETS], place: usize, sides: &Link, chain_sides: &Link)
+pub fn put_in<T>(
+    slots: &mut Vec<Slot<T>>,
+    order: &mut Link,
+    chains: &mut [Link; BUCKETS],
+    place: usize,
+    sides: &Link,
+    chain_sides: &Link,
+)
     requires place { place < length slots.old.items }
     requires fits { length slots.old.items ≤ 4294967295 }
     requires bucket { (slot_at slots.old.items place).held.bucket < 64 }
