@@ -1,0 +1,12 @@
+mod PutLemmas
+mod TimesLemmas
+mod RingLemmas
+mod ColumnLemmas
+mod ListLemmas
+mod NameLemmas
+mod AgeLemmas
+mod StepLemmas
+mod PileLemmas
+mod ViewLemmas
+mod CallLemmas
+mod SlotsLemmas
