@@ -1,20 +1,19 @@
-ghost use Rattle.std.specs.Prelude.{◌≡◌, ◌%◌, ◌≤◌, IfOk};
+ghost use Rattle.std.specs.Prelude.{◌≡◌, IfOk};
 ghost use Rattle.zy_check.specs.Board.{IsProof};
 
 use super::*;
 use std::alloc::Global;
 use std::test::*;
 use zy_base::{Bytes, Cause, ClientId, Digest, Party, Place, ReplicaId, Stamp, View};
+use zy_chain::EMPTY_HEAD;
 use zy_parts::{Check, Signed, Spec};
 
 const EMPTY: Digest = Digest([3; 32]);
 
-const HEAD: Digest = Digest([7; 32]);
-
-const OTHER: Digest = Digest([8; 32]);
-
 // What this replica signs, with a signature that nobody reads here.
-fn signed<S>(alloc: Global, by: u8, stmt: S) -> Signed<S> {
+fn signed<S>(alloc: Global, by: u8, stmt: S) -> Signed<S>
+    ensures { result.stmt ≡ stmt }
+{
     Signed {
         by: Party::Replica(ReplicaId(by)),
         stmt,
@@ -22,135 +21,139 @@ fn signed<S>(alloc: Global, by: u8, stmt: S) -> Signed<S> {
     }
 }
 
-fn spec(place: u64, head: Digest, reply: Digest) -> Spec {
+fn digest(byte: u8) -> Digest {
+    Digest([byte; 32])
+}
+
+// A response with this head and reply.
+fn spec(place: u64, said: (u8, u8)) -> Spec {
     Spec {
         view: View(0),
         place: Place(place),
-        head,
-        reply,
+        head: digest(said.0),
+        reply: digest(said.1),
         client: ClientId(0),
         stamp: Stamp(1),
     }
 }
 
-fn check(place: u64, head: Digest, state: Digest) -> Check
+// A checkpoint with this head and state.
+fn check(place: u64, said: (u8, u8)) -> Check
     ensures { result.place.0 ≡ place }
 {
     Check {
         view: View(0),
         place: Place(place),
-        head,
-        state,
+        head: digest(said.0),
+        state: digest(said.1),
     }
+}
+
+// What a response would come to, and what it comes to.
+fn respond(
+    alloc: Global,
+    kept: &mut Checkpoints,
+    from: (u8, u64),
+    said: (u8, u8),
+    own: Option<(u8, u8)>,
+) -> Result<(Kept, Kept), Fail> {
+    let own = own.map(|own| spec(from.1, own));
+    let vote = signed(alloc, from.0, spec(from.1, said));
+    let would = kept.judge_spec(&vote, own.as_ref());
+    Ok((would, kept.spec(vote, own.as_ref())?))
+}
+
+// What a checkpoint would come to, and what it comes to.
+fn vote(
+    alloc: Global,
+    kept: &mut Checkpoints,
+    from: (u8, u64),
+    said: (u8, u8),
+    own: Option<(u8, u8)>,
+) -> Result<(Kept, Kept), Fail> {
+    let own = own.map(|own| check(from.1, own));
+    let vote = signed(alloc, from.0, check(from.1, said));
+    let would = kept.judge_vote(&vote, own.as_ref());
+    Ok((would, kept.vote(vote, own.as_ref())?))
+}
+
+// How many statements there are, and who signed the first and the last.
+fn ends<S>(list: &[Signed<S>]) -> (usize, Option<Party>, Option<Party>) {
+    let first = match list.first() {
+        Some(vote) => Some(vote.by),
+        None => None,
+    };
+    let last = match list.last() {
+        Some(vote) => Some(vote.by),
+        None => None,
+    };
+    (list.len(), first, last)
+}
+
+// So many statements, with these replicas' first and last.
+fn between(len: usize, first: u8, last: u8) -> (usize, Option<Party>, Option<Party>) {
+    let first = Party::Replica(ReplicaId(first));
+    let last = Party::Replica(ReplicaId(last));
+    (len, Some(first), Some(last))
 }
 
 #[test]
 fn responses_at_the_start(rt: HostRuntime) -> Result<(), Fail> {
     let mut kept = Checkpoints::start(rt.alloc(), 4, EMPTY);
-    let (no, own) = (None, Some((HEAD, HEAD)));
+    let own = Some((1, 1));
+    let other = Cause::OtherHistory(digest(1), digest(2));
     for (by, place, said, own, want) in [
-        (1, 3, (HEAD, HEAD), no, Kept::Refused(Cause::Unmatched)),
-        (1, 0, (HEAD, HEAD), no, Kept::Refused(Cause::OldPlace)),
-        (
-            1,
-            12,
-            (HEAD, HEAD),
-            no,
-            Kept::Refused(Cause::WindowFull(Place(8))),
-        ),
-        (3, 4, (HEAD, HEAD), no, Kept::Held),
-        (3, 4, (OTHER, HEAD), no, Kept::Refused(Cause::Repeat)),
-        (1, 4, (HEAD, HEAD), own, Kept::Kept(2)),
-        (1, 4, (HEAD, HEAD), own, Kept::Refused(Cause::Repeat)),
-        (
-            2,
-            4,
-            (OTHER, HEAD),
-            own,
-            Kept::Refused(Cause::OtherHistory(HEAD, OTHER)),
-        ),
-        (2, 4, (HEAD, OTHER), own, Kept::Refused(Cause::Unmatched)),
-        (2, 4, (HEAD, HEAD), own, Kept::Kept(3)),
-        (2, 8, (OTHER, HEAD), no, Kept::Held),
-        (0, 8, (HEAD, HEAD), own, Kept::Kept(1)),
+        (1, 3, (1, 1), None, Kept::Refused(Cause::Unmatched)),
+        (1, 0, (1, 1), None, Kept::Refused(Cause::OldPlace)),
+        (1, 12, (1, 1), None, Kept::Refused(Cause::WindowFull(Place(8)))),
+        (3, 4, (1, 1), None, Kept::Held),
+        (3, 4, (2, 1), None, Kept::Refused(Cause::Repeat)),
+        (1, 4, (1, 1), own, Kept::Kept(2)),
+        (1, 4, (1, 1), own, Kept::Refused(Cause::Repeat)),
+        (2, 4, (2, 1), own, Kept::Refused(other)),
+        (2, 4, (1, 2), own, Kept::Refused(Cause::Unmatched)),
+        (2, 4, (1, 1), own, Kept::Kept(3)),
+        (2, 8, (2, 1), None, Kept::Held),
+        (0, 8, (1, 1), own, Kept::Kept(1)),
     ] {
-        let own = own.map(|(head, reply)| spec(place, head, reply));
-        let vote = signed(rt.alloc(), by, spec(place, said.0, said.1));
-        assert_eq!(rt;
-            kept.judge_spec(&vote, own.as_ref()),
-            want,
-            "replica {by} of {place}"
-        );
-        assert_eq!(rt;
-            kept.spec(vote, own.as_ref())?,
-            want,
-            "replica {by} of {place}"
-        );
+        let got = respond(rt.alloc(), &mut kept, (by, place), said, own)?;
+        assert_eq!(rt; got, (want, want), "replica {by} of {place}");
     }
-    let signers = [1, 2, 3].map(|by| Party::Replica(ReplicaId(by)));
-    assert!(rt; kept.specs(Place(4)).iter().map(|vote| vote.by).eq(signers));
-    assert_eq!(rt; kept.specs(Place(8)).len(), 2);
-    assert_eq!(rt; kept.specs(Place(12)).len(), 0);
-    assert_eq!(rt; kept.checks(Place(4)).len(), 0);
+    assert_eq!(rt; ends(kept.specs(Place(4))), between(3, 1, 3));
+    assert_eq!(rt; ends(kept.specs(Place(8))), between(2, 0, 2));
+    assert!(rt; kept.specs(Place(12)).is_empty());
+    assert!(rt; kept.checks(Place(4)).is_empty());
+    kept.drop_other(&spec(8, (1, 1)), &check(8, (1, 1)));
+    assert_eq!(rt; ends(kept.specs(Place(8))), between(1, 0, 0));
     Ok(())
 }
 
 #[test]
 fn checkpoints_at_the_start(rt: HostRuntime) -> Result<(), Fail> {
     let mut kept = Checkpoints::start(rt.alloc(), 4, EMPTY);
-    let (no, own) = (None, Some((HEAD, HEAD)));
+    let own = Some((1, 1));
+    let other = Cause::OtherHistory(digest(1), digest(2));
+    let state = Cause::WrongState(digest(1), digest(2));
     for (by, place, said, own, want) in [
-        (1, 5, (HEAD, HEAD), no, Kept::Refused(Cause::Unmatched)),
-        (1, 0, (HEAD, HEAD), no, Kept::Refused(Cause::OldPlace)),
-        (
-            1,
-            12,
-            (HEAD, HEAD),
-            no,
-            Kept::Refused(Cause::WindowFull(Place(8))),
-        ),
-        (3, 8, (HEAD, OTHER), no, Kept::Held),
-        (3, 8, (HEAD, HEAD), no, Kept::Refused(Cause::Repeat)),
-        (
-            2,
-            8,
-            (OTHER, HEAD),
-            own,
-            Kept::Refused(Cause::OtherHistory(HEAD, OTHER)),
-        ),
-        (
-            2,
-            8,
-            (HEAD, OTHER),
-            own,
-            Kept::Refused(Cause::WrongState(HEAD, OTHER)),
-        ),
-        (2, 8, (HEAD, HEAD), own, Kept::Kept(1)),
-        (0, 8, (HEAD, HEAD), own, Kept::Kept(2)),
+        (1, 5, (1, 1), None, Kept::Refused(Cause::Unmatched)),
+        (1, 0, (1, 1), None, Kept::Refused(Cause::OldPlace)),
+        (1, 12, (1, 1), None, Kept::Refused(Cause::WindowFull(Place(8)))),
+        (3, 8, (1, 2), None, Kept::Held),
+        (3, 8, (1, 1), None, Kept::Refused(Cause::Repeat)),
+        (2, 8, (2, 1), own, Kept::Refused(other)),
+        (2, 8, (1, 2), own, Kept::Refused(state)),
+        (2, 8, (1, 1), own, Kept::Kept(1)),
+        (0, 8, (1, 1), own, Kept::Kept(2)),
     ] {
-        let own = own.map(|(head, state)| check(place, head, state));
-        let vote = signed(rt.alloc(), by, check(place, said.0, said.1));
-        assert_eq!(rt;
-            kept.judge_vote(&vote, own.as_ref()),
-            want,
-            "replica {by} of {place}"
-        );
-        assert_eq!(rt;
-            kept.vote(vote, own.as_ref())?,
-            want,
-            "replica {by} of {place}"
-        );
+        let got = vote(rt.alloc(), &mut kept, (by, place), said, own)?;
+        assert_eq!(rt; got, (want, want), "replica {by} of {place}");
     }
-    assert_eq!(rt; kept.checks(Place(8)).len(), 3);
-    kept.drop_other(&spec(8, HEAD, HEAD), &check(8, HEAD, HEAD));
-    let signers = [0, 2].map(|by| Party::Replica(ReplicaId(by)));
-    assert!(rt; kept.checks(Place(8)).iter().map(|vote| vote.by).eq(signers));
+    assert_eq!(rt; ends(kept.checks(Place(8))), between(3, 0, 3));
+    kept.drop_other(&spec(8, (1, 1)), &check(8, (1, 1)));
+    assert_eq!(rt; ends(kept.checks(Place(8))), between(2, 0, 2));
     kept.clear();
-    assert_eq!(rt; kept.checks(Place(8)).len(), 0);
-    assert_eq!(rt;
-        kept.stable(),
-        (View(0), Place(0), zy_chain::EMPTY_HEAD, EMPTY)
-    );
+    assert!(rt; kept.checks(Place(8)).is_empty());
+    assert_eq!(rt; kept.stable(), (View(0), Place(0), EMPTY_HEAD, EMPTY));
     assert!(rt; kept.proof().is_empty());
     Ok(())
 }
@@ -160,7 +163,7 @@ fn hold(alloc: Global, kept: &mut Checkpoints, place: u64) -> Result<Kept, Fail>
     ensures interval { kept.new.interval ≡ kept.old.interval }
     ensures stable { kept.new.stable ≡ kept.old.stable }
 {
-    Ok(kept.vote(signed(alloc, 1, check(place, HEAD, HEAD)), None)?)
+    Ok(kept.vote(signed(alloc, 1, check(place, (1, 1))), None)?)
 }
 
 // One checkpoint of a place, which proves it as far as this crate looks.
@@ -168,34 +171,44 @@ fn proof(alloc: Global, place: u64) -> Result<Vec<Signed<Check>>, Fail>
     ensures { IfOk result (λ list. IsProof place list.items) }
 {
     let mut list = Vec::new(alloc);
-    list.push(signed(alloc, 0, check(place, HEAD, OTHER)))?;
+    list.push(signed(alloc, 0, check(place, (1, 2))))?;
     Ok(list)
 }
 
 #[test]
-fn the_window_moves(rt: HostRuntime) -> Result<(), Fail> {
+fn the_window_moves_by_one_interval(rt: HostRuntime) -> Result<(), Fail> {
     let alloc = rt.alloc();
     let mut kept = Checkpoints::start(alloc, 4, EMPTY);
-    assert_eq!(rt; hold(alloc, &mut kept, 4)?, Kept::Held);
-    assert_eq!(rt; hold(alloc, &mut kept, 8)?, Kept::Held);
+    hold(alloc, &mut kept, 4)?;
+    hold(alloc, &mut kept, 8)?;
     kept.set_stable(Place(4), proof(alloc, 4)?);
-    assert_eq!(rt; kept.stable(), (View(0), Place(4), HEAD, OTHER));
+    assert_eq!(rt; kept.stable(), (View(0), Place(4), digest(1), digest(2)));
     assert_eq!(rt; kept.proof().len(), 1);
-    assert_eq!(rt; hold(alloc, &mut kept, 4)?, Kept::Refused(Cause::OldPlace));
-    assert_eq!(rt; hold(alloc, &mut kept, 8)?, Kept::Refused(Cause::Repeat));
-    assert_eq!(rt; hold(alloc, &mut kept, 12)?, Kept::Held);
-    assert_eq!(rt;
-        hold(alloc, &mut kept, 16)?,
-        Kept::Refused(Cause::WindowFull(Place(12)))
-    );
+    for (place, want) in [
+        (4, Kept::Refused(Cause::OldPlace)),
+        (8, Kept::Refused(Cause::Repeat)),
+        (12, Kept::Held),
+        (16, Kept::Refused(Cause::WindowFull(Place(12)))),
+    ] {
+        assert_eq!(rt; hold(alloc, &mut kept, place)?, want, "{place}");
+    }
+    Ok(())
+}
+
+#[test]
+fn the_window_moves_past_what_is_kept(rt: HostRuntime) -> Result<(), Fail> {
+    let alloc = rt.alloc();
+    let mut kept = Checkpoints::start(alloc, 4, EMPTY);
+    hold(alloc, &mut kept, 8)?;
     kept.set_stable(Place(12), proof(alloc, 12)?);
-    assert_eq!(rt; hold(alloc, &mut kept, 12)?, Kept::Refused(Cause::OldPlace));
-    assert_eq!(rt; kept.checks(Place(8)).len(), 0);
-    assert_eq!(rt; hold(alloc, &mut kept, 16)?, Kept::Held);
-    assert_eq!(rt; hold(alloc, &mut kept, 20)?, Kept::Held);
-    assert_eq!(rt;
-        hold(alloc, &mut kept, 24)?,
-        Kept::Refused(Cause::WindowFull(Place(20)))
-    );
+    for (place, want) in [
+        (8, Kept::Refused(Cause::OldPlace)),
+        (12, Kept::Refused(Cause::OldPlace)),
+        (16, Kept::Held),
+        (20, Kept::Held),
+        (24, Kept::Refused(Cause::WindowFull(Place(20)))),
+    ] {
+        assert_eq!(rt; hold(alloc, &mut kept, place)?, want, "{place}");
+    }
     Ok(())
 }
