@@ -98,60 +98,79 @@ fn between(len: usize, first: u8, last: u8) -> (usize, Option<Party>, Option<Par
 }
 
 #[test]
-fn responses_at_the_start(rt: HostRuntime) -> Result<(), Fail> {
+fn places_of_which_nothing_is_kept(rt: HostRuntime) -> Result<(), Fail> {
     let mut kept = Checkpoints::start(rt.alloc(), 4, EMPTY);
-    let own = Some((1, 1));
-    let other = Cause::OtherHistory(digest(1), digest(2));
-    for (by, place, said, own, want) in [
-        (1, 3, (1, 1), None, Kept::Refused(Cause::Unmatched)),
-        (1, 0, (1, 1), None, Kept::Refused(Cause::OldPlace)),
-        (1, 12, (1, 1), None, Kept::Refused(Cause::WindowFull(Place(8)))),
-        (3, 4, (1, 1), None, Kept::Held),
-        (3, 4, (2, 1), None, Kept::Refused(Cause::Repeat)),
-        (1, 4, (1, 1), own, Kept::Kept(2)),
-        (1, 4, (1, 1), own, Kept::Refused(Cause::Repeat)),
-        (2, 4, (2, 1), own, Kept::Refused(other)),
-        (2, 4, (1, 2), own, Kept::Refused(Cause::Unmatched)),
-        (2, 4, (1, 1), own, Kept::Kept(3)),
-        (2, 8, (2, 1), None, Kept::Held),
-        (0, 8, (1, 1), own, Kept::Kept(1)),
+    for (place, cause) in [
+        (0, Cause::OldPlace),
+        (3, Cause::Unmatched),
+        (12, Cause::WindowFull(Place(8))),
     ] {
-        let got = respond(rt.alloc(), &mut kept, (by, place), said, own)?;
-        assert_eq!(rt; got, (want, want), "replica {by} of {place}");
+        let want = Kept::Refused(cause);
+        let got = respond(rt.alloc(), &mut kept, (1, place), (1, 1), None)?;
+        assert_eq!(rt; got, (want, want));
+        let got = vote(rt.alloc(), &mut kept, (1, place), (1, 1), None)?;
+        assert_eq!(rt; got, (want, want));
     }
-    assert_eq!(rt; ends(kept.specs(Place(4))), between(3, 1, 3));
-    assert_eq!(rt; ends(kept.specs(Place(8))), between(2, 0, 2));
     assert!(rt; kept.specs(Place(12)).is_empty());
-    assert!(rt; kept.checks(Place(4)).is_empty());
-    kept.drop_other(&spec(8, (1, 1)), &check(8, (1, 1)));
-    assert_eq!(rt; ends(kept.specs(Place(8))), between(1, 0, 0));
+    assert!(rt; kept.checks(Place(12)).is_empty());
     Ok(())
 }
 
 #[test]
-fn checkpoints_at_the_start(rt: HostRuntime) -> Result<(), Fail> {
+fn responses_in_turn(rt: HostRuntime) -> Result<(), Fail> {
+    let mut kept = Checkpoints::start(rt.alloc(), 4, EMPTY);
+    let own = Some((1, 1));
+    let other = Cause::OtherHistory(digest(1), digest(2));
+    for (by, said, own, want) in [
+        (3, (1, 1), None, Kept::Held),
+        (3, (2, 1), None, Kept::Refused(Cause::Repeat)),
+        (1, (1, 1), own, Kept::Kept(2)),
+        (1, (1, 1), own, Kept::Refused(Cause::Repeat)),
+        (2, (2, 1), own, Kept::Refused(other)),
+        (2, (1, 2), own, Kept::Refused(Cause::Unmatched)),
+        (2, (1, 1), own, Kept::Kept(3)),
+    ] {
+        let got = respond(rt.alloc(), &mut kept, (by, 4), said, own)?;
+        assert_eq!(rt; got, (want, want));
+    }
+    assert_eq!(rt; ends(kept.specs(Place(4))), between(3, 1, 3));
+    Ok(())
+}
+
+#[test]
+fn checkpoints_in_turn(rt: HostRuntime) -> Result<(), Fail> {
     let mut kept = Checkpoints::start(rt.alloc(), 4, EMPTY);
     let own = Some((1, 1));
     let other = Cause::OtherHistory(digest(1), digest(2));
     let state = Cause::WrongState(digest(1), digest(2));
-    for (by, place, said, own, want) in [
-        (1, 5, (1, 1), None, Kept::Refused(Cause::Unmatched)),
-        (1, 0, (1, 1), None, Kept::Refused(Cause::OldPlace)),
-        (1, 12, (1, 1), None, Kept::Refused(Cause::WindowFull(Place(8)))),
-        (3, 8, (1, 2), None, Kept::Held),
-        (3, 8, (1, 1), None, Kept::Refused(Cause::Repeat)),
-        (2, 8, (2, 1), own, Kept::Refused(other)),
-        (2, 8, (1, 2), own, Kept::Refused(state)),
-        (2, 8, (1, 1), own, Kept::Kept(1)),
-        (0, 8, (1, 1), own, Kept::Kept(2)),
+    for (by, said, own, want) in [
+        (3, (1, 2), None, Kept::Held),
+        (3, (1, 1), None, Kept::Refused(Cause::Repeat)),
+        (2, (2, 1), own, Kept::Refused(other)),
+        (2, (1, 2), own, Kept::Refused(state)),
+        (2, (1, 1), own, Kept::Kept(1)),
+        (0, (1, 1), own, Kept::Kept(2)),
     ] {
-        let got = vote(rt.alloc(), &mut kept, (by, place), said, own)?;
-        assert_eq!(rt; got, (want, want), "replica {by} of {place}");
+        let got = vote(rt.alloc(), &mut kept, (by, 8), said, own)?;
+        assert_eq!(rt; got, (want, want));
     }
     assert_eq!(rt; ends(kept.checks(Place(8))), between(3, 0, 3));
-    kept.drop_other(&spec(8, (1, 1)), &check(8, (1, 1)));
-    assert_eq!(rt; ends(kept.checks(Place(8))), between(2, 0, 2));
+    Ok(())
+}
+
+#[test]
+fn what_differs_is_dropped(rt: HostRuntime) -> Result<(), Fail> {
+    let alloc = rt.alloc();
+    let mut kept = Checkpoints::start(alloc, 4, EMPTY);
+    for (by, said) in [(1, (1, 1)), (2, (2, 1)), (3, (1, 2))] {
+        respond(alloc, &mut kept, (by, 8), said, None)?;
+        vote(alloc, &mut kept, (by, 8), said, None)?;
+    }
+    kept.drop_other(&spec(8, (2, 1)), &check(8, (1, 2)));
+    assert_eq!(rt; ends(kept.specs(Place(8))), between(1, 2, 2));
+    assert_eq!(rt; ends(kept.checks(Place(8))), between(1, 3, 3));
     kept.clear();
+    assert!(rt; kept.specs(Place(8)).is_empty());
     assert!(rt; kept.checks(Place(8)).is_empty());
     assert_eq!(rt; kept.stable(), (View(0), Place(0), EMPTY_HEAD, EMPTY));
     assert!(rt; kept.proof().is_empty());

@@ -13,6 +13,6 @@ one-proof x place located = record { stmt = x.stmt; located = located; some = om
 
 pub returns : goal.returns
 returns c =
-    let located = ap (λ (s : Check). s.place.0) c.signed.ensures ∙ c.check.ensures in
-    let items = c.in_ok-push.ensures.items ∙ ap (λ (list : List (Signed Check)). list ++ c.signed.result ∷ []) c.new-list.ensures.items in
+    let located : c.signed.result.stmt.place.0 ≡ c.args.place = ap (λ (s : Check). s.place.0) c.signed.ensures ∙ c.check.ensures in
+    let items : c.push.new.self.items ≡ c.signed.result ∷ [] = c.in_ok-push.ensures.items ∙ ap (λ (list : List (Signed Check)). list ++ c.signed.result ∷ []) c.new-list.ensures.items in
     rw items (one-proof c.signed.result c.args.place located)
