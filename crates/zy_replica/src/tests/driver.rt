@@ -1,6 +1,7 @@
 // How a row of the table is run: a replica begins, hears one event after another, and each step is compared.
 
-ghost use Rattle.std.specs.Prelude.{◌≤◌, length, IfOk};
+ghost use Rattle.std.specs.Prelude.{◌≡◌, ◌≤◌, length, IfOk};
+ghost use Rattle.zy_base.specs.declared.ids.Party.TheVariants as parties;
 ghost use Rattle.zy_core.specs.Ready.{IsOrderReady};
 
 use super::frames::{CLIENT, Hash, OPERATION, PRIMARY, PUBLIC, Part, frame};
@@ -96,6 +97,7 @@ fn same(is: bool, odd: Odd) -> Result<(), Odd> {
 
 fn sealer(alloc: Global, me: ReplicaId, leaf: u32) -> Result<Sealer, Want>
     requires { leaf ≤ 32 }
+    ensures { IfOk result (λ s. s.me ≡ parties.Replica me) }
 {
     let seed = party_seed(&[0; 32], PRIMARY);
     let id = party_id(&[0; 32], PRIMARY);
