@@ -1,6 +1,7 @@
 // How a row of the table is run: a replica begins, hears one event after another, and each step is compared.
 
-ghost use Rattle.std.specs.Prelude.{◌≤◌, length, IfOk};
+ghost use Rattle.std.specs.Prelude.{◌≡◌, ◌≤◌, length, IfOk};
+ghost use Rattle.zy_base.specs.declared.ids.Party.TheVariants as parties;
 ghost use Rattle.zy_core.specs.Ready.{IsOrderReady};
 
 use super::frames::{CLIENT, Hash, OPERATION, PRIMARY, PUBLIC, Part, frame};
@@ -50,6 +51,8 @@ pub enum Step {
     Refuses(Input, Cause),
     // It has this answer, leaves this, and sends these frames.
     Does(Input, Answer, Left, &'static [(Party, Sent)]),
+    // The same, where the history has this head, since it isn't that of the first so many requests.
+    Turns(Input, Answer, Left, Hash, &'static [(Party, Sent)]),
 }
 
 pub enum Input {
@@ -96,6 +99,7 @@ fn same(is: bool, odd: Odd) -> Result<(), Odd> {
 
 fn sealer(alloc: Global, me: ReplicaId, leaf: u32) -> Result<Sealer, Want>
     requires { leaf ≤ 32 }
+    ensures { IfOk result (λ s. s.me ≡ parties.Replica me) }
 {
     let seed = party_seed(&[0; 32], PRIMARY);
     let id = party_id(&[0; 32], PRIMARY);
@@ -267,14 +271,21 @@ fn has_answer(is: Answer, wanted: Answer) -> Result<(), Odd> {
     same(is == wanted, Odd::Answer(is))
 }
 
+fn head_at(length: u64) -> Result<Hash, Odd> {
+    match HEADS.get(length as usize) {
+        Some(head) => Ok(head),
+        None => Err(Odd::Stood),
+    }
+}
+
 // In view 0 the replica is active, and of its timers only that of requests may run.
-fn has_done(stepped: &Stepped<Space>, wanted: Left) -> Result<(), Odd> {
+fn has_done(stepped: &Stepped<Space>, wanted: Left, head: &[u8; 32]) -> Result<(), Odd> {
     let is = left_by(stepped);
     same(is == wanted, Odd::Left(is))?;
     let stood = Stood {
         mode: Mode::Active(View(0)),
         length: Place(is.0),
-        head: Digest(**HEADS.get(is.0 as usize).ok_or(Odd::Stood)?),
+        head: Digest(*head),
     };
     same(stepped.replica.stood() == stood, Odd::Stood)?;
     let timers = Timers {
@@ -302,7 +313,12 @@ fn compare(stepped: &Stepped<Space>, step: &Step, before: &Shown) -> Result<(), 
         }
         Step::Does(_, answer, left, sent) => {
             has_answer(stepped.answer, *answer)?;
-            has_done(stepped, *left)?;
+            has_done(stepped, *left, head_at(left.0)?)?;
+            same_frames(&stepped.out, sent)
+        }
+        Step::Turns(_, answer, left, head, sent) => {
+            has_answer(stepped.answer, *answer)?;
+            has_done(stepped, *left, head)?;
             same_frames(&stepped.out, sent)
         }
     }
@@ -314,6 +330,7 @@ fn event(alloc: Global, step: &Step) -> Result<Event, Want> {
     let input = match step {
         Step::Refuses(input, _) => input,
         Step::Does(input, _, _, _) => input,
+        Step::Turns(input, _, _, _, _) => input,
     };
     match input {
         Input::Frame(kind, parts) => Ok(Event::Heard(Bytes::from(frame(alloc, *kind, parts)?))),

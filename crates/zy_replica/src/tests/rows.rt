@@ -1,7 +1,7 @@
 // The rows: what a replica hears, one after another, and what it does.
 
 use super::driver::Input::{self, Frame};
-use super::driver::Step::{self, Does, Refuses};
+use super::driver::Step::{self, Does, Refuses, Turns};
 use super::driver::{Begins, How, Left, Row};
 use super::frames::Part::{As, By};
 use super::frames::Statement::{Ask, Confirm, Hole, Order};
@@ -722,10 +722,11 @@ pub const OF_WAITING_REQUESTS: &[Row] = &[
         replica: FOLLOWS,
         steps: &[
             WAIT_1,
-            Does(
+            Turns(
                 HASTY,
                 Answer::Taken,
                 Left(1, 2, false, 1, 1),
+                HASTY_HEAD,
                 &[(CLIENT, TELLS_2_FIRST)],
             ),
         ],
