@@ -10,3 +10,6 @@ mod slot;
 mod slots;
 
 pub use slots::{SlotId, Slots};
+
+#[cfg(test)]
+mod tests;
