@@ -17,7 +17,17 @@ returns-in-Ok-run_keys-clause-own g c =
     )
 
 pub returns-in-Ok-run_replay-clause-headline : goal.returns-in-Ok-run_replay-clause-headline
-returns-in-Ok-run_replay-clause-headline g c = commands_are_safe c.replays_are_safe.ensures (g.F.Files.held c.args.files.now) (command_of (texts c.args.words.now))
+returns-in-Ok-run_replay-clause-headline g c =
+    commands_are_safe c.replays_are_safe.ensures c.made_runs_are_safe.ensures (g.F.Files.held c.args.files.now) (command_of (texts c.args.words.now))
+
+pub returns-in-Ok-run_make-clause-headline : goal.returns-in-Ok-run_make-clause-headline
+returns-in-Ok-run_make-clause-headline g c =
+    commands_are_safe c.replays_are_safe.ensures c.made_runs_are_safe.ensures (g.F.Files.held c.args.files.now) (command_of (texts c.args.words.now))
 
 pub returns-in-Err-run_replay-clause-headline : goal.returns-in-Err-run_replay-clause-headline
-returns-in-Err-run_replay-clause-headline g c = commands_are_safe c.replays_are_safe.ensures (g.F.Files.held c.args.files.now) (command_of (texts c.args.words.now))
+returns-in-Err-run_replay-clause-headline g c =
+    commands_are_safe c.replays_are_safe.ensures c.made_runs_are_safe.ensures (g.F.Files.held c.args.files.now) (command_of (texts c.args.words.now))
+
+pub returns-in-Err-run_make-clause-headline : goal.returns-in-Err-run_make-clause-headline
+returns-in-Err-run_make-clause-headline g c =
+    commands_are_safe c.replays_are_safe.ensures c.made_runs_are_safe.ensures (g.F.Files.held c.args.files.now) (command_of (texts c.args.words.now))
