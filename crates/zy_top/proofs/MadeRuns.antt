@@ -1,6 +1,7 @@
 -- What a made schedule comes to.
 use Rattle.std.proofs.Common.{◌≡◌, ℕ, ◌+◌, ◌-◌, ◌^◌, ◌<◌, ◌≤◌, ◌⊎◌, inl, inr, Bool, true, false, cond, List, [], ◌∷◌, ◌++◌, length, Option, Result, Ok, Err, Vec, refl, sym, ap, ◌∙◌, not, lit≤, arith}
 use Rattle.std.specs.Prelude.{IsTrue, count_by}
+use Rattle.std.specs.List.{IsDistinct}
 use Rattle.std.specs.declared.alloc.Global.{Global}
 use Rattle.std.proofs.KnownBytes.{Keeps-refl}
 use Rattle.std.proofs.lemmas.List.Sums.{sum_by-cons}
@@ -169,6 +170,7 @@ own_answer own r old new before after answer running written counted = record {
 -- ---- its world
 
 pub made_starts : (number : ℕ) → IsStart (made_setup number)
+unfolding IsDistinct
 made_starts number = record {
   replicas = lit≤ tt;
   least_interval = lit≤ tt;
@@ -176,8 +178,8 @@ made_starts number = record {
   some_client = lit≤ tt;
   clients = lit≤ tt;
   few = lit≤ tt;
-  liars = ?;
-  lying_clients = ?;
+  liars = (tt, tt);
+  lying_clients = (tt, tt);
   seed = refl;
 }
 

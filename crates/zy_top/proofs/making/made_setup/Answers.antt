@@ -5,6 +5,3 @@ use Rattle.zy_top.proofs.making.made_setup.Goals as goal
 
 pub returns-clause-start : goal.returns-clause-start
 returns-clause-start c = ?
-
-pub returns-clause-setup : goal.returns-clause-setup
-returns-clause-setup c = ?

@@ -1,6 +1,7 @@
-use Rattle.std.proofs.Common.{◌≡◌, Ok, refl, inl}
+use Rattle.std.proofs.Common.{◌≡◌, Ok, Err, refl, inl}
 use Rattle.zy_top.specs.Words.{Command, command_of, texts}
 use Rattle.zy_top.proofs.Headline.{commands_are_safe}
+use Rattle.zy_top.proofs.MadeRuns.{own_answer}
 use Rattle.zy_top.proofs.top.zyzzyva.Goals as goal
 
 pub returns-in-Ok-run_keys-clause-own : goal.returns-in-Ok-run_keys-clause-own
@@ -31,3 +32,15 @@ returns-in-Err-run_replay-clause-headline g c =
 pub returns-in-Err-run_make-clause-headline : goal.returns-in-Err-run_make-clause-headline
 returns-in-Err-run_make-clause-headline g c =
     commands_are_safe c.replays_are_safe.ensures c.made_runs_are_safe.ensures (g.F.Files.held c.args.files.now) (command_of (texts c.args.words.now))
+
+pub returns-in-Ok-run_make-clause-own : goal.returns-in-Ok-run_make-clause-own
+returns-in-Ok-run_make-clause-own g c =
+    let read : command_of (texts c.args.words.now) ≡ Ok (Command.Make c.in-Ok-Make.number c.in-Ok-Make.asks.count) = rw c.in-Ok-Make.field-0-is at c.in-Ok-Make.ensures in
+    let made = c.in-Ok-run_make.ensures in
+    rw read (refl, own_answer _ (Ok c.in-Ok-run_make.field-0) _ (g.S.Sink.taken c.run_make.new.out) _ (g.S.Sink.faults c.run_make.new.out) made.answer made.exit made.written made.count)
+
+pub returns-in-Err-run_make-clause-own : goal.returns-in-Err-run_make-clause-own
+returns-in-Err-run_make-clause-own g c =
+    let read : command_of (texts c.args.words.now) ≡ Ok (Command.Make c.in-Ok-Make.number c.in-Ok-Make.asks.count) = rw c.in-Ok-Make.field-0-is at c.in-Ok-Make.ensures in
+    let made = c.in-Err-run_make.ensures in
+    rw read (refl, own_answer _ (Err c.in-Err-run_make.exit) _ (g.S.Sink.taken c.run_make.new.out) _ (g.S.Sink.faults c.run_make.new.out) made.answer made.exit made.written made.count)
