@@ -1,3 +1,4 @@
+pub mod Endings
 pub mod GroupLaws
 pub mod Headline
 pub mod JudgeLaws

@@ -1,5 +1,5 @@
 -- What a made schedule comes to.
-use Rattle.std.proofs.Common.{◌≡◌, ℕ, ◌+◌, ◌-◌, ◌^◌, ◌<◌, ◌≤◌, ◌⊎◌, inl, inr, Bool, true, false, cond, List, [], ◌∷◌, ◌++◌, length, Option, Result, Ok, Err, Vec, refl, sym, ap, ◌∙◌, not, lit≤, arith}
+use Rattle.std.proofs.Common.{◌≡◌, ℕ, ◌+◌, ◌-◌, ◌^◌, ◌<◌, ◌≤◌, ◌⊎◌, inl, inr, Bool, true, false, cond, List, [], ◌∷◌, ◌++◌, length, Option, Some, None, IfSome, Result, Ok, Err, Vec, refl, sym, ap, ◌∙◌, subst, not, lit≤, arith}
 use Rattle.std.specs.Prelude.{IsTrue, count_by}
 use Rattle.std.specs.List.{IsDistinct}
 use Rattle.std.specs.declared.alloc.Global.{Global}
@@ -7,23 +7,28 @@ use Rattle.std.proofs.KnownBytes.{Keeps-refl}
 use Rattle.std.proofs.lemmas.List.Sums.{sum_by-cons}
 use Rattle.zy_base.specs.Machine.{Rules}
 use Rattle.zy_edge.specs.Faults.{IsCounted, Rose}
+use Rattle.zy_edge.specs.Files.{Held}
 use Rattle.zy_report.specs.Lines.{summary_line}
+use Rattle.zy_schedule.specs.Making.{made_lines}
+use Rattle.zy_schedule.specs.declared.line.Line.{Line}
 use Rattle.zy_setup.specs.Starting.{IsStart}
 use Rattle.zy_world_law.specs.Events as events
-use Rattle.zy_world_law.specs.Runs.{End, Run}
-use Rattle.zy_world_law.specs.Setup.{IsSetup}
-use Rattle.zy_world_law.specs.World.{World}
+use Rattle.zy_space.specs.Service.{space_rules}
+use Rattle.zy_world_law.specs.Runs.{End, Run, run}
+use Rattle.zy_world_law.specs.Setup.{IsSetup, Setup}
+use Rattle.zy_world_law.specs.World.{World, start}
 use Rattle.zy_world_law.specs.declared.note.Note.{Note}
 use Rattle.zy_world_law.specs.declared.note.Note.TheVariants as notes
 use Rattle.zy_top.specs.Calls.{exit_of}
 use Rattle.zy_top.specs.Group.{made_setup}
 use Rattle.zy_top.specs.Replaying.{Adds, IsRunning, IsSummedUp, is_running}
 use Rattle.zy_top.specs.Telling.{agreed_of, is_done, is_done_fast, is_done_slow, is_fast, is_refused, summary_of}
-use Rattle.zy_top.specs.Verdict.{IsAnswer, IsOwnAnswer, IsReport, IsWritten, Verdict, is_write_fault, sum_verdict, summed_up, what_broke}
+use Rattle.zy_top.specs.Verdict.{IsAnswer, IsOwnAnswer, IsReport, IsWritten, Verdict, is_write_fault, make_verdict, sum_verdict, summed_up, what_broke}
 use Rattle.zy_top.specs.declared.exit.Broken.{Broken}
 use Rattle.zy_top.specs.declared.exit.Exit.{Exit}
 use Rattle.zy_top.specs.declared.exit.Exit.TheVariants as exits
 use Rattle.zy_top.specs.declared.tale.Tale.{Tale}
+use Rattle.zy_top.proofs.Endings.{rose}
 use Rattle.zy_top.proofs.Stops.{IsWritten-none}
 
 -- ---- each completion is on one of two paths
@@ -52,8 +57,8 @@ done_parts (note ∷ told) =
 -- ---- what is told of its run
 
 module _ {S : Type 0} (asks : ℕ) (r : Run S) (old new : Tale) (none : (old.tally.events ≡ 0) × (old.tally.fast ≡ 0) × (old.tally.slow ≡ 0) × (old.tally.refused ≡ 0)) (adds : Adds old new r.notes) where
-  events : new.tally.events ≡ length r.notes
-  events = omega (arith, adds.events, none.0)
+  all_events : new.tally.events ≡ length r.notes
+  all_events = omega (arith, adds.events, none.0)
 
   fast : new.tally.fast ≡ count_by is_done_fast r.notes
   fast = omega (arith, adds.fast, none.1)
@@ -68,7 +73,7 @@ module _ {S : Type 0} (asks : ℕ) (r : Run S) (old new : Tale) (none : (old.tal
   done = omega (arith, fast, slow, done_parts r.notes)
 
   summary : summary_line asks new.tally.events (new.tally.fast + new.tally.slow) new.tally.fast new.tally.slow new.tally.refused ≡ summary_of asks r.notes
-  summary = rw (done, events, fast, slow, refused) refl
+  summary = rw (done, all_events, fast, slow, refused) refl
 
   pub summed_report : (v : World S) (text : Vec ℕ Global) → r.end ≡ End.At v
       → text.items ≡ summary_line asks new.tally.events (new.tally.fast + new.tally.slow) new.tally.fast new.tally.slow new.tally.refused ++ agreed_of v
@@ -78,7 +83,14 @@ module _ {S : Type 0} (asks : ℕ) (r : Run S) (old new : Tale) (none : (old.tal
 
   pub summed_stop : (broken : events.Broken) (what : Broken) → r.end ≡ End.Stopped broken → what ≡ what_broke broken
       → sum_verdict asks r ≡ Verdict.Refused (exits.Premise (new.tally.events + 1) what)
-  summed_stop broken what ended is = ap (summed_up asks r.notes) ended ∙ rw (events, is) refl
+  summed_stop broken what ended is = ap (summed_up asks r.notes) ended ∙ rw (all_events, is) refl
+
+-- the run of the lines that are made, from the world that they are made for
+pub made_summed : (number asks : ℕ) (setup : Setup) (lines : List Line) (r : Result (Vec ℕ Global) Exit) → setup ≡ made_setup number → lines ≡ made_lines number asks
+    → IsSummedUp (sum_verdict asks (run space_rules lines (start space_rules setup))) r → IsSummedUp (make_verdict number asks) r
+made_summed number asks setup lines r sets made summed =
+    subst (λ s. IsSummedUp (sum_verdict asks (run space_rules (made_lines number asks) (start space_rules s))) r) sets
+    (subst (λ l. IsSummedUp (sum_verdict asks (run space_rules l (start space_rules setup))) r) made summed)
 
 -- ---- how it stops
 
@@ -128,9 +140,6 @@ summed_counts v exits.TooLong count is = absurd is
 
 -- ---- a command that names no file
 
-rose : (before after : ℕ) → IsCounted true before after → Rose before after
-rose before after counted = grind (arith, counted.0, counted.1)
-
 complete : (own : Verdict) (r : Result (Unit {0}) Exit) (before after : ℕ) → IsAnswer own (exit_of r) → IsRunning r → IsCounted (is_write_fault (exit_of r)) before after
     → IsReport own → ¬ Rose before after → (exit_of r ≡ exits.Done) ⊎ (exit_of r ≡ exits.Want)
 complete (Verdict.Report report) (Ok done) before after answer running counted due calm = inl refl
@@ -145,6 +154,12 @@ complete (Verdict.Report report) (Err (exits.Group field)) before after answer r
 complete (Verdict.Report report) (Err exits.TooLong) before after answer running counted due calm = absurd cc
 complete (Verdict.Refused refusal) r before after answer running counted due calm = absurd due
 complete (Verdict.Broke front refusal) r before after answer running counted due calm = absurd due
+
+pub made_finishes : (told : Option Held) (own : Verdict) (r : Result (Unit {0}) Exit) (read_before read_after before after : ℕ) → IsAnswer own (exit_of r) → IsRunning r
+    → IsCounted (is_write_fault (exit_of r)) before after
+    → IfSome told (λ held. IsReport own → ¬ Rose read_before read_after → ¬ Rose before after → (exit_of r ≡ exits.Done) ⊎ (exit_of r ≡ exits.Want))
+made_finishes None own r x y before after answer running counted = tt
+made_finishes (Some held) own r x y before after answer running counted = λ due still calm. complete own r before after answer running counted due calm
 
 no_read : (r : Result (Unit {0}) Exit) → IsRunning r → exit_of r ≡ exits.ReadFault → ⊥
 no_read (Ok done) running is = cc
@@ -182,6 +197,9 @@ made_starts number = record {
   lying_clients = (tt, tt);
   seed = refl;
 }
+
+pub made_so_starts : (number : ℕ) (setup : Setup) → setup ≡ made_setup number → IsStart setup
+made_so_starts number setup sets = subst IsStart (sym sets) (made_starts number)
 
 pub made_sets_up : (number : ℕ) → IsSetup (made_setup number)
 made_sets_up number = record { few = (made_starts number).few; clients = (made_starts number).clients }

@@ -1,7 +1,7 @@
-use Rattle.std.proofs.Common.{◌≤◌, length, refl, arith}
+use Rattle.std.proofs.Common.{◌≤◌, length, Err, refl, arith}
 use Rattle.std.proofs.lemmas.Result.{err_from_is_err_and}
 use Rattle.zy_top.specs.declared.exit.Exit.TheVariants as exits
-use Rattle.zy_top.proofs.MadeRuns.{summed_answers, summed_counts, summed_runs, summed_writes}
+use Rattle.zy_top.proofs.MadeRuns.{made_summed, summed_answers, summed_counts, summed_runs, summed_writes}
 use Rattle.zy_top.proofs.ReplayLaws.{sent_answers, sent_runs, sent_writes}
 use Rattle.zy_top.proofs.Stops.{IsWritten-none}
 use Rattle.zy_top.proofs.making.run_make.Goals as goal
@@ -16,12 +16,12 @@ returns-in_err-lines-clause-written g c =
 pub returns-in_err-text-clause-answer : goal.returns-in_err-text-clause-answer
 returns-in_err-text-clause-answer g c =
     let p = err_from_is_err_and c.from_residual-in_err-text.result c.from_residual-in_err-text.ensures.1 in
-    rw (p.1, p.2) (summed_answers _ _ (rw (c.made_setup.ensures.setup, c.in_ok-lines.ensures.made) at c.in_err-text.ensures))
+    rw (p.1, p.2) (summed_answers _ _ (made_summed c.args.number c.args.asks.count c.made_setup.result _ (Err _) c.made_setup.ensures.setup c.in_ok-lines.ensures.made c.in_err-text.ensures))
 
 pub returns-in_err-text-clause-written : goal.returns-in_err-text-clause-written
 returns-in_err-text-clause-written g c =
     let p = err_from_is_err_and c.from_residual-in_err-text.result c.from_residual-in_err-text.ensures.1 in
-    rw (p.1, p.2) (summed_writes _ _ (g.S.Sink.taken c.args.out.now) (rw (c.made_setup.ensures.setup, c.in_ok-lines.ensures.made) at c.in_err-text.ensures))
+    rw (p.1, p.2) (summed_writes _ _ (g.S.Sink.taken c.args.out.now) (made_summed c.args.number c.args.asks.count c.made_setup.result _ (Err _) c.made_setup.ensures.setup c.in_ok-lines.ensures.made c.in_err-text.ensures))
 
 pub returns-in_err-text-clause-exit : goal.returns-in_err-text-clause-exit
 returns-in_err-text-clause-exit g c =
