@@ -1,6 +1,5 @@
 -- What a replay comes to is the verdict on its run.
 use Rattle.std.proofs.Common.{◌≡◌, ℕ, zero, suc, ◌+◌, List, [], ◌++◌, length, Option, Result, Ok, Err, refl, sym, ap, ◌∙◌, append_assoc, append-nil, arith}
-use Rattle.std.specs.List.{flat_map, range_with_len}
 use Rattle.zy_base.specs.Machine.{Rules}
 use Rattle.zy_world_law.specs.Events as events
 use Rattle.zy_world_law.specs.Runs.{End, Run}
@@ -14,18 +13,18 @@ use Rattle.zy_top.specs.declared.exit.Exit.{Exit}
 use Rattle.zy_top.specs.declared.exit.Exit.TheVariants as exits
 use Rattle.zy_top.specs.declared.tale.Tale.{Tale}
 
-module _ {S : Type 0} (R : Rules S) (r : Run S) (old new : Tale) (none : old.events ≡ 0) (empty : old.text.items ≡ []) (adds : Adds old new r.notes) where
+module _ {S : Type 0} (R : Rules S) (r : Run S) (old new : Tale) (none : old.tally.events ≡ 0) (empty : old.text.items ≡ []) (adds : Adds old new r.notes) where
   told : new.text.items ≡ note_lines 1 r.notes
-  told = adds.text ∙ ap (λ t. t ++ note_lines (old.events + 1) r.notes) empty ∙ ap (λ n. note_lines (n + 1) r.notes) none
+  told = adds.text ∙ ap (λ t. t ++ note_lines (old.tally.events + 1) r.notes) empty ∙ ap (λ n. note_lines (n + 1) r.notes) none
 
   pub whole_report : (v : World S) (text : List ℕ) → r.end ≡ End.At v → text ≡ new.text.items ++ end_lines R v → Verdict.Report text ≡ run_verdict R r
   whole_report v text ended is =
       ap Verdict.Report (is ∙ ap (λ t. t ++ end_lines R v) told) ∙ sym (ap (told_verdict R r.notes) ended)
 
   pub broken_report : (broken : events.Broken) (what : Broken) → r.end ≡ End.Stopped broken → what ≡ what_broke broken
-      → Verdict.Broke new.text.items (exits.Premise (new.events + 1) what) ≡ run_verdict R r
+      → Verdict.Broke new.text.items (exits.Premise (new.tally.events + 1) what) ≡ run_verdict R r
   broken_report broken what ended is =
-      let number : new.events + 1 ≡ length r.notes + 1 = omega (arith, adds.events, none) in
+      let number : new.tally.events + 1 ≡ length r.notes + 1 = omega (arith, adds.events, none) in
       rw (told, number, is) (sym (ap (told_verdict R r.notes) ended))
 
 -- ---- what is written
@@ -88,18 +87,3 @@ stopped_writes old new bytes refusal (exits.Text line rule) sent = absurd sent
 stopped_writes old new bytes refusal (exits.Group field) sent = absurd sent
 stopped_writes old new bytes refusal (exits.Premise event what) sent = absurd sent
 stopped_writes old new bytes refusal exits.TooLong sent = absurd sent
-
--- ---- a line for each number
-
-from_more : (one : ℕ → List ℕ) (a n : ℕ) → flat_map one (range_with_len a (suc n)) ≡ flat_map one (range_with_len a n) ++ one (a + n)
-from_more one a zero = let same : a + 0 ≡ a = omega arith in rw same (append-nil (one a))
-from_more one a (suc n) =
-    let same : a + 1 + n ≡ a + suc n = omega arith in
-    ap (λ l. one a ++ l) (from_more one (a + 1) n ∙ ap (λ m. flat_map one (range_with_len (a + 1) n) ++ one m) same)
-    ∙ sym (append_assoc (one a) (flat_map one (range_with_len (a + 1) n)) (one (a + suc n)))
-
-pub range_more : (one : ℕ → List ℕ) (n : ℕ) → flat_map one (range_with_len 0 (n + 1)) ≡ flat_map one (range_with_len 0 n) ++ one n
-range_more one n =
-    let more : n + 1 ≡ suc n = omega arith in
-    let number : 0 + n ≡ n = omega arith in
-    ap (λ m. flat_map one (range_with_len 0 m)) more ∙ from_more one 0 n ∙ ap (λ m. flat_map one (range_with_len 0 n) ++ one m) number

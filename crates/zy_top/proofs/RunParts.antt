@@ -1,5 +1,7 @@
 -- How the parts of a run follow one another.
-use Rattle.std.proofs.Common.{◌≡◌, ℕ, zero, suc, ◌+◌, ◌-◌, ◌<◌, List, [], ◌∷◌, ◌++◌, length, Some, None, Result, Ok, Err, refl, sym, ap, ◌∙◌, subst, append_assoc, append-nil, length-append, arith}
+use Rattle.std.proofs.Common.{◌≡◌, ℕ, zero, suc, ◌+◌, ◌-◌, ◌<◌, Bool, cond, List, [], ◌∷◌, ◌++◌, length, Some, None, Result, Ok, Err, refl, sym, ap, ◌∙◌, subst, append_assoc, append-nil, length-append, arith}
+use Rattle.std.specs.Prelude.{count_by}
+use Rattle.std.proofs.lemmas.List.Sums.{sum_by-append}
 use Rattle.zy_base.specs.Machine.{Rules}
 use Rattle.zy_schedule.specs.declared.line.Line.{Line}
 use Rattle.zy_world.specs.Shown.{Shown}
@@ -13,7 +15,7 @@ use Rattle.zy_world_law.specs.declared.event.WorldEvent.{WorldEvent}
 use Rattle.zy_world_law.specs.declared.event.WorldEvent.TheVariants as world_events
 use Rattle.zy_world_law.specs.declared.note.Note.{Note}
 use Rattle.zy_top.specs.Replaying.{Adds, IsFar, IsPartRun, IsRun, IsTold, Passes, Stops, all_done, event_part}
-use Rattle.zy_top.specs.Telling.{note_line, note_lines}
+use Rattle.zy_top.specs.Telling.{is_done_fast, is_done_slow, is_refused, note_line, note_lines}
 use Rattle.zy_top.specs.Verdict.{what_broke}
 use Rattle.zy_top.specs.declared.exit.Broken.{Broken}
 use Rattle.zy_top.specs.declared.running.Stop as stops
@@ -28,19 +30,31 @@ note_lines_append n (note ∷ a) b =
     ap (λ l. note_line n note ++ l) (note_lines_append (n + 1) a b ∙ ap (λ m. note_lines (n + 1) a ++ note_lines m b) same)
     ∙ sym (append_assoc (note_line n note) (note_lines (n + 1) a) (note_lines (n + length (note ∷ a)) b))
 
+counted : (test : Note → Bool) (a b : List Note) (x y z : ℕ) → y ≡ x + count_by test a → z ≡ y + count_by test b → z ≡ x + count_by test (a ++ b)
+counted test a b x y z first second = omega (arith, first, second, sum_by-append (λ note. cond (test note) 1 0) a b)
+
 pub Adds-none : (t : Tale) → Adds t t []
-Adds-none t = record { events = omega arith; text = sym (append-nil t.text.items) }
+Adds-none t = record {
+  events = omega arith;
+  fast = omega arith;
+  slow = omega arith;
+  refused = omega arith;
+  text = sym (append-nil t.text.items);
+}
 
 pub Adds-then : (a b c : Tale) (first second : List Note) → Adds a b first → Adds b c second → Adds a c (first ++ second)
 Adds-then a b c first second before after =
-    let number : b.events + 1 ≡ a.events + 1 + length first = omega (arith, before.events) in
+    let number : b.tally.events + 1 ≡ a.tally.events + 1 + length first = omega (arith, before.events) in
     record {
       events = omega (arith, before.events, after.events, length-append first second);
+      fast = counted is_done_fast first second a.tally.fast b.tally.fast c.tally.fast before.fast after.fast;
+      slow = counted is_done_slow first second a.tally.slow b.tally.slow c.tally.slow before.slow after.slow;
+      refused = counted is_refused first second a.tally.refused b.tally.refused c.tally.refused before.refused after.refused;
       text =
-          after.text ∙ ap (λ t. t ++ note_lines (b.events + 1) second) before.text
-          ∙ append_assoc a.text.items (note_lines (a.events + 1) first) (note_lines (b.events + 1) second)
+          after.text ∙ ap (λ t. t ++ note_lines (b.tally.events + 1) second) before.text
+          ∙ append_assoc a.text.items (note_lines (a.tally.events + 1) first) (note_lines (b.tally.events + 1) second)
           ∙ ap (λ l. a.text.items ++ l)
-          (ap (λ n. note_lines (a.events + 1) first ++ note_lines n second) number ∙ sym (note_lines_append (a.events + 1) first second));
+          (ap (λ n. note_lines (a.tally.events + 1) first ++ note_lines n second) number ∙ sym (note_lines_append (a.tally.events + 1) first second));
     }
 
 -- ---- parts of a run

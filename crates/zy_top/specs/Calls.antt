@@ -59,6 +59,7 @@ abbrev pub IsCommand : Result Command ℕ → Result commands.Command ℕ → Ty
 IsCommand read (Ok (commands.TheVariants.Space script)) = read ≡ Ok (Command.Space script.now)
 IsCommand read (Ok (commands.TheVariants.Replay group schedule)) = read ≡ Ok (Command.Replay group.now schedule.now)
 IsCommand read (Ok (commands.TheVariants.Keys seed by height)) = read ≡ Ok (Command.Keys seed by height)
+IsCommand read (Ok (commands.TheVariants.Make number asks)) = read ≡ Ok (Command.Make number asks.count)
 IsCommand read (Err word) = read ≡ Err word
 
 -- how the program ends

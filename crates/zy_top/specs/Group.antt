@@ -1,5 +1,6 @@
--- What a replay is told of its group, as what its world begins with.
-use Rattle.std.specs.Prelude.{ℕ, ◌+◌, ◌*◌, ◌==◌, if◌then◌else◌, List, Option, None, Result}
+-- What a replay is told of its group, as what its world begins with, and the group of a made schedule.
+use Rattle.std.specs.Prelude.{ℕ, ◌+◌, ◌*◌, ◌==◌, if◌then◌else◌, List, [], ◌++◌, replicate, Option, None, Result}
+use Rattle.std.specs.Int.{w32, to_be_bytes}
 use Rattle.std.specs.Str.{is_utf8}
 use Rattle.std.proofs.Common.{lit<, lit≤}
 use Rattle.toml.specs.Data.{Members}
@@ -8,6 +9,8 @@ use Rattle.zy_base.specs.Counts.{IsSound}
 use Rattle.zy_base.specs.declared.counts.Counts.{Counts}
 use Rattle.zy_group.specs.Replay.{text_group}
 use Rattle.zy_group.specs.declared.replay.ReplayGroup.{ReplayGroup}
+use Rattle.zy_lms.specs.declared.height.Height.TheVariants.{H10}
+use Rattle.zy_ots.specs.declared.ots_type.OtsType.TheVariants.{W4}
 use Rattle.zy_world_law.specs.Setup.{Setup}
 
 -- ---- the counts of 3f + 1 replicas
@@ -120,4 +123,24 @@ setup_of group =
       seed = group.seed;
       height = group.height;
       ots = group.ots;
+    }
+
+-- ---- made schedules
+
+-- 28 zeros, and the number in four bytes, its highest first
+abbrev pub made_seed : ℕ → List ℕ
+made_seed number = replicate 28 0 ++ to_be_bytes w32 number
+
+-- four replicas and four clients, none of which lies, a checkpoint after every 32 places, and keys of height 10
+abbrev pub made_setup : ℕ → Setup
+made_setup number =
+    record {
+      counts = plain_counts 1;
+      interval = 32;
+      clients = 4;
+      liars = [];
+      lying_clients = [];
+      seed = made_seed number;
+      height = H10;
+      ots = W4;
     }

@@ -1,10 +1,11 @@
 -- What the parts of a replay give.
-use Rattle.std.specs.Prelude.{◌≡◌, ℕ, ◌+◌, nat_lt, Bool, true, false, IsTrue, if◌then◌else◌, List, [], ◌∷◌, ◌++◌, length, Result, Ok, Err, Vec, ⊤}
+use Rattle.std.specs.Prelude.{◌≡◌, ℕ, ◌+◌, nat_lt, Bool, true, false, IsTrue, if◌then◌else◌, List, [], ◌∷◌, ◌++◌, length, count_by, Option, IfSome, Result, Ok, Err, Vec, ⊤}
 use Rattle.std.specs.List.{AllByRecursion}
 use Rattle.std.specs.declared.alloc.Global.{Global}
 use Rattle.zy_base.specs.Machine.{Rules}
 use Rattle.zy_group.specs.declared.replay.ReplayGroup.{ReplayGroup}
 use Rattle.zy_edge.specs.Files.{Held, content_of}
+use Rattle.zy_schedule.specs.Making.{made_lines}
 use Rattle.zy_schedule.specs.Reading.{schedule_of}
 use Rattle.zy_schedule.specs.declared.line.Line.{Line}
 use Rattle.zy_setup.specs.Starting.{IsStart}
@@ -20,8 +21,8 @@ use Rattle.zy_world_law.specs.World.{World, start}
 use Rattle.zy_world_law.specs.declared.event.WorldEvent.{WorldEvent}
 use Rattle.zy_world_law.specs.declared.note.Note.{Note}
 use Rattle.zy_top.specs.Calls.{is_reading}
-use Rattle.zy_top.specs.Group.{group_of, setup_of}
-use Rattle.zy_top.specs.Telling.{note_lines}
+use Rattle.zy_top.specs.Group.{group_of, made_setup, setup_of}
+use Rattle.zy_top.specs.Telling.{is_done_fast, is_done_slow, is_refused, note_lines}
 use Rattle.zy_top.specs.Verdict.{Verdict, limit, replay_verdict, run_verdict, schedule_verdict, what_broke}
 use Rattle.zy_top.specs.Words.{Command}
 use Rattle.zy_top.specs.declared.exit.Exit.{Exit}
@@ -43,8 +44,11 @@ IsSetupRead read (Err exit) = ⊥
 
 -- what was told grew by what is told of further events
 pub record Adds (old new : Tale) (notes : List Note) : Type 0 where
-  pub events : new.events ≡ old.events + length notes
-  pub text : new.text.items ≡ old.text.items ++ note_lines (old.events + 1) notes
+  pub events : new.tally.events ≡ old.tally.events + length notes
+  pub fast : new.tally.fast ≡ old.tally.fast + count_by is_done_fast notes
+  pub slow : new.tally.slow ≡ old.tally.slow + count_by is_done_slow notes
+  pub refused : new.tally.refused ≡ old.tally.refused + count_by is_refused notes
+  pub text : new.text.items ≡ old.text.items ++ note_lines (old.tally.events + 1) notes
 
 -- ---- runs
 
@@ -94,6 +98,13 @@ abbrev pub verdict_in : replayed.Replayed → Verdict
 verdict_in (replayed.TheVariants.Whole text) = Verdict.Report text.items
 verdict_in (replayed.TheVariants.Broke text event what) = Verdict.Broke text.items (exits.Premise event what)
 
+-- the summary of a run and its agreed list, or the event of it that isn't honest
+abbrev pub IsSummedUp : Verdict → Result (Vec ℕ Global) Exit → Type 0
+IsSummedUp verdict (Ok text) = verdict ≡ Verdict.Report text.items
+IsSummedUp verdict (Err (exits.Premise event what)) = verdict ≡ Verdict.Refused (exits.Premise event what)
+IsSummedUp verdict (Err exits.Want) = ⊤
+IsSummedUp verdict (Err exit) = ⊥
+
 -- ---- files
 
 -- the verdict on a schedule's text where the group is read
@@ -142,8 +153,14 @@ abbrev pub IsSafeReplay : List ℕ → List ℕ → Type 0
 IsSafeReplay group schedule =
     (told : ReplayGroup) (lines : List Line) → group_of group ≡ Ok told → schedule_of schedule ≡ Ok lines → IsSafeRun (setup_of told) lines
 
-abbrev pub IsSafeCommand : Held → Result Command ℕ → Type 0
-IsSafeCommand files (Ok (Command.Replay group schedule)) = IsSafeReplay (content_of files group) (content_of files schedule)
-IsSafeCommand files (Ok (Command.Space script)) = ⊤
-IsSafeCommand files (Ok (Command.Keys seed by height)) = ⊤
-IsSafeCommand files (Err word) = ⊤
+-- and so for the run of a made schedule
+abbrev pub IsSafeMake : ℕ → ℕ → Type 0
+IsSafeMake number asks = IsSafeRun (made_setup number) (made_lines number asks)
+
+-- the run of a command, if it makes one; that of a replay over files that are told
+abbrev pub IsSafeCommand : Option Held → Result Command ℕ → Type 0
+IsSafeCommand told (Ok (Command.Replay group schedule)) = IfSome told (λ files. IsSafeReplay (content_of files group) (content_of files schedule))
+IsSafeCommand told (Ok (Command.Make number asks)) = IsSafeMake number asks
+IsSafeCommand told (Ok (Command.Space script)) = ⊤
+IsSafeCommand told (Ok (Command.Keys seed by height)) = ⊤
+IsSafeCommand told (Err word) = ⊤

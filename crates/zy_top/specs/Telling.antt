@@ -1,6 +1,6 @@
 -- The text of a run: a line for each completion and each refusal, in the order of the events, then a line for each replica,
 -- then the agreed list.
-use Rattle.std.specs.Prelude.{ℕ, ◌+◌, Bool, true, false, List, [], ◌++◌, ◌∷◌, Option, Some, None, option_map}
+use Rattle.std.specs.Prelude.{ℕ, ◌+◌, Bool, true, false, not, List, [], ◌++◌, ◌∷◌, length, count_by, Option, Some, None, option_map}
 use Rattle.std.specs.List.{flat_map, range_with_len}
 use Rattle.sha2.specs.Sha256.{sha256}
 use Rattle.zy_base.specs.Machine.{Rules}
@@ -9,7 +9,7 @@ use Rattle.zy_base.specs.declared.ids.Digest.{Digest}
 use Rattle.zy_chain.specs.Heads.{empty_head}
 use Rattle.zy_exec.specs.Kept.{now_of}
 use Rattle.zy_exec.specs.Snapshot.{snapshot_of}
-use Rattle.zy_report.specs.Lines.{agreed_line, done_line, refused_line, replica_line, reply_line}
+use Rattle.zy_report.specs.Lines.{agreed_line, done_line, refused_line, replica_line, reply_line, summary_line}
 use Rattle.zy_table.specs.State.{State, stood_of}
 use Rattle.zy_table.specs.declared.client.Done.{Done}
 use Rattle.zy_table.specs.declared.client.Path as path
@@ -39,6 +39,29 @@ note_line number (notes.Refused party cause) = refused_line number party cause
 abbrev pub note_lines : ℕ → List Note → List ℕ
 note_lines number [] = []
 note_lines number (note ∷ more) = note_line number note ++ note_lines (number + 1) more
+
+-- ---- in numbers
+
+abbrev pub is_done : Note → Bool
+is_done (notes.Done client done) = true
+is_done note = false
+
+abbrev pub is_done_fast : Note → Bool
+is_done_fast (notes.Done client done) = is_fast done.path
+is_done_fast note = false
+
+abbrev pub is_done_slow : Note → Bool
+is_done_slow (notes.Done client done) = not (is_fast done.path)
+is_done_slow note = false
+
+abbrev pub is_refused : Note → Bool
+is_refused (notes.Refused party cause) = true
+is_refused note = false
+
+-- what so many asks came to
+abbrev pub summary_of : ℕ → List Note → List ℕ
+summary_of asks told =
+    summary_line asks (length told) (count_by is_done told) (count_by is_done_fast told) (count_by is_done_slow told) (count_by is_refused told)
 
 -- ---- the end
 

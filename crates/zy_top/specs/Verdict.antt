@@ -12,6 +12,7 @@ use Rattle.zy_tuple.specs.declared.values.Reply.{Reply}
 use Rattle.zy_space.specs.TupleSpace.{replies_from}
 use Rattle.zy_base.specs.Machine.{Rules}
 use Rattle.zy_space.specs.Service.{space_rules}
+use Rattle.zy_schedule.specs.Making.{made_lines}
 use Rattle.zy_schedule.specs.Reading.{schedule_of}
 use Rattle.zy_schedule.specs.declared.line.Line.{Line}
 use Rattle.zy_group.specs.declared.replay.ReplayGroup.{ReplayGroup}
@@ -20,9 +21,9 @@ use Rattle.zy_world_law.specs.Runs.{End, Run, run}
 use Rattle.zy_world_law.specs.Setup.{Setup}
 use Rattle.zy_world_law.specs.World.{start}
 use Rattle.zy_world_law.specs.declared.note.Note.{Note}
-use Rattle.zy_top.specs.Group.{group_of, setup_of}
+use Rattle.zy_top.specs.Group.{group_of, made_setup, setup_of}
 use Rattle.zy_top.specs.Keys.{key_file}
-use Rattle.zy_top.specs.Telling.{note_lines, end_lines}
+use Rattle.zy_top.specs.Telling.{agreed_of, end_lines, note_lines, summary_of}
 use Rattle.zy_top.specs.Words.{Command, command_of}
 use Rattle.zy_top.specs.declared.exit.Broken.{Broken}
 use Rattle.zy_top.specs.declared.exit.Broken.TheVariants as broken
@@ -89,6 +90,20 @@ abbrev pub replay_verdict : List ℕ → List ℕ → Verdict
 replay_verdict group schedule =
     if nat_lt limit (length group) then Refused exits.TooLong else group_verdict (group_of group) schedule
 
+-- ---- made schedules
+
+-- what a run of so many asks came to, and the agreed list; nothing is written before an event that isn't honest
+abbrev pub summed_up : {S : Type 0} → ℕ → List Note → End S → Verdict
+summed_up asks notes (End.At w) = Report (summary_of asks notes ++ agreed_of w)
+summed_up asks notes (End.Stopped what) = Refused (exits.Premise (length notes + 1) (what_broke what))
+
+abbrev pub sum_verdict : {S : Type 0} → ℕ → Run S → Verdict
+sum_verdict asks r = summed_up asks r.notes r.end
+
+-- the schedule that the number makes runs from the start of its world
+abbrev pub make_verdict : ℕ → ℕ → Verdict
+make_verdict number asks = sum_verdict asks (run space_rules (made_lines number asks) (start space_rules (made_setup number)))
+
 -- ---- all commands
 
 abbrev pub command_verdict : Held → Result Command ℕ → Verdict
@@ -96,6 +111,7 @@ command_verdict files (Err word) = Refused (exits.Usage word)
 command_verdict files (Ok (Command.Space script)) = space_verdict (content_of files script)
 command_verdict files (Ok (Command.Replay group schedule)) = replay_verdict (content_of files group) (content_of files schedule)
 command_verdict files (Ok (Command.Keys seed by height)) = Report (key_file seed by height)
+command_verdict files (Ok (Command.Make number asks)) = make_verdict number asks
 
 -- words are judged first, then the files that they name, each before the next is read
 abbrev pub verdict : List (List ℕ) → Held → Verdict
@@ -107,6 +123,7 @@ own_verdict (Err word) = Some (Refused (exits.Usage word))
 own_verdict (Ok (Command.Space script)) = None
 own_verdict (Ok (Command.Replay group schedule)) = None
 own_verdict (Ok (Command.Keys seed by height)) = Some (Report (key_file seed by height))
+own_verdict (Ok (Command.Make number asks)) = Some (make_verdict number asks)
 
 abbrev pub answer_to : Verdict → Exit
 answer_to (Refused exit) = exit

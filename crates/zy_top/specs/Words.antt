@@ -1,12 +1,12 @@
 -- The words of the command line.
-use Rattle.std.specs.Prelude.{ℕ, ◌==◌, Bool, false, if◌then◌else◌, List, [], ◌∷◌, map, codes, nat_eq, Option, Some, None, Result, Ok, Err, String, string_bytes}
+use Rattle.std.specs.Prelude.{ℕ, ◌^◌, ◌==◌, nat_le, Bool, false, if◌then◌else◌, List, [], ◌∷◌, map, codes, nat_eq, Option, Some, None, Result, Ok, Err, String, string_bytes}
 use Rattle.std.specs.Cmp.Lexicographic.{pointwise}
 use Rattle.std.specs.declared.alloc.Global.{Global}
 use Rattle.hex.specs.Hex.{decode_sized}
 use Rattle.hex.specs.declared.error.FromHexError.{FromHexError}
 use Rattle.zy_base.specs.declared.ids.Party.{Party}
 use Rattle.zy_lms.specs.declared.height.Height.{Height}
-use Rattle.zy_tuple.specs.Parties.{party_of}
+use Rattle.zy_tuple.specs.Parties.{number_below, party_of}
 use Rattle.zy_top.specs.Keys.{height_read}
 
 -- what the words ask for
@@ -17,6 +17,8 @@ pub data Command : Type 0 where
   Replay : List ℕ → List ℕ → Command
   -- write the secret file of a party's key
   Keys : List ℕ → Party → Height → Command
+  -- run the schedule that the number makes, of so many asks
+  Make : ℕ → ℕ → Command
 
 abbrev pub texts : List (String Global) → List (List ℕ)
 texts words = map string_bytes words
@@ -67,10 +69,35 @@ abbrev pub keys_words : List (List ℕ) → Result Command ℕ
 keys_words [] = Err 2
 keys_words (seed ∷ words) = behind_seed (decode_sized seed 32) words
 
+-- from 1 to 300
+abbrev pub at_least_one : Option ℕ → Option ℕ
+at_least_one None = None
+at_least_one (Some n) = if nat_le 1 n then Some n else None
+
+abbrev pub asks_of : List ℕ → Option ℕ
+asks_of word = at_least_one (number_below 301 word)
+
+-- behind a number of asks no word stands
+abbrev pub behind_asks : ℕ → Option ℕ → List (List ℕ) → Result Command ℕ
+behind_asks number None words = Err 3
+behind_asks number (Some asks) [] = Ok (Make number asks)
+behind_asks number (Some asks) (word ∷ words) = Err 4
+
+abbrev pub behind_number : Option ℕ → List (List ℕ) → Result Command ℕ
+behind_number None words = Err 2
+behind_number (Some number) [] = Err 3
+behind_number (Some number) (asks ∷ words) = behind_asks number (asks_of asks) words
+
+-- behind `make` stand a number of 32 bits and a number of asks
+abbrev pub make_words : List (List ℕ) → Result Command ℕ
+make_words [] = Err 2
+make_words (number ∷ words) = behind_number (number_below (2 ^ 32) number) words
+
 -- the command, or the number of the first word that isn't allowed, is missing or is too many
 abbrev pub command_of : List (List ℕ) → Result Command ℕ
 command_of [] = Err 1
 command_of (word ∷ words) =
     if is_word word (codes "space") then space_words words
     else (if is_word word (codes "replay") then replay_words words
-    else (if is_word word (codes "keys") then keys_words words else Err 1))
+    else (if is_word word (codes "keys") then keys_words words
+    else (if is_word word (codes "make") then make_words words else Err 1)))

@@ -38,7 +38,7 @@ fn setup_of(alloc: Global, group: ReplayGroup) -> Result<Setup, Want>
 }
 
 /// The counts of 3f + 1 replicas.
-fn plain_counts(f: u8) -> Counts
+pub(crate) fn plain_counts(f: u8) -> Counts
     requires least { 1 ≤ f }
     requires most { f ≤ 4 }
     ensures { result ≡ groups.plain_counts f }

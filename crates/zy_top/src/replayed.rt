@@ -53,10 +53,10 @@ pub(crate) fn replay<M: Machine>(
             Ok(Replayed::Whole(text))
         }
         Err(Stop::Broke(what)) => {
-            let Tale { events, text } = tale;
+            let Tale { tally, text } = tale;
             Ok(Replayed::Broke {
                 text,
-                event: events + 1,
+                event: tally.events + 1,
                 what,
             })
         }

@@ -44,9 +44,9 @@ pub(crate) fn run_lines<M: Machine>(
     tale: &mut Tale,
 ) -> Result<World<M>, Stop>
     requires said { All IsSaid lines.items }
-    requires room { tale.old.events + 100000 * length lines.items < 2 ^ 64 }
+    requires room { tale.old.tally.events + 100000 * length lines.items < 2 ^ 64 }
     ensures run { (g : Whole M.State) → Shows g world → IsRun (runs.run M.rules lines.items g) tale.old tale.new result }
-    ensures count { tale.new.events ≤ tale.old.events + 100000 * length lines.items }
+    ensures count { tale.new.tally.events ≤ tale.old.tally.events + 100000 * length lines.items }
 {
     let mut world = world;
     for line in lines {
@@ -62,9 +62,9 @@ fn run_line<M: Machine>(
     tale: &mut Tale,
 ) -> Result<World<M>, Stop>
     requires said { IsSaid line }
-    requires room { tale.old.events + 100000 < 2 ^ 64 }
+    requires room { tale.old.tally.events + 100000 < 2 ^ 64 }
     ensures run { (g : Whole M.State) → Shows g world → IsPartRun (runs.run_line M.rules line) g tale.old tale.new result }
-    ensures count { tale.new.events ≤ tale.old.events + 100000 }
+    ensures count { tale.new.tally.events ≤ tale.old.tally.events + 100000 }
 {
     match line {
         Line::Ask { client, op } => run_ask(alloc, world, client, op, tale),
@@ -133,9 +133,9 @@ fn run_ask<M: Machine>(
     tale: &mut Tale,
 ) -> Result<World<M>, Stop>
     requires op { IsOp op }
-    requires room { tale.old.events + 1 < 2 ^ 64 }
+    requires room { tale.old.tally.events + 1 < 2 ^ 64 }
     ensures run { (g : Whole M.State) → Shows g world → IsPartRun (event_part M.rules (events.Ask client (spelled.op_bytes op))) g tale.old tale.new result }
-    ensures count { tale.new.events ≤ tale.old.events + 1 }
+    ensures count { tale.new.tally.events ≤ tale.old.tally.events + 1 }
 {
     let op = op_bytes(alloc, &op)?;
     run_event(alloc, world, WorldEvent::Ask { client, op }, tale)
@@ -153,9 +153,9 @@ fn run_spec<M: Machine>(
 ) -> Result<World<M>, Stop>
     requires history { IsHistoryTold view asks }
     requires reply { IsReply reply }
-    requires room { tale.old.events + 1 < 2 ^ 64 }
+    requires room { tale.old.tally.events + 1 < 2 ^ 64 }
     ensures run { (g : Whole M.State) → Shows g world → IsPartRun (event_part M.rules (events.Spec liar view asks to (spelled.reply_bytes reply))) g tale.old tale.new result }
-    ensures count { tale.new.events ≤ tale.old.events + 1 }
+    ensures count { tale.new.tally.events ≤ tale.old.tally.events + 1 }
 {
     let reply = reply_bytes(alloc, &reply)?;
     run_event(
@@ -180,9 +180,9 @@ fn run_flow<M: Machine>(
     tale: &mut Tale,
 ) -> Result<World<M>, Stop>
     requires few { events ≤ 100000 }
-    requires room { tale.old.events + 100000 < 2 ^ 64 }
+    requires room { tale.old.tally.events + 100000 < 2 ^ 64 }
     ensures run { (g : Whole M.State) → Shows g world → IsPartRun (runs.flow M.rules events) g tale.old tale.new result }
-    ensures count { tale.new.events ≤ tale.old.events + 100000 }
+    ensures count { tale.new.tally.events ≤ tale.old.tally.events + 100000 }
 {
     let mut world = world;
     for _ in 0..events {
@@ -202,9 +202,9 @@ fn run_event<M: Machine>(
     tale: &mut Tale,
 ) -> Result<World<M>, Stop>
     requires event { IsEvent event }
-    requires room { tale.old.events + 1 < 2 ^ 64 }
+    requires room { tale.old.tally.events + 1 < 2 ^ 64 }
     ensures run { (g : Whole M.State) → Shows g world → IsPartRun (event_part M.rules event) g tale.old tale.new result }
-    ensures count { tale.new.events ≤ tale.old.events + 1 }
+    ensures count { tale.new.tally.events ≤ tale.old.tally.events + 1 }
 {
     match world.step(event) {
         Ok(WorldStepped { world, note }) => told(alloc, world, &note, tale),
@@ -220,9 +220,9 @@ fn told<M: Machine>(
     note: &Note,
     tale: &mut Tale,
 ) -> Result<World<M>, Stop>
-    requires { tale.old.events + 1 < 2 ^ 64 }
+    requires { tale.old.tally.events + 1 < 2 ^ 64 }
     ensures told { IsTold world note.now tale.old tale.new result }
-    ensures count { tale.new.events ≤ tale.old.events + 1 }
+    ensures count { tale.new.tally.events ≤ tale.old.tally.events + 1 }
 {
     tale.add(alloc, note)?;
     Ok(world)

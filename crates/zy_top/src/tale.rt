@@ -1,46 +1,51 @@
 // What is told of a run.
 ghost use Rattle.std.specs.Prelude.{◌≡◌, ◌++◌, ◌∷◌, [], ◌<◌, ◌≤◌, ◌+◌, ◌^◌, IfOk, OnOk, option_copied};
+ghost use Rattle.zy_report.specs.Lines.{summary_line};
 ghost use Rattle.zy_top.specs.Replaying.{Adds};
 ghost use Rattle.zy_top.specs.Telling as telling;
 ghost use Rattle.zy_world.specs.Shows.{Shows};
 ghost use Rattle.zy_world_law.specs.World.{World as Whole};
 
+use crate::tally::Tally;
 use std::alloc::Global;
 use zy_base::{Bytes, ClientId, Digest, Machine, ReplicaId, Want};
 use zy_replica::Replica;
-use zy_report::{agreed_line, done_line, refused_line, replica_line, reply_line};
+use zy_report::{agreed_line, done_line, refused_line, replica_line, reply_line, summary_line};
 use zy_table::{Done, Path};
 use zy_world::World;
 use zy_world_law::Note;
 
-/// How many events there were, and what is written of them.
+/// The events in numbers, and a line for each that `replay` writes of.
 #[derive(Drop)]
 pub(crate) struct Tale {
-    pub(crate) events: u64,
+    pub(crate) tally: Tally,
     pub(crate) text: Vec<u8>,
 }
 
 impl Tale {
     /// Nothing.
     pub(crate) fn new(alloc: Global) -> Tale
-        ensures events { result.events ≡ 0 }
+        ensures events { result.tally.events ≡ 0 }
+        ensures fast { result.tally.fast ≡ 0 }
+        ensures slow { result.tally.slow ≡ 0 }
+        ensures refused { result.tally.refused ≡ 0 }
         ensures text { result.text.items ≡ [] }
     {
         Tale {
-            events: 0,
+            tally: Tally::new(),
             text: Vec::new(alloc),
         }
     }
 
     /// One event more.
     pub(crate) fn add(&mut self, alloc: Global, note: &Note) -> Result<(), Want>
-        requires { self.old.events + 1 < 2 ^ 64 }
+        requires { self.old.tally.events + 1 < 2 ^ 64 }
         ensures told { OnOk result (Adds self.old self.new (note.now ∷ [])) }
-        ensures count { self.new.events ≤ self.old.events + 1 }
+        ensures count { self.new.tally.events ≤ self.old.tally.events + 1 }
     {
-        let line = note_line(alloc, self.events + 1, note)?;
+        let line = note_line(alloc, self.tally.events + 1, note)?;
         self.text.extend_from_slice(line.as_slice())?;
-        self.events += 1;
+        self.tally = self.tally.with(note);
         Ok(())
     }
 }
@@ -90,10 +95,40 @@ pub(crate) fn put_end<M: Machine>(
     ensures { (g : Whole M.State) → Shows g world.now → OnOk result (text.new.items ≡ text.old.items ++ telling.end_lines M.rules g) }
 {
     put_standings(alloc, world, text)?;
+    put_agreed(alloc, world, text)
+}
+
+fn put_agreed<M: Machine>(alloc: Global, world: &World<M>, text: &mut Vec<u8>) -> Result<(), Want>
+    ensures { (g : Whole M.State) → Shows g world.now → OnOk result (text.new.items ≡ text.old.items ++ telling.agreed_of g) }
+{
     let (place, head) = world.agreed();
     let line = agreed_line(alloc, place, &head)?;
     text.extend_from_slice(line.as_slice())?;
     Ok(())
+}
+
+/// What a run of so many asks came to, and the agreed list.
+pub(crate) fn sum_up<M: Machine>(
+    alloc: Global,
+    asks: u32,
+    tally: Tally,
+    world: &World<M>,
+) -> Result<Vec<u8>, Want>
+    ensures { (g : Whole M.State) → Shows g world.now → IfOk result (λ text. text.items ≡
+        summary_line asks tally.events (tally.fast + tally.slow) tally.fast tally.slow tally.refused ++ telling.agreed_of g) }
+{
+    let line = summary_line(
+        alloc,
+        u64::from(asks),
+        tally.events,
+        tally.done(),
+        tally.fast,
+        tally.slow,
+        tally.refused,
+    )?;
+    let mut text = line.into_vec();
+    put_agreed(alloc, world, &mut text)?;
+    Ok(text)
 }
 
 fn put_standings<M: Machine>(

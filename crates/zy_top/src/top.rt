@@ -9,6 +9,7 @@ ghost use Rattle.zy_top.specs.Words.{command_of, texts};
 
 use crate::Exit;
 use crate::keys::key_file;
+use crate::making::{made_runs_are_safe, run_make};
 use crate::reading::read_file;
 use crate::replays::{replays_are_safe, run_replay};
 use crate::space::run_script;
@@ -26,7 +27,8 @@ use zy_schedule::read_script;
 /// `space SCRIPT` runs the operations of a script, one on a line, on one empty space, and writes the text of each
 /// reply on a line of its own. `replay GROUP SCHEDULE` runs a schedule in the world of a group, and writes a line for each
 /// completion and each refusal, then where each replica stands, then the agreed list. `keys SEED PARTY HEIGHT` writes the secret file of a party's key, made from a seed of
-/// 64 hexadecimal digits, with its public key.
+/// 64 hexadecimal digits, with its public key. `make NUMBER ASKS` runs the schedule of so many asks that the number makes in a
+/// world of four replicas, and writes what it came to in numbers and the agreed list.
 pub fn zyzzyva<F: Files, S: Sink>(
     alloc: Global,
     words: &[String],
@@ -50,9 +52,9 @@ pub fn zyzzyva<F: Files, S: Sink>(
         → ¬ Rose (F.faults files.old) (F.faults files.new) → ¬ Rose (S.faults out.old) (S.faults out.new)
         → (result ≡ Exit.Done) ⊎ (result ≡ Exit.Want)) }
 
-    // Whatever the answer is: in the run that a told group and a told schedule spell, every world is safe, and the agreed
-    // list only grows.
-    ensures headline { IfSome (F.held files.old) (λ held. IsSafeCommand held (command_of (texts words.now))) }
+    // Whatever the answer is: in the run that a told group and a told schedule spell, and in the run that a number makes, every
+    // world is safe, and the agreed list only grows.
+    ensures headline { IsSafeCommand (F.held files.old) (command_of (texts words.now)) }
 
     // Over any files, a refusal has not touched the sink.
     ensures refused { IsTrue (is_refusal result) → out.new ≡ out.old }
@@ -63,6 +65,7 @@ pub fn zyzzyva<F: Files, S: Sink>(
     ensures held { F.held files.new ≡ F.held files.old }
 {
     replays_are_safe();
+    made_runs_are_safe();
     match command_of(words) {
         Ok(Command::Space(script)) => match run_space(alloc, script, files, out) {
             Ok(()) => Exit::Done,
@@ -75,6 +78,10 @@ pub fn zyzzyva<F: Files, S: Sink>(
             }
         }
         Ok(Command::Keys { seed, by, height }) => match run_keys(alloc, &seed, by, height, out) {
+            Ok(()) => Exit::Done,
+            Err(exit) => exit,
+        },
+        Ok(Command::Make { number, asks }) => match run_make(alloc, number, asks, out) {
             Ok(()) => Exit::Done,
             Err(exit) => exit,
         },

@@ -1,13 +1,15 @@
 // The words of the command line, judged by hand: the number of the first that isn't allowed is exact.
-ghost use Rattle.std.specs.Prelude.{◌≡◌};
+ghost use Rattle.std.specs.Prelude.{◌≡◌, ◌^◌, option_map};
+ghost use Rattle.zy_tuple.specs.Parties.{number_below};
 ghost use Rattle.zy_top.specs.Calls.{IsCommand};
-ghost use Rattle.zy_top.specs.Words.{command_of, space_words, behind_group, replay_words, keys_words, behind_seed, texts};
+ghost use Rattle.zy_top.specs.Words.{asks_of, behind_group, behind_seed, command_of, keys_words, make_words, replay_words, space_words, texts};
 
+use crate::asks::Asks;
 use crate::keys::height_read;
 use hex::FromHex;
 use zy_base::Party;
 use zy_lms::Height;
-use zy_tuple::party_text_read;
+use zy_tuple::{numeral, party_text_read};
 
 /// What the words ask for.
 #[derive(Clone, Copy)]
@@ -25,6 +27,11 @@ pub(crate) enum Command<'a> {
         by: Party,
         height: Height,
     },
+    /// Run the schedule that the number makes, of so many asks.
+    Make {
+        number: u32,
+        asks: Asks,
+    },
 }
 
 /// The command, or the number of the first word that isn't allowed, is missing or is too many.
@@ -38,6 +45,7 @@ pub(crate) fn command_of(words: &[String]) -> Result<Command<'_>, u64>
         "space" => space_words(others),
         "replay" => replay_words(others),
         "keys" => keys_words(others),
+        "make" => make_words(others),
         _ => Err(1),
     }
 }
@@ -121,4 +129,46 @@ fn behind_seed(seed: [u8; 32], words: &[String]) -> Result<Command<'_>, u64>
         return Err(5);
     }
     Ok(Command::Keys { seed, by, height })
+}
+
+/// Behind `make` stand a number and how many asks.
+fn make_words(words: &[String]) -> Result<Command<'_>, u64>
+    ensures { IsCommand (make_words (texts words.now)) result }
+{
+    let [number, others @ ..] = words else {
+        return Err(2);
+    };
+    let Some(number) = number_read(number.as_bytes()) else {
+        return Err(2);
+    };
+    let [asks, others @ ..] = others else {
+        return Err(3);
+    };
+    let Some(asks) = asks_read(asks.as_bytes()) else {
+        return Err(3);
+    };
+    if !others.is_empty() {
+        return Err(4);
+    }
+    Ok(Command::Make { number, asks })
+}
+
+/// A number of 32 bits.
+fn number_read(word: &[u8]) -> Option<u32>
+    ensures { result ≡ number_below (2 ^ 32) word.now }
+{
+    match numeral(word) {
+        Some(number) if number <= u64::from(u32::MAX) => Some(number as u32),
+        _ => None,
+    }
+}
+
+/// A number from 1 to 300.
+fn asks_read(word: &[u8]) -> Option<Asks>
+    ensures { option_map (λ asks. asks.count) result ≡ asks_of word.now }
+{
+    match number_read(word) {
+        Some(count @ 1..=300) => Some(Asks { count }),
+        _ => None,
+    }
 }

@@ -229,6 +229,26 @@ fn replays(rt: HostRuntime) -> Result<(), Fail> {
     Ok(())
 }
 
+const MADE: &str = "asks 3 events 27 done 3 fast 3 slow 0 refused 0\n\
+    agreed 3 e62426e1d656a7c33c86167987f62f734cd2d225a9fefb22eb807c382644c7d4\n";
+
+#[test]
+fn made_runs(rt: HostRuntime) -> Result<(), Fail> {
+    let alloc = rt.alloc();
+    let table: [(&[&[u8]], &str, u8, &str); 4] = [
+        (&[b"zyzzyva", b"make", b"1", b"3"], MADE, 0, ""),
+        (&[b"zyzzyva", b"make", b"1", b"301"], "", 2, "word 3\n"),
+        (&[b"zyzzyva", b"make", b"1\xff", b"3"], "", 2, "word 2\n"),
+        (&[b"zyzzyva", b"make", b"1", b"3", b"3"], "", 2, "word 4\n"),
+    ];
+    for (line, written, status, error) in table {
+        let (out, ended, line) = run(alloc, line, &[])?;
+        assert_eq!(rt; out.as_slice(), written.as_bytes());
+        assert_eq!(rt; (ended, line.as_str()), (status, error));
+    }
+    Ok(())
+}
+
 #[test]
 fn refused_groups(rt: HostRuntime) -> Result<(), Fail> {
     let alloc = rt.alloc();

@@ -8,7 +8,7 @@ use Rattle.zy_top.proofs.running.run_flow.Given as goal
 -- so many deliveries were made, and the flow of the others is left
 abbrev pub invariant-loop : goal.invariant-loop
 invariant-loop g l = record {
-  count : l.tale.events ≤ l.initial.tale.events + l.counter;
+  count : l.tale.tally.events ≤ l.initial.tale.tally.events + l.counter;
   far : (whole : World g.row.M-State.Denot) → Shows whole l.fn.world
       → IsFar (flow g.M.Machine.rules l.events) whole (flow g.M.Machine.rules (l.events - l.counter)) l.initial.tale l.tale l.world;
 }

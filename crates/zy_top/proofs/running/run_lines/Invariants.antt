@@ -11,7 +11,7 @@ abbrev pub invariant-loop-line : goal.invariant-loop-line
 invariant-loop-line g l = record {
   long : length l.line-iterator.rest.items ≡ l.line-iterator.rest.len;
   said : All IsSaid l.line-iterator.rest.items;
-  count : l.tale.events + 100000 * length l.line-iterator.rest.items ≤ l.initial.tale.events + 100000 * length l.fn.lines.items;
+  count : l.tale.tally.events + 100000 * length l.line-iterator.rest.items ≤ l.initial.tale.tally.events + 100000 * length l.fn.lines.items;
   far : (whole : World g.row.M-State.Denot) → Shows whole l.fn.world
       → IsFar (λ rest. run g.M.Machine.rules l.fn.lines.items) whole (λ rest. run g.M.Machine.rules l.line-iterator.rest.items) l.initial.tale l.tale l.world;
 }

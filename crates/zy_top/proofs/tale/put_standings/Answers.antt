@@ -1,7 +1,7 @@
 use Rattle.std.proofs.Common.{◌++◌, ◌∙◌, sym, ap, append_assoc}
 use Rattle.std.specs.List.{flat_map, range_with_len}
 use Rattle.zy_top.specs.Telling.{standing_of}
-use Rattle.zy_top.proofs.ReplayLaws.{range_more}
+use Rattle.zy_schedule.proofs.MadeLaws.{range_more}
 use Rattle.zy_top.proofs.tale.put_standings.Goals as goal
 
 pub loop-id-preserved : goal.loop-id-preserved

@@ -1,6 +1,11 @@
-use Rattle.std.proofs.Common.{◌≡◌, Ok, refl, inl}
+use Rattle.std.proofs.Common.{◌≡◌, Ok, Err, refl, inl}
 use Rattle.zy_top.specs.Words.{Command, command_of, texts}
+use Rattle.zy_edge.specs.Files.{content_of}
+use Rattle.zy_top.specs.Keys.{key_file}
+use Rattle.zy_top.specs.Verdict.{make_verdict, replay_verdict}
+use Rattle.zy_top.proofs.Endings.{cut_short, told_finishes}
 use Rattle.zy_top.proofs.Headline.{commands_are_safe}
+use Rattle.zy_top.proofs.MadeRuns.{made_finishes, own_answer}
 use Rattle.zy_top.proofs.top.zyzzyva.Goals as goal
 
 pub returns-in-Ok-run_keys-clause-own : goal.returns-in-Ok-run_keys-clause-own
@@ -17,7 +22,55 @@ returns-in-Ok-run_keys-clause-own g c =
     )
 
 pub returns-in-Ok-run_replay-clause-headline : goal.returns-in-Ok-run_replay-clause-headline
-returns-in-Ok-run_replay-clause-headline g c = commands_are_safe c.replays_are_safe.ensures (g.F.Files.held c.args.files.now) (command_of (texts c.args.words.now))
+returns-in-Ok-run_replay-clause-headline g c =
+    commands_are_safe c.replays_are_safe.ensures c.made_runs_are_safe.ensures (g.F.Files.held c.args.files.now) (command_of (texts c.args.words.now))
+
+pub returns-in-Ok-run_make-clause-headline : goal.returns-in-Ok-run_make-clause-headline
+returns-in-Ok-run_make-clause-headline g c =
+    commands_are_safe c.replays_are_safe.ensures c.made_runs_are_safe.ensures (g.F.Files.held c.args.files.now) (command_of (texts c.args.words.now))
 
 pub returns-in-Err-run_replay-clause-headline : goal.returns-in-Err-run_replay-clause-headline
-returns-in-Err-run_replay-clause-headline g c = commands_are_safe c.replays_are_safe.ensures (g.F.Files.held c.args.files.now) (command_of (texts c.args.words.now))
+returns-in-Err-run_replay-clause-headline g c =
+    commands_are_safe c.replays_are_safe.ensures c.made_runs_are_safe.ensures (g.F.Files.held c.args.files.now) (command_of (texts c.args.words.now))
+
+pub returns-in-Err-run_make-clause-headline : goal.returns-in-Err-run_make-clause-headline
+returns-in-Err-run_make-clause-headline g c =
+    commands_are_safe c.replays_are_safe.ensures c.made_runs_are_safe.ensures (g.F.Files.held c.args.files.now) (command_of (texts c.args.words.now))
+
+pub returns-in-Ok-run_make-clause-own : goal.returns-in-Ok-run_make-clause-own
+returns-in-Ok-run_make-clause-own g c =
+    let read : command_of (texts c.args.words.now) ≡ Ok (Command.Make c.in-Ok-Make.number c.in-Ok-Make.asks.count) = rw c.in-Ok-Make.field-0-is at c.in-Ok-Make.ensures in
+    let made = c.in-Ok-run_make.ensures in
+    rw read (refl, own_answer _ (Ok c.in-Ok-run_make.field-0) _ (g.S.Sink.taken c.run_make.new.out) _ (g.S.Sink.faults c.run_make.new.out) made.answer made.exit made.written made.count)
+
+pub returns-in-Err-run_make-clause-own : goal.returns-in-Err-run_make-clause-own
+returns-in-Err-run_make-clause-own g c =
+    let read : command_of (texts c.args.words.now) ≡ Ok (Command.Make c.in-Ok-Make.number c.in-Ok-Make.asks.count) = rw c.in-Ok-Make.field-0-is at c.in-Ok-Make.ensures in
+    let made = c.in-Err-run_make.ensures in
+    rw read (refl, own_answer _ (Err c.in-Err-run_make.exit) _ (g.S.Sink.taken c.run_make.new.out) _ (g.S.Sink.faults c.run_make.new.out) made.answer made.exit made.written made.count)
+
+pub returns-in-Err-run_replay-clause-complete : goal.returns-in-Err-run_replay-clause-complete
+returns-in-Err-run_replay-clause-complete g c =
+    let read : command_of (texts c.args.words.now) ≡ Ok (Command.Replay c.in-Ok-Replay.group.now c.in-Ok-Replay.schedule.now) = rw c.in-Ok-Replay.field-0-is at c.in-Ok-Replay.ensures in
+    let ran = c.in-Err-run_replay.ensures in
+    rw read
+    (told_finishes (g.F.Files.held c.args.files.now) (λ held. replay_verdict (content_of held c.in-Ok-Replay.group.now) (content_of held c.in-Ok-Replay.schedule.now)) c.in-Err-run_replay.exit
+    (g.F.Files.faults c.args.files.now) (g.F.Files.faults c.run_replay.new.files) (g.S.Sink.faults c.args.out.now) (g.S.Sink.faults c.run_replay.new.out) ran.answer ran.read_faults ran.write_faults)
+
+pub returns-in-Err-run_keys-clause-own : goal.returns-in-Err-run_keys-clause-own
+returns-in-Err-run_keys-clause-own g c =
+    let read : command_of (texts c.args.words.now) ≡ Ok (Command.Keys c.in-Ok-Keys.seed c.in-Ok-Keys.by c.in-Ok-Keys.height) = rw c.in-Ok-Keys.field-0-is at c.in-Ok-Keys.ensures in
+    let sent = c.in-Err-run_keys.ensures in
+    rw read (
+      refl,
+      cut_short (key_file c.in-Ok-Keys.seed c.in-Ok-Keys.by c.in-Ok-Keys.height) c.in-Err-run_keys.exit (g.S.Sink.taken c.args.out.now) (g.S.Sink.taken c.run_keys.new.out)
+      (g.S.Sink.faults c.args.out.now) (g.S.Sink.faults c.run_keys.new.out) sent.written sent.count,
+    )
+
+pub returns-in-Err-run_make-clause-complete : goal.returns-in-Err-run_make-clause-complete
+returns-in-Err-run_make-clause-complete g c =
+    let read : command_of (texts c.args.words.now) ≡ Ok (Command.Make c.in-Ok-Make.number c.in-Ok-Make.asks.count) = rw c.in-Ok-Make.field-0-is at c.in-Ok-Make.ensures in
+    let made = c.in-Err-run_make.ensures in
+    rw read
+    (made_finishes (g.F.Files.held c.args.files.now) (make_verdict c.in-Ok-Make.number c.in-Ok-Make.asks.count) (Err c.in-Err-run_make.exit) (g.F.Files.faults c.args.files.now) (g.F.Files.faults c.args.files.now)
+    (g.S.Sink.faults c.args.out.now) (g.S.Sink.faults c.run_make.new.out) made.answer made.exit made.count)

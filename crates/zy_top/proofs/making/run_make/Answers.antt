@@ -1,0 +1,44 @@
+use Rattle.std.proofs.Common.{◌≤◌, length, Err, refl, arith}
+use Rattle.std.proofs.lemmas.Result.{err_from_is_err_and}
+use Rattle.zy_top.specs.declared.exit.Exit.TheVariants as exits
+use Rattle.zy_top.proofs.MadeRuns.{made_summed, summed_answers, summed_counts, summed_runs, summed_writes}
+use Rattle.zy_top.proofs.ReplayLaws.{sent_answers, sent_runs, sent_writes}
+use Rattle.zy_top.proofs.Stops.{IsWritten-none}
+use Rattle.zy_top.proofs.making.run_make.Goals as goal
+
+pub run_made-requires-clause-few : goal.run_made-requires-clause-few
+run_made-requires-clause-few g c = omega (arith, c.in_ok-lines.ensures.two_each, c.args.asks.few)
+
+pub returns-in_err-lines-clause-written : goal.returns-in_err-lines-clause-written
+returns-in_err-lines-clause-written g c =
+    let p = err_from_is_err_and c.from_residual.result c.from_residual.ensures.1 in rw (p.1, p.2) (IsWritten-none _ exits.Want _ refl)
+
+pub returns-in_err-text-clause-answer : goal.returns-in_err-text-clause-answer
+returns-in_err-text-clause-answer g c =
+    let p = err_from_is_err_and c.from_residual-in_err-text.result c.from_residual-in_err-text.ensures.1 in
+    rw (p.1, p.2) (summed_answers _ _ (made_summed c.args.number c.args.asks.count c.made_setup.result _ (Err _) c.made_setup.ensures.setup c.in_ok-lines.ensures.made c.in_err-text.ensures))
+
+pub returns-in_err-text-clause-written : goal.returns-in_err-text-clause-written
+returns-in_err-text-clause-written g c =
+    let p = err_from_is_err_and c.from_residual-in_err-text.result c.from_residual-in_err-text.ensures.1 in
+    rw (p.1, p.2) (summed_writes _ _ (g.S.Sink.taken c.args.out.now) (made_summed c.args.number c.args.asks.count c.made_setup.result _ (Err _) c.made_setup.ensures.setup c.in_ok-lines.ensures.made c.in_err-text.ensures))
+
+pub returns-in_err-text-clause-exit : goal.returns-in_err-text-clause-exit
+returns-in_err-text-clause-exit g c =
+    let p = err_from_is_err_and c.from_residual-in_err-text.result c.from_residual-in_err-text.ensures.1 in
+    rw (p.1, p.2) (summed_runs _ _ c.in_err-text.ensures)
+
+pub returns-in_err-text-clause-count : goal.returns-in_err-text-clause-count
+returns-in_err-text-clause-count g c =
+    let p = err_from_is_err_and c.from_residual-in_err-text.result c.from_residual-in_err-text.ensures.1 in
+    rw (p.1, p.2) (summed_counts _ _ (g.S.Sink.faults c.args.out.now) c.in_err-text.ensures)
+
+pub returns-clause-answer : goal.returns-clause-answer
+returns-clause-answer g c =
+    rw (rw (c.made_setup.ensures.setup, c.in_ok-lines.ensures.made) at c.in_ok-text.ensures)
+    (sent_answers _ (g.S.Sink.taken c.write_all.new.out) _ c.write_all.result (rw c.deref.ensures.value at c.write_all.ensures.written))
+
+pub returns-clause-written : goal.returns-clause-written
+returns-clause-written g c =
+    rw (rw (c.made_setup.ensures.setup, c.in_ok-lines.ensures.made) at c.in_ok-text.ensures)
+    (sent_writes _ (g.S.Sink.taken c.write_all.new.out) _ c.write_all.result (rw c.deref.ensures.value at c.write_all.ensures.written))
