@@ -64,7 +64,7 @@ returns-in-Err-run_keys-clause-own g c =
     rw read (
       refl,
       cut_short (key_file c.in-Ok-Keys.seed c.in-Ok-Keys.by c.in-Ok-Keys.height) c.in-Err-run_keys.exit (g.S.Sink.taken c.args.out.now) (g.S.Sink.taken c.run_keys.new.out)
-      (g.S.Sink.faults c.args.out.now) (g.S.Sink.faults c.run_keys.new.out) sent.written sent.count,
+          (g.S.Sink.faults c.args.out.now) (g.S.Sink.faults c.run_keys.new.out) sent.written sent.count,
     )
 
 pub returns-in-Err-run_make-clause-complete : goal.returns-in-Err-run_make-clause-complete
