@@ -15,11 +15,11 @@ use Rattle.zy_cert.specs.Equal.{same_spec}
 use Rattle.zy_table.specs.declared.client.Response.{Response}
 use Rattle.zy_table.specs.ClientState.{ClientState}
 use Rattle.zy_table.specs.ClientRows.{agrees, agreeing, equal_in, certificate_of}
-use Rattle.zy_client.specs.Ready.{IsReady}
+use Rattle.zy_client.specs.Ready.{IsReady, IsKeepable}
 
--- a response whose statement can stand in a certificate, in a slot
+-- a response that can be kept, in a slot
 abbrev IsFit : Option Response → Type 0
-IsFit kept = ForSome kept (λ r. IsSignedInRange IsSpecInRange r.spec)
+IsFit slot = ForSome slot IsKeepable
 
 -- ---- the responses that are equal to one
 
@@ -44,7 +44,7 @@ one_fits false one list fit all = all
 equals_fit : (spec : Spec) (xs : List (Option Response)) → AllByRecursion IsFit xs → AllByRecursion (IsSignedInRange IsSpecInRange) (filter_map (equal_in spec) xs)
 equals_fit spec [] all = tt
 equals_fit spec (None ∷ xs) all = equals_fit spec xs all.1
-equals_fit spec (Some r ∷ xs) all = one_fits (same_spec r.spec.stmt spec) r.spec _ (all.0 r refl) (equals_fit spec xs all.1)
+equals_fit spec (Some r ∷ xs) all = one_fits (same_spec r.spec.stmt spec) r.spec _ (all.0 r refl).spec (equals_fit spec xs all.1)
 
 taken_fit : (count : ℕ) (xs : List (Signed Spec)) → AllByRecursion (IsSignedInRange IsSpecInRange) xs → AllByRecursion (IsSignedInRange IsSpecInRange) (take count xs)
 taken_fit zero xs all = tt
@@ -59,7 +59,7 @@ certificate_fits s spec ready enough =
     record {
       least = omega (arith, len, s.counts.sound.two_certificates);
       most = omega (arith, len, s.counts.sound.short_certificate);
-      each = All-from_recursion (IsSignedInRange IsSpecInRange) (certificate_of s spec) (taken_fit s.counts.cert _ (equals_fit spec s.responses ready.specs));
+      each = All-from_recursion (IsSignedInRange IsSpecInRange) (certificate_of s spec) (taken_fit s.counts.cert _ (equals_fit spec s.responses ready.kept));
     }
 
 -- ---- one after another

@@ -25,6 +25,7 @@ use Rattle.zy_parts.specs.declared.signed.Part.{Part}
 use Rattle.zy_parts.specs.declared.signed.Signed.{Signed}
 use Rattle.zy_parts.specs.declared.statements.Ask.{Ask}
 use Rattle.zy_parts.specs.declared.statements.Local.{Local}
+use Rattle.zy_parts.specs.declared.statements.Order.{Order}
 use Rattle.zy_parts.specs.declared.statements.Spec.{Spec}
 use Rattle.zy_frames.specs.declared.frame.Frame.{Frame}
 use Rattle.zy_frames.specs.declared.frame.Frame.TheVariants as frames
@@ -44,7 +45,7 @@ use Rattle.zy_table.specs.Roles.{is_replica}
 use Rattle.zy_table.specs.declared.client.Commit.{Commit}
 use Rattle.zy_table.specs.declared.client.Response.{Response}
 use Rattle.zy_table.specs.ClientState.{ClientState, client_start, leaves_of, refused}
-use Rattle.zy_table.specs.ClientRows.{ask, ask_while, asked, next_ask, kept_of, response_cause, is_own_order_if, is_repeated, keep, agreeing, completed_if, keep_unless, complete, respond, respond_while, is_for, complete_by, vote_on, local_beside, local_while, count_local, is_certified, certified_in, locals_for, send_commit, ask_or_commit, run_out, run_out_while, is_by_primary, hear_response, hear, unless, decoded, client_step}
+use Rattle.zy_table.specs.ClientRows.{ask, ask_while, asked, next_ask, kept_of, response_cause, is_own_order_if, is_repeated, keep, agreeing, completed_if, evidence_by, told, keep_unless, complete, respond, respond_while, is_for, complete_by, vote_on, local_beside, local_while, count_local, is_certified, certified_in, locals_for, send_commit, ask_or_commit, run_out, run_out_while, is_by_primary, hear_response, hear, unless, decoded, client_step}
 use Rattle.zy_client.specs.Held.{IsHeldBy, AreHeld, IsCounted, IsCommitHeld, HoldsCommit, Holds, IsHeardLocal, CommitComes, IsComplete}
 use Rattle.zy_client.specs.Held.CommitComes.{stays as from_before, counts as from_vote, certifies as from_responses}
 use Rattle.zy_client.specs.Held.IsComplete.{fast, slow}
@@ -81,12 +82,13 @@ found_at p (x ∷ xs) r is = by (found_at p xs r) (p x) refl is
 
 -- ---- what an event can make of a client
 
--- a response to the request that waits is kept, which its replica signed
+-- a response to the request that waits is kept, which its replica signed, whatever it proves of the primary
 record Keeps (s : ClientState) (waiting : Signed Ask) (after : ClientState) : Type 0 where
   id : ℕ
   response : Response
   held : IsHeldBy s waiting id response
-  filled : after ≡ completed_if (keep s id response) response
+  evidence : Option (Signed Order × Signed Order)
+  filled : after ≡ (told evidence (completed_if (keep s id response) response)).state
 
 -- a local commit to the certificate is brought
 record Votes (s : ClientState) (event : Event) (commit : Commit) (vote : Signed Local) : Type 0 where
@@ -175,7 +177,7 @@ module _ (s : ClientState) (event : Event) where
     where
       kept : (cause : Option Cause) → response_cause s waiting id r ≡ cause → Comes s event (keep_unless cause s id r).state
       kept (Some cause) is = same refl
-      kept None is = keeps waiting waits (record { id = id; response = r; held = cause_free s waiting id r by signed is; filled = refl })
+      kept None is = keeps waiting waits (record { id = id; response = r; held = cause_free s waiting id r by signed is; evidence = evidence_by (keep s id r) r.order; filled = refl })
 
   hears_response : (r : Response) (by : Party) → r.spec.by ≡ by
       → answer_to s.keys (part_of numbers.spec spec_fields r.spec) ≡ answers.Yes → Comes s event (hear_response s r by).state
@@ -306,6 +308,24 @@ carried_commit s t waiting commit keys me counts held =
       counted = subst (λ (k : Keys). AllByRecursion (IsCounted k commit.spec) commit.locals.votes) keys held.counted;
     }
 
+-- what was told of a primary changes nothing of it
+told_holds : (evidence : Option (Signed Order × Signed Order)) (s : ClientState) → Holds s → Holds (told evidence s).state
+told_holds None s holds = holds
+told_holds (Some orders) s holds =
+    let t : ClientState = (told (Some orders) s).state in
+    record {
+      responses = λ w is id r kept. carried s t w id r refl refl (holds.responses w is id r kept);
+      commit = λ w commit is held. carried_commit s t w commit refl refl refl (holds.commit w commit is held);
+    }
+
+told_waiting : (evidence : Option (Signed Order × Signed Order)) (s : ClientState) → (told evidence s).state.waiting ≡ s.waiting
+told_waiting None s = refl
+told_waiting (Some orders) s = refl
+
+told_commit : (evidence : Option (Signed Order × Signed Order)) (s : ClientState) → (told evidence s).state.commit ≡ s.commit
+told_commit None s = refl
+told_commit (Some orders) s = refl
+
 -- ---- at the start, and after a request
 
 pub starts : (me : ClientId) (counts : Counts) (keys : Keys) (sealer : SealerState) (stamp : Stamp) → Holds (client_start me counts keys sealer stamp)
@@ -400,7 +420,8 @@ sent_holds s waiting waits id r certified holds =
 pub steps_hold : (s : ClientState) (event : Event) → Holds s → Holds (client_step s event).state
 steps_hold s event holds = elim (comes s event) [
   | same is ↦ subst Holds (sym is) holds
-  | keeps waiting waits k ↦ subst Holds (sym k.filled) (kept_holds s waiting waits k.id k.response k.held holds (nat_le s.counts.fast (agreeing (keep s k.id k.response) k.response.spec.stmt)))
+  | keeps waiting waits k ↦ subst Holds (sym k.filled)
+      (told_holds k.evidence _ (kept_holds s waiting waits k.id k.response k.held holds (nat_le s.counts.fast (agreeing (keep s k.id k.response) k.response.spec.stmt))))
   | votes commit vote v is ↦ subst Holds (sym is) (voted_holds s event commit vote v holds)
   | ends commit vote v full is ↦ subst Holds (sym is) (record { responses = λ w waits. absurd cc; commit = λ w commit waits held. absurd cc })
   | sends waiting waits id r certified is ↦ subst Holds (sym is) (sent_holds s waiting waits id r certified holds)
@@ -419,7 +440,8 @@ steps_commit s event commit held = from (comes s event)
     from : Comes s event (client_step s event).state → CommitComes s event commit
     from (same is) = from_before (sym (ap (λ (x : ClientState). x.commit) is) ∙ held)
     from (keeps waiting waits k) =
-        kept_commit s event k.id k.response (nat_le s.counts.fast (agreeing (keep s k.id k.response) k.response.spec.stmt)) commit (sym (ap (λ (x : ClientState). x.commit) k.filled) ∙ held)
+        kept_commit s event k.id k.response (nat_le s.counts.fast (agreeing (keep s k.id k.response) k.response.spec.stmt)) commit
+        (sym (told_commit k.evidence (completed_if (keep s k.id k.response) k.response)) ∙ sym (ap (λ (x : ClientState). x.commit) k.filled) ∙ held)
     from (votes before vote v is) =
         from_vote before vote v.held v.heard (sym (same_Some (record before { locals = pushed before.locals vote }) commit (sym (ap (λ (x : ClientState). x.commit) is) ∙ held)))
     from (ends before vote v full is) = absurd (let none : None ≡ Some commit = sym (ap (λ (x : ClientState). x.commit) is) ∙ held in cc)
@@ -443,6 +465,14 @@ kept_completes s event waiting waits id r new old true many ended =
       held = λ at q is. carried (keep s id r) (complete (keep s id r) r) waiting at q refl refl (kept_hold s waiting id r new old at q is);
     })
 kept_completes s event waiting waits id r new old false many ended = absurd (let wrong : Some waiting ≡ None = sym waits ∙ ended in cc)
+
+-- what was told of a primary changes nothing of a completion
+told_completes : (evidence : Option (Signed Order × Signed Order)) (s : ClientState) (event : Event) (t : ClientState) (waiting : Signed Ask) → IsComplete s event t waiting → IsComplete s event (told evidence t).state waiting
+told_completes None s event t waiting done = done
+told_completes (Some orders) s event t waiting done = elim done [
+  | fast f ↦ fast (record { id = f.id; response = f.response; done = f.done; own = carried t (told (Some orders) t).state waiting f.id f.response refl refl f.own; enough = f.enough; held = λ at q is. carried t (told (Some orders) t).state waiting at q refl refl (f.held at q is) })
+  | slow f ↦ slow (record { commit = f.commit; vote = f.vote; held = f.held; heard = f.heard; votes = f.votes; enough = f.enough; done = f.done })
+]
 
 voted_completes : (s : ClientState) (event : Event) (waiting : Signed Ask) → s.waiting ≡ Some waiting → (commit : Commit) (vote : Signed Local) → Votes s event commit vote
     → length commit.locals.votes + 1 ≡ commit.locals.count → Holds s → IsComplete s event (complete_by s commit) waiting
@@ -471,7 +501,9 @@ steps_complete s event waiting holds waits ended = from (comes s event)
     from (keeps w wait k) =
         let held = subst (λ (x : Signed Ask). IsHeldBy s x k.id k.response) (same_ask s w waiting wait waits) k.held in
         subst (λ (x : ClientState). IsComplete s event x waiting) (sym k.filled)
-        (kept_completes s event waiting waits k.id k.response held (holds.responses waiting waits) _ refl (sym (ap (λ (x : ClientState). x.waiting) k.filled) ∙ ended))
+        (told_completes k.evidence s event _ waiting
+        (kept_completes s event waiting waits k.id k.response held (holds.responses waiting waits) _ refl
+        (sym (told_waiting k.evidence (completed_if (keep s k.id k.response) k.response)) ∙ sym (ap (λ (x : ClientState). x.waiting) k.filled) ∙ ended)))
     from (votes commit vote v is) = still (counted s commit vote) is refl
     from (ends commit vote v full is) = subst (λ (x : ClientState). IsComplete s event x waiting) (sym is) (voted_completes s event waiting waits commit vote v full holds)
     from (sends w wait id r c is) = still (send_commit s r.spec.stmt r.reply).state is refl

@@ -1,3 +1,4 @@
 mod PollLemmas
 mod CertificateLemmas
+mod EvidenceLemmas
 mod HeldLemmas

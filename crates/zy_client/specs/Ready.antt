@@ -3,12 +3,21 @@ use Rattle.std.specs.Prelude.{◌≡◌, ◌≤◌, ◌+◌, ◌^◌, List, leng
 use Rattle.std.specs.List.{AllByRecursion}
 use Rattle.std.specs.Option.{ForSome}
 use Rattle.zy_base.specs.declared.ids.Party.TheVariants.{Client}
+use Rattle.zy_wire.specs.Fields.{FitsOptional}
 use Rattle.zy_parts.specs.Signing.{IsSignedInRange}
-use Rattle.zy_parts.specs.Statements.{IsAskInRange, IsSpecInRange}
+use Rattle.zy_parts.specs.Statements.{IsAskInRange, IsOrderInRange, IsSpecInRange}
+use Rattle.zy_parts.specs.declared.signed.Signed.{Signed}
 use Rattle.zy_parts.specs.declared.statements.Ask.{Ask}
+use Rattle.zy_parts.specs.declared.statements.Order.{Order}
 use Rattle.zy_frames.specs.Frames.{IsFrameInRange}
+use Rattle.zy_table.specs.declared.client.Response.{Response}
 use Rattle.zy_table.specs.declared.deeds.Sent.{Sent}
 use Rattle.zy_table.specs.ClientState.{ClientState, leaves_of}
+
+-- a response that can stand in a certificate, and its order in a proof of misbehaviour
+pub record IsKeepable (r : Response) : Type 0 where
+  pub spec : IsSignedInRange IsSpecInRange r.spec
+  pub order : FitsOptional (IsSignedInRange IsOrderInRange) r.order
 
 pub record IsReady (s : ClientState) : Type 0 where
   -- it signs as itself
@@ -17,8 +26,11 @@ pub record IsReady (s : ClientState) : Type 0 where
   pub stamp : s.stamp.0 + leaves_of s ≤ 2 ^ 61 + 2 ^ 10
   pub waiting : ForSome s.waiting (IsSignedInRange IsAskInRange)
   pub responses : length s.responses ≡ s.counts.n
-  -- what it keeps can stand in a certificate
-  pub specs : AllByRecursion (λ kept. ForSome kept (λ r. IsSignedInRange IsSpecInRange r.spec)) s.responses
+  pub kept : AllByRecursion (λ slot. ForSome slot IsKeepable) s.responses
+
+-- two orders that can be sent as evidence
+abbrev pub IsEvidence : Signed Order × Signed Order → Type 0
+IsEvidence orders = IsSignedInRange IsOrderInRange orders.0 × IsSignedInRange IsOrderInRange orders.1
 
 -- what a step sends and signs can be spelled
 pub record AreInRange (sent : List Sent) (said : List Ask) : Type 0 where

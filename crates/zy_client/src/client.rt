@@ -3,12 +3,13 @@ ghost use Rattle.zy_base.specs.declared.ids.Party.TheVariants as parties;
 
 use std::alloc::Global;
 use std::marker::Model;
-use zy_base::{Answer, ClientId, Counts, Outgoing, Party, Said, Stamp, Timers, View, Want};
+use zy_base::{Answer, ClientId, Counts, Items, Outgoing, Party, Said, Stamp, Timers, View, Want};
 use zy_parts::{Ask, Signed};
 use zy_seal::{Directory, Sealer};
 use zy_table::{Commit, Done, Response};
 
-/// A client: its keys, the request that waits, the responses to it, and the commit certificate that it sent for it.
+/// A client: its keys, the request that waits, the responses to it, the commit certificate that it sent for it, and the
+/// views whose primary it told all of.
 #[derive(Drop)]
 pub struct Client {
     pub(crate) alloc: Global,
@@ -22,6 +23,7 @@ pub struct Client {
     pub(crate) responses: Vec<Option<Response>>,
     pub(crate) commit: Option<Commit>,
     pub(crate) done: Option<Done>,
+    pub(crate) blamed: Items<View>,
 }
 
 impl Model for Client {
@@ -40,6 +42,7 @@ impl Model for Client {
       responses = c.responses.items;
       commit = c.commit;
       done = c.done;
+      blamed = c.blamed;
     } };
 
     ghost use Rattle.zy_client.specs.Ready.{IsReady};
@@ -55,6 +58,7 @@ impl Model for Client {
       responses = c.responses.items;
       commit = c.commit;
       done = c.done;
+      blamed = c.blamed;
     }) };
 }
 
@@ -98,6 +102,7 @@ impl Client {
             responses,
             commit: None,
             done: None,
+            blamed: Items::new(alloc),
         })
     }
 

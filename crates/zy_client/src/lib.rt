@@ -5,6 +5,7 @@ mod asking;
 mod client;
 mod commits;
 mod laws;
+mod misbehaviour;
 mod moved;
 mod responses;
 mod step;

@@ -1,9 +1,10 @@
-ghost use Rattle.std.specs.Prelude.{◌≡◌, ◌<◌, length, count_by, slice_index_or, option_copied, None, Some, IfOk, List, ℕ};
+ghost use Rattle.std.specs.Prelude.{◌≡◌, ◌<◌, length, count_by, slice_index_or, slice_set, option_copied, None, Some, IfOk, List, ℕ};
 ghost use Rattle.sha2.specs.Sha256.{sha256};
-ghost use Rattle.zy_parts.specs.Statements.{IsAskInRange, IsSpecInRange};
+ghost use Rattle.zy_parts.specs.Statements.{IsAskInRange};
 ghost use Rattle.zy_parts.specs.Signing.{IsSignedInRange};
 ghost use Rattle.zy_table.specs.ClientRows.{response_cause, is_own_order_if, is_repeated, kept_of, keep as keep_row, agrees, agreeing, done_of, completed_if, keep_unless, respond as respond_row};
 ghost use Rattle.zy_cert.specs.Equal.{same_spec};
+ghost use Rattle.zy_client.specs.Ready.{IsKeepable};
 
 use crate::Client;
 use crate::moved::Moved;
@@ -17,7 +18,7 @@ impl Client {
     // A response of the replica with this number.
     #[tactic(auto, unfolding(zy_table::specs::ClientRows::respond))]
     pub(crate) fn responds(self, id: ReplicaId, response: Response) -> Result<Moved, Want>
-        requires { IsSignedInRange IsSpecInRange response.spec }
+        requires { IsKeepable response }
         ensures { IfOk result (λ m. m ≡ respond_row self id.0 response) }
     {
         let cause = match &self.waiting {
@@ -26,7 +27,7 @@ impl Client {
         };
         match cause {
             Some(cause) => Ok(self.refused(cause)),
-            None => Ok(self.keep(id, response)?.taken()),
+            None => self.keep(id, response),
         }
     }
 
@@ -106,9 +107,29 @@ impl Client {
         }
     }
 
+    // The response is kept in place of the replica's earlier one, what it proves of its primary is told, and with enough
+    // equal ones the request is complete.
+    fn keep(mut self, id: ReplicaId, response: Response) -> Result<Moved, Want>
+        requires { IsKeepable response }
+        ensures { IfOk result (λ m. m ≡ keep_unless None self id.0 response) }
+    {
+        self.vacate(id);
+        let evidence = self.evidence_by(&response.order)?;
+        self.fill(id, response)?.tells(evidence)
+    }
+
+    // The response of a replica is dropped.
+    fn vacate(&mut self, id: ReplicaId)
+        ensures { self.new ≡ record self.old { responses = slice_set self.old.responses id.0 None } }
+    {
+        if (id.0 as usize) < self.responses.len() {
+            self.responses[id.0 as usize] = None;
+        }
+    }
+
     // The response is kept, and with enough equal ones the request is complete.
-    fn keep(mut self, id: ReplicaId, response: Response) -> Result<Client, Want>
-        requires { IsSignedInRange IsSpecInRange response.spec }
+    fn fill(mut self, id: ReplicaId, response: Response) -> Result<Client, Want>
+        requires { IsKeepable response }
         ensures { IfOk result (λ c. c ≡ completed_if (keep_row self id.0 response) response) }
     {
         let done = done_of(&response)?;
@@ -122,7 +143,7 @@ impl Client {
     }
 
     fn put(&mut self, id: ReplicaId, response: Response)
-        requires { IsSignedInRange IsSpecInRange response.spec }
+        requires { IsKeepable response }
         ensures { self.new ≡ keep_row self.old id.0 response }
     {
         if (id.0 as usize) < self.responses.len() {

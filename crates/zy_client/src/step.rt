@@ -2,13 +2,13 @@ ghost use Rattle.std.specs.Prelude.{◌≡◌, ◌≤◌, length, map, IfOk, Ok,
 ghost use Rattle.std.specs.List.{AllByRecursion};
 ghost use Rattle.zy_frames.specs.Frames.{IsFrameInRange, frame_in, parts_of};
 ghost use Rattle.zy_seal.specs.Screening.{screen};
-ghost use Rattle.zy_parts.specs.Signing.{IsSignedInRange};
-ghost use Rattle.zy_parts.specs.Statements.{IsAskInRange, IsSpecInRange};
+ghost use Rattle.zy_parts.specs.Statements.{IsAskInRange};
 ghost use Rattle.zy_table.specs.ClientState.{spoken_of, timers_of, all_replicas, client_outgoing};
 ghost use Rattle.zy_base.specs.declared.cause.Cause.TheVariants as causes;
 ghost use Rattle.zy_table.specs.Roles.{is_replica};
 ghost use Rattle.zy_table.specs.ClientState.{refused};
 ghost use Rattle.zy_table.specs.ClientRows.{ask as ask_row, hear as hear_row, hear_response as hear_response_row, is_by_primary, count_local, decoded, timer as timer_row, client_step};
+ghost use Rattle.zy_client.specs.Ready.{IsKeepable};
 ghost use Rattle.zy_client.specs.Stepped.{IsStepped};
 
 use crate::moved::Moved;
@@ -111,7 +111,7 @@ impl Client {
     }
 
     fn hear_response(self, response: Response, by: Party) -> Result<Moved, Want>
-        requires { IsSignedInRange IsSpecInRange response.spec }
+        requires { IsKeepable response }
         ensures { IfOk result (λ m. m ≡ hear_response_row self response by) }
     {
         match by {

@@ -2,8 +2,8 @@ mod fixture;
 
 use crate::{Client, ClientStepped, Path};
 use fixture::{
-    CLIENT, Case, FIRST, FITTING, LOCAL, ORDER, OUTSIDER, RESPONSE, SECOND, Scene, Shown, THIRD,
-    first_ask,
+    CLIENT, Case, FIRST, FITTING, LOCAL, ORDER, OUTSIDER, Proof, RESPONSE, SECOND, Scene, Shown,
+    THIRD, first_ask, has_at,
 };
 use sha2::{Digest as Hasher, Sha256};
 use std::alloc::Global;
@@ -131,6 +131,7 @@ const THREE: Shown = Shown {
     leaf: 1,
     kept: [None, Some(View(0)), Some(View(0)), Some(View(0))],
     certified: None,
+    blamed: 0,
 };
 
 // The second view's response of a replica takes the place of the first view's, with which it isn't counted.
@@ -249,6 +250,128 @@ fn orders_beside_a_response(rt: HostRuntime) -> Result<(), Fail> {
     Ok(())
 }
 
+// ---- a primary that contradicts itself
+
+// The response of this replica with another head at its place, and the order with that head, of view 0 or 1.
+const fn ordered(id: u8, view: u8, head: [u8; 32]) -> Case {
+    let primary = Party::Replica(ReplicaId(view));
+    let view = View(view as u64);
+    let head = Digest(head);
+    Case {
+        spec: Spec {
+            view,
+            head,
+            ..RESPONSE
+        },
+        order: Some((
+            primary,
+            Order {
+                view,
+                head,
+                ..ORDER
+            },
+        )),
+        ..of(id)
+    }
+}
+
+// An order in a proof has the head of these bytes, and is signed by this leaf.
+const fn proof(head: [u8; 32], leaf: u8) -> Proof {
+    (Digest(head), leaf)
+}
+
+// A response is signed after its order: by leaves 0 and 1, 2 without an order, and 3 and 4.
+#[test]
+fn two_orders_for_one_place_are_told_once(rt: HostRuntime) -> Result<(), Fail> {
+    Scene::start(rt.alloc(), 0)?
+        .asks()?
+        .keeps(&ordered(3, 0, [5; 32]))?
+        .keeps(&of(2))?
+        .tells(
+            &ordered(1, 0, [6; 32]),
+            [proof([5; 32], 0), proof([6; 32], 3)],
+        )?
+        .keeps(&ordered(0, 0, [7; 32]))?
+        .shows(Shown {
+            kept: [Some(View(0)); 4],
+            blamed: 1,
+            ..THREE
+        })?;
+    Ok(())
+}
+
+#[test]
+fn equal_orders_and_orders_of_two_views_are_not_told(rt: HostRuntime) -> Result<(), Fail> {
+    Scene::start(rt.alloc(), 0)?
+        .asks()?
+        .keeps(&ordered(3, 0, [5; 32]))?
+        .keeps(&ordered(2, 0, [5; 32]))?
+        .keeps(&ordered(1, 1, [6; 32]))?
+        .shows(Shown {
+            kept: [None, Some(View(1)), Some(View(0)), Some(View(0))],
+            ..THREE
+        })?;
+    Ok(())
+}
+
+// That of the least replica number, by leaf 2, is told and not the one that came first.
+#[test]
+fn of_kept_orders_the_first_that_differs_is_told(rt: HostRuntime) -> Result<(), Fail> {
+    Scene::start(rt.alloc(), 0)?
+        .asks()?
+        .keeps(&ordered(2, 0, [5; 32]))?
+        .keeps(&ordered(1, 0, [5; 32]))?
+        .tells(
+            &ordered(0, 0, [6; 32]),
+            [proof([5; 32], 2), proof([6; 32], 4)],
+        )?;
+    Ok(())
+}
+
+#[test]
+fn each_view_is_told_of(rt: HostRuntime) -> Result<(), Fail> {
+    Scene::start(rt.alloc(), 0)?
+        .asks()?
+        .keeps(&ordered(0, 0, [5; 32]))?
+        .tells(
+            &ordered(1, 0, [6; 32]),
+            [proof([5; 32], 0), proof([6; 32], 2)],
+        )?
+        .keeps(&ordered(0, 1, [6; 32]))?
+        .tells(
+            &ordered(1, 1, [5; 32]),
+            [proof([6; 32], 4), proof([5; 32], 6)],
+        )?
+        .shows(Shown {
+            kept: [Some(View(1)), Some(View(1)), None, None],
+            blamed: 2,
+            ..THREE
+        })?;
+    Ok(())
+}
+
+#[test]
+fn completes_after_its_primary_was_told_of(rt: HostRuntime) -> Result<(), Fail> {
+    let scene = Scene::start(rt.alloc(), 0)?
+        .asks()?
+        .keeps(&ordered(0, 0, [6; 32]))?
+        .tells(
+            &ordered(1, 0, [5; 32]),
+            [proof([6; 32], 0), proof([5; 32], 2)],
+        )?
+        .keeps(&ordered(2, 0, [5; 32]))?
+        .keeps(&ordered(3, 0, [5; 32]))?
+        .sends_to_all(&COMMIT_FROM_SECOND)?
+        .counts(FIRST, LOCAL)?
+        .counts(SECOND, LOCAL)?
+        .counts(THIRD, LOCAL)?;
+    if is_done(&scene.client, Path::Slow) && scene.client.waiting().is_none() {
+        Ok(())
+    } else {
+        Err(Fail::from("complete"))
+    }
+}
+
 #[test]
 fn frames_that_are_not_heard(rt: HostRuntime) -> Result<(), Fail> {
     Scene::start(rt.alloc(), 0)?
@@ -316,10 +439,6 @@ fn is_certificate(stepped: &ClientStepped) -> bool {
         }
         _ => false,
     }
-}
-
-fn has_at(frame: &Bytes, at: usize, part: &[u8]) -> bool {
-    at <= frame.len() && frame.as_slice()[at..].starts_with(part)
 }
 
 #[test]

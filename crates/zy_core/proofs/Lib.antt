@@ -1,3 +1,3 @@
-mod HeldLemmas
-mod ReadyLemmas
-mod SlotLemmas
+pub mod BoardLemmas
+pub mod OwnLemmas
+pub mod ReadyLemmas

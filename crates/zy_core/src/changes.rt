@@ -1,22 +1,24 @@
 //! The changes of a replica, one at a time.
 
-ghost use Rattle.std.specs.Prelude.{◌≡◌, ◌≤◌, ◌<◌, ◌+◌, ◌++◌, ◌∷◌, [], length, Some, None, IfOk};
+ghost use Rattle.std.specs.Prelude.{◌≡◌, ◌≤◌, ◌<◌, ◌+◌, ◌++◌, ◌∷◌, [], length, Some, None, Option, Bool, IfOk};
 ghost use Rattle.std.specs.Option.{ForSome};
 ghost use Rattle.zy_chain.specs.Entries.{IsEntryInRange};
 ghost use Rattle.zy_parts.specs.Signing.{IsSignedInRange};
 ghost use Rattle.zy_parts.specs.Statements.{IsHoleInRange, IsLocalInRange, IsSpecInRange, spec_fields};
 ghost use Rattle.zy_parts.specs.Numbers as numbers;
 ghost use Rattle.zy_exec.specs.Replay.{step as one_entry};
-ghost use Rattle.zy_exec.specs.Kept.{longer, last_place, now_of};
+ghost use Rattle.zy_chain.specs.declared.entry.Entry.{Entry};
+ghost use Rattle.zy_exec.specs.Kept.{Kept, longer, last_place, now_of};
 ghost use Rattle.zy_seal.specs.Sealing.{sealed_by};
 ghost use Rattle.zy_admit.specs.Orders.{with_order, without_order};
 ghost use Rattle.zy_table.specs.State.{window_of, leaves_of, spent, with_spec as with_spec_of, pending_of as waiting_of, with_pending};
 ghost use Rattle.zy_table.specs.Running.{still_pending as still_waiting};
-ghost use Rattle.zy_table.specs.Commits.{is_further as is_further_than, with_certificate};
+ghost use Rattle.zy_table.specs.declared.kept.OwnCheckpoint.{OwnCheckpoint};
+ghost use Rattle.zy_table.specs.Gathering.{is_further as is_further_than, with_certificate, checks_owed};
 ghost use Rattle.zy_core.specs.Ready.{IsKeptPending, IsOrderReady};
 
 use crate::Core;
-use crate::copies::{frame_copy, spec_copy};
+use crate::copies::{frame_copy, signed_copy};
 use zy_base::{Bytes, ClientId, Items, Machine, Place, Stamp, Want};
 use zy_chain::Entry;
 use zy_frames::OrderFrame;
@@ -50,12 +52,12 @@ impl<M: Machine> Core<M> {
         ensures range { IfOk result (λ r. IsSignedInRange IsSpecInRange r.1) }
     {
         let (core, signed) = self.seal(spec)?;
-        let copy = spec_copy(&signed)?;
+        let copy = signed_copy(&signed)?;
         Ok((core.keep_spec(copy), signed))
     }
 
-    // One entry more, with its reply.
-    pub(crate) fn run_entry(mut self, entry: Entry) -> Result<(Core<M>, Bytes), Want>
+    /// One entry more, with its reply.
+    pub fn run_entry(mut self, entry: Entry) -> Result<(Core<M>, Bytes), Want>
         requires room { last_place self.kept < window_of self }
         requires client { entry.client.0 < 64 }
         requires range { IsEntryInRange entry }
@@ -68,6 +70,14 @@ impl<M: Machine> Core<M> {
             Ok(reply) => Ok((self, reply)),
             Err((_, want)) => Err(want),
         }
+    }
+
+    /// The last entry is taken out again, as if it had never been run.
+    pub fn unrun(mut self) -> Core<M>
+        ensures { (k : Kept M.State) (e : Entry) → self.kept ≡ longer k e → result ≡ record self { kept = k } }
+    {
+        self.exec.unrun();
+        self
     }
 
     // The last response to a client, in place of the one before.
@@ -107,7 +117,8 @@ impl<M: Machine> Core<M> {
         self.keep_order(copy)
     }
 
-    pub(crate) fn drop_order(mut self, place: Place) -> Core<M>
+    /// The order of a place is dropped.
+    pub fn drop_order(mut self, place: Place) -> Core<M>
         requires { last_place self.kept < place.0 }
         ensures { result ≡ record self { orders = without_order self.orders place.0 } }
     {
@@ -136,8 +147,8 @@ impl<M: Machine> Core<M> {
         self
     }
 
-    // A client's request waits no longer, where one of the client with this stamp was executed.
-    pub(crate) fn drop_pending(self, client: ClientId, stamp: Stamp) -> Core<M>
+    /// A client's request waits no longer, where one of the client with this stamp was executed.
+    pub fn drop_pending(self, client: ClientId, stamp: Stamp) -> Core<M>
         requires client { client.0 < 64 }
         ensures { result ≡ with_pending self client (still_waiting stamp (waiting_of self client)) }
     {
@@ -154,6 +165,8 @@ impl<M: Machine> Core<M> {
     pub fn keep_certificate(mut self, place: Place, specs: Items<Signed<Spec>>) -> Core<M>
         ensures core { result ≡ with_certificate self place specs }
         ensures sealer { result.sealer ≡ self.sealer }
+        ensures kept { result.kept ≡ self.kept }
+        ensures owed { (own : Option OwnCheckpoint) (brought : Bool) → checks_owed result own brought ≡ checks_owed self own brought }
     {
         if self.is_further(place) {
             self.certificate = Some(Certificate { place, specs });
@@ -163,7 +176,8 @@ impl<M: Machine> Core<M> {
         self
     }
 
-    fn is_further(&self, place: Place) -> bool
+    // It is the first, or further than the one before.
+    pub(crate) fn is_further(&self, place: Place) -> bool
         ensures { result ≡ is_further_than place self.now.certificate }
     {
         match &self.certificate {

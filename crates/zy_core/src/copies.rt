@@ -8,11 +8,11 @@ use zy_base::{Bytes, Want};
 use zy_chain::Entry;
 use zy_exec::Known;
 use zy_frames::OrderFrame;
-use zy_parts::{Ask, Confirm, Hole, Local, Order, Signed, Spec};
+use zy_parts::{Ask, Signed};
 use zy_table::Pending;
 
-// The entry that a request asks for.
-pub(crate) fn entry_of(ask: &Signed<Ask>) -> Result<Entry, Want>
+/// The entry that a request asks for.
+pub fn entry_of(ask: &Signed<Ask>) -> Result<Entry, Want>
     ensures { IfOk result (λ e. e ≡ entry_asked ask.now) }
 {
     Ok(Entry {
@@ -22,62 +22,21 @@ pub(crate) fn entry_of(ask: &Signed<Ask>) -> Result<Entry, Want>
     })
 }
 
-pub(crate) fn bytes_copy(bytes: &Bytes) -> Result<Bytes, Want>
+/// A copy of bytes.
+pub fn bytes_copy(bytes: &Bytes) -> Result<Bytes, Want>
     ensures { IfOk result (λ copy. copy ≡ bytes.now) }
 {
     Ok(bytes.clone()?)
 }
 
-/// A copy of a response.
-pub fn spec_copy(spec: &Signed<Spec>) -> Result<Signed<Spec>, Want>
-    ensures { IfOk result (λ copy. copy ≡ spec.now) }
+/// A copy of a signed statement that is no larger than its fields.
+pub fn signed_copy<S: Copy>(signed: &Signed<S>) -> Result<Signed<S>, Want>
+    ensures { IfOk result (λ copy. copy ≡ signed.now) }
 {
     Ok(Signed {
-        by: spec.by,
-        stmt: spec.stmt,
-        sig: spec.sig.clone()?,
-    })
-}
-
-/// A copy of what asks for orders.
-pub fn hole_copy(hole: &Signed<Hole>) -> Result<Signed<Hole>, Want>
-    ensures { IfOk result (λ copy. copy ≡ hole.now) }
-{
-    Ok(Signed {
-        by: hole.by,
-        stmt: hole.stmt,
-        sig: hole.sig.clone()?,
-    })
-}
-
-pub(crate) fn order_copy(order: &Signed<Order>) -> Result<Signed<Order>, Want>
-    ensures { IfOk result (λ copy. copy ≡ order.now) }
-{
-    Ok(Signed {
-        by: order.by,
-        stmt: order.stmt,
-        sig: order.sig.clone()?,
-    })
-}
-
-/// A copy of a local commit.
-pub fn local_copy(local: &Signed<Local>) -> Result<Signed<Local>, Want>
-    ensures { IfOk result (λ copy. copy ≡ local.now) }
-{
-    Ok(Signed {
-        by: local.by,
-        stmt: local.stmt,
-        sig: local.sig.clone()?,
-    })
-}
-
-fn confirm_copy(confirm: &Signed<Confirm>) -> Result<Signed<Confirm>, Want>
-    ensures { IfOk result (λ copy. copy ≡ confirm.now) }
-{
-    Ok(Signed {
-        by: confirm.by,
-        stmt: confirm.stmt,
-        sig: confirm.sig.clone()?,
+        by: signed.by,
+        stmt: signed.stmt,
+        sig: signed.sig.clone()?,
     })
 }
 
@@ -94,11 +53,12 @@ fn ask_copy(ask: &Signed<Ask>) -> Result<Signed<Ask>, Want>
     })
 }
 
-pub(crate) fn frame_copy(order: &OrderFrame) -> Result<OrderFrame, Want>
+/// A copy of an order with its request.
+pub fn frame_copy(order: &OrderFrame) -> Result<OrderFrame, Want>
     ensures { IfOk result (λ copy. copy ≡ order.now) }
 {
     Ok(OrderFrame {
-        order: order_copy(&order.order)?,
+        order: signed_copy(&order.order)?,
         ask: ask_copy(&order.ask)?,
     })
 }
@@ -108,7 +68,7 @@ pub fn pending_copy(pending: &Pending) -> Result<Pending, Want>
     ensures { IfOk result (λ copy. copy ≡ pending.now) }
 {
     Ok(Pending {
-        confirm: confirm_copy(&pending.confirm)?,
+        confirm: signed_copy(&pending.confirm)?,
         ask: ask_copy(&pending.ask)?,
     })
 }

@@ -1,15 +1,17 @@
 //! What a replica is between its events, and what a step does to it: its state, what is read of it, its changes one at
-//! a time, a step under way, and the running of an order. The rows of the answer table stand in the crate above.
+//! a time, what it keeps of checkpoints, and a step under way. What a step does in several changes stands in the crates
+//! above.
 #![tactic(auto)]
 
 mod changes;
+mod checkpoints;
 mod copies;
 mod progress;
 mod reading;
-mod running;
+mod responses;
 mod state;
 
-pub use copies::{hole_copy, local_copy, pending_copy, spec_copy};
+pub use copies::{bytes_copy, entry_of, frame_copy, pending_copy, signed_copy};
 pub use progress::{Moved, Progress};
-pub use running::spec_of;
+pub use responses::{own_with, spec_of};
 pub use state::Core;

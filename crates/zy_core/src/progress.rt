@@ -1,12 +1,16 @@
-ghost use Rattle.std.specs.Prelude.{◌≡◌, ◌≤◌, length, IfOk};
+ghost use Rattle.std.specs.Prelude.{◌≡◌, ◌≤◌, ◌<◌, length, IfOk};
 ghost use Rattle.std.specs.Option.{ForSome};
 ghost use Rattle.zy_base.specs.declared.ids.Party.TheVariants as parties;
+ghost use Rattle.zy_parts.specs.Numbers as numbers;
 ghost use Rattle.zy_parts.specs.Signing.{IsSignedInRange};
-ghost use Rattle.zy_parts.specs.Statements.{IsOrderInRange, IsSpecInRange, IsLocalInRange, IsHoleInRange};
+ghost use Rattle.zy_parts.specs.Statements.{IsOrderInRange, IsSpecInRange, IsLocalInRange, IsHoleInRange, IsCheckInRange, spec_fields};
 ghost use Rattle.zy_frames.specs.Frames.{IsFrameInRange};
 ghost use Rattle.zy_frames.specs.declared.frame.Frame.TheVariants as frames;
 ghost use Rattle.zy_table.specs.declared.deeds.To.TheVariants as tos;
 ghost use Rattle.zy_table.specs.declared.deeds.Act.TheVariants as acts;
+ghost use Rattle.zy_table.specs.declared.deeds.Body.TheVariants as bodies;
+ghost use Rattle.zy_seal.specs.Sealing.{sealed_by};
+ghost use Rattle.zy_table.specs.State.{leaves_of, spent, stood_of, with_spec};
 ghost use Rattle.zy_table.specs.Commits.{send_local};
 ghost use Rattle.zy_core.specs.Ready.{IsActInRange, IsBodyInRange, IsOrderReady, IsPendingReady};
 
@@ -15,7 +19,7 @@ use crate::copies::frame_copy;
 use std::marker::Model;
 use zy_base::{Answer, Bytes, Cause, ClientId, Items, Machine, Party, Stood, Want};
 use zy_frames::{Frame, OrderFrame};
-use zy_parts::{Hole, Local, Order, Signed, Spec};
+use zy_parts::{Check, Hole, Local, Order, Signed, Spec};
 use zy_table::{Act, Body, Deeds, Pending, Remark, Sent, To};
 
 /// A replica on its way through a step, with what the step did so far.
@@ -114,6 +118,44 @@ impl<M: Machine> Progress<M> {
         self.act(Act::Says(Remark { body, stood }))
     }
 
+    /// The response is signed and kept.
+    pub fn sign_spec(self, spec: Spec) -> Result<(Progress<M>, Signed<Spec>), Want>
+        requires leaf { 1 ≤ leaves_of self.state }
+        requires spec { IsSpecInRange spec }
+        requires client { spec.client.0 < 64 }
+        ensures progress { IfOk result (λ r. r.0 ≡ acting (acts.Says (record { body = bodies.Spec spec; stood = stood_of M.rules self.state })) (record self { state = with_spec (spent self.state) (sealed_by numbers.spec spec_fields self.state.sealer spec) })) }
+        ensures spec { IfOk result (λ r. r.1 ≡ sealed_by numbers.spec spec_fields self.state.sealer spec) }
+        ensures range { IfOk result (λ r. IsSignedInRange IsSpecInRange r.1) }
+    {
+        let stood = self.core.stood();
+        let (progress, signed) = self.seal_spec(spec)?;
+        match progress.says(Body::Spec(spec), stood) {
+            Ok(progress) => Ok((progress, signed)),
+            Err(want) => {
+                drop(signed);
+                Err(want)
+            }
+        }
+    }
+
+    fn seal_spec(self, spec: Spec) -> Result<(Progress<M>, Signed<Spec>), Want>
+        requires leaf { 1 ≤ leaves_of self.state }
+        requires spec { IsSpecInRange spec }
+        requires client { spec.client.0 < 64 }
+        ensures progress { IfOk result (λ r. r.0 ≡ record self { state = with_spec (spent self.state) (sealed_by numbers.spec spec_fields self.state.sealer spec) }) }
+        ensures spec { IfOk result (λ r. r.1 ≡ sealed_by numbers.spec spec_fields self.state.sealer spec) }
+        ensures range { IfOk result (λ r. IsSignedInRange IsSpecInRange r.1) }
+    {
+        let Progress { core, deeds } = self;
+        match core.seal_spec(spec) {
+            Ok((core, signed)) => Ok((Progress { core, deeds }, signed)),
+            Err(want) => {
+                drop(deeds);
+                Err(want)
+            }
+        }
+    }
+
     // A frame of each kind is made where it is sent: nothing that can fail comes between.
 
     /// An order with its request, to all.
@@ -147,6 +189,29 @@ impl<M: Machine> Progress<M> {
     {
         let to = To::One(Party::Client(spec.stmt.client));
         self.send(to, Frame::SpecResponse { spec, reply, order })
+    }
+
+    /// A response, to all.
+    pub fn share_spec(
+        self,
+        spec: Signed<Spec>,
+        reply: Bytes,
+        order: Option<Signed<Order>>,
+    ) -> Result<Progress<M>, Want>
+        requires spec { IsSignedInRange IsSpecInRange spec }
+        requires reply { length reply ≤ 1100 }
+        requires order { ForSome order (IsSignedInRange IsOrderInRange) }
+        ensures { IfOk result (λ g. g ≡ sending tos.All (frames.SpecResponse spec reply order) self) }
+    {
+        self.send(To::All, Frame::SpecResponse { spec, reply, order })
+    }
+
+    /// A checkpoint, to all.
+    pub fn send_check(self, check: Signed<Check>) -> Result<Progress<M>, Want>
+        requires { IsSignedInRange IsCheckInRange check }
+        ensures { IfOk result (λ g. g ≡ sending tos.All (frames.Checkpoint check) self) }
+    {
+        self.send(To::All, Frame::Checkpoint(check))
     }
 
     /// What asks for orders.

@@ -14,13 +14,14 @@ ghost use Rattle.zy_table.specs.Roles.{is_primary_of, view_cause};
 ghost use Rattle.zy_table.specs.Running.{still_pending};
 ghost use Rattle.zy_table.specs.Orders.{hole_of};
 ghost use Rattle.zy_table.specs.Commits.{local_said};
-ghost use Rattle.zy_core.specs.Ready.{IsKeptPending, IsKeptSpec, IsOrderReady};
+ghost use Rattle.zy_core.specs.Ready.{IsKeptPending, IsKeptSpec, IsOrderReady, IsReady};
 
 use crate::Core;
-use crate::copies::{frame_copy, known_copy, local_copy, order_copy};
+use crate::copies::{frame_copy, known_copy, signed_copy};
 use std::alloc::Global;
 use zy_admit::Admission;
 use zy_base::{Cause, ClientId, Counts, Machine, Mode, Party, Place, ReplicaId, Stamp, View, Want};
+use zy_check::Checkpoints;
 use zy_exec::Known;
 use zy_frames::OrderFrame;
 use zy_parts::{Hole, Local, Order, Signed, Spec};
@@ -69,6 +70,13 @@ impl<M: Machine> Core<M> {
         &self.orders
     }
 
+    /// Its stable checkpoint, and the responses and checkpoints that are kept above it.
+    pub fn board(&self) -> &Checkpoints
+        ensures board { result.now ≡ self.now.board }
+    {
+        &self.board
+    }
+
     /// What it asked the primary for last.
     pub fn hole(&self) -> Option<&Signed<Hole>>
         ensures hole { option_copied result ≡ self.now.hole }
@@ -83,6 +91,7 @@ impl<M: Machine> Core<M> {
     pub fn view(&self) -> View
         ensures view { result.0 ≡ own_view self.now }
         ensures range { result.0 < 2 ^ 62 }
+        ensures ready { IsReady self.now }
     {
         self.mode.view()
     }
@@ -191,7 +200,7 @@ impl<M: Machine> Core<M> {
         ensures range { IfOk result (λ order. ForSome order (IsSignedInRange IsOrderInRange)) }
     {
         match self.orders.stored(place) {
-            Some(kept) => Ok(Some(order_copy(&kept.order)?)),
+            Some(kept) => Ok(Some(signed_copy(&kept.order)?)),
             None => Ok(None),
         }
     }
@@ -207,8 +216,8 @@ impl<M: Machine> Core<M> {
         }
     }
 
-    // A copy of the order that is held for the next place.
-    pub(crate) fn next_held(&self) -> Result<Option<OrderFrame>, Want>
+    /// A copy of the order that is held for the next place.
+    pub fn next_held(&self) -> Result<Option<OrderFrame>, Want>
         ensures base { self.now.orders.base ≤ last_place self.now.kept }
         ensures held { IfOk result (λ held. held ≡ stored_in self.now.orders (last_place self.now.kept + 1)) }
         ensures ready { IfOk result (λ held. ForSome held IsOrderReady) }
@@ -280,7 +289,7 @@ impl<M: Machine> Core<M> {
         ensures range { IfOk result (λ said. ForSome said (IsSignedInRange IsLocalInRange)) }
     {
         match local_among(self.locals.as_slice(), local) {
-            Some(said) => Ok(Some(local_copy(said)?)),
+            Some(said) => Ok(Some(signed_copy(said)?)),
             None => Ok(None),
         }
     }

@@ -3,6 +3,8 @@ ghost use Rattle.std.specs.List.{list_any};
 ghost use Rattle.sha2.specs.Sha256.{sha256};
 ghost use Rattle.zy_base.specs.declared.ids.Party.TheVariants as parties;
 ghost use Rattle.zy_exec.specs.Kept.{now_of, last_place};
+ghost use Rattle.zy_exec.specs.Replay.{origin};
+ghost use Rattle.zy_exec.specs.Shots.{digest_of_snapshot};
 ghost use Rattle.zy_exec.specs.Snapshot.{snapshot_of};
 
 use sha2::{Digest as Hasher, Sha256};
@@ -10,6 +12,7 @@ use std::alloc::Global;
 use std::marker::Model;
 use zy_admit::Admission;
 use zy_base::{Counts, Digest, Items, Machine, Mode, Place, ReplicaId, Stood, Timers, View, Want};
+use zy_check::Checkpoints;
 use zy_exec::{Exec, nothing};
 use zy_parts::{Hole, Local, Signed, Spec};
 use zy_seal::{Directory, Sealer};
@@ -27,6 +30,7 @@ pub struct Core<M: Machine> {
     pub(crate) last_view: View,
     pub(crate) exec: Exec<M>,
     pub(crate) orders: Admission,
+    pub(crate) board: Checkpoints,
     pub(crate) hole: Option<Signed<Hole>>,
     pub(crate) specs: Vec<Option<Signed<Spec>>>,
     pub(crate) pending: Vec<Option<Pending>>,
@@ -47,6 +51,7 @@ impl<M: Machine> Drop for Core<M> {
             last_view: _,
             exec: _,
             orders: _,
+            board: _,
             hole: _,
             specs: _,
             pending: _,
@@ -70,6 +75,7 @@ impl<M: Machine> Model for Core<M> {
       last_view = r.last_view;
       kept = r.exec;
       orders = r.orders;
+      board = r.board;
       hole = r.hole;
       specs = r.specs.items;
       pending = r.pending.items;
@@ -88,6 +94,7 @@ impl<M: Machine> Model for Core<M> {
       last_view = r.last_view;
       kept = r.exec;
       orders = r.orders;
+      board = r.board;
       hole = r.hole;
       specs = r.specs.items;
       pending = r.pending.items;
@@ -101,6 +108,18 @@ fn some_wait(pending: &[Option<Pending>]) -> bool
     ensures { result ≡ list_any is_some pending.now }
 {
     pending.iter().any(|slot| slot.is_some())
+}
+
+// SHA-256 of the snapshot of the empty history.
+fn empty_digest<M: Machine>(exec: &Exec<M>) -> Digest
+    requires base { exec.now.base ≡ origin M.rules }
+    requires entries { exec.now.entries ≡ [] }
+    ensures { result ≡ digest_of_snapshot (snapshot_of M.rules (origin M.rules)) }
+{
+    match exec.snapshot_digest_at(Place(0)) {
+        Some(digest) => digest,
+        None => unreachable!(),
+    }
 }
 
 impl<M: Machine> Core<M> {
@@ -122,6 +141,7 @@ impl<M: Machine> Core<M> {
         ensures { IfOk result (λ r. r ≡ start_of M.rules k me counts directory sealer) }
     {
         let exec = Exec::start(alloc, M::empty(alloc)?, k)?;
+        let board = Checkpoints::start(alloc, k, empty_digest(&exec));
         let specs = nothing(alloc)?;
         let pending = nothing(alloc)?;
         Ok(Core {
@@ -134,6 +154,7 @@ impl<M: Machine> Core<M> {
             last_view: View(0),
             exec,
             orders: Admission::start(alloc),
+            board,
             hole: None,
             specs,
             pending,

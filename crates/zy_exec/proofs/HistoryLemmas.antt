@@ -14,7 +14,7 @@ use Rattle.zy_exec.specs.Replay.{Point, origin, step, along, answer_at}
 use Rattle.zy_exec.specs.Kept.{Kept, StandsFor, stretch_of, last_place, now_of, longer, back_to, reply_in}
 use Rattle.zy_exec.proofs.ReplayLemmas.{head-along}
 
-along-append_all : {S : Type 0} (R : Rules S) (p : Point S) (front back : List Entry) → along R (along R p front) back ≡ along R p (front ++ back)
+pub along-append_all : {S : Type 0} (R : Rules S) (p : Point S) (front back : List Entry) → along R (along R p front) back ≡ along R p (front ++ back)
 unfolding along
 along-append_all R p front back = sym (fold-append (step R) p front back)
 
@@ -57,7 +57,7 @@ pub stands_end : {S : Type 0} (R : Rules S) (k : Kept S) (history : List Entry) 
 stands_end R k history stands = omega (arith, ap length stands.others, length-drop k.base.place history, stands.within)
 
 -- after so many of the kept entries it stands where the history's first entries lead
-stands_after : {S : Type 0} (R : Rules S) (k : Kept S) (history : List Entry) (n : ℕ) → StandsFor R k history
+pub stands_after : {S : Type 0} (R : Rules S) (k : Kept S) (history : List Entry) (n : ℕ) → StandsFor R k history
     → along R k.base (take n k.entries) ≡ along R (origin R) (take (k.base.place + n) history)
 stands_after {S} R k history n stands =
     ap (λ (p : Point S). along R p (take n k.entries)) stands.base_is

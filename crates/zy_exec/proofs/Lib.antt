@@ -1,3 +1,7 @@
 pub mod ReplayLemmas
-pub mod ListedLemmas
+mod ListedLemmas
 pub mod HistoryLemmas
+pub mod SettleLemmas
+mod ShotLemmas
+mod SnapshotLemmas
+mod InstallLemmas

@@ -1,10 +1,10 @@
 -- Replay by one entry more, and what is kept of each entry.
-use Rattle.std.proofs.Common.{◌≡◌, ℕ, zero, suc, ◌+◌, ◌-◌, ◌^◌, ◌<◌, ◌≤◌, inl, inr, List, [], ◌∷◌, ◌++◌, length, take, get_or, set, replicate, Option, Some, None, refl, sym, ap, ◌∙◌, subst, arith, append_assoc, append-nil}
+use Rattle.std.proofs.Common.{◌≡◌, ℕ, zero, suc, ◌+◌, ◌-◌, ◌^◌, ◌<◌, ◌≤◌, leb, inl, inr, List, [], ◌∷◌, ◌++◌, length, take, get_or, set, replicate, Option, Some, None, refl, sym, ap, ◌∙◌, subst, arith, append_assoc, append-nil}
 use Rattle.std.specs.Prelude.{slice_get, option_map}
 use Rattle.std.specs.List.{AllByRecursion}
 use Rattle.std.proofs.lemmas.List.{take_at, length-append, length-set, length-replicate, set-set, set-get_or, get_or-set_same, get_or-set_other, same_from_push}
 use Rattle.std.proofs.lemmas.List.Sums.{fold-append}
-use Rattle.std.proofs.lemmas.Bool.{cases_eq, lt-leb}
+use Rattle.std.proofs.lemmas.Bool.{cases_eq, cases_Bool, le-leb, lt-leb, leb-false}
 use Rattle.std.proofs.lemmas.Option.{same_Some}
 use Rattle.zy_base.specs.Machine.{Rules}
 use Rattle.zy_base.specs.declared.ids.Digest.{Digest}
@@ -18,7 +18,7 @@ use Rattle.zy_exec.specs.declared.known.Done.{Done}
 use Rattle.zy_exec.specs.Known.{IsKnownInRange}
 use Rattle.zy_exec.specs.Replay.{Point, known_of, step, along}
 use Rattle.zy_exec.specs.Kept.{Kept, reply_in}
-use Rattle.zy_exec.specs.Trail.{base_of, oldest_state, states_from, nowhere, placed, last_from, done_from, known_at, IsPopped, IsDoneInRange, IsBaseInRange, HasClient, IsReplayed}
+use Rattle.zy_exec.specs.Trail.{base_of, oldest_state, states_from, placed, last_from, done_from, known_at, IsPopped, IsDoneInRange, IsBaseInRange, HasClient, IsBefore, IsReplayed}
 
 -- what holds of no entries, and with one entry more, holds of all lists
 pub by_last : (P : List Entry → Type 0) → P [] → ((entries : List Entry) (e : Entry) → P entries → P (entries ++ e ∷ [])) → (entries : List Entry) → P entries
@@ -127,8 +127,10 @@ replayed_on {S} R base entries state trail done last e known was client known_is
     record {
       state_is = ap (λ (s : S). R.next s e.client e.op) was.state_is ∙ sym (ap (λ (p : Point S). p.state) (along-append R base entries e));
       trail_is = ap (λ (s : S). trail ++ s ∷ []) was.state_is ∙ ap (λ (t : List S). t ++ here.state ∷ []) was.trail_is ∙ sym (states-append R base entries e);
-      done_is = rw (known_is, was.last_is, was.done_is) (sym (done-append R base nowhere entries e));
-      last_is = rw (known_is, was.last_is, place-along R base entries) (sym (last-append base.place nowhere entries e));
+      before = was.before;
+      is_before = was.is_before;
+      done_is = rw (known_is, was.last_is, was.done_is) (sym (done-append R base was.before entries e));
+      last_is = rw (known_is, was.last_is, place-along R base entries) (sym (last-append base.place was.before entries e));
       clients = clients_push entries e was.clients client;
       all_clients = was.all_clients;
       in_range = in_range_push done _ was.in_range (client, in_range);
@@ -140,17 +142,18 @@ pub replayed_back : {S : Type 0} (R : Rules S) (base : Point S) (entries : List 
     → IsReplayed R base entries state' trail' done' last'
 replayed_back {S} R base entries e state state' trail trail' done done' last last' was back pop =
     let trails = same_from_push trail' (states_from R base entries) state' (along R base entries).state (sym back ∙ was.trail_is ∙ states-append R base entries e) in
-    let dones = same_from_push done' (done_from R base nowhere entries) pop.popped (done_next R base nowhere entries e) (sym pop.done_was ∙ was.done_is ∙ done-append R base nowhere entries e) in
-    let before = last_from base.place nowhere entries in
+    let dones = same_from_push done' (done_from R base was.before entries) pop.popped (done_next R base was.before entries e) (sym pop.done_was ∙ was.done_is ∙ done-append R base was.before entries e) in
+    let before = last_from base.place was.before entries in
     let placed_at : Option Place = Some (record { 0 = base.place + length entries + 1 }) in
-    let none : List (Option Place) = before in
     record {
       state_is = trails.1;
       trail_is = trails.0;
+      before = was.before;
+      is_before = was.is_before;
       done_is = dones.0;
       last_is = pop.last_now
           ∙ ap (λ (d : Done). set last d.client.0 d.earlier) dones.1
-          ∙ ap (λ (l : List (Option Place)). set l e.client.0 (get_or before e.client.0 None)) (was.last_is ∙ last-append base.place nowhere entries e)
+          ∙ ap (λ (l : List (Option Place)). set l e.client.0 (get_or before e.client.0 None)) (was.last_is ∙ last-append base.place was.before entries e)
           ∙ set-set before e.client.0 placed_at (get_or before e.client.0 None)
           ∙ set-get_or before e.client.0 None;
       clients = (clients_pop entries e was.clients).0;
@@ -169,11 +172,6 @@ reply-done R p last [] i = refl
 reply-done R p last (e ∷ entries) zero = refl
 reply-done R p last (e ∷ entries) (suc i) = reply-done R (step R p e) (placed last e (p.place + 1)) entries i
 
-get_or-none : (n i : ℕ) → ◌≡◌ {A = Option Place} (get_or (replicate n None) i None) None
-get_or-none zero i = refl
-get_or-none (suc n) zero = refl
-get_or-none (suc n) (suc i) = get_or-none n i
-
 slice_get-last : {A : Type 0} (xs : List A) (x : A) → slice_get (xs ++ x ∷ []) (length xs) ≡ Some x
 slice_get-last [] x = refl
 slice_get-last (y ∷ xs) x = slice_get-last xs x
@@ -183,87 +181,97 @@ slice_get-append [] ys i within = absurd (omega arith)
 slice_get-append (x ∷ xs) ys zero within = refl
 slice_get-append (x ∷ xs) ys (suc i) within = slice_get-append xs ys i (omega arith)
 
--- a place above the base, up to the end
-record IsAbove (base entries : ℕ) (last : Option Place) : Type 0 where
-  above : (place : Place) → last ≡ Some place → (base < place.0) × (place.0 ≤ base + entries)
+-- a place up to the end
+record IsUpTo (end : ℕ) (last : Option Place) : Type 0 where
+  below : (place : Place) → last ≡ Some place → place.0 ≤ end
 
-known_at-more : (base : ℕ) (base_known : List (Option Known)) (done : List Done) (d : Done) (client : ℕ) (last : Option Place) → IsAbove base (length done) last
+known_at-more : (base : ℕ) (base_known : List (Option Known)) (done : List Done) (d : Done) (client : ℕ) (last : Option Place) → IsUpTo (base + length done) last
     → known_at base base_known (done ++ d ∷ []) client last ≡ known_at base base_known done client last
-known_at-more base base_known done d client None above = refl
-known_at-more base base_known done d client (Some place) above =
-    let bounds = above.above place refl in
-    ap (option_map (λ (k : Done). k.known)) (slice_get-append done (d ∷ []) (place.0 - base - 1) (omega arith))
+known_at-more base base_known done d client None up = refl
+known_at-more base base_known done d client (Some place) up =
+    let below = up.below place refl in
+    elim (cases_Bool (leb place.0 base)) [
+      | inl low ↦ rw low refl
+      | inr high ↦
+          let above = leb-false place.0 base high in
+          rw high (ap (option_map (λ (k : Done). k.known)) (slice_get-append done (d ∷ []) (place.0 - base - 1) (omega arith)))
+    ]
+
+known_below : (base : ℕ) (base_known : List (Option Known)) (client : ℕ) (last : Option Place) → IsUpTo base last → known_at base base_known [] client last ≡ get_or base_known client None
+known_below base base_known client None up = refl
+known_below base base_known client (Some place) up = rw (le-leb place.0 base (up.below place refl)) refl
 
 -- what is known of a client's last entry, and where that entry stands
-abbrev pub last_place_of : {S : Type 0} → Point S → List Entry → ℕ → Option Place
-last_place_of p entries client = get_or (last_from p.place nowhere entries) client None
+abbrev pub last_place_of : {S : Type 0} → Point S → List (Option Place) → List Entry → ℕ → Option Place
+last_place_of p before entries client = get_or (last_from p.place before entries) client None
 
-record IsKnown {S : Type 0} (R : Rules S) (p : Point S) (client : ℕ) (entries : List Entry) : Type 0 where
-  known : known_at p.place p.known (done_from R p nowhere entries) client (last_place_of p entries client) ≡ get_or (along R p entries).known client None
-  above : IsAbove p.place (length entries) (last_place_of p entries client)
+record IsKnown {S : Type 0} (R : Rules S) (p : Point S) (before : List (Option Place)) (client : ℕ) (entries : List Entry) : Type 0 where
+  known : known_at p.place p.known (done_from R p before entries) client (last_place_of p before entries client) ≡ get_or (along R p entries).known client None
+  up : IsUpTo (p.place + length entries) (last_place_of p before entries client)
 
-known_none : {S : Type 0} (R : Rules S) (p : Point S) (client : ℕ) → IsKnown R p client []
+known_none : {S : Type 0} (R : Rules S) (p : Point S) (before : List (Option Place)) (client : ℕ) → IsBefore p.place before → IsKnown R p before client []
 unfolding along
-known_none R p client =
-    let none = get_or-none 64 client in
+known_none R p before client is =
     record {
-      known = ap (known_at p.place p.known [] client) none;
-      above = record { above = λ place some. let clash : None ≡ Some place = sym none ∙ some in absurd (cc) };
+      known = known_below p.place p.known client (get_or before client None) (record { below = is.below client });
+      up = record { below = λ place some. let low = is.below client place some in omega arith };
     }
 
-known_more : {S : Type 0} (R : Rules S) (p : Point S) (client : ℕ) (entries : List Entry) (e : Entry) → length p.known ≡ 64 → e.client.0 < 64
-    → IsKnown R p client entries → IsKnown R p client (entries ++ e ∷ [])
-known_more R p client entries e all within was =
-    let before = last_from p.place nowhere entries in
+known_more : {S : Type 0} (R : Rules S) (p : Point S) (before : List (Option Place)) (client : ℕ) (entries : List Entry) (e : Entry) → length p.known ≡ 64 → length before ≡ 64 → e.client.0 < 64
+    → IsKnown R p before client entries → IsKnown R p before client (entries ++ e ∷ [])
+known_more R p before client entries e all all_before within was =
+    let last = last_from p.place before entries in
     let here = along R p entries in
-    let done = done_from R p nowhere entries in
-    let next = done_next R p nowhere entries e in
+    let done = done_from R p before entries in
+    let next = done_next R p before entries e in
     let place : Place = record { 0 = p.place + length entries + 1 } in
-    let done_now : done_from R p nowhere (entries ++ e ∷ []) ≡ done ++ next ∷ [] = done-append R p nowhere entries e in
-    let last_now : last_from p.place nowhere (entries ++ e ∷ []) ≡ set before e.client.0 (Some place) = last-append p.place nowhere entries e in
+    let done_now : done_from R p before (entries ++ e ∷ []) ≡ done ++ next ∷ [] = done-append R p before entries e in
+    let last_now : last_from p.place before (entries ++ e ∷ []) ≡ set last e.client.0 (Some place) = last-append p.place before entries e in
     let known_now : (along R p (entries ++ e ∷ [])).known ≡ set here.known e.client.0 (Some next.known) = ap (λ (q : Point _). q.known) (along-append R p entries e) in
     let fits : length (entries ++ e ∷ []) ≡ length entries + 1 = length-append entries (e ∷ []) in
-    let many : length done ≡ length entries = length-done R p nowhere entries in
+    let many : length done ≡ length entries = length-done R p before entries in
     elim (cases_eq client e.client.0) [
       | inl same ↦
-          let last_len : length before ≡ 64 = length-last p.place nowhere entries ∙ (let none : Option Place = None in length-replicate 64 none) in
+          let last_len : length last ≡ 64 = length-last p.place before entries ∙ all_before in
           let known_len : length here.known ≡ 64 = length-known-along R p entries ∙ all in
-          let last_at : get_or (set before e.client.0 (Some place)) client None ≡ Some place =
-          ap (λ (c : ℕ). get_or (set before e.client.0 (Some place)) c None) same ∙ get_or-set_same before e.client.0 (Some place) None (omega arith) in
+          let last_at : get_or (set last e.client.0 (Some place)) client None ≡ Some place =
+          ap (λ (c : ℕ). get_or (set last e.client.0 (Some place)) c None) same ∙ get_or-set_same last e.client.0 (Some place) None (omega arith) in
           let known_here : get_or (set here.known e.client.0 (Some next.known)) client None ≡ Some next.known =
           ap (λ (c : ℕ). get_or (set here.known e.client.0 (Some next.known)) c None) same ∙ get_or-set_same here.known e.client.0 (Some next.known) None (omega arith) in
+          let high = lt-leb place.0 p.place (omega arith) in
           let at : place.0 - p.place - 1 ≡ length done = omega arith in
           record {
-            known = rw (done_now, last_now, known_now, last_at, known_here, at) (ap (option_map (λ (d : Done). d.known)) (slice_get-last done next));
-            above = rw (last_now, last_at) (record { above = λ q some. let is : place ≡ q = same_Some place q some in subst (λ (at_q : Place). (p.place < at_q.0) × (at_q.0 ≤ p.place + length (entries ++ e ∷ []))) is (omega arith, omega arith) });
+            known = rw (done_now, last_now, known_now, last_at, known_here, high, at) (ap (option_map (λ (d : Done). d.known)) (slice_get-last done next));
+            up = rw (last_now, last_at) (record { below = λ q some. let is : place ≡ q = same_Some place q some in subst (λ (at_q : Place). at_q.0 ≤ p.place + length (entries ++ e ∷ [])) is (omega arith) });
           }
       | inr apart ↦
           record {
-            known = rw (done_now, last_now, known_now, get_or-set_other before e.client.0 client (Some place) None apart, get_or-set_other here.known e.client.0 client (Some next.known) None apart)
-                (known_at-more p.place p.known done next client (get_or before client None) (rw many was.above) ∙ was.known);
-            above = rw (last_now, get_or-set_other before e.client.0 client (Some place) None apart)
-                (record { above = λ q some. let bounds = was.above.above q some in (bounds.0, omega (arith, bounds.1, fits)) });
+            known = rw (done_now, last_now, known_now, get_or-set_other last e.client.0 client (Some place) None apart, get_or-set_other here.known e.client.0 client (Some next.known) None apart)
+                (known_at-more p.place p.known done next client (get_or last client None) (rw many was.up) ∙ was.known);
+            up = rw (last_now, get_or-set_other last e.client.0 client (Some place) None apart)
+                (record { below = λ q some. let bound = was.up.below q some in omega (arith, bound, fits) });
           }
     ]
 
-known_all : {S : Type 0} (R : Rules S) (p : Point S) (client : ℕ) → length p.known ≡ 64 → (entries : List Entry) → AllByRecursion HasClient entries → IsKnown R p client entries
-known_all R p client all =
-    by_last (λ (entries : List Entry). AllByRecursion HasClient entries → IsKnown R p client entries)
-    (λ none. known_none R p client)
-    (λ entries e was clients. let both = clients_pop entries e clients in known_more R p client entries e all both.1 (was both.0))
+known_all : {S : Type 0} (R : Rules S) (p : Point S) (before : List (Option Place)) (client : ℕ) → length p.known ≡ 64 → IsBefore p.place before → (entries : List Entry) → AllByRecursion HasClient entries
+    → IsKnown R p before client entries
+known_all R p before client all is =
+    by_last (λ (entries : List Entry). AllByRecursion HasClient entries → IsKnown R p before client entries)
+    (λ none. known_none R p before client is)
+    (λ entries e was clients. let both = clients_pop entries e clients in known_more R p before client entries e all is.all_clients both.1 (was both.0))
 
 -- what is kept tells what is known now
 pub known_is : {S : Type 0} (R : Rules S) (base : Point S) (entries : List Entry) (state : S) (trail : List S) (done : List Done) (last : List (Option Place)) (client : ℕ)
     → IsReplayed R base entries state trail done last
     → known_at base.place base.known done client (get_or last client None) ≡ get_or (along R base entries).known client None
 known_is R base entries state trail done last client was =
-    rw (was.done_is, was.last_is) ((known_all R base client was.all_clients entries was.clients).known)
+    rw (was.done_is, was.last_is) ((known_all R base was.before client was.all_clients was.is_before entries was.clients).known)
 
 pub reply_is : {S : Type 0} (R : Rules S) (base : Point S) (entries : List Entry) (state : S) (trail : List S) (done : List Done) (last : List (Option Place)) (i : ℕ)
     → IsReplayed R base entries state trail done last
     → option_map (λ (d : Done). d.known.reply) (slice_get done i)
     ≡ option_map (λ (e : Entry). R.reply (along R base (take i entries)).state e.client e.op) (slice_get entries i)
-reply_is R base entries state trail done last i was = rw was.done_is (reply-done R base nowhere entries i)
+reply_is R base entries state trail done last i was = rw was.done_is (reply-done R base was.before entries i)
 
 -- a list that isn't empty has a last entry
 pub snoc : (entries : List Entry) → 0 < length entries → (front : List Entry) × (e : Entry) × (entries ≡ front ++ e ∷ [])
@@ -338,23 +346,38 @@ pub reply_above : {S : Type 0} (R : Rules S) (k : Kept S) (place : ℕ) → k.ba
     → option_map (λ (e : Entry). R.reply (along R k.base (take (place - k.base.place - 1) k.entries)).state e.client e.op) (slice_get k.entries (place - k.base.place - 1)) ≡ reply_in R k place
 reply_above R k place above = rw (lt-leb place k.base.place above) refl
 
-base_none : (n : ℕ) → AllByRecursion IsBaseInRange (replicate n None)
+-- nobody stood anywhere before the base
+pub nowhere : (base : ℕ) → IsBefore base (replicate 64 None)
+nowhere base =
+    let none : Option Place = None in
+    record {
+      all_clients = length-replicate 64 none;
+      below = λ client place some. let clash : None ≡ Some place = sym (get_or-none 64 client) ∙ some in absurd (cc);
+    }
+  where
+    get_or-none : (n i : ℕ) → ◌≡◌ {A = Option Place} (get_or (replicate n None) i None) None
+    get_or-none zero i = refl
+    get_or-none (suc n) zero = refl
+    get_or-none (suc n) (suc i) = get_or-none n i
+
+pub base_none : (n : ℕ) → AllByRecursion IsBaseInRange (replicate n None)
 base_none zero = tt
 base_none (suc n) = (tt, base_none n)
 
-pub replayed_start : {S : Type 0} (R : Rules S) (spine : Stretch) (base_known : List (Option Known)) (state : S) (trail : List S) (done : List Done) (last : List (Option Place)) (head : Digest)
-    → spine ≡ record { base = record { place = 0; head = head }; entries = [] } → trail ≡ [] → base_known ≡ replicate 64 None → done ≡ [] → last ≡ nowhere
+pub replayed_start : {S : Type 0} (R : Rules S) (spine : Stretch) (base_known : List (Option Known)) (state : S) (trail : List S) (done : List Done) (last : List (Option Place)) (place : ℕ) (head : Digest)
+    → spine ≡ record { base = record { place = place; head = head }; entries = [] } → trail ≡ [] → length base_known ≡ 64 → AllByRecursion IsBaseInRange base_known → done ≡ [] → last ≡ replicate 64 None
     → IsReplayed R (base_of spine trail state base_known) spine.entries state trail done last
 unfolding along
-replayed_start R spine base_known state trail done last head spine_is trail_is base_is done_is last_is =
-    let none : Option Known = None in
-    rw (spine_is, trail_is, base_is, done_is, last_is) (record {
+replayed_start R spine base_known state trail done last place head spine_is trail_is all_clients in_range done_is last_is =
+    rw (spine_is, trail_is, done_is, last_is) (record {
       state_is = refl;
       trail_is = refl;
+      before = replicate 64 None;
+      is_before = nowhere place;
       done_is = refl;
       last_is = refl;
       clients = tt;
-      all_clients = length-replicate 64 none;
+      all_clients = all_clients;
       in_range = tt;
-      base_in_range = base_none 64;
+      base_in_range = in_range;
     })

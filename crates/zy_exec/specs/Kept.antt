@@ -32,6 +32,15 @@ longer k e = record { interval = k.interval; base = k.base; entries = k.entries 
 abbrev pub back_to : {S : Type 0} → ℕ → Kept S → Kept S
 back_to place k = record { interval = k.interval; base = k.base; entries = take (place - k.base.place) k.entries }
 
+-- with a later place as its base: what lies below that is given up
+abbrev pub settled : {S : Type 0} → Rules S → ℕ → Kept S → Kept S
+settled R place k =
+    record {
+      interval = k.interval;
+      base = along R k.base (take (place - k.base.place) k.entries);
+      entries = drop (place - k.base.place) k.entries;
+    }
+
 -- where it stood before the entry of a place
 abbrev pub point_before : {S : Type 0} → Rules S → Kept S → ℕ → Point S
 point_before R k place = along R k.base (take (place - k.base.place - 1) k.entries)

@@ -2,4 +2,8 @@ pub mod Known
 pub mod Replay
 pub mod Kept
 pub mod Snapshot
+pub mod Fields
+pub mod Shots
+pub mod Installed
+pub mod Reading
 pub mod Trail

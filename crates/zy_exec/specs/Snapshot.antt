@@ -1,26 +1,30 @@
 -- A snapshot: the bytes of what is known of each client, and of the machine's state.
-use Rattle.std.specs.Prelude.{ℕ, ◌+◌, List, [], ◌∷◌, ◌++◌, length, Option, Some, None}
-use Rattle.std.specs.Int.{w16, w32, w64}
-use Rattle.std.specs.List.{flat_map}
+use Rattle.std.specs.Prelude.{ℕ, ◌+◌, List, [], ◌∷◌, Option, Some, None}
+use Rattle.std.specs.Int.{w32}
 use Rattle.zy_base.specs.Machine.{Rules}
-use Rattle.zy_wire.specs.Spelling.{bytes_of}
+use Rattle.zy_wire.specs.Spelling.{Spelling, pair, converted, word}
+use Rattle.zy_wire.specs.Fields.{u62, digest, bytes16, bytes32, list}
 use Rattle.zy_exec.specs.declared.known.Known.{Known}
+use Rattle.zy_exec.specs.declared.row.Row.{Row}
 use Rattle.zy_exec.specs.Replay.{Point}
 
 -- the clients that are known, counted from a number on, with what is known
-abbrev pub listed : ℕ → List (Option Known) → List (ℕ × Known)
+abbrev pub listed : ℕ → List (Option Known) → List Row
 listed client [] = []
 listed client (None ∷ known) = listed (client + 1) known
-listed client (Some k ∷ known) = (client, k) ∷ listed (client + 1) known
+listed client (Some k ∷ known) = record { client = record { 0 = client }; known = k } ∷ listed (client + 1) known
 
 -- the client in four bytes, the stamp and the place in eight each, the head, and the reply behind its length in two
-abbrev pub known_bytes : ℕ × Known → List ℕ
-known_bytes x =
-    bytes_of w32 x.0 ++ bytes_of w64 x.1.stamp.0 ++ bytes_of w64 x.1.place.0 ++ x.1.head.0
-    ++ bytes_of w16 (length x.1.reply) ++ x.1.reply
+unfoldable pub row_fields : Spelling Row
+row_fields =
+    converted
+    (λ x. record { client = record { 0 = x.0 }; known = record { stamp = record { 0 = x.1.0 }; place = record { 0 = x.1.1.0 }; head = x.1.1.1.0; reply = x.1.1.1.1 } })
+    (λ r. (r.client.0, (r.known.stamp.0, (r.known.place.0, (r.known.head, r.known.reply)))))
+    (pair (word w32) (pair (u62 0) (pair (u62 1) (pair digest (bytes16 1100)))))
 
 -- the known clients behind their count in two bytes, and the state behind its length in four
+unfoldable pub snapshot_fields : Spelling (List Row × List ℕ)
+snapshot_fields = pair (list 0 64 row_fields) (bytes32 2300000)
+
 unfoldable pub snapshot_of : {S : Type 0} → Rules S → Point S → List ℕ
-snapshot_of R p =
-    bytes_of w16 (length (listed 0 p.known)) ++ flat_map known_bytes (listed 0 p.known)
-    ++ bytes_of w32 (length (R.spelled p.state)) ++ R.spelled p.state
+snapshot_of R p = snapshot_fields.spell (listed 0 p.known, R.spelled p.state)

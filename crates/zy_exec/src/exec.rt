@@ -1,37 +1,34 @@
-ghost use Rattle.std.specs.Prelude.{◌≡◌, ◌+◌, ◌-◌, ◌*◌, ◌<◌, ◌≤◌, ◌^◌, List, [], ◌∷◌, ◌++◌, length, take, drop, slice_index_or, option_copied, IfOk, OnOk, OnErr, IfErr, IfSome, IfNone};
-ghost use Rattle.std.specs.List.{flat_map};
+ghost use Rattle.std.specs.Prelude.{◌≡◌, ◌+◌, ◌-◌, ◌%◌, ◌<◌, ◌≤◌, ◌^◌, [], ◌∷◌, ◌++◌, length, slice_index_or, option_copied, option_map, IfOk, OnOk, OnErr, IfErr, IfSome, IfNone, IsErrOf};
 ghost use Rattle.zy_chain.specs.declared.entry.Entry.{Entry};
 ghost use Rattle.zy_chain.specs.Entries.{IsEntryInRange};
-ghost use Rattle.zy_chain.specs.Heads.{head_of};
 ghost use Rattle.zy_chain.specs.Stretch.{head_in, entry_in};
+ghost use Rattle.zy_exec.specs.declared.install_fault.InstallFault.TheVariants.{NotState};
 ghost use Rattle.zy_exec.specs.Known.{IsKnownInRange};
-ghost use Rattle.zy_exec.specs.Replay.{origin, along, step};
-ghost use Rattle.zy_exec.specs.Snapshot.{listed, known_bytes, snapshot_of};
-ghost use Rattle.zy_exec.specs.Kept.{Kept, stretch_of, last_place, now_of, longer, back_to, reply_in, known_in, StandsFor};
+ghost use Rattle.zy_exec.specs.Replay.{Point, origin, step};
+ghost use Rattle.zy_exec.specs.Snapshot.{snapshot_of};
+ghost use Rattle.zy_exec.specs.Shots.{snapshot_in, digest_of_snapshot, shot_in};
+ghost use Rattle.zy_exec.specs.Installed.{IsShown, IsInstalled};
+ghost use Rattle.zy_exec.specs.Kept.{Kept, stretch_of, last_place, now_of, longer, back_to, settled, reply_in, known_in};
 
-use crate::known::{Done, Known, index_above, known_at, nothing, pop_done, push_done, reply_done};
-use crate::machine::{apply, take_back};
-use crate::snapshot::{KNOWN_BYTES, put_known};
+use crate::install_fault::InstallFault;
+use crate::known::Known;
+use crate::shot::Shot;
+use crate::track::Track;
 use std::alloc::Global;
 use std::collections::VecDeque;
 use std::marker::Model;
 use std::sync::ledger::Ledger;
 use zy_base::{Bytes, ClientId, Digest, Machine, Place, Steps, Want};
-use zy_chain::{EMPTY_HEAD, Entry, Spine};
+use zy_chain::{Entry, Spine};
 
-/// The execution of a history: the entries above a base, the machine at their end, and what leads back to the base.
-/// Contracts see the base, as the point that the history reaches there, and the entries.
+/// The execution of a history: the entries above a base, the machine at their end, what leads back to the base, and the
+/// snapshots from the base to the end. Contracts see the base, as the point that the history reaches there, and the
+/// entries.
 #[derive(Drop)]
 pub struct Exec<M: Machine> {
-    interval: u64,
-    spine: Spine,
-    machine: M,
-    // what was known of each client at the base
-    base_known: Vec<Option<Known>>,
-    // what is kept of each entry above the base
-    done: VecDeque<Done>,
-    // where each client's last entry above the base stands
-    last: Vec<Option<Place>>,
+    track: Track<M>,
+    // at the base and after each entry: the snapshot, where the place is a multiple of the interval
+    shots: VecDeque<Option<Shot>>,
 }
 
 impl<M: Machine> Model for Exec<M> {
@@ -39,17 +36,30 @@ impl<M: Machine> Model for Exec<M> {
 
     ghost Value = { Kept M.State };
 
-    ghost use Rattle.zy_exec.specs.Trail.{base_of, IsReplayed};
+    ghost use Rattle.zy_exec.specs.Shots.{IsShotsKept};
 
-    ghost view = { λ x. record {
-      interval = x.interval;
-      base = base_of x.spine (M.trail x.machine) (M.state x.machine) x.base_known.items;
-      entries = x.spine.entries;
-    } };
+    ghost view = { λ x. x.track };
 
-    ghost invariant = { λ x.
-        IsReplayed M.rules (base_of x.spine (M.trail x.machine) (M.state x.machine) x.base_known.items) x.spine.entries
-        (M.state x.machine) (M.trail x.machine) x.done.items x.last.items };
+    ghost invariant = { λ x. IsShotsKept M.rules x.track x.shots.items };
+}
+
+// One snapshot, that of the base.
+fn first_shot(alloc: Global, shot: Option<Shot>) -> Result<VecDeque<Option<Shot>>, Want>
+    ensures { IfOk result (λ shots. shots.items ≡ shot ∷ []) }
+{
+    let mut shots = VecDeque::new(alloc);
+    shots.push_back(shot)?;
+    Ok(shots)
+}
+
+// The snapshot after so many entries.
+fn shot_after(shots: &VecDeque<Option<Shot>>, count: usize) -> Option<&Shot>
+    ensures { option_copied result ≡ slice_index_or shots.now.items count None }
+{
+    match shots.get(count) {
+        Some(shot) => shot.as_ref(),
+        None => None,
+    }
 }
 
 impl<M: Machine> Exec<M> {
@@ -61,14 +71,9 @@ impl<M: Machine> Exec<M> {
         requires most { k ≤ 32 }
         ensures { IfOk result (λ exec. exec ≡ record { interval = k; base = origin M.rules; entries = [] }) }
     {
-        Ok(Exec {
-            interval: k,
-            spine: Spine::new(alloc, Place(0), EMPTY_HEAD),
-            machine,
-            base_known: nothing(alloc)?,
-            done: VecDeque::new(alloc),
-            last: nothing(alloc)?,
-        })
+        let track = Track::start(alloc, machine, k)?;
+        let shots = first_shot(alloc, track.shot()?)?;
+        Ok(Exec { track, shots })
     }
 
     /// The place of the last entry, or the base.
@@ -77,42 +82,42 @@ impl<M: Machine> Exec<M> {
         ensures now { result.0 ≡ (now_of M.rules self.now).place }
         ensures fits { last_place self.now ≤ 2 ^ 63 }
     {
-        self.spine.end()
+        self.track.end()
     }
 
     /// The place below the first entry that is kept.
     pub fn base(&self) -> Place
         ensures { result.0 ≡ self.now.base.place }
     {
-        self.spine.base()
+        self.track.base()
     }
 
     /// The head at the end.
     pub fn head(&self) -> Digest
         ensures { result ≡ (now_of M.rules self.now).head }
     {
-        self.spine.head()
+        self.track.head()
     }
 
     /// How many places lie between two snapshots.
     pub fn interval(&self) -> u64
         ensures { result ≡ self.now.interval }
     {
-        self.interval
+        self.track.interval()
     }
 
     /// The base, the entries above it and the heads.
     pub fn spine(&self) -> &Spine
         ensures { result.now ≡ stretch_of self.now }
     {
-        &self.spine
+        self.track.spine()
     }
 
     /// The head at a place. `None` exactly outside base to end.
     pub fn head_at(&self, place: Place) -> Option<Digest>
         ensures { result ≡ head_in (stretch_of self.now) place.0 }
     {
-        self.spine.head_at(place)
+        self.track.head_at(place)
     }
 
     /// The entry that leads to a place. `None` exactly outside base + 1 to end.
@@ -120,7 +125,7 @@ impl<M: Machine> Exec<M> {
         ensures entry { option_copied result ≡ entry_in (stretch_of self.now) place.0 }
         ensures in_range { IfSome result (λ e. IsEntryInRange e.now) }
     {
-        self.spine.entry_at(place)
+        self.track.entry_at(place)
     }
 
     /// The reply to the entry that leads to a place. `None` exactly outside base + 1 to end.
@@ -128,10 +133,7 @@ impl<M: Machine> Exec<M> {
         ensures reply { option_copied result ≡ reply_in M.rules self.now place.0 }
         ensures short { IfSome result (λ reply. length reply.now ≤ 1100) }
     {
-        if place.0 <= self.spine.base().0 {
-            return None;
-        }
-        reply_done(&self.done, index_above(self.spine.base(), place))
+        self.track.reply_at(place)
     }
 
     /// What is known of a client's last entry. `None` exactly where it has none.
@@ -139,13 +141,7 @@ impl<M: Machine> Exec<M> {
         ensures known { option_copied result ≡ known_in M.rules self.now client.0 }
         ensures in_range { IfSome result (λ known. IsKnownInRange known.now) }
     {
-        known_at(
-            self.spine.base(),
-            &self.base_known,
-            &self.done,
-            &self.last,
-            client.0 as usize,
-        )
+        self.track.known(client)
     }
 
     /// Runs an entry: the history gets it, and the answer is the reply. The answer is `Err` for want of memory alone:
@@ -161,26 +157,17 @@ impl<M: Machine> Exec<M> {
         ensures err { OnErr result (self.new ≡ self.old) }
         ensures entry { IfErr result (λ refused. refused.0 ≡ e) }
     {
-        if let Err(_) = self.done.reserve(1) {
+        if let Err(_) = self.shots.reserve(1) {
             return Err((e, Want));
         }
-        let (kept, reply) = match apply(&mut self.machine, e.client, e.op.as_slice()) {
-            Ok(replies) => replies,
-            Err(want) => return Err((e, want)),
-        };
-        let (client, stamp) = (e.client, e.stamp);
-        if let Err(refused) = self.spine.push(e) {
-            take_back(&mut self.machine);
-            return Err(refused);
+        let reply = self.track.run(e)?;
+        match self.track.shot() {
+            Ok(shot) => {
+                self.shots.push_back_reserved(shot);
+                Ok(reply)
+            }
+            Err(want) => Err((self.track.unrun_last(), want)),
         }
-        let known = Known {
-            stamp,
-            place: self.spine.end(),
-            head: self.spine.head(),
-            reply: kept,
-        };
-        push_done(&mut self.done, &mut self.last, client, known);
-        Ok(reply)
     }
 
     /// Takes the last entry out again, as if it had never been run. `None` exactly where no entry is kept. Takes no
@@ -192,25 +179,13 @@ impl<M: Machine> Exec<M> {
         ensures none { IfNone result (self.old.entries ≡ []) }
         ensures same { IfNone result (self.new ≡ self.old) }
     {
-        match self.spine.pop() {
+        match self.track.unrun() {
             None => None,
             Some(e) => {
-                pop_done(&mut self.done, &mut self.last);
-                take_back(&mut self.machine);
+                self.shots.pop_back();
                 Some(e)
             }
         }
-    }
-
-    // Goes back over the last entry.
-    fn step_back<L: Ledger>(&mut self, steps: &mut Steps<L>)
-        requires { 0 < length self.old.entries }
-        ensures after { self.new ≡ back_to (last_place self.old - 1) self.old }
-        ensures cost { steps.new ≤ steps.old + 1 }
-    {
-        pop_done(&mut self.done, &mut self.last);
-        self.machine.undo(steps);
-        self.spine.cut_above(Place(self.spine.end().0 - 1));
     }
 
     /// Goes back to a place: the entries above it are as if they had never been run. It can't fail, takes no memory,
@@ -221,65 +196,107 @@ impl<M: Machine> Exec<M> {
         ensures after { self.new ≡ back_to place.0 self.old }
         ensures cost { steps.new + place.0 ≤ steps.old + last_place self.old }
     {
-        while self.end().0 > place.0 {
-            self.step_back(steps);
+        self.track.rollback(place, steps);
+        let above = (place.0 - self.track.base().0) as usize;
+        self.shots.truncate(above + 1);
+    }
+
+    // Moves the base over the first entry, to the next place.
+    fn settle_one(&mut self, next: Place)
+        requires next { next.0 ≡ self.old.base.place + 1 }
+        requires some { 0 < length self.old.entries }
+        ensures { self.new ≡ settled M.rules next.0 self.old }
+    {
+        self.track.settle_one(next);
+        self.shots.pop_front();
+    }
+
+    /// Moves the base to a place: what lies below it is given up. It can't fail, and takes no memory.
+    pub fn settle(&mut self, place: Place)
+        requires above { self.old.base.place ≤ place.0 }
+        requires below { place.0 ≤ last_place self.old }
+        ensures { self.new ≡ settled M.rules place.0 self.old }
+    {
+        while self.base().0 < place.0 {
+            self.settle_one(Place(self.base().0 + 1));
         }
     }
 
-    // How many clients there may be.
-    fn clients(&self) -> u32
-        ensures all { result ≡ length (now_of M.rules self.now).known }
-        ensures many { result ≡ 64 }
+    // The snapshot at a place as it is kept.
+    fn shot_at(&self, place: Place) -> Option<&Shot>
+        ensures { option_copied result ≡ shot_in M.rules self.now place.0 }
     {
-        self.base_known.len() as u32
+        if place.0 < self.track.base().0 {
+            return None;
+        }
+        shot_after(&self.shots, (place.0 - self.track.base().0) as usize)
     }
 
-    // How many clients are known, and how many bytes they take in a snapshot.
-    fn listed_size(&self) -> (u16, usize)
-        ensures count { result.0 ≡ length (listed 0 (now_of M.rules self.now).known) }
-        ensures size { result.1 ≤ 64 * 1154 }
+    /// The snapshot at a place. `None` exactly outside base to end, and between the multiples of the interval.
+    pub fn snapshot_at(&self, place: Place) -> Option<&Bytes>
+        ensures { option_copied result ≡ snapshot_in M.rules self.now place.0 }
     {
-        let mut count = 0;
-        let mut size = 0;
-        for client in 0..self.clients() {
-            match self.known(ClientId(client)) {
-                Some(known) => {
-                    count += 1;
-                    size += KNOWN_BYTES + known.reply.len();
-                }
-                None => {}
-            }
+        match self.shot_at(place) {
+            Some(shot) => Some(&shot.bytes),
+            None => None,
         }
-        (count, size)
     }
 
-    // Writes what is known of each client.
-    fn put_all_known(&self, out: &mut Vec<u8>) -> Result<(), Want>
-        ensures bytes { OnOk result (out.new.items ≡ out.old.items ++ flat_map known_bytes (listed 0 (now_of M.rules self.now).known)) }
-        ensures short { OnOk result (length out.new.items ≤ length out.old.items + 64 * 1154) }
+    /// SHA-256 (FIPS 180-4) of the snapshot at a place. `None` exactly where `snapshot_at` has none.
+    pub fn snapshot_digest_at(&self, place: Place) -> Option<Digest>
+        ensures { result ≡ option_map digest_of_snapshot (snapshot_in M.rules self.now place.0) }
     {
-        for client in 0..self.clients() {
-            match self.known(ClientId(client)) {
-                Some(known) => put_known(out, ClientId(client), known)?,
-                None => {}
-            }
+        match self.shot_at(place) {
+            Some(shot) => Some(shot.digest),
+            None => None,
         }
-        Ok(())
     }
 
     /// The snapshot at the end: what is known of each client, and the machine's state. At most 2,373,862 bytes.
-    #[tactic(auto, unfolding(crate::specs::Snapshot::snapshot_of, zy_wire::specs::Spelling::bytes_of))]
     pub fn snapshot(&self) -> Result<Bytes, Want>
         ensures bytes { IfOk result (λ bytes. bytes ≡ snapshot_of M.rules (now_of M.rules self.now)) }
         ensures short { IfOk result (λ bytes. length bytes ≤ 2373862) }
     {
-        let state = self.machine.state_bytes()?;
-        let (count, size) = self.listed_size();
-        let mut out = Vec::with_capacity(*self.base_known.allocator(), 2 + size + 4 + state.len())?;
-        out.extend_from_slice(&count.to_be_bytes())?;
-        self.put_all_known(&mut out)?;
-        out.extend_from_slice(&(state.len() as u32).to_be_bytes())?;
-        out.extend_from_slice(state.as_slice())?;
-        Ok(Bytes::from(out))
+        self.track.snapshot()
+    }
+
+    // What a snapshot's bytes show, at a place with a head.
+    fn installed(
+        alloc: Global,
+        interval: u64,
+        place: Place,
+        head: Digest,
+        snapshot: &[u8],
+    ) -> Result<Exec<M>, InstallFault>
+        requires least { 4 ≤ interval }
+        requires most { interval ≤ 32 }
+        requires multiple { place.0 % interval ≡ 0 }
+        requires place { place.0 < 2 ^ 62 }
+        ensures ok { IfOk result (λ exec. IsInstalled M.IsState M.rules interval place.0 head snapshot.now exec) }
+        ensures not_state { IsErrOf result NotState → (p : Point M.State) → IsShown M.IsState p → snapshot_of M.rules p ≡ snapshot.now → ⊥ }
+    {
+        let shot = Shot::new(Bytes::from_slice(alloc, snapshot)?);
+        let shots = first_shot(alloc, Some(shot))?;
+        let track = Track::restored(alloc, interval, place, head, snapshot)?;
+        Ok(Exec { track, shots })
+    }
+
+    /// Puts in place what a snapshot's bytes show: the base is then the place with the head, and no entry is above it.
+    /// `NotState` exactly where the bytes are no snapshot. After `Err` all is as it was.
+    pub fn install(
+        &mut self,
+        place: Place,
+        head: Digest,
+        snapshot: &[u8],
+    ) -> Result<(), InstallFault>
+        requires multiple { place.0 % self.old.interval ≡ 0 }
+        requires place { place.0 < 2 ^ 62 }
+        ensures ok { OnOk result (IsInstalled M.IsState M.rules self.old.interval place.0 head snapshot.now self.new) }
+        ensures err { OnErr result (self.new ≡ self.old) }
+        ensures not_state { IsErrOf result NotState → (p : Point M.State) → IsShown M.IsState p → snapshot_of M.rules p ≡ snapshot.now → ⊥ }
+    {
+        let alloc = self.track.allocator();
+        *self = Exec::installed(alloc, self.track.interval(), place, head, snapshot)?;
+        Ok(())
     }
 }

@@ -3,7 +3,7 @@
 ghost use Rattle.std.specs.Prelude.{◌≡◌, ◌+◌, ◌-◌, ◌<◌, ◌≤◌, [], ◌∷◌, ◌++◌, length, IfOk, IfSome, replicate, slice_index_or, slice_set, slice_get, option_map, option_copied};
 ghost use Rattle.std.specs.VecDeque.{deque_len, deque_capacity};
 ghost use Rattle.std.specs.List.{AllByRecursion};
-ghost use Rattle.zy_exec.specs.Trail.{known_above, known_at as kept_of, IsPopped, IsDoneInRange, IsBaseInRange};
+ghost use Rattle.zy_exec.specs.Trail.{known_above, known_at as kept_of, IsPopped, IsSettled, IsDoneInRange, IsBaseInRange};
 ghost use Rattle.zy_exec.specs.Known.{IsKnownInRange};
 
 use std::alloc::Global;
@@ -27,7 +27,7 @@ pub struct Known {
 pub struct Done {
     pub client: ClientId,
     pub known: Known,
-    /// Where the earlier entry of its client stands, if there is one above the base.
+    /// Where the earlier entry of its client stands. A place up to the base, or none, means what was known at the base.
     pub earlier: Option<Place>,
 }
 
@@ -92,7 +92,7 @@ fn base_of(base_known: &[Option<Known>], client: usize) -> Option<&Known>
     }
 }
 
-/// What is known of a client's last entry.
+/// What is known of a client's last entry. A place up to the base means the base.
 pub fn known_at<'a>(
     base: Place,
     base_known: &'a [Option<Known>],
@@ -106,8 +106,8 @@ pub fn known_at<'a>(
     ensures in_range { IfSome result (λ k. IsKnownInRange k.now) }
 {
     match last_of(last, client) {
-        None => base_of(base_known, client),
-        Some(place) => known_done(done, index_above(base, place)),
+        Some(place) if place.0 > base.0 => known_done(done, index_above(base, place)),
+        _ => base_of(base_known, client),
     }
 }
 
@@ -142,5 +142,17 @@ pub fn pop_done(done: &mut VecDeque<Done>, last: &mut Vec<Option<Place>>)
 {
     if let Some(popped) = done.pop_back() {
         last[popped.client.0 as usize] = popped.earlier;
+    }
+}
+
+/// The first entry goes below the base: what is kept of it is now what was known there.
+pub fn settle_done(done: &mut VecDeque<Done>, base_known: &mut Vec<Option<Known>>)
+    requires some { 0 < length done.old.items }
+    requires clients { AllByRecursion IsDoneInRange done.old.items }
+    requires all { length base_known.old.items ≡ 64 }
+    ensures { IsSettled done.old.items done.new.items base_known.old.items base_known.new.items }
+{
+    if let Some(Done { client, known, .. }) = done.pop_front() {
+        base_known[client.0 as usize] = Some(known);
     }
 }

@@ -1,10 +1,14 @@
-ghost use Rattle.std.specs.Prelude.{◌≡◌, ◌<◌, ◌≤◌, ℕ, List, [], ◌∷◌, ◌++◌, length, take};
+ghost use Rattle.std.specs.Prelude.{◌≡◌, ◌<◌, ◌≤◌, ◌^◌, ℕ, List, [], ◌∷◌, ◌++◌, length, take, All};
+ghost use Rattle.zy_base.specs.declared.ids.Digest.{Digest};
 ghost use Rattle.zy_chain.specs.declared.entry.Entry.{Entry};
 ghost use Rattle.zy_chain.specs.Heads.{head_of};
 ghost use Rattle.zy_chain.specs.Places.{head_at, entry_at};
 ghost use Rattle.zy_chain.specs.Stretch.{head_in, entry_in};
 ghost use Rattle.zy_exec.specs.Replay.{origin, along, step, answer_at};
-ghost use Rattle.zy_exec.specs.Kept.{Kept, StandsFor, stretch_of, last_place, now_of, longer, back_to, reply_in};
+ghost use Rattle.zy_exec.specs.Kept.{Kept, StandsFor, stretch_of, last_place, now_of, longer, back_to, settled, reply_in};
+ghost use Rattle.zy_exec.specs.Snapshot.{snapshot_of};
+ghost use Rattle.zy_exec.specs.Shots.{snapshot_in, snapshot_at};
+ghost use Rattle.zy_exec.specs.Installed.{IsShown, IsInstalled, IsRunnable};
 
 use zy_base::Machine;
 
@@ -32,4 +36,23 @@ pub fn places<M: Machine>()
     ensures head { (k : Kept M.State) (history : List Entry) (place : ℕ) → StandsFor M.rules k history → k.base.place ≤ place → head_in (stretch_of k) place ≡ head_at history place }
     ensures entry { (k : Kept M.State) (history : List Entry) (place : ℕ) → StandsFor M.rules k history → k.base.place < place → entry_in (stretch_of k) place ≡ entry_at history place }
     ensures reply { (k : Kept M.State) (history : List Entry) (place : ℕ) → StandsFor M.rules k history → k.base.place < place → reply_in M.rules k place ≡ answer_at M.rules history place }
+{}
+
+/// What a base that moves leaves as it was: where the execution stands, and each history that it stands for. From the
+/// base on, an execution that stands for a history has the history's snapshots.
+pub fn settling<M: Machine>()
+    ensures end { (k : Kept M.State) (place : ℕ) → k.base.place ≤ place → place ≤ last_place k → last_place (settled M.rules place k) ≡ last_place k }
+    ensures now { (k : Kept M.State) (place : ℕ) → now_of M.rules (settled M.rules place k) ≡ now_of M.rules k }
+    ensures base { (k : Kept M.State) (place : ℕ) → k.base.place ≤ place → place ≤ last_place k → (settled M.rules place k).base.place ≡ place }
+    ensures stands { (k : Kept M.State) (history : List Entry) (place : ℕ) → k.base.place ≤ place → place ≤ last_place k → StandsFor M.rules k history → StandsFor M.rules (settled M.rules place k) history }
+    ensures snapshot { (k : Kept M.State) (history : List Entry) (place : ℕ) → StandsFor M.rules k history → k.base.place ≤ place → snapshot_in M.rules k place ≡ snapshot_at M.rules k.interval history place }
+{}
+
+/// What stands after a snapshot was installed: one execution for these bytes at a place with a head. It stands for every
+/// history of that length and head whose snapshot is these bytes.
+pub fn installing<M: Machine>()
+    ensures one { (interval place : ℕ) (head : Digest) (bytes : List ℕ) (j k : Kept M.State) → IsInstalled M.IsState M.rules interval place head bytes j → IsInstalled M.IsState M.rules interval place head bytes k → j ≡ k }
+    ensures shown { (history : List Entry) → All IsRunnable history → length history < 2 ^ 62 → IsShown M.IsState (along M.rules (origin M.rules) history) }
+    ensures stands { (interval place : ℕ) (head : Digest) (bytes : List ℕ) (k : Kept M.State) (history : List Entry) → IsInstalled M.IsState M.rules interval place head bytes k → All IsRunnable history → place < 2 ^ 62
+        → length history ≡ place → head_of history ≡ head → snapshot_of M.rules (along M.rules (origin M.rules) history) ≡ bytes → StandsFor M.rules k history }
 {}

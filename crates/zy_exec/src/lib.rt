@@ -2,14 +2,19 @@
 #![tactic(auto)]
 
 mod exec;
+mod install_fault;
 mod known;
 mod laws;
 mod machine;
+mod row;
+mod shot;
 mod snapshot;
+mod track;
 
 pub use exec::Exec;
+pub use install_fault::InstallFault;
 pub use known::{CLIENTS, Known, nothing};
-pub use laws::{histories, places, points};
+pub use laws::{histories, installing, places, points, settling};
 
 #[cfg(test)]
 mod tests;

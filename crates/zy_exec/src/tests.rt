@@ -1,4 +1,4 @@
-ghost use Rattle.std.specs.Prelude.{◌≡◌, ◌+◌, ◌<◌, ◌≤◌};
+ghost use Rattle.std.specs.Prelude.{◌≡◌, ◌<◌, ◌≤◌};
 ghost use Rattle.zy_exec.specs.Kept.{last_place};
 
 use super::*;
@@ -57,6 +57,62 @@ const SNAPSHOTS: [&[u8]; 5] = [
     b"\x00\x03\x00\x00\x00\x00\x00\x00\x00\x00\x00\x00\x00\x02\x00\x00\x00\x00\x00\x00\x00\x03\x65\x98\xfc\x9d\x9c\xe9\xca\x57\xd9\xf0\xea\xbb\xd7\xc3\xbd\x61\x3f\xd0\x8b\xac\x78\xda\xce\xf0\x8f\x8f\xb0\xbc\x6e\xd3\xcf\x91\x00\x10\x01\x02\x02\x03job\x01\x00\x00\x00\x00\x00\x00\x00\x01\x00\x00\x00\x01\x00\x00\x00\x00\x00\x00\x00\x01\x00\x00\x00\x00\x00\x00\x00\x04\xdb\x54\xa0\x8c\xf7\xbf\x87\x4c\x91\x5b\xfe\x61\x0f\xbf\xfd\x12\x92\xa0\x83\xb6\x37\xc0\xff\xe1\x6f\x7f\xd9\x60\x74\x76\xd4\xb6\x00\x01\x02\x00\x00\x00\x03\x00\x00\x00\x00\x00\x00\x00\x05\x00\x00\x00\x00\x00\x00\x00\x02\x63\xe8\x6f\x85\xfb\x6e\xf2\xb4\x89\x5b\x2e\xa8\x5a\x7d\x14\x83\x7c\x0d\x64\x0c\x97\xec\xaa\x12\x93\x7c\x29\xf5\x70\xdf\x09\x8e\x00\x01\x03\x00\x00\x00\x12\x00\x01\x02\x02\x04lock\x01\x00\x00\x00\x00\x00\x00\x00\x07",
 ];
 
+// SHA-256 of these snapshots.
+const DIGESTS: [&[u8; 32]; 5] = [
+    b"\xba\xf0\x0e\x0b\x9e\x04\xa2\x56\x3e\xe6\x64\x31\x11\x36\xc4\xf8\x4d\x22\xd5\x79\x0e\xa9\x17\x1c\x34\x4e\x60\x93\xd6\xb0\xbd\x12",
+    b"\x59\x18\xd7\xc6\x69\x3a\x96\x33\xcf\x0f\x27\x34\xd8\xb6\x46\x9c\x4d\x31\xd5\x3a\xfb\xb8\x9e\xe6\xa7\x19\x50\x7e\x8f\xe3\x8b\x74",
+    b"\x1c\x38\xfa\x1c\x06\x26\x10\x42\xa8\xb2\xe7\x18\x88\x3b\x21\xfb\x96\x5e\x56\x4f\x83\x69\x7c\x37\xc4\x94\x17\xe5\xed\x4f\x55\xe9",
+    b"\x7d\x0f\xd3\xb6\xa6\x9c\x5f\xf9\x78\xcf\x2a\x64\x7b\x02\xd8\x7c\xf9\x9c\x21\x66\x96\xf4\x2b\x88\xf2\xdd\x9e\x0b\xca\xe2\x69\xcb",
+    b"\xcb\x5b\x46\x97\x6d\xa6\xaf\xc4\xd1\xbd\x52\xa9\x07\xcc\xab\x90\x2f\x5e\x48\x82\x5f\xb7\x4f\xcd\xfe\x81\x45\xdd\x2e\x40\xc8\x1f",
+];
+
+// Of each of these snapshots: the byte without which it is another snapshot, and from where to where a byte may be
+// changed by 128 so that it is another snapshot.
+const OTHERS: [(Option<usize>, &[(usize, usize)]); 5] = [
+    (None, &[]),
+    (Some(55), &[(7, 14), (15, 54), (56, 57), (70, 78)]),
+    (
+        Some(55),
+        &[
+            (7, 14),
+            (15, 54),
+            (56, 57),
+            (62, 69),
+            (70, 109),
+            (111, 112),
+            (125, 133),
+            (141, 149),
+        ],
+    ),
+    (
+        None,
+        &[
+            (7, 14),
+            (15, 54),
+            (56, 72),
+            (77, 84),
+            (85, 124),
+            (126, 127),
+            (141, 149),
+        ],
+    ),
+    (
+        None,
+        &[
+            (7, 14),
+            (15, 54),
+            (56, 72),
+            (77, 84),
+            (85, 124),
+            (126, 127),
+            (132, 139),
+            (140, 179),
+            (181, 182),
+            (196, 204),
+        ],
+    ),
+];
+
 // An execution without entries.
 fn begin(alloc: Global) -> Result<Exec<Space>, Fail> {
     Ok(Exec::start(alloc, Space::empty(alloc)?, 4)?)
@@ -85,28 +141,102 @@ fn run<R: Abort>(
     }
 }
 
-// Goes back to a place. The answer is what that cost: at most a step for each entry above the place.
-fn steps_back<L: Ledger>(exec: &mut Exec<Space>, place: Place, blank: Blank) -> Steps<L>
+// Runs the history, its stamps greater by a number.
+fn run_history<R: Abort>(
+    rt: &R,
+    alloc: Global,
+    exec: &mut Exec<Space>,
+    later: u64,
+) -> Result<(), Fail> {
+    assert!(rt; later < 1 << 32);
+    for (client, stamp, text, _, _) in HISTORY {
+        run(rt, alloc, exec, client, stamp.wrapping_add(later), text)?;
+    }
+    Ok(())
+}
+
+// Goes back to a place.
+fn roll_back<L: Ledger>(exec: &mut Exec<Space>, place: Place, blank: Blank)
     requires name { blank.name ≡ L.name }
     requires parts { blank.parts ≡ L.parts }
     requires some { 0 < blank.parts }
     requires above { exec.old.base.place ≤ place.0 }
     requires below { place.0 ≤ last_place exec.old }
-    ensures { result + place.0 ≤ last_place exec.old }
 {
     let mut steps = Steps::<L>::start(blank);
     exec.rollback(place, &mut steps);
-    steps
 }
 
 // Goes back to a place that must be in range.
-fn go_back<L: Ledger, R: Abort>(rt: &R, exec: &mut Exec<Space>, place: u64, blank: Blank)
-    requires name { blank.name ≡ L.name }
-    requires parts { blank.parts ≡ L.parts }
-    requires some { 0 < blank.parts }
-{
+fn go_back<R: Abort>(rt: &R, exec: &mut Exec<Space>, place: u64) {
     assert!(rt; exec.base().0 <= place && place <= exec.end().0);
-    steps_back::<L>(exec, Place(place), blank);
+    roll_back::<Brand>(exec, Place(place), Blank::new(1));
+}
+
+// Moves the base to a place that must be in range.
+fn settle<R: Abort>(rt: &R, exec: &mut Exec<Space>, place: u64) {
+    assert!(rt; exec.base().0 <= place && place <= exec.end().0);
+    exec.settle(Place(place));
+}
+
+// Installs a snapshot at place 8. The answer is whether it is one.
+fn install<R: Abort>(rt: &R, exec: &mut Exec<Space>, snapshot: &[u8]) -> Result<bool, Fail> {
+    assert_eq!(rt; exec.interval(), 4);
+    match exec.install(Place(8), Digest([7; 32]), snapshot) {
+        Ok(()) => Ok(true),
+        Err(InstallFault::NotState) => Ok(false),
+        Err(InstallFault::Want) => Err(Fail::from(InstallFault::Want)),
+    }
+}
+
+// The place of a client's last entry.
+fn last_of(exec: &Exec<Space>, client: u32) -> Option<u64> {
+    match exec.known(ClientId(client)) {
+        Some(known) => Some(known.place.0),
+        None => None,
+    }
+}
+
+// The same of the first four clients.
+fn lasts_of(exec: &Exec<Space>) -> [Option<u64>; 4] {
+    [
+        last_of(exec, 0),
+        last_of(exec, 1),
+        last_of(exec, 2),
+        last_of(exec, 3),
+    ]
+}
+
+// The snapshot that is kept of a place.
+fn kept_at(exec: &Exec<Space>, place: u64) -> Option<&[u8]> {
+    match exec.snapshot_at(Place(place)) {
+        Some(snapshot) => Some(snapshot.as_slice()),
+        None => None,
+    }
+}
+
+// The client and the stamp of the entry that leads to a place.
+fn entry_at(exec: &Exec<Space>, place: Place) -> Option<(u32, u64)> {
+    match exec.entry_at(place) {
+        Some(entry) => Some((entry.client.0, entry.stamp.0)),
+        None => None,
+    }
+}
+
+// The bytes of the reply to the entry that leads to a place.
+fn reply_at(exec: &Exec<Space>, place: Place) -> Option<&[u8]> {
+    match exec.reply_at(place) {
+        Some(reply) => Some(reply.as_slice()),
+        None => None,
+    }
+}
+
+// Takes the last entry out again. The answer is its client and its stamp.
+fn unrun(exec: &mut Exec<Space>) -> Option<(u32, u64)> {
+    match exec.unrun() {
+        Some(entry) => Some((entry.client.0, entry.stamp.0)),
+        None => None,
+    }
 }
 
 #[test]
@@ -124,7 +254,7 @@ fn entries_above_a_place_are_as_if_never_run(rt: HostRuntime) -> Result<(), Fail
             reply
         );
     }
-    go_back::<Brand, HostRuntime>(&rt, &mut exec, 2, Blank::new(1));
+    go_back(&rt, &mut exec, 2);
     let snapshot = exec.snapshot()?;
     assert!(rt; snapshot.as_slice().starts_with(b"\x00\x02"));
     assert!(rt;
@@ -132,9 +262,7 @@ fn entries_above_a_place_are_as_if_never_run(rt: HostRuntime) -> Result<(), Fail
             b"\x00\x00\x00\x20\x00\x02\x02\x02\x03job\x01\x00\x00\x00\x00\x00\x00\x00\x01\x02\x02\x03job\x01\x00\x00\x00\x00\x00\x00\x00\x02"
         )
     );
-    for (client, known) in [(0, true), (1, true), (2, false), (3, false)] {
-        assert_eq!(rt; exec.known(ClientId(client)).is_some(), known);
-    }
+    assert_eq!(rt; lasts_of(&exec), [Some(1), Some(2), None, None]);
     let reply = run(&rt, alloc, &mut exec, 2, 1, b"inp (\"job\" *)")?;
     assert_eq!(rt; reply.as_slice(), JOB_1);
     Ok(())
@@ -152,18 +280,13 @@ fn snapshots_heads_and_replies(rt: HostRuntime) -> Result<(), Fail> {
         );
         let end = exec.end();
         assert_eq!(rt; exec.head_at(end), Some(Digest(*head)));
-        assert_eq!(rt; exec.reply_at(end).map(|kept| kept.as_slice()), Some(reply));
-        assert_eq!(rt;
-            exec.entry_at(end).map(|e| (e.client.0, e.stamp.0)),
-            Some((client, stamp))
-        );
-        assert_eq!(rt;
-            exec.known(ClientId(client)).map(|known| known.place),
-            Some(end)
-        );
+        assert_eq!(rt; reply_at(&exec, end), Some(reply));
+        assert_eq!(rt; entry_at(&exec, end), Some((client, stamp)));
+        assert_eq!(rt; last_of(&exec, client), Some(end.0));
     }
+    assert_eq!(rt; kept_at(&exec, 4), Some(SNAPSHOTS[4]));
     for (place, snapshot) in SNAPSHOTS.iter().enumerate().rev() {
-        go_back::<Brand, HostRuntime>(&rt, &mut exec, place as u64, Blank::new(1));
+        go_back(&rt, &mut exec, place as u64);
         assert_eq!(rt; exec.end(), Place(place as u64));
         assert_eq!(rt; exec.snapshot()?.as_slice(), *snapshot);
     }
@@ -174,15 +297,11 @@ fn snapshots_heads_and_replies(rt: HostRuntime) -> Result<(), Fail> {
 fn an_entry_is_taken_out_again(rt: HostRuntime) -> Result<(), Fail> {
     let alloc = rt.alloc();
     let mut exec = begin(alloc)?;
-    assert!(rt; exec.unrun().is_none());
+    assert_eq!(rt; unrun(&mut exec), None);
     for ((client, stamp, text, reply, head), snapshot) in HISTORY.into_iter().zip(SNAPSHOTS) {
         run(&rt, alloc, &mut exec, client, stamp, text)?;
         assert_eq!(rt; exec.head(), Digest(*head));
-        let entry = exec.unrun();
-        assert_eq!(rt;
-            entry.map(|e| (e.client.0, e.stamp.0)),
-            Some((client, stamp))
-        );
+        assert_eq!(rt; unrun(&mut exec), Some((client, stamp)));
         assert_eq!(rt; exec.snapshot()?.as_slice(), snapshot);
         let again = run(&rt, alloc, &mut exec, client, stamp, text)?;
         assert_eq!(rt; again.as_slice(), reply);
@@ -194,9 +313,7 @@ fn an_entry_is_taken_out_again(rt: HostRuntime) -> Result<(), Fail> {
 fn nothing_outside_the_range(rt: HostRuntime) -> Result<(), Fail> {
     let alloc = rt.alloc();
     let mut exec = begin(alloc)?;
-    for (client, stamp, text, _, _) in HISTORY {
-        run(&rt, alloc, &mut exec, client, stamp, text)?;
-    }
+    run_history(&rt, alloc, &mut exec, 0)?;
     for (place, has_head, has_entry) in [
         (0, true, false),
         (1, true, true),
@@ -208,17 +325,135 @@ fn nothing_outside_the_range(rt: HostRuntime) -> Result<(), Fail> {
         assert_eq!(rt; exec.entry_at(Place(place)).is_some(), has_entry);
         assert_eq!(rt; exec.reply_at(Place(place)).is_some(), has_entry);
     }
-    for (client, stamp) in [
-        (0, Some(2)),
-        (1, Some(1)),
-        (2, None),
-        (3, Some(5)),
-        (64, None),
-    ] {
-        assert_eq!(rt;
-            exec.known(ClientId(client)).map(|known| known.stamp.0),
-            stamp
-        );
+    assert_eq!(rt; lasts_of(&exec), [Some(3), Some(4), None, Some(2)]);
+    assert_eq!(rt; last_of(&exec, 64), None);
+    Ok(())
+}
+
+#[test]
+fn snapshots_are_installed(rt: HostRuntime) -> Result<(), Fail> {
+    let alloc = rt.alloc();
+    let mut exec = begin(alloc)?;
+    assert_eq!(rt; kept_at(&exec, 0), Some(SNAPSHOTS[0]));
+    for (snapshot, digest) in SNAPSHOTS.into_iter().zip(DIGESTS) {
+        assert!(rt; install(&rt, &mut exec, snapshot)?);
+        assert_eq!(rt; (exec.base(), exec.end()), (Place(8), Place(8)));
+        assert_eq!(rt; exec.head(), Digest([7; 32]));
+        assert_eq!(rt; exec.snapshot()?.as_slice(), snapshot);
+        assert_eq!(rt; kept_at(&exec, 8), Some(snapshot));
+        assert_eq!(rt; exec.snapshot_digest_at(Place(8)), Some(Digest(*digest)));
     }
+    Ok(())
+}
+
+#[test]
+fn entries_are_run_on_an_installed_snapshot(rt: HostRuntime) -> Result<(), Fail> {
+    let alloc = rt.alloc();
+    let mut exec = begin(alloc)?;
+    assert!(rt; install(&rt, &mut exec, SNAPSHOTS[4])?);
+    let reply = run(&rt, alloc, &mut exec, 1, 2, b"inp (\"lock\" *)")?;
+    assert_eq!(rt;
+        reply.as_slice(),
+        b"\x01\x02\x02\x04lock\x01\x00\x00\x00\x00\x00\x00\x00\x07".as_slice()
+    );
+    assert_eq!(rt; lasts_of(&exec), [Some(3), Some(9), None, Some(2)]);
+    Ok(())
+}
+
+// Whether bytes are a snapshot that are cut into two, with others in between.
+fn is_taken<R: Abort>(
+    rt: &R,
+    alloc: Global,
+    exec: &mut Exec<Space>,
+    front: &[u8],
+    middle: &[u8],
+    back: &[u8],
+) -> Result<bool, Fail> {
+    let mut bytes = Vec::from_slice(alloc, front)?;
+    bytes.extend_from_slice(middle)?;
+    bytes.extend_from_slice(back)?;
+    install(rt, exec, &bytes)
+}
+
+#[test]
+fn bytes_that_are_no_snapshot(rt: HostRuntime) -> Result<(), Fail> {
+    let alloc = rt.alloc();
+    let mut exec = begin(alloc)?;
+    for (snapshot, (shorter, changed)) in SNAPSHOTS.into_iter().zip(OTHERS) {
+        for at in 0..snapshot.len() {
+            let (front, back) = snapshot.split_at(at);
+            let cut = is_taken(&rt, alloc, &mut exec, front, b"", &back[1..])?;
+            assert_eq!(rt; cut, shorter == Some(at));
+            assert!(rt; !is_taken(&rt, alloc, &mut exec, front, b"\x00", back)?);
+            let other = is_taken(&rt, alloc, &mut exec, front, &[back[0] ^ 128], &back[1..])?;
+            assert_eq!(rt;
+                other,
+                changed.iter().any(|range| range.0 <= at && at < range.1)
+            );
+        }
+        assert!(rt; !is_taken(&rt, alloc, &mut exec, snapshot, b"\x00", b"")?);
+    }
+    Ok(())
+}
+
+// A snapshot of an empty space with two clients, each by its number, stamp and place.
+fn two_clients(alloc: Global, rows: [(u32, u64, u64); 2]) -> Result<Vec<u8>, Fail> {
+    let mut bytes = Vec::from_slice(alloc, b"\x00\x02")?;
+    for (client, stamp, place) in rows {
+        bytes.extend_from_slice(&client.to_be_bytes())?;
+        bytes.extend_from_slice(&stamp.to_be_bytes())?;
+        bytes.extend_from_slice(&place.to_be_bytes())?;
+        bytes.extend_from_slice(&[9; 32])?;
+        bytes.extend_from_slice(b"\x00\x00")?;
+    }
+    bytes.extend_from_slice(b"\x00\x00\x00\x02\x00\x00")?;
+    Ok(bytes)
+}
+
+#[test]
+fn clients_of_a_snapshot_rise_below_64(rt: HostRuntime) -> Result<(), Fail> {
+    let alloc = rt.alloc();
+    let mut exec = begin(alloc)?;
+    let last = (1 << 62) - 1;
+    for (rows, is_snapshot) in [
+        ([(0, 1, 1), (3, 5, 2)], true),
+        ([(3, 5, 2), (0, 1, 1)], false),
+        ([(3, 5, 2), (3, 5, 2)], false),
+        ([(62, 1, 1), (63, 1, 2)], true),
+        ([(63, 1, 1), (64, 1, 2)], false),
+        ([(0, 0, 1), (1, last, last)], true),
+        ([(0, 0, 0), (1, 0, 1)], false),
+        ([(0, 0, 1), (1, last + 1, 1)], false),
+        ([(0, 0, 1), (1, 0, last + 1)], false),
+    ] {
+        let bytes = two_clients(alloc, rows)?;
+        assert_eq!(rt; install(&rt, &mut exec, &bytes)?, is_snapshot);
+    }
+    Ok(())
+}
+
+// Which of the first places have a snapshot.
+fn places_kept(exec: &Exec<Space>) -> [bool; 5] {
+    [0, 4, 8, 10, 12].map(|place| exec.snapshot_at(Place(place)).is_some())
+}
+
+#[test]
+fn the_base_moves(rt: HostRuntime) -> Result<(), Fail> {
+    let alloc = rt.alloc();
+    let mut exec = begin(alloc)?;
+    for round in 0..3 {
+        run_history(&rt, alloc, &mut exec, 8 * round)?;
+    }
+    assert_eq!(rt; places_kept(&exec), [true, true, true, false, true]);
+    settle(&rt, &mut exec, 4);
+    assert_eq!(rt; places_kept(&exec), [false, true, true, false, true]);
+    settle(&rt, &mut exec, 8);
+    assert_eq!(rt; places_kept(&exec), [false, false, true, false, true]);
+    assert_eq!(rt; (exec.base(), exec.end()), (Place(8), Place(12)));
+    go_back(&rt, &mut exec, 8);
+    assert_eq!(rt; places_kept(&exec), [false, false, true, false, false]);
+    assert_eq!(rt; lasts_of(&exec), [Some(7), Some(8), None, Some(6)]);
+    let snapshot = exec.snapshot()?;
+    assert_eq!(rt; kept_at(&exec, 8), Some(snapshot.as_slice()));
     Ok(())
 }

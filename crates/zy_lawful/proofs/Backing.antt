@@ -27,6 +27,10 @@ all_from P [] all k d within = absurd (omega arith)
 all_from P (x ∷ xs) all zero d within = all.0
 all_from P (x ∷ xs) all (suc k) d within = all_from P xs all.1 k d (omega arith)
 
+pub all_listed : {A : Type 0} (P : A → Type 0) (xs : List A) → All P xs → AllByRecursion P xs
+all_listed P [] all = tt
+all_listed P (x ∷ xs) all = (all 0 x (omega arith), all_listed P xs (λ k d within. all (suc k) d (omega arith)))
+
 -- ---- who signed
 
 number_of : Party → ℕ

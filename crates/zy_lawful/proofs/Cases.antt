@@ -1,5 +1,5 @@
 -- What a step can come to. What holds of each of these outcomes holds of the outcome of each event.
-use Rattle.std.proofs.Common.{◌≡◌, ℕ, ◌+◌, ◌<◌, ◌≤◌, Bool, true, false, List, [], ◌∷◌, Option, Some, None, refl, sym, ap, ◌∙◌, subst, arith, inl, inr, ltb-false, ltb-true, lt-ltb}
+use Rattle.std.proofs.Common.{◌≡◌, ℕ, ◌+◌, ◌≤◌, Bool, true, false, List, [], ◌∷◌, Option, Some, None, refl, sym, ap, ◌∙◌, arith, inl, inr, ltb-false, lt-ltb}
 use Rattle.std.specs.Prelude.{option_map, nat_le, nat_lt, nat_eq, if◌then◌else◌, Result, Ok, Err}
 use Rattle.std.proofs.lemmas.Bool.{cases_lt, eqb-false}
 use Rattle.zy_base.specs.Machine.{Rules}
@@ -22,6 +22,13 @@ use Rattle.zy_cert.proofs.CertificateLemmas.{certified-taken}
 use Rattle.zy_cert.specs.Certificates.{IsCertificate, certified}
 use Rattle.zy_cert.specs.Equal.{same_spec, spec-equal, digest-equal}
 use Rattle.zy_cert.specs.Points.{point_of_spec}
+use Rattle.zy_cert.specs.Signers.{has_signer}
+use Rattle.zy_check.proofs.JudgingLemmas.{spec-new, check-new}
+use Rattle.zy_check.specs.Board as put_in
+use Rattle.zy_check.specs.Board.{Board, specs_at, checks_at}
+use Rattle.zy_check.specs.Judging.{is_refused, judge_spec, judge_check}
+use Rattle.zy_check.specs.declared.kept.Kept.{Kept}
+use Rattle.zy_check.specs.declared.kept.Kept.TheVariants as answers
 use Rattle.zy_admit.specs.Judging.{newer, entry_of, same_digest, same_order, judge_at_end, judge_fresh, judge_beside, judge_in}
 use Rattle.zy_admit.specs.declared.judging.Admit.{Admit}
 use Rattle.zy_admit.specs.declared.judging.Admit.TheVariants as admits
@@ -35,6 +42,7 @@ use Rattle.zy_parts.specs.Numbers as numbers
 use Rattle.zy_parts.specs.Statements.{spec_fields}
 use Rattle.zy_parts.specs.declared.signed.Signed.{Signed}
 use Rattle.zy_parts.specs.declared.statements.Ask.{Ask}
+use Rattle.zy_parts.specs.declared.statements.Check.{Check}
 use Rattle.zy_parts.specs.declared.statements.Confirm.{Confirm}
 use Rattle.zy_parts.specs.declared.statements.Hole.{Hole}
 use Rattle.zy_parts.specs.declared.statements.Local.{Local}
@@ -44,24 +52,26 @@ use Rattle.zy_seal.specs.Screening.{screen}
 use Rattle.zy_seal.specs.Sealing.{sealed_by}
 use Rattle.zy_exec.specs.declared.known.Known.{Known}
 use Rattle.zy_exec.specs.Kept.{known_in, last_place, stretch_of}
-use Rattle.zy_table.specs.Commits.{is_further, with_certificate, local_at, local_said, send_local, say_local, commit_as, commit_beside, commit_judged, commit}
+use Rattle.zy_table.specs.Checkpoints.{checkpoint, kept_as, response, with_board}
+use Rattle.zy_table.specs.Commits.{local_at, local_said, locals_owed, give_local, commit_as, commit_beside, commit_judged, commit}
 use Rattle.zy_table.specs.Confirms.{order_again, confirm_after, confirm}
 use Rattle.zy_table.specs.Deeds.{Outcome, begin, refused, ends, act}
 use Rattle.zy_admit.specs.Orders.{orders_from}
+use Rattle.zy_table.specs.Gathering.{checks_owed, gather_at, own_at}
 use Rattle.zy_table.specs.Holes.{fill_with, fill_hole, ask_again}
 use Rattle.zy_table.specs.Orders.{order_as, order, position_of, owes_hole, ask_for_missing}
 use Rattle.zy_table.specs.Requests.{said_already, respond_as, sealed_order, ordered, request_at_primary, request_waits, forward, request_at_backup, tell_primary, new_request, request_after, is_behind, request, response_of}
 use Rattle.zy_table.specs.Roles.{in_role, view_cause}
-use Rattle.zy_table.specs.Running.{run, spec_of}
+use Rattle.zy_table.specs.Running.{run, signs_of, spec_of}
 use Rattle.zy_table.specs.State.{State, own_view, is_leaving, is_primary, window_of, stood_of, leaves_of, spent, with_spec, spec_to, pending_of}
 use Rattle.zy_table.specs.Step.{unless, commit_in_view, row, hear, decoded, timer, step}
 use Rattle.zy_table.specs.declared.deeds.Act.TheVariants.{Says}
 use Rattle.zy_table.specs.declared.deeds.Body.TheVariants as bodies
-use Rattle.zy_lawful.proofs.Committed.{IsFurthest}
-use Rattle.zy_lawful.proofs.Runs.{by_test}
-use Rattle.zy_lawful.specs.Tied.{IsHeldFrom}
+use Rattle.zy_lawful.proofs.Committed.{IsFurthest, by_certificate, holding}
+use Rattle.zy_lawful.proofs.Own.{by_test}
 use Rattle.zy_table.specs.declared.deeds.Sent.{Sent}
 use Rattle.zy_table.specs.declared.kept.Certificate.{Certificate}
+use Rattle.zy_table.specs.declared.kept.OwnCheckpoint.{OwnCheckpoint}
 use Rattle.zy_table.specs.declared.kept.Pending.{Pending}
 use Rattle.zy_base.specs.declared.cause.Cause.TheVariants as causes
 use Rattle.zy_base.specs.declared.step.Answer.TheVariants.{Taken, Held}
@@ -117,30 +127,34 @@ IsNew R s ask = newer ask.stmt.stamp (option_map (λ (known : Known). known.stam
 abbrev pub HasLeaves : {S : Type 0} → State S → ℕ → Type 0
 HasLeaves s n = nat_le n (leaves_of s) ≡ true
 
--- another certificate is held
-abbrev pub holding : {S : Type 0} → State S → Option Certificate → State S
-holding s held = record s { certificate = held }
-
 -- a local commit in the own view, of a place that the responses certify and of the own head there
 pub record IsOwnCommit {S : Type 0} (s : State S) (specs : List (Signed Spec)) (local : Local) : Type 0 where
   pub view : local.view.0 ≡ own_view s
   pub proves : certified same_spec point_of_spec s.counts.cert specs ≡ Ok (local.view, local.place, local.head)
   pub own : head_in (stretch_of s.kept) local.place.0 ≡ Some local.head
 
+-- a response or a checkpoint that comes is kept, as the first of its signer for its place
+pub data IsPut {S : Type 0} (s : State S) (Heard : Frame → Type 0) (board : Board) : Type 0 where
+  new_spec : (vote : Signed Spec) (reply : List ℕ) (with_order : Option (Signed OrderStatement)) → Heard (frames.SpecResponse vote reply with_order)
+      → has_signer vote.by (specs_at s.board vote.stmt.place.0) ≡ false → board ≡ put_in.with_spec s.board vote → IsPut s Heard board
+  new_check : (vote : Signed Check) → Heard (frames.Checkpoint vote) → has_signer vote.by (checks_at s.board vote.stmt.place.0) ≡ false → board ≡ put_in.with_check s.board vote → IsPut s Heard board
+
 -- What is to be shown of a step's outcomes, where Heard holds of each frame that is answered by its row.
 pub record Cases {S : Type 0} (R : Rules S) (s : State S) (Heard : Frame → Type 0) (P : Outcome S → Type 0) : Type 0 where
   pub refuses : (cause : Cause) → P (refused cause s)
   pub stays : (sent : List Sent) → P (record { answer = Taken; state = s; deeds = record { sent = sent; acts = [] } })
   pub responds : (ask : Signed Ask) (known : Known) → known_in R s.kept (entry_of ask).client.0 ≡ Some known → HasLeaves s 1 → P (responded R s (spec_of (own_view s) ask known) known)
-  pub orders : (ask : Signed Ask) → Heard (frames.Request ask) → is_primary s ≡ true → IsNew R s ask → HasLeaves s 2 → P (ends Taken (run R (sealed_order R s ask) (ordered R s ask)))
+  pub orders : (ask : Signed Ask) → Heard (frames.Request ask) → is_primary s ≡ true → IsNew R s ask → HasLeaves s (signs_of R s ask + 1) → P (ends Taken (run R (sealed_order R s ask) (ordered R s ask)))
   pub waits : (ask : Signed Ask) → HasLeaves s 1 → P (ends Taken (request_waits R s ask))
-  pub takes : (o : OrderFrame) → Heard (frames.Order o) → IsNew R s o.ask → HasLeaves s 1 → P (ends Taken (run R o (begin (record (with_held s o) { hole = None }))))
+  pub takes : (o : OrderFrame) → Heard (frames.Order o) → IsNew R s o.ask → HasLeaves s (signs_of R s o.ask) → P (ends Taken (run R o (begin (record (with_held s o) { hole = None }))))
   pub asks : (o : OrderFrame) → Heard (frames.Order o) → HasLeaves s 1 → P (ends Held (ask_for_missing R (with_held s o)))
   pub holds : (o : OrderFrame) → Heard (frames.Order o) → P (ends Held (begin (with_held s o)))
-  pub commits : (specs : List (Signed Spec)) (client : ClientId) (local : Local) (held : Option Certificate) → Heard (frames.Commit specs) → IsOwnCommit s specs local → IsFurthest local.place specs s.certificate held
-      → HasLeaves s 1 → P (ends Taken (say_local R client local (holding s held)))
-  pub commits_again : (specs : List (Signed Spec)) (client : ClientId) (local : Local) (held : Option Certificate) (said : Signed Local) → Heard (frames.Commit specs) → IsOwnCommit s specs local
-      → IsFurthest local.place specs s.certificate held → P (ends Taken (send_local client said (begin (holding s held))))
+  pub commits : (specs : List (Signed Spec)) (client : ClientId) (local : Local) (said : Option (Signed Local)) (held : Option Certificate) → Heard (frames.Commit specs) → IsOwnCommit s specs local
+      → IsFurthest local.place specs s.certificate held → HasLeaves s (locals_owed said + checks_owed (holding s held) (own_at R s local.place.0) true)
+      → P (ends Taken (gather_at R (own_at R s local.place.0) true (give_local R client local said (holding s held))))
+  pub keeps : (board : Board) → IsPut s Heard board → P (ends Held (begin (with_board s board)))
+  pub gathers : (place : ℕ) (board : Board) → IsPut s Heard board → HasLeaves s (checks_owed (with_board s board) (own_at R s place) false)
+      → P (ends Taken (gather_at R (own_at R s place) false (begin (with_board s board))))
   -- a request that a backup passes on may do what one of its client may
   pub confirms : (confirm : Signed Confirm) (ask : Signed Ask) → Heard (frames.ConfirmReq confirm ask) → Heard (frames.Request ask)
 
@@ -154,7 +168,7 @@ module _ {S : Type 0} (R : Rules S) (s : State S) (Heard : Frame → Type 0) (P 
   primary_case : (ask : Signed Ask) → Heard (frames.Request ask) → is_primary s ≡ true → IsNew R s ask → P (request_at_primary R s ask)
   primary_case ask heard primary new =
       by_test P (nat_lt (last_place s.kept) (window_of s)) _ _
-      (λ room. by_test P (nat_le 2 (leaves_of s)) _ _ (of.orders ask heard primary new) (λ none. of.refuses causes.KeySpent))
+      (λ room. by_test P (nat_le (signs_of R s ask + 1) (leaves_of s)) _ _ (of.orders ask heard primary new) (λ none. of.refuses causes.KeySpent))
       (λ full. of.refuses (causes.WindowFull (record { 0 = window_of s })))
 
   forward_case : (ask : Signed Ask) → P (forward R s ask)
@@ -213,28 +227,17 @@ module _ {S : Type 0} (R : Rules S) (s : State S) (Heard : Frame → Type 0) (P 
 
   -- ---- COMMIT
 
-  further : (place : Place) (specs : List (Signed Spec)) (before : Option Certificate) → is_further place before ≡ true → (c : Certificate) → before ≡ Some c → c.place.0 < place.0
-  further place specs None is c before = absurd cc
-  further place specs (Some kept) is c before = let same : kept ≡ c = cc in subst (λ (d : Certificate). d.place.0 < place.0) same (ltb-true kept.place.0 place.0 is)
-
-  not_further : (place : Place) (before : Option Certificate) → is_further place before ≡ false → IsHeldFrom before place.0
-  not_further place None is = absurd cc
-  not_further place (Some kept) is = record { certificate = kept; is = refl; far = ltb-false kept.place.0 place.0 is }
-
-  -- what holds whichever certificate is held then
-  by_certificate : (Q : State S → Type 0) (place : Place) (specs : List (Signed Spec)) → ((held : Option Certificate) → IsFurthest place specs s.certificate held → Q (holding s held)) → Q (with_certificate s place specs)
-  by_certificate Q place specs holds =
-      by_test Q (is_further place s.certificate) _ _
-      (λ is. holds (Some (record { place = place; specs = specs })) (IsFurthest.came refl (further place specs s.certificate is)))
-      (λ is. holds s.certificate (IsFurthest.stays refl (not_further place s.certificate is)))
-
-  commit_as_case : (specs : List (Signed Spec)) (client : ClientId) (local : Local) (said : Option (Signed Local)) → Heard (frames.Commit specs) → IsOwnCommit s specs local → P (commit_as R s specs client local said)
-  commit_as_case specs client local None heard own =
-      by_test P (nat_le 1 (leaves_of s)) _ _
-      (λ left. by_certificate (λ (s' : State S). P (ends Taken (say_local R client local s'))) local.place specs (λ held furthest. of.commits specs client local held heard own furthest left))
-      (λ none. of.refuses causes.KeySpent)
-  commit_as_case specs client local (Some said) heard own =
-      by_certificate (λ (s' : State S). P (ends Taken (send_local client said (begin s')))) local.place specs (λ held furthest. of.commits_again specs client local held said heard own furthest)
+  commit_as_case : (specs : List (Signed Spec)) (client : ClientId) (local : Local) (said : Option (Signed Local)) → Heard (frames.Commit specs) → IsOwnCommit s specs local
+      → P (commit_as R s specs client local said (own_at R s local.place.0))
+  commit_as_case specs client local said heard own =
+      let mine : Option OwnCheckpoint = own_at R s local.place.0 in
+      by_certificate s
+      (λ (s' : State S). P (if nat_le (locals_owed said + checks_owed s' mine true) (leaves_of s) then ends Taken (gather_at R mine true (give_local R client local said s')) else refused causes.KeySpent s))
+      local.place specs
+      (λ held furthest.
+      by_test P (nat_le (locals_owed said + checks_owed (holding s held) mine true) (leaves_of s)) _ _
+      (λ left. of.commits specs client local said held heard own furthest left)
+      (λ none. of.refuses causes.KeySpent))
 
   same_head : (own head : Digest) → same_digest own head ≡ true → own ≡ head
   same_head own head is = (digest-equal own head).0 is
@@ -269,11 +272,31 @@ module _ {S : Type 0} (R : Rules S) (s : State S) (Heard : Frame → Type 0) (P 
       (λ inside. commit_judged_case (first ∷ others) first.stmt.client (certified same_spec point_of_spec s.counts.cert (first ∷ others)) heard
       (λ p is. sym (first_view first others p is) ∙ view) refl))
 
+  -- ---- SPEC-RESPONSE and CHECKPOINT
+
+  kept_case : (place : ℕ) (answer : Kept) (board : Board) → (is_refused answer ≡ false → IsPut s Heard board) → P (kept_as R s (own_at R s place) answer board)
+  kept_case place answers.Held board put = of.keeps board (put refl)
+  kept_case place (answers.Kept number) board put =
+      by_test P (nat_le (checks_owed (with_board s board) (own_at R s place) false) (leaves_of s)) _ _ (λ left. of.gathers place board (put refl) left) (λ none. of.refuses causes.KeySpent)
+  kept_case place (answers.Refused cause) board put = of.refuses cause
+
+  response_case : (vote : Signed Spec) (reply : List ℕ) (with_order : Option (Signed OrderStatement)) → Heard (frames.SpecResponse vote reply with_order) → P (response R s vote)
+  unfolding response
+  response_case vote reply with_order heard =
+      let own : Option Spec = option_map (λ (o : OwnCheckpoint). o.spec) (own_at R s vote.stmt.place.0) in
+      kept_case vote.stmt.place.0 (judge_spec s.board vote own) (put_in.with_spec s.board vote) (λ kept. IsPut.new_spec vote reply with_order heard (spec-new s.board vote own kept) refl)
+
+  checkpoint_case : (vote : Signed Check) → Heard (frames.Checkpoint vote) → P (checkpoint R s vote)
+  unfolding checkpoint
+  checkpoint_case vote heard =
+      let own : Option Check = option_map (λ (o : OwnCheckpoint). o.check) (own_at R s vote.stmt.place.0) in
+      kept_case vote.stmt.place.0 (judge_check s.board vote own) (put_in.with_check s.board vote) (λ kept. IsPut.new_check vote heard (check-new s.board vote own kept) refl)
+
   -- ---- ORDER
 
   order_as_case : (o : OrderFrame) (a : Admit) → judge_in s.orders o.order.stmt o.ask (position_of R s o) ≡ a → Heard (frames.Order o) → P (order_as R s o a)
   order_as_case o admits.Next is heard =
-      by_test P (nat_le 1 (leaves_of s)) _ _ (of.takes o heard (next_is_newer s.orders o.order.stmt o.ask (position_of R s o) is)) (λ none. of.refuses causes.KeySpent)
+      by_test P (nat_le (signs_of R s o.ask) (leaves_of s)) _ _ (of.takes o heard (next_is_newer s.orders o.order.stmt o.ask (position_of R s o) is)) (λ none. of.refuses causes.KeySpent)
   order_as_case o admits.Held is heard =
       by_test P (owes_hole s) _ _ (λ owes. by_test P (nat_le 1 (leaves_of s)) _ _ (of.asks o heard) (λ none. of.refuses causes.KeySpent)) (λ asked. of.holds o heard)
   order_as_case o (admits.Refused cause) is heard = of.refuses cause
@@ -328,7 +351,7 @@ module _ {S : Type 0} (R : Rules S) (s : State S) (Heard : Frame → Type 0) (P 
   row_case : (frame : Frame) → Heard frame → P (row R s frame)
   row_case (frames.Request ask) heard = request_case ask heard
   row_case (frames.Order both) heard = unless_case (view_cause s both.order.stmt.view.0) (order R s both) (λ current. order_case both heard)
-  row_case (frames.SpecResponse spec reply with_order) heard = of.refuses causes.WrongRole
+  row_case (frames.SpecResponse spec reply with_order) heard = unless_case (view_cause s spec.stmt.view.0) (response R s spec) (λ current. response_case spec reply with_order heard)
   row_case (frames.Commit specs) heard = commit_in_view_case specs heard
   row_case (frames.LocalCommit local) heard = of.refuses causes.WrongRole
   row_case (frames.ConfirmReq confirmed ask) heard =
@@ -336,7 +359,7 @@ module _ {S : Type 0} (R : Rules S) (s : State S) (Heard : Frame → Type 0) (P 
   row_case (frames.FillHole hole) heard = unless_case (view_cause s hole.stmt.view.0) (fill_hole s hole) (λ current. fill_hole_case hole)
   row_case (frames.Hate hate) heard = of.refuses causes.WrongRole
   row_case (frames.Pom first second) heard = of.refuses causes.WrongRole
-  row_case (frames.Checkpoint check) heard = of.refuses causes.WrongRole
+  row_case (frames.Checkpoint check) heard = unless_case (view_cause s check.stmt.view.0) (checkpoint R s check) (λ current. checkpoint_case check heard)
 
   hear_case : (frame : Frame) → (in_role s frame ≡ true → Heard frame) → P (hear R s frame)
   hear_case frame heard = by_test P (in_role s frame) _ _ (λ role. row_case frame (heard role)) (λ wrong. of.refuses causes.WrongRole)

@@ -8,7 +8,7 @@ use Rattle.zy_law.specs.World.{World}
 use Rattle.zy_lawful.specs.Acts.{acts_of, world_after, history_after}
 use Rattle.zy_lawful.specs.Tied.{IsTied, IsHonestStep}
 use Rattle.zy_lawful.proofs.Goes.{lead_nowhere}
-use Rattle.zy_lawful.proofs.Runs.{IsTiedGoing}
+use Rattle.zy_lawful.proofs.Going.{IsTiedGoing}
 use Rattle.zy_lawful.proofs.Rows.{step_keeps}
 use Rattle.zy_table.specs.State.{State, own_view}
 use Rattle.zy_table.specs.Step.{step}
@@ -33,6 +33,7 @@ module _ {S : Type 0} (R : Rules S) (w : World) (r : ℕ) (s : State S) (h : Lis
         };
         ordered = honest.tied.ordered;
         committed = honest.tied.committed;
+        board = honest.tied.board;
       }
 
   after : IsTiedGoing R w r (own_view s) (length (w.past r) - 1) h (step R s event).deeds.acts (step R s event).state
@@ -44,6 +45,6 @@ module _ {S : Type 0} (R : Rules S) (w : World) (r : ℕ) (s : State S) (h : Lis
   pub tied_after : IsTied R (world_after w r s h (step R s event)) r (step R s event).state (history_after h (step R s event).deeds.acts)
   tied_after =
       let going = after.going in
-      let there : IsTied R going.world r (step R s event).state going.now = record { standing = going.standing; ordered = after.ordered; committed = after.committed } in
+      let there : IsTied R going.world r (step R s event).state going.now = record { standing = going.standing; ordered = after.ordered; committed = after.committed; board = after.board } in
       subst (λ (v : World). IsTied R v r (step R s event).state (history_after h (step R s event).deeds.acts)) (sym going.lead.world)
       (subst (λ (l : List Entry). IsTied R going.world r (step R s event).state l) (sym going.lead.history) there)

@@ -1,8 +1,14 @@
 pub mod Records
+pub mod Own
 pub mod Backing
 pub mod Goes
 pub mod OneEntry
 pub mod Committed
+pub mod KeptVotes
+pub mod Going
+pub mod Follow
+pub mod Gathers
+pub mod Owed
 pub mod Runs
 pub mod Cases
 pub mod Rows

@@ -1,43 +1,44 @@
 -- What a replica that stands in the world may say there, and where it may stand next.
-use Rattle.std.proofs.Common.{◌≡◌, ℕ, ◌+◌, ◌-◌, ◌%◌, ◌<◌, ◌≤◌, inl, inr, Bool, true, false, cond, ◌||◌, List, [], ◌∷◌, ◌++◌, length, take, drop, get_or, Option, Some, None, refl, sym, ap, ◌∙◌, subst, arith, eq-eqb, ltb-true}
-use Rattle.std.specs.Prelude.{slice_get, option_map, unwrap_or, fold, nat_lt, if◌then◌else◌}
+use Rattle.std.proofs.Common.{◌≡◌, ℕ, ◌+◌, ◌-◌, ◌%◌, ◌<◌, ◌≤◌, inl, inr, Bool, true, cond, List, [], ◌∷◌, ◌++◌, length, take, drop, get_or, Option, Some, None, refl, sym, ap, ◌∙◌, subst, arith, eq-eqb, ltb-true}
+use Rattle.std.specs.Prelude.{slice_get, option_map, unwrap_or, fold}
 use Rattle.std.specs.List.{AllByRecursion}
 use Rattle.std.proofs.lemmas.List.{length-append, take-append-drop, length-take-le}
-use Rattle.std.proofs.lemmas.Bool.{cases_lt, or_parts, ltb-false}
+use Rattle.std.proofs.lemmas.Bool.{cases_lt}
 use Rattle.std.proofs.lemmas.Option.{same_Some, slice_get_within}
 use Rattle.sha2.specs.Sha256.{sha256}
 use Rattle.zy_base.specs.Machine.{Rules}
 use Rattle.zy_base.specs.declared.ids.Digest.{Digest}
 use Rattle.zy_base.specs.Step.{view_of}
 use Rattle.zy_base.specs.declared.ids.ClientId.{ClientId}
+use Rattle.zy_base.specs.declared.ids.Party.TheVariants.{Replica}
 use Rattle.zy_base.specs.declared.ids.ReplicaId.{ReplicaId}
 use Rattle.zy_base.specs.declared.step.Mode.{Mode}
 use Rattle.zy_base.specs.declared.ids.Stamp.{Stamp}
 use Rattle.zy_chain.specs.declared.entry.Entry.{Entry}
 use Rattle.zy_chain.specs.Entries.{digest_of_entry}
 use Rattle.zy_chain.specs.Heads.{empty_head, head_of}
-use Rattle.zy_chain.specs.Places.{head_at}
-use Rattle.zy_chain.specs.Stretch.{Mark, head_in, end_of}
+use Rattle.zy_chain.specs.Stretch.{Mark, head_in}
 use Rattle.zy_choose.specs.Reports.{PlainReport}
 use Rattle.zy_admit.specs.Judging.{newer, entry_of}
 use Rattle.zy_frames.specs.declared.frame.OrderFrame.{OrderFrame}
 use Rattle.zy_exec.specs.declared.known.Known.{Known}
 use Rattle.zy_exec.specs.Replay.{Point, origin, answer_at, known_of}
-use Rattle.zy_exec.specs.Kept.{Kept, StandsFor, longer, now_of, known_in, stretch_of}
+use Rattle.zy_exec.specs.Kept.{StandsFor, longer, now_of, known_in, stretch_of}
 use Rattle.zy_exec.proofs.ReplayLemmas.{place-along, head-along, clients_push}
-use Rattle.zy_exec.proofs.HistoryLemmas.{stands_leads, stands_run, stands_head}
+use Rattle.zy_exec.proofs.HistoryLemmas.{stands_leads, stands_run}
 use Rattle.zy_law.specs.Fixed.{IsCertified}
 use Rattle.zy_law.specs.Histories.{IsEntryAt, AreKept, Passes}
 use Rattle.zy_law.specs.Lawful.{IsLawful, IsOrdered, IsAskedFor}
 use Rattle.zy_law.specs.Said.{IsCorrect, Says, Stood, Moment}
 use Rattle.zy_law.specs.Steps.{MaySay, MayStand, after_saying, after_standing, with_last}
 use Rattle.zy_law.specs.World.{Spoken, Stand, World}
-use Rattle.zy_law.specs.World.Statement.{Order, Spec, Local, Change, Other}
+use Rattle.zy_law.specs.World.Statement.{Order, Spec, Local, Check, Change, Other}
 use Rattle.zy_law.proofs.EntriesAskedFor.{entry_within, entry_longer, all_asked_for}
 use Rattle.zy_law.proofs.GrownLemmas.{each_item}
 use Rattle.zy_law.proofs.HistoryLemmas.{Passes-longer}
 use Rattle.zy_law.proofs.PastLemmas.{later_front}
-use Rattle.zy_lawful.specs.Tied.{Agrees, IsOfClient, MayRun, MaySlotRun, IsStanding, AreOrdersUpTo}
+use Rattle.zy_lawful.specs.Tied.{Agrees, IsOfClient, MayRun, MaySlotRun, IsStanding, AreOrdersUpTo, state_of}
+use Rattle.zy_lawful.proofs.Own.{head_told}
 use Rattle.zy_lawful.proofs.Records.{IsLastOf, IsRecord, records, last_of_next, entry_last, entry_before, entry_pushed, answer_longer}
 use Rattle.zy_table.specs.State.{State, own_view, is_leaving_mode}
 
@@ -58,10 +59,6 @@ slot_more w v more (Some o) may = more (entry_of o.ask) may
 pub slots_more : (w v : World) → ((e : Entry) → MayRun w e → MayRun v e) → (slots : List (Option OrderFrame)) → AllByRecursion (MaySlotRun w) slots → AllByRecursion (MaySlotRun v) slots
 slots_more w v more [] all = tt
 slots_more w v more (o ∷ slots) all = (slot_more w v more o all.0, slots_more w v more slots all.1)
-
-some_unless : {A : Type 0} (b : Bool) (x y : A) → (if b then None else Some x) ≡ Some y → (b ≡ false) × (x ≡ y)
-some_unless true x y is = absurd cc
-some_unless false x y is = (refl, same_Some x y is)
 
 -- each order that the replica gave in a view is one of this history
 abbrev pub AreOrdersOf : World → ℕ → ℕ → List Entry → Type 0
@@ -148,6 +145,7 @@ module _ {S : Type 0} (R : Rules S) (w : World) (r : ℕ) (s : State S) (h : Lis
       record {
         me = x.me;
         counts = x.counts;
+        signer = x.signer;
         active = x.active;
         number = x.number + 1;
         stood = ap (λ (l : List Stand). slice_get l (x.number + 1)) (last_own w.past r b) ∙ ap (λ (i : ℕ). slice_get (w.past r ++ b ∷ []) i) x.last ∙ entry_pushed (w.past r) b;
@@ -158,18 +156,19 @@ module _ {S : Type 0} (R : Rules S) (w : World) (r : ℕ) (s : State S) (h : Lis
         asks = slots_more w (after_standing w r b) (moving_runs b) s.orders.slots x.asks;
       }
 
-  -- in another state that keeps the same view and history, and orders that may be run
-  unfoldable pub standing_as : (s' : State S) → s'.me ≡ s.me → s'.counts ≡ s.counts → s'.mode ≡ s.mode → s'.kept ≡ s.kept → AllByRecursion (MaySlotRun w) s'.orders.slots → IsStanding R w r s' h
-  standing_as s' me counts mode kept slots =
+  -- in another state of the same view that stands for the history, and keeps orders that may be run
+  unfoldable pub standing_as : (s' : State S) → s'.me ≡ s.me → s'.counts ≡ s.counts → s'.sealer.me ≡ s.sealer.me → s'.mode ≡ s.mode → StandsFor R s'.kept h → AllByRecursion (MaySlotRun w) s'.orders.slots → IsStanding R w r s' h
+  standing_as s' me counts signer mode stands slots =
       let view : own_view s ≡ own_view s' = ap (λ (m : Mode). (view_of m).0) (sym mode) in
       record {
         me = ap (λ (id : ReplicaId). id.0) me ∙ x.me;
         counts = counts ∙ x.counts;
+        signer = signer ∙ x.signer ∙ ap (λ (id : ReplicaId). Replica id) (sym me);
         active = ap is_leaving_mode mode ∙ x.active;
         number = x.number;
         stood = subst (λ (v : ℕ). Stood w r x.number (record { view = v; history = h })) view x.stood;
         last = x.last;
-        stands = subst (λ (k : Kept S). StandsFor R k h) (sym kept) x.stands;
+        stands = stands;
         clients = x.clients;
         left = λ said y v report says what. subst (λ (u : ℕ). v ≤ u) view (x.left said y v report says what);
         asks = slots;
@@ -184,6 +183,7 @@ module _ {S : Type 0} (R : Rules S) (w : World) (r : ℕ) (s : State S) (h : Lis
       record {
         me = x.me;
         counts = x.counts;
+        signer = x.signer;
         active = x.active;
         number = x.number;
         stood = x.stood;
@@ -243,11 +243,8 @@ module _ {S : Type 0} (R : Rules S) (w : World) (r : ℕ) (s : State S) (h : Lis
   -- the history passes a place where this is its head
   pub passes_own : (place : ℕ) (head : Digest) → head_in (stretch_of s.kept) place ≡ Some head → Passes w.next h (record { place = place; head = head })
   passes_own place head is =
-      let inside = some_unless (nat_lt place s.kept.base.place || nat_lt (end_of (stretch_of s.kept)) place) _ head is in
-      let above = or_parts (nat_lt place s.kept.base.place) (nat_lt (end_of (stretch_of s.kept)) place) inside.0 in
-      let own : head_at h place ≡ Some head = sym (stands_head R s.kept h place x.stands (ltb-false place s.kept.base.place above.0)) ∙ is in
-      let there = some_unless (nat_lt (length h) place) (head_of (take place h)) head own in
-      record { within = ltb-false (length h) place there.0; head = fold_is (take place h) ∙ there.1 }
+      let there = head_told R s.kept h x.stands place head is in
+      record { within = there.0; head = fold_is (take place h) ∙ there.1 }
 
   -- it may commit its history up to a place that a commit certificate proves
   pub may_commit : (view : ℕ) (m : Mark) → view ≡ own_view s → head_in (stretch_of s.kept) m.place ≡ Some m.head → IsCertified w view m → MaySay w r (record { what = Local view m; when = x.number })
@@ -263,6 +260,27 @@ module _ {S : Type 0} (R : Rules S) (w : World) (r : ℕ) (s : State S) (h : Lis
             passes = passes_own m.place m.head own;
           };
           certified = certified;
+        };
+      }
+
+  -- and say the checkpoint there, which tells the own snapshot
+  pub may_check : (view : ℕ) (m : Mark) (state : Digest) → view ≡ own_view s → m.place ≤ length h → head_of (take m.place h) ≡ m.head → state_of R (take m.place h) ≡ state → IsCertified w view m
+      → MaySay w r (record { what = Check view m state; when = x.number })
+  may_check view m state current within head snapshot certified =
+      record {
+        now = x.last;
+        silence = λ number y left spoken report says what of. let same = same_Some view spoken of in omega (arith, x.left number y left report says what);
+        told = record {
+          vote = record {
+            at = record {
+              stand = record { view = own_view s; history = h };
+              stood = x.stood;
+              view_is = sym current;
+              passes = record { within = within; head = fold_is (take m.place h) ∙ head };
+            };
+            certified = certified;
+          };
+          snapshot = ap (λ (f : List Entry → Digest). f (take m.place h)) agrees.state ∙ snapshot;
         };
       }
 

@@ -30,8 +30,9 @@ module _ {S : Type 0} (R : Rules S) (s : State S) where
         takes = λ o heard new left cause is. absurd cc;
         asks = λ o heard left cause is. absurd cc;
         holds = λ o heard cause is. absurd cc;
-        commits = λ specs client local held heard own furthest left cause is. absurd cc;
-        commits_again = λ specs client local held said heard own furthest cause is. absurd cc;
+        commits = λ specs client local said held heard own furthest left cause is. absurd cc;
+        keeps = λ board put cause is. absurd cc;
+        gathers = λ place board put left cause is. absurd cc;
         confirms = λ confirm ask heard. tt;
       }
 

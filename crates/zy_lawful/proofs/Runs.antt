@@ -1,91 +1,46 @@
--- A replica on its way through a step, and what running an order adds.
-use Rattle.std.proofs.Common.{◌≡◌, ℕ, ◌+◌, ◌-◌, Bool, true, false, List, [], ◌∷◌, ◌++◌, length, drop, replicate, set, zero, suc, Option, Some, None, refl, sym, ap, ◌∙◌, subst, arith}
-use Rattle.std.specs.Prelude.{option_map, if◌then◌else◌, nat_le}
+-- What running an order adds.
+use Rattle.std.proofs.Common.{◌≡◌, ℕ, ◌+◌, ◌-◌, true, false, List, [], ◌∷◌, ◌++◌, length, Option, Some, None, refl, arith}
+use Rattle.std.specs.Prelude.{option_map, nat_le}
 use Rattle.std.specs.List.{AllByRecursion}
 use Rattle.std.proofs.lemmas.Bool.{and_parts}
 use Rattle.std.proofs.lemmas.List.{length-append}
 use Rattle.zy_base.specs.Machine.{Rules}
-use Rattle.zy_base.specs.Step.{view_of}
 use Rattle.zy_base.specs.declared.ids.Digest.{Digest}
-use Rattle.zy_base.specs.declared.step.Mode.{Mode}
-use Rattle.zy_chain.specs.declared.entry.Entry.{Entry}
-use Rattle.zy_choose.specs.Reports.{PlainReport}
-use Rattle.zy_admit.specs.Judging.{newer, entry_of, same_digest}
-use Rattle.zy_admit.specs.Orders.{Orders, with_order, without_order}
 use Rattle.zy_chain.specs.Entries.{digest_of_entry}
 use Rattle.zy_chain.specs.Heads.{head_after}
+use Rattle.zy_chain.specs.declared.entry.Entry.{Entry}
+use Rattle.zy_admit.specs.Judging.{newer, entry_of, same_digest}
+use Rattle.zy_admit.specs.Orders.{without_order}
+use Rattle.zy_check.specs.Board.{without_others}
 use Rattle.zy_frames.specs.declared.frame.OrderFrame.{OrderFrame}
 use Rattle.zy_exec.specs.declared.known.Known.{Known}
 use Rattle.zy_exec.specs.Kept.{longer, now_of, known_in, last_place}
-use Rattle.zy_law.specs.Lawful.{IsLawful}
-use Rattle.zy_law.specs.Said.{IsCorrect}
-use Rattle.zy_law.specs.Steps.{MaySay, MayStand, after_saying, after_standing}
-use Rattle.zy_law.specs.World.{Spoken, Stand, World}
-use Rattle.zy_law.specs.World.Statement.{Change}
-use Rattle.zy_law.proofs.StepsLawful.{saying_lawful, standing_lawful}
+use Rattle.zy_law.specs.World.{Spoken, World}
 use Rattle.zy_lawful.specs.Acts.{statement_of}
-use Rattle.zy_lawful.specs.Tied.{Agrees, MayRun, MaySlotRun, IsStanding, AreOrdersUpTo, AreLinksKept, IsCommitted}
-use Rattle.zy_lawful.proofs.Committed.{committed_said, committed_moved}
-use Rattle.zy_lawful.proofs.Goes.{LeadTo, lead_saying, lead_moving, links_of_front, link_of_last}
-use Rattle.zy_lawful.proofs.OneEntry.{AreOrdersOf, may_stand, standing_moved, standing_said, standing_as, moving_runs, saying_runs, may_respond, known_next, orders_of_longer, up_to_said}
-use Rattle.zy_table.specs.Deeds.{Going}
-use Rattle.zy_table.specs.Running.{run_one, run_held, run, fits_end, next_known, got_of, spec_of}
+use Rattle.zy_lawful.specs.Tied.{MayRun, MaySlotRun, AreOrdersUpTo, AreLinksKept, IsBoardTied, IsCommitted, IsResponseVouched}
+use Rattle.zy_lawful.proofs.Committed.{committed_moved}
+use Rattle.zy_lawful.proofs.Follow.{Keeps, in_state, one_keeps}
+use Rattle.zy_lawful.proofs.Gathers.{gathers}
+use Rattle.zy_lawful.proofs.Goes.{links_of_front, link_of_last}
+use Rattle.zy_lawful.proofs.Going.{IsGoing, IsTiedGoing, going_moved, slots_with, tied_as, tied_said}
+use Rattle.zy_lawful.proofs.KeptVotes.{after_spec_tied, board_moved, own_vouched, without_others_tied}
+use Rattle.zy_lawful.proofs.OneEntry.{AreOrdersOf, may_stand, standing_moved, may_respond, known_next, orders_of_longer}
+use Rattle.zy_lawful.proofs.Own.{IsOwnOf, by_test, state_told}
+use Rattle.zy_lawful.proofs.Records.{IsLastOf}
+use Rattle.zy_parts.specs.declared.signed.Signed.{Signed}
+use Rattle.zy_parts.specs.declared.statements.Check.{Check}
+use Rattle.zy_parts.specs.declared.statements.Order.{Order}
+use Rattle.zy_parts.specs.declared.statements.Spec.{Spec}
+use Rattle.zy_table.specs.Deeds.{Going, send}
+use Rattle.zy_table.specs.Gathering.{check_with, own_with, state_in, with_own_spec}
+use Rattle.zy_table.specs.Running.{executed, fits_end, got_of, next_known, respond, run_held, run_one, sealed_spec, share, signs_of, spec_of}
 use Rattle.zy_table.specs.State.{State, own_view, stood_of, leaves_of}
 use Rattle.zy_table.specs.declared.deeds.Act.{Act}
 use Rattle.zy_table.specs.declared.deeds.Act.TheVariants.{Says, Gains}
 use Rattle.zy_table.specs.declared.deeds.Body.TheVariants as bodies
 use Rattle.zy_table.specs.declared.deeds.Got.{Got}
 use Rattle.zy_table.specs.declared.deeds.Remark.{Remark}
-
--- what holds of both values of a test
-pub by_test : {A : Type 0} (P : A → Type 0) (b : Bool) (x y : A) → (b ≡ true → P x) → (b ≡ false → P y) → P (if b then x else y)
-by_test P true x y holds fails = holds refl
-by_test P false x y holds fails = fails refl
-
--- ---- slots
-
-pub slots_from : (w : World) (n : ℕ) (slots : List (Option OrderFrame)) → AllByRecursion (MaySlotRun w) slots → AllByRecursion (MaySlotRun w) (drop n slots)
-slots_from w zero slots all = all
-slots_from w (suc n) [] all = tt
-slots_from w (suc n) (o ∷ slots) all = slots_from w n slots all.1
-
-pub slots_with : (w : World) (slots : List (Option OrderFrame)) (i : ℕ) (o : Option OrderFrame) → AllByRecursion (MaySlotRun w) slots → MaySlotRun w o → AllByRecursion (MaySlotRun w) (set slots i o)
-slots_with w [] i o all one = tt
-slots_with w (first ∷ slots) zero o all one = (one, all.1)
-slots_with w (first ∷ slots) (suc i) o all one = (all.0, slots_with w slots i o all.1 one)
-
-pub slots_free : (w : World) (slots : List (Option OrderFrame)) (n : ℕ) → AllByRecursion (MaySlotRun w) slots → AllByRecursion (MaySlotRun w) (slots ++ replicate n None)
-slots_free w [] zero all = tt
-slots_free w [] (suc n) all = (tt, slots_free w [] n tt)
-slots_free w (first ∷ slots) n all = (all.0, slots_free w slots n all.1)
-
-pub slots_put : (v : World) (orders : Orders) (o : OrderFrame) → AllByRecursion (MaySlotRun v) orders.slots → MayRun v (entry_of o.ask) → AllByRecursion (MaySlotRun v) (with_order orders o).slots
-slots_put v orders o all may =
-    let at = o.order.stmt.place.0 - orders.base - 1 in
-    slots_with v (orders.slots ++ replicate (at + 1 - length orders.slots) None) at (Some o) (slots_free v orders.slots (at + 1 - length orders.slots) all) may
-
--- ---- on the way
-
--- What was done so far is allowed, and in the world after it the replica stands where its state says.
-pub record IsGoing {S : Type 0} (R : Rules S) (w : World) (r view number : ℕ) (h : List Entry) (acts : List Act) (s : State S) : Type 0 where
-  pub world : World
-  pub at : ℕ
-  pub now : List Entry
-  pub lead : LeadTo w r view number h acts world at now
-  pub lawful : IsLawful world
-  pub agrees : Agrees R world
-  pub correct : IsCorrect world r
-  pub standing : IsStanding R world r s now
-  pub number_is : standing.number ≡ at
-  pub view_is : own_view s ≡ view
-  pub runs : (e : Entry) → MayRun w e → MayRun world e
-  pub links : (d : Digest) (e : Entry) → w.kept d e ≡ true → world.kept d e ≡ true
-
--- and its orders are of places of its history, and its certificate covers what it committed
-pub record IsTiedGoing {S : Type 0} (R : Rules S) (w : World) (r view number : ℕ) (h : List Entry) (acts : List Act) (s : State S) : Type 0 where
-  pub going : IsGoing R w r view number h acts s
-  pub ordered : AreOrdersUpTo going.world r (own_view s) (length going.now)
-  pub committed : IsCommitted going.world r (own_view s) s.certificate
+use Rattle.zy_table.specs.declared.deeds.To.TheVariants.{All}
 
 module _ {S : Type 0} (R : Rules S) (w : World) (r view number : ℕ) (h : List Entry) where
   abbrev Goes : List Act → State S → Type 0
@@ -94,71 +49,27 @@ module _ {S : Type 0} (R : Rules S) (w : World) (r view number : ℕ) (h : List 
   abbrev GoesTied : List Act → State S → Type 0
   GoesTied acts s = IsTiedGoing R w r view number h acts s
 
-  -- with other things in its state
-  unfoldable pub going_as : (acts : List Act) (s s' : State S) (g : Goes acts s) → s'.me ≡ s.me → s'.counts ≡ s.counts → s'.mode ≡ s.mode → s'.kept ≡ s.kept → AllByRecursion (MaySlotRun g.world) s'.orders.slots → Goes acts s'
-  unfolding standing_as
-  going_as acts s s' g me counts mode kept slots =
-      record {
-        world = g.world;
-        at = g.at;
-        now = g.now;
-        lead = g.lead;
-        lawful = g.lawful;
-        agrees = g.agrees;
-        correct = g.correct;
-        standing = standing_as R g.world r s g.now g.lawful g.agrees g.correct g.standing s' me counts mode kept slots;
-        number_is = g.number_is;
-        view_is = ap (λ (m : Mode). (view_of m).0) mode ∙ g.view_is;
-        runs = g.runs;
-        links = g.links;
-      }
-
-  -- with a statement more
-  unfoldable pub going_said : (acts : List Act) (s : State S) (g : Goes acts s) (remark : Remark) → MaySay g.world r (record { what = statement_of remark.body; when = g.standing.number })
-      → ((v : ℕ) (report : PlainReport) → statement_of remark.body ≡ Change v report → ⊥) → Goes (acts ++ Says remark ∷ []) s
-  unfolding standing_said
-  going_said acts s g remark may stays =
-      let y : ℕ → Spoken = λ n. record { what = statement_of remark.body; when = n } in
-      let may_at : MaySay g.world r (y g.at) = subst (λ (n : ℕ). MaySay g.world r (y n)) g.number_is may in
-      record {
-        world = after_saying g.world r (y g.at);
-        at = g.at;
-        now = g.now;
-        lead = lead_saying w r view number h acts remark g.world g.at g.now g.lead may_at;
-        lawful = saying_lawful g.world g.lawful r (y g.at) may_at;
-        agrees = record { next = g.agrees.next; digest = g.agrees.digest; reply = g.agrees.reply };
-        correct = record { within = g.correct.within; honest = g.correct.honest };
-        standing = standing_said R g.world r s g.now g.lawful g.agrees g.correct g.standing (y g.at) stays;
-        number_is = g.number_is;
-        view_is = g.view_is;
-        runs = λ e may_run. saying_runs R g.world r s g.now g.lawful g.agrees g.correct g.standing (y g.at) e (g.runs e may_run);
-        links = g.links;
-      }
-
-  -- with an entry more
-  unfoldable pub going_moved : (acts : List Act) (s : State S) (g : Goes acts s) (got : Got) → MayRun g.world got.entry → MayStand g.world r (record { view = own_view s; history = g.now ++ got.entry ∷ [] })
-      → Goes (acts ++ Gains got ∷ []) (record s { kept = longer s.kept got.entry })
-  unfolding standing_moved
-  going_moved acts s g got run may =
-      let b : ℕ → Stand = λ v. record { view = v; history = g.now ++ got.entry ∷ [] } in
-      let may_stand_in : MayStand g.world r (b view) = subst (λ (v : ℕ). MayStand g.world r (b v)) g.view_is may in
-      record {
-        world = after_standing g.world r (b (own_view s));
-        at = g.at + 1;
-        now = g.now ++ got.entry ∷ [];
-        lead = subst (λ (v : ℕ). LeadTo w r view number h (acts ++ Gains got ∷ []) (after_standing g.world r (b v)) (g.at + 1) (g.now ++ got.entry ∷ [])) (sym g.view_is)
-            (lead_moving w r view number h acts got g.world g.at g.now g.lead may_stand_in);
-        lawful = standing_lawful g.world g.lawful r (b (own_view s)) may;
-        agrees = record { next = g.agrees.next; digest = g.agrees.digest; reply = g.agrees.reply };
-        correct = record { within = g.correct.within; honest = g.correct.honest };
-        standing = standing_moved R g.world r s g.now g.lawful g.agrees g.correct g.standing got.entry run.client;
-        number_is = ap (λ (n : ℕ). n + 1) g.number_is;
-        view_is = g.view_is;
-        runs = λ e may_run. moving_runs R g.world r s g.now g.lawful g.agrees g.correct g.standing (b (own_view s)) e (g.runs e may_run);
-        links = g.links;
-      }
+  abbrev Gone : Going S → Type 0
+  Gone g = GoesTied g.deeds.acts g.state
 
   -- ---- one order
+
+  -- at a multiple of the interval the response is kept with those of others, and what is kept there is looked through
+  shares : (order : Signed Order) (signed : Signed Spec) (reply : List ℕ) (g : Going S) (t : Gone g) (state : Option Digest)
+      → ((told : Digest) → state ≡ Some told → IsOwnOf R (own_view g.state) g.state.kept t.going.now signed.stmt told) → IsResponseVouched t.going.world signed → Gone (share R order signed reply state g)
+  unfolding tied_as
+  shares order signed reply g t None own vouched = t
+  shares order signed reply g t (Some state) own vouched =
+      let spec : Spec = signed.stmt in
+      let check : Check = check_with spec state in
+      let s : State S = g.state in
+      let s' : State S = with_own_spec s (own_with spec state) signed in
+      let world : World = t.going.world in
+      let board : IsBoardTied R world t.going.now s'.board =
+      after_spec_tied R world t.going.now (without_others s.board spec check) signed (Some spec) (without_others_tied R world t.going.now s.board spec check t.board) vouched in
+      let t' : GoesTied g.deeds.acts s' =
+      tied_as R w r view number h g.deeds.acts s s' t refl refl refl refl t.going.standing.stands t.going.standing.asks t.committed board in
+      gathers R w r view number h (in_state (send All _ g) s') t' spec state (own state refl) false (λ brought. absurd cc)
 
   pub one_goes : (o : OrderFrame) (g : Going S) (going : Goes g.deeds.acts g.state) → MayRun w (entry_of o.ask)
       → newer o.ask.stmt.stamp (option_map (λ (known : Known). known.stamp) (known_in R g.state.kept (entry_of o.ask).client.0)) ≡ true
@@ -166,47 +77,77 @@ module _ {S : Type 0} (R : Rules S) (w : World) (r view number : ℕ) (h : List 
       → AreOrdersOf going.world r (own_view g.state) (going.now ++ entry_of o.ask ∷ [])
       → AreOrdersUpTo going.world r (own_view g.state) (length (going.now ++ entry_of o.ask ∷ []))
       → IsCommitted going.world r (own_view g.state) g.state.certificate
-      → GoesTied (run_one R o g).deeds.acts (run_one R o g).state
-  unfolding run_one going_moved going_said going_as standing_moved
-  one_goes o g going run new link of up committed =
+      → IsBoardTied R going.world going.now g.state.board
+      → Gone (run_one R o g)
+  unfolding run_one going_moved standing_moved tied_said tied_as
+  one_goes o g going run new link of up committed board =
       let e : Entry = entry_of o.ask in
       let s : State S = g.state in
-      let moved : Goes (g.deeds.acts ++ Gains (got_of R s o.ask) ∷ []) (record s { kept = longer s.kept e }) =
-      going_moved g.deeds.acts s going (got_of R s o.ask) (going.runs e run)
+      let s1 : State S = record s { kept = longer s.kept e } in
+      let got : Got = got_of R s o.ask in
+      let moved : Goes (g.deeds.acts ++ Gains got ∷ []) s1 =
+      going_moved R w r view number h g.deeds.acts s going got (going.runs e run)
       (may_stand R going.world r s going.now going.lawful going.agrees going.correct going.standing e (going.runs e run) new (going.links (now_of R s.kept).head e link) of) in
-      let known : Known = next_known R s o.ask in
-      let remark : Remark = record { body = bodies.Spec (spec_of (own_view s) o.ask known); stood = stood_of R (record s { kept = longer s.kept e }) } in
-      let said : Goes ((g.deeds.acts ++ Gains (got_of R s o.ask) ∷ []) ++ Says remark ∷ []) (record s { kept = longer s.kept e }) =
-      going_said (g.deeds.acts ++ Gains (got_of R s o.ask) ∷ []) (record s { kept = longer s.kept e }) moved remark
-      (may_respond R moved.world r (record s { kept = longer s.kept e }) moved.now moved.lawful moved.agrees moved.correct moved.standing e.client.0 known
-      (known_next R going.world r s going.now going.lawful going.agrees going.correct going.standing e))
-      (λ v report same. absurd cc) in
+      let tied : GoesTied (g.deeds.acts ++ Gains got ∷ []) s1 =
       record {
-        going = going_as ((g.deeds.acts ++ Gains (got_of R s o.ask) ∷ []) ++ Says remark ∷ []) (record s { kept = longer s.kept e }) (run_one R o g).state said refl refl refl refl said.standing.asks;
-        ordered = up_to_said moved.world r (own_view s) (length moved.now) (record { what = statement_of remark.body; when = moved.at }) (λ m request same. absurd cc) up;
-        committed = committed_said moved.world r (own_view s) s.certificate (record { what = statement_of remark.body; when = moved.at }) (λ m vote. absurd vote)
-            (committed_moved going.world r (own_view s) s.certificate (record { view = own_view s; history = going.now ++ e ∷ [] }) committed);
-      }
+        going = moved;
+        ordered = up;
+        committed = committed_moved going.world r (own_view s) s.certificate (record { view = own_view s; history = going.now ++ e ∷ [] }) committed;
+        board = board_moved R going.world r going.now e (record { view = own_view s; history = going.now ++ e ∷ [] }) s.board board;
+      } in
+      let known : Known = next_known R s o.ask in
+      let spec : Spec = spec_of (own_view s) o.ask known in
+      let remark : Remark = record { body = bodies.Spec spec; stood = stood_of R s1 } in
+      let last : IsLastOf R moved.now e.client.0 known = known_next R going.world r s going.now going.lawful going.agrees going.correct going.standing e in
+      let acts : List Act = (g.deeds.acts ++ Gains got ∷ []) ++ Says remark ∷ [] in
+      let said : GoesTied acts s1 =
+      tied_said R w r view number h (g.deeds.acts ++ Gains got ∷ []) s1 tied remark
+      (may_respond R moved.world r s1 moved.now moved.lawful moved.agrees moved.correct moved.standing e.client.0 known last)
+      (λ v report same. absurd cc) (λ m request same. absurd cc) (λ m vote. absurd vote) in
+      let done : Going S = executed R o.ask g in
+      let signed : Signed Spec = sealed_spec done.state spec in
+      let after : Going S = respond R o.order signed known.reply done in
+      let t : Gone after =
+      tied_as R w r view number h acts s1 after.state said refl refl refl refl said.going.standing.stands said.going.standing.asks said.committed said.board in
+      let y : Spoken = record { what = statement_of remark.body; when = moved.at } in
+      shares o.order signed known.reply after t (state_in R (longer s.kept e) known.place.0)
+      (λ state is.
+      let told = state_told R (longer s.kept e) moved.now moved.standing.stands known.place.0 state is in
+      record { view_is = refl; above = told.0; below = told.1.0; head = last.head; state_is = told.1.1; client = run.client })
+      (λ small. own_vouched moved.world r y signed.by s.me moved.correct moved.standing.signer moved.standing.me)
 
   -- where the orders so far are of places of the history
-  pub next_goes : (o : OrderFrame) (g : Going S) → GoesTied g.deeds.acts g.state → MayRun w (entry_of o.ask)
+  pub next_goes : (o : OrderFrame) (g : Going S) → Gone g → MayRun w (entry_of o.ask)
       → newer o.ask.stmt.stamp (option_map (λ (known : Known). known.stamp) (known_in R g.state.kept (entry_of o.ask).client.0)) ≡ true
       → w.kept (now_of R g.state.kept).head (entry_of o.ask) ≡ true
-      → GoesTied (run_one R o g).deeds.acts (run_one R o g).state
+      → Gone (run_one R o g)
   next_goes o g tied run new link =
       let going = tied.going in
       one_goes o g going run new link
       (orders_of_longer R going.world r g.state going.now going.lawful going.agrees going.correct going.standing (entry_of o.ask) tied.ordered)
       (λ number x m request says what. omega (arith, tied.ordered number x m request says what, length-append going.now (entry_of o.ask ∷ [])))
-      tied.committed
+      tied.committed tied.board
 
   -- ---- links
 
+  -- the links of what was done after some acts are kept only where theirs are
+  links_before : (front : List Act) → Keeps R (λ g. AreLinksKept w g.deeds.acts → AreLinksKept w front)
+  links_before front =
+      record {
+        sends = λ g to frame front links. front links;
+        responds = λ g order signed reply front links. front (links_of_front w g.deeds.acts _ links);
+        owns = λ g own signed front links. front links;
+        holds = λ g held front links. front links;
+        checks = λ g check front links. front (links_of_front w g.deeds.acts _ links);
+        settles = λ g place proof front links. front links;
+      }
+
   pub one_links : (o : OrderFrame) (g : Going S) → AreLinksKept w (run_one R o g).deeds.acts → AreLinksKept w g.deeds.acts × (w.kept (now_of R g.state.kept).head (entry_of o.ask) ≡ true)
-  unfolding run_one
   one_links o g links =
-      let moved = links_of_front w (g.deeds.acts ++ Gains (got_of R g.state o.ask) ∷ []) _ links in
-      (links_of_front w g.deeds.acts (Gains (got_of R g.state o.ask) ∷ []) moved, link_of_last w g.deeds.acts (got_of R g.state o.ask) moved)
+      let got : Got = got_of R g.state o.ask in
+      let gained : List Act = g.deeds.acts ++ Gains got ∷ [] in
+      let moved : AreLinksKept w gained = one_keeps R (λ g'. AreLinksKept w g'.deeds.acts → AreLinksKept w gained) (links_before gained) o g (λ links. links) links in
+      (links_of_front w g.deeds.acts (Gains got ∷ []) moved, link_of_last w g.deeds.acts got moved)
 
   pub held_links : (slots : List (Option OrderFrame)) (g : Going S) → AreLinksKept w (run_held R slots g).deeds.acts → AreLinksKept w g.deeds.acts
   unfolding run_held
@@ -214,29 +155,26 @@ module _ {S : Type 0} (R : Rules S) (w : World) (r view number : ℕ) (h : List 
   held_links (None ∷ slots) g = λ links. links
   held_links (Some o ∷ slots) g =
       by_test (λ (g' : Going S). AreLinksKept w g'.deeds.acts → AreLinksKept w g.deeds.acts) (fits_end R g.state o) _ _
-      (λ fits. by_test (λ (g' : Going S). AreLinksKept w g'.deeds.acts → AreLinksKept w g.deeds.acts) (nat_le 1 (leaves_of g.state)) _ _
+      (λ fits. by_test (λ (g' : Going S). AreLinksKept w g'.deeds.acts → AreLinksKept w g.deeds.acts) (nat_le (signs_of R g.state o.ask) (leaves_of g.state)) _ _
       (λ left links. (one_links o g (held_links slots (run_one R o g) links)).0)
       (λ none links. links))
       (λ differs links. links)
 
   -- ---- the orders that are held
 
-  pub held_goes : (slots : List (Option OrderFrame)) (g : Going S) → AllByRecursion (MaySlotRun w) slots → GoesTied g.deeds.acts g.state → AreLinksKept w (run_held R slots g).deeds.acts
-      → GoesTied (run_held R slots g).deeds.acts (run_held R slots g).state
-  unfolding run_held going_as
+  pub held_goes : (slots : List (Option OrderFrame)) (g : Going S) → AllByRecursion (MaySlotRun w) slots → Gone g → AreLinksKept w (run_held R slots g).deeds.acts → Gone (run_held R slots g)
+  unfolding run_held tied_as
   held_goes [] g all tied = λ links. tied
   held_goes (None ∷ slots) g all tied = λ links. tied
   held_goes (Some o ∷ slots) g all tied =
-      by_test (λ (g' : Going S). AreLinksKept w g'.deeds.acts → GoesTied g'.deeds.acts g'.state) (fits_end R g.state o) _ _
-      (λ fits. by_test (λ (g' : Going S). AreLinksKept w g'.deeds.acts → GoesTied g'.deeds.acts g'.state) (nat_le 1 (leaves_of g.state)) _ _
+      by_test (λ (g' : Going S). AreLinksKept w g'.deeds.acts → Gone g') (fits_end R g.state o) _ _
+      (λ fits. by_test (λ (g' : Going S). AreLinksKept w g'.deeds.acts → Gone g') (nat_le (signs_of R g.state o.ask) (leaves_of g.state)) _ _
       (λ left links.
       let new = (and_parts (same_digest o.order.stmt.head (head_after (now_of R g.state.kept).head (digest_of_entry (entry_of o.ask)))) (newer o.ask.stmt.stamp (option_map (λ (known : Known). known.stamp) (known_in R g.state.kept (entry_of o.ask).client.0))) fits).1 in
       held_goes slots (run_one R o g) all.1 (next_goes o g tied all.0 new (one_links o g (held_links slots (run_one R o g) links)).1) links)
       (λ none links. tied))
       (λ differs links.
       let s' : State S = record g.state { orders = without_order g.state.orders (last_place g.state.kept + 1) } in
-      record {
-        going = going_as g.deeds.acts g.state s' tied.going refl refl refl refl (slots_with tied.going.world g.state.orders.slots (last_place g.state.kept + 1 - g.state.orders.base - 1) None tied.going.standing.asks tt);
-        ordered = tied.ordered;
-        committed = tied.committed;
-      })
+      tied_as R w r view number h g.deeds.acts g.state s' tied refl refl refl refl tied.going.standing.stands
+      (slots_with tied.going.world g.state.orders.slots (last_place g.state.kept + 1 - g.state.orders.base - 1) None tied.going.standing.asks tt)
+      tied.committed tied.board)

@@ -5,10 +5,15 @@ use Rattle.zy_base.specs.Machine.{Rules}
 use Rattle.zy_base.specs.declared.counts.Counts.{Counts}
 use Rattle.zy_base.specs.declared.ids.Digest.{Digest}
 use Rattle.zy_base.specs.declared.ids.Party.{Party}
+use Rattle.zy_base.specs.declared.ids.Party.TheVariants.{Replica}
 use Rattle.zy_base.specs.declared.ids.ReplicaId.{ReplicaId}
 use Rattle.zy_base.specs.declared.step.Spoken.{Spoken as StepSpoken}
 use Rattle.zy_chain.specs.declared.entry.Entry.{Entry}
 use Rattle.zy_exec.proofs.HistoryLemmas.{stands_at_origin}
+use Rattle.zy_exec.proofs.ReplayLemmas.{along-nil}
+use Rattle.zy_exec.specs.Replay.{Point, origin}
+use Rattle.zy_exec.specs.Shots.{digest_of_snapshot}
+use Rattle.zy_exec.specs.Snapshot.{snapshot_of}
 use Rattle.zy_law.proofs.GrownLemmas.{with_last-kept}
 use Rattle.zy_law.specs.Said.{IsCorrect, Says, Stood}
 use Rattle.zy_law.specs.Steps as law
@@ -16,8 +21,9 @@ use Rattle.zy_law.specs.Steps.Act.{Say, Move}
 use Rattle.zy_law.specs.Steps.{IsStart, after_act, after_acts, grown, with_last}
 use Rattle.zy_law.specs.World.{Spoken, Stand, World}
 use Rattle.zy_lawful.specs.Acts.{law_acts, spoken_in, stands_in, with_more, spoken_at, stand_with}
-use Rattle.zy_lawful.specs.Tied.{IsTied, MayRun}
+use Rattle.zy_lawful.specs.Tied.{IsTied, IsCheckVouched, IsResponseVouched, MayRun}
 use Rattle.zy_lawful.proofs.Committed.{committed_grown}
+use Rattle.zy_lawful.proofs.KeptVotes.{board_grown, none_kept}
 use Rattle.zy_lawful.proofs.OneEntry.{slots_more}
 use Rattle.zy_seal.specs.Keys.{Keys}
 use Rattle.zy_seal.specs.Sealing.{SealerState}
@@ -34,12 +40,13 @@ none_said w r silent number x says =
     absurd cc
 
 pub tied_at_start : {S : Type 0} (R : Rules S) (w : World) (r interval : ℕ) (me : ReplicaId) (counts : Counts) (keys : Keys) (sealer : SealerState) → IsStart w → IsCorrect w r → me.0 ≡ r → counts ≡ w.counts
-    → IsTied R w r (start_of R interval me counts keys sealer) []
-tied_at_start R w r interval me counts keys sealer start correct is counted =
+    → sealer.me ≡ Replica me → IsTied R w r (start_of R interval me counts keys sealer) []
+tied_at_start {S} R w r interval me counts keys sealer start correct is counted own =
     record {
       standing = record {
         me = is;
         counts = counted;
+        signer = own;
         active = refl;
         number = 0;
         stood = ap (λ (l : List Stand). slice_get l 0) (start.stands r correct);
@@ -51,6 +58,12 @@ tied_at_start R w r interval me counts keys sealer start correct is counted =
       };
       ordered = λ number x m request says what. none_said w r (start.silent r correct) number x says;
       committed = record { backed = tt; far = λ number x m says vote. none_said w r (start.silent r correct) number x says };
+      board = record {
+        near = none_kept (IsResponseVouched w) (IsCheckVouched w);
+        far = none_kept (IsResponseVouched w) (IsCheckVouched w);
+        stable = inl refl;
+        own = record { within = omega arith; head = refl; state = ap (λ (p : Point S). digest_of_snapshot (snapshot_of R p)) (along-nil R (origin R)) };
+      };
     }
 
 -- ---- as others act
@@ -68,6 +81,7 @@ tied_grown R w r s h asked said past kept asks says stands told stood tied =
       standing = record {
         me = x.me;
         counts = x.counts;
+        signer = x.signer;
         active = x.active;
         number = x.number;
         stood = ap (λ (l : List Stand). slice_get l x.number) stood ∙ x.stood;
@@ -79,6 +93,7 @@ tied_grown R w r s h asked said past kept asks says stands told stood tied =
       };
       ordered = λ number y m request says what. tied.ordered number y m request (was number y says) what;
       committed = committed_grown w asked said past kept asks says stands r (own_view s) s.certificate was tied.committed;
+      board = board_grown w asked said past kept asks says stands R h s.board tied.board;
     }
 
 last_other : {A : Type 0} (lists : ℕ → List A) (of : ℕ) (x : A) (q : ℕ) → q ≢ of → with_last lists of x q ≡ lists q

@@ -4,7 +4,7 @@ use Rattle.zy_chain.specs.declared.entry.Entry.{Entry}
 use Rattle.zy_law.specs.Steps as law
 use Rattle.zy_law.specs.Steps.Act.{Say, Move}
 use Rattle.zy_law.specs.World.{Spoken, Stand, Statement, World}
-use Rattle.zy_law.specs.World.Statement.{Order, Spec, Local, Other}
+use Rattle.zy_law.specs.World.Statement.{Order, Spec, Local, Check, Other}
 use Rattle.zy_table.specs.Deeds.{Outcome}
 use Rattle.zy_table.specs.State.{State, own_view}
 use Rattle.zy_table.specs.declared.deeds.Act.{Act}
@@ -24,6 +24,8 @@ statement_of (bodies.Spec spec) =
 statement_of (bodies.Local local) = Local local.view.0 (record { place = local.place.0; head = local.head })
 statement_of (bodies.Confirm confirm) = Other
 statement_of (bodies.Hole hole) = Other
+statement_of (bodies.Check check) =
+    Check check.view.0 (record { place = check.place.0; head = check.head }) check.state
 
 -- a remark as the law reads it, by the number of the last stand when it was said
 abbrev pub spoken_at : ℕ → Remark → Spoken

@@ -1,25 +1,32 @@
--- What a certificate's point says can be said by a local commit.
-use Rattle.std.proofs.Common.{◌≡◌, ◌∷◌, [], ℕ, Bool, true, false, List, length, Result, Ok, Err, refl, rules}
-use Rattle.std.specs.Prelude.{All, IfOk, if◌then◌else◌, nat_lt}
+-- What a certificate's point says can be said by a local commit, and what is owed with a certificate.
+use Rattle.std.proofs.Common.{◌≡◌, ◌≤◌, ◌<◌, ◌+◌, ◌-◌, ◌∷◌, [], ℕ, Bool, true, false, List, length, Option, Some, None, Result, Ok, Err, refl, rules, arith}
+use Rattle.std.specs.Prelude.{All, IfOk, if◌then◌else◌, nat_lt, nat_le}
 use Rattle.std.specs.Ordering.{is_lt, nat_cmp}
+use Rattle.std.proofs.lemmas.Bool.{le-leb, lt-leb}
 use Rattle.std.proofs.lemmas.List.Elements.{All-head}
 use Rattle.zy_base.specs.Machine.{Rules}
 use Rattle.zy_base.specs.declared.cause.Cause.{Cause}
 use Rattle.zy_base.specs.declared.cause.Cause.TheVariants as causes
+use Rattle.zy_base.specs.declared.ids.ClientId.{ClientId}
 use Rattle.zy_base.specs.declared.ids.Digest.{Digest}
 use Rattle.zy_base.specs.declared.ids.Place.{Place}
 use Rattle.zy_base.specs.declared.ids.View.{View}
+use Rattle.zy_base.specs.declared.step.Answer.TheVariants.{Taken}
 use Rattle.zy_parts.specs.Signing.{IsSignedInRange}
 use Rattle.zy_parts.specs.Statements.{IsLocalInRange, IsSpecInRange}
 use Rattle.zy_parts.specs.declared.signed.Signed.{Signed}
+use Rattle.zy_parts.specs.declared.statements.Local.{Local}
 use Rattle.zy_parts.specs.declared.statements.Spec.{Spec}
 use Rattle.zy_cert.specs.Certificates.{certified, point_of_equal}
 use Rattle.zy_cert.specs.Equal.{same_spec}
 use Rattle.zy_cert.specs.Points.{point_of_spec}
 use Rattle.zy_cert.specs.Signers.{has_other, has_repeat}
 use Rattle.zy_exec.specs.Kept.{last_place}
-use Rattle.zy_table.specs.State.{State}
-use Rattle.zy_table.specs.Commits.{local_at, commit_judged, commit}
+use Rattle.zy_table.specs.declared.kept.OwnCheckpoint.{OwnCheckpoint}
+use Rattle.zy_table.specs.State.{State, leaves_of}
+use Rattle.zy_table.specs.Deeds.{refused, ends}
+use Rattle.zy_table.specs.Gathering.{is_further, with_certificate, checks_owed, gather_at}
+use Rattle.zy_table.specs.Commits.{local_at, locals_owed, give_local, commit_as, commit_judged, commit}
 
 abbrev IsPointReady : Result (View × Place × Digest) Cause → Type 0
 IsPointReady point = IfOk point (λ p. IsLocalInRange (local_at p))
@@ -48,3 +55,48 @@ pub commit_is : {S : Type 0} (R : Rules S) (s : State S) (first : Spec) (specs :
     → commit_judged R s specs first.client (certified same_spec point_of_spec s.counts.cert specs) ≡ commit R s first specs
 unfolding commit
 commit_is R s first specs old behind = rw (old, behind) refl
+
+-- ---- what is owed with a certificate
+
+-- whether it is kept changes nothing of that
+owed_if : {S : Type 0} (b : Bool) (s : State S) (place : Place) (specs : List (Signed Spec)) (own : Option OwnCheckpoint) (brought : Bool)
+    → checks_owed (if b then record s { certificate = Some (record { place = place; specs = specs }) } else s) own brought ≡ checks_owed s own brought
+owed_if true s place specs None brought = refl
+owed_if true s place specs (Some own) brought = refl
+owed_if false s place specs own brought = refl
+
+pub owed_alike : {S : Type 0} (s : State S) (place : Place) (specs : List (Signed Spec)) (own : Option OwnCheckpoint) (brought : Bool)
+    → checks_owed (with_certificate s place specs) own brought ≡ checks_owed s own brought
+owed_alike s place specs own brought = owed_if (is_further place s.certificate) s place specs own brought
+
+-- nor does the local commit
+pub given_owes : {S : Type 0} (R : Rules S) (client : ClientId) (local : Local) (said : Option (Signed Local)) (s : State S) (own : Option OwnCheckpoint) (brought : Bool)
+    → checks_owed (give_local R client local said s).state own brought ≡ checks_owed s own brought
+given_owes R client local None s None brought = refl
+given_owes R client local None s (Some own) brought = refl
+given_owes R client local (Some said) s own brought = refl
+
+pub given_keeps : {S : Type 0} (R : Rules S) (client : ClientId) (local : Local) (said : Option (Signed Local)) (s : State S) → (give_local R client local said s).state.kept ≡ s.kept
+given_keeps R client local None s = refl
+given_keeps R client local (Some said) s = refl
+
+pub given_leaves : {S : Type 0} (R : Rules S) (client : ClientId) (local : Local) (said : Option (Signed Local)) (s : State S)
+    → leaves_of (give_local R client local said s).state ≡ leaves_of s - locals_owed said
+given_leaves R client local None s = omega arith
+given_leaves R client local (Some said) s = omega arith
+
+-- the certificate is taken where the leaves are enough
+pub commit_fits : {S : Type 0} (R : Rules S) (s : State S) (specs : List (Signed Spec)) (client : ClientId) (local : Local) (said : Option (Signed Local)) (own : Option OwnCheckpoint)
+    → locals_owed said + checks_owed s own true ≤ leaves_of s
+    → commit_as R s specs client local said own ≡ ends Taken (gather_at R own true (give_local R client local said (with_certificate s local.place specs)))
+commit_fits R s specs client local said own fits =
+    let is : nat_le (locals_owed said + checks_owed (with_certificate s local.place specs) own true) (leaves_of s) ≡ true =
+    rw (owed_alike s local.place specs own true) (le-leb _ _ fits) in
+    rw is refl
+
+pub commit_spent : {S : Type 0} (R : Rules S) (s : State S) (specs : List (Signed Spec)) (client : ClientId) (local : Local) (said : Option (Signed Local)) (own : Option OwnCheckpoint)
+    → leaves_of s < locals_owed said + checks_owed s own true → commit_as R s specs client local said own ≡ refused causes.KeySpent s
+commit_spent R s specs client local said own lacks =
+    let is : nat_le (locals_owed said + checks_owed (with_certificate s local.place specs) own true) (leaves_of s) ≡ false =
+    rw (owed_alike s local.place specs own true) (lt-leb _ _ lacks) in
+    rw is refl

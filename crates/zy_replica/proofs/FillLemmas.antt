@@ -1,6 +1,7 @@
 -- What a hole is answered with.
-use Rattle.std.proofs.Common.{◌≡◌, ◌<◌, ◌∷◌, [], List, length, map, refl, ap, arith}
+use Rattle.std.proofs.Common.{◌≡◌, ◌<◌, ◌∷◌, [], ◌==◌, ℕ, zero, suc, true, false, List, length, map, refl, ap, arith, sym}
 use Rattle.std.specs.Prelude.{if◌then◌else◌, nat_le}
+use Rattle.std.proofs.lemmas.Bool.{eqb-true}
 use Rattle.std.specs.List.{AllByRecursion}
 use Rattle.zy_base.specs.declared.ids.Party.{Party}
 use Rattle.zy_base.specs.declared.cause.Cause.TheVariants as causes
@@ -15,6 +16,13 @@ use Rattle.zy_table.specs.State.{State}
 use Rattle.zy_table.specs.Deeds.{refused}
 use Rattle.zy_table.specs.Holes.{order_to, fill_with}
 use Rattle.zy_core.specs.Ready.{IsOrderReady}
+
+pub none_at : (n : ℕ) → true ≡ (n == 0) → n ≡ 0
+none_at n is = eqb-true n 0 (sym is)
+
+pub some_at : (n : ℕ) → false ≡ (n == 0) → 0 < n
+some_at zero is = let never : ⊥ = cc in absurd never
+some_at (suc n) is = omega arith
 
 pub fill_none : {S : Type 0} (s : State S) (hole : Signed Hole) (orders : List OrderFrame) → orders ≡ []
     → fill_with s hole orders ≡ (if nat_le hole.stmt.to.0 (last_place s.kept) then refused causes.OldPlace s else refused (causes.Behind hole.stmt.to) s)

@@ -1,6 +1,6 @@
 //! What a replica answers to a commit certificate.
 
-ghost use Rattle.std.specs.Prelude.{◌≡◌, ◌≤◌, ◌++◌, ◌∷◌, [], IfOk};
+ghost use Rattle.std.specs.Prelude.{◌≡◌, ◌≤◌, ◌+◌, ◌++◌, ◌∷◌, [], true, IfOk};
 ghost use Rattle.std.specs.Option.{ForSome};
 ghost use Rattle.zy_parts.specs.Numbers as numbers;
 ghost use Rattle.zy_parts.specs.Signing.{IsSignedInRange};
@@ -8,14 +8,19 @@ ghost use Rattle.zy_parts.specs.Statements.{IsLocalInRange, local_fields};
 ghost use Rattle.zy_frames.specs.Frames.{IsFrameInRange};
 ghost use Rattle.zy_frames.specs.declared.frame.Frame.TheVariants as frames;
 ghost use Rattle.zy_seal.specs.Sealing.{sealed_by};
+ghost use Rattle.zy_base.specs.declared.step.Answer.TheVariants as Answer;
 ghost use Rattle.zy_table.specs.State.{leaves_of, spent};
-ghost use Rattle.zy_table.specs.Commits.{local_at as local_for, local_said, say_local as local_by, commit_as as committed, commit_beside as beside, commit_judged as judged_as, commit as commit_row};
+ghost use Rattle.zy_table.specs.Deeds.{ends};
+ghost use Rattle.zy_table.specs.Gathering.{checks_owed, gather_at as gathered};
+ghost use Rattle.zy_table.specs.Commits.{local_at as local_for, local_said, say_local as local_by, locals_owed as owed, give_local as given, commit_as as committed, commit_beside as beside, commit_judged as judged_as, commit as commit_row};
+ghost use Rattle.zy_core.specs.Ready.{IsOwnReady};
 
 use zy_base::{Answer, Cause, ClientId, Digest, Items, Machine, Place, View, Want};
 use zy_cert::check_cert;
-use zy_core::{Core, Moved, Progress, local_copy};
+use zy_core::{Core, Moved, Progress, signed_copy};
 use zy_parts::{Local, Signed, Spec};
-use zy_table::Body;
+use zy_running::gather_at;
+use zy_table::{Body, OwnCheckpoint};
 
 fn local_at(point: (View, Place, Digest)) -> Local
     ensures { result ≡ local_for point }
@@ -33,7 +38,7 @@ fn seal_local<M: Machine>(core: Core<M>, local: Local) -> Result<(Core<M>, Signe
     ensures range { IfOk result (λ r. IsSignedInRange IsLocalInRange r.1) }
 {
     let (core, signed) = core.seal(local)?;
-    let copy = local_copy(&signed)?;
+    let copy = signed_copy(&signed)?;
     match core.keep_local(copy) {
         Ok(core) => Ok((core, signed)),
         Err(want) => {
@@ -60,28 +65,70 @@ fn say_local<M: Machine>(core: Core<M>, client: ClientId, local: Local) -> Resul
     }
 }
 
-// The certificate is kept, and its local commit goes to the client. Beside it a copy of the local commit where it was
-// said before.
+// How many statements are signed for a local commit. Beside it a copy where it was said before.
+fn locals_owed(said: &Option<Signed<Local>>) -> u32
+    ensures { result ≡ owed said.now }
+{
+    match said {
+        None => 1,
+        Some(_) => 0,
+    }
+}
+
+fn give_local<M: Machine>(
+    core: Core<M>,
+    client: ClientId,
+    local: Local,
+    said: Option<Signed<Local>>,
+) -> Result<Progress<M>, Want>
+    requires leaf { owed said ≤ leaves_of core }
+    requires local { IsLocalInRange local }
+    requires said { ForSome said (IsSignedInRange IsLocalInRange) }
+    ensures { IfOk result (λ g. g ≡ given M.rules client local said core) }
+{
+    match said {
+        None => say_local(core, client, local),
+        Some(said) => core.begin().send_local(client, said),
+    }
+}
+
+// The local commit goes to the client, and what is kept at its place is looked through with its certificate.
+fn give_and_gather<M: Machine>(
+    core: Core<M>,
+    client: ClientId,
+    local: Local,
+    said: Option<Signed<Local>>,
+    own: Option<OwnCheckpoint>,
+) -> Result<Moved<M>, Want>
+    requires leaves { owed said + checks_owed core own true ≤ leaves_of core }
+    requires local { IsLocalInRange local }
+    requires said { ForSome said (IsSignedInRange IsLocalInRange) }
+    requires own { ForSome own (IsOwnReady core.kept) }
+    ensures { IfOk result (λ m. m ≡ ends Answer.Taken (gathered M.rules own true (given M.rules client local said core))) }
+{
+    let progress = give_local(core, client, local, said)?;
+    Ok(gather_at(progress, own, true)?.ends(Answer::Taken))
+}
+
+// The certificate is kept with that. Beside it what the own history says of its place.
 fn commit_as<M: Machine>(
     core: Core<M>,
     specs: Items<Signed<Spec>>,
     client: ClientId,
     local: Local,
     said: Option<Signed<Local>>,
+    own: Option<OwnCheckpoint>,
 ) -> Result<Moved<M>, Want>
     requires local { IsLocalInRange local }
     requires said { ForSome said (IsSignedInRange IsLocalInRange) }
-    ensures { IfOk result (λ m. m ≡ committed M.rules core specs client local said) }
+    requires own { ForSome own (IsOwnReady core.kept) }
+    ensures { IfOk result (λ m. m ≡ committed M.rules core specs client local said own) }
 {
-    if let Some(said) = said {
-        let core = core.keep_certificate(local.place, specs);
-        return Ok(core.begin().send_local(client, said)?.ends(Answer::Taken));
-    }
-    if core.leaves() == 0 {
-        return core.not_heard(specs, Cause::KeySpent);
+    if locals_owed(&said) + core.checks_owed(own, true) > core.leaves() {
+        return core.not_heard((specs, said), Cause::KeySpent);
     }
     let core = core.keep_certificate(local.place, specs);
-    Ok(say_local(core, client, local)?.ends(Answer::Taken))
+    give_and_gather(core, client, local, said, own)
 }
 
 // Beside the own head at its place.
@@ -103,7 +150,10 @@ fn commit_beside<M: Machine>(
         return core.not_heard(specs, Cause::OtherHistory(own, local.head));
     }
     match core.local_said(&local) {
-        Ok(said) => commit_as(core, specs, client, local, said),
+        Ok(said) => {
+            let own = core.own_at(local.place);
+            commit_as(core, specs, client, local, said, own)
+        }
         Err(want) => {
             drop(specs);
             Err(want)

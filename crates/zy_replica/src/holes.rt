@@ -14,7 +14,7 @@ ghost use Rattle.zy_core.specs.Ready.{IsOrderReady};
 
 use std::alloc::Global;
 use zy_base::{Answer, Cause, Items, Machine, Mode, Party, Want};
-use zy_core::{Core, Moved, Progress, hole_copy};
+use zy_core::{Core, Moved, Progress, signed_copy};
 use zy_frames::{Frame, OrderFrame};
 use zy_parts::{Hole, Signed};
 use zy_table::{Deeds, Sent, To};
@@ -60,7 +60,6 @@ fn send_orders<M: Machine>(
     Ok(Progress { core, deeds }.ends(Answer::Taken))
 }
 
-#[tactic(auto, using(crate::proofs::FillLemmas::fill_none, crate::proofs::FillLemmas::fill_some))]
 fn fill_with<M: Machine>(
     core: Core<M>,
     hole: Signed<Hole>,
@@ -91,7 +90,7 @@ pub(crate) fn ask_again<M: Machine>(core: Core<M>) -> Result<Moved<M>, Want>
     ensures { IfOk result (λ m. m ≡ again core core.mode core.hole) }
 {
     let hole = match (core.mode(), core.hole()) {
-        (Mode::Active(_), Some(hole)) => hole_copy(hole)?,
+        (Mode::Active(_), Some(hole)) => signed_copy(hole)?,
         _ => return Ok(core.begin().ends(Answer::Taken)),
     };
     let progress = core.begin().send_hole(To::All, hole)?;

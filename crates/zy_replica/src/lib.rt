@@ -2,6 +2,7 @@
 //! the answer table.
 #![tactic(auto)]
 
+mod checkpoints;
 mod commits;
 mod confirms;
 mod holes;

@@ -7,7 +7,7 @@ ghost use Rattle.zy_admit.specs.Orders.{with_order};
 ghost use Rattle.zy_table.specs.State.{leaves_of, window_of, spent};
 ghost use Rattle.zy_base.specs.declared.step.Answer.TheVariants as Answer;
 ghost use Rattle.zy_table.specs.Deeds.{ends, begin};
-ghost use Rattle.zy_table.specs.Running.{run};
+ghost use Rattle.zy_table.specs.Running.{run, signs_of};
 ghost use Rattle.zy_table.specs.Orders.{position_of as position_for, take_order as taken, asked_from as asked_at, owes_hole as owes, hole_of as hole_for, ask_for_missing as asked, hold_order as held, order_as as answered_as, order as order_row};
 ghost use Rattle.zy_parts.specs.Numbers as numbers;
 ghost use Rattle.zy_parts.specs.Signing.{IsSignedInRange};
@@ -17,9 +17,10 @@ ghost use Rattle.zy_core.specs.Ready.{IsOrderReady};
 
 use zy_admit::{Admit, Position, client_of};
 use zy_base::{Answer, Cause, Machine, Place, Want};
-use zy_core::{Core, Moved, Progress, hole_copy};
+use zy_core::{Core, Moved, Progress, signed_copy};
 use zy_frames::OrderFrame;
 use zy_parts::{Hole, Signed};
+use zy_running::{can_run, run_all};
 use zy_table::{Body, To};
 
 fn position_of<M: Machine>(core: &Core<M>, frame: &OrderFrame) -> Position
@@ -50,22 +51,28 @@ fn take_order<M: Machine>(core: Core<M>, frame: OrderFrame) -> Result<Moved<M>, 
     requires within { frame.order.stmt.place.0 ≤ window_of core }
     ensures { IfOk result (λ m. m ≡ taken M.rules core frame) }
 {
-    if core.leaves() == 0 {
-        return core.not_heard(frame, Cause::KeySpent);
+    match can_run(core, &frame.ask, 0) {
+        Ok((core, true)) => {
+            let ran = accept_and_run(core, &frame);
+            drop(frame);
+            ran
+        }
+        Ok((core, false)) => core.not_heard(frame, Cause::KeySpent),
+        Err(want) => {
+            drop(frame);
+            Err(want)
+        }
     }
-    let ran = accept_and_run(core, &frame);
-    drop(frame);
-    ran
 }
 
 fn accept_and_run<M: Machine>(core: Core<M>, frame: &OrderFrame) -> Result<Moved<M>, Want>
-    requires leaf { 1 ≤ leaves_of core }
+    requires leaf { signs_of M.rules core frame.now.ask ≤ leaves_of core }
     requires order { IsOrderReady frame.now }
     requires above { last_place core.kept < frame.now.order.stmt.place.0 }
     requires within { frame.now.order.stmt.place.0 ≤ window_of core }
     ensures { IfOk result (λ m. m ≡ ends Answer.Taken (run M.rules frame.now (begin (record core { orders = with_order core.orders frame.now; hole = None })))) }
 {
-    accept(core, frame)?.begin().run_all(frame)
+    run_all(accept(core, frame)?.begin(), frame)
 }
 
 // The missing orders have to be asked for: nothing is held at the next place, and nothing was asked for there.
@@ -94,7 +101,7 @@ fn seal_hole<M: Machine>(core: Core<M>) -> Result<(Core<M>, Signed<Hole>), Want>
 {
     let hole = core.hole_of();
     let (core, signed) = core.seal(hole)?;
-    let copy = hole_copy(&signed)?;
+    let copy = signed_copy(&signed)?;
     Ok((core.keep_hole(Some(copy)), signed))
 }
 

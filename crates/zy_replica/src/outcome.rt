@@ -131,5 +131,6 @@ fn text_of(alloc: Global, me: ReplicaId, body: &Body) -> Result<Bytes, Want>
         Body::Local(local) => signed_text(alloc, me, local),
         Body::Confirm(confirm) => signed_text(alloc, me, confirm),
         Body::Hole(hole) => signed_text(alloc, me, hole),
+        Body::Check(check) => signed_text(alloc, me, check),
     }
 }

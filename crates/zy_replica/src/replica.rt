@@ -113,6 +113,14 @@ impl<M: Machine> Replica<M> {
         self.core.head()
     }
 
+    /// Its stable checkpoint: the view, the place, the head of the history there, and SHA-256 (FIPS 180-4) of the
+    /// snapshot there. Place 0 in view 0 until another is stable.
+    pub fn stable(&self) -> (View, Place, Digest, Digest)
+        ensures { result ≡ (self.now.board.stable.view, self.now.board.stable.place, self.now.board.stable.head, self.now.board.stable.state) }
+    {
+        self.core.board().stable()
+    }
+
     /// The number of the leaf that signs next.
     pub fn key_next(&self) -> u32
         ensures { result ≡ self.now.sealer.key.next }

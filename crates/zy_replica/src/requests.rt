@@ -17,17 +17,18 @@ ghost use Rattle.zy_table.specs.declared.deeds.Act.TheVariants as acts;
 ghost use Rattle.zy_table.specs.declared.deeds.Body.TheVariants as bodies;
 ghost use Rattle.zy_table.specs.State.{leaves_of, window_of, spent, stood_of, with_spec, with_pending, pending_of, spec_to as last_spec};
 ghost use Rattle.zy_table.specs.Deeds.{ends, begin, act as acting, send as sending};
-ghost use Rattle.zy_table.specs.Running.{spec_of as spec_for, run};
+ghost use Rattle.zy_table.specs.Running.{spec_of as spec_for, run, signs_of};
 ghost use Rattle.zy_table.specs.Requests.{response_of, respond_anew as anew, respond_with as answered_with, respond_again as answered_again, said_already as already, order_of as order_for, sealed_order as sealed, ordered as ordered_by, take_request as taken, request_at_primary as at_primary, confirm_of as confirm_for, sealed_confirm as confirmed, tell_primary as told_of, request_waits as waiting, forward as forwarded, request_at_backup as at_backup, new_request as fresh, request_after as after, is_behind as behind, request as request_row};
 ghost use Rattle.zy_core.specs.Ready.{IsAskReady, IsKeptPending, IsOrderReady, IsPendingReady};
 
 use zy_admit::{client_of, request_digest_of};
 use zy_base::{Answer, Cause, ClientId, Machine, Place, Stamp, Stood, Want};
 use zy_chain::next_head;
-use zy_core::{Core, Moved, Progress, pending_copy, spec_copy, spec_of};
+use zy_core::{Core, Moved, Progress, pending_copy, signed_copy, spec_of};
 use zy_exec::Known;
 use zy_frames::OrderFrame;
 use zy_parts::{Ask, Confirm, Order, Signed, Spec};
+use zy_running::{can_run, run_all};
 use zy_table::{Body, Pending};
 
 pub(crate) fn is_older(stamp: Stamp, last: Stamp) -> bool
@@ -98,7 +99,7 @@ fn said_already<M: Machine>(core: &Core<M>, spec: &Spec) -> Result<Option<Signed
     ensures range { IfOk result (λ said. ForSome said (IsSignedInRange IsSpecInRange)) }
 {
     match core.spec_to(spec.client) {
-        Some(last) if last.stmt == *spec => Ok(Some(spec_copy(last)?)),
+        Some(last) if last.stmt == *spec => Ok(Some(signed_copy(last)?)),
         _ => Ok(None),
     }
 }
@@ -207,26 +208,30 @@ fn say_order<M: Machine>(
         .send_order(frame)
 }
 
-// The order and the response want a leaf each.
+// The order wants a leaf beside all that running it signs.
 fn take_request<M: Machine>(core: Core<M>, ask: Signed<Ask>) -> Result<Moved<M>, Want>
     requires ask { IsAskReady ask }
     requires room { last_place core.kept < window_of core }
     ensures { IfOk result (λ m. m ≡ taken M.rules core ask) }
 {
-    if core.leaves() < 2 {
-        return core.not_heard(ask, Cause::KeySpent);
+    match can_run(core, &ask, 1) {
+        Ok((core, true)) => order_and_run(core, ask),
+        Ok((core, false)) => core.not_heard(ask, Cause::KeySpent),
+        Err(want) => {
+            drop(ask);
+            Err(want)
+        }
     }
-    order_and_run(core, ask)
 }
 
 fn order_and_run<M: Machine>(core: Core<M>, ask: Signed<Ask>) -> Result<Moved<M>, Want>
-    requires leaves { 2 ≤ leaves_of core }
+    requires leaves { signs_of M.rules core ask + 1 ≤ leaves_of core }
     requires ask { IsAskReady ask }
     requires room { last_place core.kept < window_of core }
     ensures { IfOk result (λ m. m ≡ ends Answer.Taken (run M.rules (sealed M.rules core ask) (ordered_by M.rules core ask))) }
 {
     let (progress, frame) = order(core, ask)?;
-    let ran = progress.run_all(&frame);
+    let ran = run_all(progress, &frame);
     drop(frame);
     ran
 }

@@ -7,10 +7,11 @@ ghost use Rattle.zy_parts.specs.Statements.{IsHoleInRange};
 ghost use Rattle.zy_frames.specs.Frames.{IsFrameInRange, frame_in, parts_of};
 ghost use Rattle.zy_frames.specs.declared.frame.Frame.TheVariants as frames;
 ghost use Rattle.zy_seal.specs.Screening.{screen};
-ghost use Rattle.zy_table.specs.Roles.{in_role as has_role, is_client, is_replica};
+ghost use Rattle.zy_table.specs.Roles.{in_role as has_role, is_client, is_replica, is_order_of_primary as by_primary};
 ghost use Rattle.zy_table.specs.Step.{step as step_row, decoded, hear as hear_row, commit_in_view as committed_in_view, row as row_of, timer as timer_row};
 ghost use Rattle.zy_core.specs.Ready.{IsAskReady};
 
+use crate::checkpoints::{checkpoint, response};
 use crate::commits::commit;
 use crate::confirms::confirm;
 use crate::holes::{ask_again, fill_hole};
@@ -19,7 +20,7 @@ use crate::requests::hear_request;
 use zy_base::{Answer, Bytes, Cause, Event, Items, Machine, Party, TimerKind, Want};
 use zy_core::{Core, Moved};
 use zy_frames::{DecodeFault, Frame, OrderFrame, decode, parts};
-use zy_parts::{Ask, Confirm, Hole, Signed, Spec};
+use zy_parts::{Ask, Check, Confirm, Hole, Order, Signed, Spec};
 use zy_seal::screen_parts;
 
 #[tactic(auto, unfolding(zy_table::specs::Step::step))]
@@ -99,6 +100,9 @@ fn in_role<M: Machine>(core: &Core<M>, frame: &Frame) -> bool
         Frame::Order(both) => {
             core.is_primary_of(both.order.stmt.view, both.order.by) && is_by_client(both.ask.by)
         }
+        Frame::SpecResponse { spec, order, .. } => {
+            is_by_replica(spec.by) && is_order_of_primary(core, order)
+        }
         Frame::Commit(specs) => are_by_replicas(specs.as_slice()),
         Frame::ConfirmReq { confirm, ask } => {
             is_by_replica(confirm.by)
@@ -106,11 +110,20 @@ fn in_role<M: Machine>(core: &Core<M>, frame: &Frame) -> bool
                 && core.is_primary_of(confirm.stmt.view, Party::Replica(core.me()))
         }
         Frame::FillHole(hole) => is_by_replica(hole.by),
-        Frame::SpecResponse { .. } => false,
         Frame::LocalCommit(_) => false,
         Frame::Hate(_) => false,
         Frame::Pom(_, _) => false,
-        Frame::Checkpoint(_) => false,
+        Frame::Checkpoint(check) => is_by_replica(check.by),
+    }
+}
+
+// An order, where there is one, is signed by the primary of its view.
+fn is_order_of_primary<M: Machine>(core: &Core<M>, order: &Option<Signed<Order>>) -> bool
+    ensures { result ≡ by_primary core.now.counts order.now }
+{
+    match order {
+        None => true,
+        Some(order) => core.is_primary_of(order.stmt.view, order.by),
     }
 }
 
@@ -149,17 +162,14 @@ fn row<M: Machine>(core: Core<M>, frame: Frame) -> Result<Moved<M>, Want>
     match frame {
         Frame::Request(ask) => hear_request(core, ask),
         Frame::Order(both) => order_in_view(core, both),
+        Frame::SpecResponse { spec, reply, order } => response_in_view(core, spec, (reply, order)),
         Frame::Commit(specs) => commit_in_view(core, specs),
         Frame::ConfirmReq { confirm, ask } => confirm_in_view(core, confirm, ask),
         Frame::FillHole(hole) => hole_in_view(core, hole),
-        Frame::SpecResponse { spec, reply, order } => core.not_heard(
-            (spec, reply, order),
-            Cause::WrongRole,
-        ),
         Frame::LocalCommit(local) => core.not_heard(local, Cause::WrongRole),
         Frame::Hate(hate) => core.not_heard(hate, Cause::WrongRole),
         Frame::Pom(first, second) => core.not_heard((first, second), Cause::WrongRole),
-        Frame::Checkpoint(check) => core.not_heard(check, Cause::WrongRole),
+        Frame::Checkpoint(check) => checkpoint_in_view(core, check),
     }
 }
 
@@ -174,6 +184,31 @@ fn order_in_view<M: Machine>(core: Core<M>, both: OrderFrame) -> Result<Moved<M>
     match core.view_cause(both.order.stmt.view) {
         Some(cause) => core.not_heard(both, cause),
         None => hear_order(core, both),
+    }
+}
+
+// A response of the own view. The reply and the order beside it are the client's.
+fn response_in_view<M: Machine>(
+    core: Core<M>,
+    spec: Signed<Spec>,
+    beside: (Bytes, Option<Signed<Order>>),
+) -> Result<Moved<M>, Want>
+    ensures { IfOk result (λ m. m ≡ row_of M.rules core (frames.SpecResponse spec beside.0 beside.1)) }
+{
+    drop(beside);
+    match core.view_cause(spec.stmt.view) {
+        Some(cause) => core.not_heard(spec, cause),
+        None => response(core, spec),
+    }
+}
+
+// A checkpoint of the own view.
+fn checkpoint_in_view<M: Machine>(core: Core<M>, check: Signed<Check>) -> Result<Moved<M>, Want>
+    ensures { IfOk result (λ m. m ≡ row_of M.rules core (frames.Checkpoint check)) }
+{
+    match core.view_cause(check.stmt.view) {
+        Some(cause) => core.not_heard(check, cause),
+        None => checkpoint(core, check),
     }
 }
 

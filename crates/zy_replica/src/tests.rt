@@ -1,9 +1,12 @@
+mod checkpoint_rows;
+mod checkpoint_table;
 mod driver;
 mod frames;
 mod more_rows;
 mod rows;
 mod table;
 
+use checkpoint_rows::{OF_CHECKPOINTS, OF_LEAVES, OF_RESPONSES, OF_THE_WINDOW};
 use driver::{Input, Row, Step, follows, refuses_cuts};
 use more_rows::{OF_CERTIFICATES, OF_OTHER_FRAMES};
 use rows::{OF_ORDERS, OF_THE_PRIMARY, OF_WAITING_REQUESTS};
@@ -40,6 +43,26 @@ fn waiting_requests(rt: HostRuntime) -> Result<(), Fail> {
 #[test]
 fn certificates(rt: HostRuntime) -> Result<(), Fail> {
     all_follow(rt.alloc(), OF_CERTIFICATES)
+}
+
+#[test]
+fn responses(rt: HostRuntime) -> Result<(), Fail> {
+    all_follow(rt.alloc(), OF_RESPONSES)
+}
+
+#[test]
+fn checkpoints(rt: HostRuntime) -> Result<(), Fail> {
+    all_follow(rt.alloc(), OF_CHECKPOINTS)
+}
+
+#[test]
+fn leaves(rt: HostRuntime) -> Result<(), Fail> {
+    all_follow(rt.alloc(), OF_LEAVES)
+}
+
+#[test]
+fn the_window(rt: HostRuntime) -> Result<(), Fail> {
+    all_follow(rt.alloc(), OF_THE_WINDOW)
 }
 
 #[test]

@@ -2,7 +2,7 @@ mod PutLemmas
 mod TimesLemmas
 mod RingLemmas
 mod ColumnLemmas
-mod ListLemmas
+pub mod ListLemmas
 mod NameLemmas
 mod AgeLemmas
 mod StepLemmas

@@ -136,12 +136,12 @@ impl<T> Slots<T> {
         ensures value { (front : List (Cell T)) (last : Cell T) → self.old.live ≡ front ++ last ∷ [] → result ≡ last.value }
         ensures taken { (front : List (Cell T)) (last : Cell T) → self.old.live ≡ front ++ last ∷ [] → self.new ≡ with_live self.old front }
     {
-        let Some(place) = self.order.prev.get() else {
+        let Some(last) = self.order.prev.get() else {
             unreachable!()
         };
-        take_out(&mut self.slots, &mut self.order, &mut self.chains, place);
-        let value = release(&mut self.slots, place);
-        put_first(&mut self.slots, &mut self.free, place);
+        take_out(&mut self.slots, &mut self.order, &mut self.chains, last);
+        let value = release(&mut self.slots, last);
+        put_first(&mut self.slots, &mut self.free, last);
         match value {
             Some(value) => value,
             None => unreachable!(),

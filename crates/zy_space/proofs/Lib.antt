@@ -1,5 +1,6 @@
 pub mod TagLemmas
-pub mod MarkLemmas
-pub mod PlaceLemmas
+pub mod BucketLemmas
+pub mod SearchLemmas
+pub mod ChangeLemmas
 pub mod StateLemmas
 pub mod ServiceLaws

@@ -1,20 +1,19 @@
 -- The bytes of operations, replies and states.
-use Rattle.std.proofs.Common.{◌≡◌, ℕ, suc, true, List, None, Err, [], ◌∷◌, length, map, Result, Ok, refl, ap, ◌∙◌, subst}
+use Rattle.std.proofs.Common.{◌≡◌, ℕ, suc, true, List, None, Err, [], ◌∷◌, length, map, Result, Ok, ◌≤◌, refl, ap, ◌∙◌, arith}
 use Rattle.std.specs.Prelude.{IsErr, nat_lt}
 use Rattle.std.proofs.lemmas.Bool.{lt-ltb, and_from}
-use Rattle.std.proofs.lemmas.List.{length-map}
-use Rattle.std.proofs.lemmas.List.Elements.{recursion_from_All}
 use Rattle.zy_base.specs.declared.frame_fault.FrameFault.{FrameFault}
 use Rattle.zy_wire.specs.Spelling.{IsBytes, whole}
 use Rattle.zy_wire.proofs.Parts.{whole_takes}
 use Rattle.zy_tuple.specs.declared.values.Field.{Field}
 use Rattle.zy_tuple.specs.Values.{IsTuple}
 use Rattle.zy_tuple.specs.Bytes.{op_in}
-use Rattle.zy_space.specs.Service.{is_bytes, answered, ran, value_of, state_in, state_spelling}
-use Rattle.zy_space.specs.declared.slots.Slot.{Slot}
-use Rattle.zy_space.specs.Marks.{live_of, AllLive, IsSpace}
-use Rattle.zy_space.proofs.MarkLemmas.{live_of-all, space_made, holds_each}
-use Rattle.zy_space.specs.Laws.{state-exact}
+use Rattle.zy_space.specs.Service.{is_bytes, answered, ran, value_of, state_in, state_spelling, IsSpaceState}
+use Rattle.zy_slots.specs.Cells.{Cells}
+use Rattle.zy_space.specs.declared.changes.Change.{Change}
+use Rattle.zy_space.specs.Changes.{tuples_of, AllTuples, IsSound, IsSpace}
+use Rattle.zy_space.specs.Laws.{state-exact, state_from}
+use Rattle.zy_space.proofs.ChangeLemmas.{length-tuples, tuples_are, space_made}
 
 pub bytes_are : (bytes : List ℕ) → IsBytes bytes → is_bytes bytes ≡ true
 bytes_are [] fits = refl
@@ -33,12 +32,13 @@ pub ran_read : (bytes : List ℕ) (tuples : List (List Field)) → IsBytes bytes
 unfolding ran
 ran_read bytes tuples fits = rw (bytes_are bytes fits) refl
 
--- ---- a space from the bytes of a state
+-- ---- the state of a space, and a space from the bytes of a state
 
-pub restored : (slots : List Slot) (bytes : List ℕ) → IsBytes bytes → whole state_spelling bytes ≡ Ok (map (λ (s : Slot). s.tuple) slots) → AllLive slots → IsSpace slots [] (length slots) 0
-restored slots bytes fits read live =
-    let tuples = map (λ (s : Slot). s.tuple) slots in
-    let state = (whole_takes state_spelling state-exact bytes tuples fits read).1 in
-    let same : live_of slots ≡ tuples = live_of-all slots live in
-    let many : length (live_of slots) ≡ length slots = ap length same ∙ length-map slots (λ (s : Slot). s.tuple) in
-    subst (λ (count : ℕ). IsSpace slots [] count 0) many (space_made slots (holds_each slots (recursion_from_All IsTuple tuples state.each)) live (rw same state.most))
+pub space_state : (cells : Cells (List Field)) (changes : List Change) → IsSound cells changes → IsSpaceState (tuples_of cells.live)
+space_state cells changes sound =
+    state_from (tuples_of cells.live) (omega (arith, sound.few, length-tuples cells.live)) (tuples_are cells.live sound.tuples)
+
+pub restored : (cells : Cells (List Field)) (live : ℕ) (bytes : List ℕ) → IsBytes bytes → whole state_spelling bytes ≡ Ok (tuples_of cells.live) → AllTuples cells.live → cells.stack ≡ [] → live ≡ length cells.live → IsSpace cells [] live
+restored cells live bytes fits read all none many =
+    let state = (whole_takes state_spelling state-exact bytes (tuples_of cells.live) fits read).1 in
+    space_made cells live all none many (omega (arith, state.most, length-tuples cells.live, many))

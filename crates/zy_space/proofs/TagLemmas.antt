@@ -14,7 +14,7 @@ use Rattle.zy_tuple.specs.Values.{is_same_field, fits_slot, matches}
 use Rattle.zy_space.specs.declared.tagged.WantedTags.{WantedTags}
 use Rattle.zy_space.specs.Tag.{tag_of_field, tag_at, wanted_at, mask_at, places, tags_of, wanted_tags}
 
-same_field : (wanted field : Field) → is_same_field wanted field ≡ true → wanted ≡ field
+pub same_field : (wanted field : Field) → is_same_field wanted field ≡ true → wanted ≡ field
 same_field (Int m) (Int n) same = ap Int ((Decides-int_eq m n).0 same)
 same_field (Int m) (Text b) same = absurd (cc)
 same_field (Text a) (Int n) same = absurd (cc)

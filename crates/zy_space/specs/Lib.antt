@@ -4,7 +4,8 @@ pub mod Timeline
 pub mod Service
 -- inner forms, which only private contracts and representations cite
 pub mod Tag
-pub mod Place
-pub mod Marks
+pub mod Bucket
+pub mod Changes
+pub mod Search
 -- the laws of a replicated machine, which are proved
 pub mod Laws

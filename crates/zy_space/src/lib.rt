@@ -2,7 +2,9 @@
 //! go back to its earlier states until these are forgotten.
 #![tactic(auto)]
 
-mod slots;
+mod bucket;
+mod changes;
+mod search;
 mod space;
 mod state;
 mod tagged;

@@ -1,16 +1,19 @@
 ghost use Rattle.std.specs.Prelude.{◌≡◌, ◌<◌, List, [], ◌∷◌, ◌++◌, length, drop, IfOk, OnOk, OnErr, IfSome, IfNone};
-ghost use Rattle.zy_tuple.specs.Values.{IsOp, IsReply, IsTuple};
+ghost use Rattle.zy_tuple.specs.Values.{IsOp, IsReply, IsTuple, IsTemplate};
 ghost use Rattle.zy_space.specs.TupleSpace.{inserted, found, oldest, without_oldest, step};
 ghost use Rattle.zy_space.specs.Service.{ran};
 ghost use Rattle.zy_space.specs.Timeline.{Timeline, onward};
 
-use crate::slots::{self, Change, Slot};
+use crate::changes::{self, Change};
+use crate::search::oldest_match;
 use crate::state::{get_state, put_state};
+use crate::tagged::Tagged;
 use std::alloc::Global;
 use std::collections::VecDeque;
 use std::marker::Model;
 use std::sync::ledger::Ledger;
 use zy_base::{Bytes, ClientId, Machine, RestoreFault, Steps, Want};
+use zy_slots::Slots;
 use zy_tuple::{Op, OpFault, Reply, Template, Tuple, op_read, reply_bytes};
 
 /// The state of a space: its tuples, oldest first.
@@ -34,12 +37,10 @@ pub const TUPLE_LIMIT: u64 = 4096;
 /// A space of tuples that can go back. Contracts see its tuples, and those of each earlier state, oldest first.
 #[derive(Debug, Drop)]
 pub struct Space {
-    slots: Vec<Slot>,
+    slots: Slots<Tagged>,
     changes: VecDeque<Change>,
-    // how many slots are live
+    // how many tuples are live
     live: u64,
-    // how many slots wait to be left out
-    gone: usize,
 }
 
 impl Model for Space {
@@ -48,11 +49,11 @@ impl Model for Space {
 
     ghost Value = { Timeline };
 
-    ghost use Rattle.zy_space.specs.Marks.{live_of, trail_of, IsSpace};
+    ghost use Rattle.zy_space.specs.Changes.{tuples_of, trail_of, IsSpace};
 
-    ghost view = { λ s. record { tuples = live_of s.slots.items; trail = trail_of s.slots.items s.changes.items } };
+    ghost view = { λ s. record { tuples = tuples_of s.slots.live; trail = trail_of s.slots s.changes.items } };
 
-    ghost invariant = { λ s. IsSpace s.slots.items s.changes.items s.live s.gone };
+    ghost invariant = { λ s. IsSpace s.slots s.changes.items s.live };
 }
 
 impl Space {
@@ -75,7 +76,7 @@ impl Space {
             Op::Out(tuple) => self.insert(tuple, Reply::Done),
             Op::Rdp(template) => self.read(template),
             Op::Inp(template) => self.take(template),
-            Op::Cas(template, tuple) => match slots::place_of(&self.slots, template) {
+            Op::Cas(template, tuple) => match oldest_match(&self.slots, self.live, template) {
                 None => self.insert(tuple, Reply::True),
                 Some(_) => self.stay(Reply::False),
             },
@@ -88,7 +89,7 @@ impl Space {
         ensures after { OnOk result (self.new ≡ onward self.old self.old.tuples) }
         ensures err { OnErr result (self.new ≡ self.old) }
     {
-        slots::stay(&self.slots, &mut self.changes)?;
+        changes::stay(&self.slots, &mut self.changes)?;
         Ok(reply)
     }
 
@@ -102,37 +103,39 @@ impl Space {
         if self.live >= TUPLE_LIMIT {
             return self.stay(Reply::Full);
         }
-        slots::put(&mut self.slots, &mut self.changes, tuple.clone()?)?;
+        changes::put(&mut self.slots, &mut self.changes, tuple.clone()?)?;
         self.live += 1;
         Ok(reply)
     }
 
     fn read(&mut self, template: &Template) -> Result<Reply, Want>
+        requires { IsTemplate template.now }
         ensures reply { IfOk result (λ reply. reply ≡ found (oldest template.now self.old.tuples)) }
         ensures after { OnOk result (self.new ≡ onward self.old self.old.tuples) }
         ensures is_reply { IfOk result IsReply }
         ensures err { OnErr result (self.new ≡ self.old) }
     {
-        match slots::place_of(&self.slots, template) {
+        match oldest_match(&self.slots, self.live, template) {
             None => self.stay(Reply::Nothing),
-            Some(place) => {
-                let tuple = slots::tuple_of(&self.slots, place)?;
+            Some(id) => {
+                let tuple = changes::tuple_of(&self.slots, id)?;
                 self.stay(Reply::Got(tuple))
             }
         }
     }
 
     fn take(&mut self, template: &Template) -> Result<Reply, Want>
+        requires { IsTemplate template.now }
         ensures reply { IfOk result (λ reply. reply ≡ found (oldest template.now self.old.tuples)) }
         ensures after { OnOk result (self.new ≡ onward self.old (without_oldest template.now self.old.tuples)) }
         ensures is_reply { IfOk result IsReply }
         ensures err { OnErr result (self.new ≡ self.old) }
     {
-        match slots::place_of(&self.slots, template) {
+        match oldest_match(&self.slots, self.live, template) {
             None => self.stay(Reply::Nothing),
-            Some(place) => {
-                let tuple = slots::tuple_of(&self.slots, place)?;
-                slots::take_out(&mut self.slots, &mut self.changes, place)?;
+            Some(id) => {
+                let tuple = changes::tuple_of(&self.slots, id)?;
+                changes::take_out(&mut self.slots, &mut self.changes, id)?;
                 self.live -= 1;
                 Ok(Reply::Got(tuple))
             }
@@ -146,7 +149,7 @@ impl Space {
         ensures is_reply { IfOk result IsReply }
         ensures err { OnErr result (self.new ≡ self.old) }
     {
-        match op_read(*self.slots.allocator(), bytes) {
+        match op_read(*self.changes.allocator(), bytes) {
             Ok(op) => self.run_op(client, &op),
             Err(OpFault::NotOp) => self.stay(Reply::Bad),
             Err(OpFault::Want) => Err(Want),
@@ -157,23 +160,15 @@ impl Space {
         requires { 0 < length self.old.trail }
         ensures { self.old.trail ≡ self.new.trail ++ self.new.tuples ∷ [] }
     {
-        self.live = slots::go_back(&mut self.slots, &mut self.changes, self.live);
+        self.live = changes::go_back(&mut self.slots, &mut self.changes, self.live);
     }
 
-    // Slots that are gone are left out once they are an eighth of all slots, and of the changes, so that a search
-    // seldom meets one. Each one that goes pays for at most 24 slots or changes that are gone over.
     fn forget_one(&mut self)
         requires { 0 < length self.old.trail }
         ensures tuples { self.new.tuples ≡ self.old.tuples }
         ensures trail { self.new.trail ≡ drop 1 self.old.trail }
     {
-        if slots::forget_oldest(&mut self.slots, &mut self.changes) {
-            self.gone += 1;
-            if self.gone > self.slots.len() / 8 && self.gone > self.changes.len() / 8 {
-                slots::compact(&mut self.slots, &mut self.changes);
-                self.gone = 0;
-            }
-        }
+        changes::forget_oldest(&mut self.slots, &mut self.changes);
     }
 }
 
@@ -193,16 +188,15 @@ impl Machine for Space {
 
     fn empty(alloc: Global) -> Result<Space, Want> {
         Ok(Space {
-            slots: Vec::new(alloc),
+            slots: Slots::new(alloc),
             changes: VecDeque::new(alloc),
             live: 0,
-            gone: 0,
         })
     }
 
     fn apply(&mut self, client: ClientId, op: &[u8]) -> Result<Bytes, Want> {
         let reply = self.run_bytes(client, op)?;
-        match reply_bytes(*self.slots.allocator(), &reply) {
+        match reply_bytes(*self.changes.allocator(), &reply) {
             Ok(bytes) => Ok(bytes),
             Err(want) => {
                 self.go_back();
@@ -225,16 +219,15 @@ impl Machine for Space {
     }
 
     fn state_bytes(&self) -> Result<Bytes, Want> {
-        put_state(*self.slots.allocator(), &self.slots, self.live)
+        put_state(*self.changes.allocator(), &self.slots, self.live)
     }
 
     fn restore(alloc: Global, bytes: &[u8]) -> Result<Space, RestoreFault> {
         match get_state(alloc, bytes) {
-            Ok(slots) => Ok(Space {
-                live: slots.len() as u64,
+            Ok((slots, live)) => Ok(Space {
                 slots,
                 changes: VecDeque::new(alloc),
-                gone: 0,
+                live,
             }),
             Err(OpFault::NotOp) => Err(RestoreFault::NotState),
             Err(OpFault::Want) => Err(RestoreFault::Want),

@@ -103,8 +103,8 @@ pub fn wanted_tags(template: &Template) -> WantedTags
 /// A tuple with the tags of its fields. Contracts see the tuple.
 #[derive(Debug, Drop)]
 pub struct Tagged {
-    tuple: Tuple,
     tags: [u8; 8],
+    tuple: Tuple,
 }
 
 impl Model for Tagged {

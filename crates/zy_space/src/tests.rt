@@ -1,4 +1,4 @@
-ghost use Rattle.std.specs.Prelude.{◌≡◌, ◌<◌};
+ghost use Rattle.std.specs.Prelude.{◌≡◌, ◌+◌, ◌<◌, ◌≤◌, length};
 
 use super::*;
 use std::alloc::Global;
@@ -164,5 +164,48 @@ fn keeps_changes_and_no_copies(rt: HostRuntime) -> Result<(), Fail> {
     let state = undo_all::<Brand, HostRuntime>(&rt, alloc, &mut space, Blank::new(1), 24_095)?;
     assert_eq!(rt; state.as_slice(), b"\x00\x00".as_slice());
     assert_eq!(rt; (space.trail_len(), space.len()), (0, 0));
+    Ok(())
+}
+
+// Goes back over two operations, in two steps at most.
+fn go_back_twice<L: Ledger>(space: &mut Space, steps: &mut Steps<L>)
+    requires { 1 < length space.old.trail }
+    ensures { steps.new ≤ steps.old + 2 }
+{
+    space.undo(steps);
+    space.undo(steps);
+}
+
+fn undo_twice<L: Ledger>(space: &mut Space, blank: Blank)
+    requires name { blank.name ≡ L.name }
+    requires parts { blank.parts ≡ L.parts }
+    requires some { 0 < blank.parts }
+    requires trail { 1 < length space.old.trail }
+{
+    let mut steps = Steps::<L>::start(blank);
+    go_back_twice(space, &mut steps);
+}
+
+const THREE: &[u8] =
+    b"\x00\x03\x02\x02\x01a\x01\x00\x00\x00\x00\x00\x00\x00\x01\x02\x02\x01b\x01\x00\x00\x00\x00\x00\x00\x00\x02\x02\x02\x01a\x01\x00\x00\x00\x00\x00\x00\x00\x03";
+
+const LAST: &[u8] = b"\x00\x01\x02\x02\x01a\x01\x00\x00\x00\x00\x00\x00\x00\x03";
+
+#[test]
+fn what_was_taken_comes_back_to_its_place(rt: HostRuntime) -> Result<(), Fail> {
+    let alloc = rt.alloc();
+    let mut space = Space::empty(alloc)?;
+    run(&rt, alloc, &mut space, b"out (\"a\" 1)", b"ok")?;
+    run(&rt, alloc, &mut space, b"out (\"b\" 2)", b"ok")?;
+    run(&rt, alloc, &mut space, b"out (\"a\" 3)", b"ok")?;
+    for _ in 0..2 {
+        run(&rt, alloc, &mut space, b"inp (* 2)", b"tuple (\"b\" 2)")?;
+        run(&rt, alloc, &mut space, b"inp (\"a\" *)", b"tuple (\"a\" 1)")?;
+        assert_eq!(rt; space.state_bytes()?.as_slice(), LAST);
+        assert!(rt; space.trail_len() > 1);
+        undo_twice::<Brand>(&mut space, Blank::new(1));
+        assert_eq!(rt; space.state_bytes()?.as_slice(), THREE);
+        assert_eq!(rt; (space.trail_len(), space.len()), (3, 3));
+    }
     Ok(())
 }

@@ -1,11 +1,11 @@
 -- What a client makes of an event.
-use Rattle.std.specs.Prelude.{ℕ, ◌+◌, ◌%◌, nat_lt, nat_le, nat_eq, ◌&&◌, Bool, true, false, if◌then◌else◌, List, [], ◌∷◌, take, count_by, slice_set, slice_index_or, unwrap_or, Option, Some, None, Result, Ok, Err}
-use Rattle.std.specs.List.{find, filter_map}
+use Rattle.std.specs.Prelude.{ℕ, ◌+◌, ◌%◌, nat_lt, nat_le, nat_eq, ◌&&◌, Bool, true, false, if◌then◌else◌, List, [], ◌∷◌, ◌++◌, take, count_by, slice_set, slice_index_or, unwrap_or, Option, Some, None, Result, Ok, Err}
+use Rattle.std.specs.List.{find, filter_map, list_any}
 use Rattle.sha2.specs.Sha256.{sha256}
-use Rattle.zy_base.specs.declared.counts.Counts.{Counts}
 use Rattle.zy_base.specs.declared.frame_fault.FrameFault.{FrameFault}
 use Rattle.zy_base.specs.declared.cause.Cause.{Cause}
 use Rattle.zy_base.specs.declared.cause.Cause.TheVariants as causes
+use Rattle.zy_base.specs.declared.ids.View.{View}
 use Rattle.zy_base.specs.declared.ids.Party.{Party}
 use Rattle.zy_base.specs.declared.ids.Party.TheVariants.{Replica, Client}
 use Rattle.zy_base.specs.declared.step.Answer.TheVariants.{Taken}
@@ -28,6 +28,7 @@ use Rattle.zy_seal.specs.Screening.{screen}
 use Rattle.zy_seal.specs.Sealing.{sealed_by, spent_one}
 use Rattle.zy_admit.specs.Judging.{same_digest}
 use Rattle.zy_cert.specs.Equal.{same_spec, same_local}
+use Rattle.zy_cert.specs.Misbehaviour.{conflict}
 use Rattle.zy_cert.specs.Votes.{Poll, answer_to, poll_after}
 use Rattle.zy_cert.specs.declared.votes.Vote.{Vote}
 use Rattle.zy_cert.specs.declared.votes.Vote.TheVariants.{Counted, Full, Repeat, Mixed}
@@ -128,9 +129,45 @@ complete s r = record s { known_view = r.spec.stmt.view; waiting = None; done = 
 abbrev pub completed_if : ClientState → Response → ClientState
 completed_if s r = if nat_le s.counts.fast (agreeing s r.spec.stmt) then complete s r else s
 
+-- ---- two orders of one primary
+
+abbrev pub order_in : Option Response → Option (Signed Order)
+order_in None = None
+order_in (Some kept) = kept.order
+
+-- of the kept orders, by the numbers of the replicas, the first that contradicts one
+abbrev pub contradicted : ClientState → Signed Order → Option (Signed Order)
+contradicted s order = find (λ kept. conflict kept order) (filter_map order_in s.responses)
+
+-- all were told that the primary of the view misbehaved
+abbrev pub is_blamed : ClientState → View → Bool
+is_blamed s view = list_any (λ told. nat_eq told.0 view.0) s.blamed
+
+-- what proves that it did, where they weren't told
+abbrev pub evidence_with : ClientState → Signed Order → Option (Signed Order) → Option (Signed Order × Signed Order)
+evidence_with s order None = None
+evidence_with s order (Some kept) = if is_blamed s order.stmt.view then None else Some (kept, order)
+
+abbrev pub evidence_by : ClientState → Option (Signed Order) → Option (Signed Order × Signed Order)
+evidence_by s None = None
+evidence_by s (Some order) = evidence_with s order (contradicted s order)
+
+-- the two orders go to all replicas, once for each view
+abbrev pub told : Option (Signed Order × Signed Order) → ClientState → ClientOutcome
+told None s = taken s
+told (Some orders) s =
+    record {
+      answer = Taken;
+      state = record s { blamed = s.blamed ++ orders.1.stmt.view ∷ [] };
+      sent = record { to = All; frame = frames.Pom orders.0 orders.1 } ∷ [];
+      said = [];
+    }
+
 abbrev pub keep_unless : Option Cause → ClientState → ℕ → Response → ClientOutcome
 keep_unless (Some cause) s id r = refused cause s
-keep_unless None s id r = taken (completed_if (keep s id r) r)
+keep_unless None s id r =
+    let kept = keep s id r in
+    told (evidence_by kept r.order) (completed_if kept r)
 
 abbrev pub respond_while : ClientState → Option (Signed Ask) → ℕ → Response → ClientOutcome
 respond_while s None id r = refused causes.Finished s

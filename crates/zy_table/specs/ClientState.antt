@@ -1,9 +1,8 @@
 -- What a client is, as far as its answers tell, and what a step of it does.
-use Rattle.std.specs.Prelude.{ℕ, ◌+◌, ◌-◌, ◌%◌, ◌^◌, Bool, true, false, List, [], ◌∷◌, ◌++◌, map, replicate, Option, Some, None}
+use Rattle.std.specs.Prelude.{ℕ, ◌-◌, ◌^◌, Bool, true, false, List, [], map, replicate, Option, Some, None}
 use Rattle.std.specs.List.{range_with_len}
 use Rattle.zy_base.specs.declared.counts.Counts.{Counts}
 use Rattle.zy_base.specs.declared.cause.Cause.{Cause}
-use Rattle.zy_base.specs.declared.ids.ReplicaId.{ReplicaId}
 use Rattle.zy_base.specs.declared.ids.ClientId.{ClientId}
 use Rattle.zy_base.specs.declared.ids.Stamp.{Stamp}
 use Rattle.zy_base.specs.declared.ids.View.{View}
@@ -15,7 +14,7 @@ use Rattle.zy_base.specs.declared.step.Spoken.{Spoken}
 use Rattle.zy_base.specs.declared.step.Timers.{Timers}
 use Rattle.zy_lms.specs.Height.{levels_of}
 use Rattle.zy_seal.specs.Keys.{Keys}
-use Rattle.zy_seal.specs.Sealing.{SealerState, spent_one}
+use Rattle.zy_seal.specs.Sealing.{SealerState}
 use Rattle.zy_parts.specs.Numbers as numbers
 use Rattle.zy_parts.specs.Signing.{text_of}
 use Rattle.zy_parts.specs.Statements.{ask_fields}
@@ -45,6 +44,8 @@ pub record ClientState : Type 0 where
   pub commit : Option Commit
   -- the last completion
   pub done : Option Done
+  -- the views of which it told all that the primary misbehaved
+  pub blamed : List View
 
 -- no replica has responded
 abbrev pub no_responses : Counts → List (Option Response)
@@ -64,6 +65,7 @@ client_start me counts keys sealer stamp =
       responses = no_responses counts;
       commit = None;
       done = None;
+      blamed = [];
     }
 
 -- how many requests it can still sign

@@ -1,5 +1,5 @@
 -- What a replica answers to a commit certificate.
-use Rattle.std.specs.Prelude.{ℕ, nat_lt, nat_le, Bool, true, if◌then◌else◌, List, [], ◌∷◌, ◌++◌, Option, Some, None, Result, Ok, Err}
+use Rattle.std.specs.Prelude.{ℕ, ◌+◌, nat_lt, nat_le, true, if◌then◌else◌, List, [], ◌∷◌, ◌++◌, Option, Some, None, Result, Ok, Err}
 use Rattle.std.specs.List.{find}
 use Rattle.zy_base.specs.Machine.{Rules}
 use Rattle.zy_base.specs.declared.cause.Cause.{Cause}
@@ -26,19 +26,10 @@ use Rattle.zy_cert.specs.Points.{point_of_spec}
 use Rattle.zy_table.specs.declared.deeds.To.TheVariants.{One}
 use Rattle.zy_table.specs.declared.deeds.Body.TheVariants as bodies
 use Rattle.zy_table.specs.declared.deeds.Act.TheVariants.{Says}
-use Rattle.zy_table.specs.declared.kept.Certificate.{Certificate}
+use Rattle.zy_table.specs.declared.kept.OwnCheckpoint.{OwnCheckpoint}
 use Rattle.zy_table.specs.State.{State, stood_of, leaves_of, spent}
 use Rattle.zy_table.specs.Deeds.{Going, Outcome, send, act, refused, ends, begin}
-
--- ---- the certificate is kept where it is the first or further
-
-abbrev pub is_further : Place → Option Certificate → Bool
-is_further place None = true
-is_further place (Some kept) = nat_lt kept.place.0 place.0
-
-abbrev pub with_certificate : {S : Type 0} → State S → Place → List (Signed Spec) → State S
-with_certificate s place specs =
-    if is_further place s.certificate then record s { certificate = Some (record { place = place; specs = specs }) } else s
+use Rattle.zy_table.specs.Gathering.{own_at, with_certificate, checks_owed, gather_at}
 
 -- ---- the local commit, said once and sent as often as it is asked for
 
@@ -58,23 +49,32 @@ say_local R client local s =
     (act (Says (record { body = bodies.Local local; stood = stood_of R s }))
     (begin (record (spent s) { locals = s.locals ++ signed ∷ [] })))
 
+-- what is signed of it
+abbrev pub locals_owed : Option (Signed Local) → ℕ
+locals_owed None = 1
+locals_owed (Some said) = 0
+
+abbrev pub give_local : {S : Type 0} → Rules S → ClientId → Local → Option (Signed Local) → State S → Going S
+give_local R client local None s = say_local R client local s
+give_local R client local (Some said) s = send_local client said (begin s)
+
 -- ---- the row
 
--- the certificate is kept, and its local commit goes to the client
-abbrev pub commit_as : {S : Type 0} → Rules S → State S → List (Signed Spec) → ClientId → Local → Option (Signed Local) → Outcome S
-commit_as R s specs client local None =
-    if nat_le 1 (leaves_of s)
-    then ends Taken (say_local R client local (with_certificate s local.place specs))
+-- The certificate is kept, and its local commit goes to the client. At a multiple of the interval above the stable place,
+-- what is kept there is looked through, with this certificate.
+abbrev pub commit_as : {S : Type 0} → Rules S → State S → List (Signed Spec) → ClientId → Local → Option (Signed Local) → Option OwnCheckpoint → Outcome S
+commit_as R s specs client local said own =
+    let certain = with_certificate s local.place specs in
+    if nat_le (locals_owed said + checks_owed certain own true) (leaves_of s)
+    then ends Taken (gather_at R own true (give_local R client local said certain))
     else refused causes.KeySpent s
-commit_as R s specs client local (Some said) =
-    ends Taken (send_local client said (begin (with_certificate s local.place specs)))
 
 -- beside the own head at its place
 abbrev pub commit_beside : {S : Type 0} → Rules S → State S → List (Signed Spec) → ClientId → Local → Option Digest → Outcome S
 commit_beside R s specs client local None = refused (causes.Behind local.place) s
 commit_beside R s specs client local (Some own) =
     if same_digest own local.head
-    then commit_as R s specs client local (local_said s local)
+    then commit_as R s specs client local (local_said s local) (own_at R s local.place.0)
     else refused (causes.OtherHistory own local.head) s
 
 abbrev pub commit_judged : {S : Type 0} → Rules S → State S → List (Signed Spec) → ClientId → Result (View × Place × Digest) Cause → Outcome S

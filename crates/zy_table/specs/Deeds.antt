@@ -1,24 +1,20 @@
 -- What a step does, and what others see of it.
-use Rattle.std.specs.Prelude.{ℕ, ◌+◌, nat_eq, Bool, true, false, if◌then◌else◌, List, [], ◌∷◌, ◌++◌, map, filter, Option, Some, None}
-use Rattle.std.specs.List.{flat_map, range_with_len}
+use Rattle.std.specs.Prelude.{ℕ, ◌+◌, nat_eq, true, false, if◌then◌else◌, List, [], ◌∷◌, ◌++◌, map, filter, Some}
+use Rattle.std.specs.List.{range_with_len}
 use Rattle.zy_base.specs.declared.cause.Cause.{Cause}
-use Rattle.zy_base.specs.declared.ids.ReplicaId.{ReplicaId}
 use Rattle.zy_base.specs.declared.ids.Party.{Party}
 use Rattle.zy_base.specs.declared.ids.Party.TheVariants.{Replica}
 use Rattle.zy_base.specs.declared.step.Answer.{Answer}
-use Rattle.zy_base.specs.declared.step.Answer.TheVariants.{Taken, Held, Refused}
+use Rattle.zy_base.specs.declared.step.Answer.TheVariants.{Refused}
 use Rattle.zy_base.specs.declared.step.Spoken.{Spoken}
 use Rattle.zy_parts.specs.Numbers as numbers
 use Rattle.zy_parts.specs.Signing.{text_of}
-use Rattle.zy_parts.specs.Statements.{order_fields, spec_fields, local_fields, confirm_fields, hole_fields}
+use Rattle.zy_parts.specs.Statements.{order_fields, spec_fields, local_fields, confirm_fields, hole_fields, check_fields}
 use Rattle.zy_frames.specs.declared.frame.Frame.{Frame}
-use Rattle.zy_frames.specs.Frames.{spelling}
 use Rattle.zy_table.specs.declared.deeds.To.{To}
-use Rattle.zy_table.specs.declared.deeds.To.TheVariants.{All, One}
 use Rattle.zy_table.specs.declared.deeds.Sent.{Sent}
 use Rattle.zy_table.specs.declared.deeds.Body.{Body}
 use Rattle.zy_table.specs.declared.deeds.Body.TheVariants as bodies
-use Rattle.zy_table.specs.declared.deeds.Remark.{Remark}
 use Rattle.zy_table.specs.declared.deeds.Got.{Got}
 use Rattle.zy_table.specs.declared.deeds.Act.{Act}
 use Rattle.zy_table.specs.declared.deeds.Act.TheVariants.{Says, Gains}
@@ -75,6 +71,7 @@ text_by me (bodies.Spec spec) = text_of numbers.spec spec_fields me spec
 text_by me (bodies.Local local) = text_of numbers.local local_fields me local
 text_by me (bodies.Confirm confirm) = text_of numbers.confirm confirm_fields me confirm
 text_by me (bodies.Hole hole) = text_of numbers.hole hole_fields me hole
+text_by me (bodies.Check check) = text_of numbers.check check_fields me check
 
 -- the statements in order, each with what stood, and the number of entries that were executed before it
 abbrev pub said_from : Party → ℕ → List Act → List Spoken

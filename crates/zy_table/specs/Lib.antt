@@ -1,11 +1,13 @@
 pub mod State
 pub mod Deeds
+pub mod Gathering
 pub mod Running
 pub mod Requests
 pub mod Orders
 pub mod Holes
 pub mod Commits
 pub mod Confirms
+pub mod Checkpoints
 pub mod Roles
 pub mod Step
 pub mod ClientState

@@ -1,5 +1,5 @@
 -- What a replica answers to an order.
-use Rattle.std.specs.Prelude.{ℕ, ◌+◌, nat_le, nat_eq, ◌&&◌, Bool, true, false, if◌then◌else◌, Option, Some, None, option_map, is_some, unwrap_or}
+use Rattle.std.specs.Prelude.{ℕ, ◌+◌, nat_le, nat_eq, Bool, true, false, if◌then◌else◌, Option, Some, None, option_map, is_some, unwrap_or}
 use Rattle.zy_base.specs.Machine.{Rules}
 use Rattle.zy_base.specs.declared.cause.Cause.TheVariants as causes
 use Rattle.zy_base.specs.declared.step.Answer.TheVariants.{Taken, Held}
@@ -21,7 +21,7 @@ use Rattle.zy_table.specs.declared.deeds.Body.TheVariants as bodies
 use Rattle.zy_table.specs.declared.deeds.Act.TheVariants.{Says}
 use Rattle.zy_table.specs.State.{State, own_view, primary_of, window_of, stood_of, leaves_of, spent}
 use Rattle.zy_table.specs.Deeds.{Going, Outcome, send, act, refused, ends, begin}
-use Rattle.zy_table.specs.Running.{run}
+use Rattle.zy_table.specs.Running.{run, signs_of}
 
 abbrev pub position_of : {S : Type 0} → Rules S → State S → OrderFrame → Position
 position_of R s frame =
@@ -36,7 +36,7 @@ position_of R s frame =
 
 abbrev pub take_order : {S : Type 0} → Rules S → State S → OrderFrame → Outcome S
 take_order R s frame =
-    if nat_le 1 (leaves_of s)
+    if nat_le (signs_of R s frame.ask) (leaves_of s)
     then ends Taken (run R frame (begin (record s { orders = with_order s.orders frame; hole = None })))
     else refused causes.KeySpent s
 

@@ -1,13 +1,12 @@
 -- What a replica answers to a request.
-use Rattle.std.specs.Prelude.{ℕ, ◌+◌, nat_lt, nat_le, nat_eq, ◌&&◌, Bool, false, if◌then◌else◌, Option, Some, None, option_map}
+use Rattle.std.specs.Prelude.{◌+◌, nat_lt, nat_le, nat_eq, Bool, false, if◌then◌else◌, Option, Some, None, option_map}
 use Rattle.zy_base.specs.Machine.{Rules}
-use Rattle.zy_base.specs.declared.ids.ClientId.{ClientId}
 use Rattle.zy_base.specs.declared.ids.Party.TheVariants.{Client}
 use Rattle.zy_base.specs.declared.cause.Cause.TheVariants as causes
 use Rattle.zy_base.specs.declared.step.Answer.TheVariants.{Taken}
 use Rattle.zy_chain.specs.Entries.{digest_of_entry}
 use Rattle.zy_parts.specs.Numbers as numbers
-use Rattle.zy_parts.specs.Statements.{order_fields, spec_fields, confirm_fields}
+use Rattle.zy_parts.specs.Statements.{order_fields, confirm_fields}
 use Rattle.zy_parts.specs.declared.signed.Signed.{Signed}
 use Rattle.zy_parts.specs.declared.statements.Ask.{Ask}
 use Rattle.zy_parts.specs.declared.statements.Confirm.{Confirm}
@@ -27,7 +26,7 @@ use Rattle.zy_table.specs.declared.deeds.Act.TheVariants.{Says}
 use Rattle.zy_table.specs.declared.kept.Pending.{Pending}
 use Rattle.zy_table.specs.State.{State, own_view, is_leaving, is_primary, primary_of, window_of, stood_of, leaves_of, spent, spec_to, with_spec, pending_of, with_pending}
 use Rattle.zy_table.specs.Deeds.{Going, Outcome, send, act, refused, ends, begin}
-use Rattle.zy_table.specs.Running.{spec_of, next_known, run}
+use Rattle.zy_table.specs.Running.{spec_of, next_known, sealed_spec, run, signs_of}
 
 -- ---- a request that was executed last
 
@@ -41,7 +40,7 @@ response_of s signed known g =
 abbrev pub respond_anew : {S : Type 0} → Rules S → State S → Spec → Known → Outcome S
 respond_anew R s spec known =
     if nat_le 1 (leaves_of s)
-    then (let signed = sealed_by numbers.spec spec_fields s.sealer spec in
+    then (let signed = sealed_spec s spec in
     ends Taken (response_of s signed known
     (act (Says (record { body = bodies.Spec spec; stood = stood_of R s })) (begin (with_spec (spent s) signed)))))
     else refused causes.KeySpent s
@@ -84,10 +83,10 @@ ordered R s ask =
     (act (Says (record { body = bodies.Order o.order.stmt; stood = stood_of R s }))
     (begin (record (spent s) { orders = with_order s.orders o })))
 
--- and then run; the order and the response want a leaf each
+-- and then run; the order wants a leaf too
 abbrev pub take_request : {S : Type 0} → Rules S → State S → Signed Ask → Outcome S
 take_request R s ask =
-    if nat_le 2 (leaves_of s) then ends Taken (run R (sealed_order R s ask) (ordered R s ask)) else refused causes.KeySpent s
+    if nat_le (signs_of R s ask + 1) (leaves_of s) then ends Taken (run R (sealed_order R s ask) (ordered R s ask)) else refused causes.KeySpent s
 
 abbrev pub request_at_primary : {S : Type 0} → Rules S → State S → Signed Ask → Outcome S
 request_at_primary R s ask =

@@ -6,6 +6,8 @@ use Rattle.zy_base.specs.declared.cause.Cause.TheVariants as causes
 use Rattle.zy_base.specs.declared.ids.Party.{Party}
 use Rattle.zy_base.specs.declared.ids.Party.TheVariants.{Replica, Client}
 use Rattle.zy_base.specs.declared.counts.Counts.{Counts}
+use Rattle.zy_parts.specs.declared.signed.Signed.{Signed}
+use Rattle.zy_parts.specs.declared.statements.Order.{Order}
 use Rattle.zy_frames.specs.declared.frame.Frame.{Frame}
 use Rattle.zy_frames.specs.declared.frame.Frame.TheVariants as frames
 use Rattle.zy_table.specs.State.{State, own_view, is_leaving}
@@ -24,11 +26,16 @@ abbrev pub is_primary_of : Counts → ℕ → Party → Bool
 is_primary_of counts view (Replica id) = nat_eq (view % counts.n) id.0
 is_primary_of counts view (Client id) = false
 
+-- an order, where there is one, is signed by the primary of its view
+abbrev pub is_order_of_primary : Counts → Option (Signed Order) → Bool
+is_order_of_primary counts None = true
+is_order_of_primary counts (Some order) = is_primary_of counts order.stmt.view.0 order.by
+
 -- The signers are those that may say such a thing, and the replica is one that hears it.
 abbrev pub in_role : {S : Type 0} → State S → Frame → Bool
 in_role s (frames.Request ask) = is_client ask.by
 in_role s (frames.Order both) = is_primary_of s.counts both.order.stmt.view.0 both.order.by && is_client both.ask.by
-in_role s (frames.SpecResponse spec reply with_order) = false
+in_role s (frames.SpecResponse spec reply with_order) = is_replica spec.by && is_order_of_primary s.counts with_order
 in_role s (frames.Commit specs) = list_all (λ spec. is_replica spec.by) specs
 in_role s (frames.LocalCommit local) = false
 in_role s (frames.ConfirmReq confirm ask) =
@@ -36,7 +43,7 @@ in_role s (frames.ConfirmReq confirm ask) =
 in_role s (frames.FillHole hole) = is_replica hole.by
 in_role s (frames.Hate hate) = false
 in_role s (frames.Pom first second) = false
-in_role s (frames.Checkpoint check) = false
+in_role s (frames.Checkpoint check) = is_replica check.by
 
 -- ---- views
 

@@ -1,5 +1,5 @@
 -- Running an order: its entry is executed and answered in the same step, and then the orders that were held for it.
-use Rattle.std.specs.Prelude.{ℕ, ◌+◌, nat_lt, nat_le, ◌&&◌, Bool, if◌then◌else◌, List, [], ◌∷◌, Option, Some, None, option_map}
+use Rattle.std.specs.Prelude.{ℕ, ◌+◌, nat_lt, nat_le, ◌&&◌, Bool, false, if◌then◌else◌, List, [], ◌∷◌, Option, Some, None, option_map}
 use Rattle.sha2.specs.Sha256.{sha256}
 use Rattle.zy_base.specs.Machine.{Rules}
 use Rattle.zy_base.specs.declared.ids.Digest.{Digest}
@@ -18,17 +18,19 @@ use Rattle.zy_frames.specs.declared.frame.OrderFrame.{OrderFrame}
 use Rattle.zy_frames.specs.declared.frame.Frame.TheVariants as frames
 use Rattle.zy_seal.specs.Sealing.{sealed_by}
 use Rattle.zy_exec.specs.declared.known.Known.{Known}
-use Rattle.zy_exec.specs.Replay.{Point, known_of}
+use Rattle.zy_exec.specs.Replay.{known_of}
 use Rattle.zy_exec.specs.Kept.{longer, last_place, now_of, known_in}
+use Rattle.zy_exec.specs.Shots.{snapshot_in}
 use Rattle.zy_admit.specs.Orders.{without_order, slots_above}
 use Rattle.zy_admit.specs.Judging.{same_digest, entry_of, newer}
-use Rattle.zy_table.specs.declared.deeds.To.TheVariants.{One}
+use Rattle.zy_table.specs.declared.deeds.To.TheVariants.{All, One}
 use Rattle.zy_table.specs.declared.deeds.Body.TheVariants as bodies
 use Rattle.zy_table.specs.declared.deeds.Got.{Got}
 use Rattle.zy_table.specs.declared.deeds.Act.TheVariants.{Says, Gains}
 use Rattle.zy_table.specs.declared.kept.Pending.{Pending}
 use Rattle.zy_table.specs.State.{State, own_view, stood_of, leaves_of, spent, with_spec, pending_of, with_pending}
 use Rattle.zy_table.specs.Deeds.{Going, send, act}
+use Rattle.zy_table.specs.Gathering.{state_in, own_with, with_own_spec, gather, signs_with}
 
 -- what an executed entry is answered with
 abbrev pub spec_of : ℕ → Signed Ask → Known → Spec
@@ -47,19 +49,21 @@ abbrev pub next_known : {S : Type 0} → Rules S → State S → Signed Ask → 
 next_known R s ask = known_of R (now_of R s.kept) (entry_of ask)
 
 -- what is gained by an entry that is executed on a head
-abbrev pub got_from : Digest → Signed Ask → Known → Got
-got_from before ask known =
+abbrev pub got_from : Digest → Signed Ask → Known → Option (List ℕ) → Got
+got_from before ask known snapshot =
     record {
       place = known.place;
       before = before;
       entry = entry_of ask;
       head = known.head;
       reply = known.reply;
-      snapshot = None;
+      snapshot = snapshot;
     }
 
 abbrev pub got_of : {S : Type 0} → Rules S → State S → Signed Ask → Got
-got_of R s ask = got_from (now_of R s.kept).head ask (next_known R s ask)
+got_of R s ask =
+    let known = next_known R s ask in
+    got_from (now_of R s.kept).head ask known (snapshot_in R (longer s.kept (entry_of ask)) known.place.0)
 
 -- a request that waits still, where one of its client with this stamp was executed
 abbrev pub still_pending : Stamp → Option Pending → Option Pending
@@ -76,19 +80,42 @@ executed R ask g =
     act (Gains (got_of R g.state ask))
     (record g { state = without_pending (record g.state { kept = longer g.state.kept (entry_of ask) }) (entry_of ask) })
 
--- the response is signed, kept, and sent to the client with its order
-abbrev pub respond : {S : Type 0} → Rules S → Signed Order → Spec → List ℕ → Going S → Going S
-respond R order spec reply g =
-    let signed = sealed_by numbers.spec spec_fields g.state.sealer spec in
-    send (One (Client spec.client)) (frames.SpecResponse signed reply (Some order))
-    (act (Says (record { body = bodies.Spec spec; stood = stood_of R g.state }))
+-- the response that is signed
+abbrev pub sealed_spec : {S : Type 0} → State S → Spec → Signed Spec
+sealed_spec s spec = sealed_by numbers.spec spec_fields s.sealer spec
+
+-- it is kept as the last one, and sent to the client with its order
+abbrev pub respond : {S : Type 0} → Rules S → Signed Order → Signed Spec → List ℕ → Going S → Going S
+respond R order signed reply g =
+    send (One (Client signed.stmt.client)) (frames.SpecResponse signed reply (Some order))
+    (act (Says (record { body = bodies.Spec signed.stmt; stood = stood_of R g.state }))
     (record g { state = with_spec (spent g.state) signed }))
+
+-- At a multiple of the interval it goes to all as well, it is kept with those of others, and what is kept is looked through.
+abbrev pub share : {S : Type 0} → Rules S → Signed Order → Signed Spec → List ℕ → Option Digest → Going S → Going S
+share R order signed reply None g = g
+share R order signed reply (Some state) g =
+    let own = own_with signed.stmt state in
+    let told = send All (frames.SpecResponse signed reply (Some order)) g in
+    gather R own false (record told { state = with_own_spec told.state own signed })
+
+-- the answer to an entry that was executed: the response, and what goes with it at a multiple of the interval
+abbrev pub answered : {S : Type 0} → Rules S → Signed Order → Spec → List ℕ → Going S → Going S
+answered R order spec reply g =
+    let signed = sealed_spec g.state spec in
+    share R order signed reply (state_in R g.state.kept spec.place.0) (respond R order signed reply g)
 
 -- one order: its entry is executed, and then answered
 unfoldable pub run_one : {S : Type 0} → Rules S → OrderFrame → Going S → Going S
 run_one R o g =
-    respond R o.order (spec_of (own_view g.state) o.ask (next_known R g.state o.ask)) (next_known R g.state o.ask).reply
+    answered R o.order (spec_of (own_view g.state) o.ask (next_known R g.state o.ask)) (next_known R g.state o.ask).reply
     (executed R o.ask g)
+
+-- how many statements that signs
+abbrev pub signs_of : {S : Type 0} → Rules S → State S → Signed Ask → ℕ
+signs_of R s ask =
+    let spec = spec_of (own_view s) ask (next_known R s ask) in
+    signs_with s spec (state_in R (longer s.kept (entry_of ask)) spec.place.0)
 
 -- the order has the head and the stamp that the next one has to have
 abbrev pub fits_end : {S : Type 0} → Rules S → State S → OrderFrame → Bool
@@ -102,7 +129,7 @@ run_held R [] g = g
 run_held R (None ∷ slots) g = g
 run_held R (Some o ∷ slots) g =
     if fits_end R g.state o
-    then (if nat_le 1 (leaves_of g.state) then run_held R slots (run_one R o g) else g)
+    then (if nat_le (signs_of R g.state o.ask) (leaves_of g.state) then run_held R slots (run_one R o g) else g)
     else record g { state = record g.state { orders = without_order g.state.orders (last_place g.state.kept + 1) } }
 
 -- an order that is next, and those that were held for it

@@ -1,5 +1,5 @@
 -- What a replica is, as far as its answers tell.
-use Rattle.std.specs.Prelude.{◌≡◌, ℕ, ◌+◌, ◌-◌, ◌*◌, ◌%◌, ◌^◌, min, nat_eq, ◌||◌, Bool, true, false, if◌then◌else◌, List, [], slice_index_or, slice_set, replicate, Option, Some, None, option_map, is_some}
+use Rattle.std.specs.Prelude.{ℕ, ◌+◌, ◌-◌, ◌*◌, ◌%◌, ◌^◌, min, nat_eq, ◌||◌, Bool, true, false, List, [], slice_index_or, slice_set, replicate, Option, Some, None, is_some}
 use Rattle.std.specs.List.{list_any}
 use Rattle.zy_base.specs.Machine.{Rules}
 use Rattle.zy_base.specs.Step.{view_of}
@@ -21,8 +21,12 @@ use Rattle.zy_parts.specs.declared.statements.Spec.{Spec}
 use Rattle.zy_parts.specs.declared.statements.Hole.{Hole}
 use Rattle.zy_parts.specs.declared.statements.Local.{Local}
 use Rattle.zy_exec.specs.Replay.{origin}
-use Rattle.zy_exec.specs.Kept.{Kept, last_place, now_of, known_in}
+use Rattle.zy_exec.specs.Kept.{Kept, last_place, now_of}
+use Rattle.zy_exec.specs.Shots.{digest_of_snapshot}
+use Rattle.zy_exec.specs.Snapshot.{snapshot_of}
 use Rattle.zy_admit.specs.Orders.{Orders, no_orders}
+use Rattle.zy_check.specs.Board.{Board}
+use Rattle.zy_check.specs.Board as boards
 use Rattle.zy_table.specs.declared.kept.Certificate.{Certificate}
 use Rattle.zy_table.specs.declared.kept.Pending.{Pending}
 
@@ -39,6 +43,8 @@ pub record State (S : Type 0) : Type 0 where
   pub kept : Kept S
   -- the orders above the stable place, executed or held
   pub orders : Orders
+  -- the stable checkpoint, and the responses and checkpoints that are kept above it
+  pub board : Board
   -- what it asked the primary for last
   pub hole : Option (Signed Hole)
   -- its last response to each client
@@ -47,7 +53,7 @@ pub record State (S : Type 0) : Type 0 where
   pub pending : List (Option Pending)
   -- its furthest commit certificate
   pub certificate : Option Certificate
-  -- the local commits that it said
+  -- the local commits that it said, from the stable place on
   pub locals : List (Signed Local)
 
 -- a replica that begins
@@ -62,6 +68,7 @@ start_of R interval me counts keys sealer =
       last_view = record { 0 = 0 };
       kept = record { interval = interval; base = origin R; entries = [] };
       orders = no_orders 0;
+      board = boards.start_of interval (digest_of_snapshot (snapshot_of R (origin R)));
       hole = None;
       specs = replicate 64 None;
       pending = replicate 64 None;

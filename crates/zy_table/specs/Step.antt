@@ -1,5 +1,5 @@
 -- What a replica makes of an event.
-use Rattle.std.specs.Prelude.{ℕ, Bool, if◌then◌else◌, List, [], ◌∷◌, Option, Some, None, Result, Ok, Err}
+use Rattle.std.specs.Prelude.{if◌then◌else◌, List, [], ◌∷◌, Option, Some, None, Result, Ok, Err}
 use Rattle.zy_base.specs.Machine.{Rules}
 use Rattle.zy_base.specs.declared.frame_fault.FrameFault.{FrameFault}
 use Rattle.zy_base.specs.declared.cause.Cause.{Cause}
@@ -23,6 +23,7 @@ use Rattle.zy_table.specs.Orders.{order}
 use Rattle.zy_table.specs.Holes.{fill_hole, ask_again}
 use Rattle.zy_table.specs.Commits.{commit}
 use Rattle.zy_table.specs.Confirms.{confirm}
+use Rattle.zy_table.specs.Checkpoints.{response, checkpoint}
 
 -- an outcome, unless there is a cause against it
 abbrev pub unless : {S : Type 0} → Option Cause → State S → Outcome S → Outcome S
@@ -38,14 +39,14 @@ commit_in_view R s (first ∷ others) = unless (view_cause s first.stmt.view.0) 
 abbrev pub row : {S : Type 0} → Rules S → State S → Frame → Outcome S
 row R s (frames.Request ask) = request R s ask
 row R s (frames.Order both) = unless (view_cause s both.order.stmt.view.0) s (order R s both)
-row R s (frames.SpecResponse spec reply with_order) = refused causes.WrongRole s
+row R s (frames.SpecResponse spec reply with_order) = unless (view_cause s spec.stmt.view.0) s (response R s spec)
 row R s (frames.Commit specs) = commit_in_view R s specs
 row R s (frames.LocalCommit local) = refused causes.WrongRole s
 row R s (frames.ConfirmReq confirmed ask) = unless (view_cause s confirmed.stmt.view.0) s (confirm R s confirmed ask)
 row R s (frames.FillHole hole) = unless (view_cause s hole.stmt.view.0) s (fill_hole s hole)
 row R s (frames.Hate hate) = refused causes.WrongRole s
 row R s (frames.Pom first second) = refused causes.WrongRole s
-row R s (frames.Checkpoint check) = refused causes.WrongRole s
+row R s (frames.Checkpoint check) = unless (view_cause s check.stmt.view.0) s (checkpoint R s check)
 
 -- a frame whose parts are verified
 abbrev pub hear : {S : Type 0} → Rules S → State S → Frame → Outcome S

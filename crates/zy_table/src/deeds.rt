@@ -1,7 +1,7 @@
 use zy_base::{Bytes, Digest, Items, Party, Place, Stood};
 use zy_chain::Entry;
 use zy_frames::Frame;
-use zy_parts::{Confirm, Hole, Local, Order, Spec};
+use zy_parts::{Check, Confirm, Hole, Local, Order, Spec};
 
 /// To whom a frame goes.
 #[derive(Clone, Copy, Debug, PartialEq, Eq)]
@@ -26,6 +26,7 @@ pub enum Body {
     Local(Local),
     Confirm(Confirm),
     Hole(Hole),
+    Check(Check),
 }
 
 /// A statement with what stood when it was signed.

@@ -1,5 +1,5 @@
 use zy_base::{Items, Place};
-use zy_parts::{Ask, Confirm, Signed, Spec};
+use zy_parts::{Ask, Check, Confirm, Signed, Spec};
 
 /// A request that waits at a backup for its order, and what was said of it to the primary.
 #[derive(Clone, Debug, Drop)]
@@ -13,4 +13,12 @@ pub struct Pending {
 pub struct Certificate {
     pub place: Place,
     pub specs: Items<Signed<Spec>>,
+}
+
+/// What the own history says at a multiple of the checkpoint interval: the response to the entry there, and the
+/// checkpoint.
+#[derive(Clone, Copy, Debug)]
+pub struct OwnCheckpoint {
+    pub spec: Spec,
+    pub check: Check,
 }

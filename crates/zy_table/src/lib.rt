@@ -9,5 +9,5 @@ mod sending;
 
 pub use client::{Commit, Done, Path, Response};
 pub use deeds::{Act, Body, Deeds, Gains, Got, Remark, Sent, To};
-pub use kept::{Certificate, Pending};
+pub use kept::{Certificate, OwnCheckpoint, Pending};
 pub use sending::outgoing;

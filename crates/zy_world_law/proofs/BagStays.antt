@@ -12,7 +12,7 @@ module _ {S : Type 0} (R : Rules S) (w : World S) (leaves : Party → ℕ) (bag 
   w' = record w { leaves = leaves; bag = bag; muted = muted }
 
   tied_same : (id : ℕ) (x : Replica S) → IsTied R w id x → IsTied R w' id x
-  tied_same id x t = record { tied = t.tied; keys = t.keys; short = t.short; replies = t.replies }
+  tied_same id x t = record { tied = t.tied; keys = t.keys; interval = t.interval; short = t.short; replies = t.replies; snapshots = t.snapshots }
 
   backed_same : (id : ℕ) (r : Response) → IsBackedBy w id r → IsBackedBy w' id r
   backed_same id r b = record { within = b.within; said = b.said; reply = b.reply; spelled = b.spelled }

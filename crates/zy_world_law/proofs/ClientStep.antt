@@ -108,8 +108,10 @@ module _ {S : Type 0} (R : Rules S) (w : World S) (good : IsGood R w) (id : Clie
         tied = subst (λ (u : law.World). lawful.IsTied R u q y.state (history_of y.past)) seen_is
             (tied_grown R v q y.state (history_of y.past) (asked_by w') v.said v.past v.kept asks_stay (λ q i z has. has) (λ q i b has. has) refl refl before.tied);
         keys = before.keys;
+        interval = before.interval;
         short = before.short;
         replies = before.replies;
+        snapshots = before.snapshots;
       }
 
   backed_after : (number : ℕ) (r : Response) → IsBackedBy w number r → IsBackedBy w' number r

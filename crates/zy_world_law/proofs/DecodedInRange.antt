@@ -17,10 +17,10 @@ use Rattle.zy_wire.specs.Fields.{u62, digest, digest_at, party, bytes16, bytes_a
 use Rattle.zy_wire.specs.Framing.{framed_in}
 use Rattle.zy_wire.specs.Kind.{kind_in}
 use Rattle.zy_wire.specs.Spelling.{Spelling, ◌>>=◌, ended, word, word_at, exactly, exactly_at, pair, made, or_range, within, number_at, repeated_at}
-use Rattle.zy_lawful.proofs.Runs.{by_test}
+use Rattle.zy_lawful.proofs.Own.{by_test}
 use Rattle.zy_world_law.proofs.ReadBack.{FitsForClients}
 
--- the request of a frame, its local commit, and its responses but for the client's number
+-- the request of a frame, its local commit, its checkpoint, and its responses but for the client's number
 abbrev pub IsReadable : Frame → Type 0
 IsReadable (frames.Request ask) = ask_fields.Fits ask.stmt
 IsReadable (frames.Order both) = ask_fields.Fits both.ask.stmt
@@ -28,6 +28,7 @@ IsReadable (frames.SpecResponse spec reply with_order) = FitsForClients spec.stm
 IsReadable (frames.Commit specs) = AllByRecursion (λ spec. FitsForClients spec.stmt) specs
 IsReadable (frames.LocalCommit local) = local_fields.Fits local.stmt
 IsReadable (frames.ConfirmReq confirm ask) = ask_fields.Fits ask.stmt
+IsReadable (frames.Checkpoint check) = check_fields.Fits check.stmt
 IsReadable _ = Unit {0}
 
 -- what holds of all that a reader gives
@@ -134,6 +135,13 @@ local_gives =
     made_gives _ (pair (u62 0) (pair (u62 1) digest)) _ _
     (pair_gives (u62 0) (pair (u62 1) digest) _ _ (u62_gives 0) (pair_gives (u62 1) digest _ _ (u62_gives 1) digest_gives)) (λ x fits. fits)
 
+check_gives : Gives check_fields.at check_fields.Fits
+unfolding check_fields
+check_gives =
+    made_gives _ (pair (u62 0) (pair (u62 1) (pair digest digest))) _ _
+    (pair_gives (u62 0) (pair (u62 1) (pair digest digest)) _ _ (u62_gives 0)
+    (pair_gives (u62 1) (pair digest digest) _ _ (u62_gives 1) (pair_gives digest digest _ _ digest_gives digest_gives))) (λ x fits. fits)
+
 module _ {A : Type 0} (fields : Spelling A) (P : A → Type 0) where
   signed_gives : Gives fields.at P → Gives (signed fields).at (λ s. P s.stmt)
   unfolding signed
@@ -186,7 +194,7 @@ frame_gives kind =
     (or_gives _ _ _ (other_gives frames.FillHole (signed hole_fields) (λ x. tt))
     (or_gives _ _ _ (other_gives frames.Hate (signed hate_fields) (λ x. tt))
     (or_gives _ _ _ (other_gives (λ x. frames.Pom x.0 x.1) misbehaviour (λ x. tt))
-    (or_gives _ _ _ (other_gives frames.Checkpoint (signed check_fields) (λ x. tt)) (fault_gives _))))))))))
+    (or_gives _ _ _ (made_gives frames.Checkpoint (signed check_fields) (λ check. check_fields.Fits check.stmt) IsReadable (signed_gives check_fields check_fields.Fits check_gives) (λ check fits. fits)) (fault_gives _))))))))))
 
 pub decoded_readable : (bytes : List ℕ) (frame : Frame) → frame_in bytes ≡ Ok frame → IsReadable frame
 unfolding framed_in

@@ -1,5 +1,5 @@
--- The requests of a frame that isn't forged may run, and the responses of its certificate may be counted.
-use Rattle.std.proofs.Common.{◌≡◌, ◌⊎◌, inl, inr, ℕ, zero, suc, ◌<◌, true, ◌&&◌, List, [], ◌∷◌, length, Option, Some, None, refl, sym, ap, ◌∙◌, subst, arith}
+-- The requests of a frame that isn't forged may run, and its responses and its checkpoint may be counted.
+use Rattle.std.proofs.Common.{◌≡◌, ◌⊎◌, inl, inr, ℕ, zero, suc, ◌<◌, ◌^◌, true, ◌&&◌, List, [], ◌∷◌, length, Option, Some, None, refl, sym, ap, ◌∙◌, subst, arith}
 use Rattle.std.specs.Prelude.{option_map, is_none, Contains, slice_get, map}
 use Rattle.std.specs.List.{AllByRecursion, filter_map, cons_option, list_all}
 use Rattle.std.proofs.lemmas.Bool.{and_parts}
@@ -15,10 +15,11 @@ use Rattle.zy_frames.specs.Frames.{parts_of}
 use Rattle.zy_frames.specs.declared.frame.Frame.{Frame}
 use Rattle.zy_frames.specs.declared.frame.Frame.TheVariants as frames
 use Rattle.zy_law.specs.World.{Answer}
+use Rattle.zy_lawful.specs.Acts.{statement_of}
 use Rattle.zy_lawful.specs.Tied.{MayRun, MayFrameRun, MayEventRun, IsVouchedBy, response_with}
 use Rattle.zy_parts.specs.Numbers as numbers
 use Rattle.zy_parts.specs.Signing.{part_of, text_of}
-use Rattle.zy_parts.specs.Statements.{ask_fields, spec_fields}
+use Rattle.zy_parts.specs.Statements.{ask_fields, spec_fields, check_fields}
 use Rattle.zy_parts.specs.Statements as statements
 use Rattle.zy_parts.specs.declared.signed.Part.{Part}
 use Rattle.zy_parts.specs.declared.signed.Signed.{Signed}
@@ -27,8 +28,9 @@ use Rattle.zy_parts.specs.declared.statements.Spec.{Spec}
 use Rattle.zy_seal.specs.Keys.{Keys}
 use Rattle.zy_seal.specs.Screening.{answer_to}
 use Rattle.zy_seal.specs.declared.directory.SealAnswer.TheVariants as answers
-use Rattle.zy_table.specs.Roles.{in_role, is_client, is_replica, is_primary_of}
+use Rattle.zy_table.specs.Roles.{in_role, is_client, is_order_of_primary, is_replica, is_primary_of}
 use Rattle.zy_table.specs.State.{State}
+use Rattle.zy_table.specs.declared.deeds.Body.TheVariants as bodies
 use Rattle.zy_parts.specs.Exact.{ask-in_range}
 use Rattle.zy_world_law.specs.Good.{IsGood}
 use Rattle.zy_world_law.specs.Honest.{forger_in}
@@ -37,7 +39,7 @@ use Rattle.zy_world_law.specs.Setup.{keys_of, public_key_of}
 use Rattle.zy_world_law.specs.World.{World, Client, client_at, texts_said}
 use Rattle.zy_world_law.proofs.DecodedInRange.{IsReadable, decoded_readable}
 use Rattle.zy_world_law.proofs.NotForged.{IsSaid, parts_said}
-use Rattle.zy_world_law.proofs.ReadBack.{FitsForClients, read_back, entry_back, spec_read_back}
+use Rattle.zy_world_law.proofs.ReadBack.{FitsForClients, read_back, entry_back, spec_back, check_back, spec_read_back}
 use Rattle.zy_world_law.proofs.Screened.{all_verify}
 use Rattle.zy_world_law.proofs.Vouched.{under_some, part_vouched}
 
@@ -117,12 +119,18 @@ module _ {S : Type 0} (R : Rules S) (w : World S) (good : IsGood R w) where
         responses_vouched specs fits.1 roles.1 signed.1 said.1,
       )
 
+  -- a response to a client that there may be
+  response_vouched : (spec : Signed Spec) → spec.stmt.client.0 < 2 ^ 32 → FitsForClients spec.stmt → is_replica spec.by ≡ true → Verifies (part_of numbers.spec spec_fields spec)
+      → IsSaid (texts_said w spec.by) (text_of numbers.spec spec_fields spec.by spec.stmt) → IsVouchedBy (seen R w) (statement_of (bodies.Spec spec.stmt)) spec.by
+  response_vouched spec small fits role signed said =
+      part_vouched R w spec.by (text_of numbers.spec spec_fields spec.by spec.stmt) spec.sig (statement_of (bodies.Spec spec.stmt)) role (spec_back spec.by spec.stmt (fits spec.stmt.client.0 small)) signed said
+
   frame_runs : (s : State S) (frame : Frame) → IsReadable frame → in_role s frame ≡ true → AllByRecursion Verifies (parts_of frame) → AllByRecursion WasSaid (parts_of frame) → MayFrameRun (seen R w) frame
   frame_runs s (frames.Request ask) fits role signed said =
       request_by ask.by ask.stmt ask.sig role fits signed.0 (said.0 signed.0)
   frame_runs s (frames.Order both) fits role signed said =
       request_by both.ask.by both.ask.stmt both.ask.sig (and_parts (is_primary_of s.counts both.order.stmt.view.0 both.order.by) (is_client both.ask.by) role).1 fits signed.1.0 (said.1.0 signed.1.0)
-  frame_runs s (frames.SpecResponse spec reply with_order) fits role signed said = tt
+  frame_runs s (frames.SpecResponse spec reply with_order) fits role signed said = λ small. response_vouched spec (omega arith) fits (and_parts (is_replica spec.by) (is_order_of_primary s.counts with_order) role).0 signed.0 (said.0 signed.0)
   frame_runs s (frames.Commit specs) fits role signed said = record { answer = answer_in; each = responses_vouched specs fits role signed said }
   frame_runs s (frames.LocalCommit local) fits role signed said = tt
   frame_runs s (frames.ConfirmReq confirm ask) fits role signed said =
@@ -131,7 +139,8 @@ module _ {S : Type 0} (R : Rules S) (w : World S) (good : IsGood R w) where
   frame_runs s (frames.FillHole hole) fits role signed said = tt
   frame_runs s (frames.Hate hate) fits role signed said = tt
   frame_runs s (frames.Pom first second) fits role signed said = tt
-  frame_runs s (frames.Checkpoint check) fits role signed said = tt
+  frame_runs s (frames.Checkpoint check) fits role signed said =
+      part_vouched R w check.by (text_of numbers.check check_fields check.by check.stmt) check.sig (statement_of (bodies.Check check.stmt)) role (check_back check.by check.stmt fits) signed.0 (said.0 signed.0)
 
   pub event_runs : (s : State S) → s.keys ≡ keys_of w.setup → (bytes : List ℕ) → forger_in w bytes ≡ None → MayEventRun (seen R w) s (Heard bytes)
   event_runs s keys bytes none frame is clear role =

@@ -1,5 +1,5 @@
 -- What a client keeps after a step was kept before, or came with the frame; and what a step leaves as it is.
-use Rattle.std.proofs.Common.{◌≡◌, ◌⊎◌, inl, inr, ℕ, zero, suc, Bool, true, false, List, [], ◌∷◌, replicate, Option, Some, None, Result, Ok, Err, refl, sym, ap, ◌∙◌, subst}
+use Rattle.std.proofs.Common.{◌≡◌, ◌⊎◌, inl, inr, ℕ, zero, suc, Bool, true, false, List, [], ◌∷◌, ◌++◌, replicate, Option, Some, None, Result, Ok, Err, refl, sym, ap, ◌∙◌, subst}
 use Rattle.std.specs.Prelude.{if◌then◌else◌, nat_le, slice_set, slice_index_or}
 use Rattle.std.proofs.lemmas.Option.{same_Some}
 use Rattle.zy_base.specs.declared.cause.Cause.{Cause}
@@ -7,6 +7,7 @@ use Rattle.zy_base.specs.declared.cause.Cause.TheVariants as causes
 use Rattle.zy_base.specs.declared.frame_fault.FrameFault.{FrameFault}
 use Rattle.zy_base.specs.declared.ids.Party.{Party}
 use Rattle.zy_base.specs.declared.ids.Party.TheVariants.{Replica, Client}
+use Rattle.zy_base.specs.declared.ids.View.{View}
 use Rattle.zy_base.specs.declared.step.Event.TheVariants.{Heard, Timer}
 use Rattle.zy_base.specs.declared.step.TimerKind.{TimerKind}
 use Rattle.zy_base.specs.declared.step.TimerKind.TheVariants as timers
@@ -19,13 +20,14 @@ use Rattle.zy_parts.specs.Statements.{spec_fields}
 use Rattle.zy_parts.specs.declared.signed.Signed.{Signed}
 use Rattle.zy_parts.specs.declared.statements.Ask.{Ask}
 use Rattle.zy_parts.specs.declared.statements.Local.{Local}
+use Rattle.zy_parts.specs.declared.statements.Order.{Order}
 use Rattle.zy_cert.specs.Equal.{same_local}
 use Rattle.zy_cert.specs.Votes.{answer_to as vote_answer, poll_after}
 use Rattle.zy_cert.specs.declared.votes.Vote.{Vote}
 use Rattle.zy_cert.specs.declared.votes.Vote.TheVariants as votes
 use Rattle.zy_seal.specs.Screening.{screen, answer_to}
 use Rattle.zy_seal.specs.declared.directory.SealAnswer.TheVariants as answers
-use Rattle.zy_table.specs.ClientRows.{ask, ask_while, asked, next_ask, client_step, kept_of, keep, completed_if, complete, done_of, agreeing, response_cause, keep_unless, respond, respond_while, is_for, done_by, complete_by, vote_on, local_beside, local_while, count_local, certified_in, ask_or_commit, run_out_while, run_out, is_by_primary, hear_response, hear, unless, decoded}
+use Rattle.zy_table.specs.ClientRows.{ask, ask_while, asked, next_ask, client_step, kept_of, keep, completed_if, complete, done_of, agreeing, response_cause, evidence_by, told, keep_unless, respond, respond_while, is_for, done_by, complete_by, vote_on, local_beside, local_while, count_local, certified_in, ask_or_commit, run_out_while, run_out, is_by_primary, hear_response, hear, unless, decoded}
 use Rattle.zy_table.specs.ClientState.{ClientState, ClientOutcome, leaves_of, refused, is_waiting}
 use Rattle.zy_table.specs.Roles.{is_replica}
 use Rattle.zy_table.specs.declared.client.Commit.{Commit}
@@ -40,10 +42,10 @@ pub record IsHeard (s : ClientState) (bytes : List ℕ) (id : ℕ) (r : Response
   pub by : r.spec.by ≡ Replica (record { 0 = id })
   pub signed : answer_to s.keys (part_of numbers.spec spec_fields r.spec) ≡ answers.Yes
 
--- all stays; or a response is kept; or another certificate is held, or more local commits to it; or it completes
+-- all stays; or a response is kept, with whom it blames; or another certificate is held, or more local commits to it; or it completes
 pub data Comes (s : ClientState) (Brought : ℕ → Response → Type 0) (o : ClientOutcome) : Type 0 where
   same : o.state ≡ s → Comes s Brought o
-  fills : (id : ℕ) (r : Response) → Brought id r → o.state ≡ completed_if (keep s id r) r → Comes s Brought o
+  fills : (id : ℕ) (r : Response) (blamed : List View) → Brought id r → o.state ≡ record (completed_if (keep s id r) r) { blamed = blamed } → Comes s Brought o
   holds : (held : Option Commit) → o.state ≡ record s { commit = held } → Comes s Brought o
   completes : (c : Commit) → s.commit ≡ Some c → o.state ≡ complete_by s c → Comes s Brought o
 
@@ -52,9 +54,13 @@ module _ (s : ClientState) (Brought : ℕ → Response → Type 0) where
   if_comes true x y one other = one
   if_comes false x y one other = other
 
+  blames : (evidence : Option (Signed Order × Signed Order)) (id : ℕ) (r : Response) → Brought id r → Comes s Brought (told evidence (completed_if (keep s id r) r))
+  blames None id r brought = fills id r (completed_if (keep s id r) r).blamed brought refl
+  blames (Some orders) id r brought = fills id r ((completed_if (keep s id r) r).blamed ++ orders.1.stmt.view ∷ []) brought refl
+
   kept_unless : (cause : Option Cause) (id : ℕ) (r : Response) → Brought id r → Comes s Brought (keep_unless cause s id r)
   kept_unless (Some cause) id r brought = same refl
-  kept_unless None id r brought = fills id r brought refl
+  kept_unless None id r brought = blames (evidence_by (keep s id r) r.order) id r brought
 
   responds : (wait : Option (Signed Ask)) (id : ℕ) (r : Response) → Brought id r → Comes s Brought (respond_while s wait id r)
   responds None id r brought = same refl
@@ -153,7 +159,7 @@ pub kept_or_brought : (s : ClientState) (Brought : ℕ → Response → Type 0) 
 kept_or_brought s Brought o (same is) at q kept = inl (ap (λ (t : ClientState). kept_of t at) (sym is) ∙ kept)
 kept_or_brought s Brought o (holds held is) at q kept = inl (ap (λ (t : ClientState). kept_of t at) (sym is) ∙ kept)
 kept_or_brought s Brought o (completes c held is) at q kept = inl (ap (λ (t : ClientState). kept_of t at) (sym is) ∙ kept)
-kept_or_brought s Brought o (fills id r brought is) at q kept =
+kept_or_brought s Brought o (fills id r blamed brought is) at q kept =
     let lists : o.state.responses ≡ slice_set s.responses id (Some r) = ap (λ (t : ClientState). t.responses) is ∙ kept_filled s id r in
     let there : slice_index_or (slice_set s.responses id (Some r)) at None ≡ Some q = ap (λ (l : List (Option Response)). slice_index_or l at None) (sym lists) ∙ kept in
     elim (kept_or_filled s.responses id at r q there) [
@@ -178,8 +184,9 @@ pub step_same : (s : ClientState) (Brought : ℕ → Response → Type 0) (o : C
 step_same s Brought o (same is) = same_as s s o.state is (record { me = refl; counts = refl; keys = refl })
 step_same s Brought o (holds held is) = same_as s (record s { commit = held }) o.state is (record { me = refl; counts = refl; keys = refl })
 step_same s Brought o (completes c held is) = same_as s (complete_by s c) o.state is (record { me = refl; counts = refl; keys = refl })
-step_same s Brought o (fills id r brought is) =
-    same_as s (completed_if (keep s id r) r) o.state is (same_if s id r (nat_le (keep s id r).counts.fast (agreeing (keep s id r) r.spec.stmt)))
+step_same s Brought o (fills id r blamed brought is) =
+    let alike = same_if s id r (nat_le (keep s id r).counts.fast (agreeing (keep s id r) r.spec.stmt)) in
+    same_as s (record (completed_if (keep s id r) r) { blamed = blamed }) o.state is (record { me = alike.me; counts = alike.counts; keys = alike.keys })
 
 -- a request that waits then waited before
 waits_if : (s : ClientState) (r : Response) (waiting : Signed Ask) (b : Bool) → (if b then complete s r else s).waiting ≡ Some waiting → s.waiting ≡ Some waiting
@@ -191,7 +198,7 @@ waited_before s Brought o (same is) waiting waits = ap (λ (t : ClientState). t.
 waited_before s Brought o (holds held is) waiting waits = ap (λ (t : ClientState). t.waiting) (sym is) ∙ waits
 waited_before s Brought o (completes c held is) waiting waits =
     let none : None ≡ Some waiting = ap (λ (t : ClientState). t.waiting) (sym is) ∙ waits in absurd cc
-waited_before s Brought o (fills id r brought is) waiting waits =
+waited_before s Brought o (fills id r blamed brought is) waiting waits =
     waits_if (keep s id r) r waiting (nat_le (keep s id r).counts.fast (agreeing (keep s id r) r.spec.stmt)) (ap (λ (t : ClientState). t.waiting) (sym is) ∙ waits)
 
 -- ---- what is complete
@@ -225,7 +232,7 @@ completed_reply s Brought o d (holds held is) done =
     absurd (stays_open s s d (is_waiting s.waiting) (ap (λ (t : ClientState). completed_by s t) (sym is) ∙ done))
 completed_reply s Brought o d (completes c held is) done =
     certificate c held (told_by s c d (is_waiting s.waiting) (ap (λ (t : ClientState). completed_by s t) (sym is) ∙ done))
-completed_reply s Brought o d (fills id r brought is) done =
+completed_reply s Brought o d (fills id r blamed brought is) done =
     response id r brought
     (filled_done s id r d (is_waiting s.waiting) (nat_le (keep s id r).counts.fast (agreeing (keep s id r) r.spec.stmt)) refl
     (ap (λ (t : ClientState). completed_by s t) (sym is) ∙ done))

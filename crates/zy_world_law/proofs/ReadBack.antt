@@ -6,11 +6,12 @@ use Rattle.std.specs.Int.{w8, w32, to_be_bytes, from_be_bytes}
 use Rattle.zy_base.specs.declared.ids.ClientId.{ClientId}
 use Rattle.zy_base.specs.declared.ids.Party.{Party}
 use Rattle.zy_lawful.specs.Acts.{statement_of}
-use Rattle.zy_parts.specs.Exact.{ask-exact, order-exact, spec-exact, local-exact}
+use Rattle.zy_parts.specs.Exact.{ask-exact, order-exact, spec-exact, local-exact, check-exact}
 use Rattle.zy_parts.specs.Numbers as numbers
 use Rattle.zy_parts.specs.Signing.{text_of}
-use Rattle.zy_parts.specs.Statements.{ask_fields, order_fields, spec_fields, local_fields, entry_of}
+use Rattle.zy_parts.specs.Statements.{ask_fields, order_fields, spec_fields, local_fields, check_fields, entry_of}
 use Rattle.zy_parts.specs.declared.statements.Ask.{Ask}
+use Rattle.zy_parts.specs.declared.statements.Check.{Check}
 use Rattle.zy_parts.specs.declared.statements.Local.{Local}
 use Rattle.zy_parts.specs.declared.statements.Order.{Order}
 use Rattle.zy_parts.specs.declared.statements.Spec.{Spec}
@@ -22,7 +23,7 @@ use Rattle.zy_table.specs.declared.deeds.Body.TheVariants as bodies
 use Rattle.zy_wire.proofs.Parts.{wide8, wide32, whole_again}
 use Rattle.zy_wire.specs.Fields.{u62, digest, party_bytes, party_fields}
 use Rattle.zy_wire.specs.Spelling.{Spelling, IsBytes, IsExact, bytes_of, whole}
-use Rattle.zy_world_law.specs.Seen.{fields_of, statement_in, entry_in, order_read, spec_read, local_read, ask_read}
+use Rattle.zy_world_law.specs.Seen.{fields_of, statement_in, entry_in, order_read, spec_read, local_read, check_read, ask_read}
 use Rattle.std.specs.Prelude.{[], ◌∷◌}
 
 -- what can be spelled; of a statement that asks for orders nothing is read
@@ -32,6 +33,7 @@ FitsBody (bodies.Spec spec) = spec_fields.Fits spec
 FitsBody (bodies.Local local) = local_fields.Fits local
 FitsBody (bodies.Confirm confirm) = Unit {0}
 FitsBody (bodies.Hole hole) = Unit {0}
+FitsBody (bodies.Check check) = check_fields.Fits check
 
 abbrev pub FitAll : List Act → Type 0
 FitAll [] = Unit {0}
@@ -62,6 +64,10 @@ pub local_back : (by : Party) (local : Local) → local_fields.Fits local → st
 unfolding statement_in text_of
 local_back by local fits = ap local_read (fields_back numbers.local local_fields local-exact by local fits)
 
+pub check_back : (by : Party) (check : Check) → check_fields.Fits check → statement_in (text_of numbers.check check_fields by check) ≡ statement_of (bodies.Check check)
+unfolding statement_in text_of
+check_back by check fits = ap check_read (fields_back numbers.check check_fields check-exact by check fits)
+
 pub entry_back : (client : ClientId) (by : Party) (ask : Ask) → ask_fields.Fits ask → entry_in client (text_of numbers.ask ask_fields by ask) ≡ Some (entry_of client ask)
 unfolding entry_in text_of
 entry_back client by ask fits = ap (ask_read client) (fields_back numbers.ask ask_fields ask-exact by ask fits)
@@ -73,6 +79,7 @@ body_back by (bodies.Spec spec) fits = spec_back by spec fits
 body_back by (bodies.Local local) fits = local_back by local fits
 body_back by (bodies.Confirm confirm) fits = refl
 body_back by (bodies.Hole hole) fits = refl
+body_back by (bodies.Check check) fits = check_back by check fits
 
 -- ---- a response whose client's number may not fit
 

@@ -33,19 +33,19 @@ use Rattle.zy_table.specs.declared.client.Commit.{Commit}
 use Rattle.zy_table.specs.declared.client.Response.{Response}
 use Rattle.zy_table.specs.declared.deeds.Got.{Got}
 use Rattle.zy_world_law.specs.Events.{stepped, with_replica, remark_after, history_of}
-use Rattle.zy_world_law.specs.Good.{IsGood, IsTied, IsShort, IsClientTied, IsBackedBy, IsCommitBacked, IsDone, IsKept, AreRepliesKept}
+use Rattle.zy_world_law.specs.Good.{IsGood, IsTied, IsShort, IsClientTied, IsBackedBy, IsCommitBacked, IsDone, IsKept, AreRepliesKept, AreSnapshotsKept}
 use Rattle.zy_world_law.specs.Safe.{completion_of}
 use Rattle.zy_world_law.specs.Seen.{seen, said_of, past_of, spoken_by}
-use Rattle.zy_world_law.specs.Texts.{step_texts, got_texts, is_link}
+use Rattle.zy_world_law.specs.Texts.{step_texts, got_texts, snapshot_texts, is_link}
 use Rattle.zy_world_law.specs.World.{World, Replica, Client, Completed, Remark, Texts, replica_at, client_at, correct_in}
 use Rattle.zy_world_law.proofs.CommitStays.{commit_later}
-use Rattle.zy_world_law.proofs.GainedReplies.{gained_replies}
+use Rattle.zy_world_law.proofs.GainedReplies.{AreAnswers, gained_replies}
 use Rattle.zy_world_law.proofs.KeptTexts.{kept_front, kept_behind}
 use Rattle.zy_world_law.proofs.OneText.{link_of, link_is}
 use Rattle.zy_world_law.proofs.ReadBack.{FitAll}
 use Rattle.zy_world_law.proofs.Seats.{get_set, get_set_other, seat_of}
-use Rattle.zy_world_law.proofs.ShortHistories.{short_steps, step_keys}
-use Rattle.zy_world_law.proofs.ToldSteps.{own_more, other_more, more_kept, map_append, spoken_told, replies_kept, history_replied, all_of_both}
+use Rattle.zy_world_law.proofs.ShortHistories.{short_steps, step_same}
+use Rattle.zy_world_law.proofs.ToldSteps.{own_more, other_more, more_kept, map_append, spoken_told, replies_kept, history_replied, snapshots_kept, history_snapped, all_of_both}
 
 -- ---- a tied replica's last stand
 
@@ -77,6 +77,10 @@ module _ (texts : Texts) (v : law.World) (kept_is : v.kept ≡ (λ head e. is_li
   pub got_replies : (gots : List Got) → AllByRecursion (IsKept texts) (flat_map got_texts gots) → AllByRecursion (λ (got : Got). IsKept texts got.reply) gots
   got_replies [] all = tt
   got_replies (got ∷ gots) all = let both = one_of got gots all in (both.0.1.1.0, got_replies gots both.1)
+
+  pub got_snapshots : (gots : List Got) → AllByRecursion (IsKept texts) (flat_map got_texts gots) → AllByRecursion (λ (got : Got). AllByRecursion (IsKept texts) (snapshot_texts got.snapshot)) gots
+  got_snapshots [] all = tt
+  got_snapshots (got ∷ gots) all = let both = one_of got gots all in (both.0.1.1.1, got_snapshots gots both.1)
 
 module _ {S : Type 0} (R : Rules S) (w : World S) (good : IsGood R w) (id : ReplicaId) (x : Replica S) (at : replica_at w id.0 ≡ Some x) (event : Event)
     (asks : MayEventRun (seen R w) x.state event) (kept : AllByRecursion (IsKept w.texts) (step_texts (step R x.state event).deeds.acts)) where
@@ -114,7 +118,7 @@ module _ {S : Type 0} (R : Rules S) (w : World S) (good : IsGood R w) (id : Repl
   honest =
       record {
         lawful = good.lawful;
-        agrees = record { next = refl; digest = refl; reply = refl };
+        agrees = record { next = refl; digest = refl; reply = refl; state = refl };
         correct = correct;
         tied = tie.tied;
         asks = asks;
@@ -211,15 +215,22 @@ module _ {S : Type 0} (R : Rules S) (w : World S) (good : IsGood R w) (id : Repl
       tied_history R (seen R w') id.0 o.state (history_after h o.deeds.acts) x'.past there (ap (λ (o : Option (Replica S)). past_of o) own_seat) in
       subst (λ (l : List Entry). lawful.IsTied R (seen R w') id.0 o.state l) (sym history) there
 
+  answers : AreAnswers R s.kept.interval h o.deeds.acts
+  answers = gained_replies R s h tie.tied.standing.stands event
+
   own_after : IsTied R w' id.0 x'
   own_after =
       record {
         tied = own_tied;
-        keys = step_keys R s event ∙ tie.keys;
+        keys = (step_same R s event).keys ∙ tie.keys;
+        interval = (step_same R s event).interval ∙ tie.interval;
         short = short.1;
         replies = all_of_both (λ (b : Stand). AreRepliesKept R w.texts b.history) x.past new_stands tie.replies
-            (replies_kept R w.texts (own_view s) h o.deeds.acts (history_replied R w.texts x.past tie.replies)
-            (gained_replies R s h tie.tied.standing.stands event) (got_replies w.texts v refl (gains_in o.deeds.acts) kept));
+            (replies_kept R s.kept.interval w.texts (own_view s) h o.deeds.acts (history_replied R w.texts x.past tie.replies)
+            answers (got_replies w.texts v refl (gains_in o.deeds.acts) kept));
+        snapshots = all_of_both (λ (b : Stand). AreSnapshotsKept R w.setup.interval w.texts b.history) x.past new_stands tie.snapshots
+            (snapshots_kept R w.setup.interval w.texts (own_view s) h o.deeds.acts (history_snapped R w.setup.interval w.texts x.past tie.snapshots)
+            (subst (λ (i : ℕ). AreAnswers R i h o.deeds.acts) tie.interval answers) (got_snapshots w.texts v refl (gains_in o.deeds.acts) kept));
       }
 
   other_after : (q : ℕ) (y : Replica S) → q ≢ id.0 → replica_at w q ≡ Some y → IsTied R w' q y
@@ -229,8 +240,10 @@ module _ {S : Type 0} (R : Rules S) (w : World S) (good : IsGood R w) (id : Repl
         tied = subst (λ (u : law.World). lawful.IsTied R u q y.state (history_of y.past)) after_is
             (tied_after_acts R v q id.0 y.state (history_of y.past) (acts_of v id.0 s h o) other before.tied);
         keys = before.keys;
+        interval = before.interval;
         short = before.short;
         replies = before.replies;
+        snapshots = before.snapshots;
       }
 
   tied_after : (q : ℕ) (y : Replica S) → replica_at w' q ≡ Some y → IsTied R w' q y

@@ -27,18 +27,20 @@ use Rattle.zy_law.specs.Said.{Moment}
 use Rattle.zy_law.specs.World as law
 use Rattle.zy_law.specs.World.{Stand}
 use Rattle.zy_lawful.proofs.Backing.{all_from}
+use Rattle.zy_lawful.proofs.KeptVotes.{stable_backed}
+use Rattle.zy_lawful.proofs.Own.{at_of}
 use Rattle.zy_lawful.proofs.Records.{answer_longer}
 use Rattle.zy_lawful.specs.Tied.{next_head}
 use Rattle.zy_world_law.specs.Events.{history_of}
 use Rattle.zy_world_law.specs.Good.{IsGood, IsDone, IsKept, AreRepliesKept}
-use Rattle.zy_world_law.specs.Safe.{IsSafe, IsResult, IsAgreed, IsReplay, Grows, completion_of, completions_of, mark_of}
+use Rattle.zy_world_law.specs.Safe.{IsSafe, IsResult, IsAgreed, IsReplay, HasStable, Grows, completion_of, completions_of, mark_of}
 use Rattle.zy_world_law.specs.Seen.{seen, past_of, asked_by}
 use Rattle.zy_world_law.specs.Texts.{is_link}
 use Rattle.zy_world_law.specs.World.{World, Replica, Client, Completed, replica_at, client_at}
 use Rattle.zy_world_law.proofs.Goings.{IsAfter}
 use Rattle.zy_world_law.proofs.KeptTexts.{stay_kept}
 use Rattle.zy_world_law.proofs.OneText.{one_kept_text, link_of, link_is}
-use Rattle.zy_world_law.proofs.ToldSteps.{at_of, map_append}
+use Rattle.zy_world_law.proofs.ToldSteps.{map_append}
 
 correct_seat : {S : Type 0} (o : Option (Replica S)) → is_none o ≡ false → (x : Replica S) × (o ≡ Some x)
 correct_seat None is = absurd cc
@@ -140,6 +142,11 @@ module _ {S : Type 0} (R : Rules S) (w : World S) (good : IsGood R w) where
   replay : (id : ℕ) (x : Replica S) → replica_at w id ≡ Some x → IsReplay R x
   replay id x at = stands_leads R x.state.kept (history_of x.past) (good.tied id x at).tied.standing.stands
 
+  stable : (id : ℕ) (x : Replica S) → replica_at w id ≡ Some x → HasStable R w x
+  stable id x at =
+      let board = (good.tied id x at).tied.board in
+      record { backed = stable_backed v x.state.board board.stable; own = board.own }
+
   pub safe : IsSafe R w
   safe =
       let one = agreed_list v good.lawful (completions_of w) all_completed in
@@ -150,6 +157,7 @@ module _ {S : Type 0} (R : Rules S) (w : World S) (good : IsGood R w) where
         asked = asked_of one.0 one.1;
         once = once one.0 one.1;
         replays = replay;
+        stable = stable;
       }
 
 -- ---- growth

@@ -21,7 +21,7 @@ use Rattle.zy_world_law.specs.World.{World, Replica, Client, first_texts, replic
 use Rattle.zy_world_law.proofs.HeldLaw.{HeldLaw}
 use Rattle.zy_world_law.proofs.KeptOrHeard.{none_filled}
 use Rattle.zy_world_law.proofs.OneText.{one_text}
-use Rattle.zy_world_law.proofs.ToldSteps.{none_replied}
+use Rattle.zy_world_law.proofs.ToldSteps.{none_replied, none_snapped}
 
 -- ---- seats
 
@@ -152,10 +152,12 @@ module _ {S : Type 0} (R : Rules S) (held : HeldLaw) (setup : Setup) (is : IsSet
       let small : q < 256 = omega (arith, here.0, setup.counts.sound.few) in
       subst (λ (y : Replica S). IsTied R w q y) (sym here.1)
       (record {
-        tied = tied_at_start R v q setup.interval (record { 0 = q }) setup.counts (keys_of setup) (sealer_of setup (parties.Replica (record { 0 = q })) 0) begins (correct_at q x at) refl refl;
+        tied = tied_at_start R v q setup.interval (record { 0 = q }) setup.counts (keys_of setup) (sealer_of setup (parties.Replica (record { 0 = q })) 0) begins (correct_at q x at) refl refl refl;
         keys = refl;
+        interval = refl;
         short = record { number = small; view = omega arith; end = omega arith; leaves = omega arith };
         replies = (none_replied R first_texts, tt);
+        snapshots = (none_snapped R setup.interval first_texts, tt);
       })
 
   client_tied : (q : ℕ) (x : Client) → client_at w q ≡ Some x → IsClientTied R w q x

@@ -11,7 +11,7 @@ use Rattle.zy_law.specs.World.{Stand}
 use Rattle.zy_lawful.proofs.TieLemmas.{tied_grown}
 use Rattle.zy_table.specs.declared.client.Response.{Response}
 use Rattle.zy_world_law.specs.Events.{history_of}
-use Rattle.zy_world_law.specs.Good.{IsGood, IsTied, IsClientTied, IsBackedBy, IsDone, AreRepliesKept}
+use Rattle.zy_world_law.specs.Good.{IsGood, IsTied, IsClientTied, IsBackedBy, IsDone, AreRepliesKept, AreSnapshotsKept}
 use Rattle.zy_world_law.specs.Safe.{completion_of}
 use Rattle.zy_world_law.specs.Seen.{seen}
 use Rattle.zy_world_law.specs.Texts.{is_link}
@@ -36,13 +36,19 @@ module _ {S : Type 0} (R : Rules S) (w : World S) (texts : Texts) (stay : Stay w
   stands_stay [] all = tt
   stands_stay (b ∷ past) all = (λ place reply is. stay_kept w.texts texts stay reply (all.0 place reply is), stands_stay past all.1)
 
+  snapshots_stay : (interval : ℕ) (past : List Stand) → AllByRecursion (λ (b : Stand). AreSnapshotsKept R interval w.texts b.history) past → AllByRecursion (λ (b : Stand). AreSnapshotsKept R interval texts b.history) past
+  snapshots_stay interval [] all = tt
+  snapshots_stay interval (b ∷ past) all = (λ place snapshot above is. stay_kept w.texts texts stay snapshot (all.0 place snapshot above is), snapshots_stay interval past all.1)
+
   tied_stays : (id : ℕ) (x : Replica S) → IsTied R w id x → IsTied R w' id x
   tied_stays id x t =
       record {
         tied = tied_grown R v id x.state (history_of x.past) v.asked v.said v.past (is_link texts) (λ q e has. has) (λ q i y has. has) (λ q i b has. has) refl refl t.tied;
         keys = t.keys;
+        interval = t.interval;
         short = t.short;
         replies = stands_stay x.past t.replies;
+        snapshots = snapshots_stay w.setup.interval x.past t.snapshots;
       }
 
   backed_stays : (id : ℕ) (r : Response) → IsBackedBy w id r → IsBackedBy w' id r

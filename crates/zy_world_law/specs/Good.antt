@@ -7,6 +7,7 @@ use Rattle.zy_chain.specs.declared.entry.Entry.{Entry}
 use Rattle.zy_client.specs.Held.{Holds}
 use Rattle.zy_exec.specs.Kept.{last_place}
 use Rattle.zy_exec.specs.Replay.{answer_at}
+use Rattle.zy_exec.specs.Shots.{snapshot_at}
 use Rattle.zy_law.specs.Completed.{IsCompleted}
 use Rattle.zy_law.specs.Lawful.{IsLawful}
 use Rattle.zy_law.specs.Said.{IsBacked}
@@ -41,6 +42,11 @@ IsKept texts text = texts (digest_of text) ≡ Some text
 abbrev pub AreRepliesKept : {S : Type 0} → Rules S → Texts → List Entry → Type 0
 AreRepliesKept R texts history = (place : ℕ) (reply : List ℕ) → answer_at R history place ≡ Some reply → IsKept texts reply
 
+-- the snapshot at each multiple of the interval along a history is kept; that of the empty history no step brings
+abbrev pub AreSnapshotsKept : {S : Type 0} → Rules S → ℕ → Texts → List Entry → Type 0
+AreSnapshotsKept R interval texts history =
+    (place : ℕ) (snapshot : List ℕ) → 0 < place → snapshot_at R interval history place ≡ Some snapshot → IsKept texts snapshot
+
 -- The places of its history can be spelled: each entry that it executed was answered with a leaf of its key.
 pub record IsShort {S : Type 0} (s : State S) : Type 0 where
   pub number : s.me.0 < 2 ^ 8
@@ -48,12 +54,14 @@ pub record IsShort {S : Type 0} (s : State S) : Type 0 where
   pub end : last_place s.kept ≤ s.sealer.key.next
   pub leaves : s.sealer.key.next ≤ 2 ^ levels_of s.sealer.key.height
 
--- a correct replica is tied to what it said and where it stood, and the replies along its histories are kept
+-- a correct replica is tied to what it said and where it stood, and the replies and snapshots along its histories are kept
 pub record IsTied {S : Type 0} (R : Rules S) (w : World S) (id : ℕ) (x : world.Replica S) : Type 0 where
   pub tied : lawful.IsTied R (seen R w) id x.state (history_of x.past)
   pub keys : x.state.keys ≡ keys_of w.setup
+  pub interval : x.state.kept.interval ≡ w.setup.interval
   pub short : IsShort x.state
   pub replies : AllByRecursion (λ stand. AreRepliesKept R w.texts stand.history) x.past
+  pub snapshots : AllByRecursion (λ stand. AreSnapshotsKept R w.setup.interval w.texts stand.history) x.past
 
 -- a response is one that its replica said, unless that lies, and its reply is kept
 pub record IsBackedBy {S : Type 0} (w : World S) (id : ℕ) (r : Response) : Type 0 where

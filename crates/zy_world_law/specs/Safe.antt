@@ -1,5 +1,5 @@
 -- Safe worlds: all completions are the machine's answers along one list of requests, which every correct replica replays.
-use Rattle.std.specs.Prelude.{◌≡◌, ℕ, List, [], ◌∷◌, map, Some, Contains}
+use Rattle.std.specs.Prelude.{◌≡◌, ◌⊎◌, ℕ, List, [], ◌∷◌, map, Some, Contains}
 use Rattle.std.specs.List.{AllByRecursion}
 use Rattle.sha2.specs.Sha256.{sha256}
 use Rattle.zy_base.specs.Machine.{Rules}
@@ -10,7 +10,12 @@ use Rattle.zy_exec.specs.Replay.{origin, along, answer_at}
 use Rattle.zy_law.specs.Completed as law
 use Rattle.zy_law.specs.Completed.{Completion, IsAgreedList}
 use Rattle.zy_law.specs.Histories.{Passes, IsEntryAt, IsFront}
-use Rattle.zy_lawful.specs.Tied.{next_head}
+use Rattle.zy_law.specs.Said.{IsBacked}
+use Rattle.zy_law.specs.World as law_world
+use Rattle.zy_lawful.specs.Acts.{statement_of}
+use Rattle.zy_lawful.specs.Tied.{next_head, IsCheckpointOf}
+use Rattle.zy_parts.specs.declared.statements.Check.{Check}
+use Rattle.zy_table.specs.declared.deeds.Body.TheVariants as bodies
 use Rattle.zy_world_law.specs.Events.{history_of}
 use Rattle.zy_world_law.specs.Seen.{seen, asked_by}
 use Rattle.zy_world_law.specs.World.{World, Replica, Client, Completed, replica_at, client_at}
@@ -52,6 +57,15 @@ pub record IsResult {S : Type 0} (R : Rules S) (w : World S) (list : List Entry)
 abbrev pub IsReplay : {S : Type 0} → Rules S → Replica S → Type 0
 IsReplay R x = now_of R x.state.kept ≡ along R (origin R) (history_of x.past)
 
+-- `local` replicas stand behind it, each of which said it or lies; but for the checkpoint of the empty history
+abbrev pub IsStableBacked : law_world.World → Check → Type 0
+IsStableBacked u check = (check.place.0 ≡ 0) ⊎ IsBacked u u.counts.local (statement_of (bodies.Check check))
+
+-- its stable checkpoint is backed, and tells the head and the snapshot of its own history there
+pub record HasStable {S : Type 0} (R : Rules S) (w : World S) (x : Replica S) : Type 0 where
+  pub backed : IsStableBacked (seen R w) x.state.board.stable
+  pub own : IsCheckpointOf R (history_of x.past) x.state.board.stable
+
 pub record IsSafe {S : Type 0} (R : Rules S) (w : World S) : Type 0 where
   pub list : List Entry
   pub agreed : IsAgreed R w list
@@ -62,6 +76,8 @@ pub record IsSafe {S : Type 0} (R : Rules S) (w : World S) : Type 0 where
   pub once : (place other : ℕ) (d e : Entry) → IsEntryAt list place d → IsEntryAt list other e → d.client ≡ e.client → d.stamp ≡ e.stamp → place ≡ other
   -- each correct replica replays its history
   pub replays : (id : ℕ) (x : Replica S) → replica_at w id ≡ Some x → IsReplay R x
+  -- what it counts as stable is fixed, and its own
+  pub stable : (id : ℕ) (x : Replica S) → replica_at w id ≡ Some x → HasStable R w x
 
 -- the agreed list only grows
 abbrev pub Grows : {S : Type 0} → Rules S → World S → World S → Type 0

@@ -1,22 +1,20 @@
 -- What the law of safety sees of a world.
 use Rattle.std.specs.Prelude.{ℕ, ◌==◌, if◌then◌else◌, List, [], map, drop, slice_index, Option, Some, None, Result, Ok, Err, is_none}
 use Rattle.std.specs.List.{filter_map}
-use Rattle.sha2.specs.Sha256.{sha256}
 use Rattle.zy_base.specs.Machine.{Rules}
 use Rattle.zy_base.specs.declared.frame_fault.FrameFault.{FrameFault}
 use Rattle.zy_base.specs.declared.ids.ClientId.{ClientId}
 use Rattle.zy_chain.specs.Entries.{digest_of_entry}
 use Rattle.zy_chain.specs.declared.entry.Entry.{Entry}
-use Rattle.zy_exec.specs.Replay.{origin, along}
-use Rattle.zy_exec.specs.Snapshot.{snapshot_of}
 use Rattle.zy_law.specs.World as law
 use Rattle.zy_law.specs.World.{Stand}
 use Rattle.zy_law.specs.World.Statement.{Order, Spec, Other}
 use Rattle.zy_lawful.specs.Acts.{statement_of}
-use Rattle.zy_lawful.specs.Tied.{next_head, last_reply}
+use Rattle.zy_lawful.specs.Tied.{next_head, last_reply, state_of}
 use Rattle.zy_parts.specs.Numbers as numbers
-use Rattle.zy_parts.specs.Statements.{ask_fields, order_fields, spec_fields, local_fields, entry_of}
+use Rattle.zy_parts.specs.Statements.{ask_fields, order_fields, spec_fields, local_fields, check_fields, entry_of}
 use Rattle.zy_parts.specs.declared.statements.Ask.{Ask}
+use Rattle.zy_parts.specs.declared.statements.Check as parts_check
 use Rattle.zy_parts.specs.declared.statements.Local as parts_local
 use Rattle.zy_parts.specs.declared.statements.Order as parts_order
 use Rattle.zy_parts.specs.declared.statements.Spec as parts_spec
@@ -45,12 +43,17 @@ abbrev pub local_read : Result parts_local.Local FrameFault → law.Statement
 local_read (Err fault) = Other
 local_read (Ok local) = statement_of (bodies.Local local)
 
--- of the statements that replicas say in view 0, safety rests on orders, responses and local commits
+abbrev pub check_read : Result parts_check.Check FrameFault → law.Statement
+check_read (Err fault) = Other
+check_read (Ok check) = statement_of (bodies.Check check)
+
+-- of the statements that replicas say in view 0, safety rests on orders, responses, local commits and checkpoints
 unfoldable pub statement_in : List ℕ → law.Statement
 statement_in text =
     if number_of text == numbers.order then order_read (whole order_fields (fields_of text))
     else (if number_of text == numbers.spec then spec_read (whole spec_fields (fields_of text))
-    else (if number_of text == numbers.local then local_read (whole local_fields (fields_of text)) else Other))
+    else (if number_of text == numbers.local then local_read (whole local_fields (fields_of text))
+    else (if number_of text == numbers.check then check_read (whole check_fields (fields_of text)) else Other)))
 
 abbrev pub ask_read : ClientId → Result Ask FrameFault → Option Entry
 ask_read client (Err fault) = None
@@ -93,6 +96,6 @@ seen R w =
       next = next_head;
       digest = digest_of_entry;
       reply = last_reply R;
-      state = λ history. record { 0 = sha256 (snapshot_of R (along R (origin R) history)) };
+      state = state_of R;
       kept = is_link w.texts;
     }

@@ -1,4 +1,4 @@
-ghost use Rattle.std.specs.Prelude.{◌≤◌, IfOk};
+ghost use Rattle.std.specs.Prelude.{◌≤◌, ◌<◌, IfOk};
 ghost use Rattle.zy_frames.specs.Frames.{IsFrameInRange};
 ghost use Rattle.zy_parts.specs.Signing.{IsSignedInRange};
 ghost use Rattle.zy_parts.specs.Statements.{IsOrderInRange};
@@ -161,6 +161,16 @@ impl Scene {
         self.refuses_event(event, cause)
     }
 
+    // The response is kept, and these two orders go to each replica.
+    pub fn tells(mut self, case: &Case, orders: [Proof; 2]) -> Result<Scene, Fail> {
+        let event = response(self.alloc, &mut self.key, case)?;
+        let Scene { alloc, key, client } = self;
+        match told(client, event, orders) {
+            Ok(client) => Ok(Scene { alloc, key, client }),
+            Err(fail) => Err(fail),
+        }
+    }
+
     // The Answer timer, at which a frame that begins so goes to each replica.
     pub fn sends_to_all(self, begins: &[u8]) -> Result<Scene, Fail> {
         let Scene { alloc, key, client } = self;
@@ -277,7 +287,8 @@ fn signed_order(
 }
 
 // What is seen of a client: the stamp that waits, the last stamp, the next leaf, the views of the kept responses, and
-// the view of the certificate that was sent with the number of local commits to it.
+// the view of the certificate that was sent with the number of local commits to it, and of how many views all were told
+// that the primary misbehaved.
 #[derive(Clone, Copy, Debug, PartialEq, Eq)]
 pub struct Shown {
     pub waiting: Option<Stamp>,
@@ -285,6 +296,7 @@ pub struct Shown {
     pub leaf: u32,
     pub kept: [Option<View>; 4],
     pub certified: Option<(View, usize)>,
+    pub blamed: usize,
 }
 
 fn seen(client: &Client) -> Shown {
@@ -299,6 +311,7 @@ fn seen(client: &Client) -> Shown {
             view_of(client, 3),
         ],
         certified: certified_of(client),
+        blamed: client.blamed.len(),
     }
 }
 
@@ -379,6 +392,47 @@ fn is_sent_to(id: u8, sending: Option<&(Party, Bytes)>, begins: &[u8]) -> bool {
             *to == Party::Replica(ReplicaId(id)) && frame.as_slice().starts_with(begins)
         }
     }
+}
+
+// An order in a proof: its head, and the leaf that signed it.
+pub type Proof = (Digest, u8);
+
+// The client after an event at which these two orders go to each replica.
+fn told(client: Client, event: Event, orders: [Proof; 2]) -> Result<Client, Fail> {
+    let stepped = client.step(event)?;
+    if sends_to_all(&stepped, &POM) && is_proof(&stepped, orders) {
+        answered(stepped, Answer::Taken)
+    } else {
+        Err(Fail::from("two orders to each replica"))
+    }
+}
+
+// How a POM begins: the version and the kind.
+const POM: [u8; 2] = [1, 9];
+
+// The length of an order in it: a signer of 5 bytes, a view, a place and two digests, and a signature of 2,348 bytes
+// behind its length.
+const ORDER_LEN: usize = 5 + 8 + 8 + 32 + 32 + 2 + 2348;
+
+fn is_proof(stepped: &ClientStepped, orders: [Proof; 2]) -> bool {
+    let [first, second] = orders;
+    stepped.out.as_slice().iter().all(|(_, frame)| {
+        frame.len() == 2 + 2 * ORDER_LEN
+            && has_order_at(frame, 2, first)
+            && has_order_at(frame, 2 + ORDER_LEN, second)
+    })
+}
+
+fn has_order_at(frame: &Bytes, at: usize, order: Proof) -> bool
+    requires { at < 10000 }
+{
+    let (head, leaf) = order;
+    has_at(frame, at + 21, &head.0) && has_at(frame, at + 87, &[0, 0, 0, leaf])
+}
+
+// These bytes stand in a frame at this place.
+pub fn has_at(frame: &Bytes, at: usize, part: &[u8]) -> bool {
+    at <= frame.len() && frame.as_slice()[at..].starts_with(part)
 }
 
 // A local commit by a party, whose numbers are small.

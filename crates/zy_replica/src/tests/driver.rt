@@ -1,24 +1,28 @@
 // How a row of the table is run: a replica begins, hears one event after another, and each step is compared.
 
-ghost use Rattle.std.specs.Prelude.{◌≡◌, ◌≤◌, length, IfOk};
+ghost use Rattle.std.specs.Prelude.{◌≡◌, ◌≤◌, ◌<◌, length, IfOk};
 ghost use Rattle.zy_base.specs.declared.ids.Party.TheVariants as parties;
+ghost use Rattle.zy_exec.specs.Kept.{last_place};
+ghost use Rattle.zy_table.specs.State.{leaves_of, window_of};
+ghost use Rattle.zy_table.specs.Running.{signs_of};
 ghost use Rattle.zy_core.specs.Ready.{IsOrderReady};
 
 use super::frames::{CLIENT, Hash, OPERATION, PRIMARY, PUBLIC, Part, frame};
 use super::rows::FOLLOWS;
-use super::table::{ASK_1, ENTRY_1, HEAD_1, HEADS, ORDERED_1};
-use crate::{Replica, Stepped};
+use super::table::{ASK_1, ENTRY_1, HEAD_1, HEADS, ORDERED_1, STATES};
+use crate::{Got, Replica, Stepped};
 use sha2::{Digest as Hasher, Sha256};
 use std::alloc::Global;
 use zy_base::{
-    Answer, Bytes, Cause, ClientId, Counts, Digest, Event, FrameFault, Mode, Outgoing, Party,
-    Place, ReplicaId, Stamp, Stood, TimerKind, Timers, View, Want,
+    Answer, Bytes, Cause, ClientId, Counts, Digest, Event, FrameFault, Machine, Mode, Outgoing,
+    Party, Place, ReplicaId, Stamp, Stood, TimerKind, Timers, View, Want,
 };
 use zy_core::{Core, Moved, Progress};
 use zy_frames::OrderFrame;
 use zy_lms::{Height, LmsKey};
 use zy_ots::OtsType;
 use zy_parts::{Ask, Order, Signed, Spec};
+use zy_running::{can_run, run_all};
 use zy_seal::{Directory, Sealer, party_id, party_seed};
 use zy_space::Space;
 
@@ -53,6 +57,8 @@ pub enum Step {
     Does(Input, Answer, Left, &'static [(Party, Sent)]),
     // The same, where the history has this head, since it isn't that of the first so many requests.
     Turns(Input, Answer, Left, Hash, &'static [(Party, Sent)]),
+    // It is taken, and with that this place is stable.
+    Settles(Input, Left, u64, &'static [(Party, Sent)]),
 }
 
 pub enum Input {
@@ -78,6 +84,8 @@ pub enum Odd {
     Answer(Answer),
     Left(Left),
     Stood,
+    Stable,
+    Snapshot(Place),
     Timers,
     Count(usize),
     Receiver(Party),
@@ -156,14 +164,29 @@ fn unsigned_order(alloc: Global) -> Result<OrderFrame, Want>
     })
 }
 
-fn run_unkept(core: Core<Space>, frame: &OrderFrame) -> Result<Core<Space>, Odd>
+fn run_unkept<M: Machine>(core: Core<M>, frame: &OrderFrame) -> Result<Core<M>, Odd>
     requires { IsOrderReady frame.now }
 {
-    if core.leaves() == 0 || core.length() >= core.window() {
+    if core.length() >= core.window() {
         drop(core);
         return Err(Odd::Begins);
     }
-    match core.begin().run_all(frame) {
+    match can_run(core, &frame.ask, 0) {
+        Ok((core, true)) => run_fitting(core, frame),
+        Ok((core, false)) => {
+            drop(core);
+            Err(Odd::Begins)
+        }
+        Err(_) => Err(Odd::Want),
+    }
+}
+
+fn run_fitting<M: Machine>(core: Core<M>, frame: &OrderFrame) -> Result<Core<M>, Odd>
+    requires leaf { signs_of M.rules core frame.now.ask ≤ leaves_of core }
+    requires room { last_place core.kept < window_of core }
+    requires order { IsOrderReady frame.now }
+{
+    match run_all(core.begin(), frame) {
         Ok(
             Moved {
                 answer: _,
@@ -174,7 +197,7 @@ fn run_unkept(core: Core<Space>, frame: &OrderFrame) -> Result<Core<Space>, Odd>
     }
 }
 
-fn core_of(progress: Progress<Space>) -> Core<Space> {
+fn core_of<M: Machine>(progress: Progress<M>) -> Core<M> {
     let Progress { core, deeds } = progress;
     drop(deeds);
     core
@@ -216,10 +239,14 @@ fn begin(alloc: Global, begins: &Begins) -> Result<Replica<Space>, Odd> {
 
 // ---- what is seen of a replica
 
-// Its mode, length and head, the leaf that signs next, its timers, and the digest of its state.
+// A stable checkpoint: its view, its place, and the digests of the history and of the state there.
+type Stable = (View, Place, Digest, Digest);
+
+// Its mode, length and head, its stable checkpoint, the leaf that signs next, its timers, and the digest of its state.
 #[derive(Clone, Copy, PartialEq)]
 struct Shown {
     stood: Stood,
+    stable: Stable,
     leaf: u32,
     timers: Timers,
     state: Option<Digest>,
@@ -228,6 +255,7 @@ struct Shown {
 fn see(replica: &Replica<Space>) -> Shown {
     Shown {
         stood: replica.stood(),
+        stable: replica.stable(),
         leaf: replica.key_next(),
         timers: replica.timers(),
         state: replica.state_digest().ok(),
@@ -278,6 +306,40 @@ fn head_at(length: u64) -> Result<Hash, Odd> {
     }
 }
 
+fn stable_at(place: u64) -> Result<Stable, Odd> {
+    match STATES.get((place / 4) as usize) {
+        Some(state) => Ok((
+            View(0),
+            Place(place),
+            Digest(*head_at(place)?),
+            Digest(**state),
+        )),
+        None => Err(Odd::Stable),
+    }
+}
+
+// The snapshot at a multiple of the interval has the digest of the state there, and elsewhere there is none.
+fn has_snapshot(got: &Got, apart: u64) -> Result<(), Odd> {
+    let odd = Odd::Snapshot(got.place);
+    let is_checkpoint = got.place.0.is_multiple_of(apart);
+    match &got.snapshot {
+        None => same(!is_checkpoint, odd),
+        Some(snapshot) => {
+            same(is_checkpoint, odd)?;
+            let (_, _, _, state) = stable_at(got.place.0)?;
+            same(Digest(sha256(snapshot)) == state, odd)
+        }
+    }
+}
+
+fn have_snapshots(stepped: &Stepped<Space>) -> Result<(), Odd> {
+    let apart = stepped.replica.exec().interval();
+    for got in stepped.got.as_slice() {
+        has_snapshot(got, apart)?;
+    }
+    Ok(())
+}
+
 // In view 0 the replica is active, and of its timers only that of requests may run.
 fn has_done(stepped: &Stepped<Space>, wanted: Left, head: &[u8; 32]) -> Result<(), Odd> {
     let is = left_by(stepped);
@@ -294,7 +356,8 @@ fn has_done(stepped: &Stepped<Space>, wanted: Left, head: &[u8; 32]) -> Result<(
         answer: false,
     };
     same(stepped.timers == timers, Odd::Timers)?;
-    same(stepped.replica.timers() == timers, Odd::Timers)
+    same(stepped.replica.timers() == timers, Odd::Timers)?;
+    have_snapshots(stepped)
 }
 
 fn is_as_before(stepped: &Stepped<Space>, before: &Shown) -> Result<(), Odd> {
@@ -314,11 +377,19 @@ fn compare(stepped: &Stepped<Space>, step: &Step, before: &Shown) -> Result<(), 
         Step::Does(_, answer, left, sent) => {
             has_answer(stepped.answer, *answer)?;
             has_done(stepped, *left, head_at(left.0)?)?;
+            same(stepped.replica.stable() == before.stable, Odd::Stable)?;
             same_frames(&stepped.out, sent)
         }
         Step::Turns(_, answer, left, head, sent) => {
             has_answer(stepped.answer, *answer)?;
             has_done(stepped, *left, head)?;
+            same(stepped.replica.stable() == before.stable, Odd::Stable)?;
+            same_frames(&stepped.out, sent)
+        }
+        Step::Settles(_, left, place, sent) => {
+            has_answer(stepped.answer, Answer::Taken)?;
+            has_done(stepped, *left, head_at(left.0)?)?;
+            same(stepped.replica.stable() == stable_at(*place)?, Odd::Stable)?;
             same_frames(&stepped.out, sent)
         }
     }
@@ -331,6 +402,7 @@ fn event(alloc: Global, step: &Step) -> Result<Event, Want> {
         Step::Refuses(input, _) => input,
         Step::Does(input, _, _, _) => input,
         Step::Turns(input, _, _, _, _) => input,
+        Step::Settles(input, _, _, _) => input,
     };
     match input {
         Input::Frame(kind, parts) => Ok(Event::Heard(Bytes::from(frame(alloc, *kind, parts)?))),

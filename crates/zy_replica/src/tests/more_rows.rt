@@ -4,7 +4,7 @@ use super::driver::Input::{self, Frame};
 use super::driver::Step::{self, Does, Refuses};
 use super::driver::{Left, Row};
 use super::frames::Part::{As, By, Raw};
-use super::frames::Statement::{self, Check, Confirm, Hate, Local, Order, Spec};
+use super::frames::Statement::{self, Confirm, Hate, Local, Order, Spec};
 use super::frames::{BACKUP, CLIENT, FOURTH, OUTSIDER, PRIMARY, THIRD};
 use super::rows::{FOLLOWS, FOLLOWS_AT_31, LEADS};
 use super::table::*;
@@ -201,7 +201,6 @@ pub const OF_OTHER_FRAMES: &[Row] = &[
         name: "kinds that a replica doesn't hear",
         replica: FOLLOWS,
         steps: &[
-            Refuses(Frame(3, &[OF_THIRD, Raw(&[0, 1, 0, 0])]), Cause::WrongRole),
             Refuses(
                 Frame(5, &[By(THIRD, Local(0, 1, HEAD_1))]),
                 Cause::WrongRole,
@@ -209,10 +208,6 @@ pub const OF_OTHER_FRAMES: &[Row] = &[
             Refuses(Frame(8, &[By(THIRD, Hate(0))]), Cause::WrongRole),
             Refuses(
                 Frame(9, &[ORDERED_1, By(PRIMARY, Order(0, 1, ANOTHER, ENTRY_1))]),
-                Cause::WrongRole,
-            ),
-            Refuses(
-                Frame(10, &[By(THIRD, Check(0, 8, ANOTHER, ANOTHER))]),
                 Cause::WrongRole,
             ),
             Refuses(

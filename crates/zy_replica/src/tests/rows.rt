@@ -23,8 +23,6 @@ const LEADS_AT_30: Begins = Begins { leaf: 30, ..LEADS };
 
 const LEADS_AT_31: Begins = Begins { leaf: 31, ..LEADS };
 
-const LEADS_BY_FOURS: Begins = Begins { apart: 4, ..LEADS };
-
 const LEADS_WITHOUT_ORDERS: Begins = Begins {
     how: How::WithoutOrders,
     ..LEADS
@@ -135,25 +133,6 @@ pub const OF_THE_PRIMARY: &[Row] = &[
         ],
     },
     Row {
-        name: "the window of twice four places is filled",
-        replica: LEADS_BY_FOURS,
-        steps: &[
-            FILLS_1,
-            FILLS_2,
-            FILLS_3,
-            FILLS_4,
-            FILLS_5,
-            FILLS_6,
-            FILLS_7,
-            FILLS_8,
-            Refuses(Frame(1, &[ASK_9]), Cause::WindowFull(Place(8))),
-            Refuses(
-                Frame(6, &[By(BACKUP, Confirm(0, ENTRY_9)), ASK_9]),
-                Cause::WindowFull(Place(8)),
-            ),
-        ],
-    },
-    Row {
         name: "one leaf is too few for a request",
         replica: LEADS_AT_31,
         steps: &[Refuses(REQUEST_1, KEY_SPENT), Refuses(CONFIRM_1, KEY_SPENT)],
@@ -259,103 +238,6 @@ pub const OF_THE_PRIMARY: &[Row] = &[
         ],
     },
 ];
-
-// Requests one after another.
-const FILLS_1: Step = Does(
-    Frame(1, &[By(CLIENT, Ask(1))]),
-    Answer::Taken,
-    Left(1, 2, false, 2, 1),
-    &[
-        (BACKUP, ORDERS_1),
-        (THIRD, ORDERS_1),
-        (FOURTH, ORDERS_1),
-        (CLIENT, ANSWERS_1),
-    ],
-);
-
-const FILLS_2: Step = Does(
-    Frame(1, &[By(CLIENT, Ask(2))]),
-    Answer::Taken,
-    Left(2, 4, false, 2, 1),
-    &[
-        (BACKUP, ORDERS_2),
-        (THIRD, ORDERS_2),
-        (FOURTH, ORDERS_2),
-        (CLIENT, ANSWERS_2),
-    ],
-);
-
-const FILLS_3: Step = Does(
-    Frame(1, &[By(CLIENT, Ask(3))]),
-    Answer::Taken,
-    Left(3, 6, false, 2, 1),
-    &[
-        (BACKUP, ORDERS_3),
-        (THIRD, ORDERS_3),
-        (FOURTH, ORDERS_3),
-        (CLIENT, ANSWERS_3),
-    ],
-);
-
-const FILLS_4: Step = Does(
-    Frame(1, &[By(CLIENT, Ask(4))]),
-    Answer::Taken,
-    Left(4, 8, false, 2, 1),
-    &[
-        (BACKUP, ORDERS_4),
-        (THIRD, ORDERS_4),
-        (FOURTH, ORDERS_4),
-        (CLIENT, ANSWERS_4),
-    ],
-);
-
-const FILLS_5: Step = Does(
-    Frame(1, &[By(CLIENT, Ask(5))]),
-    Answer::Taken,
-    Left(5, 10, false, 2, 1),
-    &[
-        (BACKUP, ORDERS_5),
-        (THIRD, ORDERS_5),
-        (FOURTH, ORDERS_5),
-        (CLIENT, ANSWERS_5),
-    ],
-);
-
-const FILLS_6: Step = Does(
-    Frame(1, &[By(CLIENT, Ask(6))]),
-    Answer::Taken,
-    Left(6, 12, false, 2, 1),
-    &[
-        (BACKUP, ORDERS_6),
-        (THIRD, ORDERS_6),
-        (FOURTH, ORDERS_6),
-        (CLIENT, ANSWERS_6),
-    ],
-);
-
-const FILLS_7: Step = Does(
-    Frame(1, &[By(CLIENT, Ask(7))]),
-    Answer::Taken,
-    Left(7, 14, false, 2, 1),
-    &[
-        (BACKUP, ORDERS_7),
-        (THIRD, ORDERS_7),
-        (FOURTH, ORDERS_7),
-        (CLIENT, ANSWERS_7),
-    ],
-);
-
-const FILLS_8: Step = Does(
-    Frame(1, &[By(CLIENT, Ask(8))]),
-    Answer::Taken,
-    Left(8, 16, false, 2, 1),
-    &[
-        (BACKUP, ORDERS_8),
-        (THIRD, ORDERS_8),
-        (FOURTH, ORDERS_8),
-        (CLIENT, ANSWERS_8),
-    ],
-);
 
 // ---- orders at a backup
 

@@ -1,34 +1,23 @@
-use Rattle.std.proofs.Common.{length, ◌∙◌, ap, arith, None}
-use Rattle.std.proofs.lemmas.List.{length-replicate}
+use Rattle.std.proofs.Common.{◌++◌, ◌∷◌, [], List, length, ◌∙◌, ap, arith}
 use Rattle.std.specs.Prelude.{Option}
-use Rattle.zy_base.specs.declared.ids.Place.{Place}
-use Rattle.zy_exec.specs.Kept.{Kept, now_of}
-use Rattle.zy_exec.specs.Replay.{step}
-use Rattle.zy_exec.specs.Trail.{nowhere}
-use Rattle.zy_exec.proofs.ReplayLemmas.{length-last, now_next, replayed_push}
+use Rattle.std.proofs.lemmas.List.{length-append}
+use Rattle.zy_exec.specs.declared.shot.Shot.{Shot}
+use Rattle.zy_exec.specs.Kept.{Kept}
+use Rattle.zy_exec.proofs.ShotLemmas.{kept_run}
 use Rattle.zy_exec.proofs.exec.Exec.run.Goals as goal
 
-pub push_done-requires-clause-client : goal.push_done-requires-clause-client
-push_done-requires-clause-client g c =
-    let none : Option Place = None in
-    let all = ap length c.self.invariant.last_is ∙ length-last c.self.inside.spine.base.place nowhere c.self.inside.spine.entries ∙ length-replicate 64 none in
-    omega (arith, all, c.requires.client)
+pub unrun_last-requires : goal.unrun_last-requires
+unrun_last-requires g c =
+    omega (arith, ap (λ (k : Kept _). length k.entries) c.in_ok-reply.ensures.after, length-append c.self.inside.track.entries (c.args.e ∷ []))
 
-pub invariant_of-self-2 : goal.invariant_of-self-2
-invariant_of-self-2 g c =
+pub invariant_of-self-in-Ok : goal.invariant_of-self-in-Ok
+invariant_of-self-in-Ok g c =
     let x = c.self.inside in
     let M = g.M.Machine in
-    let e = c.args.e in
-    replayed_push M.rules x.spine c.push.new.self x.base_known.items (M.state x.machine) (M.state c.apply.new.machine) (M.trail x.machine) (M.trail c.apply.new.machine)
-    x.done.items c.push_done.new.done.items x.last.items c.push_done.new.last.items e c.end.result c.head.result c.in-Ok.replies.0
-    c.self.invariant c.requires.client c.in_default-push.ensures.ok (rw c.as_slice.ensures.value at c.in-Ok.ensures.state) c.in-Ok.ensures.trail
-    c.requires.entry.stamp c.in-Ok.ensures.short_kept (rw (← c.self.view_is) at c.requires.room)
-    c.end.ensures.place c.head.ensures (rw c.as_slice.ensures.value at c.in-Ok.ensures.kept) (rw c.in_default.ensures.items at c.push_done.ensures.done) c.push_done.ensures.last
+    kept_run M.rules x.track c.run.new.self c.args.e c.in-Ok.shot x.shots.items c.push_back_reserved.new.self.items c.self.invariant c.in_ok-reply.ensures.after c.in-Ok.ensures
+    (c.push_back_reserved.ensures.items ∙ ap (λ (ss : List (Option Shot)). ss ++ c.in-Ok.shot ∷ []) c.in_default.ensures.items)
 
-pub returns-clause-now : goal.returns-clause-now
-returns-clause-now g c =
-    let x = c.self.inside in
-    let M = g.M.Machine in
-    now_next M.rules x.spine c.push.new.self x.base_known.items (M.state x.machine) (M.state c.apply.new.machine) (M.trail x.machine) (M.trail c.apply.new.machine) c.args.e
-    c.in_default-push.ensures.ok c.in-Ok.ensures.trail
-    ∙ ap (λ (k : Kept _). step M.rules (now_of M.rules k) c.args.e) c.self.view_is
+pub invariant_of-self-in-Err-shot : goal.invariant_of-self-in-Err-shot
+invariant_of-self-in-Err-shot g c =
+    let back = c.unrun_last.ensures c.self.inside.track c.args.e c.in_ok-reply.ensures.after in
+    rw (back.0, c.in_default.ensures.items) c.self.invariant

@@ -1,8 +1,12 @@
-use Rattle.zy_exec.proofs.ReplayLemmas.{replayed_start}
+use Rattle.std.proofs.Common.{◌≡◌, ap, arith}
+use Rattle.zy_exec.specs.Kept.{Kept}
+use Rattle.zy_exec.proofs.ShotLemmas.{kept_new}
 use Rattle.zy_exec.proofs.exec.Exec.start.Goals as goal
 
 pub invariant_of-result : goal.invariant_of-result
 invariant_of-result g c =
     let M = g.M.Machine in
-    replayed_start M.rules c.new.result c.in_ok-nothing.field-0.items (M.state c.args.machine) (M.trail c.args.machine) c.new-2.result.items c.in_ok-nothing-2.field-0.items _
-    c.new.ensures c.requires.trail c.in_ok-nothing.ensures c.new-2.ensures.items c.in_ok-nothing-2.ensures
+    let track = c.in_ok-track.track in
+    let interval : track.interval ≡ c.args.k = ap (λ (k : Kept _). k.interval) c.in_ok-track.ensures in
+    kept_new M.rules track c.in_ok-shot.field-0 c.in_ok-shots.shots.items (ap (λ (k : Kept _). k.entries) c.in_ok-track.ensures)
+    (omega (arith, interval, c.requires.least)) (omega (arith, interval, c.requires.most)) c.in_ok-shot.ensures c.in_ok-shots.ensures

@@ -1,0 +1,4 @@
+pub mod FitLemmas
+pub mod IndexLemmas
+pub mod AheadLemmas
+pub mod ChoosingLemmas

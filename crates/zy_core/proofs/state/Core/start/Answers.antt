@@ -1,0 +1,14 @@
+use Rattle.std.proofs.Common.{◌≡◌, ◌∙◌, ap}
+use Rattle.zy_exec.specs.Replay.{origin}
+use Rattle.zy_exec.specs.Shots.{digest_of_snapshot}
+use Rattle.zy_exec.specs.Snapshot.{snapshot_of}
+use Rattle.zy_check.specs.Board.{Board, start_of}
+use Rattle.zy_core.proofs.ReadyLemmas.{start_is}
+use Rattle.zy_core.proofs.state.Core.start.Goals as goal
+
+pub returns : goal.returns
+returns g c =
+    let R = g.M.Machine.rules in
+    let board : c.start-board.result ≡ start_of c.args.k (digest_of_snapshot (snapshot_of R (origin R))) = c.start-board.ensures ∙ ap (start_of c.args.k) c.empty_digest.ensures in
+    start_is R c.args.k c.args.me c.args.counts c.args.directory c.args.sealer _ _ _ _ _ _
+    c.in_ok-exec.ensures c.start-2.ensures board c.in_ok-specs.ensures c.in_ok-pending.ensures c.new.ensures

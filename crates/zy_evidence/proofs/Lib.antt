@@ -1,0 +1,4 @@
+pub mod TestLemmas
+pub mod ProofLemmas
+pub mod ItselfLemmas
+pub mod JudgedLemmas

@@ -1,0 +1,46 @@
+use Rattle.std.proofs.Common.{◌≡◌, ◌+◌, ◌<◌, ℕ, length, ◌∙◌, ap, sym, arith}
+use Rattle.zy_chain.specs.Stretch.{from_place}
+use Rattle.zy_exec.specs.Kept.{Kept, settled}
+use Rattle.zy_exec.specs.Trail.{base_of}
+use Rattle.zy_exec.proofs.ReplayLemmas.{length-done, length-states}
+use Rattle.zy_exec.proofs.SettleLemmas.{settled_base, settled_kept}
+use Rattle.zy_exec.proofs.track.Track.settle_one.Goals as goal
+
+pub settle_done-requires-clause-some : goal.settle_done-requires-clause-some
+settle_done-requires-clause-some g c =
+    let x = c.self.inside in
+    let M = g.M.Machine in
+    let some : 0 < length x.spine.entries = rw (← c.self.view_is) at c.requires.some in
+    let as_many = ap length c.self.invariant.done_is ∙ length-done M.rules (base_of x.spine (M.trail x.machine) (M.state x.machine) x.base_known.items) c.self.invariant.before x.spine.entries in
+    omega (arith, some, as_many)
+
+pub forget-requires : goal.forget-requires
+forget-requires g c =
+    let x = c.self.inside in
+    let M = g.M.Machine in
+    let some : 0 < length x.spine.entries = rw (← c.self.view_is) at c.requires.some in
+    let as_many = ap length c.self.invariant.trail_is ∙ length-states M.rules (base_of x.spine (M.trail x.machine) (M.state x.machine) x.base_known.items) x.spine.entries in
+    omega (arith, some, as_many)
+
+pub invariant_of-self : goal.invariant_of-self
+invariant_of-self g c =
+    let x = c.self.inside in
+    let M = g.M.Machine in
+    let some : 0 < length x.spine.entries = rw (← c.self.view_is) at c.requires.some in
+    let next : c.args.next.0 ≡ x.spine.base.place + 1 = rw (← c.self.view_is) at c.requires.next in
+    (settled_base M.rules x.spine c.cut_below.new.self x.base_known.items c.settle_done.new.base_known.items (M.state x.machine) (M.state c.forget.new.self) (M.trail x.machine) (M.trail c.forget.new.self)
+    x.done.items c.settle_done.new.done.items x.last.items c.self.invariant some c.settle_done.ensures c.forget.ensures.state c.forget.ensures.trail
+    (c.cut_below.ensures ∙ ap (λ (n : ℕ). from_place n x.spine) next)).1
+
+pub returns : goal.returns
+returns g c =
+    let x = c.self.inside in
+    let M = g.M.Machine in
+    let some : 0 < length x.spine.entries = rw (← c.self.view_is) at c.requires.some in
+    let next : c.args.next.0 ≡ x.spine.base.place + 1 = rw (← c.self.view_is) at c.requires.next in
+    let was : Kept _ = record { interval = x.interval; base = base_of x.spine (M.trail x.machine) (M.state x.machine) x.base_known.items; entries = x.spine.entries } in
+    settled_kept M.rules x.interval x.spine c.cut_below.new.self x.base_known.items c.settle_done.new.base_known.items (M.state x.machine) (M.state c.forget.new.self) (M.trail x.machine) (M.trail c.forget.new.self)
+    x.done.items c.settle_done.new.done.items x.last.items c.self.invariant some c.settle_done.ensures c.forget.ensures.state c.forget.ensures.trail
+    (c.cut_below.ensures ∙ ap (λ (n : ℕ). from_place n x.spine) next)
+    ∙ ap (λ (n : ℕ). settled M.rules n was) (sym next)
+    ∙ ap (settled M.rules c.args.next.0) c.self.view_is

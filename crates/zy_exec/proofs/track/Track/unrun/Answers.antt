@@ -1,0 +1,32 @@
+use Rattle.std.proofs.Common.{length, ◌∙◌, ap, arith}
+use Rattle.zy_exec.specs.Trail.{base_of}
+use Rattle.zy_exec.proofs.ReplayLemmas.{length-done, length-states, length-last, popped_is, replayed_cut}
+use Rattle.zy_exec.proofs.track.Track.unrun.Goals as goal
+
+pub pop_done-requires-clause-some : goal.pop_done-requires-clause-some
+pop_done-requires-clause-some g c =
+    let x = c.self.inside in
+    let M = g.M.Machine in
+    let some = (popped_is x.spine c.pop.new.self c.in-Some.e c.in-Some.ensures.some).1 in
+    let as_many = ap length c.self.invariant.done_is ∙ length-done M.rules (base_of x.spine (M.trail x.machine) (M.state x.machine) x.base_known.items) c.self.invariant.before x.spine.entries in
+    omega (arith, some, as_many)
+
+pub pop_done-requires-clause-all : goal.pop_done-requires-clause-all
+pop_done-requires-clause-all g c =
+    ap length c.self.invariant.last_is ∙ length-last c.self.inside.spine.base.place c.self.invariant.before c.self.inside.spine.entries ∙ c.self.invariant.is_before.all_clients
+
+pub take_back-requires : goal.take_back-requires
+take_back-requires g c =
+    let x = c.self.inside in
+    let M = g.M.Machine in
+    let some = (popped_is x.spine c.pop.new.self c.in-Some.e c.in-Some.ensures.some).1 in
+    let as_many = ap length c.self.invariant.trail_is ∙ length-states M.rules (base_of x.spine (M.trail x.machine) (M.state x.machine) x.base_known.items) x.spine.entries in
+    omega (arith, some, as_many)
+
+pub invariant_of-self-in-Some : goal.invariant_of-self-in-Some
+invariant_of-self-in-Some g c =
+    let x = c.self.inside in
+    let M = g.M.Machine in
+    let popped = popped_is x.spine c.pop.new.self c.in-Some.e c.in-Some.ensures.some in
+    replayed_cut M.rules x.spine c.pop.new.self x.base_known.items (M.state x.machine) (M.state c.take_back.new.machine) (M.trail x.machine) (M.trail c.take_back.new.machine)
+    x.done.items c.pop_done.new.done.items x.last.items c.pop_done.new.last.items c.self.invariant popped.1 c.take_back.ensures c.pop_done.ensures popped.0

@@ -1,0 +1,348 @@
+ghost use Rattle.std.specs.Prelude.{◌≡◌, ◌+◌, ◌-◌, ◌*◌, ◌<◌, ◌≤◌, ◌^◌, List, [], ◌∷◌, ◌++◌, length, take, drop, slice_index_or, option_copied, IfOk, OnOk, OnErr, IfErr, IfSome, IfNone, IsErrOf};
+ghost use Rattle.std.specs.List.{flat_map};
+ghost use Rattle.zy_chain.specs.declared.entry.Entry.{Entry};
+ghost use Rattle.zy_chain.specs.Entries.{IsEntryInRange};
+ghost use Rattle.zy_chain.specs.Stretch.{head_in, entry_in};
+ghost use Rattle.zy_exec.specs.declared.install_fault.InstallFault.TheVariants.{NotState};
+ghost use Rattle.zy_exec.specs.Known.{IsKnownInRange};
+ghost use Rattle.zy_exec.specs.Replay.{Point, origin, along, step};
+ghost use Rattle.zy_exec.specs.Snapshot.{listed, row_fields, snapshot_of};
+ghost use Rattle.zy_exec.specs.Shots.{shot_of};
+ghost use Rattle.zy_exec.specs.Installed.{IsShown, IsInstalled};
+ghost use Rattle.zy_exec.specs.Kept.{Kept, stretch_of, last_place, now_of, longer, back_to, settled, reply_in, known_in, StandsFor};
+
+use crate::install_fault::InstallFault;
+use crate::known::{
+    Done, Known, index_above, known_at, nothing, pop_done, push_done, reply_done, settle_done,
+};
+use crate::machine::{apply, take_back};
+use crate::row::put_row;
+use crate::shot::Shot;
+use crate::snapshot::read_snapshot;
+use std::alloc::Global;
+use std::collections::VecDeque;
+use std::marker::Model;
+use std::sync::ledger::Ledger;
+use zy_base::{Bytes, ClientId, Digest, Machine, Place, Steps, Want};
+use zy_chain::{EMPTY_HEAD, Entry, Spine};
+use zy_wire::Put;
+
+/// The execution of a history without its snapshots: the entries above a base, the machine at their end, and what leads
+/// back to the base. Contracts see the base, as the point that the history reaches there, and the entries.
+#[derive(Drop)]
+pub struct Track<M: Machine> {
+    interval: u64,
+    spine: Spine,
+    machine: M,
+    // what was known of each client at the base
+    base_known: Vec<Option<Known>>,
+    // what is kept of each entry above the base
+    done: VecDeque<Done>,
+    // where each client's last entry stands: a place up to the base, or none, means what was known at the base
+    last: Vec<Option<Place>>,
+}
+
+impl<M: Machine> Model for Track<M> {
+    ghost use Rattle.zy_exec.specs.Kept.{Kept};
+
+    ghost Value = { Kept M.State };
+
+    ghost use Rattle.zy_exec.specs.Trail.{base_of, IsReplayed};
+
+    ghost view = { λ x. record {
+      interval = x.interval;
+      base = base_of x.spine (M.trail x.machine) (M.state x.machine) x.base_known.items;
+      entries = x.spine.entries;
+    } };
+
+    ghost invariant = { λ x.
+        IsReplayed M.rules (base_of x.spine (M.trail x.machine) (M.state x.machine) x.base_known.items) x.spine.entries
+        (M.state x.machine) (M.trail x.machine) x.done.items x.last.items };
+}
+
+impl<M: Machine> Track<M> {
+    /// The empty history.
+    pub fn start(alloc: Global, machine: M, k: u64) -> Result<Track<M>, Want>
+        requires state { M.state machine ≡ M.rules.initial }
+        requires trail { M.trail machine ≡ [] }
+        ensures { IfOk result (λ track. track ≡ record { interval = k; base = origin M.rules; entries = [] }) }
+    {
+        Ok(Track {
+            interval: k,
+            spine: Spine::new(alloc, Place(0), EMPTY_HEAD),
+            machine,
+            base_known: nothing(alloc)?,
+            done: VecDeque::new(alloc),
+            last: nothing(alloc)?,
+        })
+    }
+
+    /// The place of the last entry, or the base.
+    pub fn end(&self) -> Place
+        ensures place { result.0 ≡ last_place self.now }
+        ensures now { result.0 ≡ (now_of M.rules self.now).place }
+        ensures fits { last_place self.now ≤ 2 ^ 63 }
+    {
+        self.spine.end()
+    }
+
+    /// The place below the first entry that is kept.
+    pub fn base(&self) -> Place
+        ensures { result.0 ≡ self.now.base.place }
+    {
+        self.spine.base()
+    }
+
+    /// The head at the end.
+    pub fn head(&self) -> Digest
+        ensures { result ≡ (now_of M.rules self.now).head }
+    {
+        self.spine.head()
+    }
+
+    /// How many places lie between two snapshots.
+    pub fn interval(&self) -> u64
+        ensures { result ≡ self.now.interval }
+    {
+        self.interval
+    }
+
+    /// The base, the entries above it and the heads.
+    pub fn spine(&self) -> &Spine
+        ensures { result.now ≡ stretch_of self.now }
+    {
+        &self.spine
+    }
+
+    /// The head at a place. `None` exactly outside base to end.
+    pub fn head_at(&self, place: Place) -> Option<Digest>
+        ensures { result ≡ head_in (stretch_of self.now) place.0 }
+    {
+        self.spine.head_at(place)
+    }
+
+    /// The entry that leads to a place. `None` exactly outside base + 1 to end.
+    pub fn entry_at(&self, place: Place) -> Option<&Entry>
+        ensures entry { option_copied result ≡ entry_in (stretch_of self.now) place.0 }
+        ensures in_range { IfSome result (λ e. IsEntryInRange e.now) }
+    {
+        self.spine.entry_at(place)
+    }
+
+    /// The reply to the entry that leads to a place. `None` exactly outside base + 1 to end.
+    pub fn reply_at(&self, place: Place) -> Option<&Bytes>
+        ensures reply { option_copied result ≡ reply_in M.rules self.now place.0 }
+        ensures short { IfSome result (λ reply. length reply.now ≤ 1100) }
+    {
+        if place.0 <= self.spine.base().0 {
+            return None;
+        }
+        reply_done(&self.done, index_above(self.spine.base(), place))
+    }
+
+    /// What is known of a client's last entry. `None` exactly where it has none.
+    pub fn known(&self, client: ClientId) -> Option<&Known>
+        ensures known { option_copied result ≡ known_in M.rules self.now client.0 }
+        ensures in_range { IfSome result (λ known. IsKnownInRange known.now) }
+    {
+        known_at(
+            self.spine.base(),
+            &self.base_known,
+            &self.done,
+            &self.last,
+            client.0 as usize,
+        )
+    }
+
+    /// Runs an entry: the history gets it, and the answer is the reply. The answer is `Err` for want of memory alone:
+    /// then the entry comes back, and all is as it was.
+    pub fn run(&mut self, e: Entry) -> Result<Bytes, (Entry, Want)>
+        requires room { last_place self.old < 2 ^ 62 - 1 }
+        requires client { e.client.0 < 64 }
+        requires entry { IsEntryInRange e }
+        ensures after { OnOk result (self.new ≡ longer self.old e) }
+        ensures now { OnOk result (now_of M.rules self.new ≡ step M.rules (now_of M.rules self.old) e) }
+        ensures reply { IfOk result (λ reply. reply ≡ M.rules.reply (now_of M.rules self.old).state e.client e.op) }
+        ensures short { IfOk result (λ reply. length reply ≤ 1100) }
+        ensures err { OnErr result (self.new ≡ self.old) }
+        ensures entry { IfErr result (λ refused. refused.0 ≡ e) }
+    {
+        if let Err(_) = self.done.reserve(1) {
+            return Err((e, Want));
+        }
+        let (kept, reply) = match apply(&mut self.machine, e.client, e.op.as_slice()) {
+            Ok(replies) => replies,
+            Err(want) => return Err((e, want)),
+        };
+        let (client, stamp) = (e.client, e.stamp);
+        if let Err(refused) = self.spine.push(e) {
+            take_back(&mut self.machine);
+            return Err(refused);
+        }
+        let known = Known {
+            stamp,
+            place: self.spine.end(),
+            head: self.spine.head(),
+            reply: kept,
+        };
+        push_done(&mut self.done, &mut self.last, client, known);
+        Ok(reply)
+    }
+
+    /// Takes the last entry out again, as if it had never been run. `None` exactly where no entry is kept. Takes no
+    /// memory, and counts no step.
+    pub fn unrun(&mut self) -> Option<Entry>
+        ensures some { IfSome result (λ e. self.old ≡ longer self.new e) }
+        ensures in_range { IfSome result IsEntryInRange }
+        ensures back { (k : Kept M.State) (e : Entry) → self.old ≡ longer k e → self.new ≡ k }
+        ensures none { IfNone result (self.old.entries ≡ []) }
+        ensures same { IfNone result (self.new ≡ self.old) }
+    {
+        match self.spine.pop() {
+            None => None,
+            Some(e) => {
+                pop_done(&mut self.done, &mut self.last);
+                take_back(&mut self.machine);
+                Some(e)
+            }
+        }
+    }
+
+    /// The last entry, taken out again.
+    pub fn unrun_last(&mut self) -> Entry
+        requires { 0 < length self.old.entries }
+        ensures { (k : Kept M.State) (e : Entry) → self.old ≡ longer k e → (self.new ≡ k) × (result ≡ e) }
+    {
+        match self.unrun() {
+            Some(e) => e,
+            None => unreachable!(),
+        }
+    }
+
+    // Goes back over the last entry.
+    fn step_back<L: Ledger>(&mut self, steps: &mut Steps<L>)
+        requires { 0 < length self.old.entries }
+        ensures after { self.new ≡ back_to (last_place self.old - 1) self.old }
+        ensures cost { steps.new ≤ steps.old + 1 }
+    {
+        pop_done(&mut self.done, &mut self.last);
+        self.machine.undo(steps);
+        self.spine.cut_above(Place(self.spine.end().0 - 1));
+    }
+
+    /// Goes back to a place: the entries above it are as if they had never been run. It can't fail, takes no memory,
+    /// and adds at most one step for each of these entries.
+    pub fn rollback<L: Ledger>(&mut self, place: Place, steps: &mut Steps<L>)
+        requires above { self.old.base.place ≤ place.0 }
+        requires below { place.0 ≤ last_place self.old }
+        ensures after { self.new ≡ back_to place.0 self.old }
+        ensures cost { steps.new + place.0 ≤ steps.old + last_place self.old }
+    {
+        while self.end().0 > place.0 {
+            self.step_back(steps);
+        }
+    }
+
+    /// Where its memory comes from.
+    pub fn allocator(&self) -> Global {
+        *self.base_known.allocator()
+    }
+
+    // How many clients there may be.
+    fn clients(&self) -> u32
+        ensures all { result ≡ length (now_of M.rules self.now).known }
+        ensures many { result ≡ 64 }
+    {
+        self.base_known.len() as u32
+    }
+
+    // How many clients are known.
+    fn known_count(&self) -> u16
+        ensures { result ≡ length (listed 0 (now_of M.rules self.now).known) }
+    {
+        let mut count = 0;
+        for client in 0..self.clients() {
+            match self.known(ClientId(client)) {
+                Some(_) => count += 1,
+                None => {}
+            }
+        }
+        count
+    }
+
+    // Writes what is known of each client.
+    fn put_all_known(&self, out: &mut Put) -> Result<(), Want>
+        ensures bytes { OnOk result (out.new ≡ out.old ++ flat_map row_fields.spell (listed 0 (now_of M.rules self.now).known)) }
+        ensures short { OnOk result (length out.new ≤ length out.old + 64 * 1154) }
+    {
+        for client in 0..self.clients() {
+            match self.known(ClientId(client)) {
+                Some(known) => put_row(out, ClientId(client), known)?,
+                None => {}
+            }
+        }
+        Ok(())
+    }
+
+    /// The snapshot at the end: what is known of each client, and the machine's state. At most 2,373,862 bytes.
+    #[tactic(auto, unfolding(crate::specs::Snapshot::snapshot_of, crate::specs::Snapshot::snapshot_fields, zy_wire::specs::Fields::list_bytes, zy_wire::specs::Spelling::bytes_of))]
+    pub fn snapshot(&self) -> Result<Bytes, Want>
+        ensures bytes { IfOk result (λ bytes. bytes ≡ snapshot_of M.rules (now_of M.rules self.now)) }
+        ensures short { IfOk result (λ bytes. length bytes ≤ 2373862) }
+    {
+        let state = self.machine.state_bytes()?;
+        let mut out = Put::new(self.allocator());
+        out.u16(self.known_count())?;
+        self.put_all_known(&mut out)?;
+        out.bytes32(state.as_slice())?;
+        Ok(out.done())
+    }
+
+    /// The snapshot at the end with its digest, where the place is a multiple of the interval.
+    pub fn shot(&self) -> Result<Option<Shot>, Want>
+        requires { 0 < self.now.interval }
+        ensures { IfOk result (λ shot. shot ≡ shot_of M.rules self.now.interval (now_of M.rules self.now)) }
+    {
+        if self.end().0 % self.interval != 0 {
+            return Ok(None);
+        }
+        Ok(Some(Shot::new(self.snapshot()?)))
+    }
+
+    /// Moves the base over the first entry, to the next place. Takes no memory.
+    pub fn settle_one(&mut self, next: Place)
+        requires next { next.0 ≡ self.old.base.place + 1 }
+        requires some { 0 < length self.old.entries }
+        ensures { self.new ≡ settled M.rules next.0 self.old }
+    {
+        settle_done(&mut self.done, &mut self.base_known);
+        self.machine.forget();
+        self.spine.cut_below(next);
+    }
+
+    /// What a snapshot's bytes show, at a place with a head, and no entry above it. `NotState` exactly where the bytes are
+    /// no snapshot.
+    pub fn restored(
+        alloc: Global,
+        interval: u64,
+        place: Place,
+        head: Digest,
+        bytes: &[u8],
+    ) -> Result<Track<M>, InstallFault>
+        requires { place.0 < 2 ^ 62 }
+        ensures ok { IfOk result (λ track. IsInstalled M.IsState M.rules interval place.0 head bytes.now track) }
+        ensures not_state { IsErrOf result NotState → (p : Point M.State) → IsShown M.IsState p → snapshot_of M.rules p ≡ bytes.now → ⊥ }
+    {
+        let (base_known, state) = read_snapshot(alloc, bytes)?;
+        let last = nothing(alloc)?;
+        let machine = M::restore(alloc, state)?;
+        Ok(Track {
+            interval,
+            spine: Spine::new(alloc, place, head),
+            machine,
+            base_known,
+            done: VecDeque::new(alloc),
+            last,
+        })
+    }
+}

@@ -1,0 +1,17 @@
+-- What was counted before a statement is kept.
+use Rattle.std.proofs.Common.{◌≡◌, ◌≤◌, true, false, Option, refl}
+use Rattle.std.specs.Prelude.{nat_le}
+use Rattle.std.proofs.lemmas.Bool.{le-leb}
+use Rattle.zy_base.specs.Machine.{Rules}
+use Rattle.zy_base.specs.declared.step.Answer.TheVariants.{Taken}
+use Rattle.zy_check.specs.Board.{Board}
+use Rattle.zy_table.specs.declared.kept.OwnCheckpoint.{OwnCheckpoint}
+use Rattle.zy_table.specs.State.{State, leaves_of}
+use Rattle.zy_table.specs.Deeds.{ends, begin}
+use Rattle.zy_table.specs.Gathering.{checks_owed, gather_at}
+use Rattle.zy_table.specs.Checkpoints.{with_board, gathered}
+
+pub gathered_is : {S : Type 0} (R : Rules S) (s : State S) (own : Option OwnCheckpoint) (board : Board) → checks_owed (with_board s board) own false ≤ leaves_of s
+    → gathered R s own board ≡ ends Taken (gather_at R own false (begin (with_board s board)))
+gathered_is R s own board fits =
+    let is : nat_le (checks_owed (with_board s board) own false) (leaves_of s) ≡ true = le-leb _ _ fits in rw is refl

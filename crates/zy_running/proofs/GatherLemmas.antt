@@ -1,0 +1,100 @@
+-- What gathering leaves of the history and of the orders above its end.
+use Rattle.std.proofs.Common.{◌≡◌, ◌+◌, ◌-◌, ◌≤◌, ◌∷◌, [], ℕ, Bool, true, false, List, drop, Option, Some, None, refl, ap, ◌∙◌, sym, subst, arith}
+use Rattle.std.specs.Prelude.{if◌then◌else◌}
+use Rattle.std.proofs.lemmas.List.{drop-drop, length-append}
+use Rattle.zy_base.specs.Machine.{Rules}
+use Rattle.zy_base.specs.declared.ids.Digest.{Digest}
+use Rattle.zy_base.specs.declared.ids.Place.{Place}
+use Rattle.zy_frames.specs.declared.frame.Frame.TheVariants as frames
+use Rattle.zy_frames.specs.declared.frame.OrderFrame.{OrderFrame}
+use Rattle.zy_parts.specs.declared.signed.Signed.{Signed}
+use Rattle.zy_parts.specs.declared.statements.Order.{Order}
+use Rattle.zy_parts.specs.declared.statements.Spec.{Spec}
+use Rattle.zy_parts.specs.declared.statements.Check.{Check}
+use Rattle.zy_exec.specs.Kept.{Kept, last_place}
+use Rattle.zy_admit.specs.Judging.{entry_of}
+use Rattle.zy_admit.specs.Orders.{Orders, slots_above, orders_above}
+use Rattle.zy_table.specs.declared.deeds.To.TheVariants.{All}
+use Rattle.zy_table.specs.declared.kept.OwnCheckpoint.{OwnCheckpoint}
+use Rattle.zy_table.specs.State.{State, own_view}
+use Rattle.zy_table.specs.Deeds.{Going, send}
+use Rattle.zy_table.specs.Gathering.{state_in, own_with, certificate_at, keep_certificate, is_further, owes_check, say_check_if, settle_with, proof_at, gather, with_own_spec}
+use Rattle.zy_table.specs.Running.{spec_of, next_known, executed, sealed_spec, respond, share, run_one}
+use Rattle.zy_core.proofs.OwnLemmas.{settled_end, now_place}
+
+-- the end of the history, and the orders above it, are the same
+pub record IsSameAbove {S : Type 0} (s t : State S) : Type 0 where
+  pub last : last_place t.kept ≡ last_place s.kept
+  pub slots : slots_above (last_place s.kept) t.orders ≡ slots_above (last_place s.kept) s.orders
+
+slots_cut : (o : Orders) (place last : ℕ) → o.base ≤ place → place ≤ last → slots_above last (orders_above place o) ≡ slots_above last o
+slots_cut o place last above below =
+    let whole : (place - o.base) + (last - place) ≡ last - o.base = omega arith in
+    drop-drop (last - place) (place - o.base) o.slots ∙ ap (λ (n : ℕ). drop n o.slots) whole
+
+module _ {S : Type 0} where
+  certain_if : (s : State S) (t : State S) (b : Bool) → t.kept ≡ s.kept → t.orders ≡ s.orders → ((if b then t else s).kept ≡ s.kept) × ((if b then t else s).orders ≡ s.orders)
+  certain_if s t true kept orders = (kept, orders)
+  certain_if s t false kept orders = (refl, refl)
+
+  certain_same : (s : State S) (place : Place) (found : Option (List (Signed Spec))) → ((keep_certificate place found s).kept ≡ s.kept) × ((keep_certificate place found s).orders ≡ s.orders)
+  certain_same s place None = (refl, refl)
+  certain_same s place (Some specs) = certain_if s (record s { certificate = Some (record { place = place; specs = specs }) }) (is_further place s.certificate) refl refl
+
+  said_same : (R : Rules S) (owes : Bool) (own : Check) (g : Going S) → ((say_check_if R owes own g).state.kept ≡ g.state.kept) × ((say_check_if R owes own g).state.orders ≡ g.state.orders)
+  said_same R true own g = (refl, refl)
+  said_same R false own g = (refl, refl)
+
+  settled_above : (R : Rules S) (s : State S) (place : ℕ) (found : Option (List (Signed Check))) → s.orders.base ≤ place → s.kept.base.place ≤ place → place ≤ last_place s.kept → IsSameAbove s (settle_with R place found s)
+  settled_above R s place None orders above below = record { last = refl; slots = refl }
+  settled_above R s place (Some proof) orders above below =
+      record { last = settled_end R s.kept place above below; slots = slots_cut s.orders place (last_place s.kept) orders below }
+
+  above_by : (s t u : State S) → t.kept ≡ s.kept → t.orders ≡ s.orders → IsSameAbove t u → IsSameAbove s u
+  above_by s t u kept orders same =
+      record {
+        last = same.last ∙ ap last_place kept;
+        slots = subst (λ (k : Kept S). slots_above (last_place k) u.orders ≡ slots_above (last_place k) t.orders) kept same.slots ∙ ap (slots_above (last_place s.kept)) orders;
+      }
+
+module _ {S : Type 0} (R : Rules S) where
+  gather_above : (own : OwnCheckpoint) (brought : Bool) (g : Going S) → g.state.orders.base ≤ own.check.place.0 → g.state.kept.base.place ≤ own.check.place.0 → own.check.place.0 ≤ last_place g.state.kept
+      → IsSameAbove g.state (gather R own brought g).state
+  unfolding gather
+  gather_above own brought g orders above below =
+      let place = own.check.place.0 in
+      let found = certificate_at g.state own.spec in
+      let certain = certain_same g.state own.spec.place found in
+      let h : Going S = record g { state = keep_certificate own.spec.place found g.state } in
+      let t : Going S = say_check_if R (owes_check g.state own brought) own.check h in
+      let said = said_same R (owes_check g.state own brought) own.check h in
+      let kept : t.state.kept ≡ g.state.kept = said.0 ∙ certain.0 in
+      let slots : t.state.orders ≡ g.state.orders = said.1 ∙ certain.1 in
+      above_by g.state t.state (settle_with R place (proof_at t.state own.check) t.state) kept slots
+      (settled_above R t.state place (proof_at t.state own.check)
+      (subst (λ (o : Orders). o.base ≤ place) (sym slots) orders)
+      (subst (λ (k : Kept S). k.base.place ≤ place) (sym kept) above)
+      (subst (λ (k : Kept S). place ≤ last_place k) (sym kept) below))
+
+  shared_above : (order : Signed Order) (signed : Signed Spec) (reply : List ℕ) (state : Option Digest) (g : Going S) → g.state.orders.base ≤ signed.stmt.place.0 → g.state.kept.base.place ≤ signed.stmt.place.0 → signed.stmt.place.0 ≤ last_place g.state.kept
+      → IsSameAbove g.state (share R order signed reply state g).state
+  shared_above order signed reply None g orders above below = record { last = refl; slots = refl }
+  shared_above order signed reply (Some state) g orders above below =
+      let own : OwnCheckpoint = own_with signed.stmt state in
+      let told : Going S = send All (frames.SpecResponse signed reply (Some order)) g in
+      let same = gather_above own false (record told { state = with_own_spec told.state own signed }) orders above below in
+      record { last = same.last; slots = same.slots }
+
+  -- an order that is run: one place more, and the orders above it are the same
+  pub run_above : (o : OrderFrame) (g : Going S) → g.state.orders.base ≤ last_place g.state.kept → IsSameAbove (executed R o.ask g).state (run_one R o g).state
+  unfolding run_one
+  run_above o g base =
+      let known = next_known R g.state o.ask in
+      let spec : Spec = spec_of (own_view g.state) o.ask known in
+      let e : Going S = executed R o.ask g in
+      let signed : Signed Spec = sealed_spec e.state spec in
+      let r : Going S = respond R o.order signed known.reply e in
+      let here : spec.place.0 ≡ last_place g.state.kept + 1 = ap (λ (n : ℕ). n + 1) (now_place R g.state.kept) in
+      let longer = length-append g.state.kept.entries (entry_of o.ask ∷ []) in
+      let same = shared_above o.order signed known.reply (state_in R e.state.kept spec.place.0) r (omega (arith, here)) (omega (arith, here)) (omega (arith, here, longer)) in
+      record { last = same.last; slots = same.slots }

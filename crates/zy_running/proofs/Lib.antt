@@ -1,0 +1,6 @@
+mod AnswerLemmas
+mod GatherLemmas
+mod HeldLemmas
+mod Owed
+mod SignLemmas
+mod SlotLemmas

@@ -1,0 +1,148 @@
+//! The changes that lead back to a space's earlier states.
+
+ghost use Rattle.std.specs.Prelude.{◌≡◌, ◌+◌, ◌<◌, ◌^◌, ℕ, [], ◌∷◌, ◌++◌, List, length, drop, IfOk, OnOk, OnErr};
+ghost use Rattle.zy_slots.specs.Cells.{Cell, IsLive, Stands};
+ghost use Rattle.zy_tuple.specs.declared.values.Field.{Field};
+ghost use Rattle.zy_tuple.specs.Values.{IsTuple};
+ghost use Rattle.zy_space.specs.Changes.{tuples_of, trail_of, undone, CanUndo, IsSound, IsStep, IsPutLast};
+
+use crate::bucket::bucket_of;
+use crate::tagged::Tagged;
+use std::collections::VecDeque;
+use zy_base::Want;
+use zy_slots::{SlotId, Slots};
+use zy_tuple::Tuple;
+
+/// What an operation did. What was put is the last one, and what was taken is on top of the stack.
+#[derive(Clone, Copy, Debug)]
+pub enum Change {
+    Same,
+    Put,
+    Took,
+}
+
+/// A copy of a live tuple.
+pub fn tuple_of(slots: &Slots<Tagged>, id: SlotId) -> Result<Tuple, Want>
+    requires { IsLive slots.now id.0 }
+    ensures { IfOk result (λ tuple. (earlier : List (Cell (List Field))) (cell : Cell (List Field)) (later : List (Cell (List Field))) → Stands slots.now id.0 earlier cell later → tuple ≡ cell.value) }
+{
+    Ok(slots.value(id).tuple().clone()?)
+}
+
+/// Puts a tuple at the end, into its bucket.
+pub fn put_last(slots: &mut Slots<Tagged>, tuple: Tuple) -> Result<(), Want>
+    requires { IsTuple tuple }
+    ensures ok { OnOk result (IsPutLast slots.old slots.new tuple) }
+    ensures err { OnErr result (slots.new ≡ slots.old) }
+{
+    let bucket = bucket_of(&tuple);
+    match slots.insert(bucket, Tagged::new(tuple)) {
+        Ok(_) => Ok(()),
+        Err((_, want)) => Err(want),
+    }
+}
+
+/// Leaves all as it is, which is a step to go back over as well.
+pub fn stay(slots: &Slots<Tagged>, changes: &mut VecDeque<Change>) -> Result<(), Want>
+    requires { IsSound slots.now changes.old.items }
+    ensures ok { OnOk result (IsStep slots.now slots.now changes.old.items changes.new.items (tuples_of slots.now.live)) }
+    ensures err { OnErr result (changes.new.items ≡ changes.old.items) }
+{
+    changes.push_back(Change::Same)?;
+    Ok(())
+}
+
+/// Puts a tuple at the end.
+pub fn put(
+    slots: &mut Slots<Tagged>,
+    changes: &mut VecDeque<Change>,
+    tuple: Tuple,
+) -> Result<(), Want>
+    requires sound { IsSound slots.old changes.old.items }
+    requires tuple { IsTuple tuple }
+    requires room { length slots.old.live < 4096 }
+    ensures ok { OnOk result (IsStep slots.old slots.new changes.old.items changes.new.items (tuples_of slots.old.live ++ tuple ∷ [])) }
+    ensures many { OnOk result (length slots.new.live ≡ length slots.old.live + 1) }
+    ensures slots { OnErr result (slots.new ≡ slots.old) }
+    ensures changes { OnErr result (changes.new.items ≡ changes.old.items) }
+{
+    changes.push_back(Change::Put)?;
+    match put_last(slots, tuple) {
+        Ok(()) => Ok(()),
+        Err(want) => {
+            changes.pop_back();
+            Err(want)
+        }
+    }
+}
+
+/// Takes a live tuple out, which may come back.
+pub fn take_out(
+    slots: &mut Slots<Tagged>,
+    changes: &mut VecDeque<Change>,
+    id: SlotId,
+) -> Result<(), Want>
+    requires sound { IsSound slots.old changes.old.items }
+    requires live { IsLive slots.old id.0 }
+    ensures ok { OnOk result ((earlier : List (Cell (List Field))) (cell : Cell (List Field)) (later : List (Cell (List Field))) → Stands slots.old id.0 earlier cell later → IsStep slots.old slots.new changes.old.items changes.new.items (tuples_of (earlier ++ later))) }
+    ensures slots { OnErr result (slots.new ≡ slots.old) }
+    ensures changes { OnErr result (changes.new.items ≡ changes.old.items) }
+{
+    changes.push_back(Change::Took)?;
+    slots.unlink(id);
+    Ok(())
+}
+
+// Undoes one change. The count is of the live tuples, before and after.
+fn undo_change(slots: &mut Slots<Tagged>, live: u64, change: Change) -> u64
+    requires can { CanUndo change slots.old }
+    requires live { live ≡ length slots.old.live }
+    requires fits { live < 2 ^ 63 }
+    ensures slots { slots.new ≡ undone change slots.old }
+    ensures live { result ≡ length (undone change slots.old).live }
+{
+    match change {
+        Change::Same => live,
+        Change::Put => {
+            slots.take_last();
+            live - 1
+        }
+        Change::Took => {
+            slots.relink();
+            live + 1
+        }
+    }
+}
+
+/// Goes back over the last change. The count is of the live tuples, before and after.
+pub fn go_back(slots: &mut Slots<Tagged>, changes: &mut VecDeque<Change>, live: u64) -> u64
+    requires sound { IsSound slots.old changes.old.items }
+    requires some { 0 < length (trail_of slots.old changes.old.items) }
+    requires live { live ≡ length slots.old.live }
+    ensures sound { IsSound slots.new changes.new.items }
+    ensures live { result ≡ length slots.new.live }
+    ensures back { trail_of slots.old changes.old.items ≡ trail_of slots.new changes.new.items ++ tuples_of slots.new.live ∷ [] }
+{
+    match changes.pop_back() {
+        Some(change) => undo_change(slots, live, change),
+        None => live,
+    }
+}
+
+/// Drops the oldest change, and with it what it took.
+pub fn forget_oldest(slots: &mut Slots<Tagged>, changes: &mut VecDeque<Change>)
+    requires sound { IsSound slots.old changes.old.items }
+    requires some { 0 < length (trail_of slots.old changes.old.items) }
+    ensures sound { IsSound slots.new changes.new.items }
+    ensures live { slots.new.live ≡ slots.old.live }
+    ensures trail { trail_of slots.new changes.new.items ≡ drop 1 (trail_of slots.old changes.old.items) }
+{
+    match changes.pop_front() {
+        Some(Change::Took) => {
+            slots.forget();
+        }
+        Some(Change::Same) => {}
+        Some(Change::Put) => {}
+        None => {}
+    }
+}
