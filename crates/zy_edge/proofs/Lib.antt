@@ -1,1 +1,3 @@
 pub mod FirstNamed
+pub mod ClockLemmas
+pub mod LinkLemmas

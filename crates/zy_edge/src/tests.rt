@@ -1,11 +1,13 @@
+use crate::link::udp::is_quiet;
 use crate::{
-    CalmFiles, CalmSink, Chosen, Files, MemFiles, MemSink, Read, RealFiles, Sink, StdSink, Wrote,
+    Bound, CalmFiles, CalmSink, Chosen, Clock, Files, Heard, Link, MAX_PARCEL, MemClock, MemFiles,
+    MemLink, MemSink, Read, RealClock, RealFiles, Sent, Sink, StdSink, UdpLink, Wrote,
 };
 use std::alloc::{AllocError, Global};
 use std::cell::Cell;
 use std::test::Fail;
 use std::{env, fmt, fs, io, process};
-use zy_base::Bytes;
+use zy_base::{Bytes, ClientId, Party, ReplicaId};
 
 /// A file, an empty one, and another one with the first one's name.
 fn three_files(alloc: Global) -> Result<Vec<(Bytes, Bytes)>, AllocError> {
@@ -187,5 +189,128 @@ fn standard_output_gets_the_bytes(rt: HostRuntime) -> Result<(), Fail> {
         assert!(rt; len <= 6);
         assert_eq!(rt; &tape.bytes.get()[..len], taken.as_bytes());
     }
+    Ok(())
+}
+
+/// What a link does in one run: it is bound, hears twice and sends twice. `b`, `d`, `q` and `s` are what goes well.
+fn five_calls(link: &mut impl Link, buf: &mut [u8]) -> [char; 5] {
+    let to = Party::Client(ClientId(3));
+    [
+        match link.bind(7000, Party::Replica(ReplicaId(1))) {
+            Bound::Bound => 'b',
+            Bound::Failed => 'x',
+        },
+        heard(link, buf),
+        heard(link, buf),
+        sent(link, to, b"first"),
+        sent(link, to, b""),
+    ]
+}
+
+fn heard(link: &mut impl Link, buf: &mut [u8]) -> char {
+    match link.receive(buf, 20) {
+        Heard::Datagram(_) => 'd',
+        Heard::Quiet => 'q',
+        Heard::Failed => 'x',
+    }
+}
+
+fn sent(link: &mut impl Link, to: Party, bytes: &[u8]) -> char {
+    match link.send(to, bytes) {
+        Sent::Sent => 's',
+        Sent::Failed => 'x',
+    }
+}
+
+#[test]
+fn links_in_memory(rt: HostRuntime) -> Result<(), Fail> {
+    let alloc = rt.alloc();
+    let table: [(&[u64], u64, [char; 5], usize); 8] = [
+        (&[], 2, ['b', 'd', 'q', 's', 's'], 2),
+        (&[], 1, ['b', 'd', 'q', 's', 'x'], 1),
+        (&[], 0, ['b', 'd', 'q', 'x', 'x'], 0),
+        (&[1], 2, ['x', 'd', 'q', 's', 's'], 2),
+        (&[2], 2, ['b', 'x', 'd', 's', 's'], 2),
+        (&[3, 2], 2, ['b', 'x', 'x', 's', 's'], 2),
+        (&[4], 2, ['b', 'd', 'q', 'x', 's'], 1),
+        (&[0, 6], 2, ['b', 'd', 'q', 's', 's'], 2),
+    ];
+    for (failing, room, wanted, parcels) in table {
+        let mut coming = Vec::new(alloc);
+        coming.push(Bytes::from_slice(alloc, b"hello")?)?;
+        let failing = Vec::from_slice(alloc, failing)?;
+        let mut link = MemLink::new(alloc, coming, failing, room)?;
+        let mut buf = [0; 3];
+        assert_eq!(rt; five_calls(&mut link, &mut buf), wanted);
+        assert_eq!(rt; link.parcels(), parcels);
+    }
+    Ok(())
+}
+
+#[test]
+fn parcels_of_a_link_in_memory(rt: HostRuntime) -> Result<(), Fail> {
+    let alloc = rt.alloc();
+    let mut coming = Vec::new(alloc);
+    coming.push(Bytes::from_slice(alloc, b"hello")?)?;
+    let mut link = MemLink::new(alloc, coming, Vec::new(alloc), 2)?;
+    let mut buf = [0; 3];
+    assert_eq!(rt; link.receive(&mut buf, 0), Heard::Datagram(3));
+    assert_eq!(rt; &buf, b"hel");
+    let long = vec![in alloc; 7; MAX_PARCEL + 1]?;
+    let to = Party::Replica(ReplicaId(2));
+    assert_eq!(rt; link.send(to, &long), Sent::Failed);
+    assert_eq!(rt; link.send(to, &long[1..]), Sent::Sent);
+    assert_eq!(rt; link.send(Party::Client(ClientId(0)), b"ab"), Sent::Sent);
+    assert!(rt; link.parcels() == 2);
+    assert_eq!(rt; link.parcel(0), (to, &long[1..]));
+    assert_eq!(rt;
+        link.parcel(1),
+        (Party::Client(ClientId(0)), b"ab".as_slice())
+    );
+    Ok(())
+}
+
+#[test]
+fn links_over_loopback(rt: HostRuntime) -> Result<(), Fail> {
+    let (here, there) = (Party::Replica(ReplicaId(3)), Party::Client(ClientId(5)));
+    let port = 20_000 + (process::id(rt.process()) % 20_000) as u16;
+    let (mut left, mut right) = (UdpLink::new(&rt), UdpLink::new(&rt));
+    let mut buf = [0; MAX_PARCEL];
+    assert_eq!(rt; heard(&mut left, &mut buf), 'x');
+    assert_eq!(rt; sent(&mut left, there, b"early"), 'x');
+    assert_eq!(rt; left.bind(65_535, there), Bound::Failed);
+    assert_eq!(rt; left.bind(port, here), Bound::Bound);
+    assert_eq!(rt; right.bind(port, here), Bound::Failed);
+    assert_eq!(rt; right.bind(port, there), Bound::Bound);
+    assert_eq!(rt;
+        left.send(Party::Client(ClientId(65_535)), b"nowhere"),
+        Sent::Failed
+    );
+    let full = [9; MAX_PARCEL];
+    for bytes in [b"one".as_slice(), b"", &full, b"two"] {
+        assert_eq!(rt; left.send(there, bytes), Sent::Sent);
+        assert_eq!(rt; right.receive(&mut buf, 1000), Heard::Datagram(bytes.len()));
+        assert!(rt; bytes.len() <= MAX_PARCEL);
+        assert_eq!(rt; &buf[..bytes.len()], bytes);
+    }
+    assert_eq!(rt; right.receive(&mut buf, 1), Heard::Quiet);
+    assert_eq!(rt; right.send(here, &full), Sent::Sent);
+    let mut short = [0; 3];
+    assert_eq!(rt; left.receive(&mut short, 1000), Heard::Datagram(3));
+    assert_eq!(rt; left.receive(&mut short, 0), Heard::Quiet);
+    assert!(rt; is_quiet(io::ErrorKind::Interrupted));
+    assert!(rt; !is_quiet(io::ErrorKind::NotConnected));
+    Ok(())
+}
+
+#[test]
+fn clocks(rt: HostRuntime) -> Result<(), Fail> {
+    let mut clock = MemClock::new(rt.alloc(), Vec::from_slice(rt.alloc(), &[0, 3, 3, 7])?);
+    for wanted in [0, 3, 3, 7, 7, 7] {
+        assert_eq!(rt; clock.now_ms(), wanted);
+    }
+    let mut clock = RealClock::new(&rt);
+    let first = clock.now_ms();
+    assert!(rt; first > 0 && first <= clock.now_ms());
     Ok(())
 }

@@ -1,0 +1,5 @@
+pub mod SlotLemmas
+pub mod PlaceLemmas
+pub mod PieceLemmas
+pub mod OrderLemmas
+pub mod CutLemmas
