@@ -270,37 +270,68 @@ fn parcels_of_a_link_in_memory(rt: HostRuntime) -> Result<(), Fail> {
     Ok(())
 }
 
+// The port of replica 0 in one of the tests that run side by side.
+fn base_port(number: u32, test: u32) -> u16 {
+    20_000 + 100 * (number % 200) as u16 + 50 * (test % 2) as u16
+}
+
 #[test]
-fn links_over_loopback(rt: HostRuntime) -> Result<(), Fail> {
+fn addresses_over_loopback(rt: HostRuntime) -> Result<(), Fail> {
     let (here, there) = (Party::Replica(ReplicaId(3)), Party::Client(ClientId(5)));
-    let port = 20_000 + (process::id(rt.process()) % 20_000) as u16;
+    let port = base_port(process::id(rt.process()), 0);
     let (mut left, mut right) = (UdpLink::new(&rt), UdpLink::new(&rt));
-    let mut buf = [0; MAX_PARCEL];
+    let mut buf = [0; 3];
     assert_eq!(rt; heard(&mut left, &mut buf), 'x');
     assert_eq!(rt; sent(&mut left, there, b"early"), 'x');
     assert_eq!(rt; left.bind(65_535, there), Bound::Failed);
     assert_eq!(rt; left.bind(port, here), Bound::Bound);
     assert_eq!(rt; right.bind(port, here), Bound::Failed);
-    assert_eq!(rt; right.bind(port, there), Bound::Bound);
+    assert_eq!(rt; heard(&mut right, &mut buf), 'x');
     assert_eq!(rt;
-        left.send(Party::Client(ClientId(65_535)), b"nowhere"),
-        Sent::Failed
+        sent(&mut left, Party::Client(ClientId(65_535)), b"nowhere"),
+        'x'
     );
-    let full = [9; MAX_PARCEL];
-    for bytes in [b"one".as_slice(), b"", &full, b"two"] {
-        assert_eq!(rt; left.send(there, bytes), Sent::Sent);
-        assert_eq!(rt; right.receive(&mut buf, 1000), Heard::Datagram(bytes.len()));
-        assert!(rt; bytes.len() <= MAX_PARCEL);
-        assert_eq!(rt; &buf[..bytes.len()], bytes);
-    }
-    assert_eq!(rt; right.receive(&mut buf, 1), Heard::Quiet);
-    assert_eq!(rt; right.send(here, &full), Sent::Sent);
+    Ok(())
+}
+
+/// Whether a datagram arrives as it was sent.
+fn arrives(
+    from: &mut impl Link,
+    party: Party,
+    to: &mut impl Link,
+    bytes: &[u8],
+    buf: &mut [u8],
+) -> bool {
+    from.send(party, bytes) == Sent::Sent
+        && to.receive(buf, 1000) == Heard::Datagram(bytes.len())
+        && buf.starts_with(bytes)
+}
+
+#[test]
+fn datagrams_over_loopback(rt: HostRuntime) -> Result<(), Fail> {
+    let (here, there) = (Party::Replica(ReplicaId(3)), Party::Client(ClientId(5)));
+    let port = base_port(process::id(rt.process()), 1);
+    let (mut left, mut right) = (UdpLink::new(&rt), UdpLink::new(&rt));
+    assert_eq!(rt; left.bind(port, here), Bound::Bound);
+    assert_eq!(rt; right.bind(port, there), Bound::Bound);
+    let full = vec![in rt.alloc(); 9; MAX_PARCEL]?;
+    let mut buf = vec![in rt.alloc(); 0; MAX_PARCEL]?;
+    assert!(rt; arrives(&mut left, there, &mut right, b"one", &mut buf));
+    assert!(rt; arrives(&mut left, there, &mut right, b"", &mut buf));
+    assert!(rt; arrives(&mut right, here, &mut left, &full, &mut buf));
+    assert!(rt; arrives(&mut left, there, &mut right, b"two", &mut buf));
+    assert_eq!(rt; heard(&mut right, &mut buf), 'q');
     let mut short = [0; 3];
+    assert_eq!(rt; sent(&mut right, here, &full), 's');
     assert_eq!(rt; left.receive(&mut short, 1000), Heard::Datagram(3));
     assert_eq!(rt; left.receive(&mut short, 0), Heard::Quiet);
+    Ok(())
+}
+
+#[test]
+fn an_interrupted_receive_is_quiet(rt: HostRuntime) {
     assert!(rt; is_quiet(io::ErrorKind::Interrupted));
     assert!(rt; !is_quiet(io::ErrorKind::NotConnected));
-    Ok(())
 }
 
 #[test]

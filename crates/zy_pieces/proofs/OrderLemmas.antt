@@ -1,9 +1,9 @@
 -- The pieces of one frame give it back, in whatever order they come.
-use Rattle.std.proofs.Common.{◌≡◌, ◌⊎◌, inl, inr, ℕ, zero, suc, ◌+◌, ◌*◌, ◌/◌, ◌-◌, ◌<◌, ◌≤◌, Bool, true, false, not, ◌&&◌, cond, nat_eq, nat_lt, List, [], ◌∷◌, ◌++◌, length, take, drop, replicate, get_or, set, All, Any, Contains, Option, Some, None, is_some, Result, Ok, Err, refl, sym, ap, subst, ◌∙◌, arith}
-use Rattle.std.specs.List.{find, list_any, list_all, position}
+use Rattle.std.proofs.Common.{◌≡◌, ◌⊎◌, inl, inr, ℕ, zero, suc, ◌-◌, ◌<◌, ◌≤◌, Bool, true, false, not, ◌&&◌, nat_eq, nat_lt, List, [], ◌∷◌, ◌++◌, length, drop, replicate, get_or, set, All, Any, Contains, Option, Some, None, is_some, Result, Ok, Err, refl, sym, ap, subst, ◌∙◌, arith}
+use Rattle.std.specs.List.{find}
 use Rattle.std.specs.Option.{option_or, unwrap_or}
 use Rattle.std.specs.Cmp.Lexicographic.{pointwise, bytes_decides}
-use Rattle.std.proofs.lemmas.Bool.{cases_Bool, cases_eq, cases_lt, both_ways, cond-true, cond-false, eq-eqb, ne_eqb, eqb-true, lt-ltb, and_parts, and_from, and_left, and_right, false_from_ne_true, not_from_false}
+use Rattle.std.proofs.lemmas.Bool.{cases_Bool, cases_eq, cases_lt, both_ways, cond-true, cond-false, eq-eqb, ne_eqb, eqb-true, lt-ltb, and_parts, and_from, false_from_ne_true, not_from_false}
 use Rattle.std.proofs.lemmas.List.{length-set, length-replicate, length-append, get_or-replicate, get_or-set_same, get_or-set_other, get_or_default, get_or_past, take_all}
 use Rattle.std.proofs.lemmas.List.Folds.{find-append, list_all_at}
 use Rattle.std.proofs.lemmas.List.Sums.{list_all-from_AllPass}
@@ -11,8 +11,7 @@ use Rattle.sha2.specs.Sha256.{sha256}
 use Rattle.zy_base.specs.declared.ids.Digest.{Digest}
 use Rattle.zy_pieces.specs.declared.piece.PieceFault.{PieceFault}
 use Rattle.zy_pieces.specs.declared.piece.PieceFault.TheVariants as fault
-use Rattle.zy_pieces.specs.declared.gather.Gathered.{Gathered}
-use Rattle.zy_pieces.specs.declared.gather.Gathered.TheVariants.{Whole, Part, Refused}
+use Rattle.zy_pieces.specs.declared.gather.Gathered.TheVariants.{Whole, Refused}
 use Rattle.zy_pieces.specs.Pieces.{Piece, piece_of, piece_at, payload_at, count_of}
 use Rattle.zy_pieces.specs.Gathering.{Gathering, Added, is_of, is_there, is_whole, joined, judged, with_piece, nothing_of, begun, settled, placed, last_sixteen, begin, taken, added, answers}
 use Rattle.zy_pieces.specs.Order.{is_gathered, begins_with, HasRoom, Brings, IsOwn, AreAllThere}

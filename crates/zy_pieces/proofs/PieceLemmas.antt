@@ -1,16 +1,14 @@
 -- A piece's datagram is read as that piece again, and what is read is a piece.
-use Rattle.std.proofs.Common.{◌≡◌, ℕ, ◌+◌, ◌*◌, ◌/◌, ◌-◌, ◌^◌, ◌<◌, ◌≤◌, Bool, true, false, not, ◌||◌, cond, nat_eq, nat_lt, nat_le, List, [], ◌∷◌, ◌++◌, length, take, drop, Option, Some, None, Result, Ok, Err, inl, inr, refl, sym, ap, ◌∙◌, arith}
+use Rattle.std.proofs.Common.{◌≡◌, ℕ, ◌+◌, ◌*◌, ◌<◌, ◌≤◌, Bool, true, false, not, ◌||◌, cond, nat_eq, nat_lt, nat_le, List, ◌∷◌, ◌++◌, length, take, drop, Option, Some, None, Result, Ok, Err, inl, inr, refl, sym, ap, ◌∙◌, arith}
 use Rattle.std.specs.Prelude.{slice_range, slice_index}
 use Rattle.std.specs.Int.{w16, to_be_bytes, from_be_bytes}
-use Rattle.std.proofs.lemmas.Bool.{cases_Bool, cases_eq, cond-true, cond-false, le-ltb, lt-leb, le-leb, eq-eqb, ne_eqb, leb-false, or_from}
+use Rattle.std.proofs.lemmas.Bool.{cases_eq, cond-true, cond-false, le-ltb, lt-leb, le-leb, eq-eqb, ne_eqb, leb-false, or_from}
 use Rattle.std.proofs.lemmas.List.{take_at, drop_at, drop-drop, length-append, length-take, length-drop}
-use Rattle.sha2.specs.Sha256.{sha256}
 use Rattle.sha2.proofs.Facts256.{length-sha256}
-use Rattle.zy_base.specs.declared.ids.Digest.{Digest}
 use Rattle.zy_wire.proofs.Parts.{wide16}
 use Rattle.zy_pieces.specs.declared.piece.PieceFault.{PieceFault}
 use Rattle.zy_pieces.specs.declared.piece.PieceFault.TheVariants.{Header, Index}
-use Rattle.zy_pieces.specs.Pieces.{Piece, IsPiece, datagram_of, fields_of, fits, fault_of, unless, piece_of, count_of, payload_at, piece_at}
+use Rattle.zy_pieces.specs.Pieces.{Piece, IsPiece, datagram_of, fields_of, fits, fault_of, unless, piece_of, count_of, piece_at}
 
 -- ---- the fields of a datagram
 

@@ -50,7 +50,7 @@ impl Gather {
         }
     }
 
-    /// Takes one datagram.
+    /// Takes one datagram, which may be any bytes. After `Want` all is as before.
     pub fn add(&mut self, datagram: &[u8]) -> Result<Gathered, Want>
         ensures ok { IfOk result (λ answer. added self.old datagram.now ≡ record { frames = self.new; answer = answer }) }
         ensures err { OnErr result (self.new ≡ self.old) }

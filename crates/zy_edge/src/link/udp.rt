@@ -11,8 +11,9 @@ use zy_base::{ClientId, Party, ReplicaId};
 
 /// How far the port of client 0 lies above that of replica 0.
 const FIRST_CLIENT: u64 = 16;
-/// A socket that nobody reads keeps a dozen datagrams of 8,229 bytes: after so many in a row the sender lets others read.
-const BURST: u8 = 8;
+/// A socket that nobody reads keeps a dozen datagrams of 8,229 bytes: after so many in a row to one party the sender lets
+/// it read.
+const BURST: u8 = 4;
 
 const PAUSE_MS: u64 = 1;
 
@@ -22,6 +23,7 @@ pub struct UdpLink<'a, R: Net + Clock> {
     rt: &'a R,
     port: u16,
     socket: Option<UdpSocket>,
+    last: Option<Party>,
     burst: u8,
     faults: u64,
     receives: u64,
@@ -37,6 +39,7 @@ impl<'a, R: Net + Clock> UdpLink<'a, R> {
             rt,
             port: 0,
             socket: None,
+            last: None,
             burst: 0,
             faults: 0,
             receives: 0,
@@ -67,7 +70,7 @@ impl<R: Net + Clock> Link for UdpLink<'_, R> {
 
     fn receive(&mut self, buf: &mut [u8], wait_ms: u64) -> Heard {
         self.receives = raised(self.receives);
-        self.burst = 0;
+        self.last = None;
         match next_of(&self.socket, buf, wait_ms) {
             Ok(len) => Heard::Datagram(len),
             Err(e) => {
@@ -81,6 +84,10 @@ impl<R: Net + Clock> Link for UdpLink<'_, R> {
     }
 
     fn send(&mut self, to: Party, bytes: &[u8]) -> Sent {
+        if self.last != Some(to) {
+            self.last = Some(to);
+            self.burst = 0;
+        }
         if self.burst >= BURST {
             thread::sleep(self.rt, Duration::from_millis(PAUSE_MS));
             self.burst = 0;
