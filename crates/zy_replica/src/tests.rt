@@ -2,12 +2,15 @@ mod checkpoint_rows;
 mod checkpoint_table;
 mod driver;
 mod frames;
+mod leaving_rows;
+mod leaving_table;
 mod more_rows;
 mod rows;
 mod table;
 
 use checkpoint_rows::{OF_CHECKPOINTS, OF_LEAVES, OF_RESPONSES, OF_THE_WINDOW};
 use driver::{Input, Row, Step, follows, refuses_cuts};
+use leaving_rows::OF_LEAVING;
 use more_rows::{OF_CERTIFICATES, OF_OTHER_FRAMES};
 use rows::{OF_ORDERS, OF_THE_PRIMARY, OF_WAITING_REQUESTS};
 use std::alloc::Global;
@@ -77,4 +80,9 @@ fn orders_that_are_cut(rt: HostRuntime) -> Result<(), Fail> {
         Ok(()) => Ok(()),
         Err((len, odd)) => Err(Fail::new(format_args!("cut to {len}: {odd:?}"))),
     }
+}
+
+#[test]
+fn leaving(rt: HostRuntime) -> Result<(), Fail> {
+    all_follow(rt.alloc(), OF_LEAVING)
 }
