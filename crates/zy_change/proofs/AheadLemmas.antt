@@ -215,37 +215,51 @@ still_equal own (Some b) = by (nat_eq b.stmt.view.0 own.view.0) (same_began b.st
     by true false is = rw is refl
     by false same is = refl
 
-confirmed_slot : (v : Views) (own : Signed Began) → IsFit v → (at : ℕ)
-    → is_some (began_equal own.stmt (slice_index_or (slice_set (without_others own.stmt v.begans) v.me.0 (Some own)) at None)) ≡ confirms v own.stmt at
-confirmed_slot v own fit at =
+-- a slot that is read where those that say another thing are dropped, and one is put in
+confirmed_slot : (v : Views) (by : ℕ) (own : Signed Began) → IsFit v → by < v.counts.n → (at : ℕ)
+    → is_some (began_equal own.stmt (slice_index_or (slice_set (without_others own.stmt v.begans) by (Some own)) at None)) ≡ confirms v by own.stmt at
+confirmed_slot v by own fit within at =
     let long = map_long (unless_other own.stmt) v.begans ∙ fit.begans in
-    let within = fit.me in
-    ap (λ o. is_some (began_equal own.stmt o)) (read_set (without_others own.stmt v.begans) v.me.0 at (Some own) None (omega arith))
-    ∙ by (nat_eq v.me.0 at)
+    ap (λ o. is_some (began_equal own.stmt o)) (read_set (without_others own.stmt v.begans) by at (Some own) None (omega arith))
+    ∙ there (nat_eq by at)
   where
-    by : (b : Bool) → is_some (began_equal own.stmt (if b then Some own else slice_index_or (without_others own.stmt v.begans) at None)) ≡ (b || is_confirmed_by v own.stmt at)
-    by true = rw (same_itself own.stmt) refl
-    by false = ap (λ o. is_some (began_equal own.stmt o)) (read_map (unless_other own.stmt) refl v.begans at) ∙ still_equal own.stmt (slice_index_or v.begans at None)
+    there : (b : Bool) → is_some (began_equal own.stmt (if b then Some own else slice_index_or (without_others own.stmt v.begans) at None)) ≡ (b || is_confirmed_by v own.stmt at)
+    there true = rw (same_itself own.stmt) refl
+    there false = ap (λ o. is_some (began_equal own.stmt o)) (read_map (unless_other own.stmt) refl v.begans at) ∙ still_equal own.stmt (slice_index_or v.begans at None)
 
-module _ (v : Views) (own : Signed Began) (fit : IsFit v) where
-  abbrev slots : Slots Began
-  slots = slice_set (without_others own.stmt v.begans) v.me.0 (Some own)
+heard_slot : (v : Views) (by : ℕ) (vote : Signed Began) (own : Began) → IsFit v → by < v.counts.n → same_began vote.stmt own ≡ true → (at : ℕ)
+    → is_some (began_equal own (slice_index_or (slice_set v.begans by (Some vote)) at None)) ≡ confirms v by own at
+heard_slot v by vote own fit within same at =
+    let long = fit.begans in
+    ap (λ o. is_some (began_equal own o)) (read_set v.begans by at (Some vote) None (omega arith))
+    ∙ there (nat_eq by at)
+  where
+    there : (b : Bool) → is_some (began_equal own (if b then Some vote else slice_index_or v.begans at None)) ≡ (b || is_confirmed_by v own at)
+    there true = rw same refl
+    there false = refl
 
-  slots_long : length slots ≡ v.counts.n
-  slots_long = as_long (without_others own.stmt v.begans) v.me.0 (Some own) ∙ (map_long (unless_other own.stmt) v.begans ∙ fit.begans)
+-- so many say it
+many_equal : (n : ℕ) (own : Began) (slots : Slots Began) (test : ℕ → Bool) → length slots ≡ n → ((at : ℕ) → is_some (began_equal own (slice_index_or slots at None)) ≡ test at)
+    → length (begans_equal own slots) ≡ length (filter test (range_with_len 0 n))
+many_equal n own slots test long same =
+    ap length (sym (by_index (began_equal own) (λ at. began_equal own (slice_index_or slots at None)) n slots long (λ at. refl)))
+    ∙ sym (as_many_kept (λ at. began_equal own (slice_index_or slots at None)) (range_with_len 0 n))
+    ∙ ap length (filter_same (λ at. is_some (began_equal own (slice_index_or slots at None))) test same (range_with_len 0 n))
 
-  abbrev confirmed_by : ℕ → Option (Signed Began)
-  confirmed_by = λ at. began_equal own.stmt (slice_index_or slots at None)
+pub confirmed_many : (v : Views) (own : Signed Began) → IsFit v → length (begans_equal own.stmt (slice_set (without_others own.stmt v.begans) v.me.0 (Some own))) ≡ length (confirmers v v.me.0 own.stmt)
+confirmed_many v own fit =
+    many_equal v.counts.n own.stmt (slice_set (without_others own.stmt v.begans) v.me.0 (Some own)) (confirms v v.me.0 own.stmt)
+    (as_long (without_others own.stmt v.begans) v.me.0 (Some own) ∙ (map_long (unless_other own.stmt) v.begans ∙ fit.begans)) (confirmed_slot v v.me.0 own fit fit.me)
 
-  confirmed_many : length (begans_equal own.stmt slots) ≡ length (confirmers v own.stmt)
-  confirmed_many =
-      ap length (sym (by_index (began_equal own.stmt) confirmed_by v.counts.n slots slots_long (λ at. refl)))
-      ∙ sym (as_many_kept confirmed_by (range_with_len 0 v.counts.n))
-      ∙ ap length (filter_same (λ at. is_some (confirmed_by at)) (confirms v own.stmt) (confirmed_slot v own fit) (range_with_len 0 v.counts.n))
+pub heard_many : (v : Views) (vote : Signed Began) (own : Began) → IsFit v → number_of_party vote.by < v.counts.n → same_began vote.stmt own ≡ true
+    → length (begans_equal own (slice_set v.begans (number_of_party vote.by) (Some vote))) ≡ length (confirmers v (number_of_party vote.by) own)
+heard_many v vote own fit within same =
+    many_equal v.counts.n own (slice_set v.begans (number_of_party vote.by) (Some vote)) (confirms v (number_of_party vote.by) own)
+    (as_long v.begans (number_of_party vote.by) (Some vote) ∙ fit.begans) (heard_slot v (number_of_party vote.by) vote own fit within same)
 
 -- ---- what is owed
 
-adopted_as : (a : Accepted) (o : Option (Signed Change)) → adoption_by a o ≡ adoption_ahead a.new.stmt.view a.chosen (option_map (λ (c : Signed Change). c.stmt.told) o)
+pub adopted_as : (a : Accepted) (o : Option (Signed Change)) → adoption_by a o ≡ adoption_ahead a.new.stmt.view a.chosen (option_map (λ (c : Signed Change). c.stmt.told) o)
 adopted_as a None = refl
 adopted_as a (Some c) = refl
 
@@ -267,13 +281,13 @@ module _ (v : Views) (view : View) (heard : Option (Signed Change)) (own : Optio
   certified_by false = refl
 
   -- the own slots are those of the replica that looks ahead
-  begans_many : length begans ≡ length (confirmers v (began_for view chosen))
+  begans_many : length begans ≡ length (confirmers v v.me.0 (began_for view chosen))
   begans_many =
       ap (λ (l : Slots Began). length (begans_equal (began_for view chosen) (slice_set (without_others (began_for view chosen) l) u.me.0 (Some confirmed)))) s.begans
       ∙ ap (λ (me : ReplicaId). length (begans_equal (began_for view chosen) (slice_set (without_others (began_for view chosen) v.begans) me.0 (Some confirmed)))) s.me
       ∙ confirmed_many v confirmed fit
 
-  enough : nat_le u.counts.cert (length begans) ≡ nat_le v.counts.cert (length (confirmers v (began_for view chosen)))
+  enough : nat_le u.counts.cert (length begans) ≡ nat_le v.counts.cert (length (confirmers v v.me.0 (began_for view chosen)))
   enough = ap (λ (k : Counts). nat_le k.cert (length begans)) s.counts ∙ ap (nat_le v.counts.cert) begans_many
 
   accept_same : accept a pens (giving view (record { views = u; owed = owed })) ≡ adopting_ahead v view heard own chosen after
@@ -281,7 +295,7 @@ module _ (v : Views) (view : View) (heard : Option (Signed Change)) (own : Optio
   accept_same =
       certified_by (nat_le u.counts.cert (length begans))
       ∙ ap (λ (b : Bool). if b then record after { adopt = adoption_by a (provider_in a) } else after) enough
-      ∙ ap (λ (o : Option Adoption). if nat_le v.counts.cert (length (confirmers v (began_for view chosen))) then record after { adopt = o } else after) (adopted_as a (provider_in a) ∙ ap (adoption_ahead view chosen) (s.nth chosen.provider))
+      ∙ ap (λ (o : Option Adoption). if nat_le v.counts.cert (length (confirmers v v.me.0 (began_for view chosen))) then record after { adopt = o } else after) (adopted_as a (provider_in a) ∙ ap (adoption_ahead view chosen) (s.nth chosen.provider))
 
 give_same : (v : Views) (view : View) (heard : Option (Signed Change)) (own : Option Told) (pens : Pens) (u : Views) (owed : Owed) → IsFit v → Stands v view heard own u → (choice : Choice)
     → give view pens choice (record { views = u; owed = owed }) ≡ given_ahead v view heard own owed choice
@@ -351,6 +365,10 @@ with_hate-fit by v fit = record {
   changes = fit.changes;
   hated = as_long v.hated (number_of_party by) true ∙ fit.hated;
   begans = fit.begans;
+  confirmed = fit.confirmed;
+  accepted = fit.accepted;
+  waiting = fit.waiting;
+  view_cert = fit.view_cert;
   kept = fit.kept;
   told = record { began_place = fit.told.began_place; began = fit.told.began; specs = fit.told.specs; began_proven = fit.told.began_proven; specs_proven = fit.told.specs_proven };
 }
@@ -412,7 +430,7 @@ least_of : (own : ℕ) (first : ℕ) (rest : List ℕ) → own < first → AllBy
 least_of own first [] above all = above
 least_of own first (x ∷ rest) above all = let here = all.0 in least_of own (min first x) rest (omega arith) all.1
 
-above_own : (own : ℕ) (o : Option (Signed Change)) (n : ℕ) → view_above own o ≡ Some n → own < n
+pub above_own : (own : ℕ) (o : Option (Signed Change)) (n : ℕ) → view_above own o ≡ Some n → own < n
 above_own own None n is = absurd cc
 above_own own (Some c) n is = by (nat_lt own c.stmt.view.0) refl is
   where
@@ -420,7 +438,7 @@ above_own own (Some c) n is = by (nat_lt own c.stmt.view.0) refl is
     by true small here = let e : c.stmt.view.0 ≡ n = cc in subst (λ k. own < k) e (ltb-true _ _ small)
     by false large none = absurd cc
 
-first_above : (own : ℕ) (l : List ℕ) → AllByRecursion (λ n. own < n) l → 0 < length l → own < unwrap_or (reduce min l) 0
+pub first_above : (own : ℕ) (l : List ℕ) → AllByRecursion (λ n. own < n) l → 0 < length l → own < unwrap_or (reduce min l) 0
 first_above own [] all some = absurd (omega arith)
 first_above own (x ∷ rest) all some = least_of own x rest all.0 all.1
 

@@ -1,7 +1,8 @@
 -- The choice as a function answers as the choice's definition says, so it is what is chosen.
-use Rattle.std.proofs.Common.{◌≡◌, ◌≢◌, ℕ, zero, suc, ◌+◌, ◌-◌, ◌<◌, ◌≤◌, ◌*◌, max, nat_eq, nat_lt, nat_le, ◌==◌, ◌&&◌, not, Bool, true, false, cond, if◌then◌else◌, ◌⊎◌, inl, inr, List, [], ◌∷◌, ◌++◌, length, fold, filter, count_by, get_or, All, Any, Option, Some, None, IfSome, refl, sym, ap, ◌∙◌, subst, arith, append_assoc}
+use Rattle.std.proofs.Common.{◌≡◌, ◌≢◌, ℕ, zero, suc, ◌+◌, ◌-◌, ◌<◌, ◌≤◌, ◌*◌, ◌^◌, max, nat_eq, nat_lt, nat_le, ◌==◌, ◌&&◌, not, Bool, true, false, cond, if◌then◌else◌, ◌⊎◌, inl, inr, List, [], ◌∷◌, ◌++◌, length, fold, filter, count_by, get_or, All, Any, Option, Some, None, IfSome, refl, sym, ap, ◌∙◌, subst, arith, append_assoc}
 use Rattle.std.proofs.lemmas.Bool.{eqb-true, eqb-false, ltb-true, ltb-false, leb-true, leb-false, le-leb, true≢false}
-use Rattle.std.proofs.lemmas.List.{append-nil}
+use Rattle.std.proofs.lemmas.List.{append-nil, get_or_default}
+use Rattle.std.proofs.lemmas.List.Quantifiers.{position-Some}
 use Rattle.std.specs.Prelude.{find, filter_map, flat_map, option_map, unwrap_or}
 use Rattle.std.specs.List.{cons_option}
 use Rattle.zy_base.specs.declared.ids.Digest.{Digest}
@@ -13,7 +14,7 @@ use Rattle.zy_choose.specs.Choice.IsPicked.{agreed, anchored}
 use Rattle.zy_choose.specs.Furthest.{IsFurthest, IsOne, IsTwo}
 use Rattle.zy_choose.specs.Marks.{Has, has_mark, link}
 use Rattle.zy_choose.specs.Reports.{PlainReport, proven}
-use Rattle.zy_choose.specs.Rules.{Fits}
+use Rattle.zy_choose.specs.Rules.{Fits, IsWellFormed}
 use Rattle.zy_choose.specs.declared.choice.Choice.{Choice}
 use Rattle.zy_choose.specs.declared.choice.Choice.TheVariants.{Chosen, AnchorClash}
 use Rattle.zy_choose.specs.declared.furthest.Furthest.{Furthest}
@@ -21,8 +22,10 @@ use Rattle.zy_choose.specs.declared.furthest.Furthest.TheVariants.{Nothing, One,
 use Rattle.zy_choose.proofs.AnchorLemmas.{some_proven, IsOne-anchor, IsOne-only, IsTwo-clash}
 use Rattle.zy_choose.proofs.ChoiceLemmas.{agreed_has}
 use Rattle.zy_choose.proofs.FurthestLemmas.{IsOne-first, IsOne-further, IsOne-same, IsOne-behind, IsTwo-other, IsTwo-more}
+use Rattle.zy_choose.proofs.MarkLemmas.{has_mark-Has}
 use Rattle.zy_choose.proofs.OneAnswer.{one_answer_lem}
 use Rattle.zy_choose.proofs.ProviderLemmas.{provided as provider_there}
+use Rattle.zy_change.specs.Ahead.{IsChoiceInRange}
 use Rattle.zy_change.specs.Choosing.{greatest_view, place_of, and_mark, furthest_of, mark_at, is_agreed, agreed_at, or_else, agreed_within, furthest_end, agreed_past, chosen_by, provided, choice_past, choice_at, choice_of}
 
 -- ---- the greatest last view
@@ -292,3 +295,24 @@ module _ (agree : ℕ) (reports : List PlainReport) (some : 0 < agree) (many : 0
   -- so an answer is the choice
   pub chosen : (choice : Choice) → length reports < 2 * agree → IsAnswer agree reports choice → choice ≡ choice_of agree reports
   chosen choice few is = one_answer_lem agree reports choice (choice_of agree reports) few is answers
+
+-- ---- a choice is within what is reported
+
+provider_has : (reports : List PlainReport) (last : ℕ) (mark : Mark) (provider : ℕ) → provider_of link last mark reports ≡ Some provider → Any (λ r. Has link r.stretch mark) reports
+provider_has [] last mark provider is = absurd cc
+provider_has (first ∷ rest) last mark provider is =
+    let r = get_or (first ∷ rest) provider first in
+    let (within, passes, earlier) = position-Some (λ x. (x.last_view == last) && has_mark link x.stretch mark) (first ∷ rest) provider first is in
+    (provider, r, within, get_or_default (first ∷ rest) provider r first within, has_mark-Has link r.stretch mark (and_second (r.last_view == last) _ passes))
+  where
+    and_second : (a b : Bool) → (a && b) ≡ true → b ≡ true
+    and_second true b both = both
+    and_second false b both = absurd cc
+
+pub within_reports : (interval agree : ℕ) (reports : List PlainReport) → All (IsWellFormed interval) reports → (choice : Choice) → IsAnswer agree reports choice → IsChoiceInRange choice
+within_reports interval agree reports well (AnchorClash first second) is = tt
+within_reports interval agree reports well (Chosen provider place head) is =
+    let (k, r, within, at, has) = provider_has reports is.choice.view (record { place = place.0; head = head }) provider is.provided in
+    let low = has.below in
+    let end = subst (λ (x : PlainReport). end_of x.stretch < 2 ^ 62) at (well k r within).entries.end in
+    omega arith

@@ -74,6 +74,10 @@ with_change-fit v c fit kept =
       changes = as_long v.changes (number_of_party c.by) (Some c) ∙ fit.changes;
       hated = fit.hated;
       begans = fit.begans;
+      confirmed = fit.confirmed;
+      accepted = fit.accepted;
+      waiting = fit.waiting;
+      view_cert = fit.view_cert;
       told = record { began_place = fit.told.began_place; began = fit.told.began; specs = fit.told.specs; began_proven = fit.told.began_proven; specs_proven = fit.told.specs_proven };
       kept = λ id other is.
           elim (kept_or_filled v.changes (number_of_party c.by) id c other is) [
@@ -93,6 +97,10 @@ start-fit counts me k within least most =
       changes = as_many counts.n None;
       hated = as_many counts.n false;
       begans = as_many counts.n None;
+      confirmed = λ id b is. absurd (none_filled counts.n id b is);
+      accepted = tt;
+      waiting = tt;
+      view_cert = tt;
       told = record {
         began_place = omega arith;
         began = record { least = omega arith; most = omega arith; each = λ k d none. absurd (omega arith) };
@@ -117,6 +125,10 @@ with_specs-fit v place list fit in_range proven =
       changes = fit.changes;
       hated = fit.hated;
       begans = fit.begans;
+      confirmed = fit.confirmed;
+      accepted = fit.accepted;
+      waiting = fit.waiting;
+      view_cert = fit.view_cert;
       kept = fit.kept;
       told = record { began_place = fit.told.began_place; began = fit.told.began; specs = in_range; began_proven = fit.told.began_proven; specs_proven = proven };
     }
@@ -172,7 +184,7 @@ all_there {A} {B} P h each (x ∷ xs) = by (h x) refl (all_there P h each xs)
     by None is rest = rest
     by (Some y) is rest = (each x y is, rest)
 
-taken_there : {A : Type 0} (P : A → Type 0) (count : ℕ) (xs : List A) → AllByRecursion P xs → AllByRecursion P (take count xs)
+pub taken_there : {A : Type 0} (P : A → Type 0) (count : ℕ) (xs : List A) → AllByRecursion P xs → AllByRecursion P (take count xs)
 taken_there P zero xs all = tt
 taken_there P (suc count) [] all = tt
 taken_there P (suc count) (x ∷ xs) all = (all.0, taken_there P count xs all.1)

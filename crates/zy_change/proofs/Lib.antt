@@ -2,3 +2,5 @@ pub mod FitLemmas
 pub mod IndexLemmas
 pub mod AheadLemmas
 pub mod ChoosingLemmas
+pub mod GivingLemmas
+pub mod BeginningLemmas

@@ -1,6 +1,6 @@
 -- Inner forms, which only the code cites: what a step owes by the number of each replica, with a report put in that is
 -- heard, and the own one where the replica leaves. Nothing is signed here.
-use Rattle.std.specs.Prelude.{◌≡◌, ◌<◌, ℕ, ◌+◌, ◌^◌, nat_eq, nat_lt, nat_le, Bool, true, false, not, ◌&&◌, ◌||◌, if◌then◌else◌, List, length, min, take, filter, filter_map, slice_get, count_by, is_some, slice_index_or, unwrap_or, Option, Some, None, option_map, option_and_then}
+use Rattle.std.specs.Prelude.{◌≡◌, ◌<◌, ℕ, ◌+◌, ◌^◌, nat_eq, nat_lt, nat_le, Bool, true, false, not, ◌&&◌, ◌||◌, if◌then◌else◌, List, length, min, take, filter, filter_map, slice_get, count_by, is_some, slice_index_or, unwrap_or, Option, Some, None, option_map, option_and_then, IfSome}
 use Rattle.std.specs.List.{range_with_len, reduce}
 use Rattle.zy_base.specs.declared.cause.Cause.TheVariants as causes
 use Rattle.zy_base.specs.declared.ids.Party.{Party}
@@ -10,6 +10,7 @@ use Rattle.zy_parts.specs.declared.reports.Change.{Change}
 use Rattle.zy_parts.specs.declared.reports.Told.{Told}
 use Rattle.zy_parts.specs.declared.signed.Signed.{Signed}
 use Rattle.zy_parts.specs.Reports.{IsToldInRange}
+use Rattle.zy_cert.specs.Equal.{same_began}
 use Rattle.zy_choose.specs.Reports.{PlainReport}
 use Rattle.zy_choose.specs.declared.choice.Choice.{Choice}
 use Rattle.zy_choose.specs.declared.choice.Choice.TheVariants as choices
@@ -84,15 +85,24 @@ abbrev pub told_nth : Views → View → Option (Signed Change) → Option Told 
 told_nth v view heard own index =
     option_and_then (told_ahead v view heard own) (slice_get (take v.counts.change (reporters v view heard own)) index)
 
--- the replica confirms this; and where the own confirmation is put in
+-- the confirmation that is kept of it
+abbrev pub kept_began : Views → ℕ → Option (Signed Began)
+kept_began v id = slice_index_or v.begans id None
+
+-- the replica confirms this; and where the confirmation of one is put in
 abbrev pub is_confirmed_by : Views → Began → ℕ → Bool
 is_confirmed_by v began id = is_some (began_equal began (slice_index_or v.begans id None))
 
-abbrev pub confirms : Views → Began → ℕ → Bool
-confirms v began id = nat_eq v.me.0 id || is_confirmed_by v began id
+abbrev pub confirms : Views → ℕ → Began → ℕ → Bool
+confirms v by began id = nat_eq by id || is_confirmed_by v began id
 
-abbrev pub confirmers : Views → Began → List ℕ
-confirmers v began = filter (confirms v began) (range_with_len 0 v.counts.n)
+abbrev pub confirmers : Views → ℕ → Began → List ℕ
+confirmers v by began = filter (confirms v by began) (range_with_len 0 v.counts.n)
+
+-- it confirms another thing of the same view
+abbrev pub says_other : Began → Option (Signed Began) → Bool
+says_other own None = false
+says_other own (Some b) = nat_eq b.stmt.view.0 own.view.0 && not (same_began b.stmt own)
 
 -- how many hates of the own view are counted
 abbrev pub haters : Views → ℕ
@@ -100,18 +110,26 @@ haters v = count_by (λ hated. hated) v.hated
 
 -- ---- what is owed
 
+-- a frame can name the place
+abbrev pub IsChoiceInRange : Choice → Type 0
+IsChoiceInRange (choices.AnchorClash first second) = Unit {0}
+IsChoiceInRange (choices.Chosen provider place head) = place.0 < 2 ^ 62
+
+abbrev pub IsOwedInRange : Owed → Type 0
+IsOwedInRange owed = IfSome owed.confirm (λ chosen. chosen.place.0 < 2 ^ 62)
+
 abbrev pub adoption_ahead : View → Chosen → Option Told → Option Adoption
 adoption_ahead view chosen None = None
 adoption_ahead view chosen (Some told) =
-    Some (record { view = view; place = chosen.place; head = chosen.head; told = told })
+    Some (record { view = view; chosen = chosen; told = told })
 
 abbrev pub confirming : View → Chosen → Owed → Owed
 confirming view chosen owed =
-    record owed { gather = Some view; confirm = Some (chosen.place, chosen.head); signs = owed.signs + 1 + 1 }
+    record owed { gather = Some view; confirm = Some chosen; signs = owed.signs + 1 + 1 }
 
 abbrev pub adopting_ahead : Views → View → Option (Signed Change) → Option Told → Chosen → Owed → Owed
 adopting_ahead v view heard own chosen owed =
-    if nat_le v.counts.cert (length (confirmers v (began_for view chosen)))
+    if nat_le v.counts.cert (length (confirmers v v.me.0 (began_for view chosen)))
     then record owed { adopt = adoption_ahead view chosen (told_nth v view heard own chosen.provider) }
     else owed
 
@@ -143,12 +161,16 @@ leave_ahead v view heard told =
 
 -- ---- a hate
 
+-- with one hate more it leaves
+abbrev pub is_hated_enough : Views → Bool
+is_hated_enough v = nat_lt v.counts.f (haters v + 1)
+
 abbrev pub hate_ahead : Views → Party → View → Told → Owed
 hate_ahead v by view told =
     if nat_lt view.0 (own_view v) then refused causes.OldView
     else (if nat_lt (own_view v) view.0 then refused causes.NewerView
     else (if is_hated_by v by then refused causes.Repeat
-    else (if nat_lt v.counts.f (haters v + 1) then leave_ahead v (next_view v) None told
+    else (if is_hated_enough v then leave_ahead v (next_view v) None told
     else nothing)))
 
 -- ---- a report of another

@@ -63,7 +63,7 @@ provider_in a = slice_get a.new.stmt.changes a.chosen.provider
 abbrev pub adoption_by : Accepted → Option (Signed Change) → Option Adoption
 adoption_by a None = None
 adoption_by a (Some c) =
-    Some (record { view = a.new.stmt.view; place = a.chosen.place; head = a.chosen.head; told = c.stmt.told })
+    Some (record { view = a.new.stmt.view; chosen = a.chosen; told = c.stmt.told })
 
 abbrev pub adopt_if : Accepted → Option ViewCert → Owed → Owed
 adopt_if a None owed = owed
@@ -82,7 +82,7 @@ abbrev pub accepting : Accepted → Pens → Onward → Onward
 accepting a pens w =
     record {
       views = with_new a (signed_by w.views pens.began (began_for a.new.stmt.view a.chosen)) w.views;
-      owed = record w.owed { confirm = Some (a.chosen.place, a.chosen.head); signs = w.owed.signs + 1 };
+      owed = record w.owed { confirm = Some a.chosen; signs = w.owed.signs + 1 };
     }
 
 unfoldable pub accept : Accepted → Pens → Onward → Owed

@@ -185,6 +185,14 @@ certificate_of v a =
     option_map (λ begans. record { new = a.new; begans = begans })
     (first_of v.counts.cert (begans_equal (began_for a.new.stmt.view a.chosen) v.begans))
 
+-- the certificate of the new view that is accepted, where enough is kept for one
+abbrev pub certificate_if : Views → Option Accepted → Option ViewCert
+certificate_if v None = None
+certificate_if v (Some a) = certificate_of v a
+
+abbrev pub certificate : Views → Option ViewCert
+certificate v = certificate_if v v.accepted
+
 -- ---- what becomes of it
 
 -- a party's hate of the own view is counted
@@ -206,16 +214,45 @@ left view v = record v { mode = Leaving view; hated = replicate v.counts.n false
 abbrev pub with_new : Accepted → Signed Began → Views → Views
 with_new a own v = with_began own (record v { accepted = Some a; begans = without_others own.stmt v.begans })
 
--- the place of a commit certificate
-abbrev pub place_of : List (Signed Spec) → Place
-place_of [] = record { 0 = 0 }
-place_of (first ∷ others) = first.stmt.place
-
 abbrev pub is_further : Place → Option Certificate → Bool
 is_further place None = true
 is_further place (Some kept) = nat_lt kept.place.0 place.0
 
--- a commit certificate is kept where it is the first or further
-abbrev pub with_specs : List (Signed Spec) → Views → Views
-with_specs list v =
-    if is_further (place_of list) v.specs then record v { specs = Some (record { place = place_of list; specs = list }) } else v
+-- a commit certificate of this place is kept where it is the first or further
+abbrev pub with_specs : Place → List (Signed Spec) → Views → Views
+with_specs place list v =
+    if is_further place v.specs then record v { specs = Some (record { place = place; specs = list }) } else v
+
+-- ---- a view begins
+
+abbrev pub change_past : ℕ → Option (Signed Change) → Option (Signed Change)
+change_past view None = None
+change_past view (Some c) = if nat_le c.stmt.view.0 view then None else Some c
+
+abbrev pub began_past : ℕ → Option (Signed Began) → Option (Signed Began)
+began_past view None = None
+began_past view (Some b) = if nat_le b.stmt.view.0 view then None else Some b
+
+-- It begins with what its certificate confirms. What is kept of this view and earlier ones is dropped.
+abbrev pub adopted : ViewCert → Chosen → Views → Views
+adopted cert chosen v =
+    record v {
+      mode = Active cert.new.stmt.view;
+      last_view = cert.new.stmt.view;
+      began_place = chosen.place;
+      began_head = chosen.head;
+      view_cert = Some cert;
+      specs = None;
+      changes = map (change_past cert.new.stmt.view.0) v.changes;
+      hated = replicate v.counts.n false;
+      begans = map (began_past cert.new.stmt.view.0) v.begans;
+      accepted = None;
+      waiting = None;
+    }
+
+-- the certificate waits for a snapshot
+abbrev pub with_waiting : Waiting → Views → Views
+with_waiting w v = record v { waiting = Some w }
+
+abbrev pub without_waiting : Views → Views
+without_waiting v = record v { waiting = None }

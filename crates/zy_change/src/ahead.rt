@@ -12,7 +12,7 @@ use zy_parts::{Began, Change, Signed, Told};
 
 // What is kept of each replica, with a report put in that is heard, and the own one where the replica leaves.
 impl ViewMachine {
-    fn kept_change(&self, id: usize) -> Option<&Signed<Change>>
+    pub(crate) fn kept_change(&self, id: usize) -> Option<&Signed<Change>>
         ensures { option_copied result ≡ forms.kept_change self.now id }
     {
         match self.changes.get(id) {
@@ -145,16 +145,17 @@ impl ViewMachine {
         requires heard { IsHeard self.now (option_copied heard) }
         requires own { IsOwn self.now view (option_copied own) }
         requires enough { self.now.counts.change ≤ length (forms.reporters self.now view (option_copied heard) (option_copied own)) }
-        ensures { IfOk result (λ c. c ≡ choice_of self.now.counts.agree (forms.reports_ahead self.now view (option_copied heard.entry) (option_copied own.entry))) }
+        ensures choice { IfOk result (λ c. c ≡ choice_of self.now.counts.agree (forms.reports_ahead self.now view (option_copied heard.entry) (option_copied own.entry))) }
+        ensures in_range { IfOk result forms.IsChoiceInRange }
     {
         let reports = self.reports(view, heard, own)?;
         Ok(choose(&self.counts, reports.as_slice()))
     }
 
-    fn confirms(&self, began: &Began, id: usize) -> bool
-        ensures { result ≡ forms.confirms self.now began.now id }
+    fn confirms(&self, by: usize, began: &Began, id: usize) -> bool
+        ensures { result ≡ forms.confirms self.now by began.now id }
     {
-        self.me.0 as usize == id || self.is_kept(began, id)
+        by == id || self.is_kept(began, id)
     }
 
     // The confirmation that is kept of a replica says this.
@@ -167,12 +168,12 @@ impl ViewMachine {
         }
     }
 
-    // How many replicas confirm this, the own one among them.
-    pub(crate) fn confirmers(&self, began: &Began) -> u64
-        ensures { result ≡ length (forms.confirmers self.now began.now) }
+    /// How many replicas confirm this, the one with this number among them.
+    pub fn confirmers(&self, by: usize, began: &Began) -> u64
+        ensures { result ≡ length (forms.confirmers self.now by began.now) }
     {
         (0..self.counts.n as usize)
-            .filter(|id| self.confirms(began, *id))
+            .filter(|id| self.confirms(by, began, *id))
             .count() as u64
     }
 }

@@ -1,10 +1,13 @@
+ghost use Rattle.std.specs.Prelude.{◌≡◌};
+ghost use Rattle.zy_change.specs.Views as views;
+
 use zy_base::{Digest, Items, Place};
-use zy_parts::{New, Signed, Spec};
+use zy_parts::{Began, New, Signed, Spec};
 use zy_vframes::ViewCert;
 
 /// The choice of a new view's history: the report that gives its entries, by its index among the new view's reports,
 /// and the place and the head with which the view begins.
-#[derive(Clone, Copy)]
+#[derive(Clone, Copy, Debug, PartialEq, Eq)]
 pub struct Chosen {
     pub provider: usize,
     pub place: Place,
@@ -16,6 +19,19 @@ pub struct Chosen {
 pub struct Accepted {
     pub new: Signed<New>,
     pub chosen: Chosen,
+}
+
+impl Accepted {
+    /// The confirmation of its choice.
+    pub fn began(&self) -> Began
+        ensures { result ≡ views.began_for self.now.new.stmt.view self.now.chosen }
+    {
+        Began {
+            view: self.new.stmt.view,
+            place: self.chosen.place,
+            head: self.chosen.head,
+        }
+    }
 }
 
 /// A view certificate that waits for a snapshot, and the choice out of its reports.

@@ -2,6 +2,8 @@
 #![tactic(auto)]
 
 mod ahead;
+mod beginning;
+mod giving;
 mod kept;
 mod laws;
 mod machine;
@@ -14,3 +16,7 @@ pub use kept::{Accepted, Certificate, Chosen, Waiting};
 pub use laws::true_reports;
 pub use machine::ViewMachine;
 pub use owed::{Adoption, Owed};
+pub use owing::adoption;
+
+#[cfg(test)]
+mod tests;

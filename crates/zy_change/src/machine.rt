@@ -1,11 +1,16 @@
-ghost use Rattle.std.specs.Prelude.{◌≡◌, ℕ, ◌<◌, ◌≤◌, ◌^◌, length, replicate, option_copied, Some, None, true, false, IfOk};
+ghost use Rattle.std.specs.Prelude.{◌≡◌, ℕ, ◌<◌, ◌≤◌, ◌^◌, length, replicate, option_copied, option_map, Some, None, true, false, IfOk};
+ghost use Rattle.std.specs.Option.{ForSome};
 ghost use Rattle.zy_wire.specs.Fields.{FitsList};
+ghost use Rattle.zy_parts.specs.Reports.{IsChangeInRange};
 ghost use Rattle.zy_parts.specs.Signing.{IsSignedInRange};
 ghost use Rattle.zy_parts.specs.Statements.{IsSpecInRange};
 ghost use Rattle.zy_evidence.specs.Rules.{is_spec_proven};
+ghost use Rattle.zy_vframes.specs.ViewFrames.{IsFrameInRange};
+ghost use Rattle.zy_vframes.specs.declared.frame.ViewFrame.TheVariants as frames;
 ghost use Rattle.zy_change.specs.Views as views;
 ghost use Rattle.zy_change.specs.Fit.{IsFit, IsKeptChange};
 ghost use Rattle.zy_evidence.specs.Reading.{number_of_party};
+ghost use Rattle.zy_base.specs.declared.ids.Party.TheVariants as parties;
 
 use crate::slots::no_slots;
 use crate::{Accepted, Certificate, Waiting};
@@ -113,6 +118,45 @@ impl ViewMachine {
         self.mode
     }
 
+    /// The own view.
+    pub fn view(&self) -> View
+        ensures view { result.0 ≡ views.own_view self.now }
+        ensures fit { IsFit self.now }
+    {
+        self.mode.view()
+    }
+
+    /// The replica itself.
+    pub fn me(&self) -> ReplicaId
+        ensures me { result ≡ self.now.me }
+        ensures member { result.0 < self.now.counts.n }
+    {
+        self.me
+    }
+
+    /// The numbers of the group.
+    pub fn counts(&self) -> &Counts
+        ensures { result.now ≡ self.now.counts }
+    {
+        &self.counts
+    }
+
+    /// How many places lie between two checkpoints.
+    pub fn interval(&self) -> u64
+        ensures interval { result ≡ self.now.interval }
+        ensures least { 4 ≤ result }
+        ensures most { result ≤ 32 }
+    {
+        self.interval
+    }
+
+    /// The new view that it confirmed.
+    pub fn accepted(&self) -> Option<&Accepted>
+        ensures { option_copied result ≡ self.now.accepted }
+    {
+        self.accepted.as_ref()
+    }
+
     /// The last view in which it was active.
     pub fn last_view(&self) -> View
         ensures { result ≡ self.now.last_view }
@@ -122,16 +166,38 @@ impl ViewMachine {
 
     /// The own report of the view that it left for last.
     pub fn own_change(&self) -> Option<&Signed<Change>>
-        ensures { option_copied result ≡ views.own_change self.now }
+        ensures change { option_copied result ≡ views.own_change self.now }
+        ensures in_range { ForSome (option_copied result) (IsSignedInRange IsChangeInRange) }
     {
-        self.changes[self.me.0 as usize].as_ref()
+        self.kept_change(self.me.0 as usize)
+    }
+
+    /// Whether a replica's hate of the own view is counted.
+    pub fn has_hate_of(&self, id: ReplicaId) -> bool
+        ensures { result ≡ views.is_hated_by self.now (parties.Replica id) }
+    {
+        match self.hated.get(id.0 as usize) {
+            Some(hated) => *hated,
+            None => false,
+        }
     }
 
     /// The certificate with which the last view began. `None` for the first view.
     pub fn kept_cert(&self) -> Option<&ViewCert>
-        ensures { option_copied result ≡ self.now.view_cert }
+        ensures cert { option_copied result ≡ self.now.view_cert }
+        ensures in_range { ForSome (option_copied result) (λ cert. IsFrameInRange (frames.ViewCert cert)) }
     {
         self.view_cert.as_ref()
+    }
+
+    /// The view certificate that waits for a snapshot.
+    pub fn waiting(&self) -> Option<&ViewCert>
+        ensures { option_copied result ≡ option_map (λ waiting. waiting.cert) self.now.waiting }
+    {
+        match &self.waiting {
+            None => None,
+            Some(waiting) => Some(&waiting.cert),
+        }
     }
 
     /// Counts a hate of the own view. Its signer is a replica of the group. Takes no memory.
@@ -166,13 +232,13 @@ impl ViewMachine {
         forget_all(&mut self.hated);
     }
 
-    /// Keeps a commit certificate of the last view where it is the first or further. Takes no memory.
-    pub fn keep_specs(&mut self, list: Vec<Signed<Spec>>)
+    /// Keeps a commit certificate of the last view, which is of this place, where it is the first or further. Takes no
+    /// memory.
+    pub fn keep_specs(&mut self, place: Place, list: Vec<Signed<Spec>>)
         requires in_range { FitsList (IsSignedInRange IsSpecInRange) 1 16 list.items }
         requires proven { is_spec_proven self.old.counts self.old.last_view (Some list.items) ≡ true }
-        ensures { self.new ≡ views.with_specs list.items self.old }
+        ensures { self.new ≡ views.with_specs place list.items self.old }
     {
-        let place = place_of(&list);
         if self.is_further(place) {
             self.specs = Some(Certificate {
                 place,
@@ -181,21 +247,14 @@ impl ViewMachine {
         }
     }
 
-    fn is_further(&self, place: Place) -> bool
+    /// Whether a commit certificate of this place is the first, or further than the one that is kept.
+    pub fn is_further(&self, place: Place) -> bool
         ensures { result ≡ views.is_further place self.now.specs }
     {
         match &self.specs {
             None => true,
             Some(kept) => place > kept.place,
         }
-    }
-
-    // The own view.
-    pub(crate) fn view(&self) -> View
-        ensures view { result.0 ≡ views.own_view self.now }
-        ensures fit { IsFit self.now }
-    {
-        self.mode.view()
     }
 }
 
@@ -206,15 +265,6 @@ pub(crate) fn index_of(by: Party) -> usize
     match by {
         Party::Replica(id) => id.0 as usize,
         Party::Client(id) => id.0 as usize,
-    }
-}
-
-fn place_of(list: &[Signed<Spec>]) -> Place
-    ensures { result ≡ views.place_of list.now }
-{
-    match list {
-        [] => Place(0),
-        [first, ..] => first.stmt.place,
     }
 }
 
@@ -229,8 +279,9 @@ fn nobody(alloc: Global, replicas: u64) -> Result<Vec<bool>, Want>
     Ok(hated)
 }
 
-fn forget_all(hated: &mut [bool])
-    ensures { hated.new ≡ replicate (length hated.old) false }
+pub(crate) fn forget_all(hated: &mut [bool])
+    ensures all { hated.new ≡ replicate (length hated.old) false }
+    ensures len { length hated.new ≡ length hated.old }
 {
     hated.fill(false);
 }

@@ -1,16 +1,16 @@
-ghost use Rattle.std.specs.Prelude.{◌≡◌};
+ghost use Rattle.std.specs.Prelude.{◌≡◌, Some};
 ghost use Rattle.zy_change.specs.Owing as owing;
 
-use zy_base::{Answer, Cause, Digest, Place, ReplicaId, View};
+use crate::Chosen;
+use zy_base::{Answer, Cause, ReplicaId, View};
 use zy_parts::Told;
 
-/// The history that a replica has to adopt: the view that begins with it, its place and head, and the report that gives
-/// its entries.
+/// The history that a replica has to adopt: the view that begins with it, the choice, and the report that gives its
+/// entries.
 #[derive(Drop)]
 pub struct Adoption {
     pub view: View,
-    pub place: Place,
-    pub head: Digest,
+    pub chosen: Chosen,
     pub told: Told,
 }
 
@@ -23,7 +23,7 @@ pub struct Owed {
     /// The view of which the primary gives the reports: they are to be signed.
     pub gather: Option<View>,
     /// The choice to confirm: the confirmation is to be signed.
-    pub confirm: Option<(Place, Digest)>,
+    pub confirm: Option<Chosen>,
     /// What is certified, and is to be adopted.
     pub adopt: Option<Adoption>,
     /// Who gets the kept view certificate.
@@ -34,7 +34,7 @@ pub struct Owed {
 
 impl Owed {
     /// The step is taken, and nothing more is owed.
-    pub(crate) fn nothing() -> Owed
+    pub fn nothing() -> Owed
         ensures { result ≡ owing.nothing }
     {
         Owed {
@@ -48,7 +48,19 @@ impl Owed {
         }
     }
 
-    pub(crate) fn refused(cause: Cause) -> Owed
+    /// The replica leaves for a view: its report is to be signed.
+    pub(crate) fn leaving(view: View) -> Owed
+        ensures { result ≡ record owing.nothing { leave = Some view; signs = 1 } }
+    {
+        Owed {
+            leave: Some(view),
+            signs: 1,
+            ..Owed::nothing()
+        }
+    }
+
+    /// The step is refused for a cause.
+    pub fn refused(cause: Cause) -> Owed
         ensures { result ≡ owing.refused cause }
     {
         Owed {

@@ -1,4 +1,4 @@
-ghost use Rattle.std.specs.Prelude.{◌≡◌, ◌+◌, ◌<◌, ◌≤◌, length, min, option_copied, Option, Some, None, IfOk};
+ghost use Rattle.std.specs.Prelude.{◌≡◌, ◌+◌, ◌^◌, ◌<◌, ◌≤◌, nat_lt, length, min, option_copied, Option, Some, None, IfOk};
 ghost use Rattle.zy_parts.specs.Signing.{IsSignedInRange};
 ghost use Rattle.zy_parts.specs.Reports.{IsChangeInRange};
 ghost use Rattle.zy_evidence.specs.Reading.{number_of_party, IsReplica};
@@ -8,7 +8,7 @@ ghost use Rattle.zy_parts.specs.declared.signed.Signed.{Signed};
 ghost use Rattle.zy_parts.specs.declared.reports.Change.{Change};
 ghost use Rattle.std.specs.List.{reduce};
 ghost use Rattle.zy_change.specs.Ahead as forms;
-ghost use Rattle.zy_change.specs.Ahead.{IsHeard, IsOwn, IsReport};
+ghost use Rattle.zy_change.specs.Ahead.{IsHeard, IsOwn, IsReport, IsOwedInRange};
 ghost use Rattle.zy_change.specs.Fit.{IsFit, IsTrueReport};
 ghost use Rattle.zy_change.specs.Owing.{Pens};
 ghost use Rattle.zy_change.specs.Owing as owing;
@@ -32,7 +32,8 @@ impl ViewMachine {
     pub fn hate(&self, vote: &Signed<Hate>, told: &Told) -> Result<Owed, Want>
         requires signer { number_of_party vote.now.by < self.now.counts.n }
         requires told { IsTrueReport self.now told.now }
-        ensures { (pens : Pens) → IfOk result (λ o. o ≡ owing.hate_owes self.now vote.now told.now pens) }
+        ensures owed { (pens : Pens) → IfOk result (λ o. o ≡ owing.hate_owes self.now vote.now told.now pens) }
+        ensures in_range { IfOk result IsOwedInRange }
     {
         self.hate_owes(vote.by, vote.stmt.view, told)
     }
@@ -42,6 +43,7 @@ impl ViewMachine {
         requires member { number_of_party by < self.now.counts.n }
         requires told { IsTrueReport self.now told.now }
         ensures owed { IfOk result (λ o. o ≡ forms.hate_ahead self.now by view told.now) }
+        ensures in_range { IfOk result IsOwedInRange }
         ensures fit { IsFit self.now }
     {
         let own = self.view();
@@ -51,13 +53,27 @@ impl ViewMachine {
         if view > own {
             return Ok(Owed::refused(Cause::NewerView));
         }
-        if self.hated[index_of(by)] {
+        if self.is_hated_by(by) {
             return Ok(Owed::refused(Cause::Repeat));
         }
-        if self.haters() >= self.counts.f {
+        if self.is_hated_enough() {
             return self.leave_owes(View(own.0 + 1), None, told);
         }
         Ok(Owed::nothing())
+    }
+
+    fn is_hated_by(&self, by: Party) -> bool
+        requires { number_of_party by < self.now.counts.n }
+        ensures { result ≡ views.is_hated_by self.now by }
+    {
+        self.hated[index_of(by)]
+    }
+
+    // With one hate more it leaves.
+    fn is_hated_enough(&self) -> bool
+        ensures { result ≡ forms.is_hated_enough self.now }
+    {
+        self.haters() >= self.counts.f
     }
 
     /// What a leave for a view above the own one owes, with the reports that are collected for it, where this is the own
@@ -65,7 +81,8 @@ impl ViewMachine {
     pub fn leaving(&self, view: View, told: &Told) -> Result<Owed, Want>
         requires above { views.own_view self.now < view.0 }
         requires told { IsTrueReport self.now told.now }
-        ensures { (pens : Pens) → IfOk result (λ o. o ≡ owing.leaving_owes self.now view told.now pens) }
+        ensures owed { (pens : Pens) → IfOk result (λ o. o ≡ owing.leaving_owes self.now view told.now pens) }
+        ensures in_range { IfOk result IsOwedInRange }
     {
         self.leave_owes(view, None, told)
     }
@@ -79,7 +96,8 @@ impl ViewMachine {
         requires member { number_of_party vote.now.by < self.now.counts.n }
         requires in_range { IsSignedInRange IsChangeInRange vote.now }
         requires told { IsTrueReport self.now told.now }
-        ensures { (pens : Pens) → IfOk result (λ o. o ≡ owing.change_owes self.now vote.now told.now pens) }
+        ensures owed { (pens : Pens) → IfOk result (λ o. o ≡ owing.change_owes self.now vote.now told.now pens) }
+        ensures in_range { IfOk result IsOwedInRange }
     {
         self.change_owes(vote, told)
     }
@@ -90,6 +108,7 @@ impl ViewMachine {
         requires in_range { IsSignedInRange IsChangeInRange vote.now }
         requires told { IsTrueReport self.now told.now }
         ensures owed { IfOk result (λ o. o ≡ forms.change_ahead self.now vote.now told.now) }
+        ensures in_range { IfOk result IsOwedInRange }
         ensures fit { IsFit self.now }
     {
         if vote.stmt.view < self.view() {
@@ -128,7 +147,7 @@ impl ViewMachine {
     }
 
     // The first rule that a report breaks.
-    fn broken_rule(&self, vote: &Signed<Change>) -> Result<Option<Rule>, Want>
+    pub(crate) fn broken_rule(&self, vote: &Signed<Change>) -> Result<Option<Rule>, Want>
         requires signer { IsReplica vote.now.by }
         requires in_range { IsChangeInRange vote.now.stmt }
         ensures { IfOk result (λ o. o ≡ rule_of self.now.counts self.now.interval vote.now.stmt) }
@@ -146,7 +165,8 @@ impl ViewMachine {
     fn kept_owes(&self, vote: &Signed<Change>, told: &Told) -> Result<Owed, Want>
         requires heard { IsHeard self.now (Some vote.now) }
         requires told { IsTrueReport self.now told.now }
-        ensures { IfOk result (λ o. o ≡ forms.kept_ahead self.now vote.now told.now) }
+        ensures owed { IfOk result (λ o. o ≡ forms.kept_ahead self.now vote.now told.now) }
+        ensures in_range { IfOk result IsOwedInRange }
     {
         if self.count_above(vote) > self.counts.f {
             return self.leave_owes(self.least_above(vote), Some(vote), told);
@@ -202,19 +222,15 @@ impl ViewMachine {
         requires heard { IsHeard self.now (option_copied heard) }
         requires told { IsTrueReport self.now told.now }
         ensures owed { IfOk result (λ o. o ≡ forms.leave_ahead self.now view (option_copied heard.entry) told.now) }
+        ensures in_range { IfOk result IsOwedInRange }
         ensures fit { IsFit self.now }
     {
         let above = self.view() < view;
         prove!(above);
-        if view.0 >= VIEWS {
+        if !is_in_frames(view) {
             return Ok(Owed::refused(Cause::NewerView));
         }
-        let owed = Owed {
-            leave: Some(view),
-            signs: 1,
-            ..Owed::nothing()
-        };
-        self.collect_owes(owed, view, heard, Some(told))
+        self.collect_owes(Owed::leaving(view), view, heard, Some(told))
     }
 
     #[tactic(auto, unfolding(crate::specs::Ahead::collect_ahead))]
@@ -228,7 +244,9 @@ impl ViewMachine {
         requires heard { IsHeard self.now (option_copied heard) }
         requires own { IsOwn self.now view (option_copied own) }
         requires small { owed.signs ≤ 1 }
-        ensures { IfOk result (λ o. o ≡ forms.collect_ahead self.now view (option_copied heard.entry) (option_copied own.entry) owed) }
+        requires in_range { IsOwedInRange owed }
+        ensures owed { IfOk result (λ o. o ≡ forms.collect_ahead self.now view (option_copied heard.entry) (option_copied own.entry) owed) }
+        ensures in_range { IfOk result IsOwedInRange }
     {
         if !self.gathers(view, heard, own) {
             return Ok(owed);
@@ -261,7 +279,8 @@ impl ViewMachine {
             && self.reporters(view, heard, own) >= self.counts.change
     }
 
-    fn leads(&self, view: View) -> bool
+    /// The replica is the primary of a view.
+    pub fn leads(&self, view: View) -> bool
         ensures { result ≡ views.leads self.now view.0 }
     {
         self.counts.primary(view).0 == self.me.0
@@ -285,9 +304,10 @@ impl ViewMachine {
         own: Option<&Told>,
         chosen: Chosen,
     ) -> Result<Owed, Want>
-        ensures { IfOk result (λ o. o ≡ forms.adopting_ahead self.now view (option_copied heard.entry) (option_copied own.entry) chosen owed) }
+        ensures owed { IfOk result (λ o. o ≡ forms.adopting_ahead self.now view (option_copied heard.entry) (option_copied own.entry) chosen owed) }
+        ensures confirm { IfOk result (λ o. o.confirm ≡ owed.confirm) }
     {
-        if self.confirmers(&began_for(view, chosen)) < self.counts.cert {
+        if self.confirmers(self.me.0 as usize, &began_for(view, chosen)) < self.counts.cert {
             return Ok(owed);
         }
         let told = self.told_at(view, heard, own, chosen.provider);
@@ -303,6 +323,13 @@ impl ViewMachine {
     {
         self.hated.iter().filter(|hated| **hated).count() as u64
     }
+}
+
+// A frame can name the view.
+fn is_in_frames(view: View) -> bool
+    ensures { result ≡ nat_lt view.0 (2 ^ 62) }
+{
+    view.0 < VIEWS
 }
 
 fn rule_in(fault: ReportFault) -> Result<Option<Rule>, Want>
@@ -352,27 +379,27 @@ fn confirming(view: View, chosen: Chosen, owed: Owed) -> Owed
 {
     Owed {
         gather: Some(view),
-        confirm: Some((chosen.place, chosen.head)),
+        confirm: Some(chosen),
         signs: owed.signs + 2,
         ..owed
     }
 }
 
-fn adoption(view: View, chosen: Chosen, told: Option<&Told>) -> Result<Option<Adoption>, Want>
+/// What is adopted as a view begins, where a report gives it. The report is copied.
+pub fn adoption(view: View, chosen: Chosen, told: Option<&Told>) -> Result<Option<Adoption>, Want>
     ensures { IfOk result (λ o. o ≡ forms.adoption_ahead view chosen (option_copied told.entry)) }
 {
     match told {
         None => Ok(None),
         Some(told) => Ok(Some(Adoption {
             view,
-            place: chosen.place,
-            head: chosen.head,
+            chosen,
             told: told_copy(told)?,
         })),
     }
 }
 
-fn told_copy(told: &Told) -> Result<Told, Want>
+pub(crate) fn told_copy(told: &Told) -> Result<Told, Want>
     ensures { IfOk result (λ copy. copy ≡ told.now) }
 {
     Ok(told.clone()?)

@@ -12,7 +12,6 @@ use std::alloc::Global;
 use zy_base::{Digest, Items, Place, View, Want};
 use zy_chain::{Entry, Spine};
 use zy_parts::{Began, Check, Signed, Spec, Told};
-use zy_vframes::ViewCert;
 
 // The report of the last active view.
 impl ViewMachine {
@@ -33,7 +32,7 @@ impl ViewMachine {
             last_view: self.last_view,
             began_place: self.began_place,
             began_head: self.began_head,
-            began: begans_in(self.alloc, &self.view_cert)?,
+            began: self.began()?,
             specs: specs_in(&self.specs)?,
             stable_view: stable.0,
             stable_place: stable.1,
@@ -43,14 +42,15 @@ impl ViewMachine {
             entries: entry_copies(self.alloc, spine)?,
         })
     }
-}
 
-fn begans_in(alloc: Global, cert: &Option<ViewCert>) -> Result<Items<Signed<Began>>, Want>
-    ensures { IfOk result (λ l. l ≡ views.begans_in cert.now) }
-{
-    match cert {
-        None => Ok(Items::new(alloc)),
-        Some(cert) => began_copies(&cert.begans),
+    // The certificate with which the last view began.
+    fn began(&self) -> Result<Items<Signed<Began>>, Want>
+        ensures { IfOk result (λ l. l ≡ views.begans_in self.now.view_cert) }
+    {
+        match &self.view_cert {
+            None => Ok(Items::new(self.alloc)),
+            Some(cert) => began_copies(&cert.begans),
+        }
     }
 }
 

@@ -9,7 +9,7 @@ use Rattle.zy_parts.specs.Statements.{IsAskInRange, IsOrderInRange, IsSpecInRang
 use Rattle.zy_parts.specs.declared.signed.Signed.{Signed}
 use Rattle.zy_parts.specs.declared.statements.Ask.{Ask}
 use Rattle.zy_parts.specs.declared.statements.Order.{Order}
-use Rattle.zy_frames.specs.Frames.{IsFrameInRange}
+use Rattle.zy_table.specs.Sending.{CanBeSent}
 use Rattle.zy_table.specs.declared.client.Response.{Response}
 use Rattle.zy_table.specs.declared.deeds.Sent.{Sent}
 use Rattle.zy_table.specs.ClientState.{ClientState, leaves_of}
@@ -34,5 +34,5 @@ IsEvidence orders = IsSignedInRange IsOrderInRange orders.0 × IsSignedInRange I
 
 -- what a step sends and signs can be spelled
 pub record AreInRange (sent : List Sent) (said : List Ask) : Type 0 where
-  pub frames : AllByRecursion (λ s. IsFrameInRange s.frame) sent
+  pub frames : AllByRecursion (λ s. CanBeSent s.frame) sent
   pub asks : AllByRecursion IsAskInRange said

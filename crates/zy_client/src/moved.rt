@@ -3,6 +3,7 @@ ghost use Rattle.std.specs.List.{AllByRecursion};
 ghost use Rattle.zy_base.specs.declared.step.Answer.TheVariants as answers;
 ghost use Rattle.zy_frames.specs.Frames.{IsFrameInRange};
 ghost use Rattle.zy_parts.specs.Statements.{IsAskInRange};
+ghost use Rattle.zy_table.specs.declared.deeds.AnyFrame.TheVariants.{Plain};
 ghost use Rattle.zy_table.specs.ClientState.{refused, taken};
 
 use crate::Client;
@@ -10,7 +11,7 @@ use std::marker::Model;
 use zy_base::{Answer, Cause, Want};
 use zy_frames::Frame;
 use zy_parts::Ask;
-use zy_table::{Sent, To};
+use zy_table::{AnyFrame, Sent, To};
 
 // What an event made of a client, with the frames and the requests as they are.
 #[derive(Drop)]
@@ -50,9 +51,14 @@ impl Client {
     pub(crate) fn sends(self, to: To, frame: Frame, said: Vec<Ask>) -> Result<Moved, Want>
         requires frame { IsFrameInRange frame }
         requires said { AllByRecursion IsAskInRange said.items }
-        ensures { IfOk result (λ m. m ≡ record { answer = answers.Taken; state = self; sent = record { to = to; frame = frame } ∷ []; said = said.items }) }
+        ensures { IfOk result (λ m. m ≡ record { answer = answers.Taken; state = self; sent = record { to = to; frame = Plain frame } ∷ []; said = said.items }) }
     {
-        let sent = vec![in self.alloc; Sent { to, frame }]?;
+        let sent = vec![in self.alloc;
+            Sent {
+                to,
+                frame: AnyFrame::Plain(frame)
+            },
+        ]?;
         Ok(Moved {
             answer: Answer::Taken,
             client: self,

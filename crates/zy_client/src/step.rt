@@ -1,6 +1,7 @@
 ghost use Rattle.std.specs.Prelude.{◌≡◌, ◌≤◌, length, map, IfOk, Ok, if◌then◌else◌};
 ghost use Rattle.std.specs.List.{AllByRecursion};
 ghost use Rattle.zy_frames.specs.Frames.{IsFrameInRange, frame_in, parts_of};
+ghost use Rattle.zy_table.specs.Sending.{CanBeSent};
 ghost use Rattle.zy_seal.specs.Screening.{screen};
 ghost use Rattle.zy_parts.specs.Statements.{IsAskInRange};
 ghost use Rattle.zy_table.specs.ClientState.{spoken_of, timers_of, all_replicas, client_outgoing};
@@ -176,7 +177,7 @@ impl Moved {
 // The frames as bytes.
 fn out_of(alloc: Global, replicas: u64, sent: &[Sent]) -> Result<Outgoing, Want>
     requires replicas { replicas ≤ 16 }
-    requires frames { AllByRecursion (λ s. IsFrameInRange s.frame) sent.now }
+    requires frames { AllByRecursion (λ s. CanBeSent s.frame) sent.now }
     ensures { IfOk result (λ out. out ≡ client_outgoing replicas sent.now) }
 {
     let all = all_replicas_of(alloc, replicas)?;

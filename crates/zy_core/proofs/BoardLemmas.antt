@@ -1,11 +1,11 @@
 -- What is kept of responses and checkpoints, after a change of it.
-use Rattle.std.proofs.Common.{◌≡◌, ◌+◌, ◌-◌, ◌*◌, ◌%◌, ◌≤◌, ◌<◌, ◌++◌, ◌∷◌, [], ℕ, Bool, true, false, not, cond, List, take, drop, length, filter, Option, Some, None, refl, ap, ◌∙◌, sym, subst, arith}
+use Rattle.std.proofs.Common.{◌≡◌, ◌+◌, ◌-◌, ◌*◌, ◌%◌, ◌≤◌, ◌<◌, ◌∷◌, ℕ, Bool, true, false, not, cond, List, take, drop, length, Option, Some, None, refl, ap, ◌∙◌, sym, subst, arith}
 use Rattle.std.specs.Prelude.{Result, Ok, Err, IfOk, if◌then◌else◌, nat_eq, nat_lt, nat_le, ◌||◌, ◌&&◌, is_some}
 use Rattle.std.specs.List.{list_any}
 use Rattle.std.specs.Option.{ForSome}
 use Rattle.std.proofs.Math.Nat.{mod-add-mod, add-mod_left, mod-eq_of_lt}
 use Rattle.std.proofs.lemmas.Option.{cond_some}
-use Rattle.std.proofs.lemmas.Bool.{eqb-true, leb-true, leb-false, ltb-true, ltb-false, and_parts, or_parts}
+use Rattle.std.proofs.lemmas.Bool.{eqb-true, leb-true, leb-false, ltb-true, ltb-false}
 use Rattle.std.proofs.lemmas.Bool.Decides.{nat_tests}
 use Rattle.std.proofs.lemmas.List.{length-take-le, take-append-drop}
 use Rattle.std.proofs.lemmas.List.Elements.{All-take, All-weaker, filter_passes}
@@ -20,7 +20,7 @@ use Rattle.zy_base.specs.declared.want.Want.{Want}
 use Rattle.zy_parts.specs.declared.signed.Signed.{Signed}
 use Rattle.zy_parts.specs.declared.statements.Spec.{Spec}
 use Rattle.zy_parts.specs.declared.statements.Check.{Check}
-use Rattle.zy_cert.specs.Equal.{same_digest, same_spec, same_check, spec-equal, check-equal}
+use Rattle.zy_cert.specs.Equal.{same_spec, same_check, spec-equal, check-equal}
 use Rattle.zy_cert.specs.Signers.{same_party, has_signer}
 use Rattle.zy_check.specs.declared.kept.Kept.{Kept}
 use Rattle.zy_check.specs.declared.kept.Kept.TheVariants as answers
@@ -28,11 +28,11 @@ use Rattle.zy_check.specs.Votes.{put_vote, place_for, only, equal_to}
 use Rattle.zy_check.specs.Board.{Board, Round, IsBoard, IsProof, no_round, height, window_of, round_at, with_round, specs_at, checks_at, put_spec, put_check, with_spec, with_check}
 use Rattle.zy_check.specs.Judging.{place_cause, first_cause, answered, beside_spec, beside_check, judge_spec, judge_check, is_refused}
 use Rattle.zy_check.proofs.VoteLemmas.{equal_to-put}
-use Rattle.zy_table.specs.declared.kept.Certificate.{Certificate}
 use Rattle.zy_table.specs.declared.kept.OwnCheckpoint.{OwnCheckpoint}
+use Rattle.zy_change.specs.Views.{Views, is_further}
 use Rattle.zy_table.specs.State.{State}
 use Rattle.zy_table.specs.Checkpoints.{with_board}
-use Rattle.zy_table.specs.Gathering.{first_of, is_further, keep_certificate, is_said, owes_check, checks_owed}
+use Rattle.zy_table.specs.Gathering.{first_of, keep_certificate, is_said, owes_check, checks_owed}
 
 -- ---- so many of a list
 
@@ -61,9 +61,9 @@ pub all_prove : (own : Check) (list : List (Signed Check)) (count : ℕ) (result
 all_prove own list count (Ok found) some is = λ proof there. proof_there own list count proof some (sym is ∙ there)
 all_prove own list count (Err want) some is = is
 
-pub not_further : {S : Type 0} (s : State S) (place : Place) (found : Option (List (Signed Spec))) → is_further place s.certificate ≡ false → s ≡ keep_certificate place found s
+pub not_further : {S : Type 0} (s : State S) (place : Place) (found : Option (List (Signed Spec))) → is_further place s.views.specs ≡ false → s ≡ keep_certificate place found s
 not_further s place None is_not = refl
-not_further {S} s place (Some specs) is_not = ap (λ (b : Bool). if b then record s { certificate = Some (record { place = place; specs = specs }) } else s) (sym is_not)
+not_further {S} s place (Some specs) is_not = ap (λ (b : Bool). if b then record s { views = record s.views { specs = Some (record { place = place; specs = specs }) } } else s) (sym is_not)
 
 -- ---- tests one after another
 
@@ -255,8 +255,6 @@ module _ {S : Type 0} (s : State S) (own : OwnCheckpoint) (is : IsBoard s.board)
   owes_with_check vote kept here owes mine owes_is mine_is = rw (owes_is, mine_is) (owes_with_check_is vote kept here)
 
 -- a certificate changes nothing of what is owed
-pub owed_certain : {S : Type 0} (s before after : State S) (certificate : Option Certificate) → s ≡ before → after ≡ record s { certificate = certificate }
-    → (own : Option OwnCheckpoint) (brought : Bool) → checks_owed after own brought ≡ checks_owed before own brought
-owed_certain s before after certificate same is None brought = refl
-owed_certain {S} s before after certificate same is (Some own) brought =
-    ap (λ (t : State S). checks_owed t (Some own) brought) is ∙ ap (λ (t : State S). checks_owed t (Some own) brought) same
+pub owed_certain : {S : Type 0} (s before : State S) (v : Views) → s ≡ before → (own : Option OwnCheckpoint) (brought : Bool) → checks_owed (record s { views = v }) own brought ≡ checks_owed before own brought
+owed_certain s before v same None brought = refl
+owed_certain {S} s before v same (Some own) brought = ap (λ (t : State S). checks_owed t (Some own) brought) same

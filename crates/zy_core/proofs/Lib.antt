@@ -1,3 +1,4 @@
 pub mod BoardLemmas
 pub mod OwnLemmas
 pub mod ReadyLemmas
+pub mod RoundLemmas

@@ -14,8 +14,10 @@ ghost use Rattle.zy_admit.specs.Orders.{with_order, without_order};
 ghost use Rattle.zy_table.specs.State.{window_of, leaves_of, spent, with_spec as with_spec_of, pending_of as waiting_of, with_pending};
 ghost use Rattle.zy_table.specs.Running.{still_pending as still_waiting};
 ghost use Rattle.zy_table.specs.declared.kept.OwnCheckpoint.{OwnCheckpoint};
-ghost use Rattle.zy_table.specs.Gathering.{is_further as is_further_than, with_certificate, checks_owed};
-ghost use Rattle.zy_core.specs.Ready.{IsKeptPending, IsOrderReady};
+ghost use Rattle.zy_table.specs.Gathering.{with_certificate, checks_owed};
+ghost use Rattle.zy_change.specs.Fit.{IsTrueReport};
+ghost use Rattle.zy_table.specs.Leaving.{report_of};
+ghost use Rattle.zy_core.specs.Ready.{IsKeptPending, IsOrderReady, IsOwnCertificate};
 
 use crate::Core;
 use crate::copies::{frame_copy, signed_copy};
@@ -24,7 +26,7 @@ use zy_chain::Entry;
 use zy_frames::OrderFrame;
 use zy_parts::{Hole, Local, Signed, Spec, Statement};
 use zy_seal::SealFault;
-use zy_table::{Certificate, Pending};
+use zy_table::Pending;
 
 impl<M: Machine> Core<M> {
     /// A statement signed by the next leaf, of which there is one.
@@ -74,6 +76,7 @@ impl<M: Machine> Core<M> {
 
     /// The last entry is taken out again, as if it had never been run.
     pub fn unrun(mut self) -> Core<M>
+        requires { (k : Kept M.State) (e : Entry) → self.kept ≡ longer k e → IsTrueReport self.views (report_of (record self { kept = k })) }
         ensures { (k : Kept M.State) (e : Entry) → self.kept ≡ longer k e → result ≡ record self { kept = k } }
     {
         self.exec.unrun();
@@ -163,27 +166,16 @@ impl<M: Machine> Core<M> {
 
     /// A commit certificate is kept where it is the first or further than the one before.
     pub fn keep_certificate(mut self, place: Place, specs: Items<Signed<Spec>>) -> Core<M>
+        requires { IsOwnCertificate self place specs }
         ensures core { result ≡ with_certificate self place specs }
         ensures sealer { result.sealer ≡ self.sealer }
         ensures kept { result.kept ≡ self.kept }
+        ensures mode { result.views.mode ≡ self.views.mode }
+        ensures last { result.views.last_view ≡ self.views.last_view }
         ensures owed { (own : Option OwnCheckpoint) (brought : Bool) → checks_owed result own brought ≡ checks_owed self own brought }
     {
-        if self.is_further(place) {
-            self.certificate = Some(Certificate { place, specs });
-        } else {
-            drop(specs);
-        }
+        self.views.keep_specs(place, specs.into_vec());
         self
-    }
-
-    // It is the first, or further than the one before.
-    pub(crate) fn is_further(&self, place: Place) -> bool
-        ensures { result ≡ is_further_than place self.now.certificate }
-    {
-        match &self.certificate {
-            Some(kept) => kept.place < place,
-            None => true,
-        }
     }
 
     /// A local commit that was said.

@@ -1,10 +1,11 @@
 //! What is kept of responses and checkpoints at the multiples of the interval, beside what the own history says there.
 
-ghost use Rattle.std.specs.Prelude.{◌≡◌, ◌≤◌, ◌%◌, ◌+◌, ◌++◌, ◌∷◌, ◌&&◌, [], nat_le, length, take, filter, if◌then◌else◌, is_some, not, false, option_map, Some, IfOk, OnOk};
+ghost use Rattle.std.specs.Prelude.{◌≡◌, ◌≤◌, ◌+◌, ◌++◌, ◌∷◌, ◌&&◌, [], nat_le, length, take, filter, if◌then◌else◌, is_some, not, false, option_map, Some, IfOk, OnOk};
 ghost use Rattle.std.specs.List.{list_any};
 ghost use Rattle.std.specs.Option.{ForSome};
-ghost use Rattle.zy_exec.specs.Kept.{last_place};
 ghost use Rattle.zy_exec.specs.Shots.{snapshot_in};
+ghost use Rattle.zy_parts.specs.Signing.{IsSignedInRange};
+ghost use Rattle.zy_parts.specs.Statements.{IsSpecInRange, IsCheckInRange};
 ghost use Rattle.zy_base.specs.declared.ids.Party.TheVariants.{Replica};
 ghost use Rattle.zy_cert.specs.Equal.{same_spec, same_check};
 ghost use Rattle.zy_cert.specs.Signers.{same_party};
@@ -13,7 +14,8 @@ ghost use Rattle.zy_check.specs.Board.{IsBoard, IsProof, with_spec, with_check, 
 ghost use Rattle.zy_check.specs.Judging.{judge_spec as spec_judged, judge_check as check_judged, is_refused, after_check};
 ghost use Rattle.zy_table.specs.Checkpoints.{with_board};
 ghost use Rattle.zy_table.specs.Gathering.{own_at as own_of, first_of as so_many, certificate_at, keep_certificate as certificate_kept, is_said as said_before, owes_check as owes_one, checks_owed as owed, proof_at, settled_at, settle_with, with_own_spec, equal_others as others_equal, signs_with as signs_by};
-ghost use Rattle.zy_core.specs.Ready.{IsOwnReady};
+ghost use Rattle.zy_table.specs.State.{is_leaving};
+ghost use Rattle.zy_core.specs.Ready.{IsOwnCertificate, IsOwnReady};
 
 use crate::Core;
 use crate::copies::{bytes_copy, signed_copy};
@@ -109,8 +111,9 @@ impl<M: Machine> Core<M> {
 
     /// What it says of a multiple of the interval above the stable place, as far as its history has come.
     pub fn own_at(&self, place: Place) -> Option<OwnCheckpoint>
+        requires active { is_leaving self.now ≡ false }
         ensures own { result ≡ own_of M.rules self.now place.0 }
-        ensures ready { ForSome result (IsOwnReady self.now.kept) }
+        ensures ready { ForSome result (IsOwnReady self.now.kept self.now.views.last_view) }
         ensures place { ForSome result (λ own. own.check.place ≡ place) }
     {
         own_from(
@@ -161,7 +164,8 @@ impl<M: Machine> Core<M> {
         vote: Signed<Spec>,
         own: Option<OwnCheckpoint>,
     ) -> Result<Core<M>, Want>
-        requires { is_refused (spec_judged self.board vote (option_map (λ o. o.spec) own)) ≡ false }
+        requires range { IsSignedInRange IsSpecInRange vote }
+        requires kept { is_refused (spec_judged self.board vote (option_map (λ o. o.spec) own)) ≡ false }
         ensures { IfOk result (λ r. r ≡ with_board self (with_spec self.board vote)) }
     {
         let kept = match own {
@@ -180,7 +184,8 @@ impl<M: Machine> Core<M> {
         vote: Signed<Check>,
         own: Option<OwnCheckpoint>,
     ) -> Result<Core<M>, Want>
-        requires { is_refused (check_judged self.board vote (option_map (λ o. o.check) own)) ≡ false }
+        requires range { IsSignedInRange IsCheckInRange vote }
+        requires kept { is_refused (check_judged self.board vote (option_map (λ o. o.check) own)) ≡ false }
         ensures { IfOk result (λ r. r ≡ with_board self (with_check self.board vote)) }
     {
         let kept = match own {
@@ -243,7 +248,7 @@ impl<M: Machine> Core<M> {
     // The same with another's response kept that says what the own one says.
     fn owes_with_spec(&self, vote: &Signed<Spec>, own: &OwnCheckpoint) -> bool
         requires kept { is_refused (spec_judged self.now.board vote.now (Some own.now.spec)) ≡ false }
-        requires ready { IsOwnReady self.now.kept own.now }
+        requires ready { IsOwnReady self.now.kept self.now.views.last_view own.now }
         ensures { result ≡ owes_one (with_board self.now (with_spec self.now.board vote.now)) own.now false }
     {
         let equal = self.count_specs(&own.spec);
@@ -253,7 +258,7 @@ impl<M: Machine> Core<M> {
     /// How many statements are owed once another's response is kept.
     pub fn owed_with_spec(&self, vote: &Signed<Spec>, own: Option<OwnCheckpoint>) -> u32
         requires kept { is_refused (spec_judged self.now.board vote.now (option_map (λ o. o.spec) own)) ≡ false }
-        requires ready { ForSome own (IsOwnReady self.now.kept) }
+        requires ready { ForSome own (IsOwnReady self.now.kept self.now.views.last_view) }
         ensures { result ≡ owed (with_board self.now (with_spec self.now.board vote.now)) own false }
     {
         match own {
@@ -273,7 +278,7 @@ impl<M: Machine> Core<M> {
     // The same with another's checkpoint kept of the same place.
     fn owes_with_check(&self, vote: &Signed<Check>, own: &OwnCheckpoint) -> bool
         requires kept { is_refused (check_judged self.now.board vote.now (Some own.now.check)) ≡ false }
-        requires ready { IsOwnReady self.now.kept own.now }
+        requires ready { IsOwnReady self.now.kept self.now.views.last_view own.now }
         requires place { own.now.check.place ≡ vote.now.stmt.place }
         ensures { result ≡ owes_one (with_board self.now (with_check self.now.board vote.now)) own.now false }
     {
@@ -284,7 +289,7 @@ impl<M: Machine> Core<M> {
     /// How many statements are owed once another's checkpoint is kept.
     pub fn owed_with_check(&self, vote: &Signed<Check>, own: Option<OwnCheckpoint>) -> u32
         requires kept { is_refused (check_judged self.now.board vote.now (option_map (λ o. o.check) own)) ≡ false }
-        requires ready { ForSome own (IsOwnReady self.now.kept) }
+        requires ready { ForSome own (IsOwnReady self.now.kept self.now.views.last_view) }
         requires place { ForSome own (λ o. o.check.place ≡ vote.now.stmt.place) }
         ensures { result ≡ owed (with_board self.now (with_check self.now.board vote.now)) own false }
     {
@@ -315,11 +320,13 @@ impl<M: Machine> Core<M> {
     // ---- changes
 
     // The kept responses that make a certificate of what the own one says.
-    fn certificate_at(&self, own: &Spec) -> Result<Option<Items<Signed<Spec>>>, Want>
-        ensures { IfOk result (λ found. found ≡ certificate_at self.now own.now) }
+    fn certificate_at(&self, own: &OwnCheckpoint) -> Result<Option<Items<Signed<Spec>>>, Want>
+        requires { IsOwnReady self.now.kept self.now.views.last_view own.now }
+        ensures found { IfOk result (λ found. found ≡ certificate_at self.now own.now.spec) }
+        ensures certifies { IfOk result (λ found. ForSome found (IsOwnCertificate self.now own.now.spec.place)) }
     {
-        let list = self.board.specs(own.place);
-        first_of(self.alloc, list, own, self.counts.cert)
+        let list = self.board.specs(own.spec.place);
+        first_of(self.alloc, list, &own.spec, self.counts.cert)
     }
 
     // The kept checkpoints that prove the place of the own one.
@@ -333,16 +340,18 @@ impl<M: Machine> Core<M> {
 
     /// The kept responses that make a certificate of what the own one says are kept as such, where they are the first
     /// or further.
-    pub fn keep_certificate_at(self, own: &Spec) -> Result<Core<M>, Want>
-        ensures core { IfOk result (λ r. r ≡ certificate_kept own.now.place (certificate_at self own.now) self) }
+    pub fn keep_certificate_at(self, own: &OwnCheckpoint) -> Result<Core<M>, Want>
+        requires { IsOwnReady self.kept self.views.last_view own.now }
+        ensures core { IfOk result (λ r. r ≡ certificate_kept own.now.spec.place (certificate_at self own.now.spec) self) }
         ensures sealer { IfOk result (λ r. r.sealer ≡ self.sealer) }
         ensures kept { IfOk result (λ r. r.kept ≡ self.kept) }
+        ensures last { IfOk result (λ r. r.views.last_view ≡ self.views.last_view) }
     {
-        if !self.is_further(own.place) {
+        if !self.views.is_further(own.spec.place) {
             return Ok(self);
         }
         match self.certificate_at(own)? {
-            Some(specs) => Ok(self.keep_certificate(own.place, specs)),
+            Some(specs) => Ok(self.keep_certificate(own.spec.place, specs)),
             None => Ok(self),
         }
     }
@@ -353,6 +362,7 @@ impl<M: Machine> Core<M> {
         own: &OwnCheckpoint,
         signed: Signed<Spec>,
     ) -> Result<Core<M>, Want>
+        requires { IsSignedInRange IsSpecInRange signed }
         ensures { IfOk result (λ r. r ≡ with_own_spec self own.now signed) }
     {
         self.board.drop_other(&own.spec, &own.check);
@@ -364,6 +374,7 @@ impl<M: Machine> Core<M> {
 
     /// The own checkpoint is kept with those of others.
     pub fn keep_own_check(mut self, own: &Check, signed: Signed<Check>) -> Result<Core<M>, Want>
+        requires { IsSignedInRange IsCheckInRange signed }
         ensures { IfOk result (λ r. r ≡ record self { board = after_check self.board signed (Some own.now) }) }
     {
         match self.board.vote(signed, Some(own)) {
@@ -372,14 +383,14 @@ impl<M: Machine> Core<M> {
         }
     }
 
-    // What lies up to a place is given up, and these checkpoints prove it.
-    fn settle(mut self, place: Place, proof: Vec<Signed<Check>>) -> Core<M>
-        requires above { self.kept.base.place ≤ place.0 }
-        requires below { place.0 ≤ last_place self.kept }
-        requires multiple { place.0 % self.kept.interval ≡ 0 }
-        requires proof { IsProof place.0 proof.items }
-        ensures { result ≡ settled_at M.rules place.0 proof.items self }
+    // What lies up to the own checkpoint's place is given up, and these checkpoints prove it.
+    fn settle(mut self, own: &OwnCheckpoint, proof: Vec<Signed<Check>>) -> Core<M>
+        requires own { IsOwnReady self.kept self.views.last_view own.now }
+        requires proof { proof_at self own.now.check ≡ Some proof.items }
+        requires proves { IsProof own.now.check.place.0 proof.items }
+        ensures { result ≡ settled_at M.rules own.now.check.place.0 proof.items self }
     {
+        let place = own.check.place;
         self.exec.settle(place);
         self.orders.cut_below(place);
         self.board.set_stable(place, proof);
@@ -390,12 +401,11 @@ impl<M: Machine> Core<M> {
 
     /// Where enough kept checkpoints say what the own one says, its place is stable from now on.
     pub fn settle_own(self, own: &OwnCheckpoint) -> Result<Core<M>, Want>
-        requires { IsOwnReady self.kept own.now }
+        requires { IsOwnReady self.kept self.views.last_view own.now }
         ensures { IfOk result (λ r. r ≡ settle_with M.rules own.now.check.place.0 (proof_at self own.now.check) self) }
     {
-        let check = &own.check;
-        match self.proof_at(check)? {
-            Some(proof) => Ok(self.settle(check.place, proof.into_vec())),
+        match self.proof_at(&own.check)? {
+            Some(proof) => Ok(self.settle(own, proof.into_vec())),
             None => Ok(self),
         }
     }

@@ -29,7 +29,7 @@ pub fn bytes_copy(bytes: &Bytes) -> Result<Bytes, Want>
     Ok(bytes.clone()?)
 }
 
-/// A copy of a signed statement that is no larger than its fields.
+/// A copy of a signed statement of a kind that owns no memory.
 pub fn signed_copy<S: Copy>(signed: &Signed<S>) -> Result<Signed<S>, Want>
     ensures { IfOk result (λ copy. copy ≡ signed.now) }
 {

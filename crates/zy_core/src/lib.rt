@@ -10,6 +10,7 @@ mod progress;
 mod reading;
 mod responses;
 mod state;
+mod views;
 
 pub use copies::{bytes_copy, entry_of, frame_copy, pending_copy, signed_copy};
 pub use progress::{Moved, Progress};

@@ -6,6 +6,8 @@ ghost use Rattle.zy_parts.specs.Signing.{IsSignedInRange};
 ghost use Rattle.zy_parts.specs.Statements.{IsOrderInRange, IsSpecInRange, IsLocalInRange, IsHoleInRange, IsCheckInRange, spec_fields};
 ghost use Rattle.zy_frames.specs.Frames.{IsFrameInRange};
 ghost use Rattle.zy_frames.specs.declared.frame.Frame.TheVariants as frames;
+ghost use Rattle.zy_table.specs.Sending.{CanBeSent};
+ghost use Rattle.zy_table.specs.declared.deeds.AnyFrame.TheVariants as any;
 ghost use Rattle.zy_table.specs.declared.deeds.To.TheVariants as tos;
 ghost use Rattle.zy_table.specs.declared.deeds.Act.TheVariants as acts;
 ghost use Rattle.zy_table.specs.declared.deeds.Body.TheVariants as bodies;
@@ -19,8 +21,9 @@ use crate::copies::frame_copy;
 use std::marker::Model;
 use zy_base::{Answer, Bytes, Cause, ClientId, Items, Machine, Party, Stood, Want};
 use zy_frames::{Frame, OrderFrame};
-use zy_parts::{Check, Hole, Local, Order, Signed, Spec};
-use zy_table::{Act, Body, Deeds, Pending, Remark, Sent, To};
+use zy_parts::{Check, Hole, Local, Order, Signed, Spec, Statement};
+use zy_table::{Act, AnyFrame, Body, Deeds, Pending, Remark, Sent, To};
+use zy_vframes::ViewFrame;
 
 /// A replica on its way through a step, with what the step did so far.
 #[derive(Drop)]
@@ -90,15 +93,31 @@ impl<M: Machine> Core<M> {
 }
 
 impl<M: Machine> Progress<M> {
-    ghost use Rattle.zy_table.specs.Deeds.{send as sending, act as acting, ends as ending};
+    ghost use Rattle.zy_table.specs.Deeds.{send as sending, send_any as sending_any, send_view as sending_view, act as acting, ends as ending};
 
-    /// One more frame is sent.
-    pub fn send(mut self, to: To, frame: Frame) -> Result<Progress<M>, Want>
-        requires { IsFrameInRange frame }
-        ensures { IfOk result (λ g. g ≡ sending to frame self) }
+    // One more frame of either kind is sent.
+    fn send_any(mut self, to: To, frame: AnyFrame) -> Result<Progress<M>, Want>
+        requires { CanBeSent frame }
+        ensures { IfOk result (λ g. g ≡ sending_any to frame self) }
     {
         self.deeds.sent.push(Sent { to, frame })?;
         Ok(self)
+    }
+
+    /// One more frame of normal operation is sent.
+    pub fn send(self, to: To, frame: Frame) -> Result<Progress<M>, Want>
+        requires { IsFrameInRange frame }
+        ensures { IfOk result (λ g. g ≡ sending to frame self) }
+    {
+        self.send_any(to, AnyFrame::Plain(frame))
+    }
+
+    /// One more frame of a view change is sent.
+    pub fn send_view(self, to: To, frame: ViewFrame) -> Result<Progress<M>, Want>
+        requires { CanBeSent (any.View frame) }
+        ensures { IfOk result (λ g. g ≡ sending_view to frame self) }
+    {
+        self.send_any(to, AnyFrame::View(frame))
     }
 
     /// One more statement or entry.
@@ -133,6 +152,24 @@ impl<M: Machine> Progress<M> {
             Ok(progress) => Ok((progress, signed)),
             Err(want) => {
                 drop(signed);
+                Err(want)
+            }
+        }
+    }
+
+    /// A statement signed by the next leaf, of which there is one.
+    pub fn seal<S: Statement>(self, stmt: S) -> Result<(Progress<M>, Signed<S>), Want>
+        requires leaf { 1 ≤ leaves_of self.state }
+        requires range { S.in_range stmt }
+        ensures progress { IfOk result (λ r. r.0 ≡ record self { state = spent self.state }) }
+        ensures value { IfOk result (λ r. r.1 ≡ sealed_by S.its_number S.spelling self.state.sealer stmt) }
+        ensures short { IfOk result (λ r. length r.1.sig ≤ 8192) }
+    {
+        let Progress { core, deeds } = self;
+        match core.seal(stmt) {
+            Ok((core, signed)) => Ok((Progress { core, deeds }, signed)),
+            Err(want) => {
+                drop(deeds);
                 Err(want)
             }
         }

@@ -1,12 +1,13 @@
 //! What is read of a replica.
 
-ghost use Rattle.std.specs.Prelude.{◌≡◌, ◌≤◌, ◌<◌, ◌+◌, ◌^◌, length, option_copied, option_map, if◌then◌else◌, None, IfOk, OnSome};
+ghost use Rattle.std.specs.Prelude.{◌≡◌, ◌≤◌, ◌<◌, ◌+◌, ◌^◌, length, option_copied, option_map, if◌then◌else◌, nat_le, false, None, IfNone, IfOk, OnSome};
 ghost use Rattle.std.specs.List.{AllByRecursion, find};
 ghost use Rattle.std.specs.Option.{ForSome};
 ghost use Rattle.zy_parts.specs.Signing.{IsSignedInRange};
 ghost use Rattle.zy_parts.specs.Statements.{IsHoleInRange, IsLocalInRange, IsOrderInRange};
 ghost use Rattle.zy_exec.specs.Kept.{last_place, known_in};
 ghost use Rattle.zy_exec.specs.Known.{IsKnownInRange};
+ghost use Rattle.zy_lms.specs.Height.{levels_of};
 ghost use Rattle.zy_admit.specs.Orders.{stored_in, orders_from};
 ghost use Rattle.zy_cert.specs.Equal.{same_local};
 ghost use Rattle.zy_table.specs.State.{own_view, is_leaving, is_primary, primary_of, window_of, leaves_of, spec_to, pending_of};
@@ -58,6 +59,7 @@ impl<M: Machine> Core<M> {
     /// The public keys of its group.
     pub fn directory(&self) -> &Directory
         ensures keys { result.now ≡ self.now.keys }
+        ensures replicas { length self.now.keys.replicas ≤ self.now.counts.n }
         ensures clients { length self.now.keys.clients ≤ 64 }
     {
         &self.directory
@@ -93,14 +95,14 @@ impl<M: Machine> Core<M> {
         ensures range { result.0 < 2 ^ 62 }
         ensures ready { IsReady self.now }
     {
-        self.mode.view()
+        self.views.view()
     }
 
     /// Whether it has left its view and waits for the next one.
     pub fn is_leaving(&self) -> bool
         ensures { result ≡ is_leaving self.now }
     {
-        match self.mode {
+        match self.mode() {
             Mode::Active(_) => false,
             Mode::Leaving(_) => true,
         }
@@ -132,7 +134,9 @@ impl<M: Machine> Core<M> {
 
     /// Why a frame of a view is refused.
     pub fn view_cause(&self, view: View) -> Option<Cause>
-        ensures { result ≡ view_cause self.now view.0 }
+        ensures cause { result ≡ view_cause self.now view.0 }
+        ensures active { IfNone result (is_leaving self.now ≡ false) }
+        ensures own { IfNone result (own_view self.now ≡ view.0) }
     {
         if view < self.view() {
             return Some(Cause::OldView);
@@ -164,6 +168,15 @@ impl<M: Machine> Core<M> {
         self.sealer.left()
     }
 
+    /// Whether it can sign so many statements.
+    pub fn has_leaves(&self, count: u64) -> bool
+        ensures enough { result ≡ nat_le count (leaves_of self.now) }
+        ensures within { self.now.sealer.key.next ≤ 2 ^ levels_of self.now.sealer.key.height }
+        ensures ready { IsReady self.now }
+    {
+        count <= self.sealer.left() as u64
+    }
+
     /// The stamp of a client's last entry.
     pub fn last_stamp(&self, client: ClientId) -> Option<Stamp>
         ensures { result ≡ option_map (λ known. known.stamp) (known_in M.rules self.now.kept client.0) }
@@ -189,7 +202,8 @@ impl<M: Machine> Core<M> {
 
     /// Its stable place, above which orders are kept.
     pub fn stable(&self) -> Place
-        ensures { result.0 ≡ self.now.orders.base }
+        ensures place { result.0 ≡ self.now.orders.base }
+        ensures ready { IsReady self.now }
     {
         self.exec.base()
     }
@@ -243,7 +257,7 @@ impl<M: Machine> Core<M> {
     {
         let end = self.exec.end();
         Hole {
-            view: self.view(),
+            view: self.views.view(),
             from: Place(end.0 + 1),
             to: Place(end.0 + self.orders.gap(end).unwrap_or(1)),
         }

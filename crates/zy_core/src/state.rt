@@ -12,13 +12,14 @@ use std::alloc::Global;
 use std::marker::Model;
 use zy_admit::Admission;
 use zy_base::{Counts, Digest, Items, Machine, Mode, Place, ReplicaId, Stood, Timers, View, Want};
+use zy_change::ViewMachine;
 use zy_check::Checkpoints;
 use zy_exec::{Exec, nothing};
-use zy_parts::{Hole, Local, Signed, Spec};
+use zy_parts::{Hate, Hole, Local, Signed, Spec};
 use zy_seal::{Directory, Sealer};
-use zy_table::{Certificate, Pending};
+use zy_table::Pending;
 
-/// A replica's state: its keys, its view, its history with the machine at the end, the orders that it keeps, the
+/// A replica's state: its keys, what it keeps for changes of view, its history with the machine at the end, the orders that it keeps, the
 /// requests that wait, and what it has said.
 pub struct Core<M: Machine> {
     pub(crate) alloc: Global,
@@ -26,16 +27,15 @@ pub struct Core<M: Machine> {
     pub(crate) counts: Counts,
     pub(crate) directory: Directory,
     pub(crate) sealer: Sealer,
-    pub(crate) mode: Mode,
-    pub(crate) last_view: View,
+    pub(crate) views: ViewMachine,
     pub(crate) exec: Exec<M>,
     pub(crate) orders: Admission,
     pub(crate) board: Checkpoints,
     pub(crate) hole: Option<Signed<Hole>>,
     pub(crate) specs: Vec<Option<Signed<Spec>>>,
     pub(crate) pending: Vec<Option<Pending>>,
-    pub(crate) certificate: Option<Certificate>,
     pub(crate) locals: Items<Signed<Local>>,
+    pub(crate) hate: Option<Signed<Hate>>,
 }
 
 // What a replica holds is let go here. A derived drop would be written out again at each way out of a function.
@@ -47,16 +47,15 @@ impl<M: Machine> Drop for Core<M> {
             counts: _,
             directory: _,
             sealer: _,
-            mode: _,
-            last_view: _,
+            views: _,
             exec: _,
             orders: _,
             board: _,
             hole: _,
             specs: _,
             pending: _,
-            certificate: _,
             locals: _,
+            hate: _,
         } = self;
     }
 }
@@ -71,16 +70,15 @@ impl<M: Machine> Model for Core<M> {
       counts = r.counts;
       keys = r.directory;
       sealer = r.sealer;
-      mode = r.mode;
-      last_view = r.last_view;
+      views = r.views;
       kept = r.exec;
       orders = r.orders;
       board = r.board;
       hole = r.hole;
       specs = r.specs.items;
       pending = r.pending.items;
-      certificate = r.certificate;
       locals = r.locals;
+      hate = r.hate;
     } };
 
     ghost use Rattle.zy_core.specs.Ready.{IsReady};
@@ -90,16 +88,15 @@ impl<M: Machine> Model for Core<M> {
       counts = r.counts;
       keys = r.directory;
       sealer = r.sealer;
-      mode = r.mode;
-      last_view = r.last_view;
+      views = r.views;
       kept = r.exec;
       orders = r.orders;
       board = r.board;
       hole = r.hole;
       specs = r.specs.items;
       pending = r.pending.items;
-      certificate = r.certificate;
       locals = r.locals;
+      hate = r.hate;
     }) };
 }
 
@@ -134,13 +131,16 @@ impl<M: Machine> Core<M> {
         sealer: Sealer,
         directory: Directory,
     ) -> Result<Core<M>, Want>
+        requires me { me.0 < counts.n }
         requires signer { sealer.me ≡ parties.Replica me }
+        requires replicas { length directory.replicas ≤ counts.n }
         requires clients { length directory.clients ≤ 64 }
         requires least { 4 ≤ k }
         requires most { k ≤ 32 }
         ensures { IfOk result (λ r. r ≡ start_of M.rules k me counts directory sealer) }
     {
         let exec = Exec::start(alloc, M::empty(alloc)?, k)?;
+        let views = ViewMachine::start(alloc, counts, me, k)?;
         let board = Checkpoints::start(alloc, k, empty_digest(&exec));
         let specs = nothing(alloc)?;
         let pending = nothing(alloc)?;
@@ -150,31 +150,30 @@ impl<M: Machine> Core<M> {
             counts,
             directory,
             sealer,
-            mode: Mode::Active(View(0)),
-            last_view: View(0),
+            views,
             exec,
             orders: Admission::start(alloc),
             board,
             hole: None,
             specs,
             pending,
-            certificate: None,
             locals: Items::new(alloc),
+            hate: None,
         })
     }
 
     /// Whether it takes part in its view, and which that is.
     pub fn mode(&self) -> Mode
-        ensures { result ≡ self.now.mode }
+        ensures { result ≡ self.now.views.mode }
     {
-        self.mode
+        self.views.mode()
     }
 
     /// The last view in which it was active.
     pub fn last_view(&self) -> View
-        ensures { result ≡ self.now.last_view }
+        ensures { result ≡ self.now.views.last_view }
     {
-        self.last_view
+        self.views.last_view()
     }
 
     /// The place of the last entry of its history.
@@ -200,6 +199,13 @@ impl<M: Machine> Core<M> {
         self.sealer.next_leaf()
     }
 
+    /// Whether a request waits for its order.
+    pub fn has_pending(&self) -> bool
+        ensures { result ≡ list_any is_some self.now.pending }
+    {
+        some_wait(&self.pending)
+    }
+
     // Something is missing, or a request waits.
     fn waits(&self) -> bool
         ensures { result ≡ waits self.now }
@@ -211,7 +217,7 @@ impl<M: Machine> Core<M> {
     pub fn timers(&self) -> Timers
         ensures { result ≡ timers_of self.now }
     {
-        match self.mode {
+        match self.mode() {
             Mode::Active(_) => Timers {
                 request: self.waits(),
                 change: false,
@@ -247,7 +253,7 @@ impl<M: Machine> Core<M> {
         ensures { result ≡ stood_of M.rules self.now }
     {
         Stood {
-            mode: self.mode,
+            mode: self.mode(),
             length: self.exec.end(),
             head: self.exec.head(),
         }

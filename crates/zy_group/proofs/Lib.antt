@@ -1,1 +1,2 @@
 pub mod DifferentLemmas
+pub mod KeysLemmas

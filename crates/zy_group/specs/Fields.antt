@@ -1,5 +1,5 @@
 -- The fields of group and secret files: what a key of a table must hold.
-use Rattle.std.specs.Prelude.{ℕ, ℤ, pos, negsuc, ◌==◌, ◌&&◌, nat_le, nat_eq, if◌then◌else◌, List, [], ◌∷◌, ◌++◌, length, codes, Option, Some, None, option_and_then, Result, Ok, Err}
+use Rattle.std.specs.Prelude.{ℕ, ℤ, pos, negsuc, ◌==◌, ◌&&◌, ◌-◌, ◌^◌, nat_le, nat_eq, if◌then◌else◌, List, [], ◌∷◌, ◌++◌, length, codes, Option, Some, None, is_some, option_and_then, Result, Ok, Err}
 use Rattle.std.specs.List.{list_any}
 use Rattle.toml.specs.Data.{Data, Members, Items, no_items, item, get_member, as_integer, as_str, as_array}
 use Rattle.hex.specs.Hex.{decode_sized}
@@ -7,8 +7,10 @@ use Rattle.hex.specs.declared.error.FromHexError.{FromHexError}
 use Rattle.zy_ots.specs.declared.ots_type.OtsType.{OtsType}
 use Rattle.zy_ots.specs.declared.ots_type.OtsType.TheVariants.{W4}
 use Rattle.zy_ots.specs.OtsType.{type_with}
+use Rattle.zy_ots.specs.Coef as words
 use Rattle.zy_lms.specs.declared.height.Height.{Height}
 use Rattle.zy_lms.specs.declared.height.Height.TheVariants.{H5, H10}
+use Rattle.zy_lms.specs.Height.{height_with, levels_of}
 
 -- ---- numbers
 
@@ -72,3 +74,46 @@ ots_of (Some value) = option_and_then type_with (number_of 3 4 value)
 -- `ots`: the LM-OTS type's number, 3 or 4, and 3 where it is missing
 abbrev pub ots_at : Members → Option OtsType
 ots_at table = ots_of (get_member (codes "ots") table)
+
+-- ---- public keys
+
+-- an LMS public key whose types are spoken here (RFC 8554, section 5.3): four bytes tell its LMS type, four its LM-OTS type
+abbrev pub of_spoken_types : List ℕ → Option (List ℕ)
+of_spoken_types key =
+    if is_some (height_with (words.number_at key 0)) && is_some (type_with (words.number_at key 4)) then Some key else None
+
+abbrev pub key_of : Data → Option (List ℕ)
+key_of value = option_and_then (λ text. option_and_then of_spoken_types (decoded (decode_sized text 56))) (as_str value)
+
+-- those found before, and a key for each value
+unfoldable pub keys_from : List (List ℕ) → Items → Option (List (List ℕ))
+keys_from found no_items = Some found
+keys_from found (item value values) = option_and_then (λ key. keys_from (found ++ key ∷ []) values) (key_of value)
+
+abbrev pub so_many : ℕ → List (List ℕ) → Option (List (List ℕ))
+so_many count keys = if nat_eq (length keys) count then Some keys else None
+
+abbrev pub keys_in : ℕ → Data → Option (List (List ℕ))
+keys_in count value = option_and_then (λ values. option_and_then (so_many count) (keys_from [] values)) (as_array value)
+
+-- `keys`: so many of them
+abbrev pub keys_at : ℕ → Members → Option (List (List ℕ))
+keys_at count table = option_and_then (keys_in count) (get_member (codes "keys") table)
+
+-- ---- where a key and a client stand
+
+-- `ots`, which may not be missing
+abbrev pub told_ots_at : Members → Option OtsType
+told_ots_at table = option_and_then type_with (number_at 3 4 (codes "ots") table)
+
+-- `next`: the leaf that signs next, with so many left at least
+abbrev pub next_at : Height → ℕ → Members → Option ℕ
+next_at height left table = number_at 0 (2 ^ levels_of height - left) (codes "next") table
+
+abbrev pub number_or : ℕ → ℕ → ℕ → Option Data → Option ℕ
+number_or absent low high None = Some absent
+number_or absent low high (Some value) = number_of low high value
+
+-- `stamp`: the last one that was used, and 0 where it is missing
+abbrev pub stamp_at : Members → Option ℕ
+stamp_at table = number_or 0 0 (2 ^ 61) (get_member (codes "stamp") table)

@@ -1,2 +1,5 @@
 pub mod Fields
+pub mod Reading
 pub mod Replay
+pub mod Members
+pub mod Secret

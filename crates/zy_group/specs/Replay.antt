@@ -1,14 +1,9 @@
 -- What a replay is told of its group.
-use Rattle.std.specs.Prelude.{◌≡◌, ℕ, ◌-◌, ◌*◌, codes, Option, Some, None, Result, Ok, Err, ⊤}
+use Rattle.std.specs.Prelude.{ℕ, ◌-◌, ◌*◌, codes, Option, Result, Ok}
 use Rattle.toml.specs.Data.{Members}
 use Rattle.zy_group.specs.Fields.{number_at, numbers_at, bytes_at, height_at, ots_at}
-use Rattle.zy_group.specs.declared.fault.GroupFault as faults
+use Rattle.zy_group.specs.Reading.{field}
 use Rattle.zy_group.specs.declared.replay.ReplayGroup.{ReplayGroup}
-
--- the field with this number, and what stands behind it; where it fails, its number
-abbrev pub field : {A B : Type 0} → ℕ → Option A → (A → Result B ℕ) → Result B ℕ
-field number None behind = Err number
-field number (Some value) behind = behind value
 
 -- The fields in their order. There are 3f + 1 replicas.
 unfoldable pub replay_group : Members → Result ReplayGroup ℕ
@@ -26,15 +21,3 @@ replay_group table =
 -- and before them the text, which must be TOML
 abbrev pub text_group : Option Members → Result ReplayGroup ℕ
 text_group text = field 0 text replay_group
-
--- what was read, or the first field that fails, or want of memory
-abbrev pub IsRead : Result ReplayGroup ℕ → Result ReplayGroup faults.GroupFault → Type 0
-IsRead read (Ok group) = read ≡ Ok group
-IsRead read (Err (faults.TheVariants.Field number)) = read ≡ Err number
-IsRead read (Err faults.TheVariants.Want) = ⊤
-
--- the first field fails, or memory was wanted
-abbrev pub IsNoText : Result ReplayGroup faults.GroupFault → Type 0
-IsNoText (Ok group) = ⊥
-IsNoText (Err (faults.TheVariants.Field number)) = number ≡ 0
-IsNoText (Err faults.TheVariants.Want) = ⊤

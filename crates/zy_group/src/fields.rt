@@ -1,8 +1,9 @@
 // One reader for each kind of field.
-ghost use Rattle.std.specs.Prelude.{◌≡◌, [], IfOk, Some, option_map};
+ghost use Rattle.std.specs.Prelude.{◌≡◌, ◌≤◌, ◌^◌, [], IfOk, IfSome, Some, option_map};
 ghost use Rattle.toml.specs.Data.{get_member};
 ghost use Rattle.toml.specs.View.{view, array_view, table_view};
-ghost use Rattle.zy_group.specs.Fields.{number_of, number_at, different_from, numbers_at, text_at, bytes_at, height_at, ots_at};
+ghost use Rattle.zy_group.specs.Fields.{number_of, number_at, different_from, numbers_at, text_at, bytes_at, height_at, ots_at, of_spoken_types, key_of, keys_from, so_many, keys_in, keys_at, told_ots_at, next_at, number_or, stamp_at};
+ghost use Rattle.zy_lms.specs.Height.{levels_of};
 
 use crate::Numbers;
 use hex::FromHex;
@@ -11,18 +12,27 @@ use toml::value::Array;
 use toml::{Table, Value};
 use zy_base::Want;
 use zy_lms::Height;
-use zy_ots::OtsType;
+use zy_ots::{OtsType, u32_at};
 
 /// The integer, if it is from `low` to `high`.
-fn number_of(value: &Value, low: u8, high: u8) -> Option<u8>
-    ensures { result ≡ number_of low high (view value.now) }
+fn long_of(value: &Value, low: u64, high: u64) -> Option<u64>
+    ensures is { result ≡ number_of low high (view value.now) }
+    ensures most { IfSome result (λ number. number ≤ high) }
 {
-    let number = value.as_integer()?;
-    if i64::from(low) <= number && number <= i64::from(high) {
-        u8::try_from(number).ok()
+    let number = u64::try_from(value.as_integer()?).ok()?;
+    if low <= number && number <= high {
+        Some(number)
     } else {
         None
     }
+}
+
+/// The same where it is short.
+fn number_of(value: &Value, low: u8, high: u8) -> Option<u8>
+    ensures { result ≡ number_of low high (view value.now) }
+{
+    let number = long_of(value, u64::from(low), u64::from(high))?;
+    Some(number as u8)
 }
 
 /// The value under the key, if there is one.
@@ -38,6 +48,17 @@ pub(crate) fn number_at(table: &Table, key: &str, low: u8, high: u8) -> Option<u
 {
     match value_at(table, key) {
         Some(value) => number_of(value, low, high),
+        None => None,
+    }
+}
+
+/// The same where it may be longer.
+pub(crate) fn long_at(table: &Table, key: &str, low: u64, high: u64) -> Option<u64>
+    ensures is { result ≡ number_at low high key.now (table_view table.now) }
+    ensures most { IfSome result (λ number. number ≤ high) }
+{
+    match value_at(table, key) {
+        Some(value) => long_of(value, low, high),
         None => None,
     }
 }
@@ -85,12 +106,20 @@ pub(crate) fn numbers_at(
     Ok(Some(numbers))
 }
 
-/// The bytes of a text of hexadecimal digits under the key.
+/// 32 bytes as a text of hexadecimal digits under the key.
 pub(crate) fn seed_at(table: &Table, key: &str) -> Option<[u8; 32]>
     ensures { result ≡ bytes_at 32 key.now (table_view table.now) }
 {
     let text = text_at(table, key)?;
     <[u8; 32] as FromHex>::from_hex(text).ok()
+}
+
+/// 16 bytes as a text of hexadecimal digits under the key.
+pub(crate) fn id_at(table: &Table, key: &str) -> Option<[u8; 16]>
+    ensures { result ≡ bytes_at 16 key.now (table_view table.now) }
+{
+    let text = text_at(table, key)?;
+    <[u8; 16] as FromHex>::from_hex(text).ok()
 }
 
 /// The text under the key.
@@ -124,5 +153,96 @@ pub(crate) fn ots_at(table: &Table) -> Option<OtsType>
             Some(number) => OtsType::from_number(u32::from(number)),
             None => None,
         },
+    }
+}
+
+/// The same, which may not be missing.
+pub(crate) fn told_ots_at(table: &Table) -> Option<OtsType>
+    ensures { result ≡ told_ots_at (table_view table.now) }
+{
+    match number_at(table, "ots", 3, 4) {
+        Some(number) => OtsType::from_number(u32::from(number)),
+        None => None,
+    }
+}
+
+// ---- public keys
+
+/// The key, if its LMS type and its LM-OTS type are spoken here.
+fn of_spoken_types(key: [u8; 56]) -> Option<[u8; 56]>
+    ensures { result ≡ of_spoken_types key }
+{
+    Height::from_number(u32_at(&key, 0))?;
+    OtsType::from_number(u32_at(&key, 4))?;
+    Some(key)
+}
+
+/// The public key in a text of 112 hexadecimal digits.
+fn key_of(value: &Value) -> Option<[u8; 56]>
+    ensures { result ≡ key_of (view value.now) }
+{
+    let text = value.as_str()?;
+    let key = <[u8; 56] as FromHex>::from_hex(text).ok()?;
+    of_spoken_types(key)
+}
+
+/// A public key for each value.
+fn keys_from(alloc: Global, array: &Array) -> Result<Option<Vec<[u8; 56]>>, Want>
+    ensures { IfOk result (λ keys. option_map (λ keys. keys.items) keys ≡ keys_from [] (array_view array.now)) }
+{
+    let mut keys = Vec::new(alloc);
+    'values: for value in array {
+        match key_of(value) {
+            Some(key) => keys.push(key)?,
+            None => return Ok(None),
+        }
+    }
+    Ok(Some(keys))
+}
+
+/// So many public keys under `keys`.
+pub(crate) fn keys_at(
+    alloc: Global,
+    table: &Table,
+    count: usize,
+) -> Result<Option<Vec<[u8; 56]>>, Want>
+    ensures { IfOk result (λ keys. option_map (λ keys. keys.items) keys ≡ keys_at count (table_view table.now)) }
+{
+    let Some(value) = value_at(table, "keys") else {
+        return Ok(None);
+    };
+    let Some(array) = value.as_array() else {
+        return Ok(None);
+    };
+    let Some(keys) = keys_from(alloc, array)? else {
+        return Ok(None);
+    };
+    if keys.len() != count {
+        return Ok(None);
+    }
+    Ok(Some(keys))
+}
+
+// ---- where a key and a client stand
+
+/// The leaf that signs next, under `next`: at least so many are left.
+pub(crate) fn next_at(table: &Table, height: Height, left: u32) -> Option<u32>
+    requires { left ≤ 1 }
+    ensures is { result ≡ next_at height left (table_view table.now) }
+    ensures most { IfSome result (λ next. next ≤ 2 ^ levels_of height) }
+{
+    let last = height.leaf_count() - left;
+    let next = long_at(table, "next", 0, u64::from(last))?;
+    Some(next as u32)
+}
+
+/// The last stamp that was used, under `stamp`, and 0 where it is missing.
+pub(crate) fn stamp_at(table: &Table) -> Option<u64>
+    ensures is { result ≡ stamp_at (table_view table.now) }
+    ensures most { IfSome result (λ stamp. stamp ≤ 2 ^ 61) }
+{
+    match value_at(table, "stamp") {
+        None => Some(0),
+        Some(value) => long_of(value, 0, 1 << 61),
     }
 }

@@ -1,9 +1,11 @@
 ghost use Rattle.std.specs.Prelude.{◌≡◌, IsUtf8};
 ghost use Rattle.toml.specs.Parse.{parse_document};
 ghost use Rattle.toml.specs.View.{table_view};
-ghost use Rattle.zy_group.specs.Replay.{replay_group, text_group, IsRead, IsNoText};
+ghost use Rattle.zy_group.specs.Replay.{replay_group, text_group};
+ghost use Rattle.zy_group.specs.Reading.{IsRead, IsNoText};
 
 use crate::fields::{height_at, number_at, numbers_at, ots_at, seed_at};
+use crate::text::table_of;
 use crate::{GroupFault, Numbers};
 use std::alloc::Global;
 use toml::Table;
@@ -35,17 +37,11 @@ pub struct ReplayGroup {
 /// 5 `lying_clients`, 6 `seed`, 7 `height`, 8 `ots`. Other keys are left aside.
 pub fn read_replay_group(alloc: Global, text: &[u8]) -> Result<ReplayGroup, GroupFault>
     ensures read { IsUtf8 text.now → IsRead (text_group (parse_document text.now)) result }
-    ensures no_text { ¬ IsUtf8 text.now → IsNoText result }
+    ensures no_text { ¬ IsUtf8 text.now → IsNoText 0 result }
 {
-    match toml::table_from_slice(alloc, text) {
+    match table_of(alloc, text, 0) {
         Ok(table) => judged(alloc, &table),
-        Err(fault) => {
-            if fault.is_memory() {
-                Err(GroupFault::Want)
-            } else {
-                Err(GroupFault::Field(0))
-            }
-        }
+        Err(fault) => Err(fault),
     }
 }
 

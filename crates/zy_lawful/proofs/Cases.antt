@@ -23,6 +23,7 @@ use Rattle.zy_cert.specs.Certificates.{IsCertificate, certified}
 use Rattle.zy_cert.specs.Equal.{same_spec, spec-equal, digest-equal}
 use Rattle.zy_cert.specs.Points.{point_of_spec}
 use Rattle.zy_cert.specs.Signers.{has_signer}
+use Rattle.zy_change.specs.declared.kept.Certificate.{Certificate}
 use Rattle.zy_check.proofs.JudgingLemmas.{spec-new, check-new}
 use Rattle.zy_check.specs.Board as put_in
 use Rattle.zy_check.specs.Board.{Board, specs_at, checks_at}
@@ -70,7 +71,6 @@ use Rattle.zy_table.specs.declared.deeds.Body.TheVariants as bodies
 use Rattle.zy_lawful.proofs.Committed.{IsFurthest, by_certificate, holding}
 use Rattle.zy_lawful.proofs.Own.{by_test}
 use Rattle.zy_table.specs.declared.deeds.Sent.{Sent}
-use Rattle.zy_table.specs.declared.kept.Certificate.{Certificate}
 use Rattle.zy_table.specs.declared.kept.OwnCheckpoint.{OwnCheckpoint}
 use Rattle.zy_table.specs.declared.kept.Pending.{Pending}
 use Rattle.zy_base.specs.declared.cause.Cause.TheVariants as causes
@@ -150,7 +150,7 @@ pub record Cases {S : Type 0} (R : Rules S) (s : State S) (Heard : Frame → Typ
   pub asks : (o : OrderFrame) → Heard (frames.Order o) → HasLeaves s 1 → P (ends Held (ask_for_missing R (with_held s o)))
   pub holds : (o : OrderFrame) → Heard (frames.Order o) → P (ends Held (begin (with_held s o)))
   pub commits : (specs : List (Signed Spec)) (client : ClientId) (local : Local) (said : Option (Signed Local)) (held : Option Certificate) → Heard (frames.Commit specs) → IsOwnCommit s specs local
-      → IsFurthest local.place specs s.certificate held → HasLeaves s (locals_owed said + checks_owed (holding s held) (own_at R s local.place.0) true)
+      → IsFurthest local.place specs s.views.specs held → HasLeaves s (locals_owed said + checks_owed (holding s held) (own_at R s local.place.0) true)
       → P (ends Taken (gather_at R (own_at R s local.place.0) true (give_local R client local said (holding s held))))
   pub keeps : (board : Board) → IsPut s Heard board → P (ends Held (begin (with_board s board)))
   pub gathers : (place : ℕ) (board : Board) → IsPut s Heard board → HasLeaves s (checks_owed (with_board s board) (own_at R s place) false)
@@ -323,7 +323,7 @@ module _ {S : Type 0} (R : Rules S) (s : State S) (Heard : Frame → Type 0) (P 
   ask_again_case (Leaving view) hole = of.stays []
 
   timer_case : (kind : TimerKind) → P (timer s kind)
-  timer_case timers.Request = ask_again_case s.mode s.hole
+  timer_case timers.Request = ask_again_case s.views.mode s.hole
   timer_case timers.Change = of.stays []
   timer_case timers.Answer = of.stays []
 

@@ -5,6 +5,8 @@ use Rattle.zy_base.specs.declared.ids.Digest.{Digest}
 use Rattle.zy_base.specs.declared.ids.Place.{Place}
 use Rattle.zy_chain.specs.declared.entry.Entry.{Entry}
 use Rattle.zy_chain.specs.Stretch.{Mark}
+use Rattle.zy_change.specs.Views.{is_further}
+use Rattle.zy_change.specs.declared.kept.Certificate.{Certificate}
 use Rattle.zy_law.proofs.GrownLemmas.{certified_grown, with_last-kept}
 use Rattle.zy_law.specs.Fixed.{IsCertified}
 use Rattle.zy_law.specs.Lawful.{IsVote}
@@ -16,9 +18,8 @@ use Rattle.zy_lawful.proofs.Own.{by_test}
 use Rattle.zy_lawful.specs.Tied.{IsBackedIn, IsHeldFrom, IsCommitted}
 use Rattle.zy_parts.specs.declared.signed.Signed.{Signed}
 use Rattle.zy_parts.specs.declared.statements.Spec.{Spec}
-use Rattle.zy_table.specs.Gathering.{is_further, with_certificate}
+use Rattle.zy_table.specs.Gathering.{with_certificate}
 use Rattle.zy_table.specs.State.{State}
-use Rattle.zy_table.specs.declared.kept.Certificate.{Certificate}
 
 module _ (w : World) (asked : ℕ → List Entry) (said : ℕ → List Spoken) (past : ℕ → List Stand) (kept : Digest → Entry → Bool)
     (asks : (q : ℕ) (e : Entry) → Contains (w.asked q) e → Contains (asked q) e)
@@ -59,7 +60,7 @@ certified_said w r y view m is =
 
 -- another certificate is held
 abbrev pub holding : {S : Type 0} → State S → Option Certificate → State S
-holding s held = record s { certificate = held }
+holding s held = record s { views = record s.views { specs = held } }
 
 -- the certificate that is held then: the one that came, where it is the first or further, or the one before
 pub data IsFurthest (place : Place) (specs : List (Signed Spec)) (before held : Option Certificate) : Type 0 where
@@ -99,9 +100,9 @@ not_further place None is = absurd cc
 not_further place (Some kept) is = record { certificate = kept; is = refl; far = ltb-false kept.place.0 place.0 is }
 
 -- what holds whichever certificate is held then
-pub by_certificate : {S : Type 0} (s : State S) (Q : State S → Type 0) (place : Place) (specs : List (Signed Spec)) → ((held : Option Certificate) → IsFurthest place specs s.certificate held → Q (holding s held))
+pub by_certificate : {S : Type 0} (s : State S) (Q : State S → Type 0) (place : Place) (specs : List (Signed Spec)) → ((held : Option Certificate) → IsFurthest place specs s.views.specs held → Q (holding s held))
     → Q (with_certificate s place specs)
 by_certificate s Q place specs holds =
-    by_test Q (is_further place s.certificate) _ _
-    (λ is. holds (Some (record { place = place; specs = specs })) (IsFurthest.came refl (further place s.certificate is)))
-    (λ is. holds s.certificate (IsFurthest.stays refl (not_further place s.certificate is)))
+    by_test Q (is_further place s.views.specs) _ _
+    (λ is. holds (Some (record { place = place; specs = specs })) (IsFurthest.came refl (further place s.views.specs is)))
+    (λ is. holds s.views.specs (IsFurthest.stays refl (not_further place s.views.specs is)))

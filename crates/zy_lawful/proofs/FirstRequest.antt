@@ -29,7 +29,7 @@ module _ {S : Type 0} (R : Rules S) (interval : ℕ) (me : ReplicaId) (counts : 
   begins = start_of R interval me counts keys sealer
 
   abbrev acts : Outcome S → List law.Act
-  acts o = law_acts 0 0 [] o.deeds.acts
+  acts o = law_acts me.0 0 0 [] o.deeds.acts
 
   nobody : (client : ℕ) → known_in R begins.kept client ≡ None
   unfolding along

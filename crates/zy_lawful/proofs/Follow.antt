@@ -7,6 +7,8 @@ use Rattle.zy_base.specs.Machine.{Rules}
 use Rattle.zy_base.specs.declared.ids.Digest.{Digest}
 use Rattle.zy_base.specs.declared.ids.Place.{Place}
 use Rattle.zy_chain.specs.declared.entry.Entry.{Entry}
+use Rattle.zy_change.specs.Views.{is_further}
+use Rattle.zy_change.specs.declared.kept.Certificate.{Certificate}
 use Rattle.zy_exec.proofs.ReplayLemmas.{place-along}
 use Rattle.zy_exec.proofs.SettleLemmas.{stands_settled}
 use Rattle.zy_exec.specs.Kept.{Kept, StandsFor, last_place, settled}
@@ -20,11 +22,10 @@ use Rattle.zy_parts.specs.declared.statements.Check.{Check}
 use Rattle.zy_parts.specs.declared.statements.Order.{Order}
 use Rattle.zy_parts.specs.declared.statements.Spec.{Spec}
 use Rattle.zy_table.specs.Deeds.{Going, send}
-use Rattle.zy_table.specs.Gathering.{is_further, keep_certificate, certificate_at, owes_check, say_check, say_check_if, settled_at, settle_with, proof_at, gather, gather_at, own_with, with_own_spec, state_in}
+use Rattle.zy_table.specs.Gathering.{keep_certificate, certificate_at, owes_check, say_check, say_check_if, settled_at, settle_with, proof_at, gather, gather_at, own_with, with_own_spec, state_in}
 use Rattle.zy_table.specs.Running.{executed, next_known, respond, run_one, sealed_spec, share, spec_of}
 use Rattle.zy_table.specs.State.{State, own_view}
 use Rattle.zy_table.specs.declared.deeds.To.{To}
-use Rattle.zy_table.specs.declared.kept.Certificate.{Certificate}
 use Rattle.zy_table.specs.declared.kept.OwnCheckpoint.{OwnCheckpoint}
 
 -- with another state
@@ -41,9 +42,9 @@ pub record Keeps {S : Type 0} (R : Rules S) (P : Going S → Type 0) : Type 0 wh
 
 -- what holds whichever certificate is held
 pub any_held : {S : Type 0} (s : State S) (place : Place) (specs : Option (List (Signed Spec))) (Q : State S → Type 0) → ((held : Option Certificate) → Q (holding s held)) → Q (keep_certificate place specs s)
-any_held s place None Q holds = holds s.certificate
+any_held s place None Q holds = holds s.views.specs
 any_held s place (Some specs) Q holds =
-    by_test Q (is_further place s.certificate) _ _ (λ further. holds (Some (record { place = place; specs = specs }))) (λ near. holds s.certificate)
+    by_test Q (is_further place s.views.specs) _ _ (λ further. holds (Some (record { place = place; specs = specs }))) (λ near. holds s.views.specs)
 
 module _ {S : Type 0} (R : Rules S) (P : Going S → Type 0) (keeps : Keeps R P) where
   held_by : (g : Going S) (place : Place) (specs : Option (List (Signed Spec))) → P g → P (in_state g (keep_certificate place specs g.state))

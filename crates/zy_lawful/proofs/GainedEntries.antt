@@ -8,6 +8,7 @@ use Rattle.zy_base.specs.Machine.{Rules}
 use Rattle.zy_base.specs.declared.ids.ClientId.{ClientId}
 use Rattle.zy_base.specs.declared.step.Event.{Event}
 use Rattle.zy_base.specs.declared.step.Event.TheVariants.{Heard, Timer}
+use Rattle.zy_change.specs.declared.kept.Certificate.{Certificate}
 use Rattle.zy_exec.specs.Kept.{last_place}
 use Rattle.zy_frames.specs.declared.frame.OrderFrame.{OrderFrame}
 use Rattle.zy_law.specs.World.{World}
@@ -31,7 +32,6 @@ use Rattle.zy_table.specs.declared.deeds.Act.{Act}
 use Rattle.zy_table.specs.declared.deeds.Act.TheVariants.{Says, Gains}
 use Rattle.zy_table.specs.declared.deeds.Remark.{Remark}
 use Rattle.zy_table.specs.declared.deeds.Got.{Got}
-use Rattle.zy_table.specs.declared.kept.Certificate.{Certificate}
 
 module _ {S : Type 0} (R : Rules S) (w : World) where
   abbrev AreGained : List Act → Type 0

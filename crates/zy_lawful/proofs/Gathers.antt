@@ -13,13 +13,14 @@ use Rattle.zy_cert.proofs.CertificateLemmas.{certified-found}
 use Rattle.zy_cert.specs.Certificates.{IsCertificate}
 use Rattle.zy_cert.specs.Equal.{same_spec, spec-equal, same_check, check-equal}
 use Rattle.zy_cert.specs.Points.{point_of_spec}
+use Rattle.zy_change.specs.declared.kept.Certificate.{Certificate}
 use Rattle.zy_check.specs.Board.{specs_at, checks_at}
 use Rattle.zy_exec.proofs.SettleLemmas.{stands_settled}
 use Rattle.zy_exec.specs.Kept.{last_place}
 use Rattle.zy_law.specs.Fixed.{IsCertified}
 use Rattle.zy_law.specs.Said.{IsBacked}
 use Rattle.zy_law.specs.World.{Answer, Spoken, Statement, World}
-use Rattle.zy_lawful.specs.Acts.{statement_of}
+use Rattle.zy_lawful.specs.Acts.{statement_by, spec_statement}
 use Rattle.zy_lawful.specs.Tied.{IsBackedIn, IsCheckpointOf, IsCheckVouched, IsCommitted, IsHeldFrom, IsProven, IsResponseVouched, IsVouchedBy}
 use Rattle.zy_lawful.proofs.Backing.{all_listed, signed_backed}
 use Rattle.zy_lawful.proofs.Committed.{holding, committed_further, from_came, from_further, by_certificate}
@@ -39,7 +40,6 @@ use Rattle.zy_table.specs.State.{State, own_view, stood_of}
 use Rattle.zy_table.specs.declared.deeds.Act.TheVariants.{Says}
 use Rattle.zy_table.specs.declared.deeds.Body.TheVariants as bodies
 use Rattle.zy_table.specs.declared.deeds.Remark.{Remark}
-use Rattle.zy_table.specs.declared.kept.Certificate.{Certificate}
 
 -- the place and the head that a response tells
 abbrev pub mark_in : Spec → Mark
@@ -55,7 +55,7 @@ module _ {S : Type 0} (R : Rules S) (w : World) (r view number : ℕ) (h : List 
 
   -- a certificate for the place is there, and one as far is held
   abbrev Covered : (g : Going S) → Gone g → Spec → Type 0
-  Covered g t spec = IsHeldFrom g.state.certificate spec.place.0 × IsCertified t.going.world (own_view g.state) (mark_in spec)
+  Covered g t spec = IsHeldFrom g.state.views.specs spec.place.0 × IsCertified t.going.world (own_view g.state) (mark_in spec)
 
   -- ---- a stable place
 
@@ -98,11 +98,11 @@ module _ {S : Type 0} (R : Rules S) (w : World) (r view number : ℕ) (h : List 
       let signed : Signed Check = sealed_by numbers.check check_fields s.sealer check in
       let tells : IsCheckpointOf R going.now check = own_checkpoint R (own_view s) s.kept going.now spec state going.standing.stands own in
       let certified : IsCertified going.world spec.view.0 (mark_in spec) = subst (λ (v : ℕ). IsCertified going.world v (mark_in spec)) (sym own.view_is) covered.1 in
-      let y : Spoken = record { what = statement_of remark.body; when = going.at } in
+      let y : Spoken = record { what = statement_by r remark.body; when = going.at } in
       let said : IsTiedGoing R w r view number h (g.deeds.acts ++ Says remark ∷ []) s =
       tied_said R w r view number h g.deeds.acts s t remark
       (may_check R going.world r s going.now going.lawful going.agrees going.correct going.standing spec.view.0 (mark_in spec) state own.view_is tells.within tells.head tells.state certified)
-      (λ v report same. absurd cc) (λ m request same. absurd cc) (λ m vote. subst (λ (j : Mark). IsHeldFrom s.certificate j.place) vote.1 covered.0) in
+      (λ v report same. absurd cc) (λ m request same. absurd cc) (λ m vote. subst (λ (j : Mark). IsHeldFrom s.views.specs j.place) vote.1 covered.0) in
       tied_as R w r view number h (g.deeds.acts ++ Says remark ∷ []) s (say_check R check g).state said refl refl refl refl said.going.standing.stands said.going.standing.asks said.committed
       (after_check_tied R said.going.world going.now s.board signed (Some check) said.board (own_vouched going.world r y signed.by s.me going.correct going.standing.signer going.standing.me))
 
@@ -130,14 +130,14 @@ module _ {S : Type 0} (R : Rules S) (w : World) (r view number : ℕ) (h : List 
         let round = at_place (IsResponseVouched world) (IsCheckVouched world) s.board spec.place.0 (counted R world t.going.now s.board t.board) in
         let first : AreFirst same_spec spec-equal (IsResponseVouched world) s.counts.cert spec specs =
         are_first same_spec spec-equal (IsResponseVouched world) s.counts.cert spec (specs_at s.board spec.place.0) specs round.specs_rise round.specs is in
-        let told : Statement = statement_of (bodies.Spec spec) in
+        let told : Statement = spec_statement spec in
         let many : length specs ≡ world.counts.cert = first.many ∙ ap (λ (c : Counts). c.cert) t.going.standing.counts in
         let sound = world.counts.sound in
         let some : 0 < world.counts.cert = omega (arith, sound.two_certificates) in
         let point : View × Place × Digest = (spec.view, spec.place, spec.head) in
         let certificate : IsCertificate point_of_spec world.counts.cert specs point = record { stmt = spec; located = refl; len = many; different = first.different; equal = first.all_equal } in
         let each : All (λ (vote : Signed Spec). IsVouchedBy world told vote.by) specs =
-        λ k d small. subst (λ (x : Spec). x.client.0 < 64 → IsVouchedBy world (statement_of (bodies.Spec x)) (get_or specs k d).by) (first.all_equal k d small) (first.vouched k d small) own.client in
+        λ k d small. subst (λ (x : Spec). x.client.0 < 64 → IsVouchedBy world (spec_statement x) (get_or specs k d).by) (first.all_equal k d small) (first.vouched k d small) own.client in
         let backed : IsBacked world world.counts.cert told = signed_backed world told world.counts.cert specs many first.different (all_listed (λ (vote : Signed Spec). IsVouchedBy world told vote.by) specs each) in
         let answer : Answer = record { client = spec.client.0; stamp = spec.stamp.0; reply = spec.reply } in
         let here : IsCertified world (own_view s) (mark_in spec) =
@@ -154,16 +154,16 @@ module _ {S : Type 0} (R : Rules S) (w : World) (r view number : ℕ) (h : List 
     -- what holds whichever certificate is held then
     by_kept : (Q : State S → Type 0)
         → ((held : Option Certificate) → IsCommitted world r (own_view s) held
-        → (is_some (certificate_at s spec) ≡ true → IsHeldFrom held spec.place.0 × IsCertified world (own_view s) (mark_in spec)) → ((at : ℕ) → IsHeldFrom s.certificate at → IsHeldFrom held at)
+        → (is_some (certificate_at s spec) ≡ true → IsHeldFrom held spec.place.0 × IsCertified world (own_view s) (mark_in spec)) → ((at : ℕ) → IsHeldFrom s.views.specs at → IsHeldFrom held at)
         → Q (holding s held))
         → (specs : Option (List (Signed Spec))) → certificate_at s spec ≡ specs → Q (keep_certificate spec.place specs s)
     by_kept Q holds None is =
-        holds s.certificate t.committed (λ some. let none : is_some (certificate_at s spec) ≡ false = ap is_some is in absurd cc) (λ at from. from)
+        holds s.views.specs t.committed (λ some. let none : is_some (certificate_at s spec) ≡ false = ap is_some is in absurd cc) (λ at from. from)
     by_kept Q holds (Some specs) is =
         let both = kept_backed specs is in
         by_certificate s Q spec.place specs (λ held furthest.
-        holds held (committed_further world r (own_view s) spec.place specs s.certificate held furthest both.0 t.committed)
-        (λ some. (from_came spec.place specs s.certificate held furthest, both.1)) (from_further spec.place specs s.certificate held furthest))
+        holds held (committed_further world r (own_view s) spec.place specs s.views.specs held furthest both.0 t.committed)
+        (λ some. (from_came spec.place specs s.views.specs held furthest, both.1)) (from_further spec.place specs s.views.specs held furthest))
 
     -- all of it; a certificate that was brought is held
     pub gathers : (brought : Bool) → (brought ≡ true → Covered g t spec) → Gone (gather R (own_with spec state) brought g)

@@ -29,12 +29,12 @@ number_after number [] = number
 number_after number (Says remark ∷ acts) = number_after number acts
 number_after number (Gains got ∷ acts) = number_after (number + 1) acts
 
-law_acts-append : (view number : ℕ) (h : List Entry) (xs ys : List Act)
-    → law_acts view number h (xs ++ ys) ≡ law_acts view number h xs ++ law_acts view (number_after number xs) (history_after h xs) ys
+law_acts-append : (r view number : ℕ) (h : List Entry) (xs ys : List Act)
+    → law_acts r view number h (xs ++ ys) ≡ law_acts r view number h xs ++ law_acts r view (number_after number xs) (history_after h xs) ys
 unfolding number_after
-law_acts-append view number h [] ys = refl
-law_acts-append view number h (Says remark ∷ xs) ys = ap (λ (l : List law.Act). Say (spoken_at number remark) ∷ l) (law_acts-append view number h xs ys)
-law_acts-append view number h (Gains got ∷ xs) ys = ap (λ (l : List law.Act). Move (stand_with view h got) ∷ l) (law_acts-append view (number + 1) (h ++ got.entry ∷ []) xs ys)
+law_acts-append r view number h [] ys = refl
+law_acts-append r view number h (Says remark ∷ xs) ys = ap (λ (l : List law.Act). Say (spoken_at r number remark) ∷ l) (law_acts-append r view number h xs ys)
+law_acts-append r view number h (Gains got ∷ xs) ys = ap (λ (l : List law.Act). Move (stand_with view h got) ∷ l) (law_acts-append r view (number + 1) (h ++ got.entry ∷ []) xs ys)
 
 history_after-append : (h : List Entry) (xs ys : List Act) → history_after h (xs ++ ys) ≡ history_after (history_after h xs) ys
 history_after-append h [] ys = refl
@@ -51,8 +51,8 @@ number_after-append number (Gains got ∷ xs) ys = number_after-append (number +
 
 -- The acts so far are allowed, and lead to a world, a number of its last stand, and a history.
 pub record LeadTo (w : World) (r view number : ℕ) (h : List Entry) (acts : List Act) (v : World) (at : ℕ) (now : List Entry) : Type 0 where
-  pub may : AllMay w r (law_acts view number h acts)
-  pub world : after_acts w r (law_acts view number h acts) ≡ v
+  pub may : AllMay w r (law_acts r view number h acts)
+  pub world : after_acts w r (law_acts r view number h acts) ≡ v
   pub number_is : number_after number acts ≡ at
   pub history : history_after h acts ≡ now
 
@@ -61,26 +61,26 @@ unfolding number_after
 lead_nowhere w r view number h = record { may = tt; world = refl; number_is = refl; history = refl }
 
 lead_on : (w : World) (r view number : ℕ) (h : List Entry) (acts more : List Act) (v : World) (at : ℕ) (now : List Entry) → LeadTo w r view number h acts v at now
-    → AllMay v r (law_acts view at now more)
-    → LeadTo w r view number h (acts ++ more) (after_acts v r (law_acts view at now more)) (number_after at more) (history_after now more)
+    → AllMay v r (law_acts r view at now more)
+    → LeadTo w r view number h (acts ++ more) (after_acts v r (law_acts r view at now more)) (number_after at more) (history_after now more)
 lead_on w r view number h acts more v at now lead may =
-    let rest : List law.Act = law_acts view at now more in
-    let all : law_acts view number h (acts ++ more) ≡ law_acts view number h acts ++ rest =
-    law_acts-append view number h acts more
-    ∙ ap (λ (n : ℕ). law_acts view number h acts ++ law_acts view n (history_after h acts) more) lead.number_is
-    ∙ ap (λ (l : List Entry). law_acts view number h acts ++ law_acts view at l more) lead.history in
+    let rest : List law.Act = law_acts r view at now more in
+    let all : law_acts r view number h (acts ++ more) ≡ law_acts r view number h acts ++ rest =
+    law_acts-append r view number h acts more
+    ∙ ap (λ (n : ℕ). law_acts r view number h acts ++ law_acts r view n (history_after h acts) more) lead.number_is
+    ∙ ap (λ (l : List Entry). law_acts r view number h acts ++ law_acts r view at l more) lead.history in
     record {
       may = subst (λ (l : List law.Act). AllMay w r l) (sym all)
-          (AllMay-append w r (law_acts view number h acts) rest lead.may (subst (λ (u : World). AllMay u r rest) (sym lead.world) may));
-      world = ap (after_acts w r) all ∙ after_acts-append w r (law_acts view number h acts) rest ∙ ap (λ (u : World). after_acts u r rest) lead.world;
+          (AllMay-append w r (law_acts r view number h acts) rest lead.may (subst (λ (u : World). AllMay u r rest) (sym lead.world) may));
+      world = ap (after_acts w r) all ∙ after_acts-append w r (law_acts r view number h acts) rest ∙ ap (λ (u : World). after_acts u r rest) lead.world;
       number_is = number_after-append number acts more ∙ ap (λ (n : ℕ). number_after n more) lead.number_is;
       history = history_after-append h acts more ∙ ap (λ (l : List Entry). history_after l more) lead.history;
     }
 
 -- one statement more, and one entry more
 pub lead_saying : (w : World) (r view number : ℕ) (h : List Entry) (acts : List Act) (remark : Remark) (v : World) (at : ℕ) (now : List Entry) → LeadTo w r view number h acts v at now
-    → MaySay v r (spoken_at at remark)
-    → LeadTo w r view number h (acts ++ Says remark ∷ []) (after_saying v r (spoken_at at remark)) at now
+    → MaySay v r (spoken_at r at remark)
+    → LeadTo w r view number h (acts ++ Says remark ∷ []) (after_saying v r (spoken_at r at remark)) at now
 unfolding number_after
 lead_saying w r view number h acts remark v at now lead may = lead_on w r view number h acts (Says remark ∷ []) v at now lead (may, tt)
 

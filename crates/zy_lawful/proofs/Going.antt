@@ -18,7 +18,7 @@ use Rattle.zy_law.specs.Steps.{MaySay, MayStand, after_saying, after_standing}
 use Rattle.zy_law.specs.World.{Spoken, Stand, World}
 use Rattle.zy_law.specs.World.Statement.{Order, Change}
 use Rattle.zy_law.proofs.StepsLawful.{saying_lawful, standing_lawful}
-use Rattle.zy_lawful.specs.Acts.{statement_of}
+use Rattle.zy_lawful.specs.Acts.{statement_by}
 use Rattle.zy_lawful.specs.Tied.{Agrees, MayRun, MaySlotRun, IsStanding, AreOrdersUpTo, IsCommitted, IsHeldFrom, IsBoardTied}
 use Rattle.zy_lawful.proofs.Committed.{committed_said}
 use Rattle.zy_lawful.proofs.Goes.{LeadTo, lead_saying, lead_moving}
@@ -73,7 +73,7 @@ pub record IsGoing {S : Type 0} (R : Rules S) (w : World) (r view number : ℕ) 
 pub record IsTiedGoing {S : Type 0} (R : Rules S) (w : World) (r view number : ℕ) (h : List Entry) (acts : List Act) (s : State S) : Type 0 where
   pub going : IsGoing R w r view number h acts s
   pub ordered : AreOrdersUpTo going.world r (own_view s) (length going.now)
-  pub committed : IsCommitted going.world r (own_view s) s.certificate
+  pub committed : IsCommitted going.world r (own_view s) s.views.specs
   pub board : IsBoardTied R going.world going.now s.board
 
 module _ {S : Type 0} (R : Rules S) (w : World) (r view number : ℕ) (h : List Entry) where
@@ -84,7 +84,7 @@ module _ {S : Type 0} (R : Rules S) (w : World) (r view number : ℕ) (h : List 
   GoesTied acts s = IsTiedGoing R w r view number h acts s
 
   -- with other things in its state
-  unfoldable pub going_as : (acts : List Act) (s s' : State S) (g : Goes acts s) → s'.me ≡ s.me → s'.counts ≡ s.counts → s'.sealer.me ≡ s.sealer.me → s'.mode ≡ s.mode → StandsFor R s'.kept g.now
+  unfoldable pub going_as : (acts : List Act) (s s' : State S) (g : Goes acts s) → s'.me ≡ s.me → s'.counts ≡ s.counts → s'.sealer.me ≡ s.sealer.me → s'.views.mode ≡ s.views.mode → StandsFor R s'.kept g.now
       → AllByRecursion (MaySlotRun g.world) s'.orders.slots → Goes acts s'
   unfolding standing_as
   going_as acts s s' g me counts signer mode stands slots =
@@ -104,11 +104,11 @@ module _ {S : Type 0} (R : Rules S) (w : World) (r view number : ℕ) (h : List 
       }
 
   -- with a statement more
-  unfoldable pub going_said : (acts : List Act) (s : State S) (g : Goes acts s) (remark : Remark) → MaySay g.world r (record { what = statement_of remark.body; when = g.standing.number })
-      → ((v : ℕ) (report : PlainReport) → statement_of remark.body ≡ Change v report → ⊥) → Goes (acts ++ Says remark ∷ []) s
+  unfoldable pub going_said : (acts : List Act) (s : State S) (g : Goes acts s) (remark : Remark) → MaySay g.world r (record { what = statement_by r remark.body; when = g.standing.number })
+      → ((v : ℕ) (report : PlainReport) → statement_by r remark.body ≡ Change v report → ⊥) → Goes (acts ++ Says remark ∷ []) s
   unfolding standing_said
   going_said acts s g remark may stays =
-      let y : ℕ → Spoken = λ n. record { what = statement_of remark.body; when = n } in
+      let y : ℕ → Spoken = λ n. record { what = statement_by r remark.body; when = n } in
       let may_at : MaySay g.world r (y g.at) = subst (λ (n : ℕ). MaySay g.world r (y n)) g.number_is may in
       record {
         world = after_saying g.world r (y g.at);
@@ -151,30 +151,30 @@ module _ {S : Type 0} (R : Rules S) (w : World) (r view number : ℕ) (h : List 
   -- ---- a tied replica
 
   -- with other things in its state, of the same view
-  unfoldable pub tied_as : (acts : List Act) (s s' : State S) (t : GoesTied acts s) → s'.me ≡ s.me → s'.counts ≡ s.counts → s'.sealer.me ≡ s.sealer.me → s'.mode ≡ s.mode → StandsFor R s'.kept t.going.now
-      → AllByRecursion (MaySlotRun t.going.world) s'.orders.slots → IsCommitted t.going.world r (own_view s) s'.certificate → IsBoardTied R t.going.world t.going.now s'.board → GoesTied acts s'
+  unfoldable pub tied_as : (acts : List Act) (s s' : State S) (t : GoesTied acts s) → s'.me ≡ s.me → s'.counts ≡ s.counts → s'.sealer.me ≡ s.sealer.me → s'.views.mode ≡ s.views.mode → StandsFor R s'.kept t.going.now
+      → AllByRecursion (MaySlotRun t.going.world) s'.orders.slots → IsCommitted t.going.world r (own_view s) s'.views.specs → IsBoardTied R t.going.world t.going.now s'.board → GoesTied acts s'
   unfolding going_as
   tied_as acts s s' t me counts signer mode stands slots committed board =
       let same : own_view s ≡ own_view s' = ap (λ (m : Mode). (view_of m).0) (sym mode) in
       record {
         going = going_as acts s s' t.going me counts signer mode stands slots;
         ordered = subst (λ (v : ℕ). AreOrdersUpTo t.going.world r v (length t.going.now)) same t.ordered;
-        committed = subst (λ (v : ℕ). IsCommitted t.going.world r v s'.certificate) same committed;
+        committed = subst (λ (v : ℕ). IsCommitted t.going.world r v s'.views.specs) same committed;
         board = board;
       }
 
   -- with a statement more
-  unfoldable pub tied_said : (acts : List Act) (s : State S) (t : GoesTied acts s) (remark : Remark) → MaySay t.going.world r (record { what = statement_of remark.body; when = t.going.standing.number })
-      → ((v : ℕ) (report : PlainReport) → statement_of remark.body ≡ Change v report → ⊥)
-      → ((m : Mark) (request : Digest) → statement_of remark.body ≡ Order (own_view s) m request → m.place ≤ length t.going.now)
-      → ((m : Mark) → IsVote (own_view s) m (statement_of remark.body) → IsHeldFrom s.certificate m.place) → GoesTied (acts ++ Says remark ∷ []) s
+  unfoldable pub tied_said : (acts : List Act) (s : State S) (t : GoesTied acts s) (remark : Remark) → MaySay t.going.world r (record { what = statement_by r remark.body; when = t.going.standing.number })
+      → ((v : ℕ) (report : PlainReport) → statement_by r remark.body ≡ Change v report → ⊥)
+      → ((m : Mark) (request : Digest) → statement_by r remark.body ≡ Order (own_view s) m request → m.place ≤ length t.going.now)
+      → ((m : Mark) → IsVote (own_view s) m (statement_by r remark.body) → IsHeldFrom s.views.specs m.place) → GoesTied (acts ++ Says remark ∷ []) s
   unfolding going_said
   tied_said acts s t remark may stays up held =
       let g = t.going in
-      let y : Spoken = record { what = statement_of remark.body; when = g.at } in
+      let y : Spoken = record { what = statement_by r remark.body; when = g.at } in
       record {
         going = going_said acts s g remark may stays;
         ordered = up_to_said g.world r (own_view s) (length g.now) y up t.ordered;
-        committed = committed_said g.world r (own_view s) s.certificate y held t.committed;
+        committed = committed_said g.world r (own_view s) s.views.specs y held t.committed;
         board = board_said R g.world r g.now y s.board t.board;
       }

@@ -28,13 +28,12 @@ use Rattle.zy_law.specs.World.{Spoken, Stand, Statement, World}
 use Rattle.zy_lawful.proofs.Backing.{all_listed, signed_backed}
 use Rattle.zy_lawful.proofs.OneEntry.{last_own}
 use Rattle.zy_lawful.proofs.Records.{entry_pushed}
-use Rattle.zy_lawful.specs.Acts.{statement_of}
+use Rattle.zy_lawful.specs.Acts.{spec_statement, check_statement}
 use Rattle.zy_lawful.specs.Tied.{IsVouchedBy, IsResponseVouched, IsCheckVouched, IsRoundOf, IsRoundVouched, IsProven, IsStable, IsCheckpointOf, IsBoardTied, state_of}
 use Rattle.zy_parts.specs.declared.signed.Signed.{Signed}
 use Rattle.zy_parts.specs.declared.statements.Check.{Check}
 use Rattle.zy_parts.specs.declared.statements.Spec.{Spec}
 use Rattle.zy_table.specs.Gathering.{first_of}
-use Rattle.zy_table.specs.declared.deeds.Body.TheVariants as bodies
 
 -- ---- rounds of which something holds
 
@@ -229,9 +228,9 @@ module _ (w : World) (asked : ℕ → List Entry) (said : ℕ → List Spoken) (
   round_grown : (r : Round) → IsRoundVouched w r → IsRoundVouched later r
   round_grown r is =
       record {
-        specs = All-weaker (IsResponseVouched w) (IsResponseVouched later) (λ vote vouched small. by_grown (statement_of (bodies.Spec vote.stmt)) vote.by (vouched small)) r.specs is.specs;
+        specs = All-weaker (IsResponseVouched w) (IsResponseVouched later) (λ vote vouched small. by_grown (spec_statement vote.stmt) vote.by (vouched small)) r.specs is.specs;
         specs_rise = is.specs_rise;
-        checks = All-weaker (IsCheckVouched w) (IsCheckVouched later) (λ vote vouched. by_grown (statement_of (bodies.Check vote.stmt)) vote.by vouched) r.checks is.checks;
+        checks = All-weaker (IsCheckVouched w) (IsCheckVouched later) (λ vote vouched. by_grown (check_statement vote.stmt) vote.by vouched) r.checks is.checks;
         checks_rise = is.checks_rise;
       }
 
@@ -241,7 +240,7 @@ module _ (w : World) (asked : ℕ → List Entry) (said : ℕ → List Spoken) (
         many = is.many;
         equal = is.equal;
         different = is.different;
-        vouched = All-weaker (IsCheckVouched w) (IsCheckVouched later) (λ vote vouched. by_grown (statement_of (bodies.Check vote.stmt)) vote.by vouched) proof is.vouched;
+        vouched = All-weaker (IsCheckVouched w) (IsCheckVouched later) (λ vote vouched. by_grown (check_statement vote.stmt) vote.by vouched) proof is.vouched;
       }
 
   stable_grown : (b : Board) → IsStable w b → IsStable later b
@@ -318,11 +317,11 @@ module _ {A : Type 0} (same : A → A → Bool) (equal : (x y : A) → Decides (
 -- ---- a stable checkpoint is backed
 
 -- each of a proof stands behind the checkpoint
-proven_by : (w : World) (check : Check) (proof : List (Signed Check)) → IsProven w check proof → All (λ vote. IsVouchedBy w (statement_of (bodies.Check check)) vote.by) proof
-proven_by w check proof is k d small = subst (λ (c : Check). IsVouchedBy w (statement_of (bodies.Check c)) (get_or proof k d).by) (is.equal k d small) (is.vouched k d small)
+proven_by : (w : World) (check : Check) (proof : List (Signed Check)) → IsProven w check proof → All (λ vote. IsVouchedBy w (check_statement check) vote.by) proof
+proven_by w check proof is k d small = subst (λ (c : Check). IsVouchedBy w (check_statement c) (get_or proof k d).by) (is.equal k d small) (is.vouched k d small)
 
-pub stable_backed : (w : World) (board : Board) → IsStable w board → (board.stable.place.0 ≡ 0) ⊎ IsBacked w w.counts.local (statement_of (bodies.Check board.stable))
+pub stable_backed : (w : World) (board : Board) → IsStable w board → (board.stable.place.0 ≡ 0) ⊎ IsBacked w w.counts.local (check_statement board.stable)
 stable_backed w board (inl none) = inl none
 stable_backed w board (inr is) =
-    let told : Statement = statement_of (bodies.Check board.stable) in
+    let told : Statement = check_statement board.stable in
     inr (signed_backed w told w.counts.local board.proof is.many is.different (all_listed (λ (vote : Signed Check). IsVouchedBy w told vote.by) board.proof (proven_by w board.stable board.proof is)))

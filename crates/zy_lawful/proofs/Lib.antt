@@ -8,7 +8,6 @@ pub mod KeptVotes
 pub mod Going
 pub mod Follow
 pub mod Gathers
-pub mod Owed
 pub mod Runs
 pub mod Cases
 pub mod Rows

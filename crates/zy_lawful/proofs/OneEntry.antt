@@ -157,7 +157,7 @@ module _ {S : Type 0} (R : Rules S) (w : World) (r : ℕ) (s : State S) (h : Lis
       }
 
   -- in another state of the same view that stands for the history, and keeps orders that may be run
-  unfoldable pub standing_as : (s' : State S) → s'.me ≡ s.me → s'.counts ≡ s.counts → s'.sealer.me ≡ s.sealer.me → s'.mode ≡ s.mode → StandsFor R s'.kept h → AllByRecursion (MaySlotRun w) s'.orders.slots → IsStanding R w r s' h
+  unfoldable pub standing_as : (s' : State S) → s'.me ≡ s.me → s'.counts ≡ s.counts → s'.sealer.me ≡ s.sealer.me → s'.views.mode ≡ s.views.mode → StandsFor R s'.kept h → AllByRecursion (MaySlotRun w) s'.orders.slots → IsStanding R w r s' h
   standing_as s' me counts signer mode stands slots =
       let view : own_view s ≡ own_view s' = ap (λ (m : Mode). (view_of m).0) (sym mode) in
       record {

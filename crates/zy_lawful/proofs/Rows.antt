@@ -17,6 +17,7 @@ use Rattle.zy_chain.specs.declared.entry.Entry.{Entry}
 use Rattle.zy_chain.specs.Stretch.{Mark, head_in}
 use Rattle.zy_admit.specs.Judging.{entry_of}
 use Rattle.zy_admit.specs.Orders.{slots_above}
+use Rattle.zy_change.specs.declared.kept.Certificate.{Certificate}
 use Rattle.zy_frames.specs.declared.frame.OrderFrame.{OrderFrame}
 use Rattle.zy_parts.specs.Numbers as numbers
 use Rattle.zy_parts.specs.Statements.{spec_fields}
@@ -37,7 +38,7 @@ use Rattle.zy_law.proofs.HistoryLemmas.{mark_is}
 use Rattle.zy_law.specs.Lawful.{IsOrdered}
 use Rattle.zy_law.specs.World.{Spoken, World}
 use Rattle.zy_law.specs.World.Statement.{Order}
-use Rattle.zy_lawful.specs.Acts.{statement_of}
+use Rattle.zy_lawful.specs.Acts.{statement_by}
 use Rattle.zy_lawful.specs.Tied.{MayRun, MaySlotRun, MayFrameRun, MayEventRun, AreOrdersUpTo, AreLinksKept, AreVouched, IsBackedIn, IsBoardTied, IsCheckVouched, IsHeldFrom, IsCommitted, IsResponseVouched}
 use Rattle.zy_lawful.proofs.Records.{IsLastOf, IsRecord}
 use Rattle.zy_lawful.proofs.OneEntry.{AreOrdersOf, may_respond, may_order, may_commit, may_tell, known_now, next_ordered, orders_of_longer, orders_of_said, up_to_said, place_now}
@@ -62,7 +63,6 @@ use Rattle.zy_table.specs.declared.deeds.Act.{Act}
 use Rattle.zy_table.specs.declared.deeds.Act.TheVariants.{Says}
 use Rattle.zy_table.specs.declared.deeds.Body.TheVariants as bodies
 use Rattle.zy_table.specs.declared.deeds.Remark.{Remark}
-use Rattle.zy_table.specs.declared.kept.Certificate.{Certificate}
 use Rattle.zy_table.specs.declared.kept.OwnCheckpoint.{OwnCheckpoint}
 use Rattle.zy_table.specs.declared.kept.Pending.{Pending}
 use Rattle.zy_base.specs.declared.step.Answer.TheVariants.{Taken, Held}
@@ -138,7 +138,7 @@ module _ {S : Type 0} (R : Rules S) (w : World) (r number : ℕ) (h : List Entry
         up_to_said start.world r (own_view s) (length (start.now ++ e ∷ [])) y
         (λ k request same. let marks : m ≡ k = cc in subst (λ (j : Mark). j.place ≤ length (start.now ++ e ∷ [])) marks is.passes.within)
         (λ at x k request says what. omega (arith, tied.ordered at x k request says what, length-append start.now (e ∷ []))) in
-        let committed : IsCommitted going.world r (own_view s) s.certificate = committed_said start.world r (own_view s) s.certificate y (λ k vote. absurd vote) tied.committed in
+        let committed : IsCommitted going.world r (own_view s) s.views.specs = committed_said start.world r (own_view s) s.views.specs y (λ k vote. absurd vote) tied.committed in
         let board : IsBoardTied R going.world start.now s.board = board_said R start.world r start.now y s.board tied.board in
         run_goes o g (slots_put w s.orders o asks may)
         (λ links. one_goes R w r (own_view s) number h o g going may new (one_links R w r (own_view s) number h o g links).1 of up committed board)
@@ -218,14 +218,14 @@ module _ {S : Type 0} (R : Rules S) (w : World) (r number : ℕ) (h : List Entry
         }
 
     -- the one that is held then covers what was committed
-    holds_certificate : (specs : List (Signed Spec)) (local : Local) (held : Option Certificate) → AreVouched w specs → IsOwnCommit s specs local → IsFurthest local.place specs s.certificate held → GoesTied [] (holding s held)
+    holds_certificate : (specs : List (Signed Spec)) (local : Local) (held : Option Certificate) → AreVouched w specs → IsOwnCommit s specs local → IsFurthest local.place specs s.views.specs held → GoesTied [] (holding s held)
     unfolding tied_as
     holds_certificate specs local held vouched own furthest =
         tied_as R w r (own_view s) number h [] s (holding s held) tied refl refl refl refl start.standing.stands start.standing.asks
-        (committed_further start.world r (own_view s) local.place specs s.certificate held furthest (certificate_backed specs local vouched own) tied.committed) tied.board
+        (committed_further start.world r (own_view s) local.place specs s.views.specs held furthest (certificate_backed specs local vouched own) tied.committed) tied.board
 
     -- its local commit is said, where it wasn't
-    gives_local : (specs : List (Signed Spec)) (client : ClientId) (local : Local) (said : Option (Signed Local)) (held : Option Certificate) → AreVouched w specs → IsOwnCommit s specs local → IsFurthest local.place specs s.certificate held
+    gives_local : (specs : List (Signed Spec)) (client : ClientId) (local : Local) (said : Option (Signed Local)) (held : Option Certificate) → AreVouched w specs → IsOwnCommit s specs local → IsFurthest local.place specs s.views.specs held
         → (t : Gone (give_local R client local said (holding s held))) × IsCertified t.going.world (own_view s) (record { place = local.place.0; head = local.head })
     unfolding tied_said tied_as holds_certificate certificate_backed
     gives_local specs client local (Some said) held vouched own furthest =
@@ -236,18 +236,18 @@ module _ {S : Type 0} (R : Rules S) (w : World) (r number : ℕ) (h : List Entry
         let put : GoesTied [] s' = holds_certificate specs local held vouched own furthest in
         let g : Goes [] s' = put.going in
         let remark : Remark = record { body = bodies.Local local; stood = stood_of R s' } in
-        let y : Spoken = record { what = statement_of remark.body; when = g.at } in
+        let y : Spoken = record { what = statement_by r remark.body; when = g.at } in
         let backed : IsCertified g.world (own_view s) m = (certificate_backed specs local vouched own).backed in
         let certified : IsCertified g.world local.view.0 m = subst (λ (n : ℕ). IsCertified g.world n m) (sym own.view) backed in
         let said : GoesTied (Says remark ∷ []) s' =
         tied_said R w r (own_view s) number h [] s' put remark (may_commit R g.world r s' g.now g.lawful g.agrees g.correct g.standing local.view.0 m own.view own.own certified)
-        (λ v report same. absurd cc) (λ k request same. absurd cc) (λ k vote. subst (λ (j : Mark). IsHeldFrom held j.place) vote.1 (from_came local.place specs s.certificate held furthest)) in (
+        (λ v report same. absurd cc) (λ k request same. absurd cc) (λ k vote. subst (λ (j : Mark). IsHeldFrom held j.place) vote.1 (from_came local.place specs s.views.specs held furthest)) in (
           tied_as R w r (own_view s) number h (Says remark ∷ []) s' (say_local R client local s').state said refl refl refl refl said.going.standing.stands said.going.standing.asks said.committed said.board,
           certified_said g.world r y (own_view s) m backed,
         )
 
     -- at a multiple of the interval what is kept is looked through, with the certificate
-    looks_through : (specs : List (Signed Spec)) (local : Local) (held : Option Certificate) (g : Going S) (t : Gone g) → g.state.mode ≡ s.mode → g.state.kept ≡ s.kept → g.state.certificate ≡ held → IsOwnCommit s specs local
+    looks_through : (specs : List (Signed Spec)) (local : Local) (held : Option Certificate) (g : Going S) (t : Gone g) → g.state.views.mode ≡ s.views.mode → g.state.kept ≡ s.kept → g.state.views.specs ≡ held → IsOwnCommit s specs local
         → IsHeldFrom held local.place.0 → IsCertified t.going.world (own_view s) (record { place = local.place.0; head = local.head }) → Gone (gather_at R (own_at R s local.place.0) true g)
     looks_through specs local held g t mode kept certificate own far certified =
         let same : own_at R g.state local.place.0 ≡ own_at R s local.place.0 = rw (mode, kept) refl in
@@ -260,19 +260,19 @@ module _ {S : Type 0} (R : Rules S) (w : World) (r number : ℕ) (h : List Entry
         let views : own_view s ≡ own_view g.state = ap (λ (m : Mode). (view_of m).0) (sym mode) in
         let here : IsCertified t.going.world (own_view g.state) (mark_in spec) =
         subst (λ (v : ℕ). IsCertified t.going.world v (mark_in spec)) views (subst (λ (m : Mark). IsCertified t.going.world (own_view s) m) marks certified) in
-        let covers : IsHeldFrom g.state.certificate spec.place.0 =
+        let covers : IsHeldFrom g.state.views.specs spec.place.0 =
         subst (λ (o : Option Certificate). IsHeldFrom o spec.place.0) (sym certificate) (subst (λ (p : ℕ). IsHeldFrom held p) places far) in
         gathers R w r (own_view s) number h g t spec state is true (λ brought. (covers, here))))
 
-    commits : (specs : List (Signed Spec)) (client : ClientId) (local : Local) (said : Option (Signed Local)) (held : Option Certificate) → AreVouched w specs → IsOwnCommit s specs local → IsFurthest local.place specs s.certificate held
+    commits : (specs : List (Signed Spec)) (client : ClientId) (local : Local) (said : Option (Signed Local)) (held : Option Certificate) → AreVouched w specs → IsOwnCommit s specs local → IsFurthest local.place specs s.views.specs held
         → HasLeaves s (locals_owed said + checks_owed (holding s held) (own_at R s local.place.0) true) → Keeps (ends Taken (gather_at R (own_at R s local.place.0) true (give_local R client local said (holding s held))))
     unfolding gives_local
     commits specs client local None held vouched own furthest left links =
         let (t, certified) = gives_local specs client local None held vouched own furthest in
-        looks_through specs local held (say_local R client local (holding s held)) t refl refl refl own (from_came local.place specs s.certificate held furthest) certified
+        looks_through specs local held (say_local R client local (holding s held)) t refl refl refl own (from_came local.place specs s.views.specs held furthest) certified
     commits specs client local (Some said) held vouched own furthest left links =
         let (t, certified) = gives_local specs client local (Some said) held vouched own furthest in
-        looks_through specs local held (send_local client said (begin (holding s held))) t refl refl refl own (from_came local.place specs s.certificate held furthest) certified
+        looks_through specs local held (send_local client said (begin (holding s held))) t refl refl refl own (from_came local.place specs s.views.specs held furthest) certified
 
     cases : Cases R s (MayFrameRun w) Keeps
     cases =

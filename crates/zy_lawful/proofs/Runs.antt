@@ -16,7 +16,7 @@ use Rattle.zy_frames.specs.declared.frame.OrderFrame.{OrderFrame}
 use Rattle.zy_exec.specs.declared.known.Known.{Known}
 use Rattle.zy_exec.specs.Kept.{longer, now_of, known_in, last_place}
 use Rattle.zy_law.specs.World.{Spoken, World}
-use Rattle.zy_lawful.specs.Acts.{statement_of}
+use Rattle.zy_lawful.specs.Acts.{statement_by}
 use Rattle.zy_lawful.specs.Tied.{MayRun, MaySlotRun, AreOrdersUpTo, AreLinksKept, IsBoardTied, IsCommitted, IsResponseVouched}
 use Rattle.zy_lawful.proofs.Committed.{committed_moved}
 use Rattle.zy_lawful.proofs.Follow.{Keeps, in_state, one_keeps}
@@ -76,7 +76,7 @@ module _ {S : Type 0} (R : Rules S) (w : World) (r view number : ℕ) (h : List 
       → w.kept (now_of R g.state.kept).head (entry_of o.ask) ≡ true
       → AreOrdersOf going.world r (own_view g.state) (going.now ++ entry_of o.ask ∷ [])
       → AreOrdersUpTo going.world r (own_view g.state) (length (going.now ++ entry_of o.ask ∷ []))
-      → IsCommitted going.world r (own_view g.state) g.state.certificate
+      → IsCommitted going.world r (own_view g.state) g.state.views.specs
       → IsBoardTied R going.world going.now g.state.board
       → Gone (run_one R o g)
   unfolding run_one going_moved standing_moved tied_said tied_as
@@ -92,7 +92,7 @@ module _ {S : Type 0} (R : Rules S) (w : World) (r view number : ℕ) (h : List 
       record {
         going = moved;
         ordered = up;
-        committed = committed_moved going.world r (own_view s) s.certificate (record { view = own_view s; history = going.now ++ e ∷ [] }) committed;
+        committed = committed_moved going.world r (own_view s) s.views.specs (record { view = own_view s; history = going.now ++ e ∷ [] }) committed;
         board = board_moved R going.world r going.now e (record { view = own_view s; history = going.now ++ e ∷ [] }) s.board board;
       } in
       let known : Known = next_known R s o.ask in
@@ -109,7 +109,7 @@ module _ {S : Type 0} (R : Rules S) (w : World) (r view number : ℕ) (h : List 
       let after : Going S = respond R o.order signed known.reply done in
       let t : Gone after =
       tied_as R w r view number h acts s1 after.state said refl refl refl refl said.going.standing.stands said.going.standing.asks said.committed said.board in
-      let y : Spoken = record { what = statement_of remark.body; when = moved.at } in
+      let y : Spoken = record { what = statement_by r remark.body; when = moved.at } in
       shares o.order signed known.reply after t (state_in R (longer s.kept e) known.place.0)
       (λ state is.
       let told = state_told R (longer s.kept e) moved.now moved.standing.stands known.place.0 state is in

@@ -92,7 +92,7 @@ tied_grown R w r s h asked said past kept asks says stands told stood tied =
         asks = slots_more w (grown w asked said past kept) runs s.orders.slots x.asks;
       };
       ordered = λ number y m request says what. tied.ordered number y m request (was number y says) what;
-      committed = committed_grown w asked said past kept asks says stands r (own_view s) s.certificate was tied.committed;
+      committed = committed_grown w asked said past kept asks says stands r (own_view s) s.views.specs was tied.committed;
       board = board_grown w asked said past kept asks says stands R h s.board tied.board;
     }
 
@@ -126,27 +126,27 @@ more_none : {A : Type 0} (lists : ℕ → List A) (of : ℕ) → lists ≡ with_
 more_none lists of = λ i q. none_of (eqb q of) (lists q) i
 
 pub lists_after : (w : World) (r view number : ℕ) (h : List Entry) (acts : List Act)
-    → after_acts w r (law_acts view number h acts) ≡ grown w w.asked (with_more w.said r (spoken_in number acts)) (with_more w.past r (stands_in view h acts)) w.kept
+    → after_acts w r (law_acts r view number h acts) ≡ grown w w.asked (with_more w.said r (spoken_in r number acts)) (with_more w.past r (stands_in view h acts)) w.kept
 lists_after w r view number h [] =
     ap (λ (said : ℕ → List Spoken). grown w w.asked said w.past w.kept) (more_none w.said r)
     ∙ ap (λ (past : ℕ → List Stand). grown w w.asked (with_more w.said r []) past w.kept) (more_none w.past r)
 lists_after w r view number h (SaysIt remark ∷ acts) =
-    let x : Spoken = spoken_at number remark in
+    let x : Spoken = spoken_at r number remark in
     lists_after (after_act w r (Say x)) r view number h acts
-    ∙ ap (λ (said : ℕ → List Spoken). grown w w.asked said (with_more w.past r (stands_in view h acts)) w.kept) (more_last w.said r x (spoken_in number acts))
+    ∙ ap (λ (said : ℕ → List Spoken). grown w w.asked said (with_more w.past r (stands_in view h acts)) w.kept) (more_last w.said r x (spoken_in r number acts))
 lists_after w r view number h (Gains got ∷ acts) =
     let b : Stand = stand_with view h got in
     lists_after (after_act w r (Move b)) r view (number + 1) (h ++ got.entry ∷ []) acts
-    ∙ ap (λ (past : ℕ → List Stand). grown w w.asked (with_more w.said r (spoken_in (number + 1) acts)) past w.kept) (more_last w.past r b (stands_in view (h ++ got.entry ∷ []) acts))
+    ∙ ap (λ (past : ℕ → List Stand). grown w w.asked (with_more w.said r (spoken_in r (number + 1) acts)) past w.kept) (more_last w.past r b (stands_in view (h ++ got.entry ∷ []) acts))
 
-numbers_from : (me : Party) (number pairs : ℕ) (acts : List Act) → map (λ (x : Spoken). x.when) (spoken_in (number + pairs) acts) ≡ map (λ (x : StepSpoken). number + x.pairs) (said_from me pairs acts)
-numbers_from me number pairs [] = refl
-numbers_from me number pairs (SaysIt remark ∷ acts) = ap (λ (l : List ℕ). (number + pairs) ∷ l) (numbers_from me number pairs acts)
-numbers_from me number pairs (Gains got ∷ acts) =
+numbers_from : (me : Party) (r number pairs : ℕ) (acts : List Act) → map (λ (x : Spoken). x.when) (spoken_in r (number + pairs) acts) ≡ map (λ (x : StepSpoken). number + x.pairs) (said_from me pairs acts)
+numbers_from me r number pairs [] = refl
+numbers_from me r number pairs (SaysIt remark ∷ acts) = ap (λ (l : List ℕ). (number + pairs) ∷ l) (numbers_from me r number pairs acts)
+numbers_from me r number pairs (Gains got ∷ acts) =
     let one : number + pairs + 1 ≡ number + (pairs + 1) = omega arith in
-    ap (λ (n : ℕ). map (λ (x : Spoken). x.when) (spoken_in n acts)) one ∙ numbers_from me number (pairs + 1) acts
+    ap (λ (n : ℕ). map (λ (x : Spoken). x.when) (spoken_in r n acts)) one ∙ numbers_from me r number (pairs + 1) acts
 
-pub numbers_are : (me : Party) (number : ℕ) (acts : List Act) → map (λ (x : Spoken). x.when) (spoken_in number acts) ≡ map (λ (x : StepSpoken). number + x.pairs) (said_from me 0 acts)
-numbers_are me number acts =
+pub numbers_are : (me : Party) (r number : ℕ) (acts : List Act) → map (λ (x : Spoken). x.when) (spoken_in r number acts) ≡ map (λ (x : StepSpoken). number + x.pairs) (said_from me 0 acts)
+numbers_are me r number acts =
     let none : number ≡ number + 0 = omega arith in
-    ap (λ (n : ℕ). map (λ (x : Spoken). x.when) (spoken_in n acts)) none ∙ numbers_from me number 0 acts
+    ap (λ (n : ℕ). map (λ (x : Spoken). x.when) (spoken_in r n acts)) none ∙ numbers_from me r number 0 acts

@@ -19,6 +19,7 @@ use Rattle.zy_cert.specs.Certificates.{certified}
 use Rattle.zy_cert.specs.Equal.{same_spec}
 use Rattle.zy_cert.specs.Points.{point_of_spec}
 use Rattle.zy_cert.specs.Signers.{AreDifferent}
+use Rattle.zy_change.specs.declared.kept.Certificate.{Certificate}
 use Rattle.zy_check.specs.Board.{Board, Round}
 use Rattle.zy_check.specs.Votes.{IsRising}
 use Rattle.zy_exec.specs.Kept.{StandsFor}
@@ -35,7 +36,7 @@ use Rattle.zy_law.specs.Said.{IsCorrect, Says, Stood, IsVouched}
 use Rattle.zy_law.specs.World.{Answer, Spoken, Statement, World}
 use Rattle.zy_law.specs.World.Statement.{Order, Change}
 use Rattle.zy_choose.specs.Reports.{PlainReport}
-use Rattle.zy_lawful.specs.Acts.{statement_of}
+use Rattle.zy_lawful.specs.Acts.{spec_statement, check_statement}
 use Rattle.zy_parts.specs.declared.signed.Signed.{Signed}
 use Rattle.zy_parts.specs.declared.statements.Check.{Check}
 use Rattle.zy_parts.specs.declared.statements.Spec.{Spec}
@@ -45,9 +46,7 @@ use Rattle.zy_table.specs.Roles.{in_role}
 use Rattle.zy_table.specs.State.{State, own_view, is_leaving}
 use Rattle.zy_table.specs.Step.{step}
 use Rattle.zy_table.specs.declared.deeds.Act.{Act}
-use Rattle.zy_table.specs.declared.deeds.Body.TheVariants as bodies
 use Rattle.zy_table.specs.declared.deeds.Got.{Got}
-use Rattle.zy_table.specs.declared.kept.Certificate.{Certificate}
 
 -- ---- heads, digests and replies of the law
 
@@ -103,11 +102,11 @@ pub record AreVouched (w : World) (specs : List (Signed Spec)) : Type 0 where
 
 -- a response to a client that there may be is of a replica that said so, or lies
 abbrev pub IsResponseVouched : World → Signed Spec → Type 0
-IsResponseVouched w vote = vote.stmt.client.0 < 64 → IsVouchedBy w (statement_of (bodies.Spec vote.stmt)) vote.by
+IsResponseVouched w vote = vote.stmt.client.0 < 64 → IsVouchedBy w (spec_statement vote.stmt) vote.by
 
 -- and so is a checkpoint
 abbrev pub IsCheckVouched : World → Signed Check → Type 0
-IsCheckVouched w vote = IsVouchedBy w (statement_of (bodies.Check vote.stmt)) vote.by
+IsCheckVouched w vote = IsVouchedBy w (check_statement vote.stmt) vote.by
 
 -- ---- the tie
 
@@ -193,7 +192,7 @@ pub record IsBoardTied {S : Type 0} (R : Rules S) (w : World) (history : List En
 pub record IsTied {S : Type 0} (R : Rules S) (w : World) (r : ℕ) (s : State S) (history : List Entry) : Type 0 where
   pub standing : IsStanding R w r s history
   pub ordered : AreOrdersUpTo w r (own_view s) (length history)
-  pub committed : IsCommitted w r (own_view s) s.certificate
+  pub committed : IsCommitted w r (own_view s) s.views.specs
   pub board : IsBoardTied R w history s.board
 
 -- ---- what an event brings

@@ -16,5 +16,5 @@ use zy_base::Machine;
 /// What the laws speak of, at the first request that a primary gets: it orders the entry at its stand with the empty history,
 /// stands with the entry next, and responds there; where no checkpoint is due there.
 pub fn a_first_request<M: Machine>()
-    ensures { (interval : ℕ) (me : ReplicaId) (counts : Counts) (keys : Keys) (sealer : SealerState) (ask : Signed Ask) → is_primary (start_of M.rules interval me counts keys sealer) ≡ true → 1 < interval → 2 ≤ leaves_of (start_of M.rules interval me counts keys sealer) → law_acts 0 0 [] (request M.rules (start_of M.rules interval me counts keys sealer) ask).deeds.acts ≡ first_acts M.rules (entry_of ask) }
+    ensures { (interval : ℕ) (me : ReplicaId) (counts : Counts) (keys : Keys) (sealer : SealerState) (ask : Signed Ask) → is_primary (start_of M.rules interval me counts keys sealer) ≡ true → 1 < interval → 2 ≤ leaves_of (start_of M.rules interval me counts keys sealer) → law_acts me.0 0 0 [] (request M.rules (start_of M.rules interval me counts keys sealer) ask).deeds.acts ≡ first_acts M.rules (entry_of ask) }
 {}

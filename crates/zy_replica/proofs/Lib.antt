@@ -1,7 +1,3 @@
-mod CheckpointLemmas
-mod CommitLemmas
-mod FillLemmas
+mod MemberLemmas
 mod OthersLemmas
-mod RunLemmas
-mod ScreenLemmas
 mod ToldLemmas

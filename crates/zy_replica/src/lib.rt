@@ -1,16 +1,12 @@
-//! The replica in view 0: bytes or a timer go in, an answer and the frames to send come out, and each step is that of
-//! the answer table.
+//! The replica: bytes or a timer go in, an answer and the frames to send come out, and each step is that of the answer
+//! table, in view 0 or where it takes part in changes of view.
 #![tactic(auto)]
 
-mod checkpoints;
-mod commits;
-mod confirms;
-mod holes;
-mod orders;
 mod outcome;
 mod replica;
-mod requests;
+mod roles;
 mod step;
+mod whole;
 
 pub use replica::{Replica, Stepped};
 pub use zy_table::{Gains, Got};

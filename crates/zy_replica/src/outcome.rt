@@ -3,9 +3,9 @@
 ghost use Rattle.std.specs.Prelude.{◌≡◌, ◌≤◌, ◌<◌, ◌+◌, ◌++◌, ◌∷◌, [], length, nat_eq, if◌then◌else◌, Some, IfOk, OnOk};
 ghost use Rattle.zy_base.specs.declared.ids.Party.TheVariants as parties;
 ghost use Rattle.std.specs.List.{AllByRecursion};
-ghost use Rattle.zy_frames.specs.Frames.{IsFrameInRange};
 ghost use Rattle.zy_chain.specs.Entries.{IsEntryInRange};
 ghost use Rattle.zy_table.specs.State.{timers_of};
+ghost use Rattle.zy_table.specs.Sending.{CanBeSent};
 ghost use Rattle.zy_table.specs.Deeds.{outgoing_of, others, text_by, said_from, gains_in};
 ghost use Rattle.zy_core.specs.Ready.{IsActInRange, IsBodyInRange};
 
@@ -63,7 +63,7 @@ fn sendings(
     sent: Items<Sent>,
 ) -> Result<Outgoing, Want>
     requires count { replicas ≤ 16 }
-    requires frames { AllByRecursion (λ s. IsFrameInRange s.frame) sent }
+    requires frames { AllByRecursion (λ s. CanBeSent s.frame) sent }
     ensures { IfOk result (λ out. out ≡ outgoing_of me.0 replicas sent) }
 {
     let all = others_of(alloc, me, replicas)?;
@@ -131,6 +131,10 @@ fn text_of(alloc: Global, me: ReplicaId, body: &Body) -> Result<Bytes, Want>
         Body::Local(local) => signed_text(alloc, me, local),
         Body::Confirm(confirm) => signed_text(alloc, me, confirm),
         Body::Hole(hole) => signed_text(alloc, me, hole),
+        Body::Hate(hate) => signed_text(alloc, me, hate),
         Body::Check(check) => signed_text(alloc, me, check),
+        Body::Change(change) => signed_text(alloc, me, change),
+        Body::New(new) => signed_text(alloc, me, new),
+        Body::Began(began) => signed_text(alloc, me, began),
     }
 }

@@ -1,4 +1,4 @@
-ghost use Rattle.std.specs.Prelude.{◌≡◌, ◌≤◌, length, IfOk};
+ghost use Rattle.std.specs.Prelude.{◌≡◌, ◌≤◌, ◌<◌, length, IfOk};
 ghost use Rattle.std.specs.List.{AllByRecursion};
 ghost use Rattle.sha2.specs.Sha256.{sha256};
 ghost use Rattle.zy_base.specs.declared.ids.Party.TheVariants as parties;
@@ -6,10 +6,12 @@ ghost use Rattle.zy_chain.specs.Entries.{IsEntryInRange};
 ghost use Rattle.zy_exec.specs.Kept.{now_of, last_place};
 ghost use Rattle.zy_exec.specs.Snapshot.{snapshot_of};
 ghost use Rattle.zy_table.specs.Step.{step as step_row};
+ghost use Rattle.zy_table.specs.Whole.{whole_step as whole_row};
 ghost use Rattle.zy_table.specs.Deeds.{outgoing_of, said_from, gains_in};
 
 use crate::outcome::finish;
 use crate::step::moves;
+use crate::whole::moves_whole;
 use std::alloc::Global;
 use std::marker::Model;
 use zy_base::{
@@ -59,7 +61,9 @@ impl<M: Machine> Replica<M> {
         sealer: Sealer,
         directory: Directory,
     ) -> Result<Replica<M>, Want>
+        requires me { me.0 < counts.n }
         requires signer { sealer.me ≡ parties.Replica me }
+        requires replicas { length directory.replicas ≤ counts.n }
         requires clients { length directory.clients ≤ 64 }
         requires least { 4 ≤ k }
         requires most { k ≤ 32 }
@@ -71,7 +75,7 @@ impl<M: Machine> Replica<M> {
         }
     }
 
-    /// What an event makes of the replica.
+    /// What an event makes of the replica in view 0, which hears nothing of a change of view.
     pub fn step(self, event: Event) -> Result<Stepped<M>, Want>
         ensures answer { IfOk result (λ s. s.answer ≡ (step_row M.rules self event).answer) }
         ensures replica { IfOk result (λ s. s.replica ≡ (step_row M.rules self event).state) }
@@ -85,16 +89,31 @@ impl<M: Machine> Replica<M> {
         finish(moves(core, event)?)
     }
 
+    /// What an event makes of the replica where it takes part in changes of view: it hears hates, proofs of misbehaviour
+    /// and reports, and leaves its view.
+    pub fn whole_step(self, event: Event) -> Result<Stepped<M>, Want>
+        ensures answer { IfOk result (λ s. s.answer ≡ (whole_row M.rules self event).answer) }
+        ensures replica { IfOk result (λ s. s.replica ≡ (whole_row M.rules self event).state) }
+        ensures out { IfOk result (λ s. s.out ≡ outgoing_of (whole_row M.rules self event).state.me.0 (whole_row M.rules self event).state.counts.n (whole_row M.rules self event).deeds.sent) }
+        ensures timers { IfOk result (λ s. s.timers ≡ timers_of (whole_row M.rules self event).state) }
+        ensures said { IfOk result (λ s. s.said ≡ said_from (parties.Replica (whole_row M.rules self event).state.me) 0 (whole_row M.rules self event).deeds.acts) }
+        ensures got { IfOk result (λ s. s.got ≡ gains_in (whole_row M.rules self event).deeds.acts) }
+        ensures range { IfOk result (λ s. AllByRecursion (λ got. IsEntryInRange got.entry) s.got) }
+    {
+        let Replica { core } = self;
+        finish(moves_whole(core, event)?)
+    }
+
     /// Whether it takes part in its view, and which that is.
     pub fn mode(&self) -> Mode
-        ensures { result ≡ self.now.mode }
+        ensures { result ≡ self.now.views.mode }
     {
         self.core.mode()
     }
 
     /// The last view in which it was active.
     pub fn last_view(&self) -> View
-        ensures { result ≡ self.now.last_view }
+        ensures { result ≡ self.now.views.last_view }
     {
         self.core.last_view()
     }

@@ -2,13 +2,18 @@ mod checkpoint_rows;
 mod checkpoint_table;
 mod driver;
 mod frames;
+mod leaving_rows;
+mod leaving_table;
 mod more_rows;
+mod report_rows;
 mod rows;
 mod table;
 
 use checkpoint_rows::{OF_CHECKPOINTS, OF_LEAVES, OF_RESPONSES, OF_THE_WINDOW};
 use driver::{Input, Row, Step, follows, refuses_cuts};
+use leaving_rows::{OF_BLAME, OF_LEAVING, OF_THE_LAST_LEAVES};
 use more_rows::{OF_CERTIFICATES, OF_OTHER_FRAMES};
+use report_rows::OF_REPORTS;
 use rows::{OF_ORDERS, OF_THE_PRIMARY, OF_WAITING_REQUESTS};
 use std::alloc::Global;
 use std::test::Fail;
@@ -77,4 +82,24 @@ fn orders_that_are_cut(rt: HostRuntime) -> Result<(), Fail> {
         Ok(()) => Ok(()),
         Err((len, odd)) => Err(Fail::new(format_args!("cut to {len}: {odd:?}"))),
     }
+}
+
+#[test]
+fn misbehaviour_and_hates(rt: HostRuntime) -> Result<(), Fail> {
+    all_follow(rt.alloc(), OF_BLAME)
+}
+
+#[test]
+fn leaving(rt: HostRuntime) -> Result<(), Fail> {
+    all_follow(rt.alloc(), OF_LEAVING)
+}
+
+#[test]
+fn the_last_leaves(rt: HostRuntime) -> Result<(), Fail> {
+    all_follow(rt.alloc(), OF_THE_LAST_LEAVES)
+}
+
+#[test]
+fn reports_and_timers(rt: HostRuntime) -> Result<(), Fail> {
+    all_follow(rt.alloc(), OF_REPORTS)
 }

@@ -1,6 +1,5 @@
 mod AnswerLemmas
 mod GatherLemmas
 mod HeldLemmas
-mod Owed
 mod SignLemmas
 mod SlotLemmas

@@ -8,7 +8,7 @@ use Rattle.zy_base.specs.declared.ids.Party.TheVariants.{Replica}
 use Rattle.zy_parts.specs.declared.signed.Signed.{Signed}
 use Rattle.zy_parts.specs.declared.statements.Ask.{Ask}
 use Rattle.zy_parts.specs.declared.statements.Spec.{Spec}
-use Rattle.zy_check.specs.Board.{IsBoard, specs_at}
+use Rattle.zy_check.specs.Board.{IsBoard}
 use Rattle.zy_check.proofs.BoardLemmas.{round_at-is}
 use Rattle.zy_exec.specs.declared.known.Known.{Known}
 use Rattle.zy_exec.specs.Kept.{Kept, longer}
@@ -17,7 +17,7 @@ use Rattle.zy_table.specs.State.{State, own_view}
 use Rattle.zy_table.specs.Deeds.{Going}
 use Rattle.zy_table.specs.Gathering.{state_in, check_with, own_with, is_said, owes_check, with_own_spec, equal_others, signs_with}
 use Rattle.zy_table.specs.Running.{executed, next_known, spec_of, signs_of}
-use Rattle.zy_running.proofs.Owed.{owed_counted}
+use Rattle.zy_table.proofs.Owed.{owed_counted}
 
 one_or_two : (two : Bool) → (1 ≤ (if two then 2 else 1)) × ((if two then 2 else 1) ≤ 2)
 one_or_two true = (omega arith, omega arith)
@@ -67,3 +67,7 @@ pub signs_cover : {S : Type 0} (s : State S) (signed : Signed Spec) (state : Dig
 signs_cover s signed state is mine =
     covered (owes_check (with_own_spec s (own_with signed.stmt state) signed) (own_with signed.stmt state) false) (signs_few s signed.stmt (Some state)).0
     (owed_counted s signed state (round_at-is s.board signed.stmt.place.0 is).specs_rise mine)
+
+-- nothing more is signed
+pub none_more : (signs left : ℕ) (fits : Bool) → fits ≡ nat_le (signs + 0) left → fits ≡ nat_le signs left
+none_more signs left fits is = let same : signs + 0 ≡ signs = omega arith in is ∙ ap (λ (n : ℕ). nat_le n left) same

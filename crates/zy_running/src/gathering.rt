@@ -69,6 +69,7 @@ fn say_check_if<M: Machine>(
     requires range { IsCheckInRange own.now }
     ensures progress { IfOk result (λ g. g ≡ check_said_if M.rules owes own.now progress) }
     ensures kept { IfOk result (λ g. g.state.kept ≡ progress.state.kept) }
+    ensures views { IfOk result (λ g. g.state.views ≡ progress.state.views) }
 {
     if owes {
         say_check(progress, own)
@@ -81,12 +82,14 @@ fn keep_certificate_at<M: Machine>(
     progress: Progress<M>,
     own: &OwnCheckpoint,
 ) -> Result<Progress<M>, Want>
+    requires { IsOwnReady progress.state.kept progress.state.views.last_view own.now }
     ensures progress { IfOk result (λ g. g ≡ record progress { state = keep_certificate own.now.spec.place (certificate_at progress.state own.now.spec) progress.state }) }
     ensures sealer { IfOk result (λ g. g.state.sealer ≡ progress.state.sealer) }
     ensures kept { IfOk result (λ g. g.state.kept ≡ progress.state.kept) }
+    ensures last { IfOk result (λ g. g.state.views.last_view ≡ progress.state.views.last_view) }
 {
     let Progress { core, deeds } = progress;
-    match core.keep_certificate_at(&own.spec) {
+    match core.keep_certificate_at(own) {
         Ok(core) => Ok(Progress { core, deeds }),
         Err(want) => {
             drop(deeds);
@@ -96,7 +99,7 @@ fn keep_certificate_at<M: Machine>(
 }
 
 fn settle_own<M: Machine>(progress: Progress<M>, own: &OwnCheckpoint) -> Result<Progress<M>, Want>
-    requires { IsOwnReady progress.state.kept own.now }
+    requires { IsOwnReady progress.state.kept progress.state.views.last_view own.now }
     ensures { IfOk result (λ g. g ≡ own_settled M.rules own.now.check progress) }
 {
     let Progress { core, deeds } = progress;
@@ -117,7 +120,7 @@ pub(crate) fn gather<M: Machine>(
     brought: bool,
 ) -> Result<Progress<M>, Want>
     requires leaf { (if owes_check progress.state own.now brought then 1 else 0) ≤ leaves_of progress.state }
-    requires own { IsOwnReady progress.state.kept own.now }
+    requires own { IsOwnReady progress.state.kept progress.state.views.last_view own.now }
     ensures { IfOk result (λ g. g ≡ gathered M.rules own.now brought progress) }
 {
     let owes = progress.core.owes_check(own, brought);
@@ -134,7 +137,7 @@ pub fn gather_at<M: Machine>(
     brought: bool,
 ) -> Result<Progress<M>, Want>
     requires leaf { checks_owed progress.state own brought ≤ leaves_of progress.state }
-    requires own { ForSome own (IsOwnReady progress.state.kept) }
+    requires own { ForSome own (IsOwnReady progress.state.kept progress.state.views.last_view) }
     ensures { IfOk result (λ g. g ≡ gathered_at M.rules own brought progress) }
 {
     match own {

@@ -8,7 +8,8 @@ ghost use Rattle.zy_parts.specs.Numbers as numbers;
 ghost use Rattle.zy_parts.specs.Signing.{IsSignedInRange};
 ghost use Rattle.zy_parts.specs.Statements.{IsOrderInRange, IsSpecInRange, spec_fields};
 ghost use Rattle.zy_seal.specs.Sealing.{sealed_by};
-ghost use Rattle.zy_exec.specs.Kept.{last_place, longer};
+ghost use Rattle.zy_exec.specs.Kept.{last_place, longer, stretch_of};
+ghost use Rattle.zy_chain.specs.Stretch.{head_in};
 ghost use Rattle.zy_exec.specs.Known.{IsKnownInRange};
 ghost use Rattle.zy_exec.specs.Shots.{snapshot_in};
 ghost use Rattle.zy_admit.specs.Judging.{entry_of as entry_asked};
@@ -17,7 +18,7 @@ ghost use Rattle.zy_frames.specs.declared.frame.Frame.TheVariants as frames;
 ghost use Rattle.zy_check.specs.Board.{IsBoard};
 ghost use Rattle.zy_table.specs.declared.deeds.To.TheVariants as tos;
 ghost use Rattle.zy_table.specs.declared.deeds.Act.TheVariants as acts;
-ghost use Rattle.zy_table.specs.State.{own_view, window_of, leaves_of};
+ghost use Rattle.zy_table.specs.State.{own_view, is_leaving, window_of, leaves_of};
 ghost use Rattle.zy_table.specs.Deeds.{ends, send, act as acting};
 ghost use Rattle.zy_table.specs.Gathering.{own_with as own_by, with_own_spec, owes_check, state_in, signs_with as signs_by};
 ghost use Rattle.zy_table.specs.Running.{executed, without_pending, next_known, got_from, spec_of as spec_for, respond as respond_with, share as shared, answered, signs_of as signs_for, run_one as one_run, run_held as held_run, fits_end as fits, run as whole_run};
@@ -263,6 +264,7 @@ fn keep_own_spec<M: Machine>(
     own: &OwnCheckpoint,
     signed: &Signed<Spec>,
 ) -> Result<Progress<M>, Want>
+    requires { IsSignedInRange IsSpecInRange signed.now }
     ensures { IfOk result (λ g. g ≡ record progress { state = with_own_spec progress.state own.now signed.now }) }
 {
     let Progress { core, deeds } = progress;
@@ -294,7 +296,7 @@ fn share<M: Machine>(
     requires order { IsSignedInRange IsOrderInRange order }
     requires spec { IsSignedInRange IsSpecInRange signed }
     requires reply { length reply ≤ 1100 }
-    requires own { IsOwnReady progress.state.kept (own_by signed.stmt state) }
+    requires own { IsOwnReady progress.state.kept progress.state.views.last_view (own_by signed.stmt state) }
     requires leaf { (if owes_check (with_own_spec progress.state (own_by signed.stmt state) signed) (own_by signed.stmt state) false then 1 else 0) ≤ leaves_of progress.state }
     ensures { IfOk result (λ g. g ≡ shared M.rules order signed reply (Some state) progress) }
 {
@@ -324,6 +326,8 @@ fn answer<M: Machine>(
     requires spec { IsSpecInRange spec }
     requires client { spec.client.0 < 64 }
     requires reply { length reply ≤ 1100 }
+    requires view { spec.view ≡ progress.state.views.last_view }
+    requires head { head_in (stretch_of progress.state.kept) spec.place.0 ≡ Some spec.head }
     requires above { progress.state.kept.base.place < spec.place.0 }
     requires within { spec.place.0 ≤ last_place progress.state.kept }
     requires leaf { signs_by progress.state spec (state_in M.rules progress.state.kept spec.place.0) ≤ leaves_of progress.state }
@@ -348,6 +352,8 @@ fn answer_all<M: Machine>(
     requires spec { IsSpecInRange spec }
     requires client { spec.client.0 < 64 }
     requires reply { length reply ≤ 1100 }
+    requires view { spec.view ≡ progress.state.views.last_view }
+    requires head { head_in (stretch_of progress.state.kept) spec.place.0 ≡ Some spec.head }
     requires above { progress.state.kept.base.place < spec.place.0 }
     requires within { spec.place.0 ≤ last_place progress.state.kept }
     requires state { state_in M.rules progress.state.kept spec.place.0 ≡ Some state }
@@ -363,10 +369,12 @@ fn answer_all<M: Machine>(
 // One order: its entry is executed, and then answered.
 #[tactic(auto, unfolding(zy_table::specs::Running::run_one))]
 fn run_one<M: Machine>(progress: Progress<M>, frame: &OrderFrame) -> Result<Progress<M>, Want>
+    requires active { is_leaving progress.state ≡ false }
     requires leaf { signs_for M.rules progress.state frame.now.ask ≤ leaves_of progress.state }
     requires room { last_place progress.state.kept < window_of progress.state }
     requires order { IsOrderReady frame.now }
     ensures progress { IfOk result (λ g. g ≡ one_run M.rules frame.now progress) }
+    ensures active { IfOk result (λ g. is_leaving g.state ≡ false) }
     ensures base { progress.state.orders.base ≤ last_place progress.state.kept }
 {
     let own_view = progress.core.view();
@@ -391,6 +399,7 @@ fn fits_end<M: Machine>(core: &Core<M>, frame: &OrderFrame) -> bool
 
 // The orders that are held in the next slots, as long as leaves are left; one that doesn't fit is dropped.
 fn run_held<M: Machine>(progress: Progress<M>) -> Result<Progress<M>, Want>
+    requires { is_leaving progress.state ≡ false }
     ensures { IfOk result (λ g. g ≡ held_run M.rules (slots_above (last_place progress.state.kept) progress.state.orders) progress) }
 {
     let mut progress = progress;
@@ -403,7 +412,9 @@ fn run_held<M: Machine>(progress: Progress<M>) -> Result<Progress<M>, Want>
 
 // The order that is held for the next place, and whether it was run.
 fn run_next<M: Machine>(progress: Progress<M>) -> Result<(Progress<M>, bool), Want>
+    requires { is_leaving progress.state ≡ false }
     ensures goes_on { IfOk result (λ r. held_run M.rules (slots_above (last_place r.0.state.kept) r.0.state.orders) r.0 ≡ held_run M.rules (slots_above (last_place progress.state.kept) progress.state.orders) progress) }
+    ensures active { IfOk result (λ r. is_leaving r.0.state ≡ false) }
     ensures ended { IfOk result (λ r. IsFalse r.1 → held_run M.rules (slots_above (last_place r.0.state.kept) r.0.state.orders) r.0 ≡ r.0) }
     ensures fewer { IfOk result (λ r. length (slots_above (last_place r.0.state.kept) r.0.state.orders) + (if r.1 then 1 else 0) ≡ length (slots_above (last_place progress.state.kept) progress.state.orders)) }
 {
@@ -421,11 +432,13 @@ fn run_if_fits<M: Machine>(
     progress: Progress<M>,
     held: &OrderFrame,
 ) -> Result<(Progress<M>, bool), Want>
+    requires active { is_leaving progress.state ≡ false }
     requires base { progress.state.orders.base ≤ last_place progress.state.kept }
     requires room { last_place progress.state.kept < window_of progress.state }
     requires stored { stored_in progress.state.orders (last_place progress.state.kept + 1) ≡ Some held.now }
     requires ready { IsOrderReady held.now }
     ensures goes_on { IfOk result (λ r. held_run M.rules (slots_above (last_place r.0.state.kept) r.0.state.orders) r.0 ≡ held_run M.rules (slots_above (last_place progress.state.kept) progress.state.orders) progress) }
+    ensures active { IfOk result (λ r. is_leaving r.0.state ≡ false) }
     ensures ended { IfOk result (λ r. IsFalse r.1 → held_run M.rules (slots_above (last_place r.0.state.kept) r.0.state.orders) r.0 ≡ r.0) }
     ensures fewer { IfOk result (λ r. length (slots_above (last_place r.0.state.kept) r.0.state.orders) + (if r.1 then 1 else 0) ≡ length (slots_above (last_place progress.state.kept) progress.state.orders)) }
 {
@@ -471,6 +484,7 @@ fn drop_next<M: Machine>(progress: Progress<M>) -> Progress<M>
 
 // An order that is next, and those that were held for it.
 fn run<M: Machine>(progress: Progress<M>, frame: &OrderFrame) -> Result<Progress<M>, Want>
+    requires active { is_leaving progress.state ≡ false }
     requires leaf { signs_for M.rules progress.state frame.now.ask ≤ leaves_of progress.state }
     requires room { last_place progress.state.kept < window_of progress.state }
     requires order { IsOrderReady frame.now }
@@ -481,6 +495,7 @@ fn run<M: Machine>(progress: Progress<M>, frame: &OrderFrame) -> Result<Progress
 
 /// An order that is next, and those that were held for it; with that the step ends.
 pub fn run_all<M: Machine>(progress: Progress<M>, frame: &OrderFrame) -> Result<Moved<M>, Want>
+    requires active { is_leaving progress.state ≡ false }
     requires leaf { signs_for M.rules progress.state frame.now.ask ≤ leaves_of progress.state }
     requires room { last_place progress.state.kept < window_of progress.state }
     requires order { IsOrderReady frame.now }

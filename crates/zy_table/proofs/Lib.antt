@@ -1,1 +1,4 @@
+pub mod Owed
 pub mod RangeLemmas
+pub mod ReportLemmas
+pub mod SentLemmas

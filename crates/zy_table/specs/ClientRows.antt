@@ -32,6 +32,7 @@ use Rattle.zy_cert.specs.Misbehaviour.{conflict}
 use Rattle.zy_cert.specs.Votes.{Poll, answer_to, poll_after}
 use Rattle.zy_cert.specs.declared.votes.Vote.{Vote}
 use Rattle.zy_cert.specs.declared.votes.Vote.TheVariants.{Counted, Full, Repeat, Mixed}
+use Rattle.zy_table.specs.declared.deeds.AnyFrame.TheVariants.{Plain}
 use Rattle.zy_table.specs.declared.deeds.To.TheVariants.{All, One}
 use Rattle.zy_table.specs.Roles.{is_replica, is_primary_of}
 use Rattle.zy_table.specs.declared.client.Commit.{Commit}
@@ -52,7 +53,7 @@ asked s ask =
     record {
       answer = Taken;
       state = record s { sealer = spent_one s.sealer; stamp = ask.stamp; waiting = Some signed; responses = no_responses s.counts; commit = None };
-      sent = record { to = One (Replica (record { 0 = s.known_view.0 % s.counts.n })); frame = frames.Request signed } ∷ [];
+      sent = record { to = One (Replica (record { 0 = s.known_view.0 % s.counts.n })); frame = Plain (frames.Request signed) } ∷ [];
       said = ask ∷ [];
     }
 
@@ -159,7 +160,7 @@ told (Some orders) s =
     record {
       answer = Taken;
       state = record s { blamed = s.blamed ++ orders.1.stmt.view ∷ [] };
-      sent = record { to = All; frame = frames.Pom orders.0 orders.1 } ∷ [];
+      sent = record { to = All; frame = Plain (frames.Pom orders.0 orders.1) } ∷ [];
       said = [];
     }
 
@@ -251,13 +252,13 @@ send_commit s spec reply =
     record {
       answer = Taken;
       state = record s { commit = Some (record { spec = spec; reply = reply; locals = locals_for s.counts.local spec s.commit }) };
-      sent = record { to = All; frame = frames.Commit (certificate_of s spec) } ∷ [];
+      sent = record { to = All; frame = Plain (frames.Commit (certificate_of s spec)) } ∷ [];
       said = [];
     }
 
 -- the request goes to all replicas
 abbrev pub ask_all : ClientState → Signed Ask → ClientOutcome
-ask_all s waiting = record { answer = Taken; state = s; sent = record { to = All; frame = frames.Request waiting } ∷ []; said = [] }
+ask_all s waiting = record { answer = Taken; state = s; sent = record { to = All; frame = Plain (frames.Request waiting) } ∷ []; said = [] }
 
 abbrev pub ask_or_commit : ClientState → Signed Ask → Option Response → ClientOutcome
 ask_or_commit s waiting None = ask_all s waiting

@@ -9,8 +9,12 @@ use Rattle.zy_base.specs.declared.step.Answer.TheVariants.{Refused}
 use Rattle.zy_base.specs.declared.step.Spoken.{Spoken}
 use Rattle.zy_parts.specs.Numbers as numbers
 use Rattle.zy_parts.specs.Signing.{text_of}
-use Rattle.zy_parts.specs.Statements.{order_fields, spec_fields, local_fields, confirm_fields, hole_fields, check_fields}
+use Rattle.zy_parts.specs.Statements.{order_fields, spec_fields, local_fields, confirm_fields, hole_fields, hate_fields, check_fields}
+use Rattle.zy_parts.specs.Reports.{change_fields, new_fields, began_fields}
 use Rattle.zy_frames.specs.declared.frame.Frame.{Frame}
+use Rattle.zy_vframes.specs.declared.frame.ViewFrame.{ViewFrame}
+use Rattle.zy_table.specs.declared.deeds.AnyFrame.{AnyFrame}
+use Rattle.zy_table.specs.declared.deeds.AnyFrame.TheVariants.{Plain, View}
 use Rattle.zy_table.specs.declared.deeds.To.{To}
 use Rattle.zy_table.specs.declared.deeds.Sent.{Sent}
 use Rattle.zy_table.specs.declared.deeds.Body.{Body}
@@ -31,8 +35,14 @@ pub record Going (S : Type 0) : Type 0 where
   pub deeds : Deeds
 
 -- with one more frame sent, and with one more act
+abbrev pub send_any : {S : Type 0} → To → AnyFrame → Going S → Going S
+send_any to frame g = record g { deeds = record g.deeds { sent = g.deeds.sent ++ record { to = to; frame = frame } ∷ [] } }
+
 abbrev pub send : {S : Type 0} → To → Frame → Going S → Going S
-send to frame g = record g { deeds = record g.deeds { sent = g.deeds.sent ++ record { to = to; frame = frame } ∷ [] } }
+send to frame g = send_any to (Plain frame) g
+
+abbrev pub send_view : {S : Type 0} → To → ViewFrame → Going S → Going S
+send_view to frame g = send_any to (View frame) g
 
 abbrev pub act : {S : Type 0} → Act → Going S → Going S
 act done g = record g { deeds = record g.deeds { acts = g.deeds.acts ++ done ∷ [] } }
@@ -71,7 +81,11 @@ text_by me (bodies.Spec spec) = text_of numbers.spec spec_fields me spec
 text_by me (bodies.Local local) = text_of numbers.local local_fields me local
 text_by me (bodies.Confirm confirm) = text_of numbers.confirm confirm_fields me confirm
 text_by me (bodies.Hole hole) = text_of numbers.hole hole_fields me hole
+text_by me (bodies.Hate hate) = text_of numbers.hate hate_fields me hate
 text_by me (bodies.Check check) = text_of numbers.check check_fields me check
+text_by me (bodies.Change change) = text_of numbers.change change_fields me change
+text_by me (bodies.New new) = text_of numbers.new new_fields me new
+text_by me (bodies.Began began) = text_of numbers.began began_fields me began
 
 -- the statements in order, each with what stood, and the number of entries that were executed before it
 abbrev pub said_from : Party → ℕ → List Act → List Spoken

@@ -27,8 +27,8 @@ use Rattle.zy_check.specs.Judging.{after_spec, after_check}
 use Rattle.zy_table.specs.declared.deeds.To.TheVariants.{All}
 use Rattle.zy_table.specs.declared.deeds.Body.TheVariants as bodies
 use Rattle.zy_table.specs.declared.deeds.Act.TheVariants.{Says}
-use Rattle.zy_table.specs.declared.kept.Certificate.{Certificate}
 use Rattle.zy_table.specs.declared.kept.OwnCheckpoint.{OwnCheckpoint}
+use Rattle.zy_change.specs.Views.{is_further}
 use Rattle.zy_table.specs.State.{State, own_view, stood_of, spent}
 use Rattle.zy_table.specs.Deeds.{Going, send, act}
 
@@ -71,14 +71,12 @@ own_at R s place =
 
 -- ---- the certificate
 
-abbrev pub is_further : Place → Option Certificate → Bool
-is_further place None = true
-is_further place (Some kept) = nat_lt kept.place.0 place.0
-
 -- a certificate is kept where it is the first or further
 abbrev pub with_certificate : {S : Type 0} → State S → Place → List (Signed Spec) → State S
 with_certificate s place specs =
-    if is_further place s.certificate then record s { certificate = Some (record { place = place; specs = specs }) } else s
+    if is_further place s.views.specs
+    then record s { views = record s.views { specs = Some (record { place = place; specs = specs }) } }
+    else s
 
 -- so many of the first, where there are so many
 abbrev pub first_of : {A : Type 0} → ℕ → List A → Option (List A)

@@ -11,13 +11,14 @@ use Rattle.zy_frames.specs.declared.frame.OrderFrame.{OrderFrame}
 use Rattle.zy_frames.specs.declared.frame.Frame.TheVariants as frames
 use Rattle.zy_exec.specs.Kept.{last_place}
 use Rattle.zy_admit.specs.Orders.{orders_from}
+use Rattle.zy_table.specs.declared.deeds.AnyFrame.TheVariants.{Plain}
 use Rattle.zy_table.specs.declared.deeds.To.TheVariants.{All, One}
 use Rattle.zy_table.specs.declared.deeds.Sent.{Sent}
 use Rattle.zy_table.specs.State.{State}
 use Rattle.zy_table.specs.Deeds.{Outcome, send, refused, ends, begin}
 
 abbrev pub order_to : Party → OrderFrame → Sent
-order_to by frame = record { to = One by; frame = frames.Order frame }
+order_to by frame = record { to = One by; frame = Plain (frames.Order frame) }
 
 abbrev pub fill_with : {S : Type 0} → State S → Signed Hole → List OrderFrame → Outcome S
 fill_with s hole [] =

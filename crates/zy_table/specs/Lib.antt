@@ -10,6 +10,12 @@ pub mod Confirms
 pub mod Checkpoints
 pub mod Roles
 pub mod Step
+pub mod Leaving
+pub mod Hates
+pub mod Misbehaviour
+pub mod Changes
+pub mod Adopting
+pub mod Whole
 pub mod ClientState
 pub mod ClientRows
 pub mod Sending

@@ -41,8 +41,9 @@ in_role s (frames.LocalCommit local) = false
 in_role s (frames.ConfirmReq confirm ask) =
     is_replica confirm.by && (is_client ask.by && is_primary_of s.counts confirm.stmt.view.0 (Replica s.me))
 in_role s (frames.FillHole hole) = is_replica hole.by
-in_role s (frames.Hate hate) = false
-in_role s (frames.Pom first second) = false
+in_role s (frames.Hate hate) = is_replica hate.by
+in_role s (frames.Pom first second) =
+    is_primary_of s.counts first.stmt.view.0 first.by && is_primary_of s.counts second.stmt.view.0 second.by
 in_role s (frames.Checkpoint check) = is_replica check.by
 
 -- ---- views

@@ -2,11 +2,9 @@
 use Rattle.std.specs.Prelude.{ℕ, ◌+◌, ◌-◌, ◌*◌, ◌%◌, ◌^◌, min, nat_eq, ◌||◌, Bool, true, false, List, [], slice_index_or, slice_set, replicate, Option, Some, None, is_some}
 use Rattle.std.specs.List.{list_any}
 use Rattle.zy_base.specs.Machine.{Rules}
-use Rattle.zy_base.specs.Step.{view_of}
 use Rattle.zy_base.specs.declared.counts.Counts.{Counts}
 use Rattle.zy_base.specs.declared.ids.ReplicaId.{ReplicaId}
 use Rattle.zy_base.specs.declared.ids.ClientId.{ClientId}
-use Rattle.zy_base.specs.declared.ids.View.{View}
 use Rattle.zy_base.specs.declared.ids.Party.{Party}
 use Rattle.zy_base.specs.declared.ids.Party.TheVariants.{Replica}
 use Rattle.zy_base.specs.declared.step.Mode.{Mode}
@@ -18,6 +16,7 @@ use Rattle.zy_seal.specs.Keys.{Keys}
 use Rattle.zy_seal.specs.Sealing.{SealerState, spent_one}
 use Rattle.zy_parts.specs.declared.signed.Signed.{Signed}
 use Rattle.zy_parts.specs.declared.statements.Spec.{Spec}
+use Rattle.zy_parts.specs.declared.statements.Hate.{Hate}
 use Rattle.zy_parts.specs.declared.statements.Hole.{Hole}
 use Rattle.zy_parts.specs.declared.statements.Local.{Local}
 use Rattle.zy_exec.specs.Replay.{origin}
@@ -27,7 +26,8 @@ use Rattle.zy_exec.specs.Snapshot.{snapshot_of}
 use Rattle.zy_admit.specs.Orders.{Orders, no_orders}
 use Rattle.zy_check.specs.Board.{Board}
 use Rattle.zy_check.specs.Board as boards
-use Rattle.zy_table.specs.declared.kept.Certificate.{Certificate}
+use Rattle.zy_change.specs.Views.{Views}
+use Rattle.zy_change.specs.Views as views
 use Rattle.zy_table.specs.declared.kept.Pending.{Pending}
 
 pub record State (S : Type 0) : Type 0 where
@@ -36,9 +36,8 @@ pub record State (S : Type 0) : Type 0 where
   -- the public keys of the group, and itself with its secret key
   pub keys : Keys
   pub sealer : SealerState
-  pub mode : Mode
-  -- the last view in which it was active
-  pub last_view : View
+  -- its mode, and what it keeps for changes of view
+  pub views : Views
   -- its history, as far as it is kept
   pub kept : Kept S
   -- the orders above the stable place, executed or held
@@ -51,10 +50,10 @@ pub record State (S : Type 0) : Type 0 where
   pub specs : List (Option (Signed Spec))
   -- for each client the request that waits for its order
   pub pending : List (Option Pending)
-  -- its furthest commit certificate
-  pub certificate : Option Certificate
   -- the local commits that it said, from the stable place on
   pub locals : List (Signed Local)
+  -- the hate that it said last
+  pub hate : Option (Signed Hate)
 
 -- a replica that begins
 abbrev pub start_of : {S : Type 0} → Rules S → ℕ → ReplicaId → Counts → Keys → SealerState → State S
@@ -64,29 +63,28 @@ start_of R interval me counts keys sealer =
       counts = counts;
       keys = keys;
       sealer = sealer;
-      mode = Active (record { 0 = 0 });
-      last_view = record { 0 = 0 };
+      views = views.start_of counts me interval;
       kept = record { interval = interval; base = origin R; entries = [] };
       orders = no_orders 0;
       board = boards.start_of interval (digest_of_snapshot (snapshot_of R (origin R)));
       hole = None;
       specs = replicate 64 None;
       pending = replicate 64 None;
-      certificate = None;
       locals = [];
+      hate = None;
     }
 
 -- ---- what is read of it
 
 abbrev pub own_view : {S : Type 0} → State S → ℕ
-own_view s = (view_of s.mode).0
+own_view s = views.own_view s.views
 
 abbrev pub is_leaving_mode : Mode → Bool
 is_leaving_mode (Active view) = false
 is_leaving_mode (Leaving view) = true
 
 abbrev pub is_leaving : {S : Type 0} → State S → Bool
-is_leaving s = is_leaving_mode s.mode
+is_leaving s = is_leaving_mode s.views.mode
 
 -- the primary of a view
 abbrev pub primary_of : Counts → ℕ → Party
@@ -100,7 +98,7 @@ abbrev pub window_of : {S : Type 0} → State S → ℕ
 window_of s = min (s.orders.base + 2 * s.kept.interval) (2 ^ 62 - 1)
 
 abbrev pub stood_of : {S : Type 0} → Rules S → State S → Stood
-stood_of R s = record { mode = s.mode; length = record { 0 = last_place s.kept }; head = (now_of R s.kept).head }
+stood_of R s = record { mode = s.views.mode; length = record { 0 = last_place s.kept }; head = (now_of R s.kept).head }
 
 -- how many statements it can still sign
 abbrev pub leaves_of : {S : Type 0} → State S → ℕ
@@ -134,4 +132,4 @@ timers_in (Active view) waiting = record { request = waiting; change = false; an
 timers_in (Leaving view) waiting = record { request = false; change = true; answer = false }
 
 abbrev pub timers_of : {S : Type 0} → State S → Timers
-timers_of s = timers_in s.mode (waits s)
+timers_of s = timers_in s.views.mode (waits s)

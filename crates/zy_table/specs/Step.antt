@@ -57,7 +57,7 @@ decoded R s (Err fault) = refused (causes.NotFrame fault) s
 decoded R s (Ok frame) = unless (screen s.keys (parts_of frame)) s (hear R s frame)
 
 abbrev pub timer : {S : Type 0} → State S → TimerKind → Outcome S
-timer s timers.Request = ask_again s s.mode s.hole
+timer s timers.Request = ask_again s s.views.mode s.hole
 timer s timers.Change = ends Taken (begin s)
 timer s timers.Answer = ends Taken (begin s)
 

@@ -1,7 +1,8 @@
-use zy_base::{Bytes, Digest, Items, Party, Place, Stood};
+use zy_base::{Bytes, Cause, Digest, Items, Party, Place, Stood};
 use zy_chain::Entry;
 use zy_frames::Frame;
-use zy_parts::{Check, Confirm, Hole, Local, Order, Spec};
+use zy_parts::{Began, Change, Check, Confirm, Hate, Hole, Local, New, Order, Spec};
+use zy_vframes::ViewFrame;
 
 /// To whom a frame goes.
 #[derive(Clone, Copy, Debug, PartialEq, Eq)]
@@ -11,26 +12,37 @@ pub enum To {
     One(Party),
 }
 
+/// A frame of normal operation, or one of a view change.
+#[derive(Debug, Drop)]
+pub enum AnyFrame {
+    Plain(Frame),
+    View(ViewFrame),
+}
+
 /// A frame that a step sends.
 #[derive(Debug, Drop)]
 pub struct Sent {
     pub to: To,
-    pub frame: Frame,
+    pub frame: AnyFrame,
 }
 
 /// A statement that a step signs.
-#[derive(Clone, Copy, Debug, PartialEq, Eq)]
+#[derive(Debug, Drop)]
 pub enum Body {
     Order(Order),
     Spec(Spec),
     Local(Local),
     Confirm(Confirm),
     Hole(Hole),
+    Hate(Hate),
     Check(Check),
+    Change(Change),
+    New(New),
+    Began(Began),
 }
 
 /// A statement with what stood when it was signed.
-#[derive(Clone, Copy, Debug, PartialEq, Eq)]
+#[derive(Debug, Drop)]
 pub struct Remark {
     pub body: Body,
     pub stood: Stood,
@@ -63,4 +75,13 @@ pub enum Act {
 pub struct Deeds {
     pub sent: Items<Sent>,
     pub acts: Items<Act>,
+}
+
+/// Whether the history with which a view begins can be taken up.
+#[derive(Clone, Copy, Debug, PartialEq, Eq)]
+pub enum Verdict {
+    Take,
+    /// Its entries stand on a snapshot that the replica hasn't.
+    Wait,
+    Refuse(Cause),
 }

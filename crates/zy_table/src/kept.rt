@@ -1,4 +1,3 @@
-use zy_base::{Items, Place};
 use zy_parts::{Ask, Check, Confirm, Signed, Spec};
 
 /// A request that waits at a backup for its order, and what was said of it to the primary.
@@ -6,13 +5,6 @@ use zy_parts::{Ask, Check, Confirm, Signed, Spec};
 pub struct Pending {
     pub confirm: Signed<Confirm>,
     pub ask: Signed<Ask>,
-}
-
-/// A commit certificate: equal signed responses of different replicas, and the place that they name.
-#[derive(Clone, Debug, Drop)]
-pub struct Certificate {
-    pub place: Place,
-    pub specs: Items<Signed<Spec>>,
 }
 
 /// What the own history says at a multiple of the checkpoint interval: the response to the entry there, and the

@@ -8,6 +8,6 @@ mod kept;
 mod sending;
 
 pub use client::{Commit, Done, Path, Response};
-pub use deeds::{Act, Body, Deeds, Gains, Got, Remark, Sent, To};
-pub use kept::{Certificate, OwnCheckpoint, Pending};
+pub use deeds::{Act, AnyFrame, Body, Deeds, Gains, Got, Remark, Sent, To, Verdict};
+pub use kept::{OwnCheckpoint, Pending};
 pub use sending::outgoing;

@@ -1,16 +1,18 @@
 ghost use Rattle.std.specs.Prelude.{◌≡◌, ◌++◌, OnOk, IfOk};
 ghost use Rattle.std.specs.List.{AllByRecursion};
-ghost use Rattle.zy_frames.specs.Frames.{IsFrameInRange, spelling};
-ghost use Rattle.zy_table.specs.Sending.{copies, sendings_of, outgoing_to};
+ghost use Rattle.zy_frames.specs.Frames as plain;
+ghost use Rattle.zy_vframes.specs.ViewFrames as views;
+ghost use Rattle.zy_table.specs.Sending.{CanBeSent, spelling_of, copies, sendings_of, outgoing_to};
 
-use crate::{Sent, To};
+use crate::{AnyFrame, Sent, To};
 use std::alloc::Global;
 use zy_base::{Bytes, Items, Outgoing, Party, Want};
-use zy_frames::{EncodeFault, Frame, encode};
+use zy_frames::{EncodeFault, Frame};
+use zy_vframes::ViewFrame;
 
 /// The frames as bytes for each of their receivers, where these are all. Each frame is encoded once.
 pub fn outgoing(alloc: Global, all: &[Party], sent: &[Sent]) -> Result<Outgoing, Want>
-    requires { AllByRecursion (λ s. IsFrameInRange s.frame) sent.now }
+    requires { AllByRecursion (λ s. CanBeSent s.frame) sent.now }
     ensures { IfOk result (λ out. out ≡ outgoing_to all.now sent.now) }
 {
     let mut out = Items::new(alloc);
@@ -21,7 +23,7 @@ pub fn outgoing(alloc: Global, all: &[Party], sent: &[Sent]) -> Result<Outgoing,
 }
 
 fn send(alloc: Global, all: &[Party], sent: &Sent, out: &mut Outgoing) -> Result<(), Want>
-    requires { IsFrameInRange sent.now.frame }
+    requires { CanBeSent sent.now.frame }
     ensures { OnOk result (out.new ≡ out.old ++ sendings_of all.now sent.now) }
 {
     let bytes = encoded(alloc, &sent.frame)?;
@@ -31,11 +33,33 @@ fn send(alloc: Global, all: &[Party], sent: &Sent, out: &mut Outgoing) -> Result
     }
 }
 
-fn encoded(alloc: Global, frame: &Frame) -> Result<Bytes, Want>
-    requires { IsFrameInRange frame.now }
-    ensures { IfOk result (λ bytes. bytes ≡ spelling frame.now) }
+fn encoded(alloc: Global, frame: &AnyFrame) -> Result<Bytes, Want>
+    requires { CanBeSent frame.now }
+    ensures { IfOk result (λ bytes. bytes ≡ spelling_of frame.now) }
 {
-    match encode(alloc, frame) {
+    match frame {
+        AnyFrame::Plain(frame) => plain_bytes(alloc, frame),
+        AnyFrame::View(frame) => view_bytes(alloc, frame),
+    }
+}
+
+fn plain_bytes(alloc: Global, frame: &Frame) -> Result<Bytes, Want>
+    requires { plain.IsFrameInRange frame.now }
+    ensures { IfOk result (λ bytes. bytes ≡ plain.spelling frame.now) }
+{
+    match zy_frames::encode(alloc, frame) {
+        Ok(bytes) => Ok(bytes),
+        Err(EncodeFault::TooLong) => unreachable!(),
+        Err(EncodeFault::Want) => Err(Want),
+    }
+}
+
+fn view_bytes(alloc: Global, frame: &ViewFrame) -> Result<Bytes, Want>
+    requires range { views.IsFrameInRange frame.now }
+    requires short { views.IsWithinLimits frame.now }
+    ensures { IfOk result (λ bytes. bytes ≡ views.spelling frame.now) }
+{
+    match zy_vframes::encode(alloc, frame) {
         Ok(bytes) => Ok(bytes),
         Err(EncodeFault::TooLong) => unreachable!(),
         Err(EncodeFault::Want) => Err(Want),

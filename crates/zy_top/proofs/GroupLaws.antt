@@ -13,7 +13,8 @@ use Rattle.std.proofs.lemmas.Str.{IsUtf8-from_is_utf8, is_utf8-from_IsUtf8}
 use Rattle.toml.specs.Data.{Data, Members, Items, no_items, item, as_integer, as_array, get_member}
 use Rattle.toml.specs.Parse.{parse_document}
 use Rattle.zy_group.specs.Fields.{within, number_of, number_at, different_from, at_most, listed, numbers_at, decoded, text_at, bytes_at, height_at, ots_at}
-use Rattle.zy_group.specs.Replay.{field, replay_group, text_group, IsRead, IsNoText}
+use Rattle.zy_group.specs.Reading.{field, IsRead, IsNoText}
+use Rattle.zy_group.specs.Replay.{replay_group, text_group}
 use Rattle.zy_group.specs.declared.fault.GroupFault.{GroupFault}
 use Rattle.zy_group.specs.declared.fault.GroupFault.TheVariants as faults
 use Rattle.zy_group.specs.declared.replay.ReplayGroup.{ReplayGroup}
@@ -25,12 +26,12 @@ use Rattle.zy_top.specs.Group.{group_of, plain_counts, setup_of, toml_of}
 
 -- ---- the text
 
-not_utf8 : (text : List ℕ) (r : Result ReplayGroup GroupFault) → IsNoText r → IsRead (Err 0) r
+not_utf8 : (text : List ℕ) (r : Result ReplayGroup GroupFault) → IsNoText 0 r → IsRead (Err 0) r
 not_utf8 text (Ok group) none = absurd none
 not_utf8 text (Err (faults.Field number)) none = rw none refl
 not_utf8 text (Err faults.Want) none = tt
 
-pub text_read : (text : List ℕ) (r : Result ReplayGroup GroupFault) → (IsUtf8 text → IsRead (text_group (parse_document text)) r) → (¬ IsUtf8 text → IsNoText r)
+pub text_read : (text : List ℕ) (r : Result ReplayGroup GroupFault) → (IsUtf8 text → IsRead (text_group (parse_document text)) r) → (¬ IsUtf8 text → IsNoText 0 r)
     → IsRead (group_of text) r
 text_read text r read no_text =
     elim (cases_Bool (is_utf8 text)) [

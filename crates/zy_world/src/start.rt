@@ -110,6 +110,7 @@ fn seat_replicas<M: Machine>(
 ) -> Result<Row<Replica<M>>, Want>
     requires start { IsStart setup.now }
     requires sealers { sealers.items ≡ replica_sealers setup.now }
+    requires replicas { length directory.now.replicas ≤ setup.now.counts.n }
     requires clients { length directory.now.clients ≤ 64 }
     ensures seats { IfOk result (λ row. row.seats.items ≡ map (replica_seat M.rules setup.now directory.now) (range_with_len 0 setup.now.counts.n)) }
     ensures keys { IfOk result (λ row. row.keys.items ≡ map (replica_key setup.now) (range_with_len 0 setup.now.counts.n)) }
@@ -132,6 +133,8 @@ fn seat_replica<M: Machine>(
 ) -> Result<(), Want>
     requires least { 4 ≤ setup.now.interval }
     requires most { setup.now.interval ≤ 32 }
+    requires me { id.0 < setup.now.counts.n }
+    requires replicas { length directory.now.replicas ≤ setup.now.counts.n }
     requires clients { length directory.now.clients ≤ 64 }
     requires sealer { sealer ≡ sealer_of setup.now (parties.Replica id) 0 }
     ensures seats { OnOk result (row.new.seats.items ≡ row.old.seats.items ++ replica_seat M.rules setup.now directory.now id.0 ∷ []) }

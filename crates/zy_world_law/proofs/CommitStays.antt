@@ -9,12 +9,11 @@ use Rattle.zy_chain.specs.declared.entry.Entry.{Entry}
 use Rattle.zy_law.proofs.GrownLemmas.{vouched_grown, backed_grown}
 use Rattle.zy_law.specs.Steps.{grown}
 use Rattle.zy_law.specs.World.{Spoken, Stand, Statement, World}
-use Rattle.zy_lawful.specs.Acts.{statement_of}
+use Rattle.zy_lawful.specs.Acts.{spec_statement}
 use Rattle.zy_lawful.specs.Tied.{IsVouchedBy}
 use Rattle.zy_parts.specs.declared.signed.Signed.{Signed}
 use Rattle.zy_parts.specs.declared.statements.Local.{Local}
 use Rattle.zy_table.specs.declared.client.Commit.{Commit}
-use Rattle.zy_table.specs.declared.deeds.Body.TheVariants as bodies
 use Rattle.zy_world_law.specs.Good.{IsCommitBacked, local_to}
 use Rattle.zy_world_law.specs.World.{Texts}
 use Rattle.zy_world_law.proofs.KeptTexts.{Stay, stay_kept}
@@ -37,7 +36,7 @@ module _ (u : World) (asked : ℕ → List Entry) (said : ℕ → List Spoken) (
   pub commit_later : (texts more : Texts) → Stay texts more → (c : Commit) → IsCommitBacked u texts c → IsCommitBacked later more c
   commit_later texts more stay c is =
       record {
-        certified = backed_grown u asked said past kept asks says stands u.counts.cert (statement_of (bodies.Spec c.spec)) is.certified;
+        certified = backed_grown u asked said past kept asks says stands u.counts.cert (spec_statement c.spec) is.certified;
         reply = stay_kept texts more stay c.reply is.reply;
         counted = all_later (local_to c.spec) c.locals.votes is.counted;
       }

@@ -19,7 +19,7 @@ use Rattle.zy_law.specs.Completed.IsCompleted.{fast, slow}
 use Rattle.zy_law.specs.Said.{IsVouched, IsBacked}
 use Rattle.zy_law.specs.World.{Statement}
 use Rattle.zy_lawful.proofs.Backing.{all_from, signed_backed}
-use Rattle.zy_lawful.specs.Acts.{statement_of}
+use Rattle.zy_lawful.specs.Acts.{spec_statement}
 use Rattle.zy_lawful.specs.Tied.{IsVouchedBy}
 use Rattle.zy_parts.specs.Numbers as numbers
 use Rattle.zy_parts.specs.Signing.{text_of}
@@ -33,7 +33,6 @@ use Rattle.zy_table.specs.ClientState.{ClientState, is_waiting}
 use Rattle.zy_table.specs.declared.client.Commit.{Commit}
 use Rattle.zy_table.specs.declared.client.Done.{Done}
 use Rattle.zy_table.specs.declared.client.Response.{Response}
-use Rattle.zy_table.specs.declared.deeds.Body.TheVariants as bodies
 use Rattle.zy_world_law.specs.Events.{completed_by}
 use Rattle.zy_world_law.specs.Good.{IsGood, IsClientTied, IsBackedBy, IsCommitBacked, local_to}
 use Rattle.zy_world_law.specs.Safe.{completion_of}
@@ -69,38 +68,38 @@ module _ {S : Type 0} (R : Rules S) (w : World S) (good : IsGood R w) (id : Clie
   counts_are : t.counts ≡ w.setup.counts
   counts_are = same.counts ∙ tie.counts
 
-  vouched : (number : ℕ) (r : Response) → IsBackedBy w number r → r.spec.stmt.client.0 < 64 → IsVouched (seen R w) (statement_of (bodies.Spec r.spec.stmt)) number
+  vouched : (number : ℕ) (r : Response) → IsBackedBy w number r → r.spec.stmt.client.0 < 64 → IsVouched (seen R w) (spec_statement r.spec.stmt) number
   vouched number r b client =
-      text_vouched R w number (text_of numbers.spec spec_fields (parties.Replica (record { 0 = number })) r.spec.stmt) (statement_of (bodies.Spec r.spec.stmt)) b.within b.said
+      text_vouched R w number (text_of numbers.spec spec_fields (parties.Replica (record { 0 = number })) r.spec.stmt) (spec_statement r.spec.stmt) b.within b.said
       (spec_back (parties.Replica (record { 0 = number })) r.spec.stmt (b.spelled (omega (arith, client))))
 
   module _ (waiting : Signed Ask) (held : AreHeld t waiting) where
-    vouched_at : (spec : Spec) (number : ℕ) → number < length t.responses → agrees spec (get_or t.responses number None) ≡ true → IsVouched (seen R w) (statement_of (bodies.Spec spec)) (0 + number)
+    vouched_at : (spec : Spec) (number : ℕ) → number < length t.responses → agrees spec (get_or t.responses number None) ≡ true → IsVouched (seen R w) (spec_statement spec) (0 + number)
     vouched_at spec number within is =
         let (r, there, same) = agreed_by spec (get_or t.responses number None) is in
         let own : IsHeldBy t waiting number r = held number r there in
         let client : r.spec.stmt.client.0 < 64 = omega (arith, own.client, me_is, own_number) in
-        let one : IsVouched (seen R w) (statement_of (bodies.Spec r.spec.stmt)) number = vouched number r (kept number r there) client in
+        let one : IsVouched (seen R w) (spec_statement r.spec.stmt) number = vouched number r (kept number r there) client in
         let none : number ≡ 0 + number = omega arith in
-        subst (λ (n : ℕ). IsVouched (seen R w) (statement_of (bodies.Spec spec)) n) none (subst (λ (s : Spec). IsVouched (seen R w) (statement_of (bodies.Spec s)) number) same one)
+        subst (λ (n : ℕ). IsVouched (seen R w) (spec_statement spec) n) none (subst (λ (s : Spec). IsVouched (seen R w) (spec_statement s) number) same one)
 
     -- as many responses as are equal to one stand behind it
-    pub backed : (spec : Spec) (count : ℕ) → count ≤ agreeing t spec → IsBacked (seen R w) count (statement_of (bodies.Spec spec))
+    pub backed : (spec : Spec) (count : ℕ) → count ≤ agreeing t spec → IsBacked (seen R w) count (spec_statement spec)
     backed spec count enough =
-        let them : Picked 0 count (IsVouched (seen R w) (statement_of (bodies.Spec spec))) =
-        picked (agrees spec) None (IsVouched (seen R w) (statement_of (bodies.Spec spec))) t.responses 0 count (vouched_at spec) enough in
+        let them : Picked 0 count (IsVouched (seen R w) (spec_statement spec)) =
+        picked (agrees spec) None (IsVouched (seen R w) (spec_statement spec)) t.responses 0 count (vouched_at spec) enough in
         record {
           who = them.numbers;
           many = them.many;
           different = rising_differ 0 them.numbers them.rising;
-          vouched = all_from (IsVouched (seen R w) (statement_of (bodies.Spec spec))) them.numbers them.each;
+          vouched = all_from (IsVouched (seen R w) (spec_statement spec)) them.numbers them.each;
         }
 
   -- ---- completions
 
   -- what the law reads of a response to this client, with a reply that has its digest
   told_is : (spec : Spec) (reply : List ℕ) (d : Done) → spec.client.0 ≡ id.0 → record { 0 = sha256 reply } ≡ spec.reply → d.view ≡ spec.view → d.place ≡ spec.place → d.head ≡ spec.head → d.stamp ≡ spec.stamp → d.reply ≡ reply
-      → statement_of (bodies.Spec spec) ≡ Statement.Spec (completion_of (record { client = id; done = d })).view (completion_of (record { client = id; done = d })).mark (completion_of (record { client = id; done = d })).answer
+      → spec_statement spec ≡ Statement.Spec (completion_of (record { client = id; done = d })).view (completion_of (record { client = id; done = d })).mark (completion_of (record { client = id; done = d })).answer
   told_is spec reply d client digest view place head stamp told =
       λ i. Statement.Spec (sym view i).0 (record { place = (sym place i).0; head = sym head i })
       (record { client = client i; stamp = (sym stamp i).0; reply = (sym digest ∙ ap (λ (l : List ℕ). let d : Digest = record { 0 = sha256 l } in d) (sym told)) i })

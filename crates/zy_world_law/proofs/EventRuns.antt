@@ -15,7 +15,7 @@ use Rattle.zy_frames.specs.Frames.{parts_of}
 use Rattle.zy_frames.specs.declared.frame.Frame.{Frame}
 use Rattle.zy_frames.specs.declared.frame.Frame.TheVariants as frames
 use Rattle.zy_law.specs.World.{Answer}
-use Rattle.zy_lawful.specs.Acts.{statement_of}
+use Rattle.zy_lawful.specs.Acts.{spec_statement, check_statement}
 use Rattle.zy_lawful.specs.Tied.{MayRun, MayFrameRun, MayEventRun, IsVouchedBy, response_with}
 use Rattle.zy_parts.specs.Numbers as numbers
 use Rattle.zy_parts.specs.Signing.{part_of, text_of}
@@ -30,7 +30,6 @@ use Rattle.zy_seal.specs.Screening.{answer_to}
 use Rattle.zy_seal.specs.declared.directory.SealAnswer.TheVariants as answers
 use Rattle.zy_table.specs.Roles.{in_role, is_client, is_order_of_primary, is_replica, is_primary_of}
 use Rattle.zy_table.specs.State.{State}
-use Rattle.zy_table.specs.declared.deeds.Body.TheVariants as bodies
 use Rattle.zy_parts.specs.Exact.{ask-in_range}
 use Rattle.zy_world_law.specs.Good.{IsGood}
 use Rattle.zy_world_law.specs.Honest.{forger_in}
@@ -121,9 +120,9 @@ module _ {S : Type 0} (R : Rules S) (w : World S) (good : IsGood R w) where
 
   -- a response to a client that there may be
   response_vouched : (spec : Signed Spec) → spec.stmt.client.0 < 2 ^ 32 → FitsForClients spec.stmt → is_replica spec.by ≡ true → Verifies (part_of numbers.spec spec_fields spec)
-      → IsSaid (texts_said w spec.by) (text_of numbers.spec spec_fields spec.by spec.stmt) → IsVouchedBy (seen R w) (statement_of (bodies.Spec spec.stmt)) spec.by
+      → IsSaid (texts_said w spec.by) (text_of numbers.spec spec_fields spec.by spec.stmt) → IsVouchedBy (seen R w) (spec_statement spec.stmt) spec.by
   response_vouched spec small fits role signed said =
-      part_vouched R w spec.by (text_of numbers.spec spec_fields spec.by spec.stmt) spec.sig (statement_of (bodies.Spec spec.stmt)) role (spec_back spec.by spec.stmt (fits spec.stmt.client.0 small)) signed said
+      part_vouched R w spec.by (text_of numbers.spec spec_fields spec.by spec.stmt) spec.sig (spec_statement spec.stmt) role (spec_back spec.by spec.stmt (fits spec.stmt.client.0 small)) signed said
 
   frame_runs : (s : State S) (frame : Frame) → IsReadable frame → in_role s frame ≡ true → AllByRecursion Verifies (parts_of frame) → AllByRecursion WasSaid (parts_of frame) → MayFrameRun (seen R w) frame
   frame_runs s (frames.Request ask) fits role signed said =
@@ -140,7 +139,7 @@ module _ {S : Type 0} (R : Rules S) (w : World S) (good : IsGood R w) where
   frame_runs s (frames.Hate hate) fits role signed said = tt
   frame_runs s (frames.Pom first second) fits role signed said = tt
   frame_runs s (frames.Checkpoint check) fits role signed said =
-      part_vouched R w check.by (text_of numbers.check check_fields check.by check.stmt) check.sig (statement_of (bodies.Check check.stmt)) role (check_back check.by check.stmt fits) signed.0 (said.0 signed.0)
+      part_vouched R w check.by (text_of numbers.check check_fields check.by check.stmt) check.sig (check_statement check.stmt) role (check_back check.by check.stmt fits) signed.0 (said.0 signed.0)
 
   pub event_runs : (s : State S) → s.keys ≡ keys_of w.setup → (bytes : List ℕ) → forger_in w bytes ≡ None → MayEventRun (seen R w) s (Heard bytes)
   event_runs s keys bytes none frame is clear role =

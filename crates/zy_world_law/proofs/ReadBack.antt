@@ -5,7 +5,7 @@ use Rattle.std.proofs.lemmas.List.{length-append}
 use Rattle.std.specs.Int.{w8, w32, to_be_bytes, from_be_bytes}
 use Rattle.zy_base.specs.declared.ids.ClientId.{ClientId}
 use Rattle.zy_base.specs.declared.ids.Party.{Party}
-use Rattle.zy_lawful.specs.Acts.{statement_of}
+use Rattle.zy_lawful.specs.Acts.{statement_by, order_statement, spec_statement, local_statement, check_statement}
 use Rattle.zy_parts.specs.Exact.{ask-exact, order-exact, spec-exact, local-exact, check-exact}
 use Rattle.zy_parts.specs.Numbers as numbers
 use Rattle.zy_parts.specs.Signing.{text_of}
@@ -26,14 +26,19 @@ use Rattle.zy_wire.specs.Spelling.{Spelling, IsBytes, IsExact, bytes_of, whole}
 use Rattle.zy_world_law.specs.Seen.{fields_of, statement_in, entry_in, order_read, spec_read, local_read, check_read, ask_read}
 use Rattle.std.specs.Prelude.{[], ◌∷◌}
 
--- what can be spelled; of a statement that asks for orders nothing is read
+-- what can be spelled; of a statement that asks for orders or for another view nothing is read, and none of a view change
+-- is said in view 0
 abbrev pub FitsBody : Body → Type 0
 FitsBody (bodies.Order order) = order_fields.Fits order
 FitsBody (bodies.Spec spec) = spec_fields.Fits spec
 FitsBody (bodies.Local local) = local_fields.Fits local
 FitsBody (bodies.Confirm confirm) = Unit {0}
 FitsBody (bodies.Hole hole) = Unit {0}
+FitsBody (bodies.Hate hate) = Unit {0}
 FitsBody (bodies.Check check) = check_fields.Fits check
+FitsBody (bodies.Change change) = ⊥
+FitsBody (bodies.New new) = ⊥
+FitsBody (bodies.Began began) = ⊥
 
 abbrev pub FitAll : List Act → Type 0
 FitAll [] = Unit {0}
@@ -52,19 +57,19 @@ module _ {A : Type 0} (number : ℕ) (fields : Spelling A) (exact : IsExact fiel
   fields_back : fields.Fits x → whole fields (fields_of (text_of number fields by x)) ≡ Ok x
   fields_back fits = ap (λ (bytes : List ℕ). whole fields bytes) behind_signer ∙ whole_again fields exact x fits
 
-pub order_back : (by : Party) (order : Order) → order_fields.Fits order → statement_in (text_of numbers.order order_fields by order) ≡ statement_of (bodies.Order order)
+pub order_back : (by : Party) (order : Order) → order_fields.Fits order → statement_in (text_of numbers.order order_fields by order) ≡ order_statement order
 unfolding statement_in text_of
 order_back by order fits = ap order_read (fields_back numbers.order order_fields order-exact by order fits)
 
-pub spec_back : (by : Party) (spec : Spec) → spec_fields.Fits spec → statement_in (text_of numbers.spec spec_fields by spec) ≡ statement_of (bodies.Spec spec)
+pub spec_back : (by : Party) (spec : Spec) → spec_fields.Fits spec → statement_in (text_of numbers.spec spec_fields by spec) ≡ spec_statement spec
 unfolding statement_in text_of
 spec_back by spec fits = ap spec_read (fields_back numbers.spec spec_fields spec-exact by spec fits)
 
-pub local_back : (by : Party) (local : Local) → local_fields.Fits local → statement_in (text_of numbers.local local_fields by local) ≡ statement_of (bodies.Local local)
+pub local_back : (by : Party) (local : Local) → local_fields.Fits local → statement_in (text_of numbers.local local_fields by local) ≡ local_statement local
 unfolding statement_in text_of
 local_back by local fits = ap local_read (fields_back numbers.local local_fields local-exact by local fits)
 
-pub check_back : (by : Party) (check : Check) → check_fields.Fits check → statement_in (text_of numbers.check check_fields by check) ≡ statement_of (bodies.Check check)
+pub check_back : (by : Party) (check : Check) → check_fields.Fits check → statement_in (text_of numbers.check check_fields by check) ≡ check_statement check
 unfolding statement_in text_of
 check_back by check fits = ap check_read (fields_back numbers.check check_fields check-exact by check fits)
 
@@ -72,14 +77,18 @@ pub entry_back : (client : ClientId) (by : Party) (ask : Ask) → ask_fields.Fit
 unfolding entry_in text_of
 entry_back client by ask fits = ap (ask_read client) (fields_back numbers.ask ask_fields ask-exact by ask fits)
 
-pub body_back : (by : Party) (body : Body) → FitsBody body → statement_in (text_by by body) ≡ statement_of body
+pub body_back : (by : Party) (r : ℕ) (body : Body) → FitsBody body → statement_in (text_by by body) ≡ statement_by r body
 unfolding statement_in text_of
-body_back by (bodies.Order order) fits = order_back by order fits
-body_back by (bodies.Spec spec) fits = spec_back by spec fits
-body_back by (bodies.Local local) fits = local_back by local fits
-body_back by (bodies.Confirm confirm) fits = refl
-body_back by (bodies.Hole hole) fits = refl
-body_back by (bodies.Check check) fits = check_back by check fits
+body_back by r (bodies.Order order) fits = order_back by order fits
+body_back by r (bodies.Spec spec) fits = spec_back by spec fits
+body_back by r (bodies.Local local) fits = local_back by local fits
+body_back by r (bodies.Confirm confirm) fits = refl
+body_back by r (bodies.Hole hole) fits = refl
+body_back by r (bodies.Hate hate) fits = refl
+body_back by r (bodies.Check check) fits = check_back by check fits
+body_back by r (bodies.Change change) fits = absurd fits
+body_back by r (bodies.New new) fits = absurd fits
+body_back by r (bodies.Began began) fits = absurd fits
 
 -- ---- a response whose client's number may not fit
 
@@ -115,7 +124,7 @@ spelled_same spec =
     ap (λ (bytes : List ℕ). (u62 0).spell spec.view.0 ++ ((u62 1).spell spec.place.0 ++ (digest.spell spec.head ++ (digest.spell spec.reply ++ (bytes ++ (u62 0).spell spec.stamp.0)))))
     (cut_same spec.client.0)
 
-pub spec_read_back : (by : Party) (spec : Spec) → FitsForClients spec → statement_in (text_of numbers.spec spec_fields by spec) ≡ statement_of (bodies.Spec (read_back spec))
+pub spec_read_back : (by : Party) (spec : Spec) → FitsForClients spec → statement_in (text_of numbers.spec spec_fields by spec) ≡ spec_statement (read_back spec)
 unfolding text_of
 spec_read_back by spec fits =
     ap (λ (bytes : List ℕ). statement_in (0x5a ∷ 0x59 ∷ 1 ∷ numbers.spec ∷ (party_bytes by ++ bytes))) (sym (spelled_same spec))

@@ -131,7 +131,7 @@ module _ {S : Type 0} (R : Rules S) (w : World S) (good : IsGood R w) (id : Repl
   -- ---- what the law sees of the world after it
 
   abbrev new_said : List law.Spoken
-  new_said = spoken_in (length (v.past id.0) - 1) o.deeds.acts
+  new_said = spoken_in id.0 (length (v.past id.0) - 1) o.deeds.acts
 
   abbrev new_stands : List Stand
   new_stands = stands_in (own_view s) h o.deeds.acts
@@ -145,7 +145,7 @@ module _ {S : Type 0} (R : Rules S) (w : World S) (good : IsGood R w) (id : Repl
   told : map spoken_by (map (remark_after x.past) (said_from (parties.Replica o.state.me) 0 o.deeds.acts)) ≡ new_said
   told =
       let number : length x.past - 1 + 0 ≡ length (v.past id.0) - 1 = omega (arith, ap (λ (o : Option (Replica S)). length (past_of o)) at) in
-      spoken_told (parties.Replica o.state.me) x.past 0 o.deeds.acts short.0 ∙ ap (λ (n : ℕ). spoken_in n o.deeds.acts) number
+      spoken_told (parties.Replica o.state.me) id.0 x.past 0 o.deeds.acts short.0 ∙ ap (λ (n : ℕ). spoken_in id.0 n o.deeds.acts) number
 
   liars_same : (q : ℕ) → v.liar q ≡ is_none (replica_at w' q)
   liars_same q = elim (cases_eq q id.0) [

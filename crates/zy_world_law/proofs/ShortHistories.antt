@@ -29,6 +29,7 @@ use Rattle.zy_cert.proofs.CertificateLemmas.{certified-taken}
 use Rattle.zy_cert.specs.Certificates.{IsCertificate}
 use Rattle.zy_cert.specs.Equal.{same_spec, spec-equal}
 use Rattle.zy_cert.specs.Points.{point_of_spec}
+use Rattle.zy_change.specs.declared.kept.Certificate.{Certificate}
 use Rattle.zy_check.specs.Board.{Board, Round, specs_at, without_others}
 use Rattle.zy_check.specs.Votes.{IsRising}
 use Rattle.zy_exec.specs.Kept.{Kept, known_in, last_place, longer, now_of}
@@ -52,7 +53,7 @@ use Rattle.zy_lawful.proofs.Going.{slots_from, slots_put}
 use Rattle.zy_lawful.proofs.KeptVotes.{AreKeptOf, after_check_kept, after_spec_kept, at_place, with_check_kept, with_spec_kept, with_stable_kept, without_others_kept}
 use Rattle.zy_lawful.proofs.OneEntry.{known_now}
 use Rattle.zy_lawful.proofs.Records.{IsLastOf, IsRecord}
-use Rattle.zy_lawful.proofs.Owed.{owed_counted}
+use Rattle.zy_table.proofs.Owed.{owed_counted}
 use Rattle.zy_lawful.proofs.Own.{at_of, by_test, kept_case, some_unless}
 use Rattle.zy_lms.specs.Height.{levels_of}
 use Rattle.zy_lms.specs.KeyState.{KeyState}
@@ -81,7 +82,6 @@ use Rattle.zy_table.specs.declared.deeds.Body.TheVariants as bodies
 use Rattle.zy_table.specs.declared.deeds.Got.{Got}
 use Rattle.zy_table.specs.declared.deeds.Remark.{Remark}
 use Rattle.zy_table.specs.declared.deeds.To.TheVariants.{All}
-use Rattle.zy_table.specs.declared.kept.Certificate.{Certificate}
 use Rattle.zy_table.specs.declared.kept.OwnCheckpoint.{OwnCheckpoint}
 use Rattle.zy_world_law.specs.Good.{IsShort}
 use Rattle.zy_world_law.proofs.DecodedInRange.{IsReadable, decoded_readable}
@@ -363,7 +363,7 @@ module _ {S : Type 0} (R : Rules S) (w : World) (r : ℕ) (s : State S) (h : Lis
       }
 
   -- with one leaf spent
-  spends_short : (s' : State S) → s'.me ≡ s.me → s'.mode ≡ s.mode → s'.kept ≡ s.kept → s'.sealer ≡ spent_one s.sealer → HasLeaves s 1 → IsShort s'
+  spends_short : (s' : State S) → s'.me ≡ s.me → s'.views.mode ≡ s.views.mode → s'.kept ≡ s.kept → s'.sealer ≡ spent_one s.sealer → HasLeaves s 1 → IsShort s'
   spends_short s' me mode kept sealer left =
       let leaf = has_leaf s 1 left in
       let end = short.end in
@@ -412,7 +412,7 @@ module _ {S : Type 0} (R : Rules S) (w : World) (r : ℕ) (s : State S) (h : Lis
         sound = record { signer = sound.signer; kept = sound.kept; head = sound.head };
       }))
 
-  holds_short : (s' : State S) → s'.me ≡ s.me → s'.mode ≡ s.mode → s'.kept ≡ s.kept → s'.sealer ≡ s.sealer → IsShort s'
+  holds_short : (s' : State S) → s'.me ≡ s.me → s'.views.mode ≡ s.views.mode → s'.kept ≡ s.kept → s'.sealer ≡ s.sealer → IsShort s'
   holds_short s' me mode kept sealer =
       record {
         number = subst (λ (id : ReplicaId). id.0 < 2 ^ 8) (sym me) short.number;

@@ -53,15 +53,15 @@ map_append f (x ∷ xs) ys = ap (λ (l : List _). f x ∷ l) (map_append f xs ys
 
 -- ---- statements
 
-pub spoken_told : (me : Party) (past : List Stand) (pairs : ℕ) (acts : List Act) → FitAll acts
-    → map spoken_by (map (remark_after past) (said_from me pairs acts)) ≡ spoken_in (length past - 1 + pairs) acts
-spoken_told me past pairs [] fit = refl
-spoken_told me past pairs (Says remark ∷ acts) fit =
-    ap (λ (what : Statement). record { what = what; when = length past - 1 + pairs } ∷ map spoken_by (map (remark_after past) (said_from me pairs acts))) (body_back me remark.body fit.0)
-    ∙ ap (λ (l : List Spoken). spoken_at (length past - 1 + pairs) remark ∷ l) (spoken_told me past pairs acts fit.1)
-spoken_told me past pairs (Gains got ∷ acts) fit =
+pub spoken_told : (me : Party) (r : ℕ) (past : List Stand) (pairs : ℕ) (acts : List Act) → FitAll acts
+    → map spoken_by (map (remark_after past) (said_from me pairs acts)) ≡ spoken_in r (length past - 1 + pairs) acts
+spoken_told me r past pairs [] fit = refl
+spoken_told me r past pairs (Says remark ∷ acts) fit =
+    ap (λ (what : Statement). record { what = what; when = length past - 1 + pairs } ∷ map spoken_by (map (remark_after past) (said_from me pairs acts))) (body_back me r remark.body fit.0)
+    ∙ ap (λ (l : List Spoken). spoken_at r (length past - 1 + pairs) remark ∷ l) (spoken_told me r past pairs acts fit.1)
+spoken_told me r past pairs (Gains got ∷ acts) fit =
     let one : length past - 1 + (pairs + 1) ≡ length past - 1 + pairs + 1 = omega arith in
-    spoken_told me past (pairs + 1) acts fit ∙ ap (λ (n : ℕ). spoken_in n acts) one
+    spoken_told me r past (pairs + 1) acts fit ∙ ap (λ (n : ℕ). spoken_in r n acts) one
 
 -- ---- replies
 

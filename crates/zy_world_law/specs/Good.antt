@@ -12,7 +12,7 @@ use Rattle.zy_law.specs.Completed.{IsCompleted}
 use Rattle.zy_law.specs.Lawful.{IsLawful}
 use Rattle.zy_law.specs.Said.{IsBacked}
 use Rattle.zy_law.specs.World as law
-use Rattle.zy_lawful.specs.Acts.{statement_of}
+use Rattle.zy_lawful.specs.Acts.{spec_statement}
 use Rattle.zy_lawful.specs.Tied as lawful
 use Rattle.zy_lawful.specs.Tied.{IsVouchedBy}
 use Rattle.zy_lms.specs.Height.{levels_of}
@@ -26,7 +26,6 @@ use Rattle.zy_table.specs.ClientRows.{kept_of}
 use Rattle.zy_table.specs.State.{State, own_view}
 use Rattle.zy_table.specs.declared.client.Commit.{Commit}
 use Rattle.zy_table.specs.declared.client.Response.{Response}
-use Rattle.zy_table.specs.declared.deeds.Body.TheVariants as bodies
 use Rattle.zy_world_law.specs.Events.{history_of}
 use Rattle.zy_world_law.specs.Safe.{completion_of}
 use Rattle.zy_world_law.specs.Seen.{seen}
@@ -78,7 +77,7 @@ local_to spec = law.Statement.Local spec.view.0 (record { place = spec.place.0; 
 -- A certificate that a client sent is backed and its reply is kept, and each local commit that was counted is one that its
 -- replica said, unless that lies.
 pub record IsCommitBacked (u : law.World) (texts : Texts) (c : Commit) : Type 0 where
-  pub certified : IsBacked u u.counts.cert (statement_of (bodies.Spec c.spec))
+  pub certified : IsBacked u u.counts.cert (spec_statement c.spec)
   pub reply : IsKept texts c.reply
   pub counted : AllByRecursion (λ vote. IsVouchedBy u (local_to c.spec) vote.by) c.locals.votes
 

@@ -12,10 +12,9 @@ use Rattle.zy_law.specs.Completed.{Completion, IsAgreedList}
 use Rattle.zy_law.specs.Histories.{Passes, IsEntryAt, IsFront}
 use Rattle.zy_law.specs.Said.{IsBacked}
 use Rattle.zy_law.specs.World as law_world
-use Rattle.zy_lawful.specs.Acts.{statement_of}
+use Rattle.zy_lawful.specs.Acts.{check_statement}
 use Rattle.zy_lawful.specs.Tied.{next_head, IsCheckpointOf}
 use Rattle.zy_parts.specs.declared.statements.Check.{Check}
-use Rattle.zy_table.specs.declared.deeds.Body.TheVariants as bodies
 use Rattle.zy_world_law.specs.Events.{history_of}
 use Rattle.zy_world_law.specs.Seen.{seen, asked_by}
 use Rattle.zy_world_law.specs.World.{World, Replica, Client, Completed, replica_at, client_at}
@@ -59,7 +58,7 @@ IsReplay R x = now_of R x.state.kept ≡ along R (origin R) (history_of x.past)
 
 -- `local` replicas stand behind it, each of which said it or lies; but for the checkpoint of the empty history
 abbrev pub IsStableBacked : law_world.World → Check → Type 0
-IsStableBacked u check = (check.place.0 ≡ 0) ⊎ IsBacked u u.counts.local (statement_of (bodies.Check check))
+IsStableBacked u check = (check.place.0 ≡ 0) ⊎ IsBacked u u.counts.local (check_statement check)
 
 -- its stable checkpoint is backed, and tells the head and the snapshot of its own history there
 pub record HasStable {S : Type 0} (R : Rules S) (w : World S) (x : Replica S) : Type 0 where

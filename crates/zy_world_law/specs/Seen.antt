@@ -9,7 +9,7 @@ use Rattle.zy_chain.specs.declared.entry.Entry.{Entry}
 use Rattle.zy_law.specs.World as law
 use Rattle.zy_law.specs.World.{Stand}
 use Rattle.zy_law.specs.World.Statement.{Order, Spec, Other}
-use Rattle.zy_lawful.specs.Acts.{statement_of}
+use Rattle.zy_lawful.specs.Acts.{order_statement, spec_statement, local_statement, check_statement}
 use Rattle.zy_lawful.specs.Tied.{next_head, last_reply, state_of}
 use Rattle.zy_parts.specs.Numbers as numbers
 use Rattle.zy_parts.specs.Statements.{ask_fields, order_fields, spec_fields, local_fields, check_fields, entry_of}
@@ -18,7 +18,6 @@ use Rattle.zy_parts.specs.declared.statements.Check as parts_check
 use Rattle.zy_parts.specs.declared.statements.Local as parts_local
 use Rattle.zy_parts.specs.declared.statements.Order as parts_order
 use Rattle.zy_parts.specs.declared.statements.Spec as parts_spec
-use Rattle.zy_table.specs.declared.deeds.Body.TheVariants as bodies
 use Rattle.zy_wire.specs.Spelling.{whole}
 use Rattle.zy_world_law.specs.Texts.{is_link}
 use Rattle.zy_world_law.specs.World.{World, Replica, Client, Remark, replica_at, client_at}
@@ -33,19 +32,19 @@ fields_of text = drop 9 text
 
 abbrev pub order_read : Result parts_order.Order FrameFault → law.Statement
 order_read (Err fault) = Other
-order_read (Ok order) = statement_of (bodies.Order order)
+order_read (Ok order) = order_statement order
 
 abbrev pub spec_read : Result parts_spec.Spec FrameFault → law.Statement
 spec_read (Err fault) = Other
-spec_read (Ok spec) = statement_of (bodies.Spec spec)
+spec_read (Ok spec) = spec_statement spec
 
 abbrev pub local_read : Result parts_local.Local FrameFault → law.Statement
 local_read (Err fault) = Other
-local_read (Ok local) = statement_of (bodies.Local local)
+local_read (Ok local) = local_statement local
 
 abbrev pub check_read : Result parts_check.Check FrameFault → law.Statement
 check_read (Err fault) = Other
-check_read (Ok check) = statement_of (bodies.Check check)
+check_read (Ok check) = check_statement check
 
 -- of the statements that replicas say in view 0, safety rests on orders, responses, local commits and checkpoints
 unfoldable pub statement_in : List ℕ → law.Statement

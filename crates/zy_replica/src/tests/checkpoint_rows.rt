@@ -44,28 +44,28 @@ const OTHER_STATE: Cause = Cause::WrongState(
 
 // ---- the first four orders, from the first leaf on
 
-const TAKES_1: Step = Does(
+pub const TAKES_1: Step = Does(
     ORDER_1,
     Answer::Taken,
     Left(1, 1, false, 1, 1),
     &[(CLIENT, TELLS_1_BY_0)],
 );
 
-const TAKES_2: Step = Does(
+pub const TAKES_2: Step = Does(
     ORDER_2,
     Answer::Taken,
     Left(2, 2, false, 1, 1),
     &[(CLIENT, TELLS_2_BY_1)],
 );
 
-const TAKES_3: Step = Does(
+pub const TAKES_3: Step = Does(
     ORDER_3,
     Answer::Taken,
     Left(3, 3, false, 1, 1),
     &[(CLIENT, TELLS_3_BY_2)],
 );
 
-const TAKES_4: Step = Does(
+pub const TAKES_4: Step = Does(
     ORDER_4,
     Answer::Taken,
     Left(4, 4, false, 1, 1),

@@ -1,9 +1,9 @@
 // How a row of the table is run: a replica begins, hears one event after another, and each step is compared.
 
-ghost use Rattle.std.specs.Prelude.{◌≡◌, ◌≤◌, ◌<◌, length, IfOk};
+ghost use Rattle.std.specs.Prelude.{◌≡◌, ◌≤◌, ◌<◌, length, false, IfOk};
 ghost use Rattle.zy_base.specs.declared.ids.Party.TheVariants as parties;
 ghost use Rattle.zy_exec.specs.Kept.{last_place};
-ghost use Rattle.zy_table.specs.State.{leaves_of, window_of};
+ghost use Rattle.zy_table.specs.State.{is_leaving, leaves_of, window_of};
 ghost use Rattle.zy_table.specs.Running.{signs_of};
 ghost use Rattle.zy_core.specs.Ready.{IsOrderReady};
 
@@ -39,6 +39,14 @@ pub struct Begins {
     pub apart: u64,
     pub leaf: u32,
     pub how: How,
+    pub steps_by: StepsBy,
+}
+
+// Whether it takes part in changes of view.
+#[derive(Clone, Copy)]
+pub enum StepsBy {
+    Step,
+    WholeStep,
 }
 
 // What went before, which no event brings about yet.
@@ -57,6 +65,8 @@ pub enum Step {
     Does(Input, Answer, Left, &'static [(Party, Sent)]),
     // The same, where the history has this head, since it isn't that of the first so many requests.
     Turns(Input, Answer, Left, Hash, &'static [(Party, Sent)]),
+    // It is taken, and the replica has left for this view.
+    Leaves(Input, Left, u64, &'static [(Party, Sent)]),
     // It is taken, and with that this place is stable.
     Settles(Input, Left, u64, &'static [(Party, Sent)]),
 }
@@ -75,6 +85,8 @@ pub struct Sent(pub usize, pub Hash);
 // many statements and entries the step had.
 #[derive(Clone, Copy, Debug, PartialEq, Eq)]
 pub struct Left(pub u64, pub u32, pub bool, pub usize, pub usize);
+
+const ACTIVE: Mode = Mode::Active(View(0));
 
 // What differs from the row.
 #[derive(Clone, Copy, Debug, PartialEq, Eq)]
@@ -117,7 +129,8 @@ fn sealer(alloc: Global, me: ReplicaId, leaf: u32) -> Result<Sealer, Want>
 
 // The public keys of four replicas and one client.
 fn directory(alloc: Global) -> Result<Directory, Want>
-    ensures { IfOk result (λ d. length d.clients ≤ 64) }
+    ensures replicas { IfOk result (λ d. length d.replicas ≤ 4) }
+    ensures clients { IfOk result (λ d. length d.clients ≤ 64) }
 {
     let replicas = vec![in alloc; PUBLIC, PUBLIC, PUBLIC, PUBLIC]?;
     Ok(Directory::new(alloc, replicas, vec![in alloc; PUBLIC]?))
@@ -128,7 +141,7 @@ fn anew(alloc: Global, begins: &Begins) -> Result<Core<Space>, Odd> {
         Some(counts) => counts,
         None => return Err(Odd::Begins),
     };
-    if begins.leaf > 32 || begins.apart < 4 || begins.apart > 32 {
+    if begins.leaf > 32 || begins.apart < 4 || begins.apart > 32 || begins.id >= 4 || counts.n < 4 {
         return Err(Odd::Begins);
     }
     let me = ReplicaId(begins.id);
@@ -167,7 +180,7 @@ fn unsigned_order(alloc: Global) -> Result<OrderFrame, Want>
 fn run_unkept<M: Machine>(core: Core<M>, frame: &OrderFrame) -> Result<Core<M>, Odd>
     requires { IsOrderReady frame.now }
 {
-    if core.length() >= core.window() {
+    if core.is_leaving() || core.length() >= core.window() {
         drop(core);
         return Err(Odd::Begins);
     }
@@ -182,6 +195,7 @@ fn run_unkept<M: Machine>(core: Core<M>, frame: &OrderFrame) -> Result<Core<M>, 
 }
 
 fn run_fitting<M: Machine>(core: Core<M>, frame: &OrderFrame) -> Result<Core<M>, Odd>
+    requires active { is_leaving core ≡ false }
     requires leaf { signs_of M.rules core frame.now.ask ≤ leaves_of core }
     requires room { last_place core.kept < window_of core }
     requires order { IsOrderReady frame.now }
@@ -340,19 +354,24 @@ fn have_snapshots(stepped: &Stepped<Space>) -> Result<(), Odd> {
     Ok(())
 }
 
-// In view 0 the replica is active, and of its timers only that of requests may run.
-fn has_done(stepped: &Stepped<Space>, wanted: Left, head: &[u8; 32]) -> Result<(), Odd> {
+// While the replica is active, of its timers only that of requests may run, and after that only that of changes.
+fn has_done(
+    stepped: &Stepped<Space>,
+    wanted: Left,
+    head: &[u8; 32],
+    mode: Mode,
+) -> Result<(), Odd> {
     let is = left_by(stepped);
     same(is == wanted, Odd::Left(is))?;
     let stood = Stood {
-        mode: Mode::Active(View(0)),
+        mode,
         length: Place(is.0),
         head: Digest(*head),
     };
     same(stepped.replica.stood() == stood, Odd::Stood)?;
     let timers = Timers {
         request: is.2,
-        change: false,
+        change: mode != ACTIVE,
         answer: false,
     };
     same(stepped.timers == timers, Odd::Timers)?;
@@ -376,19 +395,25 @@ fn compare(stepped: &Stepped<Space>, step: &Step, before: &Shown) -> Result<(), 
         }
         Step::Does(_, answer, left, sent) => {
             has_answer(stepped.answer, *answer)?;
-            has_done(stepped, *left, head_at(left.0)?)?;
+            has_done(stepped, *left, head_at(left.0)?, ACTIVE)?;
             same(stepped.replica.stable() == before.stable, Odd::Stable)?;
             same_frames(&stepped.out, sent)
         }
         Step::Turns(_, answer, left, head, sent) => {
             has_answer(stepped.answer, *answer)?;
-            has_done(stepped, *left, head)?;
+            has_done(stepped, *left, head, ACTIVE)?;
+            same(stepped.replica.stable() == before.stable, Odd::Stable)?;
+            same_frames(&stepped.out, sent)
+        }
+        Step::Leaves(_, left, view, sent) => {
+            has_answer(stepped.answer, Answer::Taken)?;
+            has_done(stepped, *left, head_at(left.0)?, Mode::Leaving(View(*view)))?;
             same(stepped.replica.stable() == before.stable, Odd::Stable)?;
             same_frames(&stepped.out, sent)
         }
         Step::Settles(_, left, place, sent) => {
             has_answer(stepped.answer, Answer::Taken)?;
-            has_done(stepped, *left, head_at(left.0)?)?;
+            has_done(stepped, *left, head_at(left.0)?, ACTIVE)?;
             same(stepped.replica.stable() == stable_at(*place)?, Odd::Stable)?;
             same_frames(&stepped.out, sent)
         }
@@ -402,6 +427,7 @@ fn event(alloc: Global, step: &Step) -> Result<Event, Want> {
         Step::Refuses(input, _) => input,
         Step::Does(input, _, _, _) => input,
         Step::Turns(input, _, _, _, _) => input,
+        Step::Leaves(input, _, _, _) => input,
         Step::Settles(input, _, _, _) => input,
     };
     match input {
@@ -424,10 +450,26 @@ fn replica_of(stepped: Stepped<Space>) -> Replica<Space> {
     replica
 }
 
+fn stepped_by(
+    replica: Replica<Space>,
+    steps_by: StepsBy,
+    event: Event,
+) -> Result<Stepped<Space>, Want> {
+    match steps_by {
+        StepsBy::Step => replica.step(event),
+        StepsBy::WholeStep => replica.whole_step(event),
+    }
+}
+
 // The replica after a step that is as it should be.
-pub fn takes(replica: Replica<Space>, event: Event, step: &Step) -> Result<Replica<Space>, Odd> {
+pub fn takes(
+    replica: Replica<Space>,
+    steps_by: StepsBy,
+    event: Event,
+    step: &Step,
+) -> Result<Replica<Space>, Odd> {
     let before = see(&replica);
-    let stepped = match replica.step(event) {
+    let stepped = match stepped_by(replica, steps_by, event) {
         Ok(stepped) => stepped,
         Err(_) => return Err(Odd::Want),
     };
@@ -440,9 +482,14 @@ pub fn takes(replica: Replica<Space>, event: Event, step: &Step) -> Result<Repli
     }
 }
 
-fn takes_next(alloc: Global, replica: Replica<Space>, step: &Step) -> Result<Replica<Space>, Odd> {
+fn takes_next(
+    alloc: Global,
+    replica: Replica<Space>,
+    steps_by: StepsBy,
+    step: &Step,
+) -> Result<Replica<Space>, Odd> {
     match event(alloc, step) {
-        Ok(event) => takes(replica, event, step),
+        Ok(event) => takes(replica, steps_by, event, step),
         Err(_) => {
             drop(replica);
             Err(Odd::Want)
@@ -457,7 +504,7 @@ pub fn follows(alloc: Global, row: &Row) -> Result<(), (usize, Odd)> {
         Err(odd) => return Err((0, odd)),
     };
     for (at, step) in row.steps.iter().enumerate() {
-        replica = match takes_next(alloc, replica, step) {
+        replica = match takes_next(alloc, replica, row.replica.steps_by, step) {
             Ok(replica) => replica,
             Err(odd) => return Err((at, odd)),
         };
@@ -472,7 +519,7 @@ const CUT: Step = Step::Refuses(Input::Bytes(&[]), Cause::NotFrame(FrameFault::S
 
 fn takes_cut(alloc: Global, replica: Replica<Space>, cut: &[u8]) -> Result<Replica<Space>, Odd> {
     match Bytes::from_slice(alloc, cut) {
-        Ok(bytes) => takes(replica, Event::Heard(bytes), &CUT),
+        Ok(bytes) => takes(replica, StepsBy::Step, Event::Heard(bytes), &CUT),
         Err(_) => {
             drop(replica);
             Err(Odd::Want)

@@ -55,6 +55,10 @@ pub type Hash = &'static [u8; 32];
 const REPLY: Hash =
     b"\x6e\x34\x0b\x9c\xff\xb3\x7a\x98\x9c\xa5\x44\xe6\xbb\x78\x0a\x2c\x78\x90\x1d\x3f\xb3\x37\x38\x76\x85\x11\xa3\x06\x17\xaf\xa0\x1d";
 
+// SHA-256 of the snapshot of the empty history, as another program made it.
+pub const EMPTY_STATE: Hash =
+    b"\xba\xf0\x0e\x0b\x9e\x04\xa2\x56\x3e\xe6\x64\x31\x11\x36\xc4\xf8\x4d\x22\xd5\x79\x0e\xa9\x17\x1c\x34\x4e\x60\x93\xd6\xb0\xbd\x12";
+
 // What is said, in the order of its fields, views and places as numbers. Requests and responses are those of the client.
 pub enum Statement {
     // by its stamp
@@ -73,12 +77,25 @@ pub enum Statement {
     Hate(u64),
     // view, place, head, digest of the state
     Check(u64, u64, Hash, Hash),
+    // view, place, head
+    Began(u64, u64, Hash),
 }
 
-// A part of a frame: a statement with its signer's signature, one with a signature on the text of another, or bytes.
+// A report of a replica whose stable place is 0: its last active view, the responses of its commit certificate, where
+// there are some, and the stamps of its entries.
+pub struct Told {
+    pub last: u64,
+    pub specs: &'static [(Party, Statement)],
+    pub stamps: &'static [u64],
+}
+
+// A part of a frame: a statement with its signer's signature, one with a signature on the text of another, a report for a
+// view likewise, or bytes.
 pub enum Part {
     By(Party, Statement),
     As(Party, Party, Statement),
+    Leaves(Party, u64, &'static Told),
+    LeavesAs(Party, Party, u64, &'static Told),
     Raw(&'static [u8]),
 }
 
@@ -100,6 +117,7 @@ fn number_of(stmt: &Statement) -> u8 {
         Statement::Hole(..) => 6,
         Statement::Hate(..) => 7,
         Statement::Check(..) => 8,
+        Statement::Began(..) => 11,
     }
 }
 
@@ -127,6 +145,7 @@ fn fields(alloc: Global, stmt: &Statement) -> Result<Vec<u8>, Want> {
         Statement::Hole(view, from, to) => point(alloc, *view, *from, &[&to.to_be_bytes()]),
         Statement::Hate(view) => joined(alloc, &[&view.to_be_bytes()]),
         Statement::Check(view, place, head, state) => point(alloc, *view, *place, &[*head, *state]),
+        Statement::Began(view, place, head) => point(alloc, *view, *place, &[*head]),
     }
 }
 
@@ -142,22 +161,92 @@ fn signature(alloc: Global, text: &[u8]) -> Result<Vec<u8>, Want> {
 
 fn signed(alloc: Global, by: Party, signed_as: Party, stmt: &Statement) -> Result<Vec<u8>, Want> {
     let fields = fields(alloc, stmt)?;
+    signed_fields(alloc, by, signed_as, number_of(stmt), &fields)
+}
+
+fn signed_fields(
+    alloc: Global,
+    by: Party,
+    signed_as: Party,
+    number: u8,
+    fields: &[u8],
+) -> Result<Vec<u8>, Want> {
     let signer = party_array(signed_as);
-    let text = joined(
-        alloc,
-        &[&[0x5a, 0x59, 1, number_of(stmt)], &signer, &fields],
-    )?;
+    let text = joined(alloc, &[&[0x5a, 0x59, 1, number], &signer, fields])?;
     let signature = signature(alloc, &text)?;
     joined(
         alloc,
-        &[&party_array(by), &fields, &SIGNATURE_LENGTH, &signature],
+        &[&party_array(by), fields, &SIGNATURE_LENGTH, &signature],
     )
+}
+
+// The length of a list in two bytes.
+fn count_of(length: usize) -> [u8; 2] {
+    let bytes = (length as u64).to_be_bytes();
+    [bytes[6], bytes[7]]
+}
+
+fn certificate(alloc: Global, specs: &[(Party, Statement)]) -> Result<Vec<u8>, Want> {
+    if specs.is_empty() {
+        return joined(alloc, &[&[0]]);
+    }
+    let mut bytes = joined(alloc, &[&[1], &count_of(specs.len())])?;
+    for (by, spec) in specs {
+        let spec = signed(alloc, *by, *by, spec)?;
+        bytes.extend_from_slice(&spec)?;
+    }
+    Ok(bytes)
+}
+
+fn entries(alloc: Global, stamps: &[u64]) -> Result<Vec<u8>, Want> {
+    let mut bytes = joined(alloc, &[&count_of(stamps.len())])?;
+    for stamp in stamps {
+        let entry = joined(
+            alloc,
+            &[&[0; 4], &stamp.to_be_bytes(), &[0, 16], &OPERATION],
+        )?;
+        bytes.extend_from_slice(&entry)?;
+    }
+    Ok(bytes)
+}
+
+// A view, what its report tells of how the last view began, its certificate, the stable checkpoint and the entries.
+fn change(alloc: Global, view: u64, told: &Told) -> Result<Vec<u8>, Want> {
+    let specs = certificate(alloc, told.specs)?;
+    let entries = entries(alloc, told.stamps)?;
+    let began = [0; 42];
+    joined(
+        alloc,
+        &[
+            &view.to_be_bytes(),
+            &told.last.to_be_bytes(),
+            &began,
+            &specs,
+            &[0; 48],
+            EMPTY_STATE,
+            &[0, 0],
+            &entries,
+        ],
+    )
+}
+
+fn leaves(
+    alloc: Global,
+    by: Party,
+    signed_as: Party,
+    view: u64,
+    told: &Told,
+) -> Result<Vec<u8>, Want> {
+    let change = change(alloc, view, told)?;
+    signed_fields(alloc, by, signed_as, 9, &change)
 }
 
 fn spelled(alloc: Global, part: &Part) -> Result<Vec<u8>, Want> {
     match part {
         Part::By(by, stmt) => signed(alloc, *by, *by, stmt),
         Part::As(by, signed_as, stmt) => signed(alloc, *by, *signed_as, stmt),
+        Part::Leaves(by, view, told) => leaves(alloc, *by, *by, *view, told),
+        Part::LeavesAs(by, signed_as, view, told) => leaves(alloc, *by, *signed_as, *view, told),
         Part::Raw(bytes) => joined(alloc, &[bytes]),
     }
 }

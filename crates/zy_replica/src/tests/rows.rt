@@ -2,7 +2,7 @@
 
 use super::driver::Input::{self, Frame};
 use super::driver::Step::{self, Does, Refuses, Turns};
-use super::driver::{Begins, How, Left, Row};
+use super::driver::{Begins, How, Left, Row, StepsBy};
 use super::frames::Part::{As, By};
 use super::frames::Statement::{Ask, Confirm, Hole, Order};
 use super::frames::{BACKUP, CLIENT, FOURTH, OUTSIDER, PRIMARY, STRANGER, THIRD};
@@ -15,6 +15,7 @@ pub const LEADS: Begins = Begins {
     apart: 8,
     leaf: 0,
     how: How::Anew,
+    steps_by: StepsBy::Step,
 };
 
 pub const FOLLOWS: Begins = Begins { id: 1, ..LEADS };

@@ -1,6 +1,5 @@
-use Rattle.std.proofs.Common.{◌≡◌, Option, Some, sym, ◌∙◌, ap}
+use Rattle.std.proofs.Common.{◌≡◌, Some, ◌∙◌, ap}
 use Rattle.std.specs.Prelude.{option_map}
-use Rattle.zy_base.specs.declared.ids.Digest.{Digest}
 use Rattle.zy_exec.specs.Replay.{origin}
 use Rattle.zy_exec.specs.Shots.{digest_of_snapshot}
 use Rattle.zy_exec.specs.Snapshot.{snapshot_of}

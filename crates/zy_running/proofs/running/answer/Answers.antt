@@ -1,4 +1,4 @@
-use Rattle.std.proofs.Common.{◌≡◌, ◌≤◌, Option, Some, None, subst, sym, ◌∙◌, arith}
+use Rattle.std.proofs.Common.{◌≡◌, ◌≤◌, Option, subst, sym, ◌∙◌, arith}
 use Rattle.std.specs.Prelude.{IfOk}
 use Rattle.zy_base.specs.declared.ids.Digest.{Digest}
 use Rattle.zy_table.specs.Deeds.{Going}

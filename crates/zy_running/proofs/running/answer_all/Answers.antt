@@ -1,4 +1,4 @@
-use Rattle.std.proofs.Common.{◌≡◌, ◌≤◌, Some, subst, arith}
+use Rattle.std.proofs.Common.{◌≡◌, Some, subst, arith}
 use Rattle.std.specs.Prelude.{IfOk}
 use Rattle.zy_table.specs.Deeds.{Going}
 use Rattle.zy_running.proofs.SignLemmas.{signs_few}
@@ -13,7 +13,7 @@ respond_by_copy-requires-clause-leaf g c =
 pub share-requires-clause-own : goal.share-requires-clause-own
 share-requires-clause-own g c =
     own_told g.M.Machine.rules c.args.progress c.args.order c.args.spec c.args.reply c.args.state c.requires.state c.in_ok-told.told c.in_ok-told.signed c.in_ok-told.ensures.progress c.in_ok-told.ensures.spec
-    c.requires.spec c.requires.above c.requires.within
+    c.requires.spec c.requires.view c.requires.head c.requires.above c.requires.within
 
 pub share-requires-clause-leaf : goal.share-requires-clause-leaf
 share-requires-clause-leaf g c =

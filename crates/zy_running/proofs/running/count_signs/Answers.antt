@@ -1,12 +1,21 @@
-use Rattle.std.proofs.Common.{Option, ◌∙◌, ap}
+use Rattle.std.proofs.Common.{Option, ◌∙◌, ap, subst, sym}
 use Rattle.zy_base.specs.declared.ids.Digest.{Digest}
 use Rattle.zy_parts.specs.declared.statements.Spec.{Spec}
 use Rattle.zy_exec.specs.Kept.{Kept, longer}
 use Rattle.zy_admit.specs.Judging.{entry_of}
 use Rattle.zy_table.specs.State.{State}
 use Rattle.zy_table.specs.Gathering.{state_in, signs_with}
+use Rattle.zy_change.specs.Fit.{IsTrueReport}
+use Rattle.zy_table.specs.Leaving.{report_of}
+use Rattle.zy_table.proofs.ReportLemmas.{unrun-true}
 use Rattle.zy_running.proofs.SignLemmas.{signs_counted, signs_longer}
 use Rattle.zy_running.proofs.running.count_signs.Goals as goal
+
+pub unrun-requires : goal.unrun-requires
+unrun-requires g c k e is =
+    let same = sym (ap (λ (s : State g.row.M-State.Denot). s.kept) c.in_ok-core.ensures.core) in
+    subst (λ (s : State g.row.M-State.Denot). IsTrueReport s.views (report_of (record s { kept = k }))) (sym c.in_ok-core.ensures.core)
+    (unrun-true c.args.core (entry_of c.args.ask.now) c.view-own_view.ensures.ready.report k e (same ∙ is))
 
 pub returns-clause-signs : goal.returns-clause-signs
 returns-clause-signs g c =

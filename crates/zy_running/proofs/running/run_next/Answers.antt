@@ -11,3 +11,6 @@ returns-in-None-clause-ended g c ended =
     (subst (λ (x : Going g.row.M-State.Denot). x.state.orders.base ≤ last_place x.state.kept) c.progress.view_is c.in_ok-next_held.ensures.base)
     (subst (λ (x : Going g.row.M-State.Denot). stored_in x.state.orders (last_place x.state.kept + 1) ≡ None) c.progress.view_is
     (sym c.in_ok-next_held.ensures.held ∙ c.in-None.is))
+
+pub run_if_fits-ran-requires-clause-ready : goal.run_if_fits-ran-requires-clause-ready
+run_if_fits-ran-requires-clause-ready g c = c.in_ok-next_held.ensures.ready c.in-Some.held c.in-Some.is

@@ -7,9 +7,10 @@ use Rattle.zy_change.specs.Ahead.{reports_ahead}
 use Rattle.zy_change.specs.Fit.{IsFit}
 use Rattle.zy_change.specs.Views.{Views}
 use Rattle.zy_change.proofs.AheadLemmas.{reports_many}
-use Rattle.zy_change.proofs.ChoosingLemmas.{chosen}
-use Rattle.zy_change.proofs.FitLemmas.{all_began, all_spec}
+use Rattle.zy_change.proofs.ChoosingLemmas.{chosen, within_reports}
+use Rattle.zy_change.proofs.FitLemmas.{all_began, all_spec, all_well}
 use Rattle.zy_change.proofs.machine.ViewMachine.choice.Goals as goal
+use Rattle.zy_change.proofs.machine.ViewMachine.choice.Goals.{After-drop-reports-inside}
 
 pub choose-requires-clause-many : goal.choose-requires-clause-many
 choose-requires-clause-many c =
@@ -27,8 +28,14 @@ choose-requires-clause-spec c =
     subst (λ (l : List PlainReport). All (λ r. IfSome r.spec (Fits r.stretch)) l) (sym (c.as_slice.ensures.value ∙ c.in_ok-reports.ensures))
     (all_spec c.args.self.now c.args.view (option_copied c.args.heard) (option_copied c.args.own) (subst IsFit c.self.view_is c.self.invariant) c.requires.heard c.requires.own)
 
-pub returns : goal.returns
-returns c =
+answers : (c : After-drop-reports-inside) → IsAnswer c.args.self.now.counts.agree (reports_ahead c.args.self.now c.args.view (option_copied c.args.heard) (option_copied c.args.own)) c.choose.result
+answers c =
+    let reports = reports_ahead c.args.self.now c.args.view (option_copied c.args.heard) (option_copied c.args.own) in
+    subst (λ (u : Views). IsAnswer u.counts.agree reports c.choose.result) c.self.view_is
+    (subst (λ (l : List PlainReport). IsAnswer c.self.inside.counts.agree l c.choose.result) (c.as_slice.ensures.value ∙ c.in_ok-reports.ensures) c.choose.ensures)
+
+pub returns-clause-choice : goal.returns-clause-choice
+returns-clause-choice c =
     let v = c.args.self.now in
     let fit = subst IsFit c.self.view_is c.self.invariant in
     let reports = reports_ahead v c.args.view (option_copied c.args.heard) (option_copied c.args.own) in
@@ -41,5 +48,10 @@ returns c =
     (all_began v c.args.view (option_copied c.args.heard) (option_copied c.args.own) fit c.requires.heard c.requires.own)
     (all_spec v c.args.view (option_copied c.args.heard) (option_copied c.args.own) fit c.requires.heard c.requires.own)
     c.choose.result few
-    (subst (λ (u : Views). IsAnswer u.counts.agree reports c.choose.result) c.self.view_is
-    (subst (λ (l : List PlainReport). IsAnswer c.self.inside.counts.agree l c.choose.result) (c.as_slice.ensures.value ∙ c.in_ok-reports.ensures) c.choose.ensures))
+    (answers c)
+
+pub returns-clause-in_range : goal.returns-clause-in_range
+returns-clause-in_range c =
+    within_reports c.args.self.now.interval c.args.self.now.counts.agree _
+    (all_well c.args.self.now c.args.view (option_copied c.args.heard) (option_copied c.args.own) (subst IsFit c.self.view_is c.self.invariant) c.requires.heard c.requires.own)
+    c.choose.result (answers c)

@@ -1,4 +1,4 @@
-use Rattle.std.proofs.Common.{◌<◌, arith, ◌≡◌, List, Option, subst}
+use Rattle.std.proofs.Common.{arith, ◌≡◌, List, Option, subst}
 use Rattle.std.specs.Prelude.{IfOk}
 use Rattle.zy_parts.specs.declared.signed.Signed.{Signed}
 use Rattle.zy_parts.specs.declared.statements.Check.{Check}

@@ -1,29 +1,32 @@
-use Rattle.std.proofs.Common.{◌≡◌, ◌≤◌, ◌%◌, sym, subst, ◌∙◌, ap}
+use Rattle.std.proofs.Common.{◌≡◌, Some, sym, subst, ◌∙◌, ap}
 use Rattle.std.specs.Prelude.{nat_le, filter}
 use Rattle.zy_parts.specs.declared.signed.Signed.{Signed}
 use Rattle.zy_parts.specs.declared.statements.Local.{Local}
-use Rattle.zy_exec.specs.Kept.{last_place}
 use Rattle.zy_table.specs.State.{State}
-use Rattle.zy_table.specs.Gathering.{settled_at}
+use Rattle.zy_table.specs.Gathering.{proof_at, settled_at}
+use Rattle.zy_core.specs.Ready.{IsOwnReady}
 use Rattle.zy_core.proofs.ReadyLemmas.{settled_is, ready_settled}
 use Rattle.zy_core.proofs.state.Core.settle.Goals as goal
 
 pub invariant_of-self : goal.invariant_of-self
 invariant_of-self g c =
     let R = g.M.Machine.rules in
-    let place = c.args.place.0 in
-    let stays = λ (said : Signed Local). nat_le place said.stmt.place.0 in
-    let above = subst (λ (s : State g.row.M-State.Denot). s.kept.base.place ≤ place) (sym c.self.view_is) c.requires.above in
-    let below = subst (λ (s : State g.row.M-State.Denot). place ≤ last_place s.kept) (sym c.self.view_is) c.requires.below in
-    let multiple = subst (λ (s : State g.row.M-State.Denot). place % s.kept.interval ≡ 0) (sym c.self.view_is) c.requires.multiple in
-    ready_settled R _ place c.args.proof.items c.self.invariant above below multiple c.requires.proof
+    let own = c.args.own.now in
+    let proof = c.args.proof.items in
+    let stays = λ (said : Signed Local). nat_le own.check.place.0 said.stmt.place.0 in
+    let here = subst (λ (s : State g.row.M-State.Denot). IsOwnReady s.kept s.views.last_view own) (sym c.self.view_is) c.requires.own in
+    let found = subst (λ (s : State g.row.M-State.Denot). proof_at s own.check ≡ Some proof) (sym c.self.view_is) c.requires.proof in
+    ready_settled R _ own proof c.self.invariant here found c.requires.proves
     _ _ _ _ c.settle.ensures c.cut_below.ensures c.set_stable.ensures (c.locals_from.ensures ∙ ap (filter stays) c.replace-locals.ensures.value)
 
 pub returns : goal.returns
 returns g c =
     let R = g.M.Machine.rules in
-    let place = c.args.place.0 in
-    let stays = λ (said : Signed Local). nat_le place said.stmt.place.0 in
-    settled_is R _ place c.args.proof.items c.self.invariant
+    let own = c.args.own.now in
+    let proof = c.args.proof.items in
+    let stays = λ (said : Signed Local). nat_le own.check.place.0 said.stmt.place.0 in
+    let here = subst (λ (s : State g.row.M-State.Denot). IsOwnReady s.kept s.views.last_view own) (sym c.self.view_is) c.requires.own in
+    let found = subst (λ (s : State g.row.M-State.Denot). proof_at s own.check ≡ Some proof) (sym c.self.view_is) c.requires.proof in
+    settled_is R _ own proof c.self.invariant here found c.requires.proves
     _ _ _ _ c.settle.ensures c.cut_below.ensures c.set_stable.ensures (c.locals_from.ensures ∙ ap (filter stays) c.replace-locals.ensures.value)
-    ∙ ap (settled_at R place c.args.proof.items) c.self.view_is
+    ∙ ap (settled_at R own.check.place.0 proof) c.self.view_is

@@ -1,4 +1,4 @@
-use Rattle.std.proofs.Common.{List, Option, subst, sym, ◌∙◌, ap}
+use Rattle.std.proofs.Common.{List, Option, Some, subst, sym, ◌∙◌, ap}
 use Rattle.zy_parts.specs.declared.signed.Signed.{Signed}
 use Rattle.zy_parts.specs.declared.statements.Check.{Check}
 use Rattle.zy_check.specs.Board.{IsProof}
@@ -6,7 +6,10 @@ use Rattle.zy_table.specs.Gathering.{settled_at, settle_with}
 use Rattle.zy_core.proofs.state.Core.settle_own.Goals as goal
 
 pub settle-requires-clause-proof : goal.settle-requires-clause-proof
-settle-requires-clause-proof g c =
+settle-requires-clause-proof g c = sym c.in_ok-proof.ensures.proof ∙ c.in-Some.is ∙ ap Some (sym c.into_vec.ensures)
+
+pub settle-requires-clause-proves : goal.settle-requires-clause-proves
+settle-requires-clause-proves g c =
     subst (IsProof c.args.own.now.check.place.0) (sym c.into_vec.ensures) (c.in_ok-proof.ensures.proves c.in-Some.proof c.in-Some.is)
 
 pub returns-in-Some : goal.returns-in-Some

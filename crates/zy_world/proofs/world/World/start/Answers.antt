@@ -14,6 +14,14 @@ use Rattle.zy_world_law.specs.Setup.{Setup, keys_of, public_key_of}
 use Rattle.zy_world.proofs.Begun.{shows_start}
 use Rattle.zy_world.proofs.world.World.start.Goals as goal
 
+pub seat_replicas-requires-clause-replicas : goal.seat_replicas-requires-clause-replicas
+unfolding keys_of
+seat_replicas-requires-clause-replicas g c =
+    let s = c.args.setup in
+    let long = ap (λ (keys : Keys). length keys.replicas) c.in_ok-replicas.ensures.directory
+    ∙ length-map-range_with_len (λ id. public_key_of s (parties.Replica (record { 0 = id }))) 0 s.counts.n in
+    omega (arith, long)
+
 pub seat_replicas-requires-clause-clients : goal.seat_replicas-requires-clause-clients
 unfolding keys_of
 seat_replicas-requires-clause-clients g c =

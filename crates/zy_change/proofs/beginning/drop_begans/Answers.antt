@@ -1,0 +1,10 @@
+use Rattle.std.proofs.Common.{sym, ap, ◌∙◌}
+use Rattle.std.proofs.lemmas.List.Edits.{map_over_more}
+use Rattle.std.specs.Prelude.{slice_set}
+use Rattle.zy_change.specs.Views.{began_past}
+use Rattle.zy_change.proofs.beginning.drop_begans.Goals as goal
+
+pub loop-slot-preserved : goal.loop-slot-preserved
+loop-slot-preserved c =
+    ap (λ x. slice_set c.loop-slot.begans c.loop-slot.slot-index x) (c.drop_began.ensures ∙ ap (began_past c.args.view.0) (sym c.slot-item.is))
+    ∙ map_over_more (began_past c.args.view.0) c.args.begans.now c.loop-slot.begans c.loop-slot.slot-index c.slot-item.result c.loop-slot-test.true c.loop-slot.invariant c.slot-item.is

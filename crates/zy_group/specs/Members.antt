@@ -1,0 +1,37 @@
+-- What a node and an asker are told of their group.
+use Rattle.std.specs.Prelude.{ℕ, ◌+◌, ◌*◌, codes, take, drop, Option, Result, Ok, Err}
+use Rattle.toml.specs.Data.{Members}
+use Rattle.zy_group.specs.Fields.{number_at, keys_at}
+use Rattle.zy_group.specs.Reading.{field}
+use Rattle.zy_group.specs.declared.members.AskGroup.{AskGroup}
+use Rattle.zy_group.specs.declared.members.NodeGroup.{NodeGroup}
+
+-- There are 3f + 1 replicas, whose keys come first.
+unfoldable pub common : ℕ → Members → Result AskGroup ℕ
+common f table =
+    field 3 (number_at 1 64 (codes "clients") table) (λ clients.
+    field 9 (keys_at (3 * f + 1 + clients) table) (λ keys.
+    field 10 (number_at 1024 65456 (codes "port") table) (λ port.
+    Ok (record { f = f; keys = record { replicas = take (3 * f + 1) keys; clients = drop (3 * f + 1) keys }; port = port }))))
+
+-- the fields of an asker, in their order
+unfoldable pub ask_group : Members → Result AskGroup ℕ
+ask_group table = field 1 (number_at 1 4 (codes "f") table) (λ f. common f table)
+
+abbrev pub with_interval : ℕ → Result AskGroup ℕ → Result NodeGroup ℕ
+with_interval k (Ok members) = Ok (record { k = k; members = members })
+with_interval k (Err number) = Err number
+
+-- and those of a node
+unfoldable pub node_group : Members → Result NodeGroup ℕ
+node_group table =
+    field 1 (number_at 1 4 (codes "f") table) (λ f.
+    field 2 (number_at 4 32 (codes "k") table) (λ k.
+    with_interval k (common f table)))
+
+-- and before them the text, which must be TOML
+abbrev pub text_ask_group : Option Members → Result AskGroup ℕ
+text_ask_group text = field 0 text ask_group
+
+abbrev pub text_node_group : Option Members → Result NodeGroup ℕ
+text_node_group text = field 0 text node_group

@@ -1,0 +1,19 @@
+use Rattle.std.proofs.Common.{◌≡◌, None, true, subst}
+use Rattle.zy_vframes.specs.Parts.{parts_of}
+use Rattle.zy_vframes.specs.ViewFrames.{IsFrameInRange}
+use Rattle.zy_vframes.specs.declared.frame.ViewFrame.{ViewFrame}
+use Rattle.zy_seal.specs.Screening.{screen}
+use Rattle.zy_table.specs.Whole.{is_view_frame_in_role}
+use Rattle.zy_replica.proofs.MemberLemmas.{change_member, change_signer}
+use Rattle.zy_replica.proofs.whole.view_row.Goals as goal
+
+pub change-requires : goal.change-requires
+change-requires g c =
+    let frame = c.in-ViewChange.is in
+    let role = subst (λ (f : ViewFrame). is_view_frame_in_role c.args.core.counts f ≡ true) frame c.requires.role in
+    record {
+      replica = change_signer c.args.core c.in-ViewChange.vote role;
+      member = change_member c.args.core c.in-ViewChange.vote c.requires.replicas
+          (subst (λ (f : ViewFrame). screen c.args.core.keys (parts_of f) ≡ None) frame c.requires.verified) role;
+      range = subst IsFrameInRange frame c.requires.range;
+    }

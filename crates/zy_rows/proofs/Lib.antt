@@ -1,0 +1,7 @@
+mod CheckpointLemmas
+mod CommitLemmas
+mod FillLemmas
+pub mod MovedLemmas
+mod RunLemmas
+pub mod ScreenLemmas
+mod WithinLemmas

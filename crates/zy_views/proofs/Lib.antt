@@ -1,0 +1,5 @@
+mod BlameLemmas
+mod HeardLemmas
+mod JudgedLemmas
+mod OwnHateLemmas
+mod TimerLemmas

@@ -1,0 +1,11 @@
+use Rattle.std.proofs.Common.{◌≡◌, IfOk, ◌∙◌, ap, subst}
+use Rattle.zy_table.specs.Deeds.{Outcome}
+use Rattle.zy_views.specs.Judging.{asked}
+use Rattle.zy_views.proofs.TimerLemmas.{hate_asked}
+use Rattle.zy_views.proofs.timers.hate_and_ask.Goals as goal
+
+pub returns : goal.returns
+returns g c =
+    subst (λ (o : Outcome g.row.M-State.Denot). IfOk c.ask_after.result (λ (m : Outcome g.row.M-State.Denot). m ≡ o))
+    (ap (λ (o : Outcome g.row.M-State.Denot). asked o) c.in_ok-hate_view.ensures ∙ hate_asked g.M.Machine.rules c.args.core)
+    c.ask_after.ensures

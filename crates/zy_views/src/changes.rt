@@ -1,0 +1,112 @@
+//! What a replica makes of another's report.
+
+ghost use Rattle.std.specs.Prelude.{◌≡◌, ◌≤◌, ◌<◌, None, IfOk};
+ghost use Rattle.zy_evidence.specs.Reading.{IsReplica, number_of_party};
+ghost use Rattle.zy_parts.specs.Signing.{IsSignedInRange};
+ghost use Rattle.zy_parts.specs.Reports.{IsChangeInRange};
+ghost use Rattle.zy_change.specs.Fit.{IsKeptChange};
+ghost use Rattle.zy_change.specs.Ahead.{IsOwedInRange};
+ghost use Rattle.zy_table.specs.State.{leaves_of};
+ghost use Rattle.zy_table.specs.Deeds.{begin, ends};
+ghost use Rattle.zy_table.specs.Leaving.{concluded};
+ghost use Rattle.zy_table.specs.Changes.{change as change_row};
+ghost use Rattle.zy_leaving.specs.Carrying.{carried, kept_unless as kept_as};
+ghost use Rattle.zy_leaving.specs.Follows.{CanCarry, IsChangeOwed};
+
+use crate::judging::{carry, cause_against};
+use zy_base::{Machine, ReplicaId, Want};
+use zy_change::Owed;
+use zy_core::{Core, Moved};
+use zy_parts::{Change, Signed};
+
+// What a report owes, whatever the signatures will be.
+fn owed_by_change<M: Machine>(core: &Core<M>, vote: &Signed<Change>) -> Result<Owed, Want>
+    requires replica { IsReplica vote.now.by }
+    requires member { number_of_party vote.now.by < core.now.counts.n }
+    requires range { IsSignedInRange IsChangeInRange vote.now }
+    ensures owed { IfOk result (IsChangeOwed core.now vote.now) }
+    ensures in_range { IfOk result IsOwedInRange }
+{
+    let told = core.report()?;
+    let owed = core.views().change(vote, &told);
+    drop(told);
+    owed
+}
+
+// A report is kept, unless its signer is only told that the view began.
+fn kept_unless<M: Machine>(
+    core: Core<M>,
+    send: Option<ReplicaId>,
+    vote: Signed<Change>,
+) -> Result<Core<M>, Want>
+    requires member { number_of_party vote.by < core.counts.n }
+    requires kept { send ≡ None → IsKeptChange core.views.counts core.views.interval (number_of_party vote.by) vote }
+    ensures { IfOk result (λ r. r ≡ kept_as send vote core) }
+{
+    let _view = core.view();
+    match send {
+        None => core.with_change(vote),
+        Some(_) => {
+            drop(vote);
+            Ok(core)
+        }
+    }
+}
+
+// It is kept, and what it owes is carried out.
+fn carry_change<M: Machine>(
+    core: Core<M>,
+    vote: Signed<Change>,
+    owed: Owed,
+) -> Result<Moved<M>, Want>
+    requires member { number_of_party vote.by < core.counts.n }
+    requires kept { owed.send ≡ None → IsKeptChange core.views.counts core.views.interval (number_of_party vote.by) vote }
+    requires leaves { owed.signs ≤ leaves_of (kept_as owed.send vote core) }
+    requires can { CanCarry M.rules owed (begin (kept_as owed.send vote core)) }
+    requires in_range { IsOwedInRange owed }
+    ensures { IfOk result (λ m. m ≡ ends owed.answer (carried M.rules owed (begin (kept_as owed.send vote core)))) }
+{
+    match kept_unless(core, owed.send, vote) {
+        Ok(core) => carry(core.begin(), owed),
+        Err(want) => {
+            drop(owed);
+            Err(want)
+        }
+    }
+}
+
+fn change_owing<M: Machine>(
+    core: Core<M>,
+    vote: Signed<Change>,
+    owed: Owed,
+) -> Result<Moved<M>, Want>
+    requires replica { IsReplica vote.by }
+    requires member { number_of_party vote.by < core.counts.n }
+    requires range { IsSignedInRange IsChangeInRange vote }
+    requires owed { IsChangeOwed core vote owed }
+    requires in_range { IsOwedInRange owed }
+    ensures { IfOk result (λ m. m ≡ concluded core (change_row M.rules core vote)) }
+{
+    match cause_against(&core, &owed, 0) {
+        Some(cause) => core.not_heard((vote, owed), cause),
+        None => carry_change(core, vote, owed),
+    }
+}
+
+/// Another's report, all signatures in it verified. Its signer is a replica of the group. With one more report for later
+/// views than can lie the replica leaves for the least of these views; as the primary of its next view it gives the new
+/// view once it has enough reports for it.
+pub fn change<M: Machine>(core: Core<M>, vote: Signed<Change>) -> Result<Moved<M>, Want>
+    requires replica { IsReplica vote.by }
+    requires member { number_of_party vote.by < core.counts.n }
+    requires range { IsSignedInRange IsChangeInRange vote }
+    ensures { IfOk result (λ m. m ≡ concluded core (change_row M.rules core vote)) }
+{
+    match owed_by_change(&core, &vote) {
+        Ok(owed) => change_owing(core, vote, owed),
+        Err(want) => {
+            drop(vote);
+            Err(want)
+        }
+    }
+}

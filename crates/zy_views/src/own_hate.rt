@@ -1,0 +1,223 @@
+//! The own hate: it is said once, sent as often as the timer runs out, and counted as one that is heard.
+
+ghost use Rattle.std.specs.Prelude.{◌≡◌, ◌≤◌, ◌<◌, ◌+◌, true, false, Some, None, IfOk};
+ghost use Rattle.std.specs.Option.{ForSome};
+ghost use Rattle.zy_parts.specs.Numbers as numbers;
+ghost use Rattle.zy_parts.specs.Signing.{IsSignedInRange};
+ghost use Rattle.zy_parts.specs.Statements.{IsHateInRange, hate_fields};
+ghost use Rattle.zy_base.specs.declared.ids.Party.TheVariants as parties;
+ghost use Rattle.zy_frames.specs.declared.frame.Frame.TheVariants as frames;
+ghost use Rattle.zy_seal.specs.Sealing.{sealed_by};
+ghost use Rattle.zy_evidence.specs.Reading.{number_of_party};
+ghost use Rattle.zy_change.specs.Views.{is_hated_by};
+ghost use Rattle.zy_change.specs.Ahead.{IsOwedInRange};
+ghost use Rattle.zy_table.specs.declared.deeds.To.TheVariants as tos;
+ghost use Rattle.zy_table.specs.declared.deeds.Act.TheVariants as acts;
+ghost use Rattle.zy_table.specs.declared.deeds.Body.TheVariants as bodies;
+ghost use Rattle.zy_table.specs.State.{leaves_of, spent, stood_of};
+ghost use Rattle.zy_table.specs.Deeds.{ends};
+ghost use Rattle.zy_table.specs.Leaving.{concluded};
+ghost use Rattle.zy_table.specs.Hates.{hate_for, own_hate as own_of, hate_now as now_of, say_hate as said_as, with_hate_of, hate_view as hate_row};
+ghost use Rattle.zy_leaving.specs.Carrying.{carried};
+ghost use Rattle.zy_leaving.specs.Follows.{CanCarry, IsHateOwed};
+ghost use Rattle.zy_views.specs.Judging.{signs_of};
+
+use crate::hates::{count_hate, owed_by_hate};
+use crate::judging::{carry, cause_against, taken};
+use zy_base::{Bytes, Cause, Machine, Party, Want};
+use zy_change::Owed;
+use zy_core::{Core, Moved, Progress, signed_copy};
+use zy_frames::Frame;
+use zy_parts::{Hate, Signed};
+use zy_table::{Body, To};
+
+fn hate_now<M: Machine>(core: &Core<M>) -> Hate
+    ensures hate { result ≡ now_of core.now }
+    ensures range { IsHateInRange result }
+{
+    Hate { view: core.view() }
+}
+
+/// A copy of the own hate of the own view, where it was said.
+pub(crate) fn own_hate<M: Machine>(core: &Core<M>) -> Result<Option<Signed<Hate>>, Want>
+    ensures said { IfOk result (λ said. said ≡ own_of core.now) }
+    ensures range { IfOk result (λ said. ForSome said (IsSignedInRange IsHateInRange)) }
+{
+    match core.hate() {
+        Some(said) if said.stmt.view == core.view() => Ok(Some(signed_copy(said)?)),
+        _ => Ok(None),
+    }
+}
+
+// The own hate without a signature, of which nothing that it owes speaks.
+fn unsigned<M: Machine>(core: &Core<M>) -> Signed<Hate>
+    ensures by { result.by ≡ parties.Replica core.now.me }
+    ensures hate { result.stmt ≡ now_of core.now }
+    ensures member { number_of_party result.by < core.now.counts.n }
+{
+    Signed {
+        by: Party::Replica(core.views().me()),
+        stmt: hate_now(core),
+        sig: Bytes::new(core.allocator()),
+    }
+}
+
+// ---- saying it
+
+// It is signed, and kept for good. Beside it the signed one.
+fn seal_hate<M: Machine>(core: Core<M>) -> Result<(Core<M>, Signed<Hate>), Want>
+    requires leaf { 1 ≤ leaves_of core }
+    ensures core { IfOk result (λ r. r.0 ≡ record (spent core) { hate = Some (sealed_by numbers.hate hate_fields core.sealer (now_of core)) }) }
+    ensures hate { IfOk result (λ r. r.1 ≡ sealed_by numbers.hate hate_fields core.sealer (now_of core)) }
+    ensures range { IfOk result (λ r. IsSignedInRange IsHateInRange r.1) }
+{
+    let hate = hate_now(&core);
+    let (core, signed) = core.seal(hate)?;
+    let copy = signed_copy(&signed)?;
+    Ok((core.keep_hate(copy), signed))
+}
+
+fn sign_hate<M: Machine>(core: Core<M>) -> Result<Progress<M>, Want>
+    requires leaf { 1 ≤ leaves_of core }
+    ensures { IfOk result (λ g. g ≡ said_as M.rules core None) }
+{
+    let stood = core.stood();
+    let (core, signed) = seal_hate(core)?;
+    match core.begin().says(Body::Hate(signed.stmt), stood) {
+        Ok(progress) => progress.send(To::All, Frame::Hate(signed)),
+        Err(want) => {
+            drop(signed);
+            Err(want)
+        }
+    }
+}
+
+// It goes to all. It is signed where it wasn't.
+fn say_hate<M: Machine>(core: Core<M>, said: Option<Signed<Hate>>) -> Result<Progress<M>, Want>
+    requires leaf { signs_of said ≤ leaves_of core }
+    requires said { ForSome said (IsSignedInRange IsHateInRange) }
+    ensures { IfOk result (λ g. g ≡ said_as M.rules core said) }
+{
+    match said {
+        None => sign_hate(core),
+        Some(said) => core.begin().send(To::All, Frame::Hate(said)),
+    }
+}
+
+// How many statements are signed for it.
+fn signs(said: &Option<Signed<Hate>>) -> u64
+    ensures is { result ≡ signs_of said.now }
+    ensures few { result ≤ 1 }
+{
+    match said {
+        None => 1,
+        Some(_) => 0,
+    }
+}
+
+// ---- counting it
+
+// It was counted before: it goes to all again.
+fn repeat_hate<M: Machine>(core: Core<M>, said: Option<Signed<Hate>>) -> Result<Moved<M>, Want>
+    requires said { said ≡ own_of core }
+    requires range { ForSome said (IsSignedInRange IsHateInRange) }
+    requires counted { is_hated_by core.views (parties.Replica core.me) ≡ true }
+    ensures { IfOk result (λ m. m ≡ concluded core (hate_row M.rules core)) }
+{
+    if !core.has_leaves(signs(&said)) {
+        return core.not_heard(said, Cause::KeySpent);
+    }
+    Ok(taken(say_hate(core, said)?))
+}
+
+fn count_own<M: Machine>(core: Core<M>, said: Option<Signed<Hate>>) -> Result<Progress<M>, Want>
+    requires leaf { signs_of said ≤ leaves_of core }
+    requires said { ForSome said (IsSignedInRange IsHateInRange) }
+    ensures { IfOk result (λ g. g ≡ with_hate_of (parties.Replica core.me) (said_as M.rules core said)) }
+{
+    let own = unsigned(&core);
+    match say_hate(core, said) {
+        Ok(progress) => count_hate(progress, own),
+        Err(want) => {
+            drop(own);
+            Err(want)
+        }
+    }
+}
+
+// It is said and counted, and what it owes is carried out.
+fn carry_own<M: Machine>(
+    core: Core<M>,
+    said: Option<Signed<Hate>>,
+    owed: Owed,
+) -> Result<Moved<M>, Want>
+    requires leaf { signs_of said ≤ leaves_of core }
+    requires range { ForSome said (IsSignedInRange IsHateInRange) }
+    requires leaves { owed.signs ≤ leaves_of (with_hate_of (parties.Replica core.me) (said_as M.rules core said)).state }
+    requires can { CanCarry M.rules owed (with_hate_of (parties.Replica core.me) (said_as M.rules core said)) }
+    requires in_range { IsOwedInRange owed }
+    ensures { IfOk result (λ m. m ≡ ends owed.answer (carried M.rules owed (with_hate_of (parties.Replica core.me) (said_as M.rules core said)))) }
+{
+    match count_own(core, said) {
+        Ok(progress) => carry(progress, owed),
+        Err(want) => {
+            drop(owed);
+            Err(want)
+        }
+    }
+}
+
+// It is counted for the first time.
+fn first_hate<M: Machine>(
+    core: Core<M>,
+    said: Option<Signed<Hate>>,
+    owed: Owed,
+) -> Result<Moved<M>, Want>
+    requires said { said ≡ own_of core }
+    requires range { ForSome said (IsSignedInRange IsHateInRange) }
+    requires new { is_hated_by core.views (parties.Replica core.me) ≡ false }
+    requires owed { (vote : Signed Hate) → vote.by ≡ parties.Replica core.me → vote.stmt ≡ now_of core → IsHateOwed core vote owed }
+    requires in_range { IsOwedInRange owed }
+    ensures { IfOk result (λ m. m ≡ concluded core (hate_row M.rules core)) }
+{
+    match cause_against(&core, &owed, signs(&said)) {
+        Some(cause) => core.not_heard((said, owed), cause),
+        None => carry_own(core, said, owed),
+    }
+}
+
+// What the own hate owes, whatever the signatures will be.
+fn owed_by_own<M: Machine>(core: &Core<M>) -> Result<Owed, Want>
+    ensures in_range { IfOk result IsOwedInRange }
+    ensures owed { IfOk result (λ owed. (vote : Signed Hate) → vote.by ≡ parties.Replica core.now.me → vote.stmt ≡ now_of core.now → IsHateOwed core.now vote owed) }
+{
+    let own = unsigned(core);
+    let owed = owed_by_hate(core, &own);
+    drop(own);
+    owed
+}
+
+fn hate_with<M: Machine>(core: Core<M>, said: Option<Signed<Hate>>) -> Result<Moved<M>, Want>
+    requires said { said ≡ own_of core }
+    requires range { ForSome said (IsSignedInRange IsHateInRange) }
+    ensures { IfOk result (λ m. m ≡ concluded core (hate_row M.rules core)) }
+{
+    if core.views().has_hate_of(core.me()) {
+        return repeat_hate(core, said);
+    }
+    match owed_by_own(&core) {
+        Ok(owed) => first_hate(core, said, owed),
+        Err(want) => {
+            drop(said);
+            Err(want)
+        }
+    }
+}
+
+/// The own view is hated: all are told, and the own hate is counted.
+pub(crate) fn hate_view<M: Machine>(core: Core<M>) -> Result<Moved<M>, Want>
+    ensures { IfOk result (λ m. m ≡ concluded core (hate_row M.rules core)) }
+{
+    let said = own_hate(&core)?;
+    hate_with(core, said)
+}
