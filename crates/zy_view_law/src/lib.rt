@@ -1,0 +1,9 @@
+//! Changes of view are lawful. The crate has no code: its functions are laws, which have no argument and do nothing, and
+//! whose contracts speak of all worlds.
+#![tactic(auto)]
+
+mod held;
+mod honest;
+
+pub use held::held_certificates;
+pub use honest::{held_reports, honest_news};
