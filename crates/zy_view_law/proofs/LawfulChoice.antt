@@ -25,6 +25,10 @@ use Rattle.zy_view_law.specs.Held.{mark_at, IsProperNew}
 use Rattle.zy_view_law.proofs.ProvenReports.{new_valid}
 use Rattle.zy_view_law.proofs.SomeChoice.{some_choice}
 
+abbrev IsChosenBy : ℕ → List PlainReport → Choice → Type 0
+IsChosenBy agree reports (Chosen provider place head) = IsChosen link agree reports provider (mark_at place head)
+IsChosenBy agree reports (AnchorClash first second) = Unit {0}
+
 module _ (w : World) (lawful : IsLawful w) (links : w.next ≡ link) (interval : ℕ) (n : New) (is : IsProperNew w interval n) where
   some_agree : 0 < w.counts.agree
   some_agree = omega (arith, w.counts.sound.true_agreement)
@@ -53,11 +57,7 @@ module _ (w : World) (lawful : IsLawful w) (links : w.next ≡ link) (interval :
       → IsChosen link w.counts.agree (map read n.changes) provider (mark_at place head)
   chosen_is provider place head told =
       let same : Chosen there.0 (record { 0 = there.1.place }) there.1.head ≡ Chosen provider place head = answered ∙ told in
-      subst (λ (c : Choice). IsAnswerOf c) same there.2
-    where
-      abbrev IsAnswerOf : Choice → Type 0
-      IsAnswerOf (Chosen provider place head) = IsChosen link w.counts.agree (map read n.changes) provider (mark_at place head)
-      IsAnswerOf (AnchorClash first second) = Unit {0}
+      subst (λ (c : Choice). IsChosenBy w.counts.agree (map read n.changes) c) same there.2
 
   pub never_clashes : (first second : Digest) → choice_of w.counts.agree (map read n.changes) ≡ AnchorClash first second → ⊥
   never_clashes first second told = let same = answered ∙ told in absurd cc

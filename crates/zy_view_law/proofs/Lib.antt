@@ -1,7 +1,10 @@
+pub mod AdoptedLists
 pub mod Backing
-pub mod Honest
+pub mod HonestTexts
+pub mod KeptFronts
 pub mod LawfulChoice
 pub mod Lists
 pub mod ProvenReports
 pub mod ReadBack
+pub mod ReadLists
 pub mod SomeChoice

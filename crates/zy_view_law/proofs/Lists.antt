@@ -1,5 +1,5 @@
 -- Elements of lists that are put together.
-use Rattle.std.proofs.Common.{◌≡◌, ℕ, zero, suc, ◌≤◌, ◌⊎◌, inl, inr, Bool, true, false, List, [], ◌∷◌, ◌++◌, map, nat_le, refl, sym, ◌∙◌, subst, arith}
+use Rattle.std.proofs.Common.{◌≡◌, ℕ, zero, suc, ◌≤◌, ◌⊎◌, inl, inr, Bool, true, false, List, [], ◌∷◌, ◌++◌, map, get_or, nat_le, refl, sym, ◌∙◌, subst, arith}
 use Rattle.std.specs.List.{flat_map}
 use Rattle.std.specs.Prelude.{All, Any}
 use Rattle.std.proofs.lemmas.Bool.{leb-true, leb-false}
@@ -81,20 +81,20 @@ module _ {A : Type 0} (f : A → ℕ) (test : A → Bool) where
     where
       all : All (λ z. test z ≡ true → f z ≤ f y) (x ∷ xs)
       all zero d within passes = absurd cc
-      all (suc k) d within = g.most k d (omega arith)
+      all (suc k) d within passes = g.most k d (omega arith) passes
   with_first x xs true is (inl none) = inr (x, record { among = (0, x, omega arith, refl, refl); passes = is; most = all })
     where
       apart : (z : A) → test z ≡ false → test z ≡ true → f z ≤ f x
-      apart z no yes = absurd cc
+      apart z fails passes = absurd cc
 
       all : All (λ z. test z ≡ true → f z ≤ f x) (x ∷ xs)
       all zero d within passes = omega arith
-      all (suc k) d within = apart _ (none k d (omega arith))
+      all (suc k) d within passes = apart (get_or xs k d) (none k d (omega arith)) passes
   with_first x xs true is (inr (y, g)) = by (nat_le (f x) (f y)) refl
     where
       below : f x ≤ f y → All (λ z. test z ≡ true → f z ≤ f y) (x ∷ xs)
       below low zero d within passes = low
-      below low (suc k) d within = g.most k d (omega arith)
+      below low (suc k) d within passes = g.most k d (omega arith) passes
 
       above : f y ≤ f x → All (λ z. test z ≡ true → f z ≤ f x) (x ∷ xs)
       above high zero d within passes = omega arith

@@ -2,12 +2,12 @@
 use Rattle.std.proofs.Common.{◌≡◌, ℕ, zero, suc, ◌<◌, List, [], ◌∷◌, ◌++◌, length, map, drop, Option, Some, None, Ok, refl, sym, ap, ◌∙◌, arith}
 use Rattle.std.proofs.Math.Seq.{drop-append_seam}
 use Rattle.std.proofs.lemmas.List.{length-append, length-map}
-use Rattle.std.specs.Int.{w8, w32, to_be_bytes, from_be_bytes}
+use Rattle.std.specs.Int.{w8, w16, w32, to_be_bytes, from_be_bytes}
 use Rattle.std.specs.List.{flat_map}
 use Rattle.std.specs.Prelude.{option_map}
 use Rattle.zy_base.specs.declared.ids.Party.{Party}
 use Rattle.zy_chain.specs.Fields.{entry_fields}
-use Rattle.zy_evidence.specs.Reading.{mark_of_first, read, read_by, spec_of}
+use Rattle.zy_evidence.specs.Reading.{mark_of_first, number_of_party, read, read_by, spec_of}
 use Rattle.zy_choose.specs.Reports.{PlainReport}
 use Rattle.zy_law.specs.World.{Statement}
 use Rattle.zy_parts.specs.Exact.{order-exact, spec-exact, local-exact, check-exact}
@@ -94,7 +94,7 @@ module _ {S : Type 0} (fields : Spelling S) (f : S → S) (same : (x : S) → fi
   pub list_same : (xs : List (Signed S)) → list_bytes (signed fields).spell (map (with_stmt f) xs) ≡ list_bytes (signed fields).spell xs
   unfolding list_bytes
   list_same xs =
-      ap (λ (n : ℕ). bytes_of _ n ++ flat_map (signed fields).spell (map (with_stmt f) xs)) (length-map xs (with_stmt f)) ∙ ap (λ (bytes : List ℕ). bytes_of _ (length xs) ++ bytes) (flat_same xs)
+      ap (λ (n : ℕ). bytes_of w16 n ++ flat_map (signed fields).spell (map (with_stmt f) xs)) (length-map xs (with_stmt f)) ∙ ap (λ (bytes : List ℕ). bytes_of w16 (length xs) ++ bytes) (flat_same xs)
 
 certificate_same : (specs : Option (List (Signed Spec))) → optional_bytes (list_bytes (signed spec_fields).spell) (option_map (map (with_stmt spec_spelled)) specs) ≡ optional_bytes (list_bytes (signed spec_fields).spell) specs
 unfolding optional_bytes
@@ -131,7 +131,7 @@ read_same r t = λ i. record (read_by r t) { spec = spec_of_same t.specs i }
 
 reads_same : (changes : List (Signed Change)) → map read (map (with_stmt change_spelled) changes) ≡ map read changes
 reads_same [] = refl
-reads_same (c ∷ changes) = λ i. read_same _ c.stmt.told i ∷ reads_same changes i
+reads_same (c ∷ changes) = λ i. read_same (number_of_party c.by) c.stmt.told i ∷ reads_same changes i
 
 -- ---- so they are read back
 

@@ -1,5 +1,5 @@
 -- Reports that don't contradict themselves and prove one anchor have a choice, with its provider.
-use Rattle.std.proofs.Common.{◌≡◌, ℕ, zero, suc, ◌+◌, ◌-◌, ◌<◌, ◌≤◌, ◌*◌, ◌⊎◌, inl, inr, Bool, true, false, ◌&&◌, nat_le, nat_lt, List, [], ◌∷◌, length, take, fold, Option, Some, None, refl, sym, ap, ◌∙◌, subst, arith}
+use Rattle.std.proofs.Common.{◌≡◌, ℕ, zero, suc, ◌+◌, ◌-◌, ◌<◌, ◌≤◌, ◌*◌, ◌⊎◌, inl, inr, Bool, true, false, ◌&&◌, nat_le, nat_lt, List, [], ◌∷◌, length, take, fold, get_or, Option, Some, None, refl, sym, ap, ◌∙◌, subst, arith}
 use Rattle.std.specs.List.{flat_map}
 use Rattle.std.specs.Prelude.{All, Any, Contains, IfSome, count_by}
 use Rattle.std.proofs.lemmas.Bool.{and_parts, and_from, leb-true, le-leb, ltb-true, lt-ltb}
@@ -48,7 +48,7 @@ has_among s m has =
 
 never : {A : Type 0} (xs : List A) → (xs ≡ [] → ⊥) → All (λ x. true ≡ false) xs → ⊥
 never [] some none = some refl
-never (x ∷ xs) some none = let no : true ≡ false = none 0 x (omega arith) in absurd cc
+never (x ∷ xs) some none = let never_is : true ≡ false = none 0 x (omega arith) in absurd cc
 
 pub greatest_view : (reports : List PlainReport) → 0 < length reports → (view : ℕ) × IsGreatestView reports view
 greatest_view reports some =
@@ -77,7 +77,7 @@ anchor_there reports view greatest =
     ]
   where
     contained : (m : Mark) (list : List PlainReport) → Any (λ r. Any (λ x. x ≡ m) (proven r)) list → Any (λ r. Contains (proven r) m) list
-    contained m list (k, r, within, at, (i, x, inside, here, same)) = (k, r, within, at, (i, inside, subst (λ (y : Mark). _ ≡ y) same here))
+    contained m list (k, r, within, at, (i, x, inside, here, same)) = (k, r, within, at, (i, inside, subst (λ (y : Mark). get_or (proven r) i y ≡ y) same here))
 
 -- ---- what is picked past it
 
@@ -112,8 +112,8 @@ module _ (agree view : ℕ) (reports : List PlainReport) (anchor : Mark) (some :
           anchor,
           anchored
           (λ other is.
-              let no : is_agreed other ≡ false = all_at (λ x. is_agreed x ≡ false) candidates other none (agreed_among other is) in
-              let yes = agreed_told other is in
+              let misses : is_agreed other ≡ false = all_at (λ x. is_agreed x ≡ false) candidates other none (agreed_among other is) in
+              let passes : is_agreed other ≡ true = agreed_told other is in
               absurd cc)
           refl,
         )

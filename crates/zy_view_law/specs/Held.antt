@@ -1,12 +1,14 @@
 -- Signed statements that may be counted, and the reports and new views that are made of such.
-use Rattle.std.specs.Prelude.{◌≡◌, ℕ, List, length, All, Some}
+use Rattle.std.specs.Prelude.{◌≡◌, ℕ, List, length, map, slice_get, All, Some}
 use Rattle.zy_base.specs.declared.ids.Digest.{Digest}
 use Rattle.zy_base.specs.declared.ids.Party.{Party}
 use Rattle.zy_base.specs.declared.ids.Party.TheVariants.{Replica, Client}
 use Rattle.zy_base.specs.declared.ids.Place.{Place}
 use Rattle.zy_cert.specs.Signers.{AreDifferent}
 use Rattle.zy_chain.specs.Stretch.{Mark}
-use Rattle.zy_evidence.specs.Reading.{number_of_party}
+use Rattle.zy_choose.specs.Choice.{IsChosen}
+use Rattle.zy_choose.specs.Marks.{link}
+use Rattle.zy_evidence.specs.Reading.{number_of_party, read}
 use Rattle.zy_evidence.specs.WellFormed.{IsWellFormedChange}
 use Rattle.zy_law.specs.Histories.{AreKept}
 use Rattle.zy_law.specs.Said.{IsVouched}
@@ -65,3 +67,10 @@ pub record IsProperNew (w : World) (interval : ℕ) (n : New) : Type 0 where
   pub of_view : All (λ c. c.stmt.view ≡ n.view) n.changes
   pub well_formed : All (IsWellFormedChange w.counts interval) n.changes
   pub held : All (IsHeldChange w) n.changes
+
+-- Out of a proper new view this mark is chosen, and this is the report of the provider, which gives its history.
+pub record IsProvidedBy (w : World) (interval : ℕ) (n : New) (m : Mark) (c : Signed Change) : Type 0 where
+  pub proper : IsProperNew w interval n
+  pub provider : ℕ
+  pub chosen : IsChosen link w.counts.agree (map read n.changes) provider m
+  pub there : slice_get n.changes provider ≡ Some c

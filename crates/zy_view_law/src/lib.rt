@@ -2,8 +2,10 @@
 //! whose contracts speak of all worlds.
 #![tactic(auto)]
 
+mod adopted;
 mod held;
 mod honest;
 
+pub use adopted::installed_states;
 pub use held::held_certificates;
 pub use honest::{held_reports, honest_news};

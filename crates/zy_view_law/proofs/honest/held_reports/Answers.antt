@@ -1,4 +1,4 @@
-use Rattle.zy_view_law.proofs.Honest.{change_held}
+use Rattle.zy_view_law.proofs.HonestTexts.{change_held}
 use Rattle.zy_view_law.proofs.ProvenReports.{report_proven}
 use Rattle.zy_view_law.proofs.honest.held_reports.Goals as goal
 

@@ -1,7 +1,7 @@
 use Rattle.std.specs.Prelude.{map}
 use Rattle.zy_evidence.specs.Reading.{read}
 use Rattle.zy_view_law.specs.Held.{mark_at}
-use Rattle.zy_view_law.proofs.Honest.{changes_held}
+use Rattle.zy_view_law.proofs.HonestTexts.{changes_held}
 use Rattle.zy_view_law.proofs.LawfulChoice.{chosen_is, lawful_choice, never_clashes}
 use Rattle.zy_view_law.proofs.ProvenReports.{new_valid}
 use Rattle.zy_view_law.proofs.honest.honest_news.Goals as goal

@@ -1,0 +1,169 @@
+-- How what a replica keeps is tied to what it said and where it stood, in every view and while it leaves one.
+use Rattle.std.specs.Prelude.{◌≡◌, ℕ, ◌+◌, ◌-◌, ◌*◌, ◌%◌, ◌^◌, ◌<◌, ◌≤◌, List, length, map, All, slice_index_or, Option, Some, None, IfSome}
+use Rattle.zy_base.specs.Machine.{Rules}
+use Rattle.zy_base.specs.declared.ids.Digest.{Digest}
+use Rattle.zy_base.specs.declared.ids.Party.TheVariants.{Replica}
+use Rattle.zy_base.specs.declared.ids.View.{View}
+use Rattle.zy_base.specs.declared.step.Mode.{Mode}
+use Rattle.zy_base.specs.declared.step.Mode.TheVariants.{Active, Leaving}
+use Rattle.zy_chain.specs.Stretch.{Mark}
+use Rattle.zy_chain.specs.declared.entry.Entry.{Entry}
+use Rattle.zy_change.specs.Owing.{change_to}
+use Rattle.zy_change.specs.Views.{Views, own_view, specs_in, told_of}
+use Rattle.zy_change.specs.declared.kept.Accepted.{Accepted}
+use Rattle.zy_change.specs.declared.kept.Chosen.{Chosen}
+use Rattle.zy_change.specs.declared.kept.Waiting.{Waiting}
+use Rattle.zy_choose.specs.Choice.{IsChosen}
+use Rattle.zy_choose.specs.Marks.{link}
+use Rattle.zy_choose.specs.Reports.{PlainReport}
+use Rattle.zy_evidence.specs.Reading.{began_of, read, read_by, spec_of}
+use Rattle.zy_evidence.specs.WellFormed.{IsBeganProven, IsSpecProven, IsStableProven, IsWellFormedChange}
+use Rattle.zy_exec.specs.Kept.{Kept, StandsFor, last_place, stretch_of}
+use Rattle.zy_law.specs.Histories.{Passes}
+use Rattle.zy_law.specs.Lawful.{IsCovered, IsVote}
+use Rattle.zy_law.specs.Said.{Says, Stood}
+use Rattle.zy_law.specs.World.{Spoken, Statement, World}
+use Rattle.zy_parts.specs.declared.reports.Began.{Began}
+use Rattle.zy_parts.specs.declared.reports.Change.{Change}
+use Rattle.zy_parts.specs.declared.reports.New.{New}
+use Rattle.zy_parts.specs.declared.reports.Told.{Told}
+use Rattle.zy_parts.specs.declared.signed.Signed.{Signed}
+use Rattle.zy_parts.specs.declared.statements.Check.{Check}
+use Rattle.zy_parts.specs.declared.statements.Spec.{Spec}
+use Rattle.zy_view_law.specs.Held.{IsCertOf, IsHeldChange, IsHeldPart, IsProperNew, mark_at}
+use Rattle.zy_view_law.specs.Told.{began_told, check_told, response_told}
+
+-- what a replica keeps that its reports and its views rest on
+pub record Core (S : Type 0) : Type 0 where
+  pub views : Views
+  -- its history, as far as it is kept
+  pub kept : Kept S
+  -- its stable checkpoint, and the checkpoints of others that prove it
+  pub stable : Check
+  pub proof : List (Signed Check)
+
+-- the report of its last view
+abbrev pub told_by : {S : Type 0} → Core S → Told
+told_by c = told_of c.views (c.stable.view, c.stable.place, c.stable.head, c.stable.state) c.proof (stretch_of c.kept)
+
+-- its leave for a view, with a signature
+abbrev pub change_by : {S : Type 0} → Core S → View → List ℕ → Signed Change
+change_by c view sig = record { by = Replica c.views.me; stmt = change_to view (told_by c); sig = sig }
+
+-- a statement that a replica makes now, at its last stand
+abbrev pub said_now : World → ℕ → Statement → Spoken
+said_now w r statement = record { what = statement; when = length (w.past r) - 1 }
+
+-- ---- where it stands
+
+-- Its last stand has its last active view, and the history for which it stands: a leave tells just these, and whatever
+-- else it says is said of them.
+pub record IsStanding {S : Type 0} (R : Rules S) (w : World) (r : ℕ) (c : Core S) (history : List Entry) : Type 0 where
+  pub me : c.views.me.0 ≡ r
+  pub counts : c.views.counts ≡ w.counts
+  pub number : ℕ
+  pub stood : Stood w r number (record { view = c.views.last_view.0; history = history })
+  pub last : number + 1 ≡ length (w.past r)
+  pub stands : StandsFor R c.kept history
+
+-- ---- what it said
+
+-- active in its last active view, or leaving for a later one
+abbrev pub IsAhead : ℕ → Mode → Type 0
+IsAhead last (Active view) = view.0 ≡ last
+IsAhead last (Leaving view) = last < view.0
+
+-- the new view that it accepted is of this view, and this is chosen out of it
+pub record IsAcceptedAs (accepted : Option Accepted) (view : ℕ) (m : Mark) : Type 0 where
+  pub own : Accepted
+  pub is : accepted ≡ Some own
+  pub of_view : own.new.stmt.view.0 ≡ view
+  pub chosen : mark_at own.chosen.place own.chosen.head ≡ m
+
+-- no more is confirmed of a view that has begun
+abbrev pub IsConfirmedAs : Mode → Option Accepted → Mark → Type 0
+IsConfirmedAs (Active view) accepted m = Unit {0}
+IsConfirmedAs (Leaving view) accepted m = IsAcceptedAs accepted view.0 m
+
+pub record IsQuiet (w : World) (r : ℕ) (v : Views) : Type 0 where
+  pub ahead : IsAhead v.last_view.0 v.mode
+  -- it left for no greater view than its own: so it may speak in its own, and leaves for a greater one once
+  pub left : (number : ℕ) (x : Spoken) (view : ℕ) (report : PlainReport) → Says w r number x → x.what ≡ Statement.Change view report → view ≤ own_view v
+  -- it confirmed no greater view, and its own one once: what it accepted
+  pub confirmed : (number : ℕ) (x : Spoken) (view : ℕ) (m : Mark) → Says w r number x → x.what ≡ Statement.Began view m → view ≤ own_view v
+  pub once : (number : ℕ) (x : Spoken) (m : Mark) → Says w r number x → x.what ≡ Statement.Began (own_view v) m → IsConfirmedAs v.mode v.accepted m
+  -- it voted and ordered in no greater view than its last active one: so a view that it begins has no vote and no order of it
+  pub voted : (number : ℕ) (x : Spoken) (view : ℕ) (m : Mark) → Says w r number x → IsVote view m x.what → view ≤ v.last_view.0
+  pub ordered : (number : ℕ) (x : Spoken) (view : ℕ) (m : Mark) (request : Digest) → Says w r number x → x.what ≡ Statement.Order view m request → view ≤ v.last_view.0
+
+-- Its orders of the last active view are of places up to this one: the end of its history, or the next place between an
+-- order and its run. So an order is the first of its place.
+abbrev pub AreOrdersUpTo : World → ℕ → ℕ → ℕ → Type 0
+AreOrdersUpTo w r view bound =
+    (number : ℕ) (x : Spoken) (m : Mark) (request : Digest) → Says w r number x → x.what ≡ Statement.Order view m request → m.place ≤ bound
+
+-- ---- what it tells
+
+-- Its stable checkpoint is proven, and is where what it keeps begins: the report stands on it.
+pub record IsGrounded {S : Type 0} (interval : ℕ) (w : World) (c : Core S) : Type 0 where
+  pub place : c.kept.base.place ≡ c.stable.place.0
+  pub head : c.kept.base.head ≡ c.stable.head
+  pub view : c.stable.view.0 ≤ c.views.last_view.0
+  pub multiple : c.stable.place.0 % interval ≡ 0
+  pub proven : IsStableProven w.counts (told_by c)
+  pub held : All (IsHeldPart w check_told) c.proof
+  pub few : length c.kept.entries ≤ 2 * interval
+  pub clients : All (λ e. e.client.0 < 64) c.kept.entries
+  pub end : last_place c.kept < 2 ^ 62
+
+-- Its last view began as its certificate says, with a mark of its history; its commit certificate is of that view and of a
+-- mark of its history, and as far as each vote that it said there.
+pub record IsBegun {S : Type 0} (w : World) (r : ℕ) (c : Core S) (history : List Entry) : Type 0 where
+  pub began : IsBeganProven w.counts (told_by c)
+  pub held : All (IsHeldPart w began_told) (told_by c).began
+  pub passes : Passes w.next history (began_of (told_by c))
+  pub specs : (specs : List (Signed Spec)) → specs_in c.views.specs ≡ Some specs → IsSpecProven w.counts c.views.last_view specs
+  pub specs_held : (specs : List (Signed Spec)) → specs_in c.views.specs ≡ Some specs → All (IsHeldPart w response_told) specs
+  pub certified : IfSome (spec_of (specs_in c.views.specs)) (Passes w.next history)
+  pub covered : (number : ℕ) (x : Spoken) (m : Mark) → Says w r number x → IsVote c.views.last_view.0 m x.what → IsCovered (read_by r (told_by c)) m
+
+-- ---- what it heard
+
+pub record IsKeptChange (interval : ℕ) (w : World) (id : ℕ) (c : Signed Change) : Type 0 where
+  pub by : c.by ≡ Replica (record { 0 = id })
+  pub well_formed : IsWellFormedChange w.counts interval c
+  pub held : IsHeldChange w c
+
+pub record IsKeptBegan (w : World) (id : ℕ) (b : Signed Began) : Type 0 where
+  pub by : b.by ≡ Replica (record { 0 = id })
+  pub held : IsHeldPart w began_told b
+
+-- a proper new view, and what is chosen out of it
+pub record IsChosenNew (interval : ℕ) (w : World) (n : New) (chosen : Chosen) : Type 0 where
+  pub proper : IsProperNew w interval n
+  pub choice : IsChosen link w.counts.agree (map read n.changes) chosen.provider (mark_at chosen.place chosen.head)
+
+-- a certificate for it
+abbrev pub IsViewCert : World → New → Chosen → List (Signed Began) → Type 0
+IsViewCert w n chosen begans = IsCertOf w began_told w.counts.cert (Statement.Began n.view.0 (mark_at chosen.place chosen.head)) begans
+
+pub record IsWaitingTied (interval : ℕ) (w : World) (x : Waiting) : Type 0 where
+  pub new : IsChosenNew interval w x.cert.new.stmt x.chosen
+  pub begans : IsViewCert w x.cert.new.stmt x.chosen x.cert.begans
+
+-- The reports, confirmations and new views that it keeps are of replicas that said so or lie: what it makes of them is
+-- valid in the law.
+pub record IsHearing (interval : ℕ) (w : World) (v : Views) : Type 0 where
+  pub changes : (id : ℕ) (c : Signed Change) → slice_index_or v.changes id None ≡ Some c → IsKeptChange interval w id c
+  pub begans : (id : ℕ) (b : Signed Began) → slice_index_or v.begans id None ≡ Some b → IsKeptBegan w id b
+  pub accepted : IfSome v.accepted (λ (a : Accepted). IsChosenNew interval w a.new.stmt a.chosen)
+  pub waiting : IfSome v.waiting (IsWaitingTied interval w)
+
+-- ---- the tie
+
+pub record IsTied {S : Type 0} (R : Rules S) (interval : ℕ) (w : World) (r : ℕ) (c : Core S) (history : List Entry) : Type 0 where
+  pub standing : IsStanding R w r c history
+  pub quiet : IsQuiet w r c.views
+  pub grounded : IsGrounded interval w c
+  pub begun : IsBegun w r c history
+  pub hearing : IsHearing interval w c.views
