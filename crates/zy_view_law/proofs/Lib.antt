@@ -1,10 +1,14 @@
 pub mod AdoptedLists
 pub mod Backing
+pub mod Confirming
 pub mod HonestTexts
 pub mod KeptFronts
 pub mod LawfulChoice
+pub mod Leaving
 pub mod Lists
+pub mod OwnReport
 pub mod ProvenReports
 pub mod ReadBack
 pub mod ReadLists
 pub mod SomeChoice
+pub mod TiedGrown

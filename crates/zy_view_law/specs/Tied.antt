@@ -9,7 +9,7 @@ use Rattle.zy_base.specs.declared.step.Mode.TheVariants.{Active, Leaving}
 use Rattle.zy_chain.specs.Stretch.{Mark}
 use Rattle.zy_chain.specs.declared.entry.Entry.{Entry}
 use Rattle.zy_change.specs.Owing.{change_to}
-use Rattle.zy_change.specs.Views.{Views, own_view, specs_in, told_of}
+use Rattle.zy_change.specs.Views.{Views, began_for, left, own_view, specs_in, told_of, with_change, with_new}
 use Rattle.zy_change.specs.declared.kept.Accepted.{Accepted}
 use Rattle.zy_change.specs.declared.kept.Chosen.{Chosen}
 use Rattle.zy_change.specs.declared.kept.Waiting.{Waiting}
@@ -167,3 +167,16 @@ pub record IsTied {S : Type 0} (R : Rules S) (interval : ℕ) (w : World) (r : �
   pub grounded : IsGrounded interval w c
   pub begun : IsBegun w r c history
   pub hearing : IsHearing interval w c.views
+
+-- ---- what becomes of it
+
+-- it left for a view, with this signature on its leave
+abbrev pub left_with : {S : Type 0} → View → List ℕ → Core S → Core S
+left_with view sig c = record c { views = left view (with_change (change_by c view sig) c.views) }
+
+-- its confirmation of the choice out of a new view, with a signature
+abbrev pub began_by : {S : Type 0} → Core S → Accepted → List ℕ → Signed Began
+began_by c a sig = record { by = Replica c.views.me; stmt = began_for a.new.stmt.view a.chosen; sig = sig }
+
+abbrev pub confirmed_with : {S : Type 0} → Accepted → List ℕ → Core S → Core S
+confirmed_with a sig c = record c { views = with_new a (began_by c a sig) c.views }

@@ -5,7 +5,9 @@
 mod adopted;
 mod held;
 mod honest;
+mod views;
 
 pub use adopted::installed_states;
 pub use held::held_certificates;
 pub use honest::{held_reports, honest_news};
+pub use views::{confirming_views, leaving_views};

@@ -1,0 +1,111 @@
+-- A tied replica's report is true, and breaks no rule, for each later view.
+use Rattle.std.proofs.Common.{◌≡◌, ℕ, ◌+◌, ◌-◌, ◌*◌, ◌<◌, ◌≤◌, List, [], ◌∷◌, length, take, drop, fold, Option, Some, None, refl, sym, ap, ◌∙◌, subst, arith}
+use Rattle.std.specs.Prelude.{All, IfSome}
+use Rattle.std.proofs.lemmas.List.{length-drop}
+use Rattle.zy_base.specs.Machine.{Rules}
+use Rattle.zy_base.specs.Step.{view_of}
+use Rattle.zy_base.specs.declared.ids.Digest.{Digest}
+use Rattle.zy_base.specs.declared.ids.View.{View}
+use Rattle.zy_base.specs.declared.step.Mode.{Mode}
+use Rattle.zy_base.specs.declared.step.Mode.TheVariants.{Active, Leaving}
+use Rattle.zy_chain.specs.Heads.{empty_head}
+use Rattle.zy_chain.specs.Stretch.{Mark, Stretch}
+use Rattle.zy_chain.specs.declared.entry.Entry.{Entry}
+use Rattle.zy_change.specs.Views.{own_view}
+use Rattle.zy_choose.specs.Marks.{Has, link}
+use Rattle.zy_choose.specs.Rules.{Fits}
+use Rattle.zy_evidence.specs.Reading.{read, read_by, spec_of, stretch_of}
+use Rattle.zy_evidence.specs.WellFormed.{IsWellFormedChange}
+use Rattle.zy_exec.proofs.HistoryLemmas.{stands_end}
+use Rattle.zy_exec.proofs.ReplayLemmas.{head-along, place-along}
+use Rattle.zy_exec.specs.Kept.{StandsFor}
+use Rattle.zy_exec.specs.Replay.{Point, along, origin}
+use Rattle.zy_law.proofs.HistoryLemmas.{AreKept-drop}
+use Rattle.zy_law.proofs.ReportLemmas.{has_passes}
+use Rattle.zy_law.specs.Histories.{AreKept, Passes}
+use Rattle.zy_law.specs.Lawful.{IsCovered, IsLawful, IsTrueReport, IsVote}
+use Rattle.zy_law.specs.Reports.{IsProven}
+use Rattle.zy_law.specs.Said.{IsCorrect, Moment, Says}
+use Rattle.zy_law.specs.World.{Spoken, Stand, World}
+use Rattle.zy_view_law.specs.Held.{AreProofsHeld}
+use Rattle.zy_view_law.specs.Tied.{Core, IsAhead, IsTied, change_by, told_by}
+use Rattle.zy_view_law.proofs.ProvenReports.{report_proven}
+
+-- the own view isn't below the last active one
+pub last_below : (last : ℕ) (mode : Mode) → IsAhead last mode → last ≤ (view_of mode).0
+last_below last (Active view) ahead = omega arith
+last_below last (Leaving view) ahead = omega arith
+
+module _ {S : Type 0} (R : Rules S) (interval : ℕ) (w : World) (links : w.next ≡ link) (r : ℕ) (c : Core S) (history : List Entry) (tied : IsTied R interval w r c history) where
+  base_place : c.stable.place.0 ≡ c.kept.base.place
+  base_place = sym tied.grounded.place
+
+  -- the report stands on a mark of the history, with the rest of it above
+  pub own_base : Passes w.next history (stretch_of (told_by c)).base
+  own_base =
+      let stands = tied.standing.stands in
+      let head : c.kept.base.head ≡ fold link empty_head (take c.kept.base.place history) = ap (λ (p : Point S). p.head) stands.base_is ∙ head-along R (origin R) (take c.kept.base.place history) in
+      record {
+        within = omega (arith, stands.within, base_place);
+        head =
+            ap (λ (next : Digest → Entry → Digest). fold next empty_head (take c.stable.place.0 history)) links
+            ∙ ap (λ (n : ℕ). fold link empty_head (take n history)) base_place
+            ∙ sym head
+            ∙ tied.grounded.head;
+      }
+
+  pub own_entries : (told_by c).entries ≡ drop (stretch_of (told_by c)).base.place history
+  own_entries = tied.standing.stands.others ∙ ap (λ (n : ℕ). drop n history) (sym base_place)
+
+  -- a mark of the history fits the report
+  fits_passed : (m : Mark) → Passes w.next history m → Fits (stretch_of (told_by c)) m
+  fits_passed m passes =
+      record {
+        within = omega (arith, passes.within, own_base.within, length-drop c.stable.place.0 history, ap (λ (l : List Entry). length l) own_entries);
+        shared = λ above. subst (λ (next : Digest → Entry → Digest). Has next (stretch_of (told_by c)) m) links (has_passes w.next history (stretch_of (told_by c)) own_base own_entries m above passes);
+      }
+
+  fits_if : (o : Option Mark) → IfSome o (Passes w.next history) → IfSome o (Fits (stretch_of (told_by c)))
+  fits_if None passes = tt
+  fits_if (Some m) passes = fits_passed m passes
+
+  pub own_formed : (view : View) (sig : List ℕ) → c.views.last_view.0 < view.0 → IsWellFormedChange w.counts interval (change_by c view sig)
+  own_formed view sig later =
+      let grounded = tied.grounded in
+      record {
+        last = later;
+        began = tied.begun.began;
+        spec = tied.begun.specs;
+        stable = grounded.proven;
+        itself = record {
+          stable = record { view = grounded.view; multiple = grounded.multiple };
+          entries = record { few = grounded.few; clients = grounded.clients; end = omega (arith, grounded.end, grounded.place) };
+          began = fits_passed _ tied.begun.passes;
+          spec = fits_if (spec_of (told_by c).specs) tied.begun.certified;
+        };
+      }
+
+  pub own_proofs : AreProofsHeld w (told_by c)
+  own_proofs = record { began = tied.begun.held; specs = tied.begun.specs_held; checks = tied.grounded.held }
+
+  pub own_links : IsLawful w → IsCorrect w r → AreKept w.kept w.next c.stable.head (told_by c).entries
+  own_links lawful correct =
+      let here : Moment w = record { by = r; correct = correct; number = tied.standing.number; stand = record { view = c.views.last_view.0; history = history }; stood = tied.standing.stood } in
+      subst (λ (l : List Entry). AreKept w.kept w.next c.stable.head l) (sym own_entries)
+      (subst (λ (d : Digest). AreKept w.kept w.next d (drop c.stable.place.0 history)) own_base.head (AreKept-drop w.kept w.next c.stable.place.0 empty_head history (lawful.texts here)))
+
+  pub own_proven : (view : View) → c.views.last_view.0 < view.0 → IsProven w view.0 (read_by r (told_by c))
+  own_proven view later =
+      subst (λ (id : ℕ). IsProven w view.0 (read_by id (told_by c))) tied.standing.me (report_proven w interval (change_by c view []) (own_formed view [] later) own_proofs)
+
+  pub own_true : (number : ℕ) (view : View) → c.views.last_view.0 < view.0 → IsTrueReport w r number tied.standing.number view.0 (read_by r (told_by c))
+  own_true number view later =
+      record {
+        stand = record { view = c.views.last_view.0; history = history };
+        stood = tied.standing.stood;
+        last = refl;
+        base = own_base;
+        entries = own_entries;
+        proven = own_proven view later;
+        covered = λ earlier y m before says vote. tied.begun.covered earlier y m says vote;
+      }
