@@ -1,6 +1,8 @@
 pub mod AdoptedLists
 pub mod Backing
+pub mod Beginning
 pub mod Confirming
+pub mod Grounded
 pub mod HonestTexts
 pub mod KeptFronts
 pub mod LawfulChoice
@@ -10,5 +12,6 @@ pub mod OwnReport
 pub mod ProvenReports
 pub mod ReadBack
 pub mod ReadLists
+pub mod RunningOn
 pub mod SomeChoice
 pub mod TiedGrown

@@ -1,5 +1,6 @@
 -- What is held and kept stays so as more is asked, said, stood and kept.
 use Rattle.std.proofs.Common.{◌≡◌, ℕ, ◌+◌, ◌<◌, ◌≤◌, Bool, true, List, [], ◌∷◌, ◌++◌, cond, length, Option, Some, None, refl, sym, ap, ◌∙◌, subst, arith, eq-eqb}
+use Rattle.std.proofs.lemmas.List.{length-append}
 use Rattle.std.specs.Prelude.{All, Contains, IfSome, slice_get, slice_index_or}
 use Rattle.zy_base.specs.Machine.{Rules}
 use Rattle.zy_base.specs.declared.ids.Digest.{Digest}
@@ -15,7 +16,7 @@ use Rattle.zy_evidence.specs.Reading.{read_by}
 use Rattle.zy_law.proofs.GrownLemmas.{AreKept-more, each_item, vouched_grown, with_last-kept}
 use Rattle.zy_law.specs.Lawful.{IsCovered, IsVote}
 use Rattle.zy_law.specs.Said.{HasSaid, Says, Stood}
-use Rattle.zy_law.specs.Steps.{after_saying, grown, with_last}
+use Rattle.zy_law.specs.Steps.{after_saying, after_standing, grown, with_last}
 use Rattle.zy_law.specs.World.{Spoken, Stand, Statement, World}
 use Rattle.zy_parts.specs.declared.reports.Change.{Change}
 use Rattle.zy_parts.specs.declared.reports.New.{New}
@@ -23,7 +24,7 @@ use Rattle.zy_parts.specs.declared.reports.Told.{Told}
 use Rattle.zy_parts.specs.declared.signed.Signed.{Signed}
 use Rattle.zy_view_law.specs.Held.{AreProofsHeld, IsCertOf, IsHeldChange, IsHeldPart, IsProperNew, IsVouchedBy}
 use Rattle.zy_view_law.specs.Tied.{Core, IsBegun, IsChosenNew, IsGrounded, IsHearing, IsKeptBegan, IsKeptChange, IsQuiet, IsStanding, IsTied, IsWaitingTied, told_by}
-use Rattle.zy_view_law.specs.Told.{began_told, response_told}
+use Rattle.zy_view_law.specs.Told.{began_told, check_told, response_told}
 
 module _ (w : World) (asked : ℕ → List Entry) (said : ℕ → List Spoken) (past : ℕ → List Stand) (kept : Digest → Entry → Bool)
     (asks : (q : ℕ) (e : Entry) → Contains (w.asked q) e → Contains (asked q) e)
@@ -45,7 +46,11 @@ module _ (w : World) (asked : ℕ → List Entry) (said : ℕ → List Spoken) (
 
   pub proofs_more : (t : Told) → AreProofsHeld w t → AreProofsHeld more t
   proofs_more t held =
-      record { began = parts_more _ t.began held.began; specs = λ specs is. parts_more _ specs (held.specs specs is); checks = parts_more _ t.checks held.checks }
+      record {
+        began = parts_more began_told t.began held.began;
+        specs = λ specs is. parts_more response_told specs (held.specs specs is);
+        checks = parts_more check_told t.checks held.checks;
+      }
 
   pub change_more : (c : Signed Change) → IsHeldChange w c → IsHeldChange more c
   change_more c held =
@@ -63,7 +68,7 @@ module _ (w : World) (asked : ℕ → List Entry) (said : ℕ → List Spoken) (
   chosen_more interval n chosen is = record { proper = proper_more interval n is.proper; choice = is.choice }
 
   waiting_more : (interval : ℕ) (x : Waiting) → IsWaitingTied interval w x → IsWaitingTied interval more x
-  waiting_more interval x is = record { new = chosen_more interval x.cert.new.stmt x.chosen is.new; begans = cert_more _ _ _ x.cert.begans is.begans }
+  waiting_more interval x is = record { new = chosen_more interval x.cert.new.stmt x.chosen is.new; begans = record { certificate = is.begans.certificate; held = parts_more began_told x.cert.begans is.begans.held } }
 
   if_accepted : (interval : ℕ) (o : Option Accepted) → IfSome o (λ (a : Accepted). IsChosenNew interval w a.new.stmt a.chosen) → IfSome o (λ (a : Accepted). IsChosenNew interval more a.new.stmt a.chosen)
   if_accepted interval None is = tt
@@ -94,7 +99,7 @@ module _ (w : World) (asked : ℕ → List Entry) (said : ℕ → List Spoken) (
           view = is.view;
           multiple = is.multiple;
           proven = is.proven;
-          held = parts_more _ c.proof is.held;
+          held = parts_more check_told c.proof is.held;
           few = is.few;
           clients = is.clients;
           end = is.end;
@@ -116,10 +121,10 @@ module _ (w : World) (asked : ℕ → List Entry) (said : ℕ → List Spoken) (
     begun_more was is =
         record {
           began = is.began;
-          held = parts_more _ _ is.held;
+          held = parts_more began_told (told_by c).began is.held;
           passes = is.passes;
           specs = is.specs;
-          specs_held = λ specs at. parts_more _ specs (is.specs_held specs at);
+          specs_held = λ specs at. parts_more response_told specs (is.specs_held specs at);
           certified = is.certified;
           covered = λ number x m at vote. is.covered number x m (was number x at) vote;
         }
@@ -199,3 +204,25 @@ module _ (w : World) (r : ℕ) (y : Spoken) where
           covered = λ number x m at vote.
               own_said w r y (λ z. IsVote c.views.last_view.0 m z.what → IsCovered (read_by r (told_by c)) m) (λ i z at is_vote. is.covered i z m at is_vote) (new m) number x at vote;
         }
+
+-- ---- after it stands elsewhere
+
+module _ (w : World) (r : ℕ) (b : Stand) where
+  pub parts_stood : {S : Type 0} (say : S → Statement) (list : List (Signed S)) → All (IsHeldPart w say) list → All (IsHeldPart (after_standing w r b) say) list
+  parts_stood say list held = parts_more w w.asked w.said (with_last w.past r b) w.kept (λ q e has. has) (λ q i x at. at) (λ q i d at. with_last-kept w.past r b q i d at) (λ h e is. is) say list held
+
+  pub hearing_stood : (interval : ℕ) (v : Views) → IsHearing interval w v → IsHearing interval (after_standing w r b) v
+  hearing_stood interval v is = hearing_more w w.asked w.said (with_last w.past r b) w.kept (λ q e has. has) (λ q i x at. at) (λ q i d at. with_last-kept w.past r b q i d at) (λ h e is. is) interval v is
+
+  pub grounded_stood : {S : Type 0} (R : Rules S) (interval : ℕ) (c : Core S) → IsGrounded interval w c → IsGrounded interval (after_standing w r b) c
+  grounded_stood R interval c is = grounded_more w w.asked w.said (with_last w.past r b) w.kept (λ q e has. has) (λ q i x at. at) (λ q i d at. with_last-kept w.past r b q i d at) (λ h e is. is) R interval r c [] is
+
+  pub stood_last : Stood (after_standing w r b) r (length (w.past r)) b
+  stood_last = ap (λ (t : Bool). slice_get (cond t (w.past r ++ b ∷ []) (w.past r)) (length (w.past r))) (eq-eqb r r refl) ∙ last_there (w.past r) b
+    where
+      last_there : (xs : List Stand) (x : Stand) → slice_get (xs ++ x ∷ []) (length xs) ≡ Some x
+      last_there [] x = refl
+      last_there (z ∷ xs) x = last_there xs x
+
+  pub one_longer : length (w.past r) + 1 ≡ length ((after_standing w r b).past r)
+  one_longer = omega (arith, ap (λ (t : Bool). length (cond t (w.past r ++ b ∷ []) (w.past r))) (eq-eqb r r refl), length-append (w.past r) (b ∷ []))

@@ -1,12 +1,14 @@
 -- What a replica stands for that takes up the history with which a view begins.
-use Rattle.std.specs.Prelude.{◌≡◌, ℕ, ◌<◌, List, [], ◌++◌, length, All, Some}
+use Rattle.std.specs.Prelude.{◌≡◌, ℕ, ◌-◌, ◌<◌, List, [], ◌++◌, length, All, Some}
+use Rattle.std.specs.List.{slice_range}
 use Rattle.zy_base.specs.Machine.{Rules}
+use Rattle.zy_base.specs.declared.ids.Digest.{Digest}
 use Rattle.zy_chain.specs.Heads.{head_of}
-use Rattle.zy_chain.specs.Stretch.{Mark}
+use Rattle.zy_chain.specs.Stretch.{Mark, Stretch, head_in}
 use Rattle.zy_chain.specs.declared.entry.Entry.{Entry}
 use Rattle.zy_choose.specs.Marks.{link}
 use Rattle.zy_exec.specs.Installed.{IsRunnable}
-use Rattle.zy_exec.specs.Kept.{Kept, StandsFor}
+use Rattle.zy_exec.specs.Kept.{Kept, StandsFor, back_to}
 use Rattle.zy_exec.specs.Replay.{along, answer_at, origin}
 use Rattle.zy_exec.specs.Shots.{digest_of_snapshot, snapshot_at}
 use Rattle.zy_exec.specs.Snapshot.{snapshot_of}
@@ -41,6 +43,15 @@ pub record StandsByBytes {S : Type 0} (R : Rules S) (m : Mark) (bytes : List ℕ
 -- with more entries
 abbrev pub with_entries : {S : Type 0} → Kept S → List Entry → Kept S
 with_entries k entries = record { interval = k.interval; base = k.base; entries = k.entries ++ entries }
+
+-- back to a place, and on along a report's stretch up to a higher one
+abbrev pub run_on : {S : Type 0} → Stretch → ℕ → ℕ → Kept S → Kept S
+run_on told low high k = with_entries (back_to low k) (slice_range told.entries (low - told.base.place) (high - told.base.place))
+
+-- both have this head at this place
+pub record HaveBoth (a b : Stretch) (place : ℕ) (head : Digest) : Type 0 where
+  pub first : head_in a place ≡ Some head
+  pub second : head_in b place ≡ Some head
 
 -- What is kept stands for this history: the mark's list, which can be read back, and whose replies and snapshots are kept.
 pub record IsAdopted {S : Type 0} (R : Rules S) (interval : ℕ) (texts : Texts) (w : World) (m : Mark) (k : Kept S) (history : List Entry) : Type 0 where

@@ -8,8 +8,10 @@ use Rattle.zy_base.specs.declared.step.Mode.{Mode}
 use Rattle.zy_base.specs.declared.step.Mode.TheVariants.{Active, Leaving}
 use Rattle.zy_chain.specs.Stretch.{Mark}
 use Rattle.zy_chain.specs.declared.entry.Entry.{Entry}
+use Rattle.zy_cert.specs.Certificates.{IsCertificate}
+use Rattle.zy_cert.specs.Points.{point_of_began}
 use Rattle.zy_change.specs.Owing.{change_to}
-use Rattle.zy_change.specs.Views.{Views, began_for, left, own_view, specs_in, told_of, with_change, with_new}
+use Rattle.zy_change.specs.Views.{Views, adopted, began_for, left, own_view, specs_in, told_of, with_change, with_new}
 use Rattle.zy_change.specs.declared.kept.Accepted.{Accepted}
 use Rattle.zy_change.specs.declared.kept.Chosen.{Chosen}
 use Rattle.zy_change.specs.declared.kept.Waiting.{Waiting}
@@ -21,8 +23,9 @@ use Rattle.zy_evidence.specs.WellFormed.{IsBeganProven, IsSpecProven, IsStablePr
 use Rattle.zy_exec.specs.Kept.{Kept, StandsFor, last_place, stretch_of}
 use Rattle.zy_law.specs.Histories.{Passes}
 use Rattle.zy_law.specs.Lawful.{IsCovered, IsVote}
+use Rattle.zy_law.specs.Lists.{IsListOf}
 use Rattle.zy_law.specs.Said.{Says, Stood}
-use Rattle.zy_law.specs.World.{Spoken, Statement, World}
+use Rattle.zy_law.specs.World.{Spoken, Stand, Statement, World}
 use Rattle.zy_parts.specs.declared.reports.Began.{Began}
 use Rattle.zy_parts.specs.declared.reports.Change.{Change}
 use Rattle.zy_parts.specs.declared.reports.New.{New}
@@ -30,7 +33,8 @@ use Rattle.zy_parts.specs.declared.reports.Told.{Told}
 use Rattle.zy_parts.specs.declared.signed.Signed.{Signed}
 use Rattle.zy_parts.specs.declared.statements.Check.{Check}
 use Rattle.zy_parts.specs.declared.statements.Spec.{Spec}
-use Rattle.zy_view_law.specs.Held.{IsCertOf, IsHeldChange, IsHeldPart, IsProperNew, mark_at}
+use Rattle.zy_vframes.specs.declared.frame.ViewCert.{ViewCert}
+use Rattle.zy_view_law.specs.Held.{IsHeldChange, IsHeldPart, IsProperNew, mark_at}
 use Rattle.zy_view_law.specs.Told.{began_told, check_told, response_told}
 
 -- what a replica keeps that its reports and its views rest on
@@ -143,9 +147,10 @@ pub record IsChosenNew (interval : ℕ) (w : World) (n : New) (chosen : Chosen) 
   pub proper : IsProperNew w interval n
   pub choice : IsChosen link w.counts.agree (map read n.changes) chosen.provider (mark_at chosen.place chosen.head)
 
--- a certificate for it
-abbrev pub IsViewCert : World → New → Chosen → List (Signed Began) → Type 0
-IsViewCert w n chosen begans = IsCertOf w began_told w.counts.cert (Statement.Began n.view.0 (mark_at chosen.place chosen.head)) begans
+-- a certificate for it: so many replicas confirmed it
+pub record IsViewCert (w : World) (n : New) (chosen : Chosen) (begans : List (Signed Began)) : Type 0 where
+  pub certificate : IsCertificate point_of_began w.counts.cert begans (n.view, chosen.place, chosen.head)
+  pub held : All (IsHeldPart w began_told) begans
 
 pub record IsWaitingTied (interval : ℕ) (w : World) (x : Waiting) : Type 0 where
   pub new : IsChosenNew interval w x.cert.new.stmt x.chosen
@@ -180,3 +185,24 @@ began_by c a sig = record { by = Replica c.views.me; stmt = began_for a.new.stmt
 
 abbrev pub confirmed_with : {S : Type 0} → Accepted → List ℕ → Core S → Core S
 confirmed_with a sig c = record c { views = with_new a (began_by c a sig) c.views }
+
+-- it began a view with what a certificate confirms, and keeps this then
+abbrev pub began_with : {S : Type 0} → ViewCert → Chosen → Kept S → Check → List (Signed Check) → Core S → Core S
+began_with cert chosen kept stable proof c = record { views = adopted cert chosen c.views; kept = kept; stable = stable; proof = proof }
+
+-- A replica may begin a view: it isn't below its own, and above its last active one. So many confirmed what is chosen out of a
+-- proper new view of it, and what it keeps then stands for that list.
+pub record IsBeginning {S : Type 0} (R : Rules S) (interval : ℕ) (w : World) (c : Core S) (cert : ViewCert) (chosen : Chosen) (kept : Kept S) (history : List Entry) : Type 0 where
+  pub own : own_view c.views ≤ cert.new.stmt.view.0
+  pub later : c.views.last_view.0 < cert.new.stmt.view.0
+  pub new : IsChosenNew interval w cert.new.stmt chosen
+  pub begans : IsViewCert w cert.new.stmt chosen cert.begans
+  pub list : IsListOf w (mark_at chosen.place chosen.head) history
+  pub stands : StandsFor R kept history
+
+abbrev pub stand_in : ViewCert → List Entry → Stand
+stand_in cert history = record { view = cert.new.stmt.view.0; history = history }
+
+-- the stable checkpoint that a report tells
+abbrev pub check_in : Told → Check
+check_in t = record { view = t.stable_view; place = t.stable_place; head = t.stable_head; state = t.state }

@@ -3,11 +3,13 @@
 #![tactic(auto)]
 
 mod adopted;
+mod begin;
 mod held;
 mod honest;
 mod views;
 
 pub use adopted::installed_states;
+pub use begin::{beginning_views, grounded_views, running_on};
 pub use held::held_certificates;
 pub use honest::{held_reports, honest_news};
 pub use views::{confirming_views, leaving_views};
