@@ -120,9 +120,7 @@ module _ {S : Type 0} (R : Rules S) (interval : ℕ) (w : World) (lawful : IsLaw
             began = record { first = λ none. absurd (omega (arith, is.later, none)); later = λ some. is.begans.certificate };
             held = parts_stood w r stand began_told cert.begans is.begans.held;
             passes = list_passes w m next is.list;
-            specs = λ specs at. absurd cc;
-            specs_held = λ specs at. absurd cc;
-            certified = tt;
+            commit = tt;
             covered = λ number x k says vote. absurd (omega (arith, tied.quiet.voted number x cert.new.stmt.view.0 k says vote, is.later));
           };
           hearing = record {

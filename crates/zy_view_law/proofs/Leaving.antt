@@ -123,9 +123,7 @@ module _ {S : Type 0} (R : Rules S) (interval : ℕ) (w : World) (lawful : IsLaw
             began = begun.began;
             held = begun.held;
             passes = begun.passes;
-            specs = begun.specs;
-            specs_held = begun.specs_held;
-            certified = begun.certified;
+            commit = begun.commit;
             covered = begun.covered;
           };
           hearing = record {

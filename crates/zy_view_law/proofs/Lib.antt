@@ -8,10 +8,13 @@ pub mod KeptFronts
 pub mod LawfulChoice
 pub mod Leaving
 pub mod Lists
+pub mod NoBlame
 pub mod OwnReport
 pub mod ProvenReports
 pub mod ReadBack
 pub mod ReadLists
 pub mod RunningOn
 pub mod SomeChoice
+pub mod InView
+pub mod TieKept
 pub mod TiedGrown

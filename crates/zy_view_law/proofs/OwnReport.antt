@@ -5,17 +5,21 @@ use Rattle.std.proofs.lemmas.List.{length-drop}
 use Rattle.zy_base.specs.Machine.{Rules}
 use Rattle.zy_base.specs.Step.{view_of}
 use Rattle.zy_base.specs.declared.ids.Digest.{Digest}
+use Rattle.zy_base.specs.declared.ids.Place.{Place}
 use Rattle.zy_base.specs.declared.ids.View.{View}
 use Rattle.zy_base.specs.declared.step.Mode.{Mode}
 use Rattle.zy_base.specs.declared.step.Mode.TheVariants.{Active, Leaving}
 use Rattle.zy_chain.specs.Heads.{empty_head}
 use Rattle.zy_chain.specs.Stretch.{Mark, Stretch}
 use Rattle.zy_chain.specs.declared.entry.Entry.{Entry}
-use Rattle.zy_change.specs.Views.{own_view}
+use Rattle.zy_cert.specs.Certificates.{IsCertificate}
+use Rattle.zy_cert.specs.Points.{point_of_spec}
+use Rattle.zy_change.specs.Views.{own_view, specs_in}
+use Rattle.zy_change.specs.declared.kept.Certificate.{Certificate}
 use Rattle.zy_choose.specs.Marks.{Has, link}
 use Rattle.zy_choose.specs.Rules.{Fits}
-use Rattle.zy_evidence.specs.Reading.{read, read_by, spec_of, stretch_of}
-use Rattle.zy_evidence.specs.WellFormed.{IsWellFormedChange}
+use Rattle.zy_evidence.specs.Reading.{mark_of_first, read, read_by, spec_of, stretch_of}
+use Rattle.zy_evidence.specs.WellFormed.{IsSpecProven, IsWellFormedChange}
 use Rattle.zy_exec.proofs.HistoryLemmas.{stands_end}
 use Rattle.zy_exec.proofs.ReplayLemmas.{head-along, place-along}
 use Rattle.zy_exec.specs.Kept.{StandsFor}
@@ -27,14 +31,48 @@ use Rattle.zy_law.specs.Lawful.{IsCovered, IsLawful, IsTrueReport, IsVote}
 use Rattle.zy_law.specs.Reports.{IsProven}
 use Rattle.zy_law.specs.Said.{IsCorrect, Moment, Says}
 use Rattle.zy_law.specs.World.{Spoken, Stand, World}
-use Rattle.zy_view_law.specs.Held.{AreProofsHeld}
-use Rattle.zy_view_law.specs.Tied.{Core, IsAhead, IsTied, change_by, told_by}
+use Rattle.zy_parts.specs.declared.signed.Signed.{Signed}
+use Rattle.zy_parts.specs.declared.statements.Spec.{Spec}
+use Rattle.zy_view_law.specs.Held.{AreProofsHeld, IsHeldPart, mark_at}
+use Rattle.zy_view_law.specs.Told.{response_told}
+use Rattle.zy_view_law.specs.Tied.{Core, IsAhead, IsCommitHeld, IsFarEnough, IsTied, change_by, told_by}
 use Rattle.zy_view_law.proofs.ProvenReports.{report_proven}
 
 -- the own view isn't below the last active one
 pub last_below : (last : ℕ) (mode : Mode) → IsAhead last mode → last ≤ (view_of mode).0
 last_below last (Active view) ahead = omega arith
 last_below last (Leaving view) ahead = omega arith
+
+-- ---- the commit certificate
+
+commit_mark : (w : World) (last : View) (history : List Entry) (held : Certificate) → (is : IsCommitHeld w last history held) → 0 < w.counts.cert → mark_of_first held.specs ≡ Some (mark_at held.place is.head)
+commit_mark w last history held is some = by held.specs is.certificate
+  where
+    by : (specs : List (Signed Spec)) → IsCertificate point_of_spec w.counts.cert specs (last, held.place, is.head) → mark_of_first specs ≡ Some (mark_at held.place is.head)
+    by [] cert = let none = cert.len in absurd (omega arith)
+    by (first ∷ others) cert =
+        ap (λ (q : View × Place × Digest). Some (mark_at q.1 q.2)) (ap point_of_spec (cert.equal 0 first (omega arith)) ∙ cert.located)
+
+some_cert : (w : World) → 0 < w.counts.cert
+some_cert w = omega (arith, w.counts.sound.two_certificates, w.counts.sound.certificate_in_reach)
+
+module _ (w : World) (last : View) (history : List Entry) where
+  commit_proven : (o : Option Certificate) → IfSome o (IsCommitHeld w last history) → (specs : List (Signed Spec)) → specs_in o ≡ Some specs → IsSpecProven w.counts last specs × All (IsHeldPart w response_told) specs
+  commit_proven None is specs at = absurd cc
+  commit_proven (Some held) is specs at =
+      let same : held.specs ≡ specs = cc in
+      subst (λ (l : List (Signed Spec)). IsSpecProven w.counts last l × All (IsHeldPart w response_told) l) same (record { place = held.place; head = is.head; certificate = is.certificate }, is.held)
+
+  commit_passes : (o : Option Certificate) → IfSome o (IsCommitHeld w last history) → IfSome (spec_of (specs_in o)) (Passes w.next history)
+  commit_passes None is = tt
+  commit_passes (Some held) is = subst (λ (m : Option Mark). IfSome m (Passes w.next history)) (sym (commit_mark w last history held is (some_cert w))) is.passes
+
+  commit_far : (o : Option Certificate) → IfSome o (IsCommitHeld w last history) → (m : Mark) → IsFarEnough o m.place → (spec : Mark) × (spec_of (specs_in o) ≡ Some spec) × (m.place ≤ spec.place)
+  commit_far None is m far = let never = far.is in absurd cc
+  commit_far (Some held) is m far =
+      let there = far.is in
+      let same : held ≡ far.own = cc in
+      (mark_at held.place is.head, commit_mark w last history held is (some_cert w), omega (arith, far.far, ap (λ (x : Certificate). x.place.0) same))
 
 module _ {S : Type 0} (R : Rules S) (interval : ℕ) (w : World) (links : w.next ≡ link) (r : ℕ) (c : Core S) (history : List Entry) (tied : IsTied R interval w r c history) where
   base_place : c.stable.place.0 ≡ c.kept.base.place
@@ -75,18 +113,18 @@ module _ {S : Type 0} (R : Rules S) (interval : ℕ) (w : World) (links : w.next
       record {
         last = later;
         began = tied.begun.began;
-        spec = tied.begun.specs;
+        spec = λ specs at. (commit_proven w c.views.last_view history c.views.specs tied.begun.commit specs at).0;
         stable = grounded.proven;
         itself = record {
           stable = record { view = grounded.view; multiple = grounded.multiple };
           entries = record { few = grounded.few; clients = grounded.clients; end = omega (arith, grounded.end, grounded.place) };
           began = fits_passed _ tied.begun.passes;
-          spec = fits_if (spec_of (told_by c).specs) tied.begun.certified;
+          spec = fits_if (spec_of (told_by c).specs) (commit_passes w c.views.last_view history c.views.specs tied.begun.commit);
         };
       }
 
   pub own_proofs : AreProofsHeld w (told_by c)
-  own_proofs = record { began = tied.begun.held; specs = tied.begun.specs_held; checks = tied.grounded.held }
+  own_proofs = record { began = tied.begun.held; specs = λ specs at. (commit_proven w c.views.last_view history c.views.specs tied.begun.commit specs at).1; checks = tied.grounded.held }
 
   pub own_links : IsLawful w → IsCorrect w r → AreKept w.kept w.next c.stable.head (told_by c).entries
   own_links lawful correct =
@@ -107,5 +145,7 @@ module _ {S : Type 0} (R : Rules S) (interval : ℕ) (w : World) (links : w.next
         base = own_base;
         entries = own_entries;
         proven = own_proven view later;
-        covered = λ earlier y m before says vote. tied.begun.covered earlier y m says vote;
+        covered = λ earlier y m before says vote.
+            let far = commit_far w c.views.last_view history c.views.specs tied.begun.commit m (tied.begun.covered earlier y m says vote) in
+            record { spec = far.0; held = far.1; far = far.2 };
       }

@@ -6,15 +6,16 @@ use Rattle.zy_base.specs.Machine.{Rules}
 use Rattle.zy_base.specs.declared.ids.Digest.{Digest}
 use Rattle.zy_base.specs.declared.ids.Party.{Party}
 use Rattle.zy_base.specs.declared.ids.Party.TheVariants.{Replica, Client}
+use Rattle.zy_base.specs.declared.ids.View.{View}
 use Rattle.zy_chain.specs.Stretch.{Mark}
 use Rattle.zy_chain.specs.declared.entry.Entry.{Entry}
 use Rattle.zy_change.specs.Views.{Views}
 use Rattle.zy_change.specs.declared.kept.Accepted.{Accepted}
+use Rattle.zy_change.specs.declared.kept.Certificate.{Certificate}
 use Rattle.zy_change.specs.declared.kept.Chosen.{Chosen}
 use Rattle.zy_change.specs.declared.kept.Waiting.{Waiting}
-use Rattle.zy_evidence.specs.Reading.{read_by}
 use Rattle.zy_law.proofs.GrownLemmas.{AreKept-more, each_item, vouched_grown, with_last-kept}
-use Rattle.zy_law.specs.Lawful.{IsCovered, IsVote}
+use Rattle.zy_law.specs.Lawful.{IsVote}
 use Rattle.zy_law.specs.Said.{HasSaid, Says, Stood}
 use Rattle.zy_law.specs.Steps.{after_saying, after_standing, grown, with_last}
 use Rattle.zy_law.specs.World.{Spoken, Stand, Statement, World}
@@ -23,7 +24,7 @@ use Rattle.zy_parts.specs.declared.reports.New.{New}
 use Rattle.zy_parts.specs.declared.reports.Told.{Told}
 use Rattle.zy_parts.specs.declared.signed.Signed.{Signed}
 use Rattle.zy_view_law.specs.Held.{AreProofsHeld, IsCertOf, IsHeldChange, IsHeldPart, IsProperNew, IsVouchedBy}
-use Rattle.zy_view_law.specs.Tied.{Core, IsBegun, IsChosenNew, IsGrounded, IsHearing, IsKeptBegan, IsKeptChange, IsQuiet, IsStanding, IsTied, IsWaitingTied, told_by}
+use Rattle.zy_view_law.specs.Tied.{Core, IsBegun, IsChosenNew, IsCommitHeld, IsFarEnough, IsGrounded, IsHearing, IsKeptBegan, IsKeptChange, IsQuiet, IsStanding, IsTied, IsWaitingTied, told_by}
 use Rattle.zy_view_law.specs.Told.{began_told, check_told, response_told}
 
 module _ (w : World) (asked : ℕ → List Entry) (said : ℕ → List Spoken) (past : ℕ → List Stand) (kept : Digest → Entry → Bool)
@@ -90,6 +91,10 @@ module _ (w : World) (asked : ℕ → List Entry) (said : ℕ → List Spoken) (
         waiting = if_waiting interval v.waiting is.waiting;
       }
 
+  pub commit_more : (last : View) (history : List Entry) (o : Option Certificate) → IfSome o (IsCommitHeld w last history) → IfSome o (IsCommitHeld more last history)
+  commit_more last history None is = tt
+  commit_more last history (Some held) is = record { head = is.head; certificate = is.certificate; held = parts_more response_told held.specs is.held; passes = record { within = is.passes.within; head = is.passes.head } }
+
   module _ {S : Type 0} (R : Rules S) (interval r : ℕ) (c : Core S) (history : List Entry) where
     pub grounded_more : IsGrounded interval w c → IsGrounded interval more c
     grounded_more is =
@@ -123,9 +128,7 @@ module _ (w : World) (asked : ℕ → List Entry) (said : ℕ → List Spoken) (
           began = is.began;
           held = parts_more began_told (told_by c).began is.held;
           passes = is.passes;
-          specs = is.specs;
-          specs_held = λ specs at. parts_more response_told specs (is.specs_held specs at);
-          certified = is.certified;
+          commit = commit_more c.views.last_view history c.views.specs is.commit;
           covered = λ number x m at vote. is.covered number x m (was number x at) vote;
         }
 
@@ -179,6 +182,9 @@ module _ (w : World) (r : ℕ) (y : Spoken) where
   pub proofs_said : (t : Told) → AreProofsHeld w t → AreProofsHeld (after_saying w r y) t
   proofs_said t held = proofs_more w w.asked (with_last w.said r y) w.past w.kept (λ q e has. has) (λ q i x at. with_last-kept w.said r y q i x at) (λ q i b at. at) (λ h e is. is) t held
 
+  pub commit_said : (last : View) (history : List Entry) (o : Option Certificate) → IfSome o (IsCommitHeld w last history) → IfSome o (IsCommitHeld (after_saying w r y) last history)
+  commit_said last history o is = commit_more w w.asked (with_last w.said r y) w.past w.kept (λ q e has. has) (λ q i x at. with_last-kept w.said r y q i x at) (λ q i b at. at) (λ h e is. is) last history o is
+
   pub hearing_said : (interval : ℕ) (v : Views) → IsHearing interval w v → IsHearing interval (after_saying w r y) v
   hearing_said interval v is = hearing_more w w.asked (with_last w.said r y) w.past w.kept (λ q e has. has) (λ q i x at. with_last-kept w.said r y q i x at) (λ q i b at. at) (λ h e is. is) interval v is
 
@@ -192,17 +198,15 @@ module _ (w : World) (r : ℕ) (y : Spoken) where
     pub grounded_said : IsGrounded interval w c → IsGrounded interval (after_saying w r y) c
     grounded_said is = grounded_more w w.asked (with_last w.said r y) w.past w.kept (λ q e has. has) (λ q i x at. with_last-kept w.said r y q i x at) (λ q i b at. at) (λ h e is. is) R interval r c history is
 
-    pub begun_said : ((m : Mark) → IsVote c.views.last_view.0 m y.what → IsCovered (read_by r (told_by c)) m) → IsBegun w r c history → IsBegun (after_saying w r y) r c history
+    pub begun_said : ((m : Mark) → IsVote c.views.last_view.0 m y.what → IsFarEnough c.views.specs m.place) → IsBegun w r c history → IsBegun (after_saying w r y) r c history
     begun_said new is =
         record {
           began = is.began;
           held = parts_said began_told (told_by c).began is.held;
           passes = is.passes;
-          specs = is.specs;
-          specs_held = λ specs at. parts_said response_told specs (is.specs_held specs at);
-          certified = is.certified;
+          commit = commit_said c.views.last_view history c.views.specs is.commit;
           covered = λ number x m at vote.
-              own_said w r y (λ z. IsVote c.views.last_view.0 m z.what → IsCovered (read_by r (told_by c)) m) (λ i z at is_vote. is.covered i z m at is_vote) (new m) number x at vote;
+              own_said w r y (λ z. IsVote c.views.last_view.0 m z.what → IsFarEnough c.views.specs m.place) (λ i z at is_vote. is.covered i z m at is_vote) (new m) number x at vote;
         }
 
 -- ---- after it stands elsewhere
@@ -210,6 +214,9 @@ module _ (w : World) (r : ℕ) (y : Spoken) where
 module _ (w : World) (r : ℕ) (b : Stand) where
   pub parts_stood : {S : Type 0} (say : S → Statement) (list : List (Signed S)) → All (IsHeldPart w say) list → All (IsHeldPart (after_standing w r b) say) list
   parts_stood say list held = parts_more w w.asked w.said (with_last w.past r b) w.kept (λ q e has. has) (λ q i x at. at) (λ q i d at. with_last-kept w.past r b q i d at) (λ h e is. is) say list held
+
+  pub commit_stood : (last : View) (history : List Entry) (o : Option Certificate) → IfSome o (IsCommitHeld w last history) → IfSome o (IsCommitHeld (after_standing w r b) last history)
+  commit_stood last history o is = commit_more w w.asked w.said (with_last w.past r b) w.kept (λ q e has. has) (λ q i x at. at) (λ q i d at. with_last-kept w.past r b q i d at) (λ h e is. is) last history o is
 
   pub hearing_stood : (interval : ℕ) (v : Views) → IsHearing interval w v → IsHearing interval (after_standing w r b) v
   hearing_stood interval v is = hearing_more w w.asked w.said (with_last w.past r b) w.kept (λ q e has. has) (λ q i x at. at) (λ q i d at. with_last-kept w.past r b q i d at) (λ h e is. is) interval v is

@@ -1,30 +1,36 @@
 -- How what a replica keeps is tied to what it said and where it stood, in every view and while it leaves one.
-use Rattle.std.specs.Prelude.{◌≡◌, ℕ, ◌+◌, ◌-◌, ◌*◌, ◌%◌, ◌^◌, ◌<◌, ◌≤◌, List, length, map, All, slice_index_or, Option, Some, None, IfSome}
+use Rattle.std.specs.Prelude.{◌≡◌, ℕ, ◌+◌, ◌-◌, ◌*◌, ◌%◌, ◌^◌, ◌<◌, ◌≤◌, Bool, true, List, [], ◌∷◌, ◌++◌, length, map, fold, All, slice_index_or, Option, Some, None, IfSome}
 use Rattle.zy_base.specs.Machine.{Rules}
+use Rattle.zy_base.specs.declared.counts.Counts.{Counts}
 use Rattle.zy_base.specs.declared.ids.Digest.{Digest}
 use Rattle.zy_base.specs.declared.ids.Party.TheVariants.{Replica}
+use Rattle.zy_base.specs.declared.ids.ReplicaId.{ReplicaId}
 use Rattle.zy_base.specs.declared.ids.View.{View}
 use Rattle.zy_base.specs.declared.step.Mode.{Mode}
 use Rattle.zy_base.specs.declared.step.Mode.TheVariants.{Active, Leaving}
+use Rattle.zy_chain.specs.Heads.{empty_head}
 use Rattle.zy_chain.specs.Stretch.{Mark}
 use Rattle.zy_chain.specs.declared.entry.Entry.{Entry}
 use Rattle.zy_cert.specs.Certificates.{IsCertificate}
-use Rattle.zy_cert.specs.Points.{point_of_began}
+use Rattle.zy_cert.specs.Points.{point_of_began, point_of_spec}
 use Rattle.zy_change.specs.Owing.{change_to}
-use Rattle.zy_change.specs.Views.{Views, adopted, began_for, left, own_view, specs_in, told_of, with_change, with_new}
+use Rattle.zy_change.specs.Views.{Slots, Views, adopted, began_for, left, own_view, start_of, told_of, with_change, with_new}
 use Rattle.zy_change.specs.declared.kept.Accepted.{Accepted}
+use Rattle.zy_change.specs.declared.kept.Certificate.{Certificate}
 use Rattle.zy_change.specs.declared.kept.Chosen.{Chosen}
 use Rattle.zy_change.specs.declared.kept.Waiting.{Waiting}
 use Rattle.zy_choose.specs.Choice.{IsChosen}
 use Rattle.zy_choose.specs.Marks.{link}
 use Rattle.zy_choose.specs.Reports.{PlainReport}
-use Rattle.zy_evidence.specs.Reading.{began_of, read, read_by, spec_of}
-use Rattle.zy_evidence.specs.WellFormed.{IsBeganProven, IsSpecProven, IsStableProven, IsWellFormedChange}
-use Rattle.zy_exec.specs.Kept.{Kept, StandsFor, last_place, stretch_of}
+use Rattle.zy_evidence.specs.Reading.{began_of, read}
+use Rattle.zy_evidence.specs.WellFormed.{IsBeganProven, IsStableProven, IsWellFormedChange}
+use Rattle.zy_exec.specs.Kept.{Kept, StandsFor, last_place, longer, settled, stretch_of}
+use Rattle.zy_exec.specs.Replay.{origin}
 use Rattle.zy_law.specs.Histories.{Passes}
-use Rattle.zy_law.specs.Lawful.{IsCovered, IsVote}
+use Rattle.zy_law.specs.Lawful.{AreAskedFor, IsOrdered, IsVote}
 use Rattle.zy_law.specs.Lists.{IsListOf}
 use Rattle.zy_law.specs.Said.{Says, Stood}
+use Rattle.zy_law.specs.Steps.{MaySay, after_saying}
 use Rattle.zy_law.specs.World.{Spoken, Stand, Statement, World}
 use Rattle.zy_parts.specs.declared.reports.Began.{Began}
 use Rattle.zy_parts.specs.declared.reports.Change.{Change}
@@ -32,7 +38,6 @@ use Rattle.zy_parts.specs.declared.reports.New.{New}
 use Rattle.zy_parts.specs.declared.reports.Told.{Told}
 use Rattle.zy_parts.specs.declared.signed.Signed.{Signed}
 use Rattle.zy_parts.specs.declared.statements.Check.{Check}
-use Rattle.zy_parts.specs.declared.statements.Spec.{Spec}
 use Rattle.zy_vframes.specs.declared.frame.ViewCert.{ViewCert}
 use Rattle.zy_view_law.specs.Held.{IsHeldChange, IsHeldPart, IsProperNew, mark_at}
 use Rattle.zy_view_law.specs.Told.{began_told, check_told, response_told}
@@ -120,16 +125,27 @@ pub record IsGrounded {S : Type 0} (interval : ℕ) (w : World) (c : Core S) : T
   pub clients : All (λ e. e.client.0 < 64) c.kept.entries
   pub end : last_place c.kept < 2 ^ 62
 
--- Its last view began as its certificate says, with a mark of its history; its commit certificate is of that view and of a
--- mark of its history, and as far as each vote that it said there.
+-- A commit certificate that it holds: of its last active view, for a mark of its history.
+pub record IsCommitHeld (w : World) (last : View) (history : List Entry) (own : Certificate) : Type 0 where
+  pub head : Digest
+  pub certificate : IsCertificate point_of_spec w.counts.cert own.specs (last, own.place, head)
+  pub held : All (IsHeldPart w response_told) own.specs
+  pub passes : Passes w.next history (mark_at own.place head)
+
+-- a commit certificate is held, of this place or a further one
+pub record IsFarEnough (held : Option Certificate) (place : ℕ) : Type 0 where
+  pub own : Certificate
+  pub is : held ≡ Some own
+  pub far : place ≤ own.place.0
+
+-- Its last view began as its certificate says, with a mark of its history. The commit certificate that it holds is as far as
+-- each vote that it said there.
 pub record IsBegun {S : Type 0} (w : World) (r : ℕ) (c : Core S) (history : List Entry) : Type 0 where
   pub began : IsBeganProven w.counts (told_by c)
   pub held : All (IsHeldPart w began_told) (told_by c).began
   pub passes : Passes w.next history (began_of (told_by c))
-  pub specs : (specs : List (Signed Spec)) → specs_in c.views.specs ≡ Some specs → IsSpecProven w.counts c.views.last_view specs
-  pub specs_held : (specs : List (Signed Spec)) → specs_in c.views.specs ≡ Some specs → All (IsHeldPart w response_told) specs
-  pub certified : IfSome (spec_of (specs_in c.views.specs)) (Passes w.next history)
-  pub covered : (number : ℕ) (x : Spoken) (m : Mark) → Says w r number x → IsVote c.views.last_view.0 m x.what → IsCovered (read_by r (told_by c)) m
+  pub commit : IfSome c.views.specs (IsCommitHeld w c.views.last_view history)
+  pub covered : (number : ℕ) (x : Spoken) (m : Mark) → Says w r number x → IsVote c.views.last_view.0 m x.what → IsFarEnough c.views.specs m.place
 
 -- ---- what it heard
 
@@ -173,7 +189,48 @@ pub record IsTied {S : Type 0} (R : Rules S) (interval : ℕ) (w : World) (r : �
   pub begun : IsBegun w r c history
   pub hearing : IsHearing interval w c.views
 
+-- It may say this now, and is tied once it said so, with all that it keeps as it is.
+pub record SaysLawfully {S : Type 0} (R : Rules S) (interval : ℕ) (w : World) (r : ℕ) (c : Core S) (history : List Entry) (statement : Statement) : Type 0 where
+  pub may : MaySay w r (said_now w r statement)
+  pub tied : IsTied R interval (after_saying w r (said_now w r statement)) r c history
+
 -- ---- what becomes of it
+
+-- a replica that begins, where the snapshot of the empty history has this digest
+abbrev pub core_at_start : {S : Type 0} → Rules S → ℕ → Counts → ReplicaId → Digest → Core S
+core_at_start R interval counts me state =
+    record {
+      views = start_of counts me interval;
+      kept = record { interval = interval; base = origin R; entries = [] };
+      stable = record { view = record { 0 = 0 }; place = record { 0 = 0 }; head = empty_head; state = state };
+      proof = [];
+    }
+
+-- An entry may run next: it was asked for and is newer than its client's, its link is kept, it is the order's of its place if
+-- the replica gave one, and there is room for it.
+pub record IsRunnableNext {S : Type 0} (interval : ℕ) (w : World) (r : ℕ) (c : Core S) (history : List Entry) (e : Entry) : Type 0 where
+  pub asked : AreAskedFor w (length history) (history ++ e ∷ [])
+  pub link : w.kept (fold w.next empty_head history) e ≡ true
+  pub ordered : (number : ℕ) (x : Spoken) (m : Mark) (request : Digest) → Says w r number x → x.what ≡ Statement.Order c.views.last_view.0 m request
+      → m.place ≤ length (history ++ e ∷ []) → IsOrdered w (history ++ e ∷ []) m request
+  pub client : e.client.0 < 64
+  pub room : length c.kept.entries < 2 * interval
+  pub end : last_place c.kept + 1 < 2 ^ 62
+
+abbrev pub stand_with : {S : Type 0} → Core S → List Entry → Entry → Stand
+stand_with c history e = record { view = c.views.last_view.0; history = history ++ e ∷ [] }
+
+-- it ran an entry
+abbrev pub ran_with : {S : Type 0} → Entry → Core S → Core S
+ran_with e c = record c { kept = longer c.kept e }
+
+-- a later checkpoint is stable, and what it keeps begins there
+abbrev pub settled_with : {S : Type 0} → Rules S → ℕ → Check → List (Signed Check) → Core S → Core S
+settled_with R place stable proof c = record { views = c.views; kept = settled R place c.kept; stable = stable; proof = proof }
+
+-- it keeps other reports, confirmations and hates, and another certificate waits
+abbrev pub with_heard : {S : Type 0} → Slots Change → Slots Began → List Bool → Option Waiting → Core S → Core S
+with_heard changes begans hated waiting c = record c { views = record c.views { changes = changes; begans = begans; hated = hated; waiting = waiting } }
 
 -- it left for a view, with this signature on its leave
 abbrev pub left_with : {S : Type 0} → View → List ℕ → Core S → Core S

@@ -119,6 +119,7 @@ module _ {S : Type 0} (R : Rules S) (interval : ℕ) (w : World) (lawful : IsLaw
         }
 
     pub says_response : (m : Mark) (a : Answer) → Passes w.next history m → IsTrueAnswer w history m a → SaysLawfully R interval w r c history (Statement.Spec view.0 m a)
+    unfolding stood_here
     says_response m a passes answer =
         record {
           may = record { now = omega (arith, tied.standing.last); silence = silent; told = record { at = stood_here m passes; answer = answer } };
@@ -146,6 +147,7 @@ module _ {S : Type 0} (R : Rules S) (interval : ℕ) (w : World) (lawful : IsLaw
 
     pub says_checkpoint : (m : Mark) (state : Digest) → Passes w.next history m → IsCertified w view.0 m → IsFarEnough c.views.specs m.place → w.state (take m.place history) ≡ state
         → SaysLawfully R interval w r c history (Statement.Check view.0 m state)
+    unfolding stood_here
     says_checkpoint m state passes certified far snapshot =
         record {
           may = record {

@@ -15,10 +15,12 @@ use Rattle.zy_chain.specs.declared.entry.Entry.{Entry}
 use Rattle.zy_choose.specs.Choice.{IsChoice}
 use Rattle.zy_choose.specs.Marks.{Has, link}
 use Rattle.zy_evidence.specs.Reading.{read, stretch_of}
+use Rattle.zy_evidence.specs.WellFormed.{IsWellFormedChange}
 use Rattle.zy_law.proofs.ChoiceExtends.{all_choices_safe}
 use Rattle.zy_law.proofs.HistoryLemmas.{Passes-one}
 use Rattle.zy_law.proofs.ListLemmas.{list_passed, passed_below}
 use Rattle.zy_law.proofs.ProvenStates.{proven_state}
+use Rattle.zy_law.proofs.QuorumLemmas.{All_at}
 use Rattle.zy_law.specs.Fixed.{IsFixed}
 use Rattle.zy_law.specs.Histories.{Passes, origin}
 use Rattle.zy_law.specs.Lawful.{IsLawful}
@@ -30,10 +32,10 @@ use Rattle.zy_parts.specs.declared.reports.New.{New}
 use Rattle.zy_parts.specs.declared.signed.Signed.{Signed}
 use Rattle.zy_parts.specs.declared.statements.Check.{Check}
 use Rattle.zy_parts.specs.declared.statements.Order.{Order}
-use Rattle.zy_view_law.specs.Held.{IsHeldPart, IsProvidedBy, IsVouchedBy, mark_at}
+use Rattle.zy_view_law.specs.Held.{IsHeldChange, IsHeldPart, IsProvidedBy, IsVouchedBy, mark_at}
 use Rattle.zy_view_law.specs.Tied.{Core, IsTied, told_by}
 use Rattle.zy_view_law.specs.Told.{check_told, order_told}
-use Rattle.zy_view_law.proofs.AdoptedLists.{base_passed, chosen_known, provider_formed, provider_has_it, provider_held}
+use Rattle.zy_view_law.proofs.AdoptedLists.{chosen_known, provider_has_it}
 use Rattle.zy_view_law.proofs.Backing.{cert_backed}
 use Rattle.zy_view_law.proofs.OwnReport.{own_base}
 use Rattle.zy_view_law.proofs.ProvenReports.{check_cert, new_valid, report_proven, some_local}
@@ -116,9 +118,12 @@ module _ {S : Type 0} (R : Rules S) (interval : ℕ) (w : World) (lawful : IsLaw
       let same = Passes-one w.next known.moment.stand.history own stable refl passed (stable_there known.moment known.passes) in
       rw (le-ltb c.stable.place.0 s.base.place below, le-ltb (end_of s) c.stable.place.0 end) (ap (λ (k : Mark). Some k.head) same)
 
-  -- at the provider's stable place its own snapshot has the digest that the provider tells, if it has that head
-  pub provider_state : 0 < p.stmt.told.stable_place.0 → (t : Moment w) → At t (stretch_of p.stmt.told).base → w.state (take p.stmt.told.stable_place.0 t.stand.history) ≡ p.stmt.told.state
-  provider_state some t passes =
-      let proven = report_proven w interval p (provider_formed w lawful links interval n m p is) (provider_held w lawful links interval n m p is).proofs in
-      proven_state w lawful w.counts.local p.stmt.told.stable_view.0 (stretch_of p.stmt.told).base p.stmt.told.state t (proven.stable_later some)
-      (omega (arith, w.counts.sound.local_and_change, w.counts.sound.change_in_reach)) passes
+-- at the provider's stable place each correct history with its head leads to the snapshot whose digest the provider tells
+pub provider_state : (w : World) → IsLawful w → (interval : ℕ) (n : New) (m : Mark) (p : Signed Change) → IsProvidedBy w interval n m p → 0 < p.stmt.told.stable_place.0 → (t : Moment w)
+    → At t (stretch_of p.stmt.told).base → w.state (take p.stmt.told.stable_place.0 t.stand.history) ≡ p.stmt.told.state
+provider_state w lawful interval n m p is some t passes =
+    let held = All_at (IsHeldChange w) n.changes is.provider p is.there is.proper.held in
+    let formed = All_at (IsWellFormedChange w.counts interval) n.changes is.provider p is.there is.proper.well_formed in
+    let proven = report_proven w interval p formed held.proofs in
+    proven_state w lawful w.counts.local p.stmt.told.stable_view.0 (stretch_of p.stmt.told).base p.stmt.told.state t (proven.stable_later some)
+    (omega (arith, w.counts.sound.local_and_change, w.counts.sound.change_in_reach)) passes
