@@ -1,36 +1,32 @@
 -- The history that a provider's report gives up to the choice is that of a correct replica, and what is installed or run
 -- along the report stands for it.
-use Rattle.std.proofs.Common.{◌≡◌, ℕ, ◌+◌, ◌-◌, ◌%◌, ◌^◌, ◌<◌, ◌≤◌, Bool, true, ◌&&◌, ◌==◌, List, [], ◌∷◌, ◌++◌, length, map, take, drop, fold, get_or, Option, Some, None, refl, sym, ap, ◌∙◌, subst, arith}
-use Rattle.std.specs.Prelude.{All, option_map, slice_get}
+use Rattle.std.proofs.Common.{◌≡◌, ℕ, ◌-◌, ◌<◌, Bool, true, ◌&&◌, ◌==◌, List, ◌++◌, length, map, take, drop, fold, Some, sym, ap, ◌∙◌, subst, arith}
+use Rattle.std.specs.Prelude.{option_map, slice_get}
 use Rattle.std.proofs.lemmas.Bool.{and_parts, eqb-true}
-use Rattle.std.proofs.lemmas.List.{length-take-le}
 use Rattle.std.proofs.lemmas.List.Quantifiers.{position-Some}
 use Rattle.std.proofs.lemmas.Option.{get_or_from_slice_get, same_Some, slice_get-map}
 use Rattle.zy_base.specs.Machine.{Rules}
 use Rattle.zy_base.specs.declared.ids.Digest.{Digest}
 use Rattle.zy_chain.specs.declared.entry.Entry.{Entry}
-use Rattle.zy_chain.specs.Heads.{empty_head, head_of}
-use Rattle.zy_chain.specs.Stretch.{Mark, Stretch, end_of}
+use Rattle.zy_chain.specs.Heads.{empty_head}
+use Rattle.zy_chain.specs.Stretch.{Mark}
 use Rattle.zy_choose.proofs.MarkLemmas.{has_mark-Has}
-use Rattle.zy_choose.specs.Choice.{IsChoice, IsChosen, provider_of}
+use Rattle.zy_choose.specs.Choice.{IsChoice, provider_of}
 use Rattle.zy_choose.specs.Marks.{Has, has_mark, link}
 use Rattle.zy_choose.specs.Reports.{PlainReport}
-use Rattle.zy_evidence.specs.Reading.{read, stretch_of}
+use Rattle.zy_evidence.specs.Reading.{read}
 use Rattle.zy_evidence.specs.WellFormed.{IsWellFormedChange}
-use Rattle.zy_exec.specs.Installed.{IsRunnable}
 use Rattle.zy_exec.specs.Kept.{Kept, StandsFor}
 use Rattle.zy_exec.specs.Replay.{along, origin}
 use Rattle.zy_exec.specs.Shots.{digest_of_snapshot}
 use Rattle.zy_exec.specs.Snapshot.{snapshot_of}
 use Rattle.zy_law.proofs.ChoiceExtends.{all_choices_safe}
-use Rattle.zy_law.proofs.HistoryLemmas.{AreKept-take}
-use Rattle.zy_law.proofs.ListLemmas.{list_passed, one_list}
+use Rattle.zy_law.proofs.ListLemmas.{list_passed}
 use Rattle.zy_law.proofs.ProvenStates.{chain_base, chain_entries, proven_state}
 use Rattle.zy_law.proofs.QuorumLemmas.{All_at}
 use Rattle.zy_law.proofs.ReportLemmas.{take_split}
-use Rattle.zy_law.specs.Histories.{AreKept}
 use Rattle.zy_law.specs.Lawful.{IsLawful}
-use Rattle.zy_law.specs.Lists.{IsKnown, IsListOf}
+use Rattle.zy_law.specs.Lists.{IsKnown}
 use Rattle.zy_law.specs.Said.{At, Moment}
 use Rattle.zy_law.specs.World.{World}
 use Rattle.zy_parts.specs.declared.reports.Change.{Change}

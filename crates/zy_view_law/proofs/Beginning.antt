@@ -1,16 +1,14 @@
 -- A tied replica may stand in a later view with the history that the view's certificate confirms, and is tied then.
-use Rattle.std.proofs.Common.{◌≡◌, ℕ, ◌+◌, ◌-◌, ◌<◌, ◌≤◌, nat_le, Bool, true, false, cond, inl, inr, List, [], ◌∷◌, length, take, fold, map, Option, Some, None, refl, sym, ap, ◌∙◌, subst, arith}
-use Rattle.std.specs.Prelude.{All, slice_index_or}
+use Rattle.std.proofs.Common.{◌≡◌, ℕ, nat_le, Bool, true, false, cond, inr, List, length, fold, Option, Some, None, refl, sym, ap, ◌∙◌, subst, arith}
+use Rattle.std.specs.Prelude.{slice_index_or}
 use Rattle.std.proofs.lemmas.List.{take_all}
 use Rattle.zy_base.specs.Machine.{Rules}
-use Rattle.zy_base.specs.declared.ids.Digest.{Digest}
 use Rattle.zy_chain.specs.Heads.{empty_head}
 use Rattle.zy_chain.specs.Stretch.{Mark}
 use Rattle.zy_chain.specs.declared.entry.Entry.{Entry}
 use Rattle.zy_change.proofs.IndexLemmas.{read_map}
 use Rattle.zy_change.specs.Views.{began_past, change_past}
 use Rattle.zy_change.specs.declared.kept.Chosen.{Chosen}
-use Rattle.zy_choose.specs.Marks.{link}
 use Rattle.zy_exec.specs.Kept.{Kept}
 use Rattle.zy_law.proofs.HistoryLemmas.{mark_is}
 use Rattle.zy_law.specs.Histories.{Passes, mark_of_all}

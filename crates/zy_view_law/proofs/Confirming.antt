@@ -1,15 +1,13 @@
 -- A tied replica that leaves for a view, and accepted no new view for it, may confirm the choice of a proper one, and is tied then.
-use Rattle.std.proofs.Common.{◌≡◌, ℕ, ◌+◌, ◌-◌, ◌<◌, ◌≤◌, nat_eq, Bool, true, false, cond, not, ◌&&◌, inl, inr, List, [], ◌∷◌, length, map, Option, Some, None, refl, sym, ap, ◌∙◌, subst, arith, eq-eqb}
-use Rattle.std.specs.Prelude.{slice_get, slice_index_or}
+use Rattle.std.proofs.Common.{◌≡◌, ℕ, ◌≤◌, nat_eq, Bool, true, false, cond, not, ◌&&◌, inl, inr, List, map, Option, Some, None, refl, sym, ap, ◌∙◌, subst, arith, eq-eqb}
+use Rattle.std.specs.Prelude.{slice_index_or}
 use Rattle.zy_base.specs.Machine.{Rules}
 use Rattle.zy_base.specs.Step.{view_of}
-use Rattle.zy_base.specs.declared.ids.Digest.{Digest}
-use Rattle.zy_base.specs.declared.ids.Party.{Party}
 use Rattle.zy_base.specs.declared.ids.Party.TheVariants.{Replica}
 use Rattle.zy_base.specs.declared.ids.ReplicaId.{ReplicaId}
 use Rattle.zy_base.specs.declared.ids.View.{View}
 use Rattle.zy_base.specs.declared.step.Mode.{Mode}
-use Rattle.zy_base.specs.declared.step.Mode.TheVariants.{Active, Leaving}
+use Rattle.zy_base.specs.declared.step.Mode.TheVariants.{Leaving}
 use Rattle.zy_chain.specs.Stretch.{Mark}
 use Rattle.zy_chain.specs.declared.entry.Entry.{Entry}
 use Rattle.zy_cert.specs.Equal.{same_began}
@@ -19,7 +17,6 @@ use Rattle.zy_change.specs.Views.{began_for, is_accepted, own_view, unless_other
 use Rattle.zy_change.specs.declared.kept.Accepted.{Accepted}
 use Rattle.zy_change.specs.declared.kept.Chosen.{Chosen}
 use Rattle.zy_choose.specs.Marks.{link}
-use Rattle.zy_choose.specs.Reports.{PlainReport}
 use Rattle.zy_evidence.specs.Reading.{read}
 use Rattle.zy_law.specs.Lawful.{IsChosenStart, IsLawful, IsVote}
 use Rattle.zy_law.specs.Said.{IsCorrect, IsVouched, Says}

@@ -1,21 +1,16 @@
 -- What is signed in a frame is held where each of its texts was said by its signer, or that lies.
-use Rattle.std.proofs.Common.{◌≡◌, ℕ, zero, suc, ◌<◌, ◌≤◌, List, [], ◌∷◌, ◌++◌, length, map, get_or, Option, Some, None, refl, sym, ap, ◌∙◌, subst, arith}
-use Rattle.std.specs.List.{flat_map}
+use Rattle.std.proofs.Common.{◌≡◌, ℕ, suc, List, ◌++◌, map, get_or, Option, Some, None, refl, subst, arith}
 use Rattle.std.specs.Prelude.{All, option_map}
-use Rattle.zy_base.specs.declared.ids.Party.{Party}
 use Rattle.zy_evidence.specs.Reading.{number_of_party}
 use Rattle.zy_law.specs.World.{Statement, World}
 use Rattle.zy_parts.specs.Numbers as numbers
 use Rattle.zy_parts.specs.Reports.{change_fields, new_fields, began_fields, told_fields}
 use Rattle.zy_parts.specs.Signing.{part_of, signed, text_of}
 use Rattle.zy_parts.specs.Statements.{spec_fields, check_fields}
-use Rattle.zy_parts.specs.declared.reports.Began.{Began}
 use Rattle.zy_parts.specs.declared.reports.Change.{Change}
 use Rattle.zy_parts.specs.declared.reports.New.{New}
 use Rattle.zy_parts.specs.declared.reports.Told.{Told}
-use Rattle.zy_parts.specs.declared.signed.Part.{Part}
 use Rattle.zy_parts.specs.declared.signed.Signed.{Signed}
-use Rattle.zy_parts.specs.declared.statements.Check.{Check}
 use Rattle.zy_parts.specs.declared.statements.Spec.{Spec}
 use Rattle.zy_vframes.specs.Parts.{parts_of_certificate, parts_of_change, parts_of_new, parts_of_told}
 use Rattle.zy_wire.specs.Fields.{FitsList, FitsOptional}

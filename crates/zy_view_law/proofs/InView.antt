@@ -1,6 +1,5 @@
 -- What a tied replica says in its view, and that it is tied then.
-use Rattle.std.proofs.Common.{◌≡◌, ℕ, ◌+◌, ◌-◌, ◌%◌, ◌<◌, ◌≤◌, List, [], ◌∷◌, ◌++◌, length, take, Option, Some, None, refl, sym, ap, ◌∙◌, subst, arith}
-use Rattle.std.specs.Prelude.{slice_get}
+use Rattle.std.proofs.Common.{◌≡◌, ℕ, ◌-◌, ◌%◌, ◌<◌, ◌≤◌, List, length, take, Some, sym, ap, ◌∙◌, subst, arith}
 use Rattle.std.proofs.lemmas.List.{length-append}
 use Rattle.std.proofs.lemmas.Option.{slice_get_within}
 use Rattle.zy_base.specs.Machine.{Rules}
@@ -8,7 +7,7 @@ use Rattle.zy_base.specs.Step.{view_of}
 use Rattle.zy_base.specs.declared.ids.Digest.{Digest}
 use Rattle.zy_base.specs.declared.ids.View.{View}
 use Rattle.zy_base.specs.declared.step.Mode.{Mode}
-use Rattle.zy_base.specs.declared.step.Mode.TheVariants.{Active, Leaving}
+use Rattle.zy_base.specs.declared.step.Mode.TheVariants.{Active}
 use Rattle.zy_chain.specs.Stretch.{Mark}
 use Rattle.zy_chain.specs.declared.entry.Entry.{Entry}
 use Rattle.zy_change.specs.Views.{own_view}
@@ -16,10 +15,9 @@ use Rattle.zy_choose.specs.Reports.{PlainReport}
 use Rattle.zy_law.proofs.PastLemmas.{later_front}
 use Rattle.zy_law.specs.Fixed.{IsCertified}
 use Rattle.zy_law.specs.Histories.{Passes}
-use Rattle.zy_law.specs.Lawful as law
-use Rattle.zy_law.specs.Lawful.{IsLawful, IsOrdered, IsTrueAnswer, IsVote, StoodAt}
+use Rattle.zy_law.specs.Lawful.{IsLawful, IsTrueAnswer, IsVote, StoodAt}
 use Rattle.zy_law.specs.Said.{IsCorrect, Says, Stood}
-use Rattle.zy_law.specs.Steps.{MaySay, after_saying}
+use Rattle.zy_law.specs.Steps.{after_saying}
 use Rattle.zy_law.specs.World.{Answer, Spoken, Stand, Statement, World}
 use Rattle.zy_view_law.specs.Tied.{AreOrdersUpTo, Core, IsAhead, IsConfirmedAs, IsFarEnough, IsTied, SaysLawfully, said_now}
 use Rattle.zy_view_law.proofs.TiedGrown.{begun_said, grounded_said, hearing_said, own_said, standing_said}

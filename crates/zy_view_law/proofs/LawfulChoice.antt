@@ -1,5 +1,5 @@
 -- What is chosen out of a proper new view is the law's choice, and two anchors never stand in it.
-use Rattle.std.proofs.Common.{◌≡◌, ℕ, ◌+◌, ◌<◌, ◌≤◌, ◌*◌, List, length, map, get_or, refl, sym, ap, ◌∙◌, subst, arith}
+use Rattle.std.proofs.Common.{◌≡◌, ℕ, ◌<◌, ◌*◌, List, length, map, sym, ◌∙◌, subst, arith}
 use Rattle.std.proofs.lemmas.List.{length-map}
 use Rattle.std.proofs.lemmas.List.Elements.{All-map}
 use Rattle.std.specs.Prelude.{All, IfSome}
@@ -18,7 +18,6 @@ use Rattle.zy_choose.specs.declared.choice.Choice.TheVariants.{Chosen, AnchorCla
 use Rattle.zy_evidence.specs.Reading.{read}
 use Rattle.zy_law.proofs.OneChoice.{only_anchor}
 use Rattle.zy_law.specs.Lawful.{IsLawful}
-use Rattle.zy_law.specs.Reports.{IsValidNew}
 use Rattle.zy_law.specs.World.{World}
 use Rattle.zy_parts.specs.declared.reports.New.{New}
 use Rattle.zy_view_law.specs.Held.{mark_at, IsProperNew}

@@ -1,8 +1,6 @@
 -- A tied replica may leave for a view above its own with its report, and is tied then.
-use Rattle.std.proofs.Common.{◌≡◌, ℕ, ◌+◌, ◌-◌, ◌<◌, ◌≤◌, inl, inr, List, [], ◌∷◌, length, Option, Some, None, refl, sym, ap, ◌∙◌, subst, arith}
-use Rattle.std.specs.Prelude.{slice_get, slice_index_or}
+use Rattle.std.proofs.Common.{◌≡◌, ℕ, ◌-◌, ◌<◌, ◌≤◌, inl, inr, List, length, refl, sym, subst, arith}
 use Rattle.zy_base.specs.Machine.{Rules}
-use Rattle.zy_base.specs.declared.ids.Party.{Party}
 use Rattle.zy_base.specs.declared.ids.Party.TheVariants.{Replica}
 use Rattle.zy_base.specs.declared.ids.ReplicaId.{ReplicaId}
 use Rattle.zy_base.specs.declared.ids.View.{View}
@@ -11,16 +9,15 @@ use Rattle.zy_change.proofs.FitLemmas.{kept_or_filled}
 use Rattle.zy_change.specs.Owing.{change_to}
 use Rattle.zy_change.specs.Views.{left, own_view, with_change}
 use Rattle.zy_choose.specs.Marks.{link}
-use Rattle.zy_choose.specs.Reports.{PlainReport}
 use Rattle.zy_evidence.specs.Reading.{read_by}
-use Rattle.zy_law.specs.Lawful.{IsCovered, IsLawful, IsTrueReport, IsVote}
-use Rattle.zy_law.specs.Said.{IsCorrect, IsVouched, Says}
+use Rattle.zy_law.specs.Lawful.{IsLawful, IsTrueReport, IsVote}
+use Rattle.zy_law.specs.Said.{IsCorrect, IsVouched}
 use Rattle.zy_law.specs.Steps.{MaySay, after_saying}
-use Rattle.zy_law.specs.World.{Spoken, Stand, Statement, World}
+use Rattle.zy_law.specs.World.{Spoken, Statement, World}
 use Rattle.zy_parts.specs.declared.reports.Change.{Change}
 use Rattle.zy_parts.specs.declared.signed.Signed.{Signed}
 use Rattle.zy_view_law.specs.Held.{IsVouchedBy}
-use Rattle.zy_view_law.specs.Tied.{Core, IsConfirmedAs, IsKeptChange, IsTied, change_by, said_now, told_by}
+use Rattle.zy_view_law.specs.Tied.{Core, IsKeptChange, IsTied, change_by, said_now, told_by}
 use Rattle.zy_view_law.specs.Told.{change_told}
 use Rattle.zy_view_law.proofs.OwnReport.{last_below, own_formed, own_links, own_proofs, own_true}
 use Rattle.zy_view_law.proofs.TiedGrown.{begun_said, grounded_said, has_said_last, hearing_said, own_said, proofs_said, standing_said}

@@ -1,16 +1,16 @@
 -- What no correct replica is blamed for.
-use Rattle.std.proofs.Common.{◌≡◌, ◌≢◌, ℕ, ◌+◌, ◌-◌, ◌<◌, ◌≤◌, nat_lt, ◌||◌, cond, inl, inr, List, [], ◌∷◌, length, take, drop, fold, map, Option, Some, None, refl, sym, ap, ◌∙◌, subst, arith}
+use Rattle.std.proofs.Common.{◌≡◌, ℕ, ◌-◌, ◌<◌, ◌≤◌, inl, inr, List, take, map, Some, refl, sym, ap, ◌∙◌, subst, arith}
 use Rattle.std.proofs.lemmas.Bool.{cases_eq, le-ltb}
 use Rattle.zy_base.specs.Machine.{Rules}
 use Rattle.zy_base.specs.declared.ids.Digest.{Digest}
 use Rattle.zy_base.specs.declared.ids.Party.{Party}
-use Rattle.zy_base.specs.declared.ids.Party.TheVariants.{Replica, Client}
+use Rattle.zy_base.specs.declared.ids.Party.TheVariants.{Replica}
 use Rattle.zy_base.specs.declared.ids.Place.{Place}
 use Rattle.zy_base.specs.declared.ids.ReplicaId.{ReplicaId}
 use Rattle.zy_base.specs.declared.ids.View.{View}
 use Rattle.zy_cert.specs.Misbehaviour.{IsConflict}
 use Rattle.zy_chain.specs.Heads.{empty_head, head_from}
-use Rattle.zy_chain.specs.Stretch.{Mark, Stretch, end_of, head_in}
+use Rattle.zy_chain.specs.Stretch.{Mark, end_of, head_in}
 use Rattle.zy_chain.specs.declared.entry.Entry.{Entry}
 use Rattle.zy_choose.specs.Choice.{IsChoice}
 use Rattle.zy_choose.specs.Marks.{Has, link}
@@ -18,11 +18,10 @@ use Rattle.zy_evidence.specs.Reading.{read, stretch_of}
 use Rattle.zy_evidence.specs.WellFormed.{IsWellFormedChange}
 use Rattle.zy_law.proofs.ChoiceExtends.{all_choices_safe}
 use Rattle.zy_law.proofs.HistoryLemmas.{Passes-one}
-use Rattle.zy_law.proofs.ListLemmas.{list_passed, passed_below}
+use Rattle.zy_law.proofs.ListLemmas.{passed_below}
 use Rattle.zy_law.proofs.ProvenStates.{proven_state}
 use Rattle.zy_law.proofs.QuorumLemmas.{All_at}
 use Rattle.zy_law.specs.Fixed.{IsFixed}
-use Rattle.zy_law.specs.Histories.{Passes, origin}
 use Rattle.zy_law.specs.Lawful.{IsLawful}
 use Rattle.zy_law.specs.Lists.{Extends, IsSafeStart}
 use Rattle.zy_law.specs.Said.{At, HasSaid, IsBacked, IsCorrect, IsVouched, Moment}
@@ -30,14 +29,12 @@ use Rattle.zy_law.specs.World.{Statement, World}
 use Rattle.zy_parts.specs.declared.reports.Change.{Change}
 use Rattle.zy_parts.specs.declared.reports.New.{New}
 use Rattle.zy_parts.specs.declared.signed.Signed.{Signed}
-use Rattle.zy_parts.specs.declared.statements.Check.{Check}
 use Rattle.zy_parts.specs.declared.statements.Order.{Order}
 use Rattle.zy_view_law.specs.Held.{IsHeldChange, IsHeldPart, IsProvidedBy, IsVouchedBy, mark_at}
-use Rattle.zy_view_law.specs.Tied.{Core, IsTied, told_by}
+use Rattle.zy_view_law.specs.Tied.{Core, IsTied}
 use Rattle.zy_view_law.specs.Told.{check_told, order_told}
 use Rattle.zy_view_law.proofs.AdoptedLists.{chosen_known, provider_has_it}
 use Rattle.zy_view_law.proofs.Backing.{cert_backed}
-use Rattle.zy_view_law.proofs.OwnReport.{own_base}
 use Rattle.zy_view_law.proofs.ProvenReports.{check_cert, new_valid, report_proven, some_local}
 use Rattle.zy_view_law.proofs.RunningOn.{told_passes}
 
@@ -98,9 +95,9 @@ module _ {S : Type 0} (R : Rules S) (interval : ℕ) (w : World) (lawful : IsLaw
   stable_there t passes =
       elim (cases_eq c.stable.place.0 0) [
         | inl none ↦ (
-          let head : c.stable.head ≡ empty_head = (tied.grounded.proven.first none).head in
-          subst (λ (k : Mark). At t k) (λ i. record { place = sym none i; head = sym head i }) (record { within = omega arith; head = refl })
-        )
+            let head : c.stable.head ≡ empty_head = (tied.grounded.proven.first none).head in
+            subst (λ (k : Mark). At t k) (λ i. record { place = sym none i; head = sym head i }) (record { within = omega arith; head = refl })
+            )
         | inr some ↦ passed_below w lawful t stable m (extends (omega (arith, some))) passes
       ]
 

@@ -1,5 +1,5 @@
 -- A tied replica's report is true, and breaks no rule, for each later view.
-use Rattle.std.proofs.Common.{◌≡◌, ℕ, ◌+◌, ◌-◌, ◌*◌, ◌<◌, ◌≤◌, List, [], ◌∷◌, length, take, drop, fold, Option, Some, None, refl, sym, ap, ◌∙◌, subst, arith}
+use Rattle.std.proofs.Common.{◌≡◌, ℕ, ◌<◌, ◌≤◌, List, [], ◌∷◌, length, take, drop, fold, Option, Some, None, refl, sym, ap, ◌∙◌, subst, arith}
 use Rattle.std.specs.Prelude.{All, IfSome}
 use Rattle.std.proofs.lemmas.List.{length-drop}
 use Rattle.zy_base.specs.Machine.{Rules}
@@ -10,27 +10,25 @@ use Rattle.zy_base.specs.declared.ids.View.{View}
 use Rattle.zy_base.specs.declared.step.Mode.{Mode}
 use Rattle.zy_base.specs.declared.step.Mode.TheVariants.{Active, Leaving}
 use Rattle.zy_chain.specs.Heads.{empty_head}
-use Rattle.zy_chain.specs.Stretch.{Mark, Stretch}
+use Rattle.zy_chain.specs.Stretch.{Mark}
 use Rattle.zy_chain.specs.declared.entry.Entry.{Entry}
 use Rattle.zy_cert.specs.Certificates.{IsCertificate}
 use Rattle.zy_cert.specs.Points.{point_of_spec}
-use Rattle.zy_change.specs.Views.{own_view, specs_in}
+use Rattle.zy_change.specs.Views.{specs_in}
 use Rattle.zy_change.specs.declared.kept.Certificate.{Certificate}
 use Rattle.zy_choose.specs.Marks.{Has, link}
 use Rattle.zy_choose.specs.Rules.{Fits}
-use Rattle.zy_evidence.specs.Reading.{mark_of_first, read, read_by, spec_of, stretch_of}
+use Rattle.zy_evidence.specs.Reading.{mark_of_first, read_by, spec_of, stretch_of}
 use Rattle.zy_evidence.specs.WellFormed.{IsSpecProven, IsWellFormedChange}
-use Rattle.zy_exec.proofs.HistoryLemmas.{stands_end}
-use Rattle.zy_exec.proofs.ReplayLemmas.{head-along, place-along}
-use Rattle.zy_exec.specs.Kept.{StandsFor}
-use Rattle.zy_exec.specs.Replay.{Point, along, origin}
+use Rattle.zy_exec.proofs.ReplayLemmas.{head-along}
+use Rattle.zy_exec.specs.Replay.{Point, origin}
 use Rattle.zy_law.proofs.HistoryLemmas.{AreKept-drop}
 use Rattle.zy_law.proofs.ReportLemmas.{has_passes}
 use Rattle.zy_law.specs.Histories.{AreKept, Passes}
-use Rattle.zy_law.specs.Lawful.{IsCovered, IsLawful, IsTrueReport, IsVote}
+use Rattle.zy_law.specs.Lawful.{IsLawful, IsTrueReport}
 use Rattle.zy_law.specs.Reports.{IsProven}
-use Rattle.zy_law.specs.Said.{IsCorrect, Moment, Says}
-use Rattle.zy_law.specs.World.{Spoken, Stand, World}
+use Rattle.zy_law.specs.Said.{IsCorrect, Moment}
+use Rattle.zy_law.specs.World.{World}
 use Rattle.zy_parts.specs.declared.signed.Signed.{Signed}
 use Rattle.zy_parts.specs.declared.statements.Spec.{Spec}
 use Rattle.zy_view_law.specs.Held.{AreProofsHeld, IsHeldPart, mark_at}

@@ -1,24 +1,21 @@
 -- A held report that breaks no rule proves what the law asks of it, and a new view of such reports is valid.
-use Rattle.std.proofs.Common.{◌≡◌, ◌≢◌, ℕ, zero, suc, ◌<◌, List, [], ◌∷◌, length, map, get_or, Option, Some, None, refl, sym, ap, ◌∙◌, subst, arith}
+use Rattle.std.proofs.Common.{◌≡◌, ◌≢◌, ℕ, ◌<◌, List, [], ◌∷◌, length, map, get_or, Option, Some, None, refl, sym, ap, ◌∙◌, subst, arith}
 use Rattle.std.specs.Prelude.{All, IfSome}
 use Rattle.std.proofs.lemmas.List.{get_or-map, length-map}
 use Rattle.std.proofs.lemmas.List.Elements.{All-map}
 use Rattle.std.specs.List.{AllPairs}
 use Rattle.zy_base.specs.declared.ids.Digest.{Digest}
-use Rattle.zy_base.specs.declared.ids.Party.{Party}
 use Rattle.zy_base.specs.declared.ids.Place.{Place}
 use Rattle.zy_base.specs.declared.ids.View.{View}
-use Rattle.zy_chain.specs.Stretch.{Mark}
 use Rattle.zy_cert.specs.Certificates.{IsCertificate}
 use Rattle.zy_cert.specs.Points.{point_of_began, point_of_check, point_of_spec}
-use Rattle.zy_choose.specs.Reports.{PlainReport}
-use Rattle.zy_evidence.specs.Reading.{mark_of_first, number_of_party, read, read_by, spec_of}
+use Rattle.zy_evidence.specs.Reading.{mark_of_first, number_of_party, read, spec_of}
 use Rattle.zy_evidence.specs.WellFormed.{IsSpecProven, IsWellFormedChange}
 use Rattle.zy_law.proofs.HistoryLemmas.{mark_is}
 use Rattle.zy_law.specs.Fixed.{IsCertified}
 use Rattle.zy_law.specs.Histories.{origin}
 use Rattle.zy_law.specs.Reports.{IsProven, IsValidReport, IsValidNew}
-use Rattle.zy_law.specs.Said.{IsBacked, IsVouched}
+use Rattle.zy_law.specs.Said.{IsVouched}
 use Rattle.zy_law.specs.World.{Answer, Statement, World}
 use Rattle.zy_parts.specs.declared.reports.Began.{Began}
 use Rattle.zy_parts.specs.declared.reports.Change.{Change}
@@ -26,7 +23,7 @@ use Rattle.zy_parts.specs.declared.reports.New.{New}
 use Rattle.zy_parts.specs.declared.signed.Signed.{Signed}
 use Rattle.zy_parts.specs.declared.statements.Check.{Check}
 use Rattle.zy_parts.specs.declared.statements.Spec.{Spec}
-use Rattle.zy_view_law.specs.Held.{mark_at, IsVouchedBy, IsHeldPart, IsCertOf, AreProofsHeld, IsHeldChange, IsProperNew}
+use Rattle.zy_view_law.specs.Held.{mark_at, IsHeldPart, IsCertOf, AreProofsHeld, IsHeldChange, IsProperNew}
 use Rattle.zy_view_law.specs.Told.{began_told, change_told, check_told, response_told, spec_spelled}
 use Rattle.zy_view_law.proofs.Backing.{cert_backed, certificate_held, number_differs, vouched_number}
 

@@ -1,10 +1,10 @@
 -- A replica that goes back to a place which it shares with the provider's report, and runs on along the report, stands for the
 -- choice's list.
-use Rattle.std.proofs.Common.{◌≡◌, ℕ, ◌+◌, ◌-◌, ◌*◌, ◌^◌, ◌<◌, ◌≤◌, nat_lt, Bool, true, false, cond, ◌||◌, List, [], ◌∷◌, ◌++◌, length, take, drop, fold, map, Option, Some, None, refl, sym, ap, ◌∙◌, subst, arith}
+use Rattle.std.proofs.Common.{◌≡◌, ℕ, ◌+◌, ◌-◌, ◌*◌, ◌^◌, ◌<◌, ◌≤◌, nat_lt, Bool, true, false, cond, ◌||◌, List, ◌++◌, length, take, drop, fold, Some, None, refl, sym, ap, ◌∙◌, subst, arith}
 use Rattle.std.specs.List.{slice_range}
 use Rattle.std.specs.Prelude.{All}
 use Rattle.std.proofs.lemmas.Bool.{ltb-false}
-use Rattle.std.proofs.lemmas.List.{drop-drop, drop-take, length-drop, take-take}
+use Rattle.std.proofs.lemmas.List.{drop-drop, drop-take, take-take}
 use Rattle.std.proofs.lemmas.List.Sums.{fold-append}
 use Rattle.std.proofs.lemmas.Option.{same_Some}
 use Rattle.zy_base.specs.Machine.{Rules}
@@ -14,7 +14,6 @@ use Rattle.zy_chain.specs.Stretch.{Mark, Stretch, end_of, head_in}
 use Rattle.zy_chain.specs.declared.entry.Entry.{Entry}
 use Rattle.zy_choose.specs.Marks.{Has, link}
 use Rattle.zy_evidence.specs.Reading.{read, stretch_of}
-use Rattle.zy_evidence.specs.WellFormed.{IsStableProven}
 use Rattle.zy_exec.proofs.HistoryLemmas.{stands_back, stands_end}
 use Rattle.zy_exec.proofs.ReplayLemmas.{head-along}
 use Rattle.zy_exec.specs.Kept as kept
@@ -26,16 +25,15 @@ use Rattle.zy_law.proofs.ReportLemmas.{passes_has, take_split}
 use Rattle.zy_law.specs.Histories.{Passes}
 use Rattle.zy_law.specs.Lawful.{IsLawful}
 use Rattle.zy_law.specs.Lists.{IsListOf}
-use Rattle.zy_law.specs.Said.{At, IsCorrect, Moment}
+use Rattle.zy_law.specs.Said.{At, Moment}
 use Rattle.zy_law.specs.World.{World}
 use Rattle.zy_parts.specs.declared.reports.Change.{Change}
 use Rattle.zy_parts.specs.declared.reports.New.{New}
-use Rattle.zy_parts.specs.declared.reports.Told.{Told}
 use Rattle.zy_parts.specs.declared.signed.Signed.{Signed}
 use Rattle.zy_view_law.specs.Adopted.{AreWorldTexts, HaveBoth, IsAdopted, Matches, run_on}
 use Rattle.zy_view_law.specs.Held.{IsProvidedBy}
 use Rattle.zy_view_law.specs.Texts.{AreLinks, Texts}
-use Rattle.zy_view_law.proofs.AdoptedLists.{base_passed, chosen_known, given_entries, list_adopted, provider_formed, provider_has_it, provider_held}
+use Rattle.zy_view_law.proofs.AdoptedLists.{base_passed, given_entries, list_adopted, provider_formed, provider_has_it}
 use Rattle.zy_view_law.proofs.KeptFronts.{stands_more}
 use Rattle.zy_view_law.proofs.ReadLists.{all_runnable}
 

@@ -1,11 +1,11 @@
 -- Reports that don't contradict themselves and prove one anchor have a choice, with its provider.
-use Rattle.std.proofs.Common.{◌≡◌, ℕ, zero, suc, ◌+◌, ◌-◌, ◌<◌, ◌≤◌, ◌*◌, ◌⊎◌, inl, inr, Bool, true, false, ◌&&◌, nat_le, nat_lt, List, [], ◌∷◌, length, take, fold, get_or, Option, Some, None, refl, sym, ap, ◌∙◌, subst, arith}
+use Rattle.std.proofs.Common.{◌≡◌, ℕ, zero, suc, ◌+◌, ◌-◌, ◌<◌, ◌≤◌, inl, inr, Bool, true, false, ◌&&◌, nat_le, nat_lt, List, [], ◌∷◌, length, take, fold, get_or, Option, Some, None, refl, sym, ap, subst, arith}
 use Rattle.std.specs.List.{flat_map}
 use Rattle.std.specs.Prelude.{All, Any, Contains, IfSome, count_by}
 use Rattle.std.proofs.lemmas.Bool.{and_parts, and_from, leb-true, le-leb, ltb-true, lt-ltb}
 use Rattle.zy_base.specs.declared.ids.Digest.{Digest}
 use Rattle.zy_chain.specs.declared.entry.Entry.{Entry}
-use Rattle.zy_chain.specs.Stretch.{Mark, Stretch, end_of}
+use Rattle.zy_chain.specs.Stretch.{Mark, Stretch}
 use Rattle.zy_choose.proofs.AnchorLemmas.{some_proven}
 use Rattle.zy_choose.proofs.ChoiceLemmas.{agreed_has}
 use Rattle.zy_choose.proofs.ProviderLemmas.{provided}
@@ -14,7 +14,7 @@ use Rattle.zy_choose.specs.Choice.IsPicked.{agreed, anchored}
 use Rattle.zy_choose.specs.Marks.{Has, has_mark, link}
 use Rattle.zy_choose.specs.Reports.{PlainReport, proven}
 use Rattle.zy_choose.specs.Rules.{Fits}
-use Rattle.zy_view_law.proofs.Lists.{IsGreatest, all_at, all_flat, any_flat, any_later, any_of_flat, greatest_or_none}
+use Rattle.zy_view_law.proofs.Lists.{all_at, all_flat, any_flat, any_later, any_of_flat, greatest_or_none}
 
 -- ---- the marks that a stretch has
 
@@ -111,16 +111,16 @@ module _ (agree view : ℕ) (reports : List PlainReport) (anchor : Mark) (some :
         | inl none ↦ (
           anchor,
           anchored
-          (λ other is.
+              (λ other is.
               let misses : is_agreed other ≡ false = all_at (λ x. is_agreed x ≡ false) candidates other none (agreed_among other is) in
               let passes : is_agreed other ≡ true = agreed_told other is in
               absurd cc)
-          refl,
+              refl,
         )
         | inr (m, g) ↦ (
           m,
           agreed (told_agreed m g.passes)
-          (λ other is. all_at (λ x. is_agreed x ≡ true → x.place ≤ m.place) candidates other g.most (agreed_among other is) (agreed_told other is)),
+              (λ other is. all_at (λ x. is_agreed x ≡ true → x.place ≤ m.place) candidates other g.most (agreed_among other is) (agreed_told other is)),
         )
       ]
 

@@ -1,20 +1,18 @@
 -- The tie at the start, as a replica runs on in its view, holds a further commit certificate, settles, and keeps what it hears.
-use Rattle.std.proofs.Common.{◌≡◌, ℕ, zero, suc, ◌+◌, ◌-◌, ◌*◌, ◌%◌, ◌^◌, ◌<◌, ◌≤◌, nat_lt, Bool, true, false, cond, inl, inr, List, [], ◌∷◌, ◌++◌, length, take, drop, fold, replicate, Option, Some, None, refl, sym, ap, ◌∙◌, subst, arith}
-use Rattle.std.specs.Prelude.{All, IfSome, slice_get, slice_index_or}
+use Rattle.std.proofs.Common.{◌≡◌, ℕ, ◌<◌, ◌≤◌, nat_lt, Bool, true, false, cond, inl, List, [], ◌∷◌, ◌++◌, length, fold, Option, Some, None, refl, sym, ap, ◌∙◌, subst, arith}
+use Rattle.std.specs.Prelude.{IfSome, slice_get}
 use Rattle.std.proofs.lemmas.Bool.{ltb-false, ltb-true}
 use Rattle.std.proofs.lemmas.List.{length-append}
 use Rattle.std.proofs.lemmas.List.Elements.{All-push}
 use Rattle.zy_base.specs.Machine.{Rules}
-use Rattle.zy_base.specs.declared.counts.Counts.{Counts}
 use Rattle.zy_base.specs.declared.ids.Digest.{Digest}
 use Rattle.zy_base.specs.declared.ids.Place.{Place}
 use Rattle.zy_base.specs.declared.ids.ReplicaId.{ReplicaId}
 use Rattle.zy_base.specs.declared.ids.View.{View}
 use Rattle.zy_base.specs.Step.{view_of}
 use Rattle.zy_base.specs.declared.step.Mode.{Mode}
-use Rattle.zy_base.specs.declared.step.Mode.TheVariants.{Active, Leaving}
+use Rattle.zy_base.specs.declared.step.Mode.TheVariants.{Active}
 use Rattle.zy_chain.specs.Heads.{empty_head}
-use Rattle.zy_chain.specs.Stretch.{Mark}
 use Rattle.zy_chain.specs.declared.entry.Entry.{Entry}
 use Rattle.zy_change.proofs.FitLemmas.{none_filled}
 use Rattle.zy_change.specs.Views.{Slots, Views, is_further, own_view, with_specs}
@@ -22,19 +20,19 @@ use Rattle.zy_change.specs.declared.kept.Certificate.{Certificate}
 use Rattle.zy_change.specs.declared.kept.Waiting.{Waiting}
 use Rattle.zy_exec.proofs.HistoryLemmas.{stands_at_origin, stands_run}
 use Rattle.zy_exec.proofs.SettleLemmas.{stands_settled}
-use Rattle.zy_exec.specs.Kept.{Kept, last_place, longer, settled}
+use Rattle.zy_exec.specs.Kept.{last_place}
 use Rattle.zy_law.proofs.HistoryLemmas.{Passes-longer}
-use Rattle.zy_law.specs.Histories.{AreKept, IsFront, Passes}
-use Rattle.zy_law.specs.Lawful.{AreAskedFor, IsLawful, IsOrdered}
+use Rattle.zy_law.specs.Histories.{AreKept, IsFront}
+use Rattle.zy_law.specs.Lawful.{IsLawful}
 use Rattle.zy_law.specs.Said.{IsCorrect, Moment, Says}
 use Rattle.zy_law.specs.Steps.{IsStart, MayStand, after_standing}
-use Rattle.zy_law.specs.World.{Spoken, Stand, Statement, World}
+use Rattle.zy_law.specs.World.{Spoken, Stand, World}
 use Rattle.zy_parts.specs.declared.reports.Began.{Began}
 use Rattle.zy_parts.specs.declared.reports.Change.{Change}
 use Rattle.zy_parts.specs.declared.signed.Signed.{Signed}
 use Rattle.zy_parts.specs.declared.statements.Check.{Check}
 use Rattle.zy_parts.specs.declared.statements.Spec.{Spec}
-use Rattle.zy_view_law.specs.Tied.{Core, IsAhead, IsBegun, IsCommitHeld, IsFarEnough, IsGrounded, IsHearing, IsQuiet, IsRunnableNext, IsStanding, IsTied, told_by, core_at_start, ran_with, settled_with, with_heard}
+use Rattle.zy_view_law.specs.Tied.{Core, IsAhead, IsCommitHeld, IsFarEnough, IsGrounded, IsHearing, IsRunnableNext, IsTied, told_by, core_at_start, ran_with, settled_with, with_heard}
 use Rattle.zy_view_law.specs.Told.{began_told}
 use Rattle.zy_view_law.proofs.TiedGrown.{commit_stood, grounded_stood, hearing_stood, one_longer, parts_stood, stood_last}
 

@@ -1,7 +1,7 @@
 -- What is held and kept stays so as more is asked, said, stood and kept.
-use Rattle.std.proofs.Common.{◌≡◌, ℕ, ◌+◌, ◌<◌, ◌≤◌, Bool, true, List, [], ◌∷◌, ◌++◌, cond, length, Option, Some, None, refl, sym, ap, ◌∙◌, subst, arith, eq-eqb}
+use Rattle.std.proofs.Common.{◌≡◌, ℕ, ◌+◌, Bool, true, List, [], ◌∷◌, ◌++◌, cond, length, Option, Some, None, refl, sym, ap, ◌∙◌, subst, arith, eq-eqb}
 use Rattle.std.proofs.lemmas.List.{length-append}
-use Rattle.std.specs.Prelude.{All, Contains, IfSome, slice_get, slice_index_or}
+use Rattle.std.specs.Prelude.{All, Contains, IfSome, slice_get}
 use Rattle.zy_base.specs.Machine.{Rules}
 use Rattle.zy_base.specs.declared.ids.Digest.{Digest}
 use Rattle.zy_base.specs.declared.ids.Party.{Party}
@@ -24,7 +24,7 @@ use Rattle.zy_parts.specs.declared.reports.New.{New}
 use Rattle.zy_parts.specs.declared.reports.Told.{Told}
 use Rattle.zy_parts.specs.declared.signed.Signed.{Signed}
 use Rattle.zy_view_law.specs.Held.{AreProofsHeld, IsCertOf, IsHeldChange, IsHeldPart, IsProperNew, IsVouchedBy}
-use Rattle.zy_view_law.specs.Tied.{Core, IsBegun, IsChosenNew, IsCommitHeld, IsFarEnough, IsGrounded, IsHearing, IsKeptBegan, IsKeptChange, IsQuiet, IsStanding, IsTied, IsWaitingTied, told_by}
+use Rattle.zy_view_law.specs.Tied.{Core, IsBegun, IsChosenNew, IsCommitHeld, IsFarEnough, IsGrounded, IsHearing, IsKeptChange, IsQuiet, IsStanding, IsTied, IsWaitingTied, told_by}
 use Rattle.zy_view_law.specs.Told.{began_told, check_told, response_told}
 
 module _ (w : World) (asked : ℕ → List Entry) (said : ℕ → List Spoken) (past : ℕ → List Stand) (kept : Digest → Entry → Bool)

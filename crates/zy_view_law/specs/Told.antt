@@ -2,7 +2,6 @@
 use Rattle.std.specs.Int.{w32, to_be_bytes, from_be_bytes}
 use Rattle.std.specs.Prelude.{ℕ, ◌==◌, if◌then◌else◌, List, map, drop, slice_index, option_map, Result, Ok, Err}
 use Rattle.zy_base.specs.declared.frame_fault.FrameFault.{FrameFault}
-use Rattle.zy_chain.specs.Stretch.{Mark}
 use Rattle.zy_evidence.specs.Reading.{read, read_by}
 use Rattle.zy_law.specs.World.{Statement}
 use Rattle.zy_law.specs.World.Statement.{Other}

@@ -1,4 +1,3 @@
-use Rattle.std.proofs.Common.{ℕ, List}
 use Rattle.zy_exec.proofs.SettleLemmas.{stands_settled}
 use Rattle.zy_law.specs.Said.{Moment}
 use Rattle.zy_view_law.proofs.AdoptedLists.{chosen_known}

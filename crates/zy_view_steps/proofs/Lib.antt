@@ -1,0 +1,2 @@
+pub mod CommonPlaces
+pub mod Verdicts

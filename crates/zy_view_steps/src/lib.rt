@@ -1,0 +1,7 @@
+//! What the answer table does of a change of view is what the law allows. The crate has no code: its functions are laws, which
+//! have no argument and do nothing, and whose contracts speak of all worlds and all replicas.
+#![tactic(auto)]
+
+mod adopt;
+
+pub use adopt::{never_refused, taking_over};
