@@ -15,8 +15,9 @@ same_itself d = (digest-equal d d).1 refl
 -- the head at the base
 pub head_at_base : (s : Stretch) → head_in s s.base.place ≡ Some s.base.head
 head_at_base s =
+    let none : s.base.place - s.base.place ≡ 0 = omega arith in
     rw (le-ltb s.base.place s.base.place (omega arith), le-ltb (end_of s) s.base.place (omega arith))
-    (ap (λ (n : ℕ). Some (head_from s.base.head (take n s.entries))) (omega arith))
+    (ap (λ (n : ℕ). Some (head_from s.base.head (take n s.entries))) none)
 
 both_of : (a b : Option Digest) → same_head a b ≡ true → (d : Digest) × (a ≡ Some d) × (b ≡ Some d)
 both_of None b is = absurd cc

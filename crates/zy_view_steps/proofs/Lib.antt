@@ -1,2 +1,4 @@
 pub mod CommonPlaces
+pub mod Gathered
+pub mod Leaves
 pub mod Verdicts

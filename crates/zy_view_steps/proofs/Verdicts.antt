@@ -116,7 +116,7 @@ module _ {S : Type 0} (R : Rules S) (interval : ℕ) (w : World) (lawful : IsLaw
 
   pub not_refused : (cause : Cause) → verdict_of R c.kept c.stable told place head ≡ Refuse cause → ⊥
   unfolding verdict_of
-  not_refused cause = by_place (nat_lt place.0 c.stable.place.0) (nat_le told.stable_place.0 c.stable.place.0) (le-ltb c.stable.place.0 place.0 above_stable) refl
+  not_refused cause = by_place (nat_lt place.0 c.stable.place.0) (nat_le told.stable_place.0 c.stable.place.0) (le-ltb place.0 c.stable.place.0 above_stable) refl
     where
       by_place : (low below : Bool) → low ≡ false → nat_le told.stable_place.0 c.stable.place.0 ≡ below
           → cond low (Refuse (causes.BelowStable c.stable.head head))
@@ -148,8 +148,8 @@ module _ {S : Type 0} (R : Rules S) (interval : ℕ) (w : World) (lawful : IsLaw
 
   record IsSharedBelow : Type 0 where
     at : ℕ
-    head : Digest
-    both : HaveBoth (stretch_of told) (kept.stretch_of c.kept) at head
+    there : Digest
+    both : HaveBoth (stretch_of told) (kept.stretch_of c.kept) at there
     low : at ≤ place.0
 
   told_low : told.stable_place.0 ≤ place.0
@@ -163,9 +163,9 @@ module _ {S : Type 0} (R : Rules S) (interval : ℕ) (w : World) (lawful : IsLaw
           → cond low (Refuse (causes.BelowStable c.stable.head head))
           (cond below (verdict_beside c.stable.head (head_in (stretch_of told) c.stable.place.0)) (verdict_above R c.kept told (head_in (kept.stretch_of c.kept) told.stable_place.0))) ≡ Take → IsSharedBelow
       by_place true below is_below taken = absurd cc
-      by_place false true is_below taken = record { at = c.stable.place.0; head = c.stable.head; both = shared_beside (leb-true _ _ is_below); low = above_stable }
+      by_place false true is_below taken = record { at = c.stable.place.0; there = c.stable.head; both = shared_beside (leb-true _ _ is_below); low = above_stable }
       by_place false false is_above taken =
-          record { at = told.stable_place.0; head = told.stable_head; both = shared_above (head_in (kept.stretch_of c.kept) told.stable_place.0) refl taken; low = told_low }
+          record { at = told.stable_place.0; there = told.stable_head; both = shared_above (head_in (kept.stretch_of c.kept) told.stable_place.0) refl taken; low = told_low }
 
   pub taken_adopted : (texts : Texts) → AreWorldTexts R interval w texts → verdict_of R c.kept c.stable told place head ≡ Take
       → (list : List Entry) × IsAdopted R interval texts w m (taken_over (stretch_of told) place.0 c.kept) list
@@ -173,7 +173,7 @@ module _ {S : Type 0} (R : Rules S) (interval : ℕ) (w : World) (lawful : IsLaw
   taken_adopted texts world taken =
       let shared = shared_there taken in
       let common : ℕ = common_up_to place.0 (stretch_of told) (kept.stretch_of c.kept) in
-      let both = common_shared place.0 shared.at (stretch_of told) (kept.stretch_of c.kept) shared.head shared.low shared.both in
+      let both = common_shared place.0 shared.at (stretch_of told) (kept.stretch_of c.kept) shared.there shared.low shared.both in
       let known = chosen_known w lawful matches.next interval n m p is in
       (_, adopted_by_running w lawful matches.next interval n m p is R texts matches world here c.kept tied.standing.stands common both.0 both.1
       (common_below place.0 (stretch_of told) (kept.stretch_of c.kept)) known.moment known.passes)

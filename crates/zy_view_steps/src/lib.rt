@@ -3,5 +3,7 @@
 #![tactic(auto)]
 
 mod adopt;
+mod rows;
 
 pub use adopt::{never_refused, taking_over};
+pub use rows::leaving_rows;
