@@ -159,7 +159,7 @@ module _ {S : Type 0} (R : Rules S) (interval : ℕ) (w : World) (r : ℕ) (s : 
           by = by_replica;
           well_formed =
               subst (λ (k : Counts). IsWellFormedChange k interval vote) ready.tied.standing.counts
-              (subst (λ (n : ℕ). IsWellFormedChange s.views.counts n vote) ready.interval ((all_clear s.views.counts s.views.interval vote).0 clear));
+              (subst (λ (n : ℕ). IsWellFormedChange s.views.counts n vote) ready.interval_is ((all_clear s.views.counts s.views.interval vote).0 clear));
           held = held;
         }
 

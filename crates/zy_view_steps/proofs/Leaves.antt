@@ -67,17 +67,17 @@ unfolding leave_alone
 left_mode R view g = refl
 
 module _ {S : Type 0} (R : Rules S) (interval : ℕ) (w : World) (r : ℕ) (s : State S) (history : List Entry) (ready : IsReady R interval w r s history) where
-  record IsOnWay (g : Going S) : Type 0 where
-    world : World
-    lead : LeadTo w r (table.own_view s) (length (w.past r) - 1) history g.deeds.acts world (length (w.past r) - 1) history
-    now : length (world.past r) - 1 ≡ length (w.past r) - 1
-    lawful : IsLawful world
-    links : world.next ≡ link
-    correct : IsCorrect world r
-    tied : IsTied R interval world r (core_of g.state) history
-    signer : g.state.sealer.me ≡ Replica g.state.views.me
+  pub record IsOnWay (g : Going S) : Type 0 where
+    pub world : World
+    pub lead : LeadTo w r (table.own_view s) (length (w.past r) - 1) history g.deeds.acts world (length (w.past r) - 1) history
+    pub now : length (world.past r) - 1 ≡ length (w.past r) - 1
+    pub lawful : IsLawful world
+    pub links : world.next ≡ link
+    pub correct : IsCorrect world r
+    pub tied : IsTied R interval world r (core_of g.state) history
+    pub signer : g.state.sealer.me ≡ Replica g.state.views.me
 
-  at_begin : IsOnWay (begin s)
+  pub at_begin : IsOnWay (begin s)
   at_begin =
       record {
         world = w;
@@ -98,7 +98,7 @@ module _ {S : Type 0} (R : Rules S) (interval : ℕ) (w : World) (r : ℕ) (s : 
     same_spoken : spoken ≡ spoken_at r (length (w.past r) - 1) remark
     same_spoken = ap (λ (n : ℕ). record { what = statement_by r remark.body; when = n }) way.now
 
-    said_more : (next : Going S) → next.deeds.acts ≡ g.deeds.acts ++ SaysIt remark ∷ [] → MaySay way.world r spoken → IsTied R interval (after_saying way.world r spoken) r (core_of next.state) history
+    pub said_more : (next : Going S) → next.deeds.acts ≡ g.deeds.acts ++ SaysIt remark ∷ [] → MaySay way.world r spoken → IsTied R interval (after_saying way.world r spoken) r (core_of next.state) history
         → next.state.sealer.me ≡ Replica next.state.views.me → IsOnWay next
     said_more next acts may tied signer =
         record {
@@ -163,7 +163,7 @@ module _ {S : Type 0} (R : Rules S) (interval : ℕ) (w : World) (r : ℕ) (s : 
 
   -- ---- an attempt
 
-  abbrev IsLawfulAttempt : Attempt S → Type 0
+  abbrev pub IsLawfulAttempt : Attempt S → Type 0
   IsLawfulAttempt (Ok end) = IsOnWay end.1
   IsLawfulAttempt (Err cause) = Unit {0}
 
@@ -187,14 +187,14 @@ module _ {S : Type 0} (R : Rules S) (interval : ℕ) (w : World) (r : ℕ) (s : 
         let new = sealed_new g.state view in
         accept_given g way view new chosen leaving none refl is
 
-    collect_on : (g : Going S) (way : IsOnWay g) → g.state.views.mode ≡ Leaving view → IsLawfulAttempt (collect R view g)
+    pub collect_on : (g : Going S) (way : IsOnWay g) → g.state.views.mode ≡ Leaving view → IsLawfulAttempt (collect R view g)
     collect_on g way leaving = by (is_gathering g.state.views view.0) refl
       where
         by : (b : Bool) → is_gathering g.state.views view.0 ≡ b → IsLawfulAttempt (cond b (given R view (choice_in g.state.views view.0) g) (goes Taken g))
         by true gathers = given_on g way leaving gathers (choice_in g.state.views view.0) refl
         by false gathers = way
 
-    leave_row : (g : Going S) (way : IsOnWay g) → own_view g.state.views < view.0 → IsLawfulAttempt (leave R view g)
+    pub leave_row : (g : Going S) (way : IsOnWay g) → own_view g.state.views < view.0 → IsLawfulAttempt (leave R view g)
     unfolding leave
     leave_row g way above = by (nat_lt view.0 (2 ^ 62))
       where
@@ -210,7 +210,7 @@ module _ {S : Type 0} (R : Rules S) (interval : ℕ) (w : World) (r : ℕ) (s : 
   refused_row : (cause : Cause) → IsLawfulRow R interval w r s history (refused cause s)
   refused_row cause = record { may = tt; tied = ready.tied }
 
-  concluded_row : (attempt : Attempt S) → IsLawfulAttempt attempt → IsLawfulRow R interval w r s history (concluded s attempt)
+  pub concluded_row : (attempt : Attempt S) → IsLawfulAttempt attempt → IsLawfulRow R interval w r s history (concluded s attempt)
   concluded_row (Err cause) lawful = refused_row cause
   concluded_row (Ok end) way = by (is_overspent end.1.state.sealer)
     where
@@ -218,24 +218,25 @@ module _ {S : Type 0} (R : Rules S) (interval : ℕ) (w : World) (r : ℕ) (s : 
       by true = refused_row causes.KeySpent
       by false = record { may = way.lead.may; tied = subst (λ (u : World). IsTied R interval u r (core_of end.1.state) history) (sym way.lead.world) way.tied }
 
-  -- another's hate
-  hated_on : (by : Party) → IsOnWay (with_hate_of by (begin s))
-  hated_on by =
+  -- a hate more is counted
+  pub hated_more : (g : Going S) → IsOnWay g → (by : Party) → IsOnWay (with_hate_of by g)
+  hated_more g way by =
+      let v = g.state.views in
+      let hearing = way.tied.hearing in
+      let heard : IsHearing interval way.world (with_heard v.changes v.begans (with_hate by v).hated v.waiting (core_of g.state)).views =
+      record { changes = hearing.changes; begans = hearing.begans; accepted = hearing.accepted; waiting = hearing.waiting } in
       record {
-        world = w;
-        lead = lead_nowhere w r (table.own_view s) (length (w.past r) - 1) history;
-        now = refl;
-        lawful = ready.lawful;
-        links = ready.links;
-        correct = ready.correct;
-        tied = tied_heard R interval w ready.lawful r ready.correct (core_of s) history ready.tied s.views.changes s.views.begans (with_hate by s.views).hated s.views.waiting heard;
-        signer = ready.signer;
+        world = way.world;
+        lead = way.lead;
+        now = way.now;
+        lawful = way.lawful;
+        links = way.links;
+        correct = way.correct;
+        tied = tied_heard R interval way.world way.lawful r way.correct (core_of g.state) history way.tied v.changes v.begans (with_hate by v).hated v.waiting heard;
+        signer = way.signer;
       }
-    where
-      heard : IsHearing interval w (with_heard s.views.changes s.views.begans (with_hate by s.views).hated s.views.waiting (core_of s)).views
-      heard = record { changes = ready.tied.hearing.changes; begans = ready.tied.hearing.begans; accepted = ready.tied.hearing.accepted; waiting = ready.tied.hearing.waiting }
 
-  counted : (g : Going S) → IsOnWay g → IsLawfulAttempt (hate_counted R g)
+  pub counted : (g : Going S) → IsOnWay g → IsLawfulAttempt (hate_counted R g)
   counted g way = by (hated_by_many g.state.views)
     where
       next : IsLawfulAttempt (leave R (next_view g.state.views) g)
@@ -250,7 +251,7 @@ module _ {S : Type 0} (R : Rules S) (interval : ℕ) (w : World) (r : ℕ) (s : 
   hate_attempt vote = by (nat_lt vote.stmt.view.0 (table.own_view s)) (nat_lt (table.own_view s) vote.stmt.view.0) (is_hated_by s.views vote.by)
     where
       rest : IsLawfulAttempt (hate_counted R (with_hate_of vote.by (begin s)))
-      rest = counted (with_hate_of vote.by (begin s)) (hated_on vote.by)
+      rest = counted (with_hate_of vote.by (begin s)) (hated_more (begin s) at_begin vote.by)
 
       by : (old newer repeated : Bool) → IsLawfulAttempt (cond old (Err causes.OldView) (cond newer (Err causes.NewerView) (cond repeated (Err causes.Repeat) (hate_counted R (with_hate_of vote.by (begin s))))))
       by true newer repeated = tt

@@ -1,4 +1,5 @@
 pub mod CommonPlaces
 pub mod Gathered
+pub mod HeardRows
 pub mod Leaves
 pub mod Verdicts

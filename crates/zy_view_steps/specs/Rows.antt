@@ -21,6 +21,7 @@ pub record IsReady {S : Type 0} (R : Rules S) (interval : ℕ) (w : World) (r : 
   pub correct : IsCorrect w r
   pub tied : IsTied R interval w r (core_of s) history
   pub signer : s.sealer.me ≡ Replica s.views.me
+  pub interval_is : s.views.interval ≡ interval
 
 -- What it says is allowed, one after another, and it is tied to the world after that, with the history that it had.
 pub record IsLawfulRow {S : Type 0} (R : Rules S) (interval : ℕ) (w : World) (r : ℕ) (s : State S) (history : List Entry) (outcome : Outcome S) : Type 0 where

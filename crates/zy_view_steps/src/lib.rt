@@ -6,4 +6,4 @@ mod adopt;
 mod rows;
 
 pub use adopt::{never_refused, taking_over};
-pub use rows::leaving_rows;
+pub use rows::{heard_rows, leaving_rows};
