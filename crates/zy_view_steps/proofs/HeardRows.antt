@@ -1,12 +1,10 @@
 -- The rows of what makes a replica leave: another's report, evidence against its primary, and its own timers.
-use Rattle.std.proofs.Common.{◌≡◌, ℕ, ◌+◌, ◌-◌, ◌<◌, ◌≤◌, nat_eq, nat_lt, Bool, true, false, cond, if◌then◌else◌, inl, inr, List, [], ◌∷◌, ◌++◌, length, map, Option, Some, None, Result, Ok, Err, refl, sym, ap, ◌∙◌, subst, arith, eq-eqb, eqb-true, ltb-true}
-use Rattle.std.specs.Prelude.{slice_index_or}
+use Rattle.std.proofs.Common.{◌≡◌, ℕ, ◌-◌, ◌<◌, nat_eq, nat_lt, Bool, true, false, cond, if◌then◌else◌, inl, inr, List, length, Option, Some, None, Result, Ok, Err, refl, sym, ap, subst, arith, eq-eqb, eqb-true, ltb-true}
 use Rattle.zy_base.specs.Machine.{Rules}
 use Rattle.zy_base.specs.Step.{view_of}
 use Rattle.zy_base.specs.declared.cause.Cause.{Cause}
 use Rattle.zy_base.specs.declared.cause.Cause.TheVariants as causes
 use Rattle.zy_base.specs.declared.counts.Counts.{Counts}
-use Rattle.zy_base.specs.declared.ids.Party.{Party}
 use Rattle.zy_base.specs.declared.ids.Party.TheVariants.{Replica}
 use Rattle.zy_base.specs.declared.ids.View.{View}
 use Rattle.zy_base.specs.declared.step.Answer.TheVariants.{Taken}
@@ -20,24 +18,20 @@ use Rattle.zy_change.specs.Owing.{is_left_behind, least_above, next_view}
 use Rattle.zy_change.specs.Views.{change_for, has_begun, is_from, is_hated_by, own_change, own_view, slot_of, view_above, views_above, with_change}
 use Rattle.zy_evidence.proofs.ProofLemmas.{all_clear}
 use Rattle.zy_evidence.specs.Reading.{number_of_party}
-use Rattle.zy_evidence.specs.Rules.{number_of, rule_of}
+use Rattle.zy_evidence.specs.Rules.{rule_of}
 use Rattle.zy_evidence.specs.WellFormed.{IsWellFormedChange}
 use Rattle.zy_evidence.specs.declared.rule.Rule.{Rule}
 use Rattle.zy_frames.specs.declared.frame.OrderFrame.{OrderFrame}
-use Rattle.zy_law.specs.Steps.{after_saying}
 use Rattle.zy_law.specs.World.{World}
 use Rattle.zy_lawful.proofs.Goes.{lead_nowhere}
-use Rattle.zy_parts.specs.Numbers as numbers
-use Rattle.zy_parts.specs.Statements.{hate_fields}
 use Rattle.zy_parts.specs.declared.reports.Change.{Change}
 use Rattle.zy_parts.specs.declared.signed.Signed.{Signed}
 use Rattle.zy_parts.specs.declared.statements.Hate.{Hate}
 use Rattle.zy_parts.specs.declared.statements.Hole.{Hole}
 use Rattle.zy_parts.specs.declared.statements.Order.{Order}
-use Rattle.zy_seal.specs.Sealing.{sealed_by}
 use Rattle.zy_table.specs.Changes.{change, change_judged, change_kept, send_cert}
-use Rattle.zy_table.specs.Deeds.{Going, begin, send}
-use Rattle.zy_table.specs.Hates.{ask_for_hole, change_again, count_own, has_pending, hate_again, hate_counted, hate_for, hate_now, hate_view, on_change_timer, on_request_timer, own_hate, say_hate, then_ask, with_hate_of}
+use Rattle.zy_table.specs.Deeds.{Going, begin}
+use Rattle.zy_table.specs.Hates.{ask_for_hole, change_again, count_own, has_pending, hate_again, hate_counted, hate_now, hate_view, on_change_timer, on_request_timer, own_hate, say_hate, then_ask, with_hate_of}
 use Rattle.zy_table.specs.Leaving.{Attempt, collect, concluded, goes, leave}
 use Rattle.zy_table.specs.Misbehaviour.{blamed, pom, tell_all}
 use Rattle.zy_table.specs.State as table
@@ -48,7 +42,7 @@ use Rattle.zy_vframes.specs.declared.frame.ViewCert.{ViewCert}
 use Rattle.zy_view_law.proofs.InView.{says_other}
 use Rattle.zy_view_law.proofs.TieKept.{tied_heard}
 use Rattle.zy_view_law.specs.Held.{IsHeldChange}
-use Rattle.zy_view_law.specs.Tied.{IsHearing, IsKeptChange, with_heard}
+use Rattle.zy_view_law.specs.Tied.{IsHearing, IsKeptChange}
 use Rattle.zy_view_steps.proofs.Leaves.{IsOnWay, IsLawfulAttempt, at_begin, collect_on, concluded_row, counted, hated_more, leave_row, said_more}
 use Rattle.zy_view_steps.specs.Cores.{core_of}
 use Rattle.zy_view_steps.specs.Rows.{IsLawfulRow, IsReady}
@@ -93,8 +87,8 @@ module _ {S : Type 0} (R : Rules S) (interval : ℕ) (w : World) (r : ℕ) (s : 
   said_hate (Some said) = sent_more (begin s) _ (at_begin R interval w r s history ready)
   said_hate None =
       let start = at_begin R interval w r s history ready in
-      let says = says_other R interval w ready.lawful r ready.correct (core_of s) history ready.tied in
-      said_more R interval w r s history ready (begin s) start (record { body = bodies.Hate (hate_now s); stood = table.stood_of R s }) (say_hate R s None) refl says.may says.tied ready.signer
+      let says = says_other R interval start.world start.lawful r start.correct (core_of s) history start.tied in
+      said_more R interval w r s history ready (begin s) start (record { body = bodies.Hate (hate_now s); stood = table.stood_of R s }) (say_hate R s None) refl says.may says.tied start.signer
 
   counts_own : (g : Going S) → IsOnWay R interval w r s history ready g → IsLawfulAttempt R interval w r s history ready (count_own R g)
   counts_own g way = by (is_hated_by g.state.views (Replica g.state.me))

@@ -1,26 +1,21 @@
 -- A replica on its way through a row in which it leaves its view: what it says so far is allowed, and it is tied then.
-use Rattle.std.proofs.Common.{◌≡◌, ℕ, ◌+◌, ◌-◌, ◌^◌, ◌<◌, ◌≤◌, nat_eq, nat_le, nat_lt, Bool, true, false, cond, not, ◌&&◌, if◌then◌else◌, List, [], ◌∷◌, ◌++◌, length, map, take, Option, Some, None, Result, Ok, Err, refl, sym, ap, ◌∙◌, subst, arith}
-use Rattle.std.specs.Prelude.{slice_set}
+use Rattle.std.proofs.Common.{◌≡◌, ℕ, ◌-◌, ◌^◌, ◌<◌, nat_lt, Bool, true, false, cond, not, List, [], ◌∷◌, ◌++◌, length, map, Ok, Err, refl, sym, ap, ◌∙◌, subst, arith}
 use Rattle.std.proofs.lemmas.Bool.{and_parts, not-true}
 use Rattle.zy_base.specs.Machine.{Rules}
 use Rattle.zy_base.specs.declared.cause.Cause.{Cause}
 use Rattle.zy_base.specs.declared.cause.Cause.TheVariants as causes
 use Rattle.zy_base.specs.declared.counts.Counts.{Counts}
-use Rattle.zy_base.specs.declared.ids.Digest.{Digest}
 use Rattle.zy_base.specs.declared.ids.Party.{Party}
 use Rattle.zy_base.specs.declared.ids.Party.TheVariants.{Replica}
-use Rattle.zy_base.specs.declared.ids.Place.{Place}
 use Rattle.zy_base.specs.declared.ids.View.{View}
-use Rattle.zy_base.specs.declared.step.Answer.{Answer}
 use Rattle.zy_base.specs.declared.step.Answer.TheVariants.{Taken}
-use Rattle.zy_base.specs.declared.step.Mode.TheVariants.{Active, Leaving}
+use Rattle.zy_base.specs.declared.step.Mode.TheVariants.{Leaving}
 use Rattle.zy_chain.specs.declared.entry.Entry.{Entry}
 use Rattle.zy_change.specs.Choosing.{choice_of}
-use Rattle.zy_change.specs.Owing.{change_to, choice_in, gathered, hated_by_many, is_gathering, new_of, next_view}
-use Rattle.zy_change.specs.Views.{Views, began_for, changes_for, is_accepted, is_hated_by, leads, left, own_view, with_change, with_hate, with_new}
+use Rattle.zy_change.specs.Owing.{change_to, choice_in, hated_by_many, is_gathering, new_of, next_view}
+use Rattle.zy_change.specs.Views.{began_for, is_accepted, is_hated_by, leads, left, own_view, with_change, with_hate, with_new}
 use Rattle.zy_change.specs.declared.kept.Accepted.{Accepted}
 use Rattle.zy_change.specs.declared.kept.Chosen.{Chosen}
-use Rattle.zy_choose.specs.Choice.{IsChosen}
 use Rattle.zy_choose.specs.Marks.{link}
 use Rattle.zy_choose.specs.declared.choice.Choice.{Choice}
 use Rattle.zy_choose.specs.declared.choice.Choice.TheVariants as choices
@@ -28,20 +23,19 @@ use Rattle.zy_evidence.specs.Reading.{read}
 use Rattle.zy_law.proofs.StepsLawful.{saying_lawful}
 use Rattle.zy_law.specs.Lawful.{IsLawful}
 use Rattle.zy_law.specs.Said.{IsCorrect}
-use Rattle.zy_law.specs.Steps.{AllMay, MaySay, after_saying}
+use Rattle.zy_law.specs.Steps.{MaySay, after_saying}
 use Rattle.zy_law.specs.World.{Spoken, Statement, World}
 use Rattle.zy_lawful.proofs.Goes.{LeadTo, lead_nowhere, lead_saying}
 use Rattle.zy_lawful.specs.Acts.{spoken_at, statement_by}
 use Rattle.zy_parts.specs.Numbers as numbers
 use Rattle.zy_parts.specs.Reports.{began_fields}
-use Rattle.zy_parts.specs.declared.reports.Change.{Change}
 use Rattle.zy_parts.specs.declared.reports.New.{New}
 use Rattle.zy_parts.specs.declared.signed.Signed.{Signed}
 use Rattle.zy_parts.specs.declared.statements.Hate.{Hate}
 use Rattle.zy_seal.specs.Sealing.{sealed_by}
-use Rattle.zy_table.specs.Deeds.{Going, Outcome, begin, ends, refused}
-use Rattle.zy_table.specs.Hates.{hate, hate_counted, hate_of, with_hate_of}
-use Rattle.zy_table.specs.Leaving.{left_with as left_with_table, Attempt, accept, collect, concluded, give_new, given, goes, is_overspent, leave, leave_alone, report_of, sealed_change, sealed_new}
+use Rattle.zy_table.specs.Deeds.{Going, begin, ends, refused}
+use Rattle.zy_table.specs.Hates.{hate, hate_counted, with_hate_of}
+use Rattle.zy_table.specs.Leaving.{left_with as left_with_table, Attempt, accept, collect, concluded, give_new, given, goes, is_overspent, leave, leave_alone, sealed_change, sealed_new}
 use Rattle.zy_table.specs.State as table
 use Rattle.zy_table.specs.State.{State}
 use Rattle.zy_table.specs.declared.deeds.Act.{Act}
@@ -50,13 +44,11 @@ use Rattle.zy_table.specs.declared.deeds.Body.TheVariants as bodies
 use Rattle.zy_table.specs.declared.deeds.Remark.{Remark}
 use Rattle.zy_view_law.proofs.Confirming.{may_confirm, tied_confirmed}
 use Rattle.zy_view_law.proofs.InView.{says_new}
-use Rattle.zy_view_law.proofs.LawfulChoice.{chosen_is, never_clashes}
+use Rattle.zy_view_law.proofs.LawfulChoice.{chosen_is}
 use Rattle.zy_view_law.proofs.Leaving.{may_leave, tied_gone}
-use Rattle.zy_view_law.proofs.OwnReport.{last_below}
 use Rattle.zy_view_law.proofs.TieKept.{tied_heard}
 use Rattle.zy_view_law.proofs.TiedGrown.{chosen_said}
-use Rattle.zy_view_law.specs.Held.{mark_at}
-use Rattle.zy_view_law.specs.Tied.{Core, IsChosenNew, IsHearing, IsTied, said_now, told_by, with_heard}
+use Rattle.zy_view_law.specs.Tied.{IsChosenNew, IsHearing, IsTied, said_now, told_by, with_heard}
 use Rattle.zy_view_law.specs.Told.{began_told, change_told}
 use Rattle.zy_view_steps.proofs.Gathered.{gathered_proper}
 use Rattle.zy_view_steps.specs.Cores.{core_of}

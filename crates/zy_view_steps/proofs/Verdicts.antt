@@ -1,5 +1,5 @@
 -- The verdict on a choice, where a tied replica judges it by the provider's report.
-use Rattle.std.proofs.Common.{◌≡◌, ℕ, ◌+◌, ◌-◌, ◌%◌, ◌<◌, ◌≤◌, nat_eq, nat_le, nat_lt, Bool, true, false, cond, if◌then◌else◌, List, length, take, Option, Some, None, refl, sym, ap, ◌∙◌, subst, arith}
+use Rattle.std.proofs.Common.{◌≡◌, ℕ, ◌%◌, ◌<◌, ◌≤◌, nat_eq, nat_le, nat_lt, Bool, true, false, cond, if◌then◌else◌, List, length, take, Option, Some, None, refl, sym, ap, ◌∙◌, arith}
 use Rattle.std.specs.Prelude.{option_map}
 use Rattle.std.proofs.lemmas.Bool.{leb-false, leb-true, le-ltb}
 use Rattle.std.proofs.lemmas.Option.{same_Some}
@@ -11,25 +11,22 @@ use Rattle.zy_base.specs.declared.ids.Place.{Place}
 use Rattle.zy_cert.specs.Equal.{digest-equal, same_digest}
 use Rattle.zy_chain.specs.Stretch.{Mark, head_in}
 use Rattle.zy_chain.specs.declared.entry.Entry.{Entry}
-use Rattle.zy_choose.specs.Marks.{link}
 use Rattle.zy_evidence.specs.Reading.{stretch_of}
 use Rattle.zy_exec.proofs.SettleLemmas.{stands_snapshot}
 use Rattle.zy_exec.specs.Kept as kept
 use Rattle.zy_exec.specs.Kept.{Kept, StandsFor}
 use Rattle.zy_exec.specs.Replay.{Point, along, origin}
-use Rattle.zy_exec.specs.Shots.{digest_of_snapshot, snapshot_at, snapshot_due, snapshot_in}
+use Rattle.zy_exec.specs.Shots.{digest_of_snapshot, snapshot_at, snapshot_in}
 use Rattle.zy_exec.specs.Snapshot.{snapshot_of}
 use Rattle.zy_law.specs.Lawful.{IsLawful}
-use Rattle.zy_law.specs.Said.{At, IsCorrect, Moment}
+use Rattle.zy_law.specs.Said.{IsCorrect, Moment}
 use Rattle.zy_law.specs.World.{World}
 use Rattle.zy_parts.specs.declared.reports.Change.{Change}
 use Rattle.zy_parts.specs.declared.reports.New.{New}
 use Rattle.zy_parts.specs.declared.reports.Told.{Told}
 use Rattle.zy_parts.specs.declared.signed.Signed.{Signed}
-use Rattle.zy_parts.specs.declared.statements.Check.{Check}
 use Rattle.zy_table.specs.Adopting.{common_up_to, taken_over, verdict_above, verdict_beside, verdict_of, verdict_on_state}
 use Rattle.zy_table.specs.Gathering.{state_in}
-use Rattle.zy_table.specs.declared.deeds.Verdict.{Verdict}
 use Rattle.zy_table.specs.declared.deeds.Verdict.TheVariants.{Refuse, Take, Wait}
 use Rattle.zy_view_law.proofs.AdoptedLists.{chosen_known, provider_has_it}
 use Rattle.zy_view_law.proofs.NoBlame.{not_below, provider_has_stable, provider_state}
@@ -174,6 +171,8 @@ module _ {S : Type 0} (R : Rules S) (interval : ℕ) (w : World) (lawful : IsLaw
       let shared = shared_there taken in
       let common : ℕ = common_up_to place.0 (stretch_of told) (kept.stretch_of c.kept) in
       let both = common_shared place.0 shared.at (stretch_of told) (kept.stretch_of c.kept) shared.there shared.low shared.both in
-      let known = chosen_known w lawful matches.next interval n m p is in
-      (_, adopted_by_running w lawful matches.next interval n m p is R texts matches world here c.kept tied.standing.stands common both.0 both.1
-      (common_below place.0 (stretch_of told) (kept.stretch_of c.kept)) known.moment known.passes)
+      let known = chosen_known w lawful matches.next interval n m p is in (
+        _,
+        adopted_by_running w lawful matches.next interval n m p is R texts matches world here c.kept tied.standing.stands common both.0 both.1
+            (common_below place.0 (stretch_of told) (kept.stretch_of c.kept)) known.moment known.passes,
+      )
