@@ -2,4 +2,5 @@ pub mod CommonPlaces
 pub mod Gathered
 pub mod HeardRows
 pub mod Leaves
+pub mod SmallChange
 pub mod Verdicts

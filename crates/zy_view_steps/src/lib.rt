@@ -3,7 +3,9 @@
 #![tactic(auto)]
 
 mod adopt;
+mod example;
 mod rows;
 
 pub use adopt::{never_refused, taking_over};
+pub use example::a_change_of_view;
 pub use rows::{heard_rows, leaving_rows};
