@@ -1,3 +1,4 @@
+pub mod BeginsWith
 pub mod CommonPlaces
 pub mod Gathered
 pub mod HeardRows

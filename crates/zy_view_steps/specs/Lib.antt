@@ -1,3 +1,4 @@
+pub mod Adoptions
 pub mod Cores
 pub mod Example
 pub mod Rows
