@@ -1,0 +1,3 @@
+pub mod SendLemmas
+pub mod TurnLemmas
+pub mod RunLemmas

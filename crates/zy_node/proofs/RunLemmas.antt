@@ -1,0 +1,93 @@
+-- A run grows by one turn at its end.
+use Rattle.std.proofs.Common.{◌≡◌, ℕ, ◌+◌, ◌-◌, ◌^◌, ◌<◌, ◌≤◌, inl, inr, Bool, true, false, List, [], ◌∷◌, ◌++◌, length, map, drop, Option, Some, None, refl, sym, ap, subst, ◌∙◌, append_assoc, length-append, arith}
+use Rattle.std.proofs.lemmas.Bool.{cases_lt}
+use Rattle.std.proofs.lemmas.List.{append-nil, drop-drop, map-append}
+use Rattle.zy_edge.specs.Clock.{IsReading}
+use Rattle.zy_edge.specs.Faults.{raised}
+use Rattle.zy_edge.specs.Link.{Mail, Parcel}
+use Rattle.zy_node.specs.Rules.{Rules}
+use Rattle.zy_node.specs.Told.{AreHeard, AreNeeded, AreReadings, IsRun, IsTurn, Moves, MovesAll, Outside, RoseBy, next_of}
+use Rattle.zy_node.specs.Turn.{HostState, Reached, Turn, onward, run, stays, turned}
+
+-- ---- the definition
+
+run-last : {S : Type 0} (R : Rules S) (turns : List Turn) (t : Turn) (host : HostState S) → run R (turns ++ t ∷ []) host ≡ onward (run R turns host) (turned R t)
+run-last R [] t host = ap (λ sent. record { host = (turned R t host).host; sent = sent }) (append-nil (turned R t host).sent)
+run-last R (first ∷ turns) t host =
+    let one = turned R first host in
+    let more = run-last R turns t one.host in
+    ap (λ r. record { host = r.host; sent = one.sent ++ r.sent }) more
+    ∙ ap (λ sent. record { host = (turned R t (run R turns one.host).host).host; sent = sent }) (sym (append_assoc one.sent (run R turns one.host).sent (turned R t (run R turns one.host).host).sent))
+
+needed-last : {S : Type 0} (R : Rules S) (turns : List Turn) (t : Turn) (host : HostState S) → AreNeeded R turns host → R.is_done (run R turns host).host.core ≡ false → AreNeeded R (turns ++ t ∷ []) host
+needed-last R [] t host before last = (last, tt)
+needed-last R (first ∷ turns) t host before last = (before.0, needed-last R turns t (turned R first host).host before.1 last)
+
+-- ---- what is told
+
+heard-last : (turns : List Turn) (t : Turn) (coming : List (List ℕ)) → AreHeard turns coming → t.heard ≡ next_of (drop (length turns) coming) → AreHeard (turns ++ t ∷ []) coming
+heard-last [] t coming before last = (last, tt)
+heard-last (first ∷ turns) t coming before last =
+    (before.0, heard-last turns t (drop 1 coming) before.1 (last ∙ ap next_of (sym (drop-drop (length turns) 1 coming ∙ ap (λ n. drop n coming) (omega arith)))))
+
+MovesAll-last : (turns : List Turn) (t : Turn) (first second : List Parcel) (before between after : Option Mail) → MovesAll turns first before between → Moves t.heard second between after → MovesAll (turns ++ t ∷ []) (first ++ second) before after
+MovesAll-last turns t first second None between after one two = tt
+MovesAll-last turns t first second (Some mail) between after one two =
+    let there = subst (λ (m : Option Mail). Moves t.heard second m after) one.1 two in
+    let left : drop 1 (drop (length turns) mail.coming) ≡ drop (length (turns ++ t ∷ [])) mail.coming =
+    drop-drop 1 (length turns) mail.coming ∙ ap (λ n. drop n mail.coming) (sym (length-append turns (t ∷ []))) in
+    (
+      heard-last turns t mail.coming one.0 there.0,
+      there.1 ∙ ap (λ coming. Some (record { coming = coming; sent = (mail.sent ++ first) ++ second })) left
+      ∙ ap (λ sent. Some (record { coming = drop (length (turns ++ t ∷ [])) mail.coming; sent = sent })) (append_assoc mail.sent first second),
+    )
+
+AreReadings-last : (moments : List ℕ) (now : ℕ) (before between after : Option (List ℕ)) → AreReadings moments before between → IsReading now between after → AreReadings (moments ++ now ∷ []) before after
+AreReadings-last moments now before between None one two = tt
+AreReadings-last moments now before between (Some later) one (earlier, was, is) =
+    let (first, begun, then) = subst (λ (m : Option (List ℕ)). AreReadings moments before m) was one in
+    (first, begun, is ∙ ap (λ l. l ++ now ∷ []) then ∙ append_assoc first moments (now ∷ []))
+
+rose-once : (many before between after : ℕ) → RoseBy many before between → after ≡ raised between → RoseBy (many + 1) before after
+rose-once many before between after rose once = elim rose [
+  | inl by ↦ elim (cases_lt (2 ^ 64 - 1) (before + many + 1)) [ inl large ↦ inr (omega arith) | inr small ↦ inl (omega arith) ]
+  | inr last ↦ inr (omega arith)
+]
+
+-- ---- a run
+
+pub no_turns : {S : Type 0} (R : Rules S) (host : HostState S) (outside : Outside) → IsRun R 0 host host outside outside
+no_turns R host outside = record {
+  turns = [];
+  number = refl;
+  needed = tt;
+  host = refl;
+  mail = unmoved outside.mail;
+  receives = inl (omega arith);
+  moments = unread outside.moments;
+}
+  where
+    unmoved : (mail : Option Mail) → MovesAll [] [] mail mail
+    unmoved None = tt
+    unmoved (Some mail) = (tt, ap (λ sent. Some (record { coming = mail.coming; sent = sent })) (sym (append-nil mail.sent)))
+    unread : (moments : Option (List ℕ)) → AreReadings [] moments moments
+    unread None = tt
+    unread (Some moments) = (moments, refl, sym (append-nil moments))
+
+pub one_turn_more : {S : Type 0} (R : Rules S) (many : ℕ) (first middle last : HostState S) (from between to : Outside) → IsRun R many first middle from between → R.is_done middle.core ≡ false → IsTurn R middle last between to
+    → IsRun R (many + 1) first last from to
+one_turn_more R many first middle last from between to run_so_far unfinished next =
+    let turns = run_so_far.turns in
+    let t = next.turn in
+    let so_far = run R turns first in
+    let all = run-last R turns t first in
+    let is_last = subst (λ h. (last ≡ (turned R t h).host) × Moves t.heard (turned R t h).sent between.mail to.mail × (R.is_done h.core ≡ false)) run_so_far.host (next.host, next.mail, unfinished) in
+    record {
+      turns = turns ++ t ∷ [];
+      number = length-append turns (t ∷ []) ∙ ap (λ n. n + 1) run_so_far.number;
+      needed = needed-last R turns t first run_so_far.needed is_last.2;
+      host = is_last.0 ∙ ap (λ r. r.host) (sym all);
+      mail = subst (λ r. MovesAll (turns ++ t ∷ []) r.sent from.mail to.mail) (sym all) (MovesAll-last turns t so_far.sent (turned R t so_far.host).sent from.mail between.mail to.mail run_so_far.mail is_last.1);
+      receives = rose-once many from.receives between.receives to.receives run_so_far.receives next.receives;
+      moments = subst (λ moments. AreReadings moments from.moments to.moments) (sym (map-append (λ s. s.now) turns (t ∷ []))) (AreReadings-last (map (λ s. s.now) turns) t.now from.moments between.moments to.moments run_so_far.moments next.moments);
+    }

@@ -1,0 +1,100 @@
+-- What a turn hears, then the timers that fire: together a turn, or the front of one.
+use Rattle.std.proofs.Common.{◌≡◌, ℕ, List, [], ◌++◌, drop, Option, Some, None, Result, Ok, Err, refl, sym, ap, subst, ◌∙◌, append_assoc}
+use Rattle.zy_base.specs.declared.step.TimerKind.{TimerKind}
+use Rattle.zy_base.specs.declared.step.TimerKind.TheVariants as kinds
+use Rattle.zy_edge.specs.Clock.{IsReading}
+use Rattle.zy_edge.specs.Faults.{raised}
+use Rattle.zy_edge.specs.Link.{Mail, Parcel, StaysAsTold}
+use Rattle.zy_node.specs.Rules.{Rules}
+use Rattle.zy_node.specs.Told.{ComesTo, FiresAs, HearsTo, IsHearing, Moves, MovesFront, Sends, SendsFront, TurnsTo}
+use Rattle.zy_node.specs.Turn.{HostState, Begun, Heard, Fired, fires_to, hears, reads}
+use Rattle.zy_node.specs.declared.fault.NodeFault.{NodeFault}
+use Rattle.zy_node.specs.declared.fault.NodeFault.TheVariants.{Link, Want}
+use Rattle.zy_node.proofs.SendLemmas.{Sends-append}
+
+-- ---- datagrams
+
+pub Moves-append : (heard : Option (List ℕ)) (first second : List Parcel) (before between after : Option Mail) → Moves heard first before between → Sends second between after → Moves heard (first ++ second) before after
+Moves-append heard first second None between after one two = tt
+Moves-append heard first second (Some mail) between after one two =
+    let there = subst (λ (m : Option Mail). Sends second m after) one.1 two in
+    (one.0, there ∙ ap (λ sent. Some (record { coming = drop 1 mail.coming; sent = sent })) (append_assoc mail.sent first second))
+
+pub MovesFront-append : (heard : Option (List ℕ)) (first second : List Parcel) (before between after : Option Mail) → Moves heard first before between → SendsFront second between after → MovesFront heard (first ++ second) before after
+MovesFront-append heard first second before between after one two = record {
+  front = first ++ two.front;
+  rest = two.rest;
+  parts = ap (λ all. first ++ all) two.parts ∙ sym (append_assoc first two.front two.rest);
+  mail = Moves-append heard first two.front before between after one two.sent;
+}
+
+-- ---- before the clock is read
+
+-- a call of the link that fails at once
+pub fails_at_once : {S : Type 0} (R : Rules S) (host : HostState S) (received receives : ℕ) (before after : Option Mail) → StaysAsTold before after → receives ≡ raised received → HearsTo R host (Err (Link host)) before after received receives
+fails_at_once R host received receives before after same raises moments = record {
+  cut = record { stage = Begun; turn = record { heard = None; now = 0 }; mail = same; receives = raises; moments = refl };
+  host = refl;
+}
+
+-- what was heard, and what comes of it
+pub hears_to : {S : Type 0} (R : Rules S) (host : HostState S) (heard : Option (List ℕ)) (result : Result (HostState S) (NodeFault (HostState S))) (received receives : ℕ) (before between after : Option Mail)
+    → Moves heard [] before between → receives ≡ raised received → ComesTo (hears R heard host) result between after → HearsTo R host result before after received receives
+hears_to R host heard (Ok next) received receives before between after moves raises comes =
+    record { heard = heard; host = comes.0; mail = Moves-append heard [] (hears R heard host).sent before between after moves comes.1 }
+hears_to R host heard (Err (Link next)) received receives before between after moves raises comes = λ moments. record {
+  cut = record {
+    stage = Heard;
+    turn = record { heard = heard; now = 0 };
+    mail = MovesFront-append heard [] (hears R heard host).sent before between after moves comes.1;
+    receives = raises;
+    moments = refl;
+  };
+  host = comes.0;
+}
+hears_to R host heard (Err Want) received receives before between after moves raises comes = λ moments. record {
+  stage = Heard;
+  turn = record { heard = heard; now = 0 };
+  mail = MovesFront-append heard [] (hears R heard host).sent before between after moves comes;
+  receives = raises;
+  moments = refl;
+}
+
+-- ---- the whole turn
+
+pub then_fires : {S : Type 0} (R : Rules S) (host middle : HostState S) (now : ℕ) (result : Result (HostState S) (NodeFault (HostState S))) (received receives : ℕ) (read told : Option (List ℕ)) (before between after : Option Mail)
+    → IsHearing R host middle before between → receives ≡ raised received → IsReading now read told → FiresAs R now (reads R now middle) result between after
+    → TurnsTo R host result (record { mail = before; receives = received; moments = read }) (record { mail = after; receives = receives; moments = told })
+then_fires R host middle now (Ok next) received receives read told before between after hearing raises reading fires =
+    let heard = hears R hearing.heard host in
+    let comes = subst (λ h. ComesTo (fires_to R kinds.Answer now (reads R now h)) (Ok next) between after) hearing.host fires in
+    record {
+      turn = record { heard = hearing.heard; now = now };
+      host = comes.0;
+      mail = Moves-append hearing.heard heard.sent (fires_to R kinds.Answer now (reads R now heard.host)).sent before between after hearing.mail comes.1;
+      receives = raises;
+      moments = reading;
+    }
+then_fires R host middle now (Err (Link next)) received receives read told before between after hearing raises reading (kind, fires) =
+    let heard = hears R hearing.heard host in
+    let comes = subst (λ h. ComesTo (fires_to R kind now (reads R now h)) (Err (Link next)) between after) hearing.host fires in
+    record {
+      cut = record {
+        stage = Fired kind;
+        turn = record { heard = hearing.heard; now = now };
+        mail = MovesFront-append hearing.heard heard.sent (fires_to R kind now (reads R now heard.host)).sent before between after hearing.mail comes.1;
+        receives = raises;
+        moments = reading;
+      };
+      host = comes.0;
+    }
+then_fires R host middle now (Err Want) received receives read told before between after hearing raises reading (kind, fires) =
+    let heard = hears R hearing.heard host in
+    let comes = subst (λ h. ComesTo (fires_to R kind now (reads R now h)) (Err Want) between after) hearing.host fires in
+    record {
+      stage = Fired kind;
+      turn = record { heard = hearing.heard; now = now };
+      mail = MovesFront-append hearing.heard heard.sent (fires_to R kind now (reads R now heard.host)).sent before between after hearing.mail comes;
+      receives = raises;
+      moments = reading;
+    }

@@ -1,0 +1,4 @@
+pub mod Rules
+pub mod Timing
+pub mod Turn
+pub mod Told
