@@ -1,3 +1,5 @@
 pub mod SendLemmas
 pub mod TurnLemmas
 pub mod RunLemmas
+pub mod PieceLemmas
+pub mod HearLemmas

@@ -1,13 +1,15 @@
 -- A run grows by one turn at its end.
-use Rattle.std.proofs.Common.{◌≡◌, ℕ, ◌+◌, ◌-◌, ◌^◌, ◌<◌, ◌≤◌, inl, inr, Bool, true, false, List, [], ◌∷◌, ◌++◌, length, map, drop, Option, Some, None, refl, sym, ap, subst, ◌∙◌, append_assoc, length-append, arith}
+use Rattle.std.proofs.Common.{◌≡◌, ℕ, ◌+◌, ◌-◌, ◌^◌, ◌<◌, ◌≤◌, inl, inr, Bool, true, false, List, [], ◌∷◌, ◌++◌, length, map, drop, Option, Some, None, Result, Ok, Err, refl, sym, ap, subst, ◌∙◌, append_assoc, length-append, arith}
 use Rattle.std.proofs.lemmas.Bool.{cases_lt}
 use Rattle.std.proofs.lemmas.List.{append-nil, drop-drop, map-append}
 use Rattle.zy_edge.specs.Clock.{IsReading}
 use Rattle.zy_edge.specs.Faults.{raised}
 use Rattle.zy_edge.specs.Link.{Mail, Parcel}
 use Rattle.zy_node.specs.Rules.{Rules}
-use Rattle.zy_node.specs.Told.{AreHeard, AreNeeded, AreReadings, IsRun, IsTurn, Moves, MovesAll, Outside, RoseBy, next_of}
+use Rattle.zy_node.specs.Told.{AreHeard, AreNeeded, AreReadings, IsRun, IsTurn, Moves, MovesAll, Outside, RoseBy, RunsTo, ServesTo, TurnsTo, next_of}
 use Rattle.zy_node.specs.Turn.{HostState, Reached, Turn, onward, run, stays, turned}
+use Rattle.zy_node.specs.declared.fault.NodeFault.{NodeFault}
+use Rattle.zy_node.specs.declared.fault.NodeFault.TheVariants.{Link, Want}
 
 -- ---- the definition
 
@@ -91,3 +93,27 @@ one_turn_more R many first middle last from between to run_so_far unfinished nex
       receives = rose-once many from.receives between.receives to.receives run_so_far.receives next.receives;
       moments = subst (λ moments. AreReadings moments from.moments to.moments) (sym (map-append (λ s. s.now) turns (t ∷ []))) (AreReadings-last (map (λ s. s.now) turns) t.now from.moments between.moments to.moments run_so_far.moments next.moments);
     }
+
+pub all_taken : {S : Type 0} (R : Rules S) (most : ℕ) (first last : HostState S) (from to : Outside) → IsRun R most first last from to → RunsTo R most first (Ok last) from to
+all_taken R most first last from to taken = record { many = most; in_reach = omega arith; run = taken; ended = inr refl }
+
+pub done_early : {S : Type 0} (R : Rules S) (many most : ℕ) (first last : HostState S) (from to : Outside) → many ≤ most → IsRun R many first last from to → R.is_done last.core ≡ true → RunsTo R most first (Ok last) from to
+done_early R many most first last from to in_reach taken done = record { many = many; in_reach = in_reach; run = taken; ended = inl done }
+
+pub cut_off : {S : Type 0} (R : Rules S) (many most : ℕ) (first middle : HostState S) (fault : NodeFault (HostState S)) (from between to : Outside)
+    → many < most → IsRun R many first middle from between → R.is_done middle.core ≡ false → TurnsTo R middle (Err fault) between to → RunsTo R most first (Err fault) from to
+cut_off R many most first middle (Link last) from between to fewer taken unfinished next = record {
+  run = record { many = many; fewer = fewer; last = middle; between = between; run = taken; needed = unfinished; cut = next.cut };
+  host = next.host;
+}
+cut_off R many most first middle Want from between to fewer taken unfinished next =
+    record { many = many; fewer = fewer; last = middle; between = between; run = taken; needed = unfinished; cut = next }
+
+pub takes_all : {S : Type 0} (R : Rules S) (most : ℕ) (first : HostState S) (result : Result (HostState S) (NodeFault (HostState S))) (from to : Outside)
+    → ((s : S) → R.is_done s ≡ false) → RunsTo R most first result from to → ServesTo R most first result from to
+takes_all R most first (Ok last) from to never ran = elim ran.ended [
+  | inl done ↦ (let unfinished = never last.core in absurd cc)
+  | inr all ↦ subst (λ n. IsRun R n first last from to) all ran.run
+]
+takes_all R most first (Err (Link last)) from to never ran = ran
+takes_all R most first (Err Want) from to never ran = ran

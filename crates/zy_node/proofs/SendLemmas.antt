@@ -4,9 +4,11 @@ use Rattle.std.specs.List.{flat_map}
 use Rattle.std.proofs.lemmas.Grind.{flat_map-append}
 use Rattle.std.proofs.lemmas.List.{append-nil, map-append, map_more, take_more, take-append-drop}
 use Rattle.zy_base.specs.declared.ids.Party.{Party}
+use Rattle.zy_base.specs.declared.step.Event.{Event}
 use Rattle.zy_edge.specs.Link.{Mail, Parcel, StaysAsTold}
+use Rattle.zy_node.specs.Rules.{Rules}
 use Rattle.zy_node.specs.Told.{ComesTo, Sends, SendsFront}
-use Rattle.zy_node.specs.Turn.{HostState, Reached, onward, parcels_to, parcels_of, all_parcels}
+use Rattle.zy_node.specs.Turn.{HostState, Reached, onward, steps, parcels_to, parcels_of, all_parcels}
 use Rattle.zy_node.specs.declared.fault.NodeFault.{NodeFault}
 use Rattle.zy_node.specs.declared.fault.NodeFault.TheVariants.{Link, Want}
 
@@ -101,3 +103,12 @@ comes_after first next middle (Err (Link host)) before between after is sent com
     (same, front_after first.sent (next first.host).sent before between after sent then)
 comes_after first next middle (Err Want) before between after is sent comes =
     front_after first.sent (next first.host).sent before between after sent (subst (λ h. ComesTo (next h) (Err Want) between after) is comes)
+
+-- a step, and the frames that it sends
+pub step_comes : {S : Type 0} (R : Rules S) (event : Event) (before after : HostState S) (out : List (Party × List ℕ)) (from to : Option Mail)
+    → after ≡ (steps R event before).host → out ≡ (R.step event before.core).sent → Sends (all_parcels out) from to → ComesTo (steps R event before) (Ok after) from to
+step_comes R event before after out from to is same sent = (is, subst (λ o. Sends (all_parcels o) from to) same sent)
+
+pub step_front : {S : Type 0} (R : Rules S) (event : Event) (before : HostState S) (out : List (Party × List ℕ)) (from to : Option Mail)
+    → out ≡ (R.step event before.core).sent → SendsFront (all_parcels out) from to → SendsFront (steps R event before).sent from to
+step_front R event before out from to same sent = subst (λ o. SendsFront (all_parcels o) from to) same sent

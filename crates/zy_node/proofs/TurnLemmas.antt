@@ -7,10 +7,10 @@ use Rattle.zy_edge.specs.Faults.{raised}
 use Rattle.zy_edge.specs.Link.{Mail, Parcel, StaysAsTold}
 use Rattle.zy_node.specs.Rules.{Rules}
 use Rattle.zy_node.specs.Told.{ComesTo, FiresAs, HearsTo, IsHearing, Moves, MovesFront, Sends, SendsFront, TurnsTo}
-use Rattle.zy_node.specs.Turn.{HostState, Begun, Heard, Fired, fires_to, hears, reads}
+use Rattle.zy_node.specs.Turn.{HostState, Begun, Heard, Fired, fires, fires_to, hears, reads}
 use Rattle.zy_node.specs.declared.fault.NodeFault.{NodeFault}
 use Rattle.zy_node.specs.declared.fault.NodeFault.TheVariants.{Link, Want}
-use Rattle.zy_node.proofs.SendLemmas.{Sends-append}
+use Rattle.zy_node.proofs.SendLemmas.{Sends-append, comes_after}
 
 -- ---- datagrams
 
@@ -59,6 +59,25 @@ hears_to R host heard (Err Want) received receives before between after moves ra
   receives = raises;
   moments = refl;
 }
+
+-- ---- the timers
+
+pub change_fails : {S : Type 0} (R : Rules S) (now : ℕ) (host first : HostState S) (fault : NodeFault (HostState S)) (before between after : Option Mail)
+    → ComesTo (fires R kinds.Request now host) (Ok first) before between → ComesTo (fires R kinds.Change now first) (Err fault) between after → FiresAs R now host (Err fault) before after
+change_fails R now host first fault before between after one two =
+    (kinds.Change, comes_after (fires R kinds.Request now host) (fires R kinds.Change now) first (Err fault) before between after one.0 one.1 two)
+
+pub all_fire : {S : Type 0} (R : Rules S) (now : ℕ) (host first second : HostState S) (result : Result (HostState S) (NodeFault (HostState S))) (before between later after : Option Mail)
+    → ComesTo (fires R kinds.Request now host) (Ok first) before between → ComesTo (fires R kinds.Change now first) (Ok second) between later → ComesTo (fires R kinds.Answer now second) result later after
+    → FiresAs R now host result before after
+all_fire R now host first second result before between later after one two three =
+    let both = comes_after (fires R kinds.Request now host) (fires R kinds.Change now) first (Ok second) before between later one.0 one.1 two in
+    let all = comes_after (fires_to R kinds.Change now host) (fires R kinds.Answer now) second result before later after both.0 both.1 three in
+    by result all
+  where
+    by : (r : Result (HostState S) (NodeFault (HostState S))) → ComesTo (fires_to R kinds.Answer now host) r before after → FiresAs R now host r before after
+    by (Ok next) comes = comes
+    by (Err fault) comes = (kinds.Answer, comes)
 
 -- ---- the whole turn
 

@@ -177,3 +177,9 @@ abbrev pub RunsTo : {S : Type 0} → Rules S → ℕ → HostState S → Result 
 RunsTo R most before (Ok after) from to = IsWholeRun R most before after from to
 RunsTo R most before (Err (Link after)) from to = IsCutRunOf R most before after from to
 RunsTo R most before (Err Want) from to = IsCutRun R most before from to
+
+-- the same of a core that is never done: it takes all its turns
+abbrev pub ServesTo : {S : Type 0} → Rules S → ℕ → HostState S → Result (HostState S) (NodeFault (HostState S)) → Outside → Outside → Type 0
+ServesTo R most before (Ok after) from to = IsRun R most before after from to
+ServesTo R most before (Err (Link after)) from to = IsCutRunOf R most before after from to
+ServesTo R most before (Err Want) from to = IsCutRun R most before from to

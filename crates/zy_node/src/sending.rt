@@ -1,13 +1,13 @@
 //! Frames as datagrams, one after another.
 
-ghost use Rattle.std.specs.Prelude.{◌≡◌, ◌≤◌, OnOk, OnErr, length};
+ghost use Rattle.std.specs.Prelude.{◌≡◌, IfOk, OnOk, OnErr};
 ghost use Rattle.zy_edge.specs.Faults.{IsCounted};
 ghost use Rattle.zy_node.specs.Told.{Sends, SendsFront, is_send_fault};
-ghost use Rattle.zy_node.specs.Turn.{all_parcels, parcels_of, parcels_to};
+ghost use Rattle.zy_node.specs.Turn.{all_parcels, parcels_of, parcels_to, pieces_of};
 
 use crate::fault::SendFault;
 use std::alloc::Global;
-use zy_base::{Bytes, Party};
+use zy_base::{Bytes, Party, Want};
 use zy_edge::{Link, Sent};
 use zy_pieces::cut;
 
@@ -42,12 +42,20 @@ fn send_frame<L: Link>(
     ensures receives { L.receives link.new ≡ L.receives link.old }
     ensures count { IsCounted (is_send_fault result) (L.faults link.old) (L.faults link.new) }
 {
-    // No core sends such a frame, since what they send was encoded; but their contracts don't say so.
-    if frame.is_empty() || frame.len() > MAX_FRAME {
-        return Ok(());
-    }
-    let datagrams = cut(alloc, frame)?;
+    let datagrams = pieces(alloc, frame)?;
     send_pieces(link, to, &datagrams)
+}
+
+// The pieces of a frame as datagrams.
+#[tactic(auto, using(crate::proofs::PieceLemmas::empty, crate::proofs::PieceLemmas::too_long, crate::proofs::PieceLemmas::in_reach))]
+fn pieces(alloc: Global, frame: &[u8]) -> Result<Vec<Bytes>, Want>
+    ensures { IfOk result (λ datagrams. datagrams.items ≡ pieces_of frame.now) }
+{
+    // No core sends such a frame, since all that they send was encoded; but what they promise doesn't say so.
+    if frame.is_empty() || frame.len() > MAX_FRAME {
+        return Ok(Vec::new(alloc));
+    }
+    cut(alloc, frame)
 }
 
 fn send_pieces<L: Link>(link: &mut L, to: Party, datagrams: &[Bytes]) -> Result<(), SendFault>
