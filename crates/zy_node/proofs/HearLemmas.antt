@@ -4,24 +4,25 @@ use Rattle.std.proofs.lemmas.List.{append-nil}
 use Rattle.zy_edge.specs.Link.{Hears, IsHeard, Mail, Parcel}
 use Rattle.zy_edge.specs.declared.link.Heard.TheVariants.{Datagram, Quiet}
 use Rattle.zy_node.specs.Told.{Moves, next_of}
+use Rattle.zy_node.proofs.SendLemmas.{told}
 
 taken : (coming : List (List ℕ)) (sent : List Parcel) (room : ℕ) (bytes : List ℕ) (after : Option Mail) → room ≡ 8229 → Hears coming sent room bytes after
     → (Some bytes ≡ next_of coming) × (after ≡ Some (record { coming = drop 1 coming; sent = sent ++ [] }))
 taken [] sent room bytes after fits hears = absurd hears
 taken (datagram ∷ later) sent room bytes after fits hears = (
-  ap Some (hears.0 ∙ ap (λ n. take n datagram) fits),
-  hears.1 ∙ ap (λ s. Some (record { coming = later; sent = s })) (sym (append-nil sent)),
+  ap Some (hears.0 ∙ ap (λ (n : ℕ). take n datagram) fits),
+  hears.1 ∙ ap (told later) (sym (append-nil sent)),
 )
 
 pub datagram_moves : (len : ℕ) (room bytes : List ℕ) (before after : Option Mail) → length room ≡ 8229 → bytes ≡ take len room → IsHeard (Datagram len) room before after → Moves (Some bytes) [] before after
 datagram_moves len room bytes None after fits is heard = tt
 datagram_moves len room bytes (Some mail) after fits is heard =
-    let (same, moved) = taken mail.coming mail.sent (length room) (take len room) after fits heard.1 in
-    (ap Some is ∙ same, moved)
+    let moved = taken mail.coming mail.sent (length room) (take len room) after fits heard.1 in
+    (ap Some is ∙ moved.0, moved.1)
 
 none_left : (coming : List (List ℕ)) (sent : List Parcel) (after : Option Mail) → coming ≡ [] → after ≡ Some (record { coming = coming; sent = sent })
     → (None ≡ next_of coming) × (after ≡ Some (record { coming = drop 1 coming; sent = sent ++ [] }))
-none_left [] sent after none stays = (refl, stays ∙ ap (λ s. Some (record { coming = []; sent = s })) (sym (append-nil sent)))
+none_left [] sent after none stays = (refl, stays ∙ ap (told []) (sym (append-nil sent)))
 none_left (datagram ∷ later) sent after none stays = absurd cc
 
 pub quiet_moves : (room : List ℕ) (before after : Option Mail) → IsHeard Quiet room before after → Moves None [] before after

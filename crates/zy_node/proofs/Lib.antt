@@ -3,3 +3,4 @@ pub mod TurnLemmas
 pub mod RunLemmas
 pub mod PieceLemmas
 pub mod HearLemmas
+pub mod StepLemmas

@@ -10,16 +10,20 @@ use Rattle.zy_node.specs.Told.{AreHeard, AreNeeded, AreReadings, IsRun, IsTurn, 
 use Rattle.zy_node.specs.Turn.{HostState, Reached, Turn, onward, run, stays, turned}
 use Rattle.zy_node.specs.declared.fault.NodeFault.{NodeFault}
 use Rattle.zy_node.specs.declared.fault.NodeFault.TheVariants.{Link, Want}
+use Rattle.zy_node.proofs.SendLemmas.{told}
+
+abbrev reached_with : {S : Type 0} → HostState S → List Parcel → Reached S
+reached_with host sent = record { host = host; sent = sent }
 
 -- ---- the definition
 
 run-last : {S : Type 0} (R : Rules S) (turns : List Turn) (t : Turn) (host : HostState S) → run R (turns ++ t ∷ []) host ≡ onward (run R turns host) (turned R t)
-run-last R [] t host = ap (λ sent. record { host = (turned R t host).host; sent = sent }) (append-nil (turned R t host).sent)
-run-last R (first ∷ turns) t host =
+run-last {S} R [] t host = ap (reached_with (turned R t host).host) (append-nil (turned R t host).sent)
+run-last {S} R (first ∷ turns) t host =
     let one = turned R first host in
     let more = run-last R turns t one.host in
-    ap (λ r. record { host = r.host; sent = one.sent ++ r.sent }) more
-    ∙ ap (λ sent. record { host = (turned R t (run R turns one.host).host).host; sent = sent }) (sym (append_assoc one.sent (run R turns one.host).sent (turned R t (run R turns one.host).host).sent))
+    ap (λ (r : Reached S). reached_with r.host (one.sent ++ r.sent)) more
+    ∙ ap (reached_with (turned R t (run R turns one.host).host).host) (sym (append_assoc one.sent (run R turns one.host).sent (turned R t (run R turns one.host).host).sent))
 
 needed-last : {S : Type 0} (R : Rules S) (turns : List Turn) (t : Turn) (host : HostState S) → AreNeeded R turns host → R.is_done (run R turns host).host.core ≡ false → AreNeeded R (turns ++ t ∷ []) host
 needed-last R [] t host before last = (last, tt)
@@ -30,25 +34,26 @@ needed-last R (first ∷ turns) t host before last = (before.0, needed-last R tu
 heard-last : (turns : List Turn) (t : Turn) (coming : List (List ℕ)) → AreHeard turns coming → t.heard ≡ next_of (drop (length turns) coming) → AreHeard (turns ++ t ∷ []) coming
 heard-last [] t coming before last = (last, tt)
 heard-last (first ∷ turns) t coming before last =
-    (before.0, heard-last turns t (drop 1 coming) before.1 (last ∙ ap next_of (sym (drop-drop (length turns) 1 coming ∙ ap (λ n. drop n coming) (omega arith)))))
+    let count : 1 + length turns ≡ length (first ∷ turns) = omega arith in
+    let left : drop (length turns) (drop 1 coming) ≡ drop (length (first ∷ turns)) coming = drop-drop (length turns) 1 coming ∙ ap (λ (n : ℕ). drop n coming) count in
+    (before.0, heard-last turns t (drop 1 coming) before.1 (last ∙ ap next_of (sym left)))
 
 MovesAll-last : (turns : List Turn) (t : Turn) (first second : List Parcel) (before between after : Option Mail) → MovesAll turns first before between → Moves t.heard second between after → MovesAll (turns ++ t ∷ []) (first ++ second) before after
 MovesAll-last turns t first second None between after one two = tt
 MovesAll-last turns t first second (Some mail) between after one two =
     let there = subst (λ (m : Option Mail). Moves t.heard second m after) one.1 two in
     let left : drop 1 (drop (length turns) mail.coming) ≡ drop (length (turns ++ t ∷ [])) mail.coming =
-    drop-drop 1 (length turns) mail.coming ∙ ap (λ n. drop n mail.coming) (sym (length-append turns (t ∷ []))) in
-    (
+    drop-drop 1 (length turns) mail.coming ∙ ap (λ (n : ℕ). drop n mail.coming) (sym (length-append turns (t ∷ []))) in (
       heard-last turns t mail.coming one.0 there.0,
-      there.1 ∙ ap (λ coming. Some (record { coming = coming; sent = (mail.sent ++ first) ++ second })) left
-      ∙ ap (λ sent. Some (record { coming = drop (length (turns ++ t ∷ [])) mail.coming; sent = sent })) (append_assoc mail.sent first second),
+      there.1 ∙ ap (λ (coming : List (List ℕ)). told coming ((mail.sent ++ first) ++ second)) left
+          ∙ ap (told (drop (length (turns ++ t ∷ [])) mail.coming)) (append_assoc mail.sent first second),
     )
 
 AreReadings-last : (moments : List ℕ) (now : ℕ) (before between after : Option (List ℕ)) → AreReadings moments before between → IsReading now between after → AreReadings (moments ++ now ∷ []) before after
 AreReadings-last moments now before between None one two = tt
-AreReadings-last moments now before between (Some later) one (earlier, was, is) =
-    let (first, begun, then) = subst (λ (m : Option (List ℕ)). AreReadings moments before m) was one in
-    (first, begun, is ∙ ap (λ l. l ++ now ∷ []) then ∙ append_assoc first moments (now ∷ []))
+AreReadings-last moments now before between (Some later) one two =
+    let here = subst (λ (m : Option (List ℕ)). AreReadings moments before m) two.1 one in
+    (here.0, here.1, two.2 ∙ ap (λ (l : List ℕ). l ++ now ∷ []) here.2 ∙ append_assoc here.0 moments (now ∷ []))
 
 rose-once : (many before between after : ℕ) → RoseBy many before between → after ≡ raised between → RoseBy (many + 1) before after
 rose-once many before between after rose once = elim rose [
@@ -71,27 +76,28 @@ no_turns R host outside = record {
   where
     unmoved : (mail : Option Mail) → MovesAll [] [] mail mail
     unmoved None = tt
-    unmoved (Some mail) = (tt, ap (λ sent. Some (record { coming = mail.coming; sent = sent })) (sym (append-nil mail.sent)))
+    unmoved (Some mail) = (tt, ap (told mail.coming) (sym (append-nil mail.sent)))
+
     unread : (moments : Option (List ℕ)) → AreReadings [] moments moments
     unread None = tt
     unread (Some moments) = (moments, refl, sym (append-nil moments))
 
 pub one_turn_more : {S : Type 0} (R : Rules S) (many : ℕ) (first middle last : HostState S) (from between to : Outside) → IsRun R many first middle from between → R.is_done middle.core ≡ false → IsTurn R middle last between to
     → IsRun R (many + 1) first last from to
-one_turn_more R many first middle last from between to run_so_far unfinished next =
+one_turn_more {S} R many first middle last from between to run_so_far unfinished next =
     let turns = run_so_far.turns in
     let t = next.turn in
     let so_far = run R turns first in
     let all = run-last R turns t first in
-    let is_last = subst (λ h. (last ≡ (turned R t h).host) × Moves t.heard (turned R t h).sent between.mail to.mail × (R.is_done h.core ≡ false)) run_so_far.host (next.host, next.mail, unfinished) in
+    let is_last = subst (λ (h : HostState S). (last ≡ (turned R t h).host) × Moves t.heard (turned R t h).sent between.mail to.mail × (R.is_done h.core ≡ false)) run_so_far.host (next.host, next.mail, unfinished) in
     record {
       turns = turns ++ t ∷ [];
-      number = length-append turns (t ∷ []) ∙ ap (λ n. n + 1) run_so_far.number;
+      number = length-append turns (t ∷ []) ∙ ap (λ (n : ℕ). n + 1) run_so_far.number;
       needed = needed-last R turns t first run_so_far.needed is_last.2;
-      host = is_last.0 ∙ ap (λ r. r.host) (sym all);
-      mail = subst (λ r. MovesAll (turns ++ t ∷ []) r.sent from.mail to.mail) (sym all) (MovesAll-last turns t so_far.sent (turned R t so_far.host).sent from.mail between.mail to.mail run_so_far.mail is_last.1);
+      host = is_last.0 ∙ ap (λ (r : Reached S). r.host) (sym all);
+      mail = subst (λ (r : Reached S). MovesAll (turns ++ t ∷ []) r.sent from.mail to.mail) (sym all) (MovesAll-last turns t so_far.sent (turned R t so_far.host).sent from.mail between.mail to.mail run_so_far.mail is_last.1);
       receives = rose-once many from.receives between.receives to.receives run_so_far.receives next.receives;
-      moments = subst (λ moments. AreReadings moments from.moments to.moments) (sym (map-append (λ s. s.now) turns (t ∷ []))) (AreReadings-last (map (λ s. s.now) turns) t.now from.moments between.moments to.moments run_so_far.moments next.moments);
+      moments = subst (λ (moments : List ℕ). AreReadings moments from.moments to.moments) (sym (map-append (λ (s : Turn). s.now) turns (t ∷ []))) (AreReadings-last (map (λ (s : Turn). s.now) turns) t.now from.moments between.moments to.moments run_so_far.moments next.moments);
     }
 
 pub all_taken : {S : Type 0} (R : Rules S) (most : ℕ) (first last : HostState S) (from to : Outside) → IsRun R most first last from to → RunsTo R most first (Ok last) from to
@@ -112,8 +118,8 @@ cut_off R many most first middle Want from between to fewer taken unfinished nex
 pub takes_all : {S : Type 0} (R : Rules S) (most : ℕ) (first : HostState S) (result : Result (HostState S) (NodeFault (HostState S))) (from to : Outside)
     → ((s : S) → R.is_done s ≡ false) → RunsTo R most first result from to → ServesTo R most first result from to
 takes_all R most first (Ok last) from to never ran = elim ran.ended [
-  | inl done ↦ (let unfinished = never last.core in absurd cc)
-  | inr all ↦ subst (λ n. IsRun R n first last from to) all ran.run
+  | inl done ↦ (let unfinished : R.is_done last.core ≡ false = never last.core in absurd cc)
+  | inr all ↦ subst (λ (n : ℕ). IsRun R n first last from to) all ran.run
 ]
 takes_all R most first (Err (Link last)) from to never ran = ran
 takes_all R most first (Err Want) from to never ran = ran

@@ -1,28 +1,30 @@
 -- Datagrams that are sent one after another, and what is sent where a call fails among them.
-use Rattle.std.proofs.Common.{◌≡◌, ℕ, ◌+◌, ◌<◌, List, [], ◌∷◌, ◌++◌, length, map, take, drop, get_or, Option, Some, None, Result, Ok, Err, refl, sym, ap, subst, ◌∙◌, append_assoc, arith}
+use Rattle.std.proofs.Common.{◌≡◌, ℕ, ◌+◌, ◌<◌, List, [], ◌∷◌, ◌++◌, length, map, take, drop, get_or, Option, Some, None, Result, Ok, Err, OnErr, refl, sym, ap, subst, ◌∙◌, append_assoc, arith}
 use Rattle.std.specs.List.{flat_map}
 use Rattle.std.proofs.lemmas.Grind.{flat_map-append}
 use Rattle.std.proofs.lemmas.List.{append-nil, map-append, map_more, take_more, take-append-drop}
 use Rattle.zy_base.specs.declared.ids.Party.{Party}
-use Rattle.zy_base.specs.declared.step.Event.{Event}
 use Rattle.zy_edge.specs.Link.{Mail, Parcel, StaysAsTold}
-use Rattle.zy_node.specs.Rules.{Rules}
 use Rattle.zy_node.specs.Told.{ComesTo, Sends, SendsFront}
-use Rattle.zy_node.specs.Turn.{HostState, Reached, onward, steps, parcels_to, parcels_of, all_parcels}
+use Rattle.zy_node.specs.Turn.{HostState, Reached, onward, parcels_to, parcels_of, all_parcels}
 use Rattle.zy_node.specs.declared.fault.NodeFault.{NodeFault}
 use Rattle.zy_node.specs.declared.fault.NodeFault.TheVariants.{Link, Want}
+
+-- mail that is told
+abbrev pub told : List (List ℕ) → List Parcel → Option Mail
+told coming sent = Some (record { coming = coming; sent = sent })
 
 -- ---- one after another
 
 pub Sends-nil : (mail : Option Mail) → Sends [] mail mail
 Sends-nil None = tt
-Sends-nil (Some mail) = ap (λ sent. Some (record { coming = mail.coming; sent = sent })) (sym (append-nil mail.sent))
+Sends-nil (Some mail) = ap (told mail.coming) (sym (append-nil mail.sent))
 
 pub Sends-append : (first second : List Parcel) (before between after : Option Mail) → Sends first before between → Sends second between after → Sends (first ++ second) before after
 Sends-append first second None between after one two = tt
 Sends-append first second (Some mail) between after one two =
     let there = subst (λ (m : Option Mail). Sends second m after) one two in
-    there ∙ ap (λ sent. Some (record { coming = mail.coming; sent = sent })) (append_assoc mail.sent first second)
+    there ∙ ap (told mail.coming) (append_assoc mail.sent first second)
 
 -- ---- fronts
 
@@ -40,7 +42,7 @@ pub front_after : (first second : List Parcel) (before between after : Option Ma
 front_after first second before between after one two = record {
   front = first ++ two.front;
   rest = two.rest;
-  parts = ap (λ all. first ++ all) two.parts ∙ sym (append_assoc first two.front two.rest);
+  parts = ap (λ (all : List Parcel). first ++ all) two.parts ∙ sym (append_assoc first two.front two.rest);
   sent = Sends-append first two.front before between after one two.sent;
 }
 
@@ -48,9 +50,13 @@ pub front_before : (first second : List Parcel) (before after : Option Mail) →
 front_before first second before after one = record {
   front = one.front;
   rest = one.rest ++ second;
-  parts = ap (λ all. all ++ second) one.parts ∙ append_assoc one.front one.rest second;
+  parts = ap (λ (all : List Parcel). all ++ second) one.parts ∙ append_assoc one.front one.rest second;
   sent = one.sent;
 }
+
+pub on_err : {A E : Type 0} (result : Result A E) (P : Type 0) → P → OnErr result P
+on_err (Ok value) P holds = tt
+on_err (Err fault) P holds = holds
 
 -- ---- in a loop
 
@@ -60,7 +66,7 @@ pub one_datagram_more : (to : Party) (datagrams : List (List ℕ)) (i : ℕ) (da
 one_datagram_more to datagrams i datagram before between after within is earlier sent =
     let f : List ℕ → Parcel = λ bytes. record { to = to; bytes = bytes } in
     let more : map f (take (i + 1) datagrams) ≡ map f (take i datagrams) ++ f datagram ∷ [] =
-    map_more f datagrams i datagram within ∙ ap (λ d. map f (take i datagrams) ++ f d ∷ []) (sym is) in
+    map_more f datagrams i datagram within ∙ ap (λ (d : List ℕ). map f (take i datagrams) ++ f d ∷ []) (sym is) in
     subst (λ (all : List Parcel). Sends all before after) (sym more) (Sends-append (map f (take i datagrams)) (f datagram ∷ []) before between after earlier sent)
 
 -- those before a datagram that wasn't sent
@@ -73,7 +79,7 @@ datagrams_before to datagrams i before between after earlier same =
 frames_more : (out : List (Party × List ℕ)) (i : ℕ) (one : Party × List ℕ) → i < length out → one ≡ get_or out i one → all_parcels (take (i + 1) out) ≡ all_parcels (take i out) ++ parcels_of one
 frames_more out i one within is =
     ap all_parcels (take_more out i one within) ∙ flat_map-append parcels_of (take i out) (get_or out i one ∷ [])
-    ∙ ap (λ l. all_parcels (take i out) ++ l) (append-nil (parcels_of (get_or out i one))) ∙ ap (λ o. all_parcels (take i out) ++ parcels_of o) (sym is)
+    ∙ ap (λ (l : List Parcel). all_parcels (take i out) ++ l) (append-nil (parcels_of (get_or out i one))) ∙ ap (λ (o : Party × List ℕ). all_parcels (take i out) ++ parcels_of o) (sym is)
 
 -- one frame more
 pub one_frame_more : (out : List (Party × List ℕ)) (i : ℕ) (one : Party × List ℕ) (before between after : Option Mail) → i < length out → one ≡ get_or out i one
@@ -88,27 +94,18 @@ frames_before out i one before between after within is earlier front =
     let rest = drop (i + 1) out in
     let upto = front_before (all_parcels (take i out) ++ parcels_of one) (all_parcels rest) before after (front_after (all_parcels (take i out)) (parcels_of one) before between after earlier front) in
     let parts : (all_parcels (take i out) ++ parcels_of one) ++ all_parcels rest ≡ all_parcels out =
-    ap (λ all. all ++ all_parcels rest) (sym (frames_more out i one within is)) ∙ sym (flat_map-append parcels_of (take (i + 1) out) rest) ∙ ap all_parcels (take-append-drop (i + 1) out) in
+    ap (λ (all : List Parcel). all ++ all_parcels rest) (sym (frames_more out i one within is)) ∙ sym (flat_map-append parcels_of (take (i + 1) out) rest) ∙ ap all_parcels (take-append-drop (i + 1) out) in
     subst (λ (all : List Parcel). SendsFront all before after) parts upto
 
 -- ---- a call that comes to something, after another one
 
 pub comes_after : {S : Type 0} (first : Reached S) (next : HostState S → Reached S) (middle : HostState S) (result : Result (HostState S) (NodeFault (HostState S))) (before between after : Option Mail)
     → middle ≡ first.host → Sends first.sent before between → ComesTo (next middle) result between after → ComesTo (onward first next) result before after
-comes_after first next middle (Ok host) before between after is sent comes =
-    let (same, then) = subst (λ h. ComesTo (next h) (Ok host) between after) is comes in
-    (same, Sends-append first.sent (next first.host).sent before between after sent then)
-comes_after first next middle (Err (Link host)) before between after is sent comes =
-    let (same, then) = subst (λ h. ComesTo (next h) (Err (Link host)) between after) is comes in
-    (same, front_after first.sent (next first.host).sent before between after sent then)
-comes_after first next middle (Err Want) before between after is sent comes =
-    front_after first.sent (next first.host).sent before between after sent (subst (λ h. ComesTo (next h) (Err Want) between after) is comes)
-
--- a step, and the frames that it sends
-pub step_comes : {S : Type 0} (R : Rules S) (event : Event) (before after : HostState S) (out : List (Party × List ℕ)) (from to : Option Mail)
-    → after ≡ (steps R event before).host → out ≡ (R.step event before.core).sent → Sends (all_parcels out) from to → ComesTo (steps R event before) (Ok after) from to
-step_comes R event before after out from to is same sent = (is, subst (λ o. Sends (all_parcels o) from to) same sent)
-
-pub step_front : {S : Type 0} (R : Rules S) (event : Event) (before : HostState S) (out : List (Party × List ℕ)) (from to : Option Mail)
-    → out ≡ (R.step event before.core).sent → SendsFront (all_parcels out) from to → SendsFront (steps R event before).sent from to
-step_front R event before out from to same sent = subst (λ o. SendsFront (all_parcels o) from to) same sent
+comes_after {S} first next middle (Ok host) before between after is sent comes =
+    let here = subst (λ (h : HostState S). ComesTo (next h) (Ok host) between after) is comes in
+    (here.0, Sends-append first.sent (next first.host).sent before between after sent here.1)
+comes_after {S} first next middle (Err (Link host)) before between after is sent comes =
+    let here = subst (λ (h : HostState S). ComesTo (next h) (Err (Link host)) between after) is comes in
+    (here.0, front_after first.sent (next first.host).sent before between after sent here.1)
+comes_after {S} first next middle (Err Want) before between after is sent comes =
+    front_after first.sent (next first.host).sent before between after sent (subst (λ (h : HostState S). ComesTo (next h) (Err Want) between after) is comes)

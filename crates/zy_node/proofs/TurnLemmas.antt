@@ -7,10 +7,10 @@ use Rattle.zy_edge.specs.Faults.{raised}
 use Rattle.zy_edge.specs.Link.{Mail, Parcel, StaysAsTold}
 use Rattle.zy_node.specs.Rules.{Rules}
 use Rattle.zy_node.specs.Told.{ComesTo, FiresAs, HearsTo, IsHearing, Moves, MovesFront, Sends, SendsFront, TurnsTo}
-use Rattle.zy_node.specs.Turn.{HostState, Begun, Heard, Fired, fires, fires_to, hears, reads}
+use Rattle.zy_node.specs.Turn.{HostState, Begun, Heard, Fired, fires, fires_to, hears, reads, turned}
 use Rattle.zy_node.specs.declared.fault.NodeFault.{NodeFault}
 use Rattle.zy_node.specs.declared.fault.NodeFault.TheVariants.{Link, Want}
-use Rattle.zy_node.proofs.SendLemmas.{Sends-append, comes_after}
+use Rattle.zy_node.proofs.SendLemmas.{Sends-append, comes_after, told}
 
 -- ---- datagrams
 
@@ -18,13 +18,13 @@ pub Moves-append : (heard : Option (List ℕ)) (first second : List Parcel) (bef
 Moves-append heard first second None between after one two = tt
 Moves-append heard first second (Some mail) between after one two =
     let there = subst (λ (m : Option Mail). Sends second m after) one.1 two in
-    (one.0, there ∙ ap (λ sent. Some (record { coming = drop 1 mail.coming; sent = sent })) (append_assoc mail.sent first second))
+    (one.0, there ∙ ap (told (drop 1 mail.coming)) (append_assoc mail.sent first second))
 
 pub MovesFront-append : (heard : Option (List ℕ)) (first second : List Parcel) (before between after : Option Mail) → Moves heard first before between → SendsFront second between after → MovesFront heard (first ++ second) before after
 MovesFront-append heard first second before between after one two = record {
   front = first ++ two.front;
   rest = two.rest;
-  parts = ap (λ all. first ++ all) two.parts ∙ sym (append_assoc first two.front two.rest);
+  parts = ap (λ (all : List Parcel). first ++ all) two.parts ∙ sym (append_assoc first two.front two.rest);
   mail = Moves-append heard first two.front before between after one two.sent;
 }
 
@@ -70,7 +70,7 @@ change_fails R now host first fault before between after one two =
 pub all_fire : {S : Type 0} (R : Rules S) (now : ℕ) (host first second : HostState S) (result : Result (HostState S) (NodeFault (HostState S))) (before between later after : Option Mail)
     → ComesTo (fires R kinds.Request now host) (Ok first) before between → ComesTo (fires R kinds.Change now first) (Ok second) between later → ComesTo (fires R kinds.Answer now second) result later after
     → FiresAs R now host result before after
-all_fire R now host first second result before between later after one two three =
+all_fire {S} R now host first second result before between later after one two three =
     let both = comes_after (fires R kinds.Request now host) (fires R kinds.Change now) first (Ok second) before between later one.0 one.1 two in
     let all = comes_after (fires_to R kinds.Change now host) (fires R kinds.Answer now) second result before later after both.0 both.1 three in
     by result all
@@ -81,12 +81,13 @@ all_fire R now host first second result before between later after one two three
 
 -- ---- the whole turn
 
-pub then_fires : {S : Type 0} (R : Rules S) (host middle : HostState S) (now : ℕ) (result : Result (HostState S) (NodeFault (HostState S))) (received receives : ℕ) (read told : Option (List ℕ)) (before between after : Option Mail)
-    → IsHearing R host middle before between → receives ≡ raised received → IsReading now read told → FiresAs R now (reads R now middle) result between after
-    → TurnsTo R host result (record { mail = before; receives = received; moments = read }) (record { mail = after; receives = receives; moments = told })
-then_fires R host middle now (Ok next) received receives read told before between after hearing raises reading fires =
+pub then_fires : {S : Type 0} (R : Rules S) (host middle : HostState S) (now : ℕ) (result : Result (HostState S) (NodeFault (HostState S))) (received receives : ℕ) (read later : Option (List ℕ)) (before between after : Option Mail)
+    → IsHearing R host middle before between → receives ≡ raised received → IsReading now read later → FiresAs R now (reads R now middle) result between after
+    → TurnsTo R host result (record { mail = before; receives = received; moments = read }) (record { mail = after; receives = receives; moments = later })
+unfolding turned
+then_fires {S} R host middle now (Ok next) received receives read later before between after hearing raises reading fires =
     let heard = hears R hearing.heard host in
-    let comes = subst (λ h. ComesTo (fires_to R kinds.Answer now (reads R now h)) (Ok next) between after) hearing.host fires in
+    let comes = subst (λ (h : HostState S). ComesTo (fires_to R kinds.Answer now (reads R now h)) (Ok next) between after) hearing.host fires in
     record {
       turn = record { heard = hearing.heard; now = now };
       host = comes.0;
@@ -94,9 +95,10 @@ then_fires R host middle now (Ok next) received receives read told before betwee
       receives = raises;
       moments = reading;
     }
-then_fires R host middle now (Err (Link next)) received receives read told before between after hearing raises reading (kind, fires) =
+then_fires {S} R host middle now (Err (Link next)) received receives read later before between after hearing raises reading fired =
+    let kind = fired.0 in
     let heard = hears R hearing.heard host in
-    let comes = subst (λ h. ComesTo (fires_to R kind now (reads R now h)) (Err (Link next)) between after) hearing.host fires in
+    let comes = subst (λ (h : HostState S). ComesTo (fires_to R kind now (reads R now h)) (Err (Link next)) between after) hearing.host fired.1 in
     record {
       cut = record {
         stage = Fired kind;
@@ -107,9 +109,10 @@ then_fires R host middle now (Err (Link next)) received receives read told befor
       };
       host = comes.0;
     }
-then_fires R host middle now (Err Want) received receives read told before between after hearing raises reading (kind, fires) =
+then_fires {S} R host middle now (Err Want) received receives read later before between after hearing raises reading fired =
+    let kind = fired.0 in
     let heard = hears R hearing.heard host in
-    let comes = subst (λ h. ComesTo (fires_to R kind now (reads R now h)) (Err Want) between after) hearing.host fires in
+    let comes = subst (λ (h : HostState S). ComesTo (fires_to R kind now (reads R now h)) (Err Want) between after) hearing.host fired.1 in
     record {
       stage = Fired kind;
       turn = record { heard = hearing.heard; now = now };

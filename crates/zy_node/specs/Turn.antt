@@ -56,7 +56,7 @@ abbrev pub onward : {S : Type 0} → Reached S → (HostState S → Reached S) �
 onward r next = record { host = (next r.host).host; sent = r.sent ++ (next r.host).sent }
 
 -- the core takes a step
-abbrev pub steps : {S : Type 0} → Rules S → Event → HostState S → Reached S
+unfoldable pub steps : {S : Type 0} → Rules S → Event → HostState S → Reached S
 steps R event host = record {
   host = record {
     core = (R.step event host.core).state;
@@ -81,11 +81,11 @@ hears R None host = stays host
 hears R (Some datagram) host = takes R datagram host
 
 -- the clock is read
-abbrev pub reads : {S : Type 0} → Rules S → ℕ → HostState S → HostState S
+unfoldable pub reads : {S : Type 0} → Rules S → ℕ → HostState S → HostState S
 reads R now host = record host { due = begun_at now (R.timers host.core) host.due }
 
 -- a timer whose moment has come fires, and runs again where it is still to run
-abbrev pub fires : {S : Type 0} → Rules S → TimerKind → ℕ → HostState S → Reached S
+unfoldable pub fires : {S : Type 0} → Rules S → TimerKind → ℕ → HostState S → Reached S
 fires R kind now host =
     if is_reached now (moment_of kind host.due)
     then steps R (events.Timer kind) (record host { due = again_at now kind host.due })
@@ -94,7 +94,7 @@ fires R kind now host =
 -- the timers fire up to this one, in their order
 abbrev pub fires_to : {S : Type 0} → Rules S → TimerKind → ℕ → HostState S → Reached S
 fires_to R kinds.Request now host = fires R kinds.Request now host
-fires_to R kinds.Change now host = onward (fires_to R kinds.Request now host) (fires R kinds.Change now)
+fires_to R kinds.Change now host = onward (fires R kinds.Request now host) (fires R kinds.Change now)
 fires_to R kinds.Answer now host = onward (onward (fires R kinds.Request now host) (fires R kinds.Change now)) (fires R kinds.Answer now)
 
 -- ---- a turn
@@ -116,7 +116,7 @@ reached R Heard t host = hears R t.heard host
 reached R (Fired kind) t host = onward (hears R t.heard host) (λ heard. fires_to R kind t.now (reads R t.now heard))
 
 -- the whole turn: the last of the timers is a client's
-abbrev pub turned : {S : Type 0} → Rules S → Turn → HostState S → Reached S
+unfoldable pub turned : {S : Type 0} → Rules S → Turn → HostState S → Reached S
 turned R t host = reached R (Fired kinds.Answer) t host
 
 -- ---- a run

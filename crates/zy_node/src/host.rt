@@ -1,7 +1,8 @@
-ghost use Rattle.std.specs.Prelude.{◌≡◌, ◌<◌, ◌^◌};
-ghost use Rattle.zy_base.specs.declared.step.Event.TheVariants as events;
+ghost use Rattle.std.specs.Prelude.{◌≡◌, ◌<◌, ◌^◌, IfOk};
 ghost use Rattle.zy_edge.specs.Faults.{IsCounted, raised};
-ghost use Rattle.zy_node.specs.Turn.{host_of, steps, takes, reads, fires};
+ghost use Rattle.zy_pieces.specs.Gathering.{added};
+ghost use Rattle.zy_node.specs.Timing.{again_at, is_reached, moment_of};
+ghost use Rattle.zy_node.specs.Turn.{all_parcels, host_of, steps, takes, reads, fires};
 ghost use Rattle.zy_node.specs.Told.{ComesTo, FiresAs, HearsTo, RunsTo, TurnsTo, is_link_fault};
 
 use crate::due::{Due, is_reached};
@@ -10,7 +11,7 @@ use crate::sending::send_all;
 use crate::{Core, Moved};
 use std::alloc::Global;
 use std::marker::Model;
-use zy_base::{Event, TimerKind};
+use zy_base::{Bytes, Event, Outgoing, Party, TimerKind, Want};
 use zy_edge::{Clock, Heard, Link};
 use zy_pieces::{Gather, Gathered, MAX_DATAGRAM};
 
@@ -93,12 +94,18 @@ impl<C: Core> Host<C> {
     {
         let mut host = self;
         for _ in 0..turns {
-            if host.core.is_done() {
+            if host.is_done() {
                 return Ok(host);
             }
             host = host.turn(link, clock)?;
         }
         Ok(host)
+    }
+
+    fn is_done(&self) -> bool
+        ensures { result ≡ C.rules.is_done self.now.core }
+    {
+        self.core.is_done()
     }
 
     // A datagram, and what it makes.
@@ -120,11 +127,18 @@ impl<C: Core> Host<C> {
         ensures receives { L.receives link.new ≡ L.receives link.old }
         ensures count { IsCounted (is_link_fault result) (L.faults link.old) (L.faults link.new) }
     {
-        match self.gather.add(datagram)? {
+        match self.gather(datagram)? {
             Gathered::Whole(frame) => self.step(Event::Heard(frame), link),
             Gathered::Part => Ok(self),
             Gathered::Refused(_) => Ok(self),
         }
+    }
+
+    fn gather(&mut self, datagram: &[u8]) -> Result<Gathered, Want>
+        ensures answer { IfOk result (λ answer. answer ≡ (added self.old.frames datagram.now).answer) }
+        ensures host { IfOk result (λ _. self.new ≡ record self.old { frames = (added self.old.frames datagram.now).frames }) }
+    {
+        self.gather.add(datagram)
     }
 
     // A step, and its sendings.
@@ -132,6 +146,14 @@ impl<C: Core> Host<C> {
         ensures comes { ComesTo (steps C.rules event self) result (L.mail link.old) (L.mail link.new) }
         ensures receives { L.receives link.new ≡ L.receives link.old }
         ensures count { IsCounted (is_link_fault result) (L.faults link.old) (L.faults link.new) }
+    {
+        let (host, out) = self.handle(event)?;
+        host.send(out.as_slice(), link)
+    }
+
+    // The core after an event, and the frames to send. Timers that are no longer to run have no moment.
+    fn handle(self, event: Event) -> Result<(Host<C>, Outgoing), Want>
+        ensures { IfOk result (λ r. steps C.rules event self ≡ record { host = r.0; sent = all_parcels r.1 }) }
     {
         let Host {
             alloc,
@@ -147,14 +169,27 @@ impl<C: Core> Host<C> {
             gather,
             due,
         };
-        match send_all(alloc, link, out.as_slice()) {
-            Ok(()) => Ok(host),
-            Err(SendFault::Link) => Err(NodeFault::Link(host)),
+        Ok((host, out))
+    }
+
+    fn send<L: Link>(
+        self,
+        out: &[(Party, Bytes)],
+        link: &mut L,
+    ) -> Result<Host<C>, NodeFault<Host<C>>>
+        ensures comes { ComesTo (record { host = self; sent = all_parcels out.now }) result (L.mail link.old) (L.mail link.new) }
+        ensures receives { L.receives link.new ≡ L.receives link.old }
+        ensures count { IsCounted (is_link_fault result) (L.faults link.old) (L.faults link.new) }
+    {
+        match send_all(self.alloc, link, out) {
+            Ok(()) => Ok(self),
+            Err(SendFault::Link) => Err(NodeFault::Link(self)),
             Err(SendFault::Want) => Err(NodeFault::Want),
         }
     }
 
     // The clock was read.
+    #[tactic(auto, unfolding(crate::specs::Turn::reads))]
     fn read(mut self, now: u64) -> Host<C>
         requires { now < 2 ^ 62 }
         ensures { result ≡ reads C.rules now self }
@@ -177,7 +212,7 @@ impl<C: Core> Host<C> {
 
     // A timer, where its moment has come.
     fn fire<L: Link>(
-        mut self,
+        self,
         kind: TimerKind,
         now: u64,
         link: &mut L,
@@ -187,10 +222,24 @@ impl<C: Core> Host<C> {
         ensures receives { L.receives link.new ≡ L.receives link.old }
         ensures count { IsCounted (is_link_fault result) (L.faults link.old) (L.faults link.new) }
     {
-        if !is_reached(now, self.due.moment(kind)) {
-            return Ok(self);
+        if self.is_due(kind, now) {
+            self.run_again(kind, now).step(Event::Timer(kind), link)
+        } else {
+            Ok(self)
         }
+    }
+
+    fn is_due(&self, kind: TimerKind, now: u64) -> bool
+        ensures { result ≡ is_reached now (moment_of kind self.now.due) }
+    {
+        is_reached(now, self.due.moment(kind))
+    }
+
+    fn run_again(mut self, kind: TimerKind, now: u64) -> Host<C>
+        requires { now < 2 ^ 62 }
+        ensures { result ≡ record self { due = again_at now kind self.due } }
+    {
         self.due = self.due.again_at(now, kind);
-        self.step(Event::Timer(kind), link)
+        self
     }
 }
