@@ -10,10 +10,7 @@ use Rattle.zy_node.specs.Told.{AreHeard, AreNeeded, AreReadings, IsRun, IsTurn, 
 use Rattle.zy_node.specs.Turn.{HostState, Reached, Turn, onward, run, stays, turned}
 use Rattle.zy_node.specs.declared.fault.NodeFault.{NodeFault}
 use Rattle.zy_node.specs.declared.fault.NodeFault.TheVariants.{Link, Want}
-use Rattle.zy_node.proofs.SendLemmas.{told}
-
-abbrev reached_with : {S : Type 0} → HostState S → List Parcel → Reached S
-reached_with host sent = record { host = host; sent = sent }
+use Rattle.zy_node.proofs.SendLemmas.{reached_with, told}
 
 -- ---- the definition
 
@@ -100,8 +97,8 @@ one_turn_more {S} R many first middle last from between to run_so_far unfinished
       moments = subst (λ (moments : List ℕ). AreReadings moments from.moments to.moments) (sym (map-append (λ (s : Turn). s.now) turns (t ∷ []))) (AreReadings-last (map (λ (s : Turn). s.now) turns) t.now from.moments between.moments to.moments run_so_far.moments next.moments);
     }
 
-pub all_taken : {S : Type 0} (R : Rules S) (most : ℕ) (first last : HostState S) (from to : Outside) → IsRun R most first last from to → RunsTo R most first (Ok last) from to
-all_taken R most first last from to taken = record { many = most; in_reach = omega arith; run = taken; ended = inr refl }
+pub all_taken : {S : Type 0} (R : Rules S) (many most : ℕ) (first last : HostState S) (from to : Outside) → many ≡ most → IsRun R many first last from to → RunsTo R most first (Ok last) from to
+all_taken R many most first last from to all taken = record { many = many; in_reach = omega arith; run = taken; ended = inr all }
 
 pub done_early : {S : Type 0} (R : Rules S) (many most : ℕ) (first last : HostState S) (from to : Outside) → many ≤ most → IsRun R many first last from to → R.is_done last.core ≡ true → RunsTo R most first (Ok last) from to
 done_early R many most first last from to in_reach taken done = record { many = many; in_reach = in_reach; run = taken; ended = inl done }

@@ -14,6 +14,9 @@ use Rattle.zy_node.specs.declared.fault.NodeFault.TheVariants.{Link, Want}
 abbrev pub told : List (List ℕ) → List Parcel → Option Mail
 told coming sent = Some (record { coming = coming; sent = sent })
 
+abbrev pub reached_with : {S : Type 0} → HostState S → List Parcel → Reached S
+reached_with host sent = record { host = host; sent = sent }
+
 -- ---- one after another
 
 pub Sends-nil : (mail : Option Mail) → Sends [] mail mail

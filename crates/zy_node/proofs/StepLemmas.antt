@@ -16,7 +16,7 @@ use Rattle.zy_node.specs.Told.{ComesTo}
 use Rattle.zy_node.specs.Turn.{HostState, Reached, all_parcels, fires, gathers, stays, steps, takes}
 use Rattle.zy_node.specs.declared.due.Due.{Due}
 use Rattle.zy_node.specs.declared.fault.NodeFault.{NodeFault}
-use Rattle.zy_node.proofs.SendLemmas.{Sends-nil}
+use Rattle.zy_node.proofs.SendLemmas.{Sends-nil, reached_with}
 
 abbrev pub host_with : {S : Type 0} → List Gathering → S → Due → HostState S
 host_with frames core due = record { core = core; frames = frames; due = due }
@@ -25,15 +25,13 @@ host_with frames core due = record { core = core; frames = frames; due = due }
 
 pub stepped : {S : Type 0} (R : Rules S) (event : Event) (before : HostState S) (state : S) (due : Due) (out : List (Party × List ℕ))
     → state ≡ (R.step event before.core).state → due ≡ kept_for (R.timers state) before.due → out ≡ (R.step event before.core).sent
-    → steps R event before ≡ record { host = host_with before.frames state due; sent = all_parcels out }
+    → steps R event before ≡ reached_with (host_with before.frames state due) (all_parcels out)
 unfolding steps
-stepped R event before state due out state_is due_is out_is = sym (both state due out state_is due_is out_is)
+stepped {S} R event before state due out state_is due_is out_is = sym (both state due out state_is due_is out_is)
   where
-    both : (s : _) (d : Due) (o : List (Party × List ℕ)) → s ≡ (R.step event before.core).state → d ≡ kept_for (R.timers s) before.due → o ≡ (R.step event before.core).sent
-        → record { host = host_with before.frames s d; sent = all_parcels o } ≡ record {
-          host = host_with before.frames (R.step event before.core).state (kept_for (R.timers (R.step event before.core).state) before.due);
-          sent = all_parcels (R.step event before.core).sent;
-        }
+    both : (s : S) (d : Due) (o : List (Party × List ℕ)) → s ≡ (R.step event before.core).state → d ≡ kept_for (R.timers s) before.due → o ≡ (R.step event before.core).sent
+        → reached_with (host_with before.frames s d) (all_parcels o)
+        ≡ reached_with (host_with before.frames (R.step event before.core).state (kept_for (R.timers (R.step event before.core).state) before.due)) (all_parcels (R.step event before.core).sent)
     both s d o p q r = cc
 
 -- ---- a frame that has become whole
