@@ -1,5 +1,5 @@
 -- A run grows by one turn at its end.
-use Rattle.std.proofs.Common.{◌≡◌, ℕ, ◌+◌, ◌-◌, ◌^◌, ◌<◌, ◌≤◌, inl, inr, Bool, true, false, List, [], ◌∷◌, ◌++◌, length, map, drop, Option, Some, None, Result, Ok, Err, refl, sym, ap, subst, ◌∙◌, append_assoc, length-append, arith}
+use Rattle.std.proofs.Common.{◌≡◌, ℕ, ◌+◌, ◌-◌, ◌^◌, ◌<◌, ◌≤◌, inl, inr, true, false, List, [], ◌∷◌, ◌++◌, length, map, drop, Option, Some, None, Result, Ok, Err, refl, sym, ap, subst, ◌∙◌, append_assoc, length-append, arith}
 use Rattle.std.proofs.lemmas.Bool.{cases_lt}
 use Rattle.std.proofs.lemmas.List.{append-nil, drop-drop, map-append}
 use Rattle.zy_edge.specs.Clock.{IsReading}
@@ -7,7 +7,7 @@ use Rattle.zy_edge.specs.Faults.{raised}
 use Rattle.zy_edge.specs.Link.{Mail, Parcel}
 use Rattle.zy_node.specs.Rules.{Rules}
 use Rattle.zy_node.specs.Told.{AreHeard, AreNeeded, AreReadings, IsRun, IsTurn, Moves, MovesAll, Outside, RoseBy, RunsTo, ServesTo, TurnsTo, next_of}
-use Rattle.zy_node.specs.Turn.{HostState, Reached, Turn, onward, run, stays, turned}
+use Rattle.zy_node.specs.Turn.{HostState, Reached, Turn, onward, run, turned}
 use Rattle.zy_node.specs.declared.fault.NodeFault.{NodeFault}
 use Rattle.zy_node.specs.declared.fault.NodeFault.TheVariants.{Link, Want}
 use Rattle.zy_node.proofs.SendLemmas.{reached_with, told}

@@ -1,6 +1,5 @@
 -- What a turn hears, then the timers that fire: together a turn, or the front of one.
 use Rattle.std.proofs.Common.{◌≡◌, ℕ, List, [], ◌++◌, drop, Option, Some, None, Result, Ok, Err, refl, sym, ap, subst, ◌∙◌, append_assoc}
-use Rattle.zy_base.specs.declared.step.TimerKind.{TimerKind}
 use Rattle.zy_base.specs.declared.step.TimerKind.TheVariants as kinds
 use Rattle.zy_edge.specs.Clock.{IsReading}
 use Rattle.zy_edge.specs.Faults.{raised}
@@ -10,7 +9,7 @@ use Rattle.zy_node.specs.Told.{ComesTo, FiresAs, HearsTo, IsHearing, Moves, Move
 use Rattle.zy_node.specs.Turn.{HostState, Begun, Heard, Fired, fires, fires_to, hears, reads, turned}
 use Rattle.zy_node.specs.declared.fault.NodeFault.{NodeFault}
 use Rattle.zy_node.specs.declared.fault.NodeFault.TheVariants.{Link, Want}
-use Rattle.zy_node.proofs.SendLemmas.{Sends-append, comes_after, told}
+use Rattle.zy_node.proofs.SendLemmas.{comes_after, told}
 
 -- ---- datagrams
 

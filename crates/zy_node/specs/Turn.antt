@@ -1,5 +1,5 @@
 -- What a turn makes of a node, and what a run of turns does.
-use Rattle.std.specs.Prelude.{ℕ, nat_le, Bool, false, if◌then◌else◌, List, [], ◌∷◌, ◌++◌, length, map, Option, Some, None}
+use Rattle.std.specs.Prelude.{ℕ, nat_le, if◌then◌else◌, List, [], ◌∷◌, ◌++◌, length, map, Option, Some, None}
 use Rattle.std.specs.List.{flat_map}
 use Rattle.zy_base.specs.declared.ids.Party.{Party}
 use Rattle.zy_base.specs.declared.step.Event.{Event}
@@ -12,7 +12,7 @@ use Rattle.zy_pieces.specs.Pieces.{cut_of}
 use Rattle.zy_pieces.specs.declared.gather.Gathered.{Gathered}
 use Rattle.zy_pieces.specs.declared.gather.Gathered.TheVariants.{Whole, Part, Refused}
 use Rattle.zy_node.specs.declared.due.Due.{Due}
-use Rattle.zy_node.specs.Rules.{Deed, Rules}
+use Rattle.zy_node.specs.Rules.{Rules}
 use Rattle.zy_node.specs.Timing.{moment_of, no_moments, kept_for, begun_at, is_reached, again_at}
 
 -- the core, the frames of which some pieces have come, and when the timers run out

@@ -1,4 +1,4 @@
-use Rattle.std.proofs.Common.{◌≡◌, ℕ, List, refl, subst, ◌∙◌, arith}
+use Rattle.std.proofs.Common.{ℕ, List, refl, subst, ◌∙◌, arith}
 use Rattle.std.proofs.lemmas.List.{take_all}
 use Rattle.zy_base.specs.declared.ids.Party.{Party}
 use Rattle.zy_node.specs.Told.{Sends, SendsFront}

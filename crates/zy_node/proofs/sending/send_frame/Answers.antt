@@ -1,4 +1,4 @@
-use Rattle.std.proofs.Common.{◌≡◌, ℕ, List, OnOk, OnErr, subst, ◌∙◌}
+use Rattle.std.proofs.Common.{ℕ, List, OnOk, OnErr, subst, ◌∙◌}
 use Rattle.zy_node.specs.Told.{Sends, SendsFront}
 use Rattle.zy_node.specs.Turn.{parcels_of, parcels_to}
 use Rattle.zy_node.proofs.SendLemmas.{nothing_sent, on_err}

@@ -1,7 +1,7 @@
 use Rattle.std.proofs.Common.{◌≡◌, ◌∙◌, ap, subst}
 use Rattle.zy_base.specs.declared.step.Timers.{Timers}
 use Rattle.zy_node.specs.Timing.{kept_for}
-use Rattle.zy_node.specs.Turn.{HostState, all_parcels, steps}
+use Rattle.zy_node.specs.Turn.{all_parcels, steps}
 use Rattle.zy_node.proofs.SendLemmas.{reached_with}
 use Rattle.zy_node.proofs.StepLemmas.{host_with, stepped}
 use Rattle.zy_node.proofs.host.Host.handle.Goals as goal
