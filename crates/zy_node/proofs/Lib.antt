@@ -4,3 +4,4 @@ pub mod RunLemmas
 pub mod PieceLemmas
 pub mod HearLemmas
 pub mod StepLemmas
+pub mod AskLemmas

@@ -1,5 +1,7 @@
 ghost use Rattle.std.specs.Prelude.{◌≡◌};
 ghost use Rattle.zy_node.specs.declared.fault.NodeFault.TheVariants as node_faults;
+ghost use Rattle.zy_node.specs.AskFaults.{ask_fault_of};
+ghost use Rattle.zy_node.specs.declared.fault.AskFault.TheVariants as ask_faults;
 ghost use Rattle.zy_node.specs.declared.fault.SendFault.TheVariants as send_faults;
 
 use zy_base::Want;
@@ -33,5 +35,32 @@ impl From<Want> for SendFault {
 
     fn from(_: Want) -> SendFault {
         SendFault::Want
+    }
+}
+
+/// Why an ask ends without an answer. Its client is gone.
+#[derive(Clone, Copy, Debug, PartialEq, Eq)]
+pub enum AskFault {
+    /// A call of the link failed.
+    Link,
+    Want,
+}
+
+impl From<Want> for AskFault {
+    ghost from_gives = { λ _ fault. fault ≡ ask_faults.Want };
+
+    fn from(_: Want) -> AskFault {
+        AskFault::Want
+    }
+}
+
+impl From<SendFault> for AskFault {
+    ghost from_gives = { λ fault ask. ask ≡ ask_fault_of fault };
+
+    fn from(fault: SendFault) -> AskFault {
+        match fault {
+            SendFault::Link => AskFault::Link,
+            SendFault::Want => AskFault::Want,
+        }
     }
 }

@@ -2,16 +2,22 @@
 //! out by any clock.
 #![tactic(auto)]
 
+mod asker;
+mod asking;
 mod cores;
 mod due;
 mod fault;
 mod host;
+mod node;
 mod sending;
 
+pub use asker::{Asked, Asker, Begun};
+pub use asking::ask_over;
 pub use cores::{Core, Moved};
 pub use due::Due;
-pub use fault::NodeFault;
+pub use fault::{AskFault, NodeFault};
 pub use host::Host;
+pub use node::Node;
 
 #[cfg(test)]
 mod tests;

@@ -2,6 +2,8 @@ ghost use Rattle.std.specs.Prelude.{◌≡◌, [], ◌∷◌, IfOk, IsTrue};
 ghost use Rattle.zy_base.specs.declared.ids.Party.TheVariants as parties;
 ghost use Rattle.zy_edge.specs.Clock.{are_moments};
 
+mod cluster;
+
 use crate::{Core, Host, Moved, NodeFault};
 use std::alloc::Global;
 use std::test::Fail;
