@@ -1,4 +1,4 @@
--- The beginning of an ask, its turns, and both together.
+-- An ask that is refused, and one whose turns have ended.
 use Rattle.std.proofs.Common.{◌≡◌, ◌⊎◌, ℕ, ◌≤◌, inl, inr, nat_le, Bool, true, false, List, Option, Some, None, Result, Ok, Err, refl, sym, ap, subst, ◌∙◌, arith}
 use Rattle.std.specs.Prelude.{if◌then◌else◌}
 use Rattle.zy_base.specs.declared.cause.Cause.{Cause}
@@ -23,7 +23,7 @@ use Rattle.zy_node.specs.declared.fault.NodeFault.{NodeFault}
 use Rattle.zy_node.specs.declared.fault.NodeFault.TheVariants.{Link, Want}
 use Rattle.zy_node.proofs.SendLemmas.{nothing_sent}
 
--- ---- the beginning
+-- ---- a refusal
 
 refused_asking : (s : ClientState) (op : List ℕ) (cause : Cause) → refusal s op ≡ Some cause → (ask s op).state ≡ s
 unfolding ask
@@ -43,32 +43,7 @@ begin_refused s op answer cause client mail answered left is =
     let why : refusal s op ≡ Some cause = ap refusal_of (sym answered ∙ is) in
     (why, left ∙ refused_asking s op cause why, refl)
 
-pub begin_waiting : (s : ClientState) (op : List ℕ) (answer : Answer) (client : ClientState) (out : List (Party × List ℕ)) (before after : Option Mail)
-    → answer ≡ (ask s op).answer → refusal_of answer ≡ None → client ≡ (ask s op).state → out ≡ client_outgoing (ask s op).state.counts.n (ask s op).sent → Sends (all_parcels out) before after
-    → BeginsAs s op (Ok (begun.Waiting (host_of client))) before after
-begin_waiting s op answer client out before after answered taken left same sent =
-    (ap refusal_of (sym answered) ∙ taken, ap host_of left, subst (λ (o : List (Party × List ℕ)). Sends (all_parcels o) before after) same sent)
-
-pub begin_front : (s : ClientState) (op : List ℕ) (fault : AskFault) (out : List (Party × List ℕ)) (before after : Option Mail)
-    → out ≡ client_outgoing (ask s op).state.counts.n (ask s op).sent → SendsFront (all_parcels out) before after → BeginsAs s op (Err fault) before after
-begin_front s op fault out before after same sent = subst (λ (o : List (Party × List ℕ)). SendsFront (all_parcels o) before after) same sent
-
--- ---- its turns
-
-pub asker_turns : (before : HostState ClientState) (result : Result (HostState ClientState) (NodeFault (HostState ClientState))) (from to : Outside) → TurnsTo client_rules before result from to → AskerTurnsTo before (ask_result result) from to
-asker_turns before (Ok after) from to turns = turns
-asker_turns before (Err (Link after)) from to turns = turns.cut
-asker_turns before (Err Want) from to turns = turns
-
-pub same_count : {N : Type 0} (result : Result N (NodeFault N)) → is_ask_fault (ask_result result) ≡ is_link_fault result
-same_count (Ok node) = refl
-same_count (Err (Link node)) = refl
-same_count (Err Want) = refl
-
-pub asker_runs : (most : ℕ) (before : HostState ClientState) (result : Result (HostState ClientState) (NodeFault (HostState ClientState))) (from to : Outside) → RunsTo client_rules most before result from to → AskerRunsTo most before (ask_result result) from to
-asker_runs most before (Ok after) from to runs = runs
-asker_runs most before (Err (Link after)) from to runs = runs.run
-asker_runs most before (Err Want) from to runs = runs
+-- ---- the end
 
 pub waits_done : (before : HostState ClientState) (most : ℕ) (host : HostState ClientState) (client : ClientState) (from to : Outside)
     → IsWholeRun client_rules most before host from to → client ≡ host.core → is_complete client ≡ true → WaitsAs before most (Ok (asked.Done client)) from to
@@ -81,41 +56,3 @@ waits_spent before most host client from to ran last unfinished = (record { host
     all : (is_complete host.core ≡ true) ⊎ (ran.many ≡ most) → IsRun client_rules most before host from to
     all (inl done) = (let other : is_complete host.core ≡ false = ap is_complete (sym last) ∙ unfinished in absurd cc)
     all (inr taken) = subst (λ (n : ℕ). IsRun client_rules n before host from to) taken ran.run
-
--- ---- the whole
-
-abbrev outside : Option Mail → Option (List ℕ) → ℕ → Outside
-outside mail moments receives = record { mail = mail; receives = receives; moments = moments }
-
-pub asking_cut : (s : ClientState) (op : List ℕ) (most : ℕ) (fault : AskFault) (before after : Option Mail) (received receives : ℕ) (moments : Option (List ℕ))
-    → BeginsAs s op (Err fault) before after → receives ≡ received
-    → AsksAs s op most (Err fault) (record { mail = before; receives = received; moments = moments }) (record { mail = after; receives = receives; moments = moments })
-asking_cut s op most fault before after received receives moments begins same =
-    inl (record { mail = after; request = begins; nothing_else = ap (outside after moments) same })
-
-pub asking_refused : (s : ClientState) (op : List ℕ) (most : ℕ) (client : ClientState) (cause : Cause) (before after : Option Mail) (received receives : ℕ) (moments : Option (List ℕ))
-    → BeginsAs s op (Ok (begun.Refused client cause)) before after → receives ≡ received
-    → AsksAs s op most (Ok (asked.Refused client cause)) (record { mail = before; receives = received; moments = moments }) (record { mail = after; receives = receives; moments = moments })
-asking_refused s op most client cause before after received receives moments begins same = (begins.0, begins.1, all begins.2 same)
-  where
-    all : after ≡ before → receives ≡ received → outside after moments receives ≡ outside before moments received
-    all mails counts = cc
-
-pub asks_and_waits : (s : ClientState) (op : List ℕ) (most : ℕ) (asker : HostState ClientState) (result : Result Asked AskFault) (before between : Option Mail) (received receives : ℕ) (moments : Option (List ℕ)) (to : Outside)
-    → BeginsAs s op (Ok (begun.Waiting asker)) before between → receives ≡ received → WaitsAs asker most result (record { mail = between; receives = receives; moments = moments }) to
-    → AsksAs s op most result (record { mail = before; receives = received; moments = moments }) to
-asks_and_waits s op most asker result before between received receives moments to begins same waits = by result here
-  where
-    from : Outside
-    from = record { mail = before; receives = received; moments = moments }
-
-    here : WaitsAs (asking_host s op) most result (once_sent from between) to
-    here =
-        subst (λ (h : HostState ClientState). WaitsAs h most result (once_sent from between) to) begins.1
-        (subst (λ (n : ℕ). WaitsAs asker most result (outside between moments n) to) same waits)
-
-    by : (r : Result Asked AskFault) → WaitsAs (asking_host s op) most r (once_sent from between) to → AsksAs s op most r from to
-    by (Ok (asked.Done last)) w = (begins.0, record { mail = between; request = begins.2; waits = w })
-    by (Ok (asked.Spent last)) w = (begins.0, record { mail = between; request = begins.2; waits = w })
-    by (Ok (asked.Refused client cause)) w = absurd w
-    by (Err fault) w = inr (record { mail = between; request = begins.2; waits = w })

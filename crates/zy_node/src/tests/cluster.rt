@@ -19,7 +19,8 @@ use zy_space::Space;
 const CLIENT: Party = Party::Client(ClientId(0));
 
 // `cas ("lock" *) ("lock" 1)`, and the reply `true`.
-const OPERATION: [u8; 25] = *b"\x04\x02\x02\x04lock\x00\x02\x02\x04lock\x01\x00\x00\x00\x00\x00\x00\x00\x01";
+const OPERATION: [u8; 25] =
+    *b"\x04\x02\x02\x04lock\x00\x02\x02\x04lock\x01\x00\x00\x00\x00\x00\x00\x00\x01";
 
 fn key(alloc: Global, party: Party, next: u32) -> Result<LmsKey, Want>
     requires { next ≤ 32 }
@@ -51,7 +52,14 @@ fn client(alloc: Global, next: u32) -> Result<Client, Fail>
 {
     let counts = Counts::plain(1).ok_or("one may lie")?;
     let sealer = Sealer::new(alloc, CLIENT, key(alloc, CLIENT, next)?);
-    Ok(Client::start(alloc, counts, ClientId(0), sealer, directory(alloc)?, Stamp(0))?)
+    Ok(Client::start(
+        alloc,
+        counts,
+        ClientId(0),
+        sealer,
+        directory(alloc)?,
+        Stamp(0),
+    )?)
 }
 
 fn node(alloc: Global, id: u8) -> Result<Node<Space>, Fail> {
@@ -60,7 +68,11 @@ fn node(alloc: Global, id: u8) -> Result<Node<Space>, Fail> {
         return Err(Fail::from("four replicas"));
     }
     let me = ReplicaId(id);
-    let sealer = Sealer::new(alloc, Party::Replica(me), key(alloc, Party::Replica(me), 0)?);
+    let sealer = Sealer::new(
+        alloc,
+        Party::Replica(me),
+        key(alloc, Party::Replica(me), 0)?,
+    );
     let replica = Replica::start(alloc, counts, me, 8, sealer, directory(alloc)?)?;
     Ok(Node::new(alloc, replica))
 }
@@ -71,9 +83,7 @@ fn operation(alloc: Global) -> Result<Bytes, Want>
     Bytes::from_slice(alloc, &OPERATION)
 }
 
-fn turned(
-    result: Result<Node<Space>, NodeFault<Node<Space>>>,
-) -> Result<Node<Space>, Fail> {
+fn turned(result: Result<Node<Space>, NodeFault<Node<Space>>>) -> Result<Node<Space>, Fail> {
     match result {
         Ok(node) => Ok(node),
         Err(NodeFault::Link(_)) => Err(Fail::from("the link of a node")),
@@ -89,10 +99,22 @@ fn four_nodes_answer_a_client(rt: HostRuntime) -> Result<(), Fail> {
     let (mut link0, mut link1) = (UdpLink::new(&rt), UdpLink::new(&rt));
     let (mut link2, mut link3) = (UdpLink::new(&rt), UdpLink::new(&rt));
     let mut own = UdpLink::new(&rt);
-    assert_eq!(rt; link0.bind(port, Party::Replica(ReplicaId(0))), Bound::Bound);
-    assert_eq!(rt; link1.bind(port, Party::Replica(ReplicaId(1))), Bound::Bound);
-    assert_eq!(rt; link2.bind(port, Party::Replica(ReplicaId(2))), Bound::Bound);
-    assert_eq!(rt; link3.bind(port, Party::Replica(ReplicaId(3))), Bound::Bound);
+    assert_eq!(rt;
+        link0.bind(port, Party::Replica(ReplicaId(0))),
+        Bound::Bound
+    );
+    assert_eq!(rt;
+        link1.bind(port, Party::Replica(ReplicaId(1))),
+        Bound::Bound
+    );
+    assert_eq!(rt;
+        link2.bind(port, Party::Replica(ReplicaId(2))),
+        Bound::Bound
+    );
+    assert_eq!(rt;
+        link3.bind(port, Party::Replica(ReplicaId(3))),
+        Bound::Bound
+    );
     assert_eq!(rt; own.bind(port, CLIENT), Bound::Bound);
     let (mut node0, mut node1) = (node(alloc, 0)?, node(alloc, 1)?);
     let (mut node2, mut node3) = (node(alloc, 2)?, node(alloc, 3)?);
@@ -139,7 +161,14 @@ fn asks_without_an_answer(rt: HostRuntime) -> Result<(), Fail> {
         let mut link = MemLink::new(alloc, Vec::new(alloc), failing, 8)?;
         let mut clock = MemClock::new(alloc, Vec::from_slice(alloc, &[0])?);
         let op = operation(alloc)?;
-        let asked = ask_over(alloc, client(alloc, next)?, op, &mut link, &mut clock, turns);
+        let asked = ask_over(
+            alloc,
+            client(alloc, next)?,
+            op,
+            &mut link,
+            &mut clock,
+            turns,
+        );
         let (end, client) = match asked {
             Ok(Asked::Done(client)) => ("done", Some(client)),
             Ok(Asked::Spent(client)) => ("spent", Some(client)),
@@ -162,7 +191,13 @@ fn asks_without_an_answer(rt: HostRuntime) -> Result<(), Fail> {
 #[test]
 fn a_node_alone(rt: HostRuntime) -> Result<(), Fail> {
     let alloc = rt.alloc();
-    for (failing, turns, ends) in [(0, 0, true), (1, 0, true), (0, 3, true), (1, 1, false), (2, 1, true)] {
+    for (failing, turns, ends) in [
+        (0, 0, true),
+        (1, 0, true),
+        (0, 3, true),
+        (1, 1, false),
+        (2, 1, true),
+    ] {
         let failing = Vec::from_slice(alloc, &[failing])?;
         let mut link = MemLink::new(alloc, Vec::new(alloc), failing, 8)?;
         let mut clock = MemClock::new(alloc, Vec::from_slice(alloc, &[0])?);

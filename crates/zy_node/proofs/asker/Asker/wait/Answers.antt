@@ -1,17 +1,6 @@
-use Rattle.std.proofs.Common.{◌≡◌, ◌∙◌, sym}
-use Rattle.std.proofs.lemmas.Result.{err_from_is_err_and}
+use Rattle.std.proofs.Common.{◌∙◌, sym}
 use Rattle.zy_node.proofs.AskLemmas.{waits_done, waits_spent}
-use Rattle.zy_node.proofs.asking.Asker.wait.Goals as goal
-
-pub returns-in_err-asker-clause-waits : goal.returns-in_err-asker-clause-waits
-returns-in_err-asker-clause-waits g c =
-    let p = err_from_is_err_and c.from_residual.result c.from_residual.ensures.1 in
-    rw (p.1, p.2) c.in_err-asker.ensures.run
-
-pub returns-in_err-asker-clause-count : goal.returns-in_err-asker-clause-count
-returns-in_err-asker-clause-count g c =
-    let p = err_from_is_err_and c.from_residual.result c.from_residual.ensures.1 in
-    rw (p.1, p.2) c.in_err-asker.ensures.count
+use Rattle.zy_node.proofs.asker.Asker.wait.Goals as goal
 
 pub returns-then-is_done-clause-waits : goal.returns-then-is_done-clause-waits
 returns-then-is_done-clause-waits g c =
