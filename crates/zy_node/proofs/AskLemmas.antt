@@ -1,27 +1,21 @@
 -- An ask that is refused, and one whose turns have ended.
-use Rattle.std.proofs.Common.{◌≡◌, ◌⊎◌, ℕ, ◌≤◌, inl, inr, nat_le, Bool, true, false, List, Option, Some, None, Result, Ok, Err, refl, sym, ap, subst, ◌∙◌, arith}
+use Rattle.std.proofs.Common.{◌≡◌, ◌⊎◌, ℕ, inl, inr, nat_le, Bool, true, false, List, Option, Some, None, Ok, refl, sym, ap, subst, ◌∙◌}
 use Rattle.std.specs.Prelude.{if◌then◌else◌}
 use Rattle.zy_base.specs.declared.cause.Cause.{Cause}
 use Rattle.zy_base.specs.declared.cause.Cause.TheVariants as causes
-use Rattle.zy_base.specs.declared.ids.Party.{Party}
 use Rattle.zy_base.specs.declared.step.Answer.{Answer}
 use Rattle.zy_base.specs.declared.step.Answer.TheVariants as answers
 use Rattle.zy_edge.specs.Link.{Mail}
 use Rattle.zy_parts.specs.declared.signed.Signed.{Signed}
 use Rattle.zy_parts.specs.declared.statements.Ask.{Ask}
 use Rattle.zy_table.specs.ClientRows.{ask, ask_while, asked as asked_row, next_ask}
-use Rattle.zy_table.specs.ClientState.{ClientState, ClientOutcome, client_outgoing, leaves_of, refused}
-use Rattle.zy_node.specs.Asking.{AskerRunsTo, AskerTurnsTo, AsksAs, BeginsAs, IsWaiting, WaitsAs, ask_result, asking_host, is_ask_fault, once_sent, refusal, refusal_of}
+use Rattle.zy_table.specs.ClientState.{ClientState, leaves_of, refused}
+use Rattle.zy_node.specs.Asking.{BeginsAs, WaitsAs, refusal, refusal_of}
 use Rattle.zy_node.specs.Clients.{client_rules, is_complete}
-use Rattle.zy_node.specs.Told.{IsCutRun, IsRun, IsWholeRun, Outside, RunsTo, Sends, SendsFront, TurnsTo, is_link_fault}
-use Rattle.zy_node.specs.Turn.{HostState, all_parcels, host_of}
-use Rattle.zy_node.specs.declared.fault.AskFault.{AskFault}
-use Rattle.zy_node.specs.declared.asker.Asked.{Asked}
+use Rattle.zy_node.specs.Told.{IsRun, IsWholeRun, Outside}
+use Rattle.zy_node.specs.Turn.{HostState}
 use Rattle.zy_node.specs.declared.asker.Asked.TheVariants as asked
 use Rattle.zy_node.specs.declared.asker.Begun.TheVariants as begun
-use Rattle.zy_node.specs.declared.fault.NodeFault.{NodeFault}
-use Rattle.zy_node.specs.declared.fault.NodeFault.TheVariants.{Link, Want}
-use Rattle.zy_node.proofs.SendLemmas.{nothing_sent}
 
 -- ---- a refusal
 
