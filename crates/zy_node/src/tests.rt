@@ -91,7 +91,7 @@ impl Core for Probe {
     }
 }
 
-fn probe(alloc: Global, request: bool, change: bool, answer: bool) -> Probe {
+fn make_probe(alloc: Global, request: bool, change: bool, answer: bool) -> Probe {
     Probe {
         alloc,
         request,
@@ -131,20 +131,20 @@ fn timers_fire(rt: HostRuntime) -> Result<(), Fail> {
     let alloc = rt.alloc();
     // A timer begins with the first reading, and fires when its period is over, and again a period later.
     let moments = Vec::from_slice(alloc, &[0, 399, 400, 799, 800])?;
-    let log = log_of(alloc, probe(alloc, false, false, true), moments)?;
-    assert_eq!(rt; log.as_slice(), b"..\x03..\x03.");
+    let log = log_of(alloc, make_probe(alloc, false, false, true), moments)?;
+    assert_eq!(rt; log.as_slice(), b"..\x03..\x03.".as_slice());
     // Late readings put off what follows.
     let moments = Vec::from_slice(alloc, &[7, 900, 1299, 1300])?;
-    let log = log_of(alloc, probe(alloc, false, false, true), moments)?;
-    assert_eq!(rt; log.as_slice(), b".\x03..\x03.");
+    let log = log_of(alloc, make_probe(alloc, false, false, true), moments)?;
+    assert_eq!(rt; log.as_slice(), b".\x03..\x03.".as_slice());
     // Of two that are due, Request fires before Change, which then stops it.
     let moments = Vec::from_slice(alloc, &[0, 2000, 3999, 4000])?;
-    let log = log_of(alloc, probe(alloc, true, true, false), moments)?;
-    assert_eq!(rt; log.as_slice(), b".\x01\x02..\x02.");
+    let log = log_of(alloc, make_probe(alloc, true, true, false), moments)?;
+    assert_eq!(rt; log.as_slice(), b".\x01\x02..\x02.".as_slice());
     // One that a step of another starts begins with the next reading.
     let moments = Vec::from_slice(alloc, &[0, 500, 600, 2599, 2600])?;
-    let log = log_of(alloc, probe(alloc, true, false, false), moments)?;
-    assert_eq!(rt; log.as_slice(), b".\x01..\x01.\x02.");
+    let log = log_of(alloc, make_probe(alloc, true, false, false), moments)?;
+    assert_eq!(rt; log.as_slice(), b".\x01..\x01.\x02.".as_slice());
     Ok(())
 }
 
@@ -166,7 +166,7 @@ fn whole_frames_are_heard(rt: HostRuntime) -> Result<(), Fail> {
     coming.insert(1, Bytes::from_slice(alloc, b"no piece")?)?;
     let mut link = MemLink::new(alloc, coming, Vec::new(alloc), 8)?;
     let mut clock = MemClock::new(alloc, Vec::from_slice(alloc, &[0])?);
-    let mut host = Host::new(alloc, probe(alloc, false, false, true));
+    let mut host = Host::new(alloc, make_probe(alloc, false, false, true));
     for sent in [0, 0, 2, 2] {
         host = match host.turn(&mut link, &mut clock) {
             Ok(host) => host,
@@ -202,7 +202,7 @@ fn the_first_failed_call_ends_it(rt: HostRuntime) -> Result<(), Fail> {
         let failing = Vec::from_slice(alloc, &[number])?;
         let mut link = MemLink::new(alloc, datagrams_of(alloc, 3)?, failing, room)?;
         let mut clock = MemClock::new(alloc, Vec::from_slice(alloc, &[0, 500])?);
-        let host = Host::new(alloc, probe(alloc, true, false, false));
+        let host = Host::new(alloc, make_probe(alloc, true, false, false));
         let (host, failed) = match host.serve(&mut link, &mut clock, 2) {
             Ok(host) => (host, false),
             Err(NodeFault::Link(host)) => (host, true),
@@ -221,7 +221,7 @@ fn turns_end(rt: HostRuntime) -> Result<(), Fail> {
     for (waits, turns, sent) in [(true, 0, 0), (true, 1, 1), (true, 3, 1), (false, 3, 0)] {
         let mut link = MemLink::new(alloc, datagrams_of(alloc, 3)?, Vec::new(alloc), 8)?;
         let mut clock = MemClock::new(alloc, Vec::from_slice(alloc, &[0])?);
-        let host = Host::new(alloc, probe(alloc, false, false, waits));
+        let host = Host::new(alloc, make_probe(alloc, false, false, waits));
         match host.serve(&mut link, &mut clock, turns) {
             Ok(host) => assert_eq!(rt; host.core().answer, waits),
             Err(_) => return Err(Fail::from(Want)),
