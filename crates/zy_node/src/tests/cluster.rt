@@ -165,15 +165,9 @@ fn asks_without_an_answer(rt: HostRuntime) -> Result<(), Fail> {
         let failing = Vec::from_slice(alloc, &[failing])?;
         let mut link = MemLink::new(alloc, Vec::new(alloc), failing, 8)?;
         let mut clock = MemClock::new(alloc, Vec::from_slice(alloc, &[0])?);
+        let client = client(alloc, key(alloc, CLIENT, next)?, no_keys(alloc)?)?;
         let op = operation(alloc)?;
-        let asked = ask_over(
-            alloc,
-            client(alloc, next)?,
-            op,
-            &mut link,
-            &mut clock,
-            turns,
-        );
+        let asked = ask_over(alloc, client, op, &mut link, &mut clock, turns);
         let (end, client) = match asked {
             Ok(Asked::Done(client)) => ("done", Some(client)),
             Ok(Asked::Spent(client)) => ("spent", Some(client)),
