@@ -2,8 +2,6 @@ ghost use Rattle.std.specs.Prelude.{◌≡◌, [], ◌∷◌, IfOk, IsTrue};
 ghost use Rattle.zy_base.specs.declared.ids.Party.TheVariants as parties;
 ghost use Rattle.zy_edge.specs.Clock.{are_moments};
 
-mod cluster;
-
 use crate::{Core, Host, Moved, NodeFault};
 use std::alloc::Global;
 use std::test::Fail;
@@ -163,6 +161,7 @@ fn whole_frames_are_heard(rt: HostRuntime) -> Result<(), Fail> {
     let wanted = datagrams_of(alloc, 8193)?;
     let mut coming = datagrams_of(alloc, 8193)?;
     coming.reverse();
+    assert_eq!(rt; coming.len(), 2);
     coming.insert(1, Bytes::from_slice(alloc, b"no piece")?)?;
     let mut link = MemLink::new(alloc, coming, Vec::new(alloc), 8)?;
     let mut clock = MemClock::new(alloc, Vec::from_slice(alloc, &[0])?);
@@ -176,6 +175,7 @@ fn whole_frames_are_heard(rt: HostRuntime) -> Result<(), Fail> {
     }
     assert_eq!(rt; wanted.len(), 2);
     for number in 0..2 {
+        assert!(rt; number < link.parcels() && number < wanted.len());
         let (to, bytes) = link.parcel(number);
         assert_eq!(rt; to, Party::Client(ClientId(7)));
         assert_eq!(rt; bytes, wanted[number].as_slice());
