@@ -1,0 +1,113 @@
+-- Datagrams that are sent one after another, and what is sent where a call fails among them.
+use Rattle.std.proofs.Common.{◌≡◌, ℕ, ◌+◌, ◌<◌, List, [], ◌∷◌, ◌++◌, length, map, take, drop, get_or, Option, Some, None, Result, Ok, Err, OnErr, refl, sym, ap, subst, ◌∙◌, append_assoc}
+use Rattle.std.proofs.lemmas.Grind.{flat_map-append}
+use Rattle.std.proofs.lemmas.List.{append-nil, map-append, map_more, take_more, take-append-drop}
+use Rattle.zy_base.specs.declared.ids.Party.{Party}
+use Rattle.zy_edge.specs.Link.{Mail, Parcel, StaysAsTold}
+use Rattle.zy_node.specs.Told.{ComesTo, Sends, SendsFront}
+use Rattle.zy_node.specs.Turn.{HostState, Reached, onward, parcels_to, parcels_of, all_parcels}
+use Rattle.zy_node.specs.declared.fault.NodeFault.{NodeFault}
+use Rattle.zy_node.specs.declared.fault.NodeFault.TheVariants.{Link, Want}
+
+-- mail that is told
+abbrev pub told : List (List ℕ) → List Parcel → Option Mail
+told coming sent = Some (record { coming = coming; sent = sent })
+
+abbrev pub reached_with : {S : Type 0} → HostState S → List Parcel → Reached S
+reached_with host sent = record { host = host; sent = sent }
+
+-- ---- one after another
+
+pub Sends-nil : (mail : Option Mail) → Sends [] mail mail
+Sends-nil None = tt
+Sends-nil (Some mail) = ap (told mail.coming) (sym (append-nil mail.sent))
+
+pub Sends-append : (first second : List Parcel) (before between after : Option Mail) → Sends first before between → Sends second between after → Sends (first ++ second) before after
+Sends-append first second None between after one two = tt
+Sends-append first second (Some mail) between after one two =
+    let there = subst (λ (m : Option Mail). Sends second m after) one two in
+    there ∙ ap (told mail.coming) (append_assoc mail.sent first second)
+
+-- ---- fronts
+
+pub front_of_all : (all : List Parcel) (before after : Option Mail) → Sends all before after → SendsFront all before after
+front_of_all all before after sent = record { front = all; rest = []; parts = sym (append-nil all); sent = sent }
+
+pub nothing_sent : (all : List Parcel) (mail : Option Mail) → SendsFront all mail mail
+nothing_sent all mail = record { front = []; rest = all; parts = refl; sent = Sends-nil mail }
+
+pub stays_unsent : (all : List Parcel) (before after : Option Mail) → StaysAsTold before after → SendsFront all before after
+stays_unsent all None after same = record { front = []; rest = all; parts = refl; sent = tt }
+stays_unsent all (Some mail) after same = subst (λ (m : Option Mail). SendsFront all (Some mail) m) (sym same) (nothing_sent all (Some mail))
+
+pub front_after : (first second : List Parcel) (before between after : Option Mail) → Sends first before between → SendsFront second between after → SendsFront (first ++ second) before after
+front_after first second before between after one two = record {
+  front = first ++ two.front;
+  rest = two.rest;
+  parts = ap (λ (all : List Parcel). first ++ all) two.parts ∙ sym (append_assoc first two.front two.rest);
+  sent = Sends-append first two.front before between after one two.sent;
+}
+
+pub front_before : (first second : List Parcel) (before after : Option Mail) → SendsFront first before after → SendsFront (first ++ second) before after
+front_before first second before after one = record {
+  front = one.front;
+  rest = one.rest ++ second;
+  parts = ap (λ (all : List Parcel). all ++ second) one.parts ∙ append_assoc one.front one.rest second;
+  sent = one.sent;
+}
+
+pub on_err : {A E : Type 0} (result : Result A E) (P : Type 0) → P → OnErr result P
+on_err (Ok value) P holds = tt
+on_err (Err fault) P holds = holds
+
+-- ---- in a loop
+
+-- one datagram more of those to a party
+pub one_datagram_more : (to : Party) (datagrams : List (List ℕ)) (i : ℕ) (datagram : List ℕ) (before between after : Option Mail) → i < length datagrams → datagram ≡ get_or datagrams i datagram
+    → Sends (parcels_to to (take i datagrams)) before between → Sends (record { to = to; bytes = datagram } ∷ []) between after → Sends (parcels_to to (take (i + 1) datagrams)) before after
+one_datagram_more to datagrams i datagram before between after within is earlier sent =
+    let f : List ℕ → Parcel = λ bytes. record { to = to; bytes = bytes } in
+    let more : map f (take (i + 1) datagrams) ≡ map f (take i datagrams) ++ f datagram ∷ [] =
+    map_more f datagrams i datagram within ∙ ap (λ (d : List ℕ). map f (take i datagrams) ++ f d ∷ []) (sym is) in
+    subst (λ (all : List Parcel). Sends all before after) (sym more) (Sends-append (map f (take i datagrams)) (f datagram ∷ []) before between after earlier sent)
+
+-- those before a datagram that wasn't sent
+pub datagrams_before : (to : Party) (datagrams : List (List ℕ)) (i : ℕ) (before between after : Option Mail) → Sends (parcels_to to (take i datagrams)) before between → StaysAsTold between after → SendsFront (parcels_to to datagrams) before after
+datagrams_before to datagrams i before between after earlier same =
+    let f : List ℕ → Parcel = λ bytes. record { to = to; bytes = bytes } in
+    let parts : map f (take i datagrams) ++ map f (drop i datagrams) ≡ map f datagrams = sym (map-append f (take i datagrams) (drop i datagrams)) ∙ ap (map f) (take-append-drop i datagrams) in
+    subst (λ (all : List Parcel). SendsFront all before after) parts (front_after (map f (take i datagrams)) (map f (drop i datagrams)) before between after earlier (stays_unsent (map f (drop i datagrams)) between after same))
+
+frames_more : (out : List (Party × List ℕ)) (i : ℕ) (one : Party × List ℕ) → i < length out → one ≡ get_or out i one → all_parcels (take (i + 1) out) ≡ all_parcels (take i out) ++ parcels_of one
+frames_more out i one within is =
+    ap all_parcels (take_more out i one within) ∙ flat_map-append parcels_of (take i out) (get_or out i one ∷ [])
+    ∙ ap (λ (l : List Parcel). all_parcels (take i out) ++ l) (append-nil (parcels_of (get_or out i one))) ∙ ap (λ (o : Party × List ℕ). all_parcels (take i out) ++ parcels_of o) (sym is)
+
+-- one frame more
+pub one_frame_more : (out : List (Party × List ℕ)) (i : ℕ) (one : Party × List ℕ) (before between after : Option Mail) → i < length out → one ≡ get_or out i one
+    → Sends (all_parcels (take i out)) before between → Sends (parcels_of one) between after → Sends (all_parcels (take (i + 1) out)) before after
+one_frame_more out i one before between after within is earlier sent =
+    subst (λ (all : List Parcel). Sends all before after) (sym (frames_more out i one within is)) (Sends-append (all_parcels (take i out)) (parcels_of one) before between after earlier sent)
+
+-- those before a frame of which a front was sent
+pub frames_before : (out : List (Party × List ℕ)) (i : ℕ) (one : Party × List ℕ) (before between after : Option Mail) → i < length out → one ≡ get_or out i one
+    → Sends (all_parcels (take i out)) before between → SendsFront (parcels_of one) between after → SendsFront (all_parcels out) before after
+frames_before out i one before between after within is earlier front =
+    let rest = drop (i + 1) out in
+    let upto = front_before (all_parcels (take i out) ++ parcels_of one) (all_parcels rest) before after (front_after (all_parcels (take i out)) (parcels_of one) before between after earlier front) in
+    let parts : (all_parcels (take i out) ++ parcels_of one) ++ all_parcels rest ≡ all_parcels out =
+    ap (λ (all : List Parcel). all ++ all_parcels rest) (sym (frames_more out i one within is)) ∙ sym (flat_map-append parcels_of (take (i + 1) out) rest) ∙ ap all_parcels (take-append-drop (i + 1) out) in
+    subst (λ (all : List Parcel). SendsFront all before after) parts upto
+
+-- ---- a call that comes to something, after another one
+
+pub comes_after : {S : Type 0} (first : Reached S) (next : HostState S → Reached S) (middle : HostState S) (result : Result (HostState S) (NodeFault (HostState S))) (before between after : Option Mail)
+    → middle ≡ first.host → Sends first.sent before between → ComesTo (next middle) result between after → ComesTo (onward first next) result before after
+comes_after {S} first next middle (Ok host) before between after is sent comes =
+    let here = subst (λ (h : HostState S). ComesTo (next h) (Ok host) between after) is comes in
+    (here.0, Sends-append first.sent (next first.host).sent before between after sent here.1)
+comes_after {S} first next middle (Err (Link host)) before between after is sent comes =
+    let here = subst (λ (h : HostState S). ComesTo (next h) (Err (Link host)) between after) is comes in
+    (here.0, front_after first.sent (next first.host).sent before between after sent here.1)
+comes_after {S} first next middle (Err Want) before between after is sent comes =
+    front_after first.sent (next first.host).sent before between after sent (subst (λ (h : HostState S). ComesTo (next h) (Err Want) between after) is comes)

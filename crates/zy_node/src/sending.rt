@@ -1,0 +1,74 @@
+//! Frames as datagrams, one after another.
+
+ghost use Rattle.std.specs.Prelude.{◌≡◌, IfOk, OnOk, OnErr};
+ghost use Rattle.zy_edge.specs.Faults.{IsCounted};
+ghost use Rattle.zy_node.specs.Told.{Sends, SendsFront, is_send_fault};
+ghost use Rattle.zy_node.specs.Turn.{all_parcels, parcels_of, parcels_to, pieces_of};
+
+use crate::fault::SendFault;
+use std::alloc::Global;
+use zy_base::{Bytes, Party, Want};
+use zy_edge::{Link, Sent};
+use zy_pieces::cut;
+
+/// The bytes of the longest frame.
+const MAX_FRAME: usize = 4_194_304;
+
+/// Sends frames, each in its pieces. The first call of the link that fails is the last one.
+pub(crate) fn send_all<L: Link>(
+    alloc: Global,
+    link: &mut L,
+    out: &[(Party, Bytes)],
+) -> Result<(), SendFault>
+    ensures ok { OnOk result (Sends (all_parcels out.now) (L.mail link.old) (L.mail link.new)) }
+    ensures err { OnErr result (SendsFront (all_parcels out.now) (L.mail link.old) (L.mail link.new)) }
+    ensures receives { L.receives link.new ≡ L.receives link.old }
+    ensures count { IsCounted (is_send_fault result) (L.faults link.old) (L.faults link.new) }
+{
+    for (to, frame) in out {
+        send_frame(alloc, link, *to, frame.as_slice())?;
+    }
+    Ok(())
+}
+
+fn send_frame<L: Link>(
+    alloc: Global,
+    link: &mut L,
+    to: Party,
+    frame: &[u8],
+) -> Result<(), SendFault>
+    ensures ok { OnOk result (Sends (parcels_of (to, frame.now)) (L.mail link.old) (L.mail link.new)) }
+    ensures err { OnErr result (SendsFront (parcels_of (to, frame.now)) (L.mail link.old) (L.mail link.new)) }
+    ensures receives { L.receives link.new ≡ L.receives link.old }
+    ensures count { IsCounted (is_send_fault result) (L.faults link.old) (L.faults link.new) }
+{
+    let datagrams = pieces(alloc, frame)?;
+    send_pieces(link, to, &datagrams)
+}
+
+// The pieces of a frame as datagrams.
+#[tactic(auto, using(crate::proofs::PieceLemmas::empty, crate::proofs::PieceLemmas::too_long, crate::proofs::PieceLemmas::in_reach))]
+fn pieces(alloc: Global, frame: &[u8]) -> Result<Vec<Bytes>, Want>
+    ensures { IfOk result (λ datagrams. datagrams.items ≡ pieces_of frame.now) }
+{
+    // No core sends such a frame, since all that they send was encoded; but what they promise doesn't say so.
+    if frame.is_empty() || frame.len() > MAX_FRAME {
+        return Ok(Vec::new(alloc));
+    }
+    cut(alloc, frame)
+}
+
+fn send_pieces<L: Link>(link: &mut L, to: Party, datagrams: &[Bytes]) -> Result<(), SendFault>
+    ensures ok { OnOk result (Sends (parcels_to to datagrams.now) (L.mail link.old) (L.mail link.new)) }
+    ensures err { OnErr result (SendsFront (parcels_to to datagrams.now) (L.mail link.old) (L.mail link.new)) }
+    ensures receives { L.receives link.new ≡ L.receives link.old }
+    ensures count { IsCounted (is_send_fault result) (L.faults link.old) (L.faults link.new) }
+{
+    for datagram in datagrams {
+        match link.send(to, datagram.as_slice()) {
+            Sent::Sent => {}
+            Sent::Failed => return Err(SendFault::Link),
+        }
+    }
+    Ok(())
+}
