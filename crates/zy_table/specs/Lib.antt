@@ -15,6 +15,10 @@ pub mod Hates
 pub mod Misbehaviour
 pub mod Changes
 pub mod Adopting
+pub mod Beginning
+pub mod Confirming
+pub mod Fetching
+pub mod Standing
 pub mod Whole
 pub mod ClientState
 pub mod ClientRows
