@@ -1,7 +1,7 @@
 -- What the verdict lets a replica take up meets its own history.
 use Rattle.std.proofs.Common.{◌≡◌, ℕ, ◌≤◌, inl, inr, Option, Some, None, refl, sym, ap, ◌∙◌, arith}
 use Rattle.std.specs.Prelude.{nat_lt, nat_le}
-use Rattle.std.proofs.lemmas.Bool.{cases_Bool, ltb-false, leb-true}
+use Rattle.std.proofs.lemmas.Bool.{cases_Bool, leb-true, lt-leb, ltb-false, ltb-true}
 use Rattle.zy_base.specs.Machine.{Rules}
 use Rattle.zy_base.specs.declared.ids.Digest.{Digest}
 use Rattle.zy_base.specs.declared.ids.Place.{Place}
@@ -81,4 +81,18 @@ takes_meets R k stable told place head place_is head_is chosen takes =
                 })
                 within.0
           ]
+    ]
+
+-- and where the report is stable further on, the own history has its stable head
+pub further_takes : {S : Type 0} (R : Rules S) (k : Kept S) (stable : Check) (told : Told) (place : Place) (head : Digest) → nat_lt stable.place.0 told.stable_place.0 ≡ true → verdict_of R k stable told place head ≡ Take
+    → head_in (stretch_of k) told.stable_place.0 ≡ Some told.stable_head
+unfolding verdict_of
+further_takes R k stable told place head further takes =
+    let high = ltb-true stable.place.0 told.stable_place.0 further in
+    let beyond : nat_le told.stable_place.0 stable.place.0 ≡ false = lt-leb _ _ high in
+    elim (cases_Bool (nat_lt place.0 stable.place.0)) [
+      | inl below ↦ let clash = rw below at takes in absurd (cc)
+      | inr above ↦
+          let takes_it : verdict_above R k told (head_in (stretch_of k) told.stable_place.0) ≡ Take = rw (above, beyond) at takes in
+          above_takes R k told (head_in (stretch_of k) told.stable_place.0) takes_it
     ]

@@ -19,14 +19,14 @@ use zy_parts::Told;
 use zy_table::{Gains, Got};
 
 /// Takes up the history that a report gives up to a place: goes back to the greatest place at which both have one head,
-/// and executes the report's entries above that. What both have isn't executed again. The answer is what was gained.
-/// After `Want` the history may end anywhere between.
+/// and executes the report's entries above that. What both have isn't executed again. The answer is that place, and what
+/// was gained. After `Want` the history may end anywhere between.
 pub fn take_over<M: Machine>(
     alloc: Global,
     exec: &mut Exec<M>,
     told: &Told,
     place: Place,
-) -> Result<Gains, Want>
+) -> Result<(Place, Gains), Want>
     requires range { IsToldInRange told.now }
     requires clients { All (λ e. e.client.0 < 64) told.now.entries }
     requires end { place.0 ≤ end_of (stretch_of told.now) }
@@ -34,12 +34,16 @@ pub fn take_over<M: Machine>(
     requires base { exec.old.base.place ≤ common_with (stretch_of told.now) place.0 exec.old }
     requires told_base { told.now.stable_place.0 ≤ common_with (stretch_of told.now) place.0 exec.old }
     ensures exec { OnOk result (exec.new ≡ taken_over (stretch_of told.now) place.0 exec.old) }
-    ensures gained { IfOk result (λ gots. gots ≡ gots_of M.rules (stretch_of told.now) place.0 exec.old) }
-    ensures range { IfOk result (AllByRecursion IsGotInRange) }
+    ensures common { IfOk result (λ r. r.0.0 ≡ common_with (stretch_of told.now) place.0 exec.old) }
+    ensures gained { IfOk result (λ r. r.1 ≡ gots_of M.rules (stretch_of told.now) place.0 exec.old) }
+    ensures range { IfOk result (λ r. AllByRecursion IsGotInRange r.1) }
 {
     let common = common_with(exec, told, place);
     go_back(exec, common);
-    run_all(alloc, exec, entries_between(told, common, place))
+    match run_all(alloc, exec, entries_between(told, common, place)) {
+        Ok(gots) => Ok((common, gots)),
+        Err(want) => Err(want),
+    }
 }
 
 // ---- the greatest place up to one at which both have one head

@@ -286,7 +286,7 @@ fn adopt<R: Abort>(
     let head = head_told(told, place).ok_or("the report has the place")?;
     assert!(rt; place.0 < 1 << 62 && has_clients(told));
     match judge(exec, &stable, told, place, &head) {
-        Verdict::Take => Ok((Verdict::Take, Some(take_over(alloc, exec, told, place)?))),
+        Verdict::Take => Ok((Verdict::Take, Some(take_over(alloc, exec, told, place)?.1))),
         verdict => Ok((verdict, None)),
     }
 }

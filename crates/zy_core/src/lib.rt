@@ -3,9 +3,11 @@
 //! above.
 #![tactic(auto)]
 
+mod adopting;
 mod changes;
 mod checkpoints;
 mod copies;
+mod fetches;
 mod progress;
 mod reading;
 mod responses;

@@ -1,6 +1,6 @@
 -- How a view begins: once enough replicas confirm its choice, a replica takes up the history that was chosen, or waits for
 -- the snapshot on which that stands.
-use Rattle.std.specs.Prelude.{ℕ, nat_eq, nat_lt, ◌&&◌, Bool, true, false, if◌then◌else◌, List, [], ◌∷◌, ◌++◌, map, filter, find, Option, Some, None, Ok, Err}
+use Rattle.std.specs.Prelude.{ℕ, nat_lt, Bool, true, false, if◌then◌else◌, List, [], ◌∷◌, ◌++◌, map, filter, find, Option, Some, None, Ok, Err}
 use Rattle.std.specs.List.{list_any}
 use Rattle.zy_base.specs.Machine.{Rules}
 use Rattle.zy_base.specs.declared.ids.Party.{Party}
@@ -19,7 +19,7 @@ use Rattle.zy_parts.specs.declared.statements.Check.{Check}
 use Rattle.zy_frames.specs.declared.frame.Frame.TheVariants as frames
 use Rattle.zy_vframes.specs.declared.frame.ViewCert.{ViewCert}
 use Rattle.zy_vframes.specs.declared.frame.ViewFrame.TheVariants as view_frames
-use Rattle.zy_cert.specs.Equal.{same_digest}
+use Rattle.zy_cert.specs.Equal.{same_fetch}
 use Rattle.zy_cert.specs.Signers.{has_signer}
 use Rattle.zy_seal.specs.Sealing.{sealed_by}
 use Rattle.zy_exec.specs.Kept.{Kept, reply_in}
@@ -116,9 +116,6 @@ arrive R view g = if nat_lt (own_view g.state) view.0 then leave_alone R view g 
 -- what is asked for: the snapshot of the report's stable checkpoint
 abbrev pub wanted_of : Told → Fetch
 wanted_of told = record { place = told.stable_place; state = told.state }
-
-abbrev pub same_fetch : Fetch → Fetch → Bool
-same_fetch x y = nat_eq x.place.0 y.place.0 && same_digest x.state y.state
 
 -- it was asked for already
 abbrev pub fetch_said : {S : Type 0} → State S → Fetch → Option (Signed Fetch)

@@ -1,5 +1,5 @@
 -- What a replica makes of another's wish for its stable snapshot, and of a snapshot that comes.
-use Rattle.std.specs.Prelude.{ℕ, nat_eq, nat_lt, if◌then◌else◌, List, [], Option, Some, None, Err}
+use Rattle.std.specs.Prelude.{ℕ, List, [], Option, Some, None, Err}
 use Rattle.zy_base.specs.Machine.{Rules}
 use Rattle.zy_base.specs.declared.cause.Cause.{Cause}
 use Rattle.zy_base.specs.declared.cause.Cause.TheVariants as causes
@@ -9,11 +9,9 @@ use Rattle.zy_parts.specs.declared.signed.Signed.{Signed}
 use Rattle.zy_parts.specs.declared.reports.Change.{Change}
 use Rattle.zy_parts.specs.declared.reports.Fetch.{Fetch}
 use Rattle.zy_parts.specs.declared.reports.Told.{Told}
-use Rattle.zy_parts.specs.declared.statements.Check.{Check}
 use Rattle.zy_vframes.specs.declared.frame.ViewFrame.TheVariants as frames
-use Rattle.zy_cert.specs.Equal.{same_digest}
+use Rattle.zy_check.specs.States.{fetch_cause, state_cause}
 use Rattle.zy_exec.specs.Replay.{Point}
-use Rattle.zy_exec.specs.Shots.{digest_of_snapshot}
 use Rattle.zy_exec.specs.Snapshot.{snapshot_of}
 use Rattle.zy_change.specs.declared.kept.Waiting.{Waiting}
 use Rattle.zy_change.specs.Owing.{provider_in}
@@ -27,14 +25,6 @@ use Rattle.zy_exec.specs.Showing.{point_in}
 
 -- ---- another fetches the stable snapshot
 
--- the stable checkpoint isn't what is wanted
-abbrev pub fetch_cause : Check → Fetch → Option Cause
-fetch_cause stable wanted =
-    if nat_lt wanted.place.0 stable.place.0 then Some causes.OldPlace
-    else (if nat_lt stable.place.0 wanted.place.0 then Some (causes.Behind wanted.place)
-    else (if same_digest stable.state wanted.state then None
-    else Some (causes.WrongState stable.state wanted.state)))
-
 -- the snapshot at the base of the history, which is the stable one
 abbrev pub fetch_judged : {S : Type 0} → Rules S → State S → Signed Fetch → Option Cause → Attempt S
 fetch_judged R s vote (Some cause) = Err cause
@@ -45,14 +35,6 @@ unfoldable pub fetch : {S : Type 0} → Rules S → State S → Signed Fetch →
 fetch R s vote = fetch_judged R s vote (fetch_cause s.board.stable vote.stmt)
 
 -- ---- a snapshot comes
-
--- it isn't the one that is wanted
-abbrev pub state_cause : Fetch → Place → List ℕ → Option Cause
-state_cause wanted place bytes =
-    if nat_eq place.0 wanted.place.0
-    then (if same_digest wanted.state (digest_of_snapshot bytes) then None
-    else Some (causes.WrongState wanted.state (digest_of_snapshot bytes)))
-    else Some causes.Unmatched
 
 -- It stands at what it shows, which is stable by the report's proof: nothing that it had is above or below.
 abbrev pub installed : {S : Type 0} → Rules S → Point S → Told → State S → State S

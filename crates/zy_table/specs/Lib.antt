@@ -20,6 +20,7 @@ pub mod Confirming
 pub mod Fetching
 pub mod Standing
 pub mod Whole
+pub mod LeavingStep
 pub mod ClientState
 pub mod ClientRows
 pub mod Sending

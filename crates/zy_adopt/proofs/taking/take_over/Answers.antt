@@ -1,8 +1,6 @@
-use Rattle.std.proofs.Common.{◌≡◌, ◌≤◌, List, length, ap, subst, arith}
-use Rattle.std.specs.Prelude.{IfOk, OnOk}
-use Rattle.zy_exec.specs.Kept.{Kept, last_place, stretch_of as own_stretch}
+use Rattle.std.proofs.Common.{◌≡◌, ◌≤◌, length, ap, ◌∙◌, arith}
+use Rattle.zy_exec.specs.Kept.{last_place, stretch_of as own_stretch}
 use Rattle.zy_evidence.specs.Reading.{stretch_of}
-use Rattle.zy_table.specs.declared.deeds.Got.{Got}
 use Rattle.zy_table.specs.Adopting.{entries_between}
 use Rattle.zy_adopt.proofs.CommonLemmas.{common_low, common_within}
 use Rattle.zy_adopt.proofs.GotLemmas.{room_between, taken_is, gained_is}
@@ -31,14 +29,12 @@ run_all-requires-clause-room g c =
     let count : length c.entries_between.result.now ≡ length (entries_between told low c.args.place.0) = ap length c.entries_between.ensures in
     omega (arith, room, last, count, c.requires.place)
 
-pub returns-clause-exec : goal.returns-clause-exec
-returns-clause-exec g c =
-    subst (λ (k : Kept _). OnOk c.run_all.result (c.run_all.new.exec ≡ k))
-    (taken_is (stretch_of c.args.told.now) c.args.place.0 c.args.exec.now c.go_back.new.exec c.common_with-common.result.0 c.entries_between.result.now c.common_with-common.ensures c.go_back.ensures c.entries_between.ensures)
-    c.run_all.ensures.exec
+pub returns-in-Ok-clause-exec : goal.returns-in-Ok-clause-exec
+returns-in-Ok-clause-exec g c =
+    c.in-Ok.ensures.exec
+    ∙ taken_is (stretch_of c.args.told.now) c.args.place.0 c.args.exec.now c.go_back.new.exec c.common_with-common.result.0 c.entries_between.result.now c.common_with-common.ensures c.go_back.ensures c.entries_between.ensures
 
-pub returns-clause-gained : goal.returns-clause-gained
-returns-clause-gained g c =
-    subst (λ (all : List Got). IfOk c.run_all.result (λ gots. gots ≡ all))
-    (gained_is g.M.Machine.rules (stretch_of c.args.told.now) c.args.place.0 c.args.exec.now c.go_back.new.exec c.common_with-common.result.0 c.entries_between.result.now c.common_with-common.ensures c.go_back.ensures c.entries_between.ensures)
-    c.run_all.ensures.gained
+pub returns-in-Ok-clause-gained : goal.returns-in-Ok-clause-gained
+returns-in-Ok-clause-gained g c =
+    c.in-Ok.ensures.gained
+    ∙ gained_is g.M.Machine.rules (stretch_of c.args.told.now) c.args.place.0 c.args.exec.now c.go_back.new.exec c.common_with-common.result.0 c.entries_between.result.now c.common_with-common.ensures c.go_back.ensures c.entries_between.ensures
