@@ -15,6 +15,7 @@ use Rattle.zy_parts.specs.declared.statements.Local.{Local}
 use Rattle.zy_parts.specs.declared.statements.Hate.{Hate}
 use Rattle.zy_parts.specs.declared.statements.Check.{Check}
 use Rattle.zy_parts.specs.declared.reports.Began.{Began}
+use Rattle.zy_parts.specs.declared.reports.Fetch.{Fetch}
 
 abbrev pub same_digest : Digest → Digest → Bool
 same_digest a b = pointwise nat_eq a.0 b.0
@@ -97,3 +98,13 @@ began-equal x y =
     (λ e. let same : ◌≡◌ {A = Began} (record { view = x.view; place = x.place; head = x.head }) (record { view = y.view; place = y.place; head = y.head }) = cc in same)
     (λ e. (ap (λ (s : Began). s.view) e, (ap (λ (s : Began). s.place) e, ap (λ (s : Began). s.head) e)))
     (Decides-and _ _ (view-equal x.view y.view) (Decides-and _ _ (place-equal x.place y.place) (digest-equal x.head y.head)))
+
+abbrev pub same_fetch : Fetch → Fetch → Bool
+same_fetch x y = nat_eq x.place.0 y.place.0 && same_digest x.state y.state
+
+pub fetch-equal : (x y : Fetch) → Decides (same_fetch x y) (x ≡ y)
+fetch-equal x y =
+    Decides-like _
+    (λ e. let same : ◌≡◌ {A = Fetch} (record { place = x.place; state = x.state }) (record { place = y.place; state = y.state }) = cc in same)
+    (λ e. (ap (λ (s : Fetch). s.place) e, ap (λ (s : Fetch). s.state) e))
+    (Decides-and _ _ (place-equal x.place y.place) (digest-equal x.state y.state))

@@ -15,6 +15,7 @@ pub use laws::{certificates, conflicts, equal_votes, signers_and_statements};
 pub use located::Located;
 pub use matching::Matching;
 pub use misbehaviour::pom;
+pub use signers::{has_repeat, has_signer};
 pub use votes::{Vote, Votes};
 
 #[cfg(test)]

@@ -1,8 +1,8 @@
 ghost use Rattle.std.specs.Prelude.{◌≡◌};
 ghost use Rattle.std.specs.Bool.{Decides};
-ghost use Rattle.zy_cert.specs.Equal.{spec-equal, local-equal, hate-equal, check-equal, began-equal};
+ghost use Rattle.zy_cert.specs.Equal.{spec-equal, local-equal, hate-equal, check-equal, began-equal, fetch-equal};
 
-use zy_parts::{Began, Check, Hate, Local, Spec, Statement};
+use zy_parts::{Began, Check, Fetch, Hate, Local, Spec, Statement};
 
 /// A statement that is told from others of its kind: two are equal where all their fields are, whoever signed them.
 pub trait Matching: Statement + Eq {
@@ -27,4 +27,8 @@ impl Matching for Check {
 
 impl Matching for Began {
     ghost equal = { began-equal };
+}
+
+impl Matching for Fetch {
+    ghost equal = { fetch-equal };
 }

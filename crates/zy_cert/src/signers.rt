@@ -11,15 +11,15 @@ fn is_same_party(a: Party, b: Party) -> bool
     a == b
 }
 
-// One of the statements is this party's.
-pub(crate) fn has_signer<S>(list: &[Signed<S>], by: Party) -> bool
+/// One of the statements is this party's. Takes no memory.
+pub fn has_signer<S>(list: &[Signed<S>], by: Party) -> bool
     ensures { result ≡ has_signer by list.now }
 {
     list.iter().any(|signed| is_same_party(signed.by, by))
 }
 
-// Two of the statements are one party's.
-pub(crate) fn has_repeat<S>(list: &[Signed<S>]) -> bool
+/// Two of the statements are one party's. Takes no memory.
+pub fn has_repeat<S>(list: &[Signed<S>]) -> bool
     ensures { result ≡ has_repeat list.now }
 {
     let mut rest = list;

@@ -10,7 +10,7 @@ use Rattle.zy_vframes.specs.declared.frame.ViewCert.{ViewCert}
 use Rattle.zy_evidence.specs.Reading.{number_of_party}
 use Rattle.zy_change.specs.declared.kept.Chosen.{Chosen}
 use Rattle.zy_change.specs.declared.kept.Waiting.{Waiting}
-use Rattle.zy_change.specs.Views.{Views, began_equal, begans_equal, change_past, began_past, adopted, with_began, with_waiting, without_waiting}
+use Rattle.zy_change.specs.Views.{Views, began_equal, begans_equal, change_past, began_past, adopted, with_began, with_waiting, without_accepted, without_waiting}
 use Rattle.zy_change.specs.Ahead.{kept_began}
 use Rattle.zy_change.specs.Fit.{IsFit, IsCertified, IsKeptBegan}
 use Rattle.zy_change.proofs.FitLemmas.{as_long, as_many, kept_or_filled}
@@ -100,6 +100,25 @@ without_waiting-fit v fit =
       confirmed = fit.confirmed;
       accepted = fit.accepted;
       waiting = tt;
+      view_cert = fit.view_cert;
+      told = record { began_place = fit.told.began_place; began = fit.told.began; specs = fit.told.specs; began_proven = fit.told.began_proven; specs_proven = fit.told.specs_proven };
+    }
+
+pub without_accepted-fit : (v : Views) → IsFit v → IsFit (without_accepted v)
+without_accepted-fit v fit =
+    record {
+      at_least = fit.at_least;
+      at_most = fit.at_most;
+      me = fit.me;
+      last = fit.last;
+      own = fit.own;
+      changes = fit.changes;
+      hated = fit.hated;
+      begans = fit.begans;
+      kept = fit.kept;
+      confirmed = fit.confirmed;
+      accepted = tt;
+      waiting = fit.waiting;
       view_cert = fit.view_cert;
       told = record { began_place = fit.told.began_place; began = fit.told.began; specs = fit.told.specs; began_proven = fit.told.began_proven; specs_proven = fit.told.specs_proven };
     }

@@ -288,7 +288,7 @@ module _ (agree : ℕ) (reports : List PlainReport) (some : 0 < agree) (many : 0
   at (One place head) one = past place.0 head one
   at (Two place first second) two = IsTwo-clash view place.0 first second reports (greatest reports many) two
 
-  answers : IsAnswer agree reports (choice_of agree reports)
+  pub answers : IsAnswer agree reports (choice_of agree reports)
   unfolding choice_of
   answers = at (furthest_of (flat_map proven (last_in view reports))) (furthest (flat_map proven (last_in view reports)))
 

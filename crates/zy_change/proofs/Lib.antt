@@ -4,3 +4,4 @@ pub mod AheadLemmas
 pub mod ChoosingLemmas
 pub mod GivingLemmas
 pub mod BeginningLemmas
+pub mod AcceptedLemmas

@@ -256,3 +256,7 @@ with_waiting w v = record v { waiting = Some w }
 
 abbrev pub without_waiting : Views → Views
 without_waiting v = record v { waiting = None }
+
+-- the new view that was confirmed is taken out, for its certificate
+abbrev pub without_accepted : Views → Views
+without_accepted v = record v { accepted = None }

@@ -1,12 +1,13 @@
-ghost use Rattle.std.specs.Prelude.{◌≡◌, ◌<◌, ◌≤◌, ◌++◌, length, map, take, option_copied, option_to_list, Some, IsSome, IfSome, IfOk, OnOk};
+ghost use Rattle.std.specs.Prelude.{◌≡◌, ◌<◌, ◌≤◌, ◌++◌, length, map, take, option_copied, option_to_list, Some, IsSome, IfSome, IfOk, OnErr, OnOk};
 ghost use Rattle.zy_evidence.specs.Reading.{number_of_party};
 ghost use Rattle.zy_change.specs.Fit.{IsCertified, IsKeptBegan};
+ghost use Rattle.zy_change.specs.declared.kept.Accepted.{Accepted as Kept};
 ghost use Rattle.zy_change.specs.Views as views;
 ghost use Rattle.zy_change.specs.Ahead as forms;
 
 use crate::giving::change_copy;
 use crate::machine::{forget_all, index_of};
-use crate::{Chosen, ViewMachine, Waiting};
+use crate::{Accepted, Chosen, ViewMachine, Waiting};
 use std::alloc::Global;
 use zy_base::{Items, Mode, View, Want};
 use zy_parts::{Began, Change, New, Signed};
@@ -46,6 +47,34 @@ impl ViewMachine {
                 new: new_copy(self.alloc, &accepted.new)?,
                 begans: self.confirmations(&accepted.began())?,
             }),
+        }
+    }
+
+    /// The same with its choice, out of what is kept: the reports of the new view move into it. After `Want` all is as
+    /// before.
+    pub fn take_certified(&mut self) -> Result<(ViewCert, Chosen), Want>
+        requires { IsSome (views.certificate self.old) }
+        ensures cert { IfOk result (λ r. views.certificate self.old ≡ Some r.0) }
+        ensures chosen { IfOk result (λ r. self.old.accepted ≡ Some (record { new = r.0.new; chosen = r.1 })) }
+        ensures certified { IfOk result (λ r. IsCertified self.old.counts self.old.interval r.0 r.1) }
+        ensures rest { OnOk result (self.new ≡ views.without_accepted self.old) }
+        ensures same { OnErr result (self.new ≡ self.old) }
+    {
+        let begans = self.accepted_by()?;
+        match self.accepted.take() {
+            None => unreachable!(),
+            Some(Accepted { new, chosen }) => Ok((ViewCert { new, begans }, chosen)),
+        }
+    }
+
+    // The confirmations of the first replicas, by number, that confirm the new view as it was confirmed.
+    fn accepted_by(&self) -> Result<Items<Signed<Began>>, Want>
+        requires { IsSome self.now.accepted }
+        ensures { (a : Kept) → self.now.accepted ≡ Some a → IfOk result (λ l. l ≡ take self.now.counts.cert (views.begans_equal (views.began_for a.new.stmt.view a.chosen) self.now.begans)) }
+    {
+        match &self.accepted {
+            None => unreachable!(),
+            Some(accepted) => self.confirmations(&accepted.began()),
         }
     }
 

@@ -13,7 +13,7 @@ mod slots;
 mod telling;
 
 pub use kept::{Accepted, Certificate, Chosen, Waiting};
-pub use laws::true_reports;
+pub use laws::{certificates, providers, true_reports};
 pub use machine::ViewMachine;
 pub use owed::{Adoption, Owed};
 pub use owing::adoption;

@@ -1,4 +1,4 @@
-ghost use Rattle.std.specs.Prelude.{◌≡◌, ℕ, ◌<◌, ◌≤◌, ◌^◌, length, replicate, option_copied, option_map, Some, None, true, false, IfOk};
+ghost use Rattle.std.specs.Prelude.{◌≡◌, ℕ, ◌<◌, ◌≤◌, ◌^◌, length, replicate, option_copied, Some, None, true, false, IfOk, IfSome};
 ghost use Rattle.std.specs.Option.{ForSome};
 ghost use Rattle.zy_wire.specs.Fields.{FitsList};
 ghost use Rattle.zy_parts.specs.Reports.{IsChangeInRange};
@@ -8,7 +8,7 @@ ghost use Rattle.zy_evidence.specs.Rules.{is_spec_proven};
 ghost use Rattle.zy_vframes.specs.ViewFrames.{IsFrameInRange};
 ghost use Rattle.zy_vframes.specs.declared.frame.ViewFrame.TheVariants as frames;
 ghost use Rattle.zy_change.specs.Views as views;
-ghost use Rattle.zy_change.specs.Fit.{IsFit, IsKeptChange};
+ghost use Rattle.zy_change.specs.Fit.{IsCertified, IsFit, IsKeptChange};
 ghost use Rattle.zy_evidence.specs.Reading.{number_of_party};
 ghost use Rattle.zy_base.specs.declared.ids.Party.TheVariants as parties;
 
@@ -190,34 +190,30 @@ impl ViewMachine {
         self.view_cert.as_ref()
     }
 
-    /// The view certificate that waits for a snapshot.
-    pub fn waiting(&self) -> Option<&ViewCert>
-        ensures { option_copied result ≡ option_map (λ waiting. waiting.cert) self.now.waiting }
+    /// The view certificate that waits for a snapshot, with its choice.
+    pub fn waiting(&self) -> Option<&Waiting>
+        ensures waiting { option_copied result ≡ self.now.waiting }
+        ensures certified { IfSome (option_copied result) (λ w. IsCertified self.now.counts self.now.interval w.cert w.chosen) }
     {
-        match &self.waiting {
-            None => None,
-            Some(waiting) => Some(&waiting.cert),
-        }
+        self.waiting.as_ref()
     }
 
     /// Counts a hate of the own view. Its signer is a replica of the group. Takes no memory.
-    pub fn keep_hate(&mut self, vote: Signed<Hate>) -> Result<(), Want>
+    pub fn keep_hate(&mut self, vote: Signed<Hate>)
         requires { number_of_party vote.by < self.old.counts.n }
         ensures { self.new ≡ views.with_hate vote.by self.old }
     {
         self.hated[index_of(vote.by)] = true;
-        Ok(())
     }
 
     /// Keeps a report in place of its signer's earlier one. Takes no memory.
-    pub fn keep_change(&mut self, vote: Signed<Change>) -> Result<(), Want>
+    pub fn keep_change(&mut self, vote: Signed<Change>)
         requires replica { number_of_party vote.by < self.old.counts.n }
         requires kept { IsKeptChange self.old.counts self.old.interval (number_of_party vote.by) vote }
         ensures { self.new ≡ views.with_change vote self.old }
     {
         let index = index_of(vote.by);
         self.changes[index] = Some(vote);
-        Ok(())
     }
 
     /// Leaves for a view, once the report for it is kept. Takes no memory.

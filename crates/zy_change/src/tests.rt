@@ -147,6 +147,8 @@ fn leaves(view: u64) -> Due {
 fn leave<R: Abort>(rt: &R, machine: &mut ViewMachine, view: u64) {
     assert!(rt; machine.last_view().0 <= view && view < 1 << 62);
     machine.leave(View(view));
+    assert_eq!(rt; machine.mode(), Mode::Leaving(View(view)));
+    assert_eq!(rt; machine.last_view(), View(0));
 }
 
 // A hate of a replica, with a signature that nobody reads here.
@@ -174,28 +176,39 @@ fn hate<R: Abort>(
     Ok(due(&machine.hate(&vote, &own)?))
 }
 
-fn keep_hate<R: Abort>(
-    rt: &R,
-    alloc: Global,
-    machine: &mut ViewMachine,
-    by: u8,
-    view: u64,
-) -> Result<(), Fail> {
-    let vote = hate_of(alloc, by, view);
-    assert!(rt; (index_of(vote.by) as u64) < machine.counts.n);
-    Ok(machine.keep_hate(vote)?)
+// One of the steps of a table.
+#[derive(Clone, Copy)]
+enum Turn {
+    // This is what a hate of a replica for a view owes.
+    Hates(u8, u64, Due),
+    // It is counted.
+    Counts(u8, u64),
+    // This is what a report of a replica for a view owes.
+    Reports(u8, u64, Due),
+    // One with a history of these letters is kept.
+    Keeps(u8, u64, &'static [u8]),
+    // The view is left for this one.
+    Leaves(u64),
 }
 
-// This is what it owes.
-fn owes_for_hate<R: Abort>(
-    rt: &R,
-    alloc: Global,
-    machine: &ViewMachine,
-    from: (u8, u64),
-    want: Due,
-) -> Result<(), Fail> {
-    let (by, view) = from;
-    assert_eq!(rt; hate(rt, alloc, machine, by, view)?, want);
+fn count_hate<R: Abort>(rt: &R, alloc: Global, machine: &mut ViewMachine, by: u8, view: u64) {
+    let vote = hate_of(alloc, by, view);
+    assert!(rt; (index_of(vote.by) as u64) < machine.counts.n);
+    machine.keep_hate(vote);
+}
+
+fn go<R: Abort>(rt: &R, alloc: Global, machine: &mut ViewMachine, turn: Turn) -> Result<(), Fail> {
+    match turn {
+        Turn::Hates(by, view, want) => {
+            assert_eq!(rt; hate(rt, alloc, machine, by, view)?, want);
+        }
+        Turn::Counts(by, view) => count_hate(rt, alloc, machine, by, view),
+        Turn::Reports(by, view, want) => {
+            assert_eq!(rt; report(rt, alloc, machine, by, view)?, want);
+        }
+        Turn::Keeps(by, view, letters) => keep(rt, alloc, machine, (by, view), letters)?,
+        Turn::Leaves(view) => leave(rt, machine, view),
+    }
     Ok(())
 }
 
@@ -203,16 +216,19 @@ fn owes_for_hate<R: Abort>(
 fn hates_in_turn(rt: HostRuntime) -> Result<(), Fail> {
     let alloc = rt.alloc();
     let mut machine = replica(&rt, alloc, 0)?;
-    owes_for_hate(&rt, alloc, &machine, (1, 1), refused(Cause::NewerView))?;
-    owes_for_hate(&rt, alloc, &machine, (1, 0), only(Answer::Taken))?;
-    keep_hate(&rt, alloc, &mut machine, 1, 0)?;
-    owes_for_hate(&rt, alloc, &machine, (1, 0), refused(Cause::Repeat))?;
-    owes_for_hate(&rt, alloc, &machine, (0, 0), leaves(1))?;
-    leave(&rt, &mut machine, 1);
-    assert_eq!(rt; machine.mode(), Mode::Leaving(View(1)));
-    assert_eq!(rt; machine.last_view(), View(0));
-    owes_for_hate(&rt, alloc, &machine, (1, 0), refused(Cause::OldView))?;
-    owes_for_hate(&rt, alloc, &machine, (1, 1), only(Answer::Taken))
+    for turn in [
+        Turn::Hates(1, 1, refused(Cause::NewerView)),
+        Turn::Hates(1, 0, only(Answer::Taken)),
+        Turn::Counts(1, 0),
+        Turn::Hates(1, 0, refused(Cause::Repeat)),
+        Turn::Hates(0, 0, leaves(1)),
+        Turn::Leaves(1),
+        Turn::Hates(1, 0, refused(Cause::OldView)),
+        Turn::Hates(1, 1, only(Answer::Taken)),
+    ] {
+        go(&rt, alloc, &mut machine, turn)?;
+    }
+    Ok(())
 }
 
 // What a report owes, where the own history is of these letters.
@@ -248,17 +264,16 @@ fn vote_with<R: Abort>(
     Ok(vote(alloc, by, view, told(rt, alloc, machine, letters)?))
 }
 
-// This is what it owes.
-fn owes_for_change<R: Abort>(
+// What the report of a replica owes that has another third entry.
+fn report<R: Abort>(
     rt: &R,
     alloc: Global,
     machine: &ViewMachine,
-    from: (u8, u64),
-    want: Due,
-) -> Result<(), Fail> {
-    let vote = vote_with(rt, alloc, machine, from, b"xyw")?;
-    assert_eq!(rt; change(rt, alloc, machine, &vote)?, want);
-    Ok(())
+    by: u8,
+    view: u64,
+) -> Result<Due, Fail> {
+    let vote = vote_with(rt, alloc, machine, (by, view), b"xyw")?;
+    change(rt, alloc, machine, &vote)
 }
 
 // Keeps it, where it breaks no rule.
@@ -274,7 +289,8 @@ fn keep<R: Abort>(
     let vote = vote(alloc, by, view, told(rt, alloc, machine, letters)?);
     let keeps_rules = machine.broken_rule(&vote)?.is_none();
     assert!(rt; keeps_rules && (index_of(vote.by) as u64) < machine.counts.n);
-    Ok(machine.keep_change(vote)?)
+    machine.keep_change(vote);
+    Ok(())
 }
 
 // The history that replicas 2 and 3 share goes before that of the primary.
@@ -288,20 +304,22 @@ fn reports_in_turn(rt: HostRuntime) -> Result<(), Fail> {
         head: history(&rt, alloc, b"xyw")?.head(),
     });
     let given = Some(View(1));
-    owes_for_change(&rt, alloc, &machine, (2, 1), only(Answer::Taken))?;
-    keep(&rt, alloc, &mut machine, (2, 1), b"xyw")?;
-    owes_for_change(&rt, alloc, &machine, (2, 1), refused(Cause::Repeat))?;
-    owes_for_change(&rt, alloc, &machine, (3, 2), leaves(1))?;
-    let due = (Answer::Taken, given, given, shared, 3);
-    owes_for_change(&rt, alloc, &machine, (3, 1), due)?;
-    keep(&rt, alloc, &mut machine, (1, 1), b"xyz")?;
-    leave(&rt, &mut machine, 1);
-    assert!(rt; machine.own_change().is_some());
-    let due = (Answer::Taken, None, given, shared, 2);
-    owes_for_change(&rt, alloc, &machine, (3, 1), due)?;
-    leave(&rt, &mut machine, 2);
-    assert!(rt; machine.kept_cert().is_none());
-    owes_for_change(&rt, alloc, &machine, (3, 1), refused(Cause::OldView))
+    for turn in [
+        Turn::Reports(2, 1, only(Answer::Taken)),
+        Turn::Keeps(2, 1, b"xyw"),
+        Turn::Reports(2, 1, refused(Cause::Repeat)),
+        Turn::Reports(3, 2, leaves(1)),
+        Turn::Reports(3, 1, (Answer::Taken, given, given, shared, 3)),
+        Turn::Keeps(1, 1, b"xyz"),
+        Turn::Leaves(1),
+        Turn::Reports(3, 1, (Answer::Taken, None, given, shared, 2)),
+        Turn::Leaves(2),
+        Turn::Reports(3, 1, refused(Cause::OldView)),
+    ] {
+        go(&rt, alloc, &mut machine, turn)?;
+    }
+    assert!(rt; machine.own_change().is_some() && machine.kept_cert().is_none());
+    Ok(())
 }
 
 #[test]

@@ -1,3 +1,4 @@
 pub mod Votes
 pub mod Board
 pub mod Judging
+pub mod States

@@ -69,6 +69,13 @@ impl Checkpoints {
         (stable.view, stable.place, stable.head, stable.state)
     }
 
+    /// The same as the statement that the replicas of its proof signed.
+    pub fn stable_check(&self) -> &Check
+        ensures { result.now ≡ self.now.stable }
+    {
+        &self.stable
+    }
+
     /// The checkpoints that prove it, each equal to it. None for the empty history.
     pub fn proof(&self) -> &[Signed<Check>]
         ensures list { result.now ≡ self.now.proof }

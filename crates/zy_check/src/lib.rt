@@ -7,11 +7,13 @@ mod judging;
 mod kept;
 mod laws;
 mod round;
+mod states;
 mod votes;
 
 pub use checkpoints::Checkpoints;
 pub use kept::Kept;
 pub use laws::{boards, kept_votes, stays};
+pub use states::{StateFault, take_state};
 
 #[cfg(test)]
 mod tests;

@@ -5,3 +5,4 @@ pub mod SettleLemmas
 mod ShotLemmas
 mod SnapshotLemmas
 mod InstallLemmas
+mod ShowingLemmas

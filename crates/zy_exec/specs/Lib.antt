@@ -6,4 +6,5 @@ pub mod Fields
 pub mod Shots
 pub mod Installed
 pub mod Reading
+pub mod Showing
 pub mod Trail

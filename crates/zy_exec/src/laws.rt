@@ -1,14 +1,17 @@
-ghost use Rattle.std.specs.Prelude.{◌≡◌, ◌<◌, ◌≤◌, ◌^◌, ℕ, List, [], ◌∷◌, ◌++◌, length, take, All};
+ghost use Rattle.std.specs.Prelude.{◌≡◌, ◌<◌, ◌≤◌, ◌^◌, ℕ, List, [], ◌∷◌, ◌++◌, length, take, All, Some};
 ghost use Rattle.zy_base.specs.declared.ids.Digest.{Digest};
+ghost use Rattle.zy_base.specs.declared.ids.Place.{Place};
 ghost use Rattle.zy_chain.specs.declared.entry.Entry.{Entry};
 ghost use Rattle.zy_chain.specs.Heads.{head_of};
 ghost use Rattle.zy_chain.specs.Places.{head_at, entry_at};
 ghost use Rattle.zy_chain.specs.Stretch.{head_in, entry_in};
-ghost use Rattle.zy_exec.specs.Replay.{origin, along, step, answer_at};
+ghost use Rattle.zy_wire.specs.Spelling.{IsBytes};
+ghost use Rattle.zy_exec.specs.Replay.{Point, origin, along, step, answer_at};
 ghost use Rattle.zy_exec.specs.Kept.{Kept, StandsFor, stretch_of, last_place, now_of, longer, back_to, settled, reply_in};
 ghost use Rattle.zy_exec.specs.Snapshot.{snapshot_of};
 ghost use Rattle.zy_exec.specs.Shots.{snapshot_in, snapshot_at};
 ghost use Rattle.zy_exec.specs.Installed.{IsShown, IsInstalled, IsRunnable};
+ghost use Rattle.zy_exec.specs.Showing.{point_in};
 
 use zy_base::Machine;
 
@@ -55,4 +58,11 @@ pub fn installing<M: Machine>()
     ensures shown { (history : List Entry) → All IsRunnable history → length history < 2 ^ 62 → IsShown M.IsState (along M.rules (origin M.rules) history) }
     ensures stands { (interval place : ℕ) (head : Digest) (bytes : List ℕ) (k : Kept M.State) (history : List Entry) → IsInstalled M.IsState M.rules interval place head bytes k → All IsRunnable history → place < 2 ^ 62
         → length history ≡ place → head_of history ≡ head → snapshot_of M.rules (along M.rules (origin M.rules) history) ≡ bytes → StandsFor M.rules k history }
+{}
+
+/// What a snapshot's bytes show at a place with a head, as a function of them: what they were spelled from, and they are
+/// its spelling. So bytes that show nothing are no snapshot.
+pub fn showing<M: Machine>()
+    ensures spelled { (place : Place) (head : Digest) (p : Point M.State) → IsShown M.IsState p → point_in M.rules place head (snapshot_of M.rules p) ≡ Some (record { place = place.0; head = head; state = p.state; known = p.known }) }
+    ensures shown { (place : Place) (head : Digest) (bytes : List ℕ) → IsBytes bytes → (p : Point M.State) → point_in M.rules place head bytes ≡ Some p → IsShown M.IsState p × (snapshot_of M.rules p ≡ bytes) × (p.place ≡ place.0) × (p.head ≡ head) }
 {}

@@ -14,7 +14,7 @@ mod track;
 pub use exec::Exec;
 pub use install_fault::InstallFault;
 pub use known::{CLIENTS, Known, nothing};
-pub use laws::{histories, installing, places, points, settling};
+pub use laws::{histories, installing, places, points, settling, showing};
 
 #[cfg(test)]
 mod tests;

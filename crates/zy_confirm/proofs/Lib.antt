@@ -1,0 +1,3 @@
+pub mod JudgingLemmas
+pub mod AheadLemmas
+pub mod CertLemmas
