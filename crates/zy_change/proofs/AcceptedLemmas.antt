@@ -1,7 +1,7 @@
 -- What is chosen out of a new view's reports stands in one of them, and enough equal confirmations certify it.
 use Rattle.std.proofs.Common.{◌≡◌, ◌≢◌, ℕ, zero, suc, ◌+◌, ◌<◌, ◌≤◌, ◌^◌, ◌==◌, ◌&&◌, Bool, true, false, nat_le, if◌then◌else◌, List, [], ◌∷◌, length, map, take, get_or, All, Option, Some, None, Ok, refl, sym, ap, ◌∙◌, subst, arith}
 use Rattle.std.specs.List.{AllPairs, cons_option}
-use Rattle.std.specs.Prelude.{slice_get, slice_index_or, option_map}
+use Rattle.std.specs.Prelude.{slice_get, slice_index_or, option_map, IfSome, IfOk, Result, Err}
 use Rattle.std.proofs.lemmas.Bool.{and_from, leb-true, le-ltb}
 use Rattle.std.proofs.lemmas.List.{get_or-take, length-map, length-take, length-take-le}
 use Rattle.std.proofs.lemmas.List.Elements.{All-cons, All-map, All-nil, All-take, All-weaker}
@@ -36,9 +36,10 @@ use Rattle.zy_evidence.proofs.ProofLemmas.{all_clear}
 use Rattle.zy_evidence.specs.Reading.{number_of_party, read, stretch_of}
 use Rattle.zy_evidence.specs.Rules.{is_certified_at}
 use Rattle.zy_change.specs.declared.kept.Accepted.{Accepted}
+use Rattle.zy_change.specs.declared.kept.Chosen.{Chosen}
 use Rattle.zy_change.specs.Fit.{IsAccepted, IsCertified, IsFit, IsGiven, IsKeptBegan}
 use Rattle.zy_change.specs.Owing.{provider_in}
-use Rattle.zy_change.specs.Views.{Views, began_equal, began_for, begans_equal, certificate_of}
+use Rattle.zy_change.specs.Views.{Views, began_equal, began_for, begans_equal, certificate, certificate_if, certificate_of}
 use Rattle.zy_change.proofs.ChoosingLemmas.{answers, within_reports}
 
 -- ---- the choice
@@ -80,7 +81,7 @@ module _ (counts : Counts) (interval : ℕ) (a : Accepted) (is : IsAccepted coun
   answer =
       let least = is.in_range.0.1.least in
       subst (IsAnswer counts.agree reports) is.chosen
-      (answers counts.agree reports (omega (arith, counts.sound.true_agreement)) (omega (arith, length-map read a.new.stmt.changes, least))
+      (answers counts.agree reports (omega (arith, counts.sound.true_agreement)) (omega (arith, length-map a.new.stmt.changes read, least))
       (λ k d within. (well k d within).began) (λ k d within. (well k d within).spec))
 
   pub accepted_place : a.chosen.place.0 < 2 ^ 62
@@ -131,41 +132,43 @@ module _ (own : Began) where
   behind : (low : ℕ) (slot : Option (Signed Began)) (slots : List (Option (Signed Began))) → AreFrom low (slot ∷ slots) → AreFrom (low + 1) slots
   behind low slot slots from id b is = let e : low + suc id ≡ low + 1 + id = omega arith in subst (λ (n : ℕ). IsKeptBegan n b) e (from (suc id) b is)
 
-  -- each of them
-  each : (low : ℕ) (slots : List (Option (Signed Began))) → AreFrom low slots → All (IsOne own low) (begans_equal own slots)
-  each low [] from = All-nil (IsOne own low)
-  each low (slot ∷ slots) from = by (began_equal own slot) refl
+  first_too : (low : ℕ) (slot : Option (Signed Began)) (slots : List (Option (Signed Began))) → AreFrom low (slot ∷ slots) → All (IsOne own (low + 1)) (begans_equal own slots)
+      → (o : Option (Signed Began)) → began_equal own slot ≡ o → All (IsOne own low) (cons_option o (begans_equal own slots))
+  first_too low slot slots from others o is = by o is
     where
       rest : All (IsOne own low) (begans_equal own slots)
       rest =
-          All-weaker (IsOne own (low + 1)) (IsOne own low) (λ b one. (let above = one.from in record { from = omega (arith, above); stmt = one.stmt; in_range = one.in_range })) (begans_equal own slots)
-          (each (low + 1) slots (behind low slot slots from))
+          All-weaker (IsOne own (low + 1)) (IsOne own low) (λ b one. (let above = one.from in record { from = omega (arith, above); stmt = one.stmt; in_range = one.in_range })) (begans_equal own slots) others
 
       by : (o : Option (Signed Began)) → began_equal own slot ≡ o → All (IsOne own low) (cons_option o (begans_equal own slots))
       by None is = rest
       by (Some b) is =
           let there = equal_there own slot b is in
           let kept = from 0 b there.0 in
+          let at : number_of_party b.by ≡ low + 0 = ap number_of_party kept.by in
           All-cons (IsOne own low) b (begans_equal own slots)
-          (record { from = let e = ap number_of_party kept.by in omega (arith, e); stmt = there.1; in_range = kept.in_range }) rest
+          (record { from = omega (arith, at); stmt = there.1; in_range = kept.in_range }) rest
+
+  -- each of them
+  each : (low : ℕ) (slots : List (Option (Signed Began))) → AreFrom low slots → All (IsOne own low) (begans_equal own slots)
+  each low [] from = All-nil (IsOne own low)
+  each low (slot ∷ slots) from = first_too low slot slots from (each (low + 1) slots (behind low slot slots from)) (began_equal own slot) refl
+
+  then_rising : (low : ℕ) (slot : Option (Signed Began)) (slots : List (Option (Signed Began))) → AreFrom low (slot ∷ slots) → AllPairs Rises (begans_equal own slots)
+      → (o : Option (Signed Began)) → began_equal own slot ≡ o → AllPairs Rises (cons_option o (begans_equal own slots))
+  then_rising low slot slots from rest None is = rest
+  then_rising low slot slots from rest (Some b) is =
+      let there = equal_there own slot b is in
+      let kept = from 0 b there.0 in
+      let at : number_of_party b.by ≡ low + 0 = ap number_of_party kept.by in
+      AllPairs-cons Rises b (begans_equal own slots)
+      (All-weaker (IsOne own (low + 1)) (Rises b) (λ c one. (let above = one.from in omega (arith, above, at))) (begans_equal own slots) (each (low + 1) slots (behind low slot slots from)))
+      rest
 
   -- by the numbers of their signers
   rising : (low : ℕ) (slots : List (Option (Signed Began))) → AreFrom low slots → AllPairs Rises (begans_equal own slots)
   rising low [] from = λ i j d before small. absurd (let never : ⊥ = omega arith in never)
-  rising low (slot ∷ slots) from = by (began_equal own slot) refl
-    where
-      rest : AllPairs Rises (begans_equal own slots)
-      rest = rising (low + 1) slots (behind low slot slots from)
-
-      by : (o : Option (Signed Began)) → began_equal own slot ≡ o → AllPairs Rises (cons_option o (begans_equal own slots))
-      by None is = rest
-      by (Some b) is =
-          let there = equal_there own slot b is in
-          let kept = from 0 b there.0 in
-          let first = ap number_of_party kept.by in
-          AllPairs-cons Rises b (begans_equal own slots)
-          (All-weaker (IsOne own (low + 1)) (Rises b) (λ c one. (let above = one.from in omega (arith, above, first))) (begans_equal own slots) (each (low + 1) slots (behind low slot slots from)))
-          rest
+  rising low (slot ∷ slots) from = then_rising low slot slots from (rising (low + 1) slots (behind low slot slots from)) (began_equal own slot) refl
 
 -- the first of them are of different replicas
 taken_different : (n : ℕ) (list : List (Signed Began)) → AllPairs Rises list → AllPairs (λ a b. a.by ≢ b.by) (take n list)
@@ -190,7 +193,7 @@ module _ (v : Views) (a : Accepted) (fit : IsFit v) (is : IsAccepted v.counts v.
   first = take v.counts.cert list
 
   all_kept : AreFrom 0 v.begans
-  all_kept id b here = fit.confirmed id b here
+  all_kept id b here = let e : id ≡ 0 + id = omega arith in subst (λ (n : ℕ). IsKeptBegan n b) e (fit.confirmed id b here)
 
   all_first : All (IsOne own 0) first
   all_first = All-take (IsOne own 0) v.counts.cert list (each own 0 v.begans all_kept)
@@ -227,3 +230,15 @@ module _ (v : Views) (a : Accepted) (fit : IsFit v) (is : IsAccepted v.counts v.
       by : (b : Bool) → nat_le v.counts.cert (length list) ≡ b → option_map (λ begans. record { new = a.new; begans = begans }) (if b then Some first else None) ≡ Some cert → IsCertified v.counts v.interval cert a.chosen
       by false few none = absurd cc
       by true enough here = subst (λ (x : ViewCert). IsCertified v.counts v.interval x a.chosen) (same_Some (record { new = a.new; begans = first }) cert here) (with_enough (leb-true v.counts.cert (length list) enough))
+
+-- so it is certified what the kept ones certify
+pub certified_from : (v : Views) (cert : ViewCert) (chosen : Chosen) → IsFit v → v.accepted ≡ Some (record { new = cert.new; chosen = chosen }) → certificate v ≡ Some cert → IsCertified v.counts v.interval cert chosen
+certified_from v cert chosen fit kept is =
+    let a : Accepted = record { new = cert.new; chosen = chosen } in
+    let accepted : IsAccepted v.counts v.interval a = subst (λ (o : Option Accepted). IfSome o (IsAccepted v.counts v.interval)) kept fit.accepted in
+    certificate_certified v a fit accepted cert (ap (certificate_if v) (sym kept) ∙ is)
+
+pub all_certified : {E : Type 0} (v : Views) (result : Result (ViewCert × Chosen) E) → IsFit v → IfOk result (λ r. certificate v ≡ Some r.0) → IfOk result (λ r. v.accepted ≡ Some (record { new = r.0.new; chosen = r.1 }))
+    → IfOk result (λ r. IsCertified v.counts v.interval r.0 r.1)
+all_certified v (Ok r) fit is kept = certified_from v r.0 r.1 fit kept is
+all_certified v (Err e) fit is kept = is

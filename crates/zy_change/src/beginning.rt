@@ -1,6 +1,6 @@
 ghost use Rattle.std.specs.Prelude.{◌≡◌, ◌<◌, ◌≤◌, ◌++◌, length, map, take, option_copied, option_to_list, Some, IsSome, IfSome, IfOk, OnErr, OnOk};
 ghost use Rattle.zy_evidence.specs.Reading.{number_of_party};
-ghost use Rattle.zy_change.specs.Fit.{IsCertified, IsKeptBegan};
+ghost use Rattle.zy_change.specs.Fit.{IsCertified, IsFit, IsKeptBegan};
 ghost use Rattle.zy_change.specs.declared.kept.Accepted.{Accepted as Kept};
 ghost use Rattle.zy_change.specs.Views as views;
 ghost use Rattle.zy_change.specs.Ahead as forms;
@@ -59,6 +59,17 @@ impl ViewMachine {
         ensures certified { IfOk result (λ r. IsCertified self.old.counts self.old.interval r.0 r.1) }
         ensures rest { OnOk result (self.new ≡ views.without_accepted self.old) }
         ensures same { OnErr result (self.new ≡ self.old) }
+    {
+        self.take_accepted()
+    }
+
+    fn take_accepted(&mut self) -> Result<(ViewCert, Chosen), Want>
+        requires { IsSome (views.certificate self.old) }
+        ensures cert { IfOk result (λ r. views.certificate self.old ≡ Some r.0) }
+        ensures chosen { IfOk result (λ r. self.old.accepted ≡ Some (record { new = r.0.new; chosen = r.1 })) }
+        ensures rest { OnOk result (self.new ≡ views.without_accepted self.old) }
+        ensures same { OnErr result (self.new ≡ self.old) }
+        ensures fit { IsFit self.old }
     {
         let begans = self.accepted_by()?;
         match self.accepted.take() {

@@ -1,5 +1,5 @@
 -- Each step of a tied replica is lawful.
-use Rattle.std.proofs.Common.{ℕ, ◌-◌, List, [], length, refl, sym, subst, arith}
+use Rattle.std.proofs.Common.{ℕ, ◌-◌, List, [], length, sym, subst, arith}
 use Rattle.zy_base.specs.Machine.{Rules}
 use Rattle.zy_base.specs.declared.step.Event.{Event}
 use Rattle.zy_chain.specs.declared.entry.Entry.{Entry}
@@ -7,7 +7,7 @@ use Rattle.zy_law.specs.Steps.{AllMay}
 use Rattle.zy_law.specs.World.{World}
 use Rattle.zy_lawful.specs.Acts.{acts_of, world_after, history_after}
 use Rattle.zy_lawful.specs.Tied.{IsTied, IsHonestStep}
-use Rattle.zy_lawful.proofs.Goes.{lead_nowhere}
+use Rattle.zy_lawful.proofs.Goes.{lead_nowhere, same_view_at_begin}
 use Rattle.zy_lawful.proofs.Going.{IsTiedGoing}
 use Rattle.zy_lawful.proofs.Rows.{step_keeps}
 use Rattle.zy_table.specs.State.{State, own_view}
@@ -27,7 +27,7 @@ module _ {S : Type 0} (R : Rules S) (w : World) (r : ℕ) (s : State S) (h : Lis
           correct = honest.correct;
           standing = honest.tied.standing;
           number_is = let last = honest.tied.standing.last in omega arith;
-          view_is = refl;
+          view_is = same_view_at_begin (own_view s);
           runs = λ e may. may;
           links = λ d e kept. kept;
         };

@@ -1,5 +1,5 @@
 -- The entries that a step gains may run, each on the head before it.
-use Rattle.std.proofs.Common.{◌+◌, ◌-◌, true, false, List, [], ◌∷◌, ◌++◌, Option, Some, None, refl}
+use Rattle.std.proofs.Common.{◌+◌, ◌-◌, true, false, List, [], ◌∷◌, ◌++◌, Option, Some, None, refl, sym, subst}
 use Rattle.std.specs.Prelude.{nat_le}
 use Rattle.std.specs.List.{AllByRecursion}
 use Rattle.zy_admit.specs.Judging.{entry_of}
@@ -16,6 +16,7 @@ use Rattle.zy_lawful.specs.Tied.{IsGained, MayRun, MaySlotRun, MayFrameRun, MayE
 use Rattle.zy_lawful.proofs.Cases.{Cases, with_held, heard_case, timer_step_case}
 use Rattle.zy_lawful.proofs.Committed.{holding}
 use Rattle.zy_lawful.proofs.Follow.{Keeps, gather_at_keeps, one_keeps}
+use Rattle.zy_lawful.proofs.Goes.{all_of_both, gains_in-append}
 use Rattle.zy_lawful.proofs.Going.{slots_from, slots_put}
 use Rattle.zy_lawful.proofs.Own.{by_test}
 use Rattle.zy_parts.specs.declared.signed.Signed.{Signed}
@@ -38,14 +39,12 @@ module _ {S : Type 0} (R : Rules S) (w : World) where
   AreGained acts = AllByRecursion (IsGained w) (gains_in acts)
 
   gained_said : (acts : List Act) (remark : Remark) → AreGained acts → AreGained (acts ++ Says remark ∷ [])
-  gained_said [] remark all = tt
-  gained_said (Says first ∷ acts) remark all = gained_said acts remark all
-  gained_said (Gains got ∷ acts) remark all = (all.0, gained_said acts remark all.1)
+  gained_said acts remark all =
+      subst (AllByRecursion (IsGained w)) (sym (gains_in-append acts (Says remark ∷ []))) (all_of_both (IsGained w) (gains_in acts) [] all tt)
 
   gained_more : (acts : List Act) (got : Got) → AreGained acts → IsGained w got → AreGained (acts ++ Gains got ∷ [])
-  gained_more [] got all one = (one, tt)
-  gained_more (Says first ∷ acts) got all one = gained_more acts got all one
-  gained_more (Gains first ∷ acts) got all one = (all.0, gained_more acts got all.1 one)
+  gained_more acts got all one =
+      subst (AllByRecursion (IsGained w)) (sym (gains_in-append acts (Gains got ∷ []))) (all_of_both (IsGained w) (gains_in acts) (got ∷ []) all (one, tt))
 
   -- what follows an executed entry gains nothing
   gained_kept : Keeps R (λ g. AreGained g.deeds.acts)

@@ -21,7 +21,7 @@ use Rattle.zy_law.proofs.StepsLawful.{saying_lawful, standing_lawful}
 use Rattle.zy_lawful.specs.Acts.{statement_by}
 use Rattle.zy_lawful.specs.Tied.{Agrees, MayRun, MaySlotRun, IsStanding, AreOrdersUpTo, IsCommitted, IsHeldFrom, IsBoardTied}
 use Rattle.zy_lawful.proofs.Committed.{committed_said}
-use Rattle.zy_lawful.proofs.Goes.{LeadTo, lead_saying, lead_moving}
+use Rattle.zy_lawful.proofs.Goes.{LeadTo, lead_saying, lead_moving, same_view_moved, same_view_said, view_after}
 use Rattle.zy_lawful.proofs.KeptVotes.{board_said}
 use Rattle.zy_lawful.proofs.OneEntry.{standing_moved, standing_said, standing_as, moving_runs, saying_runs, up_to_said}
 use Rattle.zy_table.specs.State.{State, own_view}
@@ -65,7 +65,7 @@ pub record IsGoing {S : Type 0} (R : Rules S) (w : World) (r view number : ℕ) 
   pub correct : IsCorrect world r
   pub standing : IsStanding R world r s now
   pub number_is : standing.number ≡ at
-  pub view_is : own_view s ≡ view
+  pub view_is : own_view s ≡ view_after view acts
   pub runs : (e : Entry) → MayRun w e → MayRun world e
   pub links : (d : Digest) (e : Entry) → w.kept d e ≡ true → world.kept d e ≡ true
 
@@ -120,7 +120,7 @@ module _ {S : Type 0} (R : Rules S) (w : World) (r view number : ℕ) (h : List 
         correct = record { within = g.correct.within; honest = g.correct.honest };
         standing = standing_said R g.world r s g.now g.lawful g.agrees g.correct g.standing (y g.at) stays;
         number_is = g.number_is;
-        view_is = g.view_is;
+        view_is = g.view_is ∙ same_view_said view acts remark;
         runs = λ e may_run. saying_runs R g.world r s g.now g.lawful g.agrees g.correct g.standing (y g.at) e (g.runs e may_run);
         links = g.links;
       }
@@ -131,7 +131,7 @@ module _ {S : Type 0} (R : Rules S) (w : World) (r view number : ℕ) (h : List 
   unfolding standing_moved
   going_moved acts s g got run may =
       let b : ℕ → Stand = λ v. record { view = v; history = g.now ++ got.entry ∷ [] } in
-      let may_stand_in : MayStand g.world r (b view) = subst (λ (v : ℕ). MayStand g.world r (b v)) g.view_is may in
+      let may_stand_in : MayStand g.world r (b (view_after view acts)) = subst (λ (v : ℕ). MayStand g.world r (b v)) g.view_is may in
       record {
         world = after_standing g.world r (b (own_view s));
         at = g.at + 1;
@@ -143,7 +143,7 @@ module _ {S : Type 0} (R : Rules S) (w : World) (r view number : ℕ) (h : List 
         correct = record { within = g.correct.within; honest = g.correct.honest };
         standing = standing_moved R g.world r s g.now g.lawful g.agrees g.correct g.standing got.entry run.client;
         number_is = ap (λ (n : ℕ). n + 1) g.number_is;
-        view_is = g.view_is;
+        view_is = g.view_is ∙ same_view_moved view acts got;
         runs = λ e may_run. moving_runs R g.world r s g.now g.lawful g.agrees g.correct g.standing (b (own_view s)) e (g.runs e may_run);
         links = g.links;
       }

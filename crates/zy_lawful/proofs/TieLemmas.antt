@@ -20,7 +20,7 @@ use Rattle.zy_law.specs.Steps as law
 use Rattle.zy_law.specs.Steps.Act.{Say, Move}
 use Rattle.zy_law.specs.Steps.{IsStart, after_act, after_acts, grown, with_last}
 use Rattle.zy_law.specs.World.{Spoken, Stand, World}
-use Rattle.zy_lawful.specs.Acts.{law_acts, spoken_in, stands_in, with_more, spoken_at, stand_with}
+use Rattle.zy_lawful.specs.Acts.{law_acts, spoken_in, stands_in, with_more, spoken_at, stand_with, adopted_history, stand_adopted}
 use Rattle.zy_lawful.specs.Tied.{IsTied, IsCheckVouched, IsResponseVouched, MayRun}
 use Rattle.zy_lawful.proofs.Committed.{committed_grown}
 use Rattle.zy_lawful.proofs.KeptVotes.{board_grown, none_kept}
@@ -30,7 +30,7 @@ use Rattle.zy_seal.specs.Sealing.{SealerState}
 use Rattle.zy_table.specs.Deeds.{said_from}
 use Rattle.zy_table.specs.State.{State, start_of, own_view}
 use Rattle.zy_table.specs.declared.deeds.Act.{Act}
-use Rattle.zy_table.specs.declared.deeds.Act.TheVariants.{Says as SaysIt, Gains}
+use Rattle.zy_table.specs.declared.deeds.Act.TheVariants.{Says as SaysIt, Gains, Adopts}
 
 -- ---- the start
 
@@ -138,13 +138,23 @@ lists_after w r view number h (Gains got ∷ acts) =
     let b : Stand = stand_with view h got in
     lists_after (after_act w r (Move b)) r view (number + 1) (h ++ got.entry ∷ []) acts
     ∙ ap (λ (past : ℕ → List Stand). grown w w.asked (with_more w.said r (spoken_in r (number + 1) acts)) past w.kept) (more_last w.past r b (stands_in view (h ++ got.entry ∷ []) acts))
+lists_after w r view number h (Adopts begun common gots ∷ acts) =
+    let b : Stand = stand_adopted begun h common gots in
+    let next : List Entry = adopted_history h common gots in
+    lists_after (after_act w r (Move b)) r begun.0 (number + 1) next acts
+    ∙ ap (λ (past : ℕ → List Stand). grown w w.asked (with_more w.said r (spoken_in r (number + 1) acts)) past w.kept) (more_last w.past r b (stands_in begun.0 next acts))
+
+-- told at the next stand
+told_next : (r number pairs : ℕ) (acts : List Act) → map (λ (x : Spoken). x.when) (spoken_in r (number + pairs + 1) acts) ≡ map (λ (x : Spoken). x.when) (spoken_in r (number + (pairs + 1)) acts)
+told_next r number pairs acts =
+    let one : number + pairs + 1 ≡ number + (pairs + 1) = omega arith in
+    ap (λ (n : ℕ). map (λ (x : Spoken). x.when) (spoken_in r n acts)) one
 
 numbers_from : (me : Party) (r number pairs : ℕ) (acts : List Act) → map (λ (x : Spoken). x.when) (spoken_in r (number + pairs) acts) ≡ map (λ (x : StepSpoken). number + x.pairs) (said_from me pairs acts)
 numbers_from me r number pairs [] = refl
 numbers_from me r number pairs (SaysIt remark ∷ acts) = ap (λ (l : List ℕ). (number + pairs) ∷ l) (numbers_from me r number pairs acts)
-numbers_from me r number pairs (Gains got ∷ acts) =
-    let one : number + pairs + 1 ≡ number + (pairs + 1) = omega arith in
-    ap (λ (n : ℕ). map (λ (x : Spoken). x.when) (spoken_in r n acts)) one ∙ numbers_from me r number (pairs + 1) acts
+numbers_from me r number pairs (Gains got ∷ acts) = told_next r number pairs acts ∙ numbers_from me r number (pairs + 1) acts
+numbers_from me r number pairs (Adopts begun common gots ∷ acts) = told_next r number pairs acts ∙ numbers_from me r number (pairs + 1) acts
 
 pub numbers_are : (me : Party) (r number : ℕ) (acts : List Act) → map (λ (x : Spoken). x.when) (spoken_in r number acts) ≡ map (λ (x : StepSpoken). number + x.pairs) (said_from me 0 acts)
 numbers_are me r number acts =

@@ -1,3 +1,4 @@
+pub mod BeginningLemmas
 pub mod Owed
 pub mod RangeLemmas
 pub mod ReportLemmas

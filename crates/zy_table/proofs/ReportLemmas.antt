@@ -114,7 +114,7 @@ fits-back s place m below fits =
     }
 
 -- and its part from a place on
-fits-settled : (s : Stretch) (place : ℕ) (m : Mark) → s.base.place ≤ place → place ≤ end_of s → Fits s m → Fits (from_place place s) m
+pub fits-settled : (s : Stretch) (place : ℕ) (m : Mark) → s.base.place ≤ place → place ≤ end_of s → Fits s m → Fits (from_place place s) m
 fits-settled s place m above below fits =
     let within = fits.within in
     let n : ℕ = place - s.base.place in
@@ -140,7 +140,7 @@ some_head true found head is = absurd cc
 some_head false found head is = (refl, same_Some found head is)
 
 -- a mark of the stretch's own fits it
-own-fits : (s : Stretch) (place : ℕ) (head : Digest) → head_in s place ≡ Some head → Fits s (record { place = place; head = head })
+pub own-fits : (s : Stretch) (place : ℕ) (head : Digest) → head_in s place ≡ Some head → Fits s (record { place = place; head = head })
 own-fits s place head is =
     let found = some_head (nat_lt place s.base.place || nat_lt (end_of s) place) (head_from s.base.head (take (place - s.base.place) s.entries)) head is in
     let outside = or_parts (nat_lt place s.base.place) (nat_lt (end_of s) place) found.0 in
@@ -191,13 +191,20 @@ past : {A : Type 0} (b : Bool) (rule : A) (rest : Option A) → (if b then rest 
 past true rule rest none = (refl, none)
 past false rule rest none = absurd cc
 
-proven : (counts : Counts) (told : Told) → rule_of_proofs counts (next_change told) ≡ None → Proven counts told
-proven counts told none =
+proven : (counts : Counts) (c : Change) → rule_of_proofs counts c ≡ None → Proven counts c.told
+proven counts c none =
     let last = past _ rules.LastView _ none in
     let began = past _ rules.Began _ last.1 in
     let spec = past _ rules.Spec _ began.1 in
     let stable = past _ rules.Stable _ spec.1 in
     record { began = began.0; spec = spec.0; stable = stable.0 }
+
+-- so what it tells of its stable checkpoint is proven
+pub rule-stable : (counts : Counts) (interval : ℕ) (c : Change) → rule_of counts interval c ≡ None → is_stable_proven counts c.told ≡ true
+rule-stable counts interval c none = let p = proven counts c (both_none _ _ none).0 in p.stable
+
+pub true-stable : (v : Views) (told : Told) → IsTrueReport v told → is_stable_proven v.counts told ≡ true
+true-stable v told is = rule-stable v.counts v.interval (next_change told) is.keeps_rules
 
 unbroken : (counts : Counts) (told : Told) → Proven counts told → rule_of_proofs counts (next_change told) ≡ None
 unbroken counts told p = rw (lt-ltb told.last_view.0 (told.last_view.0 + 1) (omega arith), p.began, p.spec, p.stable) refl
@@ -460,7 +467,7 @@ module _ {S : Type 0} (s : State S) (is : TellsTrue s) (same : s.views.counts �
       with_it : TellsTrue kept
       with_it =
           let was = both_none _ _ is.keeps_rules in
-          let others = proven s.views.counts (report_of s) was.0 in
+          let others = proven s.views.counts (next_change (report_of s)) was.0 in
           let spec = ap (λ (c : Counts). is_spec_proven c s.views.last_view (Some specs)) same ∙ proves in
           let in_range : IsToldInRange (report_of kept) =
           record {

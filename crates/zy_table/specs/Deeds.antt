@@ -10,7 +10,7 @@ use Rattle.zy_base.specs.declared.step.Spoken.{Spoken}
 use Rattle.zy_parts.specs.Numbers as numbers
 use Rattle.zy_parts.specs.Signing.{text_of}
 use Rattle.zy_parts.specs.Statements.{order_fields, spec_fields, local_fields, confirm_fields, hole_fields, hate_fields, check_fields}
-use Rattle.zy_parts.specs.Reports.{change_fields, new_fields, began_fields}
+use Rattle.zy_parts.specs.Reports.{change_fields, new_fields, began_fields, fetch_fields}
 use Rattle.zy_frames.specs.declared.frame.Frame.{Frame}
 use Rattle.zy_vframes.specs.declared.frame.ViewFrame.{ViewFrame}
 use Rattle.zy_table.specs.declared.deeds.AnyFrame.{AnyFrame}
@@ -21,7 +21,7 @@ use Rattle.zy_table.specs.declared.deeds.Body.{Body}
 use Rattle.zy_table.specs.declared.deeds.Body.TheVariants as bodies
 use Rattle.zy_table.specs.declared.deeds.Got.{Got}
 use Rattle.zy_table.specs.declared.deeds.Act.{Act}
-use Rattle.zy_table.specs.declared.deeds.Act.TheVariants.{Says, Gains}
+use Rattle.zy_table.specs.declared.deeds.Act.TheVariants.{Says, Gains, Adopts}
 use Rattle.zy_table.specs.declared.deeds.Deeds.{Deeds}
 use Rattle.zy_table.specs.Sending.{outgoing_to}
 use Rattle.zy_table.specs.State.{State}
@@ -86,16 +86,20 @@ text_by me (bodies.Check check) = text_of numbers.check check_fields me check
 text_by me (bodies.Change change) = text_of numbers.change change_fields me change
 text_by me (bodies.New new) = text_of numbers.new new_fields me new
 text_by me (bodies.Began began) = text_of numbers.began began_fields me began
+text_by me (bodies.Fetch fetch) = text_of numbers.fetch fetch_fields me fetch
 
--- the statements in order, each with what stood, and the number of entries that were executed before it
+-- The statements in order, each with what stood, and how often the view or the history changed before it: once for each
+-- entry that was executed, and once for each view that began.
 abbrev pub said_from : Party → ℕ → List Act → List Spoken
 said_from me pairs [] = []
 said_from me pairs (Says remark ∷ acts) =
     record { text = text_by me remark.body; stood = Some remark.stood; pairs = pairs } ∷ said_from me pairs acts
 said_from me pairs (Gains got ∷ acts) = said_from me (pairs + 1) acts
+said_from me pairs (Adopts view common gots ∷ acts) = said_from me (pairs + 1) acts
 
 -- the entries in order
 abbrev pub gains_in : List Act → List Got
 gains_in [] = []
 gains_in (Says remark ∷ acts) = gains_in acts
 gains_in (Gains got ∷ acts) = got ∷ gains_in acts
+gains_in (Adopts view common gots ∷ acts) = gots ++ gains_in acts

@@ -15,7 +15,12 @@ pub mod Hates
 pub mod Misbehaviour
 pub mod Changes
 pub mod Adopting
+pub mod Beginning
+pub mod Confirming
+pub mod Fetching
+pub mod Standing
 pub mod Whole
+pub mod LeavingStep
 pub mod ClientState
 pub mod ClientRows
 pub mod Sending

@@ -19,6 +19,7 @@ use Rattle.zy_parts.specs.declared.statements.Spec.{Spec}
 use Rattle.zy_parts.specs.declared.statements.Hate.{Hate}
 use Rattle.zy_parts.specs.declared.statements.Hole.{Hole}
 use Rattle.zy_parts.specs.declared.statements.Local.{Local}
+use Rattle.zy_parts.specs.declared.reports.Fetch.{Fetch}
 use Rattle.zy_exec.specs.Replay.{origin}
 use Rattle.zy_exec.specs.Kept.{Kept, last_place, now_of}
 use Rattle.zy_exec.specs.Shots.{digest_of_snapshot}
@@ -54,6 +55,8 @@ pub record State (S : Type 0) : Type 0 where
   pub locals : List (Signed Local)
   -- the hate that it said last
   pub hate : Option (Signed Hate)
+  -- what it asked other replicas for, once for each snapshot
+  pub fetches : List (Signed Fetch)
 
 -- a replica that begins
 abbrev pub start_of : {S : Type 0} → Rules S → ℕ → ReplicaId → Counts → Keys → SealerState → State S
@@ -72,6 +75,7 @@ start_of R interval me counts keys sealer =
       pending = replicate 64 None;
       locals = [];
       hate = None;
+      fetches = [];
     }
 
 -- ---- what is read of it

@@ -1,5 +1,5 @@
 -- What a replica makes of an event where it takes part in changes of view.
-use Rattle.std.specs.Prelude.{ℕ, ◌&&◌, Bool, true, false, if◌then◌else◌, List, Option, Some, None, Result, Ok, Err}
+use Rattle.std.specs.Prelude.{ℕ, ◌&&◌, Bool, true, if◌then◌else◌, List, Option, Some, None, Result, Ok, Err}
 use Rattle.std.specs.List.{list_all}
 use Rattle.zy_base.specs.Machine.{Rules}
 use Rattle.zy_base.specs.declared.counts.Counts.{Counts}
@@ -17,6 +17,7 @@ use Rattle.zy_parts.specs.declared.reports.Told.{Told}
 use Rattle.zy_parts.specs.declared.signed.Signed.{Signed}
 use Rattle.zy_parts.specs.declared.statements.Spec.{Spec}
 use Rattle.zy_frames.specs.declared.frame.Frame.{Frame}
+use Rattle.zy_frames.specs.declared.frame.OrderFrame.{OrderFrame}
 use Rattle.zy_frames.specs.declared.frame.Frame.TheVariants as frames
 use Rattle.zy_frames.specs.Frames as plain
 use Rattle.zy_vframes.specs.declared.frame.ViewFrame.{ViewFrame}
@@ -24,13 +25,20 @@ use Rattle.zy_vframes.specs.declared.frame.ViewFrame.TheVariants as view_frames
 use Rattle.zy_vframes.specs.ViewFrames as views
 use Rattle.zy_vframes.specs.Parts as view_parts
 use Rattle.zy_seal.specs.Screening.{screen}
+use Rattle.zy_admit.specs.Orders.{stored_in}
+use Rattle.zy_admit.specs.Judging.{judge_in}
+use Rattle.zy_admit.specs.declared.judging.Admit.{Admit}
+use Rattle.zy_admit.specs.declared.judging.Admit.TheVariants as admits
 use Rattle.zy_table.specs.State.{State}
 use Rattle.zy_table.specs.Deeds.{Outcome, refused, ends, begin}
 use Rattle.zy_table.specs.Roles.{in_role, is_replica, is_primary_of, view_cause}
-use Rattle.zy_table.specs.Leaving.{concluded, goes}
+use Rattle.zy_table.specs.Orders.{position_of, order_as}
 use Rattle.zy_table.specs.Hates.{hate, on_request_timer, on_change_timer}
-use Rattle.zy_table.specs.Misbehaviour.{pom, order_or_blame}
+use Rattle.zy_table.specs.Misbehaviour.{pom, tell_all}
 use Rattle.zy_table.specs.Changes.{change}
+use Rattle.zy_table.specs.Beginning.{finished}
+use Rattle.zy_table.specs.Confirming.{new_view, confirmation, view_certificate}
+use Rattle.zy_table.specs.Fetching.{fetch, state_transfer}
 use Rattle.zy_table.specs.Step.{unless, row}
 
 -- ---- roles
@@ -63,16 +71,30 @@ is_view_frame_in_role counts (view_frames.State place snapshot) = true
 
 -- ---- the rows
 
+-- an order that differs from the kept one of its place is told to all, and the view is left
+abbrev pub order_judged : {S : Type 0} → Rules S → State S → OrderFrame → Admit → Outcome S
+order_judged R s both admits.Evidence =
+    finished R s (tell_all R s both.order (stored_in s.orders both.order.stmt.place.0))
+order_judged R s both admits.Next = order_as R s both admits.Next
+order_judged R s both admits.Held = order_as R s both admits.Held
+order_judged R s both (admits.Refused cause) = order_as R s both (admits.Refused cause)
+
+abbrev pub order : {S : Type 0} → Rules S → State S → OrderFrame → Outcome S
+order R s both = order_judged R s both (judge_in s.orders both.order.stmt both.ask (position_of R s both))
+
 abbrev pub plain_row : {S : Type 0} → Rules S → State S → Frame → Outcome S
-plain_row R s (frames.Order both) = unless (view_cause s both.order.stmt.view.0) s (order_or_blame R s both)
-plain_row R s (frames.Hate vote) = concluded s (hate R s vote)
-plain_row R s (frames.Pom first second) = concluded s (pom R s first second)
+plain_row R s (frames.Order both) = unless (view_cause s both.order.stmt.view.0) s (order R s both)
+plain_row R s (frames.Hate vote) = finished R s (hate R s vote)
+plain_row R s (frames.Pom first second) = finished R s (pom R s first second)
 plain_row R s frame = row R s frame
 
--- of a view change, a replica hears reports so far
 abbrev pub view_row : {S : Type 0} → Rules S → State S → ViewFrame → Outcome S
-view_row R s (view_frames.ViewChange vote) = concluded s (change R s vote)
-view_row R s frame = refused causes.WrongRole s
+view_row R s (view_frames.ViewChange vote) = finished R s (change R s vote)
+view_row R s (view_frames.NewView new) = finished R s (new_view R s new)
+view_row R s (view_frames.ViewConfirm vote) = finished R s (confirmation R s vote)
+view_row R s (view_frames.ViewCert cert) = finished R s (view_certificate R s cert)
+view_row R s (view_frames.Fetch vote) = finished R s (fetch R s vote)
+view_row R s (view_frames.State place snapshot) = finished R s (state_transfer R s place snapshot)
 
 -- ---- a step
 
@@ -94,8 +116,8 @@ decoded_as R s bytes (Err fault) = refused (causes.NotFrame fault) s
 decoded_as R s bytes (Ok frame) = unless (screen s.keys (plain.parts_of frame)) s (hear_plain R s frame)
 
 abbrev pub timer : {S : Type 0} → Rules S → State S → TimerKind → Outcome S
-timer R s timers.Request = concluded s (on_request_timer R s s.views.mode)
-timer R s timers.Change = concluded s (on_change_timer s s.views.mode)
+timer R s timers.Request = finished R s (on_request_timer R s s.views.mode)
+timer R s timers.Change = finished R s (on_change_timer s s.views.mode)
 timer R s timers.Answer = ends Taken (begin s)
 
 -- the outcome of an event

@@ -1,7 +1,7 @@
-use zy_base::{Bytes, Cause, Digest, Items, Party, Place, Stood};
+use zy_base::{Bytes, Cause, Digest, Items, Party, Place, Stood, View};
 use zy_chain::Entry;
 use zy_frames::Frame;
-use zy_parts::{Began, Change, Check, Confirm, Hate, Hole, Local, New, Order, Spec};
+use zy_parts::{Began, Change, Check, Confirm, Fetch, Hate, Hole, Local, New, Order, Spec};
 use zy_vframes::ViewFrame;
 
 /// To whom a frame goes.
@@ -39,6 +39,7 @@ pub enum Body {
     Change(Change),
     New(New),
     Began(Began),
+    Fetch(Fetch),
 }
 
 /// A statement with what stood when it was signed.
@@ -63,11 +64,18 @@ pub struct Got {
 /// The entries that a step executed, in order.
 pub type Gains = Items<Got>;
 
-/// A statement or an entry of a step, in the order in which they came.
+/// A statement, an entry or an adoption of a step, in the order in which they came.
 #[derive(Debug, Drop)]
 pub enum Act {
     Says(Remark),
     Gains(Got),
+    /// A view began: that view, the place up to which the history stayed the same, and the entries that were executed
+    /// above it, in order.
+    Adopts {
+        view: View,
+        common: Place,
+        gots: Gains,
+    },
 }
 
 /// What a step does beside changing the replica: the frames that it sends, and the statements and entries in order.

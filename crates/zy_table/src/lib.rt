@@ -5,9 +5,11 @@
 mod client;
 mod deeds;
 mod kept;
+mod laws;
 mod sending;
 
 pub use client::{Commit, Done, Path, Response};
 pub use deeds::{Act, AnyFrame, Body, Deeds, Gains, Got, Remark, Sent, To, Verdict};
 pub use kept::{OwnCheckpoint, Pending};
+pub use laws::{one_place, rests, stays};
 pub use sending::outgoing;

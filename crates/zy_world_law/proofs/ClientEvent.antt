@@ -54,7 +54,7 @@ use Rattle.zy_world_law.proofs.KeptOrHeard.{IsSame, Comes, Tells, kept_or_brough
 use Rattle.zy_world_law.proofs.KeptTexts.{IsKeeping}
 use Rattle.zy_world_law.proofs.NotForged.{parts_said}
 use Rattle.zy_world_law.proofs.ReadBack.{local_back}
-use Rattle.zy_world_law.proofs.ToldSteps.{all_of_both}
+use Rattle.zy_lawful.proofs.Goes.{all_of_both}
 use Rattle.zy_world_law.proofs.Vouched.{part_vouched}
 
 abbrev heard_as : List ℕ → Event

@@ -43,7 +43,7 @@ use Rattle.zy_world_law.proofs.HeldLaw.{HeldLaw}
 use Rattle.zy_world_law.proofs.KeptOrHeard.{IsSame}
 use Rattle.zy_world_law.proofs.ReadBack.{spec_back}
 use Rattle.zy_world_law.proofs.Seats.{seat_of}
-use Rattle.zy_world_law.proofs.ToldSteps.{all_of_both}
+use Rattle.zy_lawful.proofs.Goes.{all_of_both}
 use Rattle.zy_world_law.proofs.Vouched.{text_vouched}
 
 -- ---- equal responses

@@ -1,5 +1,5 @@
 -- The replies and snapshots of a step's entries are the machine's along the history.
-use Rattle.std.proofs.Common.{◌≡◌, ℕ, ◌+◌, ◌≤◌, Bool, true, false, List, [], ◌∷◌, ◌++◌, length, Option, Some, None, refl, sym, ap, ◌∙◌, subst, arith}
+use Rattle.std.proofs.Common.{◌≡◌, ℕ, ◌+◌, ◌≤◌, Bool, true, false, List, [], ◌∷◌, ◌++◌, length, take, Option, Some, None, refl, sym, ap, ◌∙◌, subst, arith}
 use Rattle.std.specs.Prelude.{nat_le}
 use Rattle.zy_admit.specs.Judging.{entry_of}
 use Rattle.zy_admit.specs.Orders.{slots_above}
@@ -18,10 +18,11 @@ use Rattle.zy_exec.proofs.ReplayLemmas.{place-along}
 use Rattle.zy_exec.proofs.SettleLemmas.{stands_snapshot}
 use Rattle.zy_frames.specs.declared.frame.Frame.{Frame}
 use Rattle.zy_frames.specs.declared.frame.OrderFrame.{OrderFrame}
-use Rattle.zy_lawful.specs.Acts.{history_after}
+use Rattle.zy_lawful.specs.Acts.{adopted_history, history_after}
 use Rattle.zy_lawful.proofs.Cases.{Cases, with_held, heard_case, timer_step_case}
 use Rattle.zy_lawful.proofs.Committed.{holding}
 use Rattle.zy_lawful.proofs.Follow.{Keeps, gather_at_keeps, one_keeps, stands_wherever}
+use Rattle.zy_lawful.proofs.Goes.{history_after-append}
 use Rattle.zy_lawful.proofs.Own.{by_test}
 use Rattle.zy_parts.specs.declared.signed.Signed.{Signed}
 use Rattle.zy_parts.specs.declared.statements.Local.{Local}
@@ -34,7 +35,7 @@ use Rattle.zy_table.specs.Running.{executed, fits_end, got_of, respond, run, run
 use Rattle.zy_table.specs.State.{State, leaves_of}
 use Rattle.zy_table.specs.Step.{step}
 use Rattle.zy_table.specs.declared.deeds.Act.{Act}
-use Rattle.zy_table.specs.declared.deeds.Act.TheVariants.{Says, Gains}
+use Rattle.zy_table.specs.declared.deeds.Act.TheVariants.{Says, Gains, Adopts}
 use Rattle.zy_table.specs.declared.deeds.Got.{Got}
 use Rattle.zy_table.specs.declared.deeds.Remark.{Remark}
 use Rattle.zy_table.specs.declared.kept.OwnCheckpoint.{OwnCheckpoint}
@@ -44,33 +45,25 @@ pub record IsAnswer {S : Type 0} (R : Rules S) (interval : ℕ) (h : List Entry)
   pub reply : got.reply ≡ R.reply (along R (origin R) h).state got.entry.client got.entry.op
   pub snapshot : got.snapshot ≡ snapshot_at R interval (h ++ got.entry ∷ []) (length h + 1)
 
+-- entries one after another, after a history
+abbrev pub AreAnswersAlong : {S : Type 0} → Rules S → ℕ → List Entry → List Got → Type 0
+AreAnswersAlong R interval h [] = Unit {0}
+AreAnswersAlong R interval h (got ∷ gots) = IsAnswer R interval h got × AreAnswersAlong R interval (h ++ got.entry ∷ []) gots
+
 abbrev pub AreAnswers : {S : Type 0} → Rules S → ℕ → List Entry → List Act → Type 0
 AreAnswers R interval h [] = Unit {0}
 AreAnswers R interval h (Says remark ∷ acts) = AreAnswers R interval h acts
 AreAnswers R interval h (Gains got ∷ acts) = IsAnswer R interval h got × AreAnswers R interval (h ++ got.entry ∷ []) acts
+AreAnswers R interval h (Adopts begun common gots ∷ acts) =
+    AreAnswersAlong R interval (take common.0 h) gots × AreAnswers R interval (adopted_history h common gots) acts
 
--- ---- one act more
+-- ---- more acts
 
-history_said : (h : List Entry) (acts : List Act) (remark : Remark) → history_after h (acts ++ Says remark ∷ []) ≡ history_after h acts
-history_said h [] remark = refl
-history_said h (Says first ∷ acts) remark = history_said h acts remark
-history_said h (Gains got ∷ acts) remark = history_said (h ++ got.entry ∷ []) acts remark
-
-history_more : (h : List Entry) (acts : List Act) (got : Got) → history_after h (acts ++ Gains got ∷ []) ≡ history_after h acts ++ got.entry ∷ []
-history_more h [] got = refl
-history_more h (Says first ∷ acts) got = history_more h acts got
-history_more h (Gains first ∷ acts) got = history_more (h ++ first.entry ∷ []) acts got
-
-module _ {S : Type 0} (R : Rules S) (interval : ℕ) where
-  answers_said : (h : List Entry) (acts : List Act) (remark : Remark) → AreAnswers R interval h acts → AreAnswers R interval h (acts ++ Says remark ∷ [])
-  answers_said h [] remark all = tt
-  answers_said h (Says first ∷ acts) remark all = answers_said h acts remark all
-  answers_said h (Gains got ∷ acts) remark all = (all.0, answers_said (h ++ got.entry ∷ []) acts remark all.1)
-
-  answers_more : (h : List Entry) (acts : List Act) (got : Got) → AreAnswers R interval h acts → IsAnswer R interval (history_after h acts) got → AreAnswers R interval h (acts ++ Gains got ∷ [])
-  answers_more h [] got all one = (one, tt)
-  answers_more h (Says first ∷ acts) got all one = answers_more h acts got all one
-  answers_more h (Gains first ∷ acts) got all one = (all.0, answers_more (h ++ first.entry ∷ []) acts got all.1 one)
+answers-append : {S : Type 0} (R : Rules S) (interval : ℕ) (h : List Entry) (xs ys : List Act) → AreAnswers R interval h xs → AreAnswers R interval (history_after h xs) ys → AreAnswers R interval h (xs ++ ys)
+answers-append R interval h [] ys first later = later
+answers-append R interval h (Says remark ∷ xs) ys first later = answers-append R interval h xs ys first later
+answers-append R interval h (Gains got ∷ xs) ys first later = (first.0, answers-append R interval (h ++ got.entry ∷ []) xs ys first.1 later)
+answers-append R interval h (Adopts begun common gots ∷ xs) ys first later = (first.0, answers-append R interval (adopted_history h common gots) xs ys first.1 later)
 
 -- ---- a step
 
@@ -88,8 +81,8 @@ module _ {S : Type 0} (R : Rules S) (interval : ℕ) (h : List Entry) where
   told : (g g' : Going S) (remark : Remark) → g'.deeds.acts ≡ g.deeds.acts ++ Says remark ∷ [] → g'.state.kept ≡ g.state.kept → Answered g → Answered g'
   told g g' remark acts kept is =
       record {
-        answers = subst (λ (l : List Act). AreAnswers R interval h l) (sym acts) (answers_said R interval h g.deeds.acts remark is.answers);
-        stands = subst (λ (l : List Entry). StandsFor R g'.state.kept l) (sym (ap (history_after h) acts ∙ history_said h g.deeds.acts remark))
+        answers = subst (λ (l : List Act). AreAnswers R interval h l) (sym acts) (answers-append R interval h g.deeds.acts (Says remark ∷ []) is.answers tt);
+        stands = subst (λ (l : List Entry). StandsFor R g'.state.kept l) (sym (ap (history_after h) acts ∙ history_after-append h g.deeds.acts (Says remark ∷ [])))
             (subst (λ (k : Kept S). StandsFor R k (history_after h g.deeds.acts)) (sym kept) is.stands);
         same = ap (λ (k : Kept S). k.interval) kept ∙ is.same;
       }
@@ -115,18 +108,20 @@ module _ {S : Type 0} (R : Rules S) (interval : ℕ) (h : List Entry) where
       let e : Entry = entry_of o.ask in
       let got : Got = got_of R g.state o.ask in
       let now : List Entry = history_after h g.deeds.acts in
-      let after : history_after h (g.deeds.acts ++ Gains got ∷ []) ≡ now ++ e ∷ [] = history_more h g.deeds.acts got in
+      let after : history_after h (g.deeds.acts ++ Gains got ∷ []) ≡ now ++ e ∷ [] = history_after-append h g.deeds.acts (Gains got ∷ []) in
       let longer_stands : StandsFor R (longer k e) (now ++ e ∷ []) = stands_run R k now e so_far.stands in
       let place : at k ≡ length now + 1 = omega (arith, place-along R k.base k.entries, stands_end R k now so_far.stands) in
       let above : k.base.place ≤ at k = omega (arith, place-along R k.base k.entries) in
       record {
-        answers = answers_more R interval h g.deeds.acts got so_far.answers
-            (record {
-              reply = ap (λ (p : Point S). R.reply p.state e.client e.op) (stands_leads R k now so_far.stands);
-              snapshot = stands_snapshot R (longer k e) (now ++ e ∷ []) (at k) longer_stands above
-                  ∙ ap (λ (i : ℕ). snapshot_at R i (now ++ e ∷ []) (at k)) so_far.same
-                  ∙ ap (λ (n : ℕ). snapshot_at R interval (now ++ e ∷ []) n) place;
-            });
+        answers = answers-append R interval h g.deeds.acts (Gains got ∷ []) so_far.answers (
+          record {
+            reply = ap (λ (p : Point S). R.reply p.state e.client e.op) (stands_leads R k now so_far.stands);
+            snapshot = stands_snapshot R (longer k e) (now ++ e ∷ []) (at k) longer_stands above
+                ∙ ap (λ (i : ℕ). snapshot_at R i (now ++ e ∷ []) (at k)) so_far.same
+                ∙ ap (λ (n : ℕ). snapshot_at R interval (now ++ e ∷ []) n) place;
+          },
+          tt,
+        );
         stands = subst (λ (l : List Entry). StandsFor R (longer k e) l) (sym after) longer_stands;
         same = so_far.same;
       }

@@ -12,6 +12,7 @@ use Rattle.zy_client.specs.Held.{Holds}
 use Rattle.zy_lawful.specs.Tied.{MayEventRun}
 use Rattle.zy_parts.specs.declared.signed.Signed.{Signed}
 use Rattle.zy_parts.specs.declared.statements.Ask.{Ask}
+use Rattle.zy_lawful.proofs.Goes.{all_of_rest}
 use Rattle.zy_table.specs.ClientRows.{kept_of}
 use Rattle.zy_table.specs.ClientState.{ClientOutcome, client_outgoing}
 use Rattle.zy_table.specs.Deeds.{outgoing_of}
@@ -30,7 +31,7 @@ use Rattle.zy_world_law.proofs.BagStays.{bag_good}
 use Rattle.zy_world_law.proofs.ClientStep.{client_good, own_seat, completed_after}
 use Rattle.zy_world_law.proofs.DoneStays.{done_good}
 use Rattle.zy_world_law.proofs.KeptOrHeard.{IsSame}
-use Rattle.zy_world_law.proofs.KeptTexts.{IsKeeping, Stay, all_kept, kept_behind}
+use Rattle.zy_world_law.proofs.KeptTexts.{IsKeeping, Stay, all_kept}
 use Rattle.zy_world_law.proofs.ReplicaStep.{replica_good}
 use Rattle.zy_world_law.proofs.TextsStay.{texts_good}
 
@@ -78,7 +79,7 @@ module _ {S : Type 0} (R : Rules S) (w : World S) (good : IsGood R w) where
       let w1 : World S = record w { texts = k.texts' } in
       let good1 : IsGood R w1 = texts_good R w k.texts' k.keeping.stay good in
       let good2 : IsGood R (with_replica w1 id (stepped x o)) =
-      replica_good R w1 good1 id x at event (asks k.texts' good1) (kept_behind texts (step_texts o.deeds.acts) k.texts' k.keeping.kept) in
+      replica_good R w1 good1 id x at event (asks k.texts' good1) (all_of_rest (IsKept k.texts') texts (step_texts o.deeds.acts) k.keeping.kept) in
       let w2 : World S = with_replica w1 id (stepped x o) in
       let good3 : IsGood R (with_sent w2 (outgoing_of o.state.me.0 o.state.counts.n o.deeds.sent)) = bag_good R w2 w2.leaves _ w2.muted good2 in
       subst (λ (u : World S). IsAfter R w u) k.world (record { good = good3; texts = k.keeping.stay; more = []; done = sym (append-nil w.done) })

@@ -1,5 +1,5 @@
 -- Texts that were brought are kept, and those that were kept stay.
-use Rattle.std.proofs.Common.{◌≡◌, ℕ, Bool, true, false, cond, List, [], ◌∷◌, ◌++◌, Option, Some, None, Result, Ok, Err, refl, sym, ap, ◌∙◌, subst}
+use Rattle.std.proofs.Common.{◌≡◌, ℕ, Bool, true, false, cond, List, [], ◌∷◌, Option, Some, None, Result, Ok, Err, refl, sym, ap, ◌∙◌, subst}
 use Rattle.std.specs.List.{AllByRecursion}
 use Rattle.std.specs.Str.{bytes_eq}
 use Rattle.zy_base.specs.declared.ids.Digest.{Digest}
@@ -63,14 +63,6 @@ first_kept text brought texts more rest (Ok next) is e =
 pub all_kept : (brought : List (List ℕ)) (texts more : Texts) → keep_all brought texts ≡ Ok more → IsKeeping texts brought more
 all_kept [] texts more e = let is : texts ≡ more = ok_is texts more e in record { kept = tt; stay = subst (λ (t : Texts). Stay texts t) is (λ d text was. was) }
 all_kept (text ∷ brought) texts more e = first_kept text brought texts more (λ next. all_kept brought next more) (keep texts text) refl e
-
-pub kept_front : (a b : List (List ℕ)) (texts : Texts) → AllByRecursion (IsKept texts) (a ++ b) → AllByRecursion (IsKept texts) a
-kept_front [] b texts all = tt
-kept_front (text ∷ a) b texts all = (all.0, kept_front a b texts all.1)
-
-pub kept_behind : (a b : List (List ℕ)) (texts : Texts) → AllByRecursion (IsKept texts) (a ++ b) → AllByRecursion (IsKept texts) b
-kept_behind [] b texts all = all
-kept_behind (text ∷ a) b texts all = kept_behind a b texts all.1
 
 -- ---- the test
 

@@ -17,7 +17,7 @@ use Rattle.zy_parts.specs.declared.statements.Order.{Order}
 use Rattle.zy_parts.specs.declared.statements.Spec.{Spec}
 use Rattle.zy_table.specs.Deeds.{text_by}
 use Rattle.zy_table.specs.declared.deeds.Act.{Act}
-use Rattle.zy_table.specs.declared.deeds.Act.TheVariants.{Says, Gains}
+use Rattle.zy_table.specs.declared.deeds.Act.TheVariants.{Says, Gains, Adopts}
 use Rattle.zy_table.specs.declared.deeds.Body.{Body}
 use Rattle.zy_table.specs.declared.deeds.Body.TheVariants as bodies
 use Rattle.zy_wire.proofs.Parts.{wide8, wide32, whole_again}
@@ -26,8 +26,8 @@ use Rattle.zy_wire.specs.Spelling.{Spelling, IsBytes, IsExact, bytes_of, whole}
 use Rattle.zy_world_law.specs.Seen.{fields_of, statement_in, entry_in, order_read, spec_read, local_read, check_read, ask_read}
 use Rattle.std.specs.Prelude.{[], ◌∷◌}
 
--- what can be spelled; of a statement that asks for orders or for another view nothing is read, and none of a view change
--- is said in view 0
+-- what can be spelled; of a statement that asks for orders, for another view or for a snapshot nothing is read, and none of a
+-- view change is said in view 0
 abbrev pub FitsBody : Body → Type 0
 FitsBody (bodies.Order order) = order_fields.Fits order
 FitsBody (bodies.Spec spec) = spec_fields.Fits spec
@@ -39,11 +39,13 @@ FitsBody (bodies.Check check) = check_fields.Fits check
 FitsBody (bodies.Change change) = ⊥
 FitsBody (bodies.New new) = ⊥
 FitsBody (bodies.Began began) = ⊥
+FitsBody (bodies.Fetch fetch) = Unit {0}
 
 abbrev pub FitAll : List Act → Type 0
 FitAll [] = Unit {0}
 FitAll (Says remark ∷ acts) = FitsBody remark.body × FitAll acts
 FitAll (Gains got ∷ acts) = FitAll acts
+FitAll (Adopts begun common gots ∷ acts) = FitAll acts
 
 five : (by : Party) → length (party_bytes by) ≡ 5
 unfolding party_bytes bytes_of
@@ -89,6 +91,7 @@ body_back by r (bodies.Check check) fits = check_back by check fits
 body_back by r (bodies.Change change) fits = absurd fits
 body_back by r (bodies.New new) fits = absurd fits
 body_back by r (bodies.Began began) fits = absurd fits
+body_back by r (bodies.Fetch fetch) fits = refl
 
 -- ---- a response whose client's number may not fit
 

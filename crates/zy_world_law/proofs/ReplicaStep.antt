@@ -22,6 +22,7 @@ use Rattle.zy_law.specs.World as law
 use Rattle.zy_law.specs.World.{Stand}
 use Rattle.zy_lawful.proofs.EachStep as each
 use Rattle.zy_lawful.proofs.GainedEntries.{step_gained}
+use Rattle.zy_lawful.proofs.Goes.{all_of_both, all_of_front, all_of_rest}
 use Rattle.zy_lawful.proofs.TieLemmas.{lists_after, tied_after_acts}
 use Rattle.zy_lawful.specs.Acts.{acts_of, world_after, history_after, spoken_in, stands_in, with_more}
 use Rattle.zy_lawful.specs.Tied as lawful
@@ -40,12 +41,11 @@ use Rattle.zy_world_law.specs.Texts.{step_texts, got_texts, snapshot_texts, is_l
 use Rattle.zy_world_law.specs.World.{World, Replica, Client, Completed, Remark, Texts, replica_at, client_at, correct_in}
 use Rattle.zy_world_law.proofs.CommitStays.{commit_later}
 use Rattle.zy_world_law.proofs.GainedReplies.{AreAnswers, gained_replies}
-use Rattle.zy_world_law.proofs.KeptTexts.{kept_front, kept_behind}
 use Rattle.zy_world_law.proofs.OneText.{link_of, link_is}
 use Rattle.zy_world_law.proofs.ReadBack.{FitAll}
 use Rattle.zy_world_law.proofs.Seats.{get_set, get_set_other, seat_of}
 use Rattle.zy_world_law.proofs.ShortHistories.{short_steps, step_same}
-use Rattle.zy_world_law.proofs.ToldSteps.{own_more, other_more, more_kept, map_append, spoken_told, replies_kept, history_replied, snapshots_kept, history_snapped, all_of_both}
+use Rattle.zy_world_law.proofs.ToldSteps.{own_more, other_more, more_kept, map_append, spoken_told, replies_kept, history_replied, snapshots_kept, history_snapped}
 
 -- ---- a tied replica's last stand
 
@@ -63,7 +63,7 @@ module _ (texts : Texts) (v : law.World) (kept_is : v.kept ≡ (λ head e. is_li
   one_of : (got : Got) (gots : List Got) → AllByRecursion (IsKept texts) (flat_map got_texts (got ∷ gots)) → AllByRecursion (IsKept texts) (got_texts got) × AllByRecursion (IsKept texts) (flat_map got_texts gots)
   one_of got gots all =
       let apart : AllByRecursion (IsKept texts) (got_texts got ++ flat_map got_texts gots) = subst (λ (l : List (List ℕ)). AllByRecursion (IsKept texts) l) (flat_map-cons got_texts got gots) all in
-      (kept_front (got_texts got) (flat_map got_texts gots) texts apart, kept_behind (got_texts got) (flat_map got_texts gots) texts apart)
+      (all_of_front (IsKept texts) (got_texts got) (flat_map got_texts gots) apart, all_of_rest (IsKept texts) (got_texts got) (flat_map got_texts gots) apart)
 
   pub links_kept : (gots : List Got) → AllByRecursion (IsGained v) gots → AllByRecursion (IsKept texts) (flat_map got_texts gots) → AllByRecursion (IsLinkKept v) gots
   links_kept [] gained all = tt

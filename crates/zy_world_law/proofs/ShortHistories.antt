@@ -77,9 +77,8 @@ use Rattle.zy_table.specs.Running.{executed, fits_end, got_of, next_known, respo
 use Rattle.zy_table.specs.State.{State, leaves_of, own_view}
 use Rattle.zy_table.specs.Step.{step}
 use Rattle.zy_table.specs.declared.deeds.Act.{Act}
-use Rattle.zy_table.specs.declared.deeds.Act.TheVariants.{Says, Gains}
+use Rattle.zy_table.specs.declared.deeds.Act.TheVariants.{Says, Gains, Adopts}
 use Rattle.zy_table.specs.declared.deeds.Body.TheVariants as bodies
-use Rattle.zy_table.specs.declared.deeds.Got.{Got}
 use Rattle.zy_table.specs.declared.deeds.Remark.{Remark}
 use Rattle.zy_table.specs.declared.deeds.To.TheVariants.{All}
 use Rattle.zy_table.specs.declared.kept.OwnCheckpoint.{OwnCheckpoint}
@@ -123,15 +122,14 @@ spec_fits view ask k small told =
 
 -- ---- acts
 
-fit_said : (acts : List Act) (remark : Remark) → FitAll acts → FitsBody remark.body → FitAll (acts ++ Says remark ∷ [])
-fit_said [] remark all one = (one, tt)
-fit_said (Says first ∷ acts) remark all one = (all.0, fit_said acts remark all.1 one)
-fit_said (Gains got ∷ acts) remark all one = fit_said acts remark all one
+fit-append : (xs ys : List Act) → FitAll xs → FitAll ys → FitAll (xs ++ ys)
+fit-append [] ys first later = later
+fit-append (Says remark ∷ xs) ys first later = (first.0, fit-append xs ys first.1 later)
+fit-append (Gains got ∷ xs) ys first later = fit-append xs ys first later
+fit-append (Adopts begun common gots ∷ xs) ys first later = fit-append xs ys first later
 
-fit_more : (acts : List Act) (got : Got) → FitAll acts → FitAll (acts ++ Gains got ∷ [])
-fit_more [] got all = tt
-fit_more (Says first ∷ acts) got all = (all.0, fit_more acts got all.1)
-fit_more (Gains first ∷ acts) got all = fit_more acts got all
+fit_said : (acts : List Act) (remark : Remark) → FitAll acts → FitsBody remark.body → FitAll (acts ++ Says remark ∷ [])
+fit_said acts remark all one = fit-append acts (Says remark ∷ []) all (one, tt)
 
 -- ---- running
 
@@ -300,7 +298,7 @@ module _ {S : Type 0} (R : Rules S) (w : World) where
       let signed : Signed Spec = sealed_spec done.state spec in
       let after : Going S = respond R o.order signed known.reply done in
       let fit_after : IsFit after = record {
-        acts = fit_said (g.deeds.acts ++ Gains (got_of R s o.ask) ∷ []) _ (fit_more g.deeds.acts (got_of R s o.ask) fit.acts) (spec_fits (own_view s) o.ask known short.view told);
+        acts = fit_said (g.deeds.acts ++ Gains (got_of R s o.ask) ∷ []) _ (fit-append g.deeds.acts (Gains (got_of R s o.ask) ∷ []) fit.acts tt) (spec_fits (own_view s) o.ask known short.view told);
         short = record { number = short.number; view = short.view; end = omega (arith, length-append s.kept.entries (e ∷ [])); leaves = omega arith };
         sound = record { signer = fit.sound.signer; kept = fit.sound.kept; head = fit.sound.head };
       } in
