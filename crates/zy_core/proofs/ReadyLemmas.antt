@@ -30,6 +30,7 @@ use Rattle.zy_exec.specs.Snapshot.{snapshot_of}
 use Rattle.zy_chain.specs.declared.entry.Entry.{Entry}
 use Rattle.zy_parts.specs.Signing.{IsSignedInRange}
 use Rattle.zy_parts.specs.Statements.{IsSpecInRange, IsLocalInRange, IsHoleInRange, IsHateInRange, IsCheckInRange}
+use Rattle.zy_parts.specs.Reports.{IsFetchInRange}
 use Rattle.zy_chain.specs.Entries.{IsEntryInRange}
 use Rattle.zy_wire.specs.Fields.{FitsList}
 use Rattle.zy_parts.specs.declared.reports.Change.{Change}
@@ -40,6 +41,7 @@ use Rattle.zy_cert.specs.Equal.{same_check}
 use Rattle.zy_cert.specs.Points.{point_of_check}
 use Rattle.zy_evidence.specs.Rules.{is_spec_proven}
 use Rattle.zy_change.specs.declared.kept.Accepted.{Accepted}
+use Rattle.zy_change.specs.declared.kept.Waiting.{Waiting}
 use Rattle.zy_change.specs.Fit.{IsFit, IsKeptChange, IsTrueReport}
 use Rattle.zy_change.specs.Owing.{change_to}
 use Rattle.zy_change.specs.Views.{Views, with_specs, is_further, told_of}
@@ -48,10 +50,12 @@ use Rattle.zy_parts.specs.declared.signed.Signed.{Signed}
 use Rattle.zy_parts.specs.declared.statements.Check.{Check}
 use Rattle.zy_parts.specs.declared.statements.Spec.{Spec}
 use Rattle.zy_parts.specs.declared.statements.Local.{Local}
+use Rattle.zy_parts.specs.declared.reports.Fetch.{Fetch}
 use Rattle.zy_chain.specs.Stretch.{Stretch, head_in}
 use Rattle.zy_exec.specs.Kept.{Kept, last_place, longer, settled, stretch_of}
 use Rattle.zy_parts.specs.declared.reports.Told.{Told}
 use Rattle.zy_vframes.specs.ViewFrames.{IsShortReport}
+use Rattle.zy_vframes.specs.declared.frame.ViewFrame.TheVariants as frames
 use Rattle.zy_check.specs.Board.{Board, IsBoard, IsProof, Stays, with_stable, without_other_specs, without_others}
 use Rattle.zy_check.specs.Board as boards
 use Rattle.zy_check.specs.declared.kept.Kept as Kept
@@ -64,6 +68,8 @@ use Rattle.zy_table.specs.State.{State, start_of, own_view, window_of, spent, pe
 use Rattle.zy_table.specs.declared.kept.OwnCheckpoint.{OwnCheckpoint}
 use Rattle.zy_table.specs.Gathering.{with_certificate, certificate_at, proof_at, settled_at}
 use Rattle.zy_table.specs.Leaving.{report_of}
+use Rattle.zy_table.specs.Sending.{CanBeSent}
+use Rattle.zy_table.specs.declared.deeds.AnyFrame.TheVariants as sent
 use Rattle.zy_table.proofs.ReportLemmas.{TellsTrue, IsJoined, IsOwnCheck, start-true, with_board-true, with_hate-true, with_change-true, left-true, with_new-true, longer-true, certificate-in_range, certificate-proven, certificate-fits, certificate-true, certificate_at-certified, certificate_at-all, proof_at-certified, proof_at-equal, proof_at-all, settle-true, settle-joined, true-short}
 use Rattle.zy_table.proofs.SentLemmas.{change-kept}
 use Rattle.zy_exec.proofs.SettleLemmas.{settled_place, settled_end}
@@ -72,18 +78,13 @@ use Rattle.zy_core.proofs.RoundLemmas.{start-in_range, round_at-in_range, after_
 
 -- ---- a replica that begins
 
-pub start_is : {S : Type 0} (R : Rules S) (interval : ℕ) (me : ReplicaId) (counts : Counts) (keys : Keys) (sealer : SealerState) (v : Views) (k : Kept S) (o : Orders) (b : Board) (specs : List (Option (Signed Spec))) (pending : List (Option Pending)) (locals : List (Signed Local))
+pub start_is : {S : Type 0} (R : Rules S) (interval : ℕ) (me : ReplicaId) (counts : Counts) (keys : Keys) (sealer : SealerState) (v : Views) (k : Kept S) (o : Orders) (b : Board) (specs : List (Option (Signed Spec))) (pending : List (Option Pending)) (locals : List (Signed Local)) (fetches : List (Signed Fetch))
     → v ≡ views.start_of counts me interval → k ≡ record { interval = interval; base = origin R; entries = [] } → o ≡ no_orders 0 → b ≡ boards.start_of interval (digest_of_snapshot (snapshot_of R (origin R)))
-    → specs ≡ replicate 64 None → pending ≡ replicate 64 None → locals ≡ []
+    → specs ≡ replicate 64 None → pending ≡ replicate 64 None → locals ≡ [] → fetches ≡ []
     → ◌≡◌ {A = State S}
-    (record { me = me; counts = counts; keys = keys; sealer = sealer; views = v; kept = k; orders = o; board = b; hole = None; specs = specs; pending = pending; locals = locals; hate = None })
+    (record { me = me; counts = counts; keys = keys; sealer = sealer; views = v; kept = k; orders = o; board = b; hole = None; specs = specs; pending = pending; locals = locals; hate = None; fetches = fetches })
     (start_of R interval me counts keys sealer)
-start_is R interval me counts keys sealer v k o b specs pending locals views kept orders board no_specs no_pending no_locals = rw (views, kept, orders, board, no_specs, no_pending, no_locals) refl
-
-none_kept : {A : Type 0} (n id : ℕ) → slice_index_or (replicate {A = Option A} n None) id None ≡ None
-none_kept zero id = refl
-none_kept (suc n) zero = refl
-none_kept (suc n) (suc id) = none_kept n id
+start_is R interval me counts keys sealer v k o b specs pending locals fetches views kept orders board no_specs no_pending no_locals no_fetches = rw (views, kept, orders, board, no_specs, no_pending, no_locals, no_fetches) refl
 
 none_ready : {A : Type 0} (P : A → Type 0) (n : ℕ) → AllByRecursion (λ (o : Option A). ForSome o P) (replicate n None)
 none_ready P zero = tt
@@ -105,10 +106,12 @@ start_ready R interval me counts keys sealer signer clients least most =
         own = omega arith;
         active = start_active counts me interval;
         cert = λ cert none. cc;
-        begans = λ id other. none_kept counts.n id;
+        accepted = λ a none. cc;
+        waiting = λ w none. cc;
       };
       report = start-true R interval me counts keys sealer least;
       hate = λ hate none. cc;
+      fetches = tt;
       stable = refl;
       least = least;
       most = most;
@@ -137,31 +140,21 @@ all_and : {A : Type 0} (P : A → Type 0) (xs : List A) (x : A) → AllByRecursi
 all_and P [] x all one = (one, tt)
 all_and P (y ∷ xs) x all one = (all.0, all_and P xs x all.1 one)
 
-none_set : {A : Type 0} (xs : List (Option A)) (i j : ℕ) (x : A) → (i ≡ j → ⊥) → slice_index_or xs j None ≡ None → slice_index_or (set xs i (Some x)) j None ≡ None
-none_set [] i j x other none = none
-none_set (y ∷ xs) zero zero x other none = absurd (other refl)
-none_set (y ∷ xs) zero (suc j) x other none = none
-none_set (y ∷ xs) (suc i) zero x other none = none
-none_set (y ∷ xs) (suc i) (suc j) x other none = none_set xs i j x (λ same. other (ap suc same)) none
-
-none_mapped : {A : Type 0} (f : Option A → Option A) (xs : List (Option A)) (i : ℕ) → f None ≡ None → slice_index_or xs i None ≡ None → slice_index_or (map f xs) i None ≡ None
-none_mapped f [] i keeps none = none
-none_mapped f (x ∷ xs) zero keeps none = ap f none ∙ keeps
-none_mapped f (x ∷ xs) (suc i) keeps none = none_mapped f xs i keeps none
-
 -- ---- what is beside the history
 
 module _ {S : Type 0} (s : State S) (r : IsReady s) where
-  beside : (sealer : SealerState) (hole : Option (Signed Hole)) (specs : List (Option (Signed Spec))) (pending : List (Option Pending)) (locals : List (Signed Local)) (hate : Option (Signed Hate))
+  beside : (sealer : SealerState) (hole : Option (Signed Hole)) (specs : List (Option (Signed Spec))) (pending : List (Option Pending)) (locals : List (Signed Local)) (hate : Option (Signed Hate)) (fetches : List (Signed Fetch))
       → sealer.me ≡ Replica s.me → ForSome hole (IsSignedInRange IsHoleInRange) → length specs ≡ 64 → AllByRecursion IsKeptSpec specs → length pending ≡ 64 → AllByRecursion IsKeptPending pending
-      → AllByRecursion (IsSignedInRange IsLocalInRange) locals → ForSome hate (IsSignedInRange IsHateInRange) → IsReady (record s { sealer = sealer; hole = hole; specs = specs; pending = pending; locals = locals; hate = hate })
-  beside sealer hole specs pending locals hate mine asked all_specs said all_pending wait own hated =
+      → AllByRecursion (IsSignedInRange IsLocalInRange) locals → ForSome hate (IsSignedInRange IsHateInRange) → AllByRecursion (IsSignedInRange IsFetchInRange) fetches
+      → IsReady (record s { sealer = sealer; hole = hole; specs = specs; pending = pending; locals = locals; hate = hate; fetches = fetches })
+  beside sealer hole specs pending locals hate fetches mine asked all_specs said all_pending wait own hated fetched =
       record {
         signer = mine;
         clients = r.clients;
         views = r.views;
         report = r.report;
         hate = hated;
+        fetches = fetched;
         stable = r.stable;
         least = r.least;
         most = r.most;
@@ -182,33 +175,37 @@ module _ {S : Type 0} (s : State S) (r : IsReady s) where
       }
 
   pub ready_spent : IsReady (spent s)
-  ready_spent = beside (spent_one s.sealer) s.hole s.specs s.pending s.locals s.hate r.signer r.hole r.all_specs r.specs r.all_pending r.pending r.locals r.hate
+  ready_spent = beside (spent_one s.sealer) s.hole s.specs s.pending s.locals s.hate s.fetches r.signer r.hole r.all_specs r.specs r.all_pending r.pending r.locals r.hate r.fetches
 
   pub ready_specs : (client : ℕ) (spec : Signed Spec) → IsSignedInRange IsSpecInRange spec → IsReady (record s { specs = slice_set s.specs client (Some spec) })
   ready_specs client spec range =
-      beside s.sealer s.hole (slice_set s.specs client (Some spec)) s.pending s.locals s.hate r.signer r.hole (length-set s.specs client (Some spec) ∙ r.all_specs)
-      (items_set (IsSignedInRange IsSpecInRange) s.specs client (Some spec) r.specs (λ x is. subst (IsSignedInRange IsSpecInRange) (same_Some spec x is) range)) r.all_pending r.pending r.locals r.hate
+      beside s.sealer s.hole (slice_set s.specs client (Some spec)) s.pending s.locals s.hate s.fetches r.signer r.hole (length-set s.specs client (Some spec) ∙ r.all_specs)
+      (items_set (IsSignedInRange IsSpecInRange) s.specs client (Some spec) r.specs (λ x is. subst (IsSignedInRange IsSpecInRange) (same_Some spec x is) range)) r.all_pending r.pending r.locals r.hate r.fetches
 
   pub ready_pending : (client : ℕ) (pending : Option Pending) → IsKeptPending pending → IsReady (record s { pending = slice_set s.pending client pending })
   ready_pending client pending ready =
-      beside s.sealer s.hole s.specs (slice_set s.pending client pending) s.locals s.hate r.signer r.hole r.all_specs r.specs (length-set s.pending client pending ∙ r.all_pending)
-      (items_set IsPendingReady s.pending client pending r.pending ready) r.locals r.hate
+      beside s.sealer s.hole s.specs (slice_set s.pending client pending) s.locals s.hate s.fetches r.signer r.hole r.all_specs r.specs (length-set s.pending client pending ∙ r.all_pending)
+      (items_set IsPendingReady s.pending client pending r.pending ready) r.locals r.hate r.fetches
 
   pub ready_hole : (hole : Option (Signed Hole)) → ForSome hole (IsSignedInRange IsHoleInRange) → IsReady (record s { hole = hole })
-  ready_hole hole range = beside s.sealer hole s.specs s.pending s.locals s.hate r.signer range r.all_specs r.specs r.all_pending r.pending r.locals r.hate
+  ready_hole hole range = beside s.sealer hole s.specs s.pending s.locals s.hate s.fetches r.signer range r.all_specs r.specs r.all_pending r.pending r.locals r.hate r.fetches
 
   pub ready_hate : (hate : Signed Hate) → IsSignedInRange IsHateInRange hate → IsReady (record s { hate = Some hate })
   ready_hate hate range =
-      beside s.sealer s.hole s.specs s.pending s.locals (Some hate) r.signer r.hole r.all_specs r.specs r.all_pending r.pending r.locals (λ x is. subst (IsSignedInRange IsHateInRange) (same_Some hate x is) range)
+      beside s.sealer s.hole s.specs s.pending s.locals (Some hate) s.fetches r.signer r.hole r.all_specs r.specs r.all_pending r.pending r.locals (λ x is. subst (IsSignedInRange IsHateInRange) (same_Some hate x is) range) r.fetches
 
   pub ready_local : (local : Signed Local) → IsSignedInRange IsLocalInRange local → IsReady (record s { locals = s.locals ++ local ∷ [] })
   ready_local local range =
-      beside s.sealer s.hole s.specs s.pending (s.locals ++ local ∷ []) s.hate r.signer r.hole r.all_specs r.specs r.all_pending r.pending (all_and (IsSignedInRange IsLocalInRange) s.locals local r.locals range) r.hate
+      beside s.sealer s.hole s.specs s.pending (s.locals ++ local ∷ []) s.hate s.fetches r.signer r.hole r.all_specs r.specs r.all_pending r.pending (all_and (IsSignedInRange IsLocalInRange) s.locals local r.locals range) r.hate r.fetches
 
   -- nothing waits
   pub ready_idle : IsReady (record s { hole = None; pending = replicate 64 None })
   ready_idle =
-      beside s.sealer None s.specs (replicate 64 None) s.locals s.hate r.signer (λ hole none. cc) r.all_specs r.specs (length-replicate {A = Option Pending} 64 None) (none_ready IsPendingReady 64) r.locals r.hate
+      beside s.sealer None s.specs (replicate 64 None) s.locals s.hate s.fetches r.signer (λ hole none. cc) r.all_specs r.specs (length-replicate {A = Option Pending} 64 None) (none_ready IsPendingReady 64) r.locals r.hate r.fetches
+
+  pub ready_fetch : (said : Signed Fetch) → IsSignedInRange IsFetchInRange said → IsReady (record s { fetches = s.fetches ++ said ∷ [] })
+  ready_fetch said range =
+      beside s.sealer s.hole s.specs s.pending s.locals s.hate (s.fetches ++ said ∷ []) r.signer r.hole r.all_specs r.specs r.all_pending r.pending r.locals r.hate (all_and (IsSignedInRange IsFetchInRange) s.fetches said r.fetches range)
 
 -- ---- a commit certificate
 
@@ -241,6 +238,7 @@ module _ {S : Type 0} (s : State S) (r : IsReady s) where
         views = own;
         report = tells;
         hate = r.hate;
+        fetches = r.fetches;
         stable = r.stable;
         least = r.least;
         most = r.most;
@@ -263,32 +261,50 @@ module _ {S : Type 0} (s : State S) (r : IsReady s) where
   pub ready_with_hate : (by : Party) → IsReady (record s { views = views.with_hate by s.views })
   ready_with_hate by =
       ready_views (views.with_hate by s.views)
-      (record { me = r.views.me; counts = r.views.counts; interval = r.views.interval; own = r.views.own; active = r.views.active; cert = r.views.cert; begans = r.views.begans })
+      (record { me = r.views.me; counts = r.views.counts; interval = r.views.interval; own = r.views.own; active = r.views.active; cert = r.views.cert; accepted = r.views.accepted; waiting = r.views.waiting })
       (with_hate-true s r.report by)
 
   pub ready_with_change : (c : Signed Change) → IsReady (record s { views = views.with_change c s.views })
   ready_with_change c =
       ready_views (views.with_change c s.views)
-      (record { me = r.views.me; counts = r.views.counts; interval = r.views.interval; own = r.views.own; active = r.views.active; cert = r.views.cert; begans = r.views.begans })
+      (record { me = r.views.me; counts = r.views.counts; interval = r.views.interval; own = r.views.own; active = r.views.active; cert = r.views.cert; accepted = r.views.accepted; waiting = r.views.waiting })
       (with_change-true s r.report c)
 
   pub ready_left : (view : View) → view.0 < 2 ^ 62 → IsReady (record s { views = views.left view s.views })
   ready_left view range =
       ready_views (views.left view s.views)
-      (record { me = r.views.me; counts = r.views.counts; interval = r.views.interval; own = range; active = λ other is. cc; cert = r.views.cert; begans = r.views.begans })
+      (record { me = r.views.me; counts = r.views.counts; interval = r.views.interval; own = range; active = λ other is. cc; cert = r.views.cert; accepted = λ a none. cc; waiting = λ w none. cc })
       (left-true s r.report view)
 
-  others_begun : (own : Signed Began) → own.by ≡ Replica s.views.me → (id : ℕ) → (id ≡ s.me.0 → ⊥) → slice_index_or (slice_set (views.without_others own.stmt s.views.begans) (number_of_party own.by) (Some own)) id None ≡ None
-  others_begun own mine id other =
-      none_set (views.without_others own.stmt s.views.begans) (number_of_party own.by) id own
-      (λ same. other (sym same ∙ ap number_of_party mine ∙ ap (λ (m : ReplicaId). m.0) r.views.me))
-      (none_mapped (views.unless_other own.stmt) s.views.begans id refl (r.views.begans id other))
-
-  pub ready_with_new : (a : Accepted) (own : Signed Began) → own.by ≡ Replica s.views.me → IsReady (record s { views = views.with_new a own s.views })
-  ready_with_new a own mine =
+  pub ready_with_new : (a : Accepted) (own : Signed Began) → CanBeSent (sent.View (frames.NewView a.new)) → IsReady (record s { views = views.with_new a own s.views })
+  ready_with_new a own sends =
       ready_views (views.with_new a own s.views)
-      (record { me = r.views.me; counts = r.views.counts; interval = r.views.interval; own = r.views.own; active = r.views.active; cert = r.views.cert; begans = others_begun own mine })
+      (record { me = r.views.me; counts = r.views.counts; interval = r.views.interval; own = r.views.own; active = r.views.active; cert = r.views.cert; accepted = λ x is. subst (λ (y : Accepted). CanBeSent (sent.View (frames.NewView y.new))) (same_Some a x is) sends; waiting = r.views.waiting })
       (with_new-true s r.report a own)
+
+  pub ready_with_began : (b : Signed Began) → IsReady (record s { views = views.with_began b s.views })
+  ready_with_began b =
+      ready_views (views.with_began b s.views)
+      (record { me = r.views.me; counts = r.views.counts; interval = r.views.interval; own = r.views.own; active = r.views.active; cert = r.views.cert; accepted = r.views.accepted; waiting = r.views.waiting })
+      (record { last = refl; in_range = r.report.in_range; keeps_rules = r.report.keeps_rules })
+
+  pub ready_with_waiting : (w : Waiting) → CanBeSent (sent.View (frames.ViewCert w.cert)) → IsReady (record s { views = views.with_waiting w s.views })
+  ready_with_waiting w sends =
+      ready_views (views.with_waiting w s.views)
+      (record { me = r.views.me; counts = r.views.counts; interval = r.views.interval; own = r.views.own; active = r.views.active; cert = r.views.cert; accepted = r.views.accepted; waiting = λ x is. subst (λ (y : Waiting). CanBeSent (sent.View (frames.ViewCert y.cert))) (same_Some w x is) sends })
+      (record { last = refl; in_range = r.report.in_range; keeps_rules = r.report.keeps_rules })
+
+  pub ready_without_waiting : IsReady (record s { views = views.without_waiting s.views })
+  ready_without_waiting =
+      ready_views (views.without_waiting s.views)
+      (record { me = r.views.me; counts = r.views.counts; interval = r.views.interval; own = r.views.own; active = r.views.active; cert = r.views.cert; accepted = r.views.accepted; waiting = λ w none. cc })
+      (record { last = refl; in_range = r.report.in_range; keeps_rules = r.report.keeps_rules })
+
+  pub ready_without_accepted : IsReady (record s { views = views.without_accepted s.views })
+  ready_without_accepted =
+      ready_views (views.without_accepted s.views)
+      (record { me = r.views.me; counts = r.views.counts; interval = r.views.interval; own = r.views.own; active = r.views.active; cert = r.views.cert; accepted = λ a none. cc; waiting = r.views.waiting })
+      (record { last = refl; in_range = r.report.in_range; keeps_rules = r.report.keeps_rules })
 
   joined : IsJoined s
   joined = record { counts = r.views.counts; interval = r.views.interval; place = r.board_stable; head = r.board_head }
@@ -297,7 +313,7 @@ module _ {S : Type 0} (s : State S) (r : IsReady s) where
   certain place specs = by (is_further place s.views.specs)
     where
       by : (b : Bool) → AreOwnViews s.me s.counts s.kept.interval (if b then record s.views { specs = Some (record { place = place; specs = specs }) } else s.views)
-      by true = record { me = r.views.me; counts = r.views.counts; interval = r.views.interval; own = r.views.own; active = r.views.active; cert = r.views.cert; begans = r.views.begans }
+      by true = record { me = r.views.me; counts = r.views.counts; interval = r.views.interval; own = r.views.own; active = r.views.active; cert = r.views.cert; accepted = r.views.accepted; waiting = r.views.waiting }
       by false = r.views
 
   pub with_certificate_is : (place : Place) (specs : List (Signed Spec)) → record s { views = with_specs place specs s.views } ≡ with_certificate s place specs
@@ -364,6 +380,7 @@ ready_board s b r is stays ranges =
       views = r.views;
       report = with_board-true s r.report b stays;
       hate = r.hate;
+      fetches = r.fetches;
       stable = r.stable;
       least = r.least;
       most = r.most;
@@ -416,6 +433,7 @@ module _ {S : Type 0} (s : State S) (r : IsReady s) where
         views = subst (λ (n : ℕ). AreOwnViews s.me s.counts n s.views) interval r.views;
         report = tells;
         hate = r.hate;
+        fetches = r.fetches;
         stable = r.stable ∙ base;
         least = subst (λ (n : ℕ). 4 ≤ n) interval r.least;
         most = subst (λ (n : ℕ). n ≤ 32) interval r.most;
@@ -460,7 +478,7 @@ slots_drop zero xs all = all
 slots_drop (suc n) [] all = tt
 slots_drop (suc n) (x ∷ xs) all = slots_drop n xs all.1
 
-filtered_all : {A : Type 0} (P : A → Type 0) (p : A → Bool) (xs : List A) → AllByRecursion P xs → AllByRecursion P (filter p xs)
+pub filtered_all : {A : Type 0} (P : A → Type 0) (p : A → Bool) (xs : List A) → AllByRecursion P xs → AllByRecursion P (filter p xs)
 filtered_all P p [] all = tt
 filtered_all P p (x ∷ xs) all = filtered_if (p x) (filtered_all P p xs all.1)
   where
@@ -509,6 +527,7 @@ module _ {S : Type 0} (R : Rules S) (s : State S) (own : OwnCheckpoint) (proof :
         views = r.views;
         report = settled_true;
         hate = r.hate;
+        fetches = r.fetches;
         stable = sym there;
         least = r.least;
         most = r.most;
@@ -604,6 +623,7 @@ ready_orders s o r base short ready =
       views = r.views;
       report = r.report;
       hate = r.hate;
+      fetches = r.fetches;
       stable = base ∙ r.stable;
       least = r.least;
       most = r.most;

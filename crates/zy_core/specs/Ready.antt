@@ -1,5 +1,5 @@
 -- What holds of every replica.
-use Rattle.std.specs.Prelude.{◌≡◌, ℕ, ◌≤◌, ◌<◌, ◌+◌, ◌%◌, ◌^◌, List, length, All, slice_index_or, Option, Some, None, Ok}
+use Rattle.std.specs.Prelude.{◌≡◌, ℕ, ◌≤◌, ◌<◌, ◌+◌, ◌%◌, ◌^◌, List, length, All, Option, Some, Ok}
 use Rattle.std.specs.List.{AllByRecursion}
 use Rattle.std.specs.Option.{ForSome}
 use Rattle.zy_base.specs.declared.counts.Counts.{Counts}
@@ -11,7 +11,7 @@ use Rattle.zy_base.specs.declared.ids.View.{View}
 use Rattle.zy_base.specs.declared.step.Mode.TheVariants.{Active}
 use Rattle.zy_parts.specs.Signing.{IsSignedInRange}
 use Rattle.zy_parts.specs.Statements.{IsAskInRange, IsOrderInRange, IsSpecInRange, IsLocalInRange, IsConfirmInRange, IsHoleInRange, IsHateInRange, IsCheckInRange}
-use Rattle.zy_parts.specs.Reports.{IsChangeInRange, IsNewInRange, IsBeganInRange}
+use Rattle.zy_parts.specs.Reports.{IsChangeInRange, IsNewInRange, IsBeganInRange, IsFetchInRange}
 use Rattle.zy_parts.specs.declared.signed.Signed.{Signed}
 use Rattle.zy_parts.specs.declared.statements.Ask.{Ask}
 use Rattle.zy_parts.specs.declared.statements.Spec.{Spec}
@@ -21,12 +21,13 @@ use Rattle.zy_cert.specs.Points.{point_of_spec}
 use Rattle.zy_frames.specs.declared.frame.OrderFrame.{OrderFrame}
 use Rattle.zy_vframes.specs.declared.frame.ViewCert.{ViewCert}
 use Rattle.zy_vframes.specs.declared.frame.ViewFrame.TheVariants as frames
-use Rattle.zy_chain.specs.Entries.{IsEntryInRange}
 use Rattle.zy_chain.specs.Stretch.{head_in}
 use Rattle.zy_exec.specs.Kept.{Kept, last_place, stretch_of}
 use Rattle.zy_seal.specs.Keys.{Keys}
 use Rattle.zy_admit.specs.Judging.{asking}
 use Rattle.zy_check.specs.Board.{Board, Round, IsBoard}
+use Rattle.zy_change.specs.declared.kept.Accepted.{Accepted}
+use Rattle.zy_change.specs.declared.kept.Waiting.{Waiting}
 use Rattle.zy_change.specs.Fit.{IsTrueReport}
 use Rattle.zy_change.specs.Views.{Views, own_view}
 use Rattle.zy_table.specs.Sending.{CanBeSent}
@@ -34,13 +35,13 @@ use Rattle.zy_table.specs.declared.deeds.AnyFrame.TheVariants as sent
 use Rattle.zy_table.specs.declared.deeds.Body.{Body}
 use Rattle.zy_table.specs.declared.deeds.Body.TheVariants as bodies
 use Rattle.zy_table.specs.declared.deeds.Act.{Act}
-use Rattle.zy_table.specs.declared.deeds.Act.TheVariants.{Says, Gains}
+use Rattle.zy_table.specs.declared.deeds.Act.TheVariants.{Says, Gains, Adopts}
 use Rattle.zy_table.specs.declared.deeds.Deeds.{Deeds}
-use Rattle.zy_table.specs.declared.deeds.Got.{Got}
 use Rattle.zy_table.specs.declared.kept.OwnCheckpoint.{OwnCheckpoint}
 use Rattle.zy_table.specs.declared.kept.Pending.{Pending}
 use Rattle.zy_table.specs.State.{State, window_of}
 use Rattle.zy_table.specs.Leaving.{report_of}
+use Rattle.zy_table.specs.Adopting.{IsGotInRange}
 
 -- a request that can be executed
 pub record IsAskReady (ask : Signed Ask) : Type 0 where
@@ -97,6 +98,12 @@ pub record IsOwnCertificate {S : Type 0} (s : State S) (place : Place) (specs : 
 abbrev pub IsKeptCert : Option ViewCert → Type 0
 IsKeptCert cert = ForSome cert (λ c. CanBeSent (sent.View (frames.ViewCert c)))
 
+abbrev pub IsKeptNew : Option Accepted → Type 0
+IsKeptNew accepted = ForSome accepted (λ a. CanBeSent (sent.View (frames.NewView a.new)))
+
+abbrev pub IsKeptWaiting : Option Waiting → Type 0
+IsKeptWaiting waiting = ForSome waiting (λ w. CanBeSent (sent.View (frames.ViewCert w.cert)))
+
 -- what is kept for changes of view is this replica's
 pub record AreOwnViews (who : ReplicaId) (group : Counts) (places : ℕ) (v : Views) : Type 0 where
   pub me : v.me ≡ who
@@ -105,8 +112,9 @@ pub record AreOwnViews (who : ReplicaId) (group : Counts) (places : ℕ) (v : Vi
   pub own : own_view v < 2 ^ 62
   pub active : (view : View) → v.mode ≡ Active view → v.last_view ≡ view
   pub cert : IsKeptCert v.view_cert
-  -- No confirmation but its own is kept: the rows that keep those of others come later.
-  pub begans : (id : ℕ) → (id ≡ who.0 → ⊥) → slice_index_or v.begans id None ≡ None
+  -- the new view that it confirmed, with kept confirmations as a certificate; and the certificate that waits
+  pub accepted : IsKeptNew v.accepted
+  pub waiting : IsKeptWaiting v.waiting
 
 -- A signer is a replica of the group, or a client with a number for which there is room.
 pub record AreKeysOf (group : Counts) (keys : Keys) : Type 0 where
@@ -121,6 +129,7 @@ pub record IsReady {S : Type 0} (s : State S) : Type 0 where
   -- the report that it would sign now breaks no rule
   pub report : IsTrueReport s.views (report_of s)
   pub hate : ForSome s.hate (IsSignedInRange IsHateInRange)
+  pub fetches : AllByRecursion (IsSignedInRange IsFetchInRange) s.fetches
   -- orders are kept above the base of the history
   pub stable : s.orders.base ≡ s.kept.base.place
   pub least : 4 ≤ s.kept.interval
@@ -154,15 +163,12 @@ IsBodyInRange (bodies.Check check) = IsCheckInRange check
 IsBodyInRange (bodies.Change change) = IsChangeInRange change
 IsBodyInRange (bodies.New new) = IsNewInRange new
 IsBodyInRange (bodies.Began began) = IsBeganInRange began
-
--- an entry that it executes
-pub record IsGotInRange (got : Got) : Type 0 where
-  pub entry : IsEntryInRange got.entry
-  pub reply : length got.reply ≤ 1100
+IsBodyInRange (bodies.Fetch fetch) = IsFetchInRange fetch
 
 abbrev pub IsActInRange : Act → Type 0
 IsActInRange (Says remark) = IsBodyInRange remark.body
 IsActInRange (Gains got) = IsGotInRange got
+IsActInRange (Adopts view common gots) = AllByRecursion IsGotInRange gots
 
 -- and what it sends
 pub record AreInRange (deeds : Deeds) : Type 0 where

@@ -1,4 +1,5 @@
 ghost use Rattle.std.specs.Prelude.{◌≡◌, ◌≤◌, ◌<◌, length, IfOk};
+ghost use Rattle.std.specs.List.{AllByRecursion};
 ghost use Rattle.std.specs.Option.{ForSome};
 ghost use Rattle.zy_base.specs.declared.ids.Party.TheVariants as parties;
 ghost use Rattle.zy_parts.specs.Numbers as numbers;
@@ -14,15 +15,16 @@ ghost use Rattle.zy_table.specs.declared.deeds.Body.TheVariants as bodies;
 ghost use Rattle.zy_seal.specs.Sealing.{sealed_by};
 ghost use Rattle.zy_table.specs.State.{leaves_of, spent, stood_of, with_spec};
 ghost use Rattle.zy_table.specs.Commits.{send_local};
+ghost use Rattle.zy_table.specs.Adopting.{IsGotInRange};
 ghost use Rattle.zy_core.specs.Ready.{IsActInRange, IsBodyInRange, IsOrderReady, IsPendingReady};
 
 use crate::Core;
 use crate::copies::frame_copy;
 use std::marker::Model;
-use zy_base::{Answer, Bytes, Cause, ClientId, Items, Machine, Party, Stood, Want};
+use zy_base::{Answer, Bytes, Cause, ClientId, Items, Machine, Party, Place, Stood, View, Want};
 use zy_frames::{Frame, OrderFrame};
 use zy_parts::{Check, Hole, Local, Order, Signed, Spec, Statement};
-use zy_table::{Act, AnyFrame, Body, Deeds, Pending, Remark, Sent, To};
+use zy_table::{Act, AnyFrame, Body, Deeds, Gains, Pending, Remark, Sent, To};
 use zy_vframes::ViewFrame;
 
 /// A replica on its way through a step, with what the step did so far.
@@ -135,6 +137,14 @@ impl<M: Machine> Progress<M> {
         ensures { IfOk result (λ g. g ≡ acting (acts.Says (record { body = body; stood = stood })) self) }
     {
         self.act(Act::Says(Remark { body, stood }))
+    }
+
+    /// A view began, with the place up to which the history stayed the same, and the entries that were executed above it.
+    pub fn adopts(self, view: View, common: Place, gots: Gains) -> Result<Progress<M>, Want>
+        requires { AllByRecursion IsGotInRange gots }
+        ensures { IfOk result (λ g. g ≡ acting (acts.Adopts view common gots) self) }
+    {
+        self.act(Act::Adopts { view, common, gots })
     }
 
     /// The response is signed and kept.

@@ -15,7 +15,7 @@ use zy_base::{Counts, Digest, Items, Machine, Mode, Place, ReplicaId, Stood, Tim
 use zy_change::ViewMachine;
 use zy_check::Checkpoints;
 use zy_exec::{Exec, nothing};
-use zy_parts::{Hate, Hole, Local, Signed, Spec};
+use zy_parts::{Fetch, Hate, Hole, Local, Signed, Spec};
 use zy_seal::{Directory, Sealer};
 use zy_table::Pending;
 
@@ -36,6 +36,7 @@ pub struct Core<M: Machine> {
     pub(crate) pending: Vec<Option<Pending>>,
     pub(crate) locals: Items<Signed<Local>>,
     pub(crate) hate: Option<Signed<Hate>>,
+    pub(crate) fetches: Items<Signed<Fetch>>,
 }
 
 // What a replica holds is let go here. A derived drop would be written out again at each way out of a function.
@@ -56,6 +57,7 @@ impl<M: Machine> Drop for Core<M> {
             pending: _,
             locals: _,
             hate: _,
+            fetches: _,
         } = self;
     }
 }
@@ -79,6 +81,7 @@ impl<M: Machine> Model for Core<M> {
       pending = r.pending.items;
       locals = r.locals;
       hate = r.hate;
+      fetches = r.fetches;
     } };
 
     ghost use Rattle.zy_core.specs.Ready.{IsReady};
@@ -97,6 +100,7 @@ impl<M: Machine> Model for Core<M> {
       pending = r.pending.items;
       locals = r.locals;
       hate = r.hate;
+      fetches = r.fetches;
     }) };
 }
 
@@ -159,6 +163,7 @@ impl<M: Machine> Core<M> {
             pending,
             locals: Items::new(alloc),
             hate: None,
+            fetches: Items::new(alloc),
         })
     }
 

@@ -79,10 +79,8 @@ impl<M: Machine> Core<M> {
         requires { number_of_party vote.by < self.views.counts.n }
         ensures { IfOk result (λ r. r ≡ record self { views = views.with_hate vote.by self.views }) }
     {
-        match self.views.keep_hate(vote) {
-            Ok(()) => Ok(self),
-            Err(want) => Err(want),
-        }
+        self.views.keep_hate(vote);
+        Ok(self)
     }
 
     /// The own hate is kept for good.
@@ -100,15 +98,14 @@ impl<M: Machine> Core<M> {
         requires kept { IsKeptChange self.views.counts self.views.interval (number_of_party change.by) change }
         ensures { IfOk result (λ r. r ≡ record self { views = views.with_change change self.views }) }
     {
-        match self.views.keep_change(change) {
-            Ok(()) => Ok(self),
-            Err(want) => Err(want),
-        }
+        self.views.keep_change(change);
+        Ok(self)
     }
 
     /// A new view is kept with the choice out of its reports, and the own confirmation of it.
     pub fn accept(mut self, accepted: Accepted, own: Signed<Began>) -> Core<M>
         requires accepted { IsAccepted self.views.counts self.views.interval accepted }
+        requires sends { CanBeSent (sent.View (frames.NewView accepted.new)) }
         requires own { IsOwnBegan self.views.me accepted own }
         ensures { result ≡ record self { views = views.with_new accepted own self.views } }
     {

@@ -6,4 +6,4 @@ mod gathering;
 mod running;
 
 pub use gathering::gather_at;
-pub use running::{can_run, run_all};
+pub use running::{can_run, keep_own_spec, run_all};

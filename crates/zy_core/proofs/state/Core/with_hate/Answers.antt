@@ -3,6 +3,3 @@ use Rattle.zy_core.proofs.state.Core.with_hate.Goals as goal
 
 pub invariant_of-self : goal.invariant_of-self
 invariant_of-self g c = rw c.keep_hate.ensures (ready_with_hate _ c.self.invariant c.args.vote.by)
-
-pub invariant_of-self-in-Err-1 : goal.invariant_of-self-in-Err-1
-invariant_of-self-in-Err-1 g c = rw c.keep_hate.ensures (ready_with_hate _ c.self.invariant c.args.vote.by)
