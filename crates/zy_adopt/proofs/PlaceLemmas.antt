@@ -50,7 +50,7 @@ some_within [] i within = absurd (omega arith)
 some_within (x ∷ xs) zero within = refl
 some_within (x ∷ xs) (suc i) within = some_within xs i (omega arith)
 
-entry_within : (s : Stretch) (place : ℕ) → s.base.place < place → place ≤ end_of s → IsSome (entry_in s place)
+pub entry_within : (s : Stretch) (place : ℕ) → s.base.place < place → place ≤ end_of s → IsSome (entry_in s place)
 entry_within s place above within = rw (lt-leb place s.base.place above) (some_within s.entries (place - s.base.place - 1) (omega arith))
 
 pub entry_at_checkpoint : {S : Type 0} (interval low place at : ℕ) (told : Stretch) (k : Kept S) → Meets told place k → place ≤ end_of told → k.base.place ≤ low → Contains (checkpoints_between interval low place) at → IsSome (entry_in (stretch_of (taken_over told place k)) at)

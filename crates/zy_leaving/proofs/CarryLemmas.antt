@@ -12,6 +12,7 @@ use Rattle.zy_parts.specs.Reports.{new_fields, IsBeganInRange, IsNewInRange}
 use Rattle.zy_parts.specs.Signing.{IsSignedInRange}
 use Rattle.zy_parts.specs.declared.signed.Signed.{Signed}
 use Rattle.zy_parts.specs.declared.reports.Began.{Began}
+use Rattle.zy_parts.specs.declared.reports.Change.{Change}
 use Rattle.zy_parts.specs.declared.reports.New.{New}
 use Rattle.zy_seal.specs.Sealing.{SealerState, sealed_by}
 use Rattle.zy_vframes.specs.declared.frame.ViewFrame.{ViewFrame}
@@ -26,10 +27,11 @@ use Rattle.zy_table.specs.Sending.{CanBeSent}
 use Rattle.zy_table.specs.declared.deeds.AnyFrame.TheVariants as any
 use Rattle.zy_table.specs.declared.deeds.To.TheVariants.{All as ToAll}
 use Rattle.zy_table.specs.declared.deeds.Body.{Body}
+use Rattle.zy_table.specs.declared.deeds.Body.TheVariants as bodies
 use Rattle.zy_table.specs.declared.deeds.Act.TheVariants.{Says}
 use Rattle.zy_table.specs.State.{State, leaves_of, spent, stood_of}
 use Rattle.zy_table.specs.Deeds.{Going, act, send_view}
-use Rattle.zy_table.specs.Leaving.{sealed_new, leave_alone, give_new, accept}
+use Rattle.zy_table.specs.Leaving.{left_with, sealed_change, sealed_new, leave_alone, give_new, accept}
 use Rattle.zy_leaving.specs.Carrying.{leave_if, sealed_began, give}
 use Rattle.zy_leaving.specs.Follows.{IsChosenIn, signs_for}
 
@@ -38,6 +40,13 @@ use Rattle.zy_leaving.specs.Follows.{IsChosenIn, signs_for}
 pub told_all : {S : Type 0} (R : Rules S) (g after : Going S) (frame : ViewFrame) (said body : Body) (stood : Stood) → after ≡ act (Says (record { body = said; stood = stood })) g → said ≡ body → stood ≡ stood_of R g.state
     → send_view ToAll frame after ≡ send_view ToAll frame (act (Says (record { body = body; stood = stood_of R g.state })) g)
 told_all R g after frame said body stood is same stands = rw (is, same, stands) refl
+
+-- ---- a view is left
+
+pub left_is : {S : Type 0} (R : Rules S) (view : View) (g : Going S) (s : State S) (change : Signed Change) → s ≡ spent (left_with view (sealed_change g.state view) g.state) → change ≡ sealed_change g.state view
+    → send_view ToAll (frames.ViewChange change) (act (Says (record { body = bodies.Change change.stmt; stood = stood_of R s })) (record g { state = s })) ≡ leave_alone R view g
+unfolding leave_alone
+left_is R view g s change state said = rw (state, said) refl
 
 -- ---- a new view is signed
 

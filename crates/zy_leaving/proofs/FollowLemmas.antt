@@ -1,11 +1,14 @@
 -- What is owed is the row: its composition without a key is the composition with one.
-use Rattle.std.proofs.Common.{◌≡◌, ◌<◌, ◌≤◌, ◌+◌, ◌^◌, ℕ, zero, suc, nat_eq, nat_lt, nat_le, Bool, true, false, if◌then◌else◌, List, [], ◌∷◌, length, Option, Some, None, Err, refl, sym, ap, ◌∙◌, subst, arith}
+use Rattle.std.proofs.Common.{◌≡◌, ◌<◌, ◌≤◌, ◌+◌, ◌^◌, ℕ, zero, suc, nat_eq, nat_lt, nat_le, Bool, true, false, if◌then◌else◌, List, [], ◌∷◌, ◌++◌, length, take, Option, Some, None, Err, refl, sym, ap, ◌∙◌, subst, arith}
 use Rattle.std.proofs.lemmas.Bool.{ltb-true, leb-true, leb-false, lt-leb, le-ltb, lt-ltb}
-use Rattle.std.specs.Prelude.{slice_index_or, slice_set}
-use Rattle.std.specs.List.{cons_option}
+use Rattle.std.specs.Prelude.{◌||◌, is_some, option_map, slice_get, slice_set}
+use Rattle.std.proofs.lemmas.Option.{same_Some}
+use Rattle.std.specs.List.{cons_option, list_any}
+use Rattle.std.proofs.lemmas.List.Folds.{list_any-append}
 use Rattle.std.specs.Option.{ForSome}
 use Rattle.zy_base.specs.Machine.{Rules}
 use Rattle.zy_base.specs.declared.cause.Cause.{Cause}
+use Rattle.zy_base.specs.declared.counts.Counts.{Counts}
 use Rattle.zy_base.specs.declared.cause.Cause.TheVariants as causes
 use Rattle.zy_base.specs.declared.ids.Party.{Party}
 use Rattle.zy_base.specs.declared.ids.Party.TheVariants.{Replica, Client}
@@ -15,47 +18,55 @@ use Rattle.zy_base.specs.declared.step.Answer.{Answer}
 use Rattle.zy_base.specs.declared.step.Answer.TheVariants.{Taken, Held, Refused}
 use Rattle.zy_lms.specs.Height.{levels_of}
 use Rattle.zy_lms.specs.Lms.{signature_of}
-use Rattle.zy_seal.specs.Sealing.{SealerState, spent_one}
+use Rattle.zy_seal.specs.Sealing.{SealerState, sealed_by, spent_one}
 use Rattle.zy_parts.specs.Numbers as numbers
 use Rattle.zy_parts.specs.Signing.{text_of}
-use Rattle.zy_parts.specs.Reports.{change_fields}
+use Rattle.zy_parts.specs.Reports.{began_fields, change_fields}
 use Rattle.zy_parts.specs.declared.signed.Signed.{Signed}
 use Rattle.zy_parts.specs.declared.reports.Began.{Began}
 use Rattle.zy_parts.specs.declared.reports.Change.{Change}
+use Rattle.zy_parts.specs.declared.reports.New.{New}
 use Rattle.zy_parts.specs.declared.statements.Hate.{Hate}
 use Rattle.zy_vframes.specs.declared.frame.ViewCert.{ViewCert}
+use Rattle.zy_cert.specs.Equal.{same_began}
 use Rattle.zy_choose.specs.declared.choice.Choice.{Choice}
 use Rattle.zy_choose.specs.declared.choice.Choice.TheVariants as choices
-use Rattle.zy_evidence.specs.Reading.{IsReplica}
+use Rattle.zy_evidence.specs.Reading.{IsReplica, number_of_party}
 use Rattle.zy_evidence.specs.Rules.{rule_of, number_of}
 use Rattle.zy_evidence.specs.declared.rule.Rule.{Rule}
 use Rattle.zy_change.specs.declared.kept.Accepted.{Accepted}
 use Rattle.zy_change.specs.declared.kept.Chosen.{Chosen}
+use Rattle.zy_change.specs.declared.owed.Adoption.{Adoption}
 use Rattle.zy_change.specs.declared.owed.Owed.{Owed}
-use Rattle.zy_change.specs.Views.{Views, began_equal, began_for, begans_equal, without_others, with_new, left, with_change, with_hate, certificate_of, own_view as views_own, views_above, view_above, has_begun, is_from, slot_of, is_hated_by}
-use Rattle.zy_change.specs.Owing.{Pens, Onward, nothing, onward, is_gathering, choice_in, next_view, hated_by_many, is_left_behind, least_above, change_to, signed_by}
+use Rattle.zy_change.specs.Views.{Views, began_equal, began_for, begans_equal, without_others, with_new, left, with_change, with_hate, certificate_if, certificate_of, first_of, own_view as views_own, views_above, view_above, has_begun, is_from, slot_of, is_hated_by}
+use Rattle.zy_change.specs.Owing.{Pens, Onward, new_of, nothing, onward, is_gathering, choice_in, next_view, hated_by_many, is_left_behind, least_above, change_to, signed_by}
 use Rattle.zy_change.specs.Owing as owing
 use Rattle.zy_change.specs.Owing.{accept as accept_owed, collect as collect_owed, leave as leave_owed}
 use Rattle.zy_change.proofs.AheadLemmas.{above_own, first_above}
 use Rattle.zy_change.proofs.FitLemmas.{all_there}
-use Rattle.zy_table.specs.State.{State, own_view, leaves_of}
+use Rattle.zy_table.specs.declared.deeds.Act.{Act}
+use Rattle.zy_table.specs.declared.deeds.Act.TheVariants.{Says}
+use Rattle.zy_table.specs.declared.deeds.Body.TheVariants as bodies
+use Rattle.zy_table.specs.declared.deeds.Remark.{Remark}
+use Rattle.zy_table.specs.State.{State, own_view, leaves_of, stood_of}
 use Rattle.zy_table.specs.Deeds.{Going, Outcome, begin, ends, refused}
 use Rattle.zy_table.specs.Leaving.{Attempt, goes, report_of, sealed_change, concluded, is_overspent}
 use Rattle.zy_table.specs.Leaving as rows
 use Rattle.zy_table.specs.Leaving.{leave_alone, accept, give_new, leave as leave_row}
+use Rattle.zy_table.specs.Beginning.{adopt, adopt_from, adopt_if, begun, certify, certify_with, confirms, is_began}
 use Rattle.zy_table.specs.Hates.{hate as hate_row, hate_of, hate_counted as counted_row, with_hate_of}
 use Rattle.zy_table.specs.Changes.{change as change_row, change_kept, change_judged, send_cert}
 use Rattle.zy_leaving.specs.Carrying.{leave_if, give, carried, attempted_as, concluded_as, carried_out, kept_unless}
-use Rattle.zy_leaving.specs.Follows.{spent_many, signs_for, Follows, IsSigner, SignsAsItself, IsUnconfirmed, IsLeaveOwed, IsCountedOwed, IsHateOwed, IsChangeOwed}
+use Rattle.zy_leaving.specs.Follows.{spent_many, signs_for, Follows, IsSigner, SignsAsItself, Begins, IsBegun, IsLeaveOwed, IsCountedOwed, IsHateOwed, IsChangeOwed}
 
-for_none : {A : Type 0} (P : A → Type 0) → ForSome None P
+pub for_none : {A : Type 0} (P : A → Type 0) → ForSome None P
 for_none P = λ x is. absurd cc
 
-for_some : {A : Type 0} (x : A) (P : A → Type 0) → P x → ForSome (Some x) P
+pub for_some : {A : Type 0} (x : A) (P : A → Type 0) → P x → ForSome (Some x) P
 for_some x P holds = λ y is. let e : x ≡ y = cc in subst P e holds
 
 -- the signatures that a replica makes; that of the report is its next leaf's
-abbrev pens_of : {S : Type 0} → State S → Pens
+abbrev pub pens_of : {S : Type 0} → State S → Pens
 pens_of s =
     record {
       change = λ c. signature_of s.sealer.key (text_of numbers.change change_fields s.sealer.me c);
@@ -63,44 +74,81 @@ pens_of s =
       began = λ b. [];
     }
 
-none_spent : (s : SealerState) → s ≡ spent_many 0 s
+pub none_spent : (s : SealerState) → s ≡ spent_many 0 s
 none_spent s = let e : s.key.next ≡ s.key.next + 0 = omega arith in ap (λ n. record s { key = record s.key { next = n } }) e
 
--- ---- while no other's confirmation is kept
+pub spent_both : (n m : ℕ) (s : SealerState) → spent_many m (spent_many n s) ≡ spent_many (n + m) s
+spent_both n m s = let e : s.key.next + n + m ≡ s.key.next + (n + m) = omega arith in ap (λ (k : ℕ). record s { key = record s.key { next = k } }) e
 
-abbrev equal_ones : Began → Began → List (Option (Signed Began)) → List (Signed Began)
-equal_ones own b slots = begans_equal b (without_others own slots)
+-- ---- confirmations that are equal
 
-none_of_none : (own b : Began) (slots : List (Option (Signed Began))) → ((id : ℕ) → slice_index_or slots id None ≡ None) → length (equal_ones own b slots) ≡ 0
-none_of_none own b [] none = refl
-none_of_none own b (None ∷ slots) none = none_of_none own b slots (λ id. none (suc id))
-none_of_none own b (Some one ∷ slots) none = let never = none 0 in absurd cc
+count_cons : {A : Type 0} (o p : Option A) (rest : List A) → is_some o ≡ is_some p → length (cons_option o rest) ≡ length (cons_option p rest)
+count_cons None None rest same = refl
+count_cons None (Some x) rest same = absurd cc
+count_cons (Some x) None rest same = absurd cc
+count_cons (Some x) (Some y) rest same = refl
 
-at_most_one : (more : List (Signed Began)) (o : Option (Signed Began)) → length more ≡ 0 → length (cons_option o more) ≤ 1
-at_most_one more None none = omega arith
-at_most_one more (Some one) none = omega arith
+count_both : {A : Type 0} (o : Option A) (xs ys : List A) → length xs ≡ length ys → length (cons_option o xs) ≡ length (cons_option o ys)
+count_both None xs ys same = same
+count_both (Some x) xs ys same = ap suc same
 
--- but for the own one, none is equal
-few_equal : (own b : Began) (slots : List (Option (Signed Began))) (me : ℕ) (one : Signed Began) → ((id : ℕ) → (id ≡ me → ⊥) → slice_index_or slots id None ≡ None)
-    → length (begans_equal b (slice_set (without_others own slots) me (Some one))) ≤ 1
-few_equal own b [] me one alone = omega arith
-few_equal own b (slot ∷ slots) zero one alone =
-    at_most_one (equal_ones own b slots) (began_equal b (Some one)) (none_of_none own b slots (λ id. alone (suc id) (λ e. absurd (omega arith))))
-few_equal own b (None ∷ slots) (suc me) one alone = few_equal own b slots me one (λ id other. alone (suc id) (λ e. other (omega arith)))
-few_equal own b (Some it ∷ slots) (suc me) one alone = let never = alone 0 (λ e. absurd (omega arith)) in absurd cc
+both_or_none : {A : Type 0} (x y : A) (a b : Bool) → a ≡ b → is_some (if a then Some x else None) ≡ is_some (if b then Some y else None)
+both_or_none x y true true same = refl
+both_or_none x y true false same = absurd cc
+both_or_none x y false true same = absurd cc
+both_or_none x y false false same = refl
 
-uncertified : (v : Views) (a : Accepted) (pens : Pens) → IsUnconfirmed v → certificate_of (with_new a (signed_by v pens.began (began_for a.new.stmt.view a.chosen)) v) a ≡ None
-uncertified v a pens alone =
-    let own = began_for a.new.stmt.view a.chosen in
-    let few = few_equal own own v.begans v.me.0 (signed_by v pens.began own) alone.others in
-    let needs = alone.cert in
-    let e : nat_le v.counts.cert (length (begans_equal own (with_new a (signed_by v pens.began own) v).begans)) ≡ false = lt-leb _ _ (omega (arith, few, needs)) in
-    rw e refl
+-- whatever the signature on one of them is
+as_many_equal : (own : Began) (slots : List (Option (Signed Began))) (me : ℕ) (one two : Signed Began) → one.stmt ≡ two.stmt
+    → length (begans_equal own (slice_set slots me (Some one))) ≡ length (begans_equal own (slice_set slots me (Some two)))
+as_many_equal own [] me one two same = refl
+as_many_equal own (slot ∷ slots) zero one two same =
+    count_cons (began_equal own (Some one)) (began_equal own (Some two)) (begans_equal own slots)
+    (both_or_none one two (same_began one.stmt own) (same_began two.stmt own) (ap (λ (b : Began). same_began b own) same))
+as_many_equal own (None ∷ slots) (suc me) one two same = as_many_equal own slots me one two same
+as_many_equal own (Some it ∷ slots) (suc me) one two same = count_both (began_equal own (Some it)) _ _ (as_many_equal own slots me one two same)
+
+-- ---- what was confirmed
+
+or_none : (b : Bool) → (b || false) ≡ b
+or_none true = refl
+or_none false = refl
+
+-- a list of acts with one more remark confirms a new view where the remark does, or the others do
+pub said_last : (acts : List Act) (remark : Remark) → list_any confirms (acts ++ Says remark ∷ []) ≡ (list_any confirms acts || is_began remark.body)
+said_last acts remark = list_any-append confirms acts (Says remark ∷ []) ∙ ap (λ (b : Bool). list_any confirms acts || b) (or_none (is_began remark.body))
+
+pub or_last : (b : Bool) → (b || true) ≡ true
+or_last true = refl
+or_last false = refl
+
+-- the certificate out of a list of confirmations
+abbrev certificate_in : ℕ → Signed New → List (Signed Began) → Option ViewCert
+certificate_in count new list = option_map (λ begans. record { new = new; begans = begans }) (first_of count list)
+
+abbrev certificate_as : Bool → ℕ → Signed New → List (Signed Began) → Option ViewCert
+certificate_as enough count new list = option_map (λ begans. record { new = new; begans = begans }) (if enough then Some (take count list) else None)
+
+some_both : (one two : Signed New) (count : ℕ) (xs ys : List (Signed Began)) (enough : Bool) → is_some (certificate_as enough count one xs) ≡ is_some (certificate_as enough count two ys)
+some_both one two count xs ys true = refl
+some_both one two count xs ys false = refl
+
+pub new_of_cert : (new : Signed New) (begans : Option (List (Signed Began))) (cert : ViewCert) → option_map (λ list. record { new = new; begans = list }) begans ≡ Some cert → cert.new ≡ new
+new_of_cert new None cert is = absurd cc
+new_of_cert new (Some list) cert is = sym (ap (λ (c : ViewCert). c.new) (same_Some (record { new = new; begans = list }) cert is))
 
 module _ {S : Type 0} (R : Rules S) where
   -- what follows, and isn't just told to another
   abbrev Row : Attempt S → Owed → Going S → Type 0
   Row attempt owed g = Follows R attempt owed g × (owed.send ≡ None)
+
+  -- ---- no view begins
+
+  pub quiet : (answer : Answer) (g : Going S) → list_any confirms g.deeds.acts ≡ false → begun R (goes answer g) ≡ goes answer g
+  quiet answer g none = rw none refl
+
+  pub none_begins : (end : Going S) (attempt : Attempt S) → begun R attempt ≡ attempt → Begins R None end attempt
+  none_begins end attempt same = record { rests = λ none. same; adopts = for_none _ }
 
   -- ---- nothing is owed
 
@@ -110,7 +158,7 @@ module _ {S : Type 0} (R : Rules S) where
         same = refl;
         spends = none_spent g.state.sealer;
         can = record { above = for_none _; below = for_none _; gathers = for_none _; chosen = for_none _; signs = refl };
-        adopts = λ alone. refl;
+        begins = λ none. none_begins g (Err cause) refl;
       }
 
   refusal : (cause : Cause) (g : Going S) → Row (Err cause) (owing.refused cause) g
@@ -122,30 +170,115 @@ module _ {S : Type 0} (R : Rules S) where
       same = refl;
       spends = none_spent g.state.sealer;
       can = record { above = for_none _; below = for_none _; gathers = for_none _; chosen = for_none _; signs = refl };
-      adopts = λ alone. refl;
+      begins = λ none. none_begins g (goes Taken g) (quiet Taken g none);
     },
     refl,
   )
 
+  -- ---- a new view is confirmed
+
+  module _ (now : Going S) (stmt : New) (chosen : Chosen) (by other : Party) (sig another : List ℕ) (pens : Pens) (leave gather : Option View) (signs : ℕ) where
+    -- as it is told, and as it is kept: with another signature
+    abbrev ahead : Accepted
+    ahead = record { new = record { by = by; stmt = stmt; sig = sig }; chosen = chosen }
+
+    abbrev done : Accepted
+    done = record { new = record { by = other; stmt = stmt; sig = another }; chosen = chosen }
+
+    abbrev told_so_far : Onward
+    told_so_far = record { views = now.state.views; owed = record nothing { leave = leave; gather = gather; signs = signs } }
+
+    abbrev w : Onward
+    w = owing.accepting ahead pens told_so_far
+
+    -- what is told to be adopted begins
+    pub record Accepts : Type 0 where
+      pub adopt : Option Adoption
+      pub begins : Begins R adopt (accept R done now) (goes Taken (accept R done now))
+      pub owed_is : accept_owed ahead pens told_so_far ≡ record w.owed { adopt = adopt }
+
+    module _ (signer : SignsAsItself now.state) where
+      abbrev own : Began
+      own = began_for stmt.view chosen
+
+      end : Going S
+      end = accept R done now
+
+      end_accepted : end.state.views.accepted ≡ Some done
+      unfolding accept end
+      end_accepted = refl
+
+      end_confirms : list_any confirms end.deeds.acts ≡ true
+      unfolding accept end
+      end_confirms = said_last now.deeds.acts (record { body = bodies.Began own; stood = stood_of R now.state }) ∙ or_last (list_any confirms now.deeds.acts)
+
+      as_many : length (begans_equal own w.views.begans) ≡ length (begans_equal own end.state.views.begans)
+      unfolding accept end
+      as_many =
+          let slots = without_others own now.state.views.begans in
+          let sealed = sealed_by numbers.began began_fields now.state.sealer own in
+          as_many_equal own slots (number_of_party (Replica now.state.views.me)) (signed_by now.state.views pens.began own) sealed refl
+          ∙ ap (λ (by : Party). length (begans_equal own (slice_set slots (number_of_party by) (Some sealed)))) (sym signer)
+
+      end_counts : end.state.views.counts ≡ now.state.views.counts
+      unfolding accept end
+      end_counts = refl
+
+      as_certain : is_some (certificate_of w.views ahead) ≡ is_some (certificate_of end.state.views done)
+      as_certain =
+          let many : ℕ = length (begans_equal own end.state.views.begans) in
+          ap (λ (n : ℕ). is_some (certificate_as (nat_le now.state.views.counts.cert n) now.state.views.counts.cert ahead.new (begans_equal own w.views.begans))) as_many
+          ∙ some_both ahead.new done.new now.state.views.counts.cert (begans_equal own w.views.begans) (begans_equal own end.state.views.begans) (nat_le now.state.views.counts.cert many)
+          ∙ ap (λ (c : Counts). is_some (certificate_in c.cert done.new (begans_equal own end.state.views.begans))) (sym end_counts)
+
+      certifies : begun R (goes Taken end) ≡ certify R Taken end
+      certifies = rw end_confirms refl
+
+      certify_is : (cert : Option ViewCert) → certificate_of end.state.views done ≡ cert → certify R Taken end ≡ adopt_if R cert chosen Taken end
+      certify_is cert is = ap (λ (accepted : Option Accepted). certify_with R accepted Taken end) end_accepted ∙ ap (λ (c : Option ViewCert). adopt_if R c chosen Taken end) is
+
+      adopts_none : (c : ViewCert) → c.new ≡ done.new → owing.provider_in done ≡ None → adopt R c chosen end ≡ goes Taken end
+      unfolding adopt
+      adopts_none c new none = ap (λ (o : Option (Signed Change)). adopt_from R c chosen o end) (ap (λ (x : Signed New). slice_get x.stmt.changes chosen.provider) new ∙ none)
+
+      provided : (cert : ViewCert) → certificate_of end.state.views done ≡ Some cert → (provider : Option (Signed Change)) → owing.provider_in done ≡ provider → Begins R (owing.adoption_by done provider) end (goes Taken end)
+      provided cert is None none =
+          let new : cert.new ≡ done.new = new_of_cert done.new _ cert is in
+          none_begins end (goes Taken end) (certifies ∙ certify_is (Some cert) is ∙ adopts_none cert new none)
+      provided cert is (Some provider) some =
+          let new : cert.new ≡ done.new = new_of_cert done.new _ cert is in
+          record {
+            rests = λ none. absurd cc;
+            adopts = for_some _ _ (
+                record {
+                  cert = cert;
+                  view = ap (λ (x : Signed New). x.stmt.view) new;
+                  accepted = end_accepted ∙ ap (λ (x : Signed New). Some (record { new = x; chosen = chosen })) (sym new);
+                  enough = ap (certificate_if end.state.views) end_accepted ∙ is;
+                  provider = provider;
+                  given = ap (λ (x : Signed New). slice_get x.stmt.changes chosen.provider) new ∙ some;
+                  told = refl;
+                  same = certifies;
+                }
+                );
+          }
+
+      by_certificate : (here there : Option ViewCert) → is_some here ≡ is_some there → certificate_of end.state.views done ≡ there → certificate_of w.views ahead ≡ here → Accepts
+      unfolding accept_owed end
+      by_certificate None None same is told = record { adopt = None; begins = none_begins end (goes Taken end) (certifies ∙ certify_is None is); owed_is = ap (λ (c : Option ViewCert). owing.adopt_if ahead c w.owed) told }
+      by_certificate (Some one) None same is told = absurd cc
+      by_certificate None (Some cert) same is told = absurd cc
+      by_certificate (Some one) (Some cert) same is told =
+          record {
+            adopt = owing.adoption_by done (owing.provider_in done);
+            begins = provided cert is (owing.provider_in done) refl;
+            owed_is = ap (λ (c : Option ViewCert). owing.adopt_if ahead c w.owed) told;
+          }
+
+      pub accepts_all : Accepts
+      accepts_all = by_certificate (certificate_of w.views ahead) (certificate_of end.state.views done) as_certain refl refl
+
   -- ---- a new view is given
-
-  -- what is adopted is no part of it
-  same_attempt : (answer : Answer) (a : Accepted) (cert : ViewCert) (owed : Owed) (g : Going S) → attempted_as R answer owed g ≡ attempted_as R answer (owing.adopt_if a (Some cert) owed) g
-  same_attempt Taken a cert owed g = refl
-  same_attempt Held a cert owed g = refl
-  same_attempt (Refused cause) a cert owed g = refl
-
-  but_adopted : (attempt : Attempt S) (a : Accepted) (cert : Option ViewCert) (owed : Owed) (g : Going S) → (IsUnconfirmed g.state.views → cert ≡ None) → Row attempt owed g → Row attempt (owing.adopt_if a cert owed) g
-  but_adopted attempt a None owed g none f = f
-  but_adopted attempt a (Some cert) owed g none f = (
-    record {
-      same = f.0.same ∙ same_attempt owed.answer a cert owed g;
-      spends = f.0.spends;
-      can = record { above = f.0.can.above; below = f.0.can.below; gathers = f.0.can.gathers; chosen = f.0.can.chosen; signs = f.0.can.signs };
-      adopts = λ alone. let never = none alone in absurd cc;
-    },
-    f.1,
-  )
 
   -- what is owed by a leave alone, if by any
   abbrev after_leave : Option View → ℕ → Owed
@@ -164,7 +297,8 @@ module _ {S : Type 0} (R : Rules S) where
     signs : signs_for leave None ≡ n
     above : ForSome leave (λ view. own_view before.state < view.0)
     below : ForSome leave (λ view. view.0 < 2 ^ 62)
-    alone : IsUnconfirmed before.state.views → IsUnconfirmed (leave_if R leave before).state.views
+    signer : SignsAsItself (leave_if R leave before).state
+    quiet : list_any confirms before.deeds.acts ≡ false → list_any confirms (leave_if R leave before).deeds.acts ≡ false
 
   module _ (leave : Option View) (n : ℕ) (before : Going S) (far : Left leave n before) (pens : Pens) (view : View) where
     abbrev now : Going S
@@ -173,22 +307,36 @@ module _ {S : Type 0} (R : Rules S) where
     abbrev so_far : Onward
     so_far = record { views = now.state.views; owed = after_leave leave n }
 
+    module _ (gathers : is_gathering now.state.views view.0 ≡ true) (chosen : Chosen) (is : choice_in now.state.views view.0 ≡ choices.Chosen chosen.provider chosen.place chosen.head) where
+      abbrev sealed : Signed New
+      sealed = rows.sealed_new now.state view
+
+      abbrev gave : Going S
+      gave = give_new R sealed now
+
+      gave_signer : SignsAsItself gave.state
+      unfolding give_new
+      gave_signer = far.signer
+
+      abbrev accepts : Accepts gave (new_of now.state.views view) chosen (Replica now.state.views.me) sealed.by (pens.new (new_of now.state.views view)) sealed.sig pens leave (Some view) (n + 1)
+      accepts = accepts_all gave (new_of now.state.views view) chosen (Replica now.state.views.me) sealed.by (pens.new (new_of now.state.views view)) sealed.sig pens leave (Some view) (n + 1) gave_signer
+
+      all_given : Row (rows.given R view (choices.Chosen chosen.provider chosen.place chosen.head) now) (owing.give view pens (choices.Chosen chosen.provider chosen.place chosen.head) so_far) before
+      unfolding accept give_new give
+      all_given =
+          subst (λ (o : Owed). Row (rows.given R view (choices.Chosen chosen.provider chosen.place chosen.head) now) o before) (sym accepts.owed_is) (
+            record {
+              same = refl;
+              spends = ap (λ s. spent_one (spent_one s)) far.spent ∙ spent_more before.state.sealer n;
+              can = record { above = far.above; below = far.below; gathers = for_some view _ gathers; chosen = for_some view _ (for_some chosen _ is); signs = more_signs leave view n far.signs };
+              begins = λ none. accepts.begins;
+            },
+            refl,
+          )
+
     given : is_gathering now.state.views view.0 ≡ true → (choice : Choice) → choice_in now.state.views view.0 ≡ choice → Row (rows.given R view choice now) (owing.give view pens choice so_far) before
-    unfolding accept_owed accept give_new give
     given gathers (choices.AnchorClash first second) is = refusal (causes.AnchorClash first second) before
-    given gathers (choices.Chosen provider place head) is =
-        let chosen : Chosen = record { provider = provider; place = place; head = head } in
-        let a = owing.accepted_as now.state.views pens view chosen in
-        let w = owing.accepting a pens (owing.giving view so_far) in
-        but_adopted _ a (certificate_of w.views a) w.owed before (λ alone. uncertified now.state.views a pens (far.alone alone)) (
-          record {
-            same = refl;
-            spends = ap (λ s. spent_one (spent_one s)) far.spent ∙ spent_more before.state.sealer n;
-            can = record { above = far.above; below = far.below; gathers = for_some view _ gathers; chosen = for_some view _ (for_some chosen _ is); signs = more_signs leave view n far.signs };
-            adopts = λ alone. refl;
-          },
-          refl,
-        )
+    given gathers (choices.Chosen provider place head) is = all_given gathers (record { provider = provider; place = place; head = head }) is
 
     gave_none : Row (goes Taken now) (after_leave leave n) before
     gave_none = (
@@ -196,7 +344,7 @@ module _ {S : Type 0} (R : Rules S) where
         same = refl;
         spends = far.spent;
         can = record { above = far.above; below = far.below; gathers = for_none _; chosen = for_none _; signs = far.signs };
-        adopts = λ alone. refl;
+        begins = λ none. none_begins now (goes Taken now) (quiet Taken now (far.quiet none));
       },
       refl,
     )
@@ -218,17 +366,24 @@ module _ {S : Type 0} (R : Rules S) where
       let sig = signature_of s.sealer.key (text_of numbers.change change_fields s.sealer.me change) in
       ap (λ (by : Party). record { by = by; stmt = change; sig = sig }) (sym signer)
 
-  views_left : (g : Going S) (view : View) → SignsAsItself g.state → left view (with_change (signed_by g.state.views (pens_of g.state).change (change_to view (report_of g.state))) g.state.views) ≡ (rows.leave_alone R view g).state.views
+  pub views_left : (g : Going S) (view : View) → SignsAsItself g.state → left view (with_change (signed_by g.state.views (pens_of g.state).change (change_to view (report_of g.state))) g.state.views) ≡ (rows.leave_alone R view g).state.views
   unfolding leave_alone
   views_left g view signer = ap (λ (c : Signed Change). left view (with_change c g.state.views)) (sealed_same g.state view signer)
 
-  left_far : (g : Going S) (view : View) → own_view g.state < view.0 → view.0 < 2 ^ 62 → Left (Some view) 1 g
+  left_far : (g : Going S) (view : View) → SignsAsItself g.state → own_view g.state < view.0 → view.0 < 2 ^ 62 → Left (Some view) 1 g
   unfolding leave_alone
-  left_far g view above below =
-      record { spent = refl; signs = refl; above = for_some view _ above; below = for_some view _ below; alone = λ alone. record { others = alone.others; cert = alone.cert } }
+  left_far g view signer above below =
+      record {
+        spent = refl;
+        signs = refl;
+        above = for_some view _ above;
+        below = for_some view _ below;
+        signer = signer;
+        quiet = λ none. said_last g.deeds.acts _ ∙ ap (λ (b : Bool). b || false) none;
+      }
 
-  not_left : (g : Going S) → Left None 0 g
-  not_left g = record { spent = none_spent g.state.sealer; signs = refl; above = for_none _; below = for_none _; alone = λ alone. alone }
+  not_left : (g : Going S) → SignsAsItself g.state → Left None 0 g
+  not_left g signer = record { spent = none_spent g.state.sealer; signs = refl; above = for_none _; below = for_none _; signer = signer; quiet = λ none. none }
 
   abbrev collects : Going S → View → Views → Owed
   collects g view v = collect_owed view (pens_of g.state) (record { views = v; owed = after_leave (Some view) 1 })
@@ -242,7 +397,7 @@ module _ {S : Type 0} (R : Rules S) where
           (if b then collects g view (left view (with_change (signed_by g.state.views (pens_of g.state).change (change_to view (report_of g.state))) g.state.views)) else owing.refused causes.NewerView) g
       by true below =
           subst (λ (v : Views). Row (rows.collect R view (leave_alone R view g)) (collects g view v) g) (sym (views_left g view signer))
-          (collected (Some view) 1 g (left_far g view above (ltb-true _ _ below)) (pens_of g.state) view)
+          (collected (Some view) 1 g (left_far g view signer above (ltb-true _ _ below)) (pens_of g.state) view)
       by false beyond = refusal causes.NewerView g
 
   pub leave_follows : (g : Going S) (view : View) (owed : Owed) → SignsAsItself g.state → own_view g.state < view.0 → IsLeaveOwed g.state view owed → Follows R (rows.leave R view g) owed g
@@ -306,7 +461,7 @@ module _ {S : Type 0} (R : Rules S) where
   kept_is g view signer = by (is_left_behind g.state.views) refl
     where
       collects_now : (b : Bool) → Row (if b then rows.collect R view g else goes Taken g) (if b then collect_owed view (pens_of g.state) (onward g.state.views) else nothing) g
-      collects_now true = collected None 0 g (not_left g) (pens_of g.state) view
+      collects_now true = collected None 0 g (not_left g signer) (pens_of g.state) view
       collects_now false = taken g
 
       by : (b : Bool) → is_left_behind g.state.views ≡ b
@@ -319,13 +474,17 @@ module _ {S : Type 0} (R : Rules S) where
   same_sealer by None g = refl
   same_sealer by (Some cert) g = refl
 
+  same_acts : (by : Party) (cert : Option ViewCert) (g : Going S) → (send_cert by cert g).deeds.acts ≡ g.deeds.acts
+  same_acts by None g = refl
+  same_acts by (Some cert) g = refl
+
   told_begun : (by : Party) (s : State S) → IsReplica by → Follows R (goes Taken (send_cert by s.views.view_cert (begin s))) (owing.sends_to by) (begin s)
   told_begun (Replica id) s is =
       record {
         same = refl;
         spends = same_sealer (Replica id) s.views.view_cert (begin s) ∙ none_spent s.sealer;
         can = record { above = for_none _; below = for_none _; gathers = for_none _; chosen = for_none _; signs = refl };
-        adopts = λ alone. refl;
+        begins = λ none. none_begins _ _ (quiet Taken (send_cert (Replica id) s.views.view_cert (begin s)) (ap (list_any confirms) (same_acts (Replica id) s.views.view_cert (begin s))));
       }
   told_begun (Client id) s is = absurd is
 
@@ -357,10 +516,10 @@ module _ {S : Type 0} (R : Rules S) where
     abbrev is_twice : Bool
     is_twice = is_from vote.stmt.view.0 (slot_of vote.by s.views.changes)
 
-    begun : (b : Bool)
+    begun_or : (b : Bool)
         → Comes (if b then goes Taken (send_cert vote.by s.views.view_cert (begin s)) else (if is_twice then Err causes.Repeat else judged_row)) (if b then owing.sends_to vote.by else (if is_twice then owing.refused causes.Repeat else judged_owed))
-    begun true = told_begun vote.by s replica
-    begun false = twice is_twice
+    begun_or true = told_begun vote.by s replica
+    begun_or false = twice is_twice
 
     abbrev is_begun : Bool
     is_begun = has_begun s.views.mode vote.stmt.view.0
@@ -369,7 +528,7 @@ module _ {S : Type 0} (R : Rules S) where
         → Comes (if b then Err causes.OldView else (if is_begun then goes Taken (send_cert vote.by s.views.view_cert (begin s)) else (if is_twice then Err causes.Repeat else judged_row)))
         (if b then owing.refused causes.OldView else (if is_begun then owing.sends_to vote.by else (if is_twice then owing.refused causes.Repeat else judged_owed)))
     earlier true = refused_follows causes.OldView (begin kept)
-    earlier false = begun is_begun
+    earlier false = begun_or is_begun
 
     change_is : Comes (change_row R s vote) (owing.change_owes s.views vote (report_of s) (pens_of s))
     unfolding change_row
@@ -380,28 +539,36 @@ module _ {S : Type 0} (R : Rules S) where
 
   -- ---- the leaves are counted before anything is signed
 
+  pub counted_first : (s : State S) (signs : ℕ) (sealer : SealerState) (after : Outcome S) → IsSigner s → sealer ≡ spent_many signs s.sealer
+      → (if is_overspent sealer then refused causes.KeySpent s else after) ≡ (if nat_le signs (leaves_of s) then after else refused causes.KeySpent s)
+  counted_first s signs sealer after signer spends = turned (nat_le signs (leaves_of s)) refl
+    where
+      over : is_overspent sealer ≡ nat_lt (2 ^ levels_of s.sealer.key.height) (s.sealer.key.next + signs)
+      over = ap is_overspent spends
+
+      turned : (b : Bool) → nat_le signs (leaves_of s) ≡ b → (if is_overspent sealer then refused causes.KeySpent s else after) ≡ (if b then after else refused causes.KeySpent s)
+      turned true is =
+          let few = leb-true _ _ is in
+          let within = signer.within in
+          let e : nat_lt (2 ^ levels_of s.sealer.key.height) (s.sealer.key.next + signs) ≡ false = le-ltb _ _ (omega (arith, few, within)) in
+          rw (over, e) refl
+      turned false is =
+          let many = leb-false _ _ is in
+          let within = signer.within in
+          let e : nat_lt (2 ^ levels_of s.sealer.key.height) (s.sealer.key.next + signs) ≡ true = lt-ltb _ _ (omega (arith, many, within)) in
+          rw (over, e) refl
+
   module _ (s : State S) (g : Going S) (owed : Owed) (more : ℕ) (signer : IsSigner s) (so_far : g.state.sealer ≡ spent_many more s.sealer) (spends : (carried R owed g).state.sealer ≡ spent_many owed.signs g.state.sealer) where
-    abbrev leaves : ℕ
-    leaves = 2 ^ levels_of s.sealer.key.height
+    abbrev counted : Outcome S → Type 0
+    counted after = (if is_overspent (carried R owed g).state.sealer then refused causes.KeySpent s else after) ≡ (if nat_le (more + owed.signs) (leaves_of s) then after else refused causes.KeySpent s)
 
-    over : is_overspent (carried R owed g).state.sealer ≡ nat_lt leaves (s.sealer.key.next + more + owed.signs)
-    over = ap is_overspent (spends ∙ ap (spent_many owed.signs) so_far)
-
-    turned : (b : Bool) (after : Outcome S) → nat_le (more + owed.signs) (leaves_of s) ≡ b → (if is_overspent (carried R owed g).state.sealer then refused causes.KeySpent s else after) ≡ (if b then after else refused causes.KeySpent s)
-    turned true after is =
-        let few = leb-true _ _ is in
-        let within = signer.within in
-        let e : nat_lt leaves (s.sealer.key.next + more + owed.signs) ≡ false = le-ltb _ _ (omega (arith, few, within)) in
-        rw (over, e) refl
-    turned false after is =
-        let many = leb-false _ _ is in
-        let within = signer.within in
-        let e : nat_lt leaves (s.sealer.key.next + more + owed.signs) ≡ true = lt-ltb _ _ (omega (arith, many, within)) in
-        rw (over, e) refl
+    judged_first : (after : Outcome S) → counted after
+    judged_first after =
+        counted_first s (more + owed.signs) (carried R owed g).state.sealer after signer (spends ∙ ap (spent_many owed.signs) so_far ∙ spent_both more owed.signs s.sealer)
 
     concluded_is : (answer : Answer) → concluded s (attempted_as R answer owed g) ≡ concluded_as R s (more + owed.signs) answer owed g
-    concluded_is Taken = turned (nat_le (more + owed.signs) (leaves_of s)) (ends Taken (carried R owed g)) refl
-    concluded_is Held = turned (nat_le (more + owed.signs) (leaves_of s)) (ends Held (carried R owed g)) refl
+    concluded_is Taken = judged_first (ends Taken (carried R owed g))
+    concluded_is Held = judged_first (ends Held (carried R owed g))
     concluded_is (Refused cause) = refl
 
   pub conclusion : (s : State S) (attempt : Attempt S) (owed : Owed) (g : Going S) (more : ℕ) → IsSigner s → g.state.sealer ≡ spent_many more s.sealer → Follows R attempt owed g → concluded s attempt ≡ carried_out R s (more + owed.signs) owed g

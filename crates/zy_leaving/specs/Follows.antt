@@ -1,22 +1,27 @@
 -- That what is owed is what the answer table says.
-use Rattle.std.specs.Prelude.{◌≡◌, ℕ, ◌+◌, ◌^◌, ◌<◌, ◌≤◌, true, Option, Some, None, slice_index_or}
+use Rattle.std.specs.Prelude.{◌≡◌, ℕ, ◌+◌, ◌^◌, ◌<◌, ◌≤◌, true, false, Option, Some, None, slice_get}
+use Rattle.std.specs.List.{list_any}
 use Rattle.std.specs.Option.{ForSome}
 use Rattle.zy_base.specs.Machine.{Rules}
 use Rattle.zy_base.specs.declared.ids.Party.TheVariants.{Replica}
 use Rattle.zy_base.specs.declared.ids.View.{View}
+use Rattle.zy_base.specs.declared.step.Answer.TheVariants.{Taken}
 use Rattle.zy_lms.specs.Height.{levels_of}
 use Rattle.zy_seal.specs.Sealing.{SealerState}
 use Rattle.zy_parts.specs.declared.signed.Signed.{Signed}
 use Rattle.zy_parts.specs.declared.reports.Change.{Change}
 use Rattle.zy_choose.specs.declared.choice.Choice.TheVariants as choices
 use Rattle.zy_change.specs.declared.kept.Chosen.{Chosen}
+use Rattle.zy_change.specs.declared.owed.Adoption.{Adoption}
 use Rattle.zy_change.specs.declared.owed.Owed.{Owed}
-use Rattle.zy_change.specs.Views.{Views}
+use Rattle.zy_change.specs.Views.{certificate}
+use Rattle.zy_vframes.specs.declared.frame.ViewCert.{ViewCert}
 use Rattle.zy_parts.specs.declared.statements.Hate.{Hate}
 use Rattle.zy_change.specs.Owing.{Pens, leaving_owes, hate_counted, hate_owes, change_owes, is_gathering, choice_in}
 use Rattle.zy_table.specs.State.{State, own_view}
 use Rattle.zy_table.specs.Deeds.{Going}
 use Rattle.zy_table.specs.Leaving.{Attempt, report_of}
+use Rattle.zy_table.specs.Beginning.{begun, certify, confirms}
 use Rattle.zy_leaving.specs.Carrying.{leave_if, carried, attempted}
 
 -- with so many leaves spent
@@ -43,18 +48,30 @@ pub record CanCarry {S : Type 0} (R : Rules S) (owed : Owed) (g : Going S) : Typ
   pub chosen : ForSome owed.gather (λ view. ForSome owed.confirm (IsChosenIn (leave_if R owed.leave g) view))
   pub signs : signs_for owed.leave owed.gather ≡ owed.signs
 
--- it keeps no other's confirmation, of which a certificate needs one
-pub record IsUnconfirmed (v : Views) : Type 0 where
-  pub others : (id : ℕ) → (id ≡ v.me.0 → ⊥) → slice_index_or v.begans id None ≡ None
-  pub cert : 2 ≤ v.counts.cert
+-- The view begins at the end of the step: its certificate is of the new view that was confirmed, with the choice and the
+-- report that are told.
+pub record IsBegun {S : Type 0} (R : Rules S) (adoption : Adoption) (end : Going S) (attempt : Attempt S) : Type 0 where
+  pub cert : ViewCert
+  pub view : cert.new.stmt.view ≡ adoption.view
+  pub accepted : end.state.views.accepted ≡ Some (record { new = cert.new; chosen = adoption.chosen })
+  pub enough : certificate end.state.views ≡ Some cert
+  pub provider : Signed Change
+  pub given : slice_get cert.new.stmt.changes adoption.chosen.provider ≡ Some provider
+  pub told : provider.stmt.told ≡ adoption.told
+  pub same : begun R attempt ≡ certify R Taken end
 
--- The step as the answer table has it is what is owed carried out, and spends as many leaves as are told. While no other's
--- confirmation is kept, there is nothing to be adopted.
+-- Where nothing is told to be adopted, no view begins at the end of the step; else this one does.
+pub record Begins {S : Type 0} (R : Rules S) (adopt : Option Adoption) (end : Going S) (attempt : Attempt S) : Type 0 where
+  pub rests : adopt ≡ None → begun R attempt ≡ attempt
+  pub adopts : ForSome adopt (λ adoption. IsBegun R adoption end attempt)
+
+-- The step as the answer table has it is what is owed carried out, and spends as many leaves as are told; and the view that
+-- begins at its end is the one that is told.
 pub record Follows {S : Type 0} (R : Rules S) (attempt : Attempt S) (owed : Owed) (g : Going S) : Type 0 where
   pub same : attempt ≡ attempted R owed g
   pub spends : (carried R owed g).state.sealer ≡ spent_many owed.signs g.state.sealer
   pub can : CanCarry R owed g
-  pub adopts : IsUnconfirmed g.state.views → owed.adopt ≡ None
+  pub begins : list_any confirms g.deeds.acts ≡ false → Begins R owed.adopt (carried R owed g) attempt
 
 -- ---- what is told, whatever the signatures will be
 

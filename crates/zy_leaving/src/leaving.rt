@@ -2,7 +2,7 @@
 
 ghost use Rattle.std.specs.Prelude.{◌≡◌, ◌≤◌, ◌<◌, ◌^◌, true, All, None, IfOk};
 ghost use Rattle.std.specs.Option.{ForSome};
-ghost use Rattle.zy_parts.specs.Reports.{IsBeganInRange, IsNewInRange};
+ghost use Rattle.zy_parts.specs.Reports.{IsBeganInRange};
 ghost use Rattle.zy_parts.specs.Signing.{IsSignedInRange};
 ghost use Rattle.zy_vframes.specs.declared.frame.ViewFrame.TheVariants as frames;
 ghost use Rattle.zy_change.specs.Fit.{IsAccepted, IsFit, IsGiven, IsOwnBegan};
@@ -143,7 +143,7 @@ fn give_new<M: Machine>(
     ensures progress { IfOk result (λ r. r.0 ≡ given_new M.rules (sealed_new progress.state view) progress) }
     ensures new { IfOk result (λ r. r.1 ≡ sealed_new progress.state view) }
     ensures reports { IfOk result (λ r. All (IsGiven progress.state.views.counts progress.state.views.interval view) r.1.stmt.changes) }
-    ensures range { IfOk result (λ r. IsSignedInRange IsNewInRange r.1) }
+    ensures sends { IfOk result (λ r. CanBeSent (any.View (frames.NewView r.1))) }
 {
     let Progress { core, deeds } = progress;
     let (core, new) = match seal_new(core, view) {
@@ -198,6 +198,7 @@ fn keep_accepted<M: Machine>(
     own: Signed<Began>,
 ) -> Result<(Core<M>, Signed<Began>), Want>
     requires accepted { IsAccepted core.views.counts core.views.interval accepted }
+    requires sends { CanBeSent (any.View (frames.NewView accepted.new)) }
     requires own { IsOwnBegan core.views.me accepted own }
     ensures core { IfOk result (λ r. r.0 ≡ record core { views = with_new accepted own core.views }) }
     ensures began { IfOk result (λ r. r.1 ≡ own) }
@@ -219,6 +220,7 @@ fn accept_core<M: Machine>(
 ) -> Result<(Core<M>, Signed<Began>), Want>
     requires leaf { 1 ≤ leaves_of core }
     requires accepted { IsAccepted core.views.counts core.views.interval accepted }
+    requires sends { CanBeSent (any.View (frames.NewView accepted.new)) }
     requires place { accepted.chosen.place.0 < 2 ^ 62 }
     ensures core { IfOk result (λ r. r.0 ≡ record (spent core) { views = with_new accepted (sealed_began core accepted) core.views }) }
     ensures began { IfOk result (λ r. r.1 ≡ sealed_began core accepted) }
@@ -254,6 +256,7 @@ fn tell_began<M: Machine>(progress: Progress<M>, began: Signed<Began>) -> Result
 pub fn accept<M: Machine>(progress: Progress<M>, accepted: Accepted) -> Result<Progress<M>, Want>
     requires leaf { 1 ≤ leaves_of progress.state }
     requires accepted { IsAccepted progress.state.views.counts progress.state.views.interval accepted }
+    requires sends { CanBeSent (any.View (frames.NewView accepted.new)) }
     requires place { accepted.chosen.place.0 < 2 ^ 62 }
     ensures { IfOk result (λ g. g ≡ accepting M.rules accepted progress) }
 {

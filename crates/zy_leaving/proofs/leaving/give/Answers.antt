@@ -10,7 +10,7 @@ accept-requires-clause-leaf g c =
 
 pub accept-requires-clause-accepted : goal.accept-requires-clause-accepted
 accept-requires-clause-accepted g c =
-    given_accepted g.M.Machine.rules c.args.progress c.in_ok-progress.progress c.args.view c.args.chosen c.in_ok-progress.new c.in_ok-progress.ensures.progress c.in_ok-progress.ensures.new c.in_ok-progress.ensures.range
+    given_accepted g.M.Machine.rules c.args.progress c.in_ok-progress.progress c.args.view c.args.chosen c.in_ok-progress.new c.in_ok-progress.ensures.progress c.in_ok-progress.ensures.new c.in_ok-progress.ensures.sends.0
     c.in_ok-progress.ensures.reports c.requires.chosen
 
 pub returns : goal.returns

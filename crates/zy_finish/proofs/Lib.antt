@@ -1,0 +1,3 @@
+mod SignLemmas
+mod EndLemmas
+mod ConfirmLemmas
