@@ -1,5 +1,5 @@
 -- What the verdict lets a replica take up meets its own history.
-use Rattle.std.proofs.Common.{◌≡◌, ℕ, ◌≤◌, inl, inr, Option, Some, None, refl, sym, ap, ◌∙◌, arith}
+use Rattle.std.proofs.Common.{◌≡◌, ℕ, ◌≤◌, true, false, inl, inr, Option, Some, None, refl, sym, ap, ◌∙◌, arith}
 use Rattle.std.specs.Prelude.{nat_lt, nat_le}
 use Rattle.std.proofs.lemmas.Bool.{cases_Bool, leb-true, lt-leb, ltb-false, ltb-true}
 use Rattle.zy_base.specs.Machine.{Rules}

@@ -1,3 +1,4 @@
 mod SignLemmas
 mod EndLemmas
 mod ConfirmLemmas
+mod InstallLemmas

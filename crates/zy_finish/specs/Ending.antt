@@ -10,6 +10,10 @@ use Rattle.zy_parts.specs.declared.reports.Began.{Began}
 use Rattle.zy_parts.specs.declared.reports.New.{New}
 use Rattle.zy_parts.specs.declared.signed.Signed.{Signed}
 use Rattle.zy_vframes.specs.declared.frame.ViewCert.{ViewCert}
+use Rattle.zy_chain.specs.Stretch.{head_in}
+use Rattle.zy_check.specs.Board.{stated}
+use Rattle.zy_evidence.specs.Reading.{stretch_of}
+use Rattle.zy_exec.specs.Replay.{Point}
 use Rattle.zy_change.specs.declared.kept.Chosen.{Chosen}
 use Rattle.zy_change.specs.declared.owed.Adoption.{Adoption}
 use Rattle.zy_change.specs.declared.owed.Owed.{Owed}
@@ -86,3 +90,13 @@ IsCertOwed s cert owed = owed ≡ view_cert_owes s.views cert
 -- a new view is confirmed, once its view is left for
 abbrev pub confirmed : {S : Type 0} → Rules S → State S → Signed New → Chosen → Going S
 confirmed R s new chosen = accept R (record { new = new; chosen = chosen }) (arrive R new.stmt.view (begin s))
+
+-- ---- a snapshot comes
+
+-- What is shown is the stable checkpoint of the report, by its proof, and the report has the choice.
+pub record CanInstall {S : Type 0} (s : State S) (told : Told) (point : Point S) (chosen : Chosen) : Type 0 where
+  pub place : point.place ≡ told.stable_place.0
+  pub head : point.head ≡ told.stable_head
+  pub proof_place : (stated s.board.stable told.checks).place ≡ told.stable_place
+  pub proof_head : (stated s.board.stable told.checks).head ≡ told.stable_head
+  pub chosen_there : head_in (stretch_of told) chosen.place.0 ≡ Some chosen.head

@@ -1,4 +1,4 @@
-ghost use Rattle.std.specs.Prelude.{◌≡◌, ◌+◌, ℕ, false, Some, None};
+ghost use Rattle.std.specs.Prelude.{◌≡◌, ◌+◌, ℕ, false, List, slice_get, Some, None};
 ghost use Rattle.std.specs.List.{list_any};
 ghost use Rattle.std.specs.Option.{ForSome};
 ghost use Rattle.zy_base.specs.declared.cause.Cause.{Cause};
@@ -9,16 +9,23 @@ ghost use Rattle.zy_parts.specs.declared.reports.New.{New};
 ghost use Rattle.zy_parts.specs.declared.reports.Told.{Told};
 ghost use Rattle.zy_vframes.specs.declared.frame.ViewCert.{ViewCert};
 ghost use Rattle.zy_change.specs.declared.kept.Chosen.{Chosen};
+ghost use Rattle.zy_base.specs.declared.ids.Place.{Place};
+ghost use Rattle.zy_parts.specs.declared.reports.Change.{Change};
+ghost use Rattle.zy_check.specs.States.{state_cause};
+ghost use Rattle.zy_exec.specs.Replay.{Point};
+ghost use Rattle.zy_exec.specs.Showing.{point_in};
+ghost use Rattle.zy_change.specs.declared.kept.Waiting.{Waiting};
 ghost use Rattle.zy_change.specs.declared.owed.Adoption.{Adoption};
 ghost use Rattle.zy_change.specs.declared.owed.Owed.{Owed};
 ghost use Rattle.zy_table.specs.State.{State};
 ghost use Rattle.zy_table.specs.Deeds.{Going, begin, refused};
 ghost use Rattle.zy_table.specs.Leaving.{Attempt, goes};
-ghost use Rattle.zy_table.specs.Beginning.{adopt, certify, confirms, finished, take_up, wait_for};
+ghost use Rattle.zy_table.specs.Beginning.{adopt, certify, confirms, finished, take_up, wait_for, wanted_of};
+ghost use Rattle.zy_table.specs.Fetching.{installed, state_transfer};
 ghost use Rattle.zy_table.specs.Confirming.{confirmation, new_view, view_certificate, with_confirmation};
 ghost use Rattle.zy_leaving.specs.Carrying.{carried};
 ghost use Rattle.zy_leaving.specs.Follows.{Follows, IsSigner, spent_many};
-ghost use Rattle.zy_finish.specs.Ending.{IsBeganOwed, IsCertOwed, IsNewOwed, IsSoFar, TakesUp, confirmed, finished_by};
+ghost use Rattle.zy_finish.specs.Ending.{CanInstall, IsBeganOwed, IsCertOwed, IsNewOwed, IsSoFar, TakesUp, confirmed, counted, finished_by};
 ghost use Rattle.zy_finish.specs.Signing.{CanTake, signs_taken, signs_waiting};
 
 use zy_base::Machine;
@@ -49,4 +56,12 @@ pub fn certificates<M: Machine>()
     ensures confirmation { (s : State M.State) (vote : Signed Began) (owed : Owed) → IsSigner s → IsBeganOwed s vote owed → ForSome owed.adopt (TakesUp M.rules s) → finished M.rules s (confirmation M.rules s vote) ≡ finished_by M.rules s 0 owed (begin (with_confirmation vote s)) (certify M.rules Taken (begin (with_confirmation vote s))) }
     ensures certificate { (s : State M.State) (cert : ViewCert) (owed : Owed) (adoption : Adoption) → IsSigner s → IsCertOwed s cert owed → owed.adopt ≡ Some adoption → TakesUp M.rules s adoption → finished M.rules s (view_certificate M.rules s cert) ≡ finished_by M.rules s 0 owed (begin s) (adopt M.rules cert adoption.chosen (begin s)) }
     ensures refused { (s : State M.State) (cert : ViewCert) (owed : Owed) → IsSigner s → IsCertOwed s cert owed → owed.adopt ≡ None → finished M.rules s (view_certificate M.rules s cert) ≡ finished_by M.rules s 0 owed (begin s) (goes Taken (begin s)) }
+{}
+
+/// The row of a snapshot that comes and is the one that a certificate waits for: with it the choice is taken up, and the
+/// leaves are counted before anything is signed.
+pub fn installations<M: Machine>()
+    ensures { (s : State M.State) (w : Waiting) (provider : Signed Change) (point : Point M.State) (place : Place) (bytes : List ℕ) → IsSigner s → s.views.waiting ≡ Some w → slice_get w.cert.new.stmt.changes w.chosen.provider ≡ Some provider → state_cause (wanted_of provider.stmt.told) place bytes ≡ None
+        → point_in M.rules provider.stmt.told.stable_place provider.stmt.told.stable_head bytes ≡ Some point → CanInstall s provider.stmt.told point w.chosen
+        → finished M.rules s (state_transfer M.rules s place bytes) ≡ counted s (signs_taken (installed M.rules point provider.stmt.told s) provider.stmt.told w.chosen.place) (goes Taken (take_up M.rules w.cert w.chosen provider.stmt.told (begin (installed M.rules point provider.stmt.told s)))) }
 {}

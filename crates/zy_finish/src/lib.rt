@@ -4,4 +4,4 @@
 
 mod laws;
 
-pub use laws::{certificates, endings, new_views, signatures};
+pub use laws::{certificates, endings, installations, new_views, signatures};
