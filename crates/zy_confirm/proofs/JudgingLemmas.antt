@@ -110,7 +110,7 @@ or_false : (a b : Bool) → (a || b) ≡ false → (a ≡ false) × (b ≡ false
 or_false false b is = (refl, is)
 or_false true b is = absurd cc
 
-all_given : (counts : Counts) (interval : ℕ) (view : View) (l : List (Signed Change)) → All (λ c. IsReplica c.by) l → is_for_other view l ≡ false → first_broken counts interval l ≡ None → All (IsGiven counts interval view) l
+pub all_given : (counts : Counts) (interval : ℕ) (view : View) (l : List (Signed Change)) → All (λ c. IsReplica c.by) l → is_for_other view l ≡ false → first_broken counts interval l ≡ None → All (IsGiven counts interval view) l
 all_given counts interval view [] signers none clear = λ k d within. absurd (omega arith)
 all_given counts interval view (c ∷ rest) signers none clear =
     let same = or_false (not (nat_eq c.stmt.view.0 view.0)) (is_for_other view rest) none in
@@ -128,27 +128,42 @@ chosen_as (choices.Chosen provider place head) chosen is =
     let e : ◌≡◌ {A = Chosen} (record { provider = provider; place = place; head = head }) chosen = cc in
     ap (λ (x : Chosen). choices.Chosen x.provider x.place x.head) e
 
+-- what was judged, where something is chosen
+pub record IsChosenFrom (counts : Counts) (interval : ℕ) (n : New) (chosen : Chosen) : Type 0 where
+  pub not_few : nat_lt (length n.changes) counts.change ≡ false
+  pub not_many : nat_lt counts.change (length n.changes) ≡ false
+  pub no_repeat : has_repeat n.changes ≡ false
+  pub for_view : is_for_other n.view n.changes ≡ false
+  pub clear : first_broken counts interval n.changes ≡ None
+  pub choice : choice_of counts.agree (map read n.changes) ≡ choices.Chosen chosen.provider chosen.place chosen.head
+
+pub chosen_from : (counts : Counts) (interval : ℕ) (n : New) (chosen : Chosen) → chosen_in counts interval n ≡ Ok chosen → IsChosenFrom counts interval n chosen
+chosen_from counts interval n chosen is =
+    by (nat_lt (length n.changes) counts.change) (nat_lt counts.change (length n.changes)) (has_repeat n.changes) (is_for_other n.view n.changes) (first_broken counts interval n.changes) refl refl refl refl refl is
+  where
+    by : (short long repeats others : Bool) (broken : Option Rule) → nat_lt (length n.changes) counts.change ≡ short → nat_lt counts.change (length n.changes) ≡ long → has_repeat n.changes ≡ repeats
+        → is_for_other n.view n.changes ≡ others → first_broken counts interval n.changes ≡ broken
+        → (if short then Err (causes.TooFew (length n.changes))
+        else (if long then Err causes.Mixed
+        else (if repeats then Err causes.Repeat
+        else (if others then Err causes.Mixed
+        else chosen_unless broken (choice_of counts.agree (map read n.changes)))))) ≡ Ok chosen
+        → IsChosenFrom counts interval n chosen
+    by true long repeats others broken few many once same clear none = absurd cc
+    by false true repeats others broken few many once same clear none = absurd cc
+    by false false true others broken few many once same clear none = absurd cc
+    by false false false true broken few many once same clear none = absurd cc
+    by false false false false (Some rule) few many once same clear none = absurd cc
+    by false false false false None few many once same clear here =
+        record { not_few = few; not_many = many; no_repeat = once; for_view = same; clear = clear; choice = chosen_as (choice_of counts.agree (map read n.changes)) chosen here }
+
 -- a new view of which something is chosen can be confirmed
 pub accepted : (counts : Counts) (interval : ℕ) (frame : Signed New) (chosen : Chosen) → All (λ c. IsReplica c.by) frame.stmt.changes → IsSignedInRange IsNewInRange frame
     → chosen_in counts interval frame.stmt ≡ Ok chosen → IsAccepted counts interval (record { new = frame; chosen = chosen })
 accepted counts interval frame chosen signers in_range is =
-    few (nat_lt (length frame.stmt.changes) counts.change) (nat_lt counts.change (length frame.stmt.changes)) (has_repeat frame.stmt.changes) (is_for_other frame.stmt.view frame.stmt.changes) refl (first_broken counts interval frame.stmt.changes) refl is
-  where
-    few : (short long repeats others : Bool) → is_for_other frame.stmt.view frame.stmt.changes ≡ others → (broken : Option Rule) → first_broken counts interval frame.stmt.changes ≡ broken
-        → (if short then Err (causes.TooFew (length frame.stmt.changes))
-        else (if long then Err causes.Mixed
-        else (if repeats then Err causes.Repeat
-        else (if others then Err causes.Mixed
-        else chosen_unless broken (choice_of counts.agree (map read frame.stmt.changes)))))) ≡ Ok chosen
-        → IsAccepted counts interval (record { new = frame; chosen = chosen })
-    few true long repeats others same broken clear none = absurd cc
-    few false true repeats others same broken clear none = absurd cc
-    few false false true others same broken clear none = absurd cc
-    few false false false true same broken clear none = absurd cc
-    few false false false false same (Some rule) clear none = absurd cc
-    few false false false false same None clear here =
-        record {
-          in_range = in_range;
-          reports = all_given counts interval frame.stmt.view frame.stmt.changes signers same clear;
-          chosen = chosen_as (choice_of counts.agree (map read frame.stmt.changes)) chosen here;
-        }
+    let from = chosen_from counts interval frame.stmt chosen is in
+    record {
+      in_range = in_range;
+      reports = all_given counts interval frame.stmt.view frame.stmt.changes signers from.for_view from.clear;
+      chosen = from.choice;
+    }

@@ -1,4 +1,4 @@
-use Rattle.std.proofs.Common.{◌≡◌, IfOk, List, Result, false, sym, ◌∙◌, ap, subst}
+use Rattle.std.proofs.Common.{◌≡◌, IfOk, List, Result, true, false, sym, ◌∙◌, ap, subst}
 use Rattle.std.specs.Prelude.{nat_lt}
 use Rattle.zy_base.specs.declared.cause.Cause.{Cause}
 use Rattle.zy_base.specs.declared.counts.Counts.{Counts}
@@ -13,7 +13,7 @@ use Rattle.zy_cert.specs.Equal.{same_spec}
 use Rattle.zy_cert.specs.Points.{point_of_spec}
 use Rattle.zy_table.specs.Deeds.{Outcome}
 use Rattle.zy_table.specs.Commits.{commit_judged}
-use Rattle.zy_rows.proofs.CommitLemmas.{certified_ready, commit_is, last_is, not_below, own_certificate}
+use Rattle.zy_rows.proofs.CommitLemmas.{below, certified_ready, commit_behind, commit_is, last_is, not_below, own_certificate}
 use Rattle.zy_rows.proofs.commits.commit.Goals as goal
 
 pub commit_judged-requires-clause-local : goal.commit_judged-requires-clause-local
@@ -43,3 +43,11 @@ returns g c =
     (ap (commit_judged g.M.Machine.rules c.args.core c.args.specs c.args.first.client) point
     ∙ commit_is g.M.Machine.rules c.args.core c.args.first c.args.specs old behind)
     c.commit_judged.ensures
+
+pub returns-then-lt-2 : goal.returns-then-lt-2
+returns-then-lt-2 g c =
+    let old : nat_lt c.args.first.place.0 c.args.core.orders.base ≡ false = rw (sym c.stable.ensures.place) (not_below _ _ (sym c.lt.ensures ∙ c.if-lt.false)) in
+    let behind : nat_lt (last_place c.args.core.kept) c.args.first.place.0 ≡ true = rw (sym c.length.ensures.place) (below _ _ (sym c.lt-2.ensures ∙ c.if-lt-2.true)) in
+    subst (λ (o : Outcome g.row.M-State.Denot). IfOk c.not_heard-then-lt-2.result (λ (m : Outcome g.row.M-State.Denot). m ≡ o))
+    (commit_behind g.M.Machine.rules c.args.core c.args.first c.args.specs old behind)
+    c.not_heard-then-lt-2.ensures
