@@ -2,3 +2,5 @@ pub mod BoardLemmas
 pub mod OwnLemmas
 pub mod ReadyLemmas
 pub mod RoundLemmas
+pub mod BegunLemmas
+pub mod AdoptLemmas

@@ -41,8 +41,10 @@ use Rattle.zy_cert.specs.Equal.{same_check}
 use Rattle.zy_cert.specs.Points.{point_of_check}
 use Rattle.zy_evidence.specs.Rules.{is_spec_proven}
 use Rattle.zy_change.specs.declared.kept.Accepted.{Accepted}
+use Rattle.zy_change.specs.declared.kept.Chosen.{Chosen}
 use Rattle.zy_change.specs.declared.kept.Waiting.{Waiting}
-use Rattle.zy_change.specs.Fit.{IsFit, IsKeptChange, IsTrueReport}
+use Rattle.zy_vframes.specs.declared.frame.ViewCert.{ViewCert}
+use Rattle.zy_change.specs.Fit.{IsCertified, IsFit, IsKeptChange, IsTrueReport}
 use Rattle.zy_change.specs.Owing.{change_to}
 use Rattle.zy_change.specs.Views.{Views, with_specs, is_further, told_of}
 use Rattle.zy_change.specs.Views as views
@@ -73,7 +75,7 @@ use Rattle.zy_table.specs.declared.deeds.AnyFrame.TheVariants as sent
 use Rattle.zy_table.proofs.ReportLemmas.{TellsTrue, IsJoined, IsOwnCheck, start-true, with_board-true, with_hate-true, with_change-true, left-true, with_new-true, longer-true, certificate-in_range, certificate-proven, certificate-fits, certificate-true, certificate_at-certified, certificate_at-all, proof_at-certified, proof_at-equal, proof_at-all, settle-true, settle-joined, true-short}
 use Rattle.zy_table.proofs.SentLemmas.{change-kept}
 use Rattle.zy_exec.proofs.SettleLemmas.{settled_place, settled_end}
-use Rattle.zy_core.specs.Ready.{AreKeysOf, IsReady, IsOrderReady, IsOwnCertificate, IsOwnReady, IsKeptPending, IsKeptSpec, IsPendingReady, IsSlotReady, AreOwnViews, AreRoundsInRange}
+use Rattle.zy_core.specs.Ready.{AreKeysOf, IsReady, IsOrderReady, IsOwnCertificate, IsOwnReady, IsKeptPending, IsKeptSpec, IsPendingReady, IsSlotReady, AreOwnViews, AreRoundsInRange, IsWaitingReady}
 use Rattle.zy_core.proofs.RoundLemmas.{start-in_range, round_at-in_range, after_spec-in_range, after_check-in_range, without_others-in_range, with_stable-in_range}
 
 -- ---- a replica that begins
@@ -288,10 +290,10 @@ module _ {S : Type 0} (s : State S) (r : IsReady s) where
       (record { me = r.views.me; counts = r.views.counts; interval = r.views.interval; own = r.views.own; active = r.views.active; cert = r.views.cert; accepted = r.views.accepted; waiting = r.views.waiting })
       (record { last = refl; in_range = r.report.in_range; keeps_rules = r.report.keeps_rules })
 
-  pub ready_with_waiting : (w : Waiting) → CanBeSent (sent.View (frames.ViewCert w.cert)) → IsReady (record s { views = views.with_waiting w s.views })
-  ready_with_waiting w sends =
+  pub ready_with_waiting : (w : Waiting) → IsWaitingReady w → IsReady (record s { views = views.with_waiting w s.views })
+  ready_with_waiting w ready =
       ready_views (views.with_waiting w s.views)
-      (record { me = r.views.me; counts = r.views.counts; interval = r.views.interval; own = r.views.own; active = r.views.active; cert = r.views.cert; accepted = r.views.accepted; waiting = λ x is. subst (λ (y : Waiting). CanBeSent (sent.View (frames.ViewCert y.cert))) (same_Some w x is) sends })
+      (record { me = r.views.me; counts = r.views.counts; interval = r.views.interval; own = r.views.own; active = r.views.active; cert = r.views.cert; accepted = r.views.accepted; waiting = λ x is. subst IsWaitingReady (same_Some w x is) ready })
       (record { last = refl; in_range = r.report.in_range; keeps_rules = r.report.keeps_rules })
 
   pub ready_without_waiting : IsReady (record s { views = views.without_waiting s.views })
@@ -305,6 +307,12 @@ module _ {S : Type 0} (s : State S) (r : IsReady s) where
       ready_views (views.without_accepted s.views)
       (record { me = r.views.me; counts = r.views.counts; interval = r.views.interval; own = r.views.own; active = r.views.active; cert = r.views.cert; accepted = λ a none. cc; waiting = r.views.waiting })
       (record { last = refl; in_range = r.report.in_range; keeps_rules = r.report.keeps_rules })
+
+  -- the certificate of the new view that was confirmed can be sent
+  pub certificate_sends : (cert : ViewCert) (chosen : Chosen) → s.views.accepted ≡ Some (record { new = cert.new; chosen = chosen }) → IsCertified s.views.counts s.views.interval cert chosen → CanBeSent (sent.View (frames.ViewCert cert))
+  certificate_sends cert chosen kept is =
+      let new = r.views.accepted (record { new = cert.new; chosen = chosen }) kept in
+      ((new.0, is.begans), new.1)
 
   joined : IsJoined s
   joined = record { counts = r.views.counts; interval = r.views.interval; place = r.board_stable; head = r.board_head }
@@ -495,6 +503,12 @@ stable_interval : (b : Board) (proof : List (Signed Check)) → (with_stable b p
 unfolding with_stable
 stable_interval b proof = refl
 
+-- a part of the state after the other
+pub settled_with : {S : Type 0} (R : Rules S) (s : State S) (place : ℕ) (proof : List (Signed Check)) (k : Kept S) (o : Orders) (b : Board) (locals : List (Signed Local))
+    → k ≡ settled R place s.kept → o ≡ orders_above place s.orders → b ≡ with_stable s.board proof → locals ≡ filter (λ said. nat_le place said.stmt.place.0) s.locals
+    → record s { kept = k; orders = o; board = b; locals = locals } ≡ settled_at R place proof s
+settled_with R s place proof k o b locals kept orders board filtered = rw (kept, orders, board, filtered) refl
+
 module _ {S : Type 0} (R : Rules S) (s : State S) (own : OwnCheckpoint) (proof : List (Signed Check)) (r : IsReady s) (here : IsOwnReady s.kept s.views.last_view own) (found : proof_at s own.check ≡ Some proof) (proves : IsProof own.check.place.0 proof) where
   abbrev place : ℕ
   place = own.check.place.0
@@ -550,7 +564,7 @@ module _ {S : Type 0} (R : Rules S) (s : State S) (own : OwnCheckpoint) (proof :
   pub settled_is : (k : Kept S) (o : Orders) (b : Board) (locals : List (Signed Local)) → k ≡ settled R place s.kept → o ≡ orders_above place s.orders → b ≡ with_stable s.board proof
       → locals ≡ filter (λ said. nat_le place said.stmt.place.0) s.locals
       → record s { kept = k; orders = o; board = b; locals = locals } ≡ settled_at R place proof s
-  settled_is k o b locals kept orders board filtered = rw (kept, orders, board, filtered) refl
+  settled_is k o b locals kept orders board filtered = settled_with R s place proof k o b locals kept orders board filtered
 
   pub ready_settled : (k : Kept S) (o : Orders) (b : Board) (locals : List (Signed Local)) → k ≡ settled R place s.kept → o ≡ orders_above place s.orders → b ≡ with_stable s.board proof
       → locals ≡ filter (λ said. nat_le place said.stmt.place.0) s.locals

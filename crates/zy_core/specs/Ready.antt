@@ -1,5 +1,5 @@
 -- What holds of every replica.
-use Rattle.std.specs.Prelude.{◌≡◌, ℕ, ◌≤◌, ◌<◌, ◌+◌, ◌%◌, ◌^◌, List, length, All, Option, Some, Ok}
+use Rattle.std.specs.Prelude.{◌≡◌, ℕ, ◌≤◌, ◌<◌, ◌+◌, ◌%◌, ◌^◌, List, length, All, slice_get, Option, Some, Ok}
 use Rattle.std.specs.List.{AllByRecursion}
 use Rattle.std.specs.Option.{ForSome}
 use Rattle.zy_base.specs.declared.counts.Counts.{Counts}
@@ -13,6 +13,7 @@ use Rattle.zy_parts.specs.Signing.{IsSignedInRange}
 use Rattle.zy_parts.specs.Statements.{IsAskInRange, IsOrderInRange, IsSpecInRange, IsLocalInRange, IsConfirmInRange, IsHoleInRange, IsHateInRange, IsCheckInRange}
 use Rattle.zy_parts.specs.Reports.{IsChangeInRange, IsNewInRange, IsBeganInRange, IsFetchInRange}
 use Rattle.zy_parts.specs.declared.signed.Signed.{Signed}
+use Rattle.zy_parts.specs.declared.reports.Change.{Change}
 use Rattle.zy_parts.specs.declared.statements.Ask.{Ask}
 use Rattle.zy_parts.specs.declared.statements.Spec.{Spec}
 use Rattle.zy_cert.specs.Certificates.{certified}
@@ -101,8 +102,13 @@ IsKeptCert cert = ForSome cert (λ c. CanBeSent (sent.View (frames.ViewCert c)))
 abbrev pub IsKeptNew : Option Accepted → Type 0
 IsKeptNew accepted = ForSome accepted (λ a. CanBeSent (sent.View (frames.NewView a.new)))
 
+-- a certificate that waits for a snapshot, which others proved
+pub record IsWaitingReady (w : Waiting) : Type 0 where
+  pub sends : CanBeSent (sent.View (frames.ViewCert w.cert))
+  pub proven : (c : Signed Change) → slice_get w.cert.new.stmt.changes w.chosen.provider ≡ Some c → 0 < c.stmt.told.stable_place.0
+
 abbrev pub IsKeptWaiting : Option Waiting → Type 0
-IsKeptWaiting waiting = ForSome waiting (λ w. CanBeSent (sent.View (frames.ViewCert w.cert)))
+IsKeptWaiting waiting = ForSome waiting IsWaitingReady
 
 -- what is kept for changes of view is this replica's
 pub record AreOwnViews (who : ReplicaId) (group : Counts) (places : ℕ) (v : Views) : Type 0 where

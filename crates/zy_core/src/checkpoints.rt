@@ -412,7 +412,7 @@ impl<M: Machine> Core<M> {
 }
 
 // Without the local commits of places below one.
-fn locals_from(locals: Items<Signed<Local>>, place: Place) -> Items<Signed<Local>>
+pub(crate) fn locals_from(locals: Items<Signed<Local>>, place: Place) -> Items<Signed<Local>>
     ensures { result ≡ filter (λ said. nat_le place.0 said.stmt.place.0) locals }
 {
     let mut kept = locals.into_vec();

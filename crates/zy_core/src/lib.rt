@@ -6,6 +6,7 @@
 mod changes;
 mod checkpoints;
 mod copies;
+mod fetches;
 mod progress;
 mod reading;
 mod responses;
@@ -15,4 +16,4 @@ mod views;
 pub use copies::{bytes_copy, entry_of, frame_copy, pending_copy, signed_copy};
 pub use progress::{Moved, Progress};
 pub use responses::{own_with, spec_of};
-pub use state::Core;
+pub use state::{Core, told_in};

@@ -7,6 +7,10 @@ ghost use Rattle.zy_exec.specs.Replay.{origin};
 ghost use Rattle.zy_exec.specs.Shots.{digest_of_snapshot};
 ghost use Rattle.zy_exec.specs.Snapshot.{snapshot_of};
 
+mod adopting;
+mod parts;
+
+pub use adopting::told_in;
 use sha2::{Digest as Hasher, Sha256};
 use std::alloc::Global;
 use std::marker::Model;

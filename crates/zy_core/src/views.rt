@@ -1,25 +1,26 @@
 //! What a replica keeps for changes of view: its report, and its changes as it leaves a view.
 
-ghost use Rattle.std.specs.Prelude.{◌≡◌, ◌<◌, ◌≤◌, ◌^◌, nat_lt, Some, IfOk, option_copied};
+ghost use Rattle.std.specs.Prelude.{◌≡◌, ◌<◌, ◌≤◌, ◌^◌, nat_lt, Some, IsSome, IfOk, option_copied};
 ghost use Rattle.std.specs.Option.{ForSome};
 ghost use Rattle.zy_parts.specs.Signing.{IsSignedInRange};
 ghost use Rattle.zy_parts.specs.Statements.{IsHateInRange};
 ghost use Rattle.zy_evidence.specs.Reading.{number_of_party};
 ghost use Rattle.zy_vframes.specs.ViewFrames.{IsShortReport};
 ghost use Rattle.zy_vframes.specs.declared.frame.ViewFrame.TheVariants as frames;
-ghost use Rattle.zy_change.specs.Fit.{IsAccepted, IsFit, IsKeptChange, IsOwnBegan, IsTrueReport};
+ghost use Rattle.zy_change.specs.Fit.{IsAccepted, IsCertified, IsFit, IsKeptBegan, IsKeptChange, IsOwnBegan, IsTrueReport};
 ghost use Rattle.zy_change.specs.Views as views;
 ghost use Rattle.zy_table.specs.Sending.{CanBeSent};
 ghost use Rattle.zy_table.specs.declared.deeds.AnyFrame.TheVariants as sent;
 ghost use Rattle.zy_table.specs.State.{own_view, leaves_of, spent};
 ghost use Rattle.zy_table.specs.Leaving.{report_of, sealed_change, without_waiting, left_with};
-ghost use Rattle.zy_core.specs.Ready.{IsReady};
+ghost use Rattle.zy_core.specs.Ready.{IsReady, IsWaitingReady};
 
 use crate::Core;
 use zy_base::{Machine, View, Want};
-use zy_change::{Accepted, ViewMachine};
+use zy_change::{Accepted, Chosen, ViewMachine};
 use zy_exec::nothing;
 use zy_parts::{Began, Change, Hate, Signed, Told};
+use zy_vframes::ViewCert;
 
 impl<M: Machine> Core<M> {
     /// What it keeps for changes of view.
@@ -111,6 +112,58 @@ impl<M: Machine> Core<M> {
     {
         self.views.accept(accepted, own);
         self
+    }
+
+    /// A confirmation is kept in place of its signer's earlier one.
+    pub fn keep_began(mut self, vote: Signed<Began>) -> Core<M>
+        requires member { number_of_party vote.by < self.views.counts.n }
+        requires kept { IsKeptBegan (number_of_party vote.by) vote }
+        ensures { result ≡ record self { views = views.with_began vote self.views } }
+    {
+        self.views.keep_began(vote);
+        self
+    }
+
+    /// A view certificate waits for a snapshot, in place of an earlier one. What its report calls stable isn't the empty
+    /// history.
+    pub fn wait(mut self, cert: ViewCert, chosen: Chosen) -> Core<M>
+        requires certified { IsCertified self.views.counts self.views.interval cert chosen }
+        requires ready { IsWaitingReady (record { cert = cert; chosen = chosen }) }
+        ensures { result ≡ record self { views = views.with_waiting (record { cert = cert; chosen = chosen }) self.views } }
+    {
+        self.views.wait(cert, chosen);
+        self
+    }
+
+    /// A copy of the certificate of the new view that it confirmed, with its choice.
+    pub fn certified(&self) -> Result<(ViewCert, Chosen), Want>
+        requires { IsSome (views.certificate self.now.views) }
+        ensures cert { IfOk result (λ r. views.certificate self.now.views ≡ Some r.0) }
+        ensures chosen { IfOk result (λ r. self.now.views.accepted ≡ Some (record { new = r.0.new; chosen = r.1 })) }
+        ensures certified { IfOk result (λ r. IsCertified self.now.views.counts self.now.views.interval r.0 r.1) }
+        ensures sends { IfOk result (λ r. CanBeSent (sent.View (frames.ViewCert r.0))) }
+    {
+        // What is kept for changes of view fits.
+        let _own = self.views.view();
+        match self.views.accepted() {
+            None => unreachable!(),
+            Some(accepted) => Ok((self.views.certified()?, accepted.chosen)),
+        }
+    }
+
+    /// The certificate of the new view that it confirmed, with its choice: the new view's reports move out of what is kept.
+    pub fn take_certified(mut self) -> Result<(Core<M>, ViewCert, Chosen), Want>
+        requires { IsSome (views.certificate self.views) }
+        ensures core { IfOk result (λ r. r.0 ≡ record self { views = views.without_accepted self.views }) }
+        ensures cert { IfOk result (λ r. views.certificate self.views ≡ Some r.1) }
+        ensures chosen { IfOk result (λ r. self.views.accepted ≡ Some (record { new = r.1.new; chosen = r.2 })) }
+        ensures certified { IfOk result (λ r. IsCertified self.views.counts self.views.interval r.1 r.2) }
+        ensures sends { IfOk result (λ r. CanBeSent (sent.View (frames.ViewCert r.1))) }
+    {
+        match self.views.take_certified() {
+            Ok((cert, chosen)) => Ok((self, cert, chosen)),
+            Err(want) => Err(want),
+        }
     }
 
     // The orders above its history, what it asked for and the requests that wait are dropped.

@@ -100,13 +100,30 @@ fn told(alloc: Global, me: ReplicaId, acts: Items<Act>) -> Result<(Said, Gains),
 {
     let mut said = Items::new(alloc);
     let mut got = Items::new(alloc);
+    let mut pairs = 0;
     for act in acts.into_vec() {
         match act {
-            Act::Says(remark) => said.push(spoken(alloc, me, &remark, got.len() as u64)?)?,
-            Act::Gains(entry) => got.push(entry)?,
+            Act::Says(remark) => said.push(spoken(alloc, me, &remark, pairs)?)?,
+            Act::Gains(entry) => {
+                got.push(entry)?;
+                pairs += 1;
+            }
+            Act::Adopts { gots, .. } => {
+                push_all(&mut got, gots)?;
+                pairs += 1;
+            }
         }
     }
     Ok((said, got))
+}
+
+fn push_all(got: &mut Gains, more: Gains) -> Result<(), Want>
+    ensures { OnOk result (got.new ≡ got.old ++ more) }
+{
+    for entry in more.into_vec() {
+        got.push(entry)?;
+    }
+    Ok(())
 }
 
 fn spoken(alloc: Global, me: ReplicaId, remark: &Remark, pairs: u64) -> Result<Spoken, Want>
@@ -136,5 +153,6 @@ fn text_of(alloc: Global, me: ReplicaId, body: &Body) -> Result<Bytes, Want>
         Body::Change(change) => signed_text(alloc, me, change),
         Body::New(new) => signed_text(alloc, me, new),
         Body::Began(began) => signed_text(alloc, me, began),
+        Body::Fetch(fetch) => signed_text(alloc, me, fetch),
     }
 }

@@ -9,7 +9,8 @@ ghost use Rattle.zy_vframes.specs.ViewFrames as views;
 ghost use Rattle.zy_vframes.specs.declared.frame.ViewFrame.TheVariants as view_frames;
 ghost use Rattle.zy_seal.specs.Screening.{screen};
 ghost use Rattle.zy_table.specs.Roles.{in_role as has_role};
-ghost use Rattle.zy_table.specs.Whole.{whole_step, timer as timer_row, decoded_as, view_decoded, hear_plain as plain_heard, hear_view as view_heard, plain_row as plain_row_of, view_row as view_row_of, is_view_frame_in_role as has_view_role};
+ghost use Rattle.zy_table.specs.Whole.{is_view_frame_in_role as has_view_role};
+ghost use Rattle.zy_table.specs.LeavingStep.{leaving_step, timer as timer_row, decoded_as, view_decoded, hear_plain as plain_heard, hear_view as view_heard, plain_row as plain_row_of, view_row as view_row_of};
 
 use crate::roles::{in_role, is_view_frame_in_role};
 use crate::step::screens;
@@ -22,9 +23,9 @@ use zy_seal::screen_parts;
 use zy_vframes::ViewFrame;
 use zy_views::{change, hate, on_change_timer, on_request_timer, order_or_blame, pom};
 
-#[tactic(auto, unfolding(zy_table::specs::Whole::whole_step))]
+#[tactic(auto, unfolding(zy_table::specs::LeavingStep::leaving_step))]
 pub(crate) fn moves_whole<M: Machine>(core: Core<M>, event: Event) -> Result<Moved<M>, Want>
-    ensures { IfOk result (λ m. m ≡ whole_step M.rules core event) }
+    ensures { IfOk result (λ m. m ≡ leaving_step M.rules core event) }
 {
     match event {
         Event::Heard(bytes) => hears_bytes(core, &bytes),

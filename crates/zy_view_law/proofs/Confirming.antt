@@ -170,7 +170,7 @@ module _ {S : Type 0} (R : Rules S) (interval : ℕ) (w : World) (lawful : IsLaw
                   | inl both ↦ subst (λ (n : ℕ). IsKeptBegan after n q) (sym both.0) (subst (λ (x : Signed Began). IsKeptBegan after c.views.me.0 x) (sym both.1) own_kept)
                   | inr other ↦ heard.begans id q (kept_before own.stmt (slice_index_or c.views.begans id None) q (sym (read_map (unless_other own.stmt) refl c.views.begans id) ∙ other))
                 ];
-            accepted = chosen_said w r confirm interval a.new.stmt a.chosen is;
+            accepted = record { leaving = leaving; new = chosen_said w r confirm interval a.new.stmt a.chosen is };
             waiting = heard.waiting;
           };
         }

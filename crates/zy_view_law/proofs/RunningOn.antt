@@ -111,17 +111,24 @@ module _ (w : World) (lawful : IsLawful w) (links : w.next ≡ link) (interval :
     told_has : Has w.next (read c).stretch shared
     told_has = subst (λ (next : Digest → Entry → Digest). Has next (read c).stretch shared) (sym links) (has_at (read c).stretch place head both.first)
 
+    abbrev given : List Entry
+    given = slice_range c.stmt.told.entries (place - c.stmt.told.stable_place.0) (m.place - c.stmt.told.stable_place.0)
+
+    same_front : take place own.stand.history ≡ take place t.stand.history
+    same_front = passed_fronts w lawful own t shared (kept_passes R w links k own.stand.history stands place head both.second) (told_passes t passes shared told_has low)
+
+    -- the own history up to there, and on along the report: the choice's list
+    pub ran_list : take place own.stand.history ++ given ≡ take m.place t.stand.history
+    ran_list =
+        ap (λ (l : List Entry). l ++ given) same_front
+        ∙ ap (λ (l : List Entry). take place t.stand.history ++ l) (sym (told_between t passes place told_has.above low))
+        ∙ sym (take_split place m.place t.stand.history low)
+
     ran_on : StandsFor R (run_on (stretch_of c.stmt.told) place m.place k) (take m.place t.stand.history)
     ran_on =
         let own_has = has_at (kept.stretch_of k) place head both.second in
-        let same : take place own.stand.history ≡ take place t.stand.history =
-        passed_fronts w lawful own t shared (kept_passes R w links k own.stand.history stands place head both.second) (told_passes t passes shared told_has low) in
-        let back : StandsFor R (back_to place k) (take place t.stand.history) =
-        subst (λ (l : List Entry). StandsFor R (back_to place k) l) same (stands_back R k own.stand.history place own_has.above own_has.below stands) in
-        let entries = slice_range c.stmt.told.entries (place - c.stmt.told.stable_place.0) (m.place - c.stmt.told.stable_place.0) in
-        let whole : take place t.stand.history ++ entries ≡ take m.place t.stand.history =
-        ap (λ (l : List Entry). take place t.stand.history ++ l) (sym (told_between t passes place told_has.above low)) ∙ sym (take_split place m.place t.stand.history low) in
-        subst (λ (l : List Entry). StandsFor R (run_on (stretch_of c.stmt.told) place m.place k) l) whole (stands_more R (back_to place k) (take place t.stand.history) entries back)
+        let back : StandsFor R (back_to place k) (take place own.stand.history) = stands_back R k own.stand.history place own_has.above own_has.below stands in
+        subst (λ (l : List Entry). StandsFor R (run_on (stretch_of c.stmt.told) place m.place k) l) ran_list (stands_more R (back_to place k) (take place own.stand.history) given back)
 
     pub adopted_by_running : IsAdopted R interval texts w m (run_on (stretch_of c.stmt.told) place m.place k) (take m.place t.stand.history)
     adopted_by_running = list_adopted w lawful links interval n m c is R texts matches world t m (run_on (stretch_of c.stmt.told) place m.place k) passes ran_on

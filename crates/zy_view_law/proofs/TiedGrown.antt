@@ -7,6 +7,7 @@ use Rattle.zy_base.specs.declared.ids.Digest.{Digest}
 use Rattle.zy_base.specs.declared.ids.Party.{Party}
 use Rattle.zy_base.specs.declared.ids.Party.TheVariants.{Replica, Client}
 use Rattle.zy_base.specs.declared.ids.View.{View}
+use Rattle.zy_base.specs.declared.step.Mode.{Mode}
 use Rattle.zy_chain.specs.Stretch.{Mark}
 use Rattle.zy_chain.specs.declared.entry.Entry.{Entry}
 use Rattle.zy_change.specs.Views.{Views}
@@ -24,7 +25,7 @@ use Rattle.zy_parts.specs.declared.reports.New.{New}
 use Rattle.zy_parts.specs.declared.reports.Told.{Told}
 use Rattle.zy_parts.specs.declared.signed.Signed.{Signed}
 use Rattle.zy_view_law.specs.Held.{AreProofsHeld, IsCertOf, IsHeldChange, IsHeldPart, IsProperNew, IsVouchedBy}
-use Rattle.zy_view_law.specs.Tied.{Core, IsBegun, IsChosenNew, IsCommitHeld, IsFarEnough, IsGrounded, IsHearing, IsKeptChange, IsQuiet, IsStanding, IsTied, IsWaitingTied, told_by}
+use Rattle.zy_view_law.specs.Tied.{Core, IsAcceptedTied, IsBegun, IsChosenNew, IsCommitHeld, IsFarEnough, IsGrounded, IsHearing, IsKeptChange, IsQuiet, IsStanding, IsTied, IsWaitingTied, told_by}
 use Rattle.zy_view_law.specs.Told.{began_told, check_told, response_told}
 
 module _ (w : World) (asked : ℕ → List Entry) (said : ℕ → List Spoken) (past : ℕ → List Stand) (kept : Digest → Entry → Bool)
@@ -68,16 +69,19 @@ module _ (w : World) (asked : ℕ → List Entry) (said : ℕ → List Spoken) (
   pub chosen_more : (interval : ℕ) (n : New) (chosen : Chosen) → IsChosenNew interval w n chosen → IsChosenNew interval more n chosen
   chosen_more interval n chosen is = record { proper = proper_more interval n is.proper; choice = is.choice }
 
-  waiting_more : (interval : ℕ) (x : Waiting) → IsWaitingTied interval w x → IsWaitingTied interval more x
-  waiting_more interval x is = record { new = chosen_more interval x.cert.new.stmt x.chosen is.new; begans = record { certificate = is.begans.certificate; held = parts_more began_told x.cert.begans is.begans.held } }
+  if_accepted : (interval : ℕ) (mode : Mode) (o : Option Accepted) → IfSome o (IsAcceptedTied interval w mode) → IfSome o (IsAcceptedTied interval more mode)
+  if_accepted interval mode None is = tt
+  if_accepted interval mode (Some a) is = record { leaving = is.leaving; new = chosen_more interval a.new.stmt a.chosen is.new }
 
-  if_accepted : (interval : ℕ) (o : Option Accepted) → IfSome o (λ (a : Accepted). IsChosenNew interval w a.new.stmt a.chosen) → IfSome o (λ (a : Accepted). IsChosenNew interval more a.new.stmt a.chosen)
-  if_accepted interval None is = tt
-  if_accepted interval (Some a) is = chosen_more interval a.new.stmt a.chosen is
-
-  if_waiting : (interval : ℕ) (o : Option Waiting) → IfSome o (IsWaitingTied interval w) → IfSome o (IsWaitingTied interval more)
-  if_waiting interval None is = tt
-  if_waiting interval (Some x) is = waiting_more interval x is
+  if_waiting : (interval : ℕ) (mode : Mode) (o : Option Waiting) → IfSome o (IsWaitingTied interval w mode) → IfSome o (IsWaitingTied interval more mode)
+  if_waiting interval mode None is = tt
+  if_waiting interval mode (Some x) is =
+      record {
+        leaving = is.leaving;
+        new = chosen_more interval x.cert.new.stmt x.chosen is.new;
+        begans = record { certificate = is.begans.certificate; held = parts_more began_told x.cert.begans is.begans.held };
+        further = is.further;
+      }
 
   pub kept_change_more : (interval id : ℕ) (c : Signed Change) → IsKeptChange interval w id c → IsKeptChange interval more id c
   kept_change_more interval id c is = record { by = is.by; well_formed = is.well_formed; held = change_more c is.held }
@@ -87,8 +91,8 @@ module _ (w : World) (asked : ℕ → List Entry) (said : ℕ → List Spoken) (
       record {
         changes = λ id c at. kept_change_more interval id c (is.changes id c at);
         begans = λ id b at. record { by = (is.begans id b at).by; held = vouched_more _ b.by (is.begans id b at).held };
-        accepted = if_accepted interval v.accepted is.accepted;
-        waiting = if_waiting interval v.waiting is.waiting;
+        accepted = if_accepted interval v.mode v.accepted is.accepted;
+        waiting = if_waiting interval v.mode v.waiting is.waiting;
       }
 
   pub commit_more : (last : View) (history : List Entry) (o : Option Certificate) → IfSome o (IsCommitHeld w last history) → IfSome o (IsCommitHeld more last history)

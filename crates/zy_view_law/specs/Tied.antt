@@ -1,5 +1,5 @@
 -- How what a replica keeps is tied to what it said and where it stood, in every view and while it leaves one.
-use Rattle.std.specs.Prelude.{◌≡◌, ℕ, ◌+◌, ◌-◌, ◌*◌, ◌%◌, ◌^◌, ◌<◌, ◌≤◌, Bool, true, List, [], ◌∷◌, ◌++◌, length, map, fold, All, slice_index_or, Option, Some, None, IfSome}
+use Rattle.std.specs.Prelude.{◌≡◌, ℕ, ◌+◌, ◌-◌, ◌*◌, ◌%◌, ◌^◌, ◌<◌, ◌≤◌, Bool, true, List, [], ◌∷◌, ◌++◌, length, map, fold, All, slice_get, slice_index_or, Option, Some, None, IfSome}
 use Rattle.zy_base.specs.Machine.{Rules}
 use Rattle.zy_base.specs.declared.counts.Counts.{Counts}
 use Rattle.zy_base.specs.declared.ids.Digest.{Digest}
@@ -168,17 +168,26 @@ pub record IsViewCert (w : World) (n : New) (chosen : Chosen) (begans : List (Si
   pub certificate : IsCertificate point_of_began w.counts.cert begans (n.view, chosen.place, chosen.head)
   pub held : All (IsHeldPart w began_told) begans
 
-pub record IsWaitingTied (interval : ℕ) (w : World) (x : Waiting) : Type 0 where
+-- what it accepted, as it leaves for that view
+pub record IsAcceptedTied (interval : ℕ) (w : World) (mode : Mode) (a : Accepted) : Type 0 where
+  pub leaving : mode ≡ Leaving a.new.stmt.view
+  pub new : IsChosenNew interval w a.new.stmt a.chosen
+
+-- A certificate that waits, as it leaves for that view. It waits for the snapshot of its provider's stable checkpoint, which
+-- isn't that of the empty history.
+pub record IsWaitingTied (interval : ℕ) (w : World) (mode : Mode) (x : Waiting) : Type 0 where
+  pub leaving : mode ≡ Leaving x.cert.new.stmt.view
   pub new : IsChosenNew interval w x.cert.new.stmt x.chosen
   pub begans : IsViewCert w x.cert.new.stmt x.chosen x.cert.begans
+  pub further : (p : Signed Change) → slice_get x.cert.new.stmt.changes x.chosen.provider ≡ Some p → 0 < p.stmt.told.stable_place.0
 
 -- The reports, confirmations and new views that it keeps are of replicas that said so or lie: what it makes of them is
 -- valid in the law.
 pub record IsHearing (interval : ℕ) (w : World) (v : Views) : Type 0 where
   pub changes : (id : ℕ) (c : Signed Change) → slice_index_or v.changes id None ≡ Some c → IsKeptChange interval w id c
   pub begans : (id : ℕ) (b : Signed Began) → slice_index_or v.begans id None ≡ Some b → IsKeptBegan w id b
-  pub accepted : IfSome v.accepted (λ (a : Accepted). IsChosenNew interval w a.new.stmt a.chosen)
-  pub waiting : IfSome v.waiting (IsWaitingTied interval w)
+  pub accepted : IfSome v.accepted (IsAcceptedTied interval w v.mode)
+  pub waiting : IfSome v.waiting (IsWaitingTied interval w v.mode)
 
 -- ---- the tie
 

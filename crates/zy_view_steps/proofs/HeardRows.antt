@@ -10,7 +10,7 @@ use Rattle.zy_base.specs.declared.ids.View.{View}
 use Rattle.zy_base.specs.declared.step.Answer.TheVariants.{Taken}
 use Rattle.zy_base.specs.declared.step.Mode.{Mode}
 use Rattle.zy_base.specs.declared.step.Mode.TheVariants.{Active, Leaving}
-use Rattle.zy_cert.specs.Misbehaviour.{misbehaved}
+use Rattle.zy_cert.specs.Misbehaviour.{conflict, misbehaved}
 use Rattle.zy_chain.specs.declared.entry.Entry.{Entry}
 use Rattle.zy_change.proofs.AheadLemmas.{above_own, first_above}
 use Rattle.zy_change.proofs.FitLemmas.{all_there, kept_or_filled}
@@ -23,7 +23,6 @@ use Rattle.zy_evidence.specs.WellFormed.{IsWellFormedChange}
 use Rattle.zy_evidence.specs.declared.rule.Rule.{Rule}
 use Rattle.zy_frames.specs.declared.frame.OrderFrame.{OrderFrame}
 use Rattle.zy_law.specs.World.{World}
-use Rattle.zy_lawful.proofs.Goes.{lead_nowhere}
 use Rattle.zy_parts.specs.declared.reports.Change.{Change}
 use Rattle.zy_parts.specs.declared.signed.Signed.{Signed}
 use Rattle.zy_parts.specs.declared.statements.Hate.{Hate}
@@ -43,43 +42,64 @@ use Rattle.zy_view_law.proofs.InView.{says_other}
 use Rattle.zy_view_law.proofs.TieKept.{tied_heard}
 use Rattle.zy_view_law.specs.Held.{IsHeldChange}
 use Rattle.zy_view_law.specs.Tied.{IsHearing, IsKeptChange}
+use Rattle.zy_view_steps.proofs.Led.{leads_nowhere}
 use Rattle.zy_view_steps.proofs.Leaves.{IsOnWay, IsLawfulAttempt, at_begin, collect_on, concluded_row, counted, hated_more, leave_row, said_more}
 use Rattle.zy_view_steps.specs.Cores.{core_of}
-use Rattle.zy_view_steps.specs.Rows.{IsLawfulRow, IsReady}
+use Rattle.zy_view_steps.specs.Rows.{IsLawfulRow, IsReady, blames}
+
+-- two orders that aren't told against each other blame nobody
+no_conflict : (first second : Signed Order) (cause : Cause) → misbehaved first second ≡ Err cause → blames cause ≡ false
+no_conflict first second cause = by (conflict first second)
+  where
+    by : (b : Bool) → (if b then Ok first.stmt.view else Err causes.NoConflict) ≡ Err cause → blames cause ≡ false
+    by true told = absurd cc
+    by false told = let same : causes.NoConflict ≡ cause = cc in subst (λ (c : Cause). blames c ≡ false) same refl
 
 module _ {S : Type 0} (R : Rules S) (interval : ℕ) (w : World) (r : ℕ) (s : State S) (history : List Entry) (ready : IsReady R interval w r s history) where
   -- frames that are sent change nothing of it
-  sent_more : (g : Going S) (sent : List Sent) → IsOnWay R interval w r s history ready g → IsOnWay R interval w r s history ready (record g { deeds = record g.deeds { sent = sent } })
+  pub sent_more : (g : Going S) (sent : List Sent) → IsOnWay R interval w r s history ready g → IsOnWay R interval w r s history ready (record g { deeds = record g.deeds { sent = sent } })
   sent_more g sent way =
-      record { world = way.world; lead = way.lead; now = way.now; lawful = way.lawful; links = way.links; correct = way.correct; tied = way.tied; signer = way.signer }
+      record {
+        world = way.world;
+        lead = way.lead;
+        told = way.told;
+        world_is = way.world_is;
+        now = way.now;
+        lawful = way.lawful;
+        links = way.links;
+        correct = way.correct;
+        tied = way.tied;
+        signer = way.signer;
+        interval_is = way.interval_is;
+      }
 
   leaves_next : (g : Going S) → IsOnWay R interval w r s history ready g → IsLawfulAttempt R interval w r s history ready (leave R (next_view g.state.views) g)
   leaves_next g way = leave_row R interval w r s history ready (next_view g.state.views) g way (omega arith)
 
   -- ---- two orders of the primary
 
-  blamed_on : (told : Result View Cause) → IsLawfulAttempt R interval w r s history ready (blamed R s told)
-  blamed_on (Err cause) = tt
-  blamed_on (Ok view) = leaves_next (begin s) (at_begin R interval w r s history ready)
+  blamed_on : (first second : Signed Order) (told : Result View Cause) → misbehaved first second ≡ told → IsLawfulAttempt R interval w r s history ready (blamed R s told)
+  blamed_on first second (Err cause) told = no_conflict first second cause told
+  blamed_on first second (Ok view) told = leaves_next (begin s) (at_begin R interval w r s history ready)
 
-  pom_attempt : (first second : Signed Order) → IsLawfulAttempt R interval w r s history ready (pom R s first second)
+  pub pom_attempt : (first second : Signed Order) → IsLawfulAttempt R interval w r s history ready (pom R s first second)
   unfolding pom
   pom_attempt first second = by (nat_lt first.stmt.view.0 (table.own_view s)) (nat_lt (table.own_view s) first.stmt.view.0)
     where
       by : (old newer : Bool) → IsLawfulAttempt R interval w r s history ready (cond old (Err causes.OldView) (cond newer (Err causes.NewerView) (blamed R s (misbehaved first second))))
-      by true newer = tt
-      by false true = tt
-      by false false = blamed_on (misbehaved first second)
+      by true newer = refl
+      by false true = refl
+      by false false = blamed_on first second (misbehaved first second) refl
 
   pub pom_lawful : (first second : Signed Order) → IsLawfulRow R interval w r s history (concluded s (pom R s first second))
   pom_lawful first second = concluded_row R interval w r s history ready (pom R s first second) (pom_attempt first second)
 
+  pub order_attempt : (order : Signed Order) (kept : Option OrderFrame) → IsLawfulAttempt R interval w r s history ready (tell_all R s order kept)
+  order_attempt order None = refl
+  order_attempt order (Some kept) = leaves_next _ (sent_more (begin s) _ (at_begin R interval w r s history ready))
+
   pub order_lawful : (order : Signed Order) (kept : Option OrderFrame) → IsLawfulRow R interval w r s history (concluded s (tell_all R s order kept))
-  order_lawful order kept = concluded_row R interval w r s history ready (tell_all R s order kept) (told kept)
-    where
-      told : (kept : Option OrderFrame) → IsLawfulAttempt R interval w r s history ready (tell_all R s order kept)
-      told None = tt
-      told (Some kept) = leaves_next _ (sent_more (begin s) _ (at_begin R interval w r s history ready))
+  order_lawful order kept = concluded_row R interval w r s history ready (tell_all R s order kept) (order_attempt order kept)
 
   -- ---- the own hate, and the timers
 
@@ -88,7 +108,7 @@ module _ {S : Type 0} (R : Rules S) (interval : ℕ) (w : World) (r : ℕ) (s : 
   said_hate None =
       let start = at_begin R interval w r s history ready in
       let says = says_other R interval start.world start.lawful r start.correct (core_of s) history start.tied in
-      said_more R interval w r s history ready (begin s) start (record { body = bodies.Hate (hate_now s); stood = table.stood_of R s }) (say_hate R s None) refl says.may says.tied start.signer
+      said_more R interval w r s history ready (begin s) start (record { body = bodies.Hate (hate_now s); stood = table.stood_of R s }) (say_hate R s None) refl says.may says.tied start.signer start.interval_is
 
   counts_own : (g : Going S) → IsOnWay R interval w r s history ready g → IsLawfulAttempt R interval w r s history ready (count_own R g)
   counts_own g way = by (is_hated_by g.state.views (Replica g.state.me))
@@ -110,10 +130,10 @@ module _ {S : Type 0} (R : Rules S) (interval : ℕ) (w : World) (r : ℕ) (s : 
   asks_hole (Leaving view) hole g way = way
 
   then_asks : (attempt : Attempt S) → IsLawfulAttempt R interval w r s history ready attempt → IsLawfulAttempt R interval w r s history ready (then_ask attempt)
-  then_asks (Err cause) lawful = tt
+  then_asks (Err cause) lawful = lawful
   then_asks (Ok end) way = asks_hole end.1.state.views.mode end.1.state.hole end.1 way
 
-  request_attempt : (mode : Mode) → IsLawfulAttempt R interval w r s history ready (on_request_timer R s mode)
+  pub request_attempt : (mode : Mode) → IsLawfulAttempt R interval w r s history ready (on_request_timer R s mode)
   request_attempt (Active view) = then_asks (if has_pending s then hate_view R s else goes Taken (begin s)) (by (has_pending s))
     where
       by : (b : Bool) → IsLawfulAttempt R interval w r s history ready (cond b (hate_view R s) (goes Taken (begin s)))
@@ -132,7 +152,7 @@ module _ {S : Type 0} (R : Rules S) (interval : ℕ) (w : World) (r : ℕ) (s : 
   hates_again None g way = way
   hates_again (Some said) g way = sent_more g _ way
 
-  change_attempt : (mode : Mode) → IsLawfulAttempt R interval w r s history ready (on_change_timer s mode)
+  pub change_attempt : (mode : Mode) → IsLawfulAttempt R interval w r s history ready (on_change_timer s mode)
   change_attempt (Active view) = at_begin R interval w r s history ready
   change_attempt (Leaving view) =
       hates_again (own_hate s) (change_again (change_for (table.own_view s) (own_change s.views)) (begin s))
@@ -174,13 +194,16 @@ module _ {S : Type 0} (R : Rules S) (interval : ℕ) (w : World) (r : ℕ) (s : 
     kept_on clear =
         record {
           world = w;
-          lead = lead_nowhere w r (table.own_view s) (length (w.past r) - 1) history;
+          lead = leads_nowhere w r (table.own_view s) (length (w.past r) - 1) history;
+          told = w.said;
+          world_is = refl;
           now = refl;
           lawful = ready.lawful;
           links = ready.links;
           correct = ready.correct;
           tied = tied_heard R interval w ready.lawful r ready.correct (core_of s) history ready.tied (with_change vote s.views).changes s.views.begans s.views.hated s.views.waiting (heard clear);
           signer = ready.signer;
+          interval_is = ready.interval_is;
         }
 
     -- the own view and later ones: it leaves for a later one, or gathers for its own
@@ -206,22 +229,22 @@ module _ {S : Type 0} (R : Rules S) (interval : ℕ) (w : World) (r : ℕ) (s : 
         by false false behind same = kept_on clear
 
     judged_attempt : (rule : Option Rule) → rule_of s.views.counts s.views.interval vote.stmt ≡ rule → has_begun s.views.mode vote.stmt.view.0 ≡ false → IsLawfulAttempt R interval w r s history ready (change_judged R s vote rule)
-    judged_attempt (Some rule) is begun = tt
+    judged_attempt (Some rule) is begun = refl
     judged_attempt None is begun = kept_attempt is begun
 
     sends_cert : (cert : Option ViewCert) → IsOnWay R interval w r s history ready (send_cert vote.by cert (begin s))
     sends_cert None = at_begin R interval w r s history ready
     sends_cert (Some cert) = sent_more (begin s) _ (at_begin R interval w r s history ready)
 
-    vote_attempt : IsLawfulAttempt R interval w r s history ready (change R s vote)
+    pub vote_attempt : IsLawfulAttempt R interval w r s history ready (change R s vote)
     unfolding change
     vote_attempt = by (nat_lt vote.stmt.view.0 (table.own_view s)) (has_begun s.views.mode vote.stmt.view.0) (is_from vote.stmt.view.0 (slot_of vote.by s.views.changes)) refl
       where
         by : (old begun repeated : Bool) → has_begun s.views.mode vote.stmt.view.0 ≡ begun
             → IsLawfulAttempt R interval w r s history ready (cond old (Err causes.OldView) (cond begun (goes Taken (send_cert vote.by s.views.view_cert (begin s))) (cond repeated (Err causes.Repeat) (change_judged R s vote (rule_of s.views.counts s.views.interval vote.stmt)))))
-        by true begun repeated is = tt
+        by true begun repeated is = refl
         by false true repeated is = sends_cert s.views.view_cert
-        by false false true is = tt
+        by false false true is = refl
         by false false false is = judged_attempt (rule_of s.views.counts s.views.interval vote.stmt) refl is
 
     pub change_lawful : IsLawfulRow R interval w r s history (concluded s (change R s vote))

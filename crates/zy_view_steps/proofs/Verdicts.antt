@@ -1,5 +1,5 @@
 -- The verdict on a choice, where a tied replica judges it by the provider's report.
-use Rattle.std.proofs.Common.{◌≡◌, ℕ, ◌%◌, ◌<◌, ◌≤◌, nat_eq, nat_le, nat_lt, Bool, true, false, cond, if◌then◌else◌, List, length, take, Option, Some, None, refl, sym, ap, ◌∙◌, arith}
+use Rattle.std.proofs.Common.{◌≡◌, ℕ, ◌%◌, ◌<◌, ◌≤◌, nat_eq, nat_le, nat_lt, Bool, true, false, cond, if◌then◌else◌, List, ◌++◌, length, take, Option, Some, None, refl, sym, ap, ◌∙◌, subst, arith}
 use Rattle.std.specs.Prelude.{option_map}
 use Rattle.std.proofs.lemmas.Bool.{leb-false, leb-true, le-ltb}
 use Rattle.std.proofs.lemmas.Option.{same_Some}
@@ -25,13 +25,13 @@ use Rattle.zy_parts.specs.declared.reports.Change.{Change}
 use Rattle.zy_parts.specs.declared.reports.New.{New}
 use Rattle.zy_parts.specs.declared.reports.Told.{Told}
 use Rattle.zy_parts.specs.declared.signed.Signed.{Signed}
-use Rattle.zy_table.specs.Adopting.{common_up_to, taken_over, verdict_above, verdict_beside, verdict_of, verdict_on_state}
+use Rattle.zy_table.specs.Adopting.{common_up_to, entries_between, taken_over, verdict_above, verdict_beside, verdict_of, verdict_on_state}
 use Rattle.zy_table.specs.Gathering.{state_in}
 use Rattle.zy_table.specs.declared.deeds.Verdict.TheVariants.{Refuse, Take, Wait}
 use Rattle.zy_view_law.proofs.AdoptedLists.{chosen_known, provider_has_it}
 use Rattle.zy_view_law.proofs.NoBlame.{not_below, provider_has_stable, provider_state}
-use Rattle.zy_view_law.proofs.RunningOn.{adopted_by_running, has_at, kept_passes}
-use Rattle.zy_view_law.specs.Adopted.{AreWorldTexts, HaveBoth, IsAdopted, Matches}
+use Rattle.zy_view_law.proofs.RunningOn.{adopted_by_running, has_at, kept_passes, ran_list}
+use Rattle.zy_view_law.specs.Adopted.{AreWorldTexts, HaveBoth, IsAdopted, Matches, run_on}
 use Rattle.zy_view_law.specs.Held.{IsProvidedBy, mark_at}
 use Rattle.zy_view_law.specs.Texts.{Texts}
 use Rattle.zy_view_law.specs.Tied.{Core, IsTied}
@@ -164,15 +164,18 @@ module _ {S : Type 0} (R : Rules S) (interval : ℕ) (w : World) (lawful : IsLaw
       by_place false false is_above taken =
           record { at = told.stable_place.0; there = told.stable_head; both = shared_above (head_in (kept.stretch_of c.kept) told.stable_place.0) refl taken; low = told_low }
 
+  abbrev common : ℕ
+  common = common_up_to place.0 (stretch_of told) (kept.stretch_of c.kept)
+
+  -- the own history up to the common place, and the report's entries above that
   pub taken_adopted : (texts : Texts) → AreWorldTexts R interval w texts → verdict_of R c.kept c.stable told place head ≡ Take
-      → (list : List Entry) × IsAdopted R interval texts w m (taken_over (stretch_of told) place.0 c.kept) list
+      → IsAdopted R interval texts w m (taken_over (stretch_of told) place.0 c.kept) (take common history ++ entries_between (stretch_of told) common place.0)
   unfolding taken_over
   taken_adopted texts world taken =
       let shared = shared_there taken in
-      let common : ℕ = common_up_to place.0 (stretch_of told) (kept.stretch_of c.kept) in
       let both = common_shared place.0 shared.at (stretch_of told) (kept.stretch_of c.kept) shared.there shared.low shared.both in
-      let known = chosen_known w lawful matches.next interval n m p is in (
-        _,
-        adopted_by_running w lawful matches.next interval n m p is R texts matches world here c.kept tied.standing.stands common both.0 both.1
-            (common_below place.0 (stretch_of told) (kept.stretch_of c.kept)) known.moment known.passes,
-      )
+      let low = common_below place.0 (stretch_of told) (kept.stretch_of c.kept) in
+      let known = chosen_known w lawful matches.next interval n m p is in
+      subst (λ (l : List Entry). IsAdopted R interval texts w m (run_on (stretch_of told) common place.0 c.kept) l)
+      (sym (ran_list w lawful matches.next interval n m p is R texts matches world here c.kept tied.standing.stands common both.0 both.1 low known.moment known.passes))
+      (adopted_by_running w lawful matches.next interval n m p is R texts matches world here c.kept tied.standing.stands common both.0 both.1 low known.moment known.passes)

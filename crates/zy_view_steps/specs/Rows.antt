@@ -1,6 +1,8 @@
 -- When the outcome of a row in which a replica leaves its view, or keeps what it hears, is lawful.
-use Rattle.std.specs.Prelude.{◌≡◌, ℕ, List}
+use Rattle.std.specs.Prelude.{◌≡◌, ℕ, Bool, true, false, List}
 use Rattle.zy_base.specs.Machine.{Rules}
+use Rattle.zy_base.specs.declared.cause.Cause.{Cause}
+use Rattle.zy_base.specs.declared.cause.Cause.TheVariants as causes
 use Rattle.zy_base.specs.declared.ids.Party.TheVariants.{Replica}
 use Rattle.zy_chain.specs.declared.entry.Entry.{Entry}
 use Rattle.zy_choose.specs.Marks.{link}
@@ -27,3 +29,11 @@ pub record IsReady {S : Type 0} (R : Rules S) (interval : ℕ) (w : World) (r : 
 pub record IsLawfulRow {S : Type 0} (R : Rules S) (interval : ℕ) (w : World) (r : ℕ) (s : State S) (history : List Entry) (outcome : Outcome S) : Type 0 where
   pub may : AllMay w r (acts_of w r s history outcome)
   pub tied : IsTied R interval (world_after w r s history outcome) r (core_of outcome.state) history
+
+-- A cause that blames those whose statements a replica holds: two heads stand at one place of what is proven, or the own stable
+-- checkpoint isn't on the chosen history.
+abbrev pub blames : Cause → Bool
+blames (causes.AnchorClash first second) = true
+blames (causes.BelowStable own other) = true
+blames (causes.WrongState own other) = true
+blames cause = false

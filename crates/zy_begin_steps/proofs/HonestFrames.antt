@@ -1,0 +1,64 @@
+-- An honest frame's row is lawful: its parts are held.
+use Rattle.std.proofs.Common.{◌≡◌, ℕ, List, map, get_or, refl, subst, arith}
+use Rattle.std.specs.Prelude.{All}
+use Rattle.zy_base.specs.Machine.{Rules}
+use Rattle.zy_base.specs.declared.ids.Party.{Party}
+use Rattle.zy_base.specs.declared.ids.Party.TheVariants.{Replica, Client}
+use Rattle.zy_chain.specs.declared.entry.Entry.{Entry}
+use Rattle.zy_evidence.specs.Reading.{number_of_party}
+use Rattle.zy_law.specs.World.{Statement, World}
+use Rattle.zy_parts.specs.Numbers as numbers
+use Rattle.zy_parts.specs.Reports.{began_fields}
+use Rattle.zy_parts.specs.Signing.{part_of}
+use Rattle.zy_parts.specs.declared.reports.Began.{Began}
+use Rattle.zy_parts.specs.declared.signed.Signed.{Signed}
+use Rattle.zy_table.specs.Changes.{change}
+use Rattle.zy_table.specs.State.{State}
+use Rattle.zy_table.specs.Whole.{view_row}
+use Rattle.zy_vframes.specs.Parts.{parts_of_new}
+use Rattle.zy_vframes.specs.declared.frame.ViewFrame.{ViewFrame}
+use Rattle.zy_vframes.specs.declared.frame.ViewFrame.TheVariants as frames
+use Rattle.zy_view_law.proofs.HonestTexts.{change_held, changes_held}
+use Rattle.zy_view_law.proofs.Lists.{all_left, all_right, all_under}
+use Rattle.zy_view_law.proofs.ReadBack.{began_back}
+use Rattle.zy_view_law.specs.Held.{IsHeldChange, IsHeldPart, IsHonestPart, IsVouchedBy}
+use Rattle.zy_view_law.specs.Texts.{Texts}
+use Rattle.zy_view_law.specs.Told.{began_told}
+use Rattle.zy_view_steps.proofs.HeardRows.{vote_attempt}
+use Rattle.zy_view_steps.specs.Rows.{IsReady}
+use Rattle.zy_wire.specs.Spelling.{IsBytes}
+use Rattle.zy_begin_steps.proofs.Adopting.{finishes_leaving}
+use Rattle.zy_begin_steps.proofs.Installing.{IsReading, state_lawful}
+use Rattle.zy_begin_steps.proofs.Rows.{cert_lawful, confirmation_lawful, fetch_lawful, new_lawful}
+use Rattle.zy_begin_steps.specs.Frames.{IsHonestFrame, history_heard}
+use Rattle.zy_begin_steps.specs.Steps.{IsLawfulStep, IsWorldOf}
+
+-- only replicas' statements are held
+by_replica : (w : World) (s : Statement) (by : Party) → IsVouchedBy w s by → by ≡ Replica (record { 0 = number_of_party by })
+by_replica w s (Replica id) vouched = refl
+by_replica w s (Client id) vouched = absurd vouched
+
+began_held : (w : World) (b : Signed Began) → began_fields.Fits b.stmt → IsHonestPart w (part_of numbers.began began_fields b) → IsHeldPart w began_told b
+began_held w b fits honest = subst (λ (s : Statement). IsVouchedBy w s b.by) (began_back (number_of_party b.by) b.by b.stmt fits) honest
+
+begans_held : (w : World) (list : List (Signed Began)) → All (λ b. began_fields.Fits b.stmt) list → All (IsHonestPart w) (map (part_of numbers.began began_fields) list) → All (IsHeldPart w began_told) list
+begans_held w list fits honest k d within =
+    began_held w (get_or list k d) (fits k d within) (all_under (IsHonestPart w) (part_of numbers.began began_fields) list honest k d within)
+
+module _ {S : Type 0} (R : Rules S) (interval : ℕ) (texts : Texts) (w : World) (r : ℕ) (s : State S) (history : List Entry) (ready : IsReady R interval w r s history) (kept : IsWorldOf R interval w texts)
+    (reading : (bytes : List ℕ) → IsBytes bytes → IsReading R bytes) where
+  pub frame_lawful : (frame : ViewFrame) → IsHonestFrame w texts frame → IsLawfulStep R interval texts w r s (history_heard texts s history frame (view_row R s frame)) (view_row R s frame)
+  frame_lawful (frames.ViewChange vote) honest =
+      let held : IsHeldChange w vote = change_held w vote honest.spelled honest.brought honest.parts in
+      finishes_leaving R interval texts w r s history ready kept (change R s vote) (vote_attempt R interval w r s history ready vote (by_replica w _ vote.by held.signer) held)
+  frame_lawful (frames.NewView new) honest = new_lawful R interval texts w r s history ready kept new (changes_held w new honest.spelled honest.brought honest.parts)
+  frame_lawful (frames.ViewConfirm vote) honest =
+      let held = began_held w vote honest.spelled (honest.parts 0 (part_of numbers.began began_fields vote) (omega arith)) in
+      confirmation_lawful R interval texts w r s history ready kept vote (by_replica w _ vote.by held) held
+  frame_lawful (frames.ViewCert cert) honest =
+      let begans = map (part_of numbers.began began_fields) cert.begans in
+      cert_lawful R interval texts w r s history ready kept cert
+      (changes_held w cert.new honest.spelled.0 honest.brought (all_left (IsHonestPart w) (parts_of_new cert.new) begans honest.parts))
+      (begans_held w cert.begans honest.spelled.1 (all_right (IsHonestPart w) (parts_of_new cert.new) begans honest.parts))
+  frame_lawful (frames.Fetch vote) honest = fetch_lawful R interval texts w r s history ready kept vote
+  frame_lawful (frames.State place snapshot) honest = (state_lawful R interval texts w r s history ready kept snapshot (reading snapshot honest.spelled) honest.brought place).step

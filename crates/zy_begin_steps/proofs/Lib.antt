@@ -1,0 +1,10 @@
+pub mod Adopting
+pub mod Worlds
+pub mod Ending
+pub mod HonestFrames
+pub mod Installing
+pub mod Judged
+pub mod Responding
+pub mod Rows
+pub mod Taking
+pub mod Waiting

@@ -1,0 +1,44 @@
+-- What the laws of steps ask of a frame of a change of view that is heard.
+use Rattle.std.specs.Prelude.{List, All}
+use Rattle.zy_chain.specs.declared.entry.Entry.{Entry}
+use Rattle.zy_law.specs.World.{World}
+use Rattle.zy_parts.specs.Reports.{began_fields, change_fields, new_fields}
+use Rattle.zy_table.specs.Deeds.{Outcome}
+use Rattle.zy_table.specs.State.{State}
+use Rattle.zy_vframes.specs.declared.frame.ViewFrame.{ViewFrame}
+use Rattle.zy_vframes.specs.declared.frame.ViewFrame.TheVariants as frames
+use Rattle.zy_vframes.specs.Parts.{parts_of}
+use Rattle.zy_view_law.specs.Held.{AreLinksKept, IsHonestPart}
+use Rattle.zy_view_law.specs.Texts.{IsKept, Texts}
+use Rattle.zy_view_law.specs.Told.{change_spelled, new_spelled}
+use Rattle.zy_wire.specs.Spelling.{IsBytes}
+use Rattle.zy_begin_steps.specs.Steps.{history_from}
+
+-- what is signed in it can be read back out of its texts
+abbrev pub IsSpelled : ViewFrame → Type 0
+IsSpelled (frames.ViewChange change) = change_fields.Fits (change_spelled change.stmt)
+IsSpelled (frames.NewView new) = new_fields.Fits (new_spelled new.stmt)
+IsSpelled (frames.ViewConfirm began) = began_fields.Fits began.stmt
+IsSpelled (frames.ViewCert cert) = new_fields.Fits (new_spelled cert.new.stmt) × All (λ began. began_fields.Fits began.stmt) cert.begans
+IsSpelled (frames.Fetch fetch) = Unit {0}
+IsSpelled (frames.State place snapshot) = IsBytes snapshot
+
+-- what it brings is kept: the links of the entries that are reported, and a snapshot
+abbrev pub IsBroughtKept : World → Texts → ViewFrame → Type 0
+IsBroughtKept w texts (frames.ViewChange change) = AreLinksKept w change
+IsBroughtKept w texts (frames.NewView new) = All (AreLinksKept w) new.stmt.changes
+IsBroughtKept w texts (frames.ViewConfirm began) = Unit {0}
+IsBroughtKept w texts (frames.ViewCert cert) = All (AreLinksKept w) cert.new.stmt.changes
+IsBroughtKept w texts (frames.Fetch fetch) = Unit {0}
+IsBroughtKept w texts (frames.State place snapshot) = IsKept texts snapshot
+
+-- A frame is honest where each text that is signed in it was said by its signer, or that lies; and what it brings is kept.
+pub record IsHonestFrame (w : World) (texts : Texts) (frame : ViewFrame) : Type 0 where
+  pub spelled : IsSpelled frame
+  pub parts : All (IsHonestPart w) (parts_of frame)
+  pub brought : IsBroughtKept w texts frame
+
+-- the history from which a step's acts go on, by its frame and its outcome
+abbrev pub history_heard : {S : Type 0} → Texts → State S → List Entry → ViewFrame → Outcome S → List Entry
+history_heard texts s history (frames.State place snapshot) outcome = history_from texts s history outcome
+history_heard texts s history frame outcome = history
