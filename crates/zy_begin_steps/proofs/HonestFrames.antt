@@ -1,7 +1,10 @@
 -- An honest frame's row is lawful: its parts are held.
-use Rattle.std.proofs.Common.{◌≡◌, ℕ, List, map, get_or, refl, subst, arith}
+use Rattle.std.proofs.Common.{◌≡◌, ℕ, Bool, true, false, cond, Option, Some, None, Result, Ok, Err, List, map, get_or, refl, subst, arith}
 use Rattle.std.specs.Prelude.{All}
 use Rattle.zy_base.specs.Machine.{Rules}
+use Rattle.zy_base.specs.declared.cause.Cause.{Cause}
+use Rattle.zy_base.specs.declared.cause.Cause.TheVariants as causes
+use Rattle.zy_base.specs.declared.frame_fault.FrameFault.{FrameFault}
 use Rattle.zy_base.specs.declared.ids.Party.{Party}
 use Rattle.zy_base.specs.declared.ids.Party.TheVariants.{Replica, Client}
 use Rattle.zy_chain.specs.declared.entry.Entry.{Entry}
@@ -12,10 +15,13 @@ use Rattle.zy_parts.specs.Reports.{began_fields}
 use Rattle.zy_parts.specs.Signing.{part_of}
 use Rattle.zy_parts.specs.declared.reports.Began.{Began}
 use Rattle.zy_parts.specs.declared.signed.Signed.{Signed}
+use Rattle.zy_seal.specs.Screening.{screen}
 use Rattle.zy_table.specs.Changes.{change}
+use Rattle.zy_table.specs.Deeds.{Outcome, refused}
 use Rattle.zy_table.specs.State.{State}
-use Rattle.zy_table.specs.Whole.{view_row}
-use Rattle.zy_vframes.specs.Parts.{parts_of_new}
+use Rattle.zy_table.specs.Step.{unless}
+use Rattle.zy_table.specs.Whole.{hear_view, is_view_frame_in_role, view_decoded, view_row}
+use Rattle.zy_vframes.specs.Parts.{parts_of, parts_of_new}
 use Rattle.zy_vframes.specs.declared.frame.ViewFrame.{ViewFrame}
 use Rattle.zy_vframes.specs.declared.frame.ViewFrame.TheVariants as frames
 use Rattle.zy_view_law.proofs.HonestTexts.{change_held, changes_held}
@@ -27,10 +33,10 @@ use Rattle.zy_view_law.specs.Told.{began_told}
 use Rattle.zy_view_steps.proofs.HeardRows.{vote_attempt}
 use Rattle.zy_view_steps.specs.Rows.{IsReady}
 use Rattle.zy_wire.specs.Spelling.{IsBytes}
-use Rattle.zy_begin_steps.proofs.Adopting.{finishes_leaving}
+use Rattle.zy_begin_steps.proofs.Adopting.{finishes_leaving, refuses}
 use Rattle.zy_begin_steps.proofs.Installing.{IsReading, state_lawful}
 use Rattle.zy_begin_steps.proofs.Rows.{cert_lawful, confirmation_lawful, fetch_lawful, new_lawful}
-use Rattle.zy_begin_steps.specs.Frames.{IsHonestFrame, history_heard}
+use Rattle.zy_begin_steps.specs.Frames.{IsHonestFrame, IsHonestlyRead, history_heard, history_read}
 use Rattle.zy_begin_steps.specs.Steps.{IsLawfulStep, IsWorldOf}
 
 -- only replicas' statements are held
@@ -62,3 +68,31 @@ module _ {S : Type 0} (R : Rules S) (interval : ℕ) (texts : Texts) (w : World)
       (begans_held w cert.begans honest.spelled.1 (all_right (IsHonestPart w) (parts_of_new cert.new) begans honest.parts))
   frame_lawful (frames.Fetch vote) honest = fetch_lawful R interval texts w r s history ready kept vote
   frame_lawful (frames.State place snapshot) honest = (state_lawful R interval texts w r s history ready kept snapshot (reading snapshot honest.spelled) honest.brought place).step
+
+  -- ---- a frame that is heard, and bytes that are read
+
+  refused_heard : (frame : ViewFrame) (cause : Cause) → IsLawfulStep R interval texts w r s (history_heard texts s history frame (refused cause s)) (refused cause s)
+  refused_heard (frames.ViewChange vote) cause = refuses R interval texts w r s history ready kept cause
+  refused_heard (frames.NewView new) cause = refuses R interval texts w r s history ready kept cause
+  refused_heard (frames.ViewConfirm vote) cause = refuses R interval texts w r s history ready kept cause
+  refused_heard (frames.ViewCert cert) cause = refuses R interval texts w r s history ready kept cause
+  refused_heard (frames.Fetch vote) cause = refuses R interval texts w r s history ready kept cause
+  refused_heard (frames.State place snapshot) cause = refuses R interval texts w r s history ready kept cause
+
+  abbrev IsLawfulHeard : ViewFrame → Outcome S → Type 0
+  IsLawfulHeard frame outcome = IsLawfulStep R interval texts w r s (history_heard texts s history frame outcome) outcome
+
+  hears : (frame : ViewFrame) → (is_view_frame_in_role s.counts frame ≡ true → IsHonestFrame w texts frame) → IsLawfulHeard frame (hear_view R s frame)
+  hears frame honest = by (is_view_frame_in_role s.counts frame) refl
+    where
+      by : (role : Bool) → is_view_frame_in_role s.counts frame ≡ role → IsLawfulHeard frame (cond role (view_row R s frame) (refused causes.WrongRole s))
+      by true is = frame_lawful frame (honest is)
+      by false is = refused_heard frame causes.WrongRole
+
+  screened : (frame : ViewFrame) (against : Option Cause) → (against ≡ None → is_view_frame_in_role s.counts frame ≡ true → IsHonestFrame w texts frame) → IsLawfulHeard frame (unless against s (hear_view R s frame))
+  screened frame (Some cause) honest = refused_heard frame cause
+  screened frame None honest = hears frame (honest refl)
+
+  pub read_lawful : (read : Result ViewFrame FrameFault) → IsHonestlyRead w texts s read → IsLawfulStep R interval texts w r s (history_read texts s history read (view_decoded R s read)) (view_decoded R s read)
+  read_lawful (Err fault) honest = refuses R interval texts w r s history ready kept (causes.NotFrame fault)
+  read_lawful (Ok frame) honest = screened frame (screen s.keys (parts_of frame)) (λ verified role. honest frame refl verified role)

@@ -1,4 +1,5 @@
 pub mod Adopting
+pub mod Backups
 pub mod Worlds
 pub mod Ending
 pub mod HonestFrames
@@ -7,4 +8,5 @@ pub mod Judged
 pub mod Responding
 pub mod Rows
 pub mod Taking
+pub mod Timers
 pub mod Waiting

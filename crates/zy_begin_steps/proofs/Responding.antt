@@ -1,5 +1,5 @@
 -- A replica in its view answers the checkpoints of its history anew.
-use Rattle.std.proofs.Common.{◌≡◌, ℕ, ◌-◌, ◌<◌, ◌≤◌, zero, suc, Bool, true, false, nat_le, if◌then◌else◌, List, [], ◌∷◌, length, take, Option, Some, None, refl, sym, ap, ◌∙◌, subst, arith}
+use Rattle.std.proofs.Common.{◌≡◌, ℕ, ◌-◌, ◌<◌, ◌≤◌, zero, suc, Bool, true, false, nat_le, if◌then◌else◌, List, [], ◌∷◌, ◌++◌, length, take, Option, Some, None, refl, sym, ap, ◌∙◌, subst, arith}
 use Rattle.std.specs.Prelude.{slice_get, unwrap_or}
 use Rattle.std.proofs.lemmas.Bool.{leb-false}
 use Rattle.std.proofs.lemmas.List.{length-take-le, take-append-drop}
@@ -8,29 +8,33 @@ use Rattle.sha2.specs.Sha256.{sha256}
 use Rattle.zy_base.specs.Machine.{Rules}
 use Rattle.zy_base.specs.Step.{view_of}
 use Rattle.zy_base.specs.declared.ids.Digest.{Digest}
+use Rattle.zy_base.specs.declared.ids.Party.TheVariants.{Replica}
 use Rattle.zy_base.specs.declared.ids.View.{View}
 use Rattle.zy_base.specs.declared.step.Mode.{Mode}
 use Rattle.zy_base.specs.declared.step.Mode.TheVariants.{Active}
 use Rattle.zy_chain.specs.Places.{entry_at}
 use Rattle.zy_chain.specs.Stretch.{Mark, entry_in, head_in}
 use Rattle.zy_chain.specs.declared.entry.Entry.{Entry}
+use Rattle.zy_change.specs.Views.{Views}
 use Rattle.zy_check.proofs.JudgingLemmas.{after_spec-stays, without_others-stays}
 use Rattle.zy_check.specs.Board.{without_others}
 use Rattle.zy_exec.proofs.HistoryLemmas.{stands_entry, stands_reply}
 use Rattle.zy_exec.specs.Kept.{Kept, StandsFor, reply_in, stretch_of}
 use Rattle.zy_exec.specs.Replay.{answer_at}
-use Rattle.zy_law.specs.Histories.{IsEntryAt}
+use Rattle.zy_law.specs.Histories.{IsEntryAt, Passes}
 use Rattle.zy_law.specs.Lawful.{IsTrueAnswer}
 use Rattle.zy_law.specs.Steps.{MaySay, after_saying}
 use Rattle.zy_law.specs.World.{Answer, Statement, World}
 use Rattle.zy_lawful.proofs.Records.{answer_longer}
 use Rattle.zy_lawful.specs.Tied.{Agrees}
+use Rattle.zy_parts.specs.declared.statements.Spec.{Spec}
 use Rattle.zy_table.specs.Beginning.{respond_alone, respond_at, respond_to}
 use Rattle.zy_table.specs.Deeds.{Going}
 use Rattle.zy_table.specs.Gathering.{own_at, own_from, own_with, spec_at, state_in}
 use Rattle.zy_table.specs.Running.{sealed_spec}
 use Rattle.zy_table.specs.State as table
 use Rattle.zy_table.specs.State.{State}
+use Rattle.zy_table.specs.declared.deeds.Act.TheVariants.{Says}
 use Rattle.zy_table.specs.declared.deeds.Body.TheVariants as bodies
 use Rattle.zy_view_law.proofs.InView.{says_response}
 use Rattle.zy_view_law.proofs.RunningOn.{kept_passes}
@@ -56,7 +60,16 @@ entry_is history (suc before) e is =
 abbrev answer_to : Entry → List ℕ → Answer
 answer_to e reply = record { client = e.client.0; stamp = e.stamp.0; reply = record { 0 = sha256 reply } }
 
--- a history's answer at a place is that of its first entries
+-- a history's reply at a place is that of its first entries
+pub true_reply : {S : Type 0} (R : Rules S) (w : World) → Agrees R w → (history : List Entry) (place : ℕ) (reply : List ℕ) → place ≤ length history → answer_at R history place ≡ Some reply
+    → w.reply (take place history) ≡ record { 0 = sha256 reply }
+true_reply R w agrees history place reply within is =
+    let long : length (take place history) ≡ place = length-take-le place history within in
+    let front : answer_at R (take place history) place ≡ answer_at R history place =
+    sym (ap (λ (es : List Entry). answer_at R es place) (sym (take-append-drop place history)) ∙ answer_longer R (take place history) _ place (omega arith)) in
+    let digest : Option (List ℕ) → Digest = λ o. record { 0 = sha256 (unwrap_or o []) } in
+    ap (λ (f : List Entry → Digest). f (take place history)) agrees.reply ∙ ap (λ (n : ℕ). digest (answer_at R (take place history) n)) long ∙ ap digest (front ∙ is)
+
 true_answer : {S : Type 0} (R : Rules S) (w : World) → Agrees R w → (k : Kept S) (history : List Entry) → StandsFor R k history → (place : ℕ) (e : Entry) (head : Digest) (reply : List ℕ)
     → entry_in (stretch_of k) place ≡ Some e → reply_in R k place ≡ Some reply
     → IsTrueAnswer w history (record { place = place; head = head }) (answer_to e reply)
@@ -64,19 +77,12 @@ true_answer R w agrees k history stands place e head reply entry_there reply_the
     let above = above_base k place e entry_there in
     let at = entry_is history place e (sym (stands_entry R k history place stands above) ∙ entry_there) in
     let within : place ≤ length history = (let inside = slice_get_within history (place - 1) e at.there in let first = at.first in omega arith) in
-    let long : length (take place history) ≡ place = length-take-le place history within in
-    let front : answer_at R (take place history) place ≡ answer_at R history place =
-    sym (ap (λ (es : List Entry). answer_at R es place) (sym (take-append-drop place history)) ∙ answer_longer R (take place history) _ place (omega arith)) in
-    let digest : Option (List ℕ) → Digest = λ o. record { 0 = sha256 (unwrap_or o []) } in
     record {
       entry = e;
       last = at;
       client = refl;
       stamp = refl;
-      reply =
-          ap (λ (f : List Entry → Digest). f (take place history)) agrees.reply
-          ∙ ap (λ (n : ℕ). digest (answer_at R (take place history) n)) long
-          ∙ ap digest (front ∙ sym (stands_reply R k history place stands above) ∙ reply_there);
+      reply = true_reply R w agrees history place reply within (sym (stands_reply R k history place stands above) ∙ reply_there);
     }
 
 module _ {S : Type 0} (R : Rules S) (interval : ℕ) (w : World) (r : ℕ) (s : State S) (history : List Entry) (ready : IsReady R interval w r s history) (agrees : Agrees R w) (view : View) where
@@ -85,15 +91,39 @@ module _ {S : Type 0} (R : Rules S) (interval : ℕ) (w : World) (r : ℕ) (s : 
     pub way : IsOnWay R interval w r s history ready g
     pub active : g.state.views.mode ≡ Active view
 
-  world_agrees : (g : Going S) (way : IsOnWay R interval w r s history ready g) → Agrees R way.world
+  pub world_agrees : (g : Going S) (way : IsOnWay R interval w r s history ready g) → Agrees R way.world
   world_agrees g way = subst (λ (u : World). Agrees R u) (sym way.world_is) (record { next = agrees.next; digest = agrees.digest; reply = agrees.reply; state = agrees.state })
 
-  -- what is kept of responses changes nothing that it is tied by
-  same_core : (g : Going S) (next : State S) (world : World) → next.views ≡ g.state.views → next.kept ≡ g.state.kept → next.board.stable ≡ g.state.board.stable → next.board.proof ≡ g.state.board.proof
-      → IsTied R interval world r (core_of g.state) history → IsTied R interval world r (core_of next) history
-  same_core g next world views kept stable proof is =
-      let same : core_of g.state ≡ core_of next = cc in
-      subst (λ (c : Core S). IsTied R interval world r c history) same is
+  -- it responds there, and what it keeps then changes nothing that it is tied by
+  pub record IsLike (g next : Going S) : Type 0 where
+    pub views : next.state.views ≡ g.state.views
+    pub kept : next.state.kept ≡ g.state.kept
+    pub stable : next.state.board.stable ≡ g.state.board.stable
+    pub proof : next.state.board.proof ≡ g.state.board.proof
+    pub signer : next.state.sealer.me ≡ g.state.sealer.me
+
+  same_core : (g next : Going S) → IsLike g next → core_of g.state ≡ core_of next.state
+  same_core g next like = cc
+
+  module _ (g : Going S) (is : IsInView g) where
+    pub speaks : (spec : Spec) (next : Going S) → next.deeds.acts ≡ g.deeds.acts ++ Says (record { body = bodies.Spec spec; stood = table.stood_of R g.state }) ∷ [] → IsLike g next → spec.view.0 ≡ table.own_view g.state
+        → Passes is.way.world.next history (record { place = spec.place.0; head = spec.head })
+        → IsTrueAnswer is.way.world history (record { place = spec.place.0; head = spec.head }) (record { client = spec.client.0; stamp = spec.stamp.0; reply = spec.reply })
+        → IsInView next
+    speaks spec next acts like of_view passes answer =
+        let m : Mark = record { place = spec.place.0; head = spec.head } in
+        let a : Answer = record { client = spec.client.0; stamp = spec.stamp.0; reply = spec.reply } in
+        let view_is : view.0 ≡ spec.view.0 = sym (of_view ∙ ap (λ (mode : Mode). (view_of mode).0) is.active) in
+        let says = says_response R interval is.way.world is.way.lawful r is.way.correct (core_of g.state) history is.way.tied view is.active m a passes answer in
+        let after : ℕ → World = λ n. after_saying is.way.world r (said_now is.way.world r (Statement.Spec n m a)) in
+        record {
+          way = said_more R interval w r s history ready g is.way (record { body = bodies.Spec spec; stood = table.stood_of R g.state }) next acts
+              (subst (λ (n : ℕ). MaySay is.way.world r (said_now is.way.world r (Statement.Spec n m a))) view_is says.may)
+              (subst (λ (c : Core S). IsTied R interval (after spec.view.0) r c history) (same_core g next like) (subst (λ (n : ℕ). IsTied R interval (after n) r (core_of g.state) history) view_is says.tied))
+              (like.signer ∙ is.way.signer ∙ ap (λ (v : Views). Replica v.me) (sym like.views))
+              (ap (λ (v : Views). v.interval) like.views ∙ is.way.interval_is);
+          active = ap (λ (v : Views). v.mode) like.views ∙ is.active;
+        }
 
   module _ (g : Going S) (is : IsInView g) (place : ℕ) where
     responds : (e : Entry) (head : Digest) (reply : List ℕ) (state : Digest) → entry_in (stretch_of g.state.kept) place ≡ Some e → head_in (stretch_of g.state.kept) place ≡ Some head
@@ -101,25 +131,14 @@ module _ {S : Type 0} (R : Rules S) (interval : ℕ) (w : World) (r : ℕ) (s : 
     responds e head reply state entry_there head_there reply_there =
         let own = own_with (spec_at (table.own_view g.state) place e head reply) state in
         let tied = is.way.tied in
-        let next = respond_alone R own reply g in
-        let own_is : table.own_view g.state ≡ view.0 = ap (λ (mode : Mode). (view_of mode).0) is.active in
         let signed = sealed_spec g.state own.spec in
-        let m : Mark = record { place = place; head = head } in
-        let answer = true_answer R is.way.world (world_agrees g is.way) g.state.kept history tied.standing.stands place e head reply entry_there reply_there in
-        let passes = kept_passes R is.way.world is.way.links g.state.kept history tied.standing.stands place head head_there in
-        let says = says_response R interval is.way.world is.way.lawful r is.way.correct (core_of g.state) history tied view is.active m (answer_to e reply) passes answer in
         let without = without_others-stays g.state.board own.spec own.check in
         let with_own = after_spec-stays (without_others g.state.board own.spec own.check) signed (Some own.spec) in
-        let tied_next : IsTied R interval (after_saying is.way.world r (said_now is.way.world r (Statement.Spec (table.own_view g.state) m (answer_to e reply)))) r (core_of next.state) history =
-        same_core g next.state (after_saying is.way.world r (said_now is.way.world r (Statement.Spec (table.own_view g.state) m (answer_to e reply)))) refl refl
-        (with_own.stable ∙ without.stable) (with_own.proof ∙ without.proof)
-        (subst (λ (n : ℕ). IsTied R interval (after_saying is.way.world r (said_now is.way.world r (Statement.Spec n m (answer_to e reply)))) r (core_of g.state) history) (sym own_is) says.tied) in
-        record {
-          way = said_more R interval w r s history ready g is.way (record { body = bodies.Spec own.spec; stood = table.stood_of R g.state }) next refl
-              (subst (λ (n : ℕ). MaySay is.way.world r (said_now is.way.world r (Statement.Spec n m (answer_to e reply)))) (sym own_is) says.may)
-              tied_next is.way.signer is.way.interval_is;
-          active = is.active;
-        }
+        speaks g is own.spec (respond_alone R own reply g) refl
+        (record { views = refl; kept = refl; stable = with_own.stable ∙ without.stable; proof = with_own.proof ∙ without.proof; signer = refl })
+        refl
+        (kept_passes R is.way.world is.way.links g.state.kept history tied.standing.stands place head head_there)
+        (true_answer R is.way.world (world_agrees g is.way) g.state.kept history tied.standing.stands place e head reply entry_there reply_there)
 
     responded : IsInView (respond_to R (own_at R g.state place) (reply_in R g.state.kept place) g)
     responded = by (entry_in (stretch_of g.state.kept) place) (head_in (stretch_of g.state.kept) place) (reply_in R g.state.kept place) (state_in R g.state.kept place) refl refl refl

@@ -1,10 +1,13 @@
 -- What the laws of steps ask of a frame of a change of view that is heard.
-use Rattle.std.specs.Prelude.{List, All}
+use Rattle.std.specs.Prelude.{◌≡◌, true, None, Result, Ok, Err, List, All}
+use Rattle.zy_base.specs.declared.frame_fault.FrameFault.{FrameFault}
 use Rattle.zy_chain.specs.declared.entry.Entry.{Entry}
 use Rattle.zy_law.specs.World.{World}
 use Rattle.zy_parts.specs.Reports.{began_fields, change_fields, new_fields}
 use Rattle.zy_table.specs.Deeds.{Outcome}
+use Rattle.zy_seal.specs.Screening.{screen}
 use Rattle.zy_table.specs.State.{State}
+use Rattle.zy_table.specs.Whole.{is_view_frame_in_role}
 use Rattle.zy_vframes.specs.declared.frame.ViewFrame.{ViewFrame}
 use Rattle.zy_vframes.specs.declared.frame.ViewFrame.TheVariants as frames
 use Rattle.zy_vframes.specs.Parts.{parts_of}
@@ -42,3 +45,13 @@ pub record IsHonestFrame (w : World) (texts : Texts) (frame : ViewFrame) : Type 
 abbrev pub history_heard : {S : Type 0} → Texts → State S → List Entry → ViewFrame → Outcome S → List Entry
 history_heard texts s history (frames.State place snapshot) outcome = history_from texts s history outcome
 history_heard texts s history frame outcome = history
+
+-- and by what its bytes were read as
+abbrev pub history_read : {S : Type 0} → Texts → State S → List Entry → Result ViewFrame FrameFault → Outcome S → List Entry
+history_read texts s history (Err fault) outcome = history
+history_read texts s history (Ok frame) outcome = history_heard texts s history frame outcome
+
+-- A frame whose signatures are verified, and whose signers have their roles, is honest.
+abbrev pub IsHonestlyRead : {S : Type 0} → World → Texts → State S → Result ViewFrame FrameFault → Type 0
+IsHonestlyRead w texts s read =
+    (frame : ViewFrame) → read ≡ Ok frame → screen s.keys (parts_of frame) ≡ None → is_view_frame_in_role s.counts frame ≡ true → IsHonestFrame w texts frame

@@ -1,5 +1,6 @@
 ghost use Rattle.std.specs.Prelude.{◌≡◌, ℕ, List, Option};
 ghost use Rattle.zy_base.specs.declared.ids.Party.TheVariants.{Replica};
+ghost use Rattle.zy_base.specs.declared.step.TimerKind.{TimerKind};
 ghost use Rattle.zy_chain.specs.declared.entry.Entry.{Entry};
 ghost use Rattle.zy_evidence.specs.Reading.{number_of_party};
 ghost use Rattle.zy_frames.specs.declared.frame.OrderFrame.{OrderFrame};
@@ -10,9 +11,10 @@ ghost use Rattle.zy_parts.specs.declared.statements.Hate.{Hate};
 ghost use Rattle.zy_parts.specs.declared.statements.Order.{Order};
 ghost use Rattle.zy_table.specs.Beginning.{finished};
 ghost use Rattle.zy_table.specs.Changes.{change};
-ghost use Rattle.zy_table.specs.Hates.{hate, on_change_timer, on_request_timer};
+ghost use Rattle.zy_table.specs.Hates.{hate};
 ghost use Rattle.zy_table.specs.Misbehaviour.{pom, tell_all};
 ghost use Rattle.zy_table.specs.State.{State};
+ghost use Rattle.zy_table.specs.Whole.{timer};
 ghost use Rattle.zy_view_law.specs.Held.{IsHeldChange};
 ghost use Rattle.zy_view_law.specs.Texts.{Texts};
 ghost use Rattle.zy_view_steps.specs.Rows.{IsReady};
@@ -29,8 +31,7 @@ pub fn finished_rows<M: Machine>()
     ensures order { (interval r : ℕ) (texts : Texts) (w : World) (s : State M.State) (history : List Entry) (order : Signed Order) (kept : Option OrderFrame) → IsReady M.rules interval w r s history → IsWorldOf M.rules interval w texts → IsLawfulStep M.rules interval texts w r s history (finished M.rules s (tell_all M.rules s order kept)) }
 {}
 
-/// And so are its timers.
+/// And so is each of its timers.
 pub fn finished_timers<M: Machine>()
-    ensures request { (interval r : ℕ) (texts : Texts) (w : World) (s : State M.State) (history : List Entry) → IsReady M.rules interval w r s history → IsWorldOf M.rules interval w texts → IsLawfulStep M.rules interval texts w r s history (finished M.rules s (on_request_timer M.rules s s.views.mode)) }
-    ensures change { (interval r : ℕ) (texts : Texts) (w : World) (s : State M.State) (history : List Entry) → IsReady M.rules interval w r s history → IsWorldOf M.rules interval w texts → IsLawfulStep M.rules interval texts w r s history (finished M.rules s (on_change_timer s s.views.mode)) }
+    ensures { (interval r : ℕ) (texts : Texts) (w : World) (s : State M.State) (history : List Entry) (kind : TimerKind) → IsReady M.rules interval w r s history → IsWorldOf M.rules interval w texts → IsLawfulStep M.rules interval texts w r s history (timer M.rules s kind) }
 {}

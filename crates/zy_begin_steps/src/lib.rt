@@ -6,10 +6,12 @@ mod blame;
 mod frames;
 mod heard;
 mod leaving;
+mod resting;
 mod states;
 
 pub use blame::{beginnings_blame_nobody, leaves_blame_nobody};
 pub use frames::honest_frames;
 pub use heard::{beginning_rows, fetched_states};
 pub use leaving::{finished_rows, finished_timers};
+pub use resting::resting_rows;
 pub use states::installed_states;

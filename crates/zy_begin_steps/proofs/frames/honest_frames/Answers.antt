@@ -1,4 +1,4 @@
-use Rattle.zy_begin_steps.proofs.HonestFrames.{frame_lawful}
+use Rattle.zy_begin_steps.proofs.HonestFrames.{frame_lawful, read_lawful}
 use Rattle.zy_begin_steps.proofs.Installing.{reading_of}
 use Rattle.zy_begin_steps.proofs.frames.honest_frames.Goals as goal
 
@@ -6,4 +6,7 @@ pub returns : goal.returns
 returns g c =
     let M = g.M.Machine in
     let reading = reading_of M.IsState M.rules c.showing.ensures.shown c.installing.ensures.stands in
-    λ interval r texts w s history frame ready kept honest. frame_lawful M.rules interval texts w r s history ready kept reading frame honest
+    record {
+      rows = λ interval r texts w s history frame ready kept honest. frame_lawful M.rules interval texts w r s history ready kept reading frame honest;
+      heard = λ interval r texts w s history read ready kept honest. read_lawful M.rules interval texts w r s history ready kept reading read honest;
+    }

@@ -1,0 +1,184 @@
+-- What a replica makes of a request as a backup, and of another's wish for orders: it executes nothing.
+use Rattle.std.proofs.Common.{◌≡◌, ℕ, ◌≤◌, nat_eq, nat_le, nat_lt, Bool, true, false, cond, List, [], ◌∷◌, length, take, fold, Option, Some, None, refl, sym, ap, ◌∙◌, subst}
+use Rattle.std.specs.List.{AllByRecursion}
+use Rattle.std.specs.Prelude.{slice_index_or}
+use Rattle.zy_base.specs.Machine.{Rules}
+use Rattle.zy_base.specs.declared.cause.Cause.TheVariants as causes
+use Rattle.zy_base.specs.declared.ids.Digest.{Digest}
+use Rattle.zy_base.specs.declared.ids.Stamp.{Stamp}
+use Rattle.zy_base.specs.declared.ids.View.{View}
+use Rattle.zy_base.specs.declared.step.Answer.TheVariants.{Taken}
+use Rattle.zy_base.specs.declared.step.Mode.{Mode}
+use Rattle.zy_base.specs.declared.step.Mode.TheVariants.{Active, Leaving}
+use Rattle.zy_admit.specs.Judging.{entry_of}
+use Rattle.zy_admit.specs.Orders.{orders_from}
+use Rattle.zy_chain.specs.Heads.{empty_head}
+use Rattle.zy_chain.specs.declared.entry.Entry.{Entry}
+use Rattle.zy_exec.proofs.HistoryLemmas.{stands_leads}
+use Rattle.zy_exec.specs.Kept.{known_in, last_place}
+use Rattle.zy_exec.specs.Replay.{Point}
+use Rattle.zy_exec.specs.declared.known.Known.{Known}
+use Rattle.zy_frames.specs.declared.frame.OrderFrame.{OrderFrame}
+use Rattle.zy_law.proofs.EntriesAskedFor.{entry_within}
+use Rattle.zy_law.specs.Histories.{AreKept}
+use Rattle.zy_law.specs.Said.{Moment}
+use Rattle.zy_law.specs.World.{World}
+use Rattle.zy_lawful.proofs.Records.{IsLastOf, IsRecord, records}
+use Rattle.zy_lawful.specs.Tied.{IsOfClient}
+use Rattle.zy_parts.specs.declared.signed.Signed.{Signed}
+use Rattle.zy_parts.specs.declared.statements.Ask.{Ask}
+use Rattle.zy_parts.specs.declared.statements.Hole.{Hole}
+use Rattle.zy_parts.specs.declared.statements.Spec.{Spec}
+use Rattle.zy_table.specs.Deeds.{Going, Outcome, act, begin, ends, refused}
+use Rattle.zy_table.specs.Holes.{fill_hole, fill_with}
+use Rattle.zy_table.specs.Requests.{forward, is_behind, new_request, request, request_after, request_at_backup, request_at_primary, request_waits, respond_again, respond_as, response_of, said_already, sealed_confirm, tell_primary}
+use Rattle.zy_table.specs.Running.{sealed_spec, spec_of}
+use Rattle.zy_table.specs.State as table
+use Rattle.zy_table.specs.State.{State, is_leaving_mode, is_primary, leaves_of, pending_of, spec_to, spent, with_spec}
+use Rattle.zy_table.specs.declared.deeds.Act.TheVariants.{Says}
+use Rattle.zy_table.specs.declared.deeds.Body.TheVariants as bodies
+use Rattle.zy_table.specs.declared.kept.Pending.{Pending}
+use Rattle.zy_view_law.proofs.InView.{says_other}
+use Rattle.zy_view_law.specs.Texts.{AreLinks, Texts}
+use Rattle.zy_view_steps.proofs.HeardRows.{sent_more}
+use Rattle.zy_view_steps.proofs.Leaves.{IsOnWay, at_begin, said_more}
+use Rattle.zy_view_steps.specs.Cores.{core_of}
+use Rattle.zy_view_steps.specs.Rows.{IsReady}
+use Rattle.zy_begin_steps.proofs.Adopting.{ends_lawfully, refuses}
+use Rattle.zy_begin_steps.proofs.Responding.{IsInView, speaks, true_reply, world_agrees}
+use Rattle.zy_begin_steps.proofs.Taking.{ended}
+use Rattle.zy_begin_steps.specs.Steps.{IsLawfulStep, IsWorldOf}
+
+-- the clients of a history whose links are kept
+clients_of : (w : World) (texts : Texts) → AreLinks w texts → (head : Digest) (list : List Entry) → AreKept w.kept w.next head list → AllByRecursion IsOfClient list
+clients_of w texts links head [] kept = tt
+clients_of w texts links head (e ∷ list) kept = ((links head e kept.0).runnable.client, clients_of w texts links (w.next head e) list kept.1)
+
+active_in : (mode : Mode) → is_leaving_mode mode ≡ false → (view : View) × (mode ≡ Active view)
+active_in (Active view) is = (view, refl)
+active_in (Leaving view) is = absurd cc
+
+module _ {S : Type 0} (R : Rules S) (interval : ℕ) (texts : Texts) (w : World) (r : ℕ) (s : State S) (history : List Entry) (ready : IsReady R interval w r s history) (kept : IsWorldOf R interval w texts) where
+  abbrev IsLawful : Outcome S → Type 0
+  IsLawful outcome = IsLawfulStep R interval texts w r s history outcome
+
+  -- what it does on its way is lawful
+  goes_on : (g : Going S) → IsOnWay R interval w r s history ready g → IsLawful (ends Taken g)
+  goes_on g way = ends_lawfully R interval texts w r s history g Taken (ended R interval texts w r s history ready kept g way)
+
+  abbrev start : IsOnWay R interval w r s history ready (begin s)
+  start = at_begin R interval w r s history ready
+
+  no_leaves : IsLawful (refused causes.KeySpent s)
+  no_leaves = refuses R interval texts w r s history ready kept causes.KeySpent
+
+  -- ---- the record of a client is that of its last entry
+
+  record_is : (client : ℕ) (known : Known) → known_in R s.kept client ≡ Some known → IsLastOf R history client known
+  record_is client known is =
+      let standing = ready.tied.standing in
+      let here : Moment w = record { by = r; correct = ready.correct; number = standing.number; stand = record { view = s.views.last_view.0; history = history }; stood = standing.stood } in
+      let all = records R client history (clients_of w texts kept.kept.links empty_head history (ready.lawful.texts here)) in
+      let known_is = ap (λ (p : Point S). slice_index_or p.known client None) (sym (stands_leads R s.kept history standing.stands)) ∙ is in
+      subst (λ (o : Option Known). IsRecord R history client o) known_is all
+
+  -- ---- a request that was executed last is answered again
+
+  module _ (ask : Signed Ask) (known : Known) (is : known_in R s.kept (entry_of ask).client.0 ≡ Some known) (view : View) (active : s.views.mode ≡ Active view) where
+    abbrev spec : Spec
+    spec = spec_of (table.own_view s) ask known
+
+    abbrev signed : Signed Spec
+    signed = sealed_spec s spec
+
+    abbrev answered : Going S
+    answered = response_of s signed known (act (Says (record { body = bodies.Spec spec; stood = table.stood_of R s })) (begin (with_spec (spent s) signed)))
+
+    answered_on : IsOnWay R interval w r s history ready answered
+    answered_on =
+        let last = record_is (entry_of ask).client.0 known is in
+        let within : known.place.0 ≤ length history = entry_within history known.place.0 last.entry last.there in
+        let in_view : IsInView R interval w r s history ready kept.agrees view (begin s) = record { way = start; active = active } in
+        (speaks R interval w r s history ready kept.agrees view (begin s) in_view spec answered refl
+        (record { views = refl; kept = refl; stable = refl; proof = refl; signer = refl }) refl
+        (record { within = within; head = ap (λ (next : Digest → Entry → Digest). fold next empty_head (take known.place.0 history)) start.links ∙ last.head })
+        (record {
+          entry = last.entry;
+          last = last.there;
+          client = last.client_is;
+          stamp = ap (λ (t : Stamp). t.0) last.stamp;
+          reply = true_reply R start.world (world_agrees R interval w r s history ready kept.agrees view (begin s) start) history known.place.0 known.reply within last.reply;
+        })).way
+
+    answers_with : (said : Option (Signed Spec)) → IsLawful (respond_as R s said spec known)
+    answers_with (Some said) = goes_on _ (sent_more R interval w r s history ready (begin s) _ start)
+    answers_with None = by (nat_le 1 (leaves_of s))
+      where
+        by : (b : Bool) → IsLawful (cond b (ends Taken answered) (refused causes.KeySpent s))
+        by true = goes_on answered answered_on
+        by false = no_leaves
+
+  -- ---- a new one waits, and the primary is told
+
+  module _ (ask : Signed Ask) where
+    waits_on : IsOnWay R interval w r s history ready (request_waits R s ask)
+    waits_on =
+        let says = says_other R interval start.world start.lawful r start.correct (core_of s) history start.tied in
+        said_more R interval w r s history ready (begin s) start (record { body = bodies.Confirm (sealed_confirm s ask).confirm.stmt; stood = table.stood_of R s }) (request_waits R s ask) refl says.may says.tied
+        start.signer start.interval_is
+
+    forwards : IsLawful (forward R s ask)
+    forwards = by (nat_le 1 (leaves_of s))
+      where
+        by : (b : Bool) → IsLawful (cond b (ends Taken (request_waits R s ask)) (refused causes.KeySpent s))
+        by true = goes_on (request_waits R s ask) waits_on
+        by false = no_leaves
+
+    at_backup : (pending : Option Pending) → IsLawful (request_at_backup R s ask pending)
+    at_backup None = forwards
+    at_backup (Some pending) = by (nat_eq ask.stmt.stamp.0 pending.ask.stmt.stamp.0)
+      where
+        by : (b : Bool) → IsLawful (cond b (ends Taken (tell_primary s pending (begin s))) (forward R s ask))
+        by true = goes_on _ (sent_more R interval w r s history ready (begin s) _ start)
+        by false = forwards
+
+    module _ (backup : is_primary s ≡ false) where
+      new_one : IsLawful (new_request R s ask)
+      new_one = by (is_primary s) backup
+        where
+          by : (b : Bool) → b ≡ false → IsLawful (cond b (request_at_primary R s ask) (request_at_backup R s ask (pending_of s (entry_of ask).client)))
+          by true never = absurd cc
+          by false not_it = at_backup (pending_of s (entry_of ask).client)
+
+      after_known : (view : View) → s.views.mode ≡ Active view → (known : Option Known) → known_in R s.kept (entry_of ask).client.0 ≡ known → IsLawful (request_after R s ask known)
+      after_known view active None is = new_one
+      after_known view active (Some known) is = by (nat_lt ask.stmt.stamp.0 known.stamp.0) (nat_eq ask.stmt.stamp.0 known.stamp.0)
+        where
+          by : (old same : Bool) → IsLawful (cond old (refused causes.OldStamp s) (cond same (respond_again R s ask known) (new_request R s ask)))
+          by true same = refuses R interval texts w r s history ready kept causes.OldStamp
+          by false true = answers_with ask known is view active (said_already (spec_to s (entry_of ask).client) (spec_of (table.own_view s) ask known))
+          by false false = new_one
+
+      pub request_lawful : IsLawful (request R s ask)
+      unfolding request
+      request_lawful = by (is_leaving_mode s.views.mode) (is_behind ask (pending_of s (entry_of ask).client)) refl
+        where
+          by : (leaving behind : Bool) → is_leaving_mode s.views.mode ≡ leaving
+              → IsLawful (cond leaving (refused causes.NotActive s) (cond behind (refused causes.OldStamp s) (request_after R s ask (known_in R s.kept (entry_of ask).client.0))))
+          by true behind is = refuses R interval texts w r s history ready kept causes.NotActive
+          by false true is = refuses R interval texts w r s history ready kept causes.OldStamp
+          by false false is = let active = active_in s.views.mode is in after_known active.0 active.1 (known_in R s.kept (entry_of ask).client.0) refl
+
+  -- ---- another's wish for orders
+
+  fills : (hole : Signed Hole) (orders : List OrderFrame) → IsLawful (fill_with s hole orders)
+  fills hole [] = by (nat_le hole.stmt.to.0 (last_place s.kept))
+    where
+      by : (b : Bool) → IsLawful (cond b (refused causes.OldPlace s) (refused (causes.Behind hole.stmt.to) s))
+      by true = refuses R interval texts w r s history ready kept causes.OldPlace
+      by false = refuses R interval texts w r s history ready kept (causes.Behind hole.stmt.to)
+  fills hole (o ∷ orders) = goes_on _ (sent_more R interval w r s history ready (begin s) _ start)
+
+  pub hole_lawful : (hole : Signed Hole) → IsLawful (fill_hole s hole)
+  unfolding fill_hole
+  hole_lawful hole = fills hole (orders_from hole.stmt.from.0 hole.stmt.to.0 s.orders)
