@@ -1,15 +1,15 @@
 // Four nodes and a client, each with a key of its own from a seed of zeros.
 
 ghost use Rattle.std.specs.Prelude.{◌≡◌, ◌≤◌, length, IfOk};
-ghost use Rattle.zy_base.specs.declared.ids.Party.TheVariants as parties;
 
 use crate::{AskFault, Asked, Asker, Begun, Node, NodeFault, ask_over};
 use std::alloc::Global;
-use std::process;
+use std::net::Net;
 use std::test::Fail;
+use std::{process, time};
 use zy_base::{Bytes, Cause, ClientId, Counts, Party, Place, ReplicaId, Stamp, View, Want};
 use zy_client::{Client, Path};
-use zy_edge::{Bound, Link, MemClock, MemLink, RealClock, UdpLink};
+use zy_edge::{Bound, Clock, Link, MemClock, MemLink, RealClock, UdpLink};
 use zy_lms::{Height, LmsKey};
 use zy_ots::OtsType;
 use zy_replica::Replica;
@@ -34,34 +34,62 @@ fn no_keys(alloc: Global) -> Result<Directory, Want>
     ensures replicas { IfOk result (λ d. length d.replicas ≤ 4) }
     ensures clients { IfOk result (λ d. length d.clients ≤ 64) }
 {
-    let replicas = vec![in alloc; [0; 56], [0; 56], [0; 56], [0; 56]]?;
-    Ok(Directory::new(alloc, replicas, vec![in alloc; [0; 56]]?))
+    directory_of(alloc, &[[0; 56]; 4], &[[0; 56]])
 }
 
-// The public keys of four replicas and a client.
-fn directory(alloc: Global, keys: &[[u8; 56]; 5]) -> Result<Directory, Want>
+fn directory_of(
+    alloc: Global,
+    replicas: &[[u8; 56]; 4],
+    clients: &[[u8; 56]; 1],
+) -> Result<Directory, Want>
     ensures replicas { IfOk result (λ d. length d.replicas ≤ 4) }
     ensures clients { IfOk result (λ d. length d.clients ≤ 64) }
 {
-    let replicas = vec![in alloc; keys[0], keys[1], keys[2], keys[3]]?;
-    Ok(Directory::new(alloc, replicas, vec![in alloc; keys[4]]?))
+    let replicas = Vec::from_slice(alloc, replicas)?;
+    let clients = Vec::from_slice(alloc, clients)?;
+    Ok(Directory::new(alloc, replicas, clients))
 }
 
-fn client(alloc: Global, key: LmsKey, directory: Directory) -> Result<Client, Fail> {
+fn public(alloc: Global, party: Party) -> Result<[u8; 56], Want> {
+    Ok(key(alloc, party, 0)?.public())
+}
+
+fn replica_key(alloc: Global, id: u8) -> Result<[u8; 56], Want> {
+    public(alloc, Party::Replica(ReplicaId(id)))
+}
+
+// The public keys of four replicas and a client.
+fn directory(alloc: Global) -> Result<Directory, Want>
+    ensures replicas { IfOk result (λ d. length d.replicas ≤ 4) }
+    ensures clients { IfOk result (λ d. length d.clients ≤ 64) }
+{
+    let replicas = [
+        replica_key(alloc, 0)?,
+        replica_key(alloc, 1)?,
+        replica_key(alloc, 2)?,
+        replica_key(alloc, 3)?,
+    ];
+    directory_of(alloc, &replicas, &[public(alloc, CLIENT)?])
+}
+
+fn client(alloc: Global, next: u32, directory: Directory) -> Result<Client, Fail>
+    requires { next ≤ 32 }
+{
     let counts = Counts::plain(1).ok_or("one may lie")?;
-    let sealer = Sealer::new(alloc, CLIENT, key);
+    let sealer = Sealer::new(alloc, CLIENT, key(alloc, CLIENT, next)?);
     Ok(Client::start(alloc, counts, ClientId(0), sealer, directory, Stamp(0))?)
 }
 
-fn node(alloc: Global, id: u8, key: LmsKey, directory: Directory) -> Result<Node<Space>, Fail>
+fn node(alloc: Global, id: u8, directory: Directory) -> Result<Node<Space>, Fail>
     requires replicas { length directory.replicas ≤ 4 }
     requires clients { length directory.clients ≤ 64 }
 {
     let counts = Counts::plain(1).ok_or("one may lie")?;
+    let me = ReplicaId(id);
     if id >= 4 || counts.n < 4 {
         return Err(Fail::from("four replicas"));
     }
-    let me = ReplicaId(id);
+    let key = key(alloc, Party::Replica(me), 0)?;
     let sealer = Sealer::new(alloc, Party::Replica(me), key);
     let replica = Replica::start(alloc, counts, me, 8, sealer, directory)?;
     Ok(Node::new(alloc, replica))
@@ -73,11 +101,98 @@ fn operation(alloc: Global) -> Result<Bytes, Want>
     Bytes::from_slice(alloc, &OPERATION)
 }
 
-fn turned(outcome: Result<Node<Space>, NodeFault<Node<Space>>>) -> Result<Node<Space>, Fail> {
-    match outcome {
-        Ok(node) => Ok(node),
+// A node, and its way to the others.
+#[derive(Drop)]
+struct Member<'a, R: Net + time::Clock> {
+    node: Node<Space>,
+    link: UdpLink<'a, R>,
+}
+
+fn bound<'a, R: Net + time::Clock>(
+    rt: &'a R,
+    port: u16,
+    party: Party,
+) -> Result<UdpLink<'a, R>, Fail> {
+    let mut link = UdpLink::new(rt);
+    match link.bind(port, party) {
+        Bound::Bound => Ok(link),
+        Bound::Failed => Err(Fail::from("no address")),
+    }
+}
+
+fn make_member<'a, R: Net + time::Clock>(
+    rt: &'a R,
+    alloc: Global,
+    port: u16,
+    id: u8,
+    directory: Directory,
+) -> Result<Member<'a, R>, Fail>
+    requires replicas { length directory.replicas ≤ 4 }
+    requires clients { length directory.clients ≤ 64 }
+{
+    let link = bound(rt, port, Party::Replica(ReplicaId(id)))?;
+    let node = node(alloc, id, directory)?;
+    Ok(Member { node, link })
+}
+
+fn members<'a, R: Net + time::Clock>(
+    rt: &'a R,
+    alloc: Global,
+    port: u16,
+    directory: &Directory,
+) -> Result<Vec<Member<'a, R>>, Fail>
+    requires replicas { length directory.now.replicas ≤ 4 }
+    requires clients { length directory.now.clients ≤ 64 }
+{
+    let mut members = Vec::new(alloc);
+    for id in 0..4 {
+        members.push(make_member(rt, alloc, port, id, directory.clone()?)?)?;
+    }
+    Ok(members)
+}
+
+fn turned<'a, R: Net + time::Clock>(
+    member: Member<'a, R>,
+    clock: &mut impl Clock,
+) -> Result<Member<'a, R>, Fail> {
+    let Member { node, mut link } = member;
+    match node.turn(&mut link, clock) {
+        Ok(node) => Ok(Member { node, link }),
         Err(NodeFault::Link(_)) => Err(Fail::from("the link of a node")),
         Err(NodeFault::Want) => Err(Fail::from(Want)),
+    }
+}
+
+// One turn of each.
+fn all_turned<'a, R: Net + time::Clock>(
+    alloc: Global,
+    members: Vec<Member<'a, R>>,
+    clock: &mut impl Clock,
+) -> Result<Vec<Member<'a, R>>, Fail> {
+    let mut after = Vec::new(alloc);
+    for member in members {
+        after.push(turned(member, clock)?)?;
+    }
+    Ok(after)
+}
+
+fn asker(alloc: Global, client: Client, link: &mut impl Link) -> Result<Asker, Fail> {
+    match Asker::begin(alloc, client, operation(alloc)?, link)? {
+        Begun::Waiting(asker) => Ok(asker),
+        Begun::Refused(_, _) => Err(Fail::from("refused")),
+    }
+}
+
+fn is_first_completion(client: &Client) -> bool {
+    match client.done() {
+        Some(done) => {
+            done.stamp == Stamp(1)
+                && done.view == View(0)
+                && done.place == Place(1)
+                && done.path == Path::Fast
+                && done.reply.as_slice() == b"\x03".as_slice()
+        }
+        None => false,
     }
 }
 
@@ -86,64 +201,20 @@ fn four_nodes_answer_a_client(rt: HostRuntime) -> Result<(), Fail> {
     let alloc = rt.alloc();
     let port = 45_000 + (process::id(rt.process()) % 400 * 50) as u16;
     let mut clock = RealClock::new(&rt);
-    let (mut link0, mut link1) = (UdpLink::new(&rt), UdpLink::new(&rt));
-    let (mut link2, mut link3) = (UdpLink::new(&rt), UdpLink::new(&rt));
-    let mut own = UdpLink::new(&rt);
-    assert_eq!(rt;
-        link0.bind(port, Party::Replica(ReplicaId(0))),
-        Bound::Bound
-    );
-    assert_eq!(rt;
-        link1.bind(port, Party::Replica(ReplicaId(1))),
-        Bound::Bound
-    );
-    assert_eq!(rt;
-        link2.bind(port, Party::Replica(ReplicaId(2))),
-        Bound::Bound
-    );
-    assert_eq!(rt;
-        link3.bind(port, Party::Replica(ReplicaId(3))),
-        Bound::Bound
-    );
-    assert_eq!(rt; own.bind(port, CLIENT), Bound::Bound);
-    let key0 = key(alloc, Party::Replica(ReplicaId(0)), 0)?;
-    let key1 = key(alloc, Party::Replica(ReplicaId(1)), 0)?;
-    let key2 = key(alloc, Party::Replica(ReplicaId(2)), 0)?;
-    let key3 = key(alloc, Party::Replica(ReplicaId(3)), 0)?;
-    let own_key = key(alloc, CLIENT, 0)?;
-    let keys = [
-        key0.public(),
-        key1.public(),
-        key2.public(),
-        key3.public(),
-        own_key.public(),
-    ];
-    let mut node0 = node(alloc, 0, key0, directory(alloc, &keys)?)?;
-    let mut node1 = node(alloc, 1, key1, directory(alloc, &keys)?)?;
-    let mut node2 = node(alloc, 2, key2, directory(alloc, &keys)?)?;
-    let mut node3 = node(alloc, 3, key3, directory(alloc, &keys)?)?;
-    let client = client(alloc, own_key, directory(alloc, &keys)?)?;
-    let mut asker = match Asker::begin(alloc, client, operation(alloc)?, &mut own)? {
-        Begun::Waiting(asker) => asker,
-        Begun::Refused(_, _) => return Err(Fail::from("refused")),
-    };
+    let directory = directory(alloc)?;
+    let mut members = members(&rt, alloc, port, &directory)?;
+    let mut link = bound(&rt, port, CLIENT)?;
+    let mut asker = asker(alloc, client(alloc, 0, directory)?, &mut link)?;
     for _ in 0..20 {
-        node0 = turned(node0.turn(&mut link0, &mut clock))?;
-        node1 = turned(node1.turn(&mut link1, &mut clock))?;
-        node2 = turned(node2.turn(&mut link2, &mut clock))?;
-        node3 = turned(node3.turn(&mut link3, &mut clock))?;
-        asker = asker.turn(&mut own, &mut clock)?;
+        members = all_turned(alloc, members, &mut clock)?;
+        asker = asker.turn(&mut link, &mut clock)?;
     }
-    assert_eq!(rt; node3.replica().length(), Place(1));
+    for member in &members {
+        assert_eq!(rt; member.node.replica().length(), Place(1));
+    }
     let client = asker.into_client();
-    assert_eq!(rt; client.key_next(), 1);
-    assert_eq!(rt; client.stamp(), Stamp(1));
-    let done = client.done().ok_or("it is complete")?;
-    assert_eq!(rt; done.stamp, Stamp(1));
-    assert_eq!(rt; done.view, View(0));
-    assert_eq!(rt; done.place, Place(1));
-    assert_eq!(rt; done.path, Path::Fast);
-    assert_eq!(rt; done.reply.as_slice(), b"\x03".as_slice());
+    assert_eq!(rt; (client.key_next(), client.stamp()), (1, Stamp(1)));
+    assert!(rt; is_first_completion(&client));
     Ok(())
 }
 
@@ -165,7 +236,7 @@ fn asks_without_an_answer(rt: HostRuntime) -> Result<(), Fail> {
         let failing = Vec::from_slice(alloc, &[failing])?;
         let mut link = MemLink::new(alloc, Vec::new(alloc), failing, 8)?;
         let mut clock = MemClock::new(alloc, Vec::from_slice(alloc, &[0])?);
-        let client = client(alloc, key(alloc, CLIENT, next)?, no_keys(alloc)?)?;
+        let client = client(alloc, next, no_keys(alloc)?)?;
         let op = operation(alloc)?;
         let asked = ask_over(alloc, client, op, &mut link, &mut clock, turns);
         let (end, client) = match asked {
@@ -194,8 +265,7 @@ fn a_node_alone(rt: HostRuntime) -> Result<(), Fail> {
         let failing = Vec::from_slice(alloc, &[failing])?;
         let mut link = MemLink::new(alloc, Vec::new(alloc), failing, 8)?;
         let mut clock = MemClock::new(alloc, Vec::from_slice(alloc, &[0])?);
-        let key = key(alloc, Party::Replica(ReplicaId(2)), 0)?;
-        let node = node(alloc, 2, key, no_keys(alloc)?)?;
+        let node = node(alloc, 2, no_keys(alloc)?)?;
         let (node, ended) = match node.serve(&mut link, &mut clock, turns) {
             Ok(node) => (node, true),
             Err(NodeFault::Link(node)) => (node, false),
