@@ -20,7 +20,7 @@ use Rattle.zy_group.specs.declared.fault.GroupFault.TheVariants as faults
 use Rattle.zy_group.specs.declared.replay.ReplayGroup.{ReplayGroup}
 use Rattle.zy_setup.specs.Starting.{IsStart}
 use Rattle.zy_world_law.specs.Setup.{Setup}
-use Rattle.zy_top.specs.Calls.{exit_of_group_fault}
+use Rattle.zy_words.specs.Calls.{exit_of_group_fault}
 use Rattle.zy_top.specs.Replaying.{IsSetupRead}
 use Rattle.zy_top.specs.Group.{group_of, plain_counts, setup_of, toml_of}
 

@@ -3,11 +3,11 @@ ghost use Rattle.std.specs.Prelude.{◌≡◌, ◌≤◌, IfOk, map};
 ghost use Rattle.zy_top.specs.Group as groups;
 ghost use Rattle.zy_top.specs.Replaying.{IsSetupRead};
 
-use crate::Exit;
 use std::alloc::Global;
 use zy_base::{ClientId, Counts, ReplicaId, Want};
 use zy_group::{ReplayGroup, read_replay_group};
 use zy_setup::Setup;
+use zy_words::Exit;
 
 /// What the world of the group that a file's text tells of begins with.
 pub(crate) fn read_setup(alloc: Global, text: &[u8]) -> Result<Setup, Exit>

@@ -1,8 +1,9 @@
-use crate::{Exit, zyzzyva};
+use crate::zyzzyva;
 use std::alloc::{AllocError, Global};
 use std::test::Fail;
 use zy_base::Bytes;
 use zy_edge::{CalmFiles, CalmSink, MemFiles, MemSink};
+use zy_words::Exit;
 
 fn bytes(alloc: Global, text: &str) -> Result<Bytes, AllocError> {
     Ok(Bytes::from(Vec::from_slice(alloc, text.as_bytes())?))

@@ -1,25 +1,23 @@
 ghost use Rattle.std.specs.Prelude.{◌≡◌, ◌↔◌, ◌⊎◌, ℕ, Err, IfSome, IsTrue};
 ghost use Rattle.zy_edge.specs.Faults.{IsCounted, Rose};
 ghost use Rattle.zy_edge.specs.Files.{content_of};
-ghost use Rattle.zy_top.specs.Calls.{exit_of, IsSent, stops_writing};
-ghost use Rattle.zy_top.specs.Verdict.{IsAnswer, IsOwnAnswer, IsReport, IsWritten, is_read_fault, is_refusal, is_usage, is_write_fault, own_verdict, space_verdict, verdict};
+ghost use Rattle.zy_words.specs.Calls.{exit_of, IsSent, stops_writing};
+ghost use Rattle.zy_words.specs.Ends.{IsAnswer, IsOwnAnswer, IsReport, IsWritten, is_read_fault, is_refusal, is_usage, is_write_fault};
+ghost use Rattle.zy_top.specs.Verdict.{own_verdict, space_verdict, verdict};
 ghost use Rattle.zy_top.specs.Keys.{key_file};
 ghost use Rattle.zy_top.specs.Replaying.{IsSafeCommand};
-ghost use Rattle.zy_top.specs.Words.{command_of, texts};
+ghost use Rattle.zy_words.specs.Words.{command_of, texts};
 
-use crate::Exit;
 use crate::keys::key_file;
 use crate::making::{made_runs_are_safe, run_make};
-use crate::reading::read_file;
 use crate::replays::{replays_are_safe, run_replay};
 use crate::space::run_script;
-use crate::words::{Command, command_of};
-use crate::writing::write_all;
 use std::alloc::Global;
 use zy_base::Party;
 use zy_edge::{Files, Sink};
 use zy_lms::Height;
 use zy_schedule::read_script;
+use zy_words::{Command, Exit, command_of, read_file, write_all};
 
 /// Runs the command that the words ask for. Words are judged first, then the file that they name, whole, and
 /// nothing is written before.

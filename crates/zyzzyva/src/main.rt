@@ -10,7 +10,8 @@ use fault_text::ending;
 use std::process::ExitCode;
 use words::words;
 use zy_edge::{RealFiles, StdSink};
-use zy_top::{Exit, zyzzyva};
+use zy_top::zyzzyva;
+use zy_words::Exit;
 
 fn main(rt: HostRuntime) -> ExitCode {
     let exit = match words(&rt, rt.alloc()) {

@@ -1,7 +1,7 @@
 use Rattle.std.proofs.Common.{◌∙◌, arith}
 use Rattle.std.proofs.KnownBytes.{Consumes-trans}
-use Rattle.zy_top.proofs.Known.{length-grown-le, more_than, read_whole}
-use Rattle.zy_top.proofs.reading.read_chosen.Goals as goal
+use Rattle.zy_words.proofs.Known.{length-grown-le, more_than, read_whole}
+use Rattle.zy_words.proofs.reading.read_chosen.Goals as goal
 
 pub returns-then-len-clause-bytes : goal.returns-then-len-clause-bytes
 returns-then-len-clause-bytes g c =

@@ -2,10 +2,10 @@
 use Rattle.std.proofs.Common.{◌≡◌, ℕ, ◌+◌, ◌-◌, ◌^◌, ◌<◌, ◌≤◌, ◌⊎◌, inl, inr, Bool, true, false, List, Option, Some, None, IfSome, Result, Ok, Err, refl, arith}
 use Rattle.zy_edge.specs.Faults.{IsCounted, Rose}
 use Rattle.zy_edge.specs.Files.{Held}
-use Rattle.zy_top.specs.Calls.{IsSent}
-use Rattle.zy_top.specs.Verdict.{IsAnswer, IsOwnAnswer, IsReport, Verdict, is_read_fault, is_write_fault}
-use Rattle.zy_top.specs.declared.exit.Exit.{Exit}
-use Rattle.zy_top.specs.declared.exit.Exit.TheVariants as exits
+use Rattle.zy_words.specs.Calls.{IsSent}
+use Rattle.zy_words.specs.Ends.{IsAnswer, IsOwnAnswer, IsReport, Verdict, is_read_fault, is_write_fault}
+use Rattle.zy_words.specs.declared.exit.Exit.{Exit}
+use Rattle.zy_words.specs.declared.exit.Exit.TheVariants as exits
 
 pub rose : (before after : ℕ) → IsCounted true before after → Rose before after
 rose before after counted = grind (arith, counted.0, counted.1)
@@ -18,11 +18,14 @@ finishes (Verdict.Report report) exits.ReadFault x y before after answer read co
 finishes (Verdict.Report report) exits.WriteFault x y before after answer read counted due still calm = absurd (calm (rose before after counted))
 finishes (Verdict.Report report) (exits.Premise event what) x y before after answer read counted due still calm = absurd cc
 finishes (Verdict.Report report) (exits.Usage word) x y before after answer read counted due still calm = absurd cc
+finishes (Verdict.Report report) exits.LinkFault x y before after answer read counted due still calm = absurd cc
+finishes (Verdict.Report report) exits.TurnsSpent x y before after answer read counted due still calm = absurd cc
 finishes (Verdict.Report report) (exits.Text line rule) x y before after answer read counted due still calm = absurd cc
 finishes (Verdict.Report report) (exits.Group field) x y before after answer read counted due still calm = absurd cc
 finishes (Verdict.Report report) exits.TooLong x y before after answer read counted due still calm = absurd cc
 finishes (Verdict.Refused refusal) exit x y before after answer read counted due still calm = absurd due
 finishes (Verdict.Broke front refusal) exit x y before after answer read counted due still calm = absurd due
+finishes Verdict.Hosted exit x y before after answer read counted due still calm = absurd due
 
 -- over files, if they are told
 pub told_finishes : (told : Option Held) (verdict : Held → Verdict) (exit : Exit) (read_before read_after before after : ℕ)
@@ -49,6 +52,8 @@ cut_short report exits.Want old new before after sent counted = record {
 }
 cut_short report exits.Done old new before after sent counted = absurd sent
 cut_short report (exits.Usage word) old new before after sent counted = absurd sent
+cut_short report exits.LinkFault old new before after sent counted = absurd sent
+cut_short report exits.TurnsSpent old new before after sent counted = absurd sent
 cut_short report exits.ReadFault old new before after sent counted = absurd sent
 cut_short report (exits.Text line rule) old new before after sent counted = absurd sent
 cut_short report (exits.Group field) old new before after sent counted = absurd sent

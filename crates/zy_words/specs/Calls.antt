@@ -6,11 +6,16 @@ use Rattle.zy_group.specs.declared.fault.GroupFault.{GroupFault}
 use Rattle.zy_group.specs.declared.fault.GroupFault.TheVariants as group_faults
 use Rattle.zy_schedule.specs.declared.fault.ScheduleFault.{ScheduleFault}
 use Rattle.zy_schedule.specs.declared.fault.ScheduleFault.TheVariants as faults
-use Rattle.zy_top.specs.Words.{Command}
-use Rattle.zy_top.specs.declared.words.Command as commands
-use Rattle.zy_top.specs.Verdict.{AppendsFront, limit, is_read_fault, is_write_fault}
-use Rattle.zy_top.specs.declared.exit.Exit.{Exit}
-use Rattle.zy_top.specs.declared.exit.Exit.TheVariants as exits
+use Rattle.zy_tuple.specs.Reading.{op_read}
+use Rattle.zy_tuple.specs.Values.{IsOp}
+use Rattle.zy_tuple.specs.declared.values.Op.{Op}
+use Rattle.zy_words.specs.Words.{Command, Named, Turns, asked, op_alone, texts}
+use Rattle.zy_words.specs.declared.hosted.Names.{Names}
+use Rattle.zy_words.specs.declared.hosted.TurnsRead.{TurnsRead}
+use Rattle.zy_words.specs.declared.words.Command as commands
+use Rattle.zy_words.specs.Ends.{AppendsFront, limit, is_read_fault, is_write_fault}
+use Rattle.zy_words.specs.declared.exit.Exit.{Exit}
+use Rattle.zy_words.specs.declared.exit.Exit.TheVariants as exits
 
 -- the bytes of a file, where they are told, were read to the end, or there are too many of them
 abbrev pub IsFileRead : Option (List ℕ) → Result (Vec ℕ Global) Exit → Type 0
@@ -60,9 +65,33 @@ IsCommand read (Ok (commands.TheVariants.Space script)) = read ≡ Ok (Command.S
 IsCommand read (Ok (commands.TheVariants.Replay group schedule)) = read ≡ Ok (Command.Replay group.now schedule.now)
 IsCommand read (Ok (commands.TheVariants.Keys seed by height)) = read ≡ Ok (Command.Keys seed by height)
 IsCommand read (Ok (commands.TheVariants.Make number asks)) = read ≡ Ok (Command.Make number asks.count)
+IsCommand read (Ok (commands.TheVariants.Node group secret id turns)) = read ≡ Ok (Command.Node group.now secret.now id turns)
+-- whose operation isn't judged yet
+IsCommand read (Ok (commands.TheVariants.Ask group secret id turns op others)) = read ≡ asked group.now secret.now id turns (op_alone (op_read op.now) (texts others.now))
 IsCommand read (Err word) = read ≡ Err word
 
 -- how the program ends
 abbrev pub exit_of : Result (Unit {0}) Exit → Exit
 exit_of (Ok _) = exits.Done
 exit_of (Err exit) = exit
+
+-- ---- the words of a node and of an ask
+
+-- the names and the words behind them, or the first word that is wrong
+abbrev pub named_in : Names → Named
+named_in names = record { group = names.group.now; secret = names.secret.now; others = texts names.others.now }
+
+abbrev pub IsNamed : Result Named ℕ → Result Names ℕ → Type 0
+IsNamed read (Ok names) = read ≡ Ok (named_in names)
+IsNamed read (Err word) = read ≡ Err word
+
+abbrev pub IsTurnsRead : Result Turns ℕ → Result TurnsRead ℕ → Type 0
+IsTurnsRead read (Ok turns) = read ≡ Ok (record { number = turns.number; others = texts turns.others.now })
+IsTurnsRead read (Err word) = read ≡ Err word
+
+-- the operation that a word spells, with no word behind it
+abbrev pub IsOpRead : Result Op ℕ → Result Op Exit → Type 0
+IsOpRead read (Ok op) = (read ≡ Ok op) × IsOp op
+IsOpRead read (Err (exits.Usage word)) = read ≡ Err word
+IsOpRead read (Err exits.Want) = ⊤
+IsOpRead read (Err exit) = ⊥

@@ -1,7 +1,7 @@
 ghost use Rattle.std.specs.Prelude.{◌≡◌};
-ghost use Rattle.zy_top.specs.Calls.{exit_of_fault, exit_of_group_fault};
-ghost use Rattle.zy_top.specs.Verdict.{status_of};
-ghost use Rattle.zy_top.specs.declared.exit.Exit.TheVariants as exits;
+ghost use Rattle.zy_words.specs.Calls.{exit_of_fault, exit_of_group_fault};
+ghost use Rattle.zy_words.specs.Ends.{status_of};
+ghost use Rattle.zy_words.specs.declared.exit.Exit.TheVariants as exits;
 
 use std::alloc::{AllocError, AllocFailed};
 use zy_group::GroupFault;
@@ -32,8 +32,12 @@ pub enum Exit {
     Group(u8),
     /// The event with this number, counted from 1, is the first that isn't honest. What was written is of those before it.
     Premise { event: u64, what: Broken },
+    /// A call of the link failed. Nothing was written.
+    LinkFault,
     /// Want of memory.
     Want,
+    /// All turns were taken.
+    TurnsSpent,
     /// A file gave more than 16,777,216 bytes.
     TooLong,
 }
@@ -51,7 +55,9 @@ impl Exit {
             Exit::Text { .. } => 5,
             Exit::Group(_) => 6,
             Exit::Premise { .. } => 7,
+            Exit::LinkFault => 8,
             Exit::Want => 9,
+            Exit::TurnsSpent => 10,
             Exit::TooLong => 11,
         }
     }

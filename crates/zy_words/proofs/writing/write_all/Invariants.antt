@@ -1,6 +1,6 @@
 use Rattle.std.proofs.Common.{◌≡◌, length}
-use Rattle.zy_top.specs.Verdict.{AppendsUpTo}
-use Rattle.zy_top.proofs.writing.write_all.Given as goal
+use Rattle.zy_words.specs.Ends.{AppendsUpTo}
+use Rattle.zy_words.proofs.writing.write_all.Given as goal
 
 -- what was taken so far and the rest make the whole, and no call has failed
 abbrev pub invariant-pieces : goal.invariant-pieces

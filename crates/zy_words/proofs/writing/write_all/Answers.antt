@@ -1,7 +1,7 @@
 use Rattle.std.proofs.Common.{◌∙◌, arith}
 use Rattle.std.proofs.lemmas.Grind.{common_steps}
-use Rattle.zy_top.proofs.Known.{AppendsUpTo-more}
-use Rattle.zy_top.proofs.writing.write_all.Goals as goal
+use Rattle.zy_words.proofs.Known.{AppendsUpTo-more}
+use Rattle.zy_words.proofs.writing.write_all.Goals as goal
 
 pub pieces-preserved : goal.pieces-preserved
 pieces-preserved g c = record {

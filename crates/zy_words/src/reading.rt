@@ -2,7 +2,7 @@
 ghost use Rattle.std.specs.Prelude.{◌≡◌, ◌<◌, IsTrue, IfOk, length, option_map};
 ghost use Rattle.zy_edge.specs.Faults.{IsCounted};
 ghost use Rattle.zy_edge.specs.Files.{content_of};
-ghost use Rattle.zy_top.specs.Calls.{IsFileRead, stops_reading};
+ghost use Rattle.zy_words.specs.Calls.{IsFileRead, stops_reading};
 
 use crate::Exit;
 use std::alloc::{AllocError, Global};
@@ -15,7 +15,7 @@ const FILE_LIMIT: usize = 16_777_216;
 const PIECE: usize = 65_536;
 
 /// The file with this name, read to its end.
-pub(crate) fn read_file<F: Files>(alloc: Global, files: &mut F, name: &str) -> Result<Vec<u8>, Exit>
+pub fn read_file<F: Files>(alloc: Global, files: &mut F, name: &str) -> Result<Vec<u8>, Exit>
     ensures held { F.held files.new ≡ F.held files.old }
     ensures bytes { IsFileRead (option_map (λ held. content_of held name.now) (F.held files.old)) result }
     ensures count { IsCounted (stops_reading result) (F.faults files.old) (F.faults files.new) }

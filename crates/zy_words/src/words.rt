@@ -1,19 +1,19 @@
 // The words of the command line, judged by hand: the number of the first that isn't allowed is exact.
 ghost use Rattle.std.specs.Prelude.{◌≡◌, ◌^◌, option_map};
 ghost use Rattle.zy_tuple.specs.Parties.{number_below};
-ghost use Rattle.zy_top.specs.Calls.{IsCommand};
-ghost use Rattle.zy_top.specs.Words.{asks_of, behind_group, behind_seed, command_of, keys_words, make_words, replay_words, space_words, texts};
+ghost use Rattle.zy_words.specs.Calls.{IsCommand};
+ghost use Rattle.zy_words.specs.Words.{asks_of, behind_group, behind_seed, command_of, height_read, keys_words, make_words, replay_words, space_words, texts};
 
 use crate::asks::Asks;
-use crate::keys::height_read;
+use crate::hosted::{ask_words, node_words};
 use hex::FromHex;
-use zy_base::Party;
+use zy_base::{ClientId, Party, ReplicaId};
 use zy_lms::Height;
 use zy_tuple::{numeral, party_text_read};
 
 /// What the words ask for.
 #[derive(Clone, Copy)]
-pub(crate) enum Command<'a> {
+pub enum Command<'a> {
     /// Run the script in the file with this name.
     Space(&'a str),
     /// Run the schedule in the world of the group; the files of both have these names.
@@ -32,10 +32,26 @@ pub(crate) enum Command<'a> {
         number: u32,
         asks: Asks,
     },
+    /// Run a replica of the group for so many turns; the files of the group and of its secret have these names.
+    Node {
+        group: &'a str,
+        secret: &'a str,
+        id: ReplicaId,
+        turns: u32,
+    },
+    /// Ask as a client of the group, for so many turns at most; the operation and what stands behind it aren't judged yet.
+    Ask {
+        group: &'a str,
+        secret: &'a str,
+        id: ClientId,
+        turns: u32,
+        op: &'a str,
+        others: &'a [String],
+    },
 }
 
 /// The command, or the number of the first word that isn't allowed, is missing or is too many.
-pub(crate) fn command_of(words: &[String]) -> Result<Command<'_>, u64>
+pub fn command_of(words: &[String]) -> Result<Command<'_>, u64>
     ensures { IsCommand (command_of (texts words.now)) result }
 {
     let [word, others @ ..] = words else {
@@ -46,6 +62,8 @@ pub(crate) fn command_of(words: &[String]) -> Result<Command<'_>, u64>
         "replay" => replay_words(others),
         "keys" => keys_words(others),
         "make" => make_words(others),
+        "node" => node_words(others),
+        "ask" => ask_words(others),
         _ => Err(1),
     }
 }
@@ -154,7 +172,7 @@ fn make_words(words: &[String]) -> Result<Command<'_>, u64>
 }
 
 /// A number of 32 bits.
-fn number_read(word: &[u8]) -> Option<u32>
+pub(crate) fn number_read(word: &[u8]) -> Option<u32>
     ensures { result ≡ number_below (2 ^ 32) word.now }
 {
     match numeral(word) {
@@ -170,5 +188,18 @@ fn asks_read(word: &[u8]) -> Option<Asks>
     match number_read(word) {
         Some(count @ 1..=300) => Some(Asks { count }),
         _ => None,
+    }
+}
+
+/// `5` or `10`.
+fn height_read(word: &[u8]) -> Option<Height>
+    ensures { result ≡ height_read word.now }
+{
+    if word == b"5".as_slice() {
+        Some(Height::H5)
+    } else if word == b"10".as_slice() {
+        Some(Height::H10)
+    } else {
+        None
     }
 }

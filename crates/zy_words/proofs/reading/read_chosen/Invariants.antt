@@ -1,7 +1,7 @@
 use Rattle.std.proofs.Common.{◌≡◌, ◌-◌, ◌≤◌, IsTrue, length}
 use Rattle.std.specs.Io.KnownBytes.{Consumes}
-use Rattle.zy_top.specs.Verdict.{limit}
-use Rattle.zy_top.proofs.reading.read_chosen.Given as goal
+use Rattle.zy_words.specs.Ends.{limit}
+use Rattle.zy_words.proofs.reading.read_chosen.Given as goal
 
 -- what was read so far is the front of what there was, and no call has failed
 abbrev pub invariant-pieces : goal.invariant-pieces

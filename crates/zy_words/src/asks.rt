@@ -3,7 +3,7 @@ ghost use Rattle.std.specs.Prelude.{◌≤◌};
 
 /// From 1 to 300.
 #[derive(Clone, Copy)]
-pub(crate) struct Asks {
-    pub(crate) count: u32,
+pub struct Asks {
+    pub count: u32,
     ghost few: { count ≤ 300 },
 }
