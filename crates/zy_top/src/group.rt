@@ -4,8 +4,8 @@ ghost use Rattle.zy_top.specs.Group as groups;
 ghost use Rattle.zy_top.specs.Replaying.{IsSetupRead};
 
 use std::alloc::Global;
-use zy_base::{ClientId, Counts, ReplicaId, Want};
-use zy_group::{ReplayGroup, read_replay_group};
+use zy_base::{ClientId, ReplicaId, Want};
+use zy_group::{ReplayGroup, plain_counts, read_replay_group};
 use zy_setup::Setup;
 use zy_words::Exit;
 
@@ -35,18 +35,6 @@ fn setup_of(alloc: Global, group: ReplayGroup) -> Result<Setup, Want>
         height: group.height,
         ots: group.ots,
     })
-}
-
-/// The counts of 3f + 1 replicas.
-pub(crate) fn plain_counts(f: u8) -> Counts
-    requires least { 1 ≤ f }
-    requires most { f ≤ 4 }
-    ensures { result ≡ groups.plain_counts f }
-{
-    match Counts::plain(u64::from(f)) {
-        Some(counts) => counts,
-        None => unreachable!(),
-    }
 }
 
 fn replica_ids(alloc: Global, numbers: &[u8]) -> Result<Vec<ReplicaId>, Want>

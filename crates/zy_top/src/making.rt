@@ -11,12 +11,12 @@ ghost use Rattle.zy_top.specs.Verdict.{make_verdict, sum_verdict};
 ghost use Rattle.zy_world_law.specs.Runs.{run};
 ghost use Rattle.zy_world_law.specs.World.{start};
 
-use crate::group::plain_counts;
 use crate::running::{Stop, run_lines};
 use crate::tale::{Tale, sum_up};
 use std::alloc::Global;
 use zy_base::Machine;
 use zy_edge::Sink;
+use zy_group::plain_counts;
 use zy_lms::Height;
 use zy_ots::OtsType;
 use zy_schedule::{Line, make};
