@@ -1,5 +1,5 @@
 // One reader for each kind of field.
-ghost use Rattle.std.specs.Prelude.{◌≡◌, ◌≤◌, ◌^◌, [], IfOk, IfSome, Some, length, option_map};
+ghost use Rattle.std.specs.Prelude.{◌≡◌, ◌≤◌, ◌+◌, ◌^◌, [], IfOk, IfSome, Some, length, option_map};
 ghost use Rattle.toml.specs.Data.{get_member};
 ghost use Rattle.toml.specs.View.{view, array_view, table_view};
 ghost use Rattle.zy_group.specs.Fields.{number_of, number_at, different_from, numbers_at, text_at, bytes_at, height_at, ots_at, of_spoken_types, key_of, keys_from, so_many, keys_in, keys_at, told_ots_at, next_at, number_or, stamp_at};
@@ -235,7 +235,7 @@ pub(crate) fn keys_at(
 pub(crate) fn next_at(table: &Table, height: Height, left: u32) -> Option<u32>
     requires { left ≤ 1 }
     ensures is { result ≡ next_at height left (table_view table.now) }
-    ensures most { IfSome result (λ next. next ≤ 2 ^ levels_of height) }
+    ensures most { IfSome result (λ next. next + left ≤ 2 ^ levels_of height) }
 {
     let last = height.leaf_count() - left;
     let next = long_at(table, "next", 0, u64::from(last))?;

@@ -1,7 +1,8 @@
-ghost use Rattle.std.specs.Prelude.{◌≡◌, ◌≤◌, ◌^◌, IfOk};
+ghost use Rattle.std.specs.Prelude.{◌≡◌, ◌≢◌, ◌≤◌, ◌^◌, IfOk, None};
 ghost use Rattle.zy_group.specs.Own.{is_own, key_state, own_key};
 ghost use Rattle.zy_group.specs.Reading.{IsRead};
 ghost use Rattle.zy_lms.specs.Height.{levels_of};
+ghost use Rattle.zy_seal.specs.Keys.{key_of};
 
 use crate::{GroupFault, Secret};
 use std::alloc::Global;
@@ -18,7 +19,8 @@ pub fn own_key(
     secret: &Secret,
 ) -> Result<LmsKey, GroupFault>
     requires { secret.now.next ≤ 2 ^ levels_of secret.now.height }
-    ensures { IsRead (own_key party keys.now secret.now) result }
+    ensures read { IsRead (own_key party keys.now secret.now) result }
+    ensures member { IfOk result (λ _. key_of keys.now party ≢ None) }
 {
     let Some(public) = keys.key(party) else {
         return Err(GroupFault::Field(18));

@@ -11,9 +11,9 @@ use Rattle.zy_schedule.specs.declared.fault.ScheduleFault.TheVariants as faults
 use Rattle.zy_schedule.specs.declared.line.Line.{Line}
 use Rattle.zy_setup.specs.Starting.{IsStart}
 use Rattle.zy_world_law.specs.Setup.{Setup}
-use Rattle.zy_words.specs.Calls.{IsFileRead, exit_of_fault, is_reading}
+use Rattle.zy_words.specs.Calls.{IsFileRead, IsReading, exit_of_fault, is_reading}
 use Rattle.zy_top.specs.Group.{group_of}
-use Rattle.zy_top.specs.Replaying.{IsGroupJudged, IsReading, IsScheduleJudged, IsSetupRead, text_verdict}
+use Rattle.zy_top.specs.Replaying.{IsGroupJudged, IsScheduleJudged, IsSetupRead, text_verdict}
 use Rattle.zy_words.specs.Ends.{IsAnswer, Verdict, limit}
 use Rattle.zy_top.specs.Verdict.{group_verdict, replay_verdict, schedule_verdict}
 use Rattle.zy_words.specs.declared.exit.Exit.{Exit}

@@ -1,5 +1,5 @@
 -- What the parts of the top call give, and how each may stop.
-use Rattle.std.specs.Prelude.{◌≡◌, ℕ, ◌<◌, ◌≤◌, Bool, true, false, List, length, Option, IfSome, Result, Ok, Err, Vec, ⊤}
+use Rattle.std.specs.Prelude.{◌≡◌, ℕ, ◌<◌, ◌≤◌, Bool, true, false, IsTrue, List, length, Option, IfSome, Result, Ok, Err, Vec, ⊤}
 use Rattle.std.specs.declared.alloc.Global.{Global}
 use Rattle.std.specs.Io.KnownBytes.{Appends}
 use Rattle.zy_group.specs.declared.fault.GroupFault.{GroupFault}
@@ -33,6 +33,10 @@ is_reading exits.TooLong = true
 is_reading exits.ReadFault = true
 is_reading exits.Want = true
 is_reading exit = false
+
+abbrev pub IsReading : {A : Type 0} → Result A Exit → Type 0
+IsReading (Ok x) = ⊤
+IsReading (Err exit) = IsTrue (is_reading exit)
 
 -- whether a call stopped at a fault of the files, or of the sink
 abbrev pub stops_reading : {T : Type 0} → Result T Exit → Bool
