@@ -55,8 +55,9 @@ pub record IsTelling (verdict : Verdict) (exit : Exit) (old new : Option (List â
   pub told : IsTrue (is_telling exit)
   pub count : IsCounted (is_write_fault exit) before after
 
--- how the turns of a node or of an ask may end
+-- how a node or an ask may end whose files are in order
 abbrev pub is_hosting : Exit â†’ Bool
+is_hosting exits.ReadFault = true
 is_hosting exits.Done = true
 is_hosting exits.TurnsSpent = true
 is_hosting exits.WriteFault = true

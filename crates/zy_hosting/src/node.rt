@@ -2,7 +2,7 @@
 ghost use Rattle.std.specs.Prelude.{◌≡◌, IfSome, IsTrue};
 ghost use Rattle.zy_edge.specs.Faults.{IsCounted};
 ghost use Rattle.zy_edge.specs.Files.{content_of};
-ghost use Rattle.zy_words.specs.Ends.{IsAnswer, IsWritten, is_link_fault, is_read_fault, is_refusal, is_usage, is_write_fault};
+ghost use Rattle.zy_words.specs.Ends.{IsAnswer, IsWritten, Verdict, is_link_fault, is_read_fault, is_refusal, is_usage, is_write_fault};
 ghost use Rattle.zy_hosting.specs.Calls.{is_hosting};
 ghost use Rattle.zy_hosting.specs.Files.{node_start};
 ghost use Rattle.zy_hosting.specs.Hosted.{IsNodeRun, IsServing, TookAll, files_verdict};
@@ -37,6 +37,7 @@ pub fn run_node<F: Files, S: Sink, L: Link, C: Clock>(
         (record { mail = L.mail link.old; receives = L.receives link.old; moments = C.moments clock.old }) (record { mail = L.mail link.new; receives = L.receives link.new; moments = C.moments clock.new })
         (S.taken out.old) (S.taken out.new)) }
     ensures spent { TookAll turns result (L.receives link.old) (L.receives link.new) }
+    ensures started { IfSome (F.held files.old) (λ held. (files_verdict (node_start id (content_of held group.now) (content_of held secret.now)) ≡ Verdict.Hosted) → IsTrue (is_hosting result)) }
     ensures judged { IsTrue (is_usage result) → ⊥ }
     ensures refused { IsTrue (is_refusal result) → out.new ≡ out.old }
     ensures read_faults { IsCounted (is_read_fault result) (F.faults files.old) (F.faults files.new) }

@@ -11,4 +11,6 @@ commands_are_safe replays made (Some files) (Ok (Command.Replay group schedule))
 commands_are_safe replays made told (Ok (Command.Make number asks)) = made number asks
 commands_are_safe replays made told (Ok (Command.Space script)) = tt
 commands_are_safe replays made told (Ok (Command.Keys seed by height)) = tt
+commands_are_safe replays made told (Ok (Command.Node group secret id turns)) = tt
+commands_are_safe replays made told (Ok (Command.Ask group secret id turns op)) = tt
 commands_are_safe replays made told (Err word) = tt

@@ -22,7 +22,8 @@ use Rattle.zy_world_law.specs.declared.note.Note.TheVariants as notes
 use Rattle.zy_words.specs.Calls.{exit_of}
 use Rattle.zy_top.specs.Group.{made_setup}
 use Rattle.zy_top.specs.Replaying.{Adds, IsRunning, IsSummedUp, is_running}
-use Rattle.zy_top.specs.Telling.{agreed_of, is_done, is_done_fast, is_done_slow, is_fast, is_refused, summary_of}
+use Rattle.zy_hosting.specs.Lines.{is_fast}
+use Rattle.zy_top.specs.Telling.{agreed_of, is_done, is_done_fast, is_done_slow, is_refused, summary_of}
 use Rattle.zy_words.specs.Ends.{IsAnswer, IsOwnAnswer, IsReport, IsWritten, Verdict, is_write_fault}
 use Rattle.zy_top.specs.Verdict.{make_verdict, sum_verdict, summed_up, what_broke}
 use Rattle.zy_words.specs.declared.exit.Broken.{Broken}

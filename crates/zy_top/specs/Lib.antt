@@ -3,3 +3,4 @@ pub mod Group
 pub mod Telling
 pub mod Verdict
 pub mod Replaying
+pub mod Hosting

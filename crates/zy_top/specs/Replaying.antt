@@ -158,4 +158,6 @@ IsSafeCommand told (Ok (Command.Replay group schedule)) = IfSome told (λ files.
 IsSafeCommand told (Ok (Command.Make number asks)) = IsSafeMake number asks
 IsSafeCommand told (Ok (Command.Space script)) = ⊤
 IsSafeCommand told (Ok (Command.Keys seed by height)) = ⊤
+IsSafeCommand told (Ok (Command.Node group secret id turns)) = ⊤
+IsSafeCommand told (Ok (Command.Ask group secret id turns op)) = ⊤
 IsSafeCommand told (Err word) = ⊤

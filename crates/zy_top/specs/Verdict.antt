@@ -1,8 +1,6 @@
 -- What the words and the files call for.
-use Rattle.std.specs.Prelude.{◌≡◌, ◌≢◌, ◌⊎◌, ℕ, nat_lt, ◌+◌, Bool, true, false, if◌then◌else◌, List, [], ◌∷◌, ◌++◌, length, Result, Ok, Err, Option, Some, None, ⊤}
+use Rattle.std.specs.Prelude.{ℕ, nat_lt, ◌+◌, if◌then◌else◌, List, [], ◌∷◌, ◌++◌, length, Result, Ok, Err, Option, Some, None}
 use Rattle.std.specs.List.{flat_map}
-use Rattle.std.specs.Io.KnownBytes.{Keeps, Appends}
-use Rattle.zy_edge.specs.Faults.{Rose}
 use Rattle.zy_edge.specs.Files.{Held, content_of}
 use Rattle.zy_schedule.specs.Lines.{TextFault, script_of}
 use Rattle.zy_tuple.specs.Texts.{reply_text}
@@ -24,6 +22,9 @@ use Rattle.zy_world_law.specs.declared.note.Note.{Note}
 use Rattle.zy_top.specs.Group.{group_of, made_setup, setup_of}
 use Rattle.zy_top.specs.Keys.{key_file}
 use Rattle.zy_top.specs.Telling.{agreed_of, end_lines, note_lines, summary_of}
+use Rattle.zy_hosting.specs.Files.{asker_start, node_start}
+use Rattle.zy_hosting.specs.Hosted.{files_verdict}
+use Rattle.zy_words.specs.Ends.{Verdict, limit}
 use Rattle.zy_words.specs.Words.{Command, command_of}
 use Rattle.zy_words.specs.declared.exit.Broken.{Broken}
 use Rattle.zy_words.specs.declared.exit.Broken.TheVariants as broken
@@ -40,11 +41,11 @@ report_from tuples ops = flat_map reply_line (replies_from tuples ops)
 
 -- a script runs on an empty space
 abbrev pub script_verdict : Result (List Op) TextFault → Verdict
-script_verdict (Err fault) = Refused (exits.Text fault.line fault.rule)
-script_verdict (Ok ops) = Report (report_from [] ops)
+script_verdict (Err fault) = Verdict.Refused (exits.Text fault.line fault.rule)
+script_verdict (Ok ops) = Verdict.Report (report_from [] ops)
 
 abbrev pub space_verdict : List ℕ → Verdict
-space_verdict text = if nat_lt limit (length text) then Refused exits.TooLong else script_verdict (script_of text)
+space_verdict text = if nat_lt limit (length text) then Verdict.Refused exits.TooLong else script_verdict (script_of text)
 
 -- ---- replays
 
@@ -54,33 +55,33 @@ what_broke (events.Broken.Clash digest) = broken.Clash
 
 -- the report of a run, or what is written of the events before the one that isn't honest
 abbrev pub told_verdict : {S : Type 0} → Rules S → List Note → End S → Verdict
-told_verdict R notes (End.At w) = Report (note_lines 1 notes ++ end_lines R w)
-told_verdict R notes (End.Stopped what) = Broke (note_lines 1 notes) (exits.Premise (length notes + 1) (what_broke what))
+told_verdict R notes (End.At w) = Verdict.Report (note_lines 1 notes ++ end_lines R w)
+told_verdict R notes (End.Stopped what) = Verdict.Broke (note_lines 1 notes) (exits.Premise (length notes + 1) (what_broke what))
 
 abbrev pub run_verdict : {S : Type 0} → Rules S → Run S → Verdict
 run_verdict R r = told_verdict R r.notes r.end
 
 -- a schedule runs from the start of its world
 abbrev pub schedule_verdict : Setup → Result (List Line) TextFault → Verdict
-schedule_verdict setup (Err fault) = Refused (exits.Text fault.line fault.rule)
+schedule_verdict setup (Err fault) = Verdict.Refused (exits.Text fault.line fault.rule)
 schedule_verdict setup (Ok schedule) = run_verdict space_rules (run space_rules schedule (start space_rules setup))
 
 abbrev pub group_verdict : Result ReplayGroup ℕ → List ℕ → Verdict
-group_verdict (Err field) text = Refused (exits.Group field)
+group_verdict (Err field) text = Verdict.Refused (exits.Group field)
 group_verdict (Ok group) text =
-    if nat_lt limit (length text) then Refused exits.TooLong else schedule_verdict (setup_of group) (schedule_of text)
+    if nat_lt limit (length text) then Verdict.Refused exits.TooLong else schedule_verdict (setup_of group) (schedule_of text)
 
 -- the group is judged before the schedule is read
 abbrev pub replay_verdict : List ℕ → List ℕ → Verdict
 replay_verdict group schedule =
-    if nat_lt limit (length group) then Refused exits.TooLong else group_verdict (group_of group) schedule
+    if nat_lt limit (length group) then Verdict.Refused exits.TooLong else group_verdict (group_of group) schedule
 
 -- ---- made schedules
 
 -- what a run of so many asks came to, and the agreed list; nothing is written before an event that isn't honest
 abbrev pub summed_up : {S : Type 0} → ℕ → List Note → End S → Verdict
-summed_up asks notes (End.At w) = Report (summary_of asks notes ++ agreed_of w)
-summed_up asks notes (End.Stopped what) = Refused (exits.Premise (length notes + 1) (what_broke what))
+summed_up asks notes (End.At w) = Verdict.Report (summary_of asks notes ++ agreed_of w)
+summed_up asks notes (End.Stopped what) = Verdict.Refused (exits.Premise (length notes + 1) (what_broke what))
 
 abbrev pub sum_verdict : {S : Type 0} → ℕ → Run S → Verdict
 sum_verdict asks r = summed_up asks r.notes r.end
@@ -92,11 +93,13 @@ make_verdict number asks = sum_verdict asks (run space_rules (made_lines number 
 -- ---- all commands
 
 abbrev pub command_verdict : Held → Result Command ℕ → Verdict
-command_verdict files (Err word) = Refused (exits.Usage word)
+command_verdict files (Err word) = Verdict.Refused (exits.Usage word)
 command_verdict files (Ok (Command.Space script)) = space_verdict (content_of files script)
 command_verdict files (Ok (Command.Replay group schedule)) = replay_verdict (content_of files group) (content_of files schedule)
-command_verdict files (Ok (Command.Keys seed by height)) = Report (key_file seed by height)
+command_verdict files (Ok (Command.Keys seed by height)) = Verdict.Report (key_file seed by height)
 command_verdict files (Ok (Command.Make number asks)) = make_verdict number asks
+command_verdict files (Ok (Command.Node group secret id turns)) = files_verdict (node_start id (content_of files group) (content_of files secret))
+command_verdict files (Ok (Command.Ask group secret id turns op)) = files_verdict (asker_start id (content_of files group) (content_of files secret))
 
 -- words are judged first, then the files that they name, each before the next is read
 abbrev pub verdict : List (List ℕ) → Held → Verdict
@@ -104,8 +107,10 @@ verdict words files = command_verdict files (command_of words)
 
 -- the verdict where no file is named
 abbrev pub own_verdict : Result Command ℕ → Option Verdict
-own_verdict (Err word) = Some (Refused (exits.Usage word))
+own_verdict (Err word) = Some (Verdict.Refused (exits.Usage word))
 own_verdict (Ok (Command.Space script)) = None
 own_verdict (Ok (Command.Replay group schedule)) = None
-own_verdict (Ok (Command.Keys seed by height)) = Some (Report (key_file seed by height))
+own_verdict (Ok (Command.Keys seed by height)) = Some (Verdict.Report (key_file seed by height))
 own_verdict (Ok (Command.Make number asks)) = Some (make_verdict number asks)
+own_verdict (Ok (Command.Node group secret id turns)) = None
+own_verdict (Ok (Command.Ask group secret id turns op)) = None

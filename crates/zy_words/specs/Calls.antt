@@ -11,6 +11,8 @@ use Rattle.zy_tuple.specs.Values.{IsOp}
 use Rattle.zy_tuple.specs.declared.values.Op.{Op}
 use Rattle.zy_words.specs.Words.{Command, Named, Turns, asked, op_alone, texts}
 use Rattle.zy_words.specs.declared.hosted.Names.{Names}
+use Rattle.zy_words.specs.declared.hosted.OpFault.{OpFault}
+use Rattle.zy_words.specs.declared.hosted.OpFault.TheVariants as op_faults
 use Rattle.zy_words.specs.declared.hosted.TurnsRead.{TurnsRead}
 use Rattle.zy_words.specs.declared.words.Command as commands
 use Rattle.zy_words.specs.Ends.{AppendsFront, limit, is_read_fault, is_write_fault}
@@ -94,8 +96,7 @@ IsTurnsRead read (Ok turns) = read ≡ Ok (record { number = turns.number; other
 IsTurnsRead read (Err word) = read ≡ Err word
 
 -- the operation that a word spells, with no word behind it
-abbrev pub IsOpRead : Result Op ℕ → Result Op Exit → Type 0
+abbrev pub IsOpRead : Result Op ℕ → Result Op OpFault → Type 0
 IsOpRead read (Ok op) = (read ≡ Ok op) × IsOp op
-IsOpRead read (Err (exits.Usage word)) = read ≡ Err word
-IsOpRead read (Err exits.Want) = ⊤
-IsOpRead read (Err exit) = ⊥
+IsOpRead read (Err (op_faults.Word word)) = read ≡ Err word
+IsOpRead read (Err op_faults.Want) = ⊤

@@ -5,7 +5,6 @@ ghost use Rattle.zy_tuple.specs.Reading.{op_read};
 ghost use Rattle.zy_words.specs.Calls.{IsCommand, IsNamed, IsOpRead, IsTurnsRead, named_in};
 ghost use Rattle.zy_words.specs.Words.{ask_op, ask_party, ask_words, client_in, names_of, node_alone, node_party, node_words, op_alone, replica_in, secret_named, texts, turns_of};
 
-use crate::Exit;
 use crate::words::{Command, number_read};
 use std::alloc::Global;
 use zy_base::{ClientId, Party, ReplicaId};
@@ -177,8 +176,16 @@ fn ask_op<'a>(
     })
 }
 
+/// Why no operation is asked for.
+#[derive(Clone, Copy, Debug, PartialEq, Eq)]
+pub enum OpFault {
+    /// The word with this number, counted from 1, is no operation or is too many.
+    Word(u64),
+    Want,
+}
+
 /// The operation that the sixth word spells, with no word behind it.
-pub fn op_read_alone(alloc: Global, op: &str, others: &[String]) -> Result<Op, Exit>
+pub fn op_read_alone(alloc: Global, op: &str, others: &[String]) -> Result<Op, OpFault>
     ensures { IsOpRead (op_alone (op_read op.now) (texts others.now)) result }
 {
     match op_text_read(alloc, op.as_bytes()) {
@@ -186,10 +193,10 @@ pub fn op_read_alone(alloc: Global, op: &str, others: &[String]) -> Result<Op, E
             if others.is_empty() {
                 Ok(op)
             } else {
-                Err(Exit::Usage(7))
+                Err(OpFault::Word(7))
             }
         }
-        Err(LineFault::Rule(_)) => Err(Exit::Usage(6)),
-        Err(LineFault::Want) => Err(Exit::Want),
+        Err(LineFault::Rule(_)) => Err(OpFault::Word(6)),
+        Err(LineFault::Want) => Err(OpFault::Want),
     }
 }

@@ -10,7 +10,7 @@ mod writing;
 
 pub use asks::Asks;
 pub use exit::{Broken, Exit};
-pub use hosted::op_read_alone;
+pub use hosted::{OpFault, op_read_alone};
 pub use reading::read_file;
 pub use words::{Command, command_of};
 pub use writing::write_all;

@@ -23,7 +23,9 @@ impl fmt::Display for FaultText {
             Exit::Premise { event, what } => {
                 write!(f, "premise {} at event {event}", broken_text(what))
             }
+            Exit::LinkFault => write!(f, "link fault"),
             Exit::Want => write!(f, "out of memory"),
+            Exit::TurnsSpent => write!(f, "turns spent"),
             Exit::TooLong => write!(f, "too long"),
         }
     }

@@ -1,0 +1,41 @@
+-- The commands that take turns on a link.
+use Rattle.std.specs.Prelude.{◌≡◌, ◌≢◌, ℕ, Bool, true, false, List, Option, Result, Ok, Err}
+use Rattle.zy_edge.specs.Files.{Held, content_of}
+use Rattle.zy_hosting.specs.Files.{asker_start, node_start}
+use Rattle.zy_hosting.specs.Hosted.{IsAskRun, IsNodeRun, TookAll}
+use Rattle.zy_node.specs.Told.{Outside}
+use Rattle.zy_tuple.specs.Bytes.{op_bytes}
+use Rattle.zy_words.specs.Words.{Command}
+use Rattle.zy_words.specs.declared.exit.Exit.{Exit}
+use Rattle.zy_words.specs.declared.exit.Exit.TheVariants as exits
+
+abbrev pub is_hosted : Result Command ℕ → Bool
+is_hosted (Err word) = false
+is_hosted (Ok (Command.Space script)) = false
+is_hosted (Ok (Command.Replay group schedule)) = false
+is_hosted (Ok (Command.Keys seed by height)) = false
+is_hosted (Ok (Command.Make number asks)) = false
+is_hosted (Ok (Command.Node group secret id turns)) = true
+is_hosted (Ok (Command.Ask group secret id turns op)) = true
+
+-- what a node's turns and an ask's come to over files that are told; other commands hear and send nothing
+abbrev pub IsHosted : Held → Result Command ℕ → Exit → Outside → Outside → Option (List ℕ) → Option (List ℕ) → Type 0
+IsHosted files (Err word) exit from to old new = to ≡ from
+IsHosted files (Ok (Command.Space script)) exit from to old new = to ≡ from
+IsHosted files (Ok (Command.Replay group schedule)) exit from to old new = to ≡ from
+IsHosted files (Ok (Command.Keys seed by height)) exit from to old new = to ≡ from
+IsHosted files (Ok (Command.Make number asks)) exit from to old new = to ≡ from
+IsHosted files (Ok (Command.Node group secret id turns)) exit from to old new =
+    IsNodeRun id (node_start id (content_of files group) (content_of files secret)) turns exit from to old new
+IsHosted files (Ok (Command.Ask group secret id turns op)) exit from to old new =
+    IsAskRun id (asker_start id (content_of files group) (content_of files secret)) (op_bytes op) turns exit from to old new
+
+-- so many turns were taken, where they are spent; no other command ends so
+abbrev pub AreSpent : Result Command ℕ → Exit → ℕ → ℕ → Type 0
+AreSpent (Err word) exit before after = exit ≢ exits.TurnsSpent
+AreSpent (Ok (Command.Space script)) exit before after = exit ≢ exits.TurnsSpent
+AreSpent (Ok (Command.Replay group schedule)) exit before after = exit ≢ exits.TurnsSpent
+AreSpent (Ok (Command.Keys seed by height)) exit before after = exit ≢ exits.TurnsSpent
+AreSpent (Ok (Command.Make number asks)) exit before after = exit ≢ exits.TurnsSpent
+AreSpent (Ok (Command.Node group secret id turns)) exit before after = TookAll turns exit before after
+AreSpent (Ok (Command.Ask group secret id turns op)) exit before after = TookAll turns exit before after
