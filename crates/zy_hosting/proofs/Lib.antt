@@ -1,2 +1,4 @@
 mod Tellings
 mod FileLaws
+mod Exits
+mod Runs
