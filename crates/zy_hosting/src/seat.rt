@@ -1,8 +1,8 @@
 // A party in its place: its core as it begins, and the port from which the group's are counted.
-ghost use Rattle.std.specs.Prelude.{◌≡◌, ◌<◌, ◌≤◌, ◌+◌, ◌^◌, IfOk, length};
+ghost use Rattle.std.specs.Prelude.{◌≡◌, ◌<◌, ◌≤◌, ◌+◌, ◌^◌, false, IfOk, length};
 ghost use Rattle.zy_base.specs.declared.ids.Party.TheVariants as parties;
 ghost use Rattle.zy_group.specs.Members.{AreMembers, IsNodeGroup};
-ghost use Rattle.zy_words.specs.Calls.{IsReading};
+ghost use Rattle.zy_words.specs.Calls.{IsReading, stops_reading};
 ghost use Rattle.zy_hosting.specs.Calls.{IsJudged, Leaves, MayAsk, client_in, replica_in};
 ghost use Rattle.zy_hosting.specs.Files.{asker_of, client_of, node_of, replica_of};
 
@@ -41,6 +41,7 @@ pub(crate) fn node_seat(
     requires leaves { Leaves 0 secret.now }
     ensures judged { IsJudged (node_of id group secret.now) (replica_in result) }
     ensures exit { IsReading result }
+    ensures read { stops_reading result ≡ false }
 {
     let port = group.members.port;
     let key = own_key(alloc, Party::Replica(id), &group.members.keys, secret)?;
@@ -77,6 +78,7 @@ pub(crate) fn ask_seat(
     ensures judged { IsJudged (asker_of id group secret.now) (client_in result) }
     ensures leaf { IfOk result (λ seat. MayAsk seat.client) }
     ensures exit { IsReading result }
+    ensures read { stops_reading result ≡ false }
 {
     let port = group.port;
     let key = own_key(alloc, Party::Client(id), &group.keys, secret)?;
