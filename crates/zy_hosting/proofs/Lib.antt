@@ -1,4 +1,5 @@
 mod Tellings
 mod FileLaws
-mod Exits
 mod Runs
+mod Asks
+pub mod ShortOps

@@ -55,12 +55,16 @@ pub record IsTelling (verdict : Verdict) (exit : Exit) (old new : Option (List �
   pub told : IsTrue (is_telling exit)
   pub count : IsCounted (is_write_fault exit) before after
 
--- how a node or an ask may end whose files are in order
+-- how the turns of a node or of an ask may end
+abbrev pub is_turning : Exit → Bool
+is_turning exits.Done = true
+is_turning exits.TurnsSpent = true
+is_turning exits.WriteFault = true
+is_turning exits.LinkFault = true
+is_turning exits.Want = true
+is_turning exit = false
+
+-- and those whose files are in order, which may be read in vain
 abbrev pub is_hosting : Exit → Bool
 is_hosting exits.ReadFault = true
-is_hosting exits.Done = true
-is_hosting exits.TurnsSpent = true
-is_hosting exits.WriteFault = true
-is_hosting exits.LinkFault = true
-is_hosting exits.Want = true
-is_hosting exit = false
+is_hosting exit = is_turning exit

@@ -5,7 +5,7 @@ ghost use Rattle.zy_edge.specs.Files.{content_of};
 ghost use Rattle.zy_tuple.specs.Bytes as bytes;
 ghost use Rattle.zy_tuple.specs.Values.{IsOp};
 ghost use Rattle.zy_words.specs.Ends.{IsAnswer, IsWritten, Verdict, is_link_fault, is_read_fault, is_refusal, is_usage, is_write_fault};
-ghost use Rattle.zy_hosting.specs.Calls.{MayAsk, is_hosting};
+ghost use Rattle.zy_hosting.specs.Calls.{MayAsk, is_hosting, is_turning};
 ghost use Rattle.zy_hosting.specs.Files.{asker_start};
 ghost use Rattle.zy_hosting.specs.Hosted.{IsAskRun, IsAsking, TookAll, files_verdict};
 
@@ -76,7 +76,7 @@ fn ask<S: Sink, L: Link, C: Clock>(
     ensures asking { IsAsking id seat.client op turns result
         (record { mail = L.mail link.old; receives = L.receives link.old; moments = C.moments clock.old }) (record { mail = L.mail link.new; receives = L.receives link.new; moments = C.moments clock.new })
         (S.taken out.old) (S.taken out.new) }
-    ensures hosting { IsTrue (is_hosting result) }
+    ensures turning { IsTrue (is_turning result) }
     ensures refused { IsTrue (is_refusal result) → out.new ≡ out.old }
     ensures write_faults { IsCounted (is_write_fault result) (S.faults out.old) (S.faults out.new) }
     ensures link_faults { IsCounted (is_link_fault result) (L.faults link.old) (L.faults link.new) }
@@ -102,7 +102,7 @@ fn wait<S: Sink, L: Link, C: Clock>(
     ensures asking { IsAsking id client op turns result
         (record { mail = L.mail link.old; receives = L.receives link.old; moments = C.moments clock.old }) (record { mail = L.mail link.new; receives = L.receives link.new; moments = C.moments clock.new })
         (S.taken out.old) (S.taken out.new) }
-    ensures hosting { IsTrue (is_hosting result) }
+    ensures turning { IsTrue (is_turning result) }
     ensures refused { IsTrue (is_refusal result) → out.new ≡ out.old }
     ensures write_faults { IsCounted (is_write_fault result) (S.faults out.old) (S.faults out.new) }
     ensures link_faults { IsCounted (is_link_fault result) (L.faults link.old) (L.faults link.new) }

@@ -3,7 +3,7 @@ ghost use Rattle.std.specs.Prelude.{◌≡◌, IfSome, IsTrue};
 ghost use Rattle.zy_edge.specs.Faults.{IsCounted};
 ghost use Rattle.zy_edge.specs.Files.{content_of};
 ghost use Rattle.zy_words.specs.Ends.{IsAnswer, IsWritten, Verdict, is_link_fault, is_read_fault, is_refusal, is_usage, is_write_fault};
-ghost use Rattle.zy_hosting.specs.Calls.{is_hosting};
+ghost use Rattle.zy_hosting.specs.Calls.{is_hosting, is_turning};
 ghost use Rattle.zy_hosting.specs.Files.{node_start};
 ghost use Rattle.zy_hosting.specs.Hosted.{IsNodeRun, IsServing, TookAll, files_verdict};
 
@@ -64,7 +64,7 @@ fn serve<S: Sink, L: Link, C: Clock>(
     ensures serving { IsServing id seat.replica turns result
         (record { mail = L.mail link.old; receives = L.receives link.old; moments = C.moments clock.old }) (record { mail = L.mail link.new; receives = L.receives link.new; moments = C.moments clock.new })
         (S.taken out.old) (S.taken out.new) }
-    ensures hosting { IsTrue (is_hosting result) }
+    ensures turning { IsTrue (is_turning result) }
     ensures refused { IsTrue (is_refusal result) → out.new ≡ out.old }
     ensures write_faults { IsCounted (is_write_fault result) (S.faults out.old) (S.faults out.new) }
     ensures link_faults { IsCounted (is_link_fault result) (L.faults link.old) (L.faults link.new) }
@@ -87,7 +87,7 @@ fn take_turns<S: Sink, L: Link, C: Clock>(
     ensures serving { IsServing id replica turns result
         (record { mail = L.mail link.old; receives = L.receives link.old; moments = C.moments clock.old }) (record { mail = L.mail link.new; receives = L.receives link.new; moments = C.moments clock.new })
         (S.taken out.old) (S.taken out.new) }
-    ensures hosting { IsTrue (is_hosting result) }
+    ensures turning { IsTrue (is_turning result) }
     ensures refused { IsTrue (is_refusal result) → out.new ≡ out.old }
     ensures write_faults { IsCounted (is_write_fault result) (S.faults out.old) (S.faults out.new) }
     ensures link_faults { IsCounted (is_link_fault result) (L.faults link.old) (L.faults link.new) }
