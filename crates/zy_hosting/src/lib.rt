@@ -10,3 +10,6 @@ mod telling;
 pub use ask::run_ask;
 pub use node::run_node;
 pub use telling::completion_line;
+
+#[cfg(test)]
+mod tests;
