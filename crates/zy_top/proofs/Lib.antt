@@ -1,5 +1,6 @@
 pub mod GroupLaws
 pub mod Headline
+pub mod HostLaws
 pub mod JudgeLaws
 pub mod MadeRuns
 pub mod ReplayLaws

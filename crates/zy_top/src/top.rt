@@ -2,9 +2,8 @@ ghost use Rattle.std.specs.Prelude.{◌≡◌, ◌↔◌, ◌⊎◌, ◌<◌, �
 ghost use Rattle.zy_edge.specs.Faults.{IsCounted, Rose};
 ghost use Rattle.zy_edge.specs.Files.{content_of};
 ghost use Rattle.zy_words.specs.Calls.{exit_of, IsSent, stops_writing};
-ghost use Rattle.zy_words.specs.Ends.{IsAnswer, IsOwnAnswer, IsReport, IsWritten, Verdict, is_foreign, is_link_fault, is_read_fault, is_refusal, is_write_fault};
-ghost use Rattle.zy_hosting.specs.Hosted.{is_end};
-ghost use Rattle.zy_top.specs.Hosting.{AreSpent, IsHosted, is_hosted};
+ghost use Rattle.zy_words.specs.Ends.{IsAnswer, IsOwnAnswer, IsReport, IsWritten, is_foreign, is_link_fault, is_read_fault, is_refusal, is_write_fault};
+ghost use Rattle.zy_top.specs.Hosting.{AreSpent, EndsItself, IsHosted, is_hosted};
 ghost use Rattle.zy_top.specs.Verdict.{own_verdict, space_verdict, verdict};
 ghost use Rattle.zy_top.specs.Keys.{key_file};
 ghost use Rattle.zy_top.specs.Replaying.{IsSafeCommand};
@@ -65,19 +64,18 @@ pub fn zyzzyva<F: Files, S: Sink, L: Link, C: Clock>(
 
     // Over files that are told, a node and an ask send and hear what the run of their turns does, and write what it comes to;
     // after a fault of the link nothing is written, and a front of it was sent. Other commands touch neither link nor clock.
-    ensures hosted { IfSome (F.held files.old) (λ held. IsHosted held (command_of (texts words.now)) result
+    ensures hosted { IsHosted (F.held files.old) (command_of (texts words.now)) result
         (record { mail = L.mail link.old; receives = L.receives link.old; moments = C.moments clock.old })
         (record { mail = L.mail link.new; receives = L.receives link.new; moments = C.moments clock.new })
-        (S.taken out.old) (S.taken out.new)) }
+        (S.taken out.old) (S.taken out.new) }
     ensures alone { (is_hosted (command_of (texts words.now)) ≡ false) → (link.new ≡ link.old) × (clock.new ≡ clock.old) }
 
     // Turns are spent only where all were taken, over any files.
     ensures spent { AreSpent (command_of (texts words.now)) result (L.receives link.old) (L.receives link.new) }
 
     // A node and an ask whose files are in order end by themselves where no object fails.
-    ensures ends { IfSome (F.held files.old) (λ held. (verdict (texts words.now) held ≡ Verdict.Hosted)
-        → ¬ Rose (F.faults files.old) (F.faults files.new) → ¬ Rose (S.faults out.old) (S.faults out.new)
-        → ¬ Rose (L.faults link.old) (L.faults link.new) → IsTrue (is_end result)) }
+    ensures ends { ¬ Rose (F.faults files.old) (F.faults files.new) → ¬ Rose (S.faults out.old) (S.faults out.new)
+        → ¬ Rose (L.faults link.old) (L.faults link.new) → EndsItself (F.held files.old) (command_of (texts words.now)) result }
 
     // Whatever the answer is: in the run that a told group and a told schedule spell, and in the run that a number makes, every
     // world is safe, and the agreed list only grows.
