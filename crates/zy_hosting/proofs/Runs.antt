@@ -67,15 +67,16 @@ module _ (id : ReplicaId) (start : Replica) (turns : ℕ) (exit : Exit) (a b : O
   serving_at : IsServing id start turns exit (at b receives moments) to old new → IsServing id start turns exit (at a receives moments) to old new
   serving_at (inl served) = inl (record {
     last = served.last;
-    run = run_from a b receives moments to bound _ turns _ served.last served.run;
+    run = run_from a b receives moments to bound (replica_rules space_rules) turns (host_of start) served.last served.run;
     answer = served.answer;
     written = served.written;
   })
   serving_at (inr cut) = inr (record { cut = cut.cut; run = runs cut.run; written = cut.written })
     where
-      runs : IsIdle (at b receives moments) to ⊎ IsCutRun _ turns _ (at b receives moments) to → IsIdle (at a receives moments) to ⊎ IsCutRun _ turns _ (at a receives moments) to
+      runs : IsIdle (at b receives moments) to ⊎ IsCutRun (replica_rules space_rules) turns (host_of start) (at b receives moments) to
+          → IsIdle (at a receives moments) to ⊎ IsCutRun (replica_rules space_rules) turns (host_of start) (at a receives moments) to
       runs (inl idle) = inl (idle_from a b receives moments to bound idle)
-      runs (inr cut) = inr (cut_from a b receives moments to bound _ turns _ cut)
+      runs (inr cut) = inr (cut_from a b receives moments to bound (replica_rules space_rules) turns (host_of start) cut)
 
 pub serving_from : (id : ReplicaId) (start : Replica) (turns : ℕ) (exit : Exit) (a b : Option Mail) (r s : ℕ) (moments : Option (List ℕ)) (to : Outside) (old new : Option (List ℕ))
     → StaysAsTold a b → s ≡ r → IsServing id start turns exit (at b s moments) to old new → IsServing id start turns exit (at a r moments) to old new

@@ -1,4 +1,5 @@
 use Rattle.std.proofs.Common.{refl}
+use Rattle.zy_node.specs.declared.asker.Asked.TheVariants as asked
 use Rattle.zy_node.specs.declared.fault.AskFault.TheVariants as ask_faults
 use Rattle.zy_words.specs.declared.exit.Exit.TheVariants as exits
 use Rattle.zy_hosting.proofs.Asks.{cut_asking, may_ask, told_asking}
@@ -11,12 +12,12 @@ unreachable-requires g c =
 pub returns-in-Ok-Done-clause-asking : goal.returns-in-Ok-Done-clause-asking
 returns-in-Ok-Done-clause-asking g c =
     let asks = rw c.in-Ok-Done.field-0-is at c.in-Ok-Done.ensures.asks in
-    told_asking _ _ _ _ _ _ _ _ _ _ _ _ _ c.from.ensures asks c.tell_done.ensures
+    told_asking _ _ _ _ _ _ _ _ _ _ _ _ (asked.Done c.in-Ok-Done.client) c.from.ensures asks c.tell_done.ensures
 
 pub returns-in-Ok-Spent-clause-asking : goal.returns-in-Ok-Spent-clause-asking
 returns-in-Ok-Spent-clause-asking g c =
     let asks = rw c.in-Ok-Spent.field-0-is at c.in-Ok-Spent.ensures.asks in
-    told_asking _ _ _ _ _ _ _ _ _ _ _ _ _ c.from.ensures asks c.tell_spent.ensures
+    told_asking _ _ _ _ _ _ _ _ _ _ _ _ (asked.Spent c.in-Ok-Spent.client) c.from.ensures asks c.tell_spent.ensures
 
 pub returns-in-Err-Link-clause-asking : goal.returns-in-Err-Link-clause-asking
 returns-in-Err-Link-clause-asking g c =
