@@ -141,7 +141,7 @@ module _ {S : Type 0} (s : State S) (r : IsReady s) (fit : IsFit s.views) (cert 
   own : IsWellFormedChange counts s.views.interval (record { by = Replica (record { 0 = 0 }); stmt = next_change (report_of s); sig = [] })
   own = (all_clear counts s.views.interval (record { by = Replica (record { 0 = 0 }); stmt = next_change (report_of s); sig = [] })).0 r.report.keeps_rules
 
-  told_range : IsToldInRange told
+  pub told_range : IsToldInRange told
   told_range = given.1.0.1
 
   told_clients : All (λ (e : Entry). e.client.0 < 64) told.entries

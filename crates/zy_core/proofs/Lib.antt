@@ -4,3 +4,5 @@ pub mod ReadyLemmas
 pub mod RoundLemmas
 pub mod BegunLemmas
 pub mod AdoptLemmas
+pub mod SpecLemmas
+pub mod OthersLemmas

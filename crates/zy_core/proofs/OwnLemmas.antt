@@ -77,6 +77,8 @@ record IsOwnFrom (view place : ℕ) (entry : Option Entry) (head state : Option 
   pub same_view : own.spec.view ≡ own.check.view
   pub same_place : own.spec.place ≡ own.check.place
   pub same_head : own.spec.head ≡ own.check.head
+  pub same_client : own.spec.client ≡ first.client
+  pub same_stamp : own.spec.stamp ≡ first.stamp
 
 own_parts : (view place : ℕ) (entry : Option Entry) (head : Option Digest) (reply : Option (List ℕ)) (state : Option Digest) (own : OwnCheckpoint)
     → own_from view place entry head reply state ≡ Some own → IsOwnFrom view place entry head state own
@@ -97,6 +99,8 @@ own_parts view place (Some e) (Some head) (Some reply) (Some state) own some =
       same_view = subst (λ (o : OwnCheckpoint). o.spec.view ≡ o.check.view) is refl;
       same_place = subst (λ (o : OwnCheckpoint). o.spec.place ≡ o.check.place) is refl;
       same_head = subst (λ (o : OwnCheckpoint). o.spec.head ≡ o.check.head) is refl;
+      same_client = ap (λ (o : OwnCheckpoint). o.spec.client) (sym is);
+      same_stamp = ap (λ (o : OwnCheckpoint). o.spec.stamp) (sym is);
     }
 
 entry_above : (within : Bool) (rest : Option Entry) (e : Entry) → (if within then None else rest) ≡ Some e → within ≡ false
@@ -114,6 +118,12 @@ own_is_last s active not_leaving view is = ap (λ (n : ℕ). record { 0 = n }) i
 module _ {S : Type 0} (R : Rules S) (s : State S) (place : ℕ) where
   pub own_place : ForSome (own_at R s place) (λ own. own.check.place ≡ record { 0 = place })
   own_place own some = (own_parts (own_view s) place _ _ _ _ own some).place_is
+
+  -- its response is to an entry of the history
+  pub own_entry : (own : OwnCheckpoint) → own_at R s place ≡ Some own → (e : Entry) × (entry_in (stretch_of s.kept) place ≡ Some e) × (own.spec.client ≡ e.client) × (own.spec.stamp ≡ e.stamp)
+  own_entry own some =
+      let is = own_parts (own_view s) place _ _ _ _ own some in
+      (is.first, is.entry_is, is.same_client, is.same_stamp)
 
   pub own_ready : ((v : View) → s.views.mode ≡ Active v → s.views.last_view ≡ v) → is_leaving s ≡ false → own_view s < 2 ^ 62 → last_place s.kept < 2 ^ 62 → ForSome (own_at R s place) (IsOwnReady s.kept s.views.last_view)
   own_ready active not_leaving view last own some =

@@ -32,7 +32,7 @@ use Rattle.zy_table.specs.Fetching.{install, installed, state_for, state_heard, 
 use Rattle.zy_adopt.proofs.CommonLemmas.{head_first, head_within}
 use Rattle.zy_adopt.proofs.MeetLemmas.{takes_meets}
 use Rattle.zy_leaving.specs.Follows.{IsSigner}
-use Rattle.zy_finish.specs.Ending.{CanInstall, counted}
+use Rattle.zy_finish.specs.Ending.{IsStableShown, counted}
 use Rattle.zy_finish.specs.Signing.{CanTake, signs_taken}
 use Rattle.zy_finish.proofs.ConfirmLemmas.{adopts}
 use Rattle.zy_finish.proofs.EndLemmas.{counts}
@@ -42,7 +42,7 @@ stated_twice : (other : Check) (checks : List (Signed Check)) → (stated (state
 stated_twice other [] = refl
 stated_twice other (first ∷ rest) = refl
 
-module _ {S : Type 0} (R : Rules S) (s : State S) (w : Waiting) (provider : Signed Change) (point : Point S) (can : CanInstall s provider.stmt.told point w.chosen) where
+module _ {S : Type 0} (R : Rules S) (s : State S) (w : Waiting) (provider : Signed Change) (point : Point S) (can : IsStableShown s provider.stmt.told point w.chosen) where
   abbrev told : Told
   told = provider.stmt.told
 

@@ -94,7 +94,7 @@ confirmed R s new chosen = accept R (record { new = new; chosen = chosen }) (arr
 -- ---- a snapshot comes
 
 -- What is shown is the stable checkpoint of the report, by its proof, and the report has the choice.
-pub record CanInstall {S : Type 0} (s : State S) (told : Told) (point : Point S) (chosen : Chosen) : Type 0 where
+pub record IsStableShown {S : Type 0} (s : State S) (told : Told) (point : Point S) (chosen : Chosen) : Type 0 where
   pub place : point.place ≡ told.stable_place.0
   pub head : point.head ≡ told.stable_head
   pub proof_place : (stated s.board.stable told.checks).place ≡ told.stable_place

@@ -25,7 +25,7 @@ ghost use Rattle.zy_table.specs.Fetching.{installed, state_transfer};
 ghost use Rattle.zy_table.specs.Confirming.{confirmation, new_view, view_certificate, with_confirmation};
 ghost use Rattle.zy_leaving.specs.Carrying.{carried};
 ghost use Rattle.zy_leaving.specs.Follows.{Follows, IsSigner, spent_many};
-ghost use Rattle.zy_finish.specs.Ending.{CanInstall, IsBeganOwed, IsCertOwed, IsNewOwed, IsSoFar, TakesUp, confirmed, counted, finished_by};
+ghost use Rattle.zy_finish.specs.Ending.{IsStableShown, IsBeganOwed, IsCertOwed, IsNewOwed, IsSoFar, TakesUp, confirmed, counted, finished_by};
 ghost use Rattle.zy_finish.specs.Signing.{CanTake, signs_taken, signs_waiting};
 
 use zy_base::Machine;
@@ -62,6 +62,6 @@ pub fn certificates<M: Machine>()
 /// leaves are counted before anything is signed.
 pub fn installations<M: Machine>()
     ensures { (s : State M.State) (w : Waiting) (provider : Signed Change) (point : Point M.State) (place : Place) (bytes : List ℕ) → IsSigner s → s.views.waiting ≡ Some w → slice_get w.cert.new.stmt.changes w.chosen.provider ≡ Some provider → state_cause (wanted_of provider.stmt.told) place bytes ≡ None
-        → point_in M.rules provider.stmt.told.stable_place provider.stmt.told.stable_head bytes ≡ Some point → CanInstall s provider.stmt.told point w.chosen
+        → point_in M.rules provider.stmt.told.stable_place provider.stmt.told.stable_head bytes ≡ Some point → IsStableShown s provider.stmt.told point w.chosen
         → finished M.rules s (state_transfer M.rules s place bytes) ≡ counted s (signs_taken (installed M.rules point provider.stmt.told s) provider.stmt.told w.chosen.place) (goes Taken (take_up M.rules w.cert w.chosen provider.stmt.told (begin (installed M.rules point provider.stmt.told s)))) }
 {}

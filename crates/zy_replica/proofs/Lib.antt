@@ -1,3 +1,2 @@
 mod MemberLemmas
-mod OthersLemmas
 mod ToldLemmas
