@@ -1,4 +1,4 @@
-mod SignLemmas
+pub mod SignLemmas
 mod EndLemmas
 mod ConfirmLemmas
 mod InstallLemmas

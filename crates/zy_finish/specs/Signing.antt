@@ -1,5 +1,5 @@
 -- How many statements an adoption signs: so they are counted before any is signed.
-use Rattle.std.specs.Prelude.{◌≡◌, ℕ, ◌+◌, ◌≤◌, nat_lt, is_some, if◌then◌else◌, length}
+use Rattle.std.specs.Prelude.{◌≡◌, ℕ, ◌+◌, ◌≤◌, nat_lt, is_some, Bool, true, false, if◌then◌else◌, length}
 use Rattle.zy_chain.specs.Stretch.{end_of}
 use Rattle.zy_base.specs.declared.ids.Place.{Place}
 use Rattle.zy_base.specs.declared.ids.View.{View}
@@ -24,6 +24,11 @@ signs_taken s told place = length (checkpoints_between s.kept.interval (stable_t
 abbrev pub signs_waiting : {S : Type 0} → State S → View → Told → ℕ
 signs_waiting s view told =
     (if nat_lt (own_view s) view.0 then 1 else 0) + (if is_some (fetch_said s (wanted_of told)) then 0 else 1)
+
+-- either, by whether it waits
+abbrev pub signs_by : {S : Type 0} → State S → View → Told → Place → Bool → ℕ
+signs_by s view told place true = signs_waiting s view told
+signs_by s view told place false = signs_taken s told place
 
 -- The history that a report gives up to a place can be taken up: both meet at or above both bases, the report comes so
 -- far, the own base is the stable place, and the report's proof is of its stable place.

@@ -1,0 +1,26 @@
+-- Those that proved a checkpoint are asked for its snapshot, by their numbers.
+use Rattle.std.proofs.Common.{◌≡◌, ℕ, suc, nat_eq, Bool, true, false, if◌then◌else◌, List, [], ◌∷◌, ◌++◌, filter, refl, ap, ◌∙◌}
+use Rattle.std.proofs.lemmas.List.Elements.{filter-append}
+use Rattle.zy_base.specs.declared.ids.Party.{Party}
+use Rattle.zy_base.specs.declared.ids.Party.TheVariants.{Replica}
+use Rattle.zy_parts.specs.declared.signed.Signed.{Signed}
+use Rattle.zy_parts.specs.declared.statements.Check.{Check}
+use Rattle.zy_cert.specs.Signers.{has_signer}
+use Rattle.zy_table.specs.Deeds.{others}
+use Rattle.zy_core.proofs.OthersLemmas.{name, kept, others_next}
+
+abbrev pub asked_below : List (Signed Check) → ℕ → ℕ → List Party
+asked_below proof me n = filter (λ by. has_signer by proof) (others me n)
+
+one : (proof : List (Signed Check)) (n : ℕ) (b signs : Bool) → has_signer (name n) proof ≡ signs → filter (λ by. has_signer by proof) (kept b n) ≡ (if b then [] else (if signs then name n ∷ [] else []))
+one proof n true signs is = refl
+one proof n false true is = rw is refl
+one proof n false false is = rw is refl
+
+pub asked_next : (proof : List (Signed Check)) (me n : ℕ)
+    → asked_below proof me (suc n) ≡ asked_below proof me n ++ (if nat_eq n me then [] else (if has_signer (name n) proof then name n ∷ [] else []))
+asked_next proof me n =
+    let p = λ (by : Party). has_signer by proof in
+    ap (filter p) (others_next me n (nat_eq n me) refl)
+    ∙ filter-append p (others me n) (kept (nat_eq n me) n)
+    ∙ ap (λ (xs : List Party). asked_below proof me n ++ xs) (one proof n (nat_eq n me) (has_signer (name n) proof) refl)

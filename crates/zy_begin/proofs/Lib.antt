@@ -1,0 +1,3 @@
+pub mod RespondLemmas
+pub mod BeginLemmas
+pub mod AskLemmas
