@@ -128,6 +128,16 @@ const SHARED: [Report; 3] = [PLAIN, TWO, THREE];
 // For another view.
 const LATER: Report = Report { by: 3, ..BEHIND };
 
+fn owed_by(
+    alloc: Global,
+    machine: &ViewMachine,
+    view: u64,
+    reports: &[Report],
+) -> Result<Due, Fail> {
+    let frame = new_of(alloc, view, reports)?;
+    Ok(due_of(&new_view(alloc, machine, &frame)?))
+}
+
 fn owed_for_new<R: Abort>(
     rt: &R,
     alloc: Global,
@@ -136,8 +146,7 @@ fn owed_for_new<R: Abort>(
     reports: &[Report],
 ) -> Result<Due, Fail> {
     let machine = replica(rt, alloc, own.0, own.1)?;
-    let frame = new_of(alloc, view, reports)?;
-    Ok(due_of(&new_view(alloc, &machine, &frame)?))
+    owed_by(alloc, &machine, view, reports)
 }
 
 // For which view the replica has left, unless it is 0; the new view, its reports, and the cause against it.
@@ -369,24 +378,8 @@ fn confirm<R: Abort>(
     }
 }
 
-// Whose confirmation is heard, for which view and which history, and the answer.
-type Heard = (u8, u64, &'static [u8], Answer);
-
-const BEFORE: [Heard; 7] = [
-    (3, 0, b"xyz", Answer::Refused(Cause::OldView)),
-    (3, 2, b"xy", Answer::Held),
-    (3, 2, b"xy", Answer::Refused(Cause::Repeat)),
-    (3, 1, b"xyz", Answer::Refused(Cause::Repeat)),
-    (1, 1, b"xyz", Answer::Held),
-    (0, 1, b"xyw", Answer::Held),
-    (0, 1, b"xyz", Answer::Refused(Cause::Repeat)),
-];
-
-const AFTER: [Heard; 3] = [
-    (1, 1, b"xyz", Answer::Refused(Cause::Repeat)),
-    (0, 0, b"xyz", Answer::Refused(Cause::OldView)),
-    (0, 2, b"xyz", Answer::Held),
-];
+// Whose confirmation is heard, for which view, place and head, and what it owes.
+type Heard = (u8, At, Due);
 
 fn hear_all<R: Abort>(
     rt: &R,
@@ -394,9 +387,8 @@ fn hear_all<R: Abort>(
     machine: &mut ViewMachine,
     rows: &[Heard],
 ) -> Result<(), Fail> {
-    for (by, view, letters, answer) in rows {
-        let due = hear(rt, alloc, machine, *by, end_of(*view, letters))?;
-        assert_eq!(rt; due, only(*answer));
+    for (by, at, due) in rows {
+        assert_eq!(rt; hear(rt, alloc, machine, *by, *at)?, *due);
     }
     Ok(())
 }
@@ -405,23 +397,34 @@ fn hear_all<R: Abort>(
 #[test]
 fn confirmations_are_judged(rt: HostRuntime) -> Result<(), Fail> {
     let alloc = rt.alloc();
-    let mut machine = replica(&rt, alloc, 2, 0)?;
     let choice = chosen(0, b"xyz");
-    hear_all(&rt, alloc, &mut machine, &BEFORE)?;
+    let (old, repeat) = (refused(Cause::OldView), refused(Cause::Repeat));
+    let other = refused(Cause::OtherHistory(head_of(b"xyz"), head_of(b"xyw")));
+    let before = [
+        (3, end_of(0, b"xyz"), old),
+        (3, end_of(2, b"xy"), only(Answer::Held)),
+        (3, end_of(2, b"xy"), repeat),
+        (3, end_of(1, b"xyz"), repeat),
+        (1, end_of(1, b"xyz"), only(Answer::Held)),
+        (0, end_of(1, b"xyw"), only(Answer::Held)),
+        (0, end_of(1, b"xyz"), repeat),
+    ];
+    let adopted = (Answer::Taken, None, None, Some((View(1), choice, 3)), 0);
+    let after = [
+        (0, end_of(1, b"xyw"), other),
+        (0, (1, 2, head_of(b"xyz")), refused(Cause::Unmatched)),
+        (0, end_of(1, b"xyz"), adopted),
+        (1, end_of(1, b"xyz"), repeat),
+        (0, end_of(0, b"xyz"), old),
+        (0, end_of(2, b"xyz"), only(Answer::Held)),
+    ];
+    let mut machine = replica(&rt, alloc, 2, 0)?;
+    hear_all(&rt, alloc, &mut machine, &before)?;
     let due = confirm(&rt, alloc, &mut machine, 1, &CERTIFIED)?;
     assert_eq!(rt; due, (Answer::Taken, Some(View(1)), Some(choice), None, 2));
-    let due = hear(&rt, alloc, &mut machine, 0, end_of(1, b"xyw"))?;
-    let other = Cause::OtherHistory(head_of(b"xyz"), head_of(b"xyw"));
-    assert_eq!(rt; due, refused(other));
-    let due = hear(&rt, alloc, &mut machine, 0, (1, 2, head_of(b"xyz")))?;
-    assert_eq!(rt; due, refused(Cause::Unmatched));
-    let due = hear(&rt, alloc, &mut machine, 0, end_of(1, b"xyz"))?;
-    let adopted = Some((View(1), choice, 3));
-    assert_eq!(rt; due, (Answer::Taken, None, None, adopted, 0));
-    hear_all(&rt, alloc, &mut machine, &AFTER)?;
-    let frame = new_of(alloc, 1, &CERTIFIED)?;
-    let again = new_view(alloc, &machine, &frame)?;
-    assert_eq!(rt; due_of(&again), refused(Cause::Repeat));
+    hear_all(&rt, alloc, &mut machine, &after)?;
+    let again = owed_by(alloc, &machine, 1, &CERTIFIED)?;
+    assert_eq!(rt; again, repeat);
     Ok(())
 }
 
