@@ -1,3 +1,4 @@
 pub mod RespondLemmas
 pub mod BeginLemmas
 pub mod AskLemmas
+pub mod ArriveLemmas

@@ -1,7 +1,6 @@
 //! The choice of a certificate is adopted: it is taken up, or waits, as it was judged before anything was done.
 
 ghost use Rattle.std.specs.Prelude.{◌≡◌, ◌≤◌, ◌+◌, length, nat_lt, is_some, slice_get, if◌then◌else◌, Some, IsSome, IfOk};
-ghost use Rattle.zy_base.specs.declared.cause.Cause.{Cause};
 ghost use Rattle.zy_parts.specs.declared.reports.Change.{Change};
 ghost use Rattle.zy_parts.specs.declared.signed.Signed.{Signed};
 ghost use Rattle.zy_vframes.specs.declared.frame.ViewCert.{ViewCert as Certificate};

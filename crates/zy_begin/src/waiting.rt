@@ -1,6 +1,7 @@
 //! A view certificate waits for the snapshot on which its history stands.
 
-ghost use Rattle.std.specs.Prelude.{◌≡◌, ◌≤◌, ◌<◌, ◌+◌, ◌^◌, ◌++◌, ◌∷◌, [], map, nat_eq, nat_lt, is_some, slice_get, if◌then◌else◌, Some, IfOk, OnOk};
+ghost use Rattle.std.specs.Prelude.{◌≡◌, ◌≤◌, ◌<◌, ◌+◌, ◌^◌, ◌++◌, ◌∷◌, [], List, map, nat_eq, nat_lt, is_some, slice_get, if◌then◌else◌, Some, IfOk, OnOk};
+ghost use Rattle.zy_base.specs.declared.ids.Party.{Party};
 ghost use Rattle.zy_base.specs.declared.ids.Party.TheVariants as parties;
 ghost use Rattle.zy_parts.specs.Numbers as numbers;
 ghost use Rattle.zy_parts.specs.Reports.{IsFetchInRange, fetch_fields};
@@ -17,7 +18,7 @@ ghost use Rattle.zy_table.specs.Deeds.{act as acting};
 ghost use Rattle.zy_core.specs.Ready.{IsWaitingReady};
 ghost use Rattle.zy_table.specs.Beginning.{arrive as arriving, ask_each as asking_each, asked_of as those_asked, fetch_said, fetch_to as fetching, send_to_each as sent_to_each, wait_for as waiting_for, wanted_of as wanted};
 
-use zy_base::{Items, Machine, Party, ReplicaId, View, Want};
+use zy_base::{Items, Machine, Party, ReplicaId, Stood, View, Want};
 use zy_change::Chosen;
 use zy_core::{Core, Progress, signed_copy, told_in};
 use zy_leaving::leave_alone;
@@ -25,13 +26,19 @@ use zy_parts::{Check, Fetch, Signed, Told};
 use zy_table::{AnyFrame, Body, Sent, To};
 use zy_vframes::{ViewCert, ViewFrame};
 
+fn is_below<M: Machine>(core: &Core<M>, view: View) -> bool
+    ensures { result ≡ nat_lt (own_view core.now) view.0 }
+{
+    core.view() < view
+}
+
 /// A view above the own one is left for; no reports are collected for it. There is a leaf where it is.
 pub fn arrive<M: Machine>(progress: Progress<M>, view: View) -> Result<Progress<M>, Want>
     requires leaf { (if nat_lt (own_view progress.state) view.0 then 1 else 0) ≤ leaves_of progress.state }
     requires range { view.0 < 2 ^ 62 }
     ensures { IfOk result (λ g. g ≡ arriving M.rules view progress) }
 {
-    if progress.core.views().view() < view {
+    if is_below(&progress.core, view) {
         leave_alone(progress, view)
     } else {
         Ok(progress)
@@ -112,7 +119,27 @@ fn send_to_each<M: Machine>(
     }
 }
 
-// It is signed, said and kept for good.
+// It is kept for good, and said.
+fn keep_fetch<M: Machine>(
+    progress: Progress<M>,
+    said: Signed<Fetch>,
+    stood: Stood,
+) -> Result<Progress<M>, Want>
+    requires { IsSignedInRange IsFetchInRange said }
+    ensures { IfOk result (λ g. g ≡ acting (acts.Says (record { body = bodies.Fetch said.stmt; stood = stood })) (record progress { state = record progress.state { fetches = progress.state.fetches ++ said ∷ [] } })) }
+{
+    let fetch = said.stmt;
+    let Progress { core, deeds } = progress;
+    match core.keep_fetch(said) {
+        Ok(core) => Progress { core, deeds }.says(Body::Fetch(fetch), stood),
+        Err(want) => {
+            drop(deeds);
+            Err(want)
+        }
+    }
+}
+
+// It is signed, kept and said.
 fn sign_fetch<M: Machine>(
     progress: Progress<M>,
     fetch: Fetch,
@@ -126,15 +153,7 @@ fn sign_fetch<M: Machine>(
     let stood = progress.core.stood();
     let (progress, said) = progress.seal(fetch)?;
     let copy = signed_copy(&said)?;
-    let Progress { core, deeds } = progress;
-    let kept = match core.keep_fetch(copy) {
-        Ok(core) => Progress { core, deeds }.says(Body::Fetch(fetch), stood),
-        Err(want) => {
-            drop(deeds);
-            Err(want)
-        }
-    };
-    match kept {
+    match keep_fetch(progress, copy, stood) {
         Ok(progress) => Ok((progress, said)),
         Err(want) => {
             drop(said);
@@ -150,6 +169,7 @@ fn fetch_for<M: Machine>(
 ) -> Result<(Progress<M>, Signed<Fetch>), Want>
     requires leaf { (if is_some (fetch_said progress.state fetch) then 0 else 1) ≤ leaves_of progress.state }
     requires range { IsFetchInRange fetch }
+    ensures asks { (parties : List Party) → IfOk result (λ r. sent_to_each r.1 parties r.0 ≡ asking_each M.rules fetch (fetch_said progress.state fetch) parties progress) }
     ensures range { IfOk result (λ r. IsSignedInRange IsFetchInRange r.1) }
 {
     match progress.core.fetch_said(&fetch)? {
@@ -180,7 +200,8 @@ fn wanted_by<M: Machine>(
     cert: &ViewCert,
     chosen: &Chosen,
 ) -> Result<(Fetch, Vec<Party>), Want>
-    requires { IsCertified core.now.views.counts core.now.views.interval cert.now chosen.now }
+    requires certified { IsCertified core.now.views.counts core.now.views.interval cert.now chosen.now }
+    requires ready { IsWaitingReady (record { cert = cert.now; chosen = chosen.now }) }
     ensures wanted { (provider : IsSigned Change) → slice_get cert.now.new.stmt.changes chosen.now.provider ≡ Some provider → IfOk result (λ r. r.0 ≡ wanted provider.stmt.told) }
     ensures asked { (provider : IsSigned Change) → slice_get cert.now.new.stmt.changes chosen.now.provider ≡ Some provider → IfOk result (λ r. r.1.items ≡ those_asked core.now provider.stmt.told.checks) }
     ensures range { IfOk result (λ r. IsFetchInRange r.0) }

@@ -16,13 +16,12 @@ use Rattle.zy_parts.specs.declared.reports.Told.{Told}
 use Rattle.zy_vframes.specs.declared.frame.ViewCert.{ViewCert}
 use Rattle.zy_check.specs.Board.{with_stable}
 use Rattle.zy_exec.proofs.ReplayLemmas.{place-along}
-use Rattle.zy_exec.proofs.SettleLemmas.{settled_end}
+use Rattle.zy_exec.proofs.SettleLemmas.{settled_end, settled_place}
 use Rattle.zy_exec.specs.Kept.{Kept, last_place, reply_in, stretch_of}
 use Rattle.zy_exec.specs.Replay.{along}
 use Rattle.zy_exec.specs.Shots.{snapshot_in}
 use Rattle.zy_evidence.specs.Reading as reports
 use Rattle.zy_change.specs.declared.kept.Chosen.{Chosen}
-use Rattle.zy_table.proofs.BeginningLemmas.{begins_at_stable}
 use Rattle.zy_table.specs.declared.kept.OwnCheckpoint.{OwnCheckpoint}
 use Rattle.zy_table.specs.State.{State, own_view}
 use Rattle.zy_table.specs.Standing.{IsOnePlace}
@@ -115,21 +114,31 @@ module _ {S : Type 0} (R : Rules S) (g : Going S) (cert : ViewCert) (chosen : Ch
   unfolding taken_over
   over_base = refl
 
-  begun_interval : begun.state.kept.interval ≡ s.kept.interval
+  pub begun_interval : begun.state.kept.interval ≡ s.kept.interval
   begun_interval =
       cond_both (nat_lt s.board.stable.place.0 told.stable_place.0) (settled_at R told.stable_place.0 told.checks (record s { kept = over })) (record s { kept = over })
       (λ (t : State S). t.kept.interval ≡ s.kept.interval) (λ further. over_interval) (λ nearer. over_interval)
 
-  begun_stable : begun.state.board.stable.place.0 ≡ stable_then s told
+  pub begun_stable : begun.state.board.stable.place.0 ≡ stable_then s told
   unfolding with_stable
-  begun_stable = by (nat_lt s.board.stable.place.0 told.stable_place.0)
+  begun_stable = by (nat_lt s.board.stable.place.0 told.stable_place.0) refl
     where
-      by : (b : Bool) → (if b then settled_at R told.stable_place.0 told.checks (record s { kept = over }) else record s { kept = over }).board.stable.place.0 ≡ (if b then told.stable_place.0 else s.board.stable.place.0)
-      by true = ap (λ (p : Place). p.0) can.proof
-      by false = refl
+      by : (b : Bool) → nat_lt s.board.stable.place.0 told.stable_place.0 ≡ b
+          → (if b then settled_at R told.stable_place.0 told.checks (record s { kept = over }) else record s { kept = over }).board.stable.place.0 ≡ (if b then told.stable_place.0 else s.board.stable.place.0)
+      by true further = ap (λ (p : Place). p.0) (can.proof (ltb-true _ _ further))
+      by false nearer = refl
+
+  begun_at : begun.state.kept.base.place ≡ begun.state.board.stable.place.0
+  unfolding with_stable
+  begun_at =
+      let end = taken_end (reports.stretch_of told) chosen.place.0 s.kept can.meets can.end in
+      cond_both (nat_lt s.board.stable.place.0 told.stable_place.0) (settled_at R told.stable_place.0 told.checks (record s { kept = over })) (record s { kept = over })
+      (λ (t : State S). t.kept.base.place ≡ t.board.stable.place.0)
+      (λ further. settled_place R over told.stable_place.0 (omega (arith, over_base, can.base, ltb-true _ _ further)) (omega (arith, end, can.meets.told_base, can.meets.up_to)) ∙ ap (λ (p : Place). p.0) (sym (can.proof (ltb-true _ _ further))))
+      (λ nearer. over_base ∙ can.base)
 
   begun_one : IsOnePlace begun.state
-  begun_one = begins_at_stable R s cert chosen told (sym can.base) can.proof can.meets.own_base can.meets.own_end can.meets.told_base
+  begun_one = record { kept = begun_at; orders = refl }
 
   begun_end : last_place begun.state.kept ≡ chosen.place.0
   begun_end =
@@ -152,7 +161,7 @@ module _ {S : Type 0} (R : Rules S) (g : Going S) (cert : ViewCert) (chosen : Ch
       cond_both (nat_lt s.board.stable.place.0 told.stable_place.0) (settled_at R told.stable_place.0 told.checks (record s { kept = over })) (record s { kept = over })
       (λ (t : State S). t.sealer ≡ s.sealer) (λ further. refl) (λ nearer. refl)
 
-  as_counted : length places ≡ signs_taken s told chosen.place
+  pub as_counted : length places ≡ signs_taken s told chosen.place
   as_counted =
       ap (λ (interval : ℕ). length (checkpoints_between interval begun.state.board.stable.place.0 chosen.place.0)) begun_interval
       ∙ ap (λ (stable : ℕ). length (checkpoints_between s.kept.interval stable chosen.place.0)) begun_stable
