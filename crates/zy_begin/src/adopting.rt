@@ -16,9 +16,10 @@ ghost use Rattle.zy_table.specs.Adopting.{verdict_of};
 ghost use Rattle.zy_table.specs.Leaving.{goes};
 ghost use Rattle.zy_table.specs.Beginning.{adopt as adopting, certify as certifying};
 ghost use Rattle.zy_finish.specs.Signing.{signs_by};
+ghost use Rattle.zy_begin.specs.Out.{out_of};
 
 use crate::beginning::take_up;
-use crate::waiting::wait_for;
+use crate::waiting::{view_of, wait_for};
 use zy_adopt::judge;
 use zy_base::{Answer, Machine, Want};
 use zy_change::Chosen;
@@ -55,10 +56,32 @@ pub fn adopt<M: Machine>(
     requires leaves { (provider : Signed Change) → slice_get cert.new.stmt.changes chosen.provider ≡ Some provider → signs_by progress.state cert.new.stmt.view provider.stmt.told chosen.place waits ≤ leaves_of progress.state }
     ensures { IfOk result (λ m. adopting M.rules cert chosen progress ≡ goes m.answer (record { state = m.state; deeds = m.deeds })) }
 {
+    let _own = view_of(&progress.core);
     if waits {
         Ok(wait_for(progress, cert, chosen)?.ends(Answer::Held))
     } else {
         Ok(take_up(progress, cert, chosen)?.ends(Answer::Taken))
+    }
+}
+
+// The certificate of the new view that it confirmed, with its choice: it moves out of what is kept, or is copied if it
+// waits.
+fn certificate_out<M: Machine>(
+    core: Core<M>,
+    waits: bool,
+) -> Result<(Core<M>, ViewCert, Chosen), Want>
+    requires { IsSome (certificate core.views) }
+    ensures core { IfOk result (λ r. r.0 ≡ out_of core waits) }
+    ensures cert { IfOk result (λ r. certificate core.views ≡ Some r.1) }
+    ensures chosen { IfOk result (λ r. core.views.accepted ≡ Some (record { new = r.1.new; chosen = r.2 })) }
+    ensures certified { IfOk result (λ r. IsCertified core.views.counts core.views.interval r.1 r.2) }
+    ensures sends { IfOk result (λ r. CanBeSent (sent.View (frames.ViewCert r.1))) }
+{
+    if waits {
+        let (cert, chosen) = core.certified()?;
+        Ok((core, cert, chosen))
+    } else {
+        core.take_certified()
     }
 }
 
@@ -72,12 +95,8 @@ pub fn certify<M: Machine>(progress: Progress<M>, waits: bool) -> Result<Moved<M
     ensures { IfOk result (λ m. certifying M.rules m.answer progress ≡ goes m.answer (record { state = m.state; deeds = m.deeds })) }
 {
     let Progress { core, deeds } = progress;
-    if waits {
-        let (cert, chosen) = core.certified()?;
-        return adopt(Progress { core, deeds }, cert, chosen, true);
-    }
-    match core.take_certified() {
-        Ok((core, cert, chosen)) => adopt(Progress { core, deeds }, cert, chosen, false),
+    match certificate_out(core, waits) {
+        Ok((core, cert, chosen)) => adopt(Progress { core, deeds }, cert, chosen, waits),
         Err(want) => {
             drop(deeds);
             Err(want)

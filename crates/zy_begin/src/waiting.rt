@@ -10,12 +10,12 @@ ghost use Rattle.zy_parts.specs.declared.reports.Change.{Change};
 ghost use Rattle.zy_parts.specs.declared.signed.Signed.{Signed as IsSigned};
 ghost use Rattle.zy_cert.specs.Signers.{has_signer as signed_by};
 ghost use Rattle.zy_seal.specs.Sealing.{sealed_by};
-ghost use Rattle.zy_change.specs.Fit.{IsCertified};
+ghost use Rattle.zy_change.specs.Fit.{IsCertified, IsFit};
 ghost use Rattle.zy_table.specs.declared.deeds.Act.TheVariants as acts;
 ghost use Rattle.zy_table.specs.declared.deeds.Body.TheVariants as bodies;
 ghost use Rattle.zy_table.specs.State.{leaves_of, own_view, spent, stood_of};
 ghost use Rattle.zy_table.specs.Deeds.{act as acting};
-ghost use Rattle.zy_core.specs.Ready.{IsWaitingReady};
+ghost use Rattle.zy_core.specs.Ready.{IsReady, IsWaitingReady};
 ghost use Rattle.zy_table.specs.Beginning.{arrive as arriving, ask_each as asking_each, asked_of as those_asked, fetch_said, fetch_to as fetching, send_to_each as sent_to_each, wait_for as waiting_for, wanted_of as wanted};
 
 use zy_base::{Items, Machine, Party, ReplicaId, Stood, View, Want};
@@ -26,10 +26,19 @@ use zy_parts::{Check, Fetch, Signed, Told};
 use zy_table::{AnyFrame, Body, Sent, To};
 use zy_vframes::{ViewCert, ViewFrame};
 
+// Its view. Beside it what holds of every replica.
+pub(crate) fn view_of<M: Machine>(core: &Core<M>) -> View
+    ensures view { result.0 ≡ own_view core.now }
+    ensures ready { IsReady core.now }
+    ensures fit { IsFit core.now.views }
+{
+    core.views().view()
+}
+
 fn is_below<M: Machine>(core: &Core<M>, view: View) -> bool
     ensures { result ≡ nat_lt (own_view core.now) view.0 }
 {
-    core.view() < view
+    view_of(core) < view
 }
 
 /// A view above the own one is left for; no reports are collected for it. There is a leaf where it is.

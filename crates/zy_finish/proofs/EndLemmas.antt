@@ -1,5 +1,5 @@
 -- What a step comes to with the view that begins at its end.
-use Rattle.std.proofs.Common.{◌≡◌, ◌+◌, ◌<◌, ℕ, nat_lt, nat_le, Bool, true, false, if◌then◌else◌, List, ◌++◌, ◌∷◌, [], Option, Some, None, Ok, Err, refl, sym, ap, ◌∙◌, subst, arith}
+use Rattle.std.proofs.Common.{◌≡◌, ◌+◌, ℕ, nat_lt, nat_le, Bool, true, false, if◌then◌else◌, List, ◌++◌, ◌∷◌, [], Option, Some, None, Ok, Err, refl, sym, ap, ◌∙◌, subst, arith}
 use Rattle.std.specs.Prelude.{slice_get}
 use Rattle.std.specs.List.{list_any}
 use Rattle.std.specs.Option.{ForSome}
@@ -93,7 +93,7 @@ module _ {S : Type 0} (R : Rules S) where
                 meets = subst (λ (k : Kept S). Meets (stretch_of a.told) a.chosen.place.0 k) (sym far.kept) can.meets;
                 end = can.end;
                 base = ap (λ (k : Kept S). k.base.place) far.kept ∙ can.base ∙ ap (λ (c : Check). c.place.0) (sym far.stable);
-                proof = λ above. ap (λ (c : Check). (stated c a.told.checks).place) far.stable ∙ can.proof (subst (λ (c : Check). c.place.0 < a.told.stable_place.0) far.stable above);
+                proof = λ further. ap (λ (c : Check). (stated c a.told.checks).place) far.stable ∙ can.proof (ap (λ (c : Check). nat_lt c.place.0 a.told.stable_place.0) (sym far.stable) ∙ further);
               }
 
   -- ---- what is carried out changes neither the history nor the stable checkpoint
@@ -130,7 +130,7 @@ module _ {S : Type 0} (R : Rules S) where
       let three = sent_stays owed.send given in
       record { kept = three.kept ∙ two.kept ∙ one.kept; stable = three.stable ∙ two.stable ∙ one.stable }
 
-  carried_far : (s : State S) (more : ℕ) (owed : Owed) (g : Going S) → IsSoFar s more g → (carried R owed g).state.sealer ≡ spent_many owed.signs g.state.sealer → IsSoFar s (more + owed.signs) (carried R owed g)
+  pub carried_far : (s : State S) (more : ℕ) (owed : Owed) (g : Going S) → IsSoFar s more g → (carried R owed g).state.sealer ≡ spent_many owed.signs g.state.sealer → IsSoFar s (more + owed.signs) (carried R owed g)
   carried_far s more owed g far spends =
       let same = carried_stays owed g in
       record {
