@@ -1,5 +1,5 @@
 -- The choice of a certificate is adopted as it was judged.
-use Rattle.std.proofs.Common.{◌≡◌, ℕ, ◌<◌, ◌≤◌, nat_lt, nat_le, Bool, true, false, if◌then◌else◌, List, [], ◌∷◌, length, Option, Some, None, Result, Ok, Err, IfOk, refl, sym, ap, ◌∙◌, subst, arith}
+use Rattle.std.proofs.Common.{◌≡◌, ℕ, ◌<◌, ◌≤◌, nat_lt, nat_le, Bool, true, false, if◌then◌else◌, List, [], ◌∷◌, Option, Some, None, Result, Ok, Err, IfOk, refl, sym, ap, ◌∙◌, subst, arith}
 use Rattle.std.specs.Prelude.{slice_get}
 use Rattle.std.proofs.lemmas.Bool.{leb-false}
 use Rattle.std.proofs.lemmas.Option.{same_Some}
@@ -114,10 +114,13 @@ module _ {S : Type 0} (R : Rules S) (cert : ViewCert) (chosen : Chosen) (c : Sig
     where
       over : State S → State S
       over s = record s { kept = taken_over (stretch_of told) chosen.place.0 s.kept }
+
       begun : Bool → State S → State S
       begun b s = active_by cert chosen (if b then settled_at R told.stable_place.0 told.checks (over s) else over s)
+
       done : Bool → State S → Going S
       done b s = act (adoption_of R cert.new.stmt.view told chosen.place s.kept) (record g { state = begun b s })
+
       by : (b : Bool) → done b (out_of g.state false) ≡ done b g.state
       by true = refl
       by false = refl

@@ -1,14 +1,10 @@
 -- What stays as a view begins: the key, and how many places lie between two snapshots.
-use Rattle.std.proofs.Common.{◌≡◌, ℕ, ◌≤◌, nat_lt, Bool, true, false, if◌then◌else◌, List, length, Option, Some, refl, sym, ap, ◌∙◌, subst}
-use Rattle.std.specs.Prelude.{slice_get, IfOk}
+use Rattle.std.proofs.Common.{◌≡◌, ℕ, ◌≤◌, nat_lt, Bool, true, false, if◌then◌else◌, List, length, refl, ap}
 use Rattle.zy_base.specs.Machine.{Rules}
 use Rattle.zy_base.specs.declared.ids.Place.{Place}
-use Rattle.zy_parts.specs.declared.signed.Signed.{Signed}
-use Rattle.zy_parts.specs.declared.reports.Change.{Change}
 use Rattle.zy_parts.specs.declared.reports.Told.{Told}
 use Rattle.zy_evidence.specs.Reading.{stretch_of}
 use Rattle.zy_vframes.specs.declared.frame.ViewCert.{ViewCert}
-use Rattle.zy_seal.specs.Sealing.{SealerState}
 use Rattle.zy_change.specs.declared.kept.Chosen.{Chosen}
 use Rattle.zy_table.specs.State.{State, leaves_of}
 use Rattle.zy_table.specs.declared.deeds.Act.TheVariants.{Adopts}

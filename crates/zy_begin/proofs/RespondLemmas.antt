@@ -1,5 +1,5 @@
 -- The checkpoints of a history are answered one after the other.
-use Rattle.std.proofs.Common.{◌≡◌, ℕ, suc, zero, ◌+◌, ◌-◌, ◌%◌, ◌<◌, ◌≤◌, nat_eq, Bool, true, false, if◌then◌else◌, List, [], ◌∷◌, length, filter, Option, Some, None, refl, sym, ap, ◌∙◌, subst, arith}
+use Rattle.std.proofs.Common.{◌≡◌, ℕ, suc, ◌+◌, ◌-◌, ◌%◌, ◌≤◌, nat_eq, Bool, true, false, if◌then◌else◌, List, ◌∷◌, length, filter, Option, Some, None, refl, sym, ◌∙◌, subst, arith}
 use Rattle.std.specs.List.{range_with_len}
 use Rattle.zy_base.specs.Machine.{Rules}
 use Rattle.zy_exec.specs.Kept.{reply_in}
@@ -11,7 +11,7 @@ use Rattle.zy_frames.specs.declared.frame.Frame.TheVariants as frames
 use Rattle.zy_table.specs.declared.deeds.To.TheVariants.{All as ToAll, One}
 use Rattle.zy_table.specs.declared.deeds.Body.TheVariants as bodies
 use Rattle.zy_table.specs.declared.deeds.Act.TheVariants.{Says}
-use Rattle.zy_table.specs.State.{State, is_leaving, leaves_of, spent, stood_of, with_spec}
+use Rattle.zy_table.specs.State.{is_leaving, leaves_of, spent, stood_of, with_spec}
 use Rattle.zy_table.specs.Deeds.{Going, act, send}
 use Rattle.zy_table.specs.Gathering.{own_at, with_own_spec}
 use Rattle.zy_table.specs.Running.{sealed_spec}

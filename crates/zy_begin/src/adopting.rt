@@ -20,26 +20,10 @@ ghost use Rattle.zy_begin.specs.Out.{out_of};
 
 use crate::beginning::take_up;
 use crate::waiting::{view_of, wait_for};
-use zy_adopt::judge;
 use zy_base::{Answer, Machine, Want};
 use zy_change::Chosen;
-use zy_core::{Core, Moved, Progress, told_in};
-use zy_table::Verdict;
+use zy_core::{Core, Moved, Progress};
 use zy_vframes::ViewCert;
-
-/// Whether the choice of a certificate can be taken up, by the report that gives it. Takes no memory.
-pub fn verdict_on<M: Machine>(core: &Core<M>, cert: &ViewCert, chosen: &Chosen) -> Verdict
-    requires { IsCertified core.now.views.counts core.now.views.interval cert.now chosen.now }
-    ensures { (provider : Signed Change) → slice_get cert.now.new.stmt.changes chosen.now.provider ≡ Some provider → result ≡ verdict_of M.rules core.now.kept core.now.board.stable provider.stmt.told chosen.now.place chosen.now.head }
-{
-    judge(
-        core.exec(),
-        core.board().stable_check(),
-        told_in(cert, chosen),
-        chosen.place,
-        &chosen.head,
-    )
-}
 
 /// The choice of a certificate is adopted, where it was judged that it is taken up or waits. There are leaves for all that
 /// this signs.

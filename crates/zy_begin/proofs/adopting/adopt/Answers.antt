@@ -1,4 +1,4 @@
-use Rattle.std.proofs.Common.{◌≡◌, ℕ, ◌<◌, ◌≤◌, Bool, if◌then◌else◌, length, sym, ap, ◌∙◌, subst, arith}
+use Rattle.std.proofs.Common.{◌≡◌, ℕ, ◌≤◌, Bool, if◌then◌else◌, length, sym, ap, ◌∙◌, subst, arith}
 use Rattle.zy_base.specs.declared.step.Answer.TheVariants.{Taken, Held}
 use Rattle.zy_change.proofs.AcceptedLemmas.{accepted_provider}
 use Rattle.zy_change.specs.Fit.{IsFit}

@@ -1,4 +1,4 @@
-use Rattle.std.proofs.Common.{◌≡◌, ℕ, ◌≤◌, Bool, if◌then◌else◌, refl, sym, ap, ◌∙◌, subst}
+use Rattle.std.proofs.Common.{◌≡◌, ℕ, ◌≤◌, if◌then◌else◌, refl, sym, ap, ◌∙◌, subst}
 use Rattle.zy_change.proofs.AcceptedLemmas.{accepted_provider}
 use Rattle.zy_change.specs.Views.{certificate}
 use Rattle.zy_table.specs.declared.deeds.Verdict.TheVariants.{Take, Wait}

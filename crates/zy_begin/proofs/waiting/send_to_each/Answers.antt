@@ -1,4 +1,4 @@
-use Rattle.std.proofs.Common.{sym, subst, List}
+use Rattle.std.proofs.Common.{sym, subst}
 use Rattle.std.specs.List.{AllByRecursion}
 use Rattle.zy_table.specs.Sending.{CanBeSent}
 use Rattle.zy_table.specs.declared.deeds.Sent.{Sent}

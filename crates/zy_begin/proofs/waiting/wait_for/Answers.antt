@@ -1,10 +1,9 @@
-use Rattle.std.proofs.Common.{◌≡◌, ℕ, ◌+◌, ◌≤◌, nat_lt, if◌then◌else◌, IfOk, List, refl, sym, ap, ◌∙◌, subst, arith}
+use Rattle.std.proofs.Common.{◌≡◌, ◌≤◌, if◌then◌else◌, IfOk, List, ap, ◌∙◌, subst, arith}
 use Rattle.std.specs.Prelude.{is_some}
 use Rattle.zy_base.specs.declared.ids.Party.{Party}
 use Rattle.zy_parts.specs.declared.reports.Fetch.{Fetch}
 use Rattle.zy_change.proofs.AcceptedLemmas.{accepted_provider}
-use Rattle.zy_change.specs.Fit.{IsCertified}
-use Rattle.zy_table.specs.State.{State, leaves_of, own_view}
+use Rattle.zy_table.specs.State.{State, leaves_of}
 use Rattle.zy_table.specs.Deeds.{Going}
 use Rattle.zy_table.specs.Beginning.{arrive, ask_each, asked_of, fetch_said, kept_waiting, wait_for, wanted_of}
 use Rattle.zy_begin.proofs.ArriveLemmas.{arrived_fetches, arrived_group, arrived_interval, arrived_leaves, find_said}

@@ -1,7 +1,6 @@
-use Rattle.std.proofs.Common.{◌≡◌, ℕ, ◌<◌, ap, ◌∙◌, arith}
+use Rattle.std.proofs.Common.{◌≡◌, ◌<◌, ap, arith}
 use Rattle.zy_change.proofs.AcceptedLemmas.{accepted_provider}
 use Rattle.zy_core.proofs.AdoptLemmas.{provided}
-use Rattle.zy_table.specs.Beginning.{wanted_of}
 use Rattle.zy_begin.proofs.AdoptingLemmas.{told_in_range}
 use Rattle.zy_begin.proofs.waiting.wanted_by.Goals as goal
 
