@@ -6,7 +6,7 @@ ghost use Rattle.zy_chain.specs.Entries.{IsEntryInRange};
 ghost use Rattle.zy_exec.specs.Kept.{now_of, last_place};
 ghost use Rattle.zy_exec.specs.Snapshot.{snapshot_of};
 ghost use Rattle.zy_table.specs.Step.{step as step_row};
-ghost use Rattle.zy_table.specs.LeavingStep.{leaving_step as leaving_row};
+ghost use Rattle.zy_table.specs.Whole.{whole_step as whole_row};
 ghost use Rattle.zy_table.specs.Deeds.{outgoing_of, said_from, gains_in};
 
 use crate::outcome::finish;
@@ -89,15 +89,14 @@ impl<M: Machine> Replica<M> {
         finish(moves(core, event)?)
     }
 
-    /// What an event makes of the replica where it takes part in changes of view so far: it hears hates, proofs of
-    /// misbehaviour and reports, and leaves its view. None begins yet.
+    /// What an event makes of the replica, changes of view among it: the whole answer table, for every frame and timer.
     pub fn whole_step(self, event: Event) -> Result<Stepped<M>, Want>
-        ensures answer { IfOk result (λ s. s.answer ≡ (leaving_row M.rules self event).answer) }
-        ensures replica { IfOk result (λ s. s.replica ≡ (leaving_row M.rules self event).state) }
-        ensures out { IfOk result (λ s. s.out ≡ outgoing_of (leaving_row M.rules self event).state.me.0 (leaving_row M.rules self event).state.counts.n (leaving_row M.rules self event).deeds.sent) }
-        ensures timers { IfOk result (λ s. s.timers ≡ timers_of (leaving_row M.rules self event).state) }
-        ensures said { IfOk result (λ s. s.said ≡ said_from (parties.Replica (leaving_row M.rules self event).state.me) 0 (leaving_row M.rules self event).deeds.acts) }
-        ensures got { IfOk result (λ s. s.got ≡ gains_in (leaving_row M.rules self event).deeds.acts) }
+        ensures answer { IfOk result (λ s. s.answer ≡ (whole_row M.rules self event).answer) }
+        ensures replica { IfOk result (λ s. s.replica ≡ (whole_row M.rules self event).state) }
+        ensures out { IfOk result (λ s. s.out ≡ outgoing_of (whole_row M.rules self event).state.me.0 (whole_row M.rules self event).state.counts.n (whole_row M.rules self event).deeds.sent) }
+        ensures timers { IfOk result (λ s. s.timers ≡ timers_of (whole_row M.rules self event).state) }
+        ensures said { IfOk result (λ s. s.said ≡ said_from (parties.Replica (whole_row M.rules self event).state.me) 0 (whole_row M.rules self event).deeds.acts) }
+        ensures got { IfOk result (λ s. s.got ≡ gains_in (whole_row M.rules self event).deeds.acts) }
         ensures range { IfOk result (λ s. AllByRecursion (λ got. IsEntryInRange got.entry) s.got) }
     {
         let Replica { core } = self;

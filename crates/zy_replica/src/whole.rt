@@ -9,23 +9,23 @@ ghost use Rattle.zy_vframes.specs.ViewFrames as views;
 ghost use Rattle.zy_vframes.specs.declared.frame.ViewFrame.TheVariants as view_frames;
 ghost use Rattle.zy_seal.specs.Screening.{screen};
 ghost use Rattle.zy_table.specs.Roles.{in_role as has_role};
-ghost use Rattle.zy_table.specs.Whole.{is_view_frame_in_role as has_view_role};
-ghost use Rattle.zy_table.specs.LeavingStep.{leaving_step, timer as timer_row, decoded_as, view_decoded, hear_plain as plain_heard, hear_view as view_heard, plain_row as plain_row_of, view_row as view_row_of};
+ghost use Rattle.zy_table.specs.Whole.{is_view_frame_in_role as has_view_role, whole_step, timer as timer_row, decoded_as, view_decoded, hear_plain as plain_heard, hear_view as view_heard, plain_row as plain_row_of, view_row as view_row_of};
 
 use crate::roles::{in_role, is_view_frame_in_role};
 use crate::step::screens;
 use zy_base::{Answer, Bytes, Cause, Event, FrameFault, Machine, TimerKind, Want};
 use zy_core::{Core, Moved};
+use zy_entering::{confirmation, fetch, new_view, state_transfer, view_certificate};
 use zy_frames::{DecodeFault, Frame, OrderFrame};
-use zy_parts::{Order, Signed};
+use zy_parts::{Fetch, Order, Signed};
 use zy_rows::row;
 use zy_seal::screen_parts;
 use zy_vframes::ViewFrame;
 use zy_views::{change, hate, on_change_timer, on_request_timer, order_or_blame, pom};
 
-#[tactic(auto, unfolding(zy_table::specs::LeavingStep::leaving_step))]
+#[tactic(auto, unfolding(zy_table::specs::Whole::whole_step))]
 pub(crate) fn moves_whole<M: Machine>(core: Core<M>, event: Event) -> Result<Moved<M>, Want>
-    ensures { IfOk result (λ m. m ≡ leaving_step M.rules core event) }
+    ensures { IfOk result (λ m. m ≡ whole_step M.rules core event) }
 {
     match event {
         Event::Heard(bytes) => hears_bytes(core, &bytes),
@@ -190,7 +190,6 @@ fn hear_view<M: Machine>(core: Core<M>, frame: ViewFrame) -> Result<Moved<M>, Wa
     }
 }
 
-// Of a view change, a replica hears reports so far.
 fn view_row<M: Machine>(core: Core<M>, frame: ViewFrame) -> Result<Moved<M>, Want>
     requires replicas { length core.keys.replicas ≤ core.counts.n }
     requires range { views.IsFrameInRange frame }
@@ -200,10 +199,19 @@ fn view_row<M: Machine>(core: Core<M>, frame: ViewFrame) -> Result<Moved<M>, Wan
 {
     match frame {
         ViewFrame::ViewChange(vote) => change(core, vote),
-        ViewFrame::NewView(new) => core.not_heard(new, Cause::WrongRole),
-        ViewFrame::ViewConfirm(began) => core.not_heard(began, Cause::WrongRole),
-        ViewFrame::ViewCert(cert) => core.not_heard(cert, Cause::WrongRole),
-        ViewFrame::Fetch(fetch) => core.not_heard(fetch, Cause::WrongRole),
-        ViewFrame::State { place: _, snapshot } => core.not_heard(snapshot, Cause::WrongRole),
+        ViewFrame::NewView(new) => new_view(core, new),
+        ViewFrame::ViewConfirm(vote) => confirmation(core, vote),
+        ViewFrame::ViewCert(cert) => view_certificate(core, cert),
+        ViewFrame::Fetch(vote) => fetches(core, vote),
+        ViewFrame::State { place, snapshot } => state_transfer(core, place, snapshot),
     }
+}
+
+fn fetches<M: Machine>(core: Core<M>, vote: Signed<Fetch>) -> Result<Moved<M>, Want>
+    requires { views.IsFrameInRange (view_frames.Fetch vote) }
+    ensures { IfOk result (λ m. m ≡ view_row_of M.rules core (view_frames.Fetch vote)) }
+{
+    let moved = fetch(core, &vote);
+    drop(vote);
+    moved
 }

@@ -17,7 +17,8 @@ use Rattle.zy_table.specs.declared.deeds.To.TheVariants.{All}
 use Rattle.zy_table.specs.State.{State, own_view}
 use Rattle.zy_table.specs.Deeds.{begin, send}
 use Rattle.zy_table.specs.Leaving.{leave}
-use Rattle.zy_table.specs.Misbehaviour.{blamed, pom, tell_all, order_judged}
+use Rattle.zy_table.specs.Misbehaviour.{blamed, pom, tell_all}
+use Rattle.zy_table.specs.Whole.{order_judged}
 use Rattle.zy_table.specs.Orders.{order_as}
 
 -- ---- views are compared by their numbers

@@ -1,5 +1,6 @@
 -- The own hate: it is counted as another's of the own view would be, and saying it spends a leaf where it wasn't said.
 use Rattle.std.proofs.Common.{◌≡◌, ◌≤◌, ◌^◌, ℕ, nat_eq, nat_lt, nat_le, Bool, true, false, if◌then◌else◌, [], Option, Some, None, refl, ap, sym, ◌∙◌, subst, arith}
+use Rattle.std.specs.List.{list_any}
 use Rattle.std.proofs.lemmas.Bool.{leb-false, le-ltb, lt-ltb}
 use Rattle.zy_base.specs.Machine.{Rules}
 use Rattle.zy_base.specs.declared.cause.Cause.TheVariants as causes
@@ -20,12 +21,13 @@ use Rattle.zy_table.specs.declared.deeds.Body.TheVariants as bodies
 use Rattle.zy_table.specs.declared.deeds.To.TheVariants.{All}
 use Rattle.zy_table.specs.State.{State, leaves_of, own_view, spent, stood_of}
 use Rattle.zy_table.specs.Deeds.{Going, act, begin, refused, send}
+use Rattle.zy_table.specs.Beginning.{confirms, finished}
 use Rattle.zy_table.specs.Leaving.{concluded, goes, is_overspent}
 use Rattle.zy_table.specs.Hates.{own_hate, hate_for, hate_now, say_hate, count_own, hate_counted, hate_view, with_hate_of}
 use Rattle.zy_leaving.specs.Follows.{Follows, SignsAsItself, IsHateOwed, IsCountedOwed, spent_many}
 use Rattle.zy_leaving.proofs.FollowLemmas.{counted_follows}
 use Rattle.zy_views.specs.Judging.{signs_of}
-use Rattle.zy_views.proofs.JudgedLemmas.{none_spent}
+use Rattle.zy_views.proofs.JudgedLemmas.{begun_rests, none_spent}
 
 passed : {A : Type 0} (a b c : Bool) (x y z rest : A) → a ≡ false → b ≡ false → c ≡ false → (if a then x else (if b then y else (if c then z else rest))) ≡ rest
 passed a b c x y z rest first second third = rw (first, second, third) refl
@@ -68,7 +70,7 @@ module _ {S : Type 0} (R : Rules S) (s : State S) where
 
   -- ---- counted for the first time
 
-  counted_first : (said : Option (Signed Hate)) → is_hated_by s.views (Replica s.me) ≡ false → count_own R (say_hate R s said) ≡ hate_counted R (counted said)
+  pub counted_first : (said : Option (Signed Hate)) → is_hated_by s.views (Replica s.me) ≡ false → count_own R (say_hate R s said) ≡ hate_counted R (counted said)
   counted_first None new = rw new refl
   counted_first (Some one) new = rw new refl
 
@@ -96,12 +98,19 @@ module _ {S : Type 0} (R : Rules S) (s : State S) where
   counted_again None old = rw old refl
   counted_again (Some one) old = rw old refl
 
-  again_is : (said : Option (Signed Hate)) → said ≡ own_hate s → is_hated_by s.views (Replica s.me) ≡ true → hate_view R s ≡ goes Taken (say_hate R s said)
+  pub again_is : (said : Option (Signed Hate)) → said ≡ own_hate s → is_hated_by s.views (Replica s.me) ≡ true → hate_view R s ≡ goes Taken (say_hate R s said)
   unfolding hate_view
   again_is said own old = ap (λ (o : Option (Signed Hate)). count_own R (say_hate R s o)) (sym own) ∙ counted_again said old
 
-  pub again_taken : (said : Option (Signed Hate)) (end : Going S) → said ≡ own_hate s → is_hated_by s.views (Replica s.me) ≡ true → end ≡ say_hate R s said → concluded s (goes Taken end) ≡ concluded s (hate_view R s)
-  again_taken said end own old is = ap (λ (g : Going S). concluded s (goes Taken g)) is ∙ ap (concluded s) (sym (again_is said own old))
+  pub said_only : (said : Option (Signed Hate)) → list_any confirms (say_hate R s said).deeds.acts ≡ false
+  said_only None = refl
+  said_only (Some one) = refl
+
+  pub again_only : (said : Option (Signed Hate)) (end : Going S) → end ≡ say_hate R s said → list_any confirms end.deeds.acts ≡ false
+  again_only said end is = ap (λ (g : Going S). list_any confirms g.deeds.acts) is ∙ said_only said
+
+  pub again_taken : (said : Option (Signed Hate)) (end : Going S) → said ≡ own_hate s → is_hated_by s.views (Replica s.me) ≡ true → end ≡ say_hate R s said → finished R s (goes Taken end) ≡ finished R s (hate_view R s)
+  again_taken said end own old is = ap (λ (g : Going S). finished R s (goes Taken g)) is ∙ ap (finished R s) (sym (again_is said own old))
 
   overspent : (said : Option (Signed Hate)) → s.sealer.key.next ≤ 2 ^ levels_of s.sealer.key.height → nat_le (signs_of said) (leaves_of s) ≡ false → is_overspent (say_hate R s said).state.sealer ≡ true
   overspent said within few =
@@ -109,5 +118,8 @@ module _ {S : Type 0} (R : Rules S) (s : State S) where
       ap is_overspent (said_spends said) ∙ lt-ltb _ _ (omega (arith, many, within))
 
   pub again_spent : (said : Option (Signed Hate)) → said ≡ own_hate s → is_hated_by s.views (Replica s.me) ≡ true → s.sealer.key.next ≤ 2 ^ levels_of s.sealer.key.height → nat_le (signs_of said) (leaves_of s) ≡ false
-      → concluded s (hate_view R s) ≡ refused causes.KeySpent s
-  again_spent said own old within few = ap (concluded s) (again_is said own old) ∙ (rw (overspent said within few) refl)
+      → finished R s (hate_view R s) ≡ refused causes.KeySpent s
+  again_spent said own old within few =
+      ap (finished R s) (again_is said own old)
+      ∙ ap (concluded s) (begun_rests R (say_hate R s said) (said_only said))
+      ∙ (rw (overspent said within few) refl)

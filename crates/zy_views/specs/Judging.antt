@@ -1,24 +1,26 @@
--- Inner forms, which only the code cites: what stands against what a step owes, and how a step that asks goes on.
-use Rattle.std.specs.Prelude.{ℕ, ◌+◌, nat_le, if◌then◌else◌, Option, Some, None}
-use Rattle.zy_base.specs.declared.cause.Cause.{Cause}
-use Rattle.zy_base.specs.declared.cause.Cause.TheVariants as causes
+-- Inner forms, which only the code cites: what is to be adopted can be, and how a step that asks goes on.
+use Rattle.std.specs.Prelude.{◌≡◌, ℕ, Option, Some, None}
+use Rattle.std.specs.Option.{ForSome}
 use Rattle.zy_base.specs.declared.step.Answer.{Answer}
 use Rattle.zy_base.specs.declared.step.Answer.TheVariants.{Taken, Held, Refused}
 use Rattle.zy_change.specs.declared.owed.Owed.{Owed}
+use Rattle.zy_change.specs.Owing.{next_view}
 use Rattle.zy_parts.specs.declared.signed.Signed.{Signed}
 use Rattle.zy_parts.specs.declared.statements.Hate.{Hate}
+use Rattle.zy_table.specs.State.{State}
 use Rattle.zy_table.specs.Deeds.{Outcome, ends}
 use Rattle.zy_table.specs.Hates.{ask_for_hole}
+use Rattle.zy_entering.specs.Entering.{CanEnter}
+use Rattle.zy_entering.specs.declared.judging.Ending.{Ending}
+use Rattle.zy_entering.specs.declared.judging.Ending.TheVariants.{Rests, TakesUp, Waits}
 
--- the step's own cause, or that it signs more than there are leaves
-abbrev pub cause_if : Answer → ℕ → ℕ → Option Cause
-cause_if (Refused cause) signs leaves = Some cause
-cause_if Taken signs leaves = if nat_le signs leaves then None else Some causes.KeySpent
-cause_if Held signs leaves = if nat_le signs leaves then None else Some causes.KeySpent
+-- what is owed to be adopted can be judged
+abbrev pub CanAll : {S : Type 0} → State S → Owed → Type 0
+CanAll s owed = ForSome owed.adopt (CanEnter s owed.leave)
 
--- where so many statements are signed besides
-abbrev pub cause_against : Owed → ℕ → ℕ → Option Cause
-cause_against owed more leaves = cause_if owed.answer (more + owed.signs) leaves
+-- and is of the next view, for which the replica leaves
+abbrev pub LeavesToEnter : {S : Type 0} → State S → Owed → Type 0
+LeavesToEnter s owed = ForSome owed.adopt (λ a. owed.leave ≡ Some (next_view s.views))
 
 -- the missing orders are asked for, unless the step is refused
 abbrev pub asked_as : {S : Type 0} → Answer → Outcome S → Outcome S
@@ -28,6 +30,12 @@ asked_as Held o = ends Held (ask_for_hole o.state.views.mode o.state.hole (recor
 
 abbrev pub asked : {S : Type 0} → Outcome S → Outcome S
 asked o = asked_as o.answer o
+
+-- unless a view begins at its end, for which the own one was left
+abbrev pub asked_if : {S : Type 0} → Ending → Outcome S → Outcome S
+asked_if Rests o = asked o
+asked_if TakesUp o = o
+asked_if Waits o = o
 
 -- how many statements are signed for what may have been said
 abbrev pub signs_of : Option (Signed Hate) → ℕ

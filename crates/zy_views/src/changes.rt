@@ -1,22 +1,25 @@
 //! What a replica makes of another's report.
 
-ghost use Rattle.std.specs.Prelude.{◌≡◌, ◌≤◌, ◌<◌, None, IfOk};
+ghost use Rattle.std.specs.Prelude.{◌≡◌, ◌<◌, ℕ, None, Ok, IfOk};
 ghost use Rattle.zy_evidence.specs.Reading.{IsReplica, number_of_party};
 ghost use Rattle.zy_parts.specs.Signing.{IsSignedInRange};
 ghost use Rattle.zy_parts.specs.Reports.{IsChangeInRange};
 ghost use Rattle.zy_change.specs.Fit.{IsKeptChange};
 ghost use Rattle.zy_change.specs.Ahead.{IsOwedInRange};
-ghost use Rattle.zy_table.specs.State.{leaves_of};
-ghost use Rattle.zy_table.specs.Deeds.{begin, ends};
-ghost use Rattle.zy_table.specs.Leaving.{concluded};
+ghost use Rattle.zy_table.specs.State.{State};
+ghost use Rattle.zy_table.specs.Deeds.{begin};
+ghost use Rattle.zy_table.specs.Leaving.{Attempt};
+ghost use Rattle.zy_table.specs.Beginning.{finished};
 ghost use Rattle.zy_table.specs.Changes.{change as change_row};
-ghost use Rattle.zy_leaving.specs.Carrying.{carried, kept_unless as kept_as};
-ghost use Rattle.zy_leaving.specs.Follows.{CanCarry, IsChangeOwed};
+ghost use Rattle.zy_leaving.specs.Carrying.{kept_unless as kept_as};
+ghost use Rattle.zy_leaving.specs.Follows.{IsChangeOwed};
+ghost use Rattle.zy_entering.specs.Entering.{IsJudged, IsStep, ending_of};
+ghost use Rattle.zy_views.specs.Judging.{CanAll};
 
-use crate::judging::{carry, cause_against};
 use zy_base::{Machine, ReplicaId, Want};
 use zy_change::Owed;
 use zy_core::{Core, Moved};
+use zy_entering::{Ending, carry, judge_owed};
 use zy_parts::{Change, Signed};
 
 // What a report owes, whatever the signatures will be.
@@ -26,7 +29,10 @@ fn owed_by_change<M: Machine>(core: &Core<M>, vote: &Signed<Change>) -> Result<O
     requires range { IsSignedInRange IsChangeInRange vote.now }
     ensures owed { IfOk result (IsChangeOwed core.now vote.now) }
     ensures in_range { IfOk result IsOwedInRange }
+    ensures enters { IfOk result (CanAll core.now) }
 {
+    // What is kept for changes of view fits.
+    let _view = core.views().view();
     let told = core.report()?;
     let owed = core.views().change(vote, &told);
     drop(told);
@@ -53,21 +59,21 @@ fn kept_unless<M: Machine>(
     }
 }
 
-// It is kept, and what it owes is carried out.
+// It is kept, what it owes is carried out, and the step ends.
 fn carry_change<M: Machine>(
     core: Core<M>,
     vote: Signed<Change>,
     owed: Owed,
+    ending: Ending,
 ) -> Result<Moved<M>, Want>
     requires member { number_of_party vote.by < core.counts.n }
     requires kept { owed.send ≡ None → IsKeptChange core.views.counts core.views.interval (number_of_party vote.by) vote }
-    requires leaves { owed.signs ≤ leaves_of (kept_as owed.send vote core) }
-    requires can { CanCarry M.rules owed (begin (kept_as owed.send vote core)) }
+    requires judged { IsJudged M.rules owed ending (begin (kept_as owed.send vote core)) }
     requires in_range { IsOwedInRange owed }
-    ensures { IfOk result (λ m. m ≡ ends owed.answer (carried M.rules owed (begin (kept_as owed.send vote core)))) }
+    ensures { (s : State M.State) (more : ℕ) (attempt : Attempt M.State) → IsStep M.rules s more attempt owed (begin (kept_as owed.send vote core)) → ending_of M.rules s more owed ≡ Ok ending → IfOk result (λ m. m ≡ finished M.rules s attempt) }
 {
     match kept_unless(core, owed.send, vote) {
-        Ok(core) => carry(core.begin(), owed),
+        Ok(core) => carry(core.begin(), owed, ending),
         Err(want) => {
             drop(owed);
             Err(want)
@@ -85,11 +91,16 @@ fn change_owing<M: Machine>(
     requires range { IsSignedInRange IsChangeInRange vote }
     requires owed { IsChangeOwed core vote owed }
     requires in_range { IsOwedInRange owed }
-    ensures { IfOk result (λ m. m ≡ concluded core (change_row M.rules core vote)) }
+    requires enters { CanAll core owed }
+    ensures { IfOk result (λ m. m ≡ finished M.rules core (change_row M.rules core vote)) }
 {
-    match cause_against(&core, &owed, 0) {
-        Some(cause) => core.not_heard((vote, owed), cause),
-        None => carry_change(core, vote, owed),
+    match judge_owed(&core, &owed, 0) {
+        Ok(Err(cause)) => core.not_heard((vote, owed), cause),
+        Ok(Ok(ending)) => carry_change(core, vote, owed, ending),
+        Err(want) => {
+            drop((core, vote, owed));
+            Err(want)
+        }
     }
 }
 
@@ -100,7 +111,7 @@ pub fn change<M: Machine>(core: Core<M>, vote: Signed<Change>) -> Result<Moved<M
     requires replica { IsReplica vote.by }
     requires member { number_of_party vote.by < core.counts.n }
     requires range { IsSignedInRange IsChangeInRange vote }
-    ensures { IfOk result (λ m. m ≡ concluded core (change_row M.rules core vote)) }
+    ensures { IfOk result (λ m. m ≡ finished M.rules core (change_row M.rules core vote)) }
 {
     match owed_by_change(&core, &vote) {
         Ok(owed) => change_owing(core, vote, owed),

@@ -1,20 +1,22 @@
 //! What a replica makes of another's hate.
 
-ghost use Rattle.std.specs.Prelude.{◌≡◌, ◌≤◌, ◌<◌, IfOk};
+ghost use Rattle.std.specs.Prelude.{◌≡◌, ◌<◌, ℕ, Ok, IfOk};
 ghost use Rattle.zy_evidence.specs.Reading.{number_of_party};
 ghost use Rattle.zy_change.specs.Ahead.{IsOwedInRange};
 ghost use Rattle.zy_change.specs.Views.{with_hate as with_vote};
-ghost use Rattle.zy_table.specs.State.{leaves_of};
-ghost use Rattle.zy_table.specs.Deeds.{begin, ends};
-ghost use Rattle.zy_table.specs.Leaving.{concluded};
+ghost use Rattle.zy_table.specs.State.{State};
+ghost use Rattle.zy_table.specs.Deeds.{begin};
+ghost use Rattle.zy_table.specs.Leaving.{Attempt};
+ghost use Rattle.zy_table.specs.Beginning.{finished};
 ghost use Rattle.zy_table.specs.Hates.{hate as hate_row, with_hate_of};
-ghost use Rattle.zy_leaving.specs.Carrying.{carried};
-ghost use Rattle.zy_leaving.specs.Follows.{CanCarry, IsHateOwed};
+ghost use Rattle.zy_leaving.specs.Follows.{IsHateOwed};
+ghost use Rattle.zy_entering.specs.Entering.{IsJudged, IsStep, ending_of};
+ghost use Rattle.zy_views.specs.Judging.{CanAll, LeavesToEnter};
 
-use crate::judging::{carry, cause_against};
 use zy_base::{Machine, Want};
 use zy_change::Owed;
 use zy_core::{Core, Moved, Progress};
+use zy_entering::{Ending, carry, judge_owed};
 use zy_parts::{Hate, Signed};
 
 // What a hate owes, whatever the signatures will be.
@@ -22,7 +24,11 @@ pub(crate) fn owed_by_hate<M: Machine>(core: &Core<M>, vote: &Signed<Hate>) -> R
     requires { number_of_party vote.now.by < core.now.counts.n }
     ensures owed { IfOk result (IsHateOwed core.now vote.now) }
     ensures in_range { IfOk result IsOwedInRange }
+    ensures enters { IfOk result (CanAll core.now) }
+    ensures leaves { IfOk result (LeavesToEnter core.now) }
 {
+    // What is kept for changes of view fits.
+    let _view = core.views().view();
     let told = core.report()?;
     let owed = core.views().hate(vote, &told);
     drop(told);
@@ -57,16 +63,20 @@ pub(crate) fn count_hate<M: Machine>(
     }
 }
 
-// It is counted, and what it owes is carried out.
-fn carry_hate<M: Machine>(core: Core<M>, vote: Signed<Hate>, owed: Owed) -> Result<Moved<M>, Want>
+// It is counted, what it owes is carried out, and the step ends.
+fn carry_hate<M: Machine>(
+    core: Core<M>,
+    vote: Signed<Hate>,
+    owed: Owed,
+    ending: Ending,
+) -> Result<Moved<M>, Want>
     requires member { number_of_party vote.by < core.counts.n }
-    requires leaves { owed.signs ≤ leaves_of (with_hate_of vote.by (begin core)).state }
-    requires can { CanCarry M.rules owed (with_hate_of vote.by (begin core)) }
+    requires judged { IsJudged M.rules owed ending (with_hate_of vote.by (begin core)) }
     requires in_range { IsOwedInRange owed }
-    ensures { IfOk result (λ m. m ≡ ends owed.answer (carried M.rules owed (with_hate_of vote.by (begin core)))) }
+    ensures { (s : State M.State) (more : ℕ) (attempt : Attempt M.State) → IsStep M.rules s more attempt owed (with_hate_of vote.by (begin core)) → ending_of M.rules s more owed ≡ Ok ending → IfOk result (λ m. m ≡ finished M.rules s attempt) }
 {
     match count_hate(core.begin(), vote) {
-        Ok(progress) => carry(progress, owed),
+        Ok(progress) => carry(progress, owed, ending),
         Err(want) => {
             drop(owed);
             Err(want)
@@ -78,11 +88,16 @@ fn hate_owing<M: Machine>(core: Core<M>, vote: Signed<Hate>, owed: Owed) -> Resu
     requires member { number_of_party vote.by < core.counts.n }
     requires owed { IsHateOwed core vote owed }
     requires in_range { IsOwedInRange owed }
-    ensures { IfOk result (λ m. m ≡ concluded core (hate_row M.rules core vote)) }
+    requires enters { CanAll core owed }
+    ensures { IfOk result (λ m. m ≡ finished M.rules core (hate_row M.rules core vote)) }
 {
-    match cause_against(&core, &owed, 0) {
-        Some(cause) => core.not_heard((vote, owed), cause),
-        None => carry_hate(core, vote, owed),
+    match judge_owed(&core, &owed, 0) {
+        Ok(Err(cause)) => core.not_heard((vote, owed), cause),
+        Ok(Ok(ending)) => carry_hate(core, vote, owed, ending),
+        Err(want) => {
+            drop((core, vote, owed));
+            Err(want)
+        }
     }
 }
 
@@ -90,7 +105,7 @@ fn hate_owing<M: Machine>(core: Core<M>, vote: Signed<Hate>, owed: Owed) -> Resu
 /// than can lie the replica leaves.
 pub fn hate<M: Machine>(core: Core<M>, vote: Signed<Hate>) -> Result<Moved<M>, Want>
     requires { number_of_party vote.by < core.counts.n }
-    ensures { IfOk result (λ m. m ≡ concluded core (hate_row M.rules core vote)) }
+    ensures { IfOk result (λ m. m ≡ finished M.rules core (hate_row M.rules core vote)) }
 {
     match owed_by_hate(&core, &vote) {
         Ok(owed) => hate_owing(core, vote, owed),

@@ -1,6 +1,7 @@
 //! What a replica makes of what ends a view: hates, misbehaviour, reports of others and its timers.
 #![tactic(auto)]
 
+mod asking;
 mod changes;
 mod hates;
 mod judging;

@@ -1,28 +1,31 @@
 //! What a replica makes of two orders of its primary for one place.
 
-ghost use Rattle.std.specs.Prelude.{◌≡◌, ◌≤◌, false, IfOk};
+ghost use Rattle.std.specs.Prelude.{◌≡◌, ℕ, false, Ok, IfOk};
 ghost use Rattle.zy_parts.specs.Signing.{IsSignedInRange};
 ghost use Rattle.zy_parts.specs.Statements.{IsOrderInRange};
 ghost use Rattle.zy_admit.specs.Orders.{stored_in};
 ghost use Rattle.zy_change.specs.Ahead.{IsOwedInRange};
 ghost use Rattle.zy_change.specs.Owing.{next_view as view_after};
-ghost use Rattle.zy_table.specs.State.{is_leaving, leaves_of};
+ghost use Rattle.zy_table.specs.State.{State, is_leaving};
 ghost use Rattle.zy_frames.specs.declared.frame.Frame.TheVariants as frames;
 ghost use Rattle.zy_table.specs.declared.deeds.To.TheVariants as tos;
-ghost use Rattle.zy_table.specs.Deeds.{begin, ends, send as sending};
-ghost use Rattle.zy_table.specs.Leaving.{concluded, leave};
-ghost use Rattle.zy_table.specs.Misbehaviour.{blamed as blamed_by, pom as pom_row, tell_all as told_all, order_judged as judged_as, order_or_blame as blame_row};
+ghost use Rattle.zy_table.specs.Deeds.{begin, send as sending};
+ghost use Rattle.zy_table.specs.Leaving.{Attempt, leave};
+ghost use Rattle.zy_table.specs.Beginning.{finished};
+ghost use Rattle.zy_table.specs.Misbehaviour.{blamed as blamed_by, pom as pom_row, tell_all as told_all};
+ghost use Rattle.zy_table.specs.Whole.{order_judged as judged_as, order as order_row};
 ghost use Rattle.zy_table.specs.Orders.{position_of};
 ghost use Rattle.zy_admit.specs.Judging.{judge_in};
 ghost use Rattle.zy_core.specs.Ready.{IsOrderReady};
-ghost use Rattle.zy_leaving.specs.Carrying.{carried};
-ghost use Rattle.zy_leaving.specs.Follows.{CanCarry, IsLeaveOwed};
+ghost use Rattle.zy_leaving.specs.Follows.{IsLeaveOwed};
+ghost use Rattle.zy_entering.specs.Entering.{IsJudged, IsStep, ending_of};
+ghost use Rattle.zy_views.specs.Judging.{CanAll};
 
-use crate::judging::{carry, cause_against};
 use zy_admit::Admit;
 use zy_base::{Cause, Machine, View, Want};
 use zy_change::Owed;
 use zy_core::{Core, Moved};
+use zy_entering::{Ending, carry, judge_owed};
 use zy_frames::{Frame, OrderFrame};
 use zy_parts::{Order, Signed};
 use zy_rows::{judge, order_as};
@@ -38,7 +41,10 @@ fn next_view<M: Machine>(core: &Core<M>) -> View
 fn owed_by_leave<M: Machine>(core: &Core<M>) -> Result<Owed, Want>
     ensures owed { IfOk result (IsLeaveOwed core.now (view_after core.now.views)) }
     ensures in_range { IfOk result IsOwedInRange }
+    ensures enters { IfOk result (CanAll core.now) }
 {
+    // What is kept for changes of view fits.
+    let _view = core.views().view();
     let told = core.report()?;
     let owed = core.views().leaving(next_view(core), &told);
     drop(told);
@@ -50,16 +56,21 @@ fn owed_by_leave<M: Machine>(core: &Core<M>) -> Result<Owed, Want>
 fn leave_owing<M: Machine>(core: Core<M>, owed: Owed) -> Result<Moved<M>, Want>
     requires owed { IsLeaveOwed core (view_after core.views) owed }
     requires in_range { IsOwedInRange owed }
-    ensures { IfOk result (λ m. m ≡ concluded core (leave M.rules (view_after core.views) (begin core))) }
+    requires enters { CanAll core owed }
+    ensures { IfOk result (λ m. m ≡ finished M.rules core (leave M.rules (view_after core.views) (begin core))) }
 {
-    match cause_against(&core, &owed, 0) {
-        Some(cause) => core.not_heard(owed, cause),
-        None => carry(core.begin(), owed),
+    match judge_owed(&core, &owed, 0) {
+        Ok(Err(cause)) => core.not_heard(owed, cause),
+        Ok(Ok(ending)) => carry(core.begin(), owed, ending),
+        Err(want) => {
+            drop((core, owed));
+            Err(want)
+        }
     }
 }
 
 fn blamed<M: Machine>(core: Core<M>, misbehaved: Result<View, Cause>) -> Result<Moved<M>, Want>
-    ensures { IfOk result (λ m. m ≡ concluded core (blamed_by M.rules core misbehaved)) }
+    ensures { IfOk result (λ m. m ≡ finished M.rules core (blamed_by M.rules core misbehaved)) }
 {
     match misbehaved {
         Err(cause) => Ok(core.refused(cause)),
@@ -78,7 +89,7 @@ pub fn pom<M: Machine>(
     first: &Signed<Order>,
     second: &Signed<Order>,
 ) -> Result<Moved<M>, Want>
-    ensures { IfOk result (λ m. m ≡ concluded core (pom_row M.rules core first.now second.now)) }
+    ensures { IfOk result (λ m. m ≡ finished M.rules core (pom_row M.rules core first.now second.now)) }
 {
     if first.stmt.view < core.view() {
         return Ok(core.refused(Cause::OldView));
@@ -91,22 +102,22 @@ pub fn pom<M: Machine>(
 
 // ---- by an order that differs from the kept one of its place
 
-// All are told of both orders, and what the leave owes is carried out.
+// All are told of both orders, what the leave owes is carried out, and the step ends.
 fn carry_blame<M: Machine>(
     core: Core<M>,
     order: Signed<Order>,
     kept: Signed<Order>,
     owed: Owed,
+    ending: Ending,
 ) -> Result<Moved<M>, Want>
     requires order { IsSignedInRange IsOrderInRange order }
     requires kept { IsSignedInRange IsOrderInRange kept }
-    requires leaves { owed.signs ≤ leaves_of core }
-    requires can { CanCarry M.rules owed (sending tos.All (frames.Pom kept order) (begin core)) }
+    requires judged { IsJudged M.rules owed ending (sending tos.All (frames.Pom kept order) (begin core)) }
     requires in_range { IsOwedInRange owed }
-    ensures { IfOk result (λ m. m ≡ ends owed.answer (carried M.rules owed (sending tos.All (frames.Pom kept order) (begin core)))) }
+    ensures { (s : State M.State) (more : ℕ) (attempt : Attempt M.State) → IsStep M.rules s more attempt owed (sending tos.All (frames.Pom kept order) (begin core)) → ending_of M.rules s more owed ≡ Ok ending → IfOk result (λ m. m ≡ finished M.rules s attempt) }
 {
     match core.begin().send(To::All, Frame::Pom(kept, order)) {
-        Ok(progress) => carry(progress, owed),
+        Ok(progress) => carry(progress, owed, ending),
         Err(want) => {
             drop(owed);
             Err(want)
@@ -124,11 +135,16 @@ fn blame_owing<M: Machine>(
     requires kept { IsSignedInRange IsOrderInRange kept }
     requires owed { IsLeaveOwed core (view_after core.views) owed }
     requires in_range { IsOwedInRange owed }
-    ensures { IfOk result (λ m. m ≡ concluded core (leave M.rules (view_after core.views) (sending tos.All (frames.Pom kept order) (begin core)))) }
+    requires enters { CanAll core owed }
+    ensures { IfOk result (λ m. m ≡ finished M.rules core (leave M.rules (view_after core.views) (sending tos.All (frames.Pom kept order) (begin core)))) }
 {
-    match cause_against(&core, &owed, 0) {
-        Some(cause) => core.not_heard((order, kept, owed), cause),
-        None => carry_blame(core, order, kept, owed),
+    match judge_owed(&core, &owed, 0) {
+        Ok(Err(cause)) => core.not_heard((order, kept, owed), cause),
+        Ok(Ok(ending)) => carry_blame(core, order, kept, owed, ending),
+        Err(want) => {
+            drop((core, order, kept, owed));
+            Err(want)
+        }
     }
 }
 
@@ -139,7 +155,7 @@ fn blame<M: Machine>(
 ) -> Result<Moved<M>, Want>
     requires order { IsSignedInRange IsOrderInRange order }
     requires kept { IsSignedInRange IsOrderInRange kept }
-    ensures { IfOk result (λ m. m ≡ concluded core (leave M.rules (view_after core.views) (sending tos.All (frames.Pom kept order) (begin core)))) }
+    ensures { IfOk result (λ m. m ≡ finished M.rules core (leave M.rules (view_after core.views) (sending tos.All (frames.Pom kept order) (begin core)))) }
 {
     match owed_by_leave(&core) {
         Ok(owed) => blame_owing(core, order, kept, owed),
@@ -153,7 +169,7 @@ fn blame<M: Machine>(
 // All are told of both orders. Without a kept order there is no second one.
 fn tell_all<M: Machine>(core: Core<M>, order: Signed<Order>) -> Result<Moved<M>, Want>
     requires { IsSignedInRange IsOrderInRange order }
-    ensures { IfOk result (λ m. m ≡ concluded core (told_all M.rules core order (stored_in core.orders order.stmt.place.0))) }
+    ensures { IfOk result (λ m. m ≡ finished M.rules core (told_all M.rules core order (stored_in core.orders order.stmt.place.0))) }
 {
     match core.order_at(order.stmt.place) {
         Ok(Some(kept)) => blame(core, order, kept),
@@ -187,11 +203,10 @@ fn order_judged<M: Machine>(
 
 /// An order of the own view, both signatures verified. Where another order is kept of its place, all are told of both, and
 /// the replica leaves.
-#[tactic(auto, unfolding(zy_table::specs::Misbehaviour::order_or_blame))]
 pub fn order_or_blame<M: Machine>(core: Core<M>, frame: OrderFrame) -> Result<Moved<M>, Want>
     requires active { is_leaving core ≡ false }
     requires order { IsOrderReady frame }
-    ensures { IfOk result (λ m. m ≡ blame_row M.rules core frame) }
+    ensures { IfOk result (λ m. m ≡ order_row M.rules core frame) }
 {
     let admit = judge(&core, &frame);
     order_judged(core, frame, admit)

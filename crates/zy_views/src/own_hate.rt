@@ -1,6 +1,6 @@
 //! The own hate: it is said once, sent as often as the timer runs out, and counted as one that is heard.
 
-ghost use Rattle.std.specs.Prelude.{◌≡◌, ◌≤◌, ◌<◌, ◌+◌, true, false, Some, None, IfOk};
+ghost use Rattle.std.specs.Prelude.{◌≡◌, ◌≤◌, ◌<◌, ◌+◌, ℕ, true, false, Some, None, Ok, IfOk};
 ghost use Rattle.std.specs.Option.{ForSome};
 ghost use Rattle.zy_parts.specs.Numbers as numbers;
 ghost use Rattle.zy_parts.specs.Signing.{IsSignedInRange};
@@ -14,19 +14,21 @@ ghost use Rattle.zy_change.specs.Ahead.{IsOwedInRange};
 ghost use Rattle.zy_table.specs.declared.deeds.To.TheVariants as tos;
 ghost use Rattle.zy_table.specs.declared.deeds.Act.TheVariants as acts;
 ghost use Rattle.zy_table.specs.declared.deeds.Body.TheVariants as bodies;
-ghost use Rattle.zy_table.specs.State.{leaves_of, spent, stood_of};
-ghost use Rattle.zy_table.specs.Deeds.{ends};
-ghost use Rattle.zy_table.specs.Leaving.{concluded};
-ghost use Rattle.zy_table.specs.Hates.{hate_for, own_hate as own_of, hate_now as now_of, say_hate as said_as, with_hate_of, hate_view as hate_row};
-ghost use Rattle.zy_leaving.specs.Carrying.{carried};
-ghost use Rattle.zy_leaving.specs.Follows.{CanCarry, IsHateOwed};
-ghost use Rattle.zy_views.specs.Judging.{signs_of};
+ghost use Rattle.zy_table.specs.State.{State, leaves_of, spent, stood_of};
+ghost use Rattle.zy_table.specs.Leaving.{Attempt};
+ghost use Rattle.zy_table.specs.Beginning.{finished};
+ghost use Rattle.zy_table.specs.Hates.{hate_for, own_hate as own_of, hate_now as now_of, say_hate as said_as, then_ask, with_hate_of, hate_view as hate_row};
+ghost use Rattle.zy_leaving.specs.Follows.{IsHateOwed};
+ghost use Rattle.zy_entering.specs.Entering.{IsJudged, IsStep, ending_of};
+ghost use Rattle.zy_views.specs.Judging.{CanAll, LeavesToEnter, asked_if, signs_of};
 
+use crate::asking::{ask_after, ask_unless};
 use crate::hates::{count_hate, owed_by_hate};
-use crate::judging::{carry, cause_against, taken};
+use crate::judging::taken;
 use zy_base::{Bytes, Cause, Machine, Party, Want};
 use zy_change::Owed;
 use zy_core::{Core, Moved, Progress, signed_copy};
+use zy_entering::{Ending, carry, judge_owed};
 use zy_frames::Frame;
 use zy_parts::{Hate, Signed};
 use zy_table::{Body, To};
@@ -122,7 +124,7 @@ fn repeat_hate<M: Machine>(core: Core<M>, said: Option<Signed<Hate>>) -> Result<
     requires said { said ≡ own_of core }
     requires range { ForSome said (IsSignedInRange IsHateInRange) }
     requires counted { is_hated_by core.views (parties.Replica core.me) ≡ true }
-    ensures { IfOk result (λ m. m ≡ concluded core (hate_row M.rules core)) }
+    ensures { IfOk result (λ m. m ≡ finished M.rules core (hate_row M.rules core)) }
 {
     if !core.has_leaves(signs(&said)) {
         return core.not_heard(said, Cause::KeySpent);
@@ -145,26 +147,42 @@ fn count_own<M: Machine>(core: Core<M>, said: Option<Signed<Hate>>) -> Result<Pr
     }
 }
 
-// It is said and counted, and what it owes is carried out.
+// It is said and counted, what it owes is carried out, and the step ends.
 fn carry_own<M: Machine>(
     core: Core<M>,
     said: Option<Signed<Hate>>,
     owed: Owed,
+    ending: Ending,
 ) -> Result<Moved<M>, Want>
     requires leaf { signs_of said ≤ leaves_of core }
     requires range { ForSome said (IsSignedInRange IsHateInRange) }
-    requires leaves { owed.signs ≤ leaves_of (with_hate_of (parties.Replica core.me) (said_as M.rules core said)).state }
-    requires can { CanCarry M.rules owed (with_hate_of (parties.Replica core.me) (said_as M.rules core said)) }
+    requires judged { IsJudged M.rules owed ending (with_hate_of (parties.Replica core.me) (said_as M.rules core said)) }
     requires in_range { IsOwedInRange owed }
-    ensures { IfOk result (λ m. m ≡ ends owed.answer (carried M.rules owed (with_hate_of (parties.Replica core.me) (said_as M.rules core said)))) }
+    ensures { (s : State M.State) (more : ℕ) (attempt : Attempt M.State) → IsStep M.rules s more attempt owed (with_hate_of (parties.Replica core.me) (said_as M.rules core said)) → ending_of M.rules s more owed ≡ Ok ending → IfOk result (λ m. m ≡ finished M.rules s attempt) }
 {
     match count_own(core, said) {
-        Ok(progress) => carry(progress, owed),
+        Ok(progress) => carry(progress, owed, ending),
         Err(want) => {
             drop(owed);
             Err(want)
         }
     }
+}
+
+// The same, and missing orders are asked for.
+fn carry_and_ask<M: Machine>(
+    core: Core<M>,
+    said: Option<Signed<Hate>>,
+    owed: Owed,
+    ending: Ending,
+) -> Result<Moved<M>, Want>
+    requires leaf { signs_of said ≤ leaves_of core }
+    requires range { ForSome said (IsSignedInRange IsHateInRange) }
+    requires judged { IsJudged M.rules owed ending (with_hate_of (parties.Replica core.me) (said_as M.rules core said)) }
+    requires in_range { IsOwedInRange owed }
+    ensures { (s : State M.State) (more : ℕ) (attempt : Attempt M.State) → IsStep M.rules s more attempt owed (with_hate_of (parties.Replica core.me) (said_as M.rules core said)) → ending_of M.rules s more owed ≡ Ok ending → IfOk result (λ m. m ≡ asked_if ending (finished M.rules s attempt)) }
+{
+    ask_unless(carry_own(core, said, owed, ending)?, ending)
 }
 
 // It is counted for the first time.
@@ -178,11 +196,17 @@ fn first_hate<M: Machine>(
     requires new { is_hated_by core.views (parties.Replica core.me) ≡ false }
     requires owed { (vote : Signed Hate) → vote.by ≡ parties.Replica core.me → vote.stmt ≡ now_of core → IsHateOwed core vote owed }
     requires in_range { IsOwedInRange owed }
-    ensures { IfOk result (λ m. m ≡ concluded core (hate_row M.rules core)) }
+    requires enters { CanAll core owed }
+    requires leaves { LeavesToEnter core owed }
+    ensures { IfOk result (λ m. m ≡ finished M.rules core (then_ask (hate_row M.rules core))) }
 {
-    match cause_against(&core, &owed, signs(&said)) {
-        Some(cause) => core.not_heard((said, owed), cause),
-        None => carry_own(core, said, owed),
+    match judge_owed(&core, &owed, signs(&said)) {
+        Ok(Err(cause)) => core.not_heard((said, owed), cause),
+        Ok(Ok(ending)) => carry_and_ask(core, said, owed, ending),
+        Err(want) => {
+            drop((core, said, owed));
+            Err(want)
+        }
     }
 }
 
@@ -190,6 +214,8 @@ fn first_hate<M: Machine>(
 fn owed_by_own<M: Machine>(core: &Core<M>) -> Result<Owed, Want>
     ensures in_range { IfOk result IsOwedInRange }
     ensures owed { IfOk result (λ owed. (vote : Signed Hate) → vote.by ≡ parties.Replica core.now.me → vote.stmt ≡ now_of core.now → IsHateOwed core.now vote owed) }
+    ensures enters { IfOk result (CanAll core.now) }
+    ensures leaves { IfOk result (LeavesToEnter core.now) }
 {
     let own = unsigned(core);
     let owed = owed_by_hate(core, &own);
@@ -197,13 +223,23 @@ fn owed_by_own<M: Machine>(core: &Core<M>) -> Result<Owed, Want>
     owed
 }
 
+// It was counted before, and missing orders are asked for.
+fn repeat_and_ask<M: Machine>(core: Core<M>, said: Option<Signed<Hate>>) -> Result<Moved<M>, Want>
+    requires said { said ≡ own_of core }
+    requires range { ForSome said (IsSignedInRange IsHateInRange) }
+    requires counted { is_hated_by core.views (parties.Replica core.me) ≡ true }
+    ensures { IfOk result (λ m. m ≡ finished M.rules core (then_ask (hate_row M.rules core))) }
+{
+    ask_after(repeat_hate(core, said)?)
+}
+
 fn hate_with<M: Machine>(core: Core<M>, said: Option<Signed<Hate>>) -> Result<Moved<M>, Want>
     requires said { said ≡ own_of core }
     requires range { ForSome said (IsSignedInRange IsHateInRange) }
-    ensures { IfOk result (λ m. m ≡ concluded core (hate_row M.rules core)) }
+    ensures { IfOk result (λ m. m ≡ finished M.rules core (then_ask (hate_row M.rules core))) }
 {
     if core.views().has_hate_of(core.me()) {
-        return repeat_hate(core, said);
+        return repeat_and_ask(core, said);
     }
     match owed_by_own(&core) {
         Ok(owed) => first_hate(core, said, owed),
@@ -214,9 +250,10 @@ fn hate_with<M: Machine>(core: Core<M>, said: Option<Signed<Hate>>) -> Result<Mo
     }
 }
 
-/// The own view is hated: all are told, and the own hate is counted.
-pub(crate) fn hate_view<M: Machine>(core: Core<M>) -> Result<Moved<M>, Want>
-    ensures { IfOk result (λ m. m ≡ concluded core (hate_row M.rules core)) }
+/// The own view is hated: all are told, the own hate is counted, and missing orders are asked for again, of all, if the
+/// replica is still in its view then.
+pub(crate) fn hate_and_ask<M: Machine>(core: Core<M>) -> Result<Moved<M>, Want>
+    ensures { IfOk result (λ m. m ≡ finished M.rules core (then_ask (hate_row M.rules core))) }
 {
     let said = own_hate(&core)?;
     hate_with(core, said)

@@ -2,7 +2,7 @@ use Rattle.std.proofs.Common.{◌≡◌, IfOk, Result, Ok, ap, ◌∙◌, sym, s
 use Rattle.zy_base.specs.declared.frame_fault.FrameFault.{FrameFault}
 use Rattle.zy_frames.specs.declared.frame.Frame.{Frame}
 use Rattle.zy_frames.specs.Frames.{frame_in}
-use Rattle.zy_table.specs.LeavingStep.{decoded_as}
+use Rattle.zy_table.specs.Whole.{decoded_as}
 use Rattle.zy_replica.proofs.whole.hears_bytes.Goals as goal
 
 pub returns-in-Ok : goal.returns-in-Ok

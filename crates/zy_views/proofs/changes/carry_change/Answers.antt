@@ -1,21 +1,15 @@
-use Rattle.std.proofs.Common.{◌≡◌, ◌≤◌, IfOk, sym, ◌∙◌, ap, subst}
-use Rattle.zy_table.specs.State.{State, leaves_of}
-use Rattle.zy_table.specs.Deeds.{Going, Outcome, begin, ends}
-use Rattle.zy_leaving.specs.Carrying.{carried}
-use Rattle.zy_leaving.specs.Follows.{CanCarry}
+use Rattle.std.proofs.Common.{◌≡◌, ◌∙◌, ap, subst, sym}
+use Rattle.zy_table.specs.State.{State}
+use Rattle.zy_table.specs.Deeds.{Going, begin}
+use Rattle.zy_entering.specs.Entering.{IsJudged, IsStep}
 use Rattle.zy_views.proofs.changes.carry_change.Goals as goal
 
-pub carry-requires-clause-leaves : goal.carry-requires-clause-leaves
-carry-requires-clause-leaves g c =
+pub carry-requires-clause-judged : goal.carry-requires-clause-judged
+carry-requires-clause-judged g c =
     let begun = c.begin.ensures ∙ ap (λ (s : State g.row.M-State.Denot). begin s) c.in-Ok.ensures in
-    subst (λ (x : Going g.row.M-State.Denot). c.args.owed.signs ≤ leaves_of x.state) (sym begun) c.requires.leaves
-
-pub carry-requires-clause-can : goal.carry-requires-clause-can
-carry-requires-clause-can g c =
-    let begun = c.begin.ensures ∙ ap (λ (s : State g.row.M-State.Denot). begin s) c.in-Ok.ensures in
-    subst (λ (x : Going g.row.M-State.Denot). CanCarry g.M.Machine.rules c.args.owed x) (sym begun) c.requires.can
+    subst (λ (x : Going g.row.M-State.Denot). IsJudged g.M.Machine.rules c.args.owed c.args.ending x) (sym begun) c.requires.judged
 
 pub returns-in-Ok : goal.returns-in-Ok
-returns-in-Ok g c =
+returns-in-Ok g c = λ s more attempt step same.
     let begun = c.begin.ensures ∙ ap (λ (s : State g.row.M-State.Denot). begin s) c.in-Ok.ensures in
-    subst (λ (x : Going g.row.M-State.Denot). IfOk c.carry.result (λ (m : Outcome g.row.M-State.Denot). m ≡ ends c.args.owed.answer (carried g.M.Machine.rules c.args.owed x))) begun c.carry.ensures
+    c.carry.ensures s more attempt (subst (λ (x : Going g.row.M-State.Denot). IsStep g.M.Machine.rules s more attempt c.args.owed x) (sym begun) step) same

@@ -1,12 +1,15 @@
-use Rattle.std.proofs.Common.{◌≡◌, IfOk, ◌∙◌, ap, subst}
-use Rattle.zy_table.specs.Deeds.{Going, Outcome, ends}
+use Rattle.std.proofs.Common.{◌≡◌, ◌∙◌, ap, subst, sym}
+use Rattle.zy_table.specs.Deeds.{Going}
 use Rattle.zy_table.specs.Hates.{with_hate_of}
-use Rattle.zy_leaving.specs.Carrying.{carried}
+use Rattle.zy_entering.specs.Entering.{IsJudged, IsStep}
 use Rattle.zy_views.proofs.hates.carry_hate.Goals as goal
 
-pub returns-in-Ok : goal.returns-in-Ok
-returns-in-Ok g c =
+pub carry-requires-clause-judged : goal.carry-requires-clause-judged
+carry-requires-clause-judged g c =
     let came = c.in-Ok.ensures ∙ ap (λ (x : Going g.row.M-State.Denot). with_hate_of c.args.vote.by x) c.begin.ensures in
-    subst (λ (x : Outcome g.row.M-State.Denot). IfOk c.carry.result (λ (m : Outcome g.row.M-State.Denot). m ≡ x))
-    (ap (λ (x : Going g.row.M-State.Denot). ends c.args.owed.answer (carried g.M.Machine.rules c.args.owed x)) came)
-    c.carry.ensures
+    subst (λ (x : Going g.row.M-State.Denot). IsJudged g.M.Machine.rules c.args.owed c.args.ending x) (sym came) c.requires.judged
+
+pub returns-in-Ok : goal.returns-in-Ok
+returns-in-Ok g c = λ s more attempt step same.
+    let came = c.in-Ok.ensures ∙ ap (λ (x : Going g.row.M-State.Denot). with_hate_of c.args.vote.by x) c.begin.ensures in
+    c.carry.ensures s more attempt (subst (λ (x : Going g.row.M-State.Denot). IsStep g.M.Machine.rules s more attempt c.args.owed x) (sym came) step) same

@@ -1,33 +1,32 @@
 use Rattle.std.proofs.Common.{◌∙◌, sym}
 use Rattle.zy_table.specs.Deeds.{begin}
 use Rattle.zy_table.specs.Hates.{hate, with_hate_of}
-use Rattle.zy_leaving.proofs.FollowLemmas.{hate_follows}
-use Rattle.zy_views.proofs.JudgedLemmas.{comes_refused, comes_done, leaves_left, none_spent}
+use Rattle.zy_views.proofs.JudgedLemmas.{comes_refused}
+use Rattle.zy_views.proofs.StepsLemmas.{hate_step}
 use Rattle.zy_views.proofs.hates.hate_owing.Goals as goal
 
-pub returns-in-Some : goal.returns-in-Some
-returns-in-Some g c =
+pub returns-in-Ok-Err : goal.returns-in-Ok-Err
+returns-in-Ok-Err g c =
     let R = g.M.Machine.rules in
     let s = c.args.core in
-    let follows = hate_follows R s c.args.vote c.args.owed c.cause_against.ensures.signer.by c.requires.owed in
-    comes_refused R s (hate R s c.args.vote) c.args.owed (with_hate_of c.args.vote.by (begin s)) 0 c.cause_against.ensures.signer (none_spent s.sealer) follows
-    _ c.in-Some.cause (sym c.cause_against.ensures.cause ∙ c.in-Some.is) c.not_heard.ensures
+    let step = hate_step R s c.judge_owed.ensures.signer c.judge_owed.ensures.ready c.args.owed c.requires.enters c.args.vote c.requires.owed in
+    comes_refused R s 0 (hate R s c.args.vote) c.args.owed (with_hate_of c.args.vote.by (begin s)) step
+    _ c.in-Ok-Err.cause (sym c.in-Ok-Err.ensures.ending ∙ c.in-Ok-Err.field-0-is) c.not_heard.ensures
 
-pub carry_hate-requires-clause-leaves : goal.carry_hate-requires-clause-leaves
-carry_hate-requires-clause-leaves g c =
+pub carry_hate-requires-clause-judged : goal.carry_hate-requires-clause-judged
+carry_hate-requires-clause-judged g c =
     let R = g.M.Machine.rules in
     let s = c.args.core in
-    leaves_left R s (with_hate_of c.args.vote.by (begin s)) c.args.owed 0 (none_spent s.sealer) (sym c.cause_against.ensures.cause ∙ c.in-None.is)
+    record {
+      before = s;
+      more = 0;
+      attempt = hate R s c.args.vote;
+      step = hate_step R s c.judge_owed.ensures.signer c.judge_owed.ensures.ready c.args.owed c.requires.enters c.args.vote c.requires.owed;
+      ends = sym c.in-Ok-Ok.ensures.ending ∙ c.in-Ok-Ok.field-0-is;
+    }
 
-pub carry_hate-requires-clause-can : goal.carry_hate-requires-clause-can
-carry_hate-requires-clause-can g c =
-    let follows = hate_follows g.M.Machine.rules c.args.core c.args.vote c.args.owed c.cause_against.ensures.signer.by c.requires.owed in
-    follows.can
-
-pub returns-in-None : goal.returns-in-None
-returns-in-None g c =
+pub returns-in-Ok-Ok : goal.returns-in-Ok-Ok
+returns-in-Ok-Ok g c =
     let R = g.M.Machine.rules in
     let s = c.args.core in
-    let follows = hate_follows R s c.args.vote c.args.owed c.cause_against.ensures.signer.by c.requires.owed in
-    comes_done R s (hate R s c.args.vote) c.args.owed (with_hate_of c.args.vote.by (begin s)) 0 c.cause_against.ensures.signer (none_spent s.sealer) follows
-    _ (sym c.cause_against.ensures.cause ∙ c.in-None.is) c.carry_hate.ensures
+    c.carry_hate.ensures s 0 (hate R s c.args.vote) (hate_step R s c.judge_owed.ensures.signer c.judge_owed.ensures.ready c.args.owed c.requires.enters c.args.vote c.requires.owed) (sym c.in-Ok-Ok.ensures.ending ∙ c.in-Ok-Ok.field-0-is)

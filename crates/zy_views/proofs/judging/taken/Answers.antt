@@ -7,4 +7,4 @@ use Rattle.zy_views.proofs.judging.taken.Goals as goal
 pub returns : goal.returns
 returns g c = λ s.
     let within = subst (λ (x : Going g.row.M-State.Denot). x.state.sealer.key.next ≤ 2 ^ levels_of x.state.sealer.key.height) c.progress.view_is c.has_leaves-can_sign.ensures.within in
-    c.ends.ensures ∙ taken_is s c.args.progress within
+    c.ends.ensures ∙ taken_is g.M.Machine.rules s c.args.progress c.requires within

@@ -2,7 +2,7 @@ use Rattle.std.proofs.Common.{◌≡◌, IfOk, ◌∙◌, ap, sym, subst}
 use Rattle.std.specs.Prelude.{nat_le}
 use Rattle.zy_table.specs.Deeds.{Outcome}
 use Rattle.zy_table.specs.State.{leaves_of}
-use Rattle.zy_views.proofs.OwnHateLemmas.{again_taken, again_spent}
+use Rattle.zy_views.proofs.OwnHateLemmas.{again_only, again_spent, again_taken}
 use Rattle.zy_views.proofs.own_hate.repeat_hate.Goals as goal
 
 pub returns-then-not-has_leaves : goal.returns-then-not-has_leaves
@@ -15,3 +15,6 @@ returns-then-not-has_leaves g c =
 pub returns : goal.returns
 returns g c =
     c.taken.ensures c.args.core ∙ again_taken g.M.Machine.rules c.args.core c.args.said c.in_ok-say_hate.field-0 c.requires.said c.requires.counted c.in_ok-say_hate.ensures
+
+pub taken-requires : goal.taken-requires
+taken-requires g c = again_only g.M.Machine.rules c.args.core c.args.said c.in_ok-say_hate.field-0 c.in_ok-say_hate.ensures

@@ -2,7 +2,7 @@ use Rattle.std.proofs.Common.{◌∙◌, ap}
 use Rattle.zy_table.specs.Deeds.{Outcome, ends}
 use Rattle.zy_views.specs.Judging.{asked}
 use Rattle.zy_views.proofs.TimerLemmas.{going_asked}
-use Rattle.zy_views.proofs.timers.ask_after.Goals as goal
+use Rattle.zy_views.proofs.asking.ask_after.Goals as goal
 
 pub returns-in_ok-ask_for_hole-in-Taken : goal.returns-in_ok-ask_for_hole-in-Taken
 returns-in_ok-ask_for_hole-in-Taken g c =
