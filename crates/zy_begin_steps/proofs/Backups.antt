@@ -50,11 +50,11 @@ use Rattle.zy_begin_steps.proofs.Taking.{ended}
 use Rattle.zy_begin_steps.specs.Steps.{IsLawfulStep, IsWorldOf}
 
 -- the clients of a history whose links are kept
-clients_of : (w : World) (texts : Texts) → AreLinks w texts → (head : Digest) (list : List Entry) → AreKept w.kept w.next head list → AllByRecursion IsOfClient list
+pub clients_of : (w : World) (texts : Texts) → AreLinks w texts → (head : Digest) (list : List Entry) → AreKept w.kept w.next head list → AllByRecursion IsOfClient list
 clients_of w texts links head [] kept = tt
 clients_of w texts links head (e ∷ list) kept = ((links head e kept.0).runnable.client, clients_of w texts links (w.next head e) list kept.1)
 
-active_in : (mode : Mode) → is_leaving_mode mode ≡ false → (view : View) × (mode ≡ Active view)
+pub active_in : (mode : Mode) → is_leaving_mode mode ≡ false → (view : View) × (mode ≡ Active view)
 active_in (Active view) is = (view, refl)
 active_in (Leaving view) is = absurd cc
 

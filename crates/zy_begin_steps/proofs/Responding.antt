@@ -44,7 +44,7 @@ use Rattle.zy_view_steps.specs.Cores.{core_of}
 use Rattle.zy_view_steps.specs.Rows.{IsReady}
 
 -- the entry of a place lies above the base
-above_base : {S : Type 0} (k : Kept S) (place : ℕ) (e : Entry) → entry_in (stretch_of k) place ≡ Some e → k.base.place < place
+pub above_base : {S : Type 0} (k : Kept S) (place : ℕ) (e : Entry) → entry_in (stretch_of k) place ≡ Some e → k.base.place < place
 above_base k place e = by (nat_le place k.base.place) refl
   where
     by : (low : Bool) → nat_le place k.base.place ≡ low → (if low then None else slice_get k.entries (place - k.base.place - 1)) ≡ Some e → k.base.place < place
