@@ -18,7 +18,7 @@ use Rattle.zy_chain.specs.Heads.{empty_head, head_of}
 use Rattle.zy_chain.specs.Stretch.{Mark}
 use Rattle.zy_chain.specs.declared.entry.Entry.{Entry}
 use Rattle.zy_change.specs.Views.{own_view}
-use Rattle.zy_check.specs.Board.{Round}
+use Rattle.zy_check.specs.Board.{Board, Round}
 use Rattle.zy_exec.proofs.HistoryLemmas.{stands_leads}
 use Rattle.zy_exec.proofs.ReplayLemmas.{head-along}
 use Rattle.zy_exec.specs.Kept.{Kept, known_in, last_place, now_of}
@@ -65,7 +65,7 @@ leads_gaining w r view number h got may = record { may = (may, tt); world = refl
 
 -- ---- what it works with, as more is said, and where it stands elsewhere
 
-still_may : (w : World) (r : ℕ) (y : Spoken) (e : Entry) → MayRun w e → MayRun (after_saying w r y) e
+pub still_may : (w : World) (r : ℕ) (y : Spoken) (e : Entry) → MayRun w e → MayRun (after_saying w r y) e
 still_may w r y e may = record { client = may.client; range = may.range; asked = may.asked }
 
 may_there : (w : World) (r : ℕ) (b : Stand) (e : Entry) → MayRun w e → MayRun (after_standing w r b) e
@@ -110,6 +110,23 @@ work_stood interval w r b low high p more is =
       end = is.end;
       near = round_stood w r b p.board.near is.near;
       far = round_stood w r b p.board.far is.far;
+    }
+
+-- with other responses and checkpoints
+pub work_board : (interval : ℕ) (w : World) (r bound : ℕ) (p : Workplace) (board : Board) → IsWorkTied interval w r bound p → IsRoundHeld w board.near → IsRoundHeld w board.far
+    → IsWorkTied interval w r bound (record p { board = board })
+work_board interval w r bound p board is near far =
+    record {
+      me = is.me;
+      counts = is.counts;
+      spaced = is.spaced;
+      ordered = is.ordered;
+      based = is.based;
+      runs = is.runs;
+      few = is.few;
+      end = is.end;
+      near = near;
+      far = far;
     }
 
 -- ---- on its way
@@ -186,7 +203,7 @@ module _ {S : Type 0} (R : Rules S) (interval : ℕ) (texts : Texts) (w : World)
           begun = is.begun;
         }
 
-    last_view_is : view.0 ≡ g.state.views.last_view.0
+    pub last_view_is : view.0 ≡ g.state.views.last_view.0
     last_view_is = subst (λ (mode : Mode). IsAhead g.state.views.last_view.0 mode) is.active is.tied.quiet.ahead
 
     pub own_view_is : table.own_view g.state ≡ view.0
@@ -201,14 +218,14 @@ module _ {S : Type 0} (R : Rules S) (interval : ℕ) (texts : Texts) (w : World)
       same_spoken : spoken ≡ spoken_at r is.at remark
       same_spoken = (let now : length (is.world.past r) - 1 ≡ is.at = omega (arith, is.last) in ap (λ (n : ℕ). record { what = statement_by r remark.body; when = n }) now)
 
-      lead_said : MaySay is.world r spoken → LeadsTo w r (table.own_view s) number h (g.deeds.acts ++ Says remark ∷ []) (after_saying is.world r spoken) (table.own_view s) is.at is.now
+      pub lead_said : MaySay is.world r spoken → LeadsTo w r (table.own_view s) number h (g.deeds.acts ++ Says remark ∷ []) (after_saying is.world r spoken) (table.own_view s) is.at is.now
       lead_said may =
           let own = table.own_view s in
           leads_on w r own number h g.deeds.acts (Says remark ∷ []) is.world (after_saying is.world r spoken) own own is.at is.at is.now is.now is.lead
           (subst (λ (x : Spoken). LeadsTo is.world r own is.at is.now (Says remark ∷ []) (after_saying is.world r x) own is.at is.now) (sym same_spoken)
           (leads_saying is.world r own is.at is.now remark (subst (λ (x : Spoken). MaySay is.world r x) same_spoken may)))
 
-      pub says : (then : ℕ) (next : Going S) → next.deeds.acts ≡ g.deeds.acts ++ Says remark ∷ [] → SaysLawfully R interval is.world r (core_of g.state) is.now (statement_by r remark.body)
+      unfoldable pub says : (then : ℕ) (next : Going S) → next.deeds.acts ≡ g.deeds.acts ++ Says remark ∷ [] → SaysLawfully R interval is.world r (core_of g.state) is.now (statement_by r remark.body)
           → core_of g.state ≡ core_of next.state → next.state.sealer.me ≡ g.state.sealer.me → IsWorkTied interval (after_saying is.world r spoken) r (length is.now + then) (workplace_of next.state) → IsWorking then next
       says then next acts lawfully same signer work =
           let modes : g.state.views.mode ≡ next.state.views.mode = ap (λ (c : Core S). c.views.mode) same in

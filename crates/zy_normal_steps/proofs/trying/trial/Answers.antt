@@ -1,4 +1,4 @@
-use Rattle.zy_normal_steps.proofs.Gained.{longer_kept}
+use Rattle.zy_normal_steps.proofs.Gathers.{own_held, gathers}
 use Rattle.zy_normal_steps.proofs.Working.{IsWorking}
 use Rattle.zy_normal_steps.proofs.trying.trial.Goals as goal
 
