@@ -1,3 +1,4 @@
 pub mod Gained
 pub mod Working
 pub mod Gathers
+pub mod Runs

@@ -68,7 +68,7 @@ leads_gaining w r view number h got may = record { may = (may, tt); world = refl
 pub still_may : (w : World) (r : ℕ) (y : Spoken) (e : Entry) → MayRun w e → MayRun (after_saying w r y) e
 still_may w r y e may = record { client = may.client; range = may.range; asked = may.asked }
 
-may_there : (w : World) (r : ℕ) (b : Stand) (e : Entry) → MayRun w e → MayRun (after_standing w r b) e
+pub may_there : (w : World) (r : ℕ) (b : Stand) (e : Entry) → MayRun w e → MayRun (after_standing w r b) e
 may_there w r b e may = record { client = may.client; range = may.range; asked = may.asked }
 
 round_said : (w : World) (r : ℕ) (y : Spoken) (round : Round) → IsRoundHeld w round → IsRoundHeld (after_saying w r y) round
@@ -97,7 +97,7 @@ work_said interval w r y low high p more new is =
       far = round_said w r y p.board.far is.far;
     }
 
-work_stood : (interval : ℕ) (w : World) (r : ℕ) (b : Stand) (low high : ℕ) (p : Workplace) → low ≤ high → IsWorkTied interval w r low p → IsWorkTied interval (after_standing w r b) r high p
+pub work_stood : (interval : ℕ) (w : World) (r : ℕ) (b : Stand) (low high : ℕ) (p : Workplace) → low ≤ high → IsWorkTied interval w r low p → IsWorkTied interval (after_standing w r b) r high p
 work_stood interval w r b low high p more is =
     record {
       me = is.me;
@@ -212,7 +212,7 @@ module _ {S : Type 0} (R : Rules S) (interval : ℕ) (texts : Texts) (w : World)
     -- ---- a statement more
 
     module _ (remark : Remark) where
-      abbrev spoken : Spoken
+      abbrev pub spoken : Spoken
       spoken = said_now is.world r (statement_by r remark.body)
 
       same_spoken : spoken ≡ spoken_at r is.at remark
@@ -293,10 +293,10 @@ module _ {S : Type 0} (R : Rules S) (interval : ℕ) (texts : Texts) (w : World)
     module _ (ask : Signed Ask) (run : MayRun w (entry_of ask)) (new : newer ask.stmt.stamp (option_map (λ (known : Known). known.stamp) (known_in R g.state.kept (entry_of ask).client.0)) ≡ true)
         (gain : IsGainKept w texts (got_of R g.state ask)) (of : AreOrdersOf is.world r (table.own_view g.state) (is.now ++ entry_of ask ∷ []))
         (top : ℕ) (low : last_place g.state.kept < top) (near : top ≤ g.state.kept.base.place + 2 * interval) (in_range : top < 2 ^ 62) where
-      abbrev e : Entry
+      abbrev pub e : Entry
       e = entry_of ask
 
-      abbrev far : List Entry
+      abbrev pub far : List Entry
       far = is.now ++ e ∷ []
 
       may_stand_there : MayStand is.world r (record { view = table.own_view g.state; history = far })
@@ -319,7 +319,7 @@ module _ {S : Type 0} (R : Rules S) (interval : ℕ) (texts : Texts) (w : World)
       views_are : table.own_view g.state ≡ g.state.views.last_view.0
       views_are = own_view_is ∙ last_view_is
 
-      runnable : IsRunnableNext interval is.world r (core_of g.state) is.now e
+      pub runnable : IsRunnableNext interval is.world r (core_of g.state) is.now e
       runnable =
           record {
             asked = asked_for;
@@ -330,13 +330,13 @@ module _ {S : Type 0} (R : Rules S) (interval : ℕ) (texts : Texts) (w : World)
             end = omega arith;
           }
 
-      abbrev stand : Stand
+      abbrev pub stand : Stand
       stand = record { view = g.state.views.last_view.0; history = far }
 
-      may_be : MayStand is.world r stand
+      pub may_be : MayStand is.world r stand
       may_be = may_run R interval is.world is.lawful r is.correct (core_of g.state) is.now is.tied view is.active e runnable
 
-      lead_run : LeadsTo w r (table.own_view s) number h (g.deeds.acts ++ Gains (got_of R g.state ask) ∷ []) (after_standing is.world r stand) (table.own_view s) (is.at + 1) far
+      pub lead_run : LeadsTo w r (table.own_view s) number h (g.deeds.acts ++ Gains (got_of R g.state ask) ∷ []) (after_standing is.world r stand) (table.own_view s) (is.at + 1) far
       lead_run =
           let own = table.own_view s in
           let got = got_of R g.state ask in
@@ -345,7 +345,7 @@ module _ {S : Type 0} (R : Rules S) (interval : ℕ) (texts : Texts) (w : World)
           (subst (λ (v : ℕ). LeadsTo is.world r own is.at is.now (Gains got ∷ []) (after_standing is.world r (record { view = v; history = far })) own (is.at + 1) far) (sym views)
           (leads_gaining is.world r own is.at is.now got (subst (λ (v : ℕ). MayStand is.world r (record { view = v; history = far })) views may_be)))
 
-      pub gains : more ≤ 1 → IsWorking 0 (executed R ask g)
+      unfoldable pub gains : more ≤ 1 → IsWorking 0 (executed R ask g)
       gains few =
           let long : length far ≡ length is.now + 1 = length-append is.now (e ∷ []) in
           record {
