@@ -2,3 +2,5 @@ pub mod Gained
 pub mod Working
 pub mod Gathers
 pub mod Runs
+pub mod Admitted
+pub mod Rows
