@@ -4,3 +4,4 @@ pub mod Gathers
 pub mod Runs
 pub mod Admitted
 pub mod Rows
+pub mod Requested

@@ -1,4 +1,4 @@
-use Rattle.zy_normal_steps.proofs.Rows.{orders}
+use Rattle.zy_normal_steps.proofs.Requested.{order_row}
 use Rattle.zy_normal_steps.proofs.Working.{IsWorking}
 use Rattle.zy_normal_steps.proofs.trying.trial.Goals as goal
 
