@@ -5,3 +5,5 @@ pub mod Runs
 pub mod Admitted
 pub mod Rows
 pub mod Requested
+pub mod Steps
+pub mod AtStart

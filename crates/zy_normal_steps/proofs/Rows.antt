@@ -372,10 +372,10 @@ module _ {S : Type 0} (R : Rules S) (interval : ℕ) (texts : Texts) (w : World)
       (above_base g.state.kept place e at) state_is)
       refl head_is)
 
-  keeps_board : (board : Board) → IsPut s (IsFrameHeld w) board → Goes (ends Held (begin (with_board s board)))
+  pub keeps_board : (board : Board) → IsPut s (IsFrameHeld w) board → Goes (ends Held (begin (with_board s board)))
   keeps_board board put gains = puts_board board put
 
-  looks_through : (place : ℕ) (board : Board) → IsPut s (IsFrameHeld w) board → Goes (ends Taken (gather_at R (own_at R s place) false (begin (with_board s board))))
+  pub looks_through : (place : ℕ) (board : Board) → IsPut s (IsFrameHeld w) board → Goes (ends Taken (gather_at R (own_at R s place) false (begin (with_board s board))))
   looks_through place board put gains =
       let is = puts_board board put in
       at_place (begin (with_board s board)) is place (λ own. Works (gather_at R own false (begin (with_board s board)))) is
@@ -458,6 +458,6 @@ module _ {S : Type 0} (R : Rules S) (interval : ℕ) (texts : Texts) (w : World)
         gathers R interval texts w r s h view g is spec state here true
         (λ brought. (subst (λ (p : ℕ). IsFarEnough g.state.views.specs p) places covers.far, subst (λ (x : Mark). IsCertified is.world view.0 x) marks covers.certified))))
 
-    commits : (client : ClientId) (said : Option (Signed Local)) → Goes (ends Taken (gather_at R (own_at R s local.place.0) true (give_local R client local said (holding s held))))
+    pub commits : (client : ClientId) (said : Option (Signed Local)) → Goes (ends Taken (gather_at R (own_at R s local.place.0) true (give_local R client local said (holding s held))))
     commits client None gains = let (is, covers) = gives_local client None in looks_with (say_local R client local (holding s held)) is refl covers
     commits client (Some said) gains = let (is, covers) = gives_local client (Some said) in looks_with (send_local client said (begin (holding s held))) is refl covers

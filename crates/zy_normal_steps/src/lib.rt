@@ -2,6 +2,10 @@
 //! laws, which have no argument and do nothing, and whose contracts speak of all worlds and all replicas.
 #![tactic(auto)]
 
-mod trying;
+mod entries;
+mod frames;
+mod ties;
 
-pub use trying::trial;
+pub use entries::working_rows;
+pub use frames::{leaving_refuses, working_steps};
+pub use ties::works_begin;

@@ -1,0 +1,11 @@
+use Rattle.zy_normal_steps.proofs.AtStart.{ready_at_start, work_at_start, work_grown}
+use Rattle.zy_normal_steps.proofs.ties.works_begin.Goals as goal
+
+pub returns : goal.returns
+returns g c =
+    let R = g.M.Machine.rules in
+    record {
+      ready = λ interval r w me counts keys sealer some lawful start links correct me_is counts_are signer. ready_at_start R interval r w me counts keys sealer some lawful start links correct me_is counts_are signer;
+      start = λ interval r w me counts keys sealer start correct me_is counts_are. work_at_start R interval r w me counts keys sealer start correct me_is counts_are;
+      grows = λ interval r w s history asked said past kept more told work. work_grown interval r w s history asked said past kept more told work;
+    }
