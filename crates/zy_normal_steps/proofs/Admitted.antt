@@ -1,6 +1,6 @@
 -- An order that is judged next or held lies past the end of the history and in the window.
-use Rattle.std.proofs.Common.{◌≡◌, ℕ, ◌+◌, ◌<◌, ◌≤◌, true, Option, Some, None, arith, ltb-false, leb-false}
-use Rattle.std.specs.Prelude.{nat_eq, nat_le, nat_lt}
+use Rattle.std.proofs.Common.{◌≡◌, ◌+◌, ◌<◌, ◌≤◌, true, Option, Some, None, ltb-false, leb-false}
+use Rattle.std.specs.Prelude.{nat_le, nat_lt}
 use Rattle.zy_admit.specs.Judging.{entry_of, judge_at_end, judge_beside, judge_fresh, judge_in, newer, same_digest, same_order}
 use Rattle.zy_admit.specs.Orders.{Orders, stored_in}
 use Rattle.zy_admit.specs.declared.judging.Admit.{Admit}

@@ -1,5 +1,5 @@
 -- What a history leads to stays kept with one entry more; and what is gained first is kept where all of it is.
-use Rattle.std.proofs.Common.{◌≡◌, ℕ, ◌+◌, ◌%◌, ◌<◌, ◌≤◌, inl, inr, zero, suc, nat_eq, nat_lt, nat_le, Bool, true, false, cond, List, [], ◌∷◌, ◌++◌, length, take, Option, Some, None, refl, sym, ap, ◌∙◌, subst, arith}
+use Rattle.std.proofs.Common.{◌≡◌, ℕ, ◌+◌, ◌<◌, ◌≤◌, inl, inr, zero, suc, nat_lt, nat_le, Bool, true, false, cond, List, [], ◌∷◌, ◌++◌, length, take, Option, Some, None, refl, sym, ap, ◌∙◌, subst, arith}
 use Rattle.std.specs.List.{AllByRecursion}
 use Rattle.std.specs.Prelude.{IfSome, option_map, slice_get}
 use Rattle.std.proofs.lemmas.Bool.{cases_lt, le-ltb, ltb-false}
@@ -7,10 +7,10 @@ use Rattle.std.proofs.lemmas.List.{length-append, take-append-le}
 use Rattle.std.proofs.lemmas.Option.{same_Some, slice_get_within}
 use Rattle.zy_base.specs.Machine.{Rules}
 use Rattle.zy_chain.specs.declared.entry.Entry.{Entry}
-use Rattle.zy_exec.proofs.HistoryLemmas.{stands_end, stands_leads, stands_run}
+use Rattle.zy_exec.proofs.HistoryLemmas.{stands_leads, stands_run}
 use Rattle.zy_exec.proofs.ReplayLemmas.{place-along}
 use Rattle.zy_exec.proofs.SettleLemmas.{stands_snapshot}
-use Rattle.zy_exec.specs.Kept.{Kept, StandsFor, last_place, longer, now_of}
+use Rattle.zy_exec.specs.Kept.{Kept, StandsFor, longer, now_of}
 use Rattle.zy_exec.specs.Replay.{Point, along, answer_at, known_of, origin}
 use Rattle.zy_exec.specs.Shots.{snapshot_at, snapshot_due, snapshot_in}
 use Rattle.zy_frames.specs.declared.frame.OrderFrame.{OrderFrame}
@@ -20,8 +20,8 @@ use Rattle.zy_lawful.proofs.Own.{by_test}
 use Rattle.zy_lawful.proofs.Records.{answer_longer, answer_pushed}
 use Rattle.zy_law.specs.World.{World}
 use Rattle.zy_table.specs.Deeds.{Going, gains_in}
-use Rattle.zy_table.specs.Running.{executed, fits_end, got_of, run_held, run_one, signs_of}
-use Rattle.zy_table.specs.State.{State, leaves_of}
+use Rattle.zy_table.specs.Running.{fits_end, got_of, run_held, run_one, signs_of}
+use Rattle.zy_table.specs.State.{leaves_of}
 use Rattle.zy_table.specs.declared.deeds.Act.{Act}
 use Rattle.zy_table.specs.declared.deeds.Act.TheVariants.{Gains}
 use Rattle.zy_table.specs.declared.deeds.Got.{Got}

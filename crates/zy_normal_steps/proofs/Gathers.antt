@@ -1,8 +1,7 @@
 -- What is kept at a place is looked through: lawfully, and the replica stays tied.
-use Rattle.std.proofs.Common.{◌≡◌, ◌⊎◌, inl, inr, ℕ, ◌+◌, ◌-◌, ◌*◌, ◌%◌, ◌^◌, ◌<◌, ◌≤◌, Bool, true, false, cond, ◌||◌, nat_eq, nat_lt, nat_le, List, [], ◌∷◌, ◌++◌, length, All, drop, take, fold, get_or, Option, Some, None, Ok, refl, sym, ap, ◌∙◌, subst, arith, eqb-true, lt-ltb}
-use Rattle.std.specs.List.{AllByRecursion}
+use Rattle.std.proofs.Common.{◌≡◌, ◌⊎◌, inl, inr, ℕ, ◌+◌, ◌-◌, ◌%◌, ◌<◌, ◌≤◌, Bool, true, false, cond, ◌||◌, nat_eq, nat_lt, List, [], ◌∷◌, length, All, take, Option, Some, None, refl, sym, ap, ◌∙◌, subst, arith, eqb-true, lt-ltb}
 use Rattle.std.specs.Prelude.{is_some, option_map}
-use Rattle.std.proofs.lemmas.Bool.{and_parts, or_parts}
+use Rattle.std.proofs.lemmas.Bool.{and_parts}
 use Rattle.std.proofs.lemmas.List.{length-drop, length-take-le}
 use Rattle.std.proofs.lemmas.List.Elements.{All-drop}
 use Rattle.zy_base.specs.Machine.{Rules}
@@ -14,11 +13,11 @@ use Rattle.zy_base.specs.declared.ids.Place.{Place}
 use Rattle.zy_base.specs.declared.ids.ReplicaId.{ReplicaId}
 use Rattle.zy_base.specs.declared.ids.View.{View}
 use Rattle.zy_chain.specs.Heads.{head_of}
-use Rattle.zy_chain.specs.Stretch.{Mark, head_in}
+use Rattle.zy_chain.specs.Stretch.{Mark}
 use Rattle.zy_chain.specs.declared.entry.Entry.{Entry}
 use Rattle.zy_cert.specs.Certificates.{IsCertificate}
 use Rattle.zy_cert.specs.Equal.{same_check, same_spec, check-equal, spec-equal}
-use Rattle.zy_cert.specs.Points.{point_of_check, point_of_spec}
+use Rattle.zy_cert.specs.Points.{point_of_spec}
 use Rattle.zy_change.specs.Views.{Views, is_further, with_specs}
 use Rattle.zy_change.specs.declared.kept.Certificate.{Certificate}
 use Rattle.zy_check.proofs.JudgingLemmas.{after_check-stays}
@@ -26,9 +25,9 @@ use Rattle.zy_check.specs.Board.{Board, checks_at, specs_at, stated, with_stable
 use Rattle.zy_check.specs.Judging.{after_check}
 use Rattle.zy_exec.proofs.ReplayLemmas.{head-along, place-along}
 use Rattle.zy_exec.proofs.SettleLemmas.{settled_end, settled_place, stands_settled}
-use Rattle.zy_exec.specs.Kept.{Kept, StandsFor, last_place, settled}
+use Rattle.zy_exec.specs.Kept.{Kept, last_place, settled}
 use Rattle.zy_exec.specs.Replay.{Point, along, origin}
-use Rattle.zy_exec.specs.Shots.{digest_of_snapshot, snapshot_due, snapshot_in}
+use Rattle.zy_exec.specs.Shots.{digest_of_snapshot, snapshot_due}
 use Rattle.zy_exec.specs.Snapshot.{snapshot_of}
 use Rattle.zy_law.specs.Fixed.{IsCertified}
 use Rattle.zy_law.specs.Histories.{Passes}
@@ -53,7 +52,6 @@ use Rattle.zy_table.specs.Deeds.{Going}
 use Rattle.zy_table.specs.Gathering.{certificate_at, check_with, gather, keep_certificate, owes_check, own_with, proof_at, say_check, say_check_if, settle_own, settle_with, settled_at, state_in}
 use Rattle.zy_table.specs.State as table
 use Rattle.zy_table.specs.State.{State, stood_of}
-use Rattle.zy_table.specs.declared.deeds.Act.TheVariants.{Says}
 use Rattle.zy_table.specs.declared.deeds.Body.TheVariants as bodies
 use Rattle.zy_table.specs.declared.deeds.Remark.{Remark}
 use Rattle.zy_view_law.proofs.InView.{says_checkpoint}
@@ -66,7 +64,7 @@ use Rattle.zy_view_law.specs.Tied.{Core, IsCommitHeld, IsFarEnough, IsGrounded, 
 use Rattle.zy_view_law.specs.Told.{check_told, response_told}
 use Rattle.zy_view_steps.specs.Cores.{core_of}
 use Rattle.zy_normal_steps.proofs.Working.{IsWorking, goes_as, last_view_is, own_view_is, says, standing, work_board, work_said}
-use Rattle.zy_normal_steps.specs.Work.{IsRoundHeld, IsWorkTied, workplace_of}
+use Rattle.zy_normal_steps.specs.Work.{workplace_of}
 
 -- the place and the head that a response tells
 abbrev pub mark_in : Spec → Mark

@@ -1,5 +1,5 @@
 -- What a request, a backup's request and an order can come to, and the room that there is then.
-use Rattle.std.proofs.Common.{◌≡◌, ℕ, ◌+◌, ◌<◌, ◌≤◌, Bool, true, false, Option, Some, None, refl, sym, ap, ◌∙◌, arith, inl, inr, ltb-false, ltb-true, lt-ltb}
+use Rattle.std.proofs.Common.{◌≡◌, ℕ, ◌+◌, ◌<◌, ◌≤◌, true, false, Option, Some, None, refl, ap, ◌∙◌, arith, inl, inr, ltb-false, ltb-true, lt-ltb}
 use Rattle.std.specs.Prelude.{nat_eq, nat_le, nat_lt, option_map, List, []}
 use Rattle.std.proofs.lemmas.Bool.{cases_lt, eqb-false}
 use Rattle.zy_base.specs.Machine.{Rules}

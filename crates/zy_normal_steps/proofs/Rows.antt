@@ -1,7 +1,6 @@
 -- The rows of normal operation are lawful in every view, and the replica can go on from there.
-use Rattle.std.proofs.Common.{◌≡◌, ℕ, ◌+◌, ◌-◌, ◌*◌, ◌%◌, ◌^◌, ◌<◌, ◌≤◌, nat_eq, nat_le, nat_lt, cond, Bool, true, false, List, [], ◌∷◌, ◌++◌, length, replicate, take, Option, Some, None, Ok, refl, sym, ap, ◌∙◌, subst, arith, eqb-true}
-use Rattle.std.specs.List.{AllByRecursion}
-use Rattle.std.specs.Prelude.{All, min, option_map}
+use Rattle.std.proofs.Common.{◌≡◌, ℕ, ◌+◌, ◌-◌, ◌*◌, ◌%◌, ◌^◌, ◌<◌, ◌≤◌, nat_eq, cond, true, false, List, [], ◌∷◌, ◌++◌, length, replicate, take, Option, Some, None, refl, sym, ap, ◌∙◌, subst, arith, eqb-true}
+use Rattle.std.specs.Prelude.{All}
 use Rattle.std.proofs.lemmas.Bool.{cond_both}
 use Rattle.std.proofs.lemmas.List.{length-append, length-replicate, length-set}
 use Rattle.std.proofs.lemmas.Option.{same_Some}
@@ -10,7 +9,6 @@ use Rattle.zy_base.specs.declared.cause.Cause.{Cause}
 use Rattle.zy_base.specs.declared.counts.Counts.{Counts}
 use Rattle.zy_base.specs.declared.ids.ClientId.{ClientId}
 use Rattle.zy_base.specs.declared.ids.Digest.{Digest}
-use Rattle.zy_base.specs.declared.ids.Place.{Place}
 use Rattle.zy_base.specs.declared.ids.Stamp.{Stamp}
 use Rattle.zy_base.specs.declared.ids.View.{View}
 use Rattle.zy_base.specs.declared.step.Answer.TheVariants.{Held, Taken}
@@ -22,7 +20,7 @@ use Rattle.zy_cert.specs.Certificates.{IsCertificate, certified}
 use Rattle.zy_cert.specs.Equal.{same_spec, spec-equal}
 use Rattle.zy_cert.specs.Points.{point_of_spec}
 use Rattle.zy_chain.specs.Entries.{digest_of_entry}
-use Rattle.zy_chain.specs.Stretch.{Mark, entry_in, head_in}
+use Rattle.zy_chain.specs.Stretch.{Mark, head_in}
 use Rattle.zy_chain.specs.declared.entry.Entry.{Entry}
 use Rattle.zy_change.specs.declared.kept.Certificate.{Certificate}
 use Rattle.zy_check.specs.Board as put_in
@@ -30,8 +28,6 @@ use Rattle.zy_check.specs.Board.{Board, Round, Stays, height, put_check, put_spe
 use Rattle.zy_exec.proofs.HistoryLemmas.{stands_end}
 use Rattle.zy_exec.specs.Kept.{Kept, known_in, last_place, stretch_of}
 use Rattle.zy_exec.specs.declared.known.Known.{Known}
-use Rattle.zy_frames.specs.declared.frame.Frame.{Frame}
-use Rattle.zy_frames.specs.declared.frame.Frame.TheVariants as frames
 use Rattle.zy_frames.specs.declared.frame.OrderFrame.{OrderFrame}
 use Rattle.zy_law.proofs.EntriesAskedFor.{entry_within}
 use Rattle.zy_law.proofs.HistoryLemmas.{mark_is}
@@ -40,7 +36,7 @@ use Rattle.zy_law.specs.Histories.{Passes}
 use Rattle.zy_law.specs.Lawful.{IsOrdered}
 use Rattle.zy_law.specs.Steps.{after_saying}
 use Rattle.zy_law.specs.World.{Answer, Spoken, Statement, World}
-use Rattle.zy_lawful.proofs.Cases.{HasLeaves, IsNew, IsOwnCommit, IsPut, responded, with_held}
+use Rattle.zy_lawful.proofs.Cases.{IsNew, IsOwnCommit, IsPut, responded, with_held}
 use Rattle.zy_lawful.proofs.Committed.{IsFurthest, certified_said, from_came, holding}
 use Rattle.zy_lawful.proofs.Follow.{in_state}
 use Rattle.zy_lawful.proofs.Going.{slots_put}
@@ -48,27 +44,23 @@ use Rattle.zy_lawful.proofs.KeptVotes.{AreKeptOf, with_check_kept, with_spec_kep
 use Rattle.zy_lawful.proofs.OneEntry.{AreOrdersOf, fold_is, known_now, next_ordered, orders_of_longer, orders_of_said, place_now}
 use Rattle.zy_lawful.proofs.Own.{client_told, head_told, kept_case, state_told}
 use Rattle.zy_lawful.proofs.Records.{IsLastOf, IsRecord}
-use Rattle.zy_lawful.specs.Acts.{history_after, statement_by, world_after}
-use Rattle.zy_lawful.specs.Tied.{MayRun, MaySlotRun}
-use Rattle.zy_parts.specs.Numbers as numbers
-use Rattle.zy_parts.specs.Statements.{spec_fields}
+use Rattle.zy_lawful.specs.Acts.{history_after, statement_by}
+use Rattle.zy_lawful.specs.Tied.{MayRun}
 use Rattle.zy_parts.specs.declared.signed.Signed.{Signed}
 use Rattle.zy_parts.specs.declared.statements.Ask.{Ask}
 use Rattle.zy_parts.specs.declared.statements.Check.{Check}
 use Rattle.zy_parts.specs.declared.statements.Hole.{Hole}
 use Rattle.zy_parts.specs.declared.statements.Local.{Local}
 use Rattle.zy_parts.specs.declared.statements.Spec.{Spec}
-use Rattle.zy_seal.specs.Sealing.{sealed_by}
 use Rattle.zy_table.specs.Checkpoints.{with_board}
-use Rattle.zy_table.specs.Commits.{give_local, locals_owed, say_local, send_local}
+use Rattle.zy_table.specs.Commits.{give_local, say_local, send_local}
 use Rattle.zy_table.specs.Deeds.{Going, Outcome, begin, ends, refused}
-use Rattle.zy_table.specs.Gathering.{checks_owed, gather_at, own_at, own_with, spec_at, state_in}
+use Rattle.zy_table.specs.Gathering.{gather_at, own_at, own_with, spec_at}
 use Rattle.zy_table.specs.Orders.{ask_for_missing, hole_of}
 use Rattle.zy_table.specs.Requests.{order_of, ordered, request_waits, sealed_confirm, sealed_order}
-use Rattle.zy_table.specs.Running.{next_known, run, sealed_spec, signs_of, spec_of}
+use Rattle.zy_table.specs.Running.{next_known, run, sealed_spec, spec_of}
 use Rattle.zy_table.specs.State as table
 use Rattle.zy_table.specs.State.{State, is_primary, spent, stood_of, window_of, with_pending, with_spec}
-use Rattle.zy_table.specs.declared.deeds.Act.TheVariants.{Says}
 use Rattle.zy_table.specs.declared.deeds.Body.TheVariants as bodies
 use Rattle.zy_table.specs.declared.deeds.Remark.{Remark}
 use Rattle.zy_table.specs.declared.deeds.Sent.{Sent}
@@ -85,9 +77,8 @@ use Rattle.zy_view_law.specs.Tied.{AreOrdersUpTo, Core, IsCommitHeld, IsFarEnoug
 use Rattle.zy_view_law.specs.Told.{check_told, response_told}
 use Rattle.zy_view_steps.specs.Cores.{core_of}
 use Rattle.zy_view_steps.specs.Rows.{IsReady}
-use Rattle.zy_normal_steps.proofs.Admitted.{IsFresh, IsNext}
 use Rattle.zy_normal_steps.proofs.Gathers.{IsHere, far_enough, gathers, holds, is_here, mark_in}
-use Rattle.zy_normal_steps.proofs.Gained.{held_gains, one_gains}
+use Rattle.zy_normal_steps.proofs.Gained.{one_gains}
 use Rattle.zy_normal_steps.proofs.Runs.{next_goes, one_goes, run_goes}
 use Rattle.zy_normal_steps.proofs.Working.{IsWorking, at_begin, begin_world, clients_now, goes_as, last_view_is, own_view_is, says, standing, still_may, work_board, work_said}
 use Rattle.zy_normal_steps.specs.Heard.{IsFrameHeld}
@@ -440,7 +431,7 @@ module _ {S : Type 0} (R : Rules S) (interval : ℕ) (texts : Texts) (w : World)
         let says_it : SaysLawfully R interval is.world r (core_of s') is.now (statement_by r remark.body) =
         subst (λ (n : ℕ). SaysLawfully R interval is.world r (core_of s') is.now (Statement.Local n m)) (sym views_are) says_view in (
           says R interval texts w r s h view 0 (begin s') is remark 0 (say_local R client local s') refl says_it refl refl
-          (work_said interval is.world r y (length is.now + 0) (length is.now + 0) (workplace_of s') (omega arith) (λ m request told. absurd cc) is.work),
+              (work_said interval is.world r y (length is.now + 0) (length is.now + 0) (workplace_of s') (omega arith) (λ m request told. absurd cc) is.work),
           record { far = far; certified = certified_said start.world r y view.0 m certified_in_view },
         )
 

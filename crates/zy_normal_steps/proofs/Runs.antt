@@ -1,5 +1,5 @@
 -- An order is run: its entry is executed and answered, and then the orders that were held for it.
-use Rattle.std.proofs.Common.{◌≡◌, ℕ, ◌+◌, ◌-◌, ◌*◌, ◌^◌, ◌<◌, ◌≤◌, nat_le, Bool, true, false, List, [], ◌∷◌, ◌++◌, length, drop, take, fold, Option, Some, None, refl, sym, ap, ◌∙◌, subst, arith}
+use Rattle.std.proofs.Common.{◌≡◌, ℕ, ◌+◌, ◌-◌, ◌*◌, ◌^◌, ◌<◌, ◌≤◌, nat_le, true, false, List, [], ◌∷◌, ◌++◌, length, take, Option, Some, None, refl, sym, ap, ◌∙◌, subst, arith}
 use Rattle.std.specs.List.{AllByRecursion}
 use Rattle.std.specs.Prelude.{option_map}
 use Rattle.std.proofs.lemmas.Bool.{and_parts}
@@ -18,7 +18,6 @@ use Rattle.zy_admit.specs.Orders.{slots_above, without_order}
 use Rattle.zy_check.proofs.JudgingLemmas.{after_spec-stays, without_others-stays}
 use Rattle.zy_check.specs.Board.{Board, without_others}
 use Rattle.zy_check.specs.Judging.{after_spec}
-use Rattle.zy_exec.proofs.HistoryLemmas.{stands_end}
 use Rattle.zy_exec.proofs.ReplayLemmas.{place-along}
 use Rattle.zy_exec.specs.Kept.{known_in, last_place, longer, now_of}
 use Rattle.zy_exec.specs.declared.known.Known.{Known}
@@ -30,7 +29,7 @@ use Rattle.zy_lawful.proofs.Follow.{Keeps, end_settled, in_state, one_keeps}
 use Rattle.zy_lawful.proofs.Going.{slots_from, slots_with}
 use Rattle.zy_lawful.proofs.KeptVotes.{AreKeptOf, after_spec_kept, without_others_kept}
 use Rattle.zy_lawful.proofs.OneEntry.{AreOrdersOf, fold_is, known_next, orders_of_longer}
-use Rattle.zy_lawful.proofs.Own.{IsOwnOf, by_test, state_told}
+use Rattle.zy_lawful.proofs.Own.{by_test, state_told}
 use Rattle.zy_lawful.proofs.Records.{IsLastOf}
 use Rattle.zy_lawful.specs.Acts.{statement_by}
 use Rattle.zy_lawful.specs.Tied.{MayRun, MaySlotRun}
@@ -43,7 +42,6 @@ use Rattle.zy_table.specs.Gathering.{check_with, own_with, state_in, with_own_sp
 use Rattle.zy_table.specs.Running.{executed, fits_end, got_of, next_known, respond, run, run_held, run_one, sealed_spec, share, signs_of, spec_of}
 use Rattle.zy_table.specs.State as table
 use Rattle.zy_table.specs.State.{State, leaves_of, stood_of}
-use Rattle.zy_table.specs.declared.deeds.Act.TheVariants.{Says}
 use Rattle.zy_table.specs.declared.deeds.Body.TheVariants as bodies
 use Rattle.zy_table.specs.declared.deeds.Remark.{Remark}
 use Rattle.zy_table.specs.declared.deeds.To.TheVariants.{All}
@@ -52,12 +50,12 @@ use Rattle.zy_view_law.proofs.InView.{says_response}
 use Rattle.zy_view_law.specs.Held.{IsHeldPart, IsVouchedBy, mark_at}
 use Rattle.zy_view_law.specs.Texts.{Texts}
 use Rattle.zy_view_law.specs.Tied.{AreOrdersUpTo, Core, IsTied, SaysLawfully, said_now}
-use Rattle.zy_view_law.specs.Told.{check_told, number_spelled, response_told}
+use Rattle.zy_view_law.specs.Told.{check_told, response_told}
 use Rattle.zy_view_steps.specs.Cores.{core_of}
 use Rattle.zy_normal_steps.proofs.Gained.{held_gains, one_gains}
 use Rattle.zy_normal_steps.proofs.Gathers.{IsHere, gathers, is_here, own_held}
 use Rattle.zy_normal_steps.proofs.Working.{IsWorking, gains, goes_as, last_view_is, own_view_is, says, standing, work_board, work_said}
-use Rattle.zy_normal_steps.specs.Work.{AreGainsKept, IsGainKept, IsWorkTied, workplace_of}
+use Rattle.zy_normal_steps.specs.Work.{AreGainsKept, IsGainKept, workplace_of}
 
 -- ---- where what is kept begins and ends
 

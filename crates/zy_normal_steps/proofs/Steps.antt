@@ -1,6 +1,6 @@
 -- Each step of a replica that stays in its view is lawful, whichever view that is, and also while it leaves one.
-use Rattle.std.proofs.Common.{◌≡◌, ℕ, Bool, true, false, List, [], ◌∷◌, Option, Some, None, Ok, Err, refl, sym, ap, ◌∙◌, subst}
-use Rattle.std.specs.Prelude.{All, Result, nat_lt, if◌then◌else◌}
+use Rattle.std.proofs.Common.{◌≡◌, ℕ, true, List, [], ◌∷◌, Option, Some, None, Ok, Err, refl, sym, ap, subst}
+use Rattle.std.specs.Prelude.{All, Result, nat_lt}
 use Rattle.zy_base.specs.Machine.{Rules}
 use Rattle.zy_base.specs.declared.cause.Cause.{Cause}
 use Rattle.zy_base.specs.declared.cause.Cause.TheVariants as causes
@@ -22,7 +22,7 @@ use Rattle.zy_frames.specs.declared.frame.Frame.{Frame}
 use Rattle.zy_frames.specs.declared.frame.Frame.TheVariants as frames
 use Rattle.zy_frames.specs.declared.frame.OrderFrame.{OrderFrame}
 use Rattle.zy_law.specs.World.{World}
-use Rattle.zy_lawful.proofs.Cases.{Cases, IsPut, decoded_case, timer_step_case}
+use Rattle.zy_lawful.proofs.Cases.{Cases, IsPut, decoded_case}
 use Rattle.zy_lawful.proofs.Own.{by_test}
 use Rattle.zy_lawful.specs.Tied.{MayRun}
 use Rattle.zy_parts.specs.declared.signed.Signed.{Signed}
@@ -45,7 +45,7 @@ use Rattle.zy_view_law.specs.Texts.{Texts}
 use Rattle.zy_view_law.specs.Told.{check_told, response_told}
 use Rattle.zy_view_steps.specs.Rows.{IsReady}
 use Rattle.zy_begin_steps.specs.Steps.{IsWorldOf}
-use Rattle.zy_normal_steps.proofs.Requested.{HasRoomFor, RoomCases, RunCases, confirm_row, order_row, request_row}
+use Rattle.zy_normal_steps.proofs.Requested.{RoomCases, RunCases, confirm_row, order_row, request_row}
 use Rattle.zy_normal_steps.proofs.Rows as rows
 use Rattle.zy_normal_steps.proofs.Rows.{Goes, done}
 use Rattle.zy_normal_steps.specs.Heard.{IsEventHeld, IsFrameHeld}

@@ -1,27 +1,25 @@
 -- A replica on its way through a step of normal operation: what it did so far is allowed, and it is tied in the world after it.
-use Rattle.std.proofs.Common.{◌≡◌, ℕ, ◌+◌, ◌-◌, ◌*◌, ◌^◌, ◌<◌, ◌≤◌, true, List, [], ◌∷◌, ◌++◌, length, fold, Option, Some, None, refl, sym, ap, ◌∙◌, subst, arith}
+use Rattle.std.proofs.Common.{◌≡◌, ℕ, ◌+◌, ◌-◌, ◌*◌, ◌^◌, ◌<◌, ◌≤◌, true, List, [], ◌∷◌, ◌++◌, length, fold, refl, sym, ap, ◌∙◌, subst, arith}
 use Rattle.std.specs.List.{AllByRecursion}
-use Rattle.std.specs.Prelude.{Contains, option_map}
+use Rattle.std.specs.Prelude.{option_map}
 use Rattle.std.proofs.lemmas.List.{length-append}
 use Rattle.std.proofs.lemmas.Option.{same_Some}
 use Rattle.zy_base.specs.Machine.{Rules}
 use Rattle.zy_base.specs.Step.{view_of}
 use Rattle.zy_base.specs.declared.ids.Digest.{Digest}
-use Rattle.zy_base.specs.declared.ids.Party.{Party}
 use Rattle.zy_base.specs.declared.ids.Party.TheVariants.{Replica}
 use Rattle.zy_base.specs.declared.ids.ReplicaId.{ReplicaId}
 use Rattle.zy_base.specs.declared.ids.View.{View}
 use Rattle.zy_base.specs.declared.step.Mode.{Mode}
 use Rattle.zy_base.specs.declared.step.Mode.TheVariants.{Active}
 use Rattle.zy_admit.specs.Judging.{entry_of, newer}
-use Rattle.zy_chain.specs.Heads.{empty_head, head_of}
+use Rattle.zy_chain.specs.Heads.{empty_head}
 use Rattle.zy_chain.specs.Stretch.{Mark}
 use Rattle.zy_chain.specs.declared.entry.Entry.{Entry}
-use Rattle.zy_change.specs.Views.{own_view}
 use Rattle.zy_check.specs.Board.{Board, Round}
 use Rattle.zy_exec.proofs.HistoryLemmas.{stands_leads}
 use Rattle.zy_exec.proofs.ReplayLemmas.{head-along}
-use Rattle.zy_exec.specs.Kept.{Kept, known_in, last_place, now_of}
+use Rattle.zy_exec.specs.Kept.{known_in, last_place, now_of}
 use Rattle.zy_exec.specs.Replay.{Point, origin}
 use Rattle.zy_exec.specs.declared.known.Known.{Known}
 use Rattle.zy_law.proofs.StepsLawful.{saying_lawful, standing_lawful}
@@ -45,9 +43,8 @@ use Rattle.zy_table.specs.declared.deeds.Got.{Got}
 use Rattle.zy_table.specs.declared.deeds.Remark.{Remark}
 use Rattle.zy_view_law.proofs.TieKept.{may_run, tied_run}
 use Rattle.zy_view_law.proofs.TiedGrown.{one_longer, own_said, parts_said, parts_stood}
-use Rattle.zy_view_law.specs.Adopted.{IsHistoryKept}
 use Rattle.zy_view_law.specs.Texts.{Texts}
-use Rattle.zy_view_law.specs.Tied.{AreOrdersUpTo, Core, IsAhead, IsRunnableNext, IsTied, SaysLawfully, ran_with, said_now}
+use Rattle.zy_view_law.specs.Tied.{Core, IsAhead, IsRunnableNext, IsTied, SaysLawfully, said_now}
 use Rattle.zy_view_law.specs.Told.{check_told, response_told}
 use Rattle.zy_view_steps.proofs.Led.{LeadsTo, leads_nowhere, leads_on, leads_saying}
 use Rattle.zy_view_steps.specs.Cores.{core_of}
