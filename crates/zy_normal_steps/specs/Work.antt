@@ -66,7 +66,7 @@ IsAtWork interval w r s history = IsWorkTied interval w r (length history) (work
 -- the link of an entry that is gained is kept, and so is what it leads to: its reply, and a snapshot that is due there
 pub record IsGainKept (w : World) (texts : Texts) (got : Got) : Type 0 where
   pub link : w.kept got.before got.entry ≡ true
-  pub reply : IsKept texts got.reply → IsKept texts got.reply
+  pub reply : IsKept texts got.reply
   pub snapshot : IfSome got.snapshot (IsKept texts)
 
 abbrev pub AreGainsKept : World → Texts → List Act → Type 0

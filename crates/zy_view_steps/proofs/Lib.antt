@@ -1,3 +1,4 @@
+pub mod AtWork
 pub mod BeginsWith
 pub mod CommonPlaces
 pub mod Gathered
