@@ -35,6 +35,7 @@ use Rattle.zy_view_steps.proofs.Leaves.{at_begin}
 use Rattle.zy_view_steps.proofs.Led.{LeadsTo, leads_adopting, leads_on}
 use Rattle.zy_view_steps.specs.Cores.{core_of}
 use Rattle.zy_view_steps.specs.Rows.{IsReady}
+use Rattle.zy_view_steps.specs.Work.{IsAtWork}
 use Rattle.zy_begin_steps.proofs.Responding.{IsInView, responds_at}
 use Rattle.zy_begin_steps.proofs.Worlds.{world_said, world_stood}
 use Rattle.zy_begin_steps.specs.Steps.{IsWorldOf}
@@ -93,6 +94,7 @@ module _ {S : Type 0} (R : Rules S) (interval : ℕ) (texts : Texts) (w : World)
     pub lead : LeadsTo w r (table.own_view s) number from g.deeds.acts world later at now
     pub tied : IsTied R interval world r (core_of g.state) now
     pub kept : IsWorldOf R interval world texts
+    pub works : IsAtWork interval w r s → IsAtWork interval world r g.state
 
   -- It did so by beginning a view, in which it is active.
   pub record HasBegun (g : Going S) : Type 0 where
@@ -119,6 +121,7 @@ module _ {S : Type 0} (R : Rules S) (interval : ℕ) (texts : Texts) (w : World)
     pub active : t.views.mode ≡ Active begun
     pub signer : t.sealer.me ≡ Replica t.views.me
     pub interval_is : t.views.interval ≡ interval
+    pub works : IsAtWork interval w r s → IsAtWork interval (after_standing world r (stand_adopted begun from common gots)) r t
 
   module _ (acts : List Act) (world : World) (before : IsBefore acts world) (begun : View) (common : Place) (gots : List Got) (t : State S) (may : MayBegin world begun common gots t)
       (d : Deeds) (done : d.acts ≡ acts ++ Adopts begun common gots ∷ []) (places : List ℕ) where
@@ -178,6 +181,7 @@ module _ {S : Type 0} (R : Rules S) (interval : ℕ) (texts : Texts) (w : World)
             lead = subst (λ (l : List Act). LeadsTo w r view number from l answered.way.world begun.0 (number + 1) list) (sym same) all;
             tied = subst (λ (u : State S). IsTied R interval answered.way.world r (core_of u) list) (sym apart.state) answered.way.tied;
             kept = subst (λ (u : World). IsWorldOf R interval u texts) (sym answered.way.world_is) (world_said R interval after texts kept_after answered.way.told);
+            works = λ work. subst (λ (u : State S). IsAtWork interval answered.way.world r u) (sym apart.state) (answered.way.works (may.works work));
           };
           view = begun;
           active = ap (λ (u : State S). u.views.mode) apart.state ∙ answered.active;

@@ -18,6 +18,7 @@ use Rattle.zy_view_law.specs.Adopted.{AreWorldTexts}
 use Rattle.zy_view_law.specs.Texts.{Texts, list_in}
 use Rattle.zy_view_law.specs.Tied.{IsTied}
 use Rattle.zy_view_steps.specs.Cores.{core_of}
+use Rattle.zy_view_steps.specs.Work.{IsAtWork}
 
 -- The law speaks of this machine's replies and snapshots, and these are the world's texts: what each correct history leads to
 -- is kept.
@@ -26,11 +27,12 @@ pub record IsWorldOf {S : Type 0} (R : Rules S) (interval : ℕ) (w : World) (te
   pub kept : AreWorldTexts R interval w texts
 
 -- What it says and where it stands next is allowed, one after another. It is tied to the world after that, with the history
--- that it has then; and what that leads to is kept too.
+-- that it has then; and what that leads to is kept too. Where it could work on before, it can then.
 pub record IsLawfulStep {S : Type 0} (R : Rules S) (interval : ℕ) (texts : Texts) (w : World) (r : ℕ) (s : State S) (history : List Entry) (outcome : Outcome S) : Type 0 where
   pub may : AllMay w r (acts_of w r s history outcome)
   pub tied : IsTied R interval (world_after w r s history outcome) r (core_of outcome.state) (history_after history outcome.deeds.acts)
   pub world : IsWorldOf R interval (world_after w r s history outcome) texts
+  pub works : IsAtWork interval w r s → IsAtWork interval (world_after w r s history outcome) r outcome.state
 
 -- ---- a snapshot that comes
 

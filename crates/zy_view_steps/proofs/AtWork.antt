@@ -1,27 +1,35 @@
 -- What a replica works with, as it says more and stands elsewhere.
-use Rattle.std.proofs.Common.{◌≡◌, inr, ℕ, zero, suc, ◌+◌, ◌<◌, ◌≤◌, Bool, cond, List, [], ◌∷◌, ◌++◌, length, fold, Option, Some, None, refl, sym, ap, ◌∙◌, subst, arith, eq-eqb}
+use Rattle.std.proofs.Common.{◌≡◌, inr, ℕ, zero, suc, ◌+◌, ◌<◌, ◌≤◌, Bool, cond, List, [], ◌∷◌, ◌++◌, length, fold, take, Option, Some, None, refl, sym, ap, ◌∙◌, subst, arith, eq-eqb}
 use Rattle.std.specs.List.{AllByRecursion}
 use Rattle.std.specs.Prelude.{slice_get}
+use Rattle.std.proofs.lemmas.List.{length-take}
 use Rattle.std.proofs.lemmas.List.Sums.{fold-append}
 use Rattle.std.proofs.lemmas.Nat.{from_be_bytes-to_be_bytes_4}
 use Rattle.std.proofs.lemmas.Option.{same_Some}
+use Rattle.zy_base.specs.Machine.{Rules}
+use Rattle.zy_base.specs.declared.counts.Counts.{Counts}
 use Rattle.zy_base.specs.declared.ids.Digest.{Digest}
 use Rattle.zy_base.specs.declared.ids.Party.{Party}
 use Rattle.zy_base.specs.declared.ids.Party.TheVariants.{Replica}
 use Rattle.zy_base.specs.declared.ids.ReplicaId.{ReplicaId}
 use Rattle.zy_chain.specs.Stretch.{Mark}
 use Rattle.zy_chain.specs.declared.entry.Entry.{Entry}
-use Rattle.zy_check.specs.Board.{Board, Round}
-use Rattle.zy_law.specs.Said.{IsCorrect, IsVouched, Stood}
+use Rattle.zy_admit.specs.Orders.{Orders, no_orders}
+use Rattle.zy_check.specs.Board.{Board, Round, no_round}
+use Rattle.zy_frames.specs.declared.frame.OrderFrame.{OrderFrame}
+use Rattle.zy_law.specs.Said.{IsCorrect, IsVouched, Says, Stood}
 use Rattle.zy_law.specs.Steps.{after_saying, after_standing}
 use Rattle.zy_law.specs.World.{Spoken, Stand, Statement, World}
+use Rattle.zy_lawful.proofs.KeptVotes.{none_kept}
 use Rattle.zy_lawful.proofs.OneEntry.{slots_more}
-use Rattle.zy_lawful.specs.Tied.{MayRun}
+use Rattle.zy_lawful.specs.Tied.{MayRun, MaySlotRun}
 use Rattle.zy_parts.specs.declared.statements.Spec.{Spec}
 use Rattle.zy_table.specs.State.{State}
 use Rattle.zy_view_law.proofs.TiedGrown.{has_said_last, own_said, parts_said, parts_stood}
-use Rattle.zy_view_law.specs.Held.{IsVouchedBy, mark_at}
+use Rattle.zy_view_law.specs.Held.{IsHeldPart, IsVouchedBy, mark_at}
+use Rattle.zy_view_law.specs.Tied.{IsTied}
 use Rattle.zy_view_law.specs.Told.{check_told, response_told}
+use Rattle.zy_view_steps.specs.Cores.{core_of}
 use Rattle.zy_view_steps.specs.Work.{IsAtWork, IsRoundHeld, IsWorkTied, Workplace, last_long, workplace_of}
 
 -- ---- the last stand
@@ -119,8 +127,57 @@ work_board interval w r bound p board is near far =
       far = far;
     }
 
+all_take : {A : Type 0} (P : A → Type 0) (n : ℕ) (xs : List A) → AllByRecursion P xs → AllByRecursion P (take n xs)
+all_take P zero xs all = tt
+all_take P (suc n) [] all = tt
+all_take P (suc n) (x ∷ xs) all = (all.0, all_take P n xs all.1)
+
+-- without the orders from a place on
+pub work_shorter : (interval : ℕ) (w : World) (r bound n : ℕ) (p : Workplace) → IsWorkTied interval w r bound p
+    → IsWorkTied interval w r bound (record p { orders = record { base = p.orders.base; slots = take n p.orders.slots } })
+work_shorter interval w r bound n p is =
+    let long = length-take n p.orders.slots in
+    record {
+      me = is.me;
+      counts = is.counts;
+      spaced = is.spaced;
+      ordered = is.ordered;
+      based = is.based;
+      runs = all_take (MaySlotRun w) n p.orders.slots is.runs;
+      few = omega (arith, is.few, long);
+      end = omega (arith, is.end, long);
+      near = is.near;
+      far = is.far;
+    }
+
 -- after what is no order
 pub works_said : {S : Type 0} (interval : ℕ) (w : World) (r : ℕ) (y : Spoken) (s : State S) → ((view : ℕ) (m : Mark) (request : Digest) → y.what ≡ Statement.Order view m request → ⊥) → IsAtWork interval w r s
     → IsAtWork interval (after_saying w r y) r s
 works_said interval w r y s unordered is =
     work_said interval w r y (last_long (w.past r)) (last_long (w.past r)) (workplace_of s) (omega arith) (λ m request told. absurd (unordered s.views.last_view.0 m request told)) is
+
+-- ---- where a view begins
+
+-- it gave no order in it yet, and keeps none
+pub work_begins : {S : Type 0} (R : Rules S) (interval : ℕ) (w : World) (r bound : ℕ) (b : Stand) (p : Workplace) (t : State S) (list : List Entry) → IsWorkTied interval w r bound p → IsTied R interval (after_standing w r b) r (core_of t) list
+    → t.me ≡ p.me → t.counts ≡ p.counts → t.kept.interval ≡ p.interval → t.orders ≡ no_orders t.board.stable.place.0 → t.board.near ≡ no_round → t.board.far ≡ no_round
+    → ((number : ℕ) (x : Spoken) (m : Mark) (request : Digest) → Says w r number x → x.what ≡ Statement.Order t.views.last_view.0 m request → ⊥) → IsAtWork interval (after_standing w r b) r t
+work_begins R interval w r bound b p t list is tied me counts spaced orders near far unordered =
+    let after = after_standing w r b in
+    let base = ap (λ (o : Orders). o.base) orders in
+    let slots = ap (λ (o : Orders). o.slots) orders in
+    let none : length t.orders.slots ≡ 0 = ap (λ (l : List (Option OrderFrame)). length l) slots in
+    let place = tied.grounded.place in
+    let kept : IsRoundHeld after no_round = none_kept (IsHeldPart after response_told) (IsHeldPart after check_told) in
+    record {
+      me = ap (λ (id : ReplicaId). id.0) me ∙ is.me;
+      counts = counts ∙ is.counts;
+      spaced = spaced ∙ is.spaced;
+      ordered = λ number x m request says what. absurd (unordered number x m request says what);
+      based = base ∙ sym place;
+      runs = subst (λ (l : List (Option OrderFrame)). AllByRecursion (MaySlotRun after) l) (sym slots) tt;
+      few = omega (arith, none);
+      end = omega (arith, none, base, place, tied.grounded.end);
+      near = subst (IsRoundHeld after) (sym near) kept;
+      far = subst (IsRoundHeld after) (sym far) kept;
+    }

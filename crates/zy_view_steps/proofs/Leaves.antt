@@ -20,6 +20,7 @@ use Rattle.zy_choose.specs.Marks.{link}
 use Rattle.zy_choose.specs.declared.choice.Choice.{Choice}
 use Rattle.zy_choose.specs.declared.choice.Choice.TheVariants as choices
 use Rattle.zy_evidence.specs.Reading.{read}
+use Rattle.zy_exec.specs.Kept.{last_place}
 use Rattle.zy_law.proofs.StepsLawful.{saying_lawful}
 use Rattle.zy_law.specs.Lawful.{IsLawful}
 use Rattle.zy_law.specs.Said.{IsCorrect}
@@ -50,12 +51,12 @@ use Rattle.zy_view_law.proofs.TiedGrown.{chosen_said}
 use Rattle.zy_view_law.specs.Held.{IsProperNew}
 use Rattle.zy_view_law.specs.Tied.{IsChosenNew, IsHearing, IsTied, said_now, told_by, with_heard}
 use Rattle.zy_view_law.specs.Told.{began_told, change_told}
-use Rattle.zy_view_steps.proofs.AtWork.{works_said}
+use Rattle.zy_view_steps.proofs.AtWork.{work_shorter, works_said}
 use Rattle.zy_view_steps.proofs.Gathered.{gathered_proper}
 use Rattle.zy_view_steps.proofs.Led.{LeadsTo, leads_nowhere, leads_on, leads_saying}
 use Rattle.zy_view_steps.specs.Cores.{core_of}
 use Rattle.zy_view_steps.specs.Rows.{IsLawfulRow, IsReady, blames}
-use Rattle.zy_view_steps.specs.Work.{IsAtWork}
+use Rattle.zy_view_steps.specs.Work.{IsAtWork, workplace_of}
 
 pub left_mode : {S : Type 0} (R : Rules S) (view : View) (g : Going S) → (leave_alone R view g).state.views.mode ≡ Leaving view
 unfolding leave_alone
@@ -149,7 +150,8 @@ module _ {S : Type 0} (R : Rules S) (interval : ℕ) (w : World) (r : ℕ) (s : 
         said_more g way (record { body = bodies.Change change.stmt; stood = table.stood_of R (left_with_table view change g.state) }) (leave_alone R view g) refl may
         (subst (λ (by : Party). IsTied R interval (after_saying way.world r (said_now way.world r (change_told r (change_to view (told_by c))))) r
         (record c { views = left view (with_change (record { by = by; stmt = change.stmt; sig = change.sig }) c.views) }) history) (sym way.signer) gone)
-        way.signer way.interval_is (works_said interval way.world r _ g.state (λ v m request told. absurd cc))
+        way.signer way.interval_is
+        (λ work. work_shorter interval _ r _ (last_place g.state.kept - g.state.orders.base) (workplace_of g.state) (works_said interval way.world r _ g.state (λ v m request told. absurd cc) work))
 
     -- the world after it
     pub leave_says : (above : own_view g.state.views < view.0) → (leave_on above).world ≡ after_saying way.world r (said_now way.world r (change_told r (change_to view (told_by (core_of g.state)))))
