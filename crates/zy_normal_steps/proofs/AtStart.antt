@@ -29,7 +29,7 @@ use Rattle.zy_view_law.specs.Tied.{IsTied}
 use Rattle.zy_view_law.specs.Told.{check_told, response_told}
 use Rattle.zy_view_steps.specs.Cores.{core_of}
 use Rattle.zy_view_steps.specs.Rows.{IsReady}
-use Rattle.zy_normal_steps.specs.Work.{IsAtWork, IsRoundHeld}
+use Rattle.zy_view_steps.specs.Work.{IsAtWork, IsRoundHeld, last_long}
 
 module _ {S : Type 0} (R : Rules S) (interval r : ℕ) (w : World) (me : ReplicaId) (counts : Counts) (keys : Keys) (sealer : SealerState) where
   pub ready_at_start : 0 < interval → IsLawful w → IsStart w → w.next ≡ link → IsCorrect w r → me.0 ≡ r → counts ≡ w.counts → sealer.me ≡ Replica me → IsReady R interval w r (start_of R interval me counts keys sealer) []
@@ -44,7 +44,7 @@ module _ {S : Type 0} (R : Rules S) (interval r : ℕ) (w : World) (me : Replica
         interval_is = refl;
       }
 
-  pub work_at_start : IsStart w → IsCorrect w r → me.0 ≡ r → counts ≡ w.counts → IsAtWork interval w r (start_of R interval me counts keys sealer) []
+  pub work_at_start : IsStart w → IsCorrect w r → me.0 ≡ r → counts ≡ w.counts → IsAtWork interval w r (start_of R interval me counts keys sealer)
   work_at_start start correct me_is counts_are =
       record {
         me = me_is;
@@ -59,14 +59,15 @@ module _ {S : Type 0} (R : Rules S) (interval r : ℕ) (w : World) (me : Replica
         far = none_kept (IsHeldPart w response_told) (IsHeldPart w check_told);
       }
 
-pub work_grown : {S : Type 0} (interval r : ℕ) (w : World) (s : State S) (history : List Entry) (asked : ℕ → List Entry) (said : ℕ → List Spoken) (past : ℕ → List Stand) (kept : Digest → Entry → Bool) → IsGrown w asked said past kept
-    → said r ≡ w.said r → IsAtWork interval w r s history → IsAtWork interval (grown w asked said past kept) r s history
-work_grown interval r w s history asked said past kept more told is =
+pub work_grown : {S : Type 0} (interval r : ℕ) (w : World) (s : State S) (asked : ℕ → List Entry) (said : ℕ → List Spoken) (past : ℕ → List Stand) (kept : Digest → Entry → Bool) → IsGrown w asked said past kept
+    → said r ≡ w.said r → past r ≡ w.past r → IsAtWork interval w r s → IsAtWork interval (grown w asked said past kept) r s
+work_grown interval r w s asked said past kept more told stood is =
     record {
       me = is.me;
       counts = is.counts;
       spaced = is.spaced;
-      ordered = λ number x m request says what. is.ordered number x m request (ap (λ (l : List Spoken). slice_get l number) (sym told) ∙ says) what;
+      ordered = λ number x m request says what.
+          omega (arith, is.ordered number x m request (ap (λ (l : List Spoken). slice_get l number) (sym told) ∙ says) what, ap last_long stood);
       based = is.based;
       runs = slots_more w (grown w asked said past kept) may s.orders.slots is.runs;
       few = is.few;

@@ -27,7 +27,7 @@ use Rattle.zy_table.specs.declared.deeds.Act.TheVariants.{Gains}
 use Rattle.zy_table.specs.declared.deeds.Got.{Got}
 use Rattle.zy_view_law.specs.Adopted.{IsHistoryKept}
 use Rattle.zy_view_law.specs.Texts.{IsKept, Texts}
-use Rattle.zy_normal_steps.specs.Work.{AreGainsKept, IsGainKept}
+use Rattle.zy_normal_steps.specs.Gains.{AreGainsKept, IsGainKept}
 
 -- ---- one entry more
 

@@ -62,9 +62,10 @@ use Rattle.zy_view_law.specs.Held.{IsHeldPart, IsVouchedBy, mark_at}
 use Rattle.zy_view_law.specs.Texts.{Texts}
 use Rattle.zy_view_law.specs.Tied.{Core, IsCommitHeld, IsFarEnough, IsGrounded, IsTied, SaysLawfully, said_now, settled_with}
 use Rattle.zy_view_law.specs.Told.{check_told, response_told}
+use Rattle.zy_view_steps.proofs.AtWork.{own_held, work_board, work_said}
 use Rattle.zy_view_steps.specs.Cores.{core_of}
-use Rattle.zy_normal_steps.proofs.Working.{IsWorking, goes_as, last_view_is, own_view_is, says, standing, work_board, work_said}
-use Rattle.zy_normal_steps.specs.Work.{workplace_of}
+use Rattle.zy_normal_steps.proofs.Working.{IsWorking, goes_as, last_view_is, own_view_is, says, standing}
+use Rattle.zy_view_steps.specs.Work.{workplace_of}
 
 -- the place and the head that a response tells
 abbrev pub mark_in : Spec → Mark
@@ -73,12 +74,6 @@ mark_in spec = mark_at spec.place spec.head
 either : (a b : Bool) → a || b ≡ true → (a ≡ true) ⊎ (b ≡ true)
 either true b is = inl refl
 either false b is = inr is
-
--- what a replica just said is held
-pub own_held : (w : World) (r : ℕ) (y : Spoken) (by : Party) (me : ReplicaId) → IsCorrect w r → by ≡ Replica me → me.0 ≡ r → IsVouchedBy (after_saying w r y) y.what by
-own_held w r y by me correct signer is =
-    let itself : IsVouched (after_saying w r y) y.what r = record { within = correct.within; said = inr (has_said_last w r y) } in
-    subst (λ (p : Party). IsVouchedBy (after_saying w r y) y.what p) (sym signer) (subst (λ (n : ℕ). IsVouched (after_saying w r y) y.what n) (sym is) itself)
 
 -- ---- what the own history has at a place
 

@@ -67,7 +67,7 @@ use Rattle.zy_table.specs.declared.deeds.Sent.{Sent}
 use Rattle.zy_table.specs.declared.kept.OwnCheckpoint.{OwnCheckpoint}
 use Rattle.zy_begin_steps.proofs.Adopting.{ends_lawfully}
 use Rattle.zy_begin_steps.proofs.Responding.{above_base, true_reply}
-use Rattle.zy_begin_steps.specs.Steps.{IsWorldOf}
+use Rattle.zy_begin_steps.specs.Steps.{IsLawfulStep, IsWorldOf}
 use Rattle.zy_view_law.proofs.InView.{says_commit, says_order, says_other, says_response}
 use Rattle.zy_view_law.proofs.ProvenReports.{spec_certified}
 use Rattle.zy_view_law.proofs.RunningOn.{kept_passes}
@@ -75,14 +75,16 @@ use Rattle.zy_view_law.specs.Held.{IsHeldPart, mark_at}
 use Rattle.zy_view_law.specs.Texts.{Texts}
 use Rattle.zy_view_law.specs.Tied.{AreOrdersUpTo, Core, IsCommitHeld, IsFarEnough, IsTied, SaysLawfully, said_now}
 use Rattle.zy_view_law.specs.Told.{check_told, response_told}
+use Rattle.zy_view_steps.proofs.AtWork.{last_of, still_may, work_board, work_said}
 use Rattle.zy_view_steps.specs.Cores.{core_of}
 use Rattle.zy_view_steps.specs.Rows.{IsReady}
 use Rattle.zy_normal_steps.proofs.Gathers.{IsHere, far_enough, gathers, holds, is_here, mark_in}
 use Rattle.zy_normal_steps.proofs.Gained.{one_gains}
 use Rattle.zy_normal_steps.proofs.Runs.{next_goes, one_goes, run_goes}
-use Rattle.zy_normal_steps.proofs.Working.{IsWorking, at_begin, begin_world, clients_now, goes_as, last_view_is, own_view_is, says, standing, still_may, work_board, work_said}
+use Rattle.zy_normal_steps.proofs.Working.{IsWorking, at_begin, begin_world, clients_now, goes_as, last_view_is, own_view_is, says, standing}
 use Rattle.zy_normal_steps.specs.Heard.{IsFrameHeld}
-use Rattle.zy_normal_steps.specs.Work.{AreGainsKept, IsAtWork, IsWorkLawful, IsWorkTied, Workplace, workplace_of}
+use Rattle.zy_view_steps.specs.Work.{IsAtWork, IsWorkTied, Workplace, last_long, workplace_of}
+use Rattle.zy_normal_steps.specs.Gains.{AreGainsKept}
 
 -- ---- what is kept, changed
 
@@ -133,7 +135,7 @@ work_put interval w r bound p o is may inside =
       far = is.far;
     }
 
-module _ {S : Type 0} (R : Rules S) (interval : ℕ) (texts : Texts) (w : World) (r : ℕ) (s : State S) (h : List Entry) (ready : IsReady R interval w r s h) (kept : IsWorldOf R interval w texts) (work : IsAtWork interval w r s h)
+module _ {S : Type 0} (R : Rules S) (interval : ℕ) (texts : Texts) (w : World) (r : ℕ) (s : State S) (h : List Entry) (ready : IsReady R interval w r s h) (kept : IsWorldOf R interval w texts) (work : IsAtWork interval w r s)
     (view : View) (active : s.views.mode ≡ Active view) where
   abbrev pub Works : Going S → Type 0
   Works g = IsWorking R interval texts w r s h view 0 g
@@ -142,16 +144,22 @@ module _ {S : Type 0} (R : Rules S) (interval : ℕ) (texts : Texts) (w : World)
   abbrev pub Goes : Outcome S → Type 0
   Goes o = AreGainsKept w texts o.deeds.acts → Works (record { state = o.state; deeds = o.deeds })
 
-  pub done : (o : Outcome S) → Goes o → AreGainsKept w texts o.deeds.acts → IsWorkLawful R interval texts w r s h o
+  pub done : (o : Outcome S) → Goes o → AreGainsKept w texts o.deeds.acts → IsLawfulStep R interval texts w r s h o
   done o goes gains =
       let is = goes gains in
       let g : Going S = record { state = o.state; deeds = o.deeds } in
-      let all : length is.now + 0 ≡ length (history_after h o.deeds.acts) = omega (arith, ap (λ (l : List Entry). length l) is.lead.history) in
-      record {
-        lawful = ends_lawfully R interval texts w r s h g o.answer (record { world = is.world; later = table.own_view s; at = is.at; now = is.now; lead = is.lead; tied = is.tied; kept = is.kept });
-        work = subst (λ (u : World). IsWorkTied interval u r (length (history_after h o.deeds.acts)) (workplace_of o.state)) (sym is.lead.world)
-            (subst (λ (n : ℕ). IsWorkTied interval is.world r n (workplace_of o.state)) all is.work);
-      }
+      let long : length is.now + 0 ≡ last_long (is.world.past r) = omega (arith, last_of is.world r is.tied.standing.number _ is.tied.standing.stood is.tied.standing.last) in
+      ends_lawfully R interval texts w r s h g o.answer
+      (record {
+        world = is.world;
+        later = table.own_view s;
+        at = is.at;
+        now = is.now;
+        lead = is.lead;
+        tied = is.tied;
+        kept = is.kept;
+        works = λ before. subst (λ (n : ℕ). IsWorkTied interval is.world r n (workplace_of o.state)) long is.work;
+      })
 
   abbrev start : Works (begin s)
   start = at_begin R interval texts w r s h view ready kept work active

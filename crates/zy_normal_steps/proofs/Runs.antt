@@ -51,11 +51,13 @@ use Rattle.zy_view_law.specs.Held.{IsHeldPart, IsVouchedBy, mark_at}
 use Rattle.zy_view_law.specs.Texts.{Texts}
 use Rattle.zy_view_law.specs.Tied.{AreOrdersUpTo, Core, IsTied, SaysLawfully, said_now}
 use Rattle.zy_view_law.specs.Told.{check_told, response_told}
+use Rattle.zy_view_steps.proofs.AtWork.{own_held, told_alike, work_board, work_said}
 use Rattle.zy_view_steps.specs.Cores.{core_of}
 use Rattle.zy_normal_steps.proofs.Gained.{held_gains, one_gains}
-use Rattle.zy_normal_steps.proofs.Gathers.{IsHere, gathers, is_here, own_held}
-use Rattle.zy_normal_steps.proofs.Working.{IsWorking, gains, goes_as, last_view_is, own_view_is, says, standing, work_board, work_said}
-use Rattle.zy_normal_steps.specs.Work.{AreGainsKept, IsGainKept, workplace_of}
+use Rattle.zy_normal_steps.proofs.Gathers.{IsHere, gathers, is_here}
+use Rattle.zy_normal_steps.proofs.Working.{IsWorking, gains, goes_as, last_view_is, own_view_is, says, standing}
+use Rattle.zy_view_steps.specs.Work.{workplace_of}
+use Rattle.zy_normal_steps.specs.Gains.{AreGainsKept, IsGainKept}
 
 -- ---- where what is kept begins and ends
 
@@ -89,14 +91,6 @@ module _ {S : Type 0} (R : Rules S) where
 
   one_above : (o : OrderFrame) (g : Going S) → g.state.kept.base.place ≤ (run_one R o g).state.kept.base.place
   one_above o g = one_keeps R (λ g'. g.state.kept.base.place ≤ g'.state.kept.base.place) (bases_rise g.state.kept.base.place) o g (omega arith)
-
--- ---- a response as it is spelled
-
--- of a client that there may be it is as it was said
-told_alike : (spec : Spec) → spec.client.0 < 64 → Statement.Spec spec.view.0 (mark_at spec.place spec.head) (record { client = spec.client.0; stamp = spec.stamp.0; reply = spec.reply }) ≡ response_told spec
-told_alike spec small =
-    ap (λ (n : ℕ). Statement.Spec spec.view.0 (mark_at spec.place spec.head) (record { client = n; stamp = spec.stamp.0; reply = spec.reply }))
-    (sym (from_be_bytes-to_be_bytes_4 spec.client.0 (omega arith)))
 
 module _ {S : Type 0} (R : Rules S) (interval : ℕ) (texts : Texts) (w : World) (r : ℕ) (s : State S) (h : List Entry) (view : View) where
   abbrev Works : Going S → Type 0

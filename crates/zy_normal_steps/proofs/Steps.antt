@@ -44,12 +44,13 @@ use Rattle.zy_view_law.specs.Held.{IsHeldPart}
 use Rattle.zy_view_law.specs.Texts.{Texts}
 use Rattle.zy_view_law.specs.Told.{check_told, response_told}
 use Rattle.zy_view_steps.specs.Rows.{IsReady}
-use Rattle.zy_begin_steps.specs.Steps.{IsWorldOf}
+use Rattle.zy_begin_steps.specs.Steps.{IsLawfulStep, IsWorldOf}
 use Rattle.zy_normal_steps.proofs.Requested.{RoomCases, RunCases, confirm_row, order_row, request_row}
 use Rattle.zy_normal_steps.proofs.Rows as rows
 use Rattle.zy_normal_steps.proofs.Rows.{Goes, done}
 use Rattle.zy_normal_steps.specs.Heard.{IsEventHeld, IsFrameHeld}
-use Rattle.zy_normal_steps.specs.Work.{AreGainsKept, IsAtWork, IsWorkLawful}
+use Rattle.zy_view_steps.specs.Work.{IsAtWork}
+use Rattle.zy_normal_steps.specs.Gains.{AreGainsKept}
 
 unless_case : {S : Type 0} (s : State S) (P : Outcome S → Type 0) → ((cause : Cause) → P (refused cause s)) → (cause : Option Cause) (o : Outcome S) → (cause ≡ None → P o) → P (unless cause s o)
 unless_case s P refuses None o holds = holds refl
@@ -109,7 +110,7 @@ IsVoteHeld w (frames.Order both) = ⊥
 IsVoteHeld w (frames.ConfirmReq confirm ask) = ⊥
 IsVoteHeld w _ = Unit {0}
 
-module _ {S : Type 0} (R : Rules S) (interval : ℕ) (texts : Texts) (w : World) (r : ℕ) (s : State S) (h : List Entry) (ready : IsReady R interval w r s h) (kept : IsWorldOf R interval w texts) (work : IsAtWork interval w r s h) where
+module _ {S : Type 0} (R : Rules S) (interval : ℕ) (texts : Texts) (w : World) (r : ℕ) (s : State S) (h : List Entry) (ready : IsReady R interval w r s h) (kept : IsWorldOf R interval w texts) (work : IsAtWork interval w r s) where
   -- ---- while it is active
 
   module _ (view : View) (active : s.views.mode ≡ Active view) where
@@ -202,37 +203,37 @@ module _ {S : Type 0} (R : Rules S) (interval : ℕ) (texts : Texts) (w : World)
     read_does (Ok frame) heard = frame_does frame (heard frame refl)
 
     pub active_lawful : (read : Result Frame FrameFault) → ((frame : Frame) → read ≡ Ok frame → screen s.keys (parts_of frame) ≡ None → in_role s frame ≡ true → IsFrameHeld w frame)
-        → AreGainsKept w texts (decoded R s read).deeds.acts → IsWorkLawful R interval texts w r s h (decoded R s read)
+        → AreGainsKept w texts (decoded R s read).deeds.acts → IsLawfulStep R interval texts w r s h (decoded R s read)
     active_lawful read heard gains = done R interval texts w r s h ready kept work view active (decoded R s read) (read_does read heard) gains
 
   -- ---- while it leaves one, and by its timers, nothing changes
 
-  at_rest : (answer : Answer) (sent : List Sent) → IsWorkLawful R interval texts w r s h (record { answer = answer; state = s; deeds = record { sent = sent; acts = [] } })
-  at_rest answer sent = record { lawful = record { may = tt; tied = ready.tied; world = kept }; work = work }
+  at_rest : (answer : Answer) (sent : List Sent) → IsLawfulStep R interval texts w r s h (record { answer = answer; state = s; deeds = record { sent = sent; acts = [] } })
+  at_rest answer sent = record { may = tt; tied = ready.tied; world = kept; works = λ before. before }
 
-  leaving_lawful : is_leaving s ≡ true → (read : Result Frame FrameFault) → IsWorkLawful R interval texts w r s h (decoded R s read)
+  leaving_lawful : is_leaving s ≡ true → (read : Result Frame FrameFault) → IsLawfulStep R interval texts w r s h (decoded R s read)
   leaving_lawful leaving read =
       let is = read_refused R s leaving read in
-      subst (λ (o : Outcome S). IsWorkLawful R interval texts w r s h o) (sym is.1) (at_rest (Refused is.0) [])
+      subst (λ (o : Outcome S). IsLawfulStep R interval texts w r s h o) (sym is.1) (at_rest (Refused is.0) [])
 
   -- ---- a step
 
   heard_lawful : (mode : Mode) → s.views.mode ≡ mode → (bytes : List ℕ) → IsEventHeld w s (events.Heard bytes) → AreGainsKept w texts (decoded R s (frame_in bytes)).deeds.acts
-      → IsWorkLawful R interval texts w r s h (decoded R s (frame_in bytes))
+      → IsLawfulStep R interval texts w r s h (decoded R s (frame_in bytes))
   heard_lawful (Active view) is bytes held gains = active_lawful view is (frame_in bytes) held gains
   heard_lawful (Leaving view) is bytes held gains = leaving_lawful (ap is_leaving_mode is) (frame_in bytes)
 
-  asks_again : (mode : Mode) (hole : Option (Signed Hole)) → IsWorkLawful R interval texts w r s h (ask_again s mode hole)
+  asks_again : (mode : Mode) (hole : Option (Signed Hole)) → IsLawfulStep R interval texts w r s h (ask_again s mode hole)
   asks_again (Active view) (Some hole) = at_rest Taken (ask_again s (Active view) (Some hole)).deeds.sent
   asks_again (Active view) None = at_rest Taken []
   asks_again (Leaving view) hole = at_rest Taken []
 
-  timer_lawful : (kind : TimerKind) → IsWorkLawful R interval texts w r s h (timer s kind)
+  timer_lawful : (kind : TimerKind) → IsLawfulStep R interval texts w r s h (timer s kind)
   timer_lawful timers.Request = asks_again s.views.mode s.hole
   timer_lawful timers.Change = at_rest Taken []
   timer_lawful timers.Answer = at_rest Taken []
 
-  pub step_lawful : (event : Event) → IsEventHeld w s event → AreGainsKept w texts (step R s event).deeds.acts → IsWorkLawful R interval texts w r s h (step R s event)
+  pub step_lawful : (event : Event) → IsEventHeld w s event → AreGainsKept w texts (step R s event).deeds.acts → IsLawfulStep R interval texts w r s h (step R s event)
   unfolding step
   step_lawful (events.Heard bytes) held gains = heard_lawful s.views.mode refl bytes held gains
   step_lawful (events.Timer kind) held gains = timer_lawful kind
@@ -240,11 +241,11 @@ module _ {S : Type 0} (R : Rules S) (interval : ℕ) (texts : Texts) (w : World)
   -- ---- rows
 
   module _ (view : View) (active : s.views.mode ≡ Active view) where
-    pub request_lawful : (ask : Signed Ask) → MayRun w (entry_of ask) → AreGainsKept w texts (request R s ask).deeds.acts → IsWorkLawful R interval texts w r s h (request R s ask)
+    pub request_lawful : (ask : Signed Ask) → MayRun w (entry_of ask) → AreGainsKept w texts (request R s ask).deeds.acts → IsLawfulStep R interval texts w r s h (request R s ask)
     request_lawful ask may gains = done R interval texts w r s h ready kept work view active (request R s ask) (request_does view active ask may) gains
 
-    pub confirm_lawful : (confirmed : Signed Confirm) (ask : Signed Ask) → MayRun w (entry_of ask) → AreGainsKept w texts (confirm R s confirmed ask).deeds.acts → IsWorkLawful R interval texts w r s h (confirm R s confirmed ask)
+    pub confirm_lawful : (confirmed : Signed Confirm) (ask : Signed Ask) → MayRun w (entry_of ask) → AreGainsKept w texts (confirm R s confirmed ask).deeds.acts → IsLawfulStep R interval texts w r s h (confirm R s confirmed ask)
     confirm_lawful confirmed ask may gains = done R interval texts w r s h ready kept work view active (confirm R s confirmed ask) (confirm_does view active confirmed ask may) gains
 
-    pub order_lawful : (o : OrderFrame) → MayRun w (entry_of o.ask) → AreGainsKept w texts (order R s o).deeds.acts → IsWorkLawful R interval texts w r s h (order R s o)
+    pub order_lawful : (o : OrderFrame) → MayRun w (entry_of o.ask) → AreGainsKept w texts (order R s o).deeds.acts → IsLawfulStep R interval texts w r s h (order R s o)
     order_lawful o may gains = done R interval texts w r s h ready kept work view active (order R s o) (order_does view active o may) gains

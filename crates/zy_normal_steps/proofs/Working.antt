@@ -46,6 +46,7 @@ use Rattle.zy_view_law.proofs.TiedGrown.{one_longer, own_said, parts_said, parts
 use Rattle.zy_view_law.specs.Texts.{Texts}
 use Rattle.zy_view_law.specs.Tied.{Core, IsAhead, IsRunnableNext, IsTied, SaysLawfully, said_now}
 use Rattle.zy_view_law.specs.Told.{check_told, response_told}
+use Rattle.zy_view_steps.proofs.AtWork.{last_of, may_there, still_may, work_stood}
 use Rattle.zy_view_steps.proofs.Led.{LeadsTo, leads_nowhere, leads_on, leads_saying}
 use Rattle.zy_view_steps.specs.Cores.{core_of}
 use Rattle.zy_view_steps.specs.Rows.{IsReady}
@@ -53,78 +54,13 @@ use Rattle.zy_begin_steps.proofs.Backups.{clients_of}
 use Rattle.zy_begin_steps.proofs.Worlds.{world_said, world_stood}
 use Rattle.zy_begin_steps.specs.Steps.{IsWorldOf}
 use Rattle.zy_normal_steps.proofs.Gained.{longer_kept}
-use Rattle.zy_normal_steps.specs.Work.{IsAtWork, IsGainKept, IsRoundHeld, IsWorkTied, Workplace, workplace_of}
+use Rattle.zy_view_steps.specs.Work.{IsAtWork, IsWorkTied, last_long, workplace_of}
+use Rattle.zy_normal_steps.specs.Gains.{IsGainKept}
 
 -- an entry that is gained
 leads_gaining : (w : World) (r view number : ℕ) (h : List Entry) (got : Got) → MayStand w r (stand_with view h got)
     → LeadsTo w r view number h (Gains got ∷ []) (after_standing w r (stand_with view h got)) view (number + 1) (h ++ got.entry ∷ [])
 leads_gaining w r view number h got may = record { may = (may, tt); world = refl; history = refl; on = λ more. refl; after = λ more. refl }
-
--- ---- what it works with, as more is said, and where it stands elsewhere
-
-pub still_may : (w : World) (r : ℕ) (y : Spoken) (e : Entry) → MayRun w e → MayRun (after_saying w r y) e
-still_may w r y e may = record { client = may.client; range = may.range; asked = may.asked }
-
-pub may_there : (w : World) (r : ℕ) (b : Stand) (e : Entry) → MayRun w e → MayRun (after_standing w r b) e
-may_there w r b e may = record { client = may.client; range = may.range; asked = may.asked }
-
-round_said : (w : World) (r : ℕ) (y : Spoken) (round : Round) → IsRoundHeld w round → IsRoundHeld (after_saying w r y) round
-round_said w r y round is =
-    record { specs = parts_said w r y response_told round.specs is.specs; specs_rise = is.specs_rise; checks = parts_said w r y check_told round.checks is.checks; checks_rise = is.checks_rise }
-
-round_stood : (w : World) (r : ℕ) (b : Stand) (round : Round) → IsRoundHeld w round → IsRoundHeld (after_standing w r b) round
-round_stood w r b round is =
-    record { specs = parts_stood w r b response_told round.specs is.specs; specs_rise = is.specs_rise; checks = parts_stood w r b check_told round.checks is.checks; checks_rise = is.checks_rise }
-
--- its orders are of places up to a bound, if what it says is
-pub work_said : (interval : ℕ) (w : World) (r : ℕ) (y : Spoken) (low high : ℕ) (p : Workplace) → low ≤ high → ((m : Mark) (request : Digest) → y.what ≡ Statement.Order p.view.0 m request → m.place ≤ high)
-    → IsWorkTied interval w r low p → IsWorkTied interval (after_saying w r y) r high p
-work_said interval w r y low high p more new is =
-    record {
-      me = is.me;
-      counts = is.counts;
-      spaced = is.spaced;
-      ordered = λ number x m request says what.
-          own_said w r y (λ z. z.what ≡ Statement.Order p.view.0 m request → m.place ≤ high) (λ i z at told. omega (arith, is.ordered i z m request at told)) (λ told. new m request told) number x says what;
-      based = is.based;
-      runs = slots_more w (after_saying w r y) (still_may w r y) p.orders.slots is.runs;
-      few = is.few;
-      end = is.end;
-      near = round_said w r y p.board.near is.near;
-      far = round_said w r y p.board.far is.far;
-    }
-
-pub work_stood : (interval : ℕ) (w : World) (r : ℕ) (b : Stand) (low high : ℕ) (p : Workplace) → low ≤ high → IsWorkTied interval w r low p → IsWorkTied interval (after_standing w r b) r high p
-work_stood interval w r b low high p more is =
-    record {
-      me = is.me;
-      counts = is.counts;
-      spaced = is.spaced;
-      ordered = λ number x m request says what. omega (arith, is.ordered number x m request says what);
-      based = is.based;
-      runs = slots_more w (after_standing w r b) (may_there w r b) p.orders.slots is.runs;
-      few = is.few;
-      end = is.end;
-      near = round_stood w r b p.board.near is.near;
-      far = round_stood w r b p.board.far is.far;
-    }
-
--- with other responses and checkpoints
-pub work_board : (interval : ℕ) (w : World) (r bound : ℕ) (p : Workplace) (board : Board) → IsWorkTied interval w r bound p → IsRoundHeld w board.near → IsRoundHeld w board.far
-    → IsWorkTied interval w r bound (record p { board = board })
-work_board interval w r bound p board is near far =
-    record {
-      me = is.me;
-      counts = is.counts;
-      spaced = is.spaced;
-      ordered = is.ordered;
-      based = is.based;
-      runs = is.runs;
-      few = is.few;
-      end = is.end;
-      near = near;
-      far = far;
-    }
 
 -- ---- on its way
 
@@ -151,7 +87,7 @@ module _ {S : Type 0} (R : Rules S) (interval : ℕ) (texts : Texts) (w : World)
     pub spaced : g.state.views.interval ≡ interval
     pub begun : table.own_view s ≡ view.0
 
-  pub at_begin : IsReady R interval w r s h → IsWorldOf R interval w texts → IsAtWork interval w r s h → s.views.mode ≡ Active view → IsWorking 0 (begin s)
+  pub at_begin : IsReady R interval w r s h → IsWorldOf R interval w texts → IsAtWork interval w r s → s.views.mode ≡ Active view → IsWorking 0 (begin s)
   at_begin ready kept work active =
       record {
         world = w;
@@ -165,14 +101,15 @@ module _ {S : Type 0} (R : Rules S) (interval : ℕ) (texts : Texts) (w : World)
         may = λ e may. may;
         links = λ d e is. is;
         tied = ready.tied;
-        work = (let none : length h ≡ length h + 0 = omega arith in subst (λ (n : ℕ). IsWorkTied interval w r n (workplace_of s)) none work);
+        work = (let long : last_long (w.past r) ≡ length h + 0 = omega (arith, last_of w r ready.tied.standing.number _ ready.tied.standing.stood ready.tied.standing.last) in
+            subst (λ (n : ℕ). IsWorkTied interval w r n (workplace_of s)) long work);
         active = active;
         signer = ready.signer;
         spaced = ready.interval_is;
         begun = ap (λ (mode : Mode). (view_of mode).0) active;
       }
 
-  pub begin_world : (ready : IsReady R interval w r s h) (kept : IsWorldOf R interval w texts) (work : IsAtWork interval w r s h) (active : s.views.mode ≡ Active view) → (at_begin ready kept work active).world ≡ w
+  pub begin_world : (ready : IsReady R interval w r s h) (kept : IsWorldOf R interval w texts) (work : IsAtWork interval w r s) (active : s.views.mode ≡ Active view) → (at_begin ready kept work active).world ≡ w
   unfolding at_begin
   begin_world ready kept work active = refl
 

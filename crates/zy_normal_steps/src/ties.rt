@@ -13,7 +13,7 @@ ghost use Rattle.zy_seal.specs.Keys.{Keys};
 ghost use Rattle.zy_seal.specs.Sealing.{SealerState};
 ghost use Rattle.zy_table.specs.State.{State, start_of};
 ghost use Rattle.zy_view_steps.specs.Rows.{IsReady};
-ghost use Rattle.zy_normal_steps.specs.Work.{IsAtWork};
+ghost use Rattle.zy_view_steps.specs.Work.{IsAtWork};
 
 use zy_base::Machine;
 
@@ -21,6 +21,6 @@ use zy_base::Machine;
 /// for more, other replicas speak and stand elsewhere, and more texts are kept.
 pub fn works_begin<M: Machine>()
     ensures ready { (interval r : ℕ) (w : World) (me : ReplicaId) (counts : Counts) (keys : Keys) (sealer : SealerState) → 0 < interval → IsLawful w → IsStart w → w.next ≡ link → IsCorrect w r → me.0 ≡ r → counts ≡ w.counts → sealer.me ≡ Replica me → IsReady M.rules interval w r (start_of M.rules interval me counts keys sealer) [] }
-    ensures start { (interval r : ℕ) (w : World) (me : ReplicaId) (counts : Counts) (keys : Keys) (sealer : SealerState) → IsStart w → IsCorrect w r → me.0 ≡ r → counts ≡ w.counts → IsAtWork interval w r (start_of M.rules interval me counts keys sealer) [] }
-    ensures grows { (interval r : ℕ) (w : World) (s : State M.State) (history : List Entry) (asked : ℕ → List Entry) (said : ℕ → List Spoken) (past : ℕ → List Stand) (kept : Digest → Entry → Bool) → IsGrown w asked said past kept → said r ≡ w.said r → IsAtWork interval w r s history → IsAtWork interval (grown w asked said past kept) r s history }
+    ensures start { (interval r : ℕ) (w : World) (me : ReplicaId) (counts : Counts) (keys : Keys) (sealer : SealerState) → IsStart w → IsCorrect w r → me.0 ≡ r → counts ≡ w.counts → IsAtWork interval w r (start_of M.rules interval me counts keys sealer) }
+    ensures grows { (interval r : ℕ) (w : World) (s : State M.State) (asked : ℕ → List Entry) (said : ℕ → List Spoken) (past : ℕ → List Stand) (kept : Digest → Entry → Bool) → IsGrown w asked said past kept → said r ≡ w.said r → past r ≡ w.past r → IsAtWork interval w r s → IsAtWork interval (grown w asked said past kept) r s }
 {}

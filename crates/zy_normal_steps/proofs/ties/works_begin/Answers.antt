@@ -7,5 +7,5 @@ returns g c =
     record {
       ready = λ interval r w me counts keys sealer some lawful start links correct me_is counts_are signer. ready_at_start R interval r w me counts keys sealer some lawful start links correct me_is counts_are signer;
       start = λ interval r w me counts keys sealer start correct me_is counts_are. work_at_start R interval r w me counts keys sealer start correct me_is counts_are;
-      grows = λ interval r w s history asked said past kept more told work. work_grown interval r w s history asked said past kept more told work;
+      grows = λ interval r w s asked said past kept more told stood work. work_grown interval r w s asked said past kept more told stood work;
     }
