@@ -53,6 +53,8 @@ module _ {S : Type 0} (R : Rules S) (interval : ℕ) (texts : Texts) (w : World)
         may = is.lead.may;
         tied = subst (λ (l : List Entry). IsTied R interval _ r (core_of g.state) l) (sym is.lead.history) (subst (λ (u : World). IsTied R interval u r (core_of g.state) is.now) (sym is.lead.world) is.tied);
         world = subst (λ (u : World). IsWorldOf R interval u texts) (sym is.lead.world) is.kept;
+        signer = is.signer;
+        interval_is = is.interval_is;
         works = λ work. subst (λ (u : World). IsAtWork interval u r g.state) (sym is.lead.world) (is.works work);
       }
 
@@ -88,7 +90,7 @@ module _ {S : Type 0} (R : Rules S) (interval : ℕ) (texts : Texts) (w : World)
 
   -- a refusal changes nothing
   pub refuses : (cause : Cause) → IsLawfulStep R interval texts w r s history (refused cause s)
-  refuses cause = record { may = tt; tied = ready.tied; world = kept; works = λ work. work }
+  refuses cause = record { may = tt; tied = ready.tied; world = kept; signer = ready.signer; interval_is = ready.interval_is; works = λ work. work }
 
   done_ends : (attempt : Attempt S) → IsDoneAttempt attempt → IsEndedAttempt R interval texts w r s history attempt
   done_ends (Err cause) is = is

@@ -94,6 +94,8 @@ module _ {S : Type 0} (R : Rules S) (interval : ℕ) (texts : Texts) (w : World)
     pub lead : LeadsTo w r (table.own_view s) number from g.deeds.acts world later at now
     pub tied : IsTied R interval world r (core_of g.state) now
     pub kept : IsWorldOf R interval world texts
+    pub signer : g.state.sealer.me ≡ Replica g.state.views.me
+    pub interval_is : g.state.views.interval ≡ interval
     pub works : IsAtWork interval w r s → IsAtWork interval world r g.state
 
   -- It did so by beginning a view, in which it is active.
@@ -181,6 +183,8 @@ module _ {S : Type 0} (R : Rules S) (interval : ℕ) (texts : Texts) (w : World)
             lead = subst (λ (l : List Act). LeadsTo w r view number from l answered.way.world begun.0 (number + 1) list) (sym same) all;
             tied = subst (λ (u : State S). IsTied R interval answered.way.world r (core_of u) list) (sym apart.state) answered.way.tied;
             kept = subst (λ (u : World). IsWorldOf R interval u texts) (sym answered.way.world_is) (world_said R interval after texts kept_after answered.way.told);
+            signer = subst (λ (u : State S). u.sealer.me ≡ Replica u.views.me) (sym apart.state) answered.way.signer;
+            interval_is = subst (λ (u : State S). u.views.interval ≡ interval) (sym apart.state) answered.way.interval_is;
             works = λ work. subst (λ (u : State S). IsAtWork interval answered.way.world r u) (sym apart.state) (answered.way.works (may.works work));
           };
           view = begun;

@@ -165,7 +165,7 @@ module _ {S : Type 0} (R : Rules S) (interval : ℕ) (texts : Texts) (w : World)
     pub of_bytes : IsOfBytes (begun R attempt)
 
   refuses_it : (cause : Cause) → IsLawfulStep R interval texts w r s (history_from texts s history (refused cause s)) (refused cause s)
-  refuses_it cause = record { may = tt; tied = ready.tied; world = kept; works = λ work. work }
+  refuses_it cause = record { may = tt; tied = ready.tied; world = kept; signer = ready.signer; interval_is = ready.interval_is; works = λ work. work }
 
   refuses_freely : (cause : Cause) → blames cause ≡ false → IsGoodEnd (Err cause)
   refuses_freely cause free = record { step = refuses_it cause; of_bytes = λ blamed. absurd cc }

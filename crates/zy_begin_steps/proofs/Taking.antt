@@ -99,7 +99,7 @@ module _ {S : Type 0} (R : Rules S) (interval : ℕ) (texts : Texts) (w : World)
 
   -- as it is
   pub ended : IsEnd R interval texts w r s history g
-  ended = record { world = way.world; later = _; at = _; now = history; lead = way.lead; tied = way.tied; kept = kept_now; works = way.works }
+  ended = record { world = way.world; later = _; at = _; now = history; lead = way.lead; tied = way.tied; kept = kept_now; signer = way.signer; interval_is = way.interval_is; works = way.works }
 
   module _ (cert : ViewCert) (chosen : Chosen) (p : Signed Change) (due : IsDue interval way.world g.state cert chosen p) (taken : verdict_of R g.state.kept g.state.board.stable p.stmt.told chosen.place chosen.head ≡ Take) where
     abbrev told : Told

@@ -1,6 +1,7 @@
 -- When a step in which a view may begin is lawful.
-use Rattle.std.specs.Prelude.{ℕ, Bool, true, false, if◌then◌else◌, List, [], Option, Some, None, unwrap_or}
+use Rattle.std.specs.Prelude.{◌≡◌, ℕ, Bool, true, false, if◌then◌else◌, List, [], Option, Some, None, unwrap_or}
 use Rattle.zy_base.specs.Machine.{Rules}
+use Rattle.zy_base.specs.declared.ids.Party.TheVariants.{Replica}
 use Rattle.zy_base.specs.declared.step.Answer.{Answer}
 use Rattle.zy_base.specs.declared.step.Answer.TheVariants.{Refused}
 use Rattle.zy_chain.specs.declared.entry.Entry.{Entry}
@@ -27,10 +28,12 @@ pub record IsWorldOf {S : Type 0} (R : Rules S) (interval : ℕ) (w : World) (te
   pub kept : AreWorldTexts R interval w texts
 
 -- What it says and where it stands next is allowed, one after another. It is tied to the world after that, with the history
--- that it has then; and what that leads to is kept too. Where it could work on before, it can then.
+-- that it has then, and signs as itself still; what that leads to is kept too. Where it could work on before, it can then.
 pub record IsLawfulStep {S : Type 0} (R : Rules S) (interval : ℕ) (texts : Texts) (w : World) (r : ℕ) (s : State S) (history : List Entry) (outcome : Outcome S) : Type 0 where
   pub may : AllMay w r (acts_of w r s history outcome)
   pub tied : IsTied R interval (world_after w r s history outcome) r (core_of outcome.state) (history_after history outcome.deeds.acts)
+  pub signer : outcome.state.sealer.me ≡ Replica outcome.state.views.me
+  pub interval_is : outcome.state.views.interval ≡ interval
   pub world : IsWorldOf R interval (world_after w r s history outcome) texts
   pub works : IsAtWork interval w r s → IsAtWork interval (world_after w r s history outcome) r outcome.state
 

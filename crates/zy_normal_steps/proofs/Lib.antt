@@ -7,3 +7,4 @@ pub mod Rows
 pub mod Requested
 pub mod Steps
 pub mod AtStart
+pub mod WholeSteps

@@ -126,7 +126,3 @@ module _ {S : Type 0} (R : Rules S) (s : State S) (P : Outcome S → Type 0) (of
         by_test P (owes_hole s) _ _ (λ owes. by_test P (nat_le 1 (leaves_of s)) _ _ (λ left. asks (has_room is)) (λ none. of.refuses causes.KeySpent)) (λ asked. holds (has_room is))
     order_admitted (admits.Refused cause) is = of.refuses cause
     order_admitted admits.Evidence is = of.refuses causes.Unmatched
-
-    pub order_row : P (order R s o)
-    unfolding order
-    order_row = order_admitted (judge_in s.orders o.order.stmt o.ask (position_of R s o)) (placed o.order.stmt o.ask (position_of R s o) s.orders)

@@ -158,6 +158,8 @@ module _ {S : Type 0} (R : Rules S) (interval : ℕ) (texts : Texts) (w : World)
         lead = is.lead;
         tied = is.tied;
         kept = is.kept;
+        signer = is.signer;
+        interval_is = is.spaced;
         works = λ before. subst (λ (n : ℕ). IsWorkTied interval is.world r n (workplace_of o.state)) long is.work;
       })
 

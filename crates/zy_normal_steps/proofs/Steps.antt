@@ -14,7 +14,8 @@ use Rattle.zy_base.specs.declared.step.Mode.{Mode}
 use Rattle.zy_base.specs.declared.step.Mode.TheVariants.{Active, Leaving}
 use Rattle.zy_base.specs.declared.step.TimerKind.{TimerKind}
 use Rattle.zy_base.specs.declared.step.TimerKind.TheVariants as timers
-use Rattle.zy_admit.specs.Judging.{entry_of}
+use Rattle.zy_admit.specs.Judging.{entry_of, judge_in}
+use Rattle.zy_admit.specs.declared.judging.Admit.{Admit}
 use Rattle.zy_chain.specs.declared.entry.Entry.{Entry}
 use Rattle.zy_check.specs.Board.{Board}
 use Rattle.zy_frames.specs.Frames.{frame_in, parts_of}
@@ -34,7 +35,7 @@ use Rattle.zy_seal.specs.Screening.{screen}
 use Rattle.zy_table.specs.Confirms.{confirm}
 use Rattle.zy_table.specs.Deeds.{Outcome, refused}
 use Rattle.zy_table.specs.Holes.{ask_again}
-use Rattle.zy_table.specs.Orders.{order}
+use Rattle.zy_table.specs.Orders.{order, order_as, position_of}
 use Rattle.zy_table.specs.Requests.{request}
 use Rattle.zy_table.specs.Roles.{in_role, view_cause}
 use Rattle.zy_table.specs.State.{State, is_leaving, is_leaving_mode, own_view}
@@ -45,14 +46,15 @@ use Rattle.zy_view_law.specs.Texts.{Texts}
 use Rattle.zy_view_law.specs.Told.{check_told, response_told}
 use Rattle.zy_view_steps.specs.Rows.{IsReady}
 use Rattle.zy_begin_steps.specs.Steps.{IsLawfulStep, IsWorldOf}
-use Rattle.zy_normal_steps.proofs.Requested.{RoomCases, RunCases, confirm_row, order_row, request_row}
+use Rattle.zy_normal_steps.proofs.Admitted.{IsPlaced, placed}
+use Rattle.zy_normal_steps.proofs.Requested.{RoomCases, RunCases, confirm_row, order_admitted, request_row}
 use Rattle.zy_normal_steps.proofs.Rows as rows
 use Rattle.zy_normal_steps.proofs.Rows.{Goes, done}
 use Rattle.zy_normal_steps.specs.Heard.{IsEventHeld, IsFrameHeld}
 use Rattle.zy_view_steps.specs.Work.{IsAtWork}
 use Rattle.zy_normal_steps.specs.Gains.{AreGainsKept}
 
-unless_case : {S : Type 0} (s : State S) (P : Outcome S → Type 0) → ((cause : Cause) → P (refused cause s)) → (cause : Option Cause) (o : Outcome S) → (cause ≡ None → P o) → P (unless cause s o)
+pub unless_case : {S : Type 0} (s : State S) (P : Outcome S → Type 0) → ((cause : Cause) → P (refused cause s)) → (cause : Option Cause) (o : Outcome S) → (cause ≡ None → P o) → P (unless cause s o)
 unless_case s P refuses None o holds = holds refl
 unless_case s P refuses (Some cause) o holds = refuses cause
 
@@ -135,12 +137,16 @@ module _ {S : Type 0} (R : Rules S) (interval : ℕ) (texts : Texts) (w : World)
     confirm_does : (confirmed : Signed Confirm) (ask : Signed Ask) → MayRun w (entry_of ask) → Does (confirm R s confirmed ask)
     confirm_does confirmed ask may = confirm_row R s Does run_cases ask (room_cases ask may) confirmed
 
-    order_does : (o : OrderFrame) → MayRun w (entry_of o.ask) → Does (order R s o)
-    order_does o may =
-        order_row R s Does run_cases o
+    admitted_does : (o : OrderFrame) → MayRun w (entry_of o.ask) → (a : Admit) → IsPlaced o.order.stmt o.ask (position_of R s o) a → Does (order_as R s o a)
+    admitted_does o may =
+        order_admitted R s Does run_cases o
         (λ new room. rows.takes R interval texts w r s h ready kept work view active o may new room.above room.below)
         (λ room. rows.asks R interval texts w r s h ready kept work view active o may room.above room.below)
         (λ room. rows.holds_order R interval texts w r s h ready kept work view active o may room.above room.below)
+
+    order_does : (o : OrderFrame) → MayRun w (entry_of o.ask) → Does (order R s o)
+    unfolding order
+    order_does o may = admitted_does o may (judge_in s.orders o.order.stmt o.ask (position_of R s o)) (placed o.order.stmt o.ask (position_of R s o) s.orders)
 
     is_put : (board : Board) → IsPut s (IsVoteHeld w) board → IsPut s (IsFrameHeld w) board
     is_put board (IsPut.new_spec vote reply with_order heard new is) = IsPut.new_spec vote reply with_order heard new is
@@ -209,7 +215,7 @@ module _ {S : Type 0} (R : Rules S) (interval : ℕ) (texts : Texts) (w : World)
   -- ---- while it leaves one, and by its timers, nothing changes
 
   at_rest : (answer : Answer) (sent : List Sent) → IsLawfulStep R interval texts w r s h (record { answer = answer; state = s; deeds = record { sent = sent; acts = [] } })
-  at_rest answer sent = record { may = tt; tied = ready.tied; world = kept; works = λ before. before }
+  at_rest answer sent = record { may = tt; tied = ready.tied; world = kept; signer = ready.signer; interval_is = ready.interval_is; works = λ before. before }
 
   leaving_lawful : is_leaving s ≡ true → (read : Result Frame FrameFault) → IsLawfulStep R interval texts w r s h (decoded R s read)
   leaving_lawful leaving read =
@@ -218,10 +224,15 @@ module _ {S : Type 0} (R : Rules S) (interval : ℕ) (texts : Texts) (w : World)
 
   -- ---- a step
 
-  heard_lawful : (mode : Mode) → s.views.mode ≡ mode → (bytes : List ℕ) → IsEventHeld w s (events.Heard bytes) → AreGainsKept w texts (decoded R s (frame_in bytes)).deeds.acts
-      → IsLawfulStep R interval texts w r s h (decoded R s (frame_in bytes))
-  heard_lawful (Active view) is bytes held gains = active_lawful view is (frame_in bytes) held gains
-  heard_lawful (Leaving view) is bytes held gains = leaving_lawful (ap is_leaving_mode is) (frame_in bytes)
+  read_in : (mode : Mode) → s.views.mode ≡ mode → (read : Result Frame FrameFault)
+      → ((frame : Frame) → read ≡ Ok frame → screen s.keys (parts_of frame) ≡ None → in_role s frame ≡ true → IsFrameHeld w frame) → AreGainsKept w texts (decoded R s read).deeds.acts
+      → IsLawfulStep R interval texts w r s h (decoded R s read)
+  read_in (Active view) is read held gains = active_lawful view is read held gains
+  read_in (Leaving view) is read held gains = leaving_lawful (ap is_leaving_mode is) read
+
+  pub read_lawful : (read : Result Frame FrameFault) → ((frame : Frame) → read ≡ Ok frame → screen s.keys (parts_of frame) ≡ None → in_role s frame ≡ true → IsFrameHeld w frame)
+      → AreGainsKept w texts (decoded R s read).deeds.acts → IsLawfulStep R interval texts w r s h (decoded R s read)
+  read_lawful = read_in s.views.mode refl
 
   asks_again : (mode : Mode) (hole : Option (Signed Hole)) → IsLawfulStep R interval texts w r s h (ask_again s mode hole)
   asks_again (Active view) (Some hole) = at_rest Taken (ask_again s (Active view) (Some hole)).deeds.sent
@@ -235,7 +246,7 @@ module _ {S : Type 0} (R : Rules S) (interval : ℕ) (texts : Texts) (w : World)
 
   pub step_lawful : (event : Event) → IsEventHeld w s event → AreGainsKept w texts (step R s event).deeds.acts → IsLawfulStep R interval texts w r s h (step R s event)
   unfolding step
-  step_lawful (events.Heard bytes) held gains = heard_lawful s.views.mode refl bytes held gains
+  step_lawful (events.Heard bytes) held gains = read_lawful (frame_in bytes) held gains
   step_lawful (events.Timer kind) held gains = timer_lawful kind
 
   -- ---- rows
@@ -249,3 +260,6 @@ module _ {S : Type 0} (R : Rules S) (interval : ℕ) (texts : Texts) (w : World)
 
     pub order_lawful : (o : OrderFrame) → MayRun w (entry_of o.ask) → AreGainsKept w texts (order R s o).deeds.acts → IsLawfulStep R interval texts w r s h (order R s o)
     order_lawful o may gains = done R interval texts w r s h ready kept work view active (order R s o) (order_does view active o may) gains
+
+    pub order_as_lawful : (o : OrderFrame) → MayRun w (entry_of o.ask) → (a : Admit) → IsPlaced o.order.stmt o.ask (position_of R s o) a → AreGainsKept w texts (order_as R s o a).deeds.acts → IsLawfulStep R interval texts w r s h (order_as R s o a)
+    order_as_lawful o may a is gains = done R interval texts w r s h ready kept work view active (order_as R s o a) (admitted_does view active o may a is) gains

@@ -5,7 +5,9 @@
 mod entries;
 mod frames;
 mod ties;
+mod whole;
 
 pub use entries::working_rows;
 pub use frames::{leaving_refuses, working_steps};
 pub use ties::works_begin;
+pub use whole::whole_steps;
