@@ -7,10 +7,7 @@ use Rattle.std.proofs.lemmas.List.Elements.{All-drop}
 use Rattle.zy_base.specs.Machine.{Rules}
 use Rattle.zy_base.specs.declared.counts.Counts.{Counts}
 use Rattle.zy_base.specs.declared.ids.Digest.{Digest}
-use Rattle.zy_base.specs.declared.ids.Party.{Party}
-use Rattle.zy_base.specs.declared.ids.Party.TheVariants.{Replica}
 use Rattle.zy_base.specs.declared.ids.Place.{Place}
-use Rattle.zy_base.specs.declared.ids.ReplicaId.{ReplicaId}
 use Rattle.zy_base.specs.declared.ids.View.{View}
 use Rattle.zy_chain.specs.Heads.{head_of}
 use Rattle.zy_chain.specs.Stretch.{Mark}
@@ -31,7 +28,6 @@ use Rattle.zy_exec.specs.Shots.{digest_of_snapshot, snapshot_due}
 use Rattle.zy_exec.specs.Snapshot.{snapshot_of}
 use Rattle.zy_law.specs.Fixed.{IsCertified}
 use Rattle.zy_law.specs.Histories.{Passes}
-use Rattle.zy_law.specs.Said.{IsCorrect, IsVouched}
 use Rattle.zy_law.specs.Steps.{after_saying}
 use Rattle.zy_law.specs.World.{Spoken, Statement, World}
 use Rattle.zy_lawful.proofs.Committed.{IsFurthest, by_certificate, from_came, from_further, holding}
@@ -57,8 +53,7 @@ use Rattle.zy_table.specs.declared.deeds.Remark.{Remark}
 use Rattle.zy_view_law.proofs.InView.{says_checkpoint}
 use Rattle.zy_view_law.proofs.ProvenReports.{spec_certified}
 use Rattle.zy_view_law.proofs.TieKept.{tied_holding, tied_settled}
-use Rattle.zy_view_law.proofs.TiedGrown.{has_said_last}
-use Rattle.zy_view_law.specs.Held.{IsHeldPart, IsVouchedBy, mark_at}
+use Rattle.zy_view_law.specs.Held.{IsHeldPart, mark_at}
 use Rattle.zy_view_law.specs.Texts.{Texts}
 use Rattle.zy_view_law.specs.Tied.{Core, IsCommitHeld, IsFarEnough, IsGrounded, IsTied, SaysLawfully, said_now, settled_with}
 use Rattle.zy_view_law.specs.Told.{check_told, response_told}

@@ -7,7 +7,7 @@ use Rattle.zy_base.specs.declared.cause.Cause.{Cause}
 use Rattle.zy_base.specs.declared.cause.Cause.TheVariants as causes
 use Rattle.zy_base.specs.declared.ids.Party.{Party}
 use Rattle.zy_base.specs.declared.step.Answer.TheVariants.{Held, Taken}
-use Rattle.zy_admit.specs.Judging.{entry_of, judge_in, newer, same_digest}
+use Rattle.zy_admit.specs.Judging.{entry_of, newer, same_digest}
 use Rattle.zy_admit.specs.Orders.{stored_in}
 use Rattle.zy_admit.specs.declared.judging.Admit.{Admit}
 use Rattle.zy_admit.specs.declared.judging.Admit.TheVariants as admits
@@ -23,13 +23,13 @@ use Rattle.zy_parts.specs.declared.statements.Confirm.{Confirm}
 use Rattle.zy_parts.specs.declared.statements.Spec.{Spec}
 use Rattle.zy_table.specs.Confirms.{confirm, confirm_after, order_again}
 use Rattle.zy_table.specs.Deeds.{Outcome, begin, ends, refused}
-use Rattle.zy_table.specs.Orders.{ask_for_missing, order, order_as, owes_hole, position_of}
+use Rattle.zy_table.specs.Orders.{ask_for_missing, order_as, owes_hole, position_of}
 use Rattle.zy_table.specs.Requests.{forward, is_behind, new_request, ordered, request, request_after, request_at_backup, request_at_primary, request_waits, respond_as, response_of, said_already, sealed_order, tell_primary}
 use Rattle.zy_table.specs.Running.{run, signs_of, spec_of}
 use Rattle.zy_table.specs.State.{State, is_leaving, is_primary, leaves_of, own_view, pending_of, spec_to, window_of}
 use Rattle.zy_table.specs.declared.deeds.Sent.{Sent}
 use Rattle.zy_table.specs.declared.kept.Pending.{Pending}
-use Rattle.zy_normal_steps.proofs.Admitted.{IsFresh, IsPlaced, placed}
+use Rattle.zy_normal_steps.proofs.Admitted.{IsFresh, IsPlaced}
 
 stamp_above : (a b : ℕ) → nat_lt b a ≡ false → nat_eq b a ≡ false → nat_lt a b ≡ true
 stamp_above a b from other =

@@ -44,7 +44,7 @@ use Rattle.zy_lawful.proofs.KeptVotes.{AreKeptOf, with_check_kept, with_spec_kep
 use Rattle.zy_lawful.proofs.OneEntry.{AreOrdersOf, fold_is, known_now, next_ordered, orders_of_longer, orders_of_said, place_now}
 use Rattle.zy_lawful.proofs.Own.{client_told, head_told, kept_case, state_told}
 use Rattle.zy_lawful.proofs.Records.{IsLastOf, IsRecord}
-use Rattle.zy_lawful.specs.Acts.{history_after, statement_by}
+use Rattle.zy_lawful.specs.Acts.{statement_by}
 use Rattle.zy_lawful.specs.Tied.{MayRun}
 use Rattle.zy_parts.specs.declared.signed.Signed.{Signed}
 use Rattle.zy_parts.specs.declared.statements.Ask.{Ask}

@@ -1,5 +1,5 @@
 -- Each step of a replica is lawful, in every view and from one to the next, and it is ready for the next one.
-use Rattle.std.proofs.Common.{◌≡◌, ℕ, Bool, true, false, List, [], ◌∷◌, Option, Some, None, Ok, Err, refl, sym, ap, ◌∙◌, subst}
+use Rattle.std.proofs.Common.{◌≡◌, ℕ, Bool, true, false, List, [], ◌∷◌, Option, None, Ok, Err, refl, subst}
 use Rattle.std.specs.Prelude.{Result, nat_lt}
 use Rattle.zy_base.specs.Machine.{Rules}
 use Rattle.zy_base.specs.declared.cause.Cause.{Cause}
@@ -30,14 +30,13 @@ use Rattle.zy_lawful.specs.Acts.{acts_of, history_after, world_after}
 use Rattle.zy_lawful.specs.Tied.{MayRun}
 use Rattle.zy_seal.specs.Screening.{screen}
 use Rattle.zy_table.specs.Deeds.{Outcome, refused}
-use Rattle.zy_table.specs.Beginning.{finished}
 use Rattle.zy_table.specs.Hates.{hate}
 use Rattle.zy_table.specs.Misbehaviour.{pom, tell_all}
 use Rattle.zy_table.specs.Orders.{position_of}
 use Rattle.zy_table.specs.Roles.{in_role, view_cause}
 use Rattle.zy_table.specs.State.{State, is_leaving, own_view}
 use Rattle.zy_table.specs.Step.{unless}
-use Rattle.zy_table.specs.Whole.{decoded_as, hear_plain, order, order_judged, plain_row, view_decoded, whole_step}
+use Rattle.zy_table.specs.Whole.{decoded_as, hear_plain, order, order_judged, plain_row, whole_step}
 use Rattle.zy_vframes.specs.ViewFrames as views
 use Rattle.zy_wire.specs.Spelling.{IsBytes}
 use Rattle.zy_view_law.specs.Texts.{Texts}

@@ -14,9 +14,7 @@ use Rattle.zy_base.specs.declared.step.Mode.{Mode}
 use Rattle.zy_base.specs.declared.step.Mode.TheVariants.{Active}
 use Rattle.zy_admit.specs.Judging.{entry_of, newer}
 use Rattle.zy_chain.specs.Heads.{empty_head}
-use Rattle.zy_chain.specs.Stretch.{Mark}
 use Rattle.zy_chain.specs.declared.entry.Entry.{Entry}
-use Rattle.zy_check.specs.Board.{Board, Round}
 use Rattle.zy_exec.proofs.HistoryLemmas.{stands_leads}
 use Rattle.zy_exec.proofs.ReplayLemmas.{head-along}
 use Rattle.zy_exec.specs.Kept.{known_in, last_place, now_of}
@@ -26,8 +24,8 @@ use Rattle.zy_law.proofs.StepsLawful.{saying_lawful, standing_lawful}
 use Rattle.zy_law.specs.Lawful.{AreAskedFor, IsLawful}
 use Rattle.zy_law.specs.Said.{IsCorrect, Moment, Stood}
 use Rattle.zy_law.specs.Steps.{MaySay, MayStand, after_saying, after_standing}
-use Rattle.zy_law.specs.World.{Spoken, Stand, Statement, World}
-use Rattle.zy_lawful.proofs.OneEntry.{AreOrdersOf, may_stand, slots_more}
+use Rattle.zy_law.specs.World.{Spoken, Stand, World}
+use Rattle.zy_lawful.proofs.OneEntry.{AreOrdersOf, may_stand}
 use Rattle.zy_lawful.specs.Acts.{spoken_at, stand_with, statement_by}
 use Rattle.zy_lawful.specs.Tied as lawful
 use Rattle.zy_lawful.specs.Tied.{MayRun, MaySlotRun}
@@ -42,10 +40,9 @@ use Rattle.zy_table.specs.declared.deeds.Act.TheVariants.{Gains, Says}
 use Rattle.zy_table.specs.declared.deeds.Got.{Got}
 use Rattle.zy_table.specs.declared.deeds.Remark.{Remark}
 use Rattle.zy_view_law.proofs.TieKept.{may_run, tied_run}
-use Rattle.zy_view_law.proofs.TiedGrown.{one_longer, own_said, parts_said, parts_stood}
+use Rattle.zy_view_law.proofs.TiedGrown.{one_longer}
 use Rattle.zy_view_law.specs.Texts.{Texts}
 use Rattle.zy_view_law.specs.Tied.{Core, IsAhead, IsRunnableNext, IsTied, SaysLawfully, said_now}
-use Rattle.zy_view_law.specs.Told.{check_told, response_told}
 use Rattle.zy_view_steps.proofs.AtWork.{last_of, may_there, still_may, work_stood}
 use Rattle.zy_view_steps.proofs.Led.{LeadsTo, leads_nowhere, leads_on, leads_saying}
 use Rattle.zy_view_steps.specs.Cores.{core_of}
