@@ -1,5 +1,6 @@
 pub mod AtWork
 pub mod BeginsWith
+pub mod Changing
 pub mod CommonPlaces
 pub mod Gathered
 pub mod HeardRows
