@@ -156,7 +156,7 @@ module _ {S : Type 0} (R : Rules S) (interval : ℕ) (t : Setting S) where
     pub correct : (r : ℕ) → r < 3 → IsCorrect w r
     pub tied : (r : ℕ) → r < 3 → IsTied R interval w r (cores r) (history_of r)
 
-  said_stage : (w : World) (cores : ℕ → Core S) → IsStage w cores → (r : ℕ) (x : Spoken) (c : Core S) → MaySay w r x → IsTied R interval (after_saying w r x) r c (history_of r) → IsStage (after_saying w r x) (with_core cores r c)
+  pub said_stage : (w : World) (cores : ℕ → Core S) → IsStage w cores → (r : ℕ) (x : Spoken) (c : Core S) → MaySay w r x → IsTied R interval (after_saying w r x) r c (history_of r) → IsStage (after_saying w r x) (with_core cores r c)
   unfolding with_core
   said_stage w cores stage r x c may tied =
       record {

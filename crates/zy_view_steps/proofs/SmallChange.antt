@@ -61,7 +61,7 @@ use Rattle.zy_view_law.specs.Tied.{Core, IsBeginning, IsChosenNew, IsKeptBegan, 
 use Rattle.zy_view_law.specs.Told.{began_told, change_told}
 use Rattle.zy_view_steps.proofs.Changing as changing
 use Rattle.zy_view_steps.proofs.Changing.{IsStage, Setting, begun_lawful, choice_known, confirmed_start, correct_one, is_6, may_stand, others_stand, some_chosen, start, three_agreed, world_7, world_of}
-use Rattle.zy_view_steps.proofs.CommonPlaces.{same_itself}
+use Rattle.zy_view_steps.proofs.FirstEntry.{first_linked, first_runs, is_first}
 use Rattle.zy_view_steps.specs.Example.{asked_world, core_of_one, first_stand, id_of, is_first_link, silent_world, small_world, view_one}
 
 -- ---- what is chosen out of three reports, of which two tell the empty history
@@ -220,24 +220,6 @@ small_change R interval state some =
 
 -- ---- the first replica ran an entry, which no other did
 
-is_first : (head : Digest) (e : Entry) → is_first_link head e ≡ true → (head ≡ empty_head) × (e ≡ first_entry)
-is_first head e is =
-    let both = and_parts (same_digest head empty_head) _ is in
-    let rest = and_parts (nat_eq e.client.0 0) _ both.1 in
-    let last = and_parts (nat_eq e.stamp.0 1) _ rest.1 in
-    let client : e.client ≡ first_entry.client = ap (λ (n : ℕ). record { 0 = n }) (eqb-true e.client.0 0 rest.0) in
-    let stamp : e.stamp ≡ first_entry.stamp = ap (λ (n : ℕ). record { 0 = n }) (eqb-true e.stamp.0 1 last.0) in
-    let op : e.op ≡ [] = none e.op (eqb-true (length e.op) 0 last.1) in
-    let whole : record { client = e.client; stamp = e.stamp; op = e.op } ≡ first_entry =
-    ap (λ (c : ClientId). record { client = c; stamp = e.stamp; op = e.op }) client
-    ∙ ap (λ (t : Stamp). record { client = first_entry.client; stamp = t; op = e.op }) stamp
-    ∙ ap (λ (l : Bytes). record { client = first_entry.client; stamp = first_entry.stamp; op = l }) op in
-    ((digest-equal head empty_head).0 both.0, whole)
-  where
-    none : (l : List ℕ) → length l ≡ 0 → l ≡ []
-    none [] short = refl
-    none (x ∷ l) short = absurd (omega arith)
-
 asked_starts : IsStart asked_world
 asked_starts =
     record {
@@ -264,28 +246,7 @@ module _ {S : Type 0} (R : Rules S) (interval : ℕ) (state : Digest) (some : 0 
   start_tied r small = tied_at_start R interval r asked_world (id_of r) state some asked_starts (correct_one asked_setting r small) refl
 
   runs : IsRunnableNext interval asked_world 0 (core 0) [] first_entry
-  runs =
-      record {
-        asked = asked_there;
-        link = linked;
-        ordered = λ number x m request says what low. absurd (let never = says in cc);
-        client = omega arith;
-        room = omega arith;
-        end = lit< tt;
-      }
-    where
-      linked : is_first_link empty_head first_entry ≡ true
-      linked = ap (λ (b : Bool). b && true) (same_itself empty_head)
-
-      asked_there : AreAskedFor asked_world 0 (first_entry ∷ [])
-      asked_there place e past at =
-          let within = slice_get_within (first_entry ∷ []) (place - 1) e at.there in
-          let none : 0 ≡ place - 1 = omega arith in
-          let same : first_entry ≡ e = same_Some first_entry e (ap (slice_get (first_entry ∷ [])) none ∙ at.there) in
-          record {
-            asked = inr (0, omega arith, same);
-            newer = λ earlier d before there. let first = there.first in absurd (omega arith);
-          }
+  runs = first_runs interval asked_world 0 (core 0) some (0, omega arith, refl) first_linked refl refl refl
 
   abbrev one_stand : Stand
   one_stand = record { view = 0; history = ran_one }

@@ -1,0 +1,179 @@
+-- Two of three correct replicas run an entry in view 0 and commit to it; for the first of them its place is stable.
+use Rattle.std.proofs.Common.{◌≡◌, ℕ, zero, suc, ◌+◌, ◌-◌, ◌%◌, ◌^◌, ◌<◌, ◌≤◌, inl, inr, nat_eq, nat_lt, Bool, true, false, cond, List, [], ◌∷◌, ◌++◌, length, take, Option, Some, None, refl, sym, ap, ◌∙◌, subst, arith, eqb-true, lit<, lit≤}
+use Rattle.std.specs.Prelude.{All, slice_get}
+use Rattle.zy_base.specs.Machine.{Rules}
+use Rattle.zy_base.specs.declared.ids.Digest.{Digest}
+use Rattle.zy_base.specs.declared.ids.Party.TheVariants.{Replica}
+use Rattle.zy_base.specs.declared.ids.Place.{Place}
+use Rattle.zy_base.specs.declared.ids.View.{View}
+use Rattle.zy_cert.specs.Certificates.{IsCertificate}
+use Rattle.zy_cert.specs.Points.{point_of_check, point_of_spec}
+use Rattle.zy_chain.specs.Heads.{empty_head}
+use Rattle.zy_chain.specs.Stretch.{Mark}
+use Rattle.zy_chain.specs.declared.entry.Entry.{Entry}
+use Rattle.zy_change.specs.Views.{Views, start_of}
+use Rattle.zy_change.specs.declared.kept.Certificate.{Certificate}
+use Rattle.zy_choose.specs.Marks.{link}
+use Rattle.zy_exec.proofs.ReplayLemmas.{head-along, place-along}
+use Rattle.zy_exec.specs.Kept.{Kept, settled}
+use Rattle.zy_exec.specs.Replay.{along, origin}
+use Rattle.zy_law.proofs.StepsLawful.{saying_lawful, standing_lawful, start_lawful}
+use Rattle.zy_law.specs.Example.{first_entry, four}
+use Rattle.zy_law.specs.Fixed.{IsCertified}
+use Rattle.zy_law.specs.Histories.{Passes}
+use Rattle.zy_law.specs.Lawful.{IsLawful, IsTrueAnswer}
+use Rattle.zy_law.specs.Said.{IsCorrect}
+use Rattle.zy_law.specs.Steps.{IsStart, MayStand, after_saying, after_standing, with_last}
+use Rattle.zy_law.specs.World.{Answer, Spoken, Stand, Statement, World}
+use Rattle.zy_lawful.specs.Tied.{last_reply, state_of}
+use Rattle.zy_parts.specs.declared.signed.Signed.{Signed}
+use Rattle.zy_parts.specs.declared.statements.Check.{Check}
+use Rattle.zy_parts.specs.declared.statements.Spec.{Spec}
+use Rattle.zy_view_law.proofs.InView.{says_checkpoint, says_response}
+use Rattle.zy_view_law.proofs.ProvenReports.{spec_certified}
+use Rattle.zy_view_law.proofs.TieKept.{may_run, tied_at_start, tied_holding, tied_run, tied_settled}
+use Rattle.zy_view_law.specs.Held.{IsHeldPart, IsVouchedBy, mark_at}
+use Rattle.zy_view_law.specs.Tied.{Core, IsCommitHeld, IsFarEnough, IsGrounded, IsTied, SaysLawfully, ran_with, said_now, settled_with}
+use Rattle.zy_view_law.specs.Told.{check_told, response_told}
+use Rattle.zy_view_steps.proofs.AtWork.{told_alike}
+use Rattle.zy_view_steps.proofs.Changing.{IsStage, Setting, all_three, apart, correct_one, others_say, others_stand, said_stage, start, three_differ, with_core, world_of}
+use Rattle.zy_view_steps.proofs.FirstEntry.{first_linked, first_runs, is_first}
+use Rattle.zy_view_steps.specs.Example.{first_stand, id_of, is_first_link}
+
+module _ {S : Type 0} (R : Rules S) where
+  -- ---- what is said
+
+  abbrev pub list_1 : List Entry
+  list_1 = first_entry ∷ []
+
+  abbrev view_0 : View
+  view_0 = record { 0 = 0 }
+
+  abbrev place_1 : Place
+  place_1 = record { 0 = 1 }
+
+  abbrev pub head_1 : Digest
+  head_1 = link empty_head first_entry
+
+  abbrev m_1 : Mark
+  m_1 = mark_at place_1 head_1
+
+  abbrev spec_1 : Spec
+  spec_1 = record { view = view_0; place = place_1; head = head_1; reply = last_reply R list_1; client = first_entry.client; stamp = first_entry.stamp }
+
+  abbrev answer_1 : Answer
+  answer_1 = record { client = 0; stamp = 1; reply = last_reply R list_1 }
+
+  abbrev pub check_1 : Check
+  check_1 = record { view = view_0; place = place_1; head = head_1; state = state_of R list_1 }
+
+  abbrev spec_by : ℕ → Signed Spec
+  spec_by r = record { by = Replica (id_of r); stmt = spec_1; sig = [] }
+
+  abbrev check_by : ℕ → Signed Check
+  check_by r = record { by = Replica (id_of r); stmt = check_1; sig = [] }
+
+  -- of two that said so, and of the one that lies
+  abbrev pub specs_1 : List (Signed Spec)
+  specs_1 = spec_by 0 ∷ spec_by 1 ∷ spec_by 3 ∷ []
+
+  abbrev pub checks_1 : List (Signed Check)
+  checks_1 = check_by 0 ∷ check_by 1 ∷ check_by 3 ∷ []
+
+  abbrev cert_1 : Certificate
+  cert_1 = record { place = place_1; specs = specs_1 }
+
+  abbrev check_0 : Check
+  check_0 = record { view = view_0; place = record { 0 = 0 }; head = empty_head; state = state_of R [] }
+
+  -- ---- settings
+
+  abbrev kept_of : List Entry → Kept S
+  kept_of entries = record { interval = 1; base = origin R; entries = entries }
+
+  abbrev ran_by : ℕ → List Entry
+  ran_by r = cond (nat_lt r 2) list_1 []
+
+  abbrev setting_with : (ℕ → List Spoken) → (ℕ → List Stand) → (ℕ → List Entry) → (ℕ → Option Certificate) → (ℕ → Kept S) → (ℕ → Check) → (ℕ → List (Signed Check)) → Setting S
+  setting_with said past histories held keeps stable proof =
+      record {
+        asked = λ client. list_1;
+        said = said;
+        past = past;
+        kept = is_first_link;
+        reply = last_reply R;
+        state = state_of R;
+        histories = histories;
+        held = held;
+        keeps = keeps;
+        stable = stable;
+        proof = proof;
+      }
+
+  abbrev setting_0 : Setting S
+  setting_0 = setting_with (λ r. []) (λ r. first_stand ∷ []) (λ r. []) (λ r. None) (λ r. kept_of []) (λ r. check_0) (λ r. [])
+
+  abbrev world_0 : World
+  world_0 = world_of setting_0
+
+  abbrev core_0 : ℕ → Core S
+  core_0 = start R 1 setting_0
+
+  starts : IsStart world_0
+  starts =
+      record {
+        few_liars = lit≤ tt;
+        one_text = λ h k d e first second same.
+            let a = is_first h d first in
+            let b = is_first k e second in
+            (a.0 ∙ sym b.0, a.1 ∙ sym b.1);
+        silent = λ r correct. refl;
+        stands = λ r correct. refl;
+      }
+
+  lawful_0 : IsLawful world_0
+  lawful_0 = start_lawful world_0 starts
+
+  tied_0 : (r : ℕ) → r < 3 → IsTied R 1 world_0 r (core_0 r) []
+  tied_0 r small = tied_at_start R 1 r world_0 (id_of r) (state_of R []) (omega arith) starts (correct_one setting_0 r small) refl
+
+  -- ---- two of them run the entry
+
+  abbrev stand_1 : Stand
+  stand_1 = record { view = 0; history = list_1 }
+
+  abbrev world_1 : World
+  world_1 = after_standing world_0 0 stand_1
+
+  abbrev world_2 : World
+  world_2 = after_standing world_1 1 stand_1
+
+  lawful_1 : IsLawful world_1
+  lawful_1 = standing_lawful world_0 lawful_0 0 stand_1
+      (may_run R 1 world_0 lawful_0 0 (correct_one setting_0 0 (omega arith)) (core_0 0) [] (tied_0 0 (omega arith)) view_0 refl first_entry (first_runs 1 world_0 0 (core_0 0) (omega arith) (0, omega arith, refl) first_linked refl refl refl))
+
+  abbrev setting_2 : Setting S
+  setting_2 = setting_with (λ r. []) world_2.past ran_by (λ r. None) (λ r. kept_of (ran_by r)) (λ r. check_0) (λ r. [])
+
+  tied_1 : IsTied R 1 world_1 1 (core_0 1) []
+  tied_1 = others_stand R 1 world_0 0 1 stand_1 (core_0 1) [] refl (tied_0 1 (omega arith))
+
+  correct_1 : IsCorrect world_1 1
+  correct_1 = record { within = omega arith; honest = refl }
+
+  stage_2 : IsStage R 1 setting_2 world_2 (start R 1 setting_2)
+  stage_2 =
+      record {
+        lawful = standing_lawful world_1 lawful_1 1 stand_1
+            (may_run R 1 world_1 lawful_1 1 correct_1 (core_0 1) [] tied_1 view_0 refl first_entry (first_runs 1 world_1 1 (core_0 1) (omega arith) (0, omega arith, refl) first_linked refl refl refl));
+        links = refl;
+        correct = correct_one setting_2;
+        tied = at;
+      }
+    where
+      at : (r : ℕ) → r < 3 → IsTied R 1 world_2 r (start R 1 setting_2 r) (setting_2.histories r)
+      at zero small = others_stand R 1 world_1 1 0 stand_1 (ran_with first_entry (core_0 0)) list_1 refl
+          (tied_run R 1 world_0 lawful_0 0 (correct_one setting_0 0 small) (core_0 0) [] (tied_0 0 small) view_0 refl first_entry (first_runs 1 world_0 0 (core_0 0) (omega arith) (0, omega arith, refl) first_linked refl refl refl))
+      at (suc zero) small = tied_run R 1 world_1 lawful_1 1 correct_1 (core_0 1) [] tied_1 view_0 refl first_entry (first_runs 1 world_1 1 (core_0 1) (omega arith) (0, omega arith, refl) first_linked refl refl refl)
+      at (suc (suc zero)) small = others_stand R 1 world_1 1 2 stand_1 (core_0 2) [] refl (others_stand R 1 world_0 0 2 stand_1 (core_0 2) [] refl (tied_0 2 small))
+      at (suc (suc (suc r))) small = absurd (omega arith)
