@@ -5,6 +5,7 @@ pub mod CommonPlaces
 pub mod FirstEntry
 pub mod Gathered
 pub mod HeardRows
+pub mod InstalledWorld
 pub mod Leaves
 pub mod Led
 pub mod Settled

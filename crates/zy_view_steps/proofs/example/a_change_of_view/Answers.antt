@@ -1,4 +1,3 @@
-use Rattle.zy_view_steps.proofs.Settled.{check_1}
 use Rattle.zy_view_steps.proofs.SmallChange.{small_change}
 use Rattle.zy_view_steps.proofs.example.a_change_of_view.Goals as goal
 
