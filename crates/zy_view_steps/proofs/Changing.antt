@@ -1,21 +1,13 @@
 -- Three correct replicas of four leave view 0 for view 1, confirm what is chosen out of their reports, and one of them begins the view.
-use Rattle.std.proofs.Common.{◌≡◌, ◌≢◌, ℕ, zero, suc, ◌-◌, ◌<◌, ◌≤◌, inr, nat_eq, Bool, true, false, cond, List, [], ◌∷◌, ◌++◌, length, map, take, fold, ◌&&◌, Option, None, refl, sym, ap, ◌∙◌, subst, arith, eqb-true, lit<, lit≤}
-use Rattle.std.specs.Prelude.{All, Any, Contains, count_by, option_to_list, slice_get, slice_index_or}
-use Rattle.std.proofs.lemmas.Option.{same_Some, slice_get_within}
-use Rattle.std.proofs.lemmas.Bool.{and_parts}
-use Rattle.std.proofs.lemmas.List.Elements.{All-cons, All-contains, All-nil}
+use Rattle.std.proofs.Common.{◌≡◌, ◌≢◌, ℕ, zero, suc, ◌<◌, ◌≤◌, nat_eq, Bool, true, false, cond, List, [], ◌∷◌, ◌++◌, map, Option, None, refl, sym, ap, subst, arith, eqb-true}
+use Rattle.std.specs.Prelude.{All, slice_index_or}
 use Rattle.std.proofs.lemmas.List.Kept.{AllPairs-cons}
 use Rattle.zy_base.specs.Machine.{Rules}
-use Rattle.zy_base.specs.declared.bytes.Bytes.{Bytes}
-use Rattle.zy_base.specs.declared.ids.ClientId.{ClientId}
 use Rattle.zy_base.specs.declared.ids.Digest.{Digest}
 use Rattle.zy_base.specs.declared.ids.Party.{Party}
 use Rattle.zy_base.specs.declared.ids.Party.TheVariants.{Replica}
-use Rattle.zy_cert.specs.Equal.{digest-equal, same_digest}
 use Rattle.zy_cert.specs.Signers.{AreDifferent}
 use Rattle.zy_chain.specs.Entries.{digest_of_entry}
-use Rattle.zy_chain.specs.Heads.{empty_head}
-use Rattle.zy_chain.specs.Stretch.{Mark}
 use Rattle.zy_chain.specs.declared.entry.Entry.{Entry}
 use Rattle.zy_change.specs.Choosing.{choice_of}
 use Rattle.zy_change.specs.Owing.{change_to}
@@ -23,27 +15,21 @@ use Rattle.zy_change.specs.Views.{began_for, is_accepted, own_view, start_of}
 use Rattle.zy_change.specs.declared.kept.Certificate.{Certificate}
 use Rattle.zy_change.specs.declared.kept.Accepted.{Accepted}
 use Rattle.zy_change.specs.declared.kept.Chosen.{Chosen}
-use Rattle.zy_choose.proofs.MarkLemmas.{has_mark-Has}
-use Rattle.zy_choose.specs.Choice.{IsAnchor, IsChoice, IsPicked, last_in}
-use Rattle.zy_choose.specs.Reports.{PlainReport, proven}
-use Rattle.zy_choose.specs.Marks.{has_mark, link}
+use Rattle.zy_choose.specs.Marks.{link}
 use Rattle.zy_choose.specs.declared.choice.Choice.{Choice}
 use Rattle.zy_choose.specs.declared.choice.Choice.TheVariants as choices
-use Rattle.zy_base.specs.declared.ids.Stamp.{Stamp}
 use Rattle.zy_base.specs.declared.step.Mode.TheVariants.{Leaving}
 use Rattle.zy_evidence.specs.Reading.{read}
-use Rattle.zy_exec.proofs.HistoryLemmas.{stands_back}
 use Rattle.zy_exec.specs.Kept.{Kept, StandsFor}
-use Rattle.zy_exec.specs.Replay.{origin}
 use Rattle.zy_evidence.specs.WellFormed.{IsWellFormedChange}
-use Rattle.zy_law.specs.Example.{first_entry, four}
+use Rattle.zy_law.specs.Example.{four}
 use Rattle.zy_law.proofs.ChoiceExtends.{all_choices_safe}
 use Rattle.zy_law.proofs.GrownLemmas.{with_last-kept}
-use Rattle.zy_law.proofs.StepsLawful.{saying_lawful, standing_lawful, start_lawful}
-use Rattle.zy_law.specs.Lawful.{AreAskedFor, IsChosenStart, IsLawful}
+use Rattle.zy_law.proofs.StepsLawful.{saying_lawful, standing_lawful}
+use Rattle.zy_law.specs.Lawful.{IsChosenStart, IsLawful}
 use Rattle.zy_law.specs.Lists.{IsKnown, IsListOf}
-use Rattle.zy_law.specs.Said.{IsCorrect, Stood}
-use Rattle.zy_law.specs.Steps.{IsStart, MaySay, MayStand, after_saying, after_standing, with_last}
+use Rattle.zy_law.specs.Said.{IsCorrect}
+use Rattle.zy_law.specs.Steps.{MaySay, MayStand, after_saying, after_standing, with_last}
 use Rattle.zy_law.specs.World.{Spoken, Stand, World}
 use Rattle.zy_parts.specs.declared.reports.Began.{Began}
 use Rattle.zy_parts.specs.declared.reports.Change.{Change}
@@ -56,12 +42,10 @@ use Rattle.zy_view_law.proofs.Confirming.{chosen_start, may_confirm, tied_confir
 use Rattle.zy_view_law.proofs.LawfulChoice.{chosen_is, never_clashes}
 use Rattle.zy_view_law.proofs.Leaving.{may_leave, tied_gone}
 use Rattle.zy_view_law.proofs.ProvenReports.{new_valid}
-use Rattle.zy_view_law.proofs.TieKept.{may_run, tied_at_start, tied_run}
 use Rattle.zy_view_law.proofs.TiedGrown.{chosen_more, chosen_said, tied_more}
 use Rattle.zy_view_law.specs.Held.{IsHeldChange, IsHeldPart, IsProperNew, mark_at}
-use Rattle.zy_view_law.specs.Tied.{Core, IsBeginning, IsChosenNew, IsKeptBegan, IsRunnableNext, IsKeptChange, IsTied, IsViewCert, change_by, confirmed_with, left_with, said_now, told_by}
+use Rattle.zy_view_law.specs.Tied.{Core, IsChosenNew, IsKeptBegan, IsKeptChange, IsTied, IsViewCert, change_by, confirmed_with, left_with, said_now, told_by}
 use Rattle.zy_view_law.specs.Told.{began_told, change_told}
-use Rattle.zy_view_steps.proofs.CommonPlaces.{same_itself}
 use Rattle.zy_view_steps.specs.Example.{id_of, view_one}
 
 -- others' ties, as one speaks or stands elsewhere

@@ -1,6 +1,6 @@
 -- A world with an installed state: out of the three reports the first one's stable place is chosen, and the third replica, which ran
 -- nothing, begins the view with what stands by the bytes of its snapshot.
-use Rattle.std.proofs.Common.{◌≡◌, ℕ, zero, suc, ◌+◌, ◌-◌, ◌<◌, ◌≤◌, nat_eq, nat_lt, Bool, true, false, cond, ◌&&◌, List, [], ◌∷◌, ◌++◌, length, map, take, fold, Option, Some, None, refl, sym, ap, ◌∙◌, subst, arith}
+use Rattle.std.proofs.Common.{◌≡◌, ℕ, zero, suc, ◌+◌, ◌<◌, ◌≤◌, nat_eq, nat_lt, Bool, true, false, cond, ◌&&◌, List, [], ◌∷◌, length, map, take, fold, Option, Some, None, refl, sym, ap, ◌∙◌, subst, arith}
 use Rattle.std.specs.List.{position}
 use Rattle.std.specs.Prelude.{All, Any, Contains, count_by, option_to_list, slice_get}
 use Rattle.std.proofs.lemmas.Bool.{ltb-false}
@@ -23,11 +23,9 @@ use Rattle.zy_exec.specs.Kept.{Kept}
 use Rattle.zy_exec.specs.Replay.{Point, along, answer_at, origin}
 use Rattle.zy_exec.specs.Installed.{IsRunnable}
 use Rattle.zy_exec.specs.Shots.{snapshot_at, snapshot_due}
-use Rattle.zy_exec.specs.Snapshot.{snapshot_of}
 use Rattle.zy_law.proofs.HistoryLemmas.{mark_is}
 use Rattle.zy_law.specs.Example.{first_entry}
 use Rattle.zy_law.specs.Histories.{AreKept}
-use Rattle.zy_law.specs.Lawful.{IsLawful}
 use Rattle.zy_law.specs.Lists.{IsKnown, IsListOf}
 use Rattle.zy_law.specs.Said.{IsCorrect, Stood}
 use Rattle.zy_law.specs.Steps.{MayStand}

@@ -1,5 +1,5 @@
 -- Two of three correct replicas run an entry in view 0 and commit to it; for the first of them its place is stable.
-use Rattle.std.proofs.Common.{◌≡◌, ℕ, zero, suc, ◌+◌, ◌-◌, ◌%◌, ◌^◌, ◌<◌, ◌≤◌, inl, inr, nat_eq, nat_lt, Bool, true, false, cond, List, [], ◌∷◌, ◌++◌, length, take, Option, Some, None, refl, sym, ap, ◌∙◌, subst, arith, eqb-true, lit<, lit≤}
+use Rattle.std.proofs.Common.{◌≡◌, ℕ, zero, suc, ◌<◌, inl, inr, nat_eq, nat_lt, Bool, true, false, cond, List, [], ◌∷◌, Option, Some, None, refl, sym, ap, ◌∙◌, subst, arith, eqb-true, lit≤}
 use Rattle.std.specs.Prelude.{All, slice_get}
 use Rattle.zy_base.specs.Machine.{Rules}
 use Rattle.zy_base.specs.declared.ids.Digest.{Digest}
@@ -7,23 +7,22 @@ use Rattle.zy_base.specs.declared.ids.Party.TheVariants.{Replica}
 use Rattle.zy_base.specs.declared.ids.Place.{Place}
 use Rattle.zy_base.specs.declared.ids.View.{View}
 use Rattle.zy_cert.specs.Certificates.{IsCertificate}
-use Rattle.zy_cert.specs.Points.{point_of_check, point_of_spec}
+use Rattle.zy_cert.specs.Points.{point_of_spec}
 use Rattle.zy_chain.specs.Heads.{empty_head}
 use Rattle.zy_chain.specs.Stretch.{Mark}
 use Rattle.zy_chain.specs.declared.entry.Entry.{Entry}
-use Rattle.zy_change.specs.Views.{Views, start_of}
 use Rattle.zy_change.specs.declared.kept.Certificate.{Certificate}
 use Rattle.zy_choose.specs.Marks.{link}
 use Rattle.zy_exec.proofs.ReplayLemmas.{head-along, place-along}
 use Rattle.zy_exec.specs.Kept.{Kept, settled}
-use Rattle.zy_exec.specs.Replay.{along, origin}
-use Rattle.zy_law.proofs.StepsLawful.{saying_lawful, standing_lawful, start_lawful}
-use Rattle.zy_law.specs.Example.{first_entry, four}
+use Rattle.zy_exec.specs.Replay.{origin}
+use Rattle.zy_law.proofs.StepsLawful.{standing_lawful, start_lawful}
+use Rattle.zy_law.specs.Example.{first_entry}
 use Rattle.zy_law.specs.Fixed.{IsCertified}
 use Rattle.zy_law.specs.Histories.{Passes}
 use Rattle.zy_law.specs.Lawful.{IsLawful, IsTrueAnswer}
 use Rattle.zy_law.specs.Said.{IsCorrect}
-use Rattle.zy_law.specs.Steps.{IsStart, MayStand, after_saying, after_standing, with_last}
+use Rattle.zy_law.specs.Steps.{IsStart, after_saying, after_standing}
 use Rattle.zy_law.specs.World.{Answer, Spoken, Stand, Statement, World}
 use Rattle.zy_lawful.specs.Tied.{last_reply, state_of}
 use Rattle.zy_parts.specs.declared.signed.Signed.{Signed}
@@ -36,7 +35,7 @@ use Rattle.zy_view_law.specs.Held.{IsHeldPart, IsVouchedBy, mark_at}
 use Rattle.zy_view_law.specs.Tied.{Core, IsCommitHeld, IsFarEnough, IsGrounded, IsTied, SaysLawfully, ran_with, said_now, settled_with}
 use Rattle.zy_view_law.specs.Told.{check_told, response_told}
 use Rattle.zy_view_steps.proofs.AtWork.{told_alike}
-use Rattle.zy_view_steps.proofs.Changing.{IsStage, Setting, all_three, apart, correct_one, others_say, others_stand, said_stage, start, three_differ, with_core, world_of}
+use Rattle.zy_view_steps.proofs.Changing.{IsStage, Setting, all_three, apart, correct_one, others_stand, said_stage, start, three_differ, with_core, world_of}
 use Rattle.zy_view_steps.proofs.FirstEntry.{first_linked, first_runs, is_first}
 use Rattle.zy_view_steps.specs.Example.{first_stand, id_of, is_first_link}
 

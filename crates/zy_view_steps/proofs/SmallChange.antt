@@ -1,68 +1,39 @@
 -- The small worlds: three replicas, of which one ran some entries, leave for view 1, confirm what is chosen out of their reports, and
 -- begin the view with the empty history.
-use Rattle.std.proofs.Common.{◌≡◌, ◌≢◌, ℕ, zero, suc, ◌-◌, ◌<◌, ◌≤◌, inr, nat_eq, Bool, true, false, cond, List, [], ◌∷◌, ◌++◌, length, map, take, fold, ◌&&◌, Option, None, refl, sym, ap, ◌∙◌, subst, arith, eqb-true, lit<, lit≤}
-use Rattle.std.specs.Prelude.{All, Any, Contains, count_by, option_to_list, slice_get, slice_index_or}
-use Rattle.std.proofs.lemmas.Option.{same_Some, slice_get_within}
-use Rattle.std.proofs.lemmas.Bool.{and_parts}
+use Rattle.std.proofs.Common.{◌≡◌, ℕ, zero, suc, ◌<◌, ◌≤◌, nat_eq, Bool, true, false, cond, List, [], ◌∷◌, length, take, fold, ◌&&◌, Option, None, refl, sym, ap, ◌∙◌, subst, arith, lit≤}
+use Rattle.std.specs.Prelude.{All, Any, Contains, count_by, option_to_list}
 use Rattle.std.proofs.lemmas.List.Elements.{All-cons, All-contains, All-nil}
-use Rattle.std.proofs.lemmas.List.Kept.{AllPairs-cons}
 use Rattle.zy_base.specs.Machine.{Rules}
-use Rattle.zy_base.specs.declared.bytes.Bytes.{Bytes}
-use Rattle.zy_base.specs.declared.ids.ClientId.{ClientId}
 use Rattle.zy_base.specs.declared.ids.Digest.{Digest}
-use Rattle.zy_base.specs.declared.ids.Party.{Party}
-use Rattle.zy_base.specs.declared.ids.Party.TheVariants.{Replica}
-use Rattle.zy_cert.specs.Equal.{digest-equal, same_digest}
-use Rattle.zy_cert.specs.Signers.{AreDifferent}
 use Rattle.zy_chain.specs.Heads.{empty_head}
 use Rattle.zy_chain.specs.Stretch.{Mark}
 use Rattle.zy_chain.specs.declared.entry.Entry.{Entry}
-use Rattle.zy_change.specs.Choosing.{choice_of}
-use Rattle.zy_change.specs.Owing.{change_to}
-use Rattle.zy_change.specs.Views.{began_for, is_accepted, own_view}
-use Rattle.zy_change.specs.declared.kept.Accepted.{Accepted}
+use Rattle.zy_change.specs.Views.{own_view}
 use Rattle.zy_change.specs.declared.kept.Chosen.{Chosen}
 use Rattle.zy_choose.proofs.MarkLemmas.{has_mark-Has}
 use Rattle.zy_choose.specs.Choice.{IsAnchor, IsChoice, IsPicked, last_in}
 use Rattle.zy_choose.specs.Reports.{PlainReport, proven}
 use Rattle.zy_choose.specs.Marks.{has_mark, link}
-use Rattle.zy_choose.specs.declared.choice.Choice.{Choice}
-use Rattle.zy_choose.specs.declared.choice.Choice.TheVariants as choices
-use Rattle.zy_base.specs.declared.ids.Stamp.{Stamp}
-use Rattle.zy_base.specs.declared.step.Mode.TheVariants.{Leaving}
 use Rattle.zy_evidence.specs.Reading.{read}
 use Rattle.zy_exec.proofs.HistoryLemmas.{stands_back}
 use Rattle.zy_exec.specs.Kept.{back_to}
 use Rattle.zy_exec.specs.Replay.{origin}
-use Rattle.zy_evidence.specs.WellFormed.{IsWellFormedChange}
-use Rattle.zy_law.specs.Example.{first_entry, four}
-use Rattle.zy_law.proofs.ChoiceExtends.{all_choices_safe}
-use Rattle.zy_law.proofs.GrownLemmas.{with_last-kept}
-use Rattle.zy_law.proofs.StepsLawful.{saying_lawful, standing_lawful, start_lawful}
-use Rattle.zy_law.specs.Lawful.{AreAskedFor, IsChosenStart, IsLawful}
+use Rattle.zy_law.specs.Example.{first_entry}
+use Rattle.zy_law.proofs.StepsLawful.{standing_lawful, start_lawful}
+use Rattle.zy_law.specs.Lawful.{IsChosenStart, IsLawful}
 use Rattle.zy_law.specs.Lists.{IsKnown, IsListOf}
-use Rattle.zy_law.specs.Said.{IsCorrect, Stood}
-use Rattle.zy_law.specs.Steps.{IsStart, MaySay, MayStand, after_saying, after_standing, with_last}
-use Rattle.zy_law.specs.World.{Spoken, Stand, World}
-use Rattle.zy_parts.specs.declared.reports.Began.{Began}
+use Rattle.zy_law.specs.Said.{Stood}
+use Rattle.zy_law.specs.Steps.{IsStart, MayStand, with_last}
+use Rattle.zy_law.specs.World.{Stand, World}
 use Rattle.zy_parts.specs.declared.reports.Change.{Change}
-use Rattle.zy_parts.specs.declared.reports.New.{New}
 use Rattle.zy_parts.specs.declared.signed.Signed.{Signed}
-use Rattle.zy_vframes.specs.declared.frame.ViewCert.{ViewCert}
-use Rattle.zy_view_law.proofs.Beginning.{may_begin}
-use Rattle.zy_view_law.proofs.Confirming.{chosen_start, may_confirm, tied_confirmed}
-use Rattle.zy_view_law.proofs.LawfulChoice.{chosen_is, never_clashes}
-use Rattle.zy_view_law.proofs.Leaving.{may_leave, tied_gone}
-use Rattle.zy_view_law.proofs.ProvenReports.{new_valid}
 use Rattle.zy_view_law.proofs.TieKept.{may_run, tied_at_start, tied_run}
-use Rattle.zy_view_law.proofs.TiedGrown.{chosen_more, chosen_said, tied_more}
-use Rattle.zy_view_law.specs.Held.{IsHeldChange, IsHeldPart, IsProperNew, mark_at}
-use Rattle.zy_view_law.specs.Tied.{Core, IsBeginning, IsChosenNew, IsKeptBegan, IsRunnableNext, IsKeptChange, IsTied, IsViewCert, change_by, confirmed_with, left_with, said_now, told_by}
-use Rattle.zy_view_law.specs.Told.{began_told, change_told}
+use Rattle.zy_view_law.specs.Held.{mark_at}
+use Rattle.zy_view_law.specs.Tied.{Core, IsChosenNew, IsRunnableNext, IsTied}
 use Rattle.zy_view_steps.proofs.Changing as changing
 use Rattle.zy_view_steps.proofs.Changing.{IsStage, Setting, begun_lawful, choice_known, confirmed_start, correct_one, is_6, may_stand, others_stand, some_chosen, start, three_agreed, world_7, world_of}
 use Rattle.zy_view_steps.proofs.FirstEntry.{first_linked, first_runs, is_first}
-use Rattle.zy_view_steps.specs.Example.{asked_world, core_of_one, first_stand, id_of, is_first_link, silent_world, small_world, view_one}
+use Rattle.zy_view_steps.specs.Example.{asked_world, core_of_one, first_stand, id_of, is_first_link, silent_world}
 
 -- ---- what is chosen out of three reports, of which two tell the empty history
 
