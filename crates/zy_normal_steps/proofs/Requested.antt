@@ -1,7 +1,7 @@
 -- What a request, a backup's request and an order can come to, and the room that there is then.
-use Rattle.std.proofs.Common.{◌≡◌, ℕ, ◌+◌, ◌<◌, ◌≤◌, true, false, Option, Some, None, refl, ap, ◌∙◌, arith, inl, inr, ltb-false, ltb-true, lt-ltb}
+use Rattle.std.proofs.Common.{◌≡◌, ℕ, ◌+◌, ◌<◌, ◌≤◌, true, false, Option, Some, None, refl, ap, ◌∙◌, arith, ltb-false, ltb-true, lt-ltb}
 use Rattle.std.specs.Prelude.{nat_eq, nat_le, nat_lt, option_map, List, []}
-use Rattle.std.proofs.lemmas.Bool.{cases_lt, eqb-false}
+use Rattle.std.proofs.lemmas.Bool.{eqb-false}
 use Rattle.zy_base.specs.Machine.{Rules}
 use Rattle.zy_base.specs.declared.cause.Cause.{Cause}
 use Rattle.zy_base.specs.declared.cause.Cause.TheVariants as causes
@@ -32,12 +32,7 @@ use Rattle.zy_table.specs.declared.kept.Pending.{Pending}
 use Rattle.zy_normal_steps.proofs.Admitted.{IsFresh, IsPlaced}
 
 stamp_above : (a b : ℕ) → nat_lt b a ≡ false → nat_eq b a ≡ false → nat_lt a b ≡ true
-stamp_above a b from other =
-    let below : a ≤ b = ltb-false b a from in
-    elim (cases_lt a b) [
-      | inl less ↦ lt-ltb a b less
-      | inr least ↦ absurd (eqb-false b a other (omega arith))
-    ]
+stamp_above a b from other = lt-ltb a b (omega (arith, ltb-false b a from, eqb-false b a other))
 
 -- it lies past the end of the history, and in the window
 pub record HasRoomFor {S : Type 0} (s : State S) (o : OrderFrame) : Type 0 where

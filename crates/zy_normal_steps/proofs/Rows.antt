@@ -236,6 +236,24 @@ module _ {S : Type 0} (R : Rules S) (interval : ℕ) (texts : Texts) (w : World)
       let spaced : s.kept.interval ≡ interval = work.spaced in
       record { above = omega (arith, base_low); near = omega (arith, spaced); low = omega arith }
 
+  -- the slots reach to it, and no further than the window
+  record IsTop (o : OrderFrame) (top : ℕ) : Type 0 where
+    near : top ≤ s.kept.base.place + 2 * interval
+    in_range : top < 2 ^ 62
+    far : o.order.stmt.place.0 ≤ top
+
+  top_of : (o : OrderFrame) → IsInWindow interval s.orders o → IsTop o (s.orders.base + length (with_order s.orders o).slots)
+  top_of o in_window =
+      let long = slots_long s.orders o in
+      let few = work.few in
+      let end = work.end in
+      let based = work.based in
+      record {
+        near = omega (arith, in_window.near, in_window.above);
+        in_range = omega (arith, in_window.low, in_window.above);
+        far = omega (arith, in_window.above);
+      }
+
   puts : (o : OrderFrame) → MayRun w (entry_of o.ask) → IsInWindow interval s.orders o → (hole : Option (Signed Hole)) → Works (begin (record (with_held s o) { hole = hole }))
   unfolding goes_as
   puts o may in_window hole =
@@ -261,15 +279,10 @@ module _ {S : Type 0} (R : Rules S) (interval : ℕ) (texts : Texts) (w : World)
       let in_window = inside o above below in
       let put = puts o may in_window None in
       let top = s.orders.base + length (with_order s.orders o).slots in
-      let long = slots_long s.orders o in
-      let few = work.few in
-      let end = work.end in
-      let based = work.based in
-      let near : top ≤ s.kept.base.place + 2 * interval = omega (arith, in_window.near, in_window.above) in
-      let in_range : top < 2 ^ 62 = omega (arith, in_window.low, in_window.above) in
-      let low : last_place s.kept < top = omega (arith, in_window.above) in
-      run_goes R interval texts w r s h view o (begin s') (slots_put w s.orders o work.runs may) top refl low base_low near in_range
-      (λ one. next_goes R interval texts w r s h view o (begin s') put may new (one_gains w texts R o (begin s') one).1 top low near in_range) gains
+      let is_top = top_of o in_window in
+      let low : last_place s.kept < top = omega (arith, is_top.far) in
+      run_goes R interval texts w r s h view o (begin s') (slots_put w s.orders o work.runs may) top refl low base_low is_top.near is_top.in_range
+      (λ one. next_goes R interval texts w r s h view o (begin s') put may new (one_gains w texts R o (begin s') one).1 top low is_top.near is_top.in_range) gains
 
   -- ---- a primary's order
 
@@ -312,15 +325,10 @@ module _ {S : Type 0} (R : Rules S) (interval : ℕ) (texts : Texts) (w : World)
       subst (λ (d : Digest). IsOrdered start.world (start.now ++ e ∷ []) k d) requests (subst (λ (j : Mark). IsOrdered start.world (start.now ++ e ∷ []) j (digest_of_entry e)) marks is))
       (orders_of_longer R start.world r s start.now start.lawful start.kept.agrees start.correct there e up_to_own) in
       let top = s.orders.base + length (with_order s.orders o).slots in
-      let long = slots_long s.orders o in
-      let few = work.few in
-      let end = work.end in
-      let based = work.based in
-      let near : top ≤ s.kept.base.place + 2 * interval = omega (arith, in_window.near, in_window.above) in
-      let in_range : top < 2 ^ 62 = omega (arith, in_window.low, in_window.above) in
-      let low : last_place s.kept < top = omega (arith, in_window.above, place) in
-      run_goes R interval texts w r s h view o g (slots_put w s.orders o work.runs may) top refl low base_low near in_range
-      (λ one. one_goes R interval texts w r s h view 1 g on o may new (one_gains w texts R o g one).1 of top low near in_range (omega arith)) gains
+      let is_top = top_of o in_window in
+      let low : last_place s.kept < top = omega (arith, is_top.far, place) in
+      run_goes R interval texts w r s h view o g (slots_put w s.orders o work.runs may) top refl low base_low is_top.near is_top.in_range
+      (λ one. one_goes R interval texts w r s h view 1 g on o may new (one_gains w texts R o g one).1 of top low is_top.near is_top.in_range (omega arith)) gains
 
   -- ---- a response or a checkpoint
 

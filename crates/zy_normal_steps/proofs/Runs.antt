@@ -61,35 +61,29 @@ use Rattle.zy_normal_steps.specs.Gains.{AreGainsKept, IsGainKept}
 -- ---- where what is kept begins and ends
 
 module _ {S : Type 0} (R : Rules S) where
-  ends_keep : (n : ℕ) → Keeps R (λ g. last_place g.state.kept ≡ n)
-  ends_keep n =
+  -- it ends there, and begins at this place or later
+  record IsBetween (low end : ℕ) (g : Going S) : Type 0 where
+    above : low ≤ g.state.kept.base.place
+    ends : last_place g.state.kept ≡ end
+
+  between : (low end : ℕ) → Keeps R (IsBetween low end)
+  between low end =
       record {
-        sends = λ g to frame is. is;
-        responds = λ g order signed reply is. is;
-        owns = λ g own signed is. is;
-        holds = λ g held is. is;
-        checks = λ g check is. is;
-        settles = λ g place proof is. end_settled R g.state.kept place ∙ is;
+        sends = λ g to frame is. record { above = is.above; ends = is.ends };
+        responds = λ g order signed reply is. record { above = is.above; ends = is.ends };
+        owns = λ g own signed is. record { above = is.above; ends = is.ends };
+        holds = λ g held is. record { above = is.above; ends = is.ends };
+        checks = λ g check is. record { above = is.above; ends = is.ends };
+        settles = λ g place proof is. record {
+          above = omega (arith, is.above, place-along R g.state.kept.base (take (place - g.state.kept.base.place) g.state.kept.entries));
+          ends = end_settled R g.state.kept place ∙ is.ends;
+        };
       }
 
-  bases_rise : (n : ℕ) → Keeps R (λ g. n ≤ g.state.kept.base.place)
-  bases_rise n =
-      record {
-        sends = λ g to frame is. is;
-        responds = λ g order signed reply is. is;
-        owns = λ g own signed is. is;
-        holds = λ g held is. is;
-        checks = λ g check is. is;
-        settles = λ g place proof is. omega (arith, is, place-along R g.state.kept.base (take (place - g.state.kept.base.place) g.state.kept.entries));
-      }
-
-  one_further : (o : OrderFrame) (g : Going S) → last_place (run_one R o g).state.kept ≡ last_place g.state.kept + 1
+  one_further : (o : OrderFrame) (g : Going S) → IsBetween g.state.kept.base.place (last_place g.state.kept + 1) (run_one R o g)
   one_further o g =
-      one_keeps R (λ g'. last_place g'.state.kept ≡ last_place g.state.kept + 1) (ends_keep (last_place g.state.kept + 1)) o g
-      (omega (arith, length-append g.state.kept.entries (entry_of o.ask ∷ [])))
-
-  one_above : (o : OrderFrame) (g : Going S) → g.state.kept.base.place ≤ (run_one R o g).state.kept.base.place
-  one_above o g = one_keeps R (λ g'. g.state.kept.base.place ≤ g'.state.kept.base.place) (bases_rise g.state.kept.base.place) o g (omega arith)
+      one_keeps R (IsBetween g.state.kept.base.place (last_place g.state.kept + 1)) (between g.state.kept.base.place (last_place g.state.kept + 1)) o g
+      (record { above = omega arith; ends = omega (arith, length-append g.state.kept.entries (entry_of o.ask ∷ [])) })
 
 module _ {S : Type 0} (R : Rules S) (interval : ℕ) (texts : Texts) (w : World) (r : ℕ) (s : State S) (h : List Entry) (view : View) where
   abbrev Works : Going S → Type 0
@@ -201,7 +195,7 @@ module _ {S : Type 0} (R : Rules S) (interval : ℕ) (texts : Texts) (w : World)
       let new = (and_parts (same_digest o.order.stmt.head (head_after (now_of R g.state.kept).head (digest_of_entry (entry_of o.ask)))) (newer o.ask.stmt.stamp (option_map (λ (known : Known). known.stamp) (known_in R g.state.kept (entry_of o.ask).client.0))) fits).1 in
       let gain = (one_gains w texts R o g (held_gains w texts R slots (run_one R o g) gains)).1 in
       held_goes slots (run_one R o g) all.1 (next_goes o g is all.0 new gain top (omega arith) near in_range) gains top
-      (omega (arith, one_further R o g)) (omega (arith, one_above R o g)) in_range)
+      (omega (arith, (one_further R o g).ends)) (omega (arith, (one_further R o g).above)) in_range)
       (λ none gains top low near in_range. is))
       (λ differs gains top low near in_range.
       let next : State S = record g.state { orders = without_order g.state.orders (last_place g.state.kept + 1) } in
@@ -232,4 +226,4 @@ module _ {S : Type 0} (R : Rules S) (interval : ℕ) (texts : Texts) (w : World)
       let slots = slots_above (last_place g.state.kept + 1) g.state.orders in
       let n = last_place g.state.kept + 1 - g.state.orders.base in
       held_goes slots (run_one R o g) (slots_from w n g.state.orders.slots all) (one (held_gains w texts R slots (run_one R o g) gains)) gains top
-      (omega (arith, one_further R o g, length-drop n g.state.orders.slots)) (omega (arith, one_above R o g)) in_range
+      (omega (arith, (one_further R o g).ends, length-drop n g.state.orders.slots)) (omega (arith, (one_further R o g).above)) in_range

@@ -1,6 +1,6 @@
 -- Three correct replicas of four leave view 0 for view 1, confirm what is chosen out of their reports, and one of them begins the view.
-use Rattle.std.proofs.Common.{◌≡◌, ◌≢◌, ℕ, zero, suc, ◌<◌, ◌≤◌, nat_eq, Bool, true, false, cond, List, [], ◌∷◌, ◌++◌, map, Option, None, refl, sym, ap, subst, arith, eqb-true}
-use Rattle.std.specs.Prelude.{All, slice_index_or}
+use Rattle.std.proofs.Common.{◌≡◌, ◌≢◌, ℕ, zero, suc, ◌<◌, ◌≤◌, nat_eq, Bool, true, false, cond, List, [], ◌∷◌, ◌++◌, map, Option, None, refl, sym, ap, ◌∙◌, subst, arith, eqb-true}
+use Rattle.std.specs.Prelude.{All, Any, slice_index_or}
 use Rattle.std.proofs.lemmas.List.Kept.{AllPairs-cons}
 use Rattle.zy_base.specs.Machine.{Rules}
 use Rattle.zy_base.specs.declared.ids.Digest.{Digest}
@@ -15,6 +15,7 @@ use Rattle.zy_change.specs.Views.{began_for, is_accepted, own_view, start_of}
 use Rattle.zy_change.specs.declared.kept.Certificate.{Certificate}
 use Rattle.zy_change.specs.declared.kept.Accepted.{Accepted}
 use Rattle.zy_change.specs.declared.kept.Chosen.{Chosen}
+use Rattle.zy_choose.specs.Reports.{PlainReport}
 use Rattle.zy_choose.specs.Marks.{link}
 use Rattle.zy_choose.specs.declared.choice.Choice.{Choice}
 use Rattle.zy_choose.specs.declared.choice.Choice.TheVariants as choices
@@ -88,6 +89,13 @@ number_in other = 9
 pub apart : (a b : ℕ) → a < b → Replica (id_of a) ≢ Replica (id_of b)
 unfolding number_in
 apart a b less same = let equal : a ≡ b = ap number_in same in omega arith
+
+-- the view that one of three reports names as its last, where that is view 0 for each
+pub last_of_three : (a b c : PlainReport) → a.last_view ≡ 0 → b.last_view ≡ 0 → c.last_view ≡ 0 → (view : ℕ) → Any (λ r. r.last_view ≡ view) (a ∷ b ∷ c ∷ []) → 0 ≡ view
+last_of_three a b c first second third view (zero, r, within, there, told) = sym first ∙ ap (λ (x : PlainReport). x.last_view) there ∙ told
+last_of_three a b c first second third view (suc zero, r, within, there, told) = sym second ∙ ap (λ (x : PlainReport). x.last_view) there ∙ told
+last_of_three a b c first second third view (suc (suc zero), r, within, there, told) = sym third ∙ ap (λ (x : PlainReport). x.last_view) there ∙ told
+last_of_three a b c first second third view (suc (suc (suc k)), r, within, there, told) = absurd (omega arith)
 
 -- What three correct replicas of four have come to in view 0, of which none left it.
 pub record Setting (S : Type 0) : Type 0 where

@@ -10,7 +10,9 @@ use Rattle.zy_base.specs.declared.ids.Stamp.{Stamp}
 use Rattle.zy_cert.specs.Equal.{digest-equal, same_digest}
 use Rattle.zy_chain.specs.Heads.{empty_head}
 use Rattle.zy_chain.specs.declared.entry.Entry.{Entry}
+use Rattle.zy_choose.specs.Marks.{link}
 use Rattle.zy_law.specs.Example.{first_entry}
+use Rattle.zy_law.specs.Histories.{HaveOneText}
 use Rattle.zy_law.specs.Lawful.{AreAskedFor}
 use Rattle.zy_law.specs.World.{Spoken, World}
 use Rattle.zy_view_law.specs.Tied.{Core, IsRunnableNext}
@@ -34,6 +36,13 @@ is_first head e is =
     none : (l : List ℕ) → length l ≡ 0 → l ≡ []
     none [] short = refl
     none (x ∷ l) short = absurd (omega arith)
+
+-- one head has one text
+pub one_link : HaveOneText is_first_link link
+one_link h k d e first second same =
+    let a = is_first h d first in
+    let b = is_first k e second in
+    (a.0 ∙ sym b.0, a.1 ∙ sym b.1)
 
 pub first_linked : is_first_link empty_head first_entry ≡ true
 first_linked = ap (λ (b : Bool). b && true) (same_itself empty_head)

@@ -38,7 +38,7 @@ use Rattle.zy_view_law.specs.Held.{IsProvidedBy, mark_at}
 use Rattle.zy_view_law.specs.Texts.{IsKept, IsLink, Texts}
 use Rattle.zy_view_law.specs.Tied.{Core, IsChosenNew}
 use Rattle.zy_view_steps.proofs.Changing as changing
-use Rattle.zy_view_steps.proofs.Changing.{begun_lawful, choice_known, is_6, is_7, may_stand, some_chosen, start, three_agreed}
+use Rattle.zy_view_steps.proofs.Changing.{last_of_three, begun_lawful, choice_known, is_6, is_7, may_stand, some_chosen, start, three_agreed}
 use Rattle.zy_view_steps.proofs.FirstEntry.{first_linked, is_first}
 use Rattle.zy_view_steps.proofs.Settled.{settled_setting, settled_stage}
 use Rattle.zy_view_steps.specs.Example.{AreFirstKept, IsInstalledIn, first_place, first_snapshot, first_stand, is_first_link}
@@ -176,10 +176,7 @@ module _ {S : Type 0} (R : Rules S) (chosen : Chosen)
       absurd (omega (arith, few, agreed.enough))
 
   last_view_is : (view : ℕ) → Any (λ r. r.last_view ≡ view) reports → 0 ≡ view
-  last_view_is view (zero, r, within, there, told) = ap (λ (x : PlainReport). x.last_view) there ∙ told
-  last_view_is view (suc zero, r, within, there, told) = ap (λ (x : PlainReport). x.last_view) there ∙ told
-  last_view_is view (suc (suc zero), r, within, there, told) = ap (λ (x : PlainReport). x.last_view) there ∙ told
-  last_view_is view (suc (suc (suc k)), r, within, there, told) = absurd (omega arith)
+  last_view_is = last_of_three (read (change_of 0)) (read (change_of 1)) (read (change_of 2)) refl refl refl
 
   chosen_there : chosen.place.0 ≡ 1
   chosen_there =

@@ -1,5 +1,5 @@
 -- Two of three correct replicas run an entry in view 0 and commit to it; for the first of them its place is stable.
-use Rattle.std.proofs.Common.{◌≡◌, ℕ, zero, suc, ◌<◌, inl, inr, nat_eq, nat_lt, Bool, true, false, cond, List, [], ◌∷◌, Option, Some, None, refl, sym, ap, ◌∙◌, subst, arith, eqb-true, lit≤}
+use Rattle.std.proofs.Common.{◌≡◌, ℕ, zero, suc, ◌<◌, inl, inr, nat_eq, nat_lt, Bool, true, false, cond, List, [], ◌∷◌, Option, Some, None, refl, sym, ap, subst, arith, eqb-true, lit≤}
 use Rattle.std.specs.Prelude.{All, slice_get}
 use Rattle.zy_base.specs.Machine.{Rules}
 use Rattle.zy_base.specs.declared.ids.Digest.{Digest}
@@ -36,7 +36,7 @@ use Rattle.zy_view_law.specs.Tied.{Core, IsCommitHeld, IsFarEnough, IsGrounded, 
 use Rattle.zy_view_law.specs.Told.{check_told, response_told}
 use Rattle.zy_view_steps.proofs.AtWork.{told_alike}
 use Rattle.zy_view_steps.proofs.Changing.{IsStage, Setting, all_three, apart, correct_one, others_stand, said_stage, start, three_differ, with_core, world_of}
-use Rattle.zy_view_steps.proofs.FirstEntry.{first_linked, first_runs, is_first}
+use Rattle.zy_view_steps.proofs.FirstEntry.{first_linked, first_runs, one_link}
 use Rattle.zy_view_steps.specs.Example.{first_stand, id_of, is_first_link}
 
 module _ {S : Type 0} (R : Rules S) where
@@ -122,10 +122,7 @@ module _ {S : Type 0} (R : Rules S) where
   starts =
       record {
         few_liars = lit≤ tt;
-        one_text = λ h k d e first second same.
-            let a = is_first h d first in
-            let b = is_first k e second in
-            (a.0 ∙ sym b.0, a.1 ∙ sym b.1);
+        one_text = one_link;
         silent = λ r correct. refl;
         stands = λ r correct. refl;
       }
@@ -242,12 +239,16 @@ module _ {S : Type 0} (R : Rules S) where
         equal = all_three (λ (x : Signed Spec). x.stmt ≡ spec_1) (spec_by 0) (spec_by 1) (spec_by 3) refl refl refl;
       }
 
+  -- wherever the two said so first
+  held_in : (w : World) → w.counts.n ≡ 4 → w.liar 3 ≡ true → slice_get (w.said 0) 0 ≡ Some (said_now world_2 0 response) → slice_get (w.said 1) 0 ≡ Some (said_now world_3 1 response) → All (IsHeldPart w response_told) specs_1
+  held_in w four liar first second =
+      all_three (IsHeldPart w response_told) (spec_by 0) (spec_by 1) (spec_by 3)
+      (vouched w 0 0 (said_now world_2 0 response) (response_told spec_1) (omega (arith, four)) first alike)
+      (vouched w 1 0 (said_now world_3 1 response) (response_told spec_1) (omega (arith, four)) second alike)
+      (lies w (response_told spec_1) liar (omega (arith, four)))
+
   held_4 : All (IsHeldPart world_4 response_told) specs_1
-  held_4 =
-      all_three (IsHeldPart world_4 response_told) (spec_by 0) (spec_by 1) (spec_by 3)
-      (vouched world_4 0 0 (said_now world_2 0 response) (response_told spec_1) (omega arith) refl alike)
-      (vouched world_4 1 0 (said_now world_3 1 response) (response_told spec_1) (omega arith) refl alike)
-      (lies world_4 (response_told spec_1) refl (omega arith))
+  held_4 = held_in world_4 refl refl refl refl
 
   commit_4 : IsCommitHeld world_4 view_0 list_1 cert_1
   commit_4 = record { head = head_1; certificate = certificate_1; held = held_4; passes = passes_there world_4 refl }
@@ -290,11 +291,7 @@ module _ {S : Type 0} (R : Rules S) where
       (says_checkpoint R 1 world_4 stage_held.lawful 0 (stage_held.correct 0 (omega arith)) (start R 1 setting_4 0) list_1 (stage_held.tied 0 (omega arith)) view_0 refl m_1 (state_of R list_1) (passes_there world_4 refl) certified_4 far_1 refl)
 
   held_5 : All (IsHeldPart world_5 response_told) specs_1
-  held_5 =
-      all_three (IsHeldPart world_5 response_told) (spec_by 0) (spec_by 1) (spec_by 3)
-      (vouched world_5 0 0 (said_now world_2 0 response) (response_told spec_1) (omega arith) refl alike)
-      (vouched world_5 1 0 (said_now world_3 1 response) (response_told spec_1) (omega arith) refl alike)
-      (lies world_5 (response_told spec_1) refl (omega arith))
+  held_5 = held_in world_5 refl refl refl refl
 
   stage_6 : IsStage R 1 setting_4 world_6 (start R 1 setting_4)
   stage_6 =

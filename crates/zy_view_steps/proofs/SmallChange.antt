@@ -31,8 +31,8 @@ use Rattle.zy_view_law.proofs.TieKept.{may_run, tied_at_start, tied_run}
 use Rattle.zy_view_law.specs.Held.{mark_at}
 use Rattle.zy_view_law.specs.Tied.{Core, IsChosenNew, IsRunnableNext, IsTied}
 use Rattle.zy_view_steps.proofs.Changing as changing
-use Rattle.zy_view_steps.proofs.Changing.{IsStage, Setting, begun_lawful, choice_known, confirmed_start, correct_one, is_6, may_stand, others_stand, some_chosen, start, three_agreed, world_7, world_of}
-use Rattle.zy_view_steps.proofs.FirstEntry.{first_linked, first_runs, is_first}
+use Rattle.zy_view_steps.proofs.Changing.{last_of_three, IsStage, Setting, begun_lawful, choice_known, confirmed_start, correct_one, is_6, may_stand, others_stand, some_chosen, start, three_agreed, world_7, world_of}
+use Rattle.zy_view_steps.proofs.FirstEntry.{first_linked, first_runs, one_link}
 use Rattle.zy_view_steps.specs.Example.{asked_world, core_of_one, first_stand, id_of, is_first_link, silent_world}
 
 -- ---- what is chosen out of three reports, of which two tell the empty history
@@ -113,10 +113,7 @@ module _ {S : Type 0} (R : Rules S) (interval : ℕ) (ran : List Entry) (asked :
         absurd (omega (arith, few, is.enough))
 
     last_view_is : (view : ℕ) → Any (λ r. r.last_view ≡ view) reports → 0 ≡ view
-    last_view_is view (zero, r, within, is, told) = ap (λ (x : PlainReport). x.last_view) is ∙ told
-    last_view_is view (suc zero, r, within, is, told) = ap (λ (x : PlainReport). x.last_view) is ∙ told
-    last_view_is view (suc (suc zero), r, within, is, told) = ap (λ (x : PlainReport). x.last_view) is ∙ told
-    last_view_is view (suc (suc (suc k)), r, within, is, told) = absurd (omega arith)
+    last_view_is = last_of_three (read (change_of 0)) (read (change_of 1)) (read (change_of 2)) refl refl refl
 
     chosen_low : chosen.place.0 ≡ 0
     chosen_low =
@@ -195,10 +192,7 @@ asked_starts : IsStart asked_world
 asked_starts =
     record {
       few_liars = lit≤ tt;
-      one_text = λ h k d e first second same.
-          let a = is_first h d first in
-          let b = is_first k e second in
-          (a.0 ∙ sym b.0, a.1 ∙ sym b.1);
+      one_text = one_link;
       silent = λ r correct. refl;
       stands = λ r correct. refl;
     }
