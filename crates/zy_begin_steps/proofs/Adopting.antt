@@ -55,6 +55,7 @@ module _ {S : Type 0} (R : Rules S) (interval : ℕ) (texts : Texts) (w : World)
         world = subst (λ (u : World). IsWorldOf R interval u texts) (sym is.lead.world) is.kept;
         signer = is.signer;
         interval_is = is.interval_is;
+        gained = is.gained;
         works = λ work. subst (λ (u : World). IsAtWork interval u r g.state) (sym is.lead.world) (is.works work);
       }
 
@@ -90,7 +91,7 @@ module _ {S : Type 0} (R : Rules S) (interval : ℕ) (texts : Texts) (w : World)
 
   -- a refusal changes nothing
   pub refuses : (cause : Cause) → IsLawfulStep R interval texts w r s history (refused cause s)
-  refuses cause = record { may = tt; tied = ready.tied; world = kept; signer = ready.signer; interval_is = ready.interval_is; works = λ work. work }
+  refuses cause = record { may = tt; tied = ready.tied; world = kept; signer = ready.signer; interval_is = ready.interval_is; gained = tt; works = λ work. work }
 
   done_ends : (attempt : Attempt S) → IsDoneAttempt attempt → IsEndedAttempt R interval texts w r s history attempt
   done_ends (Err cause) is = is

@@ -1,5 +1,6 @@
 -- A replica on its way takes up what a certificate confirms: it begins the view, and answers its checkpoints there.
 use Rattle.std.proofs.Common.{◌≡◌, ℕ, ◌+◌, ◌-◌, ◌<◌, nat_lt, Bool, true, false, cond, List, [], ◌∷◌, ◌++◌, length, map, take, refl, sym, ap, ◌∙◌, subst, arith}
+use Rattle.std.specs.List.{AllByRecursion}
 use Rattle.std.specs.Prelude.{All}
 use Rattle.std.proofs.lemmas.Bool.{ltb-false, ltb-true}
 use Rattle.zy_base.specs.Machine.{Rules}
@@ -18,6 +19,7 @@ use Rattle.zy_law.proofs.QuorumLemmas.{All_at}
 use Rattle.zy_law.specs.Steps.{MayStand, after_standing}
 use Rattle.zy_law.specs.World.{World}
 use Rattle.zy_lawful.specs.Acts.{adopted_history}
+use Rattle.zy_lawful.specs.Tied.{IsGained, MayRun}
 use Rattle.zy_parts.specs.declared.reports.Change.{Change}
 use Rattle.zy_parts.specs.declared.reports.Told.{Told}
 use Rattle.zy_parts.specs.declared.signed.Signed.{Signed}
@@ -40,7 +42,7 @@ use Rattle.zy_view_steps.specs.Adoptions.{IsBegunLawfully, IsDue}
 use Rattle.zy_view_steps.specs.Cores.{core_of}
 use Rattle.zy_view_steps.specs.Rows.{IsReady}
 use Rattle.zy_view_steps.specs.Work.{IsAtWork, workplace_of}
-use Rattle.zy_begin_steps.proofs.Ending.{HasBegun, IsBefore, IsEnd, MayBegin, ends_begun}
+use Rattle.zy_begin_steps.proofs.Ending.{HasBegun, IsBefore, IsEnd, IsHeaded, MayBegin, ends_begun}
 use Rattle.zy_begin_steps.proofs.Worlds.{matching, world_said}
 use Rattle.zy_begin_steps.specs.Steps.{IsWorldOf}
 
@@ -56,6 +58,15 @@ gots_are R told place k = gained_are R _ (entries_between told (common_with told
 pub over_spaced : {S : Type 0} (R : Rules S) (told : Stretch) (place : ℕ) (k : Kept S) → (taken_over told place k).interval ≡ k.interval
 unfolding taken_over
 over_spaced R told place k = refl
+
+-- each leads on from the head before it
+along_headed : {S : Type 0} (R : Rules S) (k : Kept S) (entries : List Entry) → AllByRecursion IsHeaded (gots_along R k entries)
+along_headed R k [] = tt
+along_headed R k (e ∷ entries) = (refl, along_headed R (longer k e) entries)
+
+pub gots_headed : {S : Type 0} (R : Rules S) (told : Stretch) (place : ℕ) (k : Kept S) → AllByRecursion IsHeaded (gots_of R told place k)
+unfolding gots_of
+gots_headed R told place k = along_headed R _ (entries_between told (common_with told place k) place)
 
 -- the checks of a report that breaks no rule state its stable checkpoint
 first_stated : (counts : Counts) (told : Told) (other : Check) (checks : List (Signed Check)) → checks ≡ told.checks → IsCheckpoint counts told → 0 < counts.local → stated other checks ≡ check_in told
@@ -95,11 +106,21 @@ module _ {S : Type 0} (R : Rules S) (interval : ℕ) (texts : Texts) (w : World)
   stands_now = omega (arith, way.now, way.tied.standing.last, ap (λ (u : World). length (u.past r)) way.world_is)
 
   pub before_now : IsBefore R interval texts w r s history g.deeds.acts way.world
-  before_now = record { lead = way.lead; lawful = way.lawful; links = way.links; correct = way.correct; stands = stands_now; kept = kept_now }
+  before_now =
+      record {
+        lead = way.lead;
+        lawful = way.lawful;
+        links = way.links;
+        correct = way.correct;
+        stands = stands_now;
+        kept = kept_now;
+        idle = way.idle;
+        back = λ e may. let run = subst (λ (u : World). MayRun u e) way.world_is may in record { client = run.client; range = run.range; asked = run.asked };
+      }
 
   -- as it is
   pub ended : IsEnd R interval texts w r s history g
-  ended = record { world = way.world; later = _; at = _; now = history; lead = way.lead; tied = way.tied; kept = kept_now; signer = way.signer; interval_is = way.interval_is; works = way.works }
+  ended = record { world = way.world; later = _; at = _; now = history; lead = way.lead; tied = way.tied; kept = kept_now; signer = way.signer; interval_is = way.interval_is; gained = subst (AllByRecursion (IsGained w)) (sym way.idle) tt; works = way.works }
 
   module _ (cert : ViewCert) (chosen : Chosen) (p : Signed Change) (due : IsDue interval way.world g.state cert chosen p) (taken : verdict_of R g.state.kept g.state.board.stable p.stmt.told chosen.place chosen.head ≡ Take) where
     abbrev told : Told
@@ -143,6 +164,7 @@ module _ {S : Type 0} (R : Rules S) (interval : ℕ) (texts : Texts) (w : World)
           active = refl;
           signer = way.signer;
           interval_is = way.interval_is;
+          heads = gots_headed R (stretch_of told) chosen.place.0 g.state.kept;
           works = works_there over_state.kept g.state.board (over_spaced R (stretch_of told) chosen.place.0 g.state.kept) tied;
         }
 
@@ -165,6 +187,7 @@ module _ {S : Type 0} (R : Rules S) (interval : ℕ) (texts : Texts) (w : World)
           active = refl;
           signer = way.signer;
           interval_is = way.interval_is;
+          heads = gots_headed R (stretch_of told) chosen.place.0 g.state.kept;
           works = works_there (settled R told.stable_place.0 over_state.kept) (with_stable g.state.board told.checks) (over_spaced R (stretch_of told) chosen.place.0 g.state.kept) then;
         }
 

@@ -145,6 +145,7 @@ module _ {S : Type 0} (R : Rules S) (interval : ℕ) (w : World) (r : ℕ) (s : 
           tied = tied_heard R interval is.way.world is.way.lawful r is.way.correct (core_of g.state) history is.way.tied v.changes v.begans v.hated (Some waits) heard;
           signer = is.way.signer;
           interval_is = is.way.interval_is;
+          idle = is.way.idle;
           works = is.way.works;
         }
 

@@ -72,6 +72,7 @@ module _ {S : Type 0} (R : Rules S) (interval : ℕ) (w : World) (r : ℕ) (s : 
         tied = way.tied;
         signer = way.signer;
         interval_is = way.interval_is;
+        idle = way.idle;
         works = way.works;
       }
 
@@ -207,6 +208,7 @@ module _ {S : Type 0} (R : Rules S) (interval : ℕ) (w : World) (r : ℕ) (s : 
           tied = tied_heard R interval w ready.lawful r ready.correct (core_of s) history ready.tied (with_change vote s.views).changes s.views.begans s.views.hated s.views.waiting (heard clear);
           signer = ready.signer;
           interval_is = ready.interval_is;
+          idle = refl;
           works = λ work. work;
         }
 

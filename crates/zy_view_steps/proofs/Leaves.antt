@@ -26,6 +26,7 @@ use Rattle.zy_law.specs.Lawful.{IsLawful}
 use Rattle.zy_law.specs.Said.{IsCorrect}
 use Rattle.zy_law.specs.Steps.{MaySay, after_saying, grown, with_last}
 use Rattle.zy_law.specs.World.{Spoken, Statement, World}
+use Rattle.zy_lawful.proofs.Goes.{gains_in-append}
 use Rattle.zy_lawful.specs.Acts.{spoken_at, statement_by}
 use Rattle.zy_parts.specs.Numbers as numbers
 use Rattle.zy_parts.specs.Reports.{began_fields}
@@ -33,7 +34,8 @@ use Rattle.zy_parts.specs.declared.reports.New.{New}
 use Rattle.zy_parts.specs.declared.signed.Signed.{Signed}
 use Rattle.zy_parts.specs.declared.statements.Hate.{Hate}
 use Rattle.zy_seal.specs.Sealing.{sealed_by}
-use Rattle.zy_table.specs.Deeds.{Going, begin, ends, refused}
+use Rattle.zy_table.specs.Deeds.{Going, begin, ends, gains_in, refused}
+use Rattle.zy_table.specs.declared.deeds.Got.{Got}
 use Rattle.zy_table.specs.Hates.{hate, hate_counted, with_hate_of}
 use Rattle.zy_table.specs.Leaving.{left_with as left_with_table, Attempt, accept, collect, concluded, give_new, given, goes, is_overspent, leave, leave_alone, sealed_change, sealed_new}
 use Rattle.zy_table.specs.State as table
@@ -76,6 +78,8 @@ module _ {S : Type 0} (R : Rules S) (interval : ℕ) (w : World) (r : ℕ) (s : 
     pub tied : IsTied R interval world r (core_of g.state) history
     pub signer : g.state.sealer.me ≡ Replica g.state.views.me
     pub interval_is : g.state.views.interval ≡ interval
+    -- it executed nothing
+    pub idle : gains_in g.deeds.acts ≡ []
     -- where it could work on before, it still can
     pub works : IsAtWork interval w r s → IsAtWork interval world r g.state
 
@@ -93,6 +97,7 @@ module _ {S : Type 0} (R : Rules S) (interval : ℕ) (w : World) (r : ℕ) (s : 
         tied = ready.tied;
         signer = ready.signer;
         interval_is = ready.interval_is;
+        idle = refl;
         works = λ work. work;
       }
 
@@ -134,6 +139,7 @@ module _ {S : Type 0} (R : Rules S) (interval : ℕ) (w : World) (r : ℕ) (s : 
           tied = tied;
           signer = signer;
           interval_is = interval_is;
+          idle = ap gains_in acts ∙ gains_in-append g.deeds.acts (SaysIt remark ∷ []) ∙ ap (λ (l : List Got). l ++ []) way.idle;
           works = λ work. works (way.works work);
         }
 
@@ -274,6 +280,7 @@ module _ {S : Type 0} (R : Rules S) (interval : ℕ) (w : World) (r : ℕ) (s : 
         tied = tied_heard R interval way.world way.lawful r way.correct (core_of g.state) history way.tied v.changes v.begans (with_hate by v).hated v.waiting heard;
         signer = way.signer;
         interval_is = way.interval_is;
+        idle = way.idle;
         works = way.works;
       }
 
