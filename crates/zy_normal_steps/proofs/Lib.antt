@@ -8,3 +8,4 @@ pub mod Requested
 pub mod Steps
 pub mod AtStart
 pub mod WholeSteps
+pub mod WholeGained

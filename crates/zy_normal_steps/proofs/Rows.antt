@@ -160,6 +160,7 @@ module _ {S : Type 0} (R : Rules S) (interval : ℕ) (texts : Texts) (w : World)
         kept = is.kept;
         signer = is.signer;
         interval_is = is.spaced;
+        gained = is.gained;
         works = λ before. subst (λ (n : ℕ). IsWorkTied interval is.world r n (workplace_of o.state)) long is.work;
       })
 

@@ -215,7 +215,7 @@ module _ {S : Type 0} (R : Rules S) (interval : ℕ) (texts : Texts) (w : World)
   -- ---- while it leaves one, and by its timers, nothing changes
 
   at_rest : (answer : Answer) (sent : List Sent) → IsLawfulStep R interval texts w r s h (record { answer = answer; state = s; deeds = record { sent = sent; acts = [] } })
-  at_rest answer sent = record { may = tt; tied = ready.tied; world = kept; signer = ready.signer; interval_is = ready.interval_is; works = λ before. before }
+  at_rest answer sent = record { may = tt; tied = ready.tied; world = kept; signer = ready.signer; interval_is = ready.interval_is; gained = tt; works = λ before. before }
 
   leaving_lawful : is_leaving s ≡ true → (read : Result Frame FrameFault) → IsLawfulStep R interval texts w r s h (decoded R s read)
   leaving_lawful leaving read =

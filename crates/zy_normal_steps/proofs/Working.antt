@@ -25,13 +25,14 @@ use Rattle.zy_law.specs.Lawful.{AreAskedFor, IsLawful}
 use Rattle.zy_law.specs.Said.{IsCorrect, Moment, Stood}
 use Rattle.zy_law.specs.Steps.{MaySay, MayStand, after_saying, after_standing}
 use Rattle.zy_law.specs.World.{Spoken, Stand, World}
+use Rattle.zy_lawful.proofs.Goes.{all_of_both, gains_in-append}
 use Rattle.zy_lawful.proofs.OneEntry.{AreOrdersOf, may_stand}
 use Rattle.zy_lawful.specs.Acts.{spoken_at, stand_with, statement_by}
 use Rattle.zy_lawful.specs.Tied as lawful
-use Rattle.zy_lawful.specs.Tied.{MayRun, MaySlotRun}
+use Rattle.zy_lawful.specs.Tied.{IsGained, MayRun}
 use Rattle.zy_parts.specs.declared.signed.Signed.{Signed}
 use Rattle.zy_parts.specs.declared.statements.Ask.{Ask}
-use Rattle.zy_table.specs.Deeds.{Going, begin}
+use Rattle.zy_table.specs.Deeds.{Going, begin, gains_in}
 use Rattle.zy_table.specs.Running.{executed, got_of}
 use Rattle.zy_table.specs.State as table
 use Rattle.zy_table.specs.State.{State, is_leaving_mode}
@@ -83,6 +84,7 @@ module _ {S : Type 0} (R : Rules S) (interval : ℕ) (texts : Texts) (w : World)
     pub signer : g.state.sealer.me ≡ Replica g.state.views.me
     pub spaced : g.state.views.interval ≡ interval
     pub begun : table.own_view s ≡ view.0
+    pub gained : AllByRecursion (IsGained w) (gains_in g.deeds.acts)
 
   pub at_begin : IsReady R interval w r s h → IsWorldOf R interval w texts → IsAtWork interval w r s → s.views.mode ≡ Active view → IsWorking 0 (begin s)
   at_begin ready kept work active =
@@ -104,6 +106,7 @@ module _ {S : Type 0} (R : Rules S) (interval : ℕ) (texts : Texts) (w : World)
         signer = ready.signer;
         spaced = ready.interval_is;
         begun = ap (λ (mode : Mode). (view_of mode).0) active;
+        gained = tt;
       }
 
   pub begin_world : (ready : IsReady R interval w r s h) (kept : IsWorldOf R interval w texts) (work : IsAtWork interval w r s) (active : s.views.mode ≡ Active view) → (at_begin ready kept work active).world ≡ w
@@ -132,6 +135,7 @@ module _ {S : Type 0} (R : Rules S) (interval : ℕ) (texts : Texts) (w : World)
           signer = signer ∙ is.signer ∙ ap (λ (id : ReplicaId). Replica id) (sym me);
           spaced = spaced ∙ is.spaced;
           begun = is.begun;
+          gained = subst (λ (l : List Act). AllByRecursion (IsGained w) (gains_in l)) (sym acts) is.gained;
         }
 
     pub last_view_is : view.0 ≡ g.state.views.last_view.0
@@ -177,6 +181,8 @@ module _ {S : Type 0} (R : Rules S) (interval : ℕ) (texts : Texts) (w : World)
             signer = signer ∙ is.signer ∙ ap (λ (c : Core S). Replica c.views.me) same;
             spaced = sym (ap (λ (c : Core S). c.views.interval) same) ∙ is.spaced;
             begun = is.begun;
+            gained = subst (AllByRecursion (IsGained w)) (sym (ap gains_in acts ∙ gains_in-append g.deeds.acts (Says remark ∷ [])))
+                (all_of_both (IsGained w) (gains_in g.deeds.acts) [] is.gained tt);
           }
 
     -- ---- where it stands
@@ -297,4 +303,6 @@ module _ {S : Type 0} (R : Rules S) (interval : ℕ) (texts : Texts) (w : World)
             signer = is.signer;
             spaced = is.spaced;
             begun = is.begun;
+            gained = subst (AllByRecursion (IsGained w)) (sym (gains_in-append g.deeds.acts (Gains (got_of R g.state ask) ∷ [])))
+                (all_of_both (IsGained w) (gains_in g.deeds.acts) (got_of R g.state ask ∷ []) is.gained (record { run = run; head = refl }, tt));
           }

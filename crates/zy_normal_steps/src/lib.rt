@@ -10,4 +10,4 @@ mod whole;
 pub use entries::working_rows;
 pub use frames::{leaving_refuses, working_steps};
 pub use ties::works_begin;
-pub use whole::whole_steps;
+pub use whole::{gained_entries, whole_steps};
