@@ -1,6 +1,7 @@
 -- A replica that begins is ready to work; and it is still, as others act, clients ask for more and more texts are kept.
-use Rattle.std.proofs.Common.{◌≡◌, ◌⊎◌, inl, inr, ℕ, ◌<◌, Bool, true, List, [], Some, refl, sym, ap, ◌∙◌, subst, arith}
+use Rattle.std.proofs.Common.{◌≡◌, ◌⊎◌, inl, inr, ℕ, zero, suc, ◌<◌, Bool, true, List, [], ◌∷◌, Some, refl, sym, ap, ◌∙◌, subst, arith}
 use Rattle.std.specs.Prelude.{Contains, slice_get}
+use Rattle.std.proofs.lemmas.Option.{same_Some}
 use Rattle.zy_base.specs.Machine.{Rules}
 use Rattle.zy_base.specs.declared.counts.Counts.{Counts}
 use Rattle.zy_base.specs.declared.ids.Digest.{Digest}
@@ -18,16 +19,20 @@ use Rattle.zy_law.specs.Steps.{IsGrown, IsStart, grown}
 use Rattle.zy_law.specs.World.{Spoken, Stand, World}
 use Rattle.zy_lawful.proofs.KeptVotes.{none_kept}
 use Rattle.zy_lawful.proofs.OneEntry.{slots_more}
-use Rattle.zy_lawful.specs.Tied.{MayRun}
+use Rattle.zy_lawful.specs.Tied.{Agrees, MayRun}
 use Rattle.zy_seal.specs.Keys.{Keys}
 use Rattle.zy_seal.specs.Sealing.{SealerState}
 use Rattle.zy_table.specs.State.{State, start_of}
 use Rattle.zy_view_law.proofs.TieKept.{tied_at_start}
 use Rattle.zy_view_law.proofs.TiedGrown.{parts_more}
+use Rattle.zy_view_law.specs.Adopted.{IsHistoryKept}
 use Rattle.zy_view_law.specs.Held.{IsHeldPart}
+use Rattle.zy_view_law.specs.Texts.{AreLinks, Texts}
 use Rattle.zy_view_law.specs.Tied.{IsTied}
 use Rattle.zy_view_law.specs.Told.{check_told, response_told}
 use Rattle.zy_view_steps.specs.Cores.{core_of}
+use Rattle.zy_view_steps.proofs.EmptyHistory.{empty_kept}
+use Rattle.zy_begin_steps.specs.Steps.{IsWorldOf}
 use Rattle.zy_view_steps.specs.Rows.{IsReady}
 use Rattle.zy_view_steps.specs.Work.{IsAtWork, IsRoundHeld, last_long}
 
@@ -91,3 +96,23 @@ work_grown interval r w s asked said past kept more told stood is =
           checks = parts_more w asked said past kept more.asks more.says more.stands more.keeps check_told b.checks held.checks;
           checks_rise = held.checks_rise;
         }
+
+-- ---- what the empty history leads to
+
+module _ {S : Type 0} (R : Rules S) (interval : ℕ) (texts : Texts) where
+  first_stand : (stands : List Stand) (number : ℕ) (b : Stand) → stands ≡ record { view = 0; history = [] } ∷ [] → slice_get stands number ≡ Some b → b.history ≡ []
+  first_stand stands number b all there = by number (ap (λ (l : List Stand). slice_get l number) (sym all) ∙ there)
+    where
+      by : (number : ℕ) → slice_get (record { view = 0; history = [] } ∷ []) number ≡ Some b → b.history ≡ []
+      by zero told = ap (λ (x : Stand). x.history) (sym (same_Some (record { view = 0; history = [] }) b told))
+      by (suc number) told = absurd cc
+
+  pub texts_at_start : (w : World) → IsStart w → Agrees R w → AreLinks w texts → IsWorldOf R interval w texts
+  texts_at_start w start agrees links =
+      record {
+        agrees = agrees;
+        kept = record {
+          links = links;
+          histories = λ t. subst (IsHistoryKept R interval texts) (sym (first_stand (w.past t.by) t.number t.stand (start.stands t.by t.correct) t.stood)) (empty_kept R interval texts);
+        };
+      }

@@ -1,9 +1,8 @@
 -- A world with an installed state: out of the three reports the first one's stable place is chosen, and the third replica, which ran
 -- nothing, begins the view with what stands by the bytes of its snapshot.
-use Rattle.std.proofs.Common.{◌≡◌, ℕ, zero, suc, ◌+◌, ◌<◌, ◌≤◌, nat_eq, nat_lt, Bool, true, false, cond, ◌&&◌, List, [], ◌∷◌, length, map, take, fold, Option, Some, None, refl, sym, ap, ◌∙◌, subst, arith}
+use Rattle.std.proofs.Common.{◌≡◌, ℕ, zero, suc, ◌+◌, ◌<◌, ◌≤◌, nat_eq, Bool, true, false, cond, ◌&&◌, List, [], ◌∷◌, length, map, take, fold, Option, Some, None, refl, sym, ap, ◌∙◌, subst, arith}
 use Rattle.std.specs.List.{position}
 use Rattle.std.specs.Prelude.{All, Any, Contains, count_by, option_to_list, slice_get}
-use Rattle.std.proofs.lemmas.Bool.{ltb-false}
 use Rattle.std.proofs.lemmas.List.Elements.{All-cons, All-contains, All-nil}
 use Rattle.std.proofs.lemmas.Option.{same_Some}
 use Rattle.zy_base.specs.Machine.{Rules}
@@ -20,9 +19,9 @@ use Rattle.zy_choose.specs.Reports.{PlainReport, proven}
 use Rattle.zy_evidence.specs.Reading.{read}
 use Rattle.zy_exec.proofs.ReplayLemmas.{along-nil}
 use Rattle.zy_exec.specs.Kept.{Kept}
-use Rattle.zy_exec.specs.Replay.{Point, along, answer_at, origin}
+use Rattle.zy_exec.specs.Replay.{Point, answer_at, origin}
 use Rattle.zy_exec.specs.Installed.{IsRunnable}
-use Rattle.zy_exec.specs.Shots.{snapshot_at, snapshot_due}
+use Rattle.zy_exec.specs.Shots.{snapshot_at}
 use Rattle.zy_law.proofs.HistoryLemmas.{mark_is}
 use Rattle.zy_law.specs.Example.{first_entry}
 use Rattle.zy_law.specs.Histories.{AreKept}
@@ -39,6 +38,7 @@ use Rattle.zy_view_law.specs.Texts.{IsKept, IsLink, Texts}
 use Rattle.zy_view_law.specs.Tied.{Core, IsChosenNew}
 use Rattle.zy_view_steps.proofs.Changing as changing
 use Rattle.zy_view_steps.proofs.Changing.{last_of_three, begun_lawful, choice_known, is_6, is_7, may_stand, some_chosen, start, three_agreed}
+use Rattle.zy_view_steps.proofs.EmptyHistory.{empty_kept, past_end}
 use Rattle.zy_view_steps.proofs.FirstEntry.{first_linked, is_first}
 use Rattle.zy_view_steps.proofs.Settled.{settled_setting, settled_stage}
 use Rattle.zy_view_steps.specs.Example.{AreFirstKept, IsInstalledIn, first_place, first_snapshot, first_stand, is_first_link}
@@ -48,26 +48,7 @@ list_1 = first_entry ∷ []
 
 -- ---- what the histories lead to is kept
 
--- there is no snapshot past the end
-past_end : {S : Type 0} (R : Rules S) (history : List Entry) (place : ℕ) (text : List ℕ) → length history < place → snapshot_at R 1 history place ≡ Some text → ⊥
-past_end R history place text past = by (nat_lt (length history) place) refl
-  where
-    by : (b : Bool) → nat_lt (length history) place ≡ b → cond b None (snapshot_due R 1 (along R (origin R) (take place history))) ≡ Some text → ⊥
-    by true beyond told = absurd cc
-    by false near told = let low = ltb-false _ _ near in absurd (omega arith)
-
 module _ {S : Type 0} (R : Rules S) (texts : Texts) (kept : AreFirstKept R texts) where
-  none_kept : IsHistoryKept R 1 texts []
-  none_kept = record { replies = reply; snapshots = snapshot }
-    where
-      reply : (place : ℕ) (text : List ℕ) → answer_at R [] place ≡ Some text → IsKept texts text
-      reply zero text told = absurd cc
-      reply (suc before) text told = absurd cc
-
-      snapshot : (place : ℕ) (text : List ℕ) → 0 < place → snapshot_at R 1 [] place ≡ Some text → IsKept texts text
-      snapshot zero text some told = absurd (omega arith)
-      snapshot (suc before) text some told = absurd (past_end R [] (suc before) text (omega arith) told)
-
   one_kept : IsHistoryKept R 1 texts list_1
   one_kept = record { replies = reply; snapshots = snapshot }
     where
@@ -84,10 +65,10 @@ module _ {S : Type 0} (R : Rules S) (texts : Texts) (kept : AreFirstKept R texts
       snapshot : (place : ℕ) (text : List ℕ) → 0 < place → snapshot_at R 1 list_1 place ≡ Some text → IsKept texts text
       snapshot zero text some told = absurd (omega arith)
       snapshot (suc zero) text some told = due _ text told
-      snapshot (suc (suc before)) text some told = absurd (past_end R list_1 (suc (suc before)) text (omega arith) told)
+      snapshot (suc (suc before)) text some told = absurd (past_end R 1 list_1 (suc (suc before)) text (omega arith) told)
 
   of_two : (a b c : Stand) (number : ℕ) → a.history ≡ [] → b.history ≡ list_1 → slice_get (a ∷ b ∷ []) number ≡ Some c → IsHistoryKept R 1 texts c.history
-  of_two a b c zero first second there = subst (IsHistoryKept R 1 texts) (sym first ∙ ap (λ (x : Stand). x.history) (same_Some a c there)) none_kept
+  of_two a b c zero first second there = subst (IsHistoryKept R 1 texts) (sym first ∙ ap (λ (x : Stand). x.history) (same_Some a c there)) (empty_kept R 1 texts)
   of_two a b c (suc zero) first second there = subst (IsHistoryKept R 1 texts) (sym second ∙ ap (λ (x : Stand). x.history) (same_Some b c there)) one_kept
   of_two a b c (suc (suc number)) first second there = absurd cc
 

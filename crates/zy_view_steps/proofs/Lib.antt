@@ -2,6 +2,7 @@ pub mod AtWork
 pub mod BeginsWith
 pub mod Changing
 pub mod CommonPlaces
+pub mod EmptyHistory
 pub mod FirstEntry
 pub mod Gathered
 pub mod HeardRows
