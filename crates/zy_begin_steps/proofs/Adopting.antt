@@ -33,6 +33,7 @@ use Rattle.zy_view_steps.proofs.Leaves.{IsLawfulAttempt, IsOnWay}
 use Rattle.zy_view_steps.proofs.Verdicts.{not_refused}
 use Rattle.zy_view_steps.specs.Adoptions.{IsDue}
 use Rattle.zy_view_steps.specs.Cores.{core_of}
+use Rattle.zy_view_steps.specs.Work.{IsAtWork}
 use Rattle.zy_view_steps.specs.Rows.{IsReady, blames}
 use Rattle.zy_begin_steps.proofs.Ending.{HasBegun, IsEnd}
 use Rattle.zy_begin_steps.proofs.Taking.{ended, kept_now, takes_up}
@@ -52,6 +53,10 @@ module _ {S : Type 0} (R : Rules S) (interval : ℕ) (texts : Texts) (w : World)
         may = is.lead.may;
         tied = subst (λ (l : List Entry). IsTied R interval _ r (core_of g.state) l) (sym is.lead.history) (subst (λ (u : World). IsTied R interval u r (core_of g.state) is.now) (sym is.lead.world) is.tied);
         world = subst (λ (u : World). IsWorldOf R interval u texts) (sym is.lead.world) is.kept;
+        signer = is.signer;
+        interval_is = is.interval_is;
+        gained = is.gained;
+        works = λ work. subst (λ (u : World). IsAtWork interval u r g.state) (sym is.lead.world) (is.works work);
       }
 
   -- it is so where a refusal is
@@ -86,7 +91,7 @@ module _ {S : Type 0} (R : Rules S) (interval : ℕ) (texts : Texts) (w : World)
 
   -- a refusal changes nothing
   pub refuses : (cause : Cause) → IsLawfulStep R interval texts w r s history (refused cause s)
-  refuses cause = record { may = tt; tied = ready.tied; world = kept }
+  refuses cause = record { may = tt; tied = ready.tied; world = kept; signer = ready.signer; interval_is = ready.interval_is; gained = tt; works = λ work. work }
 
   done_ends : (attempt : Attempt S) → IsDoneAttempt attempt → IsEndedAttempt R interval texts w r s history attempt
   done_ends (Err cause) is = is

@@ -40,6 +40,7 @@ use Rattle.zy_table.specs.declared.deeds.Body.TheVariants as bodies
 use Rattle.zy_table.specs.declared.kept.Pending.{Pending}
 use Rattle.zy_view_law.proofs.InView.{says_other}
 use Rattle.zy_view_law.specs.Texts.{AreLinks, Texts}
+use Rattle.zy_view_steps.proofs.AtWork.{works_said}
 use Rattle.zy_view_steps.proofs.HeardRows.{sent_more}
 use Rattle.zy_view_steps.proofs.Leaves.{IsOnWay, at_begin, said_more}
 use Rattle.zy_view_steps.specs.Cores.{core_of}
@@ -50,11 +51,11 @@ use Rattle.zy_begin_steps.proofs.Taking.{ended}
 use Rattle.zy_begin_steps.specs.Steps.{IsLawfulStep, IsWorldOf}
 
 -- the clients of a history whose links are kept
-clients_of : (w : World) (texts : Texts) → AreLinks w texts → (head : Digest) (list : List Entry) → AreKept w.kept w.next head list → AllByRecursion IsOfClient list
+pub clients_of : (w : World) (texts : Texts) → AreLinks w texts → (head : Digest) (list : List Entry) → AreKept w.kept w.next head list → AllByRecursion IsOfClient list
 clients_of w texts links head [] kept = tt
 clients_of w texts links head (e ∷ list) kept = ((links head e kept.0).runnable.client, clients_of w texts links (w.next head e) list kept.1)
 
-active_in : (mode : Mode) → is_leaving_mode mode ≡ false → (view : View) × (mode ≡ Active view)
+pub active_in : (mode : Mode) → is_leaving_mode mode ≡ false → (view : View) × (mode ≡ Active view)
 active_in (Active view) is = (view, refl)
 active_in (Leaving view) is = absurd cc
 
@@ -108,7 +109,8 @@ module _ {S : Type 0} (R : Rules S) (interval : ℕ) (texts : Texts) (w : World)
           client = last.client_is;
           stamp = ap (λ (t : Stamp). t.0) last.stamp;
           reply = true_reply R start.world (world_agrees R interval w r s history ready kept.agrees view (begin s) start) history known.place.0 known.reply within last.reply;
-        })).way
+        })
+        (works_said interval start.world r _ s (λ v m request told. absurd cc))).way
 
     answers_with : (said : Option (Signed Spec)) → IsLawful (respond_as R s said spec known)
     answers_with (Some said) = goes_on _ (sent_more R interval w r s history ready (begin s) _ start)
@@ -125,7 +127,7 @@ module _ {S : Type 0} (R : Rules S) (interval : ℕ) (texts : Texts) (w : World)
     waits_on =
         let says = says_other R interval start.world start.lawful r start.correct (core_of s) history start.tied in
         said_more R interval w r s history ready (begin s) start (record { body = bodies.Confirm (sealed_confirm s ask).confirm.stmt; stood = table.stood_of R s }) (request_waits R s ask) refl says.may says.tied
-        start.signer start.interval_is
+        start.signer start.interval_is (works_said interval start.world r _ s (λ v m request told. absurd cc))
 
     forwards : IsLawful (forward R s ask)
     forwards = by (nat_le 1 (leaves_of s))

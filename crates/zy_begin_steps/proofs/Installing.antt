@@ -64,8 +64,10 @@ use Rattle.zy_view_steps.specs.Adoptions.{IsDue}
 use Rattle.zy_view_steps.specs.Cores.{core_of}
 use Rattle.zy_view_steps.specs.Rows.{IsReady, blames}
 use Rattle.zy_begin_steps.proofs.Adopting.{ends_lawfully, rests}
+use Rattle.zy_view_steps.specs.Work.{workplace_of}
+use Rattle.zy_view_steps.proofs.AtWork.{work_begins}
 use Rattle.zy_begin_steps.proofs.Ending.{HasBegun, IsBefore, MayBegin, ends_begun}
-use Rattle.zy_begin_steps.proofs.Taking.{gots_are, settled_stable}
+use Rattle.zy_begin_steps.proofs.Taking.{gots_are, settled_stable, over_spaced, gots_headed}
 use Rattle.zy_begin_steps.proofs.Worlds.{matching}
 use Rattle.zy_begin_steps.specs.Steps.{IsLawfulStep, IsWorldOf, base_read, history_from, list_awaited}
 
@@ -163,7 +165,7 @@ module _ {S : Type 0} (R : Rules S) (interval : ℕ) (texts : Texts) (w : World)
     pub of_bytes : IsOfBytes (begun R attempt)
 
   refuses_it : (cause : Cause) → IsLawfulStep R interval texts w r s (history_from texts s history (refused cause s)) (refused cause s)
-  refuses_it cause = record { may = tt; tied = ready.tied; world = kept }
+  refuses_it cause = record { may = tt; tied = ready.tied; world = kept; signer = ready.signer; interval_is = ready.interval_is; gained = tt; works = λ work. work }
 
   refuses_freely : (cause : Cause) → blames cause ≡ false → IsGoodEnd (Err cause)
   refuses_freely cause free = record { step = refuses_it cause; of_bytes = λ blamed. absurd cc }
@@ -264,9 +266,16 @@ module _ {S : Type 0} (R : Rules S) (interval : ℕ) (texts : Texts) (w : World)
         subst (λ (check : Check). IsTied R interval after r (core two.kept check one.board.proof) list) (sym one_stable.0)
         (subst (λ (proof : List (Signed Check)). IsTied R interval after r (core two.kept (check_in told) proof) list) (sym one_stable.1)
         (subst (λ (over : Kept S). IsTied R interval after r (core over (check_in told) told.checks) list) over_is on_it.begun.tied)) in
+        let adopted : List Entry = adopted_history on_it.base common gots in
+        let tied_then : IsTied R interval (after_standing w r (stand_in x.cert adopted)) r (core_of t) adopted =
+        subst (λ (l : List Entry). IsTied R interval (after_standing w r (stand_in x.cert l)) r (core_of t) l) list_is tied_now in
         record {
           may = subst (λ (l : List Entry). MayStand w r (stand_in x.cert l)) list_is on_it.begun.may;
-          tied = subst (λ (l : List Entry). IsTied R interval (after_standing w r (stand_in x.cert l)) r (core_of t) l) list_is tied_now;
+          tied = tied_then;
+          heads = gots_headed R (stretch_of told) place one.kept;
+          works = λ work.
+              work_begins R interval w r _ (stand_in x.cert adopted) (workplace_of s) t adopted work tied_then refl refl (over_spaced R (stretch_of told) place one.kept) refl refl refl
+              (λ number x m request says what. let low = ready.tied.quiet.ordered number x _ m request says what in let past = due.later in omega arith);
           kept = subst (λ (l : List Entry). IsHistoryKept R interval texts l) list_is on_it.kept_too;
           active = refl;
           signer = ready.signer;
@@ -287,6 +296,8 @@ module _ {S : Type 0} (R : Rules S) (interval : ℕ) (texts : Texts) (w : World)
           correct = ready.correct;
           stands = omega (arith, ready.tied.standing.last);
           kept = kept;
+          idle = refl;
+          back = λ e may. may;
         }
 
     begins : HasBegun R interval texts w r s on_it.base (take_up R x.cert x.chosen told (begin one))

@@ -1,6 +1,6 @@
 -- A replica in its view answers the checkpoints of its history anew.
 use Rattle.std.proofs.Common.{◌≡◌, ℕ, ◌-◌, ◌<◌, ◌≤◌, zero, suc, Bool, true, false, nat_le, if◌then◌else◌, List, [], ◌∷◌, ◌++◌, length, take, Option, Some, None, refl, sym, ap, ◌∙◌, subst, arith}
-use Rattle.std.specs.Prelude.{slice_get, unwrap_or}
+use Rattle.std.specs.Prelude.{All, slice_get, unwrap_or}
 use Rattle.std.proofs.lemmas.Bool.{leb-false}
 use Rattle.std.proofs.lemmas.List.{length-take-le, take-append-drop}
 use Rattle.std.proofs.lemmas.Option.{slice_get_within}
@@ -18,14 +18,18 @@ use Rattle.zy_chain.specs.declared.entry.Entry.{Entry}
 use Rattle.zy_change.specs.Views.{Views}
 use Rattle.zy_check.proofs.JudgingLemmas.{after_spec-stays, without_others-stays}
 use Rattle.zy_check.specs.Board.{without_others}
+use Rattle.zy_check.specs.Judging.{after_spec}
 use Rattle.zy_exec.proofs.HistoryLemmas.{stands_entry, stands_reply}
 use Rattle.zy_exec.specs.Kept.{Kept, StandsFor, reply_in, stretch_of}
 use Rattle.zy_exec.specs.Replay.{answer_at}
+use Rattle.zy_law.proofs.QuorumLemmas.{All_at}
 use Rattle.zy_law.specs.Histories.{IsEntryAt, Passes}
 use Rattle.zy_law.specs.Lawful.{IsTrueAnswer}
 use Rattle.zy_law.specs.Steps.{MaySay, after_saying}
-use Rattle.zy_law.specs.World.{Answer, Statement, World}
+use Rattle.zy_law.specs.World.{Answer, Spoken, Statement, World}
+use Rattle.zy_lawful.proofs.KeptVotes.{AreKeptOf, after_spec_kept, without_others_kept}
 use Rattle.zy_lawful.proofs.Records.{answer_longer}
+use Rattle.zy_lawful.specs.Acts.{spec_statement}
 use Rattle.zy_lawful.specs.Tied.{Agrees}
 use Rattle.zy_parts.specs.declared.statements.Spec.{Spec}
 use Rattle.zy_table.specs.Beginning.{respond_alone, respond_at, respond_to}
@@ -38,18 +42,30 @@ use Rattle.zy_table.specs.declared.deeds.Act.TheVariants.{Says}
 use Rattle.zy_table.specs.declared.deeds.Body.TheVariants as bodies
 use Rattle.zy_view_law.proofs.InView.{says_response}
 use Rattle.zy_view_law.proofs.RunningOn.{kept_passes}
+use Rattle.zy_view_law.specs.Held.{IsHeldPart, IsVouchedBy}
 use Rattle.zy_view_law.specs.Tied.{Core, IsTied, said_now}
+use Rattle.zy_view_law.specs.Told.{check_told, response_told}
+use Rattle.zy_view_steps.proofs.AtWork.{own_held, told_alike, work_board, works_said}
 use Rattle.zy_view_steps.proofs.Leaves.{IsOnWay, said_more}
 use Rattle.zy_view_steps.specs.Cores.{core_of}
 use Rattle.zy_view_steps.specs.Rows.{IsReady}
+use Rattle.zy_view_steps.specs.Work.{IsAtWork, workplace_of}
 
 -- the entry of a place lies above the base
-above_base : {S : Type 0} (k : Kept S) (place : ℕ) (e : Entry) → entry_in (stretch_of k) place ≡ Some e → k.base.place < place
+pub above_base : {S : Type 0} (k : Kept S) (place : ℕ) (e : Entry) → entry_in (stretch_of k) place ≡ Some e → k.base.place < place
 above_base k place e = by (nat_le place k.base.place) refl
   where
     by : (low : Bool) → nat_le place k.base.place ≡ low → (if low then None else slice_get k.entries (place - k.base.place - 1)) ≡ Some e → k.base.place < place
     by true below is = absurd cc
     by false above is = let past = leb-false _ _ above in omega arith
+
+-- and its client is one that there may be
+client_small : {S : Type 0} (k : Kept S) (place : ℕ) (e : Entry) → entry_in (stretch_of k) place ≡ Some e → All (λ x. x.client.0 < 64) k.entries → e.client.0 < 64
+client_small k place e there small = by (nat_le place k.base.place) there
+  where
+    by : (low : Bool) → (if low then None else slice_get k.entries (place - k.base.place - 1)) ≡ Some e → e.client.0 < 64
+    by true is = absurd cc
+    by false is = All_at (λ x. x.client.0 < 64) k.entries (place - k.base.place - 1) e is small
 
 entry_is : (history : List Entry) (place : ℕ) (e : Entry) → entry_at history place ≡ Some e → IsEntryAt history place e
 entry_is history zero e is = absurd cc
@@ -109,8 +125,8 @@ module _ {S : Type 0} (R : Rules S) (interval : ℕ) (w : World) (r : ℕ) (s : 
     pub speaks : (spec : Spec) (next : Going S) → next.deeds.acts ≡ g.deeds.acts ++ Says (record { body = bodies.Spec spec; stood = table.stood_of R g.state }) ∷ [] → IsLike g next → spec.view.0 ≡ table.own_view g.state
         → Passes is.way.world.next history (record { place = spec.place.0; head = spec.head })
         → IsTrueAnswer is.way.world history (record { place = spec.place.0; head = spec.head }) (record { client = spec.client.0; stamp = spec.stamp.0; reply = spec.reply })
-        → IsInView next
-    speaks spec next acts like of_view passes answer =
+        → (IsAtWork interval is.way.world r g.state → IsAtWork interval (after_saying is.way.world r (said_now is.way.world r (spec_statement spec))) r next.state) → IsInView next
+    speaks spec next acts like of_view passes answer works =
         let m : Mark = record { place = spec.place.0; head = spec.head } in
         let a : Answer = record { client = spec.client.0; stamp = spec.stamp.0; reply = spec.reply } in
         let view_is : view.0 ≡ spec.view.0 = sym (of_view ∙ ap (λ (mode : Mode). (view_of mode).0) is.active) in
@@ -121,7 +137,7 @@ module _ {S : Type 0} (R : Rules S) (interval : ℕ) (w : World) (r : ℕ) (s : 
               (subst (λ (n : ℕ). MaySay is.way.world r (said_now is.way.world r (Statement.Spec n m a))) view_is says.may)
               (subst (λ (c : Core S). IsTied R interval (after spec.view.0) r c history) (same_core g next like) (subst (λ (n : ℕ). IsTied R interval (after n) r (core_of g.state) history) view_is says.tied))
               (like.signer ∙ is.way.signer ∙ ap (λ (v : Views). Replica v.me) (sym like.views))
-              (ap (λ (v : Views). v.interval) like.views ∙ is.way.interval_is);
+              (ap (λ (v : Views). v.interval) like.views ∙ is.way.interval_is) works;
           active = ap (λ (v : Views). v.mode) like.views ∙ is.active;
         }
 
@@ -139,6 +155,17 @@ module _ {S : Type 0} (R : Rules S) (interval : ℕ) (w : World) (r : ℕ) (s : 
         refl
         (kept_passes R is.way.world is.way.links g.state.kept history tied.standing.stands place head head_there)
         (true_answer R is.way.world (world_agrees g is.way) g.state.kept history tied.standing.stands place e head reply entry_there reply_there)
+        (λ work.
+        let y : Spoken = said_now is.way.world r (spec_statement own.spec) in
+        let after : World = after_saying is.way.world r y in
+        let still = works_said interval is.way.world r y g.state (λ v m request told. absurd cc) work in
+        let held : IsHeldPart after response_told signed =
+        subst (λ (t : Statement). IsVouchedBy after t signed.by) (told_alike own.spec (client_small g.state.kept place e entry_there tied.grounded.clients))
+        (own_held is.way.world r y signed.by g.state.views.me is.way.correct is.way.signer tied.standing.me) in
+        let rounds : AreKeptOf (IsHeldPart after response_told) (IsHeldPart after check_told) (after_spec (without_others g.state.board own.spec own.check) signed (Some own.spec)) =
+        after_spec_kept (IsHeldPart after response_told) (IsHeldPart after check_told) (without_others g.state.board own.spec own.check) signed (Some own.spec)
+        (without_others_kept (IsHeldPart after response_told) (IsHeldPart after check_told) g.state.board own.spec own.check (record { near = still.near; far = still.far })) held in
+        work_board interval after r _ (workplace_of g.state) (after_spec (without_others g.state.board own.spec own.check) signed (Some own.spec)) still rounds.near rounds.far)
 
     responded : IsInView (respond_to R (own_at R g.state place) (reply_in R g.state.kept place) g)
     responded = by (entry_in (stretch_of g.state.kept) place) (head_in (stretch_of g.state.kept) place) (reply_in R g.state.kept place) (state_in R g.state.kept place) refl refl refl

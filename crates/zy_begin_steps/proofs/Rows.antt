@@ -152,6 +152,8 @@ module _ {S : Type 0} (R : Rules S) (interval : ℕ) (texts : Texts) (w : World)
           tied = tied_heard R interval w ready.lawful r ready.correct (core_of s) history ready.tied s.views.changes (with_began vote s.views).begans s.views.hated s.views.waiting heard;
           signer = ready.signer;
           interval_is = ready.interval_is;
+          idle = refl;
+          works = λ work. work;
         }
 
     beside : (own : Began) → IsDoneAttempt R interval texts w r s history ready kept (confirmation_beside R s vote own)

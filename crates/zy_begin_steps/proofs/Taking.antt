@@ -1,5 +1,6 @@
 -- A replica on its way takes up what a certificate confirms: it begins the view, and answers its checkpoints there.
 use Rattle.std.proofs.Common.{◌≡◌, ℕ, ◌+◌, ◌-◌, ◌<◌, nat_lt, Bool, true, false, cond, List, [], ◌∷◌, ◌++◌, length, map, take, refl, sym, ap, ◌∙◌, subst, arith}
+use Rattle.std.specs.List.{AllByRecursion}
 use Rattle.std.specs.Prelude.{All}
 use Rattle.std.proofs.lemmas.Bool.{ltb-false, ltb-true}
 use Rattle.zy_base.specs.Machine.{Rules}
@@ -18,6 +19,7 @@ use Rattle.zy_law.proofs.QuorumLemmas.{All_at}
 use Rattle.zy_law.specs.Steps.{MayStand, after_standing}
 use Rattle.zy_law.specs.World.{World}
 use Rattle.zy_lawful.specs.Acts.{adopted_history}
+use Rattle.zy_lawful.specs.Tied.{IsGained, MayRun}
 use Rattle.zy_parts.specs.declared.reports.Change.{Change}
 use Rattle.zy_parts.specs.declared.reports.Told.{Told}
 use Rattle.zy_parts.specs.declared.signed.Signed.{Signed}
@@ -33,12 +35,14 @@ use Rattle.zy_vframes.specs.declared.frame.ViewCert.{ViewCert}
 use Rattle.zy_view_law.specs.Adopted.{IsHistoryKept}
 use Rattle.zy_view_law.specs.Texts.{Texts}
 use Rattle.zy_view_law.specs.Tied.{Core, IsTied, check_in, stand_in}
+use Rattle.zy_view_steps.proofs.AtWork.{work_begins}
 use Rattle.zy_view_steps.proofs.BeginsWith.{begins_on_own, begins_on_told, list_over, over}
 use Rattle.zy_view_steps.proofs.Leaves.{IsOnWay}
 use Rattle.zy_view_steps.specs.Adoptions.{IsBegunLawfully, IsDue}
 use Rattle.zy_view_steps.specs.Cores.{core_of}
 use Rattle.zy_view_steps.specs.Rows.{IsReady}
-use Rattle.zy_begin_steps.proofs.Ending.{HasBegun, IsBefore, IsEnd, MayBegin, ends_begun}
+use Rattle.zy_view_steps.specs.Work.{IsAtWork, workplace_of}
+use Rattle.zy_begin_steps.proofs.Ending.{HasBegun, IsBefore, IsEnd, IsHeaded, MayBegin, ends_begun}
 use Rattle.zy_begin_steps.proofs.Worlds.{matching, world_said}
 use Rattle.zy_begin_steps.specs.Steps.{IsWorldOf}
 
@@ -50,6 +54,19 @@ gained_are R k (e ∷ entries) = ap (λ (l : List Entry). e ∷ l) (gained_are R
 pub gots_are : {S : Type 0} (R : Rules S) (told : Stretch) (place : ℕ) (k : Kept S) → map (λ (got : Got). got.entry) (gots_of R told place k) ≡ entries_between told (common_with told place k) place
 unfolding gots_of
 gots_are R told place k = gained_are R _ (entries_between told (common_with told place k) place)
+
+pub over_spaced : {S : Type 0} (R : Rules S) (told : Stretch) (place : ℕ) (k : Kept S) → (taken_over told place k).interval ≡ k.interval
+unfolding taken_over
+over_spaced R told place k = refl
+
+-- each leads on from the head before it
+along_headed : {S : Type 0} (R : Rules S) (k : Kept S) (entries : List Entry) → AllByRecursion IsHeaded (gots_along R k entries)
+along_headed R k [] = tt
+along_headed R k (e ∷ entries) = (refl, along_headed R (longer k e) entries)
+
+pub gots_headed : {S : Type 0} (R : Rules S) (told : Stretch) (place : ℕ) (k : Kept S) → AllByRecursion IsHeaded (gots_of R told place k)
+unfolding gots_of
+gots_headed R told place k = along_headed R _ (entries_between told (common_with told place k) place)
 
 -- the checks of a report that breaks no rule state its stable checkpoint
 first_stated : (counts : Counts) (told : Told) (other : Check) (checks : List (Signed Check)) → checks ≡ told.checks → IsCheckpoint counts told → 0 < counts.local → stated other checks ≡ check_in told
@@ -89,11 +106,21 @@ module _ {S : Type 0} (R : Rules S) (interval : ℕ) (texts : Texts) (w : World)
   stands_now = omega (arith, way.now, way.tied.standing.last, ap (λ (u : World). length (u.past r)) way.world_is)
 
   pub before_now : IsBefore R interval texts w r s history g.deeds.acts way.world
-  before_now = record { lead = way.lead; lawful = way.lawful; links = way.links; correct = way.correct; stands = stands_now; kept = kept_now }
+  before_now =
+      record {
+        lead = way.lead;
+        lawful = way.lawful;
+        links = way.links;
+        correct = way.correct;
+        stands = stands_now;
+        kept = kept_now;
+        idle = way.idle;
+        back = λ e may. let run = subst (λ (u : World). MayRun u e) way.world_is may in record { client = run.client; range = run.range; asked = run.asked };
+      }
 
   -- as it is
   pub ended : IsEnd R interval texts w r s history g
-  ended = record { world = way.world; later = _; at = _; now = history; lead = way.lead; tied = way.tied; kept = kept_now }
+  ended = record { world = way.world; later = _; at = _; now = history; lead = way.lead; tied = way.tied; kept = kept_now; signer = way.signer; interval_is = way.interval_is; gained = subst (AllByRecursion (IsGained w)) (sym way.idle) tt; works = way.works }
 
   module _ (cert : ViewCert) (chosen : Chosen) (p : Signed Change) (due : IsDue interval way.world g.state cert chosen p) (taken : verdict_of R g.state.kept g.state.board.stable p.stmt.told chosen.place chosen.head ≡ Take) where
     abbrev told : Told
@@ -117,16 +144,28 @@ module _ {S : Type 0} (R : Rules S) (interval : ℕ) (texts : Texts) (w : World)
     kept_then : IsHistoryKept R interval texts (adopted_history history common gots)
     kept_then = subst (λ (l : List Entry). IsHistoryKept R interval texts l) list_is (over R interval way.world r g.state history ready_now (matching R way.world kept_now.agrees) texts kept_now.kept cert chosen p due taken).kept
 
+    -- it keeps no order of the view, and works on from there
+    works_there : (k : Kept S) (b : Board) → k.interval ≡ g.state.kept.interval → IsTied R interval (after_standing way.world r (stand_in cert (adopted_history history common gots))) r (core_of (active_by cert chosen (record g.state { kept = k; board = b }))) (adopted_history history common gots)
+        → IsAtWork interval w r s → IsAtWork interval (after_standing way.world r (stand_in cert (adopted_history history common gots))) r (active_by cert chosen (record g.state { kept = k; board = b }))
+    works_there k b spaced tied work =
+        let now = way.works work in
+        work_begins R interval way.world r _ (stand_in cert (adopted_history history common gots)) (workplace_of g.state) (active_by cert chosen (record g.state { kept = k; board = b })) (adopted_history history common gots) now tied refl refl spaced refl refl refl
+        (λ number x m request says what. let low = way.tied.quiet.ordered number x cert.new.stmt.view.0 m request says what in let past = due.later in omega arith)
+
     -- on its own stable checkpoint, or on the report's
     with_own : IsBegunLawfully R interval way.world r g.state cert chosen over_state.kept g.state.board.stable g.state.board.proof list_then → MayBegin R interval texts w r s history way.world cert.new.stmt.view common gots (active_by cert chosen over_state)
     with_own begun =
+        let tied : IsTied R interval (after_standing way.world r (stand_in cert (adopted_history history common gots))) r (core_of (active_by cert chosen over_state)) (adopted_history history common gots) =
+        subst (λ (l : List Entry). IsTied R interval (after_standing way.world r (stand_in cert l)) r (core_of (active_by cert chosen over_state)) l) list_is begun.tied in
         record {
           may = subst (λ (l : List Entry). MayStand way.world r (stand_in cert l)) list_is begun.may;
-          tied = subst (λ (l : List Entry). IsTied R interval (after_standing way.world r (stand_in cert l)) r (core_of (active_by cert chosen over_state)) l) list_is begun.tied;
+          tied = tied;
           kept = kept_then;
           active = refl;
           signer = way.signer;
           interval_is = way.interval_is;
+          heads = gots_headed R (stretch_of told) chosen.place.0 g.state.kept;
+          works = works_there over_state.kept g.state.board (over_spaced R (stretch_of told) chosen.place.0 g.state.kept) tied;
         }
 
     with_told : 0 < told.stable_place.0 → IsBegunLawfully R interval way.world r g.state cert chosen (settled R told.stable_place.0 over_state.kept) (check_in told) told.checks list_then
@@ -139,13 +178,17 @@ module _ {S : Type 0} (R : Rules S) (interval : ℕ) (texts : Texts) (w : World)
         let tied : IsTied R interval (after_standing way.world r (stand_in cert list_then)) r (core_of t) list_then =
         subst (λ (check : Check). IsTied R interval (after_standing way.world r (stand_in cert list_then)) r (core check t.board.proof) list_then) (sym stable.0)
         (subst (λ (proof : List (Signed Check)). IsTied R interval (after_standing way.world r (stand_in cert list_then)) r (core (check_in told) proof) list_then) (sym stable.1) begun.tied) in
+        let then : IsTied R interval (after_standing way.world r (stand_in cert (adopted_history history common gots))) r (core_of t) (adopted_history history common gots) =
+        subst (λ (l : List Entry). IsTied R interval (after_standing way.world r (stand_in cert l)) r (core_of t) l) list_is tied in
         record {
           may = subst (λ (l : List Entry). MayStand way.world r (stand_in cert l)) list_is begun.may;
-          tied = subst (λ (l : List Entry). IsTied R interval (after_standing way.world r (stand_in cert l)) r (core_of t) l) list_is tied;
+          tied = then;
           kept = kept_then;
           active = refl;
           signer = way.signer;
           interval_is = way.interval_is;
+          heads = gots_headed R (stretch_of told) chosen.place.0 g.state.kept;
+          works = works_there (settled R told.stable_place.0 over_state.kept) (with_stable g.state.board told.checks) (over_spaced R (stretch_of told) chosen.place.0 g.state.kept) then;
         }
 
     begins_by : (b : Bool) → nat_lt g.state.board.stable.place.0 told.stable_place.0 ≡ b

@@ -43,6 +43,7 @@ use Rattle.zy_view_law.proofs.TiedGrown.{chosen_said, parts_said}
 use Rattle.zy_view_law.specs.Tied.{IsAhead, IsChosenNew, IsHearing, IsViewCert, IsWaitingTied, with_heard}
 use Rattle.zy_view_law.specs.Told.{began_told}
 use Rattle.zy_view_steps.proofs.HeardRows.{sent_more}
+use Rattle.zy_view_steps.proofs.AtWork.{works_said}
 use Rattle.zy_view_steps.proofs.Leaves.{IsOnWay, leave_on, leave_says, left_mode, said_more}
 use Rattle.zy_view_steps.specs.Adoptions.{IsDue}
 use Rattle.zy_view_steps.specs.Cores.{core_of}
@@ -144,6 +145,8 @@ module _ {S : Type 0} (R : Rules S) (interval : ℕ) (w : World) (r : ℕ) (s : 
           tied = tied_heard R interval is.way.world is.way.lawful r is.way.correct (core_of g.state) history is.way.tied v.changes v.begans v.hated (Some waits) heard;
           signer = is.way.signer;
           interval_is = is.way.interval_is;
+          idle = is.way.idle;
+          works = is.way.works;
         }
 
   -- ---- the snapshot is asked for: that is said of no view, and changes nothing that it is tied by
@@ -153,6 +156,7 @@ module _ {S : Type 0} (R : Rules S) (interval : ℕ) (w : World) (r : ℕ) (s : 
   asks_each wanted None parties g way =
       let says = says_other R interval way.world way.lawful r way.correct (core_of g.state) history way.tied in
       said_more R interval w r s history ready g way (record { body = bodies.Fetch wanted; stood = table.stood_of R g.state }) (ask_each R wanted None parties g) refl says.may says.tied way.signer way.interval_is
+      (works_said interval way.world r _ g.state (λ v m request told. absurd cc))
 
   pub waits_for : (cert : ViewCert) (chosen : Chosen) (p : Signed Change) (g : Going S) (way : IsOnWay R interval w r s history ready g) → IsDue interval way.world g.state cert chosen p → 0 < p.stmt.told.stable_place.0
       → IsOnWay R interval w r s history ready (wait_for R cert chosen p.stmt.told g)

@@ -1,6 +1,8 @@
 -- When a step in which a view may begin is lawful.
-use Rattle.std.specs.Prelude.{ℕ, Bool, true, false, if◌then◌else◌, List, [], Option, Some, None, unwrap_or}
+use Rattle.std.specs.Prelude.{◌≡◌, ℕ, Bool, true, false, if◌then◌else◌, List, [], Option, Some, None, unwrap_or}
+use Rattle.std.specs.List.{AllByRecursion}
 use Rattle.zy_base.specs.Machine.{Rules}
+use Rattle.zy_base.specs.declared.ids.Party.TheVariants.{Replica}
 use Rattle.zy_base.specs.declared.step.Answer.{Answer}
 use Rattle.zy_base.specs.declared.step.Answer.TheVariants.{Refused}
 use Rattle.zy_chain.specs.declared.entry.Entry.{Entry}
@@ -9,15 +11,16 @@ use Rattle.zy_change.specs.declared.kept.Waiting.{Waiting}
 use Rattle.zy_law.specs.Steps.{AllMay}
 use Rattle.zy_law.specs.World.{World}
 use Rattle.zy_lawful.specs.Acts.{acts_of, history_after, world_after}
-use Rattle.zy_lawful.specs.Tied.{Agrees}
+use Rattle.zy_lawful.specs.Tied.{Agrees, IsGained}
 use Rattle.zy_parts.specs.declared.reports.Change.{Change}
 use Rattle.zy_parts.specs.declared.signed.Signed.{Signed}
-use Rattle.zy_table.specs.Deeds.{Outcome}
+use Rattle.zy_table.specs.Deeds.{Outcome, gains_in}
 use Rattle.zy_table.specs.State.{State}
 use Rattle.zy_view_law.specs.Adopted.{AreWorldTexts}
 use Rattle.zy_view_law.specs.Texts.{Texts, list_in}
 use Rattle.zy_view_law.specs.Tied.{IsTied}
 use Rattle.zy_view_steps.specs.Cores.{core_of}
+use Rattle.zy_view_steps.specs.Work.{IsAtWork}
 
 -- The law speaks of this machine's replies and snapshots, and these are the world's texts: what each correct history leads to
 -- is kept.
@@ -26,11 +29,16 @@ pub record IsWorldOf {S : Type 0} (R : Rules S) (interval : ℕ) (w : World) (te
   pub kept : AreWorldTexts R interval w texts
 
 -- What it says and where it stands next is allowed, one after another. It is tied to the world after that, with the history
--- that it has then; and what that leads to is kept too.
+-- that it has then, and signs as itself still; what that leads to is kept too. Each
+-- entry that it gains may run, on the head before it. Where it could work on before, it can then.
 pub record IsLawfulStep {S : Type 0} (R : Rules S) (interval : ℕ) (texts : Texts) (w : World) (r : ℕ) (s : State S) (history : List Entry) (outcome : Outcome S) : Type 0 where
   pub may : AllMay w r (acts_of w r s history outcome)
   pub tied : IsTied R interval (world_after w r s history outcome) r (core_of outcome.state) (history_after history outcome.deeds.acts)
+  pub signer : outcome.state.sealer.me ≡ Replica outcome.state.views.me
+  pub interval_is : outcome.state.views.interval ≡ interval
   pub world : IsWorldOf R interval (world_after w r s history outcome) texts
+  pub gained : AllByRecursion (IsGained w) (gains_in outcome.deeds.acts)
+  pub works : IsAtWork interval w r s → IsAtWork interval (world_after w r s history outcome) r outcome.state
 
 -- ---- a snapshot that comes
 

@@ -43,6 +43,7 @@ use Rattle.zy_view_law.proofs.TieKept.{tied_heard}
 use Rattle.zy_view_law.specs.Held.{IsHeldChange}
 use Rattle.zy_view_law.specs.Tied.{IsHearing, IsKeptChange}
 use Rattle.zy_view_steps.proofs.Led.{leads_nowhere}
+use Rattle.zy_view_steps.proofs.AtWork.{works_said}
 use Rattle.zy_view_steps.proofs.Leaves.{IsOnWay, IsLawfulAttempt, at_begin, collect_on, concluded_row, counted, hated_more, leave_row, said_more}
 use Rattle.zy_view_steps.specs.Cores.{core_of}
 use Rattle.zy_view_steps.specs.Rows.{IsLawfulRow, IsReady, blames}
@@ -71,6 +72,8 @@ module _ {S : Type 0} (R : Rules S) (interval : ℕ) (w : World) (r : ℕ) (s : 
         tied = way.tied;
         signer = way.signer;
         interval_is = way.interval_is;
+        idle = way.idle;
+        works = way.works;
       }
 
   leaves_next : (g : Going S) → IsOnWay R interval w r s history ready g → IsLawfulAttempt R interval w r s history ready (leave R (next_view g.state.views) g)
@@ -109,6 +112,7 @@ module _ {S : Type 0} (R : Rules S) (interval : ℕ) (w : World) (r : ℕ) (s : 
       let start = at_begin R interval w r s history ready in
       let says = says_other R interval start.world start.lawful r start.correct (core_of s) history start.tied in
       said_more R interval w r s history ready (begin s) start (record { body = bodies.Hate (hate_now s); stood = table.stood_of R s }) (say_hate R s None) refl says.may says.tied start.signer start.interval_is
+      (works_said interval start.world r _ s (λ v m request told. absurd cc))
 
   counts_own : (g : Going S) → IsOnWay R interval w r s history ready g → IsLawfulAttempt R interval w r s history ready (count_own R g)
   counts_own g way = by (is_hated_by g.state.views (Replica g.state.me))
@@ -204,6 +208,8 @@ module _ {S : Type 0} (R : Rules S) (interval : ℕ) (w : World) (r : ℕ) (s : 
           tied = tied_heard R interval w ready.lawful r ready.correct (core_of s) history ready.tied (with_change vote s.views).changes s.views.begans s.views.hated s.views.waiting (heard clear);
           signer = ready.signer;
           interval_is = ready.interval_is;
+          idle = refl;
+          works = λ work. work;
         }
 
     -- the own view and later ones: it leaves for a later one, or gathers for its own

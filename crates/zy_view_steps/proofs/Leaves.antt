@@ -20,11 +20,13 @@ use Rattle.zy_choose.specs.Marks.{link}
 use Rattle.zy_choose.specs.declared.choice.Choice.{Choice}
 use Rattle.zy_choose.specs.declared.choice.Choice.TheVariants as choices
 use Rattle.zy_evidence.specs.Reading.{read}
+use Rattle.zy_exec.specs.Kept.{last_place}
 use Rattle.zy_law.proofs.StepsLawful.{saying_lawful}
 use Rattle.zy_law.specs.Lawful.{IsLawful}
 use Rattle.zy_law.specs.Said.{IsCorrect}
 use Rattle.zy_law.specs.Steps.{MaySay, after_saying, grown, with_last}
 use Rattle.zy_law.specs.World.{Spoken, Statement, World}
+use Rattle.zy_lawful.proofs.Goes.{gains_in-append}
 use Rattle.zy_lawful.specs.Acts.{spoken_at, statement_by}
 use Rattle.zy_parts.specs.Numbers as numbers
 use Rattle.zy_parts.specs.Reports.{began_fields}
@@ -32,7 +34,8 @@ use Rattle.zy_parts.specs.declared.reports.New.{New}
 use Rattle.zy_parts.specs.declared.signed.Signed.{Signed}
 use Rattle.zy_parts.specs.declared.statements.Hate.{Hate}
 use Rattle.zy_seal.specs.Sealing.{sealed_by}
-use Rattle.zy_table.specs.Deeds.{Going, begin, ends, refused}
+use Rattle.zy_table.specs.Deeds.{Going, begin, ends, gains_in, refused}
+use Rattle.zy_table.specs.declared.deeds.Got.{Got}
 use Rattle.zy_table.specs.Hates.{hate, hate_counted, with_hate_of}
 use Rattle.zy_table.specs.Leaving.{left_with as left_with_table, Attempt, accept, collect, concluded, give_new, given, goes, is_overspent, leave, leave_alone, sealed_change, sealed_new}
 use Rattle.zy_table.specs.State as table
@@ -50,10 +53,12 @@ use Rattle.zy_view_law.proofs.TiedGrown.{chosen_said}
 use Rattle.zy_view_law.specs.Held.{IsProperNew}
 use Rattle.zy_view_law.specs.Tied.{IsChosenNew, IsHearing, IsTied, said_now, told_by, with_heard}
 use Rattle.zy_view_law.specs.Told.{began_told, change_told}
+use Rattle.zy_view_steps.proofs.AtWork.{work_shorter, works_said}
 use Rattle.zy_view_steps.proofs.Gathered.{gathered_proper}
 use Rattle.zy_view_steps.proofs.Led.{LeadsTo, leads_nowhere, leads_on, leads_saying}
 use Rattle.zy_view_steps.specs.Cores.{core_of}
 use Rattle.zy_view_steps.specs.Rows.{IsLawfulRow, IsReady, blames}
+use Rattle.zy_view_steps.specs.Work.{IsAtWork, workplace_of}
 
 pub left_mode : {S : Type 0} (R : Rules S) (view : View) (g : Going S) → (leave_alone R view g).state.views.mode ≡ Leaving view
 unfolding leave_alone
@@ -73,6 +78,10 @@ module _ {S : Type 0} (R : Rules S) (interval : ℕ) (w : World) (r : ℕ) (s : 
     pub tied : IsTied R interval world r (core_of g.state) history
     pub signer : g.state.sealer.me ≡ Replica g.state.views.me
     pub interval_is : g.state.views.interval ≡ interval
+    -- it executed nothing
+    pub idle : gains_in g.deeds.acts ≡ []
+    -- where it could work on before, it still can
+    pub works : IsAtWork interval w r s → IsAtWork interval world r g.state
 
   pub at_begin : IsOnWay (begin s)
   at_begin =
@@ -88,6 +97,8 @@ module _ {S : Type 0} (R : Rules S) (interval : ℕ) (w : World) (r : ℕ) (s : 
         tied = ready.tied;
         signer = ready.signer;
         interval_is = ready.interval_is;
+        idle = refl;
+        works = λ work. work;
       }
 
   pub begin_world : at_begin.world ≡ w
@@ -111,8 +122,9 @@ module _ {S : Type 0} (R : Rules S) (interval : ℕ) (w : World) (r : ℕ) (s : 
         (leads_saying way.world r view number history remark (subst (λ (x : Spoken). MaySay way.world r x) same_spoken may)))
 
     pub said_more : (next : Going S) → next.deeds.acts ≡ g.deeds.acts ++ SaysIt remark ∷ [] → MaySay way.world r spoken → IsTied R interval (after_saying way.world r spoken) r (core_of next.state) history
-        → next.state.sealer.me ≡ Replica next.state.views.me → next.state.views.interval ≡ interval → IsOnWay next
-    said_more next acts may tied signer interval_is =
+        → next.state.sealer.me ≡ Replica next.state.views.me → next.state.views.interval ≡ interval
+        → (IsAtWork interval way.world r g.state → IsAtWork interval (after_saying way.world r spoken) r next.state) → IsOnWay next
+    said_more next acts may tied signer interval_is works =
         record {
           world = after_saying way.world r spoken;
           lead =
@@ -127,6 +139,8 @@ module _ {S : Type 0} (R : Rules S) (interval : ℕ) (w : World) (r : ℕ) (s : 
           tied = tied;
           signer = signer;
           interval_is = interval_is;
+          idle = ap gains_in acts ∙ gains_in-append g.deeds.acts (SaysIt remark ∷ []) ∙ ap (λ (l : List Got). l ++ []) way.idle;
+          works = λ work. works (way.works work);
         }
 
   -- ---- a leave
@@ -143,6 +157,7 @@ module _ {S : Type 0} (R : Rules S) (interval : ℕ) (w : World) (r : ℕ) (s : 
         (subst (λ (by : Party). IsTied R interval (after_saying way.world r (said_now way.world r (change_told r (change_to view (told_by c))))) r
         (record c { views = left view (with_change (record { by = by; stmt = change.stmt; sig = change.sig }) c.views) }) history) (sym way.signer) gone)
         way.signer way.interval_is
+        (λ work. work_shorter interval _ r _ (last_place g.state.kept - g.state.orders.base) (workplace_of g.state) (works_said interval way.world r _ g.state (λ v m request told. absurd cc) work))
 
     -- the world after it
     pub leave_says : (above : own_view g.state.views < view.0) → (leave_on above).world ≡ after_saying way.world r (said_now way.world r (change_told r (change_to view (told_by (core_of g.state)))))
@@ -155,6 +170,7 @@ module _ {S : Type 0} (R : Rules S) (interval : ℕ) (w : World) (r : ℕ) (s : 
     give_on new =
         let says = says_new R interval way.world way.lawful r way.correct (core_of g.state) history way.tied new.stmt.view.0 (map read new.stmt.changes) in
         said_more g way (record { body = bodies.New new.stmt; stood = table.stood_of R g.state }) (give_new R new g) refl says.may says.tied way.signer way.interval_is
+        (works_said interval way.world r _ g.state (λ v m request told. absurd cc))
 
   -- a new view is confirmed
   pub accept_on : (g : Going S) (way : IsOnWay g) (a : Accepted) → g.state.views.mode ≡ Leaving a.new.stmt.view → is_accepted a.new.stmt.view.0 g.state.views.accepted ≡ false
@@ -168,7 +184,7 @@ module _ {S : Type 0} (R : Rules S) (interval : ℕ) (w : World) (r : ℕ) (s : 
       said_more g way (record { body = bodies.Began began.stmt; stood = table.stood_of R g.state }) (accept R a g) refl may
       (subst (λ (by : Party). IsTied R interval (after_saying way.world r (said_now way.world r (began_told (began_for a.new.stmt.view a.chosen)))) r
       (record c { views = with_new a (record { by = by; stmt = began.stmt; sig = began.sig }) c.views }) history) (sym way.signer) tied)
-      way.signer way.interval_is
+      way.signer way.interval_is (works_said interval way.world r _ g.state (λ v m request told. absurd cc))
 
   accept_given : (g : Going S) (way : IsOnWay g) (view : View) (new : Signed New) (chosen : Chosen) → g.state.views.mode ≡ Leaving view → is_accepted view.0 g.state.views.accepted ≡ false
       → new.stmt.view ≡ view → IsChosenNew interval way.world new.stmt chosen → IsOnWay (accept R (record { new = new; chosen = chosen }) (give_new R new g))
@@ -264,6 +280,8 @@ module _ {S : Type 0} (R : Rules S) (interval : ℕ) (w : World) (r : ℕ) (s : 
         tied = tied_heard R interval way.world way.lawful r way.correct (core_of g.state) history way.tied v.changes v.begans (with_hate by v).hated v.waiting heard;
         signer = way.signer;
         interval_is = way.interval_is;
+        idle = way.idle;
+        works = way.works;
       }
 
   pub counted : (g : Going S) → IsOnWay g → IsLawfulAttempt (hate_counted R g)

@@ -1,8 +1,14 @@
+pub mod AtWork
 pub mod BeginsWith
+pub mod Changing
 pub mod CommonPlaces
+pub mod EmptyHistory
+pub mod FirstEntry
 pub mod Gathered
 pub mod HeardRows
+pub mod InstalledWorld
 pub mod Leaves
 pub mod Led
+pub mod Settled
 pub mod SmallChange
 pub mod Verdicts

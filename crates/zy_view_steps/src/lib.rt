@@ -9,5 +9,5 @@ mod rows;
 
 pub use adopt::{never_refused, taking_over};
 pub use begins::{installing_states, taking_up};
-pub use example::{a_change_back, a_change_of_view};
+pub use example::{a_change_back, a_change_of_view, a_state_installed};
 pub use rows::{heard_rows, leaving_rows};

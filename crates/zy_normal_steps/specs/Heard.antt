@@ -1,0 +1,31 @@
+-- What the laws of normal operation ask of a frame that is heard.
+use Rattle.std.specs.Prelude.{◌≡◌, true, None, Ok, All}
+use Rattle.zy_base.specs.declared.step.Event.{Event}
+use Rattle.zy_base.specs.declared.step.Event.TheVariants.{Heard, Timer}
+use Rattle.zy_admit.specs.Judging.{entry_of}
+use Rattle.zy_frames.specs.Frames.{frame_in, parts_of}
+use Rattle.zy_frames.specs.declared.frame.Frame.{Frame}
+use Rattle.zy_frames.specs.declared.frame.Frame.TheVariants as frames
+use Rattle.zy_law.specs.World.{World}
+use Rattle.zy_lawful.specs.Tied.{MayRun}
+use Rattle.zy_seal.specs.Screening.{screen}
+use Rattle.zy_table.specs.Roles.{in_role}
+use Rattle.zy_table.specs.State.{State}
+use Rattle.zy_view_law.specs.Held.{IsHeldPart}
+use Rattle.zy_view_law.specs.Told.{check_told, response_told}
+
+-- the requests in it may be run, and its responses and its checkpoint are held
+abbrev pub IsFrameHeld : World → Frame → Type 0
+IsFrameHeld w (frames.Request ask) = MayRun w (entry_of ask)
+IsFrameHeld w (frames.Order both) = MayRun w (entry_of both.ask)
+IsFrameHeld w (frames.SpecResponse spec reply with_order) = IsHeldPart w response_told spec
+IsFrameHeld w (frames.Commit specs) = All (IsHeldPart w response_told) specs
+IsFrameHeld w (frames.ConfirmReq confirm ask) = MayRun w (entry_of ask)
+IsFrameHeld w (frames.Checkpoint check) = IsHeldPart w check_told check
+IsFrameHeld w _ = Unit {0}
+
+-- so of a frame whose signatures are verified, and whose signers have their roles
+abbrev pub IsEventHeld : {S : Type 0} → World → State S → Event → Type 0
+IsEventHeld w s (Heard bytes) =
+    (frame : Frame) → frame_in bytes ≡ Ok frame → screen s.keys (parts_of frame) ≡ None → in_role s frame ≡ true → IsFrameHeld w frame
+IsEventHeld w s (Timer kind) = Unit {0}
