@@ -8,7 +8,7 @@ use std::env::FillError;
 use std::rt::Env;
 use std::test::Fail;
 use zy_base::Bytes;
-use zy_edge::{MemFiles, MemSink};
+use zy_edge::{MemClock, MemFiles, MemLink, MemSink};
 use zy_top::zyzzyva;
 
 /// A command line of these words.
@@ -89,7 +89,10 @@ fn run(
     }
     let mut files = MemFiles::new(alloc, files, Vec::new(alloc));
     let mut out = MemSink::new(alloc, Vec::new(alloc), 100_000)?;
-    let (status, line) = ending(zyzzyva(alloc, &words, &mut files, &mut out));
+    let mut link = MemLink::new(alloc, Vec::new(alloc), Vec::new(alloc), 4)?;
+    let mut clock = MemClock::new(alloc, Vec::from_slice(alloc, &[0])?);
+    let exit = zyzzyva(alloc, &words, &mut files, &mut out, &mut link, &mut clock);
+    let (status, line) = ending(exit);
     let error = match line {
         Some(line) => format!(in alloc; "{line}\n")?,
         None => String::new(alloc),

@@ -1,9 +1,9 @@
 use Rattle.std.proofs.Common.{◌≡◌, Ok, Err, refl, inl}
-use Rattle.zy_top.specs.Words.{Command, command_of, texts}
+use Rattle.zy_words.specs.Words.{Command, command_of, texts}
 use Rattle.zy_edge.specs.Files.{content_of}
 use Rattle.zy_top.specs.Keys.{key_file}
 use Rattle.zy_top.specs.Verdict.{make_verdict, replay_verdict}
-use Rattle.zy_top.proofs.Endings.{cut_short, told_finishes}
+use Rattle.zy_words.proofs.Endings.{cut_short, told_finishes}
 use Rattle.zy_top.proofs.Headline.{commands_are_safe}
 use Rattle.zy_top.proofs.MadeRuns.{made_finishes, own_answer}
 use Rattle.zy_top.proofs.top.zyzzyva.Goals as goal
