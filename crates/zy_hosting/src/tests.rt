@@ -12,16 +12,23 @@ const REPLICA_0: Party = Party::Replica(ReplicaId(0));
 
 const CLIENT_3: Party = Party::Client(ClientId(3));
 
-/// Secrets in a group whose seed is zeros, with the public keys that Bouncy Castle makes of them.
-const REPLICA: &str =
-    "seed = \"01dffe160173b6550875b2bdc89010b901af701b1cc76376b86c4cad9243345a\"\n\
-    id = \"2a0364144cf93af321d40b40279de74a\"\nheight = 5\nots = 3\n";
+/// The lines of secrets in a group whose seed is zeros, with the public keys that Bouncy Castle makes of them.
+const REPLICA: [&str; 4] = [
+    "seed = \"01dffe160173b6550875b2bdc89010b901af701b1cc76376b86c4cad9243345a\"\n",
+    "id = \"2a0364144cf93af321d40b40279de74a\"\n",
+    "height = 5\n",
+    "ots = 3\n",
+];
 
 const REPLICA_KEY: &str =
     "00000005000000032a0364144cf93af321d40b40279de74a5af23fbe1233237c58a6609fb6f2b10c198fbdb60b004b46515d402318465e91";
 
-const CLIENT: &str = "seed = \"0c0c0df62c67b1bb28d37f10f713d15de22f8a27d30ee82b19e13298714b433b\"\n\
-    id = \"20329ad069867926817dda9008a6396a\"\nheight = 5\nots = 3\n";
+const CLIENT: [&str; 4] = [
+    "seed = \"0c0c0df62c67b1bb28d37f10f713d15de22f8a27d30ee82b19e13298714b433b\"\n",
+    "id = \"20329ad069867926817dda9008a6396a\"\n",
+    "height = 5\n",
+    "ots = 3\n",
+];
 
 const CLIENT_KEY: &str =
     "000000050000000320329ad069867926817dda9008a6396a66b10b56c4b3cc2f9791f5e4e74770b7437ffdde052f2d60e8098d49ab41cb11";
@@ -32,8 +39,23 @@ const OTHER_KEY: &str =
 /// Four replicas and four clients, of which replica 0 and client 3 have their own keys.
 fn group(alloc: Global, lines: &str) -> Result<String, AllocError> {
     format!(in alloc;
-        "f = 1\nk = 8\nclients = 4\n{lines}\nkeys = [\"{REPLICA_KEY}\", \"{OTHER_KEY}\", \"{OTHER_KEY}\", \"{OTHER_KEY}\", \"{OTHER_KEY}\", \"{OTHER_KEY}\", \"{OTHER_KEY}\", \"{CLIENT_KEY}\"]\n"
+        "{lines}\nkeys = [\"{REPLICA_KEY}\", \"{OTHER_KEY}\", \"{OTHER_KEY}\", \"{OTHER_KEY}\", \"{OTHER_KEY}\", \"{OTHER_KEY}\", \"{OTHER_KEY}\", \"{CLIENT_KEY}\"]\n"
     )
+}
+
+/// The first so many lines of a secret, and others behind them.
+fn secret(
+    alloc: Global,
+    own: &[&str; 4],
+    count: usize,
+    others: &str,
+) -> Result<String, AllocError> {
+    let mut text = String::new(alloc);
+    for line in own.iter().take(count) {
+        text.push_str(line)?;
+    }
+    text.push_str(others)?;
+    Ok(text)
 }
 
 fn bytes(alloc: Global, text: &str) -> Result<Bytes, AllocError> {
@@ -79,25 +101,86 @@ fn run(
     Ok((exit, Vec::from_slice(alloc, out.taken())?))
 }
 
+const COUNTS: &str = "f = 1\nk = 8\nclients = 4";
+
+const GOOD: &str = "f = 1\nk = 8\nclients = 4\nport = 47000";
+
+// How a group's file begins, whether the keys of its members follow, how many of the secret's own lines stand, what stands
+// behind them, and the field that fails then. Where it can be, a later field would fail too.
+const FIELDS: [(&str, bool, usize, &str, u8); 30] = [
+    ("f = 5\nport = 47000", true, 0, "=", 1),
+    (COUNTS, false, 0, "=", 9),
+    (
+        "f = 1\nk = 8\nclients = 4\nkeys = 8\nport = 1",
+        false,
+        0,
+        "=",
+        9,
+    ),
+    ("f = 1\nk = 8\nclients = 4\nkeys = []", false, 0, "=", 9),
+    ("f = 1\nk = 8\nclients = 5", true, 0, "=", 9),
+    (COUNTS, true, 0, "=", 10),
+    ("f = 1\nk = 8\nclients = 4\nport = \"47000\"", true, 0, "", 10),
+    ("f = 1\nk = 8\nclients = 4\nport = 1023", true, 0, "", 10),
+    ("f = 1\nk = 8\nclients = 4\nport = 65457", true, 0, "", 10),
+    (GOOD, true, 0, "=", 11),
+    (GOOD, true, 0, "", 12),
+    (GOOD, true, 0, "seed = 0\nid = 0", 12),
+    (GOOD, true, 0, "seed = \"00\"", 12),
+    (GOOD, true, 1, "", 13),
+    (GOOD, true, 1, "id = 0\nheight = 6", 13),
+    (GOOD, true, 1, "id = \"00\"", 13),
+    (GOOD, true, 2, "", 14),
+    (GOOD, true, 2, "height = \"5\"\nots = 2", 14),
+    (GOOD, true, 2, "height = 4", 14),
+    (GOOD, true, 2, "height = 11", 14),
+    (GOOD, true, 3, "", 15),
+    (GOOD, true, 3, "ots = true\nnext = -1", 15),
+    (GOOD, true, 3, "ots = 2", 15),
+    (GOOD, true, 3, "ots = 5", 15),
+    (GOOD, true, 4, "", 16),
+    (GOOD, true, 4, "next = \"0\"\nstamp = -1", 16),
+    (GOOD, true, 4, "next = -1", 16),
+    (GOOD, true, 4, "next = 33", 16),
+    (GOOD, true, 4, "next = 0\nstamp = -1", 17),
+    (GOOD, true, 4, "next = 0\nstamp = 2305843009213693953", 17),
+];
+
 #[test]
 fn files_are_judged_in_their_order(rt: HostRuntime) -> Result<(), Fail> {
     let alloc = rt.alloc();
-    let table: [(&str, &str, &str, Party, u8); 10] = [
-        ("f = 5\nport = 47000", "", "", REPLICA_0, 0),
-        ("port = 1023", "", "", REPLICA_0, 10),
-        ("", "", "", CLIENT_3, 10),
-        ("port = 47000", "= ", "", REPLICA_0, 11),
-        ("port = 47000", "", "next = 0", CLIENT_3, 12),
-        ("port = 47000", REPLICA, "", REPLICA_0, 16),
-        ("port = 47000", REPLICA, "next = 33", REPLICA_0, 16),
-        ("port = 47000", CLIENT, "next = 32", CLIENT_3, 16),
-        ("port = 47000", CLIENT, "next = 0\nstamp = -1", CLIENT_3, 17),
-        ("port = 47000", CLIENT, "next = 0", REPLICA_0, 18),
+    for (front, with_keys, count, others, field) in FIELDS {
+        let group = if with_keys {
+            group(alloc, front)?
+        } else {
+            String::from_str(alloc, front)?
+        };
+        for (party, own) in [(REPLICA_0, &REPLICA), (CLIENT_3, &CLIENT)] {
+            let secret = secret(alloc, own, count, others)?;
+            let answer = run(alloc, party, (group.as_str(), secret.as_str()), 1, 0)?;
+            assert_eq!(rt; answer.0, Exit::Group(field));
+            assert!(rt; answer.1.is_empty());
+        }
+    }
+    Ok(())
+}
+
+// A client's key needs a leaf; and the party is of the group, with the secret's key.
+#[test]
+fn keys_are_the_party_s(rt: HostRuntime) -> Result<(), Fail> {
+    let alloc = rt.alloc();
+    let group = group(alloc, GOOD)?;
+    let table: [(Party, &[&str; 4], &str, u8); 6] = [
+        (CLIENT_3, &CLIENT, "next = 32", 16),
+        (REPLICA_0, &CLIENT, "next = 32", 18),
+        (CLIENT_3, &REPLICA, "next = 31", 18),
+        (Party::Replica(ReplicaId(1)), &REPLICA, "next = 0", 18),
+        (Party::Replica(ReplicaId(4)), &REPLICA, "next = 0", 18),
+        (Party::Client(ClientId(4)), &CLIENT, "next = 0", 18),
     ];
-    for (lines, key, place, party, field) in table {
-        let secret = format!(in alloc; "{key}{place}\n")?;
-        let texts = (group(alloc, lines)?, secret);
-        let answer = run(alloc, party, (texts.0.as_str(), texts.1.as_str()), 1, 0)?;
+    for (party, own, place, field) in table {
+        let secret = secret(alloc, own, 4, place)?;
+        let answer = run(alloc, party, (group.as_str(), secret.as_str()), 1, 0)?;
         assert_eq!(rt; answer.0, Exit::Group(field));
         assert!(rt; answer.1.is_empty());
     }
@@ -113,9 +196,9 @@ const STANDING: &str =
 #[test]
 fn turns_are_spent_or_the_link_fails(rt: HostRuntime) -> Result<(), Fail> {
     let alloc = rt.alloc();
-    let group = group(alloc, "port = 47000")?;
-    let replica = format!(in alloc; "{REPLICA}next = 7\n")?;
-    let client = format!(in alloc; "{CLIENT}next = 0\nstamp = 0\n")?;
+    let group = group(alloc, GOOD)?;
+    let replica = secret(alloc, &REPLICA, 4, "next = 7\n")?;
+    let client = secret(alloc, &CLIENT, 4, "next = 0\nstamp = 0\n")?;
     let (told, key) = (STANDING, "key next 1 stamp 1\n");
     let table: [(Party, &str, u32, u64, bool, &str); 11] = [
         (REPLICA_0, replica.as_str(), 0, 2, true, told),
