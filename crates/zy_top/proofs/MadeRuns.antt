@@ -185,6 +185,8 @@ no_read (Err exits.ReadFault) running is = cc
 no_read (Err (exits.Text line rule)) running is = cc
 no_read (Err (exits.Group field)) running is = cc
 no_read (Err exits.TooLong) running is = cc
+no_read (Err exits.LinkFault) running is = cc
+no_read (Err exits.TurnsSpent) running is = cc
 
 pub own_answer : (own : Verdict) (r : Result (Unit {0}) Exit) (old new : Option (List ℕ)) (before after : ℕ) → IsAnswer own (exit_of r) → IsRunning r
     → IsWritten own (exit_of r) old new → IsCounted (is_write_fault (exit_of r)) before after → IsOwnAnswer own (exit_of r) old new before after
