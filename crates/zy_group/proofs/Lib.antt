@@ -1,2 +1,3 @@
 pub mod DifferentLemmas
 pub mod KeysLemmas
+pub mod TextLaws

@@ -3,3 +3,5 @@ pub mod Reading
 pub mod Replay
 pub mod Members
 pub mod Secret
+pub mod Counts
+pub mod Own

@@ -1,5 +1,5 @@
 -- What a node and an asker are told of their group.
-use Rattle.std.specs.Prelude.{ℕ, ◌+◌, ◌*◌, codes, take, drop, Option, Result, Ok, Err}
+use Rattle.std.specs.Prelude.{◌≡◌, ℕ, ◌+◌, ◌*◌, ◌≤◌, codes, length, take, drop, Option, Result, Ok, Err}
 use Rattle.toml.specs.Data.{Members}
 use Rattle.zy_group.specs.Fields.{number_at, keys_at}
 use Rattle.zy_group.specs.Reading.{field}
@@ -35,3 +35,15 @@ text_ask_group text = field 0 text ask_group
 
 abbrev pub text_node_group : Option Members → Result NodeGroup ℕ
 text_node_group text = field 0 text node_group
+
+-- what these fields allow
+pub record AreMembers (group : AskGroup) : Type 0 where
+  pub least : 1 ≤ group.f
+  pub most : group.f ≤ 4
+  pub replicas : length group.keys.replicas ≡ 3 * group.f + 1
+  pub clients : length group.keys.clients ≤ 64
+
+pub record IsNodeGroup (group : NodeGroup) : Type 0 where
+  pub members : AreMembers group.members
+  pub least_interval : 4 ≤ group.k
+  pub greatest_interval : group.k ≤ 32

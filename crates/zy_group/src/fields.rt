@@ -1,5 +1,5 @@
 // One reader for each kind of field.
-ghost use Rattle.std.specs.Prelude.{◌≡◌, ◌≤◌, ◌^◌, [], IfOk, IfSome, Some, option_map};
+ghost use Rattle.std.specs.Prelude.{◌≡◌, ◌≤◌, ◌+◌, ◌^◌, [], IfOk, IfSome, Some, length, option_map};
 ghost use Rattle.toml.specs.Data.{get_member};
 ghost use Rattle.toml.specs.View.{view, array_view, table_view};
 ghost use Rattle.zy_group.specs.Fields.{number_of, number_at, different_from, numbers_at, text_at, bytes_at, height_at, ots_at, of_spoken_types, key_of, keys_from, so_many, keys_in, keys_at, told_ots_at, next_at, number_or, stamp_at};
@@ -17,6 +17,7 @@ use zy_ots::{OtsType, u32_at};
 /// The integer, if it is from `low` to `high`.
 fn long_of(value: &Value, low: u64, high: u64) -> Option<u64>
     ensures is { result ≡ number_of low high (view value.now) }
+    ensures least { IfSome result (λ number. low ≤ number) }
     ensures most { IfSome result (λ number. number ≤ high) }
 {
     let number = u64::try_from(value.as_integer()?).ok()?;
@@ -29,7 +30,9 @@ fn long_of(value: &Value, low: u64, high: u64) -> Option<u64>
 
 /// The same where it is short.
 fn number_of(value: &Value, low: u8, high: u8) -> Option<u8>
-    ensures { result ≡ number_of low high (view value.now) }
+    ensures is { result ≡ number_of low high (view value.now) }
+    ensures least { IfSome result (λ number. low ≤ number) }
+    ensures most { IfSome result (λ number. number ≤ high) }
 {
     let number = long_of(value, u64::from(low), u64::from(high))?;
     Some(number as u8)
@@ -44,7 +47,9 @@ fn value_at<'a>(table: &'a Table, key: &str) -> Option<&'a Value>
 
 /// The integer from `low` to `high` under the key.
 pub(crate) fn number_at(table: &Table, key: &str, low: u8, high: u8) -> Option<u8>
-    ensures { result ≡ number_at low high key.now (table_view table.now) }
+    ensures is { result ≡ number_at low high key.now (table_view table.now) }
+    ensures least { IfSome result (λ number. low ≤ number) }
+    ensures most { IfSome result (λ number. number ≤ high) }
 {
     match value_at(table, key) {
         Some(value) => number_of(value, low, high),
@@ -206,7 +211,8 @@ pub(crate) fn keys_at(
     table: &Table,
     count: usize,
 ) -> Result<Option<Vec<[u8; 56]>>, Want>
-    ensures { IfOk result (λ keys. option_map (λ keys. keys.items) keys ≡ keys_at count (table_view table.now)) }
+    ensures is { IfOk result (λ keys. option_map (λ keys. keys.items) keys ≡ keys_at count (table_view table.now)) }
+    ensures count { IfOk result (λ keys. IfSome keys (λ keys. length keys.items ≡ count)) }
 {
     let Some(value) = value_at(table, "keys") else {
         return Ok(None);
@@ -229,7 +235,7 @@ pub(crate) fn keys_at(
 pub(crate) fn next_at(table: &Table, height: Height, left: u32) -> Option<u32>
     requires { left ≤ 1 }
     ensures is { result ≡ next_at height left (table_view table.now) }
-    ensures most { IfSome result (λ next. next ≤ 2 ^ levels_of height) }
+    ensures most { IfSome result (λ next. next + left ≤ 2 ^ levels_of height) }
 {
     let last = height.leaf_count() - left;
     let next = long_at(table, "next", 0, u64::from(last))?;

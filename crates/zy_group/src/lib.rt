@@ -1,17 +1,21 @@
 //! Group and secret files: what a command is told of its group and of its own key, judged field by field in their order.
 #![tactic(auto)]
 
+mod counts;
 mod fault;
 mod fields;
 mod members;
 mod numbers;
+mod own;
 mod replay;
 mod secret;
 mod text;
 
+pub use counts::plain_counts;
 pub use fault::GroupFault;
 pub use members::{AskGroup, NodeGroup, read_ask_group, read_node_group};
 pub use numbers::Numbers;
+pub use own::own_key;
 pub use replay::{ReplayGroup, read_replay_group};
 pub use secret::{Secret, read_secret};
 

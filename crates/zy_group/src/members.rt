@@ -1,7 +1,7 @@
 ghost use Rattle.std.specs.Prelude.{◌≡◌, ◌≤◌, ◌*◌, ◌+◌, ◌<◌, IsUtf8, length, take, drop, IfOk};
 ghost use Rattle.toml.specs.Parse.{parse_document};
 ghost use Rattle.toml.specs.View.{table_view};
-ghost use Rattle.zy_group.specs.Members.{common, ask_group, node_group, text_ask_group, text_node_group};
+ghost use Rattle.zy_group.specs.Members.{AreMembers, IsNodeGroup, common, ask_group, node_group, text_ask_group, text_node_group};
 ghost use Rattle.zy_group.specs.Reading.{IsRead, IsNoText};
 
 use crate::GroupFault;
@@ -36,6 +36,7 @@ pub struct NodeGroup {
 pub fn read_ask_group(alloc: Global, text: &[u8]) -> Result<AskGroup, GroupFault>
     ensures read { IsUtf8 text.now → IsRead (text_ask_group (parse_document text.now)) result }
     ensures no_text { ¬ IsUtf8 text.now → IsNoText 0 result }
+    ensures members { IfOk result AreMembers }
 {
     match table_of(alloc, text, 0) {
         Ok(table) => asker(alloc, &table),
@@ -47,6 +48,7 @@ pub fn read_ask_group(alloc: Global, text: &[u8]) -> Result<AskGroup, GroupFault
 pub fn read_node_group(alloc: Global, text: &[u8]) -> Result<NodeGroup, GroupFault>
     ensures read { IsUtf8 text.now → IsRead (text_node_group (parse_document text.now)) result }
     ensures no_text { ¬ IsUtf8 text.now → IsNoText 0 result }
+    ensures group { IfOk result IsNodeGroup }
 {
     match table_of(alloc, text, 0) {
         Ok(table) => node(alloc, &table),
@@ -56,7 +58,8 @@ pub fn read_node_group(alloc: Global, text: &[u8]) -> Result<NodeGroup, GroupFau
 
 #[tactic(auto, unfolding(crate::specs::Members::ask_group))]
 fn asker(alloc: Global, table: &Table) -> Result<AskGroup, GroupFault>
-    ensures { IsRead (ask_group (table_view table.now)) result }
+    ensures read { IsRead (ask_group (table_view table.now)) result }
+    ensures members { IfOk result AreMembers }
 {
     let Some(f) = number_at(table, "f", 1, 4) else {
         return Err(GroupFault::Field(1));
@@ -66,7 +69,8 @@ fn asker(alloc: Global, table: &Table) -> Result<AskGroup, GroupFault>
 
 #[tactic(auto, unfolding(crate::specs::Members::node_group))]
 fn node(alloc: Global, table: &Table) -> Result<NodeGroup, GroupFault>
-    ensures { IsRead (node_group (table_view table.now)) result }
+    ensures read { IsRead (node_group (table_view table.now)) result }
+    ensures group { IfOk result IsNodeGroup }
 {
     let Some(f) = number_at(table, "f", 1, 4) else {
         return Err(GroupFault::Field(1));
@@ -83,8 +87,10 @@ fn node(alloc: Global, table: &Table) -> Result<NodeGroup, GroupFault>
 /// The fields that both have.
 #[tactic(auto, unfolding(crate::specs::Members::common))]
 fn common(alloc: Global, table: &Table, f: u8) -> Result<AskGroup, GroupFault>
-    requires { f ≤ 4 }
-    ensures { IsRead (common f (table_view table.now)) result }
+    requires least { 1 ≤ f }
+    requires most { f ≤ 4 }
+    ensures read { IsRead (common f (table_view table.now)) result }
+    ensures members { IfOk result AreMembers }
 {
     let Some(clients) = number_at(table, "clients", 1, 64) else {
         return Err(GroupFault::Field(3));

@@ -1,4 +1,4 @@
-ghost use Rattle.std.specs.Prelude.{◌≡◌, ◌≤◌, ◌^◌, IsUtf8, IfOk};
+ghost use Rattle.std.specs.Prelude.{◌≡◌, ◌≤◌, ◌+◌, ◌^◌, IsUtf8, IfOk};
 ghost use Rattle.toml.specs.Parse.{parse_document};
 ghost use Rattle.toml.specs.View.{table_view};
 ghost use Rattle.zy_lms.specs.Height.{levels_of};
@@ -33,7 +33,7 @@ pub fn read_secret(alloc: Global, text: &[u8], left: u32) -> Result<Secret, Grou
     requires { left ≤ 1 }
     ensures read { IsUtf8 text.now → IsRead (text_secret left (parse_document text.now)) result }
     ensures no_text { ¬ IsUtf8 text.now → IsNoText 11 result }
-    ensures next { IfOk result (λ secret. secret.next ≤ 2 ^ levels_of secret.height) }
+    ensures next { IfOk result (λ secret. secret.next + left ≤ 2 ^ levels_of secret.height) }
     ensures stamp { IfOk result (λ secret. secret.stamp ≤ 2 ^ 61) }
 {
     match table_of(alloc, text, 11) {
@@ -47,7 +47,7 @@ pub fn read_secret(alloc: Global, text: &[u8], left: u32) -> Result<Secret, Grou
 fn judged(table: &Table, left: u32) -> Result<Secret, GroupFault>
     requires { left ≤ 1 }
     ensures read { IsRead (secret left (table_view table.now)) result }
-    ensures next { IfOk result (λ secret. secret.next ≤ 2 ^ levels_of secret.height) }
+    ensures next { IfOk result (λ secret. secret.next + left ≤ 2 ^ levels_of secret.height) }
     ensures stamp { IfOk result (λ secret. secret.stamp ≤ 2 ^ 61) }
 {
     let Some(seed) = seed_at(table, "seed") else {

@@ -1,43 +1,27 @@
 -- What is known of a group that was read: its world can begin.
 use Rattle.std.proofs.Common.{◌≡◌, ℕ, ℤ, zero, suc, pos, negsuc, ◌+◌, ◌-◌, ◌*◌, ◌<◌, ◌≤◌, Bool, true, false, ◌||◌, cond, inl, inr, nat_eq, List, [], ◌∷◌, ◌++◌, length, Result, Ok, Err, Option, Some, None, option_and_then, refl, sym, ap, ◌∙◌, subst, arith}
-use Rattle.std.specs.Prelude.{IsUtf8, nat_le, codes}
+use Rattle.std.specs.Prelude.{nat_le, codes}
 use Rattle.std.specs.Result.{result_unwrap_or}
-use Rattle.std.specs.Str.{is_utf8}
 use Rattle.std.specs.List.{AllByRecursion, IsDistinct, list_any}
 use Rattle.hex.specs.Hex.{decode_sized}
 use Rattle.hex.specs.declared.error.FromHexError.{FromHexError}
 use Rattle.hex.proofs.HexLemmas.{decode_of-ok, decode_sized-ok, decode_sized-twice}
 use Rattle.std.proofs.lemmas.Bool.{cases_Bool, and_parts, leb-true, true≢false}
 use Rattle.std.proofs.lemmas.Option.{cond_some, same_Some}
-use Rattle.std.proofs.lemmas.Str.{IsUtf8-from_is_utf8, is_utf8-from_IsUtf8}
 use Rattle.toml.specs.Data.{Data, Members, Items, no_items, item, as_integer, as_array, get_member}
-use Rattle.toml.specs.Parse.{parse_document}
 use Rattle.zy_group.specs.Fields.{within, number_of, number_at, different_from, at_most, listed, numbers_at, decoded, text_at, bytes_at, height_at, ots_at}
-use Rattle.zy_group.specs.Reading.{field, IsRead, IsNoText}
+use Rattle.zy_group.specs.Reading.{field, IsRead}
 use Rattle.zy_group.specs.Replay.{replay_group, text_group}
 use Rattle.zy_group.specs.declared.fault.GroupFault.{GroupFault}
 use Rattle.zy_group.specs.declared.fault.GroupFault.TheVariants as faults
 use Rattle.zy_group.specs.declared.replay.ReplayGroup.{ReplayGroup}
 use Rattle.zy_setup.specs.Starting.{IsStart}
 use Rattle.zy_world_law.specs.Setup.{Setup}
-use Rattle.zy_top.specs.Calls.{exit_of_group_fault}
+use Rattle.zy_words.specs.Calls.{exit_of_group_fault}
 use Rattle.zy_top.specs.Replaying.{IsSetupRead}
-use Rattle.zy_top.specs.Group.{group_of, plain_counts, setup_of, toml_of}
-
--- ---- the text
-
-not_utf8 : (text : List ℕ) (r : Result ReplayGroup GroupFault) → IsNoText 0 r → IsRead (Err 0) r
-not_utf8 text (Ok group) none = absurd none
-not_utf8 text (Err (faults.Field number)) none = rw none refl
-not_utf8 text (Err faults.Want) none = tt
-
-pub text_read : (text : List ℕ) (r : Result ReplayGroup GroupFault) → (IsUtf8 text → IsRead (text_group (parse_document text)) r) → (¬ IsUtf8 text → IsNoText 0 r)
-    → IsRead (group_of text) r
-text_read text r read no_text =
-    elim (cases_Bool (is_utf8 text)) [
-      | inl is ↦ rw is (read (IsUtf8-from_is_utf8 text is))
-      | inr other ↦ rw other (not_utf8 text r (no_text (λ is. true≢false (sym (is_utf8-from_IsUtf8 text is) ∙ other))))
-    ]
+use Rattle.zy_group.specs.Counts.{plain_counts}
+use Rattle.zy_group.specs.Reading.{toml_of}
+use Rattle.zy_top.specs.Group.{group_of, setup_of}
 
 -- ---- fields
 

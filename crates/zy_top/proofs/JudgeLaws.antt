@@ -11,20 +11,13 @@ use Rattle.zy_schedule.specs.declared.fault.ScheduleFault.TheVariants as faults
 use Rattle.zy_schedule.specs.declared.line.Line.{Line}
 use Rattle.zy_setup.specs.Starting.{IsStart}
 use Rattle.zy_world_law.specs.Setup.{Setup}
-use Rattle.zy_top.specs.Calls.{IsFileRead, exit_of_fault, is_reading}
+use Rattle.zy_words.specs.Calls.{IsFileRead, IsReading, exit_of_fault, is_reading}
 use Rattle.zy_top.specs.Group.{group_of}
-use Rattle.zy_top.specs.Replaying.{IsGroupJudged, IsReading, IsScheduleJudged, IsSetupRead, text_verdict}
-use Rattle.zy_top.specs.Verdict.{IsAnswer, Verdict, group_verdict, limit, replay_verdict, schedule_verdict}
-use Rattle.zy_top.specs.declared.exit.Exit.{Exit}
-use Rattle.zy_top.specs.declared.exit.Exit.TheVariants as exits
-
-pub both : {A : Type 0} {P Q R : A → Type 0} (told : Option A) → ((x : A) → P x → Q x → R x) → IfSome told P → IfSome told Q → IfSome told R
-both None gives p q = tt
-both (Some x) gives p q = gives x p q
-
-pub each : {A : Type 0} {P Q : A → Type 0} (told : Option A) → ((x : A) → P x → Q x) → IfSome told P → IfSome told Q
-each None gives p = tt
-each (Some x) gives p = gives x p
+use Rattle.zy_top.specs.Replaying.{IsGroupJudged, IsScheduleJudged, IsSetupRead, text_verdict}
+use Rattle.zy_words.specs.Ends.{IsAnswer, Verdict, limit}
+use Rattle.zy_top.specs.Verdict.{group_verdict, replay_verdict, schedule_verdict}
+use Rattle.zy_words.specs.declared.exit.Exit.{Exit}
+use Rattle.zy_words.specs.declared.exit.Exit.TheVariants as exits
 
 -- ---- the group
 
@@ -40,6 +33,8 @@ unread_group group exits.ReadFault read = tt
 unread_group group exits.Want read = tt
 unread_group group exits.Done read = absurd read
 unread_group group (exits.Usage word) read = absurd read
+unread_group group exits.LinkFault read = absurd read
+unread_group group exits.TurnsSpent read = absurd read
 unread_group group exits.WriteFault read = absurd read
 unread_group group (exits.Text line rule) read = absurd read
 unread_group group (exits.Group field) read = absurd read
@@ -57,6 +52,8 @@ judged_group group (Err (exits.Group field)) short read = λ schedule. short_gro
 judged_group group (Err exits.Want) short read = tt
 judged_group group (Err exits.Done) short read = absurd read
 judged_group group (Err (exits.Usage word)) short read = absurd read
+judged_group group (Err exits.LinkFault) short read = absurd read
+judged_group group (Err exits.TurnsSpent) short read = absurd read
 judged_group group (Err exits.ReadFault) short read = absurd read
 judged_group group (Err exits.WriteFault) short read = absurd read
 judged_group group (Err (exits.Text line rule)) short read = absurd read
@@ -82,6 +79,8 @@ unread_schedule text exits.ReadFault read = tt
 unread_schedule text exits.Want read = tt
 unread_schedule text exits.Done read = absurd read
 unread_schedule text (exits.Usage word) read = absurd read
+unread_schedule text exits.LinkFault read = absurd read
+unread_schedule text exits.TurnsSpent read = absurd read
 unread_schedule text exits.WriteFault read = absurd read
 unread_schedule text (exits.Text line rule) read = absurd read
 unread_schedule text (exits.Group field) read = absurd read
@@ -119,6 +118,8 @@ group_answers group schedule (exits.Group field) is judged = rw (judged schedule
 group_answers group schedule exits.TooLong is judged = rw (judged schedule) refl
 group_answers group schedule exits.Done is judged = absurd cc
 group_answers group schedule (exits.Usage word) is judged = absurd cc
+group_answers group schedule exits.LinkFault is judged = absurd cc
+group_answers group schedule exits.TurnsSpent is judged = absurd cc
 group_answers group schedule exits.WriteFault is judged = absurd cc
 group_answers group schedule (exits.Premise event what) is judged = absurd cc
 
@@ -131,6 +132,8 @@ schedule_answers group schedule setup (exits.Group field) is judged read = rw (j
 schedule_answers group schedule setup exits.TooLong is judged read = rw (judged schedule ∙ read setup) refl
 schedule_answers group schedule setup exits.Done is judged read = absurd cc
 schedule_answers group schedule setup (exits.Usage word) is judged read = absurd cc
+schedule_answers group schedule setup exits.LinkFault is judged read = absurd cc
+schedule_answers group schedule setup exits.TurnsSpent is judged read = absurd cc
 schedule_answers group schedule setup exits.WriteFault is judged read = absurd cc
 schedule_answers group schedule setup (exits.Premise event what) is judged read = absurd cc
 
@@ -142,6 +145,8 @@ setup_reads read (Err (exits.Group field)) is = refl
 setup_reads read (Err exits.Want) is = refl
 setup_reads read (Err exits.Done) is = absurd is
 setup_reads read (Err (exits.Usage word)) is = absurd is
+setup_reads read (Err exits.LinkFault) is = absurd is
+setup_reads read (Err exits.TurnsSpent) is = absurd is
 setup_reads read (Err exits.ReadFault) is = absurd is
 setup_reads read (Err exits.WriteFault) is = absurd is
 setup_reads read (Err (exits.Text line rule)) is = absurd is

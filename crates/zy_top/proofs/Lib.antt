@@ -1,11 +1,9 @@
-pub mod Endings
 pub mod GroupLaws
 pub mod Headline
+pub mod HostLaws
 pub mod JudgeLaws
-pub mod Known
 pub mod MadeRuns
 pub mod ReplayLaws
 pub mod Report
 pub mod RunParts
 pub mod SaidLaws
-pub mod Stops

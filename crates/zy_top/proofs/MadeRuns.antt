@@ -19,17 +19,19 @@ use Rattle.zy_world_law.specs.Setup.{IsSetup, Setup}
 use Rattle.zy_world_law.specs.World.{World, start}
 use Rattle.zy_world_law.specs.declared.note.Note.{Note}
 use Rattle.zy_world_law.specs.declared.note.Note.TheVariants as notes
-use Rattle.zy_top.specs.Calls.{exit_of}
+use Rattle.zy_words.specs.Calls.{exit_of}
 use Rattle.zy_top.specs.Group.{made_setup}
 use Rattle.zy_top.specs.Replaying.{Adds, IsRunning, IsSummedUp, is_running}
-use Rattle.zy_top.specs.Telling.{agreed_of, is_done, is_done_fast, is_done_slow, is_fast, is_refused, summary_of}
-use Rattle.zy_top.specs.Verdict.{IsAnswer, IsOwnAnswer, IsReport, IsWritten, Verdict, is_write_fault, make_verdict, sum_verdict, summed_up, what_broke}
-use Rattle.zy_top.specs.declared.exit.Broken.{Broken}
-use Rattle.zy_top.specs.declared.exit.Exit.{Exit}
-use Rattle.zy_top.specs.declared.exit.Exit.TheVariants as exits
+use Rattle.zy_hosting.specs.Lines.{is_fast}
+use Rattle.zy_top.specs.Telling.{agreed_of, is_done, is_done_fast, is_done_slow, is_refused, summary_of}
+use Rattle.zy_words.specs.Ends.{IsAnswer, IsOwnAnswer, IsReport, IsWritten, Verdict, is_write_fault}
+use Rattle.zy_top.specs.Verdict.{make_verdict, sum_verdict, summed_up, what_broke}
+use Rattle.zy_words.specs.declared.exit.Broken.{Broken}
+use Rattle.zy_words.specs.declared.exit.Exit.{Exit}
+use Rattle.zy_words.specs.declared.exit.Exit.TheVariants as exits
 use Rattle.zy_top.specs.declared.tale.Tale.{Tale}
-use Rattle.zy_top.proofs.Endings.{rose}
-use Rattle.zy_top.proofs.Stops.{IsWritten-none}
+use Rattle.zy_words.proofs.Endings.{rose}
+use Rattle.zy_words.proofs.Stops.{IsWritten-none}
 
 -- ---- each completion is on one of two paths
 
@@ -99,6 +101,8 @@ summed_answers v (exits.Premise event what) is = rw is refl
 summed_answers v exits.Want is = tt
 summed_answers v exits.Done is = absurd is
 summed_answers v (exits.Usage word) is = absurd is
+summed_answers v exits.LinkFault is = absurd is
+summed_answers v exits.TurnsSpent is = absurd is
 summed_answers v exits.ReadFault is = absurd is
 summed_answers v exits.WriteFault is = absurd is
 summed_answers v (exits.Text line rule) is = absurd is
@@ -110,6 +114,8 @@ summed_writes v (exits.Premise event what) taken is = rw is (Keeps-refl taken)
 summed_writes v exits.Want taken is = IsWritten-none v exits.Want taken refl
 summed_writes v exits.Done taken is = absurd is
 summed_writes v (exits.Usage word) taken is = absurd is
+summed_writes v exits.LinkFault taken is = absurd is
+summed_writes v exits.TurnsSpent taken is = absurd is
 summed_writes v exits.ReadFault taken is = absurd is
 summed_writes v exits.WriteFault taken is = absurd is
 summed_writes v (exits.Text line rule) taken is = absurd is
@@ -121,6 +127,8 @@ summed_runs v (exits.Premise event what) is = refl
 summed_runs v exits.Want is = refl
 summed_runs v exits.Done is = absurd is
 summed_runs v (exits.Usage word) is = absurd is
+summed_runs v exits.LinkFault is = absurd is
+summed_runs v exits.TurnsSpent is = absurd is
 summed_runs v exits.ReadFault is = absurd is
 summed_runs v exits.WriteFault is = absurd is
 summed_runs v (exits.Text line rule) is = absurd is
@@ -132,6 +140,8 @@ summed_counts v (exits.Premise event what) count is = refl
 summed_counts v exits.Want count is = refl
 summed_counts v exits.Done count is = absurd is
 summed_counts v (exits.Usage word) count is = absurd is
+summed_counts v exits.LinkFault count is = absurd is
+summed_counts v exits.TurnsSpent count is = absurd is
 summed_counts v exits.ReadFault count is = absurd is
 summed_counts v exits.WriteFault count is = absurd is
 summed_counts v (exits.Text line rule) count is = absurd is
@@ -148,12 +158,15 @@ complete (Verdict.Report report) (Err exits.WriteFault) before after answer runn
 complete (Verdict.Report report) (Err (exits.Premise event what)) before after answer running counted due calm = absurd cc
 complete (Verdict.Report report) (Err exits.Done) before after answer running counted due calm = inl refl
 complete (Verdict.Report report) (Err (exits.Usage word)) before after answer running counted due calm = absurd cc
+complete (Verdict.Report report) (Err exits.LinkFault) before after answer running counted due calm = absurd cc
+complete (Verdict.Report report) (Err exits.TurnsSpent) before after answer running counted due calm = absurd cc
 complete (Verdict.Report report) (Err exits.ReadFault) before after answer running counted due calm = absurd cc
 complete (Verdict.Report report) (Err (exits.Text line rule)) before after answer running counted due calm = absurd cc
 complete (Verdict.Report report) (Err (exits.Group field)) before after answer running counted due calm = absurd cc
 complete (Verdict.Report report) (Err exits.TooLong) before after answer running counted due calm = absurd cc
 complete (Verdict.Refused refusal) r before after answer running counted due calm = absurd due
 complete (Verdict.Broke front refusal) r before after answer running counted due calm = absurd due
+complete Verdict.Hosted r before after answer running counted due calm = absurd due
 
 pub made_finishes : (told : Option Held) (own : Verdict) (r : Result (Unit {0}) Exit) (read_before read_after before after : ℕ) → IsAnswer own (exit_of r) → IsRunning r
     → IsCounted (is_write_fault (exit_of r)) before after
@@ -172,6 +185,8 @@ no_read (Err exits.ReadFault) running is = cc
 no_read (Err (exits.Text line rule)) running is = cc
 no_read (Err (exits.Group field)) running is = cc
 no_read (Err exits.TooLong) running is = cc
+no_read (Err exits.LinkFault) running is = cc
+no_read (Err exits.TurnsSpent) running is = cc
 
 pub own_answer : (own : Verdict) (r : Result (Unit {0}) Exit) (old new : Option (List ℕ)) (before after : ℕ) → IsAnswer own (exit_of r) → IsRunning r
     → IsWritten own (exit_of r) old new → IsCounted (is_write_fault (exit_of r)) before after → IsOwnAnswer own (exit_of r) old new before after

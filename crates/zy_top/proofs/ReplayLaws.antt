@@ -4,13 +4,14 @@ use Rattle.zy_base.specs.Machine.{Rules}
 use Rattle.zy_world_law.specs.Events as events
 use Rattle.zy_world_law.specs.Runs.{End, Run}
 use Rattle.zy_world_law.specs.World.{World}
-use Rattle.zy_top.specs.Calls.{IsSent, exit_of}
+use Rattle.zy_words.specs.Calls.{IsSent, exit_of}
 use Rattle.zy_top.specs.Replaying.{Adds, IsRunning}
 use Rattle.zy_top.specs.Telling.{end_lines, note_lines}
-use Rattle.zy_top.specs.Verdict.{IsAnswer, IsWritten, Verdict, run_verdict, told_verdict, what_broke}
-use Rattle.zy_top.specs.declared.exit.Broken.{Broken}
-use Rattle.zy_top.specs.declared.exit.Exit.{Exit}
-use Rattle.zy_top.specs.declared.exit.Exit.TheVariants as exits
+use Rattle.zy_words.specs.Ends.{IsAnswer, IsWritten, Verdict}
+use Rattle.zy_top.specs.Verdict.{run_verdict, told_verdict, what_broke}
+use Rattle.zy_words.specs.declared.exit.Broken.{Broken}
+use Rattle.zy_words.specs.declared.exit.Exit.{Exit}
+use Rattle.zy_words.specs.declared.exit.Exit.TheVariants as exits
 use Rattle.zy_top.specs.declared.tale.Tale.{Tale}
 
 module _ {S : Type 0} (R : Rules S) (r : Run S) (old new : Tale) (none : old.tally.events ≡ 0) (empty : old.text.items ≡ []) (adds : Adds old new r.notes) where
@@ -35,6 +36,8 @@ sent_answers old new bytes (Err exits.WriteFault) sent = tt
 sent_answers old new bytes (Err exits.Want) sent = tt
 sent_answers old new bytes (Err exits.Done) sent = absurd sent
 sent_answers old new bytes (Err (exits.Usage word)) sent = absurd sent
+sent_answers old new bytes (Err exits.LinkFault) sent = absurd sent
+sent_answers old new bytes (Err exits.TurnsSpent) sent = absurd sent
 sent_answers old new bytes (Err exits.ReadFault) sent = absurd sent
 sent_answers old new bytes (Err (exits.Text line rule)) sent = absurd sent
 sent_answers old new bytes (Err (exits.Group field)) sent = absurd sent
@@ -47,6 +50,8 @@ sent_writes old new bytes (Err exits.WriteFault) sent = sent
 sent_writes old new bytes (Err exits.Want) sent = sent
 sent_writes old new bytes (Err exits.Done) sent = absurd sent
 sent_writes old new bytes (Err (exits.Usage word)) sent = absurd sent
+sent_writes old new bytes (Err exits.LinkFault) sent = absurd sent
+sent_writes old new bytes (Err exits.TurnsSpent) sent = absurd sent
 sent_writes old new bytes (Err exits.ReadFault) sent = absurd sent
 sent_writes old new bytes (Err (exits.Text line rule)) sent = absurd sent
 sent_writes old new bytes (Err (exits.Group field)) sent = absurd sent
@@ -59,6 +64,8 @@ sent_runs old new bytes (Err exits.WriteFault) sent = refl
 sent_runs old new bytes (Err exits.Want) sent = refl
 sent_runs old new bytes (Err exits.Done) sent = absurd sent
 sent_runs old new bytes (Err (exits.Usage word)) sent = absurd sent
+sent_runs old new bytes (Err exits.LinkFault) sent = absurd sent
+sent_runs old new bytes (Err exits.TurnsSpent) sent = absurd sent
 sent_runs old new bytes (Err exits.ReadFault) sent = absurd sent
 sent_runs old new bytes (Err (exits.Text line rule)) sent = absurd sent
 sent_runs old new bytes (Err (exits.Group field)) sent = absurd sent
@@ -71,6 +78,8 @@ stopped_answers old new bytes refusal exits.WriteFault sent = tt
 stopped_answers old new bytes refusal exits.Want sent = tt
 stopped_answers old new bytes refusal exits.Done sent = absurd sent
 stopped_answers old new bytes refusal (exits.Usage word) sent = absurd sent
+stopped_answers old new bytes refusal exits.LinkFault sent = absurd sent
+stopped_answers old new bytes refusal exits.TurnsSpent sent = absurd sent
 stopped_answers old new bytes refusal exits.ReadFault sent = absurd sent
 stopped_answers old new bytes refusal (exits.Text line rule) sent = absurd sent
 stopped_answers old new bytes refusal (exits.Group field) sent = absurd sent
@@ -82,6 +91,8 @@ stopped_writes old new bytes refusal exits.WriteFault sent = sent
 stopped_writes old new bytes refusal exits.Want sent = sent
 stopped_writes old new bytes refusal exits.Done sent = absurd sent
 stopped_writes old new bytes refusal (exits.Usage word) sent = absurd sent
+stopped_writes old new bytes refusal exits.LinkFault sent = absurd sent
+stopped_writes old new bytes refusal exits.TurnsSpent sent = absurd sent
 stopped_writes old new bytes refusal exits.ReadFault sent = absurd sent
 stopped_writes old new bytes refusal (exits.Text line rule) sent = absurd sent
 stopped_writes old new bytes refusal (exits.Group field) sent = absurd sent

@@ -5,10 +5,11 @@ use Rattle.std.proofs.KnownBytes.{Appends-trans, Appends-nil}
 use Rattle.zy_tuple.specs.declared.values.Field.{Field}
 use Rattle.zy_tuple.specs.declared.values.Op.{Op}
 use Rattle.zy_space.specs.TupleSpace.{step}
-use Rattle.zy_top.specs.Calls.{IsSent}
-use Rattle.zy_top.specs.Verdict.{AppendsFront, reply_line, report_from}
-use Rattle.zy_top.specs.declared.exit.Exit.{Exit}
-use Rattle.zy_top.specs.declared.exit.Exit.TheVariants as exits
+use Rattle.zy_words.specs.Calls.{IsSent}
+use Rattle.zy_words.specs.Ends.{AppendsFront}
+use Rattle.zy_top.specs.Verdict.{reply_line, report_from}
+use Rattle.zy_words.specs.declared.exit.Exit.{Exit}
+use Rattle.zy_words.specs.declared.exit.Exit.TheVariants as exits
 
 -- what was taken, what stands in the buffer and what further operations reply make the report of all
 pub record Reported (before now : Option (List ℕ)) (ops : List Op) (buffer : List ℕ) (tuples : List (List Field)) (further : List Op) : Type 0 where
@@ -64,10 +65,6 @@ Reported-all : {before now : Option (List ℕ)} (then : Option (List ℕ)) {ops 
 Reported-all {before} {now} then {ops} {buffer} reported wrote =
     subst (Appends before then) (sym (reported.whole ∙ ap (λ l. reported.front ++ l) (append-nil buffer))) (Appends-trans _ now then _ _ reported.taken wrote)
 
--- nothing was written, and memory is wanted
-pub IsSent-none : (before : Option (List ℕ)) (report : List ℕ) → IsSent before before report (Err exits.Want)
-IsSent-none before report = (report, record { front = []; whole = refl; taken = Appends-nil before })
-
 -- the buffer could not be written whole
 pub IsSent-part : {before now : Option (List ℕ)} (then : Option (List ℕ)) {ops : List Op} {buffer : List ℕ} (bytes : List ℕ) {tuples : List (List Field)} {further : List Op}
     (exit : Exit) → Reported before now ops buffer tuples further → bytes ≡ buffer → IsSent now then bytes (Err exit) → IsSent before then (report_from [] ops) (Err exit)
@@ -75,6 +72,8 @@ IsSent-part then bytes exits.Want reported same sent = Reported-part then report
 IsSent-part then bytes exits.WriteFault reported same sent = Reported-part then reported (rw same at sent)
 IsSent-part then bytes exits.Done reported same sent = absurd sent
 IsSent-part then bytes (exits.Usage word) reported same sent = absurd sent
+IsSent-part then bytes exits.LinkFault reported same sent = absurd sent
+IsSent-part then bytes exits.TurnsSpent reported same sent = absurd sent
 IsSent-part then bytes exits.ReadFault reported same sent = absurd sent
 IsSent-part then bytes (exits.Text line rule) reported same sent = absurd sent
 IsSent-part then bytes (exits.Group field) reported same sent = absurd sent

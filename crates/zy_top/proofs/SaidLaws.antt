@@ -1,8 +1,7 @@
 -- What a schedule's line allows is allowed of its event.
-use Rattle.std.proofs.Common.{◌≡◌, ℕ, suc, ◌==◌, ◌+◌, ◌*◌, ◌≤◌, inl, inr, List, [], ◌∷◌, length, Result, Ok, Err, refl, sym, ap, arith, lit≤, length-append}
+use Rattle.std.proofs.Common.{◌≡◌, ℕ, suc, ◌==◌, ◌+◌, ◌≤◌, inl, inr, List, [], ◌∷◌, length, Result, Ok, Err, refl, sym, ap, arith}
 use Rattle.std.specs.Result.{result_unwrap_or}
 use Rattle.std.proofs.lemmas.Bool.{cases_Bool}
-use Rattle.std.specs.List.{AllByRecursion, flat_map}
 use Rattle.zy_base.specs.declared.ids.ClientId.{ClientId}
 use Rattle.zy_base.specs.declared.ids.Party.{Party}
 use Rattle.zy_base.specs.declared.ids.View.{View}
@@ -11,16 +10,9 @@ use Rattle.zy_schedule.specs.Reading.{line_read, schedule_of}
 use Rattle.zy_schedule.specs.Texts.{IsSaid}
 use Rattle.zy_schedule.specs.declared.line.Line.{Line}
 use Rattle.zy_schedule.specs.declared.line.Line.TheVariants as lines
-use Rattle.zy_tuple.specs.Bytes.{field_bytes, few_bytes, op_bytes, slot_bytes, template_bytes, tuple_bytes}
-use Rattle.zy_tuple.specs.Values.{IsField, IsOp, IsReply, IsSlot, IsTemplate, IsTuple}
-use Rattle.zy_tuple.specs.declared.values.Field.{Field}
-use Rattle.zy_tuple.specs.declared.values.Field.TheVariants.{Int, Text}
+use Rattle.zy_tuple.specs.Values.{IsOp, IsReply}
 use Rattle.zy_tuple.specs.declared.values.Op.{Op}
-use Rattle.zy_tuple.specs.declared.values.Op.TheVariants.{Out, Rdp, Inp, Cas}
 use Rattle.zy_tuple.specs.declared.values.Reply.{Reply}
-use Rattle.zy_tuple.specs.declared.values.Slot.{Slot}
-use Rattle.zy_tuple.specs.declared.values.Slot.TheVariants.{Any, Is}
-use Rattle.zy_wire.specs.Spelling.{bytes_of}
 use Rattle.zy_world.specs.Event.{IsHistoryTold}
 
 -- ---- what is said
@@ -36,40 +28,6 @@ said_spec liar view asks to reply said = (record { view_fits = said.1.1; some = 
 
 pub said_flow : (events : ℕ) → IsSaid (lines.Flow events) → events ≤ 100000
 said_flow events said = said.1
-
--- ---- operations are short
-
-field_short : (x : Field) → IsField x → length (field_bytes x) ≤ 66
-unfolding bytes_of
-field_short (Int n) fits = lit≤ tt
-field_short (Text text) fits = omega (arith, fits.0)
-
-slot_short : (x : Slot) → IsSlot x → length (slot_bytes x) ≤ 66
-unfolding bytes_of
-slot_short Any fits = lit≤ tt
-slot_short (Is field) fits = field_short field fits
-
-module _ {A : Type 0} (spell : A → List ℕ) (Fits : A → Type 0) (short : (x : A) → Fits x → length (spell x) ≤ 66) where
-  each_short : (xs : List A) → AllByRecursion Fits xs → length (flat_map spell xs) ≤ 66 * length xs
-  each_short [] all = omega arith
-  each_short (x ∷ xs) all = omega (arith, length-append (spell x) (flat_map spell xs), short x all.0, each_short xs all.1)
-
-  few_short : (xs : List A) → length xs ≤ 8 → AllByRecursion Fits xs → length (few_bytes spell xs) ≤ 529
-  unfolding few_bytes bytes_of
-  few_short xs few all = omega (arith, each_short xs all, few)
-
-tuple_short : (fields : List Field) → IsTuple fields → length (tuple_bytes fields) ≤ 529
-tuple_short fields is = few_short field_bytes IsField field_short fields is.0.1 is.1
-
-template_short : (slots : List Slot) → IsTemplate slots → length (template_bytes slots) ≤ 529
-template_short slots is = few_short slot_bytes IsSlot slot_short slots is.0.1 is.1
-
-pub op_short : (op : Op) → IsOp op → length (op_bytes op) ≤ 1100
-unfolding bytes_of
-op_short (Out tuple) is = omega (arith, tuple_short tuple is)
-op_short (Rdp template) is = omega (arith, template_short template is)
-op_short (Inp template) is = omega (arith, template_short template is)
-op_short (Cas template tuple) is = omega (arith, length-append (template_bytes template) (tuple_bytes tuple), template_short template is.0, tuple_short tuple is.1)
 
 -- ---- a text has no more lines than bytes
 

@@ -1,18 +1,12 @@
 -- The secret file of a party's key, which `keys` writes.
-use Rattle.std.specs.Prelude.{if◌then◌else◌, ℕ, List, codes, Option, Some, None}
-use Rattle.std.specs.Str.{bytes_eq}
+use Rattle.std.specs.Prelude.{ℕ, List}
 use Rattle.zy_base.specs.declared.ids.Party.{Party}
 use Rattle.zy_ots.specs.declared.ots_type.OtsType.TheVariants.{W4}
 use Rattle.zy_lms.specs.declared.height.Height.{Height}
-use Rattle.zy_lms.specs.declared.height.Height.TheVariants.{H5, H10}
 use Rattle.zy_lms.specs.Height.{levels_of}
 use Rattle.zy_lms.specs.Lms.{public_of}
 use Rattle.zy_report.specs.KeyFile.{key_lines}
 use Rattle.zy_seal.specs.Derived.{seed_of, id_of}
-
--- `5` or `10`
-abbrev pub height_read : List ℕ → Option Height
-height_read word = if bytes_eq word (codes "5") then Some H5 else (if bytes_eq word (codes "10") then Some H10 else None)
 
 -- the secret file of the party's key at leaf 0, whose one-time keys are of LM-OTS type 3
 unfoldable pub key_file : List ℕ → Party → Height → List ℕ

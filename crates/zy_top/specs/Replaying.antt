@@ -20,13 +20,13 @@ use Rattle.zy_world_law.specs.Setup.{Setup}
 use Rattle.zy_world_law.specs.World.{World, start}
 use Rattle.zy_world_law.specs.declared.event.WorldEvent.{WorldEvent}
 use Rattle.zy_world_law.specs.declared.note.Note.{Note}
-use Rattle.zy_top.specs.Calls.{is_reading}
 use Rattle.zy_top.specs.Group.{group_of, made_setup, setup_of}
 use Rattle.zy_top.specs.Telling.{is_done_fast, is_done_slow, is_refused, note_lines}
-use Rattle.zy_top.specs.Verdict.{Verdict, limit, replay_verdict, run_verdict, schedule_verdict, what_broke}
-use Rattle.zy_top.specs.Words.{Command}
-use Rattle.zy_top.specs.declared.exit.Exit.{Exit}
-use Rattle.zy_top.specs.declared.exit.Exit.TheVariants as exits
+use Rattle.zy_words.specs.Ends.{Verdict, limit}
+use Rattle.zy_top.specs.Verdict.{replay_verdict, run_verdict, schedule_verdict, what_broke}
+use Rattle.zy_words.specs.Words.{Command}
+use Rattle.zy_words.specs.declared.exit.Exit.{Exit}
+use Rattle.zy_words.specs.declared.exit.Exit.TheVariants as exits
 use Rattle.zy_top.specs.declared.replayed.Replayed as replayed
 use Rattle.zy_top.specs.declared.running.Stop as stops
 use Rattle.zy_top.specs.declared.tale.Tale.{Tale}
@@ -125,12 +125,7 @@ IsScheduleJudged text (Err exits.Want) = ⊤
 IsScheduleJudged text (Err exits.ReadFault) = ⊤
 IsScheduleJudged text (Err exit) = (setup : Setup) → text_verdict setup text ≡ Verdict.Refused exit
 
--- a file that is read and judged ends by no other exit
-abbrev pub IsReading : {A : Type 0} → Result A Exit → Type 0
-IsReading (Ok x) = ⊤
-IsReading (Err exit) = IsTrue (is_reading exit)
-
--- and a run that is made and written by no other
+-- a run that is made and written ends by no other exit
 abbrev pub is_running : Exit → Bool
 is_running (exits.Premise event what) = true
 is_running exits.WriteFault = true
@@ -163,4 +158,6 @@ IsSafeCommand told (Ok (Command.Replay group schedule)) = IfSome told (λ files.
 IsSafeCommand told (Ok (Command.Make number asks)) = IsSafeMake number asks
 IsSafeCommand told (Ok (Command.Space script)) = ⊤
 IsSafeCommand told (Ok (Command.Keys seed by height)) = ⊤
+IsSafeCommand told (Ok (Command.Node group secret id turns)) = ⊤
+IsSafeCommand told (Ok (Command.Ask group secret id turns op)) = ⊤
 IsSafeCommand told (Err word) = ⊤

@@ -2,17 +2,11 @@
 -- then the agreed list.
 use Rattle.std.specs.Prelude.{ℕ, ◌+◌, Bool, true, false, not, List, [], ◌++◌, ◌∷◌, length, count_by, Option, Some, None, option_map}
 use Rattle.std.specs.List.{flat_map, range_with_len}
-use Rattle.sha2.specs.Sha256.{sha256}
 use Rattle.zy_base.specs.Machine.{Rules}
-use Rattle.zy_base.specs.declared.ids.ClientId.{ClientId}
-use Rattle.zy_base.specs.declared.ids.Digest.{Digest}
 use Rattle.zy_chain.specs.Heads.{empty_head}
-use Rattle.zy_exec.specs.Kept.{now_of}
-use Rattle.zy_exec.specs.Snapshot.{snapshot_of}
-use Rattle.zy_report.specs.Lines.{agreed_line, done_line, refused_line, replica_line, reply_line, summary_line}
+use Rattle.zy_hosting.specs.Lines.{completion_line, is_fast, state_digest}
+use Rattle.zy_report.specs.Lines.{agreed_line, refused_line, replica_line, summary_line}
 use Rattle.zy_table.specs.State.{State, stood_of}
-use Rattle.zy_table.specs.declared.client.Done.{Done}
-use Rattle.zy_table.specs.declared.client.Path as path
 use Rattle.zy_world_law.specs.Safe.{agreed_mark}
 use Rattle.zy_world_law.specs.World.{World, replica_at}
 use Rattle.zy_world_law.specs.declared.note.Note.{Note}
@@ -20,19 +14,10 @@ use Rattle.zy_world_law.specs.declared.note.Note.TheVariants as notes
 
 -- ---- events
 
-abbrev pub is_fast : path.Path → Bool
-is_fast path.TheVariants.Fast = true
-is_fast path.TheVariants.Slow = false
-
--- by the event with this number a client's request became complete
-abbrev pub completion_line : ℕ → ClientId → Done → List ℕ
-completion_line number client done =
-    done_line (Some number) client done.stamp done.view done.place (is_fast done.path) (reply_line done.reply)
-
 -- what is written of the event with this number
 abbrev pub note_line : ℕ → Note → List ℕ
 note_line number notes.Quiet = []
-note_line number (notes.Done client done) = completion_line number client done
+note_line number (notes.Done client done) = completion_line (Some number) client done
 note_line number (notes.Refused party cause) = refused_line number party cause
 
 -- of events whose numbers begin with this one
@@ -64,10 +49,6 @@ summary_of asks told =
     summary_line asks (length told) (count_by is_done told) (count_by is_done_fast told) (count_by is_done_slow told) (count_by is_refused told)
 
 -- ---- the end
-
--- SHA-256 of the snapshot at the end of a replica's history
-abbrev pub state_digest : {S : Type 0} → Rules S → State S → Digest
-state_digest R s = record { 0 = sha256 (snapshot_of R (now_of R s.kept)) }
 
 -- where a replica stands, or none that it lies
 abbrev pub standing_line : {S : Type 0} → Rules S → ℕ → Option (State S) → List ℕ

@@ -3,11 +3,11 @@ ghost use Rattle.std.specs.Prelude.{◌≡◌, ◌≤◌, IfOk, map};
 ghost use Rattle.zy_top.specs.Group as groups;
 ghost use Rattle.zy_top.specs.Replaying.{IsSetupRead};
 
-use crate::Exit;
 use std::alloc::Global;
-use zy_base::{ClientId, Counts, ReplicaId, Want};
-use zy_group::{ReplayGroup, read_replay_group};
+use zy_base::{ClientId, ReplicaId, Want};
+use zy_group::{ReplayGroup, plain_counts, read_replay_group};
 use zy_setup::Setup;
+use zy_words::Exit;
 
 /// What the world of the group that a file's text tells of begins with.
 pub(crate) fn read_setup(alloc: Global, text: &[u8]) -> Result<Setup, Exit>
@@ -35,18 +35,6 @@ fn setup_of(alloc: Global, group: ReplayGroup) -> Result<Setup, Want>
         height: group.height,
         ots: group.ots,
     })
-}
-
-/// The counts of 3f + 1 replicas.
-pub(crate) fn plain_counts(f: u8) -> Counts
-    requires least { 1 ≤ f }
-    requires most { f ≤ 4 }
-    ensures { result ≡ groups.plain_counts f }
-{
-    match Counts::plain(u64::from(f)) {
-        Some(counts) => counts,
-        None => unreachable!(),
-    }
 }
 
 fn replica_ids(alloc: Global, numbers: &[u8]) -> Result<Vec<ReplicaId>, Want>

@@ -9,19 +9,6 @@ use zy_ots::OtsType;
 use zy_report::key_lines;
 use zy_seal::{party_id, party_seed};
 
-/// `5` or `10`.
-pub(crate) fn height_read(word: &[u8]) -> Option<Height>
-    ensures { result ≡ file.height_read word.now }
-{
-    if word == b"5".as_slice() {
-        Some(Height::H5)
-    } else if word == b"10".as_slice() {
-        Some(Height::H10)
-    } else {
-        None
-    }
-}
-
 /// The secret file of the party's key, made from the seed of its group, at leaf 0.
 #[tactic(auto, unfolding(crate::specs::Keys::key_file))]
 pub(crate) fn key_file(

@@ -1,12 +1,9 @@
-//! The program's top call, over any files and any sink.
+//! The program's top call, over any files, any sink, any link and any clock.
 #![tactic(auto)]
 
-mod asks;
-mod exit;
 mod group;
 mod keys;
 mod making;
-mod reading;
 mod replayed;
 mod replays;
 mod running;
@@ -14,10 +11,7 @@ mod space;
 mod tale;
 mod tally;
 mod top;
-mod words;
-mod writing;
 
-pub use exit::{Broken, Exit};
 pub use top::zyzzyva;
 
 #[cfg(test)]

@@ -3,21 +3,21 @@ ghost use Rattle.std.specs.Prelude.{◌≡◌, ◌≤◌, All, IfOk, length};
 ghost use Rattle.zy_edge.specs.Faults.{IsCounted};
 ghost use Rattle.zy_schedule.specs.Texts.{IsSaid};
 ghost use Rattle.zy_setup.specs.Starting.{IsStart};
-ghost use Rattle.zy_top.specs.Calls.{exit_of};
+ghost use Rattle.zy_words.specs.Calls.{exit_of};
 ghost use Rattle.zy_top.specs.Replaying.{IsRunning, verdict_in};
-ghost use Rattle.zy_top.specs.Verdict.{IsAnswer, IsWritten, is_write_fault, limit, run_verdict};
+ghost use Rattle.zy_words.specs.Ends.{IsAnswer, IsWritten, is_write_fault, limit};
+ghost use Rattle.zy_top.specs.Verdict.{run_verdict};
 ghost use Rattle.zy_world_law.specs.Runs.{run};
 ghost use Rattle.zy_world_law.specs.World.{start};
 
 use crate::running::{Stop, run_lines};
 use crate::tale::{Tale, put_end};
-use crate::writing::write_all;
-use crate::{Broken, Exit};
 use std::alloc::Global;
 use zy_base::{Machine, Want};
 use zy_edge::Sink;
 use zy_schedule::Line;
 use zy_setup::Setup;
+use zy_words::{Broken, Exit, write_all};
 use zy_world::World;
 
 /// What is to be written.

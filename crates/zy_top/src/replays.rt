@@ -4,22 +4,22 @@ ghost use Rattle.zy_edge.specs.Faults.{IsCounted};
 ghost use Rattle.zy_edge.specs.Files.{content_of};
 ghost use Rattle.zy_schedule.specs.Texts.{IsSaid};
 ghost use Rattle.zy_setup.specs.Starting.{IsStart};
-ghost use Rattle.zy_top.specs.Calls.{exit_of, stops_reading};
-ghost use Rattle.zy_top.specs.Replaying.{IsGroupJudged, IsReading, IsRunning, IsSafeReplay, IsScheduleJudged};
-ghost use Rattle.zy_top.specs.Verdict.{IsAnswer, IsWritten, is_read_fault, is_refusal, is_usage, is_write_fault, limit, replay_verdict, run_verdict};
+ghost use Rattle.zy_words.specs.Calls.{IsReading, exit_of, stops_reading};
+ghost use Rattle.zy_top.specs.Replaying.{IsGroupJudged, IsRunning, IsSafeReplay, IsScheduleJudged};
+ghost use Rattle.zy_words.specs.Ends.{IsAnswer, IsWritten, is_read_fault, is_foreign, is_refusal, is_write_fault, limit};
+ghost use Rattle.zy_top.specs.Verdict.{replay_verdict, run_verdict};
 ghost use Rattle.zy_space.specs.Service.{space_rules};
 ghost use Rattle.zy_world_law.specs.Runs.{run};
 ghost use Rattle.zy_world_law.specs.World.{start};
 
-use crate::Exit;
 use crate::group::read_setup;
-use crate::reading::read_file;
 use crate::replayed::{replay, write_replayed};
 use std::alloc::Global;
 use zy_edge::{Files, Sink};
 use zy_schedule::{Line, read_schedule};
 use zy_setup::Setup;
 use zy_space::Space;
+use zy_words::{Exit, read_file};
 use zy_world_law::runs_are_safe;
 
 /// Every world of a run that a group and a schedule tell of is safe, and the agreed list only grows.
@@ -40,7 +40,7 @@ pub(crate) fn run_replay<F: Files, S: Sink>(
     ensures answer { IfSome (F.held files.old) (λ held. IsAnswer (replay_verdict (content_of held group.now) (content_of held schedule.now)) (exit_of result)) }
     ensures written { IfSome (F.held files.old) (λ held.
         IsWritten (replay_verdict (content_of held group.now) (content_of held schedule.now)) (exit_of result) (S.taken out.old) (S.taken out.new)) }
-    ensures judged { IsTrue (is_usage (exit_of result)) → ⊥ }
+    ensures judged { IsTrue (is_foreign (exit_of result)) → ⊥ }
     ensures refused { IsTrue (is_refusal (exit_of result)) → out.new ≡ out.old }
     ensures read_faults { IsCounted (is_read_fault (exit_of result)) (F.faults files.old) (F.faults files.new) }
     ensures write_faults { IsCounted (is_write_fault (exit_of result)) (S.faults out.old) (S.faults out.new) }

@@ -11,12 +11,12 @@ ghost use Rattle.zy_world_law.specs.Runs as runs;
 ghost use Rattle.zy_world_law.specs.World.{World as Whole};
 ghost use Rattle.zy_world_law.specs.declared.event.WorldEvent.TheVariants as events;
 
-use crate::Broken;
 use crate::tale::Tale;
 use std::alloc::Global;
 use zy_base::{ClientId, Items, Machine, Party, View, Want};
 use zy_schedule::Line;
 use zy_tuple::{Op, Reply, op_bytes, reply_bytes};
+use zy_words::Broken;
 use zy_world::{World, WorldFault, WorldStepped};
 use zy_world_law::{Note, WorldEvent};
 

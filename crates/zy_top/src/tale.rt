@@ -8,10 +8,10 @@ ghost use Rattle.zy_world_law.specs.World.{World as Whole};
 
 use crate::tally::Tally;
 use std::alloc::Global;
-use zy_base::{Bytes, ClientId, Digest, Machine, ReplicaId, Want};
+use zy_base::{Bytes, Digest, Machine, ReplicaId, Want};
+use zy_hosting::completion_line;
 use zy_replica::Replica;
-use zy_report::{agreed_line, done_line, refused_line, replica_line, reply_line, summary_line};
-use zy_table::{Done, Path};
+use zy_report::{agreed_line, refused_line, replica_line, summary_line};
 use zy_world::World;
 use zy_world_law::Note;
 
@@ -56,33 +56,8 @@ fn note_line(alloc: Global, number: u64, note: &Note) -> Result<Bytes, Want>
 {
     match note {
         Note::Quiet => Ok(Bytes::from(Vec::new(alloc))),
-        Note::Done(client, done) => completion_line(alloc, number, *client, done),
+        Note::Done(client, done) => completion_line(alloc, Some(number), *client, done),
         Note::Refused(party, cause) => refused_line(alloc, number, *party, cause),
-    }
-}
-
-fn completion_line(alloc: Global, number: u64, client: ClientId, done: &Done) -> Result<Bytes, Want>
-    ensures { IfOk result (λ line. line ≡ telling.completion_line number client done.now) }
-{
-    let reply = reply_line(alloc, done.reply.as_slice())?;
-    done_line(
-        alloc,
-        Some(number),
-        client,
-        done.stamp,
-        done.view,
-        done.place,
-        is_fast(done.path),
-        reply.as_slice(),
-    )
-}
-
-fn is_fast(path: Path) -> bool
-    ensures { result ≡ telling.is_fast path }
-{
-    match path {
-        Path::Fast => true,
-        Path::Slow => false,
     }
 }
 

@@ -1,8 +1,9 @@
-use crate::{Exit, zyzzyva};
+use crate::zyzzyva;
 use std::alloc::{AllocError, Global};
 use std::test::Fail;
 use zy_base::Bytes;
-use zy_edge::{CalmFiles, CalmSink, MemFiles, MemSink};
+use zy_edge::{CalmFiles, CalmSink, Files, MemClock, MemFiles, MemLink, MemSink, Sink};
+use zy_words::Exit;
 
 fn bytes(alloc: Global, text: &str) -> Result<Bytes, AllocError> {
     Ok(Bytes::from(Vec::from_slice(alloc, text.as_bytes())?))
@@ -13,6 +14,18 @@ fn one_file(alloc: Global, script: Bytes) -> Result<Vec<(Bytes, Bytes)>, AllocEr
     let mut files = Vec::new(alloc);
     files.push((bytes(alloc, "script")?, script))?;
     Ok(files)
+}
+
+/// The top call over a link that hears nothing.
+fn top(
+    alloc: Global,
+    words: &[String],
+    files: &mut impl Files,
+    out: &mut impl Sink,
+) -> Result<Exit, Fail> {
+    let mut link = MemLink::new(alloc, Vec::new(alloc), Vec::new(alloc), 0)?;
+    let mut clock = MemClock::new(alloc, Vec::from_slice(alloc, &[0])?);
+    Ok(zyzzyva(alloc, words, files, out, &mut link, &mut clock))
 }
 
 fn strings(alloc: Global, words: &[&str]) -> Result<Vec<String>, AllocError> {
@@ -39,7 +52,7 @@ fn run(
     let room = u64::from(room.min(1_000_000));
     let mut out = MemSink::new(alloc, Vec::from_slice(alloc, failing.1)?, room)?;
     let words = strings(alloc, &["space", "script"])?;
-    let exit = zyzzyva(alloc, &words, &mut files, &mut out);
+    let exit = top(alloc, &words, &mut files, &mut out)?;
     Ok((exit, Vec::from_slice(alloc, out.taken())?))
 }
 
@@ -124,7 +137,33 @@ fn faults(rt: HostRuntime) -> Result<(), Fail> {
 #[test]
 fn words(rt: HostRuntime) -> Result<(), Fail> {
     let alloc = rt.alloc();
-    let table: [(&[&str], u64); 36] = [
+    let table: [(&[&str], u64); 62] = [
+        (&["node"], 2),
+        (&["node", "-", "s", "r0", "1"], 2),
+        (&["node", "g"], 3),
+        (&["node", "g", "-s", "c0", "1"], 3),
+        (&["node", "g", "s"], 4),
+        (&["node", "g", "s", "c0", "1"], 4),
+        (&["node", "g", "s", "r256", "01"], 4),
+        (&["node", "g", "s", "r00", "1"], 4),
+        (&["node", "g", "s", "r3"], 5),
+        (&["node", "g", "s", "r3", "01", "1"], 5),
+        (&["node", "g", "s", "r3", "4294967296"], 5),
+        (&["node", "g", "s", "r3", "-1"], 5),
+        (&["node", "g", "s", "r3", "4294967295", ""], 6),
+        (&["ask"], 2),
+        (&["ask", "g", "-", "c0", "1", "out (1)"], 3),
+        (&["ask", "g", "s", "r0", "1", "out (1)"], 4),
+        (&["ask", "g", "s", "c4294967296", "1", "out (1)"], 4),
+        (&["ask", "g", "s", "c0"], 5),
+        (&["ask", "g", "s", "c0", "out (1)", "1"], 5),
+        (&["ask", "g", "s", "c0", "4294967295"], 6),
+        (&["ask", "g", "s", "c0", "1", "out (*)"], 6),
+        (&["ask", "g", "s", "c0", "1", "out", "(1)"], 6),
+        (&["ask", "g", "s", "c0", "1", "out (1) ", "1"], 6),
+        (&["ask", "g", "s", "c0", "1", ""], 6),
+        (&["ask", "g", "s", "c4294967295", "1", "out (1)", ""], 7),
+        (&["ask", "g", "s", "c0", "1", "out (1)", "-", "-"], 7),
         (&[], 1),
         (&["makes", "7", "300"], 1),
         (&["make"], 2),
@@ -165,16 +204,16 @@ fn words(rt: HostRuntime) -> Result<(), Fail> {
     for (words, word) in table {
         let mut files = CalmFiles::new(alloc, one_file(alloc, bytes(alloc, "out (1)")?)?);
         let words = strings(alloc, words)?;
-        let exit = zyzzyva(alloc, &words, &mut files, &mut CalmSink::new());
+        let exit = top(alloc, &words, &mut files, &mut CalmSink::new())?;
         assert_eq!(rt; exit, Exit::Usage(word));
     }
     // A name that isn't there is an empty file, or a fault.
     let words = strings(alloc, &["space", "other"])?;
     let mut files = CalmFiles::new(alloc, Vec::new(alloc));
-    let exit = zyzzyva(alloc, &words, &mut files, &mut CalmSink::new());
+    let exit = top(alloc, &words, &mut files, &mut CalmSink::new())?;
     assert_eq!(rt; exit, Exit::Done);
     let mut files = MemFiles::new(alloc, Vec::new(alloc), Vec::new(alloc));
-    let exit = zyzzyva(alloc, &words, &mut files, &mut CalmSink::new());
+    let exit = top(alloc, &words, &mut files, &mut CalmSink::new())?;
     assert_eq!(rt; exit, Exit::ReadFault);
     Ok(())
 }
@@ -186,7 +225,7 @@ fn longest_file(rt: HostRuntime) -> Result<(), Fail> {
     for (count, exit) in [(1_048_576, Exit::Done), (1_048_577, Exit::TooLong)] {
         let script = lines(alloc, "# sixteen bytes\n", count)?;
         let mut files = CalmFiles::new(alloc, one_file(alloc, Bytes::from(script))?);
-        let answer = zyzzyva(alloc, &words, &mut files, &mut CalmSink::new());
+        let answer = top(alloc, &words, &mut files, &mut CalmSink::new())?;
         assert_eq!(rt; answer, exit);
     }
     Ok(())
@@ -233,14 +272,14 @@ fn keys(rt: HostRuntime) -> Result<(), Fail> {
         let words = strings(alloc, words)?;
         let mut files = MemFiles::new(alloc, Vec::new(alloc), Vec::from_slice(alloc, &[1])?);
         let mut out = MemSink::new(alloc, Vec::new(alloc), 1_000)?;
-        let answer = zyzzyva(alloc, &words, &mut files, &mut out);
+        let answer = top(alloc, &words, &mut files, &mut out)?;
         assert_eq!(rt; answer, exit);
         assert_eq!(rt; out.taken(), text.as_bytes());
     }
     let words = strings(alloc, &["keys", zeros, "r0", "5"])?;
     let mut files = CalmFiles::new(alloc, Vec::new(alloc));
     let mut out = MemSink::new(alloc, Vec::from_slice(alloc, &[1])?, 1_000)?;
-    let answer = zyzzyva(alloc, &words, &mut files, &mut out);
+    let answer = top(alloc, &words, &mut files, &mut out)?;
     assert_eq!(rt; answer, Exit::WriteFault);
     Ok(())
 }
@@ -266,7 +305,7 @@ fn replay(
     let mut files = MemFiles::new(alloc, held, Vec::from_slice(alloc, failing)?);
     let mut out = MemSink::new(alloc, Vec::new(alloc), 100_000)?;
     let words = strings(alloc, &["replay", "group", "schedule"])?;
-    let exit = zyzzyva(alloc, &words, &mut files, &mut out);
+    let exit = top(alloc, &words, &mut files, &mut out)?;
     Ok((exit, Vec::from_slice(alloc, out.taken())?))
 }
 

@@ -1,25 +1,25 @@
-ghost use Rattle.std.specs.Prelude.{◌≡◌, ◌↔◌, ◌⊎◌, ℕ, Err, IfSome, IsTrue};
+ghost use Rattle.std.specs.Prelude.{◌≡◌, ◌↔◌, ◌⊎◌, ◌<◌, ℕ, false, Err, IfSome, IsTrue};
 ghost use Rattle.zy_edge.specs.Faults.{IsCounted, Rose};
 ghost use Rattle.zy_edge.specs.Files.{content_of};
-ghost use Rattle.zy_top.specs.Calls.{exit_of, IsSent, stops_writing};
-ghost use Rattle.zy_top.specs.Verdict.{IsAnswer, IsOwnAnswer, IsReport, IsWritten, is_read_fault, is_refusal, is_usage, is_write_fault, own_verdict, space_verdict, verdict};
+ghost use Rattle.zy_words.specs.Calls.{exit_of, IsSent, stops_writing};
+ghost use Rattle.zy_words.specs.Ends.{IsAnswer, IsOwnAnswer, IsReport, IsWritten, is_foreign, is_link_fault, is_read_fault, is_refusal, is_write_fault};
+ghost use Rattle.zy_top.specs.Hosting.{AreSpent, EndsItself, IsHosted, is_hosted};
+ghost use Rattle.zy_top.specs.Verdict.{own_verdict, space_verdict, verdict};
 ghost use Rattle.zy_top.specs.Keys.{key_file};
 ghost use Rattle.zy_top.specs.Replaying.{IsSafeCommand};
-ghost use Rattle.zy_top.specs.Words.{command_of, texts};
+ghost use Rattle.zy_words.specs.Words.{command_of, texts};
 
-use crate::Exit;
 use crate::keys::key_file;
 use crate::making::{made_runs_are_safe, run_make};
-use crate::reading::read_file;
 use crate::replays::{replays_are_safe, run_replay};
 use crate::space::run_script;
-use crate::words::{Command, command_of};
-use crate::writing::write_all;
 use std::alloc::Global;
 use zy_base::Party;
-use zy_edge::{Files, Sink};
+use zy_edge::{Clock, Files, Link, Sink};
+use zy_hosting::{run_ask, run_node};
 use zy_lms::Height;
 use zy_schedule::read_script;
+use zy_words::{Command, Exit, OpFault, command_of, op_read_alone, read_file, write_all};
 
 /// Runs the command that the words ask for. Words are judged first, then the file that they name, whole, and
 /// nothing is written before.
@@ -29,14 +29,24 @@ use zy_schedule::read_script;
 /// completion and each refusal, then where each replica stands, then the agreed list. `keys SEED PARTY HEIGHT` writes the secret file of a party's key, made from a seed of
 /// 64 hexadecimal digits, with its public key. `make NUMBER ASKS` runs the schedule of so many asks that the number makes in a
 /// world of four replicas, and writes what it came to in numbers and the agreed list.
-pub fn zyzzyva<F: Files, S: Sink>(
+///
+/// `node GROUP SECRET PARTY TURNS` runs a replica of a group by its secret file for so many turns on the link, and writes where it
+/// stands then and the next leaf of its key. `ask GROUP SECRET PARTY TURNS OP` asks for an operation as a client of a group by its
+/// secret file, takes turns until the request is complete, at most so many, and writes the completion, if it came, and where the
+/// client's key and stamps go on.
+pub fn zyzzyva<F: Files, S: Sink, L: Link, C: Clock>(
     alloc: Global,
     words: &[String],
     files: &mut F,
     out: &mut S,
+    link: &mut L,
+    clock: &mut C,
 ) -> Exit
-    // Words that are wrong are refused by the number of the first such, and by nothing else.
-    ensures usage { (word : ℕ) → (result ≡ Exit.Usage word) ↔ (command_of (texts words.now) ≡ Err word) }
+    // Words that are wrong are refused by the number of the first such, and by nothing else. From the sixth word on an
+    // operation has to be read for that, so that memory may be wanted.
+    ensures usage { (word : ℕ) → word < 6 → (result ≡ Exit.Usage word) ↔ (command_of (texts words.now) ≡ Err word) }
+    ensures late_usage { (word : ℕ) → ((result ≡ Exit.Usage word) → (command_of (texts words.now) ≡ Err word))
+        × ((command_of (texts words.now) ≡ Err word) → (result ≡ Exit.Usage word) ⊎ (result ≡ Exit.Want)) }
 
     // A command that names no file touches none, and comes to what its words alone say, whatever files there are.
     ensures own { IfSome (own_verdict (command_of (texts words.now))) (λ own. (files.new ≡ files.old)
@@ -52,6 +62,21 @@ pub fn zyzzyva<F: Files, S: Sink>(
         → ¬ Rose (F.faults files.old) (F.faults files.new) → ¬ Rose (S.faults out.old) (S.faults out.new)
         → (result ≡ Exit.Done) ⊎ (result ≡ Exit.Want)) }
 
+    // Over files that are told, a node and an ask send and hear what the run of their turns does, and write what it comes to;
+    // after a fault of the link nothing is written, and a front of it was sent. Other commands touch neither link nor clock.
+    ensures hosted { IsHosted (F.held files.old) (command_of (texts words.now)) result
+        (record { mail = L.mail link.old; receives = L.receives link.old; moments = C.moments clock.old })
+        (record { mail = L.mail link.new; receives = L.receives link.new; moments = C.moments clock.new })
+        (S.taken out.old) (S.taken out.new) }
+    ensures alone { (is_hosted (command_of (texts words.now)) ≡ false) → (link.new ≡ link.old) × (clock.new ≡ clock.old) }
+
+    // Turns are spent only where all were taken, over any files.
+    ensures spent { AreSpent (command_of (texts words.now)) result (L.receives link.old) (L.receives link.new) }
+
+    // A node and an ask whose files are in order end by themselves where no object fails.
+    ensures ends { ¬ Rose (F.faults files.old) (F.faults files.new) → ¬ Rose (S.faults out.old) (S.faults out.new)
+        → ¬ Rose (L.faults link.old) (L.faults link.new) → EndsItself (F.held files.old) (command_of (texts words.now)) result }
+
     // Whatever the answer is: in the run that a told group and a told schedule spell, and in the run that a number makes, every
     // world is safe, and the agreed list only grows.
     ensures headline { IsSafeCommand (F.held files.old) (command_of (texts words.now)) }
@@ -62,6 +87,7 @@ pub fn zyzzyva<F: Files, S: Sink>(
     // A fault is told exactly where that object's own count of faults rose in this call.
     ensures read_faults { IsCounted (is_read_fault result) (F.faults files.old) (F.faults files.new) }
     ensures write_faults { IsCounted (is_write_fault result) (S.faults out.old) (S.faults out.new) }
+    ensures link_faults { IsCounted (is_link_fault result) (L.faults link.old) (L.faults link.new) }
     ensures held { F.held files.new ≡ F.held files.old }
 {
     replays_are_safe();
@@ -84,6 +110,30 @@ pub fn zyzzyva<F: Files, S: Sink>(
         Ok(Command::Make { number, asks }) => match run_make(alloc, number, asks, out) {
             Ok(()) => Exit::Done,
             Err(exit) => exit,
+        },
+        Ok(
+            Command::Node {
+                group,
+                secret,
+                id,
+                turns,
+            },
+        ) => run_node(alloc, group, secret, id, turns, files, out, link, clock),
+        Ok(
+            Command::Ask {
+                group,
+                secret,
+                id,
+                turns,
+                op,
+                others,
+            },
+        ) => match op_read_alone(alloc, op, others) {
+            Ok(op) => run_ask(
+                alloc, group, secret, id, turns, &op, files, out, link, clock,
+            ),
+            Err(OpFault::Word(word)) => Exit::Usage(word),
+            Err(OpFault::Want) => Exit::Want,
         },
         Err(word) => Exit::Usage(word),
     }
@@ -114,7 +164,7 @@ fn run_space<F: Files, S: Sink>(
     ensures answer { IfSome (F.held files.old) (λ held. IsAnswer (space_verdict (content_of held script.now)) (exit_of result)) }
     ensures written { IfSome (F.held files.old) (λ held.
         IsWritten (space_verdict (content_of held script.now)) (exit_of result) (S.taken out.old) (S.taken out.new)) }
-    ensures judged { IsTrue (is_usage (exit_of result)) → ⊥ }
+    ensures judged { IsTrue (is_foreign (exit_of result)) → ⊥ }
     ensures refused { IsTrue (is_refusal (exit_of result)) → out.new ≡ out.old }
     ensures read_faults { IsCounted (is_read_fault (exit_of result)) (F.faults files.old) (F.faults files.new) }
     ensures write_faults { IsCounted (is_write_fault (exit_of result)) (S.faults out.old) (S.faults out.new) }

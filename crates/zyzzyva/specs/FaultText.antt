@@ -1,9 +1,9 @@
 -- What the program writes on standard error.
 use Rattle.std.specs.Prelude.{ℕ, List, [], ◌++◌, codes, decimal, Option, Some, None}
-use Rattle.zy_top.specs.declared.exit.Broken.{Broken}
-use Rattle.zy_top.specs.declared.exit.Broken.TheVariants.{Forged, Clash}
-use Rattle.zy_top.specs.declared.exit.Exit.{Exit}
-use Rattle.zy_top.specs.declared.exit.Exit.TheVariants.{Done, Usage, ReadFault, WriteFault, Text, Group, Premise, Want, TooLong}
+use Rattle.zy_words.specs.declared.exit.Broken.{Broken}
+use Rattle.zy_words.specs.declared.exit.Broken.TheVariants.{Forged, Clash}
+use Rattle.zy_words.specs.declared.exit.Exit.{Exit}
+use Rattle.zy_words.specs.declared.exit.Exit.TheVariants.{Done, Usage, ReadFault, WriteFault, Text, Group, Premise, LinkFault, Want, TurnsSpent, TooLong}
 
 abbrev pub broken_text : Broken → List ℕ
 broken_text Forged = codes "forged"
@@ -17,7 +17,9 @@ fault_text WriteFault = codes "write fault"
 fault_text (Text line rule) = codes "line " ++ decimal line ++ codes " rule " ++ decimal rule
 fault_text (Group field) = codes "group field " ++ decimal field
 fault_text (Premise event what) = codes "premise " ++ broken_text what ++ codes " at event " ++ decimal event
+fault_text LinkFault = codes "link fault"
 fault_text Want = codes "out of memory"
+fault_text TurnsSpent = codes "turns spent"
 fault_text TooLong = codes "too long"
 
 -- nothing where all went well, and else a line

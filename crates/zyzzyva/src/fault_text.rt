@@ -1,9 +1,9 @@
 ghost use Rattle.std.specs.Prelude.{◌≡◌, Some, option_map};
-ghost use Rattle.zy_top.specs.Verdict.{status_of};
+ghost use Rattle.zy_words.specs.Ends.{status_of};
 ghost use Rattle.zyzzyva.specs.FaultText.{broken_text, fault_text, error_line};
 
 use std::fmt;
-use zy_top::{Broken, Exit};
+use zy_words::{Broken, Exit};
 
 /// The text of an exit on standard error, empty for `Done`.
 #[derive(Clone, Copy)]
@@ -23,7 +23,9 @@ impl fmt::Display for FaultText {
             Exit::Premise { event, what } => {
                 write!(f, "premise {} at event {event}", broken_text(what))
             }
+            Exit::LinkFault => write!(f, "link fault"),
             Exit::Want => write!(f, "out of memory"),
+            Exit::TurnsSpent => write!(f, "turns spent"),
             Exit::TooLong => write!(f, "too long"),
         }
     }

@@ -1,4 +1,4 @@
-//! The program: the real files and standard output for the top call, which has the theorem.
+//! The program: the real files, standard output, loopback and the clock for the top call, which has the theorem.
 #![tactic(auto)]
 
 mod fault_text;
@@ -9,8 +9,9 @@ mod words;
 use fault_text::ending;
 use std::process::ExitCode;
 use words::words;
-use zy_edge::{RealFiles, StdSink};
-use zy_top::{Exit, zyzzyva};
+use zy_edge::{RealClock, RealFiles, StdSink, UdpLink};
+use zy_top::zyzzyva;
+use zy_words::Exit;
 
 fn main(rt: HostRuntime) -> ExitCode {
     let exit = match words(&rt, rt.alloc()) {
@@ -19,6 +20,8 @@ fn main(rt: HostRuntime) -> ExitCode {
             &words,
             &mut RealFiles::new(&rt),
             &mut StdSink::new(&rt),
+            &mut UdpLink::new(&rt),
+            &mut RealClock::new(&rt),
         ),
         Err(want) => Exit::from(want),
     };

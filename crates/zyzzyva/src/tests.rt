@@ -8,7 +8,7 @@ use std::env::FillError;
 use std::rt::Env;
 use std::test::Fail;
 use zy_base::Bytes;
-use zy_edge::{MemFiles, MemSink};
+use zy_edge::{MemClock, MemFiles, MemLink, MemSink};
 use zy_top::zyzzyva;
 
 /// A command line of these words.
@@ -79,6 +79,16 @@ fn run(
     line: &[&[u8]],
     held: &[(&str, &str)],
 ) -> Result<(Vec<u8>, u8, String), Fail> {
+    run_over(alloc, line, held, 0)
+}
+
+/// The same over a link that hears nothing and whose call with this number fails.
+fn run_over(
+    alloc: Global,
+    line: &[&[u8]],
+    held: &[(&str, &str)],
+    failing: u64,
+) -> Result<(Vec<u8>, u8, String), Fail> {
     let words = words(&Line(line), alloc)?;
     let mut files = Vec::new(alloc);
     for (name, text) in held {
@@ -89,7 +99,11 @@ fn run(
     }
     let mut files = MemFiles::new(alloc, files, Vec::new(alloc));
     let mut out = MemSink::new(alloc, Vec::new(alloc), 100_000)?;
-    let (status, line) = ending(zyzzyva(alloc, &words, &mut files, &mut out));
+    let failing = Vec::from_slice(alloc, &[failing])?;
+    let mut link = MemLink::new(alloc, Vec::new(alloc), failing, 4)?;
+    let mut clock = MemClock::new(alloc, Vec::from_slice(alloc, &[0])?);
+    let exit = zyzzyva(alloc, &words, &mut files, &mut out, &mut link, &mut clock);
+    let (status, line) = ending(exit);
     let error = match line {
         Some(line) => format!(in alloc; "{line}\n")?,
         None => String::new(alloc),
@@ -266,6 +280,59 @@ fn refused_groups(rt: HostRuntime) -> Result<(), Fail> {
         let (out, ended, line) = run(alloc, line, &held)?;
         assert!(rt; out.is_empty());
         assert_eq!(rt; (ended, line.as_str()), (6, error));
+    }
+    Ok(())
+}
+
+/// Four replicas and four clients, of which replica 0 and client 3 have their own keys, as Bouncy Castle makes them.
+const MEMBERS: &str = "f = 1\nk = 8\nclients = 4\nport = 47000\nkeys = [\
+    \"00000005000000032a0364144cf93af321d40b40279de74a5af23fbe1233237c58a6609fb6f2b10c198fbdb60b004b46515d402318465e91\", \
+    \"0000000500000003000000000000000000000000000000000000000000000000000000000000000000000000000000000000000000000000\", \
+    \"0000000500000003000000000000000000000000000000000000000000000000000000000000000000000000000000000000000000000000\", \
+    \"0000000500000003000000000000000000000000000000000000000000000000000000000000000000000000000000000000000000000000\", \
+    \"0000000500000003000000000000000000000000000000000000000000000000000000000000000000000000000000000000000000000000\", \
+    \"0000000500000003000000000000000000000000000000000000000000000000000000000000000000000000000000000000000000000000\", \
+    \"0000000500000003000000000000000000000000000000000000000000000000000000000000000000000000000000000000000000000000\", \
+    \"000000050000000320329ad069867926817dda9008a6396a66b10b56c4b3cc2f9791f5e4e74770b7437ffdde052f2d60e8098d49ab41cb11\"]\n";
+
+const CLIENT_3: &str =
+    "seed = \"0c0c0df62c67b1bb28d37f10f713d15de22f8a27d30ee82b19e13298714b433b\"\n\
+    id = \"20329ad069867926817dda9008a6396a\"\nheight = 5\nots = 3\nnext = 0\nstamp = 0\n";
+
+const STANDING: &str =
+    "r0 active 0 length 0 head 0000000000000000000000000000000000000000000000000000000000000000 \
+    state baf00e0b9e04a2563ee664311136c4f84d22d5790ea9171c344e6093d6b0bd12\nkey next 0 stamp 0\n";
+
+// The link's first call is the one that binds it. Then a node receives once in each turn; an ask sends its request before.
+#[test]
+fn nodes_and_asks(rt: HostRuntime) -> Result<(), Fail> {
+    let alloc = rt.alloc();
+    let (node, ask): (&[u8], &[u8]) = (b"node", b"ask");
+    let op: &[u8] = b"out (1)";
+    let (spent, key, link) = ("turns spent\n", "key next 1 stamp 1\n", "link fault\n");
+    let table: [(&[&[u8]], u64, &str, u8, &str); 11] = [
+        (&[node, b"g", b"r", b"r0", b"0"], 0, STANDING, 10, spent),
+        (&[node, b"g", b"r", b"r0", b"2"], 4, STANDING, 10, spent),
+        (&[node, b"g", b"r", b"r0", b"2"], 1, "", 8, link),
+        (&[node, b"g", b"r", b"r0", b"2"], 2, "", 8, link),
+        (&[node, b"g", b"r", b"r0", b"2"], 3, "", 8, link),
+        (&[node, b"g", b"c", b"r0", b"2"], 0, "", 6, "group field 18\n"),
+        (&[ask, b"g", b"c", b"c3", b"0", op], 0, key, 10, spent),
+        (&[ask, b"g", b"c", b"c3", b"1", op], 1, "", 8, link),
+        (&[ask, b"g", b"c", b"c3", b"1", op], 2, "", 8, link),
+        (&[ask, b"g", b"c", b"c3", b"1", op], 3, "", 8, link),
+        (&[ask, b"g", b"r", b"c3", b"1", op], 0, "", 6, "group field 18\n"),
+    ];
+    let held = [("g", MEMBERS), ("r", REPLICA_0), ("c", CLIENT_3)];
+    for (words, failing, written, status, error) in table {
+        let mut line: Vec<&[u8]> = Vec::new(alloc);
+        line.push(b"zyzzyva")?;
+        for word in words {
+            line.push(word)?;
+        }
+        let (out, ended, text) = run_over(alloc, &line, &held, failing)?;
+        assert_eq!(rt; out.as_slice(), written.as_bytes());
+        assert_eq!(rt; (ended, text.as_str()), (status, error));
     }
     Ok(())
 }

@@ -1,10 +1,15 @@
-use Rattle.std.proofs.Common.{◌≡◌, Ok, Err, refl, inl}
-use Rattle.zy_top.specs.Words.{Command, command_of, texts}
+use Rattle.std.proofs.Common.{◌≡◌, Ok, Err, refl, ap, ◌∙◌, inl}
+use Rattle.zy_hosting.specs.Files.{asker_start, node_start}
+use Rattle.zy_tuple.specs.Reading.{op_read}
+use Rattle.zy_words.proofs.Stops.{IsWritten-stopped}
+use Rattle.zy_words.specs.Words.{Command, asked, command_of, op_alone, texts}
+use Rattle.zy_words.specs.declared.exit.Exit.TheVariants as exits
 use Rattle.zy_edge.specs.Files.{content_of}
 use Rattle.zy_top.specs.Keys.{key_file}
-use Rattle.zy_top.specs.Verdict.{make_verdict, replay_verdict}
-use Rattle.zy_top.proofs.Endings.{cut_short, told_finishes}
+use Rattle.zy_top.specs.Verdict.{make_verdict, replay_verdict, verdict}
+use Rattle.zy_words.proofs.Endings.{cut_short, told_finishes}
 use Rattle.zy_top.proofs.Headline.{commands_are_safe}
+use Rattle.zy_top.proofs.HostLaws.{asked_in_vain, nothing_due, turns_end}
 use Rattle.zy_top.proofs.MadeRuns.{made_finishes, own_answer}
 use Rattle.zy_top.proofs.top.zyzzyva.Goals as goal
 
@@ -74,3 +79,44 @@ returns-in-Err-run_make-clause-complete g c =
     rw read
     (made_finishes (g.F.Files.held c.args.files.now) (make_verdict c.in-Ok-Make.number c.in-Ok-Make.asks.count) (Err c.in-Err-run_make.exit) (g.F.Files.faults c.args.files.now) (g.F.Files.faults c.args.files.now)
     (g.S.Sink.faults c.args.out.now) (g.S.Sink.faults c.run_make.new.out) made.answer made.exit made.count)
+
+pub returns-in-Ok-Node-clause-complete : goal.returns-in-Ok-Node-clause-complete
+returns-in-Ok-Node-clause-complete g c =
+    let read : command_of (texts c.args.words.now) ≡ Ok (Command.Node c.in-Ok-Node.group.now c.in-Ok-Node.secret.now c.in-Ok-Node.id c.in-Ok-Node.turns) = rw c.in-Ok-Node.field-0-is at c.in-Ok-Node.ensures in
+    rw read
+    (nothing_due (g.F.Files.held c.args.files.now) (λ held. node_start c.in-Ok-Node.id (content_of held c.in-Ok-Node.group.now) (content_of held c.in-Ok-Node.secret.now)) c.run_node.result
+    (g.F.Files.faults c.args.files.now) (g.F.Files.faults c.run_node.new.files) (g.S.Sink.faults c.args.out.now) (g.S.Sink.faults c.run_node.new.out))
+
+pub returns-in-Ok-Node-clause-ends : goal.returns-in-Ok-Node-clause-ends
+returns-in-Ok-Node-clause-ends g c still calm quiet =
+    let read : command_of (texts c.args.words.now) ≡ Ok (Command.Node c.in-Ok-Node.group.now c.in-Ok-Node.secret.now c.in-Ok-Node.id c.in-Ok-Node.turns) = rw c.in-Ok-Node.field-0-is at c.in-Ok-Node.ensures in
+    let ran = c.run_node.ensures in
+    rw read
+    (turns_end (g.F.Files.held c.args.files.now) (λ held. node_start c.in-Ok-Node.id (content_of held c.in-Ok-Node.group.now) (content_of held c.in-Ok-Node.secret.now)) c.run_node.result
+    _ _ _ _ _ _ ran.started ran.read_faults ran.write_faults ran.link_faults still calm quiet)
+
+pub returns-in-Ok-op_read_alone-clause-complete : goal.returns-in-Ok-op_read_alone-clause-complete
+returns-in-Ok-op_read_alone-clause-complete g c =
+    let words : command_of (texts c.args.words.now) ≡ asked c.in-Ok-Ask.group.now c.in-Ok-Ask.secret.now c.in-Ok-Ask.id c.in-Ok-Ask.turns (op_alone (op_read c.in-Ok-Ask.op.now) (texts c.in-Ok-Ask.others.now)) = rw c.in-Ok-Ask.field-0-is at c.in-Ok-Ask.ensures in
+    let read : command_of (texts c.args.words.now) ≡ Ok (Command.Ask c.in-Ok-Ask.group.now c.in-Ok-Ask.secret.now c.in-Ok-Ask.id c.in-Ok-Ask.turns c.in-Ok-op_read_alone.op) = words ∙ ap (asked c.in-Ok-Ask.group.now c.in-Ok-Ask.secret.now c.in-Ok-Ask.id c.in-Ok-Ask.turns) c.in-Ok-op_read_alone.ensures.0 in
+    rw read
+    (nothing_due (g.F.Files.held c.args.files.now) (λ held. asker_start c.in-Ok-Ask.id (content_of held c.in-Ok-Ask.group.now) (content_of held c.in-Ok-Ask.secret.now)) c.run_ask.result
+    (g.F.Files.faults c.args.files.now) (g.F.Files.faults c.run_ask.new.files) (g.S.Sink.faults c.args.out.now) (g.S.Sink.faults c.run_ask.new.out))
+
+pub returns-in-Ok-op_read_alone-clause-ends : goal.returns-in-Ok-op_read_alone-clause-ends
+returns-in-Ok-op_read_alone-clause-ends g c still calm quiet =
+    let words : command_of (texts c.args.words.now) ≡ asked c.in-Ok-Ask.group.now c.in-Ok-Ask.secret.now c.in-Ok-Ask.id c.in-Ok-Ask.turns (op_alone (op_read c.in-Ok-Ask.op.now) (texts c.in-Ok-Ask.others.now)) = rw c.in-Ok-Ask.field-0-is at c.in-Ok-Ask.ensures in
+    let read : command_of (texts c.args.words.now) ≡ Ok (Command.Ask c.in-Ok-Ask.group.now c.in-Ok-Ask.secret.now c.in-Ok-Ask.id c.in-Ok-Ask.turns c.in-Ok-op_read_alone.op) = words ∙ ap (asked c.in-Ok-Ask.group.now c.in-Ok-Ask.secret.now c.in-Ok-Ask.id c.in-Ok-Ask.turns) c.in-Ok-op_read_alone.ensures.0 in
+    let ran = c.run_ask.ensures in
+    rw read
+    (turns_end (g.F.Files.held c.args.files.now) (λ held. asker_start c.in-Ok-Ask.id (content_of held c.in-Ok-Ask.group.now) (content_of held c.in-Ok-Ask.secret.now)) c.run_ask.result
+    _ _ _ _ _ _ ran.started ran.read_faults ran.write_faults ran.link_faults still calm quiet)
+
+pub returns-in-Err-Want-clause-written : goal.returns-in-Err-Want-clause-written
+returns-in-Err-Want-clause-written g c =
+    IsWritten-stopped (g.F.Files.held c.args.files.now) (verdict (texts c.args.words.now)) exits.Want (g.S.Sink.taken c.args.out.now) refl
+
+pub returns-in-Err-Want-clause-hosted : goal.returns-in-Err-Want-clause-hosted
+returns-in-Err-Want-clause-hosted g c =
+    let words : command_of (texts c.args.words.now) ≡ asked c.in-Ok-Ask.group.now c.in-Ok-Ask.secret.now c.in-Ok-Ask.id c.in-Ok-Ask.turns (op_alone (op_read c.in-Ok-Ask.op.now) (texts c.in-Ok-Ask.others.now)) = rw c.in-Ok-Ask.field-0-is at c.in-Ok-Ask.ensures in
+    rw words (asked_in_vain (g.F.Files.held c.args.files.now) c.in-Ok-Ask.group.now c.in-Ok-Ask.secret.now c.in-Ok-Ask.id c.in-Ok-Ask.turns (op_alone (op_read c.in-Ok-Ask.op.now) (texts c.in-Ok-Ask.others.now)) _ (g.S.Sink.taken c.args.out.now))

@@ -1,0 +1,24 @@
+-- The key of a party of a group.
+use Rattle.std.specs.Prelude.{ℕ, Bool, if◌then◌else◌, List, Option, Some, None, Result, Ok}
+use Rattle.std.specs.Str.{bytes_eq}
+use Rattle.zy_base.specs.declared.ids.Party.{Party}
+use Rattle.zy_lms.specs.KeyState.{KeyState}
+use Rattle.zy_lms.specs.Lms.{public_of}
+use Rattle.zy_seal.specs.Keys.{Keys, key_of}
+use Rattle.zy_group.specs.Reading.{field}
+use Rattle.zy_group.specs.declared.secret.Secret.{Secret}
+
+-- the key that a secret tells of
+abbrev pub key_state : Secret → KeyState
+key_state secret = record { seed = secret.seed; id = secret.id; height = secret.height; ots = secret.ots; next = secret.next }
+
+abbrev pub is_own : List ℕ → KeyState → Bool
+is_own public key = bytes_eq public (public_of key)
+
+-- the group has a key of the party, and that is this one
+abbrev pub owned : Option (List ℕ) → KeyState → Option KeyState
+owned None key = None
+owned (Some public) key = if is_own public key then Some key else None
+
+abbrev pub own_key : Party → Keys → Secret → Result KeyState ℕ
+own_key by keys secret = field 18 (owned (key_of keys by) (key_state secret)) Ok

@@ -1,0 +1,5 @@
+mod Tellings
+mod FileLaws
+mod Runs
+mod Asks
+pub mod ShortOps

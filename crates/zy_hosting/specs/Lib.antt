@@ -1,0 +1,4 @@
+pub mod Lines
+pub mod Files
+pub mod Hosted
+pub mod Calls

@@ -1,0 +1,98 @@
+-- What a node and an ask come to, and that no other command ends as they do.
+use Rattle.std.proofs.Common.{◌≡◌, ℕ, ◌<◌, ◌⊎◌, inr, List, [], ◌∷◌, Option, Some, None, IfSome, Result, Ok, Err, refl, ap, arith}
+use Rattle.std.specs.Prelude.{◌≢◌, IsTrue, false}
+use Rattle.zy_edge.specs.Faults.{IsCounted, Rose}
+use Rattle.std.proofs.KnownBytes.{Keeps-refl}
+use Rattle.zy_edge.specs.Files.{Held, content_of}
+use Rattle.zy_hosting.specs.Calls.{is_hosting}
+use Rattle.zy_hosting.specs.Files.{asker_start}
+use Rattle.zy_hosting.specs.Hosted.{IsAskRun, files_verdict, is_end}
+use Rattle.zy_node.specs.Told.{Outside}
+use Rattle.zy_table.specs.ClientState.{ClientState}
+use Rattle.zy_top.specs.Hosting.{IsHosted}
+use Rattle.zy_tuple.specs.Bytes.{op_bytes}
+use Rattle.zy_words.proofs.Endings.{rose}
+use Rattle.zy_words.specs.Ends.{IsReport, Verdict, is_foreign, is_link_fault, is_read_fault, is_write_fault}
+use Rattle.zy_base.specs.declared.ids.ClientId.{ClientId}
+use Rattle.zy_tuple.specs.declared.values.Op.{Op}
+use Rattle.zy_words.specs.Words.{Command, asked, op_alone}
+use Rattle.zy_words.specs.declared.exit.Exit.{Exit}
+use Rattle.zy_words.specs.declared.exit.Exit.TheVariants as exits
+
+-- ---- no report is due of files alone
+
+no_report : {A : Type 0} (read : Result A Exit) → IsReport (files_verdict read) → ⊥
+no_report (Ok x) due = due
+no_report (Err exit) due = due
+
+pub nothing_due : {A : Type 0} (told : Option Held) (read : Held → Result A Exit) (exit : Exit) (a b c d : ℕ)
+    → IfSome told (λ held. IsReport (files_verdict (read held)) → ¬ Rose a b → ¬ Rose c d → (exit ≡ exits.Done) ⊎ (exit ≡ exits.Want))
+nothing_due None read exit a b c d = tt
+nothing_due (Some held) read exit a b c d = λ due still calm. absurd (no_report (read held) due)
+
+-- ---- where no object fails the turns end by themselves
+
+ends : (exit : Exit) (a b c d e f : ℕ) → IsTrue (is_hosting exit) → IsCounted (is_read_fault exit) a b → IsCounted (is_write_fault exit) c d → IsCounted (is_link_fault exit) e f
+    → ¬ Rose a b → ¬ Rose c d → ¬ Rose e f → IsTrue (is_end exit)
+ends exits.Done a b c d e f is read wrote linked still calm quiet = refl
+ends exits.Want a b c d e f is read wrote linked still calm quiet = refl
+ends exits.TurnsSpent a b c d e f is read wrote linked still calm quiet = refl
+ends exits.ReadFault a b c d e f is read wrote linked still calm quiet = absurd (still (rose a b read))
+ends exits.WriteFault a b c d e f is read wrote linked still calm quiet = absurd (calm (rose c d wrote))
+ends exits.LinkFault a b c d e f is read wrote linked still calm quiet = absurd (quiet (rose e f linked))
+ends (exits.Usage word) a b c d e f is read wrote linked still calm quiet = absurd cc
+ends (exits.Text line rule) a b c d e f is read wrote linked still calm quiet = absurd cc
+ends (exits.Group field) a b c d e f is read wrote linked still calm quiet = absurd cc
+ends (exits.Premise event what) a b c d e f is read wrote linked still calm quiet = absurd cc
+ends exits.TooLong a b c d e f is read wrote linked still calm quiet = absurd cc
+
+pub turns_end : {A : Type 0} (told : Option Held) (read : Held → Result A Exit) (exit : Exit) (a b c d e f : ℕ)
+    → IfSome told (λ held. files_verdict (read held) ≡ Verdict.Hosted → IsTrue (is_hosting exit))
+    → IsCounted (is_read_fault exit) a b → IsCounted (is_write_fault exit) c d → IsCounted (is_link_fault exit) e f → ¬ Rose a b → ¬ Rose c d → ¬ Rose e f
+    → IfSome told (λ held. files_verdict (read held) ≡ Verdict.Hosted → IsTrue (is_end exit))
+turns_end None read exit a b c d e f started opened wrote linked still calm quiet = tt
+turns_end (Some held) read exit a b c d e f started opened wrote linked still calm quiet =
+    λ hosted. ends exit a b c d e f (started hosted) opened wrote linked still calm quiet
+
+-- ---- other commands
+
+pub no_link_fault : (exit : Exit) → (IsTrue (is_foreign exit) → ⊥) → is_link_fault exit ≡ false
+no_link_fault exits.Done own = refl
+no_link_fault exits.Want own = refl
+no_link_fault exits.TurnsSpent own = refl
+no_link_fault exits.ReadFault own = refl
+no_link_fault exits.WriteFault own = refl
+no_link_fault exits.LinkFault own = absurd (own refl)
+no_link_fault (exits.Usage word) own = refl
+no_link_fault (exits.Text line rule) own = refl
+no_link_fault (exits.Group field) own = refl
+no_link_fault (exits.Premise event what) own = refl
+no_link_fault exits.TooLong own = refl
+
+pub not_spent : (exit : Exit) → (IsTrue (is_foreign exit) → ⊥) → exit ≢ exits.TurnsSpent
+not_spent exit own is = own (rw is refl)
+
+-- ---- the words of an ask
+
+unread : (id : ClientId) (start : Result ClientState Exit) (op : List ℕ) (turns : ℕ) (outside : Outside) (taken : Option (List ℕ)) → IsAskRun id start op turns exits.Want outside outside taken taken
+unread id (Err refusal) op turns outside taken = refl
+unread id (Ok start) op turns outside taken = inr (record { unread = refl; outside = refl; written = Keeps-refl taken })
+
+-- where memory is wanted for its operation, nothing was done
+pub asked_in_vain : (told : Option Held) (group secret : List ℕ) (id : ClientId) (turns : ℕ) (read : Result Op ℕ) (outside : Outside) (taken : Option (List ℕ))
+    → IsHosted told (asked group secret id turns read) exits.Want outside outside taken taken
+asked_in_vain told group secret id turns (Err word) outside taken = refl
+asked_in_vain None group secret id turns (Ok op) outside taken = tt
+asked_in_vain (Some files) group secret id turns (Ok op) outside taken =
+    unread id (asker_start id (content_of files group) (content_of files secret)) (op_bytes op) turns outside taken
+
+unfoldable word_of : Result Command ℕ → ℕ
+word_of (Ok command) = 0
+word_of (Err word) = word
+
+-- an operation that is wrong is the sixth word, and what stands behind it the seventh
+pub late_word : (read : Result Op ℕ) (words : List (List ℕ)) (group secret : List ℕ) (id : ClientId) (turns word : ℕ) → asked group secret id turns (op_alone read words) ≡ Err word → word < 6 → ⊥
+unfolding word_of
+late_word (Err rule) words group secret id turns word is early = let six : 6 ≡ word = ap word_of is in absurd (omega (arith, six, early))
+late_word (Ok op) [] group secret id turns word is early = cc
+late_word (Ok op) (other ∷ words) group secret id turns word is early = let seven : 7 ≡ word = ap word_of is in absurd (omega (arith, seven, early))

@@ -1,0 +1,54 @@
+-- The commands that take turns on a link.
+use Rattle.std.specs.Prelude.{◌≡◌, ◌≢◌, ℕ, Bool, true, false, IsTrue, List, Option, IfSome, Result, Ok, Err, ⊤}
+use Rattle.zy_edge.specs.Files.{Held, content_of}
+use Rattle.zy_hosting.specs.Files.{asker_start, node_start}
+use Rattle.zy_hosting.specs.Hosted.{IsAskRun, IsNodeRun, TookAll, files_verdict, is_end}
+use Rattle.zy_node.specs.Told.{Outside}
+use Rattle.zy_tuple.specs.Bytes.{op_bytes}
+use Rattle.zy_words.specs.Ends.{Verdict}
+use Rattle.zy_words.specs.Words.{Command}
+use Rattle.zy_words.specs.declared.exit.Exit.{Exit}
+use Rattle.zy_words.specs.declared.exit.Exit.TheVariants as exits
+
+abbrev pub is_hosted : Result Command ℕ → Bool
+is_hosted (Err word) = false
+is_hosted (Ok (Command.Space script)) = false
+is_hosted (Ok (Command.Replay group schedule)) = false
+is_hosted (Ok (Command.Keys seed by height)) = false
+is_hosted (Ok (Command.Make number asks)) = false
+is_hosted (Ok (Command.Node group secret id turns)) = true
+is_hosted (Ok (Command.Ask group secret id turns op)) = true
+
+-- what a node's turns and an ask's come to over files that are told; other commands hear and send nothing
+abbrev pub IsHosted : Option Held → Result Command ℕ → Exit → Outside → Outside → Option (List ℕ) → Option (List ℕ) → Type 0
+IsHosted told (Err word) exit from to old new = to ≡ from
+IsHosted told (Ok (Command.Space script)) exit from to old new = to ≡ from
+IsHosted told (Ok (Command.Replay group schedule)) exit from to old new = to ≡ from
+IsHosted told (Ok (Command.Keys seed by height)) exit from to old new = to ≡ from
+IsHosted told (Ok (Command.Make number asks)) exit from to old new = to ≡ from
+IsHosted told (Ok (Command.Node group secret id turns)) exit from to old new =
+    IfSome told (λ files. IsNodeRun id (node_start id (content_of files group) (content_of files secret)) turns exit from to old new)
+IsHosted told (Ok (Command.Ask group secret id turns op)) exit from to old new =
+    IfSome told (λ files. IsAskRun id (asker_start id (content_of files group) (content_of files secret)) (op_bytes op) turns exit from to old new)
+
+-- a node and an ask whose files are in order end by themselves
+abbrev pub EndsItself : Option Held → Result Command ℕ → Exit → Type 0
+EndsItself told (Err word) exit = ⊤
+EndsItself told (Ok (Command.Space script)) exit = ⊤
+EndsItself told (Ok (Command.Replay group schedule)) exit = ⊤
+EndsItself told (Ok (Command.Keys seed by height)) exit = ⊤
+EndsItself told (Ok (Command.Make number asks)) exit = ⊤
+EndsItself told (Ok (Command.Node group secret id turns)) exit =
+    IfSome told (λ files. files_verdict (node_start id (content_of files group) (content_of files secret)) ≡ Verdict.Hosted → IsTrue (is_end exit))
+EndsItself told (Ok (Command.Ask group secret id turns op)) exit =
+    IfSome told (λ files. files_verdict (asker_start id (content_of files group) (content_of files secret)) ≡ Verdict.Hosted → IsTrue (is_end exit))
+
+-- so many turns were taken, where they are spent; no other command ends so
+abbrev pub AreSpent : Result Command ℕ → Exit → ℕ → ℕ → Type 0
+AreSpent (Err word) exit before after = exit ≢ exits.TurnsSpent
+AreSpent (Ok (Command.Space script)) exit before after = exit ≢ exits.TurnsSpent
+AreSpent (Ok (Command.Replay group schedule)) exit before after = exit ≢ exits.TurnsSpent
+AreSpent (Ok (Command.Keys seed by height)) exit before after = exit ≢ exits.TurnsSpent
+AreSpent (Ok (Command.Make number asks)) exit before after = exit ≢ exits.TurnsSpent
+AreSpent (Ok (Command.Node group secret id turns)) exit before after = TookAll turns exit before after
+AreSpent (Ok (Command.Ask group secret id turns op)) exit before after = TookAll turns exit before after

@@ -1,9 +1,0 @@
-// How many asks a schedule is made of.
-ghost use Rattle.std.specs.Prelude.{◌≤◌};
-
-/// From 1 to 300.
-#[derive(Clone, Copy)]
-pub(crate) struct Asks {
-    pub(crate) count: u32,
-    ghost few: { count ≤ 300 },
-}

@@ -1,0 +1,4 @@
+pub mod Endings
+pub mod Known
+pub mod Stops
+pub mod Told

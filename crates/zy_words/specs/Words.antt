@@ -1,0 +1,217 @@
+-- The words of the command line.
+use Rattle.std.specs.Prelude.{ℕ, ◌^◌, ◌==◌, nat_le, Bool, false, if◌then◌else◌, List, [], ◌∷◌, map, codes, nat_eq, Option, Some, None, Result, Ok, Err, String, string_bytes}
+use Rattle.std.specs.Cmp.Lexicographic.{pointwise}
+use Rattle.std.specs.declared.alloc.Global.{Global}
+use Rattle.hex.specs.Hex.{decode_sized}
+use Rattle.hex.specs.declared.error.FromHexError.{FromHexError}
+use Rattle.zy_base.specs.declared.ids.Party.{Party}
+use Rattle.zy_lms.specs.declared.height.Height.{Height}
+use Rattle.zy_tuple.specs.Parties.{number_below, party_of}
+use Rattle.zy_lms.specs.declared.height.Height.TheVariants.{H5, H10}
+use Rattle.zy_tuple.specs.Reading.{op_read}
+use Rattle.zy_tuple.specs.declared.values.Op.{Op}
+use Rattle.zy_base.specs.declared.ids.ClientId.{ClientId}
+use Rattle.zy_base.specs.declared.ids.ReplicaId.{ReplicaId}
+use Rattle.zy_base.specs.declared.ids.Party.TheVariants as parties
+use Rattle.std.specs.Str.{bytes_eq}
+
+-- what the words ask for
+pub data Command : Type 0 where
+  -- run the script in the file with this name
+  Space : List ℕ → Command
+  -- run the schedule in the world of the group; the files of both have these names
+  Replay : List ℕ → List ℕ → Command
+  -- write the secret file of a party's key
+  Keys : List ℕ → Party → Height → Command
+  -- run the schedule that the number makes, of so many asks
+  Make : ℕ → ℕ → Command
+  -- run a replica of the group for so many turns; the files of the group and of its secret have these names
+  Node : List ℕ → List ℕ → ReplicaId → ℕ → Command
+  -- ask for the operation as a client of the group, for so many turns at most
+  Ask : List ℕ → List ℕ → ClientId → ℕ → Op → Command
+
+abbrev pub texts : List (String Global) → List (List ℕ)
+texts words = map string_bytes words
+
+abbrev pub is_word : List ℕ → List ℕ → Bool
+is_word word text = pointwise nat_eq word text
+
+-- no word begins with `-` (45)
+abbrev pub begins_with_dash : List ℕ → Bool
+begins_with_dash [] = false
+begins_with_dash (c ∷ word) = c == 45
+
+-- behind `space` stands the name of a script
+abbrev pub space_words : List (List ℕ) → Result Command ℕ
+space_words [] = Err 2
+space_words (script ∷ []) = if begins_with_dash script then Err 2 else Ok (Space script)
+space_words (script ∷ word ∷ words) = if begins_with_dash script then Err 2 else Err 3
+
+-- behind the name of a group file stands that of a schedule
+abbrev pub behind_group : List ℕ → List (List ℕ) → Result Command ℕ
+behind_group group [] = Err 3
+behind_group group (schedule ∷ []) = if begins_with_dash schedule then Err 3 else Ok (Replay group schedule)
+behind_group group (schedule ∷ word ∷ words) = if begins_with_dash schedule then Err 3 else Err 4
+
+-- behind `replay` stand both
+abbrev pub replay_words : List (List ℕ) → Result Command ℕ
+replay_words [] = Err 2
+replay_words (group ∷ words) = if begins_with_dash group then Err 2 else behind_group group words
+
+-- `5` or `10`
+abbrev pub height_read : List ℕ → Option Height
+height_read word = if bytes_eq word (codes "5") then Some H5 else (if bytes_eq word (codes "10") then Some H10 else None)
+
+-- behind a height no word stands
+abbrev pub behind_height : List ℕ → Party → Option Height → List (List ℕ) → Result Command ℕ
+behind_height seed by None words = Err 4
+behind_height seed by (Some height) [] = Ok (Keys seed by height)
+behind_height seed by (Some height) (word ∷ words) = Err 5
+
+abbrev pub behind_party : List ℕ → Option Party → List (List ℕ) → Result Command ℕ
+behind_party seed None words = Err 3
+behind_party seed (Some by) [] = Err 4
+behind_party seed (Some by) (height ∷ words) = behind_height seed by (height_read height) words
+
+abbrev pub behind_seed : Result (List ℕ) FromHexError → List (List ℕ) → Result Command ℕ
+behind_seed (Err fault) words = Err 2
+behind_seed (Ok seed) [] = Err 3
+behind_seed (Ok seed) (party ∷ words) = behind_party seed (party_of party) words
+
+-- behind `keys` stand 64 hexadecimal digits, a party and a height
+abbrev pub keys_words : List (List ℕ) → Result Command ℕ
+keys_words [] = Err 2
+keys_words (seed ∷ words) = behind_seed (decode_sized seed 32) words
+
+-- from 1 to 300
+abbrev pub at_least_one : Option ℕ → Option ℕ
+at_least_one None = None
+at_least_one (Some n) = if nat_le 1 n then Some n else None
+
+abbrev pub asks_of : List ℕ → Option ℕ
+asks_of word = at_least_one (number_below 301 word)
+
+-- behind a number of asks no word stands
+abbrev pub behind_asks : ℕ → Option ℕ → List (List ℕ) → Result Command ℕ
+behind_asks number None words = Err 3
+behind_asks number (Some asks) [] = Ok (Make number asks)
+behind_asks number (Some asks) (word ∷ words) = Err 4
+
+abbrev pub behind_number : Option ℕ → List (List ℕ) → Result Command ℕ
+behind_number None words = Err 2
+behind_number (Some number) [] = Err 3
+behind_number (Some number) (asks ∷ words) = behind_asks number (asks_of asks) words
+
+-- behind `make` stand a number of 32 bits and a number of asks
+abbrev pub make_words : List (List ℕ) → Result Command ℕ
+make_words [] = Err 2
+make_words (number ∷ words) = behind_number (number_below (2 ^ 32) number) words
+
+-- ---- on the network
+
+-- behind `node` and `ask` stand the names of a group file and of a secret file
+pub record Named : Type 0 where
+  pub group : List ℕ
+  pub secret : List ℕ
+  -- the words behind them
+  pub others : List (List ℕ)
+
+abbrev pub secret_named : List ℕ → List (List ℕ) → Result Named ℕ
+secret_named group [] = Err 3
+secret_named group (secret ∷ words) = if begins_with_dash secret then Err 3 else Ok (record { group = group; secret = secret; others = words })
+
+abbrev pub names_of : List (List ℕ) → Result Named ℕ
+names_of [] = Err 2
+names_of (group ∷ words) = if begins_with_dash group then Err 2 else secret_named group words
+
+-- then a party: of `node` a replica, of `ask` a client
+abbrev pub replica_in : Option Party → Option ReplicaId
+replica_in None = None
+replica_in (Some (parties.Replica id)) = Some id
+replica_in (Some (parties.Client id)) = None
+
+abbrev pub client_in : Option Party → Option ClientId
+client_in None = None
+client_in (Some (parties.Replica id)) = None
+client_in (Some (parties.Client id)) = Some id
+
+-- then how many turns: a number of 32 bits
+pub record Turns : Type 0 where
+  pub number : ℕ
+  pub others : List (List ℕ)
+
+abbrev pub turns_numbered : Option ℕ → List (List ℕ) → Result Turns ℕ
+turns_numbered None words = Err 5
+turns_numbered (Some number) words = Ok (record { number = number; others = words })
+
+abbrev pub turns_of : List (List ℕ) → Result Turns ℕ
+turns_of [] = Err 5
+turns_of (turns ∷ words) = turns_numbered (number_below (2 ^ 32) turns) words
+
+-- and of `node` no word more
+abbrev pub node_alone : Named → ReplicaId → ℕ → List (List ℕ) → Result Command ℕ
+node_alone named id turns [] = Ok (Node named.group named.secret id turns)
+node_alone named id turns (word ∷ words) = Err 6
+
+abbrev pub node_turns : Named → ReplicaId → Result Turns ℕ → Result Command ℕ
+node_turns named id (Err word) = Err word
+node_turns named id (Ok turns) = node_alone named id turns.number turns.others
+
+abbrev pub node_numbered : Named → Option ReplicaId → List (List ℕ) → Result Command ℕ
+node_numbered named None words = Err 4
+node_numbered named (Some id) words = node_turns named id (turns_of words)
+
+abbrev pub node_party : Named → List (List ℕ) → Result Command ℕ
+node_party named [] = Err 4
+node_party named (party ∷ words) = node_numbered named (replica_in (party_of party)) words
+
+abbrev pub node_named : Result Named ℕ → Result Command ℕ
+node_named (Err word) = Err word
+node_named (Ok named) = node_party named named.others
+
+abbrev pub node_words : List (List ℕ) → Result Command ℕ
+node_words words = node_named (names_of words)
+
+-- and of `ask` an operation, and no word more
+abbrev pub op_alone : Result Op ℕ → List (List ℕ) → Result Op ℕ
+op_alone (Err rule) words = Err 6
+op_alone (Ok op) [] = Ok op
+op_alone (Ok op) (word ∷ words) = Err 7
+
+abbrev pub asked : List ℕ → List ℕ → ClientId → ℕ → Result Op ℕ → Result Command ℕ
+asked group secret id turns (Err word) = Err word
+asked group secret id turns (Ok op) = Ok (Ask group secret id turns op)
+
+abbrev pub ask_op : Named → ClientId → ℕ → List (List ℕ) → Result Command ℕ
+ask_op named id turns [] = Err 6
+ask_op named id turns (op ∷ words) = asked named.group named.secret id turns (op_alone (op_read op) words)
+
+abbrev pub ask_turns : Named → ClientId → Result Turns ℕ → Result Command ℕ
+ask_turns named id (Err word) = Err word
+ask_turns named id (Ok turns) = ask_op named id turns.number turns.others
+
+abbrev pub ask_numbered : Named → Option ClientId → List (List ℕ) → Result Command ℕ
+ask_numbered named None words = Err 4
+ask_numbered named (Some id) words = ask_turns named id (turns_of words)
+
+abbrev pub ask_party : Named → List (List ℕ) → Result Command ℕ
+ask_party named [] = Err 4
+ask_party named (party ∷ words) = ask_numbered named (client_in (party_of party)) words
+
+abbrev pub ask_named : Result Named ℕ → Result Command ℕ
+ask_named (Err word) = Err word
+ask_named (Ok named) = ask_party named named.others
+
+abbrev pub ask_words : List (List ℕ) → Result Command ℕ
+ask_words words = ask_named (names_of words)
+
+-- the command, or the number of the first word that isn't allowed, is missing or is too many
+abbrev pub command_of : List (List ℕ) → Result Command ℕ
+command_of [] = Err 1
+command_of (word ∷ words) =
+    if is_word word (codes "space") then space_words words
+    else (if is_word word (codes "replay") then replay_words words
+    else (if is_word word (codes "keys") then keys_words words
+    else (if is_word word (codes "make") then make_words words
+    else (if is_word word (codes "node") then node_words words
+    else (if is_word word (codes "ask") then ask_words words else Err 1)))))

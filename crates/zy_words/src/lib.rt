@@ -1,0 +1,16 @@
+//! What all commands share: the words of the command line, how a run ends, files that are read whole, and bytes that are written.
+#![tactic(auto)]
+
+mod asks;
+mod exit;
+mod hosted;
+mod reading;
+mod words;
+mod writing;
+
+pub use asks::Asks;
+pub use exit::{Broken, Exit};
+pub use hosted::{OpFault, op_read_alone};
+pub use reading::read_file;
+pub use words::{Command, command_of};
+pub use writing::write_all;
