@@ -84,16 +84,16 @@ module _ {S : Type 0} (R : Rules S) (interval : ℕ) (texts : Texts) (w : World)
   -- ---- a request that was executed last is answered again
 
   module _ (ask : Signed Ask) (known : Known) (is : known_in R s.kept (entry_of ask).client.0 ≡ Some known) (view : View) (active : s.views.mode ≡ Active view) where
-    abbrev spec : Spec
+    abbrev pub spec : Spec
     spec = spec_of (table.own_view s) ask known
 
-    abbrev signed : Signed Spec
+    abbrev pub signed : Signed Spec
     signed = sealed_spec s spec
 
-    abbrev answered : Going S
+    abbrev pub answered : Going S
     answered = response_of s signed known (act (Says (record { body = bodies.Spec spec; stood = table.stood_of R s })) (begin (with_spec (spent s) signed)))
 
-    answered_on : IsOnWay R interval w r s history ready answered
+    pub answered_on : IsOnWay R interval w r s history ready answered
     answered_on =
         let last = record_is (entry_of ask).client.0 known is in
         let within : known.place.0 ≤ length history = entry_within history known.place.0 last.entry last.there in
@@ -112,7 +112,7 @@ module _ {S : Type 0} (R : Rules S) (interval : ℕ) (texts : Texts) (w : World)
 
   -- ---- a new one waits, and the primary is told
 
-  waits_on : (ask : Signed Ask) → IsOnWay R interval w r s history ready (request_waits R s ask)
+  pub waits_on : (ask : Signed Ask) → IsOnWay R interval w r s history ready (request_waits R s ask)
   waits_on ask =
       let says = says_other R interval start.world start.lawful r start.correct (core_of s) history start.tied in
       said_more R interval w r s history ready (begin s) start (record { body = bodies.Confirm (sealed_confirm s ask).confirm.stmt; stood = table.stood_of R s }) (request_waits R s ask) refl says.may says.tied
