@@ -1,5 +1,5 @@
 -- What a replica makes of a request as a backup, and of another's wish for orders: it executes nothing.
-use Rattle.std.proofs.Common.{◌≡◌, ℕ, ◌≤◌, nat_eq, nat_le, nat_lt, Bool, true, false, cond, List, [], ◌∷◌, length, take, fold, Option, Some, None, refl, sym, ap, ◌∙◌, subst}
+use Rattle.std.proofs.Common.{◌≡◌, ℕ, ◌≤◌, nat_le, Bool, true, false, cond, List, [], ◌∷◌, length, take, fold, Option, Some, None, refl, sym, ap, ◌∙◌, subst}
 use Rattle.std.specs.List.{AllByRecursion}
 use Rattle.std.specs.Prelude.{slice_index_or}
 use Rattle.zy_base.specs.Machine.{Rules}
@@ -23,6 +23,7 @@ use Rattle.zy_law.proofs.EntriesAskedFor.{entry_within}
 use Rattle.zy_law.specs.Histories.{AreKept}
 use Rattle.zy_law.specs.Said.{Moment}
 use Rattle.zy_law.specs.World.{World}
+use Rattle.zy_lawful.proofs.Own.{by_test}
 use Rattle.zy_lawful.proofs.Records.{IsLastOf, IsRecord, records}
 use Rattle.zy_lawful.specs.Tied.{IsOfClient}
 use Rattle.zy_parts.specs.declared.signed.Signed.{Signed}
@@ -31,13 +32,12 @@ use Rattle.zy_parts.specs.declared.statements.Hole.{Hole}
 use Rattle.zy_parts.specs.declared.statements.Spec.{Spec}
 use Rattle.zy_table.specs.Deeds.{Going, Outcome, act, begin, ends, refused}
 use Rattle.zy_table.specs.Holes.{fill_hole, fill_with}
-use Rattle.zy_table.specs.Requests.{forward, is_behind, new_request, request, request_after, request_at_backup, request_at_primary, request_waits, respond_again, respond_as, response_of, said_already, sealed_confirm, tell_primary}
+use Rattle.zy_table.specs.Requests.{request, request_waits, response_of, sealed_confirm}
 use Rattle.zy_table.specs.Running.{sealed_spec, spec_of}
 use Rattle.zy_table.specs.State as table
 use Rattle.zy_table.specs.State.{State, is_leaving_mode, is_primary, leaves_of, pending_of, spec_to, spent, with_spec}
 use Rattle.zy_table.specs.declared.deeds.Act.TheVariants.{Says}
 use Rattle.zy_table.specs.declared.deeds.Body.TheVariants as bodies
-use Rattle.zy_table.specs.declared.kept.Pending.{Pending}
 use Rattle.zy_view_law.proofs.InView.{says_other}
 use Rattle.zy_view_law.specs.Texts.{AreLinks, Texts}
 use Rattle.zy_view_steps.proofs.AtWork.{works_said}
@@ -46,6 +46,7 @@ use Rattle.zy_view_steps.proofs.Leaves.{IsOnWay, at_begin, said_more}
 use Rattle.zy_view_steps.specs.Cores.{core_of}
 use Rattle.zy_view_steps.specs.Rows.{IsReady}
 use Rattle.zy_begin_steps.proofs.Adopting.{ends_lawfully, refuses}
+use Rattle.zy_begin_steps.proofs.Requested.{RoomCases, RunCases, request_row}
 use Rattle.zy_begin_steps.proofs.Responding.{IsInView, speaks, true_reply, world_agrees}
 use Rattle.zy_begin_steps.proofs.Taking.{ended}
 use Rattle.zy_begin_steps.specs.Steps.{IsLawfulStep, IsWorldOf}
@@ -70,9 +71,6 @@ module _ {S : Type 0} (R : Rules S) (interval : ℕ) (texts : Texts) (w : World)
   abbrev start : IsOnWay R interval w r s history ready (begin s)
   start = at_begin R interval w r s history ready
 
-  no_leaves : IsLawful (refused causes.KeySpent s)
-  no_leaves = refuses R interval texts w r s history ready kept causes.KeySpent
-
   -- ---- the record of a client is that of its last entry
 
   record_is : (client : ℕ) (known : Known) → known_in R s.kept client ≡ Some known → IsLastOf R history client known
@@ -86,16 +84,16 @@ module _ {S : Type 0} (R : Rules S) (interval : ℕ) (texts : Texts) (w : World)
   -- ---- a request that was executed last is answered again
 
   module _ (ask : Signed Ask) (known : Known) (is : known_in R s.kept (entry_of ask).client.0 ≡ Some known) (view : View) (active : s.views.mode ≡ Active view) where
-    abbrev spec : Spec
+    abbrev pub spec : Spec
     spec = spec_of (table.own_view s) ask known
 
-    abbrev signed : Signed Spec
+    abbrev pub signed : Signed Spec
     signed = sealed_spec s spec
 
-    abbrev answered : Going S
+    abbrev pub answered : Going S
     answered = response_of s signed known (act (Says (record { body = bodies.Spec spec; stood = table.stood_of R s })) (begin (with_spec (spent s) signed)))
 
-    answered_on : IsOnWay R interval w r s history ready answered
+    pub answered_on : IsOnWay R interval w r s history ready answered
     answered_on =
         let last = record_is (entry_of ask).client.0 known is in
         let within : known.place.0 ≤ length history = entry_within history known.place.0 last.entry last.there in
@@ -112,64 +110,34 @@ module _ {S : Type 0} (R : Rules S) (interval : ℕ) (texts : Texts) (w : World)
         })
         (works_said interval start.world r _ s (λ v m request told. absurd cc))).way
 
-    answers_with : (said : Option (Signed Spec)) → IsLawful (respond_as R s said spec known)
-    answers_with (Some said) = goes_on _ (sent_more R interval w r s history ready (begin s) _ start)
-    answers_with None = by (nat_le 1 (leaves_of s))
-      where
-        by : (b : Bool) → IsLawful (cond b (ends Taken answered) (refused causes.KeySpent s))
-        by true = goes_on answered answered_on
-        by false = no_leaves
-
   -- ---- a new one waits, and the primary is told
 
-  module _ (ask : Signed Ask) where
-    waits_on : IsOnWay R interval w r s history ready (request_waits R s ask)
-    waits_on =
-        let says = says_other R interval start.world start.lawful r start.correct (core_of s) history start.tied in
-        said_more R interval w r s history ready (begin s) start (record { body = bodies.Confirm (sealed_confirm s ask).confirm.stmt; stood = table.stood_of R s }) (request_waits R s ask) refl says.may says.tied
-        start.signer start.interval_is (works_said interval start.world r _ s (λ v m request told. absurd cc))
+  pub waits_on : (ask : Signed Ask) → IsOnWay R interval w r s history ready (request_waits R s ask)
+  waits_on ask =
+      let says = says_other R interval start.world start.lawful r start.correct (core_of s) history start.tied in
+      said_more R interval w r s history ready (begin s) start (record { body = bodies.Confirm (sealed_confirm s ask).confirm.stmt; stood = table.stood_of R s }) (request_waits R s ask) refl says.may says.tied
+      start.signer start.interval_is (works_said interval start.world r _ s (λ v m request told. absurd cc))
 
-    forwards : IsLawful (forward R s ask)
-    forwards = by (nat_le 1 (leaves_of s))
+  run_cases : (view : View) → s.views.mode ≡ Active view → RunCases R s IsLawful
+  run_cases view active =
+      record {
+        refuses = refuses R interval texts w r s history ready kept;
+        stays = λ sent. goes_on _ (sent_more R interval w r s history ready (begin s) sent start);
+        responds = λ ask known is. goes_on (answered ask known is view active) (answered_on ask known is view active);
+        waits = λ ask. goes_on (request_waits R s ask) (waits_on ask);
+      }
+
+  module _ (ask : Signed Ask) (backup : is_primary s ≡ false) where
+    never_orders : RoomCases R s IsLawful ask
+    never_orders = record { orders = λ primary new room. absurd cc }
+
+    pub request_lawful : IsLawful (request R s ask)
+    unfolding request
+    request_lawful = by (is_leaving_mode s.views.mode) refl
       where
-        by : (b : Bool) → IsLawful (cond b (ends Taken (request_waits R s ask)) (refused causes.KeySpent s))
-        by true = goes_on (request_waits R s ask) waits_on
-        by false = no_leaves
-
-    at_backup : (pending : Option Pending) → IsLawful (request_at_backup R s ask pending)
-    at_backup None = forwards
-    at_backup (Some pending) = by (nat_eq ask.stmt.stamp.0 pending.ask.stmt.stamp.0)
-      where
-        by : (b : Bool) → IsLawful (cond b (ends Taken (tell_primary s pending (begin s))) (forward R s ask))
-        by true = goes_on _ (sent_more R interval w r s history ready (begin s) _ start)
-        by false = forwards
-
-    module _ (backup : is_primary s ≡ false) where
-      new_one : IsLawful (new_request R s ask)
-      new_one = by (is_primary s) backup
-        where
-          by : (b : Bool) → b ≡ false → IsLawful (cond b (request_at_primary R s ask) (request_at_backup R s ask (pending_of s (entry_of ask).client)))
-          by true never = absurd cc
-          by false not_it = at_backup (pending_of s (entry_of ask).client)
-
-      after_known : (view : View) → s.views.mode ≡ Active view → (known : Option Known) → known_in R s.kept (entry_of ask).client.0 ≡ known → IsLawful (request_after R s ask known)
-      after_known view active None is = new_one
-      after_known view active (Some known) is = by (nat_lt ask.stmt.stamp.0 known.stamp.0) (nat_eq ask.stmt.stamp.0 known.stamp.0)
-        where
-          by : (old same : Bool) → IsLawful (cond old (refused causes.OldStamp s) (cond same (respond_again R s ask known) (new_request R s ask)))
-          by true same = refuses R interval texts w r s history ready kept causes.OldStamp
-          by false true = answers_with ask known is view active (said_already (spec_to s (entry_of ask).client) (spec_of (table.own_view s) ask known))
-          by false false = new_one
-
-      pub request_lawful : IsLawful (request R s ask)
-      unfolding request
-      request_lawful = by (is_leaving_mode s.views.mode) (is_behind ask (pending_of s (entry_of ask).client)) refl
-        where
-          by : (leaving behind : Bool) → is_leaving_mode s.views.mode ≡ leaving
-              → IsLawful (cond leaving (refused causes.NotActive s) (cond behind (refused causes.OldStamp s) (request_after R s ask (known_in R s.kept (entry_of ask).client.0))))
-          by true behind is = refuses R interval texts w r s history ready kept causes.NotActive
-          by false true is = refuses R interval texts w r s history ready kept causes.OldStamp
-          by false false is = let active = active_in s.views.mode is in after_known active.0 active.1 (known_in R s.kept (entry_of ask).client.0) refl
+        by : (leaving : Bool) → is_leaving_mode s.views.mode ≡ leaving → IsLawful (request R s ask)
+        by true is = by_test IsLawful (is_leaving_mode s.views.mode) _ _ (λ leaves. refuses R interval texts w r s history ready kept causes.NotActive) (λ stays. absurd cc)
+        by false is = let active = active_in s.views.mode is in request_row R s IsLawful (run_cases active.0 active.1) ask never_orders
 
   -- ---- another's wish for orders
 

@@ -1,4 +1,6 @@
 pub mod Adopting
+pub mod Admitted
+pub mod Requested
 pub mod Backups
 pub mod Worlds
 pub mod Ending

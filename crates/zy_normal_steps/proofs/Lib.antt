@@ -2,9 +2,7 @@ pub mod Gained
 pub mod Working
 pub mod Gathers
 pub mod Runs
-pub mod Admitted
 pub mod Rows
-pub mod Requested
 pub mod Steps
 pub mod AtStart
 pub mod WholeSteps

@@ -1,5 +1,5 @@
 -- The rows of normal operation are lawful in every view, and the replica can go on from there.
-use Rattle.std.proofs.Common.{◌≡◌, ℕ, ◌+◌, ◌-◌, ◌*◌, ◌%◌, ◌^◌, ◌<◌, ◌≤◌, nat_eq, cond, true, false, List, [], ◌∷◌, ◌++◌, length, replicate, take, Option, Some, None, refl, sym, ap, ◌∙◌, subst, arith, eqb-true}
+use Rattle.std.proofs.Common.{◌≡◌, ℕ, ◌+◌, ◌-◌, ◌*◌, ◌%◌, ◌^◌, ◌<◌, ◌≤◌, nat_eq, cond, true, false, List, [], ◌∷◌, ◌++◌, length, replicate, Option, Some, None, refl, sym, ap, ◌∙◌, subst, arith, eqb-true}
 use Rattle.std.specs.Prelude.{All}
 use Rattle.std.proofs.lemmas.Bool.{cond_both}
 use Rattle.std.proofs.lemmas.List.{length-append, length-replicate, length-set}
@@ -9,7 +9,6 @@ use Rattle.zy_base.specs.declared.cause.Cause.{Cause}
 use Rattle.zy_base.specs.declared.counts.Counts.{Counts}
 use Rattle.zy_base.specs.declared.ids.ClientId.{ClientId}
 use Rattle.zy_base.specs.declared.ids.Digest.{Digest}
-use Rattle.zy_base.specs.declared.ids.Stamp.{Stamp}
 use Rattle.zy_base.specs.declared.ids.View.{View}
 use Rattle.zy_base.specs.declared.step.Answer.TheVariants.{Held, Taken}
 use Rattle.zy_base.specs.declared.step.Mode.TheVariants.{Active}
@@ -29,21 +28,19 @@ use Rattle.zy_exec.proofs.HistoryLemmas.{stands_end}
 use Rattle.zy_exec.specs.Kept.{Kept, known_in, last_place, stretch_of}
 use Rattle.zy_exec.specs.declared.known.Known.{Known}
 use Rattle.zy_frames.specs.declared.frame.OrderFrame.{OrderFrame}
-use Rattle.zy_law.proofs.EntriesAskedFor.{entry_within}
 use Rattle.zy_law.proofs.HistoryLemmas.{mark_is}
 use Rattle.zy_law.specs.Fixed.{IsCertified}
 use Rattle.zy_law.specs.Histories.{Passes}
 use Rattle.zy_law.specs.Lawful.{IsOrdered}
 use Rattle.zy_law.specs.Steps.{after_saying}
-use Rattle.zy_law.specs.World.{Answer, Spoken, Statement, World}
+use Rattle.zy_law.specs.World.{Spoken, Statement, World}
 use Rattle.zy_lawful.proofs.Cases.{IsNew, IsOwnCommit, IsPut, responded, with_held}
 use Rattle.zy_lawful.proofs.Committed.{IsFurthest, certified_said, from_came, holding}
 use Rattle.zy_lawful.proofs.Follow.{in_state}
 use Rattle.zy_lawful.proofs.Going.{slots_put}
 use Rattle.zy_lawful.proofs.KeptVotes.{AreKeptOf, with_check_kept, with_spec_kept}
-use Rattle.zy_lawful.proofs.OneEntry.{AreOrdersOf, fold_is, known_now, next_ordered, orders_of_longer, orders_of_said, place_now}
+use Rattle.zy_lawful.proofs.OneEntry.{AreOrdersOf, next_ordered, orders_of_longer, orders_of_said, place_now}
 use Rattle.zy_lawful.proofs.Own.{client_told, head_told, kept_case, state_told}
-use Rattle.zy_lawful.proofs.Records.{IsLastOf, IsRecord}
 use Rattle.zy_lawful.specs.Acts.{statement_by}
 use Rattle.zy_lawful.specs.Tied.{MayRun}
 use Rattle.zy_parts.specs.declared.signed.Signed.{Signed}
@@ -57,8 +54,8 @@ use Rattle.zy_table.specs.Commits.{give_local, say_local, send_local}
 use Rattle.zy_table.specs.Deeds.{Going, Outcome, begin, ends, refused}
 use Rattle.zy_table.specs.Gathering.{gather_at, own_at, own_with, spec_at}
 use Rattle.zy_table.specs.Orders.{ask_for_missing, hole_of}
-use Rattle.zy_table.specs.Requests.{order_of, ordered, request_waits, sealed_confirm, sealed_order}
-use Rattle.zy_table.specs.Running.{next_known, run, sealed_spec, spec_of}
+use Rattle.zy_table.specs.Requests.{order_of, ordered, request_waits, sealed_order}
+use Rattle.zy_table.specs.Running.{next_known, run, spec_of}
 use Rattle.zy_table.specs.State as table
 use Rattle.zy_table.specs.State.{State, is_primary, spent, stood_of, window_of, with_pending, with_spec}
 use Rattle.zy_table.specs.declared.deeds.Body.TheVariants as bodies
@@ -66,9 +63,9 @@ use Rattle.zy_table.specs.declared.deeds.Remark.{Remark}
 use Rattle.zy_table.specs.declared.deeds.Sent.{Sent}
 use Rattle.zy_table.specs.declared.kept.OwnCheckpoint.{OwnCheckpoint}
 use Rattle.zy_begin_steps.proofs.Adopting.{ends_lawfully}
-use Rattle.zy_begin_steps.proofs.Responding.{above_base, true_reply}
+use Rattle.zy_begin_steps.proofs.Responding.{above_base}
 use Rattle.zy_begin_steps.specs.Steps.{IsLawfulStep, IsWorldOf}
-use Rattle.zy_view_law.proofs.InView.{says_commit, says_order, says_other, says_response}
+use Rattle.zy_view_law.proofs.InView.{says_commit, says_order, says_other}
 use Rattle.zy_view_law.proofs.ProvenReports.{spec_certified}
 use Rattle.zy_view_law.proofs.RunningOn.{kept_passes}
 use Rattle.zy_view_law.specs.Held.{IsHeldPart, mark_at}
@@ -81,7 +78,8 @@ use Rattle.zy_view_steps.specs.Rows.{IsReady}
 use Rattle.zy_normal_steps.proofs.Gathers.{IsHere, far_enough, gathers, holds, is_here, mark_in}
 use Rattle.zy_normal_steps.proofs.Gained.{one_gains}
 use Rattle.zy_normal_steps.proofs.Runs.{next_goes, one_goes, run_goes}
-use Rattle.zy_normal_steps.proofs.Working.{IsWorking, at_begin, begin_world, clients_now, goes_as, last_view_is, own_view_is, says, standing}
+use Rattle.zy_begin_steps.proofs.Backups.{answered_on, waits_on}
+use Rattle.zy_normal_steps.proofs.Working.{IsWorking, begins, on_way, same_world, clients_now, goes_as, last_view_is, own_view_is, says, standing}
 use Rattle.zy_normal_steps.specs.Heard.{IsFrameHeld}
 use Rattle.zy_view_steps.specs.Work.{IsAtWork, IsWorkTied, Workplace, last_long, workplace_of}
 use Rattle.zy_normal_steps.specs.Gains.{AreGainsKept}
@@ -165,13 +163,10 @@ module _ {S : Type 0} (R : Rules S) (interval : ℕ) (texts : Texts) (w : World)
       })
 
   abbrev start : Works (begin s)
-  start = at_begin R interval texts w r s h view ready kept work active
+  start = begins R interval texts w r s h view ready kept work active
 
-  same_world : start.world ≡ w
-  same_world = begin_world R interval texts w r s h view ready kept work active
-
-  same_history : start.now ≡ h
-  same_history = sym start.lead.history
+  same_start : start.world ≡ w
+  same_start = same_world R interval texts w r s h view ready kept work active
 
   -- ---- nothing is done but to send
 
@@ -187,40 +182,10 @@ module _ {S : Type 0} (R : Rules S) (interval : ℕ) (texts : Texts) (w : World)
   -- ---- a request that was executed last, and one that waits
 
   pub responds : (ask : Signed Ask) (known : Known) → known_in R s.kept (entry_of ask).client.0 ≡ Some known → Goes (responded R s (spec_of (table.own_view s) ask known) known)
-  responds ask known known_is gains =
-      let client = (entry_of ask).client.0 in
-      let there = standing R interval texts w r s h view 0 (begin s) start in
-      let last : IsLastOf R start.now client known =
-      subst (λ (o : Option Known). IsRecord R start.now client o) known_is (known_now R start.world r s start.now start.lawful start.kept.agrees start.correct there client) in
-      let within : known.place.0 ≤ length start.now = entry_within start.now known.place.0 last.entry last.there in
-      let spec : Spec = spec_of (table.own_view s) ask known in
-      let signed : Signed Spec = sealed_spec s spec in
-      let m : Mark = mark_at known.place known.head in
-      let a : Answer = record { client = client; stamp = known.stamp.0; reply = spec.reply } in
-      let remark : Remark = record { body = bodies.Spec spec; stood = stood_of R s } in
-      let y : Spoken = said_now start.world r (statement_by r remark.body) in
-      let says_view : SaysLawfully R interval start.world r (core_of s) start.now (Statement.Spec view.0 m a) =
-      says_response R interval start.world start.lawful r start.correct (core_of s) start.now start.tied view active m a
-      (record { within = within; head = fold_is R start.world r s start.now start.lawful start.kept.agrees start.correct there (take known.place.0 start.now) ∙ last.head })
-      (record {
-        entry = last.entry;
-        last = last.there;
-        client = last.client_is;
-        stamp = ap (λ (t : Stamp). t.0) last.stamp;
-        reply = true_reply R start.world start.kept.agrees start.now known.place.0 known.reply within last.reply;
-      }) in
-      let views : view.0 ≡ table.own_view s = sym (own_view_is R interval texts w r s h view 0 (begin s) start) in
-      let says_it : SaysLawfully R interval start.world r (core_of s) start.now (statement_by r remark.body) =
-      subst (λ (n : ℕ). SaysLawfully R interval start.world r (core_of s) start.now (Statement.Spec n m a)) views says_view in
-      says R interval texts w r s h view 0 (begin s) start remark 0 _ refl says_it refl refl
-      (work_said interval start.world r y (length start.now + 0) (length start.now + 0) (workplace_of s) (omega arith) (λ m request told. absurd cc) start.work)
+  responds ask known is gains = on_way R interval texts w r s h view ready kept work active _ (answered_on R interval texts w r s h ready kept ask known is view active) active
 
   pub waits : (ask : Signed Ask) → Goes (ends Taken (request_waits R s ask))
-  waits ask gains =
-      let remark : Remark = record { body = bodies.Confirm (sealed_confirm s ask).confirm.stmt; stood = stood_of R s } in
-      let y : Spoken = said_now start.world r (statement_by r remark.body) in
-      says R interval texts w r s h view 0 (begin s) start remark 0 (request_waits R s ask) refl (says_other R interval start.world start.lawful r start.correct (core_of s) start.now start.tied) refl refl
-      (work_said interval start.world r y (length start.now + 0) (length start.now + 0) (workplace_of s) (omega arith) (λ m request told. absurd cc) start.work)
+  waits ask gains = on_way R interval texts w r s h view ready kept work active (request_waits R s ask) (waits_on R interval texts w r s h ready kept ask) active
 
   -- ---- an order
 
@@ -354,11 +319,11 @@ module _ {S : Type 0} (R : Rules S) (interval : ℕ) (texts : Texts) (w : World)
   puts_board board (IsPut.new_spec vote reply with_order heard new is) =
       subst (λ (b : Board). Works (begin (with_board s b))) (sym is)
       (with_it (put_in.with_spec s.board vote)
-      (with_spec_kept V C s.board vote (record { near = start.work.near; far = start.work.far }) (subst (λ (u : World). IsHeldPart u response_told vote) (sym same_world) heard) new) (spec_stays s.board vote))
+      (with_spec_kept V C s.board vote (record { near = start.work.near; far = start.work.far }) (subst (λ (u : World). IsHeldPart u response_told vote) (sym same_start) heard) new) (spec_stays s.board vote))
   puts_board board (IsPut.new_check vote heard new is) =
       subst (λ (b : Board). Works (begin (with_board s b))) (sym is)
       (with_it (put_in.with_check s.board vote)
-      (with_check_kept V C s.board vote (record { near = start.work.near; far = start.work.far }) (subst (λ (u : World). IsHeldPart u check_told vote) (sym same_world) heard) new) (check_stays s.board vote))
+      (with_check_kept V C s.board vote (record { near = start.work.near; far = start.work.far }) (subst (λ (u : World). IsHeldPart u check_told vote) (sym same_start) heard) new) (check_stays s.board vote))
 
   -- nothing is said of a place, or what the history has there
   at_place : (g : Going S) (is : Works g) (place : ℕ) (Q : Option OwnCheckpoint → Type 0) → Q None
@@ -401,7 +366,7 @@ module _ {S : Type 0} (R : Rules S) (interval : ℕ) (texts : Texts) (w : World)
     views_are = own.view ∙ own_view_is R interval texts w r s h view 0 (begin s) start
 
     heard_now : All (IsHeldPart start.world response_told) specs
-    heard_now = subst (λ (u : World). All (IsHeldPart u response_told) specs) (sym same_world) heard
+    heard_now = subst (λ (u : World). All (IsHeldPart u response_told) specs) (sym same_start) heard
 
     certificate : IsCertificate point_of_spec start.world.counts.cert specs (local.view, local.place, local.head)
     certificate =

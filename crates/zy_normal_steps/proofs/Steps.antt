@@ -46,8 +46,8 @@ use Rattle.zy_view_law.specs.Texts.{Texts}
 use Rattle.zy_view_law.specs.Told.{check_told, response_told}
 use Rattle.zy_view_steps.specs.Rows.{IsReady}
 use Rattle.zy_begin_steps.specs.Steps.{IsLawfulStep, IsWorldOf}
-use Rattle.zy_normal_steps.proofs.Admitted.{IsPlaced, placed}
-use Rattle.zy_normal_steps.proofs.Requested.{RoomCases, RunCases, confirm_row, order_admitted, request_row}
+use Rattle.zy_begin_steps.proofs.Admitted.{IsPlaced, placed}
+use Rattle.zy_begin_steps.proofs.Requested.{RoomCases, RunCases, confirm_row, order_admitted, request_row}
 use Rattle.zy_normal_steps.proofs.Rows as rows
 use Rattle.zy_normal_steps.proofs.Rows.{Goes, done}
 use Rattle.zy_normal_steps.specs.Heard.{IsEventHeld, IsFrameHeld}

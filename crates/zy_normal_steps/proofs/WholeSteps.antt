@@ -51,7 +51,7 @@ use Rattle.zy_begin_steps.proofs.Installing.{IsReading}
 use Rattle.zy_begin_steps.proofs.Timers.{timer_lawful}
 use Rattle.zy_begin_steps.specs.Frames.{IsHonestlyRead}
 use Rattle.zy_begin_steps.specs.Steps.{IsLawfulStep, IsWorldOf}
-use Rattle.zy_normal_steps.proofs.Admitted.{IsPlaced, placed}
+use Rattle.zy_begin_steps.proofs.Admitted.{IsPlaced, placed}
 use Rattle.zy_normal_steps.proofs.Steps.{order_as_lawful, read_lawful, unless_case}
 use Rattle.zy_normal_steps.specs.Gains.{AreGainsKept}
 use Rattle.zy_normal_steps.specs.Heard.{IsFrameHeld}

@@ -45,7 +45,8 @@ use Rattle.zy_view_law.proofs.TiedGrown.{one_longer}
 use Rattle.zy_view_law.specs.Texts.{Texts}
 use Rattle.zy_view_law.specs.Tied.{Core, IsAhead, IsRunnableNext, IsTied, SaysLawfully, said_now}
 use Rattle.zy_view_steps.proofs.AtWork.{last_of, may_there, still_may, work_stood}
-use Rattle.zy_view_steps.proofs.Led.{LeadsTo, leads_nowhere, leads_on, leads_saying}
+use Rattle.zy_view_steps.proofs.Leaves.{IsOnWay, at_begin, begin_world}
+use Rattle.zy_view_steps.proofs.Led.{LeadsTo, leads_on, leads_saying}
 use Rattle.zy_view_steps.specs.Cores.{core_of}
 use Rattle.zy_view_steps.specs.Rows.{IsReady}
 use Rattle.zy_begin_steps.proofs.Backups.{clients_of}
@@ -86,32 +87,37 @@ module _ {S : Type 0} (R : Rules S) (interval : ℕ) (texts : Texts) (w : World)
     pub begun : table.own_view s ≡ view.0
     pub gained : AllByRecursion (IsGained w) (gains_in g.deeds.acts)
 
-  pub at_begin : IsReady R interval w r s h → IsWorldOf R interval w texts → IsAtWork interval w r s → s.views.mode ≡ Active view → IsWorking 0 (begin s)
-  at_begin ready kept work active =
+  -- as it is on its way in a row in which it executes nothing
+  unfoldable pub on_way : (ready : IsReady R interval w r s h) → IsWorldOf R interval w texts → IsAtWork interval w r s → s.views.mode ≡ Active view → (g : Going S) → IsOnWay R interval w r s h ready g → g.state.views.mode ≡ Active view
+      → IsWorking 0 g
+  on_way ready kept work was g way active =
+      let long : last_long (way.world.past r) ≡ length h + 0 = omega (arith, last_of way.world r way.tied.standing.number _ way.tied.standing.stood way.tied.standing.last) in
       record {
-        world = w;
+        world = way.world;
         at = number;
         now = h;
-        lead = leads_nowhere w r (table.own_view s) number h;
-        last = omega (arith, ready.tied.standing.last);
-        lawful = ready.lawful;
-        correct = ready.correct;
-        kept = kept;
-        may = λ e may. may;
-        links = λ d e is. is;
-        tied = ready.tied;
-        work = (let long : last_long (w.past r) ≡ length h + 0 = omega (arith, last_of w r ready.tied.standing.number _ ready.tied.standing.stood ready.tied.standing.last) in
-            subst (λ (n : ℕ). IsWorkTied interval w r n (workplace_of s)) long work);
+        lead = way.lead;
+        last = omega (arith, way.now, way.tied.standing.last);
+        lawful = way.lawful;
+        correct = way.correct;
+        kept = subst (λ (u : World). IsWorldOf R interval u texts) (sym way.world_is) (world_said R interval w texts kept way.told);
+        may = λ e may. subst (λ (u : World). MayRun u e) (sym way.world_is) (record { client = may.client; range = may.range; asked = may.asked });
+        links = λ d e is. subst (λ (u : World). u.kept d e ≡ true) (sym way.world_is) is;
+        tied = way.tied;
+        work = subst (λ (n : ℕ). IsWorkTied interval way.world r n (workplace_of g.state)) long (way.works work);
         active = active;
-        signer = ready.signer;
-        spaced = ready.interval_is;
-        begun = ap (λ (mode : Mode). (view_of mode).0) active;
-        gained = tt;
+        signer = way.signer;
+        spaced = way.interval_is;
+        begun = ap (λ (mode : Mode). (view_of mode).0) was;
+        gained = subst (AllByRecursion (IsGained w)) (sym way.idle) tt;
       }
 
-  pub begin_world : (ready : IsReady R interval w r s h) (kept : IsWorldOf R interval w texts) (work : IsAtWork interval w r s) (active : s.views.mode ≡ Active view) → (at_begin ready kept work active).world ≡ w
-  unfolding at_begin
-  begin_world ready kept work active = refl
+  unfoldable pub begins : IsReady R interval w r s h → IsWorldOf R interval w texts → IsAtWork interval w r s → s.views.mode ≡ Active view → IsWorking 0 (begin s)
+  begins ready kept work active = on_way ready kept work active (begin s) (at_begin R interval w r s h ready) active
+
+  pub same_world : (ready : IsReady R interval w r s h) (kept : IsWorldOf R interval w texts) (work : IsAtWork interval w r s) (active : s.views.mode ≡ Active view) → (begins ready kept work active).world ≡ w
+  unfolding begins on_way
+  same_world ready kept work active = begin_world R interval w r s h ready
 
   module _ (more : ℕ) (g : Going S) (is : IsWorking more g) where
     -- with other things in its state, and more sent

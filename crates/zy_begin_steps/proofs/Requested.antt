@@ -29,7 +29,7 @@ use Rattle.zy_table.specs.Running.{run, signs_of, spec_of}
 use Rattle.zy_table.specs.State.{State, is_leaving, is_primary, leaves_of, own_view, pending_of, spec_to, window_of}
 use Rattle.zy_table.specs.declared.deeds.Sent.{Sent}
 use Rattle.zy_table.specs.declared.kept.Pending.{Pending}
-use Rattle.zy_normal_steps.proofs.Admitted.{IsFresh, IsPlaced}
+use Rattle.zy_begin_steps.proofs.Admitted.{IsFresh, IsPlaced}
 
 stamp_above : (a b : ℕ) → nat_lt b a ≡ false → nat_eq b a ≡ false → nat_lt a b ≡ true
 stamp_above a b from other = lt-ltb a b (omega (arith, ltb-false b a from, eqb-false b a other))
