@@ -310,17 +310,11 @@ fn nodes_and_asks(rt: HostRuntime) -> Result<(), Fail> {
     let (node, ask): (&[u8], &[u8]) = (b"node", b"ask");
     let op: &[u8] = b"out (1)";
     let (spent, key, link) = ("turns spent\n", "key next 1 stamp 1\n", "link fault\n");
-    let table: [(&[&[u8]], u64, &str, u8, &str); 11] = [
+    let table: [(&[&[u8]], u64, &str, u8, &str); 5] = [
         (&[node, b"g", b"r", b"r0", b"0"], 0, STANDING, 10, spent),
-        (&[node, b"g", b"r", b"r0", b"2"], 4, STANDING, 10, spent),
-        (&[node, b"g", b"r", b"r0", b"2"], 1, "", 8, link),
         (&[node, b"g", b"r", b"r0", b"2"], 2, "", 8, link),
-        (&[node, b"g", b"r", b"r0", b"2"], 3, "", 8, link),
-        (&[node, b"g", b"c", b"r0", b"2"], 0, "", 6, "group field 18\n"),
         (&[ask, b"g", b"c", b"c3", b"0", op], 0, key, 10, spent),
-        (&[ask, b"g", b"c", b"c3", b"1", op], 1, "", 8, link),
         (&[ask, b"g", b"c", b"c3", b"1", op], 2, "", 8, link),
-        (&[ask, b"g", b"c", b"c3", b"1", op], 3, "", 8, link),
         (&[ask, b"g", b"r", b"c3", b"1", op], 0, "", 6, "group field 18\n"),
     ];
     let held = [("g", MEMBERS), ("r", REPLICA_0), ("c", CLIENT_3)];
