@@ -10,4 +10,4 @@ mod waiting;
 pub use adopting::{adopt, certify, verdict_on};
 pub use beginning::{begin_view, take_up};
 pub use responding::respond_up_to;
-pub use waiting::{arrive, wait_for};
+pub use waiting::{arrive, wait_for, wanted_of};

@@ -40,7 +40,8 @@ pub fn arrive<M: Machine>(progress: Progress<M>, view: View) -> Result<Progress<
 
 // ---- what is asked for
 
-fn wanted_of(told: &Told) -> Fetch
+/// What a report's history stands on: the snapshot of its stable checkpoint.
+pub fn wanted_of(told: &Told) -> Fetch
     ensures { result ≡ wanted told.now }
 {
     Fetch {

@@ -93,7 +93,7 @@ module _ {S : Type 0} (R : Rules S) where
                 meets = subst (λ (k : Kept S). Meets (stretch_of a.told) a.chosen.place.0 k) (sym far.kept) can.meets;
                 end = can.end;
                 base = ap (λ (k : Kept S). k.base.place) far.kept ∙ can.base ∙ ap (λ (c : Check). c.place.0) (sym far.stable);
-                proof = ap (λ (c : Check). (stated c a.told.checks).place) far.stable ∙ can.proof;
+                proof = λ further. ap (λ (c : Check). (stated c a.told.checks).place) far.stable ∙ can.proof (ap (λ (c : Check). nat_lt c.place.0 a.told.stable_place.0) (sym far.stable) ∙ further);
               }
 
   -- ---- what is carried out changes neither the history nor the stable checkpoint

@@ -94,7 +94,7 @@ module _ {S : Type 0} (R : Rules S) (s : State S) (w : Waiting) (provider : Sign
         meets = takes_meets R from.kept from.board.stable told w.chosen.place w.chosen.head (ap (λ (p : Place). p.0) stable_place ∙ sym base_place) (stable_head ∙ sym base_head) can.chosen_there takes;
         end = (head_within (stretch_of told) w.chosen.place.0 w.chosen.head can.chosen_there).1;
         base = base_place ∙ ap (λ (p : Place). p.0) (sym stable_place);
-        proof = stated_twice s.board.stable told.checks ∙ can.proof_place;
+        proof = λ further. stated_twice s.board.stable told.checks ∙ can.proof_place;
       }
 
   taken : slice_get w.cert.new.stmt.changes w.chosen.provider ≡ Some provider → adopt R w.cert w.chosen (begin from) ≡ goes Taken (take_up R w.cert w.chosen told (begin from))

@@ -16,16 +16,14 @@ use Rattle.zy_parts.specs.declared.reports.Told.{Told}
 use Rattle.zy_vframes.specs.declared.frame.ViewCert.{ViewCert}
 use Rattle.zy_check.specs.Board.{with_stable}
 use Rattle.zy_exec.proofs.ReplayLemmas.{place-along}
-use Rattle.zy_exec.proofs.SettleLemmas.{settled_end}
+use Rattle.zy_exec.proofs.SettleLemmas.{settled_end, settled_place}
 use Rattle.zy_exec.specs.Kept.{Kept, last_place, reply_in, stretch_of}
 use Rattle.zy_exec.specs.Replay.{along}
 use Rattle.zy_exec.specs.Shots.{snapshot_in}
 use Rattle.zy_evidence.specs.Reading as reports
 use Rattle.zy_change.specs.declared.kept.Chosen.{Chosen}
-use Rattle.zy_table.proofs.BeginningLemmas.{begins_at_stable}
 use Rattle.zy_table.specs.declared.kept.OwnCheckpoint.{OwnCheckpoint}
 use Rattle.zy_table.specs.State.{State, own_view}
-use Rattle.zy_table.specs.Standing.{IsOnePlace}
 use Rattle.zy_table.specs.Deeds.{Going, begin}
 use Rattle.zy_table.specs.Gathering.{own_at, own_from, settled_at, state_in}
 use Rattle.zy_table.specs.Adopting.{checkpoints_between, taken_over}
@@ -122,14 +120,12 @@ module _ {S : Type 0} (R : Rules S) (g : Going S) (cert : ViewCert) (chosen : Ch
 
   begun_stable : begun.state.board.stable.place.0 ≡ stable_then s told
   unfolding with_stable
-  begun_stable = by (nat_lt s.board.stable.place.0 told.stable_place.0)
+  begun_stable = by (nat_lt s.board.stable.place.0 told.stable_place.0) refl
     where
-      by : (b : Bool) → (if b then settled_at R told.stable_place.0 told.checks (record s { kept = over }) else record s { kept = over }).board.stable.place.0 ≡ (if b then told.stable_place.0 else s.board.stable.place.0)
-      by true = ap (λ (p : Place). p.0) can.proof
-      by false = refl
-
-  begun_one : IsOnePlace begun.state
-  begun_one = begins_at_stable R s cert chosen told (sym can.base) can.proof can.meets.own_base can.meets.own_end can.meets.told_base
+      by : (b : Bool) → nat_lt s.board.stable.place.0 told.stable_place.0 ≡ b
+          → (if b then settled_at R told.stable_place.0 told.checks (record s { kept = over }) else record s { kept = over }).board.stable.place.0 ≡ (if b then told.stable_place.0 else s.board.stable.place.0)
+      by true further = ap (λ (p : Place). p.0) (can.proof further)
+      by false nearer = refl
 
   begun_end : last_place begun.state.kept ≡ chosen.place.0
   begun_end =
@@ -139,13 +135,25 @@ module _ {S : Type 0} (R : Rules S) (g : Going S) (cert : ViewCert) (chosen : Ch
       (λ further. settled_end R over told.stable_place.0 (omega (arith, over_base, can.base, ltb-true _ _ further)) (omega (arith, end, can.meets.told_base, can.meets.up_to)) ∙ end)
       (λ nearer. end)
 
+  -- it is kept from what is stable then
+  begun_base : begun.state.kept.base.place ≡ begun.state.board.stable.place.0
+  unfolding with_stable
+  begun_base =
+      let end = taken_end (reports.stretch_of told) chosen.place.0 s.kept can.meets can.end in
+      cond_both (nat_lt s.board.stable.place.0 told.stable_place.0) (settled_at R told.stable_place.0 told.checks (record s { kept = over })) (record s { kept = over })
+      (λ (t : State S). t.kept.base.place ≡ t.board.stable.place.0)
+      (λ further.
+      settled_place R over told.stable_place.0 (omega (arith, over_base, can.base, ltb-true _ _ further)) (omega (arith, end, can.meets.told_base, can.meets.up_to))
+      ∙ ap (λ (p : Place). p.0) (sym (can.proof further)))
+      (λ nearer. over_base ∙ can.base)
+
   abbrev places : List ℕ
   places = checkpoints_between begun.state.kept.interval begun.state.board.stable.place.0 chosen.place.0
 
   all_passed : All (IsPassed begun.state.kept) places
   all_passed i d within =
       let is = (checkpoints_are begun.state.kept.interval begun.state.board.stable.place.0 chosen.place.0 (get_or places i d)).0 (i, within, get_or_default places i (get_or places i d) d within) in
-      (omega (arith, is.0, begun_one.kept), omega (arith, is.1, begun_end), is.2)
+      (omega (arith, is.0, begun_base), omega (arith, is.1, begun_end), is.2)
 
   begun_sealer : begun.state.sealer ≡ s.sealer
   begun_sealer =

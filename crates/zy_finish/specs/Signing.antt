@@ -31,9 +31,9 @@ signs_by s view told place true = signs_waiting s view told
 signs_by s view told place false = signs_taken s told place
 
 -- The history that a report gives up to a place can be taken up: both meet at or above both bases, the report comes so
--- far, the own base is the stable place, and the report's proof is of its stable place.
+-- far, the own base is the stable place, and where the report is stable further on, its proof is of its stable place.
 pub record CanTake {S : Type 0} (s : State S) (told : Told) (place : Place) : Type 0 where
   pub meets : Meets (stretch_of told) place.0 s.kept
   pub end : place.0 ≤ end_of (stretch_of told)
   pub base : s.kept.base.place ≡ s.board.stable.place.0
-  pub proof : (stated s.board.stable told.checks).place ≡ told.stable_place
+  pub proof : nat_lt s.board.stable.place.0 told.stable_place.0 ≡ true → (stated s.board.stable told.checks).place ≡ told.stable_place
