@@ -6,8 +6,10 @@ mod confirming;
 mod ending;
 mod fetching;
 mod judging;
+mod laws;
 
 pub use confirming::{confirmation, new_view, view_certificate};
 pub use ending::{carry, end};
 pub use fetching::{fetch, state_transfer};
 pub use judging::{Ending, judge_owed};
+pub use laws::refusals;

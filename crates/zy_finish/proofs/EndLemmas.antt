@@ -130,7 +130,7 @@ module _ {S : Type 0} (R : Rules S) where
       let three = sent_stays owed.send given in
       record { kept = three.kept ∙ two.kept ∙ one.kept; stable = three.stable ∙ two.stable ∙ one.stable }
 
-  carried_far : (s : State S) (more : ℕ) (owed : Owed) (g : Going S) → IsSoFar s more g → (carried R owed g).state.sealer ≡ spent_many owed.signs g.state.sealer → IsSoFar s (more + owed.signs) (carried R owed g)
+  pub carried_far : (s : State S) (more : ℕ) (owed : Owed) (g : Going S) → IsSoFar s more g → (carried R owed g).state.sealer ≡ spent_many owed.signs g.state.sealer → IsSoFar s (more + owed.signs) (carried R owed g)
   carried_far s more owed g far spends =
       let same = carried_stays owed g in
       record {

@@ -1,4 +1,4 @@
 pub mod SignLemmas
-mod EndLemmas
+pub mod EndLemmas
 mod ConfirmLemmas
 mod InstallLemmas
