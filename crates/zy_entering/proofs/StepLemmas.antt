@@ -29,11 +29,6 @@ use Rattle.zy_entering.specs.Entering.{CanEnd, CanEnter, EndsAs, IsStep, ending_
 use Rattle.zy_entering.proofs.CarriedLemmas.{carried_keeps, takes_up}
 use Rattle.zy_entering.proofs.EndLemmas.{IsEnd, IsEntry, ends_as, ends_can, ends_refused}
 
--- a fact of what a call gives, from another
-pub if_ok : {A E : Type 0} (r : Result A E) (P Q : A → Type 0) → ((x : A) → P x → Q x) → IfOk r P → IfOk r Q
-if_ok (Ok x) P Q so is = so x is
-if_ok (Err e) P Q so is = is
-
 -- ---- what goes on signs no more than there are leaves
 
 module _ {S : Type 0} (R : Rules S) (s : State S) (signs : ℕ) (owed : Owed) (e : Ending) where
