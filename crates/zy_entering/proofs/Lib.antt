@@ -1,3 +1,4 @@
 pub mod CarriedLemmas
+pub mod CountLemmas
 pub mod EndLemmas
 pub mod StepLemmas

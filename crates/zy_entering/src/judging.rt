@@ -1,6 +1,6 @@
 //! How a step ends is judged before anything is done.
 
-ghost use Rattle.std.specs.Prelude.{◌≡◌, ◌+◌, nat_le, length, IfOk};
+ghost use Rattle.std.specs.Prelude.{◌≡◌, ◌+◌, ◌<◌, nat_le, length, true, IfOk};
 ghost use Rattle.std.specs.Option.{ForSome};
 ghost use Rattle.zy_parts.specs.Reports.{IsToldInRange};
 ghost use Rattle.zy_table.specs.State.{leaves_of};
@@ -42,12 +42,21 @@ pub fn judge_owed<M: Machine>(
     ensures signer { IsSigner core.now }
     ensures ready { IsReady core.now }
 {
-    let can_sign = core.has_leaves(0);
-    prove!(can_sign);
+    let signs = is_signer(core);
+    prove!(signs);
     match owed.answer {
         Answer::Refused(cause) => Ok(Err(cause)),
         Answer::Taken | Answer::Held => judge_end(core, owed, more),
     }
+}
+
+// Every replica signs as itself. Beside it what else holds of every replica.
+fn is_signer<M: Machine>(core: &Core<M>) -> bool
+    ensures is { result ≡ true }
+    ensures signer { IsSigner core.now }
+    ensures ready { IsReady core.now }
+{
+    core.has_leaves(0)
 }
 
 fn judge_end<M: Machine>(
@@ -128,6 +137,8 @@ fn fits(leaves: u64, more: u64, signs: u64, besides: u64) -> bool
 fn signs_taken<M: Machine>(core: &Core<M>, told: &Told, place: Place) -> u64
     ensures { result ≡ signs_to_take core.now told.now place }
 {
+    // With its view comes what holds of every replica: how far its checkpoints lie apart.
+    let _view = core.view();
     let stable = core.board().stable_check().place;
     let stable = if stable < told.stable_place {
         told.stable_place
@@ -137,7 +148,7 @@ fn signs_taken<M: Machine>(core: &Core<M>, told: &Told, place: Place) -> u64
     checkpoints(core.exec().interval(), stable, place)
 }
 
-/// How many checkpoints lie above one place, up to another.
+// How many checkpoints lie above one place, up to another.
 pub(crate) fn checkpoints(interval: u64, low: Place, high: Place) -> u64
     requires { 0 < interval }
     ensures { result ≡ length (checkpoints_between interval low.0 high.0) }
