@@ -5,7 +5,7 @@ ghost use Rattle.zy_evidence.specs.Reading.{IsReplica, number_of_party};
 ghost use Rattle.zy_parts.specs.Reports.{IsBeganInRange};
 ghost use Rattle.zy_parts.specs.Signing.{IsSignedInRange};
 ghost use Rattle.zy_vframes.specs.declared.frame.ViewFrame.TheVariants as frames;
-ghost use Rattle.zy_change.specs.Fit.{IsAccepted, IsCertified, IsKeptBegan};
+ghost use Rattle.zy_change.specs.Fit.{IsAccepted, IsCertified, IsFit, IsKeptBegan};
 ghost use Rattle.zy_change.specs.Views.{with_began as with_vote};
 ghost use Rattle.zy_table.specs.Sending.{CanBeSent};
 ghost use Rattle.zy_table.specs.declared.deeds.AnyFrame.TheVariants as sent;
@@ -114,6 +114,7 @@ fn vote_owing<M: Machine>(core: Core<M>, vote: Signed<Began>, owed: Owed) -> Res
     requires member { number_of_party vote.by < core.counts.n }
     requires range { IsSignedInRange IsBeganInRange vote }
     requires owed { IsBeganOwed core vote owed }
+    requires fit { IsFit core.views }
     ensures { IfOk result (λ m. m ≡ finished M.rules core (confirmation_row M.rules core vote)) }
 {
     match judge_owed(&core, &owed, 0) {
@@ -130,13 +131,13 @@ fn vote_owing<M: Machine>(core: Core<M>, vote: Signed<Began>, owed: Owed) -> Res
     }
 }
 
-// What a confirmation owes.
+// What a confirmation owes. Beside it what holds of every replica.
 fn owed_by_vote<M: Machine>(core: &Core<M>, vote: &Signed<Began>) -> Result<Owed, Want>
     requires { number_of_party vote.now.by < core.now.counts.n }
-    ensures { IfOk result (IsBeganOwed core.now vote.now) }
+    ensures owed { IfOk result (IsBeganOwed core.now vote.now) }
+    ensures fit { IsFit core.now.views }
 {
-    // With its view comes what holds of every replica: its group is that of its votes.
-    let _view = core.view();
+    let _own = core.views().view();
     zy_confirm::began(core.views(), vote)
 }
 

@@ -47,7 +47,7 @@ use Rattle.zy_table.specs.Leaving.{Attempt, accept, concluded, goes, leave_alone
 use Rattle.zy_table.specs.Confirming.{certificate_compared, certificate_judged, confirmation, confirmation_beside, confirmation_judged, new_view, new_view_judged, view_certificate, with_confirmation}
 use Rattle.zy_table.specs.Beginning.{adopt, adopt_as, adopt_from, adopt_if, arrive, ask_each, asked_of, begin_view, begun, certify, certify_with, confirms, fetch_said, finished, kept_waiting, respond_at, respond_to, take_up, wait_for, wanted_of}
 use Rattle.zy_leaving.proofs.FollowLemmas.{accepts_all, for_none, for_some, new_of_cert, none_spent, pens_of, quiet, spent_both, views_left}
-use Rattle.zy_leaving.specs.Follows.{IsSigner, SignsAsItself}
+use Rattle.zy_leaving.specs.Follows.{Begins, IsSigner, SignsAsItself}
 use Rattle.zy_finish.specs.Ending.{IsBeganOwed, IsCertOwed, IsNewOwed, IsSoFar, TakesUp, confirmed, counted, ending, finished_by}
 use Rattle.zy_finish.proofs.EndLemmas.{adoption_ends, begins_ends, counts}
 
@@ -237,9 +237,11 @@ module _ {S : Type 0} (R : Rules S) where
     record NewRow (attempt : Attempt S) (owed : Owed) : Type 0 where
       confirms : (chosen : Chosen) → owed.confirm ≡ Some chosen → ForSome owed.adopt (TakesUp R s) → finished R s attempt ≡ finished_by R s owed.signs owed (confirmed R s new chosen) (certify R Taken (confirmed R s new chosen))
       refuses : owed.confirm ≡ None → (cause : Cause) × (owed.answer ≡ Refused cause) × (finished R s attempt ≡ refused cause s)
+      far : (chosen : Chosen) → owed.confirm ≡ Some chosen → IsSoFar s owed.signs (confirmed R s new chosen)
+      begins : (chosen : Chosen) → owed.confirm ≡ Some chosen → Begins R owed.adopt (confirmed R s new chosen) (goes Taken (confirmed R s new chosen))
 
     refuses_new : (cause : Cause) → NewRow (Err cause) (refused_owed cause)
-    refuses_new cause = record { confirms = λ chosen is. absurd cc; refuses = λ none. (cause, refl, refl) }
+    refuses_new cause = record { confirms = λ chosen is. absurd cc; refuses = λ none. (cause, refl, refl); far = λ chosen is. absurd cc; begins = λ chosen is. absurd cc }
 
     abbrev arrived : Going S
     arrived = arrive R new.stmt.view (begin s)
@@ -288,6 +290,8 @@ module _ {S : Type 0} (R : Rules S) where
               (begins_ends R s (leaves_signed b + 1) (confirmed R s new chosen) (goes Taken (confirmed R s new chosen)) signer (confirmed_far chosen) Taken refl accepts.adopt accepts.begins takes)
               );
           refuses = λ none. absurd cc;
+          far = λ other is. confirmed_far other;
+          begins = λ other is. (let e : chosen ≡ other = same_Some chosen other is in subst (λ (c : Chosen). Begins R accepts.adopt (confirmed R s new c) (goes Taken (confirmed R s new c))) e accepts.begins);
         })
 
     new_row : NewRow (new_view R s new) (new_view_owes s.views new (report_of s) (pens_of s))
@@ -305,3 +309,10 @@ module _ {S : Type 0} (R : Rules S) where
 
   pub new_refused : (s : State S) (new : Signed New) (owed : Owed) → IsSigner s → IsNewOwed s new owed → owed.confirm ≡ None → (cause : Cause) × (owed.answer ≡ Refused cause) × (finished R s (new_view R s new) ≡ refused cause s)
   new_refused s new owed signer is = (subst (NewRow s new signer (new_view R s new)) (sym (is (report_of s) (pens_of s))) (new_row s new signer)).refuses
+
+  -- what it signed by then, and the view that begins
+  pub new_far : (s : State S) (new : Signed New) (owed : Owed) (chosen : Chosen) → IsSigner s → IsNewOwed s new owed → owed.confirm ≡ Some chosen → IsSoFar s owed.signs (confirmed R s new chosen)
+  new_far s new owed chosen signer is = (subst (NewRow s new signer (new_view R s new)) (sym (is (report_of s) (pens_of s))) (new_row s new signer)).far chosen
+
+  pub new_begins : (s : State S) (new : Signed New) (owed : Owed) (chosen : Chosen) → IsSigner s → IsNewOwed s new owed → owed.confirm ≡ Some chosen → Begins R owed.adopt (confirmed R s new chosen) (goes Taken (confirmed R s new chosen))
+  new_begins s new owed chosen signer is = (subst (NewRow s new signer (new_view R s new)) (sym (is (report_of s) (pens_of s))) (new_row s new signer)).begins chosen

@@ -1,4 +1,4 @@
 pub mod SignLemmas
 pub mod EndLemmas
-mod ConfirmLemmas
-mod InstallLemmas
+pub mod ConfirmLemmas
+pub mod InstallLemmas
