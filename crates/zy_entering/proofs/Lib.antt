@@ -1,6 +1,7 @@
 pub mod CarriedLemmas
+pub mod ConfirmedLemmas
 pub mod CountLemmas
 pub mod EndLemmas
 pub mod EntryLemmas
-pub mod ConfirmedLemmas
+pub mod NewViewLemmas
 pub mod StepLemmas

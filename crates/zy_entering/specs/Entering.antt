@@ -12,12 +12,14 @@ use Rattle.zy_base.specs.declared.step.Answer.TheVariants.{Taken, Held, Refused}
 use Rattle.zy_chain.specs.Stretch.{head_in}
 use Rattle.zy_parts.specs.declared.signed.Signed.{Signed}
 use Rattle.zy_parts.specs.declared.reports.Change.{Change}
+use Rattle.zy_parts.specs.declared.reports.New.{New}
 use Rattle.zy_vframes.specs.declared.frame.ViewCert.{ViewCert}
 use Rattle.zy_evidence.specs.Reading.{stretch_of}
 use Rattle.zy_change.specs.declared.kept.Chosen.{Chosen}
 use Rattle.zy_change.specs.declared.owed.Adoption.{Adoption}
 use Rattle.zy_change.specs.declared.owed.Owed.{Owed}
 use Rattle.zy_change.specs.Ahead.{IsReport}
+use Rattle.zy_change.specs.Fit.{IsAccepted}
 use Rattle.zy_change.specs.Views.{Views, certificate}
 use Rattle.zy_table.specs.declared.deeds.Verdict.{Verdict}
 use Rattle.zy_table.specs.declared.deeds.Verdict.TheVariants as verdicts
@@ -73,6 +75,10 @@ pub record CanEnter {S : Type 0} (s : State S) (leave : Option View) (a : Adopti
   pub report : IsReport s.views a.view a.told
   pub chosen : head_in (stretch_of a.told) a.chosen.place.0 ≡ Some a.chosen.head
   pub later : view_after s leave ≤ a.view.0
+
+-- what a step confirms is a choice out of the reports of this new view
+abbrev pub Accepts : {S : Type 0} → State S → Signed New → Owed → Type 0
+Accepts s new owed = (chosen : Chosen) → owed.confirm ≡ Some chosen → IsAccepted s.views.counts s.views.interval (record { new = new; chosen = chosen })
 
 -- ---- what is known as it is carried out
 

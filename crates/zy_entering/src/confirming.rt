@@ -1,24 +1,25 @@
 //! What a replica makes of a new view, of another's confirmation, and of a view certificate.
 
-ghost use Rattle.std.specs.Prelude.{◌≡◌, ◌<◌, ◌≤◌, ◌^◌, All, Ok, Some, IfOk};
+ghost use Rattle.std.specs.Prelude.{◌≡◌, ◌<◌, ◌≤◌, ◌+◌, nat_lt, if◌then◌else◌, All, Ok, IfOk};
 ghost use Rattle.zy_evidence.specs.Reading.{IsReplica, number_of_party};
 ghost use Rattle.zy_parts.specs.Reports.{IsBeganInRange};
 ghost use Rattle.zy_parts.specs.Signing.{IsSignedInRange};
 ghost use Rattle.zy_vframes.specs.declared.frame.ViewFrame.TheVariants as frames;
 ghost use Rattle.zy_change.specs.Fit.{IsAccepted, IsCertified, IsFit, IsKeptBegan};
-ghost use Rattle.zy_change.specs.Views.{with_began as with_vote};
 ghost use Rattle.zy_table.specs.Sending.{CanBeSent};
 ghost use Rattle.zy_table.specs.declared.deeds.AnyFrame.TheVariants as sent;
 ghost use Rattle.zy_table.specs.State.{leaves_of, own_view};
-ghost use Rattle.zy_table.specs.Deeds.{begin};
-ghost use Rattle.zy_table.specs.Beginning.{finished};
+ghost use Rattle.zy_table.specs.Beginning.{arrive as arriving, finished};
+ghost use Rattle.zy_table.specs.Leaving.{accept as accepting};
+ghost use Rattle.zy_core.specs.Ready.{IsReady};
+ghost use Rattle.zy_leaving.specs.Follows.{IsSigner};
 ghost use Rattle.zy_table.specs.Confirming.{confirmation as confirmation_row, new_view as new_view_row, view_certificate as certificate_row, with_confirmation};
-ghost use Rattle.zy_finish.specs.Ending.{IsBeganOwed, IsCertOwed, IsNewOwed, confirmed};
-ghost use Rattle.zy_entering.specs.Entering.{CanEnd, EndsAs};
+ghost use Rattle.zy_finish.specs.Ending.{IsBeganOwed, IsCertOwed, IsNewOwed};
+ghost use Rattle.zy_entering.specs.Entering.{Accepts, ending_of};
 
 use crate::ending::end;
 use crate::judging::{Ending, judge_owed};
-use zy_base::{Answer, Machine, Want};
+use zy_base::{Machine, Want};
 use zy_begin::{adopt, arrive};
 use zy_change::{Accepted, Chosen, Owed};
 use zy_core::{Core, Moved, Progress};
@@ -33,18 +34,21 @@ fn owed_by_new<M: Machine>(core: &Core<M>, new: &Signed<New>) -> Result<Owed, Wa
     requires signers { All (λ c. IsReplica c.by) new.now.stmt.changes }
     requires sends { CanBeSent (sent.View (frames.NewView new.now)) }
     ensures owed { IfOk result (IsNewOwed core.now new.now) }
-    ensures accepted { IfOk result (λ o. (chosen : _) → o.confirm ≡ Some chosen → IsAccepted core.now.views.counts core.now.views.interval (record { new = new.now; chosen = chosen })) }
+    ensures accepted { IfOk result (Accepts core.now new.now) }
 {
     zy_confirm::new_view(core.allocator(), core.views(), new)
 }
 
-// The view is left for, and the choice is confirmed.
+// The view is left for, where it is above the own one, and the choice is confirmed.
 fn confirm<M: Machine>(
     progress: Progress<M>,
     new: Signed<New>,
     chosen: Chosen,
 ) -> Result<Progress<M>, Want>
     requires accepted { IsAccepted progress.state.views.counts progress.state.views.interval (record { new = new; chosen = chosen }) }
+    requires sends { CanBeSent (sent.View (frames.NewView new)) }
+    requires leaves { (if nat_lt (own_view progress.state) new.stmt.view.0 then 1 else 0) + 1 ≤ leaves_of progress.state }
+    ensures { IfOk result (λ g. g ≡ accepting M.rules (record { new = new; chosen = chosen }) (arriving M.rules new.stmt.view progress)) }
 {
     let view = new.stmt.view;
     match arrive(progress, view) {
@@ -56,23 +60,40 @@ fn confirm<M: Machine>(
     }
 }
 
+// Its choice is confirmed, and the step ends as it was judged.
+fn confirm_as<M: Machine>(
+    core: Core<M>,
+    new: Signed<New>,
+    owed: Owed,
+    ending: Ending,
+) -> Result<Moved<M>, Want>
+    requires sends { CanBeSent (sent.View (frames.NewView new)) }
+    requires owed { IsNewOwed core new owed }
+    requires accepted { Accepts core new owed }
+    requires ready { IsReady core }
+    requires signer { IsSigner core }
+    requires judged { ending_of M.rules core 0 owed ≡ Ok ending }
+    ensures { IfOk result (λ m. m ≡ finished M.rules core (new_view_row M.rules core new)) }
+{
+    let answer = owed.answer;
+    let chosen = owed.confirm;
+    drop(owed);
+    match chosen {
+        None => unreachable!(),
+        Some(chosen) => end(confirm(core.begin(), new, chosen)?, answer, ending),
+    }
+}
+
 fn new_owing<M: Machine>(core: Core<M>, new: Signed<New>, owed: Owed) -> Result<Moved<M>, Want>
     requires sends { CanBeSent (sent.View (frames.NewView new)) }
     requires owed { IsNewOwed core new owed }
+    requires accepted { Accepts core new owed }
     ensures { IfOk result (λ m. m ≡ finished M.rules core (new_view_row M.rules core new)) }
 {
-    match (judge_owed(&core, &owed, 0), owed.confirm) {
-        (Ok(Ok(ending)), Some(chosen)) => {
-            drop(owed);
-            end(
-                confirm(core.begin(), new, chosen)?,
-                Answer::Taken,
-                ending,
-            )
-        }
-        (Ok(Err(cause)), _) => core.not_heard((new, owed), cause),
-        (Ok(Ok(_)), None) => unreachable!(),
-        (Err(want), _) => {
+    match judge_owed(&core, &owed, 0) {
+        Ok(Ok(ending)) => confirm_as(core, new, owed, ending),
+        Ok(Err(cause)) => core.not_heard((new, owed), cause),
+        Err(want) => {
             drop((new, owed));
             Err(want)
         }
