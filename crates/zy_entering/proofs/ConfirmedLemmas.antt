@@ -45,8 +45,7 @@ module _ {S : Type 0} (R : Rules S) (s : State S) (vote : Signed Began) (owed : 
         fetches = refl;
         view = ap (view_after s) (sym owes.leave);
         enters = vote_enters;
-        entry = owes.entry;
-      }
+        }
 
   no_more : ending_of R s 0 owed ≡ ending_as R s 0 owed owed.answer
   no_more = let e : 0 + owed.signs ≡ 0 = let none = owes.signs in omega (arith, none) in ap (λ (n : ℕ). ending_as R s n owed owed.answer) e
@@ -56,10 +55,10 @@ module _ {S : Type 0} (R : Rules S) (s : State S) (vote : Signed Began) (owed : 
     vote_row = confirmation_ends R s vote owed signer is (λ a some. takes_up R s ready owed.leave a (vote_enters a some))
 
     pub vote_refused : (cause : Cause) → ending_of R s 0 owed ≡ Err cause → finished R s (confirmation R s vote) ≡ refused cause s
-    vote_refused cause same = vote_row ∙ ends_refused R s 0 owed kept vote_end cause (sym no_more ∙ same)
+    vote_refused cause same = vote_row ∙ ends_refused R s 0 owed kept vote_end (certify R Taken kept) cause (sym no_more ∙ same)
 
     pub vote_can : (e : Ending) → ending_of R s 0 owed ≡ Ok e → CanEnd R e kept
-    vote_can e same = ends_can R s 0 owed kept vote_end e (sym no_more ∙ same)
+    vote_can e same = ends_can R s 0 owed kept vote_end owes.entry e (sym no_more ∙ same)
 
     pub vote_ends : (e : Ending) → ending_of R s 0 owed ≡ Ok e → (m : Outcome S) → EndsAs R owed.answer e kept m → m ≡ finished R s (confirmation R s vote)
-    vote_ends e same m does = ends_as R s 0 owed kept vote_end e (sym no_more ∙ same) m does ∙ sym vote_row
+    vote_ends e same m does = ends_as R s 0 owed kept vote_end owes.entry e (sym no_more ∙ same) m does ∙ sym vote_row

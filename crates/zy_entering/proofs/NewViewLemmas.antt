@@ -35,7 +35,7 @@ use Rattle.zy_finish.proofs.ConfirmLemmas.{new_begins, new_ends, new_far, new_re
 use Rattle.zy_entering.specs.declared.judging.Ending.{Ending}
 use Rattle.zy_entering.specs.Entering.{Accepts, CanEnd, CanEnter, EndsAs, ending_as, ending_of, view_after}
 use Rattle.zy_entering.proofs.CarriedLemmas.{takes_up}
-use Rattle.zy_entering.proofs.EndLemmas.{IsEnd, IsEntry, ends_as, ends_can, ends_refused}
+use Rattle.zy_entering.proofs.EndLemmas.{AreEntries, IsEnd, ends_as, ends_can, ends_refused}
 use Rattle.zy_entering.proofs.EntryLemmas.{accepted_enters, not_over}
 use Rattle.zy_entering.proofs.StepLemmas.{signs_within}
 
@@ -156,11 +156,13 @@ module _ {S : Type 0} (R : Rules S) (s : State S) (new : Signed New) (owed : Owe
             fetches = same_fetches;
             view = view_then;
             enters = new_enters;
-            entry = λ a adopts. (
-                let begun = (new_begins R s new owed chosen signer is some).adopts a adopts in
-                record { cert = begun.cert; view = begun.view; accepted = begun.accepted; enough = begun.enough; provider = begun.provider; given = begun.given; told = begun.told }
-                );
           }
+
+      new_entries : AreEntries owed (confirmed R s new chosen)
+      new_entries = λ a adopts. (
+          let begun = (new_begins R s new owed chosen signer is some).adopts a adopts in
+          record { cert = begun.cert; view = begun.view; accepted = begun.accepted; enough = begun.enough; provider = begun.provider; given = begun.given; told = begun.told }
+          )
 
       no_more : ending_of R s 0 owed ≡ ending_as R s owed.signs owed owed.answer
       no_more = let e : 0 + owed.signs ≡ owed.signs = omega arith in ap (λ (n : ℕ). ending_as R s n owed owed.answer) e
@@ -169,13 +171,13 @@ module _ {S : Type 0} (R : Rules S) (s : State S) (new : Signed New) (owed : Owe
       new_row = new_ends R s new owed chosen signer is some (λ a adopts. takes_up R s ready owed.leave a (new_enters a adopts))
 
       refused_some : (cause : Cause) → ending_of R s 0 owed ≡ Err cause → finished R s (new_view R s new) ≡ refused cause s
-      refused_some cause same = new_row ∙ ends_refused R s owed.signs owed (confirmed R s new chosen) new_end cause (sym no_more ∙ same)
+      refused_some cause same = new_row ∙ ends_refused R s owed.signs owed (confirmed R s new chosen) new_end (certify R Taken (confirmed R s new chosen)) cause (sym no_more ∙ same)
 
       pub new_can : (e : Ending) → ending_of R s 0 owed ≡ Ok e → CanEnd R e (confirmed R s new chosen)
-      new_can e same = ends_can R s owed.signs owed (confirmed R s new chosen) new_end e (sym no_more ∙ same)
+      new_can e same = ends_can R s owed.signs owed (confirmed R s new chosen) new_end new_entries e (sym no_more ∙ same)
 
       pub new_comes : (e : Ending) → ending_of R s 0 owed ≡ Ok e → (m : Outcome S) → EndsAs R owed.answer e (confirmed R s new chosen) m → m ≡ finished R s (new_view R s new)
-      new_comes e same m does = ends_as R s owed.signs owed (confirmed R s new chosen) new_end e (sym no_more ∙ same) m does ∙ sym new_row
+      new_comes e same m does = ends_as R s owed.signs owed (confirmed R s new chosen) new_end new_entries e (sym no_more ∙ same) m does ∙ sym new_row
 
   -- ---- where nothing is confirmed, it is refused
 

@@ -27,7 +27,7 @@ use Rattle.zy_entering.specs.declared.judging.Ending.{Ending}
 use Rattle.zy_entering.specs.declared.judging.Ending.TheVariants.{Rests, TakesUp as Begins, Waits}
 use Rattle.zy_entering.specs.Entering.{CanEnd, CanEnter, EndsAs, IsStep, ending_as, ending_by, ending_of, ending_with, signs_after, unless_spent, view_after}
 use Rattle.zy_entering.proofs.CarriedLemmas.{carried_keeps, takes_up}
-use Rattle.zy_entering.proofs.EndLemmas.{IsEnd, IsEntry, ends_as, ends_can, ends_refused}
+use Rattle.zy_entering.proofs.EndLemmas.{AreEntries, IsEnd, ends_as, ends_can, ends_refused}
 
 -- ---- what goes on signs no more than there are leaves
 
@@ -77,17 +77,19 @@ module _ {S : Type 0} (R : Rules S) (s : State S) (more : ℕ) (attempt : Attemp
         fetches = keeps.fetches ∙ step.fetches;
         view = keeps.view_is ∙ same_view owed.leave;
         enters = step.enters;
-        entry = λ a some. (
-            let begun = (step.follows.begins step.unconfirmed).adopts a some in
-            record { cert = begun.cert; view = begun.view; accepted = begun.accepted; enough = begun.enough; provider = begun.provider; given = begun.given; told = begun.told }
-            );
       }
+
+  entries : AreEntries owed end
+  entries = λ a some. (
+      let begun = (step.follows.begins step.unconfirmed).adopts a some in
+      record { cert = begun.cert; view = begun.view; accepted = begun.accepted; enough = begun.enough; provider = begun.provider; given = begun.given; told = begun.told }
+      )
 
   comes : finished R s attempt ≡ finished_by R s (more + owed.signs) owed end (certify R Taken end)
   comes = row_ends R s attempt owed g more step.signer step.so_far step.unconfirmed step.follows takes
 
   pub step_refused : (cause : Cause) → ending_of R s more owed ≡ Err cause → finished R s attempt ≡ refused cause s
-  step_refused cause same = comes ∙ ends_refused R s (more + owed.signs) owed end carried_end cause same
+  step_refused cause same = comes ∙ ends_refused R s (more + owed.signs) owed end carried_end (certify R Taken end) cause same
 
   module _ (e : Ending) (same : ending_of R s more owed ≡ Ok e) where
     -- there are leaves for what is owed
@@ -98,7 +100,7 @@ module _ {S : Type 0} (R : Rules S) (s : State S) (more : ℕ) (attempt : Attemp
         omega (arith, all, left)
 
     pub step_can : CanEnd R e end
-    step_can = ends_can R s (more + owed.signs) owed end carried_end e same
+    step_can = ends_can R s (more + owed.signs) owed end carried_end entries e same
 
     pub step_ends : (m : Outcome S) → EndsAs R owed.answer e end m → m ≡ finished R s attempt
-    step_ends m does = ends_as R s (more + owed.signs) owed end carried_end e same m does ∙ sym comes
+    step_ends m does = ends_as R s (more + owed.signs) owed end carried_end entries e same m does ∙ sym comes
