@@ -65,7 +65,7 @@ AreEntries owed end = ForSome owed.adopt (λ a. IsEntry a end.state.views)
 abbrev pub verdict_if : Bool → Verdict
 verdict_if waits = if waits then verdicts.Wait else verdicts.Take
 
-abbrev ending_if : Bool → Ending
+abbrev pub ending_if : Bool → Ending
 ending_if waits = if waits then Waits else TakesUp
 
 -- where enough confirmations are kept, it doesn't matter what the answer would be else

@@ -32,7 +32,8 @@ use Rattle.zy_entering.proofs.EndLemmas.{IsEntry}
 -- ---- an accepted new view
 
 module _ {S : Type 0} (s : State S) (leave : Option View) (x : Accepted) (is : IsAccepted s.views.counts s.views.interval x) (later : view_after s leave ≤ x.new.stmt.view.0) where
-  given_enters : (c : Signed Change) → provider_in x ≡ Some c → CanEnter s leave (record { view = x.new.stmt.view; chosen = x.chosen; told = c.stmt.told })
+  -- by its provider's report
+  pub given_enters : (c : Signed Change) → provider_in x ≡ Some c → CanEnter s leave (record { view = x.new.stmt.view; chosen = x.chosen; told = c.stmt.told })
   given_enters c there =
       let (given, range) = accepted_given s.views.counts s.views.interval x is c there in
       let (other, at, head) = accepted_provider s.views.counts s.views.interval x is in

@@ -1,4 +1,5 @@
 pub mod CarriedLemmas
+pub mod CertifiedLemmas
 pub mod ConfirmedLemmas
 pub mod CountLemmas
 pub mod EndLemmas

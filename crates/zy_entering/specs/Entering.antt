@@ -103,6 +103,11 @@ pub record IsJudged {S : Type 0} (R : Rules S) (owed : Owed) (ending : Ending) (
 
 -- ---- the end itself
 
+abbrev pub is_waiting : Ending → Bool
+is_waiting Rests = false
+is_waiting TakesUp = false
+is_waiting Waits = true
+
 -- The new view that was confirmed can begin, or its certificate wait: enough confirmations of it are kept, its choice was
 -- judged so, and there are leaves for what that signs.
 pub record CanCertify {S : Type 0} (R : Rules S) (waits : Bool) (g : Going S) : Type 0 where

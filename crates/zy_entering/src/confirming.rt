@@ -1,10 +1,11 @@
 //! What a replica makes of a new view, of another's confirmation, and of a view certificate.
 
-ghost use Rattle.std.specs.Prelude.{◌≡◌, ◌<◌, ◌≤◌, ◌+◌, nat_lt, if◌then◌else◌, All, Ok, IfOk};
+ghost use Rattle.std.specs.Prelude.{◌≡◌, ◌<◌, ◌≤◌, ◌+◌, nat_lt, if◌then◌else◌, All, Ok, Some, IfOk, IfSome, IsSome};
 ghost use Rattle.zy_evidence.specs.Reading.{IsReplica, number_of_party};
 ghost use Rattle.zy_parts.specs.Reports.{IsBeganInRange};
 ghost use Rattle.zy_parts.specs.Signing.{IsSignedInRange};
 ghost use Rattle.zy_vframes.specs.declared.frame.ViewFrame.TheVariants as frames;
+ghost use Rattle.zy_change.specs.declared.owed.Adoption.{Adoption};
 ghost use Rattle.zy_change.specs.Fit.{IsAccepted, IsCertified, IsFit, IsKeptBegan};
 ghost use Rattle.zy_table.specs.Sending.{CanBeSent};
 ghost use Rattle.zy_table.specs.declared.deeds.AnyFrame.TheVariants as sent;
@@ -15,7 +16,7 @@ ghost use Rattle.zy_core.specs.Ready.{IsReady};
 ghost use Rattle.zy_leaving.specs.Follows.{IsSigner};
 ghost use Rattle.zy_table.specs.Confirming.{confirmation as confirmation_row, new_view as new_view_row, view_certificate as certificate_row, with_confirmation};
 ghost use Rattle.zy_finish.specs.Ending.{IsBeganOwed, IsCertOwed, IsNewOwed};
-ghost use Rattle.zy_entering.specs.Entering.{Accepts, ending_of};
+ghost use Rattle.zy_entering.specs.Entering.{Accepts, ending_of, is_waiting as waiting};
 
 use crate::ending::end;
 use crate::judging::{Ending, judge_owed};
@@ -186,31 +187,57 @@ fn owed_by_cert<M: Machine>(core: &Core<M>, cert: &ViewCert) -> Result<Owed, Wan
     requires signers { All (λ c. IsReplica c.by) cert.now.new.stmt.changes }
     requires sends { CanBeSent (sent.View (frames.ViewCert cert.now)) }
     ensures owed { IfOk result (IsCertOwed core.now cert.now) }
+    ensures certified { IfOk result (λ o. IfSome o.adopt (λ a. IsCertified core.now.views.counts core.now.views.interval cert.now a.chosen)) }
 {
     zy_confirm::view_cert(core.allocator(), core.views(), cert)
 }
 
-// Its choice is adopted as it was judged.
-fn adopt_as<M: Machine>(
-    progress: Progress<M>,
-    cert: ViewCert,
-    owed: Owed,
-    ending: Ending,
-) -> Result<Moved<M>, Want> {
-    match (owed.adopt, ending) {
-        (Some(adoption), Ending::TakesUp) => adopt(progress, cert, adoption.chosen, false),
-        (Some(adoption), Ending::Waits) => adopt(progress, cert, adoption.chosen, true),
-        _ => unreachable!(),
+fn chosen_in(owed: &Owed) -> Chosen
+    requires { IsSome owed.now.adopt }
+    ensures { (a : Adoption) → owed.now.adopt ≡ Some a → result ≡ a.chosen }
+{
+    match &owed.adopt {
+        None => unreachable!(),
+        Some(adoption) => adoption.chosen,
     }
 }
 
-fn cert_owing<M: Machine>(core: Core<M>, cert: ViewCert, owed: Owed) -> Result<Moved<M>, Want>
+fn is_waiting(ending: Ending) -> bool
+    ensures { result ≡ waiting ending }
+{
+    matches!(ending, Ending::Waits)
+}
+
+// Its choice is adopted as it was judged.
+fn adopt_as<M: Machine>(
+    core: Core<M>,
+    cert: ViewCert,
+    owed: Owed,
+    ending: Ending,
+) -> Result<Moved<M>, Want>
+    requires signers { All (λ c. IsReplica c.by) cert.new.stmt.changes }
     requires sends { CanBeSent (sent.View (frames.ViewCert cert)) }
     requires owed { IsCertOwed core cert owed }
+    requires certified { IfSome owed.adopt (λ a. IsCertified core.views.counts core.views.interval cert a.chosen) }
+    requires ready { IsReady core }
+    requires signer { IsSigner core }
+    requires judged { ending_of M.rules core 0 owed ≡ Ok ending }
+    ensures { IfOk result (λ m. m ≡ finished M.rules core (certificate_row M.rules core cert)) }
+{
+    let chosen = chosen_in(&owed);
+    drop(owed);
+    adopt(core.begin(), cert, chosen, is_waiting(ending))
+}
+
+fn cert_owing<M: Machine>(core: Core<M>, cert: ViewCert, owed: Owed) -> Result<Moved<M>, Want>
+    requires signers { All (λ c. IsReplica c.by) cert.new.stmt.changes }
+    requires sends { CanBeSent (sent.View (frames.ViewCert cert)) }
+    requires owed { IsCertOwed core cert owed }
+    requires certified { IfSome owed.adopt (λ a. IsCertified core.views.counts core.views.interval cert a.chosen) }
     ensures { IfOk result (λ m. m ≡ finished M.rules core (certificate_row M.rules core cert)) }
 {
     match judge_owed(&core, &owed, 0) {
-        Ok(Ok(ending)) => adopt_as(core.begin(), cert, owed, ending),
+        Ok(Ok(ending)) => adopt_as(core, cert, owed, ending),
         Ok(Err(cause)) => core.not_heard((cert, owed), cause),
         Err(want) => {
             drop((cert, owed));
