@@ -5,4 +5,5 @@ pub mod CountLemmas
 pub mod EndLemmas
 pub mod EntryLemmas
 pub mod NewViewLemmas
+pub mod StateLemmas
 pub mod StepLemmas

@@ -1,21 +1,87 @@
 //! What a replica makes of another's wish for its stable snapshot, and of a snapshot that comes.
 
-ghost use Rattle.std.specs.Prelude.{◌≡◌, IfOk};
+ghost use Rattle.std.specs.Prelude.{◌≡◌, ◌≤◌, ◌<◌, ◌%◌, ◌^◌, [], length, IsSome, IsErrOf, IfOk, IfErr, Some, None};
+ghost use Rattle.zy_base.specs.declared.ids.Place.{Place as PlaceThere};
 ghost use Rattle.zy_parts.specs.Reports.{IsFetchInRange};
+ghost use Rattle.zy_parts.specs.declared.reports.Change.{Change};
+ghost use Rattle.zy_parts.specs.declared.signed.Signed.{Signed as IsSigned};
+ghost use Rattle.zy_vframes.specs.ViewFrames.{greatest_snapshot};
+ghost use Rattle.zy_vframes.specs.declared.frame.ViewFrame.TheVariants as frames;
+ghost use Rattle.zy_check.specs.States.{IsFaultOf, fetch_cause};
+ghost use Rattle.zy_exec.specs.Showing.{point_in};
+ghost use Rattle.zy_exec.specs.Snapshot.{snapshot_of};
+ghost use Rattle.zy_exec.specs.declared.install_fault.InstallFault.TheVariants.{NotState};
+ghost use Rattle.zy_change.specs.declared.kept.Waiting.{Waiting};
+ghost use Rattle.zy_change.specs.Fit.{IsFit};
+ghost use Rattle.zy_table.specs.Adopting.{checkpoints_between};
+ghost use Rattle.zy_table.specs.Sending.{CanBeSent};
+ghost use Rattle.zy_table.specs.State.{leaves_of};
+ghost use Rattle.zy_table.specs.declared.deeds.AnyFrame.TheVariants as sent;
 ghost use Rattle.zy_table.specs.Beginning.{finished};
 ghost use Rattle.zy_table.specs.Fetching.{fetch as fetch_row, state_transfer as state_row};
+ghost use Rattle.zy_core.specs.Ready.{IsReady};
+ghost use Rattle.zy_entering.specs.Fetching.{IsAwaited, against as cause_against};
 
-use zy_base::{Bytes, Machine, Place, Want};
-use zy_core::{Core, Moved};
-use zy_parts::{Fetch, Signed};
+use crate::judging::checkpoints;
+use zy_base::{Answer, Bytes, Cause, Machine, Place, View, Want};
+use zy_begin::respond_up_to;
+use zy_check::{StateFault, take_state};
+use zy_core::{Core, Moved, told_in};
+use zy_exec::{Exec, InstallFault};
+use zy_parts::{Fetch, Signed, Told};
+use zy_table::To;
+use zy_vframes::ViewFrame;
+
+// ---- another fetches the stable snapshot
+
+// The most bytes of a snapshot that a frame can bring.
+const GREATEST_SNAPSHOT: usize = 2_373_862;
+
+// The snapshot at the base of the history, which is the stable one.
+fn base_snapshot<M: Machine>(core: &Core<M>) -> &Bytes
+    ensures { result.now ≡ snapshot_of M.rules core.now.kept.base }
+{
+    // With its view comes what holds of every replica: its base is at a multiple of the interval.
+    let _view = core.view();
+    match core.exec().snapshot_at(core.exec().base()) {
+        Some(snapshot) => snapshot,
+        None => unreachable!(),
+    }
+}
+
+// The frame that brings it, where it is the wanted one.
+fn state_frame<M: Machine>(core: &Core<M>, wanted: &Fetch) -> Result<ViewFrame, StateFault>
+    requires { IsFetchInRange wanted.now }
+    ensures frame { IfOk result (λ frame. frame ≡ frames.State wanted.now.place (snapshot_of M.rules core.now.kept.base)) }
+    ensures stable { IfOk result (λ frame. fetch_cause core.now.board.stable wanted.now ≡ None) }
+    ensures sends { IfOk result (λ frame. CanBeSent (sent.View frame)) }
+    ensures refused { IfErr result (IsFaultOf (fetch_cause core.now.board.stable wanted.now)) }
+{
+    let snapshot = base_snapshot(core).as_slice();
+    if snapshot.len() > GREATEST_SNAPSHOT {
+        return Err(StateFault::Want);
+    }
+    core.board()
+        .state_frame(core.allocator(), wanted, snapshot)
+}
 
 /// Another's wish for a stable snapshot, whose signature is verified: it gets the one at the own stable place, where that
 /// is the one that it wants.
+#[tactic(auto, unfolding(zy_table::specs::Fetching::fetch))]
 pub fn fetch<M: Machine>(core: Core<M>, vote: &Signed<Fetch>) -> Result<Moved<M>, Want>
     requires { IsFetchInRange vote.now.stmt }
     ensures { IfOk result (λ m. m ≡ finished M.rules core (fetch_row M.rules core vote.now)) }
 {
-    Err(Want)
+    let can_sign = core.has_leaves(0);
+    prove!(can_sign);
+    match state_frame(&core, &vote.stmt) {
+        Ok(frame) => Ok(core
+            .begin()
+            .send_view(To::One(vote.by), frame)?
+            .ends(Answer::Taken)),
+        Err(StateFault::Refused(cause)) => Ok(core.refused(cause)),
+        Err(StateFault::Want) => Err(Want),
+    }
 }
 
 /// A snapshot of a place. Where it is the one that a certificate waits for, the view of the certificate begins from there.
