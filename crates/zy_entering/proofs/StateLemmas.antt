@@ -1,12 +1,39 @@
 -- The snapshot at the base, and a snapshot that comes.
 use Rattle.std.proofs.Common.{◌≡◌, ℕ, ◌+◌, ◌-◌, ◌%◌, ◌≤◌, ◌<◌, nat_lt, nat_eq, Bool, true, false, if◌then◌else◌, List, [], ◌∷◌, length, take, Option, Some, None, refl, sym, ap, ◌∙◌, subst, arith}
+use Rattle.std.specs.Prelude.{◌^◌, slice_get, IfSome, IsSome}
 use Rattle.std.proofs.lemmas.Bool.{eq-eqb, le-ltb}
+use Rattle.std.proofs.lemmas.Option.{same_Some}
 use Rattle.zy_base.specs.Machine.{Rules}
+use Rattle.zy_base.specs.declared.cause.Cause.{Cause}
+use Rattle.zy_base.specs.declared.cause.Cause.TheVariants as causes
+use Rattle.zy_base.specs.declared.ids.Place.{Place}
+use Rattle.zy_chain.specs.Stretch.{head_in}
+use Rattle.zy_parts.specs.declared.signed.Signed.{Signed}
+use Rattle.zy_parts.specs.declared.statements.Check.{Check}
+use Rattle.zy_parts.specs.declared.reports.Change.{Change}
+use Rattle.zy_parts.specs.declared.reports.Told.{Told}
+use Rattle.zy_vframes.specs.declared.frame.ViewFrame.TheVariants as frames
+use Rattle.zy_check.specs.States.{state_cause}
+use Rattle.zy_evidence.specs.Reading.{stretch_of}
 use Rattle.zy_exec.proofs.ReplayLemmas.{along-nil}
 use Rattle.zy_exec.specs.Kept.{Kept, last_place}
-use Rattle.zy_exec.specs.Replay.{along}
+use Rattle.zy_exec.specs.Replay.{Point, along}
+use Rattle.zy_exec.specs.Showing.{point_in}
 use Rattle.zy_exec.specs.Shots.{snapshot_in}
 use Rattle.zy_exec.specs.Snapshot.{snapshot_of}
+use Rattle.zy_change.proofs.AcceptedLemmas.{accepted_provider}
+use Rattle.zy_change.specs.declared.kept.Waiting.{Waiting}
+use Rattle.zy_change.specs.Fit.{IsCertified, IsFit}
+use Rattle.zy_table.specs.State.{State}
+use Rattle.zy_table.specs.Deeds.{refused}
+use Rattle.zy_table.specs.Beginning.{finished, wanted_of}
+use Rattle.zy_table.specs.Fetching.{install, state_for, state_heard, state_judged, state_transfer}
+use Rattle.zy_core.proofs.AdoptLemmas.{provided, said, told_multiple, told_range}
+use Rattle.zy_core.specs.Ready.{IsReady, IsWaitingReady}
+use Rattle.zy_leaving.specs.Follows.{IsSigner}
+use Rattle.zy_finish.proofs.InstallLemmas.{installs}
+use Rattle.zy_finish.specs.Ending.{IsStableShown}
+use Rattle.zy_entering.specs.Fetching.{IsAwaited, IsShownAt, against, against_by, installed_as}
 
 -- ---- the snapshot at the base
 
@@ -16,3 +43,87 @@ base_shot R k multiple =
     let here : along R k.base (take (k.base.place - k.base.place) k.entries) ≡ k.base = ap (λ (n : ℕ). along R k.base (take n k.entries)) none ∙ along-nil R k.base in
     let due : nat_eq (k.base.place % k.interval) 0 ≡ true = eq-eqb _ _ multiple in
     rw (le-ltb k.base.place k.base.place (omega arith), le-ltb (last_place k) k.base.place (omega arith), here, due) refl
+
+-- ---- the certificate that waits
+
+module _ {S : Type 0} (s : State S) (ready : IsReady s) (fit : IsFit s.views) (w : Waiting) (waits : s.views.waiting ≡ Some w) where
+  pub waiting_certified : IsCertified s.views.counts s.views.interval w.cert w.chosen
+  waiting_certified = subst (λ (o : Option Waiting). IfSome o (λ x. IsCertified s.views.counts s.views.interval x.cert x.chosen)) waits fit.waiting
+
+  pub waiting_given : IsSome (slice_get w.cert.new.stmt.changes w.chosen.provider)
+  waiting_given = provided s.views.counts s.views.interval w.cert w.chosen waiting_certified
+
+  module _ (c : Signed Change) (there : slice_get w.cert.new.stmt.changes w.chosen.provider ≡ Some c) where
+    some : 0 < c.stmt.told.stable_place.0
+    some = let kept : IsWaitingReady w = ready.views.waiting w waits in kept.proven c there
+
+    pub waiting_multiple : c.stmt.told.stable_place.0 % s.kept.interval ≡ 0
+    waiting_multiple = ap (λ (n : ℕ). c.stmt.told.stable_place.0 % n) (sym ready.board_interval) ∙ told_multiple s ready fit w.cert w.chosen waiting_certified c there some
+
+    pub waiting_small : c.stmt.told.stable_place.0 < 2 ^ 62
+    waiting_small = (told_range s ready fit w.cert w.chosen waiting_certified c there).stable_place.1
+
+    -- what is shown there is what its proof says
+    pub waiting_shown : (R : Rules S) (bytes : List ℕ) (k : Kept S) → IsShownAt R s.kept.interval c.stmt.told bytes k → IsStableShown s c.stmt.told k.base w.chosen
+    waiting_shown R bytes k shows =
+        let says = said s ready fit w.cert w.chosen waiting_certified c there some s.board.stable in
+        let (other, at, head) = accepted_provider s.views.counts s.views.interval (record { new = w.cert.new; chosen = w.chosen }) waiting_certified.accepted in
+        let same : other ≡ c = same_Some other c (sym at ∙ there) in
+        record {
+          place = shows.place;
+          head = shows.head;
+          proof_place = ap (λ (x : Check). x.place) says;
+          proof_head = ap (λ (x : Check). x.head) says;
+          chosen_there = subst (λ (x : Signed Change). head_in (stretch_of x.stmt.told) w.chosen.place.0 ≡ Some w.chosen.head) same head;
+        }
+
+-- ---- the row
+
+module _ {S : Type 0} (R : Rules S) (s : State S) (place : Place) (bytes : List ℕ) where
+  by_cause : (w : Waiting) (told : Told) (own : Option Cause) (cause : Cause) → own ≡ Some cause → finished R s (state_judged R s w told bytes own) ≡ refused cause s
+  by_cause w told own cause is = ap (λ (o : Option Cause). finished R s (state_judged R s w told bytes o)) is
+
+  by_provider : (w : Waiting) (o : Option (Signed Change)) (cause : Cause) → against_by (frames.State place bytes) o ≡ Some cause → finished R s (state_for R s w place bytes o) ≡ refused cause s
+  by_provider w None cause is = let e : causes.Unmatched ≡ cause = cc in ap (λ (x : Cause). refused x s) e
+  by_provider w (Some c) cause is = by_cause w c.stmt.told _ cause is
+
+  by_waiting : (o : Option Waiting) (cause : Cause) → against (frames.State place bytes) o ≡ Some cause → finished R s (state_heard R s place bytes o) ≡ refused cause s
+  by_waiting None cause is = let e : causes.Unmatched ≡ cause = cc in ap (λ (x : Cause). refused x s) e
+  by_waiting (Some w) cause is = by_provider w _ cause is
+
+  pub state_refused : (cause : Cause) → against (frames.State place bytes) s.views.waiting ≡ Some cause → finished R s (state_transfer R s place bytes) ≡ refused cause s
+  unfolding state_transfer
+  state_refused cause is = by_waiting s.views.waiting cause is
+
+  -- it is the one that is waited for
+  pub record IsHeard : Type 0 where
+    pub w : Waiting
+    pub provider : Signed Change
+    pub awaited : IsAwaited s.views.waiting w provider
+    pub fits : state_cause (wanted_of provider.stmt.told) place bytes ≡ None
+
+  heard_by : (w : Waiting) → s.views.waiting ≡ Some w → (o : Option (Signed Change)) → slice_get w.cert.new.stmt.changes w.chosen.provider ≡ o → against_by (frames.State place bytes) o ≡ None → IsHeard
+  heard_by w waits None there none = absurd cc
+  heard_by w waits (Some c) there none = record { w = w; provider = c; awaited = record { waits = waits; given = there }; fits = none }
+
+  heard_in : (o : Option Waiting) → s.views.waiting ≡ o → against (frames.State place bytes) o ≡ None → IsHeard
+  heard_in None waits none = absurd cc
+  heard_in (Some w) waits none = heard_by w waits _ refl none
+
+  pub state_heard_by : against (frames.State place bytes) s.views.waiting ≡ None → IsHeard
+  state_heard_by none = heard_in s.views.waiting refl none
+
+  -- where it shows nothing
+  pub state_shows_none : (h : IsHeard) → point_in R h.provider.stmt.told.stable_place h.provider.stmt.told.stable_head bytes ≡ None → finished R s (state_transfer R s place bytes) ≡ refused causes.NotState s
+  unfolding state_transfer
+  state_shows_none h none =
+      ap (λ (o : Option Waiting). finished R s (state_heard R s place bytes o)) h.awaited.waits
+      ∙ ap (λ (o : Option (Signed Change)). finished R s (state_for R s h.w place bytes o)) h.awaited.given
+      ∙ ap (λ (o : Option Cause). finished R s (state_judged R s h.w h.provider.stmt.told bytes o)) h.fits
+      ∙ ap (λ (o : Option (Point S)). finished R s (install R s h.w h.provider.stmt.told o)) none
+
+  -- where it shows a state
+  pub state_shows : (ready : IsReady s) (fit : IsFit s.views) (signer : IsSigner s) (h : IsHeard) (k : Kept S) → IsShownAt R s.kept.interval h.provider.stmt.told bytes k
+      → installed_as R s h.w h.provider.stmt.told k ≡ finished R s (state_transfer R s place bytes)
+  state_shows ready fit signer h k shows =
+      sym (installs R s h.w h.provider k.base (waiting_shown s ready fit h.w h.awaited.waits h.provider h.awaited.given R bytes k shows) place bytes signer h.awaited.waits h.awaited.given h.fits shows.point)

@@ -20,7 +20,7 @@ ghost use Rattle.zy_table.specs.declared.deeds.AnyFrame.TheVariants as sent;
 ghost use Rattle.zy_table.specs.Beginning.{finished};
 ghost use Rattle.zy_table.specs.Fetching.{fetch as fetch_row, state_transfer as state_row};
 ghost use Rattle.zy_core.specs.Ready.{IsReady};
-ghost use Rattle.zy_entering.specs.Fetching.{IsAwaited, against as cause_against};
+ghost use Rattle.zy_entering.specs.Fetching.{IsAwaited, IsShownAt, against as cause_against};
 
 use crate::judging::checkpoints;
 use zy_base::{Answer, Bytes, Cause, Machine, Place, View, Want};
@@ -82,6 +82,102 @@ pub fn fetch<M: Machine>(core: Core<M>, vote: &Signed<Fetch>) -> Result<Moved<M>
         Err(StateFault::Refused(cause)) => Ok(core.refused(cause)),
         Err(StateFault::Want) => Err(Want),
     }
+}
+
+// ---- a snapshot comes
+
+// Why it isn't the one that a certificate waits for.
+fn state_cause<M: Machine>(core: &Core<M>, frame: &ViewFrame) -> Option<Cause>
+    ensures { result ≡ cause_against frame.now core.now.views.waiting }
+{
+    match core.views().waiting() {
+        None => Some(Cause::Unmatched),
+        Some(waiting) => {
+            let told = told_in(&waiting.cert, &waiting.chosen);
+            take_state(told.stable_place, &told.state, frame).err()
+        }
+    }
+}
+
+// The same of a place and a snapshot. Beside it the snapshot.
+fn judge_state<M: Machine>(core: &Core<M>, place: Place, snapshot: Bytes) -> (Option<Cause>, Bytes)
+    ensures cause { result.0 ≡ cause_against (frames.State place snapshot) core.now.views.waiting }
+    ensures same { result.1 ≡ snapshot }
+{
+    let frame = ViewFrame::State { place, snapshot };
+    let cause = state_cause(core, &frame);
+    match frame {
+        ViewFrame::State { snapshot, .. } => (cause, snapshot),
+        _ => unreachable!(),
+    }
+}
+
+// An execution that shows what the bytes spell at the stable checkpoint of a report.
+fn shown<M: Machine>(
+    core: &Core<M>,
+    told: &Told,
+    snapshot: &[u8],
+) -> Result<Exec<M>, InstallFault>
+    requires multiple { told.now.stable_place.0 % core.now.kept.interval ≡ 0 }
+    requires place { told.now.stable_place.0 < 2 ^ 62 }
+    ensures shown { IfOk result (IsShownAt M.rules core.now.kept.interval told.now snapshot.now) }
+    ensures not_state { IsErrOf result NotState → point_in M.rules told.now.stable_place told.now.stable_head snapshot.now ≡ None }
+{
+    // With its view comes what holds of every replica: how far its checkpoints lie apart.
+    let _view = core.view();
+    let alloc = core.allocator();
+    let interval = core.exec().interval();
+    let mut exec = Exec::start(alloc, M::empty(alloc)?, interval)?;
+    exec.install(told.stable_place, told.stable_head, snapshot)?;
+    Ok(exec)
+}
+
+// The same for the certificate that waits.
+fn shown_waiting<M: Machine>(core: &Core<M>, snapshot: &[u8]) -> Result<Exec<M>, InstallFault>
+    requires { IsSome core.now.views.waiting }
+    ensures shown { (w : Waiting) (provider : IsSigned Change) → IsAwaited core.now.views.waiting w provider → IfOk result (IsShownAt M.rules core.now.kept.interval provider.stmt.told snapshot.now) }
+    ensures not_state { (w : Waiting) (provider : IsSigned Change) → IsAwaited core.now.views.waiting w provider → IsErrOf result NotState → point_in M.rules provider.stmt.told.stable_place provider.stmt.told.stable_head snapshot.now ≡ None }
+{
+    // With its view comes what holds of every replica: the report breaks no rule.
+    let _view = core.view();
+    match core.views().waiting() {
+        None => unreachable!(),
+        Some(waiting) => shown(core, told_in(&waiting.cert, &waiting.chosen), snapshot),
+    }
+}
+
+// The view that begins then, the place of its choice, and how many checkpoints that answers.
+fn awaited<M: Machine>(core: &Core<M>) -> (View, Place, u64)
+    requires { IsSome core.now.views.waiting }
+    ensures view { (w : Waiting) (provider : IsSigned Change) → IsAwaited core.now.views.waiting w provider → result.0 ≡ w.cert.new.stmt.view }
+    ensures place { (w : Waiting) (provider : IsSigned Change) → IsAwaited core.now.views.waiting w provider → result.1 ≡ w.chosen.place }
+    ensures small { result.1.0 < 2 ^ 62 }
+    ensures signs { (w : Waiting) (provider : IsSigned Change) → IsAwaited core.now.views.waiting w provider → result.2 ≡ length (checkpoints_between core.now.kept.interval provider.stmt.told.stable_place.0 w.chosen.place.0) }
+{
+    // With its view comes what holds of every replica: how far its checkpoints lie apart.
+    let _view = core.view();
+    let interval = core.exec().interval();
+    match core.views().waiting() {
+        None => unreachable!(),
+        Some(waiting) => {
+            let place = waiting.chosen.place;
+            let told = told_in(&waiting.cert, &waiting.chosen);
+            let signs = checkpoints(interval, told.stable_place, place);
+            (waiting.cert.new.stmt.view, place, signs)
+        }
+    }
+}
+
+// The view begins from what is shown.
+fn begin_from<M: Machine>(
+    core: Core<M>,
+    exec: Exec<M>,
+    view: View,
+    place: Place,
+) -> Result<Moved<M>, Want> {
+    let (core, common, gots) = core.install(exec)?;
+    let begun = core.begin().adopts(view, common, gots)?;
+    Ok(respond_up_to(begun, place)?.ends(Answer::Taken))
 }
 
 /// A snapshot of a place. Where it is the one that a certificate waits for, the view of the certificate begins from there.
