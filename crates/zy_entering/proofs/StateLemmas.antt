@@ -1,5 +1,5 @@
 -- The snapshot at the base, and a snapshot that comes.
-use Rattle.std.proofs.Common.{◌≡◌, ℕ, ◌+◌, ◌-◌, ◌%◌, ◌≤◌, ◌<◌, nat_lt, nat_eq, Bool, true, false, if◌then◌else◌, List, [], ◌∷◌, length, take, Option, Some, None, refl, sym, ap, ◌∙◌, subst, arith}
+use Rattle.std.proofs.Common.{◌≡◌, ℕ, ◌+◌, ◌-◌, ◌%◌, ◌≤◌, ◌<◌, nat_le, nat_lt, nat_eq, Bool, true, false, if◌then◌else◌, List, [], ◌∷◌, length, take, Option, Some, None, refl, sym, ap, ◌∙◌, subst, arith}
 use Rattle.std.specs.Prelude.{◌^◌, slice_get, IfSome, IsSome}
 use Rattle.std.proofs.lemmas.Bool.{eq-eqb, le-ltb}
 use Rattle.std.proofs.lemmas.Option.{same_Some}
@@ -7,12 +7,16 @@ use Rattle.zy_base.specs.Machine.{Rules}
 use Rattle.zy_base.specs.declared.cause.Cause.{Cause}
 use Rattle.zy_base.specs.declared.cause.Cause.TheVariants as causes
 use Rattle.zy_base.specs.declared.ids.Place.{Place}
+use Rattle.zy_base.specs.declared.ids.View.{View}
+use Rattle.zy_base.specs.declared.step.Answer.TheVariants.{Taken}
 use Rattle.zy_chain.specs.Stretch.{head_in}
 use Rattle.zy_parts.specs.declared.signed.Signed.{Signed}
 use Rattle.zy_parts.specs.declared.statements.Check.{Check}
 use Rattle.zy_parts.specs.declared.reports.Change.{Change}
 use Rattle.zy_parts.specs.declared.reports.Told.{Told}
 use Rattle.zy_vframes.specs.declared.frame.ViewFrame.TheVariants as frames
+use Rattle.zy_vframes.specs.declared.frame.ViewCert.{ViewCert}
+use Rattle.zy_check.specs.Board.{with_stable}
 use Rattle.zy_check.specs.States.{state_cause}
 use Rattle.zy_evidence.specs.Reading.{stretch_of}
 use Rattle.zy_exec.proofs.ReplayLemmas.{along-nil}
@@ -22,17 +26,23 @@ use Rattle.zy_exec.specs.Showing.{point_in}
 use Rattle.zy_exec.specs.Shots.{snapshot_in}
 use Rattle.zy_exec.specs.Snapshot.{snapshot_of}
 use Rattle.zy_change.proofs.AcceptedLemmas.{accepted_provider}
+use Rattle.zy_change.specs.declared.kept.Chosen.{Chosen}
 use Rattle.zy_change.specs.declared.kept.Waiting.{Waiting}
 use Rattle.zy_change.specs.Fit.{IsCertified, IsFit}
-use Rattle.zy_table.specs.State.{State}
-use Rattle.zy_table.specs.Deeds.{refused}
-use Rattle.zy_table.specs.Beginning.{finished, wanted_of}
-use Rattle.zy_table.specs.Fetching.{install, state_for, state_heard, state_judged, state_transfer}
-use Rattle.zy_core.proofs.AdoptLemmas.{provided, said, told_multiple, told_range}
+use Rattle.zy_table.specs.declared.deeds.Act.TheVariants.{Adopts}
+use Rattle.zy_table.specs.declared.deeds.Got.{Got}
+use Rattle.zy_table.specs.State.{State, leaves_of}
+use Rattle.zy_table.specs.Deeds.{act, begin, ends, refused}
+use Rattle.zy_table.specs.Adopting.{checkpoints_between, common_with, gots_of, taken_over}
+use Rattle.zy_table.specs.Leaving.{goes}
+use Rattle.zy_table.specs.Beginning.{active_by, finished, respond_up_to, take_up, wanted_of, with_history}
+use Rattle.zy_table.specs.Fetching.{install, installed, state_for, state_heard, state_judged, state_transfer}
+use Rattle.zy_core.proofs.AdoptLemmas.{provided, said, taken_interval, told_multiple, told_range}
 use Rattle.zy_core.specs.Ready.{IsReady, IsWaitingReady}
 use Rattle.zy_leaving.specs.Follows.{IsSigner}
 use Rattle.zy_finish.proofs.InstallLemmas.{installs}
-use Rattle.zy_finish.specs.Ending.{IsStableShown}
+use Rattle.zy_finish.specs.Ending.{IsStableShown, counted}
+use Rattle.zy_finish.specs.Signing.{signs_taken}
 use Rattle.zy_entering.specs.Fetching.{IsAwaited, IsShownAt, against, against_by, installed_as}
 
 -- ---- the snapshot at the base
@@ -127,3 +137,54 @@ module _ {S : Type 0} (R : Rules S) (s : State S) (place : Place) (bytes : List 
       → installed_as R s h.w h.provider.stmt.told k ≡ finished R s (state_transfer R s place bytes)
   state_shows ready fit signer h k shows =
       sym (installs R s h.w h.provider k.base (waiting_shown s ready fit h.w h.awaited.waits h.provider h.awaited.given R bytes k shows) place bytes signer h.awaited.waits h.awaited.given h.fits shows.point)
+
+-- ---- the view that begins with it
+
+module _ {S : Type 0} (R : Rules S) (s : State S) (cert : ViewCert) (chosen : Chosen) (told : Told) (point : Point S) (can : IsStableShown s told point chosen) where
+  abbrev from : State S
+  from = installed R point told s
+
+  abbrev begun : State S
+  begun = active_by cert chosen (with_history R told chosen.place from)
+
+  from_stable : from.board.stable.place.0 ≡ told.stable_place.0
+  unfolding with_stable
+  from_stable = ap (λ (p : Place). p.0) can.proof_place
+
+  from_interval : from.kept.interval ≡ s.kept.interval
+  from_interval = refl
+
+  not_further : nat_lt from.board.stable.place.0 told.stable_place.0 ≡ false
+  not_further = le-ltb _ _ (omega (arith, from_stable))
+
+  with_is : with_history R told chosen.place from ≡ record from { kept = taken_over (stretch_of told) chosen.place.0 from.kept }
+  with_is = rw not_further refl
+
+  pub from_signs : signs_taken from told chosen.place ≡ length (checkpoints_between s.kept.interval told.stable_place.0 chosen.place.0)
+  from_signs =
+      ap (λ (b : Bool). length (checkpoints_between from.kept.interval (if b then told.stable_place.0 else from.board.stable.place.0) chosen.place.0)) not_further
+      ∙ ap (λ (n : ℕ). length (checkpoints_between from.kept.interval n chosen.place.0)) from_stable
+      ∙ ap (λ (n : ℕ). length (checkpoints_between n told.stable_place.0 chosen.place.0)) from_interval
+
+  -- it takes as many leaves
+  pub begun_leaves : length (checkpoints_between s.kept.interval told.stable_place.0 chosen.place.0) ≤ leaves_of s → length (checkpoints_between begun.kept.interval begun.board.stable.place.0 chosen.place.0) ≤ leaves_of begun
+  begun_leaves few =
+      subst (λ (x : State S). length (checkpoints_between x.kept.interval x.board.stable.place.0 chosen.place.0) ≤ leaves_of x) (sym with_is)
+      (subst (λ (n : ℕ). length (checkpoints_between (taken_over (stretch_of told) chosen.place.0 from.kept).interval n chosen.place.0) ≤ leaves_of from) (sym from_stable)
+      (subst (λ (n : ℕ). length (checkpoints_between n told.stable_place.0 chosen.place.0) ≤ leaves_of from) (sym (taken_interval (stretch_of told) chosen.place.0 from.kept ∙ from_interval)) few))
+
+  pub begun_up : (core : State S) (view : View) (place common : Place) (gots : List Got) → core ≡ begun → view ≡ cert.new.stmt.view → place ≡ chosen.place → common.0 ≡ common_with (stretch_of told) chosen.place.0 from.kept → gots ≡ gots_of R (stretch_of told) chosen.place.0 from.kept
+      → respond_up_to R place.0 (act (Adopts view common gots) (begin core)) ≡ take_up R cert chosen told (begin from)
+  unfolding take_up
+  begun_up core view place common gots is view_is place_is common_is gots_is =
+      rw (is, view_is, place_is, gots_is)
+      (ap (λ (n : ℕ). respond_up_to R chosen.place.0 (act (Adopts cert.new.stmt.view (record { 0 = n }) (gots_of R (stretch_of told) chosen.place.0 from.kept)) (begin begun))) common_is)
+
+  -- the leaves are counted before
+  pub installed_in : (n : ℕ) → n ≡ length (checkpoints_between s.kept.interval told.stable_place.0 chosen.place.0) → nat_le n (leaves_of s) ≡ true
+      → ends Taken (take_up R cert chosen told (begin from)) ≡ counted s (signs_taken from told chosen.place) (goes Taken (take_up R cert chosen told (begin from)))
+  installed_in n is few = let e : nat_le (signs_taken from told chosen.place) (leaves_of s) ≡ true = ap (λ (m : ℕ). nat_le m (leaves_of s)) (from_signs ∙ sym is) ∙ few in rw e refl
+
+  pub installed_spent : (n : ℕ) → n ≡ length (checkpoints_between s.kept.interval told.stable_place.0 chosen.place.0) → nat_le n (leaves_of s) ≡ false
+      → refused causes.KeySpent s ≡ counted s (signs_taken from told chosen.place) (goes Taken (take_up R cert chosen told (begin from)))
+  installed_spent n is many = let e : nat_le (signs_taken from told chosen.place) (leaves_of s) ≡ false = ap (λ (m : ℕ). nat_le m (leaves_of s)) (from_signs ∙ sym is) ∙ many in rw e refl

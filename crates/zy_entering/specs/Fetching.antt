@@ -17,7 +17,7 @@ use Rattle.zy_table.specs.Deeds.{Outcome, begin}
 use Rattle.zy_table.specs.Leaving.{goes}
 use Rattle.zy_table.specs.Beginning.{take_up, wanted_of}
 use Rattle.zy_table.specs.Fetching.{installed}
-use Rattle.zy_finish.specs.Ending.{counted}
+use Rattle.zy_finish.specs.Ending.{IsStableShown, counted}
 use Rattle.zy_finish.specs.Signing.{signs_taken}
 
 -- by the report that gives its choice
@@ -35,6 +35,12 @@ pub record IsAwaited (waiting : Option Waiting) (w : Waiting) (provider : Signed
   pub waits : waiting ≡ Some w
   pub given : slice_get w.cert.new.stmt.changes w.chosen.provider ≡ Some provider
 
+-- there are such
+pub record Awaits (waiting : Option Waiting) : Type 0 where
+  pub w : Waiting
+  pub provider : Signed Change
+  pub is : IsAwaited waiting w provider
+
 -- An execution shows what these bytes spell at the stable checkpoint of a report, and nothing above it.
 pub record IsShownAt {S : Type 0} (R : Rules S) (many : ℕ) (told : Told) (bytes : List ℕ) (k : Kept S) : Type 0 where
   pub interval : k.interval ≡ many
@@ -42,6 +48,12 @@ pub record IsShownAt {S : Type 0} (R : Rules S) (many : ℕ) (told : Told) (byte
   pub place : k.base.place ≡ told.stable_place.0
   pub head : k.base.head ≡ told.stable_head
   pub point : point_in R told.stable_place told.stable_head bytes ≡ Some k.base
+
+-- which stands at the stable checkpoint of that report
+pub record CanShow {S : Type 0} (s : State S) (w : Waiting) (told : Told) (k : Kept S) : Type 0 where
+  pub interval : k.interval ≡ s.kept.interval
+  pub nothing : k.entries ≡ []
+  pub stable : IsStableShown s told k.base w.chosen
 
 -- what a step comes to with the snapshot that this execution shows
 abbrev pub installed_as : {S : Type 0} → Rules S → State S → Waiting → Told → Kept S → Outcome S

@@ -1,6 +1,6 @@
 //! What a replica makes of another's wish for its stable snapshot, and of a snapshot that comes.
 
-ghost use Rattle.std.specs.Prelude.{◌≡◌, ◌≤◌, ◌<◌, ◌%◌, ◌^◌, [], length, IsSome, IsErrOf, IfOk, IfErr, Some, None};
+ghost use Rattle.std.specs.Prelude.{◌≡◌, ◌≤◌, ◌<◌, ◌%◌, ◌^◌, length, true, IsErrOf, IfOk, IfErr, None};
 ghost use Rattle.zy_base.specs.declared.ids.Place.{Place as PlaceThere};
 ghost use Rattle.zy_parts.specs.Reports.{IsFetchInRange};
 ghost use Rattle.zy_parts.specs.declared.reports.Change.{Change};
@@ -17,12 +17,15 @@ ghost use Rattle.zy_table.specs.Adopting.{checkpoints_between};
 ghost use Rattle.zy_table.specs.Sending.{CanBeSent};
 ghost use Rattle.zy_table.specs.State.{leaves_of};
 ghost use Rattle.zy_table.specs.declared.deeds.AnyFrame.TheVariants as sent;
-ghost use Rattle.zy_table.specs.Beginning.{finished};
-ghost use Rattle.zy_table.specs.Fetching.{fetch as fetch_row, state_transfer as state_row};
+ghost use Rattle.zy_table.specs.Beginning.{finished, take_up};
+ghost use Rattle.zy_table.specs.Deeds.{begin, ends};
+ghost use Rattle.zy_base.specs.declared.step.Answer.TheVariants.{Taken};
+ghost use Rattle.zy_leaving.specs.Follows.{IsSigner};
+ghost use Rattle.zy_table.specs.Fetching.{fetch as fetch_row, installed, state_transfer as state_row};
 ghost use Rattle.zy_core.specs.Ready.{IsReady};
-ghost use Rattle.zy_entering.specs.Fetching.{IsAwaited, IsShownAt, against as cause_against};
+ghost use Rattle.zy_entering.specs.Fetching.{Awaits, CanShow, IsAwaited, IsShownAt, against as cause_against, installed_as};
 
-use crate::judging::checkpoints;
+use crate::judging::{checkpoints, is_signer};
 use zy_base::{Answer, Bytes, Cause, Machine, Place, View, Want};
 use zy_begin::respond_up_to;
 use zy_check::{StateFault, take_state};
@@ -134,7 +137,7 @@ fn shown<M: Machine>(
 
 // The same for the certificate that waits.
 fn shown_waiting<M: Machine>(core: &Core<M>, snapshot: &[u8]) -> Result<Exec<M>, InstallFault>
-    requires { IsSome core.now.views.waiting }
+    requires { Awaits core.now.views.waiting }
     ensures shown { (w : Waiting) (provider : IsSigned Change) → IsAwaited core.now.views.waiting w provider → IfOk result (IsShownAt M.rules core.now.kept.interval provider.stmt.told snapshot.now) }
     ensures not_state { (w : Waiting) (provider : IsSigned Change) → IsAwaited core.now.views.waiting w provider → IsErrOf result NotState → point_in M.rules provider.stmt.told.stable_place provider.stmt.told.stable_head snapshot.now ≡ None }
 {
@@ -148,7 +151,7 @@ fn shown_waiting<M: Machine>(core: &Core<M>, snapshot: &[u8]) -> Result<Exec<M>,
 
 // The view that begins then, the place of its choice, and how many checkpoints that answers.
 fn awaited<M: Machine>(core: &Core<M>) -> (View, Place, u64)
-    requires { IsSome core.now.views.waiting }
+    requires { Awaits core.now.views.waiting }
     ensures view { (w : Waiting) (provider : IsSigned Change) → IsAwaited core.now.views.waiting w provider → result.0 ≡ w.cert.new.stmt.view }
     ensures place { (w : Waiting) (provider : IsSigned Change) → IsAwaited core.now.views.waiting w provider → result.1 ≡ w.chosen.place }
     ensures small { result.1.0 < 2 ^ 62 }
@@ -174,10 +177,64 @@ fn begin_from<M: Machine>(
     exec: Exec<M>,
     view: View,
     place: Place,
-) -> Result<Moved<M>, Want> {
+) -> Result<Moved<M>, Want>
+    requires awaits { Awaits core.views.waiting }
+    requires shown { (w : Waiting) (provider : IsSigned Change) → IsAwaited core.views.waiting w provider → CanShow core w provider.stmt.told exec }
+    requires view { (w : Waiting) (provider : IsSigned Change) → IsAwaited core.views.waiting w provider → view ≡ w.cert.new.stmt.view }
+    requires place { (w : Waiting) (provider : IsSigned Change) → IsAwaited core.views.waiting w provider → place ≡ w.chosen.place }
+    requires small { place.0 < 2 ^ 62 }
+    requires leaves { (w : Waiting) (provider : IsSigned Change) → IsAwaited core.views.waiting w provider → length (checkpoints_between core.kept.interval provider.stmt.told.stable_place.0 w.chosen.place.0) ≤ leaves_of core }
+    ensures { (w : Waiting) (provider : IsSigned Change) → IsAwaited core.views.waiting w provider → IfOk result (λ m. m ≡ ends Taken (take_up M.rules w.cert w.chosen provider.stmt.told (begin (installed M.rules exec.base provider.stmt.told core)))) }
+{
     let (core, common, gots) = core.install(exec)?;
     let begun = core.begin().adopts(view, common, gots)?;
     Ok(respond_up_to(begun, place)?.ends(Answer::Taken))
+}
+
+// The leaves are counted before that.
+fn install_counted<M: Machine>(core: Core<M>, exec: Exec<M>) -> Result<Moved<M>, Want>
+    requires awaits { Awaits core.views.waiting }
+    requires shown { (w : Waiting) (provider : IsSigned Change) → IsAwaited core.views.waiting w provider → CanShow core w provider.stmt.told exec }
+    ensures { (w : Waiting) (provider : IsSigned Change) → IsAwaited core.views.waiting w provider → IfOk result (λ m. m ≡ installed_as M.rules core w provider.stmt.told exec) }
+{
+    let (view, place, signs) = awaited(&core);
+    if core.has_leaves(signs) {
+        begin_from(core, exec, view, place)
+    } else {
+        core.not_heard(exec, Cause::KeySpent)
+    }
+}
+
+// The snapshot is the one that is waited for.
+fn show<M: Machine>(core: Core<M>, snapshot: Bytes) -> Result<Moved<M>, Want>
+    requires ready { IsReady core }
+    requires fit { IsFit core.views }
+    requires signer { IsSigner core }
+    requires awaits { Awaits core.views.waiting }
+    ensures { (place : PlaceThere) → cause_against (frames.State place snapshot) core.views.waiting ≡ None → IfOk result (λ m. m ≡ finished M.rules core (state_row M.rules core place snapshot)) }
+{
+    match shown_waiting(&core, snapshot.as_slice()) {
+        Ok(exec) => {
+            drop(snapshot);
+            install_counted(core, exec)
+        }
+        Err(InstallFault::NotState) => core.not_heard(snapshot, Cause::NotState),
+        Err(InstallFault::Want) => {
+            drop(snapshot);
+            Err(Want)
+        }
+    }
+}
+
+// What holds of every replica.
+fn is_fit<M: Machine>(core: &Core<M>) -> bool
+    ensures is { result ≡ true }
+    ensures ready { IsReady core.now }
+    ensures fit { IsFit core.now.views }
+    ensures signer { IsSigner core.now }
+{
+    let _own = core.views().view();
+    is_signer(core)
 }
 
 /// A snapshot of a place. Where it is the one that a certificate waits for, the view of the certificate begins from there.
@@ -188,5 +245,10 @@ pub fn state_transfer<M: Machine>(
 ) -> Result<Moved<M>, Want>
     ensures { IfOk result (λ m. m ≡ finished M.rules core (state_row M.rules core place snapshot)) }
 {
-    Err(Want)
+    let fit = is_fit(&core);
+    prove!(fit);
+    match judge_state(&core, place, snapshot) {
+        (Some(cause), snapshot) => core.not_heard(snapshot, cause),
+        (None, snapshot) => show(core, snapshot),
+    }
 }
