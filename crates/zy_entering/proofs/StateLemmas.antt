@@ -1,11 +1,13 @@
 -- The snapshot at the base, and a snapshot that comes.
-use Rattle.std.proofs.Common.{◌≡◌, ℕ, ◌+◌, ◌-◌, ◌%◌, ◌≤◌, ◌<◌, nat_le, nat_lt, nat_eq, Bool, true, false, if◌then◌else◌, List, [], ◌∷◌, length, take, Option, Some, None, refl, sym, ap, ◌∙◌, subst, arith}
+use Rattle.std.proofs.Common.{◌≡◌, ℕ, ◌+◌, ◌-◌, ◌%◌, ◌≤◌, ◌<◌, nat_le, nat_lt, nat_eq, Bool, true, false, if◌then◌else◌, List, [], ◌∷◌, length, take, Option, Some, None, Result, Err, refl, sym, ap, ◌∙◌, subst, arith}
 use Rattle.std.specs.Prelude.{◌^◌, slice_get, IfSome, IsSome}
 use Rattle.std.proofs.lemmas.Bool.{eq-eqb, le-ltb}
 use Rattle.std.proofs.lemmas.Option.{same_Some}
 use Rattle.zy_base.specs.Machine.{Rules}
 use Rattle.zy_base.specs.declared.cause.Cause.{Cause}
 use Rattle.zy_base.specs.declared.cause.Cause.TheVariants as causes
+use Rattle.zy_base.specs.declared.counts.Counts.{Counts}
+use Rattle.zy_base.specs.declared.ids.Digest.{Digest}
 use Rattle.zy_base.specs.declared.ids.Place.{Place}
 use Rattle.zy_base.specs.declared.ids.View.{View}
 use Rattle.zy_base.specs.declared.step.Answer.TheVariants.{Taken}
@@ -14,12 +16,15 @@ use Rattle.zy_parts.specs.declared.signed.Signed.{Signed}
 use Rattle.zy_parts.specs.declared.statements.Check.{Check}
 use Rattle.zy_parts.specs.declared.reports.Change.{Change}
 use Rattle.zy_parts.specs.declared.reports.Told.{Told}
+use Rattle.zy_vframes.specs.declared.frame.ViewFrame.{ViewFrame}
 use Rattle.zy_vframes.specs.declared.frame.ViewFrame.TheVariants as frames
 use Rattle.zy_vframes.specs.declared.frame.ViewCert.{ViewCert}
 use Rattle.zy_check.specs.Board.{with_stable}
-use Rattle.zy_check.specs.States.{state_cause}
+use Rattle.zy_check.specs.States.{frame_cause, state_cause}
 use Rattle.zy_evidence.specs.Reading.{stretch_of}
+use Rattle.zy_wire.specs.Spelling.{IsBytes}
 use Rattle.zy_exec.proofs.ReplayLemmas.{along-nil}
+use Rattle.zy_exec.specs.Installed.{IsInstalled, IsShown}
 use Rattle.zy_exec.specs.Kept.{Kept, last_place}
 use Rattle.zy_exec.specs.Replay.{Point, along}
 use Rattle.zy_exec.specs.Showing.{point_in}
@@ -54,7 +59,53 @@ base_shot R k multiple =
     let due : nat_eq (k.base.place % k.interval) 0 ≡ true = eq-eqb _ _ multiple in
     rw (le-ltb k.base.place k.base.place (omega arith), le-ltb (last_place k) k.base.place (omega arith), here, due) refl
 
+-- ---- what is shown
+
+module _ {S : Type 0} (IsState : S → Type 0) (R : Rules S) where
+  -- a state is read back from its snapshot, and what is read is one
+  abbrev pub Spells : Type 0
+  Spells = (place : Place) (head : Digest) (p : Point S) → IsShown IsState p → point_in R place head (snapshot_of R p) ≡ Some (record { place = place.0; head = head; state = p.state; known = p.known })
+
+  abbrev pub Shows : Type 0
+  Shows = (place : Place) (head : Digest) (bytes : List ℕ) → IsBytes bytes → (p : Point S) → point_in R place head bytes ≡ Some p → IsShown IsState p × (snapshot_of R p ≡ bytes) × (p.place ≡ place.0) × (p.head ≡ head)
+
+  pub shown_at : Spells → (many i : ℕ) (told : Told) (bytes : List ℕ) (k : Kept S) → i ≡ many → IsInstalled IsState R i told.stable_place.0 told.stable_head bytes k → IsShownAt R many told bytes k
+  shown_at spells many i told bytes k same installed_is =
+      let base = k.base in
+      record {
+        interval = installed_is.interval_is ∙ same;
+        nothing = installed_is.nothing_above;
+        place = installed_is.place_is;
+        head = installed_is.head_is;
+        point = ap (point_in R told.stable_place told.stable_head) (sym installed_is.spelled)
+            ∙ spells told.stable_place told.stable_head base installed_is.shown
+            ∙ (λ i. Some (record { place = (sym installed_is.place_is) i; head = (sym installed_is.head_is) i; state = base.state; known = base.known }));
+      }
+
+  pub shows_none : Shows → (place : Place) (head : Digest) (bytes : List ℕ) → IsBytes bytes → ((p : Point S) → IsShown IsState p → snapshot_of R p ≡ bytes → ⊥) → point_in R place head bytes ≡ None
+  shows_none shows place head bytes are never = by (point_in R place head bytes) refl
+    where
+      by : (o : Option (Point S)) → point_in R place head bytes ≡ o → o ≡ None
+      by None is = refl
+      by (Some p) is = let is_shown = shows place head bytes are p is in absurd (never p is_shown.0 is_shown.1)
+
+-- a fault is the same whatever else could have come
+pub same_fault : {X Y E : Type 0} (e f : E) → ◌≡◌ {A = Result X E} (Err e) (Err f) → ◌≡◌ {A = Result Y E} (Err e) (Err f)
+same_fault e f is = let same : e ≡ f = cc in rw same refl
+
 -- ---- the certificate that waits
+
+-- what is told is told by the report of the one that waits
+pub awaited_told : (o : Option Waiting) (x : Waiting) (told : Told) → Some x ≡ o → ((c : Signed Change) → slice_get x.cert.new.stmt.changes x.chosen.provider ≡ Some c → told ≡ c.stmt.told) → (w : Waiting) (provider : Signed Change) → IsAwaited o w provider → told ≡ provider.stmt.told
+awaited_told o x told here tells w provider is =
+    let same : x ≡ w = same_Some x w (here ∙ is.waits) in
+    tells provider (ap (λ (y : Waiting). slice_get y.cert.new.stmt.changes y.chosen.provider) same ∙ is.given)
+
+pub heard_cause : (counts : Counts) (interval : ℕ) (frame : ViewFrame) (o : Option Waiting) (x : Waiting) (told : Told) → Some x ≡ o → IsCertified counts interval x.cert x.chosen
+    → ((c : Signed Change) → slice_get x.cert.new.stmt.changes x.chosen.provider ≡ Some c → told ≡ c.stmt.told) → frame_cause (wanted_of told) frame ≡ against frame o
+heard_cause counts interval frame o x told here is tells =
+    let (c, there, head) = accepted_provider counts interval (record { new = x.cert.new; chosen = x.chosen }) is.accepted in
+    ap (λ (t : Told). frame_cause (wanted_of t) frame) (tells c there) ∙ ap (against_by frame) (sym there) ∙ ap (against frame) here
 
 module _ {S : Type 0} (s : State S) (ready : IsReady s) (fit : IsFit s.views) (w : Waiting) (waits : s.views.waiting ≡ Some w) where
   pub waiting_certified : IsCertified s.views.counts s.views.interval w.cert w.chosen
@@ -167,11 +218,15 @@ module _ {S : Type 0} (R : Rules S) (s : State S) (cert : ViewCert) (chosen : Ch
       ∙ ap (λ (n : ℕ). length (checkpoints_between n told.stable_place.0 chosen.place.0)) from_interval
 
   -- it takes as many leaves
-  pub begun_leaves : length (checkpoints_between s.kept.interval told.stable_place.0 chosen.place.0) ≤ leaves_of s → length (checkpoints_between begun.kept.interval begun.board.stable.place.0 chosen.place.0) ≤ leaves_of begun
+  begun_leaves : length (checkpoints_between s.kept.interval told.stable_place.0 chosen.place.0) ≤ leaves_of s → length (checkpoints_between begun.kept.interval begun.board.stable.place.0 chosen.place.0) ≤ leaves_of begun
   begun_leaves few =
       subst (λ (x : State S). length (checkpoints_between x.kept.interval x.board.stable.place.0 chosen.place.0) ≤ leaves_of x) (sym with_is)
       (subst (λ (n : ℕ). length (checkpoints_between (taken_over (stretch_of told) chosen.place.0 from.kept).interval n chosen.place.0) ≤ leaves_of from) (sym from_stable)
       (subst (λ (n : ℕ). length (checkpoints_between n told.stable_place.0 chosen.place.0) ≤ leaves_of from) (sym (taken_interval (stretch_of told) chosen.place.0 from.kept ∙ from_interval)) few))
+
+  pub begun_enough : (core : State S) (place : Place) → core ≡ begun → place ≡ chosen.place → length (checkpoints_between s.kept.interval told.stable_place.0 chosen.place.0) ≤ leaves_of s
+      → length (checkpoints_between core.kept.interval core.board.stable.place.0 place.0) ≤ leaves_of core
+  begun_enough core place is place_is few = rw (is, place_is) (begun_leaves few)
 
   pub begun_up : (core : State S) (view : View) (place common : Place) (gots : List Got) → core ≡ begun → view ≡ cert.new.stmt.view → place ≡ chosen.place → common.0 ≡ common_with (stretch_of told) chosen.place.0 from.kept → gots ≡ gots_of R (stretch_of told) chosen.place.0 from.kept
       → respond_up_to R place.0 (act (Adopts view common gots) (begin core)) ≡ take_up R cert chosen told (begin from)

@@ -1,13 +1,13 @@
 //! What a replica makes of another's wish for its stable snapshot, and of a snapshot that comes.
 
-ghost use Rattle.std.specs.Prelude.{◌≡◌, ◌≤◌, ◌<◌, ◌%◌, ◌^◌, length, true, IsErrOf, IfOk, IfErr, None};
+ghost use Rattle.std.specs.Prelude.{◌≡◌, ◌≤◌, ◌<◌, ◌%◌, ◌^◌, ℕ, List, length, true, IsErrOf, IfOk, IfErr, None};
 ghost use Rattle.zy_base.specs.declared.ids.Place.{Place as PlaceThere};
 ghost use Rattle.zy_parts.specs.Reports.{IsFetchInRange};
 ghost use Rattle.zy_parts.specs.declared.reports.Change.{Change};
 ghost use Rattle.zy_parts.specs.declared.signed.Signed.{Signed as IsSigned};
 ghost use Rattle.zy_vframes.specs.ViewFrames.{greatest_snapshot};
 ghost use Rattle.zy_vframes.specs.declared.frame.ViewFrame.TheVariants as frames;
-ghost use Rattle.zy_check.specs.States.{IsFaultOf, fetch_cause};
+ghost use Rattle.zy_check.specs.States.{IsFaultOf, fetch_cause, frame_cause};
 ghost use Rattle.zy_exec.specs.Showing.{point_in};
 ghost use Rattle.zy_exec.specs.Snapshot.{snapshot_of};
 ghost use Rattle.zy_exec.specs.declared.install_fault.InstallFault.TheVariants.{NotState};
@@ -17,7 +17,7 @@ ghost use Rattle.zy_table.specs.Adopting.{checkpoints_between};
 ghost use Rattle.zy_table.specs.Sending.{CanBeSent};
 ghost use Rattle.zy_table.specs.State.{leaves_of};
 ghost use Rattle.zy_table.specs.declared.deeds.AnyFrame.TheVariants as sent;
-ghost use Rattle.zy_table.specs.Beginning.{finished, take_up};
+ghost use Rattle.zy_table.specs.Beginning.{finished, take_up, wanted_of};
 ghost use Rattle.zy_table.specs.Deeds.{begin, ends};
 ghost use Rattle.zy_base.specs.declared.step.Answer.TheVariants.{Taken};
 ghost use Rattle.zy_leaving.specs.Follows.{IsSigner};
@@ -30,7 +30,7 @@ use zy_base::{Answer, Bytes, Cause, Machine, Place, View, Want};
 use zy_begin::respond_up_to;
 use zy_check::{StateFault, take_state};
 use zy_core::{Core, Moved, told_in};
-use zy_exec::{Exec, InstallFault};
+use zy_exec::{Exec, InstallFault, showing};
 use zy_parts::{Fetch, Signed, Told};
 use zy_table::To;
 use zy_vframes::ViewFrame;
@@ -89,29 +89,33 @@ pub fn fetch<M: Machine>(core: Core<M>, vote: &Signed<Fetch>) -> Result<Moved<M>
 
 // ---- a snapshot comes
 
+// Why it isn't the one that the report of a certificate needs.
+fn told_cause(told: &Told, frame: &ViewFrame) -> Option<Cause>
+    ensures { result ≡ frame_cause (wanted_of told.now) frame.now }
+{
+    match take_state(told.stable_place, &told.state, frame) {
+        Ok(()) => None,
+        Err(cause) => Some(cause),
+    }
+}
+
 // Why it isn't the one that a certificate waits for.
 fn state_cause<M: Machine>(core: &Core<M>, frame: &ViewFrame) -> Option<Cause>
     ensures { result ≡ cause_against frame.now core.now.views.waiting }
 {
     match core.views().waiting() {
         None => Some(Cause::Unmatched),
-        Some(waiting) => {
-            let told = told_in(&waiting.cert, &waiting.chosen);
-            take_state(told.stable_place, &told.state, frame).err()
-        }
+        Some(waiting) => told_cause(told_in(&waiting.cert, &waiting.chosen), frame),
     }
 }
 
-// The same of a place and a snapshot. Beside it the snapshot.
-fn judge_state<M: Machine>(core: &Core<M>, place: Place, snapshot: Bytes) -> (Option<Cause>, Bytes)
-    ensures cause { result.0 ≡ cause_against (frames.State place snapshot) core.now.views.waiting }
-    ensures same { result.1 ≡ snapshot }
+// The bytes that it brings.
+fn snapshot_in(frame: &ViewFrame) -> &[u8]
+    ensures { (place : PlaceThere) (bytes : List ℕ) → frame.now ≡ frames.State place bytes → result.now ≡ bytes }
 {
-    let frame = ViewFrame::State { place, snapshot };
-    let cause = state_cause(core, &frame);
     match frame {
-        ViewFrame::State { snapshot, .. } => (cause, snapshot),
-        _ => unreachable!(),
+        ViewFrame::State { snapshot, .. } => snapshot.as_slice(),
+        _ => &[],
     }
 }
 
@@ -126,13 +130,20 @@ fn shown<M: Machine>(
     ensures shown { IfOk result (IsShownAt M.rules core.now.kept.interval told.now snapshot.now) }
     ensures not_state { IsErrOf result NotState → point_in M.rules told.now.stable_place told.now.stable_head snapshot.now ≡ None }
 {
-    // With its view comes what holds of every replica: how far its checkpoints lie apart.
+    // With its view comes what holds of every replica: how far its checkpoints lie apart. With the law comes what bytes
+    // show.
     let _view = core.view();
+    showing::<M>();
     let alloc = core.allocator();
     let interval = core.exec().interval();
     let mut exec = Exec::start(alloc, M::empty(alloc)?, interval)?;
-    exec.install(told.stable_place, told.stable_head, snapshot)?;
-    Ok(exec)
+    match exec.install(told.stable_place, told.stable_head, snapshot) {
+        Ok(()) => Ok(exec),
+        Err(fault) => {
+            drop(exec);
+            Err(fault)
+        }
+    }
 }
 
 // The same for the certificate that waits.
@@ -142,7 +153,7 @@ fn shown_waiting<M: Machine>(core: &Core<M>, snapshot: &[u8]) -> Result<Exec<M>,
     ensures not_state { (w : Waiting) (provider : IsSigned Change) → IsAwaited core.now.views.waiting w provider → IsErrOf result NotState → point_in M.rules provider.stmt.told.stable_place provider.stmt.told.stable_head snapshot.now ≡ None }
 {
     // With its view comes what holds of every replica: the report breaks no rule.
-    let _view = core.view();
+    let _own = core.views().view();
     match core.views().waiting() {
         None => unreachable!(),
         Some(waiting) => shown(core, told_in(&waiting.cert, &waiting.chosen), snapshot),
@@ -206,21 +217,21 @@ fn install_counted<M: Machine>(core: Core<M>, exec: Exec<M>) -> Result<Moved<M>,
 }
 
 // The snapshot is the one that is waited for.
-fn show<M: Machine>(core: Core<M>, snapshot: Bytes) -> Result<Moved<M>, Want>
+fn show<M: Machine>(core: Core<M>, frame: ViewFrame) -> Result<Moved<M>, Want>
     requires ready { IsReady core }
     requires fit { IsFit core.views }
     requires signer { IsSigner core }
     requires awaits { Awaits core.views.waiting }
-    ensures { (place : PlaceThere) → cause_against (frames.State place snapshot) core.views.waiting ≡ None → IfOk result (λ m. m ≡ finished M.rules core (state_row M.rules core place snapshot)) }
+    ensures { (place : PlaceThere) (bytes : List ℕ) → frame ≡ frames.State place bytes → cause_against frame core.views.waiting ≡ None → IfOk result (λ m. m ≡ finished M.rules core (state_row M.rules core place bytes)) }
 {
-    match shown_waiting(&core, snapshot.as_slice()) {
+    match shown_waiting(&core, snapshot_in(&frame)) {
         Ok(exec) => {
-            drop(snapshot);
+            drop(frame);
             install_counted(core, exec)
         }
-        Err(InstallFault::NotState) => core.not_heard(snapshot, Cause::NotState),
+        Err(InstallFault::NotState) => core.not_heard(frame, Cause::NotState),
         Err(InstallFault::Want) => {
-            drop(snapshot);
+            drop(frame);
             Err(Want)
         }
     }
@@ -247,8 +258,9 @@ pub fn state_transfer<M: Machine>(
 {
     let fit = is_fit(&core);
     prove!(fit);
-    match judge_state(&core, place, snapshot) {
-        (Some(cause), snapshot) => core.not_heard(snapshot, cause),
-        (None, snapshot) => show(core, snapshot),
+    let frame = ViewFrame::State { place, snapshot };
+    match state_cause(&core, &frame) {
+        Some(cause) => core.not_heard(frame, cause),
+        None => show(core, frame),
     }
 }
