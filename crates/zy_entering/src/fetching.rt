@@ -64,8 +64,7 @@ fn state_frame<M: Machine>(core: &Core<M>, wanted: &Fetch) -> Result<ViewFrame, 
     if snapshot.len() > GREATEST_SNAPSHOT {
         return Err(StateFault::Want);
     }
-    core.board()
-        .state_frame(core.allocator(), wanted, snapshot)
+    core.board().state_frame(core.allocator(), wanted, snapshot)
 }
 
 /// Another's wish for a stable snapshot, whose signature is verified: it gets the one at the own stable place, where that
@@ -78,10 +77,11 @@ pub fn fetch<M: Machine>(core: Core<M>, vote: &Signed<Fetch>) -> Result<Moved<M>
     let can_sign = core.has_leaves(0);
     prove!(can_sign);
     match state_frame(&core, &vote.stmt) {
-        Ok(frame) => Ok(core
-            .begin()
-            .send_view(To::One(vote.by), frame)?
-            .ends(Answer::Taken)),
+        Ok(frame) => Ok(
+            core.begin()
+                .send_view(To::One(vote.by), frame)?
+                .ends(Answer::Taken),
+        ),
         Err(StateFault::Refused(cause)) => Ok(core.refused(cause)),
         Err(StateFault::Want) => Err(Want),
     }
@@ -120,11 +120,7 @@ fn snapshot_in(frame: &ViewFrame) -> &[u8]
 }
 
 // An execution that shows what the bytes spell at the stable checkpoint of a report.
-fn shown<M: Machine>(
-    core: &Core<M>,
-    told: &Told,
-    snapshot: &[u8],
-) -> Result<Exec<M>, InstallFault>
+fn shown<M: Machine>(core: &Core<M>, told: &Told, snapshot: &[u8]) -> Result<Exec<M>, InstallFault>
     requires multiple { told.now.stable_place.0 % core.now.kept.interval ≡ 0 }
     requires place { told.now.stable_place.0 < 2 ^ 62 }
     ensures shown { IfOk result (IsShownAt M.rules core.now.kept.interval told.now snapshot.now) }

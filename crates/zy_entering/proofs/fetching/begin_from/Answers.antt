@@ -1,9 +1,8 @@
-use Rattle.std.proofs.Common.{◌≡◌, ◌≤◌, length, false, sym, ap, ◌∙◌, subst}
+use Rattle.std.proofs.Common.{◌≤◌, length, sym, ap, ◌∙◌, subst}
 use Rattle.zy_base.specs.declared.step.Answer.TheVariants.{Taken}
-use Rattle.zy_exec.specs.Kept.{Kept}
 use Rattle.zy_table.specs.Adopting.{checkpoints_between}
 use Rattle.zy_table.specs.Beginning.{respond_up_to}
-use Rattle.zy_table.specs.Deeds.{Going, act, begin, ends}
+use Rattle.zy_table.specs.Deeds.{Going, act, ends}
 use Rattle.zy_table.specs.State.{State, is_leaving, leaves_of}
 use Rattle.zy_table.specs.declared.deeds.Act.TheVariants.{Adopts}
 use Rattle.zy_entering.proofs.StateLemmas.{begun_enough, begun_up}

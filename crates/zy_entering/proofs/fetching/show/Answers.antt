@@ -1,4 +1,4 @@
-use Rattle.std.proofs.Common.{◌≡◌, ℕ, List, IfOk, None, Err, sym, ap, ◌∙◌, subst}
+use Rattle.std.proofs.Common.{◌≡◌, ℕ, List, IfOk, Err, sym, ap, ◌∙◌, subst}
 use Rattle.zy_exec.specs.Showing.{point_in}
 use Rattle.zy_table.specs.Deeds.{Outcome}
 use Rattle.zy_vframes.specs.declared.frame.ViewFrame.{ViewFrame}

@@ -1,6 +1,5 @@
-use Rattle.std.proofs.Common.{◌≡◌, Option, ◌∙◌, ap}
+use Rattle.std.proofs.Common.{◌∙◌, ap}
 use Rattle.zy_change.specs.Views.{Views}
-use Rattle.zy_change.specs.declared.kept.Waiting.{Waiting}
 use Rattle.zy_core.proofs.AdoptLemmas.{provided}
 use Rattle.zy_entering.proofs.StateLemmas.{heard_cause}
 use Rattle.zy_entering.proofs.fetching.state_cause.Goals as goal
