@@ -5,5 +5,6 @@ pub mod CountLemmas
 pub mod EndLemmas
 pub mod EntryLemmas
 pub mod NewViewLemmas
+pub mod OwingLemmas
 pub mod StateLemmas
 pub mod StepLemmas

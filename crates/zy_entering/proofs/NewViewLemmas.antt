@@ -37,7 +37,7 @@ use Rattle.zy_entering.proofs.EntryLemmas.{accepted_enters, not_over}
 use Rattle.zy_entering.proofs.StepLemmas.{signs_within}
 
 -- the signatures don't matter
-no_pens : Pens
+abbrev pub no_pens : Pens
 no_pens = record { change = λ c. []; new = λ n. []; began = λ b. [] }
 
 abbrev left_for : Bool → View → Option View

@@ -12,4 +12,4 @@ pub use confirming::{confirmation, new_view, view_certificate};
 pub use ending::{carry, end};
 pub use fetching::{fetch, state_transfer};
 pub use judging::{Ending, judge_owed};
-pub use laws::refusals;
+pub use laws::{adoptions, refusals};
