@@ -1,7 +1,6 @@
 -- What is kept as what a step owes is carried out, and what its report lets it take up.
-use Rattle.std.proofs.Common.{◌≡◌, ℕ, ◌≤◌, nat_lt, Bool, true, false, List, [], ◌∷◌, length, Option, Some, None, refl, sym, ap, ◌∙◌, subst, arith}
+use Rattle.std.proofs.Common.{◌≡◌, ℕ, nat_lt, true, List, [], ◌∷◌, Option, Some, None, refl, sym, ap, ◌∙◌, arith}
 use Rattle.std.proofs.lemmas.Bool.{ltb-true}
-use Rattle.std.specs.Option.{ForSome}
 use Rattle.zy_base.specs.Machine.{Rules}
 use Rattle.zy_base.specs.declared.counts.Counts.{Counts}
 use Rattle.zy_base.specs.declared.ids.Digest.{Digest}
@@ -10,7 +9,6 @@ use Rattle.zy_base.specs.declared.ids.Place.{Place}
 use Rattle.zy_base.specs.declared.ids.ReplicaId.{ReplicaId}
 use Rattle.zy_base.specs.declared.ids.View.{View}
 use Rattle.zy_parts.specs.declared.signed.Signed.{Signed}
-use Rattle.zy_parts.specs.declared.reports.Told.{Told}
 use Rattle.zy_parts.specs.declared.statements.Check.{Check}
 use Rattle.zy_vframes.specs.declared.frame.ViewCert.{ViewCert}
 use Rattle.zy_cert.specs.Certificates.{IsCertificate}
@@ -22,7 +20,6 @@ use Rattle.zy_change.specs.Owing.{change_to}
 use Rattle.zy_change.specs.declared.kept.Chosen.{Chosen}
 use Rattle.zy_change.specs.declared.owed.Adoption.{Adoption}
 use Rattle.zy_change.specs.declared.owed.Owed.{Owed}
-use Rattle.zy_table.specs.declared.deeds.Verdict.TheVariants.{Take}
 use Rattle.zy_table.specs.State.{State, own_view}
 use Rattle.zy_table.specs.Deeds.{Going}
 use Rattle.zy_table.specs.Leaving.{accept, give_new, leave_alone}
@@ -31,8 +28,7 @@ use Rattle.zy_adopt.proofs.CommonLemmas.{head_within}
 use Rattle.zy_adopt.proofs.MeetLemmas.{takes_meets}
 use Rattle.zy_core.specs.Ready.{IsReady}
 use Rattle.zy_leaving.specs.Carrying.{carried, give, give_if, leave_if, send_if}
-use Rattle.zy_finish.specs.Ending.{TakesUp, verdict_on}
-use Rattle.zy_finish.specs.Signing.{CanTake}
+use Rattle.zy_finish.specs.Ending.{TakesUp}
 use Rattle.zy_entering.specs.Entering.{CanEnter, view_after}
 
 -- ---- what is kept

@@ -9,7 +9,6 @@ use Rattle.zy_base.specs.declared.cause.Cause.TheVariants as causes
 use Rattle.zy_base.specs.declared.ids.Digest.{Digest}
 use Rattle.zy_base.specs.declared.ids.Place.{Place}
 use Rattle.zy_base.specs.declared.ids.View.{View}
-use Rattle.zy_base.specs.declared.step.Answer.{Answer}
 use Rattle.zy_base.specs.declared.step.Answer.TheVariants.{Taken, Refused}
 use Rattle.zy_parts.specs.Reports.{IsNewInRange}
 use Rattle.zy_parts.specs.Signing.{IsSignedInRange}
@@ -27,14 +26,13 @@ use Rattle.zy_change.specs.declared.kept.Chosen.{Chosen}
 use Rattle.zy_change.specs.declared.owed.Adoption.{Adoption}
 use Rattle.zy_change.specs.declared.owed.Owed.{Owed}
 use Rattle.zy_change.proofs.AcceptedLemmas.{accepted_provider}
-use Rattle.zy_change.specs.Fit.{IsAccepted, IsCertified}
+use Rattle.zy_change.specs.Fit.{IsAccepted}
 use Rattle.zy_change.specs.Owing.{adoption_by, nothing, provider_in, refused as refused_owed}
-use Rattle.zy_change.specs.Views.{own_view as views_own}
 use Rattle.zy_confirm.proofs.JudgingLemmas.{accepted}
 use Rattle.zy_confirm.specs.Confirming.{cert_compared, cert_judged, is_over, view_cert_owes}
 use Rattle.zy_confirm.specs.Judging.{chosen_in}
 use Rattle.zy_table.specs.State.{State, leaves_of, own_view}
-use Rattle.zy_table.specs.Deeds.{Going, Outcome, begin, refused}
+use Rattle.zy_table.specs.Deeds.{Outcome, begin, refused}
 use Rattle.zy_table.specs.Adopting.{verdict_of}
 use Rattle.zy_table.specs.Leaving.{goes}
 use Rattle.zy_table.specs.Beginning.{adopt, finished}
@@ -48,7 +46,7 @@ use Rattle.zy_finish.proofs.ConfirmLemmas.{certificate_ends, certificate_rests}
 use Rattle.zy_entering.specs.declared.judging.Ending.{Ending}
 use Rattle.zy_entering.specs.Entering.{CanEnter, ending_as, ending_of, is_waiting, view_after}
 use Rattle.zy_entering.proofs.CarriedLemmas.{takes_up}
-use Rattle.zy_entering.proofs.EndLemmas.{Adopts, IsEnd, ending_if, ends_adopts, ends_refused, verdict_if}
+use Rattle.zy_entering.proofs.EndLemmas.{IsEnd, ending_if, ends_adopts, ends_refused, verdict_if}
 use Rattle.zy_entering.proofs.EntryLemmas.{given_enters, not_over}
 
 -- what is adopted by a certificate

@@ -1,5 +1,5 @@
 -- The rows of another's confirmation and of a new view come to what was judged.
-use Rattle.std.proofs.Common.{◌≡◌, ℕ, ◌+◌, ◌<◌, ◌≤◌, nat_lt, Bool, true, false, if◌then◌else◌, Option, Some, None, Ok, Err, refl, sym, ap, ◌∙◌, subst, arith}
+use Rattle.std.proofs.Common.{◌≡◌, ℕ, ◌+◌, Option, Ok, Err, refl, sym, ap, ◌∙◌, subst, arith}
 use Rattle.std.specs.Option.{ForSome}
 use Rattle.zy_base.specs.Machine.{Rules}
 use Rattle.zy_base.specs.declared.cause.Cause.{Cause}
@@ -8,22 +8,21 @@ use Rattle.zy_base.specs.declared.step.Answer.TheVariants.{Taken}
 use Rattle.zy_parts.specs.declared.signed.Signed.{Signed}
 use Rattle.zy_parts.specs.declared.reports.Began.{Began}
 use Rattle.zy_change.specs.Fit.{IsFit}
-use Rattle.zy_change.specs.Views.{Views, with_began}
-use Rattle.zy_change.specs.declared.owed.Adoption.{Adoption}
+use Rattle.zy_change.specs.Views.{with_began}
 use Rattle.zy_change.specs.declared.owed.Owed.{Owed}
-use Rattle.zy_table.specs.State.{State, own_view}
+use Rattle.zy_table.specs.State.{State}
 use Rattle.zy_table.specs.Deeds.{Going, Outcome, begin, refused}
 use Rattle.zy_table.specs.Beginning.{certify, finished}
 use Rattle.zy_table.specs.Confirming.{confirmation, with_confirmation}
 use Rattle.zy_core.specs.Ready.{IsReady}
 use Rattle.zy_leaving.proofs.FollowLemmas.{none_spent}
 use Rattle.zy_leaving.specs.Follows.{IsSigner}
-use Rattle.zy_finish.specs.Ending.{IsBeganOwed, IsSoFar, TakesUp, finished_by}
+use Rattle.zy_finish.specs.Ending.{IsBeganOwed, finished_by}
 use Rattle.zy_finish.proofs.ConfirmLemmas.{confirmation_ends}
 use Rattle.zy_entering.specs.declared.judging.Ending.{Ending}
 use Rattle.zy_entering.specs.Entering.{CanEnd, CanEnter, EndsAs, ending_as, ending_of, view_after}
 use Rattle.zy_entering.proofs.CarriedLemmas.{takes_up}
-use Rattle.zy_entering.proofs.EndLemmas.{IsEnd, IsEntry, ends_as, ends_can, ends_refused}
+use Rattle.zy_entering.proofs.EndLemmas.{IsEnd, ends_as, ends_can, ends_refused}
 use Rattle.zy_entering.proofs.EntryLemmas.{IsVoteOwed, vote_owes}
 
 -- ---- another's confirmation
@@ -45,7 +44,7 @@ module _ {S : Type 0} (R : Rules S) (s : State S) (vote : Signed Began) (owed : 
         fetches = refl;
         view = ap (view_after s) (sym owes.leave);
         enters = vote_enters;
-        }
+      }
 
   no_more : ending_of R s 0 owed ≡ ending_as R s 0 owed owed.answer
   no_more = let e : 0 + owed.signs ≡ 0 = let none = owes.signs in omega (arith, none) in ap (λ (n : ℕ). ending_as R s n owed owed.answer) e

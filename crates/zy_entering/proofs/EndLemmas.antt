@@ -1,13 +1,12 @@
 -- A step that was judged to end so comes to its end, and so to the row.
-use Rattle.std.proofs.Common.{◌≡◌, ℕ, ◌+◌, ◌-◌, ◌^◌, ◌≤◌, nat_lt, nat_le, Bool, true, false, if◌then◌else◌, List, [], ◌∷◌, Option, Some, None, Result, Ok, Err, refl, sym, ap, ◌∙◌, subst, arith}
-use Rattle.std.specs.Prelude.{find, is_some, slice_get, IsSome, IfOk}
+use Rattle.std.proofs.Common.{◌≡◌, ℕ, ◌+◌, ◌-◌, ◌^◌, ◌≤◌, nat_lt, nat_le, Bool, true, false, if◌then◌else◌, List, Option, Some, None, Ok, Err, refl, sym, ap, ◌∙◌, subst, arith}
+use Rattle.std.specs.Prelude.{find, is_some, slice_get, IsSome}
 use Rattle.std.specs.Option.{ForSome}
-use Rattle.std.proofs.lemmas.Bool.{leb-true, ltb-true}
+use Rattle.std.proofs.lemmas.Bool.{leb-true}
 use Rattle.std.proofs.lemmas.Option.{same_Some}
 use Rattle.zy_base.specs.Machine.{Rules}
 use Rattle.zy_base.specs.declared.cause.Cause.{Cause}
 use Rattle.zy_base.specs.declared.cause.Cause.TheVariants as causes
-use Rattle.zy_base.specs.declared.ids.Place.{Place}
 use Rattle.zy_base.specs.declared.ids.View.{View}
 use Rattle.zy_base.specs.declared.step.Answer.{Answer}
 use Rattle.zy_base.specs.declared.step.Answer.TheVariants.{Taken, Held, Refused}
@@ -16,7 +15,6 @@ use Rattle.zy_seal.specs.Sealing.{SealerState}
 use Rattle.zy_parts.specs.declared.signed.Signed.{Signed}
 use Rattle.zy_parts.specs.declared.reports.Change.{Change}
 use Rattle.zy_parts.specs.declared.reports.Fetch.{Fetch}
-use Rattle.zy_parts.specs.declared.reports.New.{New}
 use Rattle.zy_parts.specs.declared.reports.Told.{Told}
 use Rattle.zy_parts.specs.declared.statements.Check.{Check}
 use Rattle.zy_vframes.specs.declared.frame.ViewCert.{ViewCert}
@@ -26,7 +24,7 @@ use Rattle.zy_change.specs.declared.kept.Accepted.{Accepted}
 use Rattle.zy_change.specs.declared.kept.Chosen.{Chosen}
 use Rattle.zy_change.specs.declared.owed.Adoption.{Adoption}
 use Rattle.zy_change.specs.declared.owed.Owed.{Owed}
-use Rattle.zy_change.specs.Views.{Views, certificate, certificate_if, certificate_of}
+use Rattle.zy_change.specs.Views.{Views, certificate, certificate_if}
 use Rattle.zy_table.specs.declared.deeds.Verdict.{Verdict}
 use Rattle.zy_table.specs.declared.deeds.Verdict.TheVariants as verdicts
 use Rattle.zy_table.specs.State.{State, leaves_of, own_view}
@@ -34,7 +32,6 @@ use Rattle.zy_table.specs.Deeds.{Going, Outcome, ends, refused}
 use Rattle.zy_table.specs.Adopting.{verdict_of}
 use Rattle.zy_table.specs.Leaving.{Attempt, goes}
 use Rattle.zy_table.specs.Beginning.{adopt_if, certify, certify_with, fetch_said, wanted_of}
-use Rattle.zy_leaving.specs.Follows.{spent_many}
 use Rattle.zy_finish.specs.Ending.{IsSoFar, counted, ending, ending_as as ended_as, finished_as, finished_by, outcome_of, verdict_on}
 use Rattle.zy_finish.specs.Signing.{signs_by, signs_taken, signs_waiting}
 use Rattle.zy_entering.specs.declared.judging.Ending.{Ending}

@@ -1,5 +1,5 @@
 -- What a new view that was confirmed lets a replica adopt, by its provider's report.
-use Rattle.std.proofs.Common.{◌≡◌, ℕ, ◌+◌, ◌<◌, ◌≤◌, nat_eq, nat_lt, not, Bool, true, false, if◌then◌else◌, List, Option, Some, None, Result, Ok, Err, refl, sym, ap, ◌∙◌, subst, arith}
+use Rattle.std.proofs.Common.{◌≡◌, ℕ, ◌≤◌, nat_eq, not, Bool, true, false, if◌then◌else◌, Option, Some, None, refl, sym, ap, ◌∙◌, subst, arith}
 use Rattle.std.specs.Prelude.{◌||◌, IfSome, slice_get}
 use Rattle.std.specs.Option.{ForSome}
 use Rattle.std.proofs.lemmas.Bool.{eqb-true, ltb-false}
@@ -16,13 +16,12 @@ use Rattle.zy_chain.specs.Stretch.{head_in}
 use Rattle.zy_evidence.specs.Reading.{stretch_of}
 use Rattle.zy_evidence.specs.Rules.{rule_of}
 use Rattle.zy_change.specs.declared.kept.Accepted.{Accepted}
-use Rattle.zy_change.specs.declared.kept.Chosen.{Chosen}
 use Rattle.zy_change.specs.declared.owed.Adoption.{Adoption}
 use Rattle.zy_change.specs.declared.owed.Owed.{Owed}
 use Rattle.zy_change.proofs.AcceptedLemmas.{accepted_given, accepted_provider}
 use Rattle.zy_change.specs.Fit.{IsAccepted, IsFit}
-use Rattle.zy_change.specs.Owing.{Onward, adopt_if, adoption_by, certify, certify_with, change_to, nothing, onward, provider_in, refused}
-use Rattle.zy_change.specs.Views.{Views, began_for, certificate, certificate_if, certificate_of, own_view, slot_of, with_began}
+use Rattle.zy_change.specs.Owing.{adopt_if, adoption_by, certify, certify_with, change_to, nothing, onward, provider_in, refused}
+use Rattle.zy_change.specs.Views.{Views, began_for, certificate_if, certificate_of, own_view, slot_of, with_began}
 use Rattle.zy_confirm.specs.Confirming.{accepted_for, began_compared, began_judged, began_owes, is_began_from, is_over}
 use Rattle.zy_table.specs.State.{State}
 use Rattle.zy_leaving.proofs.FollowLemmas.{for_none, for_some, new_of_cert}
@@ -61,16 +60,16 @@ module _ (v : Views) (x : Accepted) (accepted : v.accepted ≡ Some x) (cert : V
   entry_by (Some c) there =
       let new : cert.new ≡ x.new = new_of_cert x.new _ cert enough in
       for_some _ _ (
-          record {
-            cert = cert;
-            view = ap (λ (n : Signed New). n.stmt.view) new;
-            accepted = accepted ∙ ap (λ (n : Signed New). Some (record { new = n; chosen = x.chosen })) (sym new);
-            enough = ap (certificate_if v) accepted ∙ enough;
-            provider = c;
-            given = ap (λ (n : Signed New). slice_get n.stmt.changes x.chosen.provider) new ∙ there;
-            told = refl;
-          }
-          )
+      record {
+        cert = cert;
+        view = ap (λ (n : Signed New). n.stmt.view) new;
+        accepted = accepted ∙ ap (λ (n : Signed New). Some (record { new = n; chosen = x.chosen })) (sym new);
+        enough = ap (certificate_if v) accepted ∙ enough;
+        provider = c;
+        given = ap (λ (n : Signed New). slice_get n.stmt.changes x.chosen.provider) new ∙ there;
+        told = refl;
+      }
+      )
 
   -- and begins with what is kept
   pub accepted_entry : ForSome (adoption_by x (provider_in x)) (λ a. IsEntry a v)

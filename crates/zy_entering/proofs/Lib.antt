@@ -6,4 +6,5 @@ pub mod EndLemmas
 pub mod EntryLemmas
 pub mod NewViewLemmas
 pub mod ShortLemmas
+pub mod StateLemmas
 pub mod StepLemmas

@@ -1,8 +1,7 @@
 -- The row of a new view comes to what was judged.
-use Rattle.std.proofs.Common.{◌≡◌, ℕ, ◌+◌, ◌<◌, ◌≤◌, ◌^◌, nat_lt, Bool, true, false, if◌then◌else◌, List, [], Option, Some, None, Result, Ok, Err, refl, sym, ap, ◌∙◌, subst, arith}
+use Rattle.std.proofs.Common.{◌≡◌, ℕ, ◌+◌, ◌≤◌, nat_lt, Bool, true, false, if◌then◌else◌, [], Option, Some, None, Result, Ok, Err, refl, sym, ap, ◌∙◌, subst, arith}
 use Rattle.std.specs.Prelude.{◌||◌, IfOk}
 use Rattle.std.specs.Option.{ForSome}
-use Rattle.std.proofs.lemmas.Bool.{ltb-true, ltb-false}
 use Rattle.zy_base.specs.Machine.{Rules}
 use Rattle.zy_base.specs.declared.cause.Cause.{Cause}
 use Rattle.zy_base.specs.declared.cause.Cause.TheVariants as causes
@@ -15,12 +14,10 @@ use Rattle.zy_parts.specs.declared.reports.New.{New}
 use Rattle.zy_vframes.specs.declared.frame.ViewCert.{ViewCert}
 use Rattle.zy_change.specs.declared.kept.Accepted.{Accepted}
 use Rattle.zy_change.specs.declared.kept.Chosen.{Chosen}
-use Rattle.zy_change.specs.declared.owed.Adoption.{Adoption}
 use Rattle.zy_change.specs.declared.owed.Owed.{Owed}
-use Rattle.zy_change.specs.Fit.{IsAccepted}
-use Rattle.zy_change.specs.Owing.{Onward, Pens, accept as accept_owed, accepting, adopt_if, certify_with, leaving_alone, nothing, onward, refused as refused_owed}
-use Rattle.zy_change.specs.Views.{Views, certificate_of, is_accepted, leads}
-use Rattle.zy_confirm.specs.Confirming.{arriving, is_over, new_view_judged, new_view_owes}
+use Rattle.zy_change.specs.Owing.{Onward, Pens, accept as accept_owed, accepting, adopt_if, leaving_alone, nothing, onward, refused as refused_owed}
+use Rattle.zy_change.specs.Views.{certificate_of, is_accepted, leads}
+use Rattle.zy_confirm.specs.Confirming.{is_over, new_view_judged, new_view_owes}
 use Rattle.zy_confirm.specs.Judging.{chosen_in}
 use Rattle.zy_table.specs.State.{State, leaves_of, own_view}
 use Rattle.zy_table.specs.Deeds.{Going, Outcome, begin, refused}
@@ -30,7 +27,7 @@ use Rattle.zy_table.specs.Confirming.{new_view}
 use Rattle.zy_core.specs.Ready.{IsReady}
 use Rattle.zy_leaving.proofs.FollowLemmas.{for_none}
 use Rattle.zy_leaving.specs.Follows.{IsSigner}
-use Rattle.zy_finish.specs.Ending.{IsNewOwed, TakesUp, confirmed, finished_by}
+use Rattle.zy_finish.specs.Ending.{IsNewOwed, confirmed, finished_by}
 use Rattle.zy_finish.proofs.ConfirmLemmas.{new_begins, new_ends, new_far, new_refused}
 use Rattle.zy_entering.specs.declared.judging.Ending.{Ending}
 use Rattle.zy_entering.specs.Entering.{Accepts, CanEnd, CanEnter, EndsAs, ending_as, ending_of, view_after}
@@ -40,7 +37,7 @@ use Rattle.zy_entering.proofs.EntryLemmas.{accepted_enters, not_over}
 use Rattle.zy_entering.proofs.StepLemmas.{signs_within}
 
 -- the signatures don't matter
-no_pens : Pens
+abbrev pub no_pens : Pens
 no_pens = record { change = λ c. []; new = λ n. []; began = λ b. [] }
 
 abbrev left_for : Bool → View → Option View

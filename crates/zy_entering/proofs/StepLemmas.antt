@@ -1,6 +1,6 @@
 -- A step that owes what can make a replica leave comes to the row, as it was judged.
-use Rattle.std.proofs.Common.{◌≡◌, ◌≤◌, ◌+◌, ◌-◌, ◌^◌, ℕ, Option, Some, None, Result, Ok, Err, refl, sym, ap, ◌∙◌, subst, arith}
-use Rattle.std.specs.Prelude.{nat_le, IfOk, if◌then◌else◌, Bool, true, false}
+use Rattle.std.proofs.Common.{◌≡◌, ◌≤◌, ◌+◌, ◌-◌, ◌^◌, ℕ, Option, Some, None, Ok, Err, refl, sym, ap, ◌∙◌, arith}
+use Rattle.std.specs.Prelude.{nat_le, if◌then◌else◌, Bool, true, false}
 use Rattle.std.specs.Option.{ForSome}
 use Rattle.std.proofs.lemmas.Bool.{leb-true}
 use Rattle.zy_base.specs.Machine.{Rules}
@@ -15,7 +15,7 @@ use Rattle.zy_change.specs.declared.owed.Adoption.{Adoption}
 use Rattle.zy_change.specs.declared.owed.Owed.{Owed}
 use Rattle.zy_table.specs.declared.deeds.Verdict.{Verdict}
 use Rattle.zy_table.specs.declared.deeds.Verdict.TheVariants as verdicts
-use Rattle.zy_table.specs.State.{State, leaves_of, own_view}
+use Rattle.zy_table.specs.State.{State, leaves_of}
 use Rattle.zy_table.specs.Deeds.{Going, Outcome, refused}
 use Rattle.zy_table.specs.Leaving.{Attempt}
 use Rattle.zy_table.specs.Beginning.{certify, finished}
@@ -25,7 +25,7 @@ use Rattle.zy_finish.specs.Signing.{signs_taken}
 use Rattle.zy_finish.proofs.EndLemmas.{carried_far, row_ends}
 use Rattle.zy_entering.specs.declared.judging.Ending.{Ending}
 use Rattle.zy_entering.specs.declared.judging.Ending.TheVariants.{Rests, TakesUp as Begins, Waits}
-use Rattle.zy_entering.specs.Entering.{CanEnd, CanEnter, EndsAs, IsStep, ending_as, ending_by, ending_of, ending_with, signs_after, unless_spent, view_after}
+use Rattle.zy_entering.specs.Entering.{CanEnd, EndsAs, IsStep, ending_as, ending_by, ending_of, ending_with, signs_after, unless_spent, view_after}
 use Rattle.zy_entering.proofs.CarriedLemmas.{carried_keeps, takes_up}
 use Rattle.zy_entering.proofs.EndLemmas.{AreEntries, IsEnd, ends_as, ends_can, ends_refused}
 

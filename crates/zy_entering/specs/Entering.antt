@@ -20,7 +20,7 @@ use Rattle.zy_change.specs.declared.owed.Adoption.{Adoption}
 use Rattle.zy_change.specs.declared.owed.Owed.{Owed}
 use Rattle.zy_change.specs.Ahead.{IsReport}
 use Rattle.zy_change.specs.Fit.{IsAccepted}
-use Rattle.zy_change.specs.Views.{Views, certificate}
+use Rattle.zy_change.specs.Views.{certificate}
 use Rattle.zy_table.specs.declared.deeds.Verdict.{Verdict}
 use Rattle.zy_table.specs.declared.deeds.Verdict.TheVariants as verdicts
 use Rattle.zy_table.specs.State.{State, leaves_of, own_view}

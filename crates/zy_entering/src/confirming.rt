@@ -191,7 +191,7 @@ fn owed_by_cert<M: Machine>(core: &Core<M>, cert: &ViewCert) -> Result<Owed, Wan
     zy_confirm::view_cert(core.allocator(), core.views(), cert)
 }
 
-fn chosen_in(owed: &Owed) -> Chosen
+fn chosen_of(owed: &Owed) -> Chosen
     requires { IsSome owed.now.adopt }
     ensures { (a : Adoption) → owed.now.adopt ≡ Some a → result ≡ a.chosen }
 {
@@ -223,7 +223,7 @@ fn adopt_as<M: Machine>(
     requires judged { ending_of M.rules core 0 owed ≡ Ok ending }
     ensures { IfOk result (λ m. m ≡ finished M.rules core (certificate_row M.rules core cert)) }
 {
-    let chosen = chosen_in(&owed);
+    let chosen = chosen_of(&owed);
     drop(owed);
     adopt(core.begin(), cert, chosen, is_waiting(ending))
 }

@@ -51,7 +51,7 @@ pub fn judge_owed<M: Machine>(
 }
 
 // Every replica signs as itself. Beside it what else holds of every replica.
-fn is_signer<M: Machine>(core: &Core<M>) -> bool
+pub(crate) fn is_signer<M: Machine>(core: &Core<M>) -> bool
     ensures is { result ≡ true }
     ensures signer { IsSigner core.now }
     ensures ready { IsReady core.now }

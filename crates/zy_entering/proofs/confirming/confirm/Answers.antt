@@ -1,4 +1,4 @@
-use Rattle.std.proofs.Common.{◌≡◌, ◌≤◌, sym, subst}
+use Rattle.std.proofs.Common.{◌≤◌, sym, subst}
 use Rattle.zy_table.specs.Deeds.{Going}
 use Rattle.zy_table.specs.State.{leaves_of}
 use Rattle.zy_change.proofs.AcceptedLemmas.{accepted_place}

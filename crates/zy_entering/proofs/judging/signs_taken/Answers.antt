@@ -1,4 +1,4 @@
-use Rattle.std.proofs.Common.{◌≡◌, ℕ, ◌∙◌, ap, arith}
+use Rattle.std.proofs.Common.{◌≡◌, ◌∙◌, ap, arith}
 use Rattle.zy_exec.specs.Kept.{Kept}
 use Rattle.zy_entering.proofs.judging.signs_taken.Goals as goal
 
