@@ -69,6 +69,7 @@ module _ (v : Views) (new : Signed New) (told : Told) (pens : Pens) (chosen : Ch
       repeated : (b : Bool) → (if b then refused causes.Repeat else new_view_judged (chosen_in v.counts v.interval new.stmt) v new told pens).confirm ≡ Some chosen → length new.stmt.changes ≤ v.counts.change
       repeated true confirms = absurd cc
       repeated false confirms = judged_few (chosen_in v.counts v.interval new.stmt) refl confirms
+
       past : (b : Bool)
           → (if b then refused causes.OldView else (if is_accepted new.stmt.view.0 v.accepted || leads v new.stmt.view.0 then refused causes.Repeat else new_view_judged (chosen_in v.counts v.interval new.stmt) v new told pens)).confirm ≡ Some chosen
           → length new.stmt.changes ≤ v.counts.change

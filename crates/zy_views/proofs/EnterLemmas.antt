@@ -189,14 +189,18 @@ module _ (v : Views) (told : Told) (fit : IsFit v) (true_report : IsTrueReport v
     where
       again_at : Bool → Owed
       again_at b = if b then refused causes.Repeat else hate_counted (with_hate vote.by v) told no_pens
+
       later_at : Bool → Owed
       later_at b = if b then refused causes.NewerView else again_at (is_hated_by v vote.by)
+
       repeated : (b : Bool) → EntersNext (again_at b)
       repeated true = nothing_enters v.counts v.interval (next_view v) (Some (next_view v)) (refused causes.Repeat) refl
       repeated false = counted_enters vote.by
+
       later : (b : Bool) → EntersNext (later_at b)
       later true = nothing_enters v.counts v.interval (next_view v) (Some (next_view v)) (refused causes.NewerView) refl
       later false = repeated (is_hated_by v vote.by)
+
       past : (b : Bool) → EntersNext (if b then refused causes.OldView else later_at (nat_lt (own_view v) vote.stmt.view.0))
       past true = nothing_enters v.counts v.interval (next_view v) (Some (next_view v)) (refused causes.OldView) refl
       past false = later (nat_lt (own_view v) vote.stmt.view.0)
