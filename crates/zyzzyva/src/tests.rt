@@ -315,7 +315,13 @@ fn nodes_and_asks(rt: HostRuntime) -> Result<(), Fail> {
         (&[node, b"g", b"r", b"r0", b"2"], 2, "", 8, link),
         (&[ask, b"g", b"c", b"c3", b"0", op], 0, key, 10, spent),
         (&[ask, b"g", b"c", b"c3", b"1", op], 2, "", 8, link),
-        (&[ask, b"g", b"r", b"c3", b"1", op], 0, "", 6, "group field 18\n"),
+        (
+            &[ask, b"g", b"r", b"c3", b"1", op],
+            0,
+            "",
+            6,
+            "group field 18\n",
+        ),
     ];
     let held = [("g", MEMBERS), ("r", REPLICA_0), ("c", CLIENT_3)];
     for (words, failing, written, status, error) in table {
