@@ -1,18 +1,23 @@
 mod checkpoint_rows;
 mod checkpoint_table;
 mod driver;
+mod entering_rows;
+mod entering_table;
 mod frames;
 mod leaving_rows;
 mod leaving_table;
 mod more_rows;
+mod new_view_rows;
 mod report_rows;
 mod rows;
 mod table;
 
 use checkpoint_rows::{OF_CHECKPOINTS, OF_LEAVES, OF_RESPONSES, OF_THE_WINDOW};
 use driver::{Input, Row, Step, follows, refuses_cuts};
+use entering_rows::{OF_ENTERING, OF_SNAPSHOTS, OF_VIEW_CERTIFICATES};
 use leaving_rows::{OF_BLAME, OF_LEAVING, OF_THE_LAST_LEAVES};
 use more_rows::{OF_CERTIFICATES, OF_OTHER_FRAMES};
+use new_view_rows::{OF_CONFIRMATIONS, OF_NEW_VIEWS};
 use report_rows::OF_REPORTS;
 use rows::{OF_ORDERS, OF_THE_PRIMARY, OF_WAITING_REQUESTS};
 use std::alloc::Global;
@@ -102,4 +107,29 @@ fn the_last_leaves(rt: HostRuntime) -> Result<(), Fail> {
 #[test]
 fn reports_and_timers(rt: HostRuntime) -> Result<(), Fail> {
     all_follow(rt.alloc(), OF_REPORTS)
+}
+
+#[test]
+fn entering(rt: HostRuntime) -> Result<(), Fail> {
+    all_follow(rt.alloc(), OF_ENTERING)
+}
+
+#[test]
+fn new_views(rt: HostRuntime) -> Result<(), Fail> {
+    all_follow(rt.alloc(), OF_NEW_VIEWS)
+}
+
+#[test]
+fn confirmations(rt: HostRuntime) -> Result<(), Fail> {
+    all_follow(rt.alloc(), OF_CONFIRMATIONS)
+}
+
+#[test]
+fn view_certificates(rt: HostRuntime) -> Result<(), Fail> {
+    all_follow(rt.alloc(), OF_VIEW_CERTIFICATES)
+}
+
+#[test]
+fn snapshots(rt: HostRuntime) -> Result<(), Fail> {
+    all_follow(rt.alloc(), OF_SNAPSHOTS)
 }

@@ -35,7 +35,7 @@ const OTHER_HISTORY: Cause = Cause::OtherHistory(
     Digest([6; 32]),
 );
 
-const OTHER_STATE: Cause = Cause::WrongState(
+pub const OTHER_STATE: Cause = Cause::WrongState(
     Digest(
         *b"\xb3\x5a\x66\xec\x9d\x5c\x1e\xb8\x63\xae\x7b\x99\x73\xe9\x8c\xc9\xa0\x63\x01\xb4\x30\xc8\x91\x4d\xb2\x05\x94\xbb\x3c\xac\x7c\x28",
     ),

@@ -69,6 +69,12 @@ pub enum Step {
     Leaves(Input, Left, u64, &'static [(Party, Sent)]),
     // It is taken, and with that this place is stable.
     Settles(Input, Left, u64, &'static [(Party, Sent)]),
+    // It is held, and the replica has left for this view.
+    Holds(Input, Left, u64, &'static [(Party, Sent)]),
+    // It is taken, and the replica is active in this view, where its state has this digest.
+    Enters(Input, Left, u64, Hash, &'static [(Party, Sent)]),
+    // The same, and with that this place is stable.
+    EntersAt(Input, Left, u64, Hash, u64, &'static [(Party, Sent)]),
 }
 
 pub enum Input {
@@ -98,6 +104,7 @@ pub enum Odd {
     Stood,
     Stable,
     Snapshot(Place),
+    State,
     Timers,
     Count(usize),
     Receiver(Party),
@@ -354,6 +361,13 @@ fn have_snapshots(stepped: &Stepped<Space>) -> Result<(), Odd> {
     Ok(())
 }
 
+fn has_left(mode: Mode) -> bool {
+    match mode {
+        Mode::Active(_) => false,
+        Mode::Leaving(_) => true,
+    }
+}
+
 // While the replica is active, of its timers only that of requests may run, and after that only that of changes.
 fn has_done(
     stepped: &Stepped<Space>,
@@ -371,7 +385,7 @@ fn has_done(
     same(stepped.replica.stood() == stood, Odd::Stood)?;
     let timers = Timers {
         request: is.2,
-        change: mode != ACTIVE,
+        change: has_left(mode),
         answer: false,
     };
     same(stepped.timers == timers, Odd::Timers)?;
@@ -385,6 +399,26 @@ fn is_as_before(stepped: &Stepped<Space>, before: &Shown) -> Result<(), Odd> {
     same(stepped.out.is_empty(), Odd::Count(stepped.out.len()))?;
     same(stepped.timers == before.timers, Odd::Timers)?;
     same(see(&stepped.replica) == *before, Odd::Stood)
+}
+
+fn has_state(stepped: &Stepped<Space>, state: Hash) -> Result<(), Odd> {
+    same(
+        stepped.replica.state_digest()? == Digest(*state),
+        Odd::State,
+    )
+}
+
+// It left for a view, or entered it: what it has executed is the first so many requests.
+fn changes_view(
+    stepped: &Stepped<Space>,
+    answer: Answer,
+    left: Left,
+    mode: Mode,
+    sent: &[(Party, Sent)],
+) -> Result<(), Odd> {
+    has_answer(stepped.answer, answer)?;
+    has_done(stepped, left, head_at(left.0)?, mode)?;
+    same_frames(&stepped.out, sent)
 }
 
 fn compare(stepped: &Stepped<Space>, step: &Step, before: &Shown) -> Result<(), Odd> {
@@ -406,10 +440,26 @@ fn compare(stepped: &Stepped<Space>, step: &Step, before: &Shown) -> Result<(), 
             same_frames(&stepped.out, sent)
         }
         Step::Leaves(_, left, view, sent) => {
-            has_answer(stepped.answer, Answer::Taken)?;
-            has_done(stepped, *left, head_at(left.0)?, Mode::Leaving(View(*view)))?;
-            same(stepped.replica.stable() == before.stable, Odd::Stable)?;
-            same_frames(&stepped.out, sent)
+            let mode = Mode::Leaving(View(*view));
+            changes_view(stepped, Answer::Taken, *left, mode, sent)?;
+            same(stepped.replica.stable() == before.stable, Odd::Stable)
+        }
+        Step::Holds(_, left, view, sent) => {
+            let mode = Mode::Leaving(View(*view));
+            changes_view(stepped, Answer::Held, *left, mode, sent)?;
+            same(stepped.replica.stable() == before.stable, Odd::Stable)
+        }
+        Step::Enters(_, left, view, state, sent) => {
+            let mode = Mode::Active(View(*view));
+            changes_view(stepped, Answer::Taken, *left, mode, sent)?;
+            has_state(stepped, *state)?;
+            same(stepped.replica.stable() == before.stable, Odd::Stable)
+        }
+        Step::EntersAt(_, left, view, state, place, sent) => {
+            let mode = Mode::Active(View(*view));
+            changes_view(stepped, Answer::Taken, *left, mode, sent)?;
+            has_state(stepped, *state)?;
+            same(stepped.replica.stable() == stable_at(*place)?, Odd::Stable)
         }
         Step::Settles(_, left, place, sent) => {
             has_answer(stepped.answer, Answer::Taken)?;
@@ -429,6 +479,9 @@ fn event(alloc: Global, step: &Step) -> Result<Event, Want> {
         Step::Turns(input, _, _, _, _) => input,
         Step::Leaves(input, _, _, _) => input,
         Step::Settles(input, _, _, _) => input,
+        Step::Holds(input, _, _, _) => input,
+        Step::Enters(input, _, _, _, _) => input,
+        Step::EntersAt(input, _, _, _, _, _) => input,
     };
     match input {
         Input::Frame(kind, parts) => Ok(Event::Heard(Bytes::from(frame(alloc, *kind, parts)?))),

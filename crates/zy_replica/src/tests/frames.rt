@@ -79,23 +79,43 @@ pub enum Statement {
     Check(u64, u64, Hash, Hash),
     // view, place, head
     Began(u64, u64, Hash),
+    // place, digest of the state
+    Fetch(u64, Hash),
 }
 
-// A report of a replica whose stable place is 0: its last active view, the responses of its commit certificate, where
-// there are some, and the stamps of its entries.
+// A report of a replica: its last active view, where that began with its confirmations, the responses of its commit
+// certificate, where there are some, its stable checkpoint, and the stamps of its entries.
 pub struct Told {
     pub last: u64,
+    pub began: Begun,
     pub specs: &'static [(Party, Statement)],
+    pub stable: Proved,
     pub stamps: &'static [u64],
 }
 
+// A place and its head, and the statements that prove them.
+pub struct Begun(pub u64, pub Hash, pub &'static [(Party, Statement)]);
+
+// A view, a place, its head and the digest of its state, and the statements that prove them.
+pub struct Proved(
+    pub u64,
+    pub u64,
+    pub Hash,
+    pub Hash,
+    pub &'static [(Party, Statement)],
+);
+
+// A report with its signer and the view that it is for.
+pub type Report = (Party, u64, &'static Told);
+
 // A part of a frame: a statement with its signer's signature, one with a signature on the text of another, a report for a
-// view likewise, or bytes.
+// view likewise, a new view out of reports, or bytes.
 pub enum Part {
     By(Party, Statement),
     As(Party, Party, Statement),
     Leaves(Party, u64, &'static Told),
     LeavesAs(Party, Party, u64, &'static Told),
+    Gives(Party, u64, &'static [Report]),
     Raw(&'static [u8]),
 }
 
@@ -118,6 +138,7 @@ fn number_of(stmt: &Statement) -> u8 {
         Statement::Hate(..) => 7,
         Statement::Check(..) => 8,
         Statement::Began(..) => 11,
+        Statement::Fetch(..) => 12,
     }
 }
 
@@ -146,6 +167,7 @@ fn fields(alloc: Global, stmt: &Statement) -> Result<Vec<u8>, Want> {
         Statement::Hate(view) => joined(alloc, &[&view.to_be_bytes()]),
         Statement::Check(view, place, head, state) => point(alloc, *view, *place, &[*head, *state]),
         Statement::Began(view, place, head) => point(alloc, *view, *place, &[*head]),
+        Statement::Fetch(place, state) => joined(alloc, &[&place.to_be_bytes(), *state]),
     }
 }
 
@@ -186,16 +208,21 @@ fn count_of(length: usize) -> [u8; 2] {
     [bytes[6], bytes[7]]
 }
 
+fn all_signed(alloc: Global, stmts: &[(Party, Statement)]) -> Result<Vec<u8>, Want> {
+    let mut bytes = joined(alloc, &[&count_of(stmts.len())])?;
+    for (by, stmt) in stmts {
+        let stmt = signed(alloc, *by, *by, stmt)?;
+        bytes.extend_from_slice(&stmt)?;
+    }
+    Ok(bytes)
+}
+
 fn certificate(alloc: Global, specs: &[(Party, Statement)]) -> Result<Vec<u8>, Want> {
     if specs.is_empty() {
         return joined(alloc, &[&[0]]);
     }
-    let mut bytes = joined(alloc, &[&[1], &count_of(specs.len())])?;
-    for (by, spec) in specs {
-        let spec = signed(alloc, *by, *by, spec)?;
-        bytes.extend_from_slice(&spec)?;
-    }
-    Ok(bytes)
+    let specs = all_signed(alloc, specs)?;
+    joined(alloc, &[&[1], &specs])
 }
 
 fn entries(alloc: Global, stamps: &[u64]) -> Result<Vec<u8>, Want> {
@@ -212,19 +239,26 @@ fn entries(alloc: Global, stamps: &[u64]) -> Result<Vec<u8>, Want> {
 
 // A view, what its report tells of how the last view began, its certificate, the stable checkpoint and the entries.
 fn change(alloc: Global, view: u64, told: &Told) -> Result<Vec<u8>, Want> {
+    let Begun(began, began_head, begans) = &told.began;
+    let begans = all_signed(alloc, begans)?;
     let specs = certificate(alloc, told.specs)?;
+    let Proved(stable_view, stable, stable_head, state, checks) = &told.stable;
+    let checks = all_signed(alloc, checks)?;
     let entries = entries(alloc, told.stamps)?;
-    let began = [0; 42];
     joined(
         alloc,
         &[
             &view.to_be_bytes(),
             &told.last.to_be_bytes(),
-            &began,
+            &began.to_be_bytes(),
+            *began_head,
+            &begans,
             &specs,
-            &[0; 48],
-            EMPTY_STATE,
-            &[0, 0],
+            &stable_view.to_be_bytes(),
+            &stable.to_be_bytes(),
+            *stable_head,
+            *state,
+            &checks,
             &entries,
         ],
     )
@@ -241,12 +275,23 @@ fn leaves(
     signed_fields(alloc, by, signed_as, 9, &change)
 }
 
+// A new view: its number and its reports.
+fn gives(alloc: Global, by: Party, view: u64, reports: &[Report]) -> Result<Vec<u8>, Want> {
+    let mut new = joined(alloc, &[&view.to_be_bytes(), &count_of(reports.len())])?;
+    for (signer, for_view, told) in reports {
+        let change = leaves(alloc, *signer, *signer, *for_view, *told)?;
+        new.extend_from_slice(&change)?;
+    }
+    signed_fields(alloc, by, by, 10, &new)
+}
+
 fn spelled(alloc: Global, part: &Part) -> Result<Vec<u8>, Want> {
     match part {
         Part::By(by, stmt) => signed(alloc, *by, *by, stmt),
         Part::As(by, signed_as, stmt) => signed(alloc, *by, *signed_as, stmt),
         Part::Leaves(by, view, told) => leaves(alloc, *by, *by, *view, told),
         Part::LeavesAs(by, signed_as, view, told) => leaves(alloc, *by, *signed_as, *view, told),
+        Part::Gives(by, view, reports) => gives(alloc, *by, *view, reports),
         Part::Raw(bytes) => joined(alloc, &[bytes]),
     }
 }

@@ -490,27 +490,16 @@ pub const OF_THE_LAST_LEAVES: &[Row] = &[
                         THIRD,
                         1,
                         &Told {
-                            last: 0,
                             specs: &[(CLIENT, Spec(0, 1, HEAD_1, 1))],
                             stamps: &[1],
+                            ..NOTHING
                         },
                     )],
                 ),
                 Cause::WrongRole,
             ),
             Refuses(
-                Frame(
-                    11,
-                    &[LeavesFor(
-                        THIRD,
-                        1,
-                        &Told {
-                            last: 1,
-                            specs: &[],
-                            stamps: &[],
-                        },
-                    )],
-                ),
+                Frame(11, &[LeavesFor(THIRD, 1, &Told { last: 1, ..NOTHING })]),
                 Cause::BadReport(2),
             ),
             Refuses(
@@ -520,9 +509,9 @@ pub const OF_THE_LAST_LEAVES: &[Row] = &[
                         THIRD,
                         1,
                         &Told {
-                            last: 0,
                             specs: &[(PRIMARY, Spec(0, 1, HEAD_1, 1))],
                             stamps: &[1],
+                            ..NOTHING
                         },
                     )],
                 ),
@@ -545,21 +534,21 @@ pub const OF_THE_LAST_LEAVES: &[Row] = &[
                         THIRD,
                         1,
                         &Told {
-                            last: 0,
                             specs: &[(OUTSIDER, Spec(0, 1, HEAD_1, 1))],
                             stamps: &[1],
+                            ..NOTHING
                         },
                     )],
                 ),
                 Cause::UnknownParty,
             ),
             Refuses(
-                Frame(13, &[By(THIRD, Began(1, 0, &[0; 32]))]),
+                Frame(13, &[By(CLIENT, Began(1, 0, &[0; 32]))]),
                 Cause::WrongRole,
             ),
             Refuses(
                 Frame(16, &[Raw(&[0, 0, 0, 0, 0, 0, 0, 8, 0, 0, 0, 0])]),
-                Cause::WrongRole,
+                Cause::Unmatched,
             ),
             Refuses(
                 Frame(12, &[By(BACKUP, Began(1, 0, &[0; 32]))]),

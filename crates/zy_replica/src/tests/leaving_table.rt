@@ -4,7 +4,9 @@ use super::driver::Input::{self, Frame};
 use super::driver::Sent;
 use super::frames::Part::{By, Leaves};
 use super::frames::Statement::{Ask, Hate, Order, Spec};
-use super::frames::{BACKUP, CLIENT, FOURTH, Hash, PRIMARY, THIRD, Told};
+use super::frames::{
+    BACKUP, Begun, CLIENT, EMPTY_STATE, FOURTH, Hash, PRIMARY, Proved, THIRD, Told,
+};
 use super::table::{ANOTHER, ENTRY_1, ENTRY_4, HASTY_HEAD, HEAD_1};
 
 // The last view of all.
@@ -46,29 +48,31 @@ pub const BLAME_1: Input = Frame(
 // Nothing was executed.
 pub const NOTHING: Told = Told {
     last: 0,
+    began: Begun(0, &[0; 32], &[]),
     specs: &[],
+    stable: Proved(0, 0, &[0; 32], EMPTY_STATE, &[]),
     stamps: &[],
 };
 
 // The first request is certified at the first place, or the second.
 pub const CERTIFIES_1: Told = Told {
-    last: 0,
     specs: &[
         (PRIMARY, Spec(0, 1, HEAD_1, 1)),
         (BACKUP, Spec(0, 1, HEAD_1, 1)),
         (THIRD, Spec(0, 1, HEAD_1, 1)),
     ],
     stamps: &[1],
+    ..NOTHING
 };
 
 pub const CERTIFIES_2: Told = Told {
-    last: 0,
     specs: &[
         (PRIMARY, Spec(0, 1, HASTY_HEAD, 2)),
         (BACKUP, Spec(0, 1, HASTY_HEAD, 2)),
         (FOURTH, Spec(0, 1, HASTY_HEAD, 2)),
     ],
     stamps: &[2],
+    ..NOTHING
 };
 
 pub const FOR_1_BY_PRIMARY: Input = Frame(11, &[Leaves(PRIMARY, 1, &NOTHING)]);
