@@ -104,7 +104,7 @@ module _ {S : Type 0} (R : Rules S) (s : State S) (cert : ViewCert) (chosen : Ch
       let many = length-append (take (place - s.kept.base.place) s.kept.entries) (entries_between (stretch_of told) place chosen.place.0) in
       omega (arith, many, length-take-le (place - s.kept.base.place) s.kept.entries (omega arith))
 
-  at_stable : s.board.stable.place.0 ≡ s.kept.base.place → (stated s.board.stable told.checks).place ≡ told.stable_place → s.kept.base.place ≤ place → place ≤ last_place s.kept → told.stable_place.0 ≤ place
+  at_stable : s.board.stable.place.0 ≡ s.kept.base.place → (nat_lt s.board.stable.place.0 told.stable_place.0 ≡ true → (stated s.board.stable told.checks).place ≡ told.stable_place) → s.kept.base.place ≤ place → place ≤ last_place s.kept → told.stable_place.0 ≤ place
       → (with_history R told chosen.place s).kept.base.place ≡ (with_history R told chosen.place s).board.stable.place.0
   unfolding with_stable
   at_stable one proof above below within =
@@ -112,10 +112,10 @@ module _ {S : Type 0} (R : Rules S) (s : State S) (cert : ViewCert) (chosen : Ch
       let end = over_end above below in
       cond_both (nat_lt s.board.stable.place.0 told.stable_place.0) (settled_at R told.stable_place.0 told.checks (record s { kept = over })) (record s { kept = over })
       (λ (t : State S). t.kept.base.place ≡ t.board.stable.place.0)
-      (λ further. settled_place R over told.stable_place.0 (omega (arith, base, one, ltb-true _ _ further)) (omega (arith, end, within)) ∙ ap (λ (p : Place). p.0) (sym proof))
+      (λ further. settled_place R over told.stable_place.0 (omega (arith, base, one, ltb-true _ _ further)) (omega (arith, end, within)) ∙ ap (λ (p : Place). p.0) (sym (proof further)))
       (λ nearer. base ∙ sym one)
 
-  pub begins_at_stable : s.board.stable.place.0 ≡ s.kept.base.place → (stated s.board.stable told.checks).place ≡ told.stable_place → s.kept.base.place ≤ place → place ≤ last_place s.kept → told.stable_place.0 ≤ place
+  pub begins_at_stable : s.board.stable.place.0 ≡ s.kept.base.place → (nat_lt s.board.stable.place.0 told.stable_place.0 ≡ true → (stated s.board.stable told.checks).place ≡ told.stable_place) → s.kept.base.place ≤ place → place ≤ last_place s.kept → told.stable_place.0 ≤ place
       → IsOnePlace (begin_view R cert chosen told (begin s)).state
   begins_at_stable one proof above below within = record { kept = at_stable one proof above below within; orders = refl }
 

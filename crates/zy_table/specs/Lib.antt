@@ -20,7 +20,6 @@ pub mod Confirming
 pub mod Fetching
 pub mod Standing
 pub mod Whole
-pub mod LeavingStep
 pub mod ClientState
 pub mod ClientRows
 pub mod Sending

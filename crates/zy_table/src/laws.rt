@@ -1,4 +1,4 @@
-ghost use Rattle.std.specs.Prelude.{◌≡◌, ◌≤◌, false, [], ◌∷◌, slice_get, nat_lt, Some, None};
+ghost use Rattle.std.specs.Prelude.{◌≡◌, ◌≤◌, true, false, [], ◌∷◌, slice_get, nat_lt, Some, None};
 ghost use Rattle.std.specs.List.{list_any};
 ghost use Rattle.zy_base.specs.declared.step.Answer.{Answer};
 ghost use Rattle.zy_base.specs.declared.step.Answer.TheVariants.{Taken};
@@ -40,12 +40,12 @@ pub fn stays<M: Machine>()
         → adopt M.rules cert chosen (begin s) ≡ goes Taken (record { state = active_by cert chosen s; deeds = record { sent = []; acts = Adopts cert.new.stmt.view (record { 0 = common_with (stretch_of provider.stmt.told) chosen.place.0 s.kept }) [] ∷ [] } }) }
 {}
 
-/// The history and the orders are kept from one place on, the stable one, where the proof in the report is of the report's
-/// stable place: once its snapshot is installed, and as a view begins where they were so before, and both histories meet at
-/// or above their bases.
+/// The history and the orders are kept from one place on, the stable one: once a snapshot is installed, where the proof in
+/// the report is of the report's stable place; and as a view begins where they were so before, and both histories meet at or
+/// above their bases, where a report that is stable further on has such a proof.
 pub fn one_place<M: Machine>()
     ensures installed { (s : State M.State) (point : Point M.State) (told : Told) → (stated s.board.stable told.checks).place ≡ told.stable_place → point.place ≡ told.stable_place.0 → IsOnePlace (installed M.rules point told s) }
-    ensures begun { (s : State M.State) (cert : ViewCert) (chosen : Chosen) (told : Told) → s.board.stable.place.0 ≡ s.kept.base.place → (stated s.board.stable told.checks).place ≡ told.stable_place
+    ensures begun { (s : State M.State) (cert : ViewCert) (chosen : Chosen) (told : Told) → s.board.stable.place.0 ≡ s.kept.base.place → (nat_lt s.board.stable.place.0 told.stable_place.0 ≡ true → (stated s.board.stable told.checks).place ≡ told.stable_place)
         → s.kept.base.place ≤ common_with (stretch_of told) chosen.place.0 s.kept → common_with (stretch_of told) chosen.place.0 s.kept ≤ last_place s.kept → told.stable_place.0 ≤ common_with (stretch_of told) chosen.place.0 s.kept
         → IsOnePlace (begin_view M.rules cert chosen told (begin s)).state }
 {}
