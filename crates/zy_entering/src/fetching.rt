@@ -37,12 +37,10 @@ use zy_vframes::ViewFrame;
 
 // ---- another fetches the stable snapshot
 
-// The most bytes of a snapshot that a frame can bring.
-const GREATEST_SNAPSHOT: usize = 2_373_862;
-
 // The snapshot at the base of the history, which is the stable one.
 fn base_snapshot<M: Machine>(core: &Core<M>) -> &Bytes
-    ensures { result.now ≡ snapshot_of M.rules core.now.kept.base }
+    ensures bytes { result.now ≡ snapshot_of M.rules core.now.kept.base }
+    ensures short { length result.now ≤ greatest_snapshot }
 {
     // With its view comes what holds of every replica: its base is at a multiple of the interval.
     let _view = core.view();
@@ -61,9 +59,6 @@ fn state_frame<M: Machine>(core: &Core<M>, wanted: &Fetch) -> Result<ViewFrame, 
     ensures refused { IfErr result (IsFaultOf (fetch_cause core.now.board.stable wanted.now)) }
 {
     let snapshot = base_snapshot(core).as_slice();
-    if snapshot.len() > GREATEST_SNAPSHOT {
-        return Err(StateFault::Want);
-    }
     core.board().state_frame(core.allocator(), wanted, snapshot)
 }
 

@@ -1,8 +1,10 @@
 -- The snapshots that are kept, one for each entry and one for the base.
 use Rattle.std.proofs.Common.{◌≡◌, ℕ, zero, suc, ◌+◌, ◌-◌, ◌<◌, ◌≤◌, Bool, true, false, cond, inl, inr, List, [], ◌∷◌, ◌++◌, length, take, drop, get_or, Option, Some, None, refl, sym, ap, ◌∙◌, arith}
-use Rattle.std.specs.Prelude.{option_map, nat_eq, nat_lt, ◌||◌, ◌%◌}
+use Rattle.std.specs.Prelude.{All, IfSome, option_map, nat_eq, nat_lt, ◌||◌, ◌%◌}
 use Rattle.std.proofs.lemmas.Bool.{cases_Bool, le-ltb, lt-ltb, ltb-true, ltb-false}
 use Rattle.std.proofs.lemmas.List.{take_at, length-append}
+use Rattle.std.proofs.lemmas.List.Elements.{All-cons, All-drop, All-get_or, All-nil, All-push, All-same, All-take}
+use Rattle.std.proofs.Math.ListN.{get_or-eq_default}
 use Rattle.zy_base.specs.Machine.{Rules}
 use Rattle.zy_base.specs.declared.ids.Digest.{Digest}
 use Rattle.zy_chain.specs.declared.entry.Entry.{Entry}
@@ -10,8 +12,7 @@ use Rattle.zy_exec.specs.declared.shot.Shot.{Shot}
 use Rattle.zy_exec.specs.Replay.{Point, step, along}
 use Rattle.zy_exec.specs.Kept.{Kept, last_place, now_of, longer, back_to, settled}
 use Rattle.zy_exec.specs.Snapshot.{snapshot_of}
-use Rattle.zy_exec.specs.Shots.{snapshot_in, digest_of_snapshot, shot_of, shot_in, shots_from, IsShotsKept}
-use Rattle.zy_exec.specs.Installed.{IsInstalled}
+use Rattle.zy_exec.specs.Shots.{snapshot_in, digest_of_snapshot, shot_of, shot_in, shots_from, IsShort, IsShotsKept}
 use Rattle.zy_exec.proofs.ReplayLemmas.{along-nil, along-append}
 
 pub shots-append : {S : Type 0} (R : Rules S) (interval : ℕ) (p : Point S) (entries : List Entry) (e : Entry)
@@ -73,24 +74,31 @@ digest_of_shot R k place =
 
 -- ---- what is kept, as the execution changes
 
-pub kept_new : {S : Type 0} (R : Rules S) (k : Kept S) (shot : Option Shot) (shots : List (Option Shot)) → k.entries ≡ [] → 4 ≤ k.interval → k.interval ≤ 32 → shot ≡ shot_of R k.interval (now_of R k) → shots ≡ shot ∷ []
+pub kept_new : {S : Type 0} (R : Rules S) (k : Kept S) (shot : Option Shot) (shots : List (Option Shot)) → k.entries ≡ [] → 4 ≤ k.interval → k.interval ≤ 32 → shot ≡ shot_of R k.interval (now_of R k) → IsShort shot → shots ≡ shot ∷ []
     → IsShotsKept R k shots
-kept_new R k shot shots none least most shot_is shots_are =
+kept_new R k shot shots none least most shot_is short shots_are =
     let there : now_of R k ≡ k.base = ap (along R k.base) none ∙ along-nil R k.base in
     record {
       shots_are = shots_are ∙ ap (λ (s : Option Shot). s ∷ []) (shot_is ∙ ap (shot_of R k.interval) there) ∙ sym (ap (shots_from R k.interval k.base) none);
+      short = All-same IsShort shots (shot ∷ []) shots_are (All-cons IsShort shot [] short (All-nil IsShort));
       least = least;
       most = most;
     }
 
-pub kept_run : {S : Type 0} (R : Rules S) (k k' : Kept S) (e : Entry) (shot : Option Shot) (shots shots' : List (Option Shot)) → IsShotsKept R k shots → k' ≡ longer k e → shot ≡ shot_of R k'.interval (now_of R k') → shots' ≡ shots ++ shot ∷ []
+pub kept_run : {S : Type 0} (R : Rules S) (k k' : Kept S) (e : Entry) (shot : Option Shot) (shots shots' : List (Option Shot)) → IsShotsKept R k shots → k' ≡ longer k e → shot ≡ shot_of R k'.interval (now_of R k') → IsShort shot → shots' ≡ shots ++ shot ∷ []
     → IsShotsKept R k' shots'
-kept_run R k k' e shot shots shots' was k_is shot_is shots_are =
+kept_run R k k' e shot shots shots' was k_is shot_is short shots_are =
     let now : now_of R (longer k e) ≡ step R (now_of R k) e = along-append R k.base k.entries e in
     let shot_now : shot ≡ shot_of R k.interval (step R (now_of R k) e) = shot_is ∙ ap (λ (j : Kept _). shot_of R j.interval (now_of R j)) k_is ∙ ap (shot_of R k.interval) now in
     let all : shots' ≡ shots_from R k.interval k.base (k.entries ++ e ∷ []) =
     shots_are ∙ ap (λ (s : Option Shot). shots ++ s ∷ []) shot_now ∙ ap (λ (ss : List (Option Shot)). ss ++ shot_of R k.interval (step R (now_of R k) e) ∷ []) was.shots_are ∙ sym (shots-append R k.interval k.base k.entries e) in
-    rw k_is (record { shots_are = all; least = was.least; most = was.most })
+    rw k_is
+    (record {
+      shots_are = all;
+      short = All-same IsShort shots' (shots ++ shot ∷ []) shots_are (All-push IsShort shots shot was.short short);
+      least = was.least;
+      most = was.most;
+    })
 
 pub kept_back : {S : Type 0} (R : Rules S) (k k' : Kept S) (place : ℕ) (shots shots' : List (Option Shot)) → IsShotsKept R k shots → k' ≡ back_to place k → shots' ≡ take (place - k.base.place + 1) shots
     → IsShotsKept R k' shots'
@@ -98,6 +106,7 @@ kept_back R k k' place shots shots' was k_is shots_are =
     rw k_is
     (record {
       shots_are = shots_are ∙ ap (take (place - k.base.place + 1)) was.shots_are ∙ shots-take R k.interval (place - k.base.place) k.base k.entries;
+      short = All-same IsShort shots' (take (place - k.base.place + 1) shots) shots_are (All-take IsShort (place - k.base.place + 1) shots was.short);
       least = was.least;
       most = was.most;
     })
@@ -112,6 +121,7 @@ kept_unrun {S} R k k' e shots shots' n was k_is many shots_are =
     let same : k.interval ≡ k'.interval = ap (λ (j : Kept S). j.interval) k_is in
     record {
       shots_are = shots_are ∙ ap (take (n - 1)) all ∙ take_at front (last ∷ []) (n - 1) (omega (arith, many, ap length all, length-append front (last ∷ [])));
+      short = All-same IsShort shots' (take (n - 1) shots) shots_are (All-take IsShort (n - 1) shots was.short);
       least = omega (arith, same, was.least);
       most = omega (arith, same, was.most);
     }
@@ -127,6 +137,7 @@ kept_settled R k k' shots shots' was some k_is shots_are =
     rw k_is
     (record {
       shots_are = shots_are ∙ ap (drop 1) was.shots_are ∙ shots_settled R k.interval (k.base.place + 1 - k.base.place) k.base k.entries (omega arith) some;
+      short = All-same IsShort shots' (drop 1 shots) shots_are (All-drop IsShort 1 shots was.short);
       least = was.least;
       most = was.most;
     })
@@ -147,15 +158,15 @@ kept_at R k shots place was above =
 pub none_below : {S : Type 0} (R : Rules S) (k : Kept S) (place : ℕ) → place < k.base.place → None ≡ shot_in R k place
 none_below R k place below = rw (lt-ltb place k.base.place below) refl
 
-pub kept_installed : {S : Type 0} (IsState : S → Type 0) (R : Rules S) (interval place : ℕ) (head : Digest) (bytes : List ℕ) (k : Kept S) (shots : List (Option Shot)) → IsInstalled IsState R interval place head bytes k → 4 ≤ interval → interval ≤ 32 → place % interval ≡ 0
-    → shots ≡ Some (record { bytes = bytes; digest = digest_of_snapshot bytes }) ∷ [] → IsShotsKept R k shots
-kept_installed IsState R interval place head bytes k shots is least most multiple shots_are =
-    let due : nat_eq (k.base.place % k.interval) 0 ≡ true =
-    ap (λ (n : ℕ). nat_eq (n % k.interval) 0) is.place_is ∙ ap (λ (i : ℕ). nat_eq (place % i) 0) is.interval_is ∙ ap (λ (m : ℕ). nat_eq m 0) multiple in
-    let shot : Some (record { bytes = bytes; digest = digest_of_snapshot bytes }) ≡ shot_of R k.interval k.base =
-    rw due (ap (λ (b : List ℕ). let s : Shot = record { bytes = b; digest = digest_of_snapshot b } in Some s) (sym is.spelled)) in
-    record {
-      shots_are = shots_are ∙ ap (λ (s : Option Shot). s ∷ []) shot ∙ sym (ap (shots_from R k.interval k.base) is.nothing_above);
-      least = omega (arith, is.interval_is);
-      most = omega (arith, is.interval_is);
-    }
+-- ---- how long they are
+
+short_of : (shot : Option Shot) → IsShort shot → IfSome shot (λ s. length s.bytes ≤ 2373862)
+short_of None short = tt
+short_of (Some shot) short = short
+
+pub short_at : (shots : List (Option Shot)) (i : ℕ) → All IsShort shots → IfSome (get_or shots i None) (λ s. length s.bytes ≤ 2373862)
+short_at shots i short =
+    elim (cases_Bool (nat_lt i (length shots))) [
+      | inl within ↦ short_of (get_or shots i None) (All-get_or IsShort shots i None (ltb-true i (length shots) within) short)
+      | inr past ↦ rw (get_or-eq_default shots None (ltb-false i (length shots) past)) tt
+    ]

@@ -1,5 +1,5 @@
 -- The snapshots at the multiples of the interval.
-use Rattle.std.specs.Prelude.{◌≡◌, ℕ, ◌-◌, ◌%◌, ◌≤◌, nat_eq, nat_lt, ◌||◌, if◌then◌else◌, List, [], ◌∷◌, length, take, Option, Some, None}
+use Rattle.std.specs.Prelude.{◌≡◌, ℕ, ◌-◌, ◌%◌, ◌≤◌, nat_eq, nat_lt, ◌||◌, if◌then◌else◌, List, [], ◌∷◌, length, take, All, ⊤, Option, Some, None}
 use Rattle.sha2.specs.Sha256.{sha256}
 use Rattle.zy_base.specs.Machine.{Rules}
 use Rattle.zy_base.specs.declared.ids.Digest.{Digest}
@@ -49,7 +49,13 @@ shot_in R k place =
     then None
     else shot_of R k.interval (along R k.base (take (place - k.base.place) k.entries))
 
+-- as many bytes as a frame can bring
+abbrev pub IsShort : Option Shot → Type 0
+IsShort None = ⊤
+IsShort (Some shot) = length shot.bytes ≤ 2373862
+
 pub record IsShotsKept {S : Type 0} (R : Rules S) (k : Kept S) (shots : List (Option Shot)) : Type 0 where
   pub shots_are : shots ≡ shots_from R k.interval k.base k.entries
+  pub short : All IsShort shots
   pub least : 4 ≤ k.interval
   pub most : k.interval ≤ 32

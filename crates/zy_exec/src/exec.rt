@@ -224,7 +224,8 @@ impl<M: Machine> Exec<M> {
 
     // The snapshot at a place as it is kept.
     fn shot_at(&self, place: Place) -> Option<&Shot>
-        ensures { option_copied result ≡ shot_in M.rules self.now place.0 }
+        ensures shot { option_copied result ≡ shot_in M.rules self.now place.0 }
+        ensures short { IfSome result (λ shot. length shot.now.bytes ≤ 2373862) }
     {
         if place.0 < self.track.base().0 {
             return None;
@@ -232,9 +233,11 @@ impl<M: Machine> Exec<M> {
         shot_after(&self.shots, (place.0 - self.track.base().0) as usize)
     }
 
-    /// The snapshot at a place. `None` exactly outside base to end, and between the multiples of the interval.
+    /// The snapshot at a place, of at most 2,373,862 bytes. `None` exactly outside base to end, and between the multiples of
+    /// the interval.
     pub fn snapshot_at(&self, place: Place) -> Option<&Bytes>
-        ensures { option_copied result ≡ snapshot_in M.rules self.now place.0 }
+        ensures snapshot { option_copied result ≡ snapshot_in M.rules self.now place.0 }
+        ensures short { IfSome result (λ snapshot. length snapshot.now ≤ 2373862) }
     {
         match self.shot_at(place) {
             Some(shot) => Some(&shot.bytes),
@@ -270,14 +273,12 @@ impl<M: Machine> Exec<M> {
     ) -> Result<Exec<M>, InstallFault>
         requires least { 4 ≤ interval }
         requires most { interval ≤ 32 }
-        requires multiple { place.0 % interval ≡ 0 }
         requires place { place.0 < 2 ^ 62 }
         ensures ok { IfOk result (λ exec. IsInstalled M.IsState M.rules interval place.0 head snapshot.now exec) }
         ensures not_state { IsErrOf result NotState → (p : Point M.State) → IsShown M.IsState p → snapshot_of M.rules p ≡ snapshot.now → ⊥ }
     {
-        let shot = Shot::new(Bytes::from_slice(alloc, snapshot)?);
-        let shots = first_shot(alloc, Some(shot))?;
         let track = Track::restored(alloc, interval, place, head, snapshot)?;
+        let shots = first_shot(alloc, track.shot()?)?;
         Ok(Exec { track, shots })
     }
 
@@ -289,7 +290,6 @@ impl<M: Machine> Exec<M> {
         head: Digest,
         snapshot: &[u8],
     ) -> Result<(), InstallFault>
-        requires multiple { place.0 % self.old.interval ≡ 0 }
         requires place { place.0 < 2 ^ 62 }
         ensures ok { OnOk result (IsInstalled M.IsState M.rules self.old.interval place.0 head snapshot.now self.new) }
         ensures err { OnErr result (self.new ≡ self.old) }

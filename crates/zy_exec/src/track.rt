@@ -7,7 +7,7 @@ ghost use Rattle.zy_exec.specs.declared.install_fault.InstallFault.TheVariants.{
 ghost use Rattle.zy_exec.specs.Known.{IsKnownInRange};
 ghost use Rattle.zy_exec.specs.Replay.{Point, origin, along, step};
 ghost use Rattle.zy_exec.specs.Snapshot.{listed, row_fields, snapshot_of};
-ghost use Rattle.zy_exec.specs.Shots.{shot_of};
+ghost use Rattle.zy_exec.specs.Shots.{shot_of, IsShort};
 ghost use Rattle.zy_exec.specs.Installed.{IsShown, IsInstalled};
 ghost use Rattle.zy_exec.specs.Kept.{Kept, stretch_of, last_place, now_of, longer, back_to, settled, reply_in, known_in, StandsFor};
 
@@ -301,7 +301,8 @@ impl<M: Machine> Track<M> {
     /// The snapshot at the end with its digest, where the place is a multiple of the interval.
     pub fn shot(&self) -> Result<Option<Shot>, Want>
         requires { 0 < self.now.interval }
-        ensures { IfOk result (λ shot. shot ≡ shot_of M.rules self.now.interval (now_of M.rules self.now)) }
+        ensures shot { IfOk result (λ shot. shot ≡ shot_of M.rules self.now.interval (now_of M.rules self.now)) }
+        ensures short { IfOk result IsShort }
     {
         if self.end().0 % self.interval != 0 {
             return Ok(None);

@@ -14,7 +14,7 @@ pub invariant_of-self-in-Ok : goal.invariant_of-self-in-Ok
 invariant_of-self-in-Ok g c =
     let x = c.self.inside in
     let M = g.M.Machine in
-    kept_run M.rules x.track c.run.new.self c.args.e c.in-Ok.shot x.shots.items c.push_back_reserved.new.self.items c.self.invariant c.in_ok-reply.ensures.after c.in-Ok.ensures
+    kept_run M.rules x.track c.run.new.self c.args.e c.in-Ok.shot x.shots.items c.push_back_reserved.new.self.items c.self.invariant c.in_ok-reply.ensures.after c.in-Ok.ensures.shot c.in-Ok.ensures.short
     (c.push_back_reserved.ensures.items ∙ ap (λ (ss : List (Option Shot)). ss ++ c.in-Ok.shot ∷ []) c.in_default.ensures.items)
 
 pub invariant_of-self-in-Err-shot : goal.invariant_of-self-in-Err-shot

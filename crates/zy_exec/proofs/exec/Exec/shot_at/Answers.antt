@@ -4,8 +4,8 @@ use Rattle.zy_exec.specs.Shots.{shot_in}
 use Rattle.zy_exec.proofs.ShotLemmas.{kept_at}
 use Rattle.zy_exec.proofs.exec.Exec.shot_at.Goals as goal
 
-pub returns : goal.returns
-returns g c =
+pub returns-clause-shot : goal.returns-clause-shot
+returns-clause-shot g c =
     let x = c.self.inside in
     let M = g.M.Machine in
     let place = c.args.place.0 in
