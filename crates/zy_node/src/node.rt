@@ -87,7 +87,6 @@ fn node_of<M: Machine>(
 impl<M: Machine> Core for Replica<M> {
     ghost rules = { replica_rules M.rules };
 
-    // The program's replicas take the steps of view 0.
     fn handle(self, event: Event) -> Result<Moved<Replica<M>>, Want> {
         let Stepped {
             replica,
@@ -96,7 +95,7 @@ impl<M: Machine> Core for Replica<M> {
             timers: _,
             said: _,
             got: _,
-        } = self.step(event)?;
+        } = self.whole_step(event)?;
         Ok(Moved { core: replica, out })
     }
 

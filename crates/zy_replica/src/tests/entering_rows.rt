@@ -232,6 +232,44 @@ pub const OF_VIEW_CERTIFICATES: &[Row] = &[
                 Cause::TooFew(1),
             ),
             Refuses(
+                Frame(
+                    14,
+                    &[
+                        Gives(
+                            BACKUP,
+                            1,
+                            &[
+                                (PRIMARY, 1, &NOTHING),
+                                (BACKUP, 2, &NOTHING),
+                                (FOURTH, 1, &NOTHING),
+                            ],
+                        ),
+                        Raw(&[0, 1]),
+                        By(PRIMARY, CONFIRMED_2),
+                    ],
+                ),
+                Cause::Mixed,
+            ),
+            Refuses(
+                Frame(
+                    14,
+                    &[
+                        Gives(
+                            BACKUP,
+                            1,
+                            &[
+                                (PRIMARY, 1, &NOTHING),
+                                (BACKUP, 1, &NOTHING),
+                                (PRIMARY, 1, &NOTHING),
+                            ],
+                        ),
+                        Raw(&[0, 1]),
+                        By(PRIMARY, CONFIRMED_2),
+                    ],
+                ),
+                Cause::Repeat,
+            ),
+            Refuses(
                 Frame(14, &[CHOOSES_2, Raw(&[0, 1]), By(CLIENT, CONFIRMED_2)]),
                 Cause::WrongRole,
             ),

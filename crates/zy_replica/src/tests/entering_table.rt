@@ -164,6 +164,22 @@ pub const BREAKS_5: Told = Told {
 // The place isn't one of a snapshot.
 pub const BREAKS_6: Told = FROM_4;
 
+// The proof is of a later view than the last active one.
+pub const BREAKS_6_BY_VIEW: Told = Told {
+    stable: Proved(
+        1,
+        8,
+        ANOTHER,
+        ANOTHER,
+        &[
+            (PRIMARY, Check(1, 8, ANOTHER, ANOTHER)),
+            (BACKUP, Check(1, 8, ANOTHER, ANOTHER)),
+            (THIRD, Check(1, 8, ANOTHER, ANOTHER)),
+        ],
+    ),
+    ..NOTHING
+};
+
 pub const BREAKS_7: Told = Told {
     stamps: &[1, 2, 3, 4, 5, 6, 7, 8, 9, 10, 11, 12, 13, 14, 15, 16, 17],
     ..NOTHING

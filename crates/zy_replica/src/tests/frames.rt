@@ -109,13 +109,14 @@ pub struct Proved(
 pub type Report = (Party, u64, &'static Told);
 
 // A part of a frame: a statement with its signer's signature, one with a signature on the text of another, a report for a
-// view likewise, a new view out of reports, or bytes.
+// view likewise, a new view out of reports, one whose reports are signed on the texts of another, or bytes.
 pub enum Part {
     By(Party, Statement),
     As(Party, Party, Statement),
     Leaves(Party, u64, &'static Told),
     LeavesAs(Party, Party, u64, &'static Told),
     Gives(Party, u64, &'static [Report]),
+    GivesAs(Party, Party, u64, &'static [Report]),
     Raw(&'static [u8]),
 }
 
@@ -275,11 +276,18 @@ fn leaves(
     signed_fields(alloc, by, signed_as, 9, &change)
 }
 
-// A new view: its number and its reports.
-fn gives(alloc: Global, by: Party, view: u64, reports: &[Report]) -> Result<Vec<u8>, Want> {
+// A new view: its number and its reports, each signed by its signer, or on the text of one other party.
+fn gives(
+    alloc: Global,
+    by: Party,
+    signed_as: Option<Party>,
+    view: u64,
+    reports: &[Report],
+) -> Result<Vec<u8>, Want> {
     let mut new = joined(alloc, &[&view.to_be_bytes(), &count_of(reports.len())])?;
     for (signer, for_view, told) in reports {
-        let change = leaves(alloc, *signer, *signer, *for_view, *told)?;
+        let signed_as = signed_as.unwrap_or(*signer);
+        let change = leaves(alloc, *signer, signed_as, *for_view, *told)?;
         new.extend_from_slice(&change)?;
     }
     signed_fields(alloc, by, by, 10, &new)
@@ -291,7 +299,10 @@ fn spelled(alloc: Global, part: &Part) -> Result<Vec<u8>, Want> {
         Part::As(by, signed_as, stmt) => signed(alloc, *by, *signed_as, stmt),
         Part::Leaves(by, view, told) => leaves(alloc, *by, *by, *view, told),
         Part::LeavesAs(by, signed_as, view, told) => leaves(alloc, *by, *signed_as, *view, told),
-        Part::Gives(by, view, reports) => gives(alloc, *by, *view, reports),
+        Part::Gives(by, view, reports) => gives(alloc, *by, None, *view, reports),
+        Part::GivesAs(by, signed_as, view, reports) => {
+            gives(alloc, *by, Some(*signed_as), *view, reports)
+        }
         Part::Raw(bytes) => joined(alloc, &[bytes]),
     }
 }

@@ -5,7 +5,7 @@ use super::driver::Step::{Does, Leaves, Refuses};
 use super::driver::{Begins, Left, Row};
 use super::entering_rows::{FOURTH_TAKES_PART, THIRD_BY_FOURS};
 use super::entering_table::*;
-use super::frames::Part::{As, By, Gives};
+use super::frames::Part::{As, By, Gives, GivesAs};
 use super::frames::Statement::Began;
 use super::frames::{BACKUP, CLIENT, FOURTH, OUTSIDER, PRIMARY, THIRD};
 use super::leaving_rows::*;
@@ -36,6 +36,10 @@ pub const OF_NEW_VIEWS: &[Row] = &[
             Refuses(
                 Frame(12, &[Gives(THIRD, 1, &[(PRIMARY, 1, &NOTHING)])]),
                 Cause::WrongRole,
+            ),
+            Refuses(
+                Frame(12, &[GivesAs(BACKUP, FOURTH, 1, &[(PRIMARY, 1, &NOTHING)])]),
+                Cause::BadSignature,
             ),
             Refuses(
                 Frame(
@@ -181,6 +185,21 @@ pub const OF_NEW_VIEWS: &[Row] = &[
                             (PRIMARY, 1, &NOTHING),
                             (BACKUP, 1, &NOTHING),
                             (THIRD, 1, &BREAKS_6),
+                        ],
+                    )],
+                ),
+                Cause::BadReport(6),
+            ),
+            Refuses(
+                Frame(
+                    12,
+                    &[Gives(
+                        BACKUP,
+                        1,
+                        &[
+                            (PRIMARY, 1, &NOTHING),
+                            (BACKUP, 1, &NOTHING),
+                            (THIRD, 1, &BREAKS_6_BY_VIEW),
                         ],
                     )],
                 ),
