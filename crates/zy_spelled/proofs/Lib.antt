@@ -1,0 +1,3 @@
+mod AtStart
+mod SaidBack
+mod Sizes

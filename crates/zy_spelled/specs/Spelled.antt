@@ -2,11 +2,12 @@
 use Rattle.std.specs.Prelude.{◌≡◌, ℕ, ◌^◌, ◌<◌, ◌≤◌, List, [], ◌∷◌, length, Option, IfSome}
 use Rattle.std.specs.List.{AllByRecursion}
 use Rattle.zy_chain.specs.Fields.{entry_fields}
-use Rattle.zy_change.specs.Views.{Views, begans_in, began_for, specs_in}
+use Rattle.zy_change.specs.Views.{Views, begans_in, began_for, own_view, specs_in}
 use Rattle.zy_change.specs.declared.kept.Accepted.{Accepted}
 use Rattle.zy_change.specs.declared.kept.Chosen.{Chosen}
 use Rattle.zy_change.specs.declared.kept.Waiting.{Waiting}
-use Rattle.zy_check.specs.Board.{Board, Round}
+use Rattle.zy_check.specs.Board.{Board}
+use Rattle.zy_exec.specs.Kept.{Kept}
 use Rattle.zy_lawful.specs.Tied.{IsRoundOf}
 use Rattle.zy_parts.specs.Reports.{began_fields, change_fields, new_fields}
 use Rattle.zy_parts.specs.Signing.{signed}
@@ -17,7 +18,7 @@ use Rattle.zy_parts.specs.declared.reports.New.{New}
 use Rattle.zy_parts.specs.declared.signed.Signed.{Signed}
 use Rattle.zy_parts.specs.declared.statements.Check.{Check}
 use Rattle.zy_parts.specs.declared.statements.Spec.{Spec}
-use Rattle.zy_table.specs.State.{State, own_view}
+use Rattle.zy_table.specs.State.{State}
 use Rattle.zy_table.specs.declared.deeds.Act.{Act}
 use Rattle.zy_table.specs.declared.deeds.Act.TheVariants.{Says, Gains, Adopts}
 use Rattle.zy_table.specs.declared.deeds.Body.{Body}
@@ -65,55 +66,54 @@ IsChangeSpelled vote = (signed change_fields).Fits (with_stmt change_spelled vot
 
 -- ---- what a replica keeps
 
--- its last active view, with what that began and its commit certificate
-pub record IsLastSpelled (v : Views) : Type 0 where
-  pub view : IsU62 0 v.last_view.0
-  pub place : IsU62 0 v.began_place.0
-  pub head : length v.began_head.0 ≡ 32
-  pub begans : FitsList IsBeganSpelled 0 16 (begans_in v.view_cert)
-  pub specs : FitsOptional (FitsList IsSpecSpelled 1 16) (specs_in v.specs)
-
--- its stable checkpoint, with the checkpoints that prove it
-pub record IsStableSpelled (b : Board) : Type 0 where
-  pub view : IsU62 0 b.stable.view.0
-  pub place : IsU62 0 b.stable.place.0
-  pub head : length b.stable.head.0 ≡ 32
-  pub state : length b.stable.state.0 ≡ 32
-  pub proof : FitsList IsCheckSpelled 0 16 b.proof
-
 -- a new view's reports, and the confirmation of what is chosen out of them
 pub record IsChoiceSpelled (new : New) (chosen : Chosen) : Type 0 where
   pub reports : new_fields.Fits (new_spelled new)
   pub began : began_fields.Fits (began_for new.view chosen)
 
--- what it accepted, and the certificate that waits
 abbrev pub IsAcceptedSpelled : Accepted → Type 0
 IsAcceptedSpelled a = IsChoiceSpelled a.new.stmt a.chosen
 
+-- with the confirmations of a certificate that waits
 pub record IsWaitingSpelled (x : Waiting) : Type 0 where
   pub choice : IsChoiceSpelled x.cert.new.stmt x.chosen
   pub begans : FitsList IsBeganSpelled 0 16 x.cert.begans
 
--- what is kept of a place: one response and one checkpoint of each signer
-abbrev pub IsRoundSpelled : Round → Type 0
-IsRoundSpelled round = IsRoundOf IsSpecSpelled IsCheckSpelled round
-
--- All that a statement of a replica is made from can be spelled: so what it says is read back.
-pub record IsSpelled {S : Type 0} (s : State S) : Type 0 where
-  -- it signs as a party whose number a text holds
-  pub signer : IsParty s.sealer.me
+-- What it keeps for changes of view: its last active view, with what that began and its commit certificate, and the reports,
+-- confirmations and new views of others.
+pub record AreViewsSpelled (v : Views) : Type 0 where
   -- at most 64 entries lie above its stable place
-  pub spaced : s.views.interval ≤ 32
-  pub own : own_view s < 2 ^ 62
-  pub last : IsLastSpelled s.views
-  pub stable : IsStableSpelled s.board
-  -- its history, as far as it is kept
-  pub head : length s.kept.base.head.0 ≡ 32
-  pub entries : AllByRecursion entry_fields.Fits s.kept.entries
-  -- what it keeps of others
-  pub near : IsRoundSpelled s.board.near
-  pub far : IsRoundSpelled s.board.far
-  pub changes : AllByRecursion (λ slot. IfSome slot IsChangeSpelled) s.views.changes
-  pub begans : AllByRecursion (λ slot. IfSome slot IsBeganSpelled) s.views.begans
-  pub accepted : IfSome s.views.accepted IsAcceptedSpelled
-  pub waiting : IfSome s.views.waiting IsWaitingSpelled
+  pub spaced : v.interval ≤ 32
+  pub own : own_view v < 2 ^ 62
+  pub last : IsU62 0 v.last_view.0
+  pub began_place : IsU62 0 v.began_place.0
+  pub began_head : length v.began_head.0 ≡ 32
+  pub began : FitsList IsBeganSpelled 0 16 (begans_in v.view_cert)
+  pub specs : FitsOptional (FitsList IsSpecSpelled 1 16) (specs_in v.specs)
+  pub changes : AllByRecursion (λ slot. IfSome slot IsChangeSpelled) v.changes
+  pub begans : AllByRecursion (λ slot. IfSome slot IsBeganSpelled) v.begans
+  pub accepted : IfSome v.accepted IsAcceptedSpelled
+  pub waiting : IfSome v.waiting IsWaitingSpelled
+
+-- its history, as far as it is kept
+pub record IsHistorySpelled {S : Type 0} (k : Kept S) : Type 0 where
+  pub head : length k.base.head.0 ≡ 32
+  pub entries : AllByRecursion entry_fields.Fits k.entries
+
+-- its stable checkpoint, with the checkpoints that prove it; and one response and one checkpoint of each signer above that
+pub record IsBoardSpelled (b : Board) : Type 0 where
+  pub view : IsU62 0 b.stable.view.0
+  pub place : IsU62 0 b.stable.place.0
+  pub head : length b.stable.head.0 ≡ 32
+  pub state : length b.stable.state.0 ≡ 32
+  pub proof : FitsList IsCheckSpelled 0 16 b.proof
+  pub near : IsRoundOf IsSpecSpelled IsCheckSpelled b.near
+  pub far : IsRoundOf IsSpecSpelled IsCheckSpelled b.far
+
+-- All that a statement of a replica is made from can be spelled, and it signs as a party whose number a text holds. So what it
+-- says is read back.
+pub record IsSpelled {S : Type 0} (s : State S) : Type 0 where
+  pub signer : IsParty s.sealer.me
+  pub views : AreViewsSpelled s.views
+  pub history : IsHistorySpelled s.kept
+  pub board : IsBoardSpelled s.board
