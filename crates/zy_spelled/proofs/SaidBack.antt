@@ -15,7 +15,7 @@ use Rattle.zy_view_law.specs.Told.{spec_spelled, spec_told, statement_in}
 use Rattle.zy_spelled.specs.Spelled.{FitsBody}
 
 -- a client's number of four bytes is spelled as it is
-same_spelled : (spec : Spec) → spec_fields.Fits spec → spec_spelled spec ≡ spec
+pub same_spelled : (spec : Spec) → spec_fields.Fits spec → spec_spelled spec ≡ spec
 unfolding spec_fields
 same_spelled spec fits = ap (λ (n : ℕ). record spec { client = record { 0 = n } }) (from_be_bytes-to_be_bytes_4 spec.client.0 fits.1.1.1.1.0)
 

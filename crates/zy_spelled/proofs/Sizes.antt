@@ -1,6 +1,7 @@
 -- How long signatures, heads and digests are, and what is signed with its own key.
-use Rattle.std.proofs.Common.{◌≡◌, ℕ, zero, suc, ◌+◌, ◌*◌, ◌<◌, ◌≤◌, ◌^◌, List, [], ◌∷◌, ◌++◌, length, concat, take, Option, Some, None, refl, sym, ap, ◌∙◌, subst, arith}
+use Rattle.std.proofs.Common.{◌≡◌, ℕ, zero, suc, ◌+◌, ◌*◌, ◌<◌, ◌≤◌, ◌^◌, List, [], ◌∷◌, ◌++◌, length, take, Option, Some, None, refl, sym, ap, ◌∙◌, subst, arith}
 use Rattle.std.proofs.lemmas.List.{length-append}
+use Rattle.std.specs.List.{concat}
 use Rattle.std.specs.Int.{w32, to_be_bytes}
 use Rattle.sha2.proofs.Facts256.{length-sha256}
 use Rattle.zy_base.specs.declared.ids.Digest.{Digest}
@@ -15,7 +16,7 @@ use Rattle.zy_lms.specs.Tree.{path_from}
 use Rattle.zy_lms.specs.declared.height.Height.{Height}
 use Rattle.zy_lms.specs.declared.height.Height.TheVariants.{H5, H10}
 use Rattle.zy_ots.proofs.ChainLemmas.{length-chain, length-joined}
-use Rattle.zy_ots.specs.Chain.{joined}
+use Rattle.zy_ots.specs.Chain.{joined, prefix_of}
 use Rattle.zy_ots.specs.OneTime as one_time
 use Rattle.zy_ots.specs.OtsType as ots_types
 use Rattle.zy_ots.specs.declared.ots_type.OtsType.{OtsType}
@@ -27,13 +28,16 @@ use Rattle.zy_wire.specs.Spelling.{Spelling}
 
 -- ---- a signature
 
+value_long : (t : OtsType) (id : List ℕ) (q : ℕ) (seed digest : List ℕ) (i : ℕ) → length (one_time.signed_value t id q seed digest i) ≡ 32
+value_long t id q seed digest i = length-chain _ _ 0 _ (length-sha256 _)
+
 one_time_long : (t : OtsType) (id : List ℕ) (q : ℕ) (seed message : List ℕ) → length (one_time.signature_of t id q seed message) ≡ 36 + 32 * ots_types.chain_count_of t
 unfolding one_time.signature_of
 one_time_long t id q seed message =
     let c = one_time.randomizer id q seed in
     let value : ℕ → List ℕ = one_time.signed_value t id q seed (one_time.message_digest id q c message) in
     let values = joined value (ots_types.chain_count_of t) in
-    omega (arith, length-append (to_be_bytes w32 (ots_types.number_of t)) c, length-append (to_be_bytes w32 (ots_types.number_of t) ++ c) values, length-sha256 _,
+    omega (arith, length-append (to_be_bytes w32 (ots_types.number_of t)) c, length-append (to_be_bytes w32 (ots_types.number_of t) ++ c) values, length-sha256 (prefix_of id q 0xfffd ++ 0xff ∷ [] ++ seed),
     length-joined value (ots_types.chain_count_of t) (λ i. length-chain _ _ 0 _ (length-sha256 _)))
 
 few_chains : (t : OtsType) → ots_types.chain_count_of t ≤ 67
