@@ -2,7 +2,9 @@ mod AtStart
 mod Decoded
 mod DecodedFrames
 mod Gathers
+mod Reports
 mod Runs
 mod SaidBack
 mod Sizes
+mod Slots
 mod Working
