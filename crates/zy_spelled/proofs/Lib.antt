@@ -1,10 +1,13 @@
+mod Adopts
 mod AtStart
 mod Decoded
 mod DecodedFrames
 mod Gathers
+mod Leaves
 mod Reports
 mod Runs
 mod SaidBack
 mod Sizes
 mod Slots
+mod ViewRows
 mod Working
