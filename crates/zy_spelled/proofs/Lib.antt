@@ -1,5 +1,6 @@
 mod Adopts
 mod AtStart
+mod BeginRows
 mod Decoded
 mod DecodedFrames
 mod Gathers
@@ -10,4 +11,5 @@ mod SaidBack
 mod Sizes
 mod Slots
 mod ViewRows
+mod WholeSteps
 mod Working

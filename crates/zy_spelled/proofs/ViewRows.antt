@@ -91,22 +91,6 @@ with_change_spelled v c is fits =
       waiting = is.waiting;
     }
 
-with_began_spelled : (v : Views) (b : Signed Began) → AreViewsSpelled v → IsBeganSpelled b → AreViewsSpelled (with_began b v)
-with_began_spelled v b is fits =
-    record {
-      spaced = is.spaced;
-      own = is.own;
-      last = is.last;
-      began_place = is.began_place;
-      began_head = is.began_head;
-      began = is.began;
-      specs = is.specs;
-      changes = is.changes;
-      begans = filled IsBeganSpelled v.begans _ b is.begans fits;
-      accepted = is.accepted;
-      waiting = is.waiting;
-    }
-
 -- a hate that is counted is said by nobody
 hated_spelled : {S : Type 0} (by : Party) (g : Going S) → IsEarly g → IsEarly (with_hate_of by g)
 hated_spelled by g is =

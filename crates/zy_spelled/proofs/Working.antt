@@ -60,6 +60,7 @@ use Rattle.zy_view_law.specs.Texts.{Texts}
 use Rattle.zy_view_steps.specs.Rows.{IsReady}
 use Rattle.zy_view_steps.specs.Work.{IsAtWork}
 use Rattle.zy_begin_steps.proofs.Backups.{record_is}
+use Rattle.zy_begin_steps.proofs.Requested.{RunCases}
 use Rattle.zy_begin_steps.specs.Steps.{IsWorldOf}
 use Rattle.zy_normal_steps.proofs.Rows.{check_stays, spec_stays}
 use Rattle.zy_normal_steps.specs.Heard.{IsFrameHeld}
@@ -162,10 +163,16 @@ module _ {S : Type 0} (R : Rules S) (interval : ℕ) (texts : Texts) (w : World)
       })
       low
 
-  takes : (o : OrderFrame) → MayRun w (entry_of o.ask) → IsDone (ends Taken (run R o (begin (record (with_held s o) { hole = None }))))
+  pub takes : (o : OrderFrame) → MayRun w (entry_of o.ask) → IsDone (ends Taken (run R o (begin (record (with_held s o) { hole = None }))))
   takes o may low =
       let g : Going S = begin (record (with_held s o) { hole = None }) in
       runs R w o g (slots_put w s.orders o work.runs may) may (record { acts = tt; spelled = same_spelled g.state refl refl refl refl }) low
+
+  pub asks : (o : OrderFrame) → IsDone (ends Held (ask_for_missing R (with_held s o)))
+  asks o low = record { acts = (tt, tt); spelled = same_spelled _ refl refl refl refl }
+
+  pub holds : (o : OrderFrame) → IsDone (ends Held (begin (with_held s o)))
+  holds o low = record { acts = tt; spelled = same_spelled (with_held s o) refl refl refl refl }
 
   -- ---- what is kept at a place is looked through
 
@@ -220,17 +227,29 @@ module _ {S : Type 0} (R : Rules S) (interval : ℕ) (texts : Texts) (w : World)
 
   -- ---- each row
 
-  pub cases : Cases R s Brings IsDone
-  cases =
+  pub waits : (ask : Signed Ask) → IsDone (ends Taken (request_waits R s ask))
+  waits ask low = record { acts = (tt, tt); spelled = same_spelled _ refl refl refl refl }
+
+  pub run_cases : RunCases R s IsDone
+  run_cases =
       record {
         refuses = λ cause low. record { acts = tt; spelled = is };
         stays = λ sent low. record { acts = tt; spelled = is };
+        responds = responds;
+        waits = waits;
+      }
+
+  pub cases : Cases R s Brings IsDone
+  cases =
+      record {
+        refuses = run_cases.refuses;
+        stays = run_cases.stays;
         responds = λ ask known there left. responds ask known there;
         orders = λ ask brings primary new left. orders ask brings.0;
-        waits = λ ask left low. record { acts = (tt, tt); spelled = same_spelled _ refl refl refl refl };
+        waits = λ ask left. waits ask;
         takes = λ o brings new left. takes o brings.0;
-        asks = λ o brings left low. record { acts = (tt, tt); spelled = same_spelled _ refl refl refl refl };
-        holds = λ o brings low. record { acts = tt; spelled = same_spelled (with_held s o) refl refl refl refl };
+        asks = λ o brings left. asks o;
+        holds = λ o brings. holds o;
         commits = λ specs client local said held brings own furthest left. commits specs local brings.1 own client said held furthest;
         keeps = keeps;
         gathers = λ place board put left. looks place board put;
