@@ -1,43 +1,37 @@
 -- What a replica says and keeps can be spelled as a view begins with the history that was chosen, or waits for its snapshot.
-use Rattle.std.proofs.Common.{◌≡◌, ℕ, suc, ◌+◌, ◌-◌, ◌<◌, ◌≤◌, ◌^◌, Bool, true, false, List, [], ◌∷◌, ◌++◌, length, map, take, drop, Option, Some, None, Result, Ok, Err, ◌⊎◌, inl, inr, refl, sym, ap, ◌∙◌, subst, arith}
-use Rattle.std.specs.List.{AllByRecursion}
-use Rattle.std.specs.Prelude.{IfSome, cond, nat_le, nat_lt, option_map, slice_get, slice_range, if◌then◌else◌}
+use Rattle.std.proofs.Common.{◌≡◌, ℕ, ◌-◌, ◌<◌, ◌^◌, Bool, true, false, List, [], ◌∷◌, length, take, drop, Option, Some, None, Ok, Err, ◌⊎◌, inl, inr, refl, sym, ap, ◌∙◌, subst, arith}
+use Rattle.std.specs.Prelude.{IfSome, cond, nat_le, nat_lt, option_map, slice_get}
 use Rattle.std.proofs.lemmas.Bool.{leb-true}
 use Rattle.std.proofs.lemmas.List.{length-take-le}
 use Rattle.std.proofs.lemmas.List.Elements.{All-from_recursion}
-use Rattle.std.proofs.lemmas.Option.{same_Some}
 use Rattle.zy_base.specs.Machine.{Rules}
-use Rattle.zy_base.specs.declared.ids.Digest.{Digest}
 use Rattle.zy_base.specs.declared.ids.Party.{Party}
 use Rattle.zy_base.specs.declared.ids.Place.{Place}
 use Rattle.zy_base.specs.declared.ids.View.{View}
 use Rattle.zy_base.specs.declared.step.Answer.{Answer}
 use Rattle.zy_chain.specs.Fields.{entry_fields}
-use Rattle.zy_chain.specs.declared.entry.Entry.{Entry}
 use Rattle.zy_change.proofs.FitLemmas.{taken_there}
-use Rattle.zy_change.specs.Views.{Views, adopted, began_for, begans_equal, certificate_of, with_waiting}
+use Rattle.zy_change.specs.Views.{Views, adopted, began_for, begans_equal}
 use Rattle.zy_change.specs.declared.kept.Accepted.{Accepted}
 use Rattle.zy_change.specs.declared.kept.Chosen.{Chosen}
-use Rattle.zy_check.specs.Board.{Board, cleared}
 use Rattle.zy_evidence.specs.Reading.{stretch_of}
 use Rattle.zy_exec.specs.Kept.{Kept, last_place}
 use Rattle.zy_lawful.proofs.Backing.{all_listed}
 use Rattle.zy_lawful.proofs.Goes.{all_of_both}
 use Rattle.zy_lawful.proofs.KeptVotes.{none_kept}
 use Rattle.zy_lawful.proofs.Own.{all_drop, by_test}
-use Rattle.zy_parts.specs.Reports.{began_fields, new_fields}
+use Rattle.zy_parts.specs.Reports.{began_fields}
 use Rattle.zy_parts.specs.Statements.{IsU62}
 use Rattle.zy_parts.specs.declared.reports.Began.{Began}
 use Rattle.zy_parts.specs.declared.reports.Change.{Change}
 use Rattle.zy_parts.specs.declared.reports.Fetch.{Fetch}
-use Rattle.zy_parts.specs.declared.reports.New.{New}
 use Rattle.zy_parts.specs.declared.reports.Told.{Told}
 use Rattle.zy_parts.specs.declared.signed.Signed.{Signed}
 use Rattle.zy_table.specs.Adopting.{checkpoints_between, common_with, taken_over, verdict_of}
-use Rattle.zy_table.specs.Beginning.{active_by, adopt, adopt_as, adopt_from, adopt_if, adoption_of, arrive, ask_each, asked_of, begin_view, certify, certify_with, fetch_said, kept_waiting, respond_alone, respond_at, respond_to, settled_as, take_up, wait_for, wanted_of, with_history}
+use Rattle.zy_table.specs.Beginning.{active_by, adopt, adopt_as, adopt_from, adopt_if, adoption_of, arrive, ask_each, asked_of, begin_view, certify, certify_with, fetch_said, kept_waiting, respond_at, respond_to, settled_as, take_up, wait_for, wanted_of, with_history}
 use Rattle.zy_table.specs.Deeds.{Going}
-use Rattle.zy_table.specs.Gathering.{own_at, settled_at, with_own_spec}
-use Rattle.zy_table.specs.Leaving.{Attempt, goes}
+use Rattle.zy_table.specs.Gathering.{own_at}
+use Rattle.zy_table.specs.Leaving.{Attempt}
 use Rattle.zy_table.specs.Running.{sealed_spec}
 use Rattle.zy_table.specs.State.{State, spent, with_spec}
 use Rattle.zy_table.specs.declared.deeds.Verdict.{Verdict}
@@ -46,7 +40,7 @@ use Rattle.zy_table.specs.declared.kept.OwnCheckpoint.{OwnCheckpoint}
 use Rattle.zy_exec.specs.Kept.{reply_in}
 use Rattle.zy_vframes.specs.declared.frame.ViewCert.{ViewCert}
 use Rattle.zy_wire.specs.Fields.{FitsList}
-use Rattle.zy_spelled.specs.Spelled.{AreViewsSpelled, IsAcceptedSpelled, IsBeganSpelled, IsBoardSpelled, IsChangeSpelled, IsCheckSpelled, IsChoiceSpelled, IsSpecSpelled, IsSpelled, IsWaitingSpelled}
+use Rattle.zy_spelled.specs.Spelled.{AreViewsSpelled, IsAcceptedSpelled, IsBeganSpelled, IsChangeSpelled, IsCheckSpelled, IsChoiceSpelled, IsSpecSpelled, IsSpelled}
 use Rattle.zy_spelled.proofs.Gathers.{IsGoing, IsOwnSpelled, fit-append, fit_said, own_spelled, settled_spelled}
 use Rattle.zy_spelled.proofs.Leaves.{IsEarly, arrives}
 use Rattle.zy_spelled.proofs.Reports.{IsToldSpelled, change_there, new_view_in_range, told_spelled_in}

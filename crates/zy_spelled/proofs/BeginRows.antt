@@ -1,7 +1,7 @@
 -- What a replica says and keeps can be spelled after a new view, another's confirmation, a view certificate, and a snapshot that comes.
-use Rattle.std.proofs.Common.{◌≡◌, ℕ, suc, ◌+◌, ◌-◌, ◌<◌, ◌≤◌, ◌^◌, Bool, true, false, not, List, [], ◌∷◌, length, drop, Option, Some, None, Result, Ok, Err, ◌⊎◌, inl, inr, refl, sym, ap, ◌∙◌, subst, arith}
+use Rattle.std.proofs.Common.{◌≡◌, ℕ, ◌-◌, Bool, true, false, not, List, [], length, Option, Some, None, Result, Ok, Err, inl, refl, ap, ◌∙◌, arith}
 use Rattle.std.specs.List.{AllByRecursion}
-use Rattle.std.specs.Prelude.{All, IfSome, ◌||◌, cond, slice_get, if◌then◌else◌}
+use Rattle.std.specs.Prelude.{All, IfSome, ◌||◌, cond}
 use Rattle.std.proofs.lemmas.List.{length-drop}
 use Rattle.zy_base.specs.Machine.{Rules}
 use Rattle.zy_base.specs.declared.cause.Cause.{Cause}
@@ -35,7 +35,7 @@ use Rattle.zy_parts.specs.declared.reports.Fetch.{Fetch}
 use Rattle.zy_parts.specs.declared.reports.New.{New}
 use Rattle.zy_parts.specs.declared.reports.Told.{Told}
 use Rattle.zy_parts.specs.declared.signed.Signed.{Signed}
-use Rattle.zy_table.specs.Beginning.{adopt, arrive, certify, wanted_of}
+use Rattle.zy_table.specs.Beginning.{adopt, arrive, certify}
 use Rattle.zy_table.specs.Confirming.{certificate_compared, certificate_judged, confirmation, confirmation_beside, confirmation_judged, new_view, new_view_judged, view_certificate, with_confirmation}
 use Rattle.zy_table.specs.Deeds.{begin}
 use Rattle.zy_table.specs.Fetching.{fetch, fetch_judged, install, installed, state_for, state_heard, state_judged, state_transfer}

@@ -1,8 +1,8 @@
 -- What is decoded can be spelled again, whatever the bytes are: what holds of all that a reader gives.
-use Rattle.std.proofs.Common.{◌≡◌, ℕ, zero, suc, ◌+◌, ◌<◌, ◌≤◌, ◌^◌, Bool, true, false, List, [], ◌∷◌, length, take, drop, Result, Ok, Err, ap, subst, arith, ltb, ltb-false, ltb-true}
+use Rattle.std.proofs.Common.{◌≡◌, ℕ, zero, suc, ◌+◌, ◌<◌, ◌≤◌, ◌^◌, true, List, [], ◌∷◌, length, take, drop, Result, Ok, ap, subst, arith, ltb, ltb-false, ltb-true}
 use Rattle.std.specs.List.{AllByRecursion}
 use Rattle.std.specs.Int.{Width, w8, w16, w32, to_be_bytes}
-use Rattle.std.specs.Prelude.{Option, if◌then◌else◌, nat_lt}
+use Rattle.std.specs.Prelude.{Option, nat_lt}
 use Rattle.std.proofs.lemmas.List.{length-take}
 use Rattle.zy_base.specs.declared.frame_fault.FrameFault.{FrameFault}
 use Rattle.zy_base.specs.declared.frame_fault.FrameFault.TheVariants.{Short}
@@ -13,7 +13,6 @@ use Rattle.zy_lawful.proofs.Own.{by_test}
 use Rattle.zy_parts.specs.Signing.{signed}
 use Rattle.zy_parts.specs.Reports.{began_fields}
 use Rattle.zy_parts.specs.Statements.{IsU62, spec_fields, check_fields}
-use Rattle.zy_parts.specs.declared.signed.Signed.{Signed}
 use Rattle.zy_table.specs.Roles.{is_replica}
 use Rattle.zy_view_law.specs.Told.{number_spelled, spec_spelled}
 use Rattle.zy_wire.proofs.Parts.{bind_ok, guard_ok, ok_is, wide32}

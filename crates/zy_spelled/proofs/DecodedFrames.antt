@@ -1,16 +1,15 @@
 -- What a frame brings that is kept can be spelled, where its signers are replicas.
-use Rattle.std.proofs.Common.{◌≡◌, ℕ, Bool, true, false, List, [], ◌∷◌, drop, Result, Ok, Err, refl, subst, arith}
+use Rattle.std.proofs.Common.{◌≡◌, ℕ, Bool, true, false, List, [], ◌∷◌, drop, Result, Ok, Err, subst}
 use Rattle.std.specs.List.{AllByRecursion, list_all}
 use Rattle.std.specs.Prelude.{if◌then◌else◌}
 use Rattle.std.proofs.lemmas.Bool.{and_parts}
 use Rattle.zy_base.specs.declared.frame_fault.FrameFault.{FrameFault}
-use Rattle.zy_base.specs.declared.frame_fault.FrameFault.TheVariants as faults
 use Rattle.zy_frames.specs.Frames as plain
 use Rattle.zy_frames.specs.declared.frame.Frame.{Frame}
 use Rattle.zy_frames.specs.declared.frame.Frame.TheVariants as frames
 use Rattle.zy_parts.specs.Reports.{began_fields, change_fields, fetch_fields, new_fields}
 use Rattle.zy_parts.specs.Signing.{signed}
-use Rattle.zy_parts.specs.Statements.{ask_fields, check_fields, confirm_fields, hate_fields, hole_fields, local_fields, order_fields, spec_fields}
+use Rattle.zy_parts.specs.Statements.{check_fields, hate_fields, hole_fields, local_fields, spec_fields}
 use Rattle.zy_parts.specs.declared.signed.Signed.{Signed}
 use Rattle.zy_table.specs.Roles.{in_role, is_replica}
 use Rattle.zy_table.specs.State.{State}

@@ -1,7 +1,6 @@
 -- What a replica keeps and says can be spelled as it looks through what it keeps at a place.
-use Rattle.std.proofs.Common.{◌≡◌, ℕ, suc, ◌+◌, ◌*◌, ◌-◌, ◌<◌, ◌≤◌, ◌^◌, Bool, true, false, List, [], ◌∷◌, ◌++◌, length, map, take, drop, Option, Some, None, refl, sym, ap, ◌∙◌, subst, arith}
-use Rattle.std.specs.List.{AllByRecursion}
-use Rattle.std.specs.Prelude.{All, IfSome, nat_le, nat_lt, ◌||◌, slice_get, option_map, if◌then◌else◌}
+use Rattle.std.proofs.Common.{◌≡◌, ℕ, ◌-◌, ◌<◌, ◌≤◌, ◌^◌, Bool, true, false, List, [], ◌∷◌, ◌++◌, length, take, Option, Some, None, refl, sym, ap, ◌∙◌, subst, arith}
+use Rattle.std.specs.Prelude.{nat_le, nat_lt, ◌||◌, slice_get, option_map, if◌then◌else◌}
 use Rattle.std.proofs.lemmas.Bool.{leb-false}
 use Rattle.std.proofs.lemmas.Option.{same_Some, slice_get_within}
 use Rattle.sha2.proofs.Facts256.{length-sha256}
@@ -13,16 +12,16 @@ use Rattle.zy_chain.specs.Heads.{head_from}
 use Rattle.zy_chain.specs.Stretch.{entry_in, head_in}
 use Rattle.zy_chain.specs.declared.entry.Entry.{Entry}
 use Rattle.zy_cert.specs.Equal.{same_check, check-equal, same_spec, spec-equal}
-use Rattle.zy_change.specs.Views.{Views, is_further}
+use Rattle.zy_change.specs.Views.{is_further, specs_in}
+use Rattle.zy_change.specs.declared.kept.Certificate.{Certificate}
 use Rattle.zy_check.proofs.JudgingLemmas.{after_check-stays}
-use Rattle.zy_check.specs.Board.{Board, Stays, checks_at, specs_at, stated, with_stable}
-use Rattle.zy_check.specs.Judging.{after_check}
+use Rattle.zy_check.specs.Board.{Board, Stays, checks_at, specs_at, with_stable}
 use Rattle.zy_exec.proofs.ReplayLemmas.{head-along}
-use Rattle.zy_exec.specs.Kept.{Kept, last_place, settled, stretch_of}
-use Rattle.zy_exec.specs.Replay.{Point}
+use Rattle.zy_exec.specs.Kept.{last_place, stretch_of}
 use Rattle.zy_exec.specs.Shots.{digest_of_snapshot, snapshot_in}
-use Rattle.zy_lawful.proofs.Follow.{end_settled, in_state}
-use Rattle.zy_lawful.proofs.KeptVotes.{AreFirst, AreKeptOf, after_check_kept, are_first, at_place, with_stable_kept}
+use Rattle.zy_lawful.proofs.Committed.{holding}
+use Rattle.zy_lawful.proofs.Follow.{in_state}
+use Rattle.zy_lawful.proofs.KeptVotes.{AreKeptOf, after_check_kept, are_first, at_place, with_stable_kept}
 use Rattle.zy_lawful.proofs.Own.{all_drop, at_of, by_test, kept_case, some_unless}
 use Rattle.zy_parts.specs.Numbers as numbers
 use Rattle.zy_parts.specs.Signing.{signed}
@@ -30,16 +29,15 @@ use Rattle.zy_parts.specs.Statements.{IsU62, check_fields, spec_fields}
 use Rattle.zy_parts.specs.declared.signed.Signed.{Signed}
 use Rattle.zy_parts.specs.declared.statements.Check.{Check}
 use Rattle.zy_parts.specs.declared.statements.Spec.{Spec}
-use Rattle.zy_table.specs.Deeds.{Going}
-use Rattle.zy_table.specs.Gathering.{certificate_at, check_with, gather, gather_at, keep_certificate, own_at, own_with, owes_check, proof_at, say_check_if, settle_own, settle_with, settled_at, spec_at, state_in, with_certificate}
+use Rattle.zy_table.specs.Deeds.{Going, Outcome}
+use Rattle.zy_table.specs.Gathering.{certificate_at, gather, keep_certificate, own_at, own_with, owes_check, proof_at, say_check_if, settle_with, settled_at, spec_at, state_in, with_certificate}
 use Rattle.zy_table.specs.State.{State, own_view}
 use Rattle.zy_table.specs.declared.deeds.Act.{Act}
 use Rattle.zy_table.specs.declared.deeds.Act.TheVariants.{Says, Gains, Adopts}
 use Rattle.zy_table.specs.declared.deeds.Remark.{Remark}
 use Rattle.zy_table.specs.declared.kept.OwnCheckpoint.{OwnCheckpoint}
-use Rattle.zy_view_law.specs.Told.{with_stmt, spec_spelled}
-use Rattle.zy_wire.specs.Fields.{FitsList}
-use Rattle.zy_spelled.specs.Spelled.{AreViewsSpelled, FitAll, FitsBody, IsBoardSpelled, IsCheckSpelled, IsHistorySpelled, IsSpecSpelled, IsSpelled}
+use Rattle.zy_wire.specs.Fields.{FitsList, FitsOptional}
+use Rattle.zy_spelled.specs.Spelled.{FitAll, FitsBody, IsBoardSpelled, IsCheckSpelled, IsSpecSpelled, IsSpelled}
 use Rattle.zy_spelled.proofs.Sizes.{head_long, sealed_fits}
 
 -- ---- acts
@@ -57,6 +55,10 @@ fit_said acts remark all one = fit-append acts (Says remark ∷ []) all (one, tt
 pub record IsGoing {S : Type 0} (g : Going S) : Type 0 where
   pub acts : FitAll g.deeds.acts
   pub spelled : IsSpelled g.state
+
+-- so at the end of a step, where its history stays in range
+abbrev pub IsDone : {S : Type 0} → Outcome S → Type 0
+IsDone o = last_place o.state.kept < 2 ^ 62 → IsGoing (record { state = o.state; deeds = o.deeds })
 
 -- ---- checkpoints
 
@@ -117,10 +119,9 @@ board_like b c is same rounds =
 
 -- ---- a certificate is kept
 
-pub with_certificate_spelled : {S : Type 0} (s : State S) (place : Place) (specs : List (Signed Spec)) → IsSpelled s → FitsList IsSpecSpelled 1 16 specs → IsSpelled (with_certificate s place specs)
-with_certificate_spelled s place specs is fit =
-    by_test IsSpelled (is_further place s.views.specs) _ _
-    (λ further. record {
+pub holding_spelled : {S : Type 0} (s : State S) (held : Option Certificate) → IsSpelled s → FitsOptional (FitsList IsSpecSpelled 1 16) (specs_in held) → IsSpelled (holding s held)
+holding_spelled s held is fit =
+    record {
       signer = is.signer;
       views = record {
         spaced = is.views.spaced;
@@ -137,8 +138,11 @@ with_certificate_spelled s place specs is fit =
       };
       history = is.history;
       board = is.board;
-    })
-    (λ near. is)
+    }
+
+with_certificate_spelled : {S : Type 0} (s : State S) (place : Place) (specs : List (Signed Spec)) → IsSpelled s → FitsList IsSpecSpelled 1 16 specs → IsSpelled (with_certificate s place specs)
+with_certificate_spelled s place specs is fit =
+    by_test IsSpelled (is_further place s.views.specs) _ _ (λ further. holding_spelled s (Some (record { place = place; specs = specs })) is fit) (λ near. is)
 
 module _ {S : Type 0} (R : Rules S) where
   certificate_spelled : (s : State S) (own : Spec) (found : Option (List (Signed Spec))) → certificate_at s own ≡ found → IsSpelled s → IsSpelled (keep_certificate own.place found s)

@@ -1,27 +1,21 @@
 -- What a replica says and keeps can be spelled as it leaves its view, gives a new one and confirms it.
-use Rattle.std.proofs.Common.{◌≡◌, ℕ, suc, ◌+◌, ◌*◌, ◌<◌, ◌≤◌, ◌^◌, Bool, true, false, not, List, [], ◌∷◌, ◌++◌, length, map, Option, Some, None, Result, Ok, Err, refl, sym, ap, ◌∙◌, subst, arith}
-use Rattle.std.specs.Prelude.{◌&&◌, cond, nat_eq, nat_le, nat_lt, if◌then◌else◌}
+use Rattle.std.proofs.Common.{◌≡◌, ℕ, ◌<◌, ◌≤◌, ◌^◌, Bool, true, false, not, List, length, map, Ok, Err, refl, sym, ap, ◌∙◌, arith}
+use Rattle.std.specs.Prelude.{cond, nat_le, nat_lt}
 use Rattle.std.proofs.lemmas.Bool.{and_parts, ltb-true}
 use Rattle.zy_base.specs.Machine.{Rules}
-use Rattle.zy_base.specs.declared.cause.Cause.{Cause}
 use Rattle.zy_base.specs.declared.cause.Cause.TheVariants as causes
 use Rattle.zy_base.specs.declared.counts.Counts.{Counts}
-use Rattle.zy_base.specs.declared.ids.Party.{Party}
-use Rattle.zy_base.specs.declared.ids.Party.TheVariants.{Replica}
 use Rattle.zy_base.specs.declared.ids.View.{View}
 use Rattle.zy_base.specs.declared.step.Answer.TheVariants.{Taken}
-use Rattle.zy_base.specs.declared.step.Mode.{Mode}
-use Rattle.zy_base.specs.declared.step.Mode.TheVariants.{Active, Leaving}
 use Rattle.zy_chain.specs.declared.entry.Entry.{Entry}
-use Rattle.zy_change.specs.Owing.{change_to, choice_in, hated_by_many, is_gathering, new_of, next_view}
-use Rattle.zy_change.specs.Views.{Views, began_for, changes_for, is_accepted, is_hated_by, leads, left, own_view, with_change, with_new}
+use Rattle.zy_change.specs.Owing.{change_to, choice_in, is_gathering, new_of}
+use Rattle.zy_change.specs.Views.{Views, began_for, changes_for, is_accepted, leads, left, own_view, with_change, with_new}
 use Rattle.zy_change.specs.declared.kept.Accepted.{Accepted}
 use Rattle.zy_change.specs.declared.kept.Chosen.{Chosen}
 use Rattle.zy_change.specs.Choosing.{choice_of}
 use Rattle.zy_choose.specs.declared.choice.Choice.{Choice}
 use Rattle.zy_choose.specs.declared.choice.Choice.TheVariants as choices
 use Rattle.zy_evidence.specs.Reading.{read}
-use Rattle.zy_frames.specs.declared.frame.OrderFrame.{OrderFrame}
 use Rattle.zy_law.specs.World.{World}
 use Rattle.zy_parts.specs.Numbers as numbers
 use Rattle.zy_parts.specs.Reports.{began_fields, change_fields, new_fields}
@@ -30,7 +24,7 @@ use Rattle.zy_parts.specs.declared.reports.Change.{Change}
 use Rattle.zy_parts.specs.declared.reports.New.{New}
 use Rattle.zy_parts.specs.declared.signed.Signed.{Signed}
 use Rattle.zy_table.specs.Beginning.{arrive}
-use Rattle.zy_table.specs.Deeds.{Going, begin}
+use Rattle.zy_table.specs.Deeds.{Going}
 use Rattle.zy_table.specs.Leaving.{Attempt, accept, collect, give_new, given, goes, leave, leave_alone, report_of, sealed_change, sealed_new}
 use Rattle.zy_table.specs.State.{State}
 use Rattle.zy_table.specs.State as table
@@ -41,7 +35,7 @@ use Rattle.zy_view_law.specs.Told.{change_spelled, new_spelled}
 use Rattle.zy_view_steps.proofs.Gathered.{gathered_proper}
 use Rattle.zy_view_steps.proofs.Leaves.{IsOnWay, leave_on}
 use Rattle.zy_view_steps.specs.Rows.{IsReady}
-use Rattle.zy_spelled.specs.Spelled.{AreViewsSpelled, FitsBody, IsAcceptedSpelled, IsBeganSpelled, IsChangeSpelled, IsChoiceSpelled, IsSpelled}
+use Rattle.zy_spelled.specs.Spelled.{AreViewsSpelled, IsAcceptedSpelled, IsBeganSpelled, IsChangeSpelled}
 use Rattle.zy_spelled.proofs.Gathers.{IsGoing, fit_said}
 use Rattle.zy_spelled.proofs.Reports.{change_fits, chosen_spelled, gathered_fits, report_fits}
 use Rattle.zy_spelled.proofs.Sizes.{sealed_fits}

@@ -7,6 +7,7 @@ mod Gathers
 mod Leaves
 mod Reports
 mod Runs
+mod SameKeys
 mod SaidBack
 mod Sizes
 mod Slots

@@ -1,22 +1,18 @@
 -- A report, a new view and the choice out of it can be spelled, as far as what they are made from can be.
-use Rattle.std.proofs.Common.{◌≡◌, ℕ, suc, ◌+◌, ◌-◌, ◌*◌, ◌<◌, ◌≤◌, ◌^◌, Bool, true, false, List, [], ◌∷◌, length, map, take, Option, Some, None, refl, sym, ap, ◌∙◌, subst, arith}
-use Rattle.std.specs.List.{AllByRecursion}
+use Rattle.std.proofs.Common.{◌≡◌, ℕ, ◌-◌, ◌<◌, ◌≤◌, true, List, length, map, take, Option, Some, None, ap, ◌∙◌, subst, arith}
 use Rattle.std.specs.Prelude.{All, ◌&&◌, nat_eq, nat_le, option_map, slice_get}
 use Rattle.std.proofs.lemmas.Bool.{leb-true}
 use Rattle.std.proofs.lemmas.List.{length-map, length-take-le}
 use Rattle.std.proofs.lemmas.List.Elements.{All-from_recursion}
 use Rattle.std.proofs.lemmas.Option.{slice_get-map}
-use Rattle.zy_base.specs.declared.counts.Counts.{Counts}
 use Rattle.zy_base.specs.declared.ids.Digest.{Digest}
 use Rattle.zy_base.specs.declared.ids.View.{View}
 use Rattle.zy_chain.specs.Fields.{entry_fields}
-use Rattle.zy_chain.specs.Stretch.{Mark, Stretch, end_of}
 use Rattle.zy_change.specs.Owing.{change_to, new_of}
 use Rattle.zy_change.specs.Views.{Views, changes_for, specs_in}
 use Rattle.zy_change.specs.declared.kept.Chosen.{Chosen}
 use Rattle.zy_choose.specs.Choice.{provider_of}
 use Rattle.zy_choose.specs.Marks.{Has, has_mark, link}
-use Rattle.zy_choose.specs.Reports.{PlainReport}
 use Rattle.zy_evidence.specs.Reading.{read}
 use Rattle.zy_law.proofs.QuorumLemmas.{All_at}
 use Rattle.zy_law.specs.Lawful.{IsLawful}
@@ -105,8 +101,7 @@ gathered_fits v view all in_range enough =
     let sound = v.counts.sound in
     let list = changes_for view.0 v.changes in
     let many : length (take v.counts.change list) ≡ v.counts.change = length-take-le v.counts.change list (leb-true _ _ enough) in
-    let kept = All-from_recursion IsChangeSpelled (take v.counts.change list) (gathered_kept IsChangeSpelled view.0 v.counts.change v.changes all) in
-    (
+    let kept = All-from_recursion IsChangeSpelled (take v.counts.change list) (gathered_kept IsChangeSpelled view.0 v.counts.change v.changes all) in (
       in_range,
       list_under (signed change_fields).Fits (with_stmt change_spelled) 1 16 (take v.counts.change list)
           (record { least = omega (arith, many, sound.local_and_change, sound.local_in_reach); most = omega (arith, many, sound.short_change); each = kept }),

@@ -1,7 +1,7 @@
 -- What a replica keeps and says can be spelled as it runs an order and those that were held for it, where its history stays in range.
-use Rattle.std.proofs.Common.{◌≡◌, ℕ, suc, ◌+◌, ◌-◌, ◌<◌, ◌≤◌, ◌^◌, Bool, true, false, List, [], ◌∷◌, ◌++◌, length, take, Option, Some, None, refl, sym, ap, ◌∙◌, subst, arith}
+use Rattle.std.proofs.Common.{◌≡◌, ℕ, ◌+◌, ◌-◌, ◌<◌, ◌≤◌, ◌^◌, false, List, [], ◌∷◌, Option, Some, None, refl, sym, ap, ◌∙◌, subst, arith}
 use Rattle.std.specs.List.{AllByRecursion}
-use Rattle.std.specs.Prelude.{nat_le, option_map, if◌then◌else◌}
+use Rattle.std.specs.Prelude.{nat_le}
 use Rattle.std.proofs.lemmas.List.{length-append}
 use Rattle.sha2.proofs.Facts256.{length-sha256}
 use Rattle.zy_base.specs.Machine.{Rules}
@@ -31,14 +31,13 @@ use Rattle.zy_parts.specs.declared.signed.Signed.{Signed}
 use Rattle.zy_parts.specs.declared.statements.Ask.{Ask}
 use Rattle.zy_parts.specs.declared.statements.Order.{Order}
 use Rattle.zy_parts.specs.declared.statements.Spec.{Spec}
-use Rattle.zy_seal.specs.Sealing.{SealerState}
 use Rattle.zy_table.specs.Deeds.{Going, send}
-use Rattle.zy_table.specs.Gathering.{check_with, own_with, state_in, with_own_spec}
+use Rattle.zy_table.specs.Gathering.{own_with, state_in, with_own_spec}
 use Rattle.zy_table.specs.Running.{executed, fits_end, got_of, next_known, respond, run, run_held, run_one, sealed_spec, share, signs_of, spec_of}
 use Rattle.zy_table.specs.State.{State, leaves_of, own_view}
 use Rattle.zy_table.specs.declared.deeds.Act.TheVariants.{Gains}
 use Rattle.zy_table.specs.declared.kept.OwnCheckpoint.{OwnCheckpoint}
-use Rattle.zy_view_law.specs.Told.{spec_spelled, with_stmt}
+use Rattle.zy_view_law.specs.Told.{spec_spelled}
 use Rattle.zy_spelled.specs.Spelled.{IsCheckSpelled, IsSpecSpelled, IsSpelled}
 use Rattle.zy_spelled.proofs.Gathers.{IsGoing, IsOwnSpelled, board_like, fit-append, fit_said, gathers, rounds_of, state_long}
 use Rattle.zy_spelled.proofs.SaidBack.{same_spelled}

@@ -1,5 +1,5 @@
 -- How long signatures, heads and digests are, and what is signed with its own key.
-use Rattle.std.proofs.Common.{◌≡◌, ℕ, zero, suc, ◌+◌, ◌*◌, ◌<◌, ◌≤◌, ◌^◌, List, [], ◌∷◌, ◌++◌, length, take, Option, Some, None, refl, sym, ap, ◌∙◌, subst, arith}
+use Rattle.std.proofs.Common.{◌≡◌, ℕ, ◌+◌, ◌*◌, ◌≤◌, ◌^◌, List, [], ◌∷◌, ◌++◌, length, arith}
 use Rattle.std.proofs.lemmas.List.{length-append}
 use Rattle.std.specs.List.{concat}
 use Rattle.std.specs.Int.{w32, to_be_bytes}
@@ -37,8 +37,13 @@ one_time_long t id q seed message =
     let c = one_time.randomizer id q seed in
     let value : ℕ → List ℕ = one_time.signed_value t id q seed (one_time.message_digest id q c message) in
     let values = joined value (ots_types.chain_count_of t) in
-    omega (arith, length-append (to_be_bytes w32 (ots_types.number_of t)) c, length-append (to_be_bytes w32 (ots_types.number_of t) ++ c) values, length-sha256 (prefix_of id q 0xfffd ++ 0xff ∷ [] ++ seed),
-    length-joined value (ots_types.chain_count_of t) (λ i. length-chain _ _ 0 _ (length-sha256 _)))
+    omega (
+      arith,
+      length-append (to_be_bytes w32 (ots_types.number_of t)) c,
+      length-append (to_be_bytes w32 (ots_types.number_of t) ++ c) values,
+      length-sha256 (prefix_of id q 0xfffd ++ 0xff ∷ [] ++ seed),
+      length-joined value (ots_types.chain_count_of t) (λ i. length-chain _ _ 0 _ (length-sha256 _)),
+    )
 
 few_chains : (t : OtsType) → ots_types.chain_count_of t ≤ 67
 few_chains W4 = omega arith
@@ -57,8 +62,16 @@ signature_short k text =
     let type = to_be_bytes w32 (type_number_of k.height) in
     let path = concat (path_from k.ots k.id k.seed h 0 h (2 ^ h + k.next)) in
     let q = to_be_bytes w32 k.next in
-    omega (arith, length-append q one, length-append (q ++ one) type, length-append ((q ++ one) ++ type) path, one_time_long k.ots k.id k.next k.seed text, few_chains k.ots, few_levels k.height,
-    length-path_from k.ots k.id k.seed h 0 h (2 ^ h + k.next))
+    omega (
+      arith,
+      length-append q one,
+      length-append (q ++ one) type,
+      length-append ((q ++ one) ++ type) path,
+      one_time_long k.ots k.id k.next k.seed text,
+      few_chains k.ots,
+      few_levels k.height,
+      length-path_from k.ots k.id k.seed h 0 h (2 ^ h + k.next),
+    )
 
 -- what a party signs whose number a text holds
 pub sealed_fits : {A : Type 0} (number : ℕ) (fields : Spelling A) (sealer : SealerState) (stmt other : A) → IsParty sealer.me → fields.Fits other

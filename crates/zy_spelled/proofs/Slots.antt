@@ -1,12 +1,11 @@
 -- What holds of all that slots keep, as one is filled, others are dropped, and some are picked.
-use Rattle.std.proofs.Common.{◌≡◌, ℕ, zero, suc, ◌+◌, ◌-◌, ◌<◌, ◌≤◌, Bool, true, false, List, [], ◌∷◌, ◌++◌, length, map, take, drop, set, Option, Some, None, refl, sym, ap, ◌∙◌, subst, arith}
+use Rattle.std.proofs.Common.{◌≡◌, ℕ, zero, suc, ◌<◌, Bool, List, [], ◌∷◌, length, map, take, set, Option, Some, None, refl, subst, arith}
 use Rattle.std.specs.List.{AllByRecursion, cons_option, filter_map, position}
-use Rattle.std.specs.Prelude.{All, IfSome, not, nat_eq, nat_le, slice_get, slice_range, ◌&&◌, if◌then◌else◌}
+use Rattle.std.specs.Prelude.{IfSome, not, nat_eq, nat_le, slice_get, ◌&&◌}
 use Rattle.std.proofs.lemmas.List.{length-map}
 use Rattle.std.proofs.lemmas.List.Elements.{All-map}
 use Rattle.std.proofs.lemmas.List.Quantifiers.{position-Some}
-use Rattle.std.proofs.lemmas.Option.{same_Some}
-use Rattle.zy_lawful.proofs.Own.{all_drop, by_test}
+use Rattle.zy_lawful.proofs.Own.{by_test}
 use Rattle.zy_cert.specs.Equal.{same_began}
 use Rattle.zy_change.proofs.FitLemmas.{taken_there}
 use Rattle.zy_change.specs.Views.{Slots, began_equal, began_past, change_for, change_past, unless_other}

@@ -1,48 +1,31 @@
 -- What a replica says and keeps can be spelled to the end of each row of a change of view, where its history stays in range.
-use Rattle.std.proofs.Common.{◌≡◌, ℕ, suc, ◌+◌, ◌*◌, ◌-◌, ◌<◌, ◌≤◌, ◌^◌, Bool, true, false, not, List, [], ◌∷◌, ◌++◌, length, drop, Option, Some, None, Result, Ok, Err, ◌⊎◌, inl, inr, refl, sym, ap, ◌∙◌, subst, arith}
-use Rattle.std.specs.List.{AllByRecursion, list_any}
-use Rattle.std.specs.Prelude.{All, IfSome, ◌||◌, cond, nat_eq, nat_lt, slice_get, if◌then◌else◌}
-use Rattle.std.proofs.lemmas.List.{length-drop}
+use Rattle.std.proofs.Common.{◌≡◌, ℕ, ◌<◌, ◌^◌, Bool, true, false, List, Option, Some, None, Result, Ok, Err, inl, inr, refl, sym, subst, arith}
+use Rattle.std.specs.List.{list_any}
+use Rattle.std.specs.Prelude.{cond, nat_eq, nat_lt, if◌then◌else◌}
 use Rattle.zy_base.specs.Machine.{Rules}
 use Rattle.zy_base.specs.declared.cause.Cause.{Cause}
 use Rattle.zy_base.specs.declared.cause.Cause.TheVariants as causes
-use Rattle.zy_base.specs.declared.ids.Digest.{Digest}
 use Rattle.zy_base.specs.declared.ids.Party.{Party}
 use Rattle.zy_base.specs.declared.ids.Party.TheVariants.{Replica}
-use Rattle.zy_base.specs.declared.ids.Place.{Place}
 use Rattle.zy_base.specs.declared.ids.View.{View}
 use Rattle.zy_base.specs.declared.step.Answer.TheVariants.{Taken}
 use Rattle.zy_base.specs.declared.step.Mode.{Mode}
 use Rattle.zy_base.specs.declared.step.Mode.TheVariants.{Active, Leaving}
-use Rattle.zy_cert.proofs.CertificateLemmas.{certified-taken}
-use Rattle.zy_cert.specs.Certificates.{certified}
-use Rattle.zy_cert.specs.Equal.{same_began, began-equal}
 use Rattle.zy_cert.specs.Misbehaviour.{misbehaved}
-use Rattle.zy_cert.specs.Points.{point_of_began}
 use Rattle.zy_chain.specs.declared.entry.Entry.{Entry}
-use Rattle.zy_change.specs.Owing.{hated_by_many, is_left_behind, least_above, next_view, provider_in}
-use Rattle.zy_change.specs.Views.{Views, began_for, change_for, has_begun, is_accepted, is_from, is_hated_by, leads, own_change, own_view, slot_of, with_began, with_change}
+use Rattle.zy_change.specs.Owing.{hated_by_many, is_left_behind, least_above, next_view}
+use Rattle.zy_change.specs.Views.{Views, change_for, has_begun, is_from, is_hated_by, own_change, slot_of, with_change}
 use Rattle.zy_change.specs.declared.kept.Accepted.{Accepted}
-use Rattle.zy_change.specs.declared.kept.Chosen.{Chosen}
-use Rattle.zy_change.specs.declared.kept.Waiting.{Waiting}
 use Rattle.zy_evidence.specs.Reading.{number_of_party}
 use Rattle.zy_evidence.specs.Rules.{rule_of}
 use Rattle.zy_evidence.specs.declared.rule.Rule.{Rule}
 use Rattle.zy_exec.specs.Kept.{last_place}
-use Rattle.zy_exec.specs.Replay.{Point}
-use Rattle.zy_exec.specs.Showing.{point_in}
 use Rattle.zy_frames.specs.declared.frame.OrderFrame.{OrderFrame}
 use Rattle.zy_law.specs.World.{World}
-use Rattle.zy_lawful.proofs.Backing.{all_from}
-use Rattle.zy_lawful.proofs.Own.{by_test}
-use Rattle.zy_parts.specs.Reports.{change_fields, new_fields}
+use Rattle.zy_parts.specs.Reports.{change_fields}
 use Rattle.zy_parts.specs.Signing.{signed}
 use Rattle.zy_parts.specs.Statements.{IsU62}
-use Rattle.zy_parts.specs.declared.reports.Began.{Began}
 use Rattle.zy_parts.specs.declared.reports.Change.{Change}
-use Rattle.zy_parts.specs.declared.reports.Fetch.{Fetch}
-use Rattle.zy_parts.specs.declared.reports.New.{New}
-use Rattle.zy_parts.specs.declared.reports.Told.{Told}
 use Rattle.zy_parts.specs.declared.signed.Signed.{Signed}
 use Rattle.zy_parts.specs.declared.statements.Hate.{Hate}
 use Rattle.zy_parts.specs.declared.statements.Hole.{Hole}
@@ -57,20 +40,14 @@ use Rattle.zy_table.specs.State.{State}
 use Rattle.zy_table.specs.State as table
 use Rattle.zy_vframes.specs.declared.frame.ViewCert.{ViewCert}
 use Rattle.zy_view_law.specs.Held.{IsHeldChange}
-use Rattle.zy_view_law.specs.Texts.{Texts}
-use Rattle.zy_view_law.specs.Told.{change_spelled, new_spelled}
+use Rattle.zy_view_law.specs.Told.{change_spelled}
 use Rattle.zy_view_steps.proofs.HeardRows.{kept_on, least_later, said_hate, sent_more}
 use Rattle.zy_view_steps.proofs.Leaves.{IsOnWay, at_begin, hated_more}
 use Rattle.zy_view_steps.specs.Rows.{IsReady}
-use Rattle.zy_begin_steps.proofs.Installing.{IsReading}
-use Rattle.zy_begin_steps.proofs.Rows.{chosen_of}
-use Rattle.zy_begin_steps.specs.Steps.{IsWorldOf}
-use Rattle.zy_wire.specs.Fields.{FitsList}
-use Rattle.zy_spelled.specs.Spelled.{AreViewsSpelled, IsBeganSpelled, IsChangeSpelled, IsSpelled, IsWaitingSpelled}
-use Rattle.zy_spelled.proofs.Adopts.{HasBegunWell, IsAdopted, adopts, certifies}
-use Rattle.zy_spelled.proofs.Gathers.{IsGoing, settled_spelled}
-use Rattle.zy_spelled.proofs.Leaves.{IsEarly, IsFine, accepts, arrives, collects, leave_fine}
-use Rattle.zy_spelled.proofs.Reports.{change_there, chosen_spelled, new_view_in_range, told_spelled_in}
+use Rattle.zy_spelled.specs.Spelled.{AreViewsSpelled, IsChangeSpelled, IsSpelled}
+use Rattle.zy_spelled.proofs.Adopts.{IsAdopted, certifies}
+use Rattle.zy_spelled.proofs.Gathers.{IsDone, IsGoing}
+use Rattle.zy_spelled.proofs.Leaves.{IsEarly, IsFine, collects, leave_fine}
 use Rattle.zy_spelled.proofs.Slots.{filled}
 
 -- ---- what is kept of others
@@ -132,9 +109,6 @@ spelled_stmt c fits = fits.1.0
 -- ---- the end of a row
 
 module _ {S : Type 0} (R : Rules S) (s : State S) (is : IsSpelled s) where
-  abbrev pub IsDone : Outcome S → Type 0
-  IsDone o = last_place o.state.kept < 2 ^ 62 → IsGoing (record { state = o.state; deeds = o.deeds })
-
   -- so at the end of an attempt
   abbrev EndsWell : Attempt S → Type 0
   EndsWell (Ok end) = last_place end.1.state.kept < 2 ^ 62 → IsGoing end.1

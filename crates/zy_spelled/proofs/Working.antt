@@ -1,7 +1,7 @@
 -- What a replica says and keeps can be spelled after each frame of normal operation, where its history stays in range.
-use Rattle.std.proofs.Common.{◌≡◌, ℕ, suc, ◌+◌, ◌-◌, ◌<◌, ◌≤◌, ◌^◌, Bool, true, false, List, [], ◌∷◌, ◌++◌, length, take, Option, Some, None, refl, sym, ap, ◌∙◌, subst, arith}
+use Rattle.std.proofs.Common.{◌≡◌, ℕ, ◌-◌, ◌<◌, ◌≤◌, ◌^◌, Bool, true, false, List, [], ◌∷◌, length, take, Option, Some, None, refl, sym, ap, ◌∙◌, subst, arith}
 use Rattle.std.specs.List.{AllByRecursion}
-use Rattle.std.specs.Prelude.{All, Ok}
+use Rattle.std.specs.Prelude.{All}
 use Rattle.sha2.proofs.Facts256.{length-sha256}
 use Rattle.zy_base.specs.Machine.{Rules}
 use Rattle.zy_base.specs.declared.ids.ClientId.{ClientId}
@@ -48,13 +48,12 @@ use Rattle.zy_parts.specs.declared.statements.Local.{Local}
 use Rattle.zy_parts.specs.declared.statements.Spec.{Spec}
 use Rattle.zy_table.specs.Checkpoints.{with_board}
 use Rattle.zy_table.specs.Commits.{give_local, say_local, send_local}
-use Rattle.zy_table.specs.Deeds.{Going, Outcome, begin, ends, refused}
-use Rattle.zy_table.specs.Gathering.{gather, gather_at, own_at}
+use Rattle.zy_table.specs.Deeds.{Going, Outcome, begin, ends}
+use Rattle.zy_table.specs.Gathering.{gather_at, own_at}
 use Rattle.zy_table.specs.Orders.{ask_for_missing}
 use Rattle.zy_table.specs.Requests.{ordered, request_waits, sealed_order}
-use Rattle.zy_table.specs.Running.{next_known, run, spec_of}
+use Rattle.zy_table.specs.Running.{run, spec_of}
 use Rattle.zy_table.specs.State.{State, own_view}
-use Rattle.zy_table.specs.declared.kept.OwnCheckpoint.{OwnCheckpoint}
 use Rattle.zy_view_law.proofs.ReadLists.{all_runnable}
 use Rattle.zy_view_law.specs.Texts.{Texts}
 use Rattle.zy_view_steps.specs.Rows.{IsReady}
@@ -67,39 +66,16 @@ use Rattle.zy_normal_steps.specs.Heard.{IsFrameHeld}
 use Rattle.zy_wire.specs.Fields.{FitsList}
 use Rattle.zy_spelled.specs.Spelled.{IsCheckSpelled, IsSpecSpelled, IsSpelled}
 use Rattle.zy_spelled.proofs.DecodedFrames.{IsFrameSpelled}
-use Rattle.zy_spelled.proofs.Gathers.{IsGoing, board_like, gathers, own_spelled, rounds_of}
+use Rattle.zy_spelled.proofs.Gathers.{IsDone, IsGoing, board_like, gathers, holding_spelled, own_spelled, rounds_of}
 use Rattle.zy_spelled.proofs.Runs.{ends_there, next_place, run_further, runs}
 use Rattle.zy_spelled.proofs.Sizes.{digest_long, head_long, next_long}
 
 -- another certificate, or another board, is kept
-holding_spelled : {S : Type 0} (s : State S) (place : Place) (specs : List (Signed Spec)) (held : Option Certificate) → IsFurthest place specs s.views.specs held → IsSpelled s → FitsList IsSpecSpelled 1 16 specs
+furthest_spelled : {S : Type 0} (s : State S) (place : Place) (specs : List (Signed Spec)) (held : Option Certificate) → IsFurthest place specs s.views.specs held → IsSpelled s → FitsList IsSpecSpelled 1 16 specs
     → IsSpelled (holding s held)
-holding_spelled {S} s place specs held furthest is fit = by furthest
-  where
-    with_it : IsSpelled (holding s (Some (record { place = place; specs = specs })))
-    with_it =
-        record {
-          signer = is.signer;
-          views = record {
-            spaced = is.views.spaced;
-            own = is.views.own;
-            last = is.views.last;
-            began_place = is.views.began_place;
-            began_head = is.views.began_head;
-            began = is.views.began;
-            specs = fit;
-            changes = is.views.changes;
-            begans = is.views.begans;
-            accepted = is.views.accepted;
-            waiting = is.views.waiting;
-          };
-          history = is.history;
-          board = is.board;
-        }
-
-    by : IsFurthest place specs s.views.specs held → IsSpelled (holding s held)
-    by (IsFurthest.came same older) = subst (λ (o : Option Certificate). IsSpelled (holding s o)) (sym same) with_it
-    by (IsFurthest.stays same from) = subst (λ (o : Option Certificate). IsSpelled (holding s o)) (sym same) is
+furthest_spelled s place specs held (IsFurthest.came same older) is fit =
+    subst (λ (o : Option Certificate). IsSpelled (holding s o)) (sym same) (holding_spelled s (Some (record { place = place; specs = specs })) is fit)
+furthest_spelled s place specs held (IsFurthest.stays same from) is fit = subst (λ (o : Option Certificate). IsSpelled (holding s o)) (sym same) is
 
 with_board_spelled : {S : Type 0} (s : State S) (Brings : Frame → Type 0) → ((frame : Frame) → Brings frame → IsFrameSpelled frame) → (board : Board) → IsPut s Brings board → IsSpelled s → IsSpelled (with_board s board)
 with_board_spelled s Brings spelled board (IsPut.new_spec vote reply with_order heard new same) is =
@@ -113,10 +89,6 @@ with_board_spelled s Brings spelled board (IsPut.new_check vote heard new same) 
 
 module _ {S : Type 0} (R : Rules S) (interval : ℕ) (texts : Texts) (w : World) (r : ℕ) (s : State S) (h : List Entry) (ready : IsReady R interval w r s h) (kept : IsWorldOf R interval w texts) (work : IsAtWork interval w r s)
     (is : IsSpelled s) where
-  -- what an outcome is shown to be, where the history stays in range
-  abbrev pub IsDone : Outcome S → Type 0
-  IsDone o = last_place o.state.kept < 2 ^ 62 → IsGoing (record { state = o.state; deeds = o.deeds })
-
   -- the requests that a frame brings may run, and what of it is kept can be spelled
   abbrev pub Brings : Frame → Type 0
   Brings frame = IsFrameHeld w frame × IsFrameSpelled frame
@@ -219,11 +191,11 @@ module _ {S : Type 0} (R : Rules S) (interval : ℕ) (texts : Texts) (w : World)
         → IsDone (ends Taken (gather_at R (own_at R s local.place.0) true (give_local R client local said (holding s held))))
     commits client None held furthest low =
         let s' : State S = holding s held in
-        let held_it = holding_spelled s local.place specs held furthest is few in
+        let held_it = furthest_spelled s local.place specs held furthest is few in
         looks_through local.place.0 true (say_local R client local s') refl
         (record { acts = (local_fits, tt); spelled = record { signer = held_it.signer; views = held_it.views; history = held_it.history; board = held_it.board } }) low
     commits client (Some said) held furthest low =
-        looks_through local.place.0 true (send_local client said (begin (holding s held))) refl (record { acts = tt; spelled = holding_spelled s local.place specs held furthest is few }) low
+        looks_through local.place.0 true (send_local client said (begin (holding s held))) refl (record { acts = tt; spelled = furthest_spelled s local.place specs held furthest is few }) low
 
   -- ---- each row
 

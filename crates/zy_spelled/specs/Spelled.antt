@@ -1,5 +1,5 @@
 -- What a replica says can be spelled, so that it is read back out of its text; and what has to hold of all that it keeps for that.
-use Rattle.std.specs.Prelude.{◌≡◌, ℕ, ◌^◌, ◌<◌, ◌≤◌, List, [], ◌∷◌, length, Option, IfSome}
+use Rattle.std.specs.Prelude.{◌≡◌, ◌^◌, ◌<◌, ◌≤◌, List, [], ◌∷◌, length, IfSome}
 use Rattle.std.specs.List.{AllByRecursion}
 use Rattle.zy_chain.specs.Fields.{entry_fields}
 use Rattle.zy_change.specs.Views.{Views, begans_in, began_for, own_view, specs_in}
