@@ -43,7 +43,7 @@ FitsBody (bodies.New new) = new_fields.Fits (new_spelled new)
 FitsBody (bodies.Began began) = began_fields.Fits began
 FitsBody (bodies.Fetch fetch) = Unit {0}
 
--- so of each statement of a step
+-- so of each statement that a step makes
 abbrev pub FitAll : List Act → Type 0
 FitAll [] = Unit {0}
 FitAll (Says remark ∷ acts) = FitsBody remark.body × FitAll acts
@@ -52,15 +52,19 @@ FitAll (Adopts view common gots ∷ acts) = FitAll acts
 
 -- ---- what others said, with its signer and its signature
 
+-- a response, with its client's number as it is spelled
 abbrev pub IsSpecSpelled : Signed Spec → Type 0
 IsSpecSpelled vote = (signed spec_fields).Fits (with_stmt spec_spelled vote)
 
+-- a checkpoint
 abbrev pub IsCheckSpelled : Signed Check → Type 0
 IsCheckSpelled vote = (signed check_fields).Fits vote
 
+-- a confirmation of a new view's choice
 abbrev pub IsBeganSpelled : Signed Began → Type 0
 IsBeganSpelled vote = (signed began_fields).Fits vote
 
+-- a report, with the clients' numbers as they are spelled
 abbrev pub IsChangeSpelled : Signed Change → Type 0
 IsChangeSpelled vote = (signed change_fields).Fits (with_stmt change_spelled vote)
 
@@ -71,10 +75,11 @@ pub record IsChoiceSpelled (new : New) (chosen : Chosen) : Type 0 where
   pub reports : new_fields.Fits (new_spelled new)
   pub began : began_fields.Fits (began_for new.view chosen)
 
+-- a new view that was accepted
 abbrev pub IsAcceptedSpelled : Accepted → Type 0
 IsAcceptedSpelled a = IsChoiceSpelled a.new.stmt a.chosen
 
--- with the confirmations of a certificate that waits
+-- a certificate that waits, with its confirmations
 pub record IsWaitingSpelled (x : Waiting) : Type 0 where
   pub choice : IsChoiceSpelled x.cert.new.stmt x.chosen
   pub begans : FitsList IsBeganSpelled 0 16 x.cert.begans
