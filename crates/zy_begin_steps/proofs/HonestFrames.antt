@@ -40,7 +40,7 @@ use Rattle.zy_begin_steps.specs.Frames.{IsHonestFrame, IsHonestlyRead, history_h
 use Rattle.zy_begin_steps.specs.Steps.{IsLawfulStep, IsWorldOf}
 
 -- only replicas' statements are held
-by_replica : (w : World) (s : Statement) (by : Party) → IsVouchedBy w s by → by ≡ Replica (record { 0 = number_of_party by })
+pub by_replica : (w : World) (s : Statement) (by : Party) → IsVouchedBy w s by → by ≡ Replica (record { 0 = number_of_party by })
 by_replica w s (Replica id) vouched = refl
 by_replica w s (Client id) vouched = absurd vouched
 

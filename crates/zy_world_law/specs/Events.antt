@@ -1,5 +1,5 @@
 -- What an event makes of a world.
-use Rattle.std.specs.Prelude.{ℕ, ◌+◌, ◌-◌, ◌^◌, nat_lt, ◌&&◌, if◌then◌else◌, List, [], ◌++◌, length, map, slice_get, slice_set, Option, Some, None, option_map, unwrap_or, option_to_list, Result, Ok, Err}
+use Rattle.std.specs.Prelude.{ℕ, ◌+◌, ◌-◌, ◌^◌, nat_lt, nat_le, ◌&&◌, if◌then◌else◌, List, [], ◌++◌, length, map, slice_get, slice_set, Option, Some, None, option_map, unwrap_or, option_to_list, Result, Ok, Err}
 use Rattle.std.specs.Option.{option_and_then}
 use Rattle.zy_base.specs.Machine.{Rules}
 use Rattle.zy_base.specs.declared.cause.Cause.TheVariants as causes
@@ -10,21 +10,22 @@ use Rattle.zy_base.specs.declared.ids.Party.TheVariants as parties
 use Rattle.zy_base.specs.declared.ids.ReplicaId.{ReplicaId}
 use Rattle.zy_base.specs.declared.step.Answer.{Answer}
 use Rattle.zy_base.specs.declared.step.Answer.TheVariants.{Taken, Held, Refused}
+use Rattle.zy_base.specs.declared.step.Event.{Event}
 use Rattle.zy_base.specs.declared.step.Event.TheVariants.{Heard, Timer}
 use Rattle.zy_base.specs.declared.step.Spoken.{Spoken}
 use Rattle.zy_base.specs.declared.step.TimerKind.{TimerKind}
 use Rattle.zy_base.specs.declared.step.TimerKind.TheVariants as timers
 use Rattle.zy_chain.specs.declared.entry.Entry.{Entry}
-use Rattle.zy_frames.specs.Frames.{spelling}
 use Rattle.zy_law.specs.World.{Stand}
 use Rattle.zy_lawful.specs.Acts.{stands_in}
 use Rattle.zy_lms.specs.Height.{levels_of}
 use Rattle.zy_table.specs.ClientRows.{ask, client_step}
 use Rattle.zy_table.specs.ClientState.{ClientState, ClientOutcome, client_outgoing, spoken_of, is_waiting}
 use Rattle.zy_table.specs.Deeds.{Outcome, outgoing_of, said_from}
-use Rattle.zy_table.specs.Sending.{copies}
+use Rattle.zy_normal_steps.specs.Whole as whole
+use Rattle.zy_table.specs.Sending.{copies, spelling_of}
 use Rattle.zy_table.specs.State.{own_view}
-use Rattle.zy_table.specs.Step.{step}
+use Rattle.zy_table.specs.Whole.{whole_step}
 use Rattle.zy_table.specs.declared.client.Done.{Done}
 use Rattle.zy_world_law.specs.Honest.{forger_in}
 use Rattle.zy_world_law.specs.Liars.{Telling, requests_at, order_told, spec_told, by_replica, statement_told}
@@ -58,12 +59,13 @@ history_of past = unwrap_or (option_map (λ stand. stand.history) (slice_get pas
 abbrev pub remark_after : List Stand → Spoken → Remark
 remark_after past spoken = record { text = spoken.text; when = length past - 1 + spoken.pairs }
 
-abbrev pub stepped : {S : Type 0} → Replica S → Outcome S → Replica S
-stepped x o =
+-- Where a snapshot is installed, it goes on from the list that the kept texts give for the head.
+abbrev pub stepped : {S : Type 0} → Texts → Event → Replica S → Outcome S → Replica S
+stepped texts event x o =
     record {
       state = o.state;
       said = x.said ++ map (remark_after x.past) (said_from (parties.Replica o.state.me) 0 o.deeds.acts);
-      past = x.past ++ stands_in (own_view x.state) (history_of x.past) o.deeds.acts;
+      past = x.past ++ stands_in (own_view x.state) (whole.history_of texts x.state (history_of x.past) event o) o.deeds.acts;
     }
 
 abbrev pub with_replica : {S : Type 0} → World S → ReplicaId → Replica S → World S
@@ -114,11 +116,11 @@ abbrev pub unless_forged : {S : Type 0} → Option Party → Happened S → Happ
 unless_forged None happened = happened
 unless_forged (Some party) happened = Breaks (Forged party)
 
--- a replica that brought these texts makes a step
-abbrev pub replica_goes : {S : Type 0} → World S → ReplicaId → Replica S → List (List ℕ) → Outcome S → Happened S
-replica_goes w id x texts o =
+-- a replica makes a step by an event that brought these texts
+abbrev pub replica_goes : {S : Type 0} → World S → ReplicaId → Replica S → List (List ℕ) → Event → Outcome S → Happened S
+replica_goes w id x texts event o =
     keeping w (texts ++ step_texts o.deeds.acts)
-    (λ v. with_sent (with_replica v id (stepped x o)) (outgoing_of o.state.me.0 o.state.counts.n o.deeds.sent))
+    (λ v. with_sent (with_replica v id (stepped v.texts event x o)) (outgoing_of o.state.me.0 o.state.counts.n o.deeds.sent))
     (replica_note id o.answer)
 
 abbrev pub client_goes : {S : Type 0} → World S → ClientId → Client → List (List ℕ) → ClientOutcome → Happened S
@@ -138,7 +140,7 @@ ask_in w id op None = no_subject w
 
 abbrev pub bring_to_replica : {S : Type 0} → Rules S → World S → World S → ReplicaId → List ℕ → Option (Option (Replica S)) → Happened S
 bring_to_replica R w marked id bytes (Some (Some x)) =
-    unless_forged (forger_in w bytes) (replica_goes marked id x (texts_in bytes) (step R x.state (Heard bytes)))
+    unless_forged (forger_in w bytes) (replica_goes marked id x (texts_in bytes) (Heard bytes) (whole_step R x.state (Heard bytes)))
 bring_to_replica R w marked id bytes (Some None) = Goes marked notes.Quiet
 bring_to_replica R w marked id bytes None = no_subject w
 
@@ -159,8 +161,8 @@ deliver R w number to (Some mail) = bring R w (delivered w number mail) (unwrap_
 -- ---- a timer: a replica has `request` and `change`, a client `answer`
 
 abbrev pub replica_timer : {S : Type 0} → Rules S → World S → ReplicaId → Replica S → TimerKind → Happened S
-replica_timer R w id x timers.Request = replica_goes w id x [] (step R x.state (Timer timers.Request))
-replica_timer R w id x timers.Change = replica_goes w id x [] (step R x.state (Timer timers.Change))
+replica_timer R w id x timers.Request = replica_goes w id x [] (Timer timers.Request) (whole_step R x.state (Timer timers.Request))
+replica_timer R w id x timers.Change = replica_goes w id x [] (Timer timers.Change) (whole_step R x.state (Timer timers.Change))
 replica_timer R w id x timers.Answer = no_subject w
 
 abbrev pub client_timer : {S : Type 0} → World S → ClientId → Client → TimerKind → Happened S
@@ -192,13 +194,17 @@ leaves_in w = 2 ^ levels_of w.setup.height
 abbrev pub spent : {S : Type 0} → World S → Party → World S
 spent w liar = record w { leaves = λ other. if same_party other liar then w.leaves other + 1 else w.leaves other }
 
+-- bytes that were signed go to some parties, if they are no longer than a frame may be
+abbrev pub sends_signed : {S : Type 0} → World S → World S → List Party → List ℕ → Happened S
+sends_signed w signed to bytes = if nat_le (length bytes) 4194304 then Goes (with_sent signed (copies bytes to)) notes.Quiet else no_subject w
+
 -- a liar signs a frame by its next leaf, for some parties
 abbrev pub lie : {S : Type 0} → World S → Party → List Party → Option Telling → Happened S
 lie w liar to None = no_subject w
 lie w liar to (Some telling) =
     if is_liar w liar && are_parties w to
     then (if nat_lt (w.leaves liar) (leaves_in w)
-    then Goes (with_sent (spent w liar) (copies (spelling (telling (sealer_of w.setup liar (w.leaves liar)))) to)) notes.Quiet
+    then sends_signed w (spent w liar) to (spelling_of (telling (sealer_of w.setup liar (w.leaves liar))))
     else Goes w (notes.Refused None causes.KeySpent))
     else no_subject w
 
@@ -207,7 +213,7 @@ abbrev pub forge : {S : Type 0} → World S → Party → List Party → Option 
 forge w party to None = no_subject w
 forge w party to (Some telling) =
     if is_correct w party && are_parties w to
-    then Goes (with_sent w (copies (spelling (telling (sealer_of w.setup party (leaves_in w - 1)))) to)) notes.Quiet
+    then sends_signed w w to (spelling_of (telling (sealer_of w.setup party (leaves_in w - 1))))
     else no_subject w
 
 abbrev pub raw : {S : Type 0} → World S → List ℕ → List Party → Happened S

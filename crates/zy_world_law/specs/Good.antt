@@ -5,17 +5,13 @@ use Rattle.zy_base.specs.Machine.{Rules}
 use Rattle.zy_base.specs.declared.ids.Party.TheVariants.{Replica}
 use Rattle.zy_chain.specs.declared.entry.Entry.{Entry}
 use Rattle.zy_client.specs.Held.{Holds}
-use Rattle.zy_exec.specs.Kept.{last_place}
-use Rattle.zy_exec.specs.Replay.{answer_at}
-use Rattle.zy_exec.specs.Shots.{snapshot_at}
+use Rattle.zy_begin_steps.specs.Steps.{IsWorldOf}
 use Rattle.zy_law.specs.Completed.{IsCompleted}
 use Rattle.zy_law.specs.Lawful.{IsLawful}
 use Rattle.zy_law.specs.Said.{IsBacked}
 use Rattle.zy_law.specs.World as law
 use Rattle.zy_lawful.specs.Acts.{spec_statement}
-use Rattle.zy_lawful.specs.Tied as lawful
 use Rattle.zy_lawful.specs.Tied.{IsVouchedBy}
-use Rattle.zy_lms.specs.Height.{levels_of}
 use Rattle.zy_parts.specs.Numbers as numbers
 use Rattle.zy_parts.specs.Signing.{text_of}
 use Rattle.zy_parts.specs.Statements.{spec_fields}
@@ -23,9 +19,11 @@ use Rattle.zy_parts.specs.declared.signed.Signed.{Signed}
 use Rattle.zy_parts.specs.declared.statements.Ask.{Ask}
 use Rattle.zy_parts.specs.declared.statements.Spec.{Spec}
 use Rattle.zy_table.specs.ClientRows.{kept_of}
-use Rattle.zy_table.specs.State.{State, own_view}
 use Rattle.zy_table.specs.declared.client.Commit.{Commit}
 use Rattle.zy_table.specs.declared.client.Response.{Response}
+use Rattle.zy_spelled.specs.Spelled.{IsSpelled}
+use Rattle.zy_view_steps.specs.Rows.{IsReady}
+use Rattle.zy_view_steps.specs.Work.{IsAtWork}
 use Rattle.zy_world_law.specs.Events.{history_of}
 use Rattle.zy_world_law.specs.Safe.{completion_of}
 use Rattle.zy_world_law.specs.Seen.{seen}
@@ -37,30 +35,12 @@ use Rattle.zy_world_law.specs.World as world
 abbrev pub IsKept : Texts → List ℕ → Type 0
 IsKept texts text = texts (digest_of text) ≡ Some text
 
--- the reply to each entry of a history is kept
-abbrev pub AreRepliesKept : {S : Type 0} → Rules S → Texts → List Entry → Type 0
-AreRepliesKept R texts history = (place : ℕ) (reply : List ℕ) → answer_at R history place ≡ Some reply → IsKept texts reply
-
--- the snapshot at each multiple of the interval along a history is kept; that of the empty history no step brings
-abbrev pub AreSnapshotsKept : {S : Type 0} → Rules S → ℕ → Texts → List Entry → Type 0
-AreSnapshotsKept R interval texts history =
-    (place : ℕ) (snapshot : List ℕ) → 0 < place → snapshot_at R interval history place ≡ Some snapshot → IsKept texts snapshot
-
--- The places of its history can be spelled: each entry that it executed was answered with a leaf of its key.
-pub record IsShort {S : Type 0} (s : State S) : Type 0 where
-  pub number : s.me.0 < 2 ^ 8
-  pub view : own_view s < 2 ^ 62
-  pub end : last_place s.kept ≤ s.sealer.key.next
-  pub leaves : s.sealer.key.next ≤ 2 ^ levels_of s.sealer.key.height
-
--- a correct replica is tied to what it said and where it stood, and the replies and snapshots along its histories are kept
+-- A correct replica is tied to what it said and where it stood, can work there, and what it keeps can be spelled.
 pub record IsTied {S : Type 0} (R : Rules S) (w : World S) (id : ℕ) (x : world.Replica S) : Type 0 where
-  pub tied : lawful.IsTied R (seen R w) id x.state (history_of x.past)
+  pub ready : IsReady R w.setup.interval (seen R w) id x.state (history_of x.past)
+  pub works : IsAtWork w.setup.interval (seen R w) id x.state
   pub keys : x.state.keys ≡ keys_of w.setup
-  pub interval : x.state.kept.interval ≡ w.setup.interval
-  pub short : IsShort x.state
-  pub replies : AllByRecursion (λ stand. AreRepliesKept R w.texts stand.history) x.past
-  pub snapshots : AllByRecursion (λ stand. AreSnapshotsKept R w.setup.interval w.texts stand.history) x.past
+  pub spelled : IsSpelled x.state
 
 -- a response is one that its replica said, unless that lies, and its reply is kept
 pub record IsBackedBy {S : Type 0} (w : World S) (id : ℕ) (r : Response) : Type 0 where
@@ -103,6 +83,8 @@ pub record IsGood {S : Type 0} (R : Rules S) (w : World S) : Type 0 where
   pub replicas : length w.replicas ≡ w.setup.counts.n
   pub clients : length w.clients ≡ w.setup.clients
   pub lawful : IsLawful (seen R w)
+  -- what each correct history leads to is kept
+  pub world : IsWorldOf R w.setup.interval (seen R w) w.texts
   pub tied : (id : ℕ) (x : world.Replica S) → replica_at w id ≡ Some x → IsTied R w id x
   pub client_tied : (id : ℕ) (x : Client) → client_at w id ≡ Some x → IsClientTied R w id x
   pub done : AllByRecursion (IsDone R w) w.done

@@ -1,15 +1,13 @@
 -- A forged signature: one that verifies under a correct party's key on a text that the party didn't say.
-use Rattle.std.specs.Prelude.{ℕ, ◌&&◌, Bool, true, false, not, List, [], Option, Some, None, option_map, Result, Ok, Err}
+use Rattle.std.specs.Prelude.{ℕ, ◌&&◌, Bool, true, false, not, List, Option, Some, None, option_map}
 use Rattle.std.specs.List.{find, list_any}
 use Rattle.std.specs.Str.{bytes_eq}
-use Rattle.zy_base.specs.declared.frame_fault.FrameFault.{FrameFault}
 use Rattle.zy_base.specs.declared.ids.Party.{Party}
-use Rattle.zy_frames.specs.Frames.{frame_in, parts_of}
-use Rattle.zy_frames.specs.declared.frame.Frame.{Frame}
 use Rattle.zy_parts.specs.declared.signed.Part.{Part}
 use Rattle.zy_seal.specs.Screening.{answer_to}
 use Rattle.zy_seal.specs.declared.directory.SealAnswer.{SealAnswer}
 use Rattle.zy_seal.specs.declared.directory.SealAnswer.TheVariants as answers
+use Rattle.zy_world_law.specs.Reading.{parts_in}
 use Rattle.zy_world_law.specs.Setup.{keys_of}
 use Rattle.zy_world_law.specs.World.{World, texts_said}
 
@@ -26,10 +24,6 @@ is_unsaid (Some said) text = not (list_any (bytes_eq text) said)
 abbrev pub is_forged : {S : Type 0} → World S → Part → Bool
 is_forged w part = is_yes (answer_to (keys_of w.setup) part) && is_unsaid (texts_said w part.by) part.text
 
-abbrev pub parts_read : Result Frame FrameFault → List Part
-parts_read (Err fault) = []
-parts_read (Ok frame) = parts_of frame
-
 -- the correct party under whose key the first such part of the bytes' frame verifies
 abbrev pub forger_in : {S : Type 0} → World S → List ℕ → Option Party
-forger_in w bytes = option_map (λ part. part.by) (find (is_forged w) (parts_read (frame_in bytes)))
+forger_in w bytes = option_map (λ part. part.by) (find (is_forged w) (parts_in bytes))

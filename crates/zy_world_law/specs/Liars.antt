@@ -13,6 +13,7 @@ use Rattle.zy_frames.specs.Frames.{frame_in}
 use Rattle.zy_frames.specs.declared.frame.Frame.{Frame}
 use Rattle.zy_frames.specs.declared.frame.Frame.TheVariants as frames
 use Rattle.zy_parts.specs.Numbers as numbers
+use Rattle.zy_parts.specs.Reports.{change_fields, new_fields, began_fields, fetch_fields}
 use Rattle.zy_parts.specs.Statements.{ask_fields, order_fields, spec_fields, local_fields, hole_fields, hate_fields, check_fields}
 use Rattle.zy_parts.specs.declared.signed.Signed.{Signed}
 use Rattle.zy_parts.specs.declared.statements.Ask.{Ask}
@@ -20,12 +21,16 @@ use Rattle.zy_parts.specs.declared.statements.Order.{Order}
 use Rattle.zy_parts.specs.declared.statements.Spec.{Spec}
 use Rattle.zy_seal.specs.Sealing.{SealerState, sealed_by}
 use Rattle.zy_table.specs.Roles.{is_client}
+use Rattle.zy_table.specs.declared.deeds.AnyFrame.{AnyFrame}
+use Rattle.zy_table.specs.declared.deeds.AnyFrame.TheVariants.{Plain, View}
+use Rattle.zy_vframes.specs.declared.frame.ViewFrame.{ViewFrame}
+use Rattle.zy_vframes.specs.declared.frame.ViewFrame.TheVariants as views
 use Rattle.zy_wire.specs.Spelling.{Spelling, whole}
 use Rattle.zy_world_law.specs.World.{World, mail_at}
 
 -- a frame as whoever signs it makes it
 abbrev pub Telling : Type 0
-Telling = SealerState → Frame
+Telling = SealerState → AnyFrame
 
 -- ---- the requests of some frames
 
@@ -53,7 +58,7 @@ order_of view asks last =
 
 abbrev pub order_told : View → List (Signed Ask) → Option Telling
 order_told view asks =
-    option_map (λ last sealer. frames.Order (record { order = sealed_by numbers.order order_fields sealer (order_of view asks last); ask = last })) (last_of asks)
+    option_map (λ last sealer. Plain (frames.Order (record { order = sealed_by numbers.order order_fields sealer (order_of view asks last); ask = last }))) (last_of asks)
 
 abbrev pub spec_of : View → List ℕ → List (Signed Ask) → Signed Ask → Spec
 spec_of view reply asks last =
@@ -68,7 +73,7 @@ spec_of view reply asks last =
 
 abbrev pub spec_told : View → List ℕ → List (Signed Ask) → Option Telling
 spec_told view reply asks =
-    option_map (λ last sealer. frames.SpecResponse (sealed_by numbers.spec spec_fields sealer (spec_of view reply asks last)) reply None) (last_of asks)
+    option_map (λ last sealer. Plain (frames.SpecResponse (sealed_by numbers.spec spec_fields sealer (spec_of view reply asks last)) reply None)) (last_of asks)
 
 -- only replicas sign these
 abbrev pub by_replica : Party → Option Telling → Option Telling
@@ -77,22 +82,33 @@ by_replica (parties.Client id) telling = None
 
 -- ---- statements by their numbers and fields
 
-abbrev pub told : {A : Type 0} → (Signed A → Frame) → ℕ → Spelling A → Result A FrameFault → Option Telling
+abbrev pub told : {A : Type 0} → (Signed A → AnyFrame) → ℕ → Spelling A → Result A FrameFault → Option Telling
 told make number fields (Err fault) = None
 told make number fields (Ok stmt) = Some (λ sealer. make (sealed_by number fields sealer stmt))
 
-abbrev pub told_as : {A : Type 0} → (Signed A → Frame) → ℕ → Spelling A → List ℕ → Option Telling
+abbrev pub told_as : {A : Type 0} → (Signed A → AnyFrame) → ℕ → Spelling A → List ℕ → Option Telling
 told_as make number fields bytes = told make number fields (whole fields bytes)
 
--- a request, a local commit, what asks for orders, a hate and a checkpoint can be told, each in its own frame
+abbrev pub told_plain : {A : Type 0} → (Signed A → Frame) → ℕ → Spelling A → List ℕ → Option Telling
+told_plain make number fields bytes = told_as (λ signed. Plain (make signed)) number fields bytes
+
+abbrev pub told_of_view : {A : Type 0} → (Signed A → ViewFrame) → ℕ → Spelling A → List ℕ → Option Telling
+told_of_view make number fields bytes = told_as (λ signed. View (make signed)) number fields bytes
+
+-- a request, a local commit, what asks for orders, a hate, a checkpoint, and what is said of a view change and of a snapshot can
+-- be told, each in its own frame
 abbrev pub statement_numbered : ℕ → List ℕ → Option Telling
 statement_numbered number bytes =
-    if number == numbers.ask then told_as frames.Request numbers.ask ask_fields bytes
-    else (if number == numbers.local then told_as frames.LocalCommit numbers.local local_fields bytes
-    else (if number == numbers.hole then told_as frames.FillHole numbers.hole hole_fields bytes
-    else (if number == numbers.hate then told_as frames.Hate numbers.hate hate_fields bytes
-    else (if number == numbers.check then told_as frames.Checkpoint numbers.check check_fields bytes
-    else None))))
+    if number == numbers.ask then told_plain frames.Request numbers.ask ask_fields bytes
+    else (if number == numbers.local then told_plain frames.LocalCommit numbers.local local_fields bytes
+    else (if number == numbers.hole then told_plain frames.FillHole numbers.hole hole_fields bytes
+    else (if number == numbers.hate then told_plain frames.Hate numbers.hate hate_fields bytes
+    else (if number == numbers.check then told_plain frames.Checkpoint numbers.check check_fields bytes
+    else (if number == numbers.change then told_of_view views.ViewChange numbers.change change_fields bytes
+    else (if number == numbers.new then told_of_view views.NewView numbers.new new_fields bytes
+    else (if number == numbers.began then told_of_view views.ViewConfirm numbers.began began_fields bytes
+    else (if number == numbers.fetch then told_of_view views.Fetch numbers.fetch fetch_fields bytes
+    else None))))))))
 
 unfoldable pub statement_told : List ℕ → Option Telling
 statement_told [] = None

@@ -1,5 +1,6 @@
 pub mod Setup
 pub mod World
+pub mod Reading
 pub mod Texts
 pub mod Honest
 pub mod Liars

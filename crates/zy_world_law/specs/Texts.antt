@@ -1,24 +1,29 @@
 -- The texts that events bring, and how they are kept: one for each SHA-256 value.
-use Rattle.std.specs.Prelude.{ℕ, nat_lt, nat_le, ◌^◌, ◌&&◌, Bool, false, if◌then◌else◌, List, [], ◌∷◌, ◌++◌, length, Option, Some, None, Result, Ok, Err}
+use Rattle.std.specs.Prelude.{ℕ, nat_lt, nat_le, ◌^◌, ◌&&◌, Bool, false, if◌then◌else◌, List, [], ◌∷◌, ◌++◌, length, Option, Some, None, option_map, unwrap_or, Result, Ok, Err}
 use Rattle.std.specs.List.{flat_map}
 use Rattle.std.specs.Str.{bytes_eq}
 use Rattle.sha2.specs.Sha256.{sha256}
-use Rattle.zy_base.specs.declared.frame_fault.FrameFault.{FrameFault}
 use Rattle.zy_base.specs.declared.ids.Digest.{Digest}
 use Rattle.zy_base.specs.declared.ids.Party.{Party}
 use Rattle.zy_base.specs.declared.ids.Party.TheVariants.{Replica, Client}
 use Rattle.zy_chain.specs.Entries.{bytes_of_entry, digest_of_entry}
+use Rattle.zy_chain.specs.Heads.{head_after}
 use Rattle.zy_chain.specs.declared.entry.Entry.{Entry}
 use Rattle.zy_admit.specs.Judging.{same_digest}
-use Rattle.zy_frames.specs.Frames.{frame_in}
 use Rattle.zy_frames.specs.declared.frame.Frame.{Frame}
 use Rattle.zy_frames.specs.declared.frame.Frame.TheVariants as frames
 use Rattle.zy_parts.specs.Statements.{entry_of}
+use Rattle.zy_parts.specs.declared.reports.Change.{Change}
 use Rattle.zy_parts.specs.declared.signed.Signed.{Signed}
 use Rattle.zy_parts.specs.declared.statements.Ask.{Ask}
 use Rattle.zy_table.specs.Deeds.{gains_in}
 use Rattle.zy_table.specs.declared.deeds.Act.{Act}
+use Rattle.zy_table.specs.declared.deeds.AnyFrame.{AnyFrame}
+use Rattle.zy_table.specs.declared.deeds.AnyFrame.TheVariants.{Plain, View}
 use Rattle.zy_table.specs.declared.deeds.Got.{Got}
+use Rattle.zy_vframes.specs.declared.frame.ViewFrame.{ViewFrame}
+use Rattle.zy_vframes.specs.declared.frame.ViewFrame.TheVariants as views
+use Rattle.zy_world_law.specs.Reading.{any_frame_in}
 use Rattle.zy_world_law.specs.World.{Texts}
 
 -- ---- what a frame brings
@@ -43,19 +48,36 @@ frame_texts (frames.Hate hate) = []
 frame_texts (frames.Pom first second) = []
 frame_texts (frames.Checkpoint check) = []
 
-abbrev pub texts_read : Result Frame FrameFault → List (List ℕ)
-texts_read (Err fault) = []
-texts_read (Ok frame) = frame_texts frame
-
--- what bytes bring that spell a frame
-abbrev pub texts_in : List ℕ → List (List ℕ)
-texts_in bytes = texts_read (frame_in bytes)
-
--- ---- what a step brings
-
 -- the text of a link of histories: the head before, and the entry's digest
 abbrev pub link_text : Digest → Entry → List ℕ
 link_text head e = head.0 ++ (digest_of_entry e).0
+
+-- of some entries above a head: the bytes of each, and the links along them
+abbrev pub entry_texts : Digest → List Entry → List (List ℕ)
+entry_texts head [] = []
+entry_texts head (e ∷ entries) = bytes_of_entry e ∷ link_text head e ∷ entry_texts (head_after head (digest_of_entry e)) entries
+
+-- of a report: its entries above its stable place
+abbrev pub report_texts : Signed Change → List (List ℕ)
+report_texts c = entry_texts c.stmt.told.stable_head c.stmt.told.entries
+
+abbrev pub view_frame_texts : ViewFrame → List (List ℕ)
+view_frame_texts (views.ViewChange change) = report_texts change
+view_frame_texts (views.NewView new) = flat_map report_texts new.stmt.changes
+view_frame_texts (views.ViewConfirm began) = []
+view_frame_texts (views.ViewCert cert) = flat_map report_texts cert.new.stmt.changes
+view_frame_texts (views.Fetch fetch) = []
+view_frame_texts (views.State place snapshot) = snapshot ∷ []
+
+abbrev pub texts_of : AnyFrame → List (List ℕ)
+texts_of (Plain frame) = frame_texts frame
+texts_of (View frame) = view_frame_texts frame
+
+-- what bytes bring that spell a frame
+abbrev pub texts_in : List ℕ → List (List ℕ)
+texts_in bytes = unwrap_or (option_map texts_of (any_frame_in bytes)) []
+
+-- ---- what a step brings
 
 abbrev pub snapshot_texts : Option (List ℕ) → List (List ℕ)
 snapshot_texts None = []
