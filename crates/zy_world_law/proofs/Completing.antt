@@ -37,14 +37,22 @@ use Rattle.zy_world_law.specs.Events.{completed_by}
 use Rattle.zy_world_law.specs.Good.{IsGood, IsClientTied, IsBackedBy, IsCommitBacked, local_to}
 use Rattle.zy_world_law.specs.Safe.{completion_of}
 use Rattle.zy_world_law.specs.Seen.{seen}
+use Rattle.zy_view_law.proofs.ReadBack.{spec_back}
+use Rattle.zy_view_law.specs.Told.{statement_in}
+use Rattle.zy_view_steps.proofs.AtWork.{told_alike}
 use Rattle.zy_world_law.specs.World.{World, Client, client_at}
 use Rattle.zy_world_law.proofs.Agreeing.{Picked, picked, rising_differ}
 use Rattle.zy_world_law.proofs.HeldLaw.{HeldLaw}
 use Rattle.zy_world_law.proofs.KeptOrHeard.{IsSame}
-use Rattle.zy_world_law.proofs.ReadBack.{spec_back}
 use Rattle.zy_world_law.proofs.Seats.{seat_of}
 use Rattle.zy_lawful.proofs.Goes.{all_of_both}
 use Rattle.zy_world_law.proofs.Vouched.{text_vouched}
+
+-- ---- what a response to a client that there may be says
+
+spec_read : (r : ℕ) (by : Party) (spec : Spec) → spec.client.0 < 64 → spec_fields.Fits spec → statement_in r (text_of numbers.spec spec_fields by spec) ≡ spec_statement spec
+spec_read r by spec small fits =
+    spec_back r by spec (subst (λ (n : ℕ). spec_fields.Fits (record spec { client = record { 0 = n } })) (sym (from_be_bytes-to_be_bytes_4 spec.client.0 (omega arith))) fits) ∙ sym (told_alike spec small)
 
 -- ---- equal responses
 
@@ -71,7 +79,7 @@ module _ {S : Type 0} (R : Rules S) (w : World S) (good : IsGood R w) (id : Clie
   vouched : (number : ℕ) (r : Response) → IsBackedBy w number r → r.spec.stmt.client.0 < 64 → IsVouched (seen R w) (spec_statement r.spec.stmt) number
   vouched number r b client =
       text_vouched R w number (text_of numbers.spec spec_fields (parties.Replica (record { 0 = number })) r.spec.stmt) (spec_statement r.spec.stmt) b.within b.said
-      (spec_back (parties.Replica (record { 0 = number })) r.spec.stmt (b.spelled (omega (arith, client))))
+      (spec_read number (parties.Replica (record { 0 = number })) r.spec.stmt client (b.spelled (omega (arith, client))))
 
   module _ (waiting : Signed Ask) (held : AreHeld t waiting) where
     vouched_at : (spec : Spec) (number : ℕ) → number < length t.responses → agrees spec (get_or t.responses number None) ≡ true → IsVouched (seen R w) (spec_statement spec) (0 + number)

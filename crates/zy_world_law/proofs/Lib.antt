@@ -3,9 +3,11 @@ pub mod ReadBack
 pub mod KeptTexts
 pub mod OneText
 pub mod Seats
-pub mod GainedReplies
+pub mod StepLaws
+pub mod DecodedFields
 pub mod DecodedInRange
-pub mod ShortHistories
+pub mod DecodedReports
+pub mod StillReady
 pub mod Screened
 pub mod KeptOrHeard
 pub mod ToldSteps

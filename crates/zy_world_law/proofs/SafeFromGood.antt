@@ -166,7 +166,7 @@ module _ {S : Type 0} (R : Rules S) (w u : World S) (after : IsAfter R w u) wher
   link_stays : (d : Digest) (e : Entry) → is_link w.texts d e ≡ true → is_link u.texts d e ≡ true
   link_stays d e is =
       let link = link_of w.texts d e is in
-      link_is u.texts d e (record { usable = link.usable; entry = stay_kept w.texts u.texts after.texts _ link.entry; link = stay_kept w.texts u.texts after.texts _ link.link })
+      link_is u.texts d e (record { runnable = link.runnable; entry = stay_kept w.texts u.texts after.texts _ link.entry; link = stay_kept w.texts u.texts after.texts _ link.link })
 
   completions_more : completions_of u ≡ completions_of w ++ map completion_of after.more
   completions_more = ap (λ (l : List Completed). map completion_of l) after.done ∙ map_append completion_of w.done after.more
