@@ -42,7 +42,6 @@ use Rattle.zy_view_law.specs.Told.{began_told}
 use Rattle.zy_view_steps.proofs.HeardRows.{vote_attempt}
 use Rattle.zy_view_steps.proofs.Leaves.{IsLawfulAttempt}
 use Rattle.zy_view_steps.specs.Rows.{IsReady}
-use Rattle.zy_wire.specs.Spelling.{IsBytes}
 use Rattle.zy_begin_steps.proofs.Adopting.{finishes_leaving, refuses}
 use Rattle.zy_begin_steps.proofs.Installing.{IsReading, state_lawful}
 use Rattle.zy_begin_steps.proofs.Reported.{broken_attempt, cert_refused, links_of, links_of_all, new_refused}
@@ -63,7 +62,7 @@ begans_held w list fits honest k d within =
     began_held w (get_or list k d) (fits k d within) (all_under (IsHonestPart w) (part_of numbers.began began_fields) list honest k d within)
 
 module _ {S : Type 0} (R : Rules S) (interval : ℕ) (texts : Texts) (w : World) (r : ℕ) (s : State S) (history : List Entry) (ready : IsReady R interval w r s history) (kept : IsWorldOf R interval w texts)
-    (reading : (bytes : List ℕ) → IsBytes bytes → IsReading R bytes) where
+    (reading : (bytes : List ℕ) → IsReading R bytes) where
   -- ---- a report's links are kept where it breaks no rule, and else its row reads nothing of it
 
   change_lawful : (vote : Signed Change) → IsHonestFrame w texts (frames.ViewChange vote) → IsLawfulStep R interval texts w r s history (finished R s (change R s vote))
@@ -110,7 +109,7 @@ module _ {S : Type 0} (R : Rules S) (interval : ℕ) (texts : Texts) (w : World)
       confirmation_lawful R interval texts w r s history ready kept vote (by_replica w _ vote.by held) held
   frame_lawful (frames.ViewCert cert) honest = cert_frame_lawful cert honest
   frame_lawful (frames.Fetch vote) honest = fetch_lawful R interval texts w r s history ready kept vote
-  frame_lawful (frames.State place snapshot) honest = (state_lawful R interval texts w r s history ready kept snapshot (reading snapshot honest.spelled) honest.brought place).step
+  frame_lawful (frames.State place snapshot) honest = (state_lawful R interval texts w r s history ready kept snapshot (reading snapshot) honest.brought place).step
 
   -- ---- a frame that is heard, and bytes that are read
 

@@ -16,7 +16,6 @@ use Rattle.zy_vframes.specs.Parts.{parts_of}
 use Rattle.zy_view_law.specs.Held.{AreLinksKept, IsHonestPart}
 use Rattle.zy_view_law.specs.Texts.{IsKept, Texts}
 use Rattle.zy_view_law.specs.Told.{change_spelled, new_spelled}
-use Rattle.zy_wire.specs.Spelling.{IsBytes}
 use Rattle.zy_begin_steps.specs.Steps.{history_from}
 
 -- what is signed in it can be read back out of its texts
@@ -26,7 +25,7 @@ IsSpelled (frames.NewView new) = new_fields.Fits (new_spelled new.stmt)
 IsSpelled (frames.ViewConfirm began) = began_fields.Fits began.stmt
 IsSpelled (frames.ViewCert cert) = new_fields.Fits (new_spelled cert.new.stmt) × All (λ began. began_fields.Fits began.stmt) cert.begans
 IsSpelled (frames.Fetch fetch) = Unit {0}
-IsSpelled (frames.State place snapshot) = IsBytes snapshot
+IsSpelled (frames.State place snapshot) = Unit {0}
 
 -- the links of a report's entries, where all of them are of clients that there may be
 abbrev pub AreLinksBrought : World → Signed Change → Type 0

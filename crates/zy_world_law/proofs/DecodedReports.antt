@@ -43,7 +43,7 @@ began_gives =
     (pair_gives (u62 1) (pair (u62 0) digest) _ _ (u62_gives 1) (pair_gives (u62 0) digest _ _ (u62_gives 0) digest_gives)) (λ x fits. fits)
 
 -- an entry, but for its client's number
-abbrev IsEntryRead : Entry → Type 0
+abbrev pub IsEntryRead : Entry → Type 0
 IsEntryRead e = e.client.0 < 64 → entry_fields.Fits e
 
 entry_gives : Gives entry_fields.at IsEntryRead
@@ -53,11 +53,11 @@ entry_gives =
     (pair_gives (word w32) (pair (u62 0) (bytes16 1100)) _ _ (all_give (word_at w32)) (pair_gives (u62 0) (bytes16 1100) _ _ (u62_gives 0) (sized_gives _ 1100)))
     (λ x fits small. (omega arith, fits.1))
 
-abbrev IsCertificateRead : Option (List (Signed Spec)) → Type 0
+abbrev pub IsCertificateRead : Option (List (Signed Spec)) → Type 0
 IsCertificateRead specs = FitsOptional (FitsList (IsSignedRead FitsForClients) 1 16) specs
 
 -- the fields of a report
-abbrev IsToldRead : Told → Type 0
+abbrev pub IsToldRead : Told → Type 0
 IsToldRead t =
     IsU62 0 t.last_view.0 × (IsU62 0 t.began_place.0 × ((length t.began_head.0 ≡ 32) × (FitsList (IsSignedRead began_fields.Fits) 0 16 t.began × (IsCertificateRead t.specs
     × (IsU62 0 t.stable_view.0 × (IsU62 0 t.stable_place.0 × ((length t.stable_head.0 ≡ 32) × ((length t.state.0 ≡ 32) × (FitsList (IsSignedRead check_fields.Fits) 0 16 t.checks × FitsList IsEntryRead 0 64 t.entries)))))))))
@@ -92,14 +92,14 @@ told_gives =
     (list_gives entry_fields IsEntryRead entry_gives 0 64)))))))))))
     (λ x fits. fits)
 
-abbrev IsChangeRead : Change → Type 0
+abbrev pub IsChangeRead : Change → Type 0
 IsChangeRead c = IsU62 1 c.view.0 × IsToldRead c.told
 
 change_gives : Gives change_fields.at IsChangeRead
 unfolding change_fields
 change_gives = made_gives _ (pair (u62 1) told_fields) _ IsChangeRead (pair_gives (u62 1) told_fields _ _ (u62_gives 1) told_gives) (λ x fits. fits)
 
-abbrev IsNewRead : New → Type 0
+abbrev pub IsNewRead : New → Type 0
 IsNewRead n = IsU62 1 n.view.0 × FitsList (IsSignedRead IsChangeRead) 1 16 n.changes
 
 new_gives : Gives new_fields.at IsNewRead
@@ -163,12 +163,12 @@ AreOfClients c = All (λ e. e.client.0 < 64) c.stmt.told.entries
 
 told_fits : (t : Told) → is_told_in_role t ≡ true → All (λ e. e.client.0 < 64) t.entries → IsToldRead t → told_fields.Fits (told_spelled t)
 unfolding told_fields
-told_fits t roles clients (last_view, began_place, began_head, began, specs, stable_view, stable_place, stable_head, state, checks, entries) =
+told_fits t roles clients (last_view, (began_place, (began_head, (began, (specs, (stable_view, (stable_place, (stable_head, (digest_is, (checks, entries)))))))))) =
     let first = and_parts (list_all is_by_replica t.began) _ roles in
     let rest = and_parts (are_specs_in_role t.specs) (list_all is_by_replica t.checks) first.1 in
     let listed : FitsList entry_fields.Fits 0 64 t.entries = record { least = entries.least; most = entries.most; each = λ k d within. entries.each k d within (clients k d within) } in
     (last_view, (began_place, (began_head, (list_fits began_fields began_fields.Fits 0 16 t.began first.0 began (λ x fits. fits),
-    (certificate_fits t.specs rest.0 specs, (stable_view, (stable_place, (stable_head, (state, (list_fits check_fields check_fields.Fits 0 16 t.checks rest.1 checks (λ x fits. fits), listed))))))))))
+    (certificate_fits t.specs rest.0 specs, (stable_view, (stable_place, (stable_head, (digest_is, (list_fits check_fields check_fields.Fits 0 16 t.checks rest.1 checks (λ x fits. fits), listed))))))))))
 
 pub change_fits : (c : Signed Change) → is_change_in_role c ≡ true → AreOfClients c → IsChangeRead c.stmt → change_fields.Fits (change_spelled c.stmt)
 unfolding change_fields

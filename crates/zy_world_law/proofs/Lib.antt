@@ -13,9 +13,14 @@ pub mod KeptOrHeard
 pub mod ToldSteps
 pub mod CommitStays
 pub mod ReplicaStep
+pub mod GainsKept
+pub mod FineSteps
 pub mod NotForged
 pub mod Vouched
-pub mod EventRuns
+pub mod EventHeld
+pub mod IdleFrames
+pub mod HonestReports
+pub mod HonestEvents
 pub mod BagStays
 pub mod TextsStay
 pub mod Agreeing
@@ -26,6 +31,7 @@ pub mod Completing
 pub mod Goings
 pub mod ClientEvent
 pub mod EachEvent
+pub mod OwnStable
 pub mod SafeFromGood
 pub mod RunsSafe
 pub mod StartGood

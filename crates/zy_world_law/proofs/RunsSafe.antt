@@ -20,9 +20,10 @@ use Rattle.zy_world_law.proofs.BagStays.{bag_good}
 use Rattle.zy_world_law.proofs.EachEvent.{event_good, after_itself}
 use Rattle.zy_world_law.proofs.Goings.{IsAfter}
 use Rattle.zy_world_law.proofs.HeldLaw.{HeldLaw}
+use Rattle.zy_world_law.proofs.StepLaws.{StepLaws}
 use Rattle.zy_world_law.proofs.SafeFromGood.{safe, grows}
 
-module _ {S : Type 0} (R : Rules S) (law : HeldLaw) where
+module _ {S : Type 0} (R : Rules S) (law : HeldLaw) (steps : StepLaws R) where
   abbrev Chain : World S → List (World S) → Type 0
   Chain w [] = Unit {0}
   Chain w (v ∷ worlds) = IsAfter R w v × Chain v worlds
@@ -39,7 +40,7 @@ module _ {S : Type 0} (R : Rules S) (law : HeldLaw) where
   went rest chains w (Goes v note) after = let here = after v note refl in (here, chains v here.good)
 
   event_chain : (rest : Rest S) → Chains rest → (event : WorldEvent) (w : World S) → IsGood R w → Chain w (goes_on (happens R w event) rest).worlds
-  event_chain rest chains event w good = went rest chains w (happens R w event) (event_good R law w good event)
+  event_chain rest chains event w good = went rest chains w (happens R w event) (event_good R law steps w good event)
 
   flow_on_chain : (rest more : Rest S) → Chains rest → Chains more → (w : World S) → IsGood R w → (o : Option ℕ) → Chain w (flow_on R w rest more o).worlds
   flow_on_chain rest more chains others w good None = chains w good
@@ -56,12 +57,12 @@ module _ {S : Type 0} (R : Rules S) (law : HeldLaw) where
   marked w good bag muted = record { good = bag_good R w w.leaves bag muted good; texts = λ d text was. was; more = []; done = sym (append-nil w.done) }
 
   dropped : (w : World S) → IsGood R w → (number : ℕ) (o : Option Mail) → IsAfter R w (dropped_if w number o)
-  dropped w good number None = after_itself R law w good
+  dropped w good number None = after_itself R law steps w good
   dropped w good number (Some mail) = marked w good (with_mail_at w number (record mail { dropped = true })).bag w.muted
 
   muted_if : (w : World S) → IsGood R w → (muted : Party → Bool) (b : Bool) → IsAfter R w (if b then record w { muted = muted } else w)
   muted_if w good muted true = marked w good w.bag muted
-  muted_if w good muted false = after_itself R law w good
+  muted_if w good muted false = after_itself R law steps w good
 
   mutes : (w : World S) → IsGood R w → (party : Party) (on : Bool) → IsAfter R w (set_muted w party on)
   mutes w good party on = muted_if w good (λ other. if same_party other party then on else w.muted other) (is_party w party)
