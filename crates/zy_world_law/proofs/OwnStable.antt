@@ -44,10 +44,10 @@ module _ {S : Type 0} (R : Rules S) (interval : ℕ) (w : World) (r : ℕ) (s : 
       proven_state w ready.lawful w.counts.local stable.view.0 (mark_at stable.place stable.head) stable.state now (backed_later some)
       (omega (arith, w.counts.sound.local_and_change, w.counts.sound.change_in_reach)) passes
 
-  module _ (state : w.state ≡ state_of R) (next : w.next ≡ next_head) (first : stable.place.0 ≡ 0 → stable.state ≡ w.state []) where
+  module _ (state : w.state ≡ state_of R) (next : w.next ≡ next_head) where
     snapshot : w.state (take stable.place.0 h) ≡ stable.state
     snapshot = elim (cases_eq stable.place.0 0) [
-      | inl none ↦ ap (λ (n : ℕ). w.state (take n h)) none ∙ ap w.state (take-zero h) ∙ sym (first none)
+      | inl none ↦ ap (λ (n : ℕ). w.state (take n h)) none ∙ ap w.state (take-zero h) ∙ sym (ready.tied.grounded.empty none)
       | inr some ↦ own_snapshot (omega (arith, some))
     ]
       where

@@ -140,7 +140,7 @@ module _ {S : Type 0} (R : Rules S) (w : World S) (good : IsGood R w) where
       let ready = (good.tied id x at).ready in
       record {
         backed = stable_backed R w.setup.interval v id x.state (history_of x.past) ready;
-        own = stable_own R w.setup.interval v id x.state (history_of x.past) ready refl refl ?;
+        own = stable_own R w.setup.interval v id x.state (history_of x.past) ready refl refl;
       }
 
   pub safe : IsSafe R w

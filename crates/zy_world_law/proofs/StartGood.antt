@@ -13,6 +13,7 @@ use Rattle.zy_law.specs.Said.{IsCorrect}
 use Rattle.zy_law.specs.Steps.{IsStart}
 use Rattle.zy_law.specs.World as law
 use Rattle.zy_law.specs.World.{Stand}
+use Rattle.zy_lawful.specs.Tied.{Agrees}
 use Rattle.zy_normal_steps.proofs.AtStart.{ready_at_start, texts_at_start, work_at_start}
 use Rattle.zy_seal.specs.Sealing.{SealerState}
 use Rattle.zy_world_law.specs.Good.{IsGood, IsTied, IsClientTied}
@@ -144,6 +145,9 @@ module _ {S : Type 0} (R : Rules S) (held : HeldLaw) (steps : StepLaws R) (setup
         stands = λ r correct. stands_first (replica_at w r) correct.honest (λ x at. ap (λ (y : Replica S). y.past) (replica_is r x at).1);
       }
 
+  agrees : Agrees R v
+  agrees = record { next = refl; digest = refl; reply = refl; state = refl }
+
   correct_at : (q : ℕ) (x : Replica S) → replica_at w q ≡ Some x → IsCorrect v q
   correct_at q x at = record { within = (replica_is q x at).0; honest = ap (λ (o : Option (Replica S)). is_none o) at }
 
@@ -156,7 +160,7 @@ module _ {S : Type 0} (R : Rules S) (held : HeldLaw) (steps : StepLaws R) (setup
       let small : q < 256 = omega (arith, here.0, setup.counts.sound.few) in
       subst (λ (y : Replica S). IsTied R w q y) (sym here.1)
       (record {
-        ready = ready_at_start R setup.interval q v (record { 0 = q }) setup.counts (keys_of setup) (sealer_at q) is.least_interval (start_lawful v begins) begins refl (correct_at q x at) refl refl refl;
+        ready = ready_at_start R setup.interval q v (record { 0 = q }) setup.counts (keys_of setup) (sealer_at q) is.least_interval (start_lawful v begins) begins agrees (correct_at q x at) refl refl refl;
         works = work_at_start R setup.interval q v (record { 0 = q }) setup.counts (keys_of setup) (sealer_at q) begins (correct_at q x at) refl refl;
         keys = refl;
         spelled = steps.spelled_first setup.interval (record { 0 = q }) setup.counts (keys_of setup) (sealer_at q) is.greatest_interval small refl;
@@ -181,7 +185,7 @@ module _ {S : Type 0} (R : Rules S) (held : HeldLaw) (steps : StepLaws R) (setup
         replicas = length-seats setup.counts.n setup.liars (starting_replica R setup);
         clients = length-seats setup.clients setup.lying_clients (starting_client setup);
         lawful = start_lawful v begins;
-        kept = texts_at_start R setup.interval first_texts v begins (record { next = refl; digest = refl; reply = refl; state = refl }) (λ head e kept. link_of first_texts head e kept);
+        kept = texts_at_start R setup.interval first_texts v begins agrees (λ head e kept. link_of first_texts head e kept);
         tied = tied;
         client_tied = client_tied;
         done = tt;
