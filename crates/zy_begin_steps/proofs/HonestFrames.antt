@@ -50,14 +50,14 @@ use Rattle.zy_begin_steps.specs.Frames.{IsHonestFrame, IsHonestlyRead, history_h
 use Rattle.zy_begin_steps.specs.Steps.{IsLawfulStep, IsWorldOf}
 
 -- only replicas' statements are held
-by_replica : (w : World) (s : Statement) (by : Party) → IsVouchedBy w s by → by ≡ Replica (record { 0 = number_of_party by })
+pub by_replica : (w : World) (s : Statement) (by : Party) → IsVouchedBy w s by → by ≡ Replica (record { 0 = number_of_party by })
 by_replica w s (Replica id) vouched = refl
 by_replica w s (Client id) vouched = absurd vouched
 
-began_held : (w : World) (b : Signed Began) → began_fields.Fits b.stmt → IsHonestPart w (part_of numbers.began began_fields b) → IsHeldPart w began_told b
+pub began_held : (w : World) (b : Signed Began) → began_fields.Fits b.stmt → IsHonestPart w (part_of numbers.began began_fields b) → IsHeldPart w began_told b
 began_held w b fits honest = subst (λ (s : Statement). IsVouchedBy w s b.by) (began_back (number_of_party b.by) b.by b.stmt fits) honest
 
-begans_held : (w : World) (list : List (Signed Began)) → All (λ b. began_fields.Fits b.stmt) list → All (IsHonestPart w) (map (part_of numbers.began began_fields) list) → All (IsHeldPart w began_told) list
+pub begans_held : (w : World) (list : List (Signed Began)) → All (λ b. began_fields.Fits b.stmt) list → All (IsHonestPart w) (map (part_of numbers.began began_fields) list) → All (IsHeldPart w began_told) list
 begans_held w list fits honest k d within =
     began_held w (get_or list k d) (fits k d within) (all_under (IsHonestPart w) (part_of numbers.began began_fields) list honest k d within)
 

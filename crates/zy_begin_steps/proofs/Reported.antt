@@ -33,7 +33,7 @@ use Rattle.zy_vframes.specs.declared.frame.ViewCert.{ViewCert}
 use Rattle.zy_view_law.specs.Held.{AreLinksKept}
 use Rattle.zy_view_steps.proofs.HeardRows.{sent_more}
 use Rattle.zy_view_steps.proofs.Leaves.{IsLawfulAttempt, IsOnWay, at_begin}
-use Rattle.zy_view_steps.specs.Rows.{IsReady}
+use Rattle.zy_view_steps.specs.Rows.{IsReady, blames}
 use Rattle.zy_begin_steps.specs.Frames.{AreLinksBrought}
 
 module _ (w : World) (counts : Counts) (interval : ℕ) where
@@ -52,11 +52,11 @@ module _ (w : World) (counts : Counts) (interval : ℕ) where
       let both = both_clear (rule_of counts interval c.stmt) (first_broken counts interval rest) clear in
       All-cons (AreLinksKept w) c rest (links_of c (All-head (AreLinksBrought w) c rest brought) both.0) (links_of_all rest (All-tail (AreLinksBrought w) c rest brought) both.1)
 
--- nothing is chosen out of a new view where a report breaks a rule
-unchosen : (counts : Counts) (interval : ℕ) (n : New) (rule : Rule) → first_broken counts interval n.changes ≡ Some rule → (cause : Cause) × (chosen_in counts interval n ≡ Err cause)
+-- Nothing is chosen out of a new view where a report breaks a rule, and that blames nobody.
+unchosen : (counts : Counts) (interval : ℕ) (n : New) (rule : Rule) → first_broken counts interval n.changes ≡ Some rule → (cause : Cause) × (chosen_in counts interval n ≡ Err cause) × (blames cause ≡ false)
 unchosen counts interval n rule broken =
     let at = by (nat_lt (length n.changes) counts.change) (nat_lt counts.change (length n.changes)) (has_repeat n.changes) (is_for_other n.view n.changes) in
-    (at.0, ap judged broken ∙ at.1)
+    (at.0, ap judged broken ∙ at.1, at.2)
   where
     choice : Choice
     choice = choice_of counts.agree (map read n.changes)
@@ -72,38 +72,38 @@ unchosen counts interval n rule broken =
     judged : Option Rule → Result Chosen Cause
     judged = unless (nat_lt (length n.changes) counts.change) (nat_lt counts.change (length n.changes)) (has_repeat n.changes) (is_for_other n.view n.changes)
 
-    by : (short long repeats others : Bool) → (cause : Cause) × (unless short long repeats others (Some rule) ≡ Err cause)
-    by true long repeats others = (causes.TooFew (length n.changes), refl)
-    by false true repeats others = (causes.Mixed, refl)
-    by false false true others = (causes.Repeat, refl)
-    by false false false true = (causes.Mixed, refl)
-    by false false false false = (causes.BadReport (number_of rule), refl)
+    by : (short long repeats others : Bool) → (cause : Cause) × (unless short long repeats others (Some rule) ≡ Err cause) × (blames cause ≡ false)
+    by true long repeats others = (causes.TooFew (length n.changes), refl, refl)
+    by false true repeats others = (causes.Mixed, refl, refl)
+    by false false true others = (causes.Repeat, refl, refl)
+    by false false false true = (causes.Mixed, refl, refl)
+    by false false false false = (causes.BadReport (number_of rule), refl, refl)
 
 module _ {S : Type 0} (R : Rules S) (s : State S) where
   -- such a new view is refused
-  pub new_refused : (new : Signed New) (rule : Rule) → first_broken s.views.counts s.views.interval new.stmt.changes ≡ Some rule → (cause : Cause) × (new_view R s new ≡ Err cause)
+  pub new_refused : (new : Signed New) (rule : Rule) → first_broken s.views.counts s.views.interval new.stmt.changes ≡ Some rule → (cause : Cause) × (new_view R s new ≡ Err cause) × (blames cause ≡ false)
   unfolding new_view
   new_refused new rule broken =
       let none = unchosen s.views.counts s.views.interval new.stmt rule broken in
-      by none.0 none.1 (is_over s.views new.stmt.view.0) (is_accepted new.stmt.view.0 s.views.accepted || leads s.views new.stmt.view.0)
+      by none.0 none.1 none.2 (is_over s.views new.stmt.view.0) (is_accepted new.stmt.view.0 s.views.accepted || leads s.views new.stmt.view.0)
     where
-      by : (cause : Cause) → chosen_in s.views.counts s.views.interval new.stmt ≡ Err cause → (over repeated : Bool)
-          → (cause : Cause) × (cond over (Err causes.OldView) (cond repeated (Err causes.Repeat) (new_view_judged R s new (chosen_in s.views.counts s.views.interval new.stmt))) ≡ Err cause)
-      by cause none true repeated = (causes.OldView, refl)
-      by cause none false true = (causes.Repeat, refl)
-      by cause none false false = (cause, ap (new_view_judged R s new) none)
+      by : (cause : Cause) → chosen_in s.views.counts s.views.interval new.stmt ≡ Err cause → blames cause ≡ false → (over repeated : Bool)
+          → (cause : Cause) × (cond over (Err causes.OldView) (cond repeated (Err causes.Repeat) (new_view_judged R s new (chosen_in s.views.counts s.views.interval new.stmt))) ≡ Err cause) × (blames cause ≡ false)
+      by cause none free true repeated = (causes.OldView, refl, refl)
+      by cause none free false true = (causes.Repeat, refl, refl)
+      by cause none free false false = (cause, ap (new_view_judged R s new) none, free)
 
   -- and so is a certificate of it
-  pub cert_refused : (cert : ViewCert) (rule : Rule) → first_broken s.views.counts s.views.interval cert.new.stmt.changes ≡ Some rule → (cause : Cause) × (view_certificate R s cert ≡ Err cause)
+  pub cert_refused : (cert : ViewCert) (rule : Rule) → first_broken s.views.counts s.views.interval cert.new.stmt.changes ≡ Some rule → (cause : Cause) × (view_certificate R s cert ≡ Err cause) × (blames cause ≡ false)
   unfolding view_certificate
   cert_refused cert rule broken =
       let none = unchosen s.views.counts s.views.interval cert.new.stmt rule broken in
-      by none.0 none.1 (is_over s.views cert.new.stmt.view.0)
+      by none.0 none.1 none.2 (is_over s.views cert.new.stmt.view.0)
     where
-      by : (cause : Cause) → chosen_in s.views.counts s.views.interval cert.new.stmt ≡ Err cause → (over : Bool)
-          → (cause : Cause) × (cond over (Err causes.OldView) (certificate_judged R s cert (chosen_in s.views.counts s.views.interval cert.new.stmt)) ≡ Err cause)
-      by cause none true = (causes.OldView, refl)
-      by cause none false = (cause, ap (certificate_judged R s cert) none)
+      by : (cause : Cause) → chosen_in s.views.counts s.views.interval cert.new.stmt ≡ Err cause → blames cause ≡ false → (over : Bool)
+          → (cause : Cause) × (cond over (Err causes.OldView) (certificate_judged R s cert (chosen_in s.views.counts s.views.interval cert.new.stmt)) ≡ Err cause) × (blames cause ≡ false)
+      by cause none free true = (causes.OldView, refl, refl)
+      by cause none free false = (cause, ap (certificate_judged R s cert) none, free)
 
 module _ {S : Type 0} (R : Rules S) (interval : ℕ) (w : World) (r : ℕ) (s : State S) (history : List Entry) (ready : IsReady R interval w r s history) where
   certificate_sent : (vote : Signed Change) (cert : Option ViewCert) → IsOnWay R interval w r s history ready (send_cert vote.by cert (begin s))

@@ -8,14 +8,14 @@ use Rattle.zy_base.specs.declared.cause.Cause.{Cause}
 use Rattle.zy_base.specs.declared.cause.Cause.TheVariants as causes
 use Rattle.zy_base.specs.declared.counts.Counts.{Counts}
 use Rattle.zy_base.specs.declared.step.Answer.{Answer}
-use Rattle.zy_base.specs.declared.step.Answer.TheVariants.{Taken}
+use Rattle.zy_base.specs.declared.step.Answer.TheVariants.{Refused, Taken}
 use Rattle.zy_begin_steps.proofs.Reported.{cert_refused, new_refused}
 use Rattle.zy_begin_steps.specs.Steps.{IsLawfulStep, IsWorldOf}
 use Rattle.zy_chain.specs.declared.entry.Entry.{Entry}
 use Rattle.zy_change.specs.Views.{has_begun, is_from, slot_of}
 use Rattle.zy_confirm.specs.Judging.{first_broken, or_later}
 use Rattle.zy_evidence.proofs.ProofLemmas.{all_clear}
-use Rattle.zy_evidence.specs.Rules.{rule_of}
+use Rattle.zy_evidence.specs.Rules.{number_of, rule_of}
 use Rattle.zy_evidence.specs.declared.rule.Rule.{Rule}
 use Rattle.zy_law.specs.World.{World}
 use Rattle.zy_parts.specs.declared.reports.Change.{Change}
@@ -34,13 +34,15 @@ use Rattle.zy_vframes.specs.declared.frame.ViewCert.{ViewCert}
 use Rattle.zy_vframes.specs.declared.frame.ViewFrame.{ViewFrame}
 use Rattle.zy_vframes.specs.declared.frame.ViewFrame.TheVariants as frames
 use Rattle.zy_view_law.specs.Texts.{Texts}
-use Rattle.zy_view_steps.specs.Rows.{IsReady}
+use Rattle.zy_view_steps.specs.Rows.{IsReady, blames}
 use Rattle.zy_world_law.proofs.DecodedReports.{AreOfClients, TellsOfClients}
 
 -- nothing is said, gained or changed
 pub record IsIdle {S : Type 0} (s : State S) (o : Outcome S) : Type 0 where
   pub state : o.state ≡ s
   pub acts : o.deeds.acts ≡ []
+  -- and if it is refused, that blames nobody
+  pub blameless : (cause : Cause) → o.answer ≡ Refused cause → blames cause ≡ false
 
 -- such a step is lawful
 pub idle_lawful : {S : Type 0} (R : Rules S) (interval : ℕ) (texts : Texts) (w : World) (r : ℕ) (s : State S) (history : List Entry) → IsReady R interval w r s history → IsWorldOf R interval w texts → (o : Outcome S) → IsIdle s o
@@ -70,21 +72,24 @@ module _ (counts : Counts) (interval : ℕ) where
 -- ---- the rows
 
 module _ {S : Type 0} (R : Rules S) (s : State S) where
-  refused_idle : (attempt : Attempt S) (cause : Cause) → attempt ≡ Err cause → IsIdle s (finished R s attempt)
-  refused_idle attempt cause is = subst (λ (a : Attempt S). IsIdle s (finished R s a)) (sym is) (record { state = refl; acts = refl })
+  by_cause : (cause : Cause) → blames cause ≡ false → IsIdle s (refused cause s)
+  by_cause cause free = record { state = refl; acts = refl; blameless = λ other is. let same : cause ≡ other = cc in subst (λ (c : Cause). blames c ≡ false) same free }
+
+  refused_idle : (attempt : Attempt S) (cause : Cause) → attempt ≡ Err cause → blames cause ≡ false → IsIdle s (finished R s attempt)
+  refused_idle attempt cause is free = subst (λ (a : Attempt S). IsIdle s (finished R s a)) (sym is) (by_cause cause free)
 
   -- the certificate of the own view is sent at most
   sent_idle : (vote : Signed Change) (cert : Option ViewCert) → IsIdle s (finished R s (goes Taken (send_cert vote.by cert (begin s))))
   sent_idle vote None = by (is_overspent s.sealer)
     where
       by : (over : Bool) → IsIdle s (cond over (refused causes.KeySpent s) (ends Taken (begin s)))
-      by true = record { state = refl; acts = refl }
-      by false = record { state = refl; acts = refl }
+      by true = by_cause causes.KeySpent refl
+      by false = record { state = refl; acts = refl; blameless = λ cause is. absurd cc }
   sent_idle vote (Some cert) = by (is_overspent s.sealer)
     where
       by : (over : Bool) → IsIdle s (cond over (refused causes.KeySpent s) (ends Taken (send_cert vote.by (Some cert) (begin s))))
-      by true = record { state = refl; acts = refl }
-      by false = record { state = refl; acts = refl }
+      by true = by_cause causes.KeySpent refl
+      by false = record { state = refl; acts = refl; blameless = λ cause is. absurd cc }
 
   change_idle : (vote : Signed Change) (rule : Rule) → rule_of s.views.counts s.views.interval vote.stmt ≡ Some rule → IsIdle s (finished R s (change R s vote))
   unfolding change
@@ -93,10 +98,10 @@ module _ {S : Type 0} (R : Rules S) (s : State S) where
     where
       by : (old begun repeated : Bool) (found : Option Rule) → found ≡ Some rule
           → IsIdle s (finished R s (cond old (Err causes.OldView) (cond begun (goes Taken (send_cert vote.by s.views.view_cert (begin s))) (cond repeated (Err causes.Repeat) (change_judged R s vote found)))))
-      by true begun repeated found is = record { state = refl; acts = refl }
+      by true begun repeated found is = by_cause causes.OldView refl
       by false true repeated found is = sent_idle vote s.views.view_cert
-      by false false true found is = record { state = refl; acts = refl }
-      by false false false (Some other) is = record { state = refl; acts = refl }
+      by false false true found is = by_cause causes.Repeat refl
+      by false false false (Some other) is = by_cause (causes.BadReport (number_of other)) refl
       by false false false None is = absurd cc
 
   abbrev Splits : ViewFrame → Type 0
@@ -113,12 +118,12 @@ module _ {S : Type 0} (R : Rules S) (s : State S) where
     where
       by : (rule : Option Rule) → first_broken s.views.counts s.views.interval new.stmt.changes ≡ rule → Splits (frames.NewView new)
       by None clear = inl (all_of_clients s.views.counts s.views.interval new.stmt.changes clear)
-      by (Some rule) broken = let end = new_refused R s new rule broken in inr (refused_idle _ end.0 end.1)
+      by (Some rule) broken = let end = new_refused R s new rule broken in inr (refused_idle _ end.0 end.1 end.2)
   of_clients_or_idle (frames.ViewConfirm began) = inl tt
   of_clients_or_idle (frames.ViewCert cert) = by (first_broken s.views.counts s.views.interval cert.new.stmt.changes) refl
     where
       by : (rule : Option Rule) → first_broken s.views.counts s.views.interval cert.new.stmt.changes ≡ rule → Splits (frames.ViewCert cert)
       by None clear = inl (all_of_clients s.views.counts s.views.interval cert.new.stmt.changes clear)
-      by (Some rule) broken = let end = cert_refused R s cert rule broken in inr (refused_idle _ end.0 end.1)
+      by (Some rule) broken = let end = cert_refused R s cert rule broken in inr (refused_idle _ end.0 end.1 end.2)
   of_clients_or_idle (frames.Fetch fetch) = inl tt
   of_clients_or_idle (frames.State place snapshot) = inl tt

@@ -34,5 +34,10 @@ pub mod EachEvent
 pub mod OwnStable
 pub mod SafeFromGood
 pub mod RunsSafe
+pub mod RowCauses
+pub mod AttemptAnswers
+pub mod Blameless
+pub mod NoConflict
+pub mod BlamelessEvents
 pub mod StartGood
 pub mod SmallRun

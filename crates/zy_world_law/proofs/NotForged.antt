@@ -47,7 +47,7 @@ module _ {S : Type 0} (w : World S) where
   abbrev WasSaid : Part → Type 0
   WasSaid part = answer_to (keys_of w.setup) part ≡ answers.Yes → IsSaid (texts_said w part.by) part.text
 
-  was_said : (part : Part) → is_forged w part ≡ false → WasSaid part
+  pub was_said : (part : Part) → is_forged w part ≡ false → WasSaid part
   was_said part is signed = verified_said (is_yes (answer_to (keys_of w.setup) part)) (texts_said w part.by) part.text (ap is_yes signed) is
 
   all_said : (parts : List Part) → AllByRecursion (λ (part : Part). is_forged w part ≡ false) parts → AllByRecursion WasSaid parts

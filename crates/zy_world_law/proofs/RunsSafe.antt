@@ -12,7 +12,7 @@ use Rattle.zy_world_law.specs.Events.{Happened, happens}
 use Rattle.zy_world_law.specs.Events.Happened.{Goes, Breaks}
 use Rattle.zy_world_law.specs.Good.{IsGood}
 use Rattle.zy_world_law.specs.Runs.{Rest, comes_to, goes_on, flow_on, flow, run_line, run}
-use Rattle.zy_world_law.specs.Safe.{IsSafe, AllGrow}
+use Rattle.zy_world_law.specs.Safe.{AllGrow}
 use Rattle.zy_world_law.specs.World.{World, Mail, is_party, same_party, next_undelivered, drop_frame, dropped_if, mail_at, with_mail_at, set_muted}
 use Rattle.zy_world_law.specs.declared.event.WorldEvent.{WorldEvent}
 use Rattle.zy_world_law.specs.declared.event.WorldEvent.TheVariants as events
@@ -21,7 +21,7 @@ use Rattle.zy_world_law.proofs.EachEvent.{event_good, after_itself}
 use Rattle.zy_world_law.proofs.Goings.{IsAfter}
 use Rattle.zy_world_law.proofs.HeldLaw.{HeldLaw}
 use Rattle.zy_world_law.proofs.StepLaws.{StepLaws}
-use Rattle.zy_world_law.proofs.SafeFromGood.{safe, grows}
+use Rattle.zy_world_law.proofs.SafeFromGood.{grows}
 
 module _ {S : Type 0} (R : Rules S) (law : HeldLaw) (steps : StepLaws R) where
   abbrev Chain : World S → List (World S) → Type 0
@@ -90,16 +90,17 @@ module _ {S : Type 0} (R : Rules S) (law : HeldLaw) (steps : StepLaws R) where
 
   -- ---- safety
 
-  chain_safe : (w : World S) (worlds : List (World S)) → Chain w worlds → AllByRecursion (IsSafe R) worlds
-  chain_safe w [] chain = tt
-  chain_safe w (v ∷ worlds) chain = (safe R v chain.0.good, chain_safe v worlds chain.1)
-
   chain_grows : (w : World S) (worlds : List (World S)) → Chain w worlds → AllGrow R w worlds
   chain_grows w [] chain = tt
   chain_grows w (v ∷ worlds) chain = (grows R w v chain.0, chain_grows v worlds chain.1)
 
-  pub run_safe : (w : World S) → IsGood R w → (schedule : List Line) → AllByRecursion (IsSafe R) (w ∷ (run R schedule w).worlds)
-  run_safe w good schedule = (safe R w good, chain_safe w (run R schedule w).worlds (run_chain schedule w good))
-
   pub run_grows : (w : World S) → IsGood R w → (schedule : List Line) → AllGrow R w (run R schedule w).worlds
   run_grows w good schedule = chain_grows w (run R schedule w).worlds (run_chain schedule w good)
+
+  -- what holds of each good world holds of each world of a run
+  chain_all : (P : World S → Type 0) → ((w : World S) → IsGood R w → P w) → (w : World S) (worlds : List (World S)) → Chain w worlds → AllByRecursion P worlds
+  chain_all P holds w [] chain = tt
+  chain_all P holds w (v ∷ worlds) chain = (holds v chain.0.good, chain_all P holds v worlds chain.1)
+
+  pub run_all : (P : World S → Type 0) → ((w : World S) → IsGood R w → P w) → (w : World S) → IsGood R w → (schedule : List Line) → AllByRecursion P (w ∷ (run R schedule w).worlds)
+  run_all P holds w good schedule = (holds w good, chain_all P holds w (run R schedule w).worlds (run_chain schedule w good))
