@@ -73,7 +73,7 @@ module _ {S : Type 0} (R : Rules S) (interval : ℕ) (texts : Texts) (w : World)
 
   -- ---- the record of a client is that of its last entry
 
-  record_is : (client : ℕ) (known : Known) → known_in R s.kept client ≡ Some known → IsLastOf R history client known
+  pub record_is : (client : ℕ) (known : Known) → known_in R s.kept client ≡ Some known → IsLastOf R history client known
   record_is client known is =
       let standing = ready.tied.standing in
       let here : Moment w = record { by = r; correct = ready.correct; number = standing.number; stand = record { view = s.views.last_view.0; history = history }; stood = standing.stood } in

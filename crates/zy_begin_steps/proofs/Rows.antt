@@ -80,7 +80,7 @@ module _ {S : Type 0} (R : Rules S) (interval : ℕ) (texts : Texts) (w : World)
   abbrev start : IsOnWay R interval w r s history ready (begin s)
   start = at_begin R interval w r s history ready
 
-  chosen_of : (n : New) (chosen : Chosen) → All (IsHeldChange w) n.changes → chosen_in s.views.counts s.views.interval n ≡ Ok chosen → IsChosenNew interval w n chosen
+  pub chosen_of : (n : New) (chosen : Chosen) → All (IsHeldChange w) n.changes → chosen_in s.views.counts s.views.interval n ≡ Ok chosen → IsChosenNew interval w n chosen
   chosen_of n chosen held is =
       judged_new w ready.lawful ready.links s.views.counts interval ready.tied.standing.counts n held chosen
       (ap (λ (k : ℕ). chosen_in s.views.counts k n) (sym ready.interval_is) ∙ is)

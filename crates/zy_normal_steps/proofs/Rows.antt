@@ -93,11 +93,11 @@ stays_with b place change =
     (λ near. record { interval = refl; stable = refl; proof = refl })
     (λ not_near. cond_both (nat_eq (height b place) (2 * b.interval)) far b (Stays b) (λ far. record { interval = refl; stable = refl; proof = refl }) (λ not_far. record { interval = refl; stable = refl; proof = refl }))
 
-spec_stays : (b : Board) (vote : Signed Spec) → Stays b (put_in.with_spec b vote)
+pub spec_stays : (b : Board) (vote : Signed Spec) → Stays b (put_in.with_spec b vote)
 unfolding put_in.with_spec
 spec_stays b vote = stays_with b vote.stmt.place.0 (put_spec vote)
 
-check_stays : (b : Board) (vote : Signed Check) → Stays b (put_in.with_check b vote)
+pub check_stays : (b : Board) (vote : Signed Check) → Stays b (put_in.with_check b vote)
 unfolding put_in.with_check
 check_stays b vote = stays_with b vote.stmt.place.0 (put_check vote)
 

@@ -106,7 +106,7 @@ module _ {S : Type 0} (R : Rules S) (interval : ℕ) (w : World) (r : ℕ) (s : 
 
   -- ---- the own hate, and the timers
 
-  said_hate : (said : Option (Signed Hate)) → IsOnWay R interval w r s history ready (say_hate R s said)
+  pub said_hate : (said : Option (Signed Hate)) → IsOnWay R interval w r s history ready (say_hate R s said)
   said_hate (Some said) = sent_more (begin s) _ (at_begin R interval w r s history ready)
   said_hate None =
       let start = at_begin R interval w r s history ready in
@@ -194,7 +194,7 @@ module _ {S : Type 0} (R : Rules S) (interval : ℕ) (w : World) (r : ℕ) (s : 
           waiting = ready.tied.hearing.waiting;
         }
 
-    kept_on : rule_of s.views.counts s.views.interval vote.stmt ≡ None → IsOnWay R interval w r s history ready (begin kept_state)
+    pub kept_on : rule_of s.views.counts s.views.interval vote.stmt ≡ None → IsOnWay R interval w r s history ready (begin kept_state)
     kept_on clear =
         record {
           world = w;
@@ -217,7 +217,7 @@ module _ {S : Type 0} (R : Rules S) (interval : ℕ) (w : World) (r : ℕ) (s : 
     mode_is (Active own) begun same = let is : nat_eq vote.stmt.view.0 own.0 ≡ true = eq-eqb vote.stmt.view.0 own.0 same in absurd cc
     mode_is (Leaving own) begun same = ap (λ (n : ℕ). Leaving (record { 0 = n })) (sym same)
 
-    least_later : is_left_behind (with_change vote s.views) ≡ true → own_view s.views < (least_above (with_change vote s.views)).0
+    pub least_later : is_left_behind (with_change vote s.views) ≡ true → own_view s.views < (least_above (with_change vote s.views)).0
     least_later behind =
         let own = own_view s.views in
         first_above own (views_above own (with_change vote s.views).changes)

@@ -1,0 +1,16 @@
+mod Adopts
+mod AtStart
+mod BeginRows
+mod Decoded
+mod DecodedFrames
+mod Gathers
+mod Leaves
+mod Reports
+mod Runs
+mod SameKeys
+mod SaidBack
+mod Sizes
+mod Slots
+mod ViewRows
+mod WholeSteps
+mod Working
