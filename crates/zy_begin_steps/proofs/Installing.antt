@@ -1,6 +1,6 @@
 -- A snapshot comes for which a certificate waits: what it shows is installed, and the choice is adopted from there, as one act.
 use Rattle.std.proofs.Common.{◌≡◌, ℕ, ◌-◌, ◌^◌, ◌<◌, ◌≤◌, nat_eq, nat_lt, Bool, true, false, cond, List, [], ◌++◌, length, map, take, drop, Option, Some, None, Ok, Err, refl, sym, ap, ◌∙◌, subst, arith}
-use Rattle.std.specs.Prelude.{All, IfSome, slice_get, unwrap_or}
+use Rattle.std.specs.Prelude.{All, IfSome, Result, if◌then◌else◌, option_map, slice_get, unwrap_or}
 use Rattle.std.proofs.Math.Seq.{drop-nil, take-nil}
 use Rattle.std.proofs.lemmas.Bool.{le-leb, le-ltb, ltb-true}
 use Rattle.std.proofs.lemmas.List.{take_all}
@@ -18,8 +18,8 @@ use Rattle.zy_exec.specs.Installed.{IsInstalled, IsRunnable, IsShown}
 use Rattle.zy_exec.specs.Kept.{Kept, StandsFor, settled}
 use Rattle.zy_chain.specs.Heads.{head_of}
 use Rattle.zy_exec.specs.Replay.{Point, along, origin}
-use Rattle.zy_exec.specs.Snapshot.{snapshot_of}
-use Rattle.zy_wire.specs.Spelling.{IsBytes}
+use Rattle.zy_exec.specs.Snapshot.{snapshot_fields, snapshot_of}
+use Rattle.zy_wire.specs.Spelling.{whole}
 use Rattle.zy_parts.specs.declared.reports.Told.{Told}
 use Rattle.zy_parts.specs.declared.statements.Check.{Check}
 use Rattle.zy_table.specs.Adopting.{common_up_to, common_with, entries_between, taken_over, verdict_beside, verdict_of}
@@ -38,7 +38,11 @@ use Rattle.zy_change.specs.Views.{own_view}
 use Rattle.zy_check.specs.States.{state_cause}
 use Rattle.zy_change.specs.declared.kept.Waiting.{Waiting}
 use Rattle.zy_evidence.specs.WellFormed.{IsWellFormedChange}
-use Rattle.zy_exec.specs.Showing.{point_in}
+use Rattle.zy_exec.specs.Reading.{is_rising}
+use Rattle.zy_exec.specs.Showing.{point_in, point_of, slots_of}
+use Rattle.zy_exec.specs.declared.known.Known.{Known}
+use Rattle.zy_exec.specs.declared.row.Row.{Row}
+use Rattle.zy_base.specs.declared.frame_fault.FrameFault.{FrameFault}
 use Rattle.zy_law.proofs.QuorumLemmas.{All_at}
 use Rattle.zy_law.specs.Steps.{MayStand, after_standing}
 use Rattle.zy_law.specs.World.{World}
@@ -133,22 +137,54 @@ IsReading {S} R bytes =
     (place : Place) (head : Digest) (point : Point S) (interval : ℕ) → place.0 < 2 ^ 62 → point_in R place head bytes ≡ Some point
     → (point.place ≡ place.0) × (point.head ≡ head) × StandsByBytes R (record { place = place.0; head = head }) bytes (kept_at interval point)
 
--- so it is by the laws of snapshots
+-- whatever bytes show is at this place, with this head
+shown_there : {S : Type 0} (R : Rules S) (place : Place) (head : Digest) (bytes : List ℕ) (point : Point S) → point_in R place head bytes ≡ Some point → (point.place ≡ place.0) × (point.head ≡ head)
+unfolding point_in
+shown_there {S} R place head bytes point = of (whole snapshot_fields bytes)
+  where
+    by : (rises : Bool) (read : Option S) (rows : List Row) → (if rises then option_map (λ state. record { place = place.0; head = head; state = state; known = slots_of rows }) read else None) ≡ Some point
+        → (point.place ≡ place.0) × (point.head ≡ head)
+    by false read rows is = absurd cc
+    by true None rows is = absurd cc
+    by true (Some state) rows is = let same = same_Some _ point is in (ap (λ (p : Point S). p.place) (sym same), ap (λ (p : Point S). p.head) (sym same))
+
+    of : (read : Result (List Row × List ℕ) FrameFault) → point_of R place head read ≡ Some point → (point.place ≡ place.0) × (point.head ≡ head)
+    of (Err fault) is = absurd cc
+    of (Ok parts) is = by (is_rising 0 parts.0) (R.read parts.1) parts.0 is
+
+-- a snapshot tells neither place nor head
+snapshot_there : {S : Type 0} (R : Rules S) (p : Point S) (place : ℕ) (head : Digest) → snapshot_of R (record { place = place; head = head; state = p.state; known = p.known }) ≡ snapshot_of R p
+unfolding snapshot_of
+snapshot_there R p place head = refl
+
+-- So it is by the laws of snapshots: where the bytes are the snapshot of such a list, they show what the list leads to.
 pub reading_of : {S : Type 0} (IsState : S → Type 0) (R : Rules S)
-    → ((place : Place) (head : Digest) (bytes : List ℕ) → IsBytes bytes → (p : Point S) → point_in R place head bytes ≡ Some p → IsShown IsState p × (snapshot_of R p ≡ bytes) × (p.place ≡ place.0) × (p.head ≡ head))
+    → ((place : Place) (head : Digest) (p : Point S) → IsShown IsState p → point_in R place head (snapshot_of R p) ≡ Some (record { place = place.0; head = head; state = p.state; known = p.known }))
+    → ((history : List Entry) → All IsRunnable history → length history < 2 ^ 62 → IsShown IsState (along R (origin R) history))
     → ((interval place : ℕ) (head : Digest) (bytes : List ℕ) (k : Kept S) (history : List Entry) → IsInstalled IsState R interval place head bytes k → All IsRunnable history → place < 2 ^ 62
     → length history ≡ place → head_of history ≡ head → snapshot_of R (along R (origin R) history) ≡ bytes → StandsFor R k history)
-    → (bytes : List ℕ) → IsBytes bytes → IsReading R bytes
-reading_of IsState R shows stands bytes spelled place head point interval within shown =
-    let is = shows place head bytes spelled point shown in (
-      is.2,
-      is.3,
+    → (bytes : List ℕ) → IsReading R bytes
+reading_of {S} IsState R shows leads stands bytes place head point interval within shown =
+    let there = shown_there R place head bytes point shown in (
+      there.0,
+      there.1,
       record {
-        place = is.2;
+        place = there.0;
         above = refl;
         stands = λ list runnable long head_is snapshot.
+            let last : Point S = along R (origin R) list in
+            let led : IsShown IsState last = leads list runnable (omega (arith, long, within)) in
+            let again = subst (λ (b : List ℕ). point_in R place head b ≡ Some (record { place = place.0; head = head; state = last.state; known = last.known })) snapshot (shows place head last led) in
+            let same = same_Some _ point (sym again ∙ shown) in
             stands interval place.0 head bytes (kept_at interval point) list
-            (record { interval_is = refl; place_is = is.2; head_is = is.3; nothing_above = refl; shown = is.0; spelled = is.1 }) runnable within long head_is snapshot;
+            (record {
+              interval_is = refl;
+              place_is = there.0;
+              head_is = there.1;
+              nothing_above = refl;
+              shown = subst (IsShown IsState) same (record { all_clients = led.all_clients; in_range = led.in_range; is_state = led.is_state });
+              spelled = ap (snapshot_of R) (sym same) ∙ snapshot_there R last place.0 head ∙ snapshot;
+            }) runnable within long head_is snapshot;
       },
     )
 

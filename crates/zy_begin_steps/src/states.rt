@@ -10,7 +10,6 @@ ghost use Rattle.zy_table.specs.Fetching.{state_transfer};
 ghost use Rattle.zy_table.specs.State.{State};
 ghost use Rattle.zy_view_law.specs.Texts.{IsKept, Texts, digest_of};
 ghost use Rattle.zy_view_steps.specs.Rows.{IsReady, blames};
-ghost use Rattle.zy_wire.specs.Spelling.{IsBytes};
 ghost use Rattle.zy_begin_steps.specs.Steps.{IsLawfulStep, IsWorldOf, history_from};
 
 use zy_base::Machine;
@@ -20,8 +19,8 @@ use zy_exec::{installing, showing};
 /// list for which the snapshot stands, as it is read out of the kept texts. Where the snapshot is refused nothing changes,
 /// and of what blames others there is only that the bytes that came aren't those that are wanted.
 pub fn installed_states<M: Machine>()
-    ensures lawful { (interval r : ℕ) (texts : Texts) (w : World) (s : State M.State) (history : List Entry) (place : Place) (bytes : List ℕ) → IsReady M.rules interval w r s history → IsWorldOf M.rules interval w texts → IsBytes bytes → IsKept texts bytes → IsLawfulStep M.rules interval texts w r s (history_from texts s history (finished M.rules s (state_transfer M.rules s place bytes))) (finished M.rules s (state_transfer M.rules s place bytes)) }
-    ensures blame { (interval r : ℕ) (texts : Texts) (w : World) (s : State M.State) (history : List Entry) (place : Place) (bytes : List ℕ) (cause : Cause) → IsReady M.rules interval w r s history → IsWorldOf M.rules interval w texts → IsBytes bytes → IsKept texts bytes → begun M.rules (state_transfer M.rules s place bytes) ≡ Err cause → blames cause ≡ true → (wanted : Digest) × (cause ≡ WrongState wanted (digest_of bytes)) }
+    ensures lawful { (interval r : ℕ) (texts : Texts) (w : World) (s : State M.State) (history : List Entry) (place : Place) (bytes : List ℕ) → IsReady M.rules interval w r s history → IsWorldOf M.rules interval w texts → IsKept texts bytes → IsLawfulStep M.rules interval texts w r s (history_from texts s history (finished M.rules s (state_transfer M.rules s place bytes))) (finished M.rules s (state_transfer M.rules s place bytes)) }
+    ensures blame { (interval r : ℕ) (texts : Texts) (w : World) (s : State M.State) (history : List Entry) (place : Place) (bytes : List ℕ) (cause : Cause) → IsReady M.rules interval w r s history → IsWorldOf M.rules interval w texts → IsKept texts bytes → begun M.rules (state_transfer M.rules s place bytes) ≡ Err cause → blames cause ≡ true → (wanted : Digest) × (cause ≡ WrongState wanted (digest_of bytes)) }
 {
     showing::<M>();
     installing::<M>();

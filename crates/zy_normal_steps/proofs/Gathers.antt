@@ -246,6 +246,7 @@ module _ {S : Type 0} (R : Rules S) (interval : ℕ) (texts : Texts) (w : World)
               state = λ k d within. ap (λ (c : Check). c.state) (first.all_equal k d within);
             };
           };
+          empty = λ none. absurd (omega (arith, here.over));
           held = first.vouched;
           few = omega (arith, is.tied.grounded.few, length-drop n g.state.kept.entries);
           clients = All-drop (λ (e : Entry). e.client.0 < 64) n g.state.kept.entries is.tied.grounded.clients;

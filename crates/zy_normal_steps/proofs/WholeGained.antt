@@ -49,7 +49,6 @@ use Rattle.zy_view_steps.proofs.HeardRows.{order_attempt, pom_attempt}
 use Rattle.zy_view_steps.proofs.Leaves.{hate_attempt}
 use Rattle.zy_view_steps.specs.Rows.{IsReady}
 use Rattle.zy_view_steps.specs.Work.{IsAtWork}
-use Rattle.zy_wire.specs.Spelling.{IsBytes}
 use Rattle.zy_begin_steps.proofs.Adopting.{finishes_leaving}
 use Rattle.zy_begin_steps.proofs.HonestFrames as view_frames
 use Rattle.zy_begin_steps.proofs.Installing.{IsReading}
@@ -141,7 +140,7 @@ module _ {S : Type 0} (R : Rules S) (interval : ℕ) (texts : Texts) (w : World)
 
   -- ---- an event
 
-  module _ (reading : (bytes : List ℕ) → IsBytes bytes → IsReading R bytes) where
+  module _ (reading : (bytes : List ℕ) → IsReading R bytes) where
     decoded_gain : (bytes : List ℕ) (read : Result Frame FrameFault) → plain.frame_in bytes ≡ read → IsEventHeld w s (Heard bytes) → (read ≡ Err faults.Kind → IsHonestlyRead w texts s (views.frame_in bytes)) → Gains (decoded_as R s bytes read)
     decoded_gain bytes (Ok frame) is holds honest = frame_gain bytes frame is holds
     decoded_gain bytes (Err faults.Kind) is holds honest = (view_frames.read_lawful R interval texts w r s h ready kept_texts reading (views.frame_in bytes) (honest refl)).gained

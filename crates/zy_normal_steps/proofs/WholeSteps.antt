@@ -38,7 +38,6 @@ use Rattle.zy_table.specs.State.{State, is_leaving, own_view}
 use Rattle.zy_table.specs.Step.{unless}
 use Rattle.zy_table.specs.Whole.{decoded_as, hear_plain, order, order_judged, plain_row, whole_step}
 use Rattle.zy_vframes.specs.ViewFrames as views
-use Rattle.zy_wire.specs.Spelling.{IsBytes}
 use Rattle.zy_view_law.specs.Texts.{Texts}
 use Rattle.zy_view_steps.proofs.HeardRows.{order_attempt, pom_attempt}
 use Rattle.zy_view_steps.proofs.Leaves.{hate_attempt}
@@ -144,7 +143,7 @@ module _ {S : Type 0} (R : Rules S) (interval : ℕ) (texts : Texts) (w : World)
 
   -- ---- an event
 
-  module _ (reading : (bytes : List ℕ) → IsBytes bytes → IsReading R bytes) where
+  module _ (reading : (bytes : List ℕ) → IsReading R bytes) where
     decoded_fine : (bytes : List ℕ) (read : Result Frame FrameFault) → ((frame : Frame) → read ≡ Ok frame → IsHeldOnceVerified frame) → (read ≡ Err faults.Kind → IsHonestlyRead w texts s (views.frame_in bytes))
         → AreGainsKept w texts (decoded_as R s bytes read).deeds.acts → IsLawfulStep R interval texts w r s (history_decoded texts s h bytes read (decoded_as R s bytes read)) (decoded_as R s bytes read)
     decoded_fine bytes (Ok frame) held honest gains = frame_fine frame (held frame refl) gains

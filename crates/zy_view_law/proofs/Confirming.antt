@@ -151,6 +151,7 @@ module _ {S : Type 0} (R : Rules S) (interval : ℕ) (w : World) (lawful : IsLaw
             view = grounded.view;
             multiple = grounded.multiple;
             proven = grounded.proven;
+            empty = grounded.empty;
             held = grounded.held;
             few = grounded.few;
             clients = grounded.clients;

@@ -1,5 +1,5 @@
 -- What a replica keeps that begins a view is where a proven checkpoint is: its own one, or the provider's.
-use Rattle.std.proofs.Common.{◌≡◌, ℕ, ◌≤◌, List, ap, ◌∙◌, arith}
+use Rattle.std.proofs.Common.{◌≡◌, ℕ, ◌<◌, ◌≤◌, List, ap, ◌∙◌, arith}
 use Rattle.zy_base.specs.Machine.{Rules}
 use Rattle.zy_base.specs.declared.ids.View.{View}
 use Rattle.zy_chain.specs.Stretch.{Mark}
@@ -38,6 +38,7 @@ module _ {S : Type 0} (R : Rules S) (interval : ℕ) (w : World) (lawful : IsLaw
           first = λ none. let first = proven.first none in record { view = first.view; head = first.head; unproven = first.unproven };
           later = λ some. let later = proven.later some in record { certificate = later.certificate; state = later.state };
         };
+        empty = own.empty;
         held = own.held;
         few = few_entries w lawful links interval cert.new.stmt m p given R texts known k list is.list is.stands above;
         clients = entries_of_clients w lawful links interval cert.new.stmt m p given R texts known k list is.list is.stands above;
@@ -45,9 +46,9 @@ module _ {S : Type 0} (R : Rules S) (interval : ℕ) (w : World) (lawful : IsLaw
       }
 
   -- the report's
-  pub grounded_given : k.base.place ≡ p.stmt.told.stable_place.0 → k.base.head ≡ p.stmt.told.stable_head
+  pub grounded_given : 0 < p.stmt.told.stable_place.0 → k.base.place ≡ p.stmt.told.stable_place.0 → k.base.head ≡ p.stmt.told.stable_head
       → IsGrounded interval w (began_with cert chosen k (check_in p.stmt.told) p.stmt.told.checks c)
-  grounded_given place head =
+  grounded_given some place head =
       let formed = provider_formed w lawful links interval cert.new.stmt m p given in
       let proven = formed.stable in
       let of_view : p.stmt.view ≡ cert.new.stmt.view = All_at (λ x. x.stmt.view ≡ cert.new.stmt.view) cert.new.stmt.changes given.provider p given.there given.proper.of_view in
@@ -60,6 +61,7 @@ module _ {S : Type 0} (R : Rules S) (interval : ℕ) (w : World) (lawful : IsLaw
           first = λ none. let first = proven.first none in record { view = first.view; head = first.head; unproven = first.unproven };
           later = λ some. let later = proven.later some in record { certificate = later.certificate; state = later.state };
         };
+        empty = λ none. absurd (omega (arith, some, none));
         held = (provider_held w lawful links interval cert.new.stmt m p given).proofs.checks;
         few = few_entries w lawful links interval cert.new.stmt m p given R texts known k list is.list is.stands (omega (arith, place));
         clients = entries_of_clients w lawful links interval cert.new.stmt m p given R texts known k list is.list is.stands (omega (arith, place));

@@ -43,8 +43,8 @@ none_said w r silent number x says =
     let nothing : slice_get [] number ≡ Some x = ap (λ (l : List Spoken). slice_get l number) (sym silent) ∙ says in
     absurd cc
 
-pub tied_at_start : {S : Type 0} (R : Rules S) (interval r : ℕ) (w : World) (me : ReplicaId) (state : Digest) → 0 < interval → IsStart w → IsCorrect w r → me.0 ≡ r → IsTied R interval w r (core_at_start R interval w.counts me state) []
-tied_at_start {S} R interval r w me state some start correct is =
+pub tied_at_start : {S : Type 0} (R : Rules S) (interval r : ℕ) (w : World) (me : ReplicaId) (state : Digest) → 0 < interval → IsStart w → IsCorrect w r → me.0 ≡ r → state ≡ w.state [] → IsTied R interval w r (core_at_start R interval w.counts me state) []
+tied_at_start {S} R interval r w me state some start correct is told =
     let silent = start.silent r correct in
     record {
       standing = record {
@@ -69,6 +69,7 @@ tied_at_start {S} R interval r w me state some start correct is =
         view = omega arith;
         multiple = omega arith;
         proven = record { first = λ none. record { view = refl; head = refl; unproven = refl }; later = λ later. absurd (later refl) };
+        empty = λ none. told;
         held = λ k d within. absurd (omega arith);
         few = omega arith;
         clients = λ k d within. absurd (omega arith);
@@ -158,6 +159,7 @@ module _ {S : Type 0} (R : Rules S) (interval : ℕ) (w : World) (lawful : IsLaw
               first = λ none. let first = proven.first none in record { view = first.view; head = first.head; unproven = first.unproven };
               later = λ some. let later = proven.later some in record { certificate = later.certificate; state = later.state };
             };
+            empty = grounded.empty;
             held = grounded.held;
             few = omega (arith, is.room, long);
             clients = All-push (λ (x : Entry). x.client.0 < 64) c.kept.entries e grounded.clients is.client;
@@ -236,6 +238,7 @@ module _ {S : Type 0} (R : Rules S) (interval : ℕ) (w : World) (lawful : IsLaw
             view = grounded.view;
             multiple = grounded.multiple;
             proven = grounded.proven;
+            empty = grounded.empty;
             held = grounded.held;
             few = grounded.few;
             clients = grounded.clients;
@@ -290,6 +293,7 @@ module _ {S : Type 0} (R : Rules S) (interval : ℕ) (w : World) (lawful : IsLaw
             first = λ none. let first = proven.first none in record { view = first.view; head = first.head; unproven = first.unproven };
             later = λ some. let later = proven.later some in record { certificate = later.certificate; state = later.state };
           };
+          empty = grounded.empty;
           held = grounded.held;
           few = grounded.few;
           clients = grounded.clients;

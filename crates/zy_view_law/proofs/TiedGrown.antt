@@ -108,6 +108,7 @@ module _ (w : World) (asked : ℕ → List Entry) (said : ℕ → List Spoken) (
           view = is.view;
           multiple = is.multiple;
           proven = is.proven;
+          empty = is.empty;
           held = parts_more check_told c.proof is.held;
           few = is.few;
           clients = is.clients;

@@ -113,13 +113,15 @@ AreOrdersUpTo w r view bound =
 
 -- ---- what it tells
 
--- Its stable checkpoint is proven, and is where what it keeps begins: the report stands on it.
+-- Its stable checkpoint is proven, and is where what it keeps begins: the report stands on it. That of the empty history tells
+-- its snapshot.
 pub record IsGrounded {S : Type 0} (interval : ℕ) (w : World) (c : Core S) : Type 0 where
   pub place : c.kept.base.place ≡ c.stable.place.0
   pub head : c.kept.base.head ≡ c.stable.head
   pub view : c.stable.view.0 ≤ c.views.last_view.0
   pub multiple : c.stable.place.0 % interval ≡ 0
   pub proven : IsStableProven w.counts (told_by c)
+  pub empty : c.stable.place.0 ≡ 0 → c.stable.state ≡ w.state []
   pub held : All (IsHeldPart w check_told) c.proof
   pub few : length c.kept.entries ≤ 2 * interval
   pub clients : All (λ e. e.client.0 < 64) c.kept.entries

@@ -116,7 +116,7 @@ module _ {S : Type 0} (R : Rules S) (interval : ℕ) (w : World) (r : ℕ) (s : 
         record { list = over.list; read = over.read; stands = stands_settled R k list_over told.stable_place.0 above below over.stands; kept = over.kept } in
         let place : later.base.place ≡ told.stable_place.0 = settled_place R k told.stable_place.0 above below in
         begun later list_over (check_in told) told.checks is
-        (grounded_given R interval w ready.lawful ready.links texts world.links (core_of s) cert chosen later list_over (begin_with later list_over is) p given place (head_there later list_over is place))
+        (grounded_given R interval w ready.lawful ready.links texts world.links (core_of s) cert chosen later list_over (begin_with later list_over is) p given (omega arith) place (head_there later list_over is place))
 
   module _ (bytes : List ℕ) (k : Kept S) (some : 0 < told.stable_place.0) (kept : texts told.state ≡ Some bytes) (installed : StandsByBytes R (stretch_of told).base bytes k) where
     -- the list of the report's stable place, which is read out of the kept texts, and the report's entries above that
@@ -151,6 +151,6 @@ module _ {S : Type 0} (R : Rules S) (interval : ℕ) (w : World) (r : ℕ) (s : 
               subst (λ (l : List Entry). IsBegunLawfully R interval w r s cert chosen more (check_in told) told.checks l)
               whole
               (begun more list (check_in told) told.checks is
-              (grounded_given R interval w ready.lawful ready.links texts world.links (core_of s) cert chosen more list (begin_with more list is) p given installed.place (head_there more list is installed.place)));
+              (grounded_given R interval w ready.lawful ready.links texts world.links (core_of s) cert chosen more list (begin_with more list is) p given some installed.place (head_there more list is installed.place)));
           kept_too = subst (λ (l : List Entry). IsHistoryKept R interval texts l) whole is.kept;
         }

@@ -131,7 +131,7 @@ module _ {S : Type 0} (R : Rules S) where
   lawful_0 = start_lawful world_0 starts
 
   tied_0 : (r : ℕ) → r < 3 → IsTied R 1 world_0 r (core_0 r) []
-  tied_0 r small = tied_at_start R 1 r world_0 (id_of r) (state_of R []) (omega arith) starts (correct_one setting_0 r small) refl
+  tied_0 r small = tied_at_start R 1 r world_0 (id_of r) (state_of R []) (omega arith) starts (correct_one setting_0 r small) refl refl
 
   -- ---- two of them run the entry
 
@@ -331,6 +331,7 @@ module _ {S : Type 0} (R : Rules S) where
             state = all_three (λ (x : Signed Check). x.stmt.state ≡ state_of R list_1) (check_by 0) (check_by 1) (check_by 3) refl refl refl;
           };
         };
+        empty = λ none. absurd (omega arith);
         held = checks_held;
         few = omega arith;
         clients = λ k d within. absurd (omega arith);

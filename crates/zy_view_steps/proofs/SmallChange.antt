@@ -154,29 +154,29 @@ none_kept =
       stands = λ r correct. refl;
     }
 
-abbrev silent_setting : {S : Type 0} → Rules S → ℕ → Digest → Setting S
-silent_setting R interval state = small_setting R interval state [] silent_world.asked silent_world.past silent_world.kept
+abbrev silent_setting : {S : Type 0} → Rules S → ℕ → Setting S
+silent_setting R interval = small_setting R interval empty_head [] silent_world.asked silent_world.past silent_world.kept
 
-silent_stage : {S : Type 0} (R : Rules S) (interval : ℕ) (state : Digest) → 0 < interval → IsStage R interval (silent_setting R interval state) silent_world (start R interval (silent_setting R interval state))
-silent_stage {S} R interval state some =
-    record { lawful = start_lawful silent_world none_kept; links = refl; correct = correct_one (silent_setting R interval state); tied = at }
+silent_stage : {S : Type 0} (R : Rules S) (interval : ℕ) → 0 < interval → IsStage R interval (silent_setting R interval) silent_world (start R interval (silent_setting R interval))
+silent_stage {S} R interval some =
+    record { lawful = start_lawful silent_world none_kept; links = refl; correct = correct_one (silent_setting R interval); tied = at }
   where
-    at_start : (r : ℕ) → r < 3 → IsTied R interval silent_world r (core_of_one R interval state r) []
-    at_start r small = tied_at_start R interval r silent_world (id_of r) state some none_kept (correct_one (silent_setting R interval state) r small) refl
+    at_start : (r : ℕ) → r < 3 → IsTied R interval silent_world r (core_of_one R interval empty_head r) []
+    at_start r small = tied_at_start R interval r silent_world (id_of r) empty_head some none_kept (correct_one (silent_setting R interval) r small) refl refl
 
-    at : (r : ℕ) → r < 3 → IsTied R interval silent_world r (start R interval (silent_setting R interval state) r) ((silent_setting R interval state).histories r)
+    at : (r : ℕ) → r < 3 → IsTied R interval silent_world r (start R interval (silent_setting R interval) r) ((silent_setting R interval).histories r)
     at zero small = at_start 0 small
     at (suc zero) small = at_start 1 small
     at (suc (suc zero)) small = at_start 2 small
     at (suc (suc (suc r))) small = absurd (omega arith)
 
-pub small_change : {S : Type 0} (R : Rules S) (interval : ℕ) (state : Digest) → 0 < interval
+pub small_change : {S : Type 0} (R : Rules S) (interval : ℕ) → 0 < interval
     → (w : World) × (m : Mark) × IsLawful w × (w.counts.n ≡ 4) × (w.counts.f ≡ 1) × IsChosenStart w 1 m × Stood w 0 1 (record { view = 1; history = [] })
-small_change R interval state some =
-    let t = silent_setting R interval state in
-    let stage = silent_stage R interval state some in
+small_change R interval some =
+    let t = silent_setting R interval in
+    let stage = silent_stage R interval some in
     let (chosen, is) = some_chosen R interval t stage in
-    let may = begins R interval [] silent_world.asked silent_world.past silent_world.kept state stage chosen is in (
+    let may = begins R interval [] silent_world.asked silent_world.past silent_world.kept empty_head stage chosen is in (
       world_7 R interval t stage chosen is 0 [] may,
       mark_at chosen.place chosen.head,
       begun_lawful R interval t stage chosen is 0 [] may,
@@ -200,15 +200,15 @@ asked_starts =
 abbrev ran_one : List Entry
 ran_one = first_entry ∷ []
 
-module _ {S : Type 0} (R : Rules S) (interval : ℕ) (state : Digest) (some : 0 < interval) where
+module _ {S : Type 0} (R : Rules S) (interval : ℕ) (some : 0 < interval) where
   abbrev core : ℕ → Core S
-  core r = core_of_one R interval state r
+  core r = core_of_one R interval empty_head r
 
   abbrev asked_setting : Setting S
-  asked_setting = small_setting R interval state [] asked_world.asked asked_world.past asked_world.kept
+  asked_setting = small_setting R interval empty_head [] asked_world.asked asked_world.past asked_world.kept
 
   start_tied : (r : ℕ) → r < 3 → IsTied R interval asked_world r (core r) []
-  start_tied r small = tied_at_start R interval r asked_world (id_of r) state some asked_starts (correct_one asked_setting r small) refl
+  start_tied r small = tied_at_start R interval r asked_world (id_of r) empty_head some asked_starts (correct_one asked_setting r small) refl refl
 
   runs : IsRunnableNext interval asked_world 0 (core 0) [] first_entry
   runs = first_runs interval asked_world 0 (core 0) some (0, omega arith, refl) first_linked refl refl refl
@@ -223,7 +223,7 @@ module _ {S : Type 0} (R : Rules S) (interval : ℕ) (state : Digest) (some : 0 
   may = may_run R interval asked_world (start_lawful asked_world asked_starts) 0 (correct_one asked_setting 0 (omega arith)) (core 0) [] (start_tied 0 (omega arith)) (record { 0 = 0 }) refl first_entry runs
 
   abbrev ran_setting : Setting S
-  ran_setting = small_setting R interval state ran_one (λ client. ran_one) ran_past is_first_link
+  ran_setting = small_setting R interval empty_head ran_one (λ client. ran_one) ran_past is_first_link
 
   ran_stage : IsStage R interval ran_setting (world_of ran_setting) (start R interval ran_setting)
   ran_stage =
@@ -245,7 +245,7 @@ module _ {S : Type 0} (R : Rules S) (interval : ℕ) (state : Digest) (some : 0 
   change_back =
       let stage = ran_stage in
       let (chosen, is) = some_chosen R interval ran_setting stage in
-      let may = begins R interval ran_one (λ client. ran_one) ran_past is_first_link state stage chosen is in (
+      let may = begins R interval ran_one (λ client. ran_one) ran_past is_first_link empty_head stage chosen is in (
         world_7 R interval ran_setting stage chosen is 0 [] may,
         mark_at chosen.place chosen.head,
         begun_lawful R interval ran_setting stage chosen is 0 [] may,

@@ -12,7 +12,7 @@ module _ {S : Type 0} (R : Rules S) (w : World S) (leaves : Party → ℕ) (bag 
   w' = record w { leaves = leaves; bag = bag; muted = muted }
 
   tied_same : (id : ℕ) (x : Replica S) → IsTied R w id x → IsTied R w' id x
-  tied_same id x t = record { tied = t.tied; keys = t.keys; interval = t.interval; short = t.short; replies = t.replies; snapshots = t.snapshots }
+  tied_same id x t = record { ready = t.ready; works = t.works; keys = t.keys; spelled = t.spelled }
 
   backed_same : (id : ℕ) (r : Response) → IsBackedBy w id r → IsBackedBy w' id r
   backed_same id r b = record { within = b.within; said = b.said; reply = b.reply; spelled = b.spelled }
@@ -39,6 +39,7 @@ module _ {S : Type 0} (R : Rules S) (w : World S) (leaves : Party → ℕ) (bag 
         replicas = good.replicas;
         clients = good.clients;
         lawful = good.lawful;
+        kept = good.kept;
         tied = λ id x at. tied_same id x (good.tied id x at);
         client_tied = λ id x at. client_same id x (good.client_tied id x at);
         done = all_done w.done good.done;

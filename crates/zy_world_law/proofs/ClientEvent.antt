@@ -1,5 +1,5 @@
 -- An event at a correct client keeps a good world good.
-use Rattle.std.proofs.Common.{◌≡◌, inl, inr, ℕ, ◌≤◌, Bool, true, false, List, [], ◌∷◌, Option, Some, None, Ok, refl, sym, ap, ◌∙◌, subst, arith}
+use Rattle.std.proofs.Common.{◌≡◌, inl, inr, ℕ, ◌≤◌, Bool, true, false, List, [], ◌∷◌, Option, Some, None, Result, Ok, refl, sym, ap, ◌∙◌, subst, arith}
 use Rattle.std.specs.Prelude.{if◌then◌else◌}
 use Rattle.std.specs.List.{AllByRecursion}
 use Rattle.std.proofs.lemmas.Option.{same_Some}
@@ -9,6 +9,7 @@ use Rattle.zy_base.specs.declared.ids.ClientId.{ClientId}
 use Rattle.zy_base.specs.declared.ids.Digest.{Digest}
 use Rattle.zy_base.specs.declared.ids.Place.{Place}
 use Rattle.zy_base.specs.declared.ids.View.{View}
+use Rattle.zy_base.specs.declared.frame_fault.FrameFault.{FrameFault}
 use Rattle.zy_base.specs.declared.step.Event.{Event}
 use Rattle.zy_base.specs.declared.step.Event.TheVariants.{Heard}
 use Rattle.zy_cert.specs.Equal.{same_spec, spec-equal}
@@ -41,7 +42,12 @@ use Rattle.zy_world_law.specs.Events.Happened.{Goes}
 use Rattle.zy_world_law.specs.Good.{IsGood, IsClientTied, IsBackedBy, IsCommitBacked, IsKept, local_to}
 use Rattle.zy_world_law.specs.Honest.{forger_in}
 use Rattle.zy_world_law.specs.Safe.{completion_of}
-use Rattle.zy_world_law.specs.Seen.{seen, statement_in}
+use Rattle.zy_table.specs.declared.deeds.AnyFrame.TheVariants.{Plain}
+use Rattle.zy_view_law.proofs.ReadBack.{local_back}
+use Rattle.zy_view_law.specs.Told.{statement_in}
+use Rattle.zy_evidence.specs.Reading.{number_of_party}
+use Rattle.zy_world_law.specs.Reading.{either_read}
+use Rattle.zy_world_law.specs.Seen.{seen}
 use Rattle.zy_law.specs.Completed.{IsCompleted}
 use Rattle.zy_world_law.specs.Setup.{keys_of}
 use Rattle.zy_world_law.specs.World.{World, Client, Texts, client_at}
@@ -53,7 +59,6 @@ use Rattle.zy_world_law.proofs.HeldLaw.{HeldLaw}
 use Rattle.zy_world_law.proofs.KeptOrHeard.{IsSame, Comes, Tells, kept_or_brought, step_same, waited_before, completed_reply}
 use Rattle.zy_world_law.proofs.KeptTexts.{IsKeeping}
 use Rattle.zy_world_law.proofs.NotForged.{parts_said}
-use Rattle.zy_world_law.proofs.ReadBack.{local_back}
 use Rattle.zy_lawful.proofs.Goes.{all_of_both}
 use Rattle.zy_world_law.proofs.Vouched.{part_vouched}
 
@@ -74,9 +79,9 @@ heard_vouched R w s keys bytes none spec vote heard =
     let is : frame_in bytes ≡ Ok frame = ap frame_in (same_bytes_heard bytes heard.bytes heard.heard) ∙ heard.frame in
     let signed : answer_to (keys_of w.setup) (part_of numbers.local local_fields vote) ≡ answers.Yes =
     subst (λ (k : Keys). answer_to k (part_of numbers.local local_fields vote) ≡ answers.Yes) keys heard.counted.signed in
-    let said = (parts_said w bytes frame none is).0 signed in
-    let reads : statement_in (text_of numbers.local local_fields vote.by vote.stmt) ≡ local_to spec =
-    local_back vote.by vote.stmt (decoded_readable bytes frame is) ∙ ap local_at heard.counted.point in
+    let said = (parts_said w bytes (Plain frame) none (ap (λ (r : Result Frame FrameFault). either_read bytes r) is)).0 signed in
+    let reads : statement_in (number_of_party vote.by) (text_of numbers.local local_fields vote.by vote.stmt) ≡ local_to spec =
+    local_back (number_of_party vote.by) vote.by vote.stmt (decoded_readable bytes frame is) ∙ ap local_at heard.counted.point in
     part_vouched R w vote.by (text_of numbers.local local_fields vote.by vote.stmt) vote.sig (local_to spec) (ap is_replica heard.counted.by) reads signed said
 
 -- ---- the certificate that is held then

@@ -9,22 +9,24 @@ use Rattle.std.proofs.lemmas.Option.{same_Some}
 use Rattle.zy_base.specs.Machine.{Rules}
 use Rattle.zy_base.specs.declared.ids.ClientId.{ClientId}
 use Rattle.zy_base.specs.declared.step.Spoken.{Spoken}
+use Rattle.zy_begin_steps.specs.Steps.{IsWorldOf}
 use Rattle.zy_chain.specs.declared.entry.Entry.{Entry}
 use Rattle.zy_client.specs.Held.{Holds}
 use Rattle.zy_law.proofs.GrownLemmas.{completed_grown}
 use Rattle.zy_law.proofs.StepsLawful.{more_lawful}
 use Rattle.zy_law.specs.Completed.{Completion, IsCompleted}
 use Rattle.zy_law.specs.Lawful.{IsLawful}
-use Rattle.zy_law.specs.Steps.{grown}
+use Rattle.zy_law.specs.Said.{Moment}
+use Rattle.zy_law.specs.Steps.{IsGrown, grown}
 use Rattle.zy_law.specs.World as law
-use Rattle.zy_lawful.proofs.TieLemmas.{tied_grown}
-use Rattle.zy_lawful.specs.Tied as lawful
 use Rattle.zy_parts.specs.declared.signed.Signed.{Signed}
 use Rattle.zy_parts.specs.declared.statements.Ask.{Ask}
 use Rattle.zy_table.specs.ClientRows.{kept_of}
 use Rattle.zy_table.specs.ClientState.{ClientOutcome, spoken_of}
 use Rattle.zy_table.specs.declared.client.Commit.{Commit}
 use Rattle.zy_table.specs.declared.client.Response.{Response}
+use Rattle.zy_view_steps.specs.Rows.{IsReady}
+use Rattle.zy_view_steps.specs.Work.{IsAtWork}
 use Rattle.zy_world_law.specs.Events.{client_stepped, with_client, history_of}
 use Rattle.zy_world_law.specs.Good.{IsGood, IsTied, IsClientTied, IsBackedBy, IsCommitBacked, IsDone}
 use Rattle.zy_world_law.specs.Safe.{completion_of}
@@ -33,6 +35,7 @@ use Rattle.zy_world_law.specs.World.{World, Replica, Client, Completed, replica_
 use Rattle.zy_world_law.proofs.CommitStays.{commit_later}
 use Rattle.zy_world_law.proofs.KeptOrHeard.{IsSame}
 use Rattle.zy_world_law.proofs.Seats.{get_set, get_set_other, seat_of}
+use Rattle.zy_world_law.proofs.StillReady.{still_ready, still_works}
 
 module _ {S : Type 0} (R : Rules S) (w : World S) (good : IsGood R w) (id : ClientId) (x : Client) (at : client_at w id.0 ≡ Some x) (o : ClientOutcome)
     (same : IsSame x.state o.state) (holds : Holds o.state) (backed : (number : ℕ) (r : Response) → kept_of o.state number ≡ Some r → IsBackedBy w number r)
@@ -98,20 +101,34 @@ module _ {S : Type 0} (R : Rules S) (w : World S) (good : IsGood R w) (id : Clie
   seen_is : later ≡ seen R w'
   seen_is = ap (λ (f : ℕ → Bool). built f) (λ i q. liars_same q i)
 
-  lawful_after : IsLawful (seen R w')
-  lawful_after = subst IsLawful seen_is (more_lawful v good.lawful (asked_by w') v.kept asks_stay (record { more = λ d e is. is; one_text = good.lawful.one_text }))
+  grows : IsGrown v (asked_by w') v.said v.past v.kept
+  grows = record { asks = asks_stay; says = λ q i z has. has; stands = λ q i b has. has; keeps = λ d e is. is }
+
+  later_lawful : IsLawful later
+  later_lawful = more_lawful v good.lawful (asked_by w') v.kept asks_stay (record { more = λ d e is. is; one_text = good.lawful.one_text })
+
+  -- no replica stands elsewhere
+  kept_after : IsWorldOf R w.setup.interval (seen R w') w.texts
+  kept_after =
+      record {
+        agrees = record { next = refl; digest = refl; reply = refl; state = refl };
+        kept = record {
+          links = good.kept.kept.links;
+          histories = λ t.
+              let was : Moment v = record { by = t.by; correct = record { within = t.correct.within; honest = t.correct.honest }; number = t.number; stand = t.stand; stood = t.stood } in
+              good.kept.kept.histories was;
+        };
+      }
 
   tied_after : (q : ℕ) (y : Replica S) → replica_at w' q ≡ Some y → IsTied R w' q y
   tied_after q y y_at =
       let before = good.tied q y y_at in
       record {
-        tied = subst (λ (u : law.World). lawful.IsTied R u q y.state (history_of y.past)) seen_is
-            (tied_grown R v q y.state (history_of y.past) (asked_by w') v.said v.past v.kept asks_stay (λ q i z has. has) (λ q i b has. has) refl refl before.tied);
+        ready = subst (λ (u : law.World). IsReady R w.setup.interval u q y.state (history_of y.past)) seen_is
+            (still_ready R v (asked_by w') v.said v.past v.kept grows w.setup.interval q y.state refl refl (history_of y.past) later_lawful before.ready);
+        works = subst (λ (u : law.World). IsAtWork w.setup.interval u q y.state) seen_is (still_works R v (asked_by w') v.said v.past v.kept grows w.setup.interval q y.state refl refl before.works);
         keys = before.keys;
-        interval = before.interval;
-        short = before.short;
-        replies = before.replies;
-        snapshots = before.snapshots;
+        spelled = before.spelled;
       }
 
   backed_after : (number : ℕ) (r : Response) → IsBackedBy w number r → IsBackedBy w' number r
@@ -176,7 +193,8 @@ module _ {S : Type 0} (R : Rules S) (w : World S) (good : IsGood R w) (id : Clie
         setup = good.setup;
         replicas = good.replicas;
         clients = length-set w.clients id.0 (Some x') ∙ good.clients;
-        lawful = lawful_after;
+        lawful = subst IsLawful seen_is later_lawful;
+        kept = kept_after;
         tied = tied_after;
         client_tied = client_after;
         done = all_done w.done good.done;

@@ -1,14 +1,16 @@
 -- A completion rests on responses, or local commits of a certificate, of so many different replicas.
-use Rattle.std.proofs.Common.{◌≡◌, ℕ, ◌+◌, ◌<◌, ◌≤◌, Bool, true, false, List, [], ◌∷◌, ◌++◌, length, get_or, Option, Some, None, refl, sym, ap, ◌∙◌, subst, arith}
+use Rattle.std.proofs.Common.{◌≡◌, ℕ, ◌+◌, ◌<◌, ◌≤◌, ◌^◌, Bool, true, false, List, [], ◌∷◌, ◌++◌, length, get_or, Option, Some, None, refl, sym, ap, ◌∙◌, subst, arith}
 use Rattle.std.specs.Prelude.{slice_get, if◌then◌else◌}
 use Rattle.std.specs.List.{AllByRecursion}
 use Rattle.std.proofs.lemmas.List.{length-append}
 use Rattle.std.proofs.lemmas.Option.{slice_get_within}
 use Rattle.sha2.specs.Sha256.{sha256}
+use Rattle.std.proofs.lemmas.Nat.{from_be_bytes-to_be_bytes_4}
 use Rattle.zy_base.specs.Machine.{Rules}
 use Rattle.zy_base.specs.declared.counts.Counts.{Counts}
 use Rattle.zy_base.specs.declared.ids.ClientId.{ClientId}
 use Rattle.zy_base.specs.declared.ids.Digest.{Digest}
+use Rattle.zy_base.specs.declared.ids.Party.{Party}
 use Rattle.zy_base.specs.declared.ids.Party.TheVariants as parties
 use Rattle.zy_base.specs.declared.step.Event.{Event}
 use Rattle.zy_cert.specs.Equal.{spec-equal}
@@ -37,14 +39,22 @@ use Rattle.zy_world_law.specs.Events.{completed_by}
 use Rattle.zy_world_law.specs.Good.{IsGood, IsClientTied, IsBackedBy, IsCommitBacked, local_to}
 use Rattle.zy_world_law.specs.Safe.{completion_of}
 use Rattle.zy_world_law.specs.Seen.{seen}
+use Rattle.zy_view_law.proofs.ReadBack.{spec_back}
+use Rattle.zy_view_law.specs.Told.{statement_in}
+use Rattle.zy_view_steps.proofs.AtWork.{told_alike}
 use Rattle.zy_world_law.specs.World.{World, Client, client_at}
 use Rattle.zy_world_law.proofs.Agreeing.{Picked, picked, rising_differ}
 use Rattle.zy_world_law.proofs.HeldLaw.{HeldLaw}
 use Rattle.zy_world_law.proofs.KeptOrHeard.{IsSame}
-use Rattle.zy_world_law.proofs.ReadBack.{spec_back}
 use Rattle.zy_world_law.proofs.Seats.{seat_of}
 use Rattle.zy_lawful.proofs.Goes.{all_of_both}
 use Rattle.zy_world_law.proofs.Vouched.{text_vouched}
+
+-- ---- what a response to a client that there may be says
+
+spec_read : (r : ℕ) (by : Party) (spec : Spec) → spec.client.0 < 64 → spec_fields.Fits spec → statement_in r (text_of numbers.spec spec_fields by spec) ≡ spec_statement spec
+spec_read r by spec small fits =
+    spec_back r by spec (subst (λ (n : ℕ). spec_fields.Fits (record spec { client = record { 0 = n } })) (sym (from_be_bytes-to_be_bytes_4 spec.client.0 (omega arith))) fits) ∙ sym (told_alike spec small)
 
 -- ---- equal responses
 
@@ -71,7 +81,7 @@ module _ {S : Type 0} (R : Rules S) (w : World S) (good : IsGood R w) (id : Clie
   vouched : (number : ℕ) (r : Response) → IsBackedBy w number r → r.spec.stmt.client.0 < 64 → IsVouched (seen R w) (spec_statement r.spec.stmt) number
   vouched number r b client =
       text_vouched R w number (text_of numbers.spec spec_fields (parties.Replica (record { 0 = number })) r.spec.stmt) (spec_statement r.spec.stmt) b.within b.said
-      (spec_back (parties.Replica (record { 0 = number })) r.spec.stmt (b.spelled (omega (arith, client))))
+      (spec_read number (parties.Replica (record { 0 = number })) r.spec.stmt client (b.spelled (omega (arith, client))))
 
   module _ (waiting : Signed Ask) (held : AreHeld t waiting) where
     vouched_at : (spec : Spec) (number : ℕ) → number < length t.responses → agrees spec (get_or t.responses number None) ≡ true → IsVouched (seen R w) (spec_statement spec) (0 + number)

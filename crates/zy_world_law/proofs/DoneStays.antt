@@ -33,7 +33,8 @@ module _ {S : Type 0} (R : Rules S) (w : World S) (good : IsGood R w) (id : Clie
         replicas = good.replicas;
         clients = good.clients;
         lawful = good.lawful;
-        tied = λ q x at. let t = good.tied q x at in record { tied = t.tied; keys = t.keys; interval = t.interval; short = t.short; replies = t.replies; snapshots = t.snapshots };
+        kept = good.kept;
+        tied = λ q x at. let t = good.tied q x at in record { ready = t.ready; works = t.works; keys = t.keys; spelled = t.spelled };
         client_tied = λ q x at. let t = good.client_tied q x at in
             record {
               me = t.me;

@@ -1,7 +1,7 @@
 -- Each honest event keeps a good world good.
-use Rattle.zy_table.specs.Step.{step}
-use Rattle.std.proofs.Common.{append-nil, ◌≡◌, ℕ, Bool, true, false, ◌&&◌, List, [], ◌∷◌, Option, Some, None, Result, refl, sym, ap, ◌∙◌, subst}
-use Rattle.std.specs.Prelude.{if◌then◌else◌, slice_get, unwrap_or, nat_lt}
+use Rattle.zy_table.specs.Whole.{whole_step}
+use Rattle.std.proofs.Common.{append-nil, ◌≡◌, inl, ℕ, ◌-◌, Bool, true, false, ◌&&◌, List, [], ◌∷◌, length, Option, Some, None, Result, Ok, refl, sym, ap, ◌∙◌, subst}
+use Rattle.std.specs.Prelude.{if◌then◌else◌, slice_get, option_map, unwrap_or, nat_le, nat_lt}
 use Rattle.std.specs.List.{AllByRecursion}
 use Rattle.std.specs.Option.{option_and_then}
 use Rattle.zy_base.specs.Machine.{Rules}
@@ -13,6 +13,7 @@ use Rattle.zy_base.specs.declared.ids.ReplicaId.{ReplicaId}
 use Rattle.zy_base.specs.declared.step.Event.TheVariants.{Heard, Timer}
 use Rattle.zy_base.specs.declared.step.TimerKind.{TimerKind}
 use Rattle.zy_base.specs.declared.step.TimerKind.TheVariants as timers
+use Rattle.zy_frames.specs.Frames.{frame_in}
 use Rattle.zy_frames.specs.declared.frame.Frame.{Frame}
 use Rattle.zy_frames.specs.declared.frame.Frame.TheVariants as frames
 use Rattle.zy_parts.specs.Numbers as numbers
@@ -23,14 +24,18 @@ use Rattle.zy_seal.specs.Screening.{answer_to}
 use Rattle.zy_seal.specs.declared.directory.SealAnswer.TheVariants as answers
 use Rattle.zy_table.specs.ClientRows.{ask, client_step}
 use Rattle.zy_table.specs.ClientState.{ClientState}
+use Rattle.zy_table.specs.Sending.{spelling_of}
 use Rattle.zy_table.specs.declared.client.Response.{Response}
+use Rattle.zy_table.specs.declared.deeds.AnyFrame.{AnyFrame}
+use Rattle.zy_table.specs.declared.deeds.AnyFrame.TheVariants.{Plain}
 use Rattle.zy_world_law.specs.Events.{Happened, Broken, unless_forged, ask_in, deliver, bring, bring_to_replica, bring_to_client, timer_of, replica_timer_in, client_timer_in, replica_timer, client_timer, lie, forge, happens, replica_goes, client_goes, leaves_in}
 use Rattle.zy_world_law.specs.Events.Happened.{Goes, Breaks}
 use Rattle.zy_world_law.specs.Good.{IsGood, IsBackedBy, IsKept}
 use Rattle.zy_world_law.specs.Honest.{forger_in}
 use Rattle.zy_world_law.specs.Liars.{Telling, requests_at, order_told, spec_told, by_replica, statement_told}
-use Rattle.zy_world_law.specs.Setup.{keys_of}
-use Rattle.zy_world_law.specs.Texts.{texts_in, texts_read}
+use Rattle.zy_world_law.specs.Setup.{keys_of, sealer_of}
+use Rattle.zy_world_law.specs.Reading.{any_frame_in, either_read}
+use Rattle.zy_world_law.specs.Texts.{texts_in, texts_of}
 use Rattle.zy_world_law.specs.World.{World, Replica, Client, Mail, replica_at, client_at, correct_in, mail_at, delivered, texts_said, is_liar, is_correct, are_parties}
 use Rattle.zy_world_law.specs.declared.event.WorldEvent.{WorldEvent}
 use Rattle.zy_world_law.specs.declared.event.WorldEvent.TheVariants as events
@@ -39,14 +44,15 @@ use Rattle.zy_world_law.specs.declared.note.Note.TheVariants as notes
 use Rattle.zy_world_law.proofs.BagStays.{bag_good}
 use Rattle.zy_world_law.proofs.ClientEvent.{client_event, heard_vouched}
 use Rattle.zy_world_law.proofs.DecodedInRange.{decoded_readable}
-use Rattle.zy_world_law.proofs.EventRuns.{event_runs}
+use Rattle.zy_world_law.proofs.HonestEvents.{honest_or_idle, timer_honest}
 use Rattle.zy_world_law.proofs.Goings.{IsAfter, goes_is, replica_goes_good, client_goes_good}
 use Rattle.zy_world_law.proofs.HeldLaw.{HeldLaw}
 use Rattle.zy_world_law.proofs.KeptOrHeard.{IsHeard, IsAsked, Nothing, heard_comes, timer_comes, ask_comes}
 use Rattle.zy_world_law.proofs.NotForged.{IsSaid, parts_said}
+use Rattle.zy_world_law.proofs.StepLaws.{StepLaws}
 use Rattle.zy_world_law.proofs.Vouched.{verified_said}
 
-module _ {S : Type 0} (R : Rules S) (law : HeldLaw) where
+module _ {S : Type 0} (R : Rules S) (law : HeldLaw) (steps : StepLaws R) where
   -- a world that an event led to is good
   abbrev pub GoesGood : World S → Happened S → Type 0
   GoesGood w h = (v : World S) (note : Note) → h ≡ Goes v note → IsAfter R w v
@@ -69,6 +75,9 @@ module _ {S : Type 0} (R : Rules S) (law : HeldLaw) where
 
   -- ---- what a client hears
 
+  spells : (bytes : List ℕ) (frame : Frame) → frame_in bytes ≡ Ok frame → any_frame_in bytes ≡ Some (Plain frame)
+  spells bytes frame is = ap (λ (r : Result Frame FrameFault). either_read bytes r) is
+
   module _ (w : World S) where
     heard_backed : (s : ClientState) → s.keys ≡ keys_of w.setup → (bytes : List ℕ) → forger_in w bytes ≡ None → AllByRecursion (IsKept w.texts) (texts_in bytes)
         → (number : ℕ) (r : Response) → IsHeard s bytes number r → IsBackedBy w number r
@@ -80,8 +89,9 @@ module _ {S : Type 0} (R : Rules S) (law : HeldLaw) where
         let own : answer_to (keys_of w.setup) (record { by = parties.Replica (record { 0 = number }); text = text; sig = r.spec.sig }) ≡ answers.Yes =
         subst (λ (by : Party). answer_to (keys_of w.setup) (record { by = by; text = text_of numbers.spec spec_fields by r.spec.stmt; sig = r.spec.sig }) ≡ answers.Yes) heard.by signed in
         let said : IsSaid (texts_said w (parties.Replica (record { 0 = number }))) text =
-        subst (λ (by : Party). IsSaid (texts_said w by) (text_of numbers.spec spec_fields by r.spec.stmt)) heard.by ((parts_said w bytes frame none heard.frame).0 signed) in
-        let brought : AllByRecursion (IsKept w.texts) (r.reply ∷ []) = subst (λ (f : Result Frame FrameFault). AllByRecursion (IsKept w.texts) (texts_read f)) heard.frame kept in
+        subst (λ (by : Party). IsSaid (texts_said w by) (text_of numbers.spec spec_fields by r.spec.stmt)) heard.by ((parts_said w bytes (Plain frame) none (spells bytes frame heard.frame)).0 signed) in
+        let brought : AllByRecursion (IsKept w.texts) (r.reply ∷ []) =
+        subst (λ (o : Option AnyFrame). AllByRecursion (IsKept w.texts) (unwrap_or (option_map texts_of o) [])) (spells bytes frame heard.frame) kept in
         let both = verified_said w number text r.spec.sig own said in
         record {
           within = both.0;
@@ -119,10 +129,10 @@ module _ {S : Type 0} (R : Rules S) (law : HeldLaw) where
     client_hears u fine id x seat bytes (Some party) forged = breaks u (Broken.Forged party)
 
     heard_by_replica : (u : World S) → IsGood R u → (id : ReplicaId) (x : Replica S) → replica_at u id.0 ≡ Some x → (bytes : List ℕ) (forger : Option Party) → forger_in u bytes ≡ forger
-        → GoesGood u (unless_forged forger (replica_goes u id x (texts_in bytes) (step R x.state (Heard bytes))))
+        → GoesGood u (unless_forged forger (replica_goes u id x (texts_in bytes) (Heard bytes) (whole_step R x.state (Heard bytes))))
     heard_by_replica u fine id x seat bytes None none v note is =
-        replica_goes_good R u fine id x (texts_in bytes) (Heard bytes) v note seat
-        (λ more good1. event_runs R (record u { texts = more }) good1 x.state (fine.tied id.0 x seat).keys bytes none) is
+        replica_goes_good R steps u fine id x (texts_in bytes) (Heard bytes) v note seat
+        (λ more kept good1. honest_or_idle R (record u { texts = more }) good1 x.state (fine.tied id.0 x seat).keys bytes none kept) is
     heard_by_replica u fine id x seat bytes (Some party) forged v note is = breaks u (Broken.Forged party) v note is
 
     -- a marked world is as the world
@@ -158,8 +168,8 @@ module _ {S : Type 0} (R : Rules S) (law : HeldLaw) where
     -- ---- timers
 
     replica_rings : (id : ReplicaId) (x : Replica S) → replica_at w id.0 ≡ Some x → (kind : TimerKind) → GoesGood w (replica_timer R w id x kind)
-    replica_rings id x seat timers.Request v note is = replica_goes_good R w good id x [] (Timer timers.Request) v note seat (λ more good1. tt) is
-    replica_rings id x seat timers.Change v note is = replica_goes_good R w good id x [] (Timer timers.Change) v note seat (λ more good1. tt) is
+    replica_rings id x seat timers.Request v note is = replica_goes_good R steps w good id x [] (Timer timers.Request) v note seat (λ more kept good1. inl (timer_honest R (record w { texts = more }) x.state timers.Request)) is
+    replica_rings id x seat timers.Change v note is = replica_goes_good R steps w good id x [] (Timer timers.Change) v note seat (λ more kept good1. inl (timer_honest R (record w { texts = more }) x.state timers.Change)) is
     replica_rings id x seat timers.Answer v note is = stays w _ good v note is
 
     client_rings : (id : ClientId) (x : Client) → client_at w id.0 ≡ Some x → (kind : TimerKind) → GoesGood w (client_timer w id x kind)
@@ -193,12 +203,15 @@ module _ {S : Type 0} (R : Rules S) (law : HeldLaw) where
     lies liar to None = stays w _ good
     lies liar to (Some telling) =
         by_test w (is_liar w liar && are_parties w to) _ _
-        (by_test w (nat_lt (w.leaves liar) (leaves_in w)) _ _ (sends _ _ notes.Quiet) (stays w _ good))
+        (by_test w (nat_lt (w.leaves liar) (leaves_in w)) _ _
+        (by_test w (nat_le (length (spelling_of (telling (sealer_of w.setup liar (w.leaves liar))))) 4194304) _ _ (sends _ _ notes.Quiet) (stays w _ good)) (stays w _ good))
         (stays w _ good)
 
     forges : (party : Party) (to : List Party) (telling : Option Telling) → GoesGood w (forge w party to telling)
     forges party to None = stays w _ good
-    forges party to (Some telling) = by_test w (is_correct w party && are_parties w to) _ _ (sends w.leaves _ notes.Quiet) (stays w _ good)
+    forges party to (Some telling) =
+        by_test w (is_correct w party && are_parties w to) _ _
+        (by_test w (nat_le (length (spelling_of (telling (sealer_of w.setup party (leaves_in w - 1))))) 4194304) _ _ (sends w.leaves _ notes.Quiet) (stays w _ good)) (stays w _ good)
 
     pub event_good : (event : WorldEvent) → GoesGood w (happens R w event)
     unfolding happens

@@ -1,22 +1,23 @@
 -- An event that goes on led to this world.
 use Rattle.zy_world_law.specs.Safe.{completion_of}
 use Rattle.zy_law.specs.Completed.{IsCompleted}
+use Rattle.std.specs.List.{AllByRecursion}
 use Rattle.std.specs.Prelude.{option_map, option_to_list}
-use Rattle.std.proofs.Common.{append-nil, [], ◌≡◌, ℕ, List, ◌++◌, Option, Some, Result, Ok, Err, refl, sym, ap, subst}
+use Rattle.std.proofs.Common.{append-nil, [], ◌≡◌, ◌⊎◌, ℕ, List, ◌++◌, Option, Some, Result, Ok, Err, refl, sym, ap, subst}
 use Rattle.zy_base.specs.Machine.{Rules}
 use Rattle.zy_base.specs.declared.ids.ClientId.{ClientId}
 use Rattle.zy_base.specs.declared.ids.Digest.{Digest}
 use Rattle.zy_base.specs.declared.ids.ReplicaId.{ReplicaId}
 use Rattle.zy_base.specs.declared.step.Event.{Event}
 use Rattle.zy_client.specs.Held.{Holds}
-use Rattle.zy_lawful.specs.Tied.{MayEventRun}
+use Rattle.zy_normal_steps.specs.Whole.{IsEventHonest}
 use Rattle.zy_parts.specs.declared.signed.Signed.{Signed}
 use Rattle.zy_parts.specs.declared.statements.Ask.{Ask}
-use Rattle.zy_lawful.proofs.Goes.{all_of_rest}
+use Rattle.zy_lawful.proofs.Goes.{all_of_front, all_of_rest}
 use Rattle.zy_table.specs.ClientRows.{kept_of}
 use Rattle.zy_table.specs.ClientState.{ClientOutcome, client_outgoing}
 use Rattle.zy_table.specs.Deeds.{outgoing_of}
-use Rattle.zy_table.specs.Step.{step}
+use Rattle.zy_table.specs.Whole.{whole_step}
 use Rattle.zy_table.specs.declared.client.Commit.{Commit}
 use Rattle.zy_table.specs.declared.client.Done.{Done}
 use Rattle.zy_table.specs.declared.client.Response.{Response}
@@ -30,6 +31,9 @@ use Rattle.zy_world_law.specs.declared.note.Note.{Note}
 use Rattle.zy_world_law.proofs.BagStays.{bag_good}
 use Rattle.zy_world_law.proofs.ClientStep.{client_good, own_seat, completed_after}
 use Rattle.zy_world_law.proofs.DoneStays.{done_good}
+use Rattle.zy_world_law.proofs.FineSteps.{step_fine}
+use Rattle.zy_world_law.proofs.IdleFrames.{IsIdle}
+use Rattle.zy_world_law.proofs.StepLaws.{StepLaws}
 use Rattle.zy_world_law.proofs.KeptOrHeard.{IsSame}
 use Rattle.zy_world_law.proofs.KeptTexts.{IsKeeping, Stay, all_kept}
 use Rattle.zy_world_law.proofs.ReplicaStep.{replica_good}
@@ -67,23 +71,26 @@ pub record IsEnd {S : Type 0} (R : Rules S) (w : World S) (id : ClientId) (d : D
   pub completed : IsCompleted (seen R w) (completion_of (record { client = id; done = d }))
   pub reply : IsKept w.texts d.reply
 
-module _ {S : Type 0} (R : Rules S) (w : World S) (good : IsGood R w) where
+module _ {S : Type 0} (R : Rules S) (steps : StepLaws R) (w : World S) (good : IsGood R w) where
   -- ---- a replica's step
 
   pub replica_goes_good : (id : ReplicaId) (x : Replica S) (texts : List (List ℕ)) (event : Event) (v : World S) (note : Note) → replica_at w id.0 ≡ Some x
-      → ((more : Texts) → IsGood R (record w { texts = more }) → MayEventRun (seen R (record w { texts = more })) x.state event) → replica_goes w id x texts (step R x.state event) ≡ Goes v note → IsAfter R w v
-  replica_goes_good id x texts event v note at asks is =
-      let o = step R x.state event in
+      → ((more : Texts) → AllByRecursion (IsKept more) texts → IsGood R (record w { texts = more }) → IsEventHonest (seen R (record w { texts = more })) more x.state event ⊎ IsIdle x.state (whole_step R x.state event))
+      → replica_goes w id x texts event (whole_step R x.state event) ≡ Goes v note → IsAfter R w v
+  replica_goes_good id x texts event v note at honest is =
+      let o = whole_step R x.state event in
       let k = kept_goes w v (texts ++ step_texts o.deeds.acts)
-      (λ v. with_sent (with_replica v id (stepped x o)) (outgoing_of o.state.me.0 o.state.counts.n o.deeds.sent)) (replica_note id o.answer) note is in
+      (λ v. with_sent (with_replica v id (stepped v.texts event x o)) (outgoing_of o.state.me.0 o.state.counts.n o.deeds.sent)) (replica_note id o.answer) note is in
       let w1 : World S = record w { texts = k.texts' } in
       let good1 : IsGood R w1 = texts_good R w k.texts' k.keeping.stay good in
-      let good2 : IsGood R (with_replica w1 id (stepped x o)) =
-      replica_good R w1 good1 id x at event (asks k.texts' good1) (all_of_rest (IsKept k.texts') texts (step_texts o.deeds.acts) k.keeping.kept) in
-      let w2 : World S = with_replica w1 id (stepped x o) in
+      let fine = step_fine R steps w1 good1 id.0 x at event (honest k.texts' (all_of_front (IsKept k.texts') texts (step_texts o.deeds.acts) k.keeping.kept) good1)
+      (all_of_rest (IsKept k.texts') texts (step_texts o.deeds.acts) k.keeping.kept) in
+      let w2 : World S = with_replica w1 id (stepped k.texts' event x o) in
+      let good2 : IsGood R w2 = replica_good R steps.back w1 good1 id x at event fine.history o fine.step in
       let good3 : IsGood R (with_sent w2 (outgoing_of o.state.me.0 o.state.counts.n o.deeds.sent)) = bag_good R w2 w2.leaves _ w2.muted good2 in
       subst (λ (u : World S). IsAfter R w u) k.world (record { good = good3; texts = k.keeping.stay; more = []; done = sym (append-nil w.done) })
 
+module _ {S : Type 0} (R : Rules S) (w : World S) (good : IsGood R w) where
   -- ---- a client's step
 
   pub client_goes_good : (id : ClientId) (x : Client) (texts : List (List ℕ)) (o : ClientOutcome) (v : World S) (note : Note) → client_at w id.0 ≡ Some x → IsSame x.state o.state → Holds o.state

@@ -1,16 +1,15 @@
 -- In a frame without a forged part each part that verifies was said by its party, or that lies.
-use Rattle.std.proofs.Common.{◌≡◌, ◌⊎◌, inl, inr, ℕ, Bool, true, false, cond, ◌&&◌, not, List, [], ◌∷◌, Option, Some, None, Result, Ok, refl, sym, ap, ◌∙◌}
-use Rattle.std.specs.Prelude.{option_map, Contains}
+use Rattle.std.proofs.Common.{◌≡◌, ◌⊎◌, inl, inr, ℕ, Bool, true, false, cond, ◌&&◌, not, List, [], ◌∷◌, Option, Some, None, refl, sym, ap, ◌∙◌}
+use Rattle.std.specs.Prelude.{option_map, unwrap_or, Contains}
 use Rattle.std.specs.List.{AllByRecursion, find, list_any}
 use Rattle.std.specs.Str.{bytes_eq}
 use Rattle.std.proofs.lemmas.Map.Views.{Contains-from_any}
-use Rattle.zy_base.specs.declared.frame_fault.FrameFault.{FrameFault}
-use Rattle.zy_frames.specs.Frames.{frame_in, parts_of}
-use Rattle.zy_frames.specs.declared.frame.Frame.{Frame}
 use Rattle.zy_parts.specs.declared.signed.Part.{Part}
 use Rattle.zy_seal.specs.Screening.{answer_to}
 use Rattle.zy_seal.specs.declared.directory.SealAnswer.TheVariants as answers
-use Rattle.zy_world_law.specs.Honest.{is_yes, is_unsaid, is_forged, parts_read, forger_in}
+use Rattle.zy_table.specs.declared.deeds.AnyFrame.{AnyFrame}
+use Rattle.zy_world_law.specs.Honest.{is_yes, is_unsaid, is_forged, forger_in}
+use Rattle.zy_world_law.specs.Reading.{any_frame_in, parts_in, parts_of}
 use Rattle.zy_world_law.specs.Setup.{keys_of}
 use Rattle.zy_world_law.specs.World.{World, texts_said}
 use Rattle.zy_world_law.proofs.Tests.{same_bytes}
@@ -48,15 +47,16 @@ module _ {S : Type 0} (w : World S) where
   abbrev WasSaid : Part → Type 0
   WasSaid part = answer_to (keys_of w.setup) part ≡ answers.Yes → IsSaid (texts_said w part.by) part.text
 
-  was_said : (part : Part) → is_forged w part ≡ false → WasSaid part
+  pub was_said : (part : Part) → is_forged w part ≡ false → WasSaid part
   was_said part is signed = verified_said (is_yes (answer_to (keys_of w.setup) part)) (texts_said w part.by) part.text (ap is_yes signed) is
 
   all_said : (parts : List Part) → AllByRecursion (λ (part : Part). is_forged w part ≡ false) parts → AllByRecursion WasSaid parts
   all_said [] all = tt
   all_said (part ∷ parts) all = (was_said part all.0, all_said parts all.1)
 
-  pub parts_said : (bytes : List ℕ) (frame : Frame) → forger_in w bytes ≡ None → frame_in bytes ≡ Ok frame → AllByRecursion WasSaid (parts_of frame)
+  -- of the frame that the bytes spell
+  pub parts_said : (bytes : List ℕ) (frame : AnyFrame) → forger_in w bytes ≡ None → any_frame_in bytes ≡ Some frame → AllByRecursion WasSaid (parts_of frame)
   parts_said bytes frame none is =
-      let clear : find (is_forged w) (parts_read (frame_in bytes)) ≡ None = none_mapped (λ (part : Part). part.by) _ none in
-      let parts : find (is_forged w) (parts_of frame) ≡ None = ap (λ (r : Result Frame FrameFault). find (is_forged w) (parts_read r)) (sym is) ∙ clear in
+      let clear : find (is_forged w) (parts_in bytes) ≡ None = none_mapped (λ (part : Part). part.by) _ none in
+      let parts : find (is_forged w) (parts_of frame) ≡ None = ap (λ (o : Option AnyFrame). find (is_forged w) (unwrap_or (option_map parts_of o) [])) (sym is) ∙ clear in
       all_said (parts_of frame) (each_fails (is_forged w) (parts_of frame) parts)

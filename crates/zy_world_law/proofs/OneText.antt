@@ -8,12 +8,14 @@ use Rattle.std.specs.Prelude.{nat_lt, nat_le}
 use Rattle.sha2.specs.Sha256.{sha256}
 use Rattle.sha2.proofs.Facts256.{length-sha256}
 use Rattle.zy_base.specs.declared.ids.Digest.{Digest}
-use Rattle.zy_chain.specs.Entries.{IsEntryInRange, bytes_of_entry, digest_of_entry, digest_of_request}
+use Rattle.zy_chain.specs.Entries.{bytes_of_entry, digest_of_entry, digest_of_request}
 use Rattle.zy_chain.specs.Fields.{entry_fields, entry-exact, entry-is_bytes}
 use Rattle.zy_chain.specs.Heads.{head_after}
 use Rattle.zy_chain.specs.declared.entry.Entry.{Entry}
+use Rattle.zy_exec.specs.Installed.{IsRunnable}
 use Rattle.zy_law.specs.Histories.{HaveOneText}
-use Rattle.zy_lawful.specs.Tied.{IsOfClient, next_head}
+use Rattle.zy_lawful.specs.Tied.{next_head}
+use Rattle.zy_view_law.specs.Texts.{IsLink}
 use Rattle.zy_wire.proofs.Parts.{whole_again, ok_is}
 use Rattle.zy_wire.specs.Spelling.{whole}
 use Rattle.zy_world_law.specs.Good.{IsKept}
@@ -21,23 +23,13 @@ use Rattle.zy_world_law.specs.Texts.{digest_of, is_entry, is_kept, is_link, link
 use Rattle.zy_world_law.specs.World.{Texts}
 use Rattle.zy_world_law.proofs.KeptTexts.{kept_test, test_kept}
 
--- an entry in its ranges, of a client that there may be
-pub record IsUsable (e : Entry) : Type 0 where
-  pub client : IsOfClient e
-  pub range : IsEntryInRange e
-
-pub record IsLink (texts : Texts) (head : Digest) (e : Entry) : Type 0 where
-  pub usable : IsUsable e
-  pub entry : IsKept texts (bytes_of_entry e)
-  pub link : IsKept texts (link_text head e)
-
-usable_of : (e : Entry) → is_entry e ≡ true → IsUsable e
-usable_of e is =
+runnable_of : (e : Entry) → is_entry e ≡ true → IsRunnable e
+runnable_of e is =
     let first = and_parts (nat_lt e.client.0 64) _ is in
     let others = and_parts (nat_lt e.stamp.0 (2 ^ 62)) (nat_le (length e.op) 1100) first.1 in
     record {
       client = ltb-true e.client.0 64 first.0;
-      range = record { stamp = ltb-true e.stamp.0 (2 ^ 62) others.0; op = leb-true (length e.op) 1100 others.1 };
+      in_range = record { stamp = ltb-true e.stamp.0 (2 ^ 62) others.0; op = leb-true (length e.op) 1100 others.1 };
     }
 
 pub link_of : (texts : Texts) (head : Digest) (e : Entry) → is_link texts head e ≡ true → IsLink texts head e
@@ -45,22 +37,22 @@ link_of texts head e is =
     let first = and_parts (is_entry e) _ is in
     let others = and_parts (is_kept texts (bytes_of_entry e)) (is_kept texts (link_text head e)) first.1 in
     record {
-      usable = usable_of e first.0;
+      runnable = runnable_of e first.0;
       entry = test_kept texts (bytes_of_entry e) others.0;
       link = test_kept texts (link_text head e) others.1;
     }
 
 pub link_is : (texts : Texts) (head : Digest) (e : Entry) → IsLink texts head e → is_link texts head e ≡ true
 link_is texts head e link =
-    rw (lt-ltb e.client.0 64 link.usable.client, lt-ltb e.stamp.0 (2 ^ 62) link.usable.range.stamp, le-leb (length e.op) 1100 link.usable.range.op, kept_test texts (bytes_of_entry e) link.entry, kept_test texts (link_text head e) link.link) refl
+    rw (lt-ltb e.client.0 64 link.runnable.client, lt-ltb e.stamp.0 (2 ^ 62) link.runnable.in_range.stamp, le-leb (length e.op) 1100 link.runnable.in_range.op, kept_test texts (bytes_of_entry e) link.entry, kept_test texts (link_text head e) link.link) refl
 
 -- ---- two entries with the same bytes
 
-fits : (e : Entry) → IsUsable e → entry_fields.Fits e
+fits : (e : Entry) → IsRunnable e → entry_fields.Fits e
 unfolding entry_fields
-fits e is = (omega (arith, is.client), ((omega arith, is.range.stamp), is.range.op))
+fits e is = (omega (arith, is.client), ((omega arith, is.in_range.stamp), is.in_range.op))
 
-one_entry : (d e : Entry) → IsUsable d → IsUsable e → bytes_of_entry d ≡ bytes_of_entry e → d ≡ e
+one_entry : (d e : Entry) → IsRunnable d → IsRunnable e → bytes_of_entry d ≡ bytes_of_entry e → d ≡ e
 one_entry d e d_is e_is same =
     let spelled : entry_fields.spell d ≡ entry_fields.spell e = entry-is_bytes d ∙ same ∙ sym (entry-is_bytes e) in
     ok_is d e (sym (whole_again entry_fields entry-exact d (fits d d_is)) ∙ ap (λ (b : List ℕ). whole entry_fields b) spelled ∙ whole_again entry_fields entry-exact e (fits e e_is))
@@ -87,4 +79,4 @@ one_text texts h k d e first second same =
     let b = link_of texts k e second in
     let texts_same : link_text h d ≡ link_text k e = one_kept_text texts (link_text h d) (link_text k e) a.link b.link (ap (λ (x : Digest). x.0) same) in
     let parts = split h.0 k.0 (digest_of_entry d).0 (digest_of_entry e).0 (length-sha256 (bytes_of_entry d) ∙ sym (length-sha256 (bytes_of_entry e))) texts_same in
-    (ap (λ (l : List ℕ). record { 0 = l }) parts.0, one_entry d e a.usable b.usable (one_kept_text texts (bytes_of_entry d) (bytes_of_entry e) a.entry b.entry parts.1))
+    (ap (λ (l : List ℕ). record { 0 = l }) parts.0, one_entry d e a.runnable b.runnable (one_kept_text texts (bytes_of_entry d) (bytes_of_entry e) a.entry b.entry parts.1))

@@ -1,89 +1,69 @@
 -- A step of a correct replica keeps a good world good.
 use Rattle.std.proofs.Common.{◌≡◌, ◌≢◌, ℕ, ◌+◌, ◌-◌, inl, inr, Bool, List, [], ◌∷◌, ◌++◌, length, map, Option, Some, None, refl, sym, ap, ◌∙◌, subst, arith}
 use Rattle.std.specs.Prelude.{slice_get, option_map, unwrap_or, is_none, Contains}
-use Rattle.std.specs.List.{AllByRecursion, flat_map}
+use Rattle.std.specs.List.{AllByRecursion}
 use Rattle.std.proofs.lemmas.Bool.{cases_eq}
 use Rattle.std.proofs.lemmas.List.{length-set}
-use Rattle.std.proofs.lemmas.List.Concat.{flat_map-cons}
 use Rattle.std.proofs.lemmas.List.Elements.{Contains-append_left}
-use Rattle.std.proofs.lemmas.Option.{same_Some, slice_get_within}
+use Rattle.std.proofs.lemmas.Option.{same_Some}
 use Rattle.zy_base.specs.Machine.{Rules}
 use Rattle.zy_base.specs.declared.ids.Party.TheVariants as parties
 use Rattle.zy_base.specs.declared.ids.ReplicaId.{ReplicaId}
 use Rattle.zy_base.specs.declared.step.Event.{Event}
+use Rattle.zy_begin_steps.specs.Steps.{IsLawfulStep, IsWorldOf}
 use Rattle.zy_chain.specs.declared.entry.Entry.{Entry}
 use Rattle.zy_law.proofs.GrownLemmas.{completed_grown}
-use Rattle.zy_law.proofs.StepsLawful.{acts_lawful}
 use Rattle.zy_law.specs.Completed.{Completion, IsCompleted}
 use Rattle.zy_law.specs.Lawful.{IsLawful}
-use Rattle.zy_law.specs.Said.{IsCorrect}
-use Rattle.zy_law.specs.Steps.{grown}
+use Rattle.zy_law.specs.Steps.{IsGrown, grown}
 use Rattle.zy_law.specs.World as law
 use Rattle.zy_law.specs.World.{Stand}
-use Rattle.zy_lawful.proofs.EachStep as each
-use Rattle.zy_lawful.proofs.GainedEntries.{step_gained}
-use Rattle.zy_lawful.proofs.Goes.{all_of_both, all_of_front, all_of_rest}
-use Rattle.zy_lawful.proofs.TieLemmas.{lists_after, tied_after_acts}
-use Rattle.zy_lawful.specs.Acts.{acts_of, world_after, history_after, spoken_in, stands_in, with_more}
-use Rattle.zy_lawful.specs.Tied as lawful
-use Rattle.zy_lawful.specs.Tied.{MayEventRun, IsGained, IsLinkKept, IsHonestStep}
-use Rattle.zy_table.specs.Deeds.{Outcome, gains_in, said_from}
+use Rattle.zy_lawful.proofs.TieLemmas.{lists_after}
+use Rattle.zy_lawful.specs.Acts.{world_after, history_after, spoken_in, stands_in, with_more}
+use Rattle.zy_normal_steps.proofs.WholeSteps.{ready_after}
+use Rattle.zy_normal_steps.specs.Whole as whole
+use Rattle.zy_spelled.specs.Spelled.{FitAll, IsSpelled}
+use Rattle.zy_table.specs.Deeds.{Outcome, said_from}
 use Rattle.zy_table.specs.State.{State, own_view}
-use Rattle.zy_table.specs.Step.{step}
 use Rattle.zy_table.specs.declared.client.Commit.{Commit}
 use Rattle.zy_table.specs.declared.client.Response.{Response}
-use Rattle.zy_table.specs.declared.deeds.Got.{Got}
+use Rattle.zy_view_steps.specs.Rows.{IsReady}
+use Rattle.zy_view_steps.specs.Work.{IsAtWork}
 use Rattle.zy_world_law.specs.Events.{stepped, with_replica, remark_after, history_of}
-use Rattle.zy_world_law.specs.Good.{IsGood, IsTied, IsShort, IsClientTied, IsBackedBy, IsCommitBacked, IsDone, IsKept, AreRepliesKept, AreSnapshotsKept}
+use Rattle.zy_world_law.specs.Good.{IsGood, IsTied, IsClientTied, IsBackedBy, IsCommitBacked, IsDone}
 use Rattle.zy_world_law.specs.Safe.{completion_of}
 use Rattle.zy_world_law.specs.Seen.{seen, said_of, past_of, spoken_by}
-use Rattle.zy_world_law.specs.Texts.{step_texts, got_texts, snapshot_texts, is_link}
-use Rattle.zy_world_law.specs.World.{World, Replica, Client, Completed, Remark, Texts, replica_at, client_at, correct_in}
+use Rattle.zy_world_law.specs.World.{World, Replica, Client, Completed, Remark, replica_at, client_at, correct_in}
 use Rattle.zy_world_law.proofs.CommitStays.{commit_later}
-use Rattle.zy_world_law.proofs.GainedReplies.{AreAnswers, gained_replies}
-use Rattle.zy_world_law.proofs.OneText.{link_of, link_is}
-use Rattle.zy_world_law.proofs.ReadBack.{FitAll}
 use Rattle.zy_world_law.proofs.Seats.{get_set, get_set_other, seat_of}
-use Rattle.zy_world_law.proofs.ShortHistories.{short_steps, step_same}
-use Rattle.zy_world_law.proofs.ToldSteps.{own_more, other_more, more_kept, map_append, spoken_told, replies_kept, history_replied, snapshots_kept, history_snapped}
+use Rattle.zy_world_law.proofs.StepLaws.{ReadsBack}
+use Rattle.zy_world_law.proofs.StillReady.{still_ready, still_works}
+use Rattle.zy_world_law.proofs.ToldSteps.{own_more, other_more, more_kept, map_append, spoken_told}
 
 -- ---- a tied replica's last stand
 
-pub tied_history : {S : Type 0} (R : Rules S) (u : law.World) (r : ℕ) (s : State S) (h : List Entry) (past : List Stand) → lawful.IsTied R u r s h → u.past r ≡ past → history_of past ≡ h
-tied_history R u r s h past tied is =
-    let x = tied.standing in
+tied_history : {S : Type 0} (R : Rules S) (interval : ℕ) (u : law.World) (r : ℕ) (s : State S) (h : List Entry) (past : List Stand) → IsReady R interval u r s h → u.past r ≡ past → history_of past ≡ h
+tied_history R interval u r s h past ready is =
+    let x = ready.tied.standing in
     let before : length (u.past r) - 1 ≡ x.number = omega (arith, x.last) in
     ap (λ (p : List Stand). unwrap_or (option_map (λ (b : Stand). b.history) (slice_get p (length p - 1))) []) (sym is)
     ∙ ap (λ (n : ℕ). unwrap_or (option_map (λ (b : Stand). b.history) (slice_get (u.past r) n)) []) before
     ∙ ap (λ (o : Option Stand). unwrap_or (option_map (λ (b : Stand). b.history) o) []) x.stood
 
--- ---- the texts of the entries that a step gained
+-- A step from this history is lawful, and what it says and keeps can be spelled.
+pub record IsFineStep {S : Type 0} (R : Rules S) (w : World S) (id : ℕ) (x : Replica S) (event : Event) (history : List Entry) (o : Outcome S) : Type 0 where
+  pub lawful : IsLawfulStep R w.setup.interval w.texts (seen R w) id x.state history o
+  pub fit : FitAll o.deeds.acts
+  pub spelled : IsSpelled o.state
+  pub keys : o.state.keys ≡ x.state.keys
+  -- so the world sees it
+  pub stands : stands_in (own_view x.state) (whole.history_of w.texts x.state (history_of x.past) event o) o.deeds.acts ≡ stands_in (own_view x.state) history o.deeds.acts
 
-module _ (texts : Texts) (v : law.World) (kept_is : v.kept ≡ (λ head e. is_link texts head e)) where
-  one_of : (got : Got) (gots : List Got) → AllByRecursion (IsKept texts) (flat_map got_texts (got ∷ gots)) → AllByRecursion (IsKept texts) (got_texts got) × AllByRecursion (IsKept texts) (flat_map got_texts gots)
-  one_of got gots all =
-      let apart : AllByRecursion (IsKept texts) (got_texts got ++ flat_map got_texts gots) = subst (λ (l : List (List ℕ)). AllByRecursion (IsKept texts) l) (flat_map-cons got_texts got gots) all in
-      (all_of_front (IsKept texts) (got_texts got) (flat_map got_texts gots) apart, all_of_rest (IsKept texts) (got_texts got) (flat_map got_texts gots) apart)
+module _ {S : Type 0} (R : Rules S) (back : ReadsBack) (w : World S) (good : IsGood R w) (id : ReplicaId) (x : Replica S) (at : replica_at w id.0 ≡ Some x) (event : Event) (history : List Entry) (o : Outcome S)
+    (fine : IsFineStep R w id.0 x event history o) where
+  abbrev interval : ℕ
+  interval = w.setup.interval
 
-  pub links_kept : (gots : List Got) → AllByRecursion (IsGained v) gots → AllByRecursion (IsKept texts) (flat_map got_texts gots) → AllByRecursion (IsLinkKept v) gots
-  links_kept [] gained all = tt
-  links_kept (got ∷ gots) gained all =
-      let both = one_of got gots all in (
-        ap (λ (f : _). f got.before got.entry) kept_is
-            ∙ link_is texts got.before got.entry (record { usable = record { client = gained.0.run.client; range = gained.0.run.range }; entry = both.0.0; link = both.0.1.0 }),
-        links_kept gots gained.1 both.1,
-      )
-
-  pub got_replies : (gots : List Got) → AllByRecursion (IsKept texts) (flat_map got_texts gots) → AllByRecursion (λ (got : Got). IsKept texts got.reply) gots
-  got_replies [] all = tt
-  got_replies (got ∷ gots) all = let both = one_of got gots all in (both.0.1.1.0, got_replies gots both.1)
-
-  pub got_snapshots : (gots : List Got) → AllByRecursion (IsKept texts) (flat_map got_texts gots) → AllByRecursion (λ (got : Got). AllByRecursion (IsKept texts) (snapshot_texts got.snapshot)) gots
-  got_snapshots [] all = tt
-  got_snapshots (got ∷ gots) all = let both = one_of got gots all in (both.0.1.1.1, got_snapshots gots both.1)
-
-module _ {S : Type 0} (R : Rules S) (w : World S) (good : IsGood R w) (id : ReplicaId) (x : Replica S) (at : replica_at w id.0 ≡ Some x) (event : Event)
-    (asks : MayEventRun (seen R w) x.state event) (kept : AllByRecursion (IsKept w.texts) (step_texts (step R x.state event).deeds.acts)) where
   abbrev v : law.World
   v = seen R w
 
@@ -93,11 +73,8 @@ module _ {S : Type 0} (R : Rules S) (w : World S) (good : IsGood R w) (id : Repl
   abbrev h : List Entry
   h = history_of x.past
 
-  abbrev o : Outcome S
-  o = step R s event
-
   abbrev x' : Replica S
-  x' = stepped x o
+  x' = stepped w.texts event x o
 
   abbrev w' : World S
   w' = with_replica w id x'
@@ -108,33 +85,13 @@ module _ {S : Type 0} (R : Rules S) (w : World S) (good : IsGood R w) (id : Repl
   seat : slice_get w.replicas id.0 ≡ Some (Some x)
   seat = seat_of (slice_get w.replicas id.0) x at
 
-  correct : IsCorrect v id.0
-  correct = record { within = omega (arith, slice_get_within w.replicas id.0 (Some x) seat, good.replicas); honest = ap (λ (o : Option (Replica S)). is_none o) at }
-
-  gained : AllByRecursion (IsGained v) (gains_in o.deeds.acts)
-  gained = step_gained R v s tie.tied.standing.asks event asks
-
-  honest : IsHonestStep R v id.0 s h event
-  honest =
-      record {
-        lawful = good.lawful;
-        agrees = record { next = refl; digest = refl; reply = refl; state = refl };
-        correct = correct;
-        tied = tie.tied;
-        asks = asks;
-        links = links_kept w.texts v refl (gains_in o.deeds.acts) gained kept;
-      }
-
-  short : FitAll o.deeds.acts × IsShort o.state
-  short = short_steps R v id.0 s h event honest tie.short (λ d e is. (link_of w.texts d e is).usable.range)
-
   -- ---- what the law sees of the world after it
 
   abbrev new_said : List law.Spoken
   new_said = spoken_in id.0 (length (v.past id.0) - 1) o.deeds.acts
 
   abbrev new_stands : List Stand
-  new_stands = stands_in (own_view s) h o.deeds.acts
+  new_stands = stands_in (own_view s) history o.deeds.acts
 
   own_seat : replica_at w' id.0 ≡ Some x'
   own_seat = ap (λ (o : Option (Option (Replica S))). correct_in o) (get_set w.replicas id.0 (Some x') (Some x) seat)
@@ -142,10 +99,10 @@ module _ {S : Type 0} (R : Rules S) (w : World S) (good : IsGood R w) (id : Repl
   other_seat : (q : ℕ) → q ≢ id.0 → replica_at w' q ≡ replica_at w q
   other_seat q other = ap (λ (o : Option (Option (Replica S))). correct_in o) (get_set_other w.replicas id.0 q (Some x') other)
 
-  told : map spoken_by (map (remark_after x.past) (said_from (parties.Replica o.state.me) 0 o.deeds.acts)) ≡ new_said
+  told : map (spoken_by id.0) (map (remark_after x.past) (said_from (parties.Replica o.state.me) 0 o.deeds.acts)) ≡ new_said
   told =
       let number : length x.past - 1 + 0 ≡ length (v.past id.0) - 1 = omega (arith, ap (λ (o : Option (Replica S)). length (past_of o)) at) in
-      spoken_told (parties.Replica o.state.me) id.0 x.past 0 o.deeds.acts short.0 ∙ ap (λ (n : ℕ). spoken_in id.0 n o.deeds.acts) number
+      spoken_told back (parties.Replica o.state.me) id.0 x.past 0 o.deeds.acts fine.fit ∙ ap (λ (n : ℕ). spoken_in id.0 n o.deeds.acts) number
 
   liars_same : (q : ℕ) → v.liar q ≡ is_none (replica_at w' q)
   liars_same q = elim (cases_eq q id.0) [
@@ -154,15 +111,15 @@ module _ {S : Type 0} (R : Rules S) (w : World S) (good : IsGood R w) (id : Repl
     | inr other ↦ ap (λ (o : Option (Replica S)). is_none o) (sym (other_seat q other))
   ]
 
-  said_same : (q : ℕ) → with_more v.said id.0 new_said q ≡ said_of (replica_at w' q)
+  said_same : (q : ℕ) → with_more v.said id.0 new_said q ≡ said_of q (replica_at w' q)
   said_same q = elim (cases_eq q id.0) [
-    | inl same ↦ subst (λ (q : ℕ). with_more v.said id.0 new_said q ≡ said_of (replica_at w' q)) (sym same)
+    | inl same ↦ subst (λ (q : ℕ). with_more v.said id.0 new_said q ≡ said_of q (replica_at w' q)) (sym same)
         (own_more v.said id.0 new_said
-        ∙ ap (λ (o : Option (Replica S)). said_of o ++ new_said) at
-        ∙ ap (λ (l : List law.Spoken). map spoken_by x.said ++ l) (sym told)
-        ∙ sym (map_append spoken_by x.said (map (remark_after x.past) (said_from (parties.Replica o.state.me) 0 o.deeds.acts)))
-        ∙ ap (λ (o : Option (Replica S)). said_of o) (sym own_seat))
-    | inr other ↦ other_more v.said id.0 new_said q other ∙ ap (λ (o : Option (Replica S)). said_of o) (sym (other_seat q other))
+        ∙ ap (λ (o : Option (Replica S)). said_of id.0 o ++ new_said) at
+        ∙ ap (λ (l : List law.Spoken). map (spoken_by id.0) x.said ++ l) (sym told)
+        ∙ sym (map_append (spoken_by id.0) x.said (map (remark_after x.past) (said_from (parties.Replica o.state.me) 0 o.deeds.acts)))
+        ∙ ap (λ (o : Option (Replica S)). said_of id.0 o) (sym own_seat))
+    | inr other ↦ other_more v.said id.0 new_said q other ∙ ap (λ (o : Option (Replica S)). said_of q o) (sym (other_seat q other))
   ]
 
   past_same : (q : ℕ) → with_more v.past id.0 new_stands q ≡ past_of (replica_at w' q)
@@ -170,6 +127,7 @@ module _ {S : Type 0} (R : Rules S) (w : World S) (good : IsGood R w) (id : Repl
     | inl same ↦ subst (λ (q : ℕ). with_more v.past id.0 new_stands q ≡ past_of (replica_at w' q)) (sym same)
         (own_more v.past id.0 new_stands
         ∙ ap (λ (o : Option (Replica S)). past_of o ++ new_stands) at
+        ∙ ap (λ (l : List Stand). x.past ++ l) (sym fine.stands)
         ∙ ap (λ (o : Option (Replica S)). past_of o) (sym own_seat))
     | inr other ↦ other_more v.past id.0 new_stands q other ∙ ap (λ (o : Option (Replica S)). past_of o) (sym (other_seat q other))
   ]
@@ -199,51 +157,59 @@ module _ {S : Type 0} (R : Rules S) (w : World S) (good : IsGood R w) (id : Repl
       ∙ ap (λ (f : ℕ → List law.Spoken). built (seen R w').liar f (with_more v.past id.0 new_stands)) (λ i q. said_same q i)
       ∙ ap (λ (f : ℕ → List Stand). built (seen R w').liar (seen R w').said f) (λ i q. past_same q i)
 
-  after_is : world_after v id.0 s h o ≡ seen R w'
-  after_is = lists_after v id.0 (own_view s) (length (v.past id.0) - 1) h o.deeds.acts ∙ seen_is
+  after_later : world_after v id.0 s history o ≡ later
+  after_later = lists_after v id.0 (own_view s) (length (v.past id.0) - 1) history o.deeds.acts
 
-  lawful_after : IsLawful (seen R w')
-  lawful_after = subst IsLawful after_is (acts_lawful v id.0 (acts_of v id.0 s h o) good.lawful (each.acts_lawful R v id.0 s h event honest))
+  after_is : world_after v id.0 s history o ≡ seen R w'
+  after_is = after_later ∙ seen_is
 
   -- ---- ties
 
-  own_tied : lawful.IsTied R (seen R w') id.0 o.state (history_of x'.past)
-  own_tied =
-      let there : lawful.IsTied R (seen R w') id.0 o.state (history_after h o.deeds.acts) =
-      subst (λ (u : law.World). lawful.IsTied R u id.0 o.state (history_after h o.deeds.acts)) after_is (each.tied_after R v id.0 s h event honest) in
-      let history : history_of x'.past ≡ history_after h o.deeds.acts =
-      tied_history R (seen R w') id.0 o.state (history_after h o.deeds.acts) x'.past there (ap (λ (o : Option (Replica S)). past_of o) own_seat) in
-      subst (λ (l : List Entry). lawful.IsTied R (seen R w') id.0 o.state l) (sym history) there
+  ready_after_all : IsReady R interval (world_after v id.0 s history o) id.0 o.state (history_after history o.deeds.acts)
+  ready_after_all = ready_after R interval w.texts v id.0 s h history o tie.ready fine.lawful
 
-  answers : AreAnswers R s.kept.interval h o.deeds.acts
-  answers = gained_replies R s h tie.tied.standing.stands event
+  lawful_after : IsLawful (seen R w')
+  lawful_after = subst IsLawful after_is ready_after_all.lawful
+
+  own_ready : IsReady R interval (seen R w') id.0 o.state (history_of x'.past)
+  own_ready =
+      let there : IsReady R interval (seen R w') id.0 o.state (history_after history o.deeds.acts) =
+      subst (λ (u : law.World). IsReady R interval u id.0 o.state (history_after history o.deeds.acts)) after_is ready_after_all in
+      let last : history_of x'.past ≡ history_after history o.deeds.acts =
+      tied_history R interval (seen R w') id.0 o.state (history_after history o.deeds.acts) x'.past there (ap (λ (o : Option (Replica S)). past_of o) own_seat) in
+      subst (λ (l : List Entry). IsReady R interval (seen R w') id.0 o.state l) (sym last) there
 
   own_after : IsTied R w' id.0 x'
   own_after =
       record {
-        tied = own_tied;
-        keys = (step_same R s event).keys ∙ tie.keys;
-        interval = (step_same R s event).interval ∙ tie.interval;
-        short = short.1;
-        replies = all_of_both (λ (b : Stand). AreRepliesKept R w.texts b.history) x.past new_stands tie.replies
-            (replies_kept R s.kept.interval w.texts (own_view s) h o.deeds.acts (history_replied R w.texts x.past tie.replies)
-            answers (got_replies w.texts v refl (gains_in o.deeds.acts) kept));
-        snapshots = all_of_both (λ (b : Stand). AreSnapshotsKept R w.setup.interval w.texts b.history) x.past new_stands tie.snapshots
-            (snapshots_kept R w.setup.interval w.texts (own_view s) h o.deeds.acts (history_snapped R w.setup.interval w.texts x.past tie.snapshots)
-            (subst (λ (i : ℕ). AreAnswers R i h o.deeds.acts) tie.interval answers) (got_snapshots w.texts v refl (gains_in o.deeds.acts) kept));
+        ready = own_ready;
+        works = subst (λ (u : law.World). IsAtWork interval u id.0 o.state) after_is (fine.lawful.works tie.works);
+        keys = fine.keys ∙ tie.keys;
+        spelled = fine.spelled;
+      }
+
+  grows : IsGrown v v.asked (with_more v.said id.0 new_said) (with_more v.past id.0 new_stands) v.kept
+  grows =
+      record {
+        asks = λ q e has. has;
+        says = λ q i y has. more_kept v.said id.0 new_said q i y has;
+        stands = λ q i y has. more_kept v.past id.0 new_stands q i y has;
+        keeps = λ d e is. is;
       }
 
   other_after : (q : ℕ) (y : Replica S) → q ≢ id.0 → replica_at w q ≡ Some y → IsTied R w' q y
   other_after q y other y_at =
       let before = good.tied q y y_at in
+      let told : with_more v.said id.0 new_said q ≡ v.said q = other_more v.said id.0 new_said q other in
+      let stood : with_more v.past id.0 new_stands q ≡ v.past q = other_more v.past id.0 new_stands q other in
+      let lawful : IsLawful later = subst IsLawful after_later ready_after_all.lawful in
       record {
-        tied = subst (λ (u : law.World). lawful.IsTied R u q y.state (history_of y.past)) after_is
-            (tied_after_acts R v q id.0 y.state (history_of y.past) (acts_of v id.0 s h o) other before.tied);
+        ready = subst (λ (u : law.World). IsReady R interval u q y.state (history_of y.past)) seen_is
+            (still_ready R v v.asked (with_more v.said id.0 new_said) (with_more v.past id.0 new_stands) v.kept grows interval q y.state told stood (history_of y.past) lawful before.ready);
+        works = subst (λ (u : law.World). IsAtWork interval u q y.state) seen_is
+            (still_works R v v.asked (with_more v.said id.0 new_said) (with_more v.past id.0 new_stands) v.kept grows interval q y.state told stood before.works);
         keys = before.keys;
-        interval = before.interval;
-        short = before.short;
-        replies = before.replies;
-        snapshots = before.snapshots;
+        spelled = before.spelled;
       }
 
   tied_after : (q : ℕ) (y : Replica S) → replica_at w' q ≡ Some y → IsTied R w' q y
@@ -326,6 +292,7 @@ module _ {S : Type 0} (R : Rules S) (w : World S) (good : IsGood R w) (id : Repl
         replicas = length-set w.replicas id.0 (Some x') ∙ good.replicas;
         clients = good.clients;
         lawful = lawful_after;
+        kept = subst (λ (u : law.World). IsWorldOf R interval u w.texts) after_is fine.lawful.world;
         tied = tied_after;
         client_tied = client_after;
         done = all_done w.done good.done;

@@ -12,7 +12,7 @@ use Rattle.zy_world_law.specs.Events.{Happened, happens}
 use Rattle.zy_world_law.specs.Events.Happened.{Goes, Breaks}
 use Rattle.zy_world_law.specs.Good.{IsGood}
 use Rattle.zy_world_law.specs.Runs.{Rest, comes_to, goes_on, flow_on, flow, run_line, run}
-use Rattle.zy_world_law.specs.Safe.{IsSafe, AllGrow}
+use Rattle.zy_world_law.specs.Safe.{AllGrow}
 use Rattle.zy_world_law.specs.World.{World, Mail, is_party, same_party, next_undelivered, drop_frame, dropped_if, mail_at, with_mail_at, set_muted}
 use Rattle.zy_world_law.specs.declared.event.WorldEvent.{WorldEvent}
 use Rattle.zy_world_law.specs.declared.event.WorldEvent.TheVariants as events
@@ -20,9 +20,10 @@ use Rattle.zy_world_law.proofs.BagStays.{bag_good}
 use Rattle.zy_world_law.proofs.EachEvent.{event_good, after_itself}
 use Rattle.zy_world_law.proofs.Goings.{IsAfter}
 use Rattle.zy_world_law.proofs.HeldLaw.{HeldLaw}
-use Rattle.zy_world_law.proofs.SafeFromGood.{safe, grows}
+use Rattle.zy_world_law.proofs.StepLaws.{StepLaws}
+use Rattle.zy_world_law.proofs.SafeFromGood.{grows}
 
-module _ {S : Type 0} (R : Rules S) (law : HeldLaw) where
+module _ {S : Type 0} (R : Rules S) (law : HeldLaw) (steps : StepLaws R) where
   abbrev Chain : World S → List (World S) → Type 0
   Chain w [] = Unit {0}
   Chain w (v ∷ worlds) = IsAfter R w v × Chain v worlds
@@ -39,7 +40,7 @@ module _ {S : Type 0} (R : Rules S) (law : HeldLaw) where
   went rest chains w (Goes v note) after = let here = after v note refl in (here, chains v here.good)
 
   event_chain : (rest : Rest S) → Chains rest → (event : WorldEvent) (w : World S) → IsGood R w → Chain w (goes_on (happens R w event) rest).worlds
-  event_chain rest chains event w good = went rest chains w (happens R w event) (event_good R law w good event)
+  event_chain rest chains event w good = went rest chains w (happens R w event) (event_good R law steps w good event)
 
   flow_on_chain : (rest more : Rest S) → Chains rest → Chains more → (w : World S) → IsGood R w → (o : Option ℕ) → Chain w (flow_on R w rest more o).worlds
   flow_on_chain rest more chains others w good None = chains w good
@@ -56,12 +57,12 @@ module _ {S : Type 0} (R : Rules S) (law : HeldLaw) where
   marked w good bag muted = record { good = bag_good R w w.leaves bag muted good; texts = λ d text was. was; more = []; done = sym (append-nil w.done) }
 
   dropped : (w : World S) → IsGood R w → (number : ℕ) (o : Option Mail) → IsAfter R w (dropped_if w number o)
-  dropped w good number None = after_itself R law w good
+  dropped w good number None = after_itself R law steps w good
   dropped w good number (Some mail) = marked w good (with_mail_at w number (record mail { dropped = true })).bag w.muted
 
   muted_if : (w : World S) → IsGood R w → (muted : Party → Bool) (b : Bool) → IsAfter R w (if b then record w { muted = muted } else w)
   muted_if w good muted true = marked w good w.bag muted
-  muted_if w good muted false = after_itself R law w good
+  muted_if w good muted false = after_itself R law steps w good
 
   mutes : (w : World S) → IsGood R w → (party : Party) (on : Bool) → IsAfter R w (set_muted w party on)
   mutes w good party on = muted_if w good (λ other. if same_party other party then on else w.muted other) (is_party w party)
@@ -89,16 +90,17 @@ module _ {S : Type 0} (R : Rules S) (law : HeldLaw) where
 
   -- ---- safety
 
-  chain_safe : (w : World S) (worlds : List (World S)) → Chain w worlds → AllByRecursion (IsSafe R) worlds
-  chain_safe w [] chain = tt
-  chain_safe w (v ∷ worlds) chain = (safe R v chain.0.good, chain_safe v worlds chain.1)
-
   chain_grows : (w : World S) (worlds : List (World S)) → Chain w worlds → AllGrow R w worlds
   chain_grows w [] chain = tt
   chain_grows w (v ∷ worlds) chain = (grows R w v chain.0, chain_grows v worlds chain.1)
 
-  pub run_safe : (w : World S) → IsGood R w → (schedule : List Line) → AllByRecursion (IsSafe R) (w ∷ (run R schedule w).worlds)
-  run_safe w good schedule = (safe R w good, chain_safe w (run R schedule w).worlds (run_chain schedule w good))
-
   pub run_grows : (w : World S) → IsGood R w → (schedule : List Line) → AllGrow R w (run R schedule w).worlds
   run_grows w good schedule = chain_grows w (run R schedule w).worlds (run_chain schedule w good)
+
+  -- what holds of each good world holds of each world of a run
+  chain_all : (P : World S → Type 0) → ((w : World S) → IsGood R w → P w) → (w : World S) (worlds : List (World S)) → Chain w worlds → AllByRecursion P worlds
+  chain_all P holds w [] chain = tt
+  chain_all P holds w (v ∷ worlds) chain = (holds v chain.0.good, chain_all P holds v worlds chain.1)
+
+  pub run_all : (P : World S → Type 0) → ((w : World S) → IsGood R w → P w) → (w : World S) → IsGood R w → (schedule : List Line) → AllByRecursion P (w ∷ (run R schedule w).worlds)
+  run_all P holds w good schedule = (holds w good, chain_all P holds w (run R schedule w).worlds (run_chain schedule w good))

@@ -27,18 +27,18 @@ use Rattle.zy_law.specs.Said.{Moment}
 use Rattle.zy_law.specs.World as law
 use Rattle.zy_law.specs.World.{Stand}
 use Rattle.zy_lawful.proofs.Backing.{all_from}
-use Rattle.zy_lawful.proofs.KeptVotes.{stable_backed}
 use Rattle.zy_lawful.proofs.Own.{at_of}
 use Rattle.zy_lawful.proofs.Records.{answer_longer}
 use Rattle.zy_lawful.specs.Tied.{next_head}
 use Rattle.zy_world_law.specs.Events.{history_of}
-use Rattle.zy_world_law.specs.Good.{IsGood, IsDone, IsKept, AreRepliesKept}
+use Rattle.zy_world_law.specs.Good.{IsGood, IsDone, IsKept}
 use Rattle.zy_world_law.specs.Safe.{IsSafe, IsResult, IsAgreed, IsReplay, HasStable, Grows, completion_of, completions_of, mark_of}
 use Rattle.zy_world_law.specs.Seen.{seen, past_of, asked_by}
 use Rattle.zy_world_law.specs.Texts.{is_link}
 use Rattle.zy_world_law.specs.World.{World, Replica, Client, Completed, replica_at, client_at}
 use Rattle.zy_world_law.proofs.Goings.{IsAfter}
 use Rattle.zy_world_law.proofs.KeptTexts.{stay_kept}
+use Rattle.zy_world_law.proofs.OwnStable.{stable_backed, stable_own}
 use Rattle.zy_world_law.proofs.OneText.{one_kept_text, link_of, link_is}
 use Rattle.zy_world_law.proofs.ToldSteps.{map_append}
 
@@ -70,13 +70,6 @@ module _ {S : Type 0} (R : Rules S) (w : World S) (good : IsGood R w) where
 
   all_completed : All (IsCompleted v) (completions_of w)
   all_completed = all_from (IsCompleted v) (completions_of w) (completed_each w.done good.done)
-
-  -- the reply to each entry of a correct history is kept
-  moment_replied : (t : Moment v) → AreRepliesKept R w.texts t.stand.history
-  moment_replied t =
-      let (x, at) = correct_seat (replica_at w t.by) t.correct.honest in
-      let there : slice_get x.past t.number ≡ Some t.stand = ap (λ (o : Option (Replica S)). slice_get (past_of o) t.number) (sym at) ∙ t.stood in
-      at_of (λ (b : Stand). AreRepliesKept R w.texts b.history) x.past t.number t.stand (good.tied t.by x at).replies there
 
   module _ (list : List Entry) (agreed : IsAgreed R w list) where
     asked : AreAskedFor v 0 list
@@ -115,7 +108,7 @@ module _ {S : Type 0} (R : Rules S) (w : World S) (good : IsGood R w) where
         let same : take place t.stand.history ≡ take place list = one_list v good.lawful (mark_of c) (take place t.stand.history) (take place list) own front in
         let there : answer_at R t.stand.history place ≡ Some reply =
         sym (answer_front R t.stand.history place known.passes.within) ∙ ap (λ (l : List Entry). answer_at R l place) same ∙ answer_front R list place within ∙ answer in
-        let kept : IsKept w.texts reply = moment_replied t place reply there in
+        let kept : IsKept w.texts reply = (good.kept.kept.histories t).replies place reply there in
         let told : sha256 reply ≡ sha256 c.done.reply =
         ap (λ (o : Option (List ℕ)). sha256 (unwrap_or o [])) (sym answer ∙ sym (answer_front R list place within) ∙ ap (λ (n : ℕ). answer_at R (take place list) n) (sym (length-take-le place list within)))
         ∙ ap (λ (d : Digest). d.0) a.reply in
@@ -140,12 +133,15 @@ module _ {S : Type 0} (R : Rules S) (w : World S) (good : IsGood R w) where
       (slice_get-map completion_of w.done k ∙ ap (λ (o : Option Completed). option_map completion_of o) at)
 
   replay : (id : ℕ) (x : Replica S) → replica_at w id ≡ Some x → IsReplay R x
-  replay id x at = stands_leads R x.state.kept (history_of x.past) (good.tied id x at).tied.standing.stands
+  replay id x at = stands_leads R x.state.kept (history_of x.past) (good.tied id x at).ready.tied.standing.stands
 
   stable : (id : ℕ) (x : Replica S) → replica_at w id ≡ Some x → HasStable R w x
   stable id x at =
-      let board = (good.tied id x at).tied.board in
-      record { backed = stable_backed v x.state.board board.stable; own = board.own }
+      let ready = (good.tied id x at).ready in
+      record {
+        backed = stable_backed R w.setup.interval v id x.state (history_of x.past) ready;
+        own = stable_own R w.setup.interval v id x.state (history_of x.past) ready refl refl;
+      }
 
   pub safe : IsSafe R w
   safe =
@@ -166,7 +162,7 @@ module _ {S : Type 0} (R : Rules S) (w u : World S) (after : IsAfter R w u) wher
   link_stays : (d : Digest) (e : Entry) → is_link w.texts d e ≡ true → is_link u.texts d e ≡ true
   link_stays d e is =
       let link = link_of w.texts d e is in
-      link_is u.texts d e (record { usable = link.usable; entry = stay_kept w.texts u.texts after.texts _ link.entry; link = stay_kept w.texts u.texts after.texts _ link.link })
+      link_is u.texts d e (record { runnable = link.runnable; entry = stay_kept w.texts u.texts after.texts _ link.entry; link = stay_kept w.texts u.texts after.texts _ link.link })
 
   completions_more : completions_of u ≡ completions_of w ++ map completion_of after.more
   completions_more = ap (λ (l : List Completed). map completion_of l) after.done ∙ map_append completion_of w.done after.more

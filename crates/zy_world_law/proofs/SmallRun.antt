@@ -1,7 +1,7 @@
 -- The run of the small schedule.
 use Rattle.std.proofs.Common.{◌≡◌, ℕ, List, [], refl, sym, subst}
 use Rattle.zy_base.specs.Machine.{Rules}
-use Rattle.zy_table.specs.Step.{step}
+use Rattle.zy_table.specs.Whole.{whole_step}
 use Rattle.zy_wire.specs.Framing.{framed_in}
 use Rattle.zy_world_law.specs.Events.{happens}
 use Rattle.zy_world_law.specs.Example.{small_schedule, small_notes}
@@ -18,7 +18,7 @@ module _ {S : Type 0} (R : Rules S) (setup : Setup) where
   Told w = (run R small_schedule w).notes ≡ small_notes
 
   four_told : Told (seated 4 [])
-  unfolding run flow happens seats framed_in step
+  unfolding run flow happens seats framed_in whole_step
   four_told = refl
 
 pub small_run : {S : Type 0} (R : Rules S) (setup : Setup) → setup.counts.n ≡ 4 → setup.liars ≡ [] → (run R small_schedule (start R setup)).notes ≡ small_notes

@@ -13,15 +13,17 @@ use Rattle.zy_law.specs.Said.{IsCorrect}
 use Rattle.zy_law.specs.Steps.{IsStart}
 use Rattle.zy_law.specs.World as law
 use Rattle.zy_law.specs.World.{Stand}
-use Rattle.zy_lawful.proofs.TieLemmas.{tied_at_start}
+use Rattle.zy_lawful.specs.Tied.{Agrees}
+use Rattle.zy_normal_steps.proofs.AtStart.{ready_at_start, texts_at_start, work_at_start}
+use Rattle.zy_seal.specs.Sealing.{SealerState}
 use Rattle.zy_world_law.specs.Good.{IsGood, IsTied, IsClientTied}
 use Rattle.zy_world_law.specs.Seen.{seen, said_of, past_of, spoken_by}
 use Rattle.zy_world_law.specs.Setup.{Setup, IsSetup, keys_of, sealer_of}
 use Rattle.zy_world_law.specs.World.{World, Replica, Client, first_texts, replica_at, client_at, correct_in, seats, start, starting_replica, starting_client}
 use Rattle.zy_world_law.proofs.HeldLaw.{HeldLaw}
 use Rattle.zy_world_law.proofs.KeptOrHeard.{none_filled}
-use Rattle.zy_world_law.proofs.OneText.{one_text}
-use Rattle.zy_world_law.proofs.ToldSteps.{none_replied, none_snapped}
+use Rattle.zy_world_law.proofs.OneText.{link_of, one_text}
+use Rattle.zy_world_law.proofs.StepLaws.{StepLaws}
 
 -- ---- seats
 
@@ -104,7 +106,7 @@ count_listed n (a ∷ numbers) = omega (arith, count_or n (λ i. nat_eq i a) (λ
 
 -- ---- the start
 
-module _ {S : Type 0} (R : Rules S) (held : HeldLaw) (setup : Setup) (is : IsSetup setup) where
+module _ {S : Type 0} (R : Rules S) (held : HeldLaw) (steps : StepLaws R) (setup : Setup) (is : IsSetup setup) where
   abbrev w : World S
   w = start R setup
 
@@ -126,9 +128,9 @@ module _ {S : Type 0} (R : Rules S) (held : HeldLaw) (setup : Setup) (is : IsSet
         is.few,
       )
 
-  said_nothing : (o : Option (Replica S)) → ((x : Replica S) → o ≡ Some x → x.said ≡ []) → said_of o ≡ []
-  said_nothing None each = refl
-  said_nothing (Some x) each = ap (λ (l : List _). map spoken_by l) (each x refl)
+  said_nothing : (q : ℕ) (o : Option (Replica S)) → ((x : Replica S) → o ≡ Some x → x.said ≡ []) → said_of q o ≡ []
+  said_nothing q None each = refl
+  said_nothing q (Some x) each = ap (λ (l : List _). map (spoken_by q) l) (each x refl)
 
   stands_first : (o : Option (Replica S)) → is_none o ≡ false → ((x : Replica S) → o ≡ Some x → x.past ≡ record { view = 0; history = [] } ∷ []) → past_of o ≡ record { view = 0; history = [] } ∷ []
   stands_first None correct each = absurd cc
@@ -139,12 +141,18 @@ module _ {S : Type 0} (R : Rules S) (held : HeldLaw) (setup : Setup) (is : IsSet
       record {
         few_liars = few;
         one_text = one_text first_texts;
-        silent = λ r correct. said_nothing (replica_at w r) (λ x at. ap (λ (y : Replica S). y.said) (replica_is r x at).1);
+        silent = λ r correct. said_nothing r (replica_at w r) (λ x at. ap (λ (y : Replica S). y.said) (replica_is r x at).1);
         stands = λ r correct. stands_first (replica_at w r) correct.honest (λ x at. ap (λ (y : Replica S). y.past) (replica_is r x at).1);
       }
 
+  agrees : Agrees R v
+  agrees = record { next = refl; digest = refl; reply = refl; state = refl }
+
   correct_at : (q : ℕ) (x : Replica S) → replica_at w q ≡ Some x → IsCorrect v q
   correct_at q x at = record { within = (replica_is q x at).0; honest = ap (λ (o : Option (Replica S)). is_none o) at }
+
+  abbrev sealer_at : ℕ → SealerState
+  sealer_at q = sealer_of setup (parties.Replica (record { 0 = q })) 0
 
   tied : (q : ℕ) (x : Replica S) → replica_at w q ≡ Some x → IsTied R w q x
   tied q x at =
@@ -152,12 +160,10 @@ module _ {S : Type 0} (R : Rules S) (held : HeldLaw) (setup : Setup) (is : IsSet
       let small : q < 256 = omega (arith, here.0, setup.counts.sound.few) in
       subst (λ (y : Replica S). IsTied R w q y) (sym here.1)
       (record {
-        tied = tied_at_start R v q setup.interval (record { 0 = q }) setup.counts (keys_of setup) (sealer_of setup (parties.Replica (record { 0 = q })) 0) begins (correct_at q x at) refl refl refl;
+        ready = ready_at_start R setup.interval q v (record { 0 = q }) setup.counts (keys_of setup) (sealer_at q) is.least_interval (start_lawful v begins) begins agrees (correct_at q x at) refl refl refl;
+        works = work_at_start R setup.interval q v (record { 0 = q }) setup.counts (keys_of setup) (sealer_at q) begins (correct_at q x at) refl refl;
         keys = refl;
-        interval = refl;
-        short = record { number = small; view = omega arith; end = omega arith; leaves = omega arith };
-        replies = (none_replied R first_texts, tt);
-        snapshots = (none_snapped R setup.interval first_texts, tt);
+        spelled = steps.spelled_first setup.interval (record { 0 = q }) setup.counts (keys_of setup) (sealer_at q) is.greatest_interval small refl;
       })
 
   client_tied : (q : ℕ) (x : Client) → client_at w q ≡ Some x → IsClientTied R w q x
@@ -179,6 +185,7 @@ module _ {S : Type 0} (R : Rules S) (held : HeldLaw) (setup : Setup) (is : IsSet
         replicas = length-seats setup.counts.n setup.liars (starting_replica R setup);
         clients = length-seats setup.clients setup.lying_clients (starting_client setup);
         lawful = start_lawful v begins;
+        kept = texts_at_start R setup.interval first_texts v begins agrees (λ head e kept. link_of first_texts head e kept);
         tied = tied;
         client_tied = client_tied;
         done = tt;

@@ -3,15 +3,17 @@ use Rattle.std.proofs.Common.{◌≡◌, ℕ, true, List, [], ◌∷◌, refl}
 use Rattle.std.specs.List.{AllByRecursion}
 use Rattle.zy_base.specs.Machine.{Rules}
 use Rattle.zy_base.specs.declared.ids.Digest.{Digest}
+use Rattle.zy_begin_steps.specs.Steps.{IsWorldOf}
 use Rattle.zy_chain.specs.declared.entry.Entry.{Entry}
 use Rattle.zy_law.proofs.GrownLemmas.{completed_grown}
 use Rattle.zy_law.proofs.StepsLawful.{more_lawful}
+use Rattle.zy_law.specs.Lawful.{IsLawful}
+use Rattle.zy_law.specs.Said.{Moment}
+use Rattle.zy_law.specs.Steps.{IsGrown}
 use Rattle.zy_law.specs.World as law
-use Rattle.zy_law.specs.World.{Stand}
-use Rattle.zy_lawful.proofs.TieLemmas.{tied_grown}
 use Rattle.zy_table.specs.declared.client.Response.{Response}
 use Rattle.zy_world_law.specs.Events.{history_of}
-use Rattle.zy_world_law.specs.Good.{IsGood, IsTied, IsClientTied, IsBackedBy, IsDone, AreRepliesKept, AreSnapshotsKept}
+use Rattle.zy_world_law.specs.Good.{IsGood, IsTied, IsClientTied, IsBackedBy, IsDone}
 use Rattle.zy_world_law.specs.Safe.{completion_of}
 use Rattle.zy_world_law.specs.Seen.{seen}
 use Rattle.zy_world_law.specs.Texts.{is_link}
@@ -19,6 +21,7 @@ use Rattle.zy_world_law.specs.World.{World, Replica, Client, Completed, Texts}
 use Rattle.zy_world_law.proofs.CommitStays.{commit_later}
 use Rattle.zy_world_law.proofs.KeptTexts.{Stay, stay_kept}
 use Rattle.zy_world_law.proofs.OneText.{one_text, link_of, link_is}
+use Rattle.zy_world_law.proofs.StillReady.{still_ready, still_works}
 
 module _ {S : Type 0} (R : Rules S) (w : World S) (texts : Texts) (stay : Stay w.texts texts) where
   abbrev w' : World S
@@ -30,25 +33,37 @@ module _ {S : Type 0} (R : Rules S) (w : World S) (texts : Texts) (stay : Stay w
   link_stays : (d : Digest) (e : Entry) → is_link w.texts d e ≡ true → is_link texts d e ≡ true
   link_stays d e is =
       let link = link_of w.texts d e is in
-      link_is texts d e (record { usable = link.usable; entry = stay_kept w.texts texts stay _ link.entry; link = stay_kept w.texts texts stay _ link.link })
+      link_is texts d e (record { runnable = link.runnable; entry = stay_kept w.texts texts stay _ link.entry; link = stay_kept w.texts texts stay _ link.link })
 
-  stands_stay : (past : List Stand) → AllByRecursion (λ (b : Stand). AreRepliesKept R w.texts b.history) past → AllByRecursion (λ (b : Stand). AreRepliesKept R texts b.history) past
-  stands_stay [] all = tt
-  stands_stay (b ∷ past) all = (λ place reply is. stay_kept w.texts texts stay reply (all.0 place reply is), stands_stay past all.1)
+  grows : IsGrown v v.asked v.said v.past (is_link texts)
+  grows = record { asks = λ q e has. has; says = λ q i y has. has; stands = λ q i b has. has; keeps = link_stays }
 
-  snapshots_stay : (interval : ℕ) (past : List Stand) → AllByRecursion (λ (b : Stand). AreSnapshotsKept R interval w.texts b.history) past → AllByRecursion (λ (b : Stand). AreSnapshotsKept R interval texts b.history) past
-  snapshots_stay interval [] all = tt
-  snapshots_stay interval (b ∷ past) all = (λ place snapshot above is. stay_kept w.texts texts stay snapshot (all.0 place snapshot above is), snapshots_stay interval past all.1)
+  still_lawful : IsLawful v → IsLawful (seen R w')
+  still_lawful lawful = more_lawful v lawful v.asked (is_link texts) (λ q e has. has) (record { more = link_stays; one_text = one_text texts })
 
-  tied_stays : (id : ℕ) (x : Replica S) → IsTied R w id x → IsTied R w' id x
-  tied_stays id x t =
+  tied_stays : IsLawful v → (id : ℕ) (x : Replica S) → IsTied R w id x → IsTied R w' id x
+  tied_stays lawful id x t =
       record {
-        tied = tied_grown R v id x.state (history_of x.past) v.asked v.said v.past (is_link texts) (λ q e has. has) (λ q i y has. has) (λ q i b has. has) refl refl t.tied;
+        ready = still_ready R v v.asked v.said v.past (is_link texts) grows w.setup.interval id x.state refl refl (history_of x.past) (still_lawful lawful) t.ready;
+        works = still_works R v v.asked v.said v.past (is_link texts) grows w.setup.interval id x.state refl refl t.works;
         keys = t.keys;
-        interval = t.interval;
-        short = t.short;
-        replies = stands_stay x.past t.replies;
-        snapshots = snapshots_stay w.setup.interval x.past t.snapshots;
+        spelled = t.spelled;
+      }
+
+  world_stays : IsWorldOf R w.setup.interval v w.texts → IsWorldOf R w.setup.interval (seen R w') texts
+  world_stays is =
+      record {
+        agrees = record { next = refl; digest = refl; reply = refl; state = refl };
+        kept = record {
+          links = λ head e kept. link_of texts head e kept;
+          histories = λ t.
+              let was : Moment v = record { by = t.by; correct = record { within = t.correct.within; honest = t.correct.honest }; number = t.number; stand = t.stand; stood = t.stood } in
+              let before = is.kept.histories was in
+              record {
+                replies = λ place reply told. stay_kept w.texts texts stay reply (before.replies place reply told);
+                snapshots = λ place snapshot above told. stay_kept w.texts texts stay snapshot (before.snapshots place snapshot above told);
+              };
+        };
       }
 
   backed_stays : (id : ℕ) (r : Response) → IsBackedBy w id r → IsBackedBy w' id r
@@ -84,8 +99,9 @@ module _ {S : Type 0} (R : Rules S) (w : World S) (texts : Texts) (stay : Stay w
         setup = good.setup;
         replicas = good.replicas;
         clients = good.clients;
-        lawful = more_lawful v good.lawful v.asked (is_link texts) (λ q e has. has) (record { more = link_stays; one_text = one_text texts });
-        tied = λ id x at. tied_stays id x (good.tied id x at);
+        lawful = still_lawful good.lawful;
+        kept = world_stays good.kept;
+        tied = λ id x at. tied_stays good.lawful id x (good.tied id x at);
         client_tied = λ id x at. client_stays id x (good.client_tied id x at);
         done = all_done w.done good.done;
       }

@@ -6,14 +6,19 @@ use Rattle.std.proofs.lemmas.Option.{same_Some, slice_get-get_or, slice_get-map,
 use Rattle.zy_base.specs.Machine.{Rules}
 use Rattle.zy_base.specs.declared.ids.Party.{Party}
 use Rattle.zy_base.specs.declared.ids.Party.TheVariants as parties
+use Rattle.zy_evidence.specs.Reading.{number_of_party}
 use Rattle.zy_law.specs.Said.{HasSaid, IsVouched}
 use Rattle.zy_law.specs.World.{Statement}
 use Rattle.zy_lawful.specs.Tied.{IsVouchedBy}
+use Rattle.zy_parts.specs.declared.signed.Part.{Part}
 use Rattle.zy_seal.specs.Checking.{answer_under}
 use Rattle.zy_seal.specs.Screening.{answer_to}
 use Rattle.zy_seal.specs.declared.directory.SealAnswer.TheVariants as answers
 use Rattle.zy_table.specs.Roles.{is_replica}
-use Rattle.zy_world_law.specs.Seen.{seen, said_of, spoken_by, statement_in}
+use Rattle.zy_view_law.specs.Held as held
+use Rattle.zy_view_law.specs.Held.{IsHonestPart}
+use Rattle.zy_view_law.specs.Told.{statement_in}
+use Rattle.zy_world_law.specs.Seen.{seen, said_of, spoken_by}
 use Rattle.zy_world_law.specs.Setup.{keys_of, public_key_of}
 use Rattle.zy_world_law.specs.World.{World, Replica, Remark, replica_at, texts_said}
 use Rattle.zy_world_law.proofs.NotForged.{IsSaid}
@@ -61,15 +66,15 @@ module _ {S : Type 0} (w : World S) where
   verified_said number text sig signed said = (replica_within number text sig signed, said_or_lies number text (replica_at w number) refl said)
 
 module _ {S : Type 0} (R : Rules S) (w : World S) where
-  said_so : (id : ℕ) (y : Replica S) (text : List ℕ) (s : Statement) → replica_at w id ≡ Some y → statement_in text ≡ s → Contains (map (λ (remark : Remark). remark.text) y.said) text → HasSaid (seen R w) id s
+  said_so : (id : ℕ) (y : Replica S) (text : List ℕ) (s : Statement) → replica_at w id ≡ Some y → statement_in id text ≡ s → Contains (map (λ (remark : Remark). remark.text) y.said) text → HasSaid (seen R w) id s
   said_so id y text s at reads has =
       let (k, remark, there, is) = remark_with y.said text has in
-      let spoken : slice_get (said_of (replica_at w id)) k ≡ Some (spoken_by remark) =
-      ap (λ (o : Option (Replica S)). slice_get (said_of o) k) at ∙ slice_get-map spoken_by y.said k ∙ ap (λ (o : Option Remark). option_map spoken_by o) there in
-      (k, spoken_by remark, spoken, ap statement_in is ∙ reads)
+      let spoken : slice_get (said_of id (replica_at w id)) k ≡ Some (spoken_by id remark) =
+      ap (λ (o : Option (Replica S)). slice_get (said_of id o) k) at ∙ slice_get-map (spoken_by id) y.said k ∙ ap (λ (o : Option Remark). option_map (spoken_by id) o) there in
+      (k, spoken_by id remark, spoken, ap (statement_in id) is ∙ reads)
 
   -- by what is read in the text
-  pub text_vouched : (id : ℕ) (text : List ℕ) (s : Statement) → id < w.setup.counts.n → SaidOrLies w id text → statement_in text ≡ s → IsVouched (seen R w) s id
+  pub text_vouched : (id : ℕ) (text : List ℕ) (s : Statement) → id < w.setup.counts.n → SaidOrLies w id text → statement_in id text ≡ s → IsVouched (seen R w) s id
   text_vouched id text s within said reads =
       record {
         within = within;
@@ -79,9 +84,17 @@ module _ {S : Type 0} (R : Rules S) (w : World S) where
         ];
       }
 
-  pub part_vouched : (by : Party) (text sig : List ℕ) (s : Statement) → is_replica by ≡ true → statement_in text ≡ s → answer_to (keys_of w.setup) (record { by = by; text = text; sig = sig }) ≡ answers.Yes
-      → IsSaid (texts_said w by) text → IsVouchedBy (seen R w) s by
+  pub part_vouched : (by : Party) (text sig : List ℕ) (s : Statement) → is_replica by ≡ true → statement_in (number_of_party by) text ≡ s
+      → answer_to (keys_of w.setup) (record { by = by; text = text; sig = sig }) ≡ answers.Yes → IsSaid (texts_said w by) text → IsVouchedBy (seen R w) s by
   part_vouched (parties.Replica id) text sig s role reads signed said =
       let both = verified_said w id.0 text sig signed said in
       text_vouched id.0 text s both.0 both.1 reads
   part_vouched (parties.Client id) text sig s role reads signed said = absurd cc
+
+  -- so is a replica's part
+  pub part_honest : (part : Part) → is_replica part.by ≡ true → answer_to (keys_of w.setup) part ≡ answers.Yes → IsSaid (texts_said w part.by) part.text → IsHonestPart (seen R w) part
+  part_honest part role signed said = by part.by role (part_vouched part.by part.text part.sig (statement_in (number_of_party part.by) part.text) role refl signed said)
+    where
+      by : (by : Party) → is_replica by ≡ true → IsVouchedBy (seen R w) (statement_in (number_of_party part.by) part.text) by → held.IsVouchedBy (seen R w) (statement_in (number_of_party part.by) part.text) by
+      by (parties.Replica id) role is = is
+      by (parties.Client id) role is = absurd cc

@@ -84,7 +84,7 @@ pub record IsGood {S : Type 0} (R : Rules S) (w : World S) : Type 0 where
   pub clients : length w.clients ≡ w.setup.clients
   pub lawful : IsLawful (seen R w)
   -- what each correct history leads to is kept
-  pub world : IsWorldOf R w.setup.interval (seen R w) w.texts
+  pub kept : IsWorldOf R w.setup.interval (seen R w) w.texts
   pub tied : (id : ℕ) (x : world.Replica S) → replica_at w id ≡ Some x → IsTied R w id x
   pub client_tied : (id : ℕ) (x : Client) → client_at w id ≡ Some x → IsClientTied R w id x
   pub done : AllByRecursion (IsDone R w) w.done

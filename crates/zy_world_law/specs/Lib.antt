@@ -8,5 +8,6 @@ pub mod Events
 pub mod Runs
 pub mod Seen
 pub mod Safe
+pub mod Blame
 pub mod Good
 pub mod Example

@@ -1,5 +1,5 @@
 -- What a world begins with, and the keys of its parties.
-use Rattle.std.specs.Prelude.{ℕ, ◌≤◌, List, map, length}
+use Rattle.std.specs.Prelude.{ℕ, ◌<◌, ◌≤◌, List, map, length}
 use Rattle.std.specs.List.{range_with_len}
 use Rattle.zy_base.specs.declared.counts.Counts.{Counts}
 use Rattle.zy_base.specs.declared.ids.Party.{Party}
@@ -26,10 +26,13 @@ pub record Setup : Type 0 where
   pub height : Height
   pub ots : OtsType
 
--- at most f replicas lie, and there are at most 64 clients
+-- At most f replicas lie, there are at most 64 clients, and from one to 32 places lie between two checkpoints, so that a report
+-- has room for what lies above the last stable one.
 pub record IsSetup (s : Setup) : Type 0 where
   pub few : length s.liars ≤ s.counts.f
   pub clients : s.clients ≤ 64
+  pub least_interval : 0 < s.interval
+  pub greatest_interval : s.interval ≤ 32
 
 -- a party's key, derived from the seed, whose next leaf is this one
 abbrev pub key_of_party : Setup → Party → ℕ → KeyState

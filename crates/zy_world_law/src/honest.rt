@@ -9,7 +9,10 @@ ghost use Rattle.zy_world_law.specs.declared.event.WorldEvent.{WorldEvent};
 ghost use Rattle.zy_world_law.specs.declared.note.Note.{Note};
 
 use zy_base::Machine;
+use zy_begin_steps::installed_states;
 use zy_client::held_responses;
+use zy_normal_steps::{gained_entries, whole_steps};
+use zy_spelled::{said_back, same_keys, spelled_start, spelled_steps};
 
 /// The start is good where at most f replicas lie, an honest event keeps a good world good, a good world is safe, and the
 /// agreed list only grows.
@@ -20,4 +23,11 @@ pub fn honest_keeps<M: Machine>()
     ensures grows { (w v : World M.State) (event : WorldEvent) (note : Note) → IsGood M.rules w → happens M.rules w event ≡ Goes v note → Grows M.rules w v }
 {
     held_responses();
+    gained_entries::<M>();
+    whole_steps::<M>();
+    installed_states::<M>();
+    spelled_start::<M>();
+    spelled_steps::<M>();
+    said_back();
+    same_keys::<M>();
 }

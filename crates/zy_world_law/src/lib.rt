@@ -2,12 +2,14 @@
 //! definitions, and that every run is safe. The functions here are laws, which have no argument and do nothing.
 #![tactic(auto)]
 
+mod blame;
 mod event;
 mod example;
 mod honest;
 mod note;
 mod runs;
 
+pub use blame::no_correct_replica_is_blamed;
 pub use event::WorldEvent;
 pub use example::a_small_run;
 pub use honest::honest_keeps;

@@ -7,7 +7,10 @@ ghost use Rattle.zy_world_law.specs.Setup.{IsSetup, Setup};
 ghost use Rattle.zy_world_law.specs.World.{start};
 
 use zy_base::Machine;
+use zy_begin_steps::installed_states;
 use zy_client::held_responses;
+use zy_normal_steps::{gained_entries, whole_steps};
+use zy_spelled::{said_back, same_keys, spelled_start, spelled_steps};
 
 /// Every run is safe: for each setup in which at most f replicas lie, and each schedule, each world of the run is safe, and
 /// the agreed list before each event is a front of the one after it.
@@ -16,4 +19,11 @@ pub fn runs_are_safe<M: Machine>()
     ensures grows { (setup : Setup) (schedule : List Line) → IsSetup setup → AllGrow M.rules (start M.rules setup) (run M.rules schedule (start M.rules setup)).worlds }
 {
     held_responses();
+    gained_entries::<M>();
+    whole_steps::<M>();
+    installed_states::<M>();
+    spelled_start::<M>();
+    spelled_steps::<M>();
+    said_back();
+    same_keys::<M>();
 }

@@ -1,22 +1,26 @@
--- The requests of a frame that isn't forged may run, and its responses and its checkpoint may be counted.
-use Rattle.std.proofs.Common.{◌≡◌, ◌⊎◌, inl, inr, ℕ, zero, suc, ◌<◌, ◌^◌, true, ◌&&◌, List, [], ◌∷◌, length, Option, Some, None, refl, sym, ap, ◌∙◌, subst, arith}
+-- The requests of a frame that isn't forged may run, and its responses and its checkpoint are held.
+use Rattle.std.proofs.Common.{◌≡◌, ◌⊎◌, inl, inr, ℕ, zero, suc, ◌<◌, ◌^◌, true, ◌&&◌, List, [], ◌∷◌, length, Option, Some, None, Result, refl, sym, ap, ◌∙◌, subst, arith}
 use Rattle.std.specs.Prelude.{option_map, is_none, Contains, slice_get, map}
 use Rattle.std.specs.List.{AllByRecursion, filter_map, cons_option, list_all}
 use Rattle.std.proofs.lemmas.Bool.{and_parts}
 use Rattle.std.proofs.lemmas.List.FromFn.{length-map-range_with_len}
 use Rattle.std.proofs.lemmas.Option.{same_Some, slice_get_within}
 use Rattle.zy_base.specs.Machine.{Rules}
+use Rattle.zy_base.specs.declared.frame_fault.FrameFault.{FrameFault}
 use Rattle.zy_base.specs.declared.ids.ClientId.{ClientId}
 use Rattle.zy_base.specs.declared.ids.Party.{Party}
 use Rattle.zy_base.specs.declared.ids.Party.TheVariants as parties
 use Rattle.zy_base.specs.declared.step.Event.TheVariants.{Heard}
 use Rattle.zy_admit.specs.Judging.{entry_of}
+use Rattle.zy_evidence.specs.Reading.{number_of_party}
 use Rattle.zy_frames.specs.Frames.{parts_of}
 use Rattle.zy_frames.specs.declared.frame.Frame.{Frame}
 use Rattle.zy_frames.specs.declared.frame.Frame.TheVariants as frames
-use Rattle.zy_law.specs.World.{Answer}
-use Rattle.zy_lawful.specs.Acts.{spec_statement, check_statement}
-use Rattle.zy_lawful.specs.Tied.{MayRun, MayFrameRun, MayEventRun, IsVouchedBy, response_with}
+use Rattle.zy_law.specs.World.{Statement}
+use Rattle.zy_lawful.proofs.Backing.{all_from, all_listed}
+use Rattle.zy_lawful.specs.Tied.{MayRun}
+use Rattle.zy_normal_steps.specs.Heard.{IsEventHeld, IsFrameHeld}
+use Rattle.zy_parts.specs.Exact.{ask-in_range}
 use Rattle.zy_parts.specs.Numbers as numbers
 use Rattle.zy_parts.specs.Signing.{part_of, text_of}
 use Rattle.zy_parts.specs.Statements.{ask_fields, spec_fields, check_fields}
@@ -26,21 +30,28 @@ use Rattle.zy_parts.specs.declared.signed.Signed.{Signed}
 use Rattle.zy_parts.specs.declared.statements.Ask.{Ask}
 use Rattle.zy_parts.specs.declared.statements.Spec.{Spec}
 use Rattle.zy_seal.specs.Keys.{Keys}
-use Rattle.zy_seal.specs.Screening.{answer_to}
+use Rattle.zy_seal.specs.Screening.{answer_to, screen}
 use Rattle.zy_seal.specs.declared.directory.SealAnswer.TheVariants as answers
 use Rattle.zy_table.specs.Roles.{in_role, is_client, is_order_of_primary, is_replica, is_primary_of}
 use Rattle.zy_table.specs.State.{State}
-use Rattle.zy_parts.specs.Exact.{ask-in_range}
+use Rattle.zy_table.specs.declared.deeds.AnyFrame.TheVariants.{Plain}
+use Rattle.zy_view_law.proofs.ReadBack.{check_back, spec_back}
+use Rattle.zy_view_law.specs.Held.{IsHeldPart, IsVouchedBy}
+use Rattle.zy_view_law.specs.Told.{check_told, response_told, statement_in}
+use Rattle.zy_wire.specs.Spelling.{Spelling}
 use Rattle.zy_world_law.specs.Good.{IsGood}
 use Rattle.zy_world_law.specs.Honest.{forger_in}
+use Rattle.zy_world_law.specs.Reading.{either_read}
 use Rattle.zy_world_law.specs.Seen.{seen, asked_by, asked_of, entry_in}
 use Rattle.zy_world_law.specs.Setup.{keys_of, public_key_of}
 use Rattle.zy_world_law.specs.World.{World, Client, client_at, texts_said}
+use Rattle.zy_world_law.proofs.DecodedFields.{FitsForClients}
 use Rattle.zy_world_law.proofs.DecodedInRange.{IsReadable, decoded_readable}
+use Rattle.zy_world_law.proofs.DecodedReports.{response_fits}
 use Rattle.zy_world_law.proofs.NotForged.{IsSaid, parts_said}
-use Rattle.zy_world_law.proofs.ReadBack.{FitsForClients, read_back, entry_back, spec_back, check_back, spec_read_back}
+use Rattle.zy_world_law.proofs.ReadBack.{entry_back}
 use Rattle.zy_world_law.proofs.Screened.{all_verify}
-use Rattle.zy_world_law.proofs.Vouched.{under_some, part_vouched}
+use Rattle.zy_world_law.proofs.Vouched.{under_some, part_honest}
 
 -- ---- lists
 
@@ -102,47 +113,49 @@ module _ {S : Type 0} (R : Rules S) (w : World S) (good : IsGood R w) where
   abbrev WasSaid : Part → Type 0
   WasSaid part = answer_to (keys_of w.setup) part ≡ answers.Yes → IsSaid (texts_said w part.by) part.text
 
-  -- ---- the responses of a certificate
+  -- ---- parts that are held
 
-  -- what a response answers, as the law reads it
-  abbrev answer_in : Spec → Answer
-  answer_in spec = record { client = (read_back spec).client.0; stamp = spec.stamp.0; reply = spec.reply }
+  -- a replica's part that is read back so
+  part_held : {A : Type 0} (number : ℕ) (fields : Spelling A) (say : A → Statement) (x : Signed A) → is_replica x.by ≡ true → statement_in (number_of_party x.by) (text_of number fields x.by x.stmt) ≡ say x.stmt
+      → Verifies (part_of number fields x) → WasSaid (part_of number fields x) → IsHeldPart (seen R w) say x
+  part_held number fields say x role back signed said =
+      subst (λ (s : Statement). IsVouchedBy (seen R w) s x.by) back (part_honest R w (part_of number fields x) role signed (said signed))
 
-  responses_vouched : (specs : List (Signed Spec)) → AllByRecursion (λ spec. FitsForClients spec.stmt) specs → list_all (λ spec. is_replica spec.by) specs ≡ true
-      → AllByRecursion Verifies (map (part_of numbers.spec spec_fields) specs) → AllByRecursion WasSaid (map (part_of numbers.spec spec_fields) specs)
-      → AllByRecursion (λ spec. IsVouchedBy (seen R w) (response_with (answer_in spec.stmt) spec.stmt) spec.by) specs
-  responses_vouched [] fits role signed said = tt
-  responses_vouched (spec ∷ specs) fits role signed said =
-      let roles = and_parts (is_replica spec.by) (list_all (λ spec. is_replica spec.by) specs) role in (
-        part_vouched R w spec.by (text_of numbers.spec spec_fields spec.by spec.stmt) spec.sig (response_with (answer_in spec.stmt) spec.stmt) roles.0 (spec_read_back spec.by spec.stmt fits.0) signed.0 (said.0 signed.0),
-        responses_vouched specs fits.1 roles.1 signed.1 said.1,
-      )
+  response_held : (spec : Signed Spec) → FitsForClients spec.stmt → is_replica spec.by ≡ true → Verifies (part_of numbers.spec spec_fields spec) → WasSaid (part_of numbers.spec spec_fields spec) → IsHeldPart (seen R w) response_told spec
+  response_held spec fits role signed said =
+      part_held numbers.spec spec_fields response_told spec role (spec_back (number_of_party spec.by) spec.by spec.stmt (response_fits spec.stmt fits)) signed said
 
-  -- a response to a client that there may be
-  response_vouched : (spec : Signed Spec) → spec.stmt.client.0 < 2 ^ 32 → FitsForClients spec.stmt → is_replica spec.by ≡ true → Verifies (part_of numbers.spec spec_fields spec)
-      → IsSaid (texts_said w spec.by) (text_of numbers.spec spec_fields spec.by spec.stmt) → IsVouchedBy (seen R w) (spec_statement spec.stmt) spec.by
-  response_vouched spec small fits role signed said =
-      part_vouched R w spec.by (text_of numbers.spec spec_fields spec.by spec.stmt) spec.sig (spec_statement spec.stmt) role (spec_back spec.by spec.stmt (fits spec.stmt.client.0 small)) signed said
+  responses_held : (specs : List (Signed Spec)) → AllByRecursion (λ spec. FitsForClients spec.stmt) specs → list_all (λ spec. is_replica spec.by) specs ≡ true
+      → AllByRecursion Verifies (map (part_of numbers.spec spec_fields) specs) → AllByRecursion WasSaid (map (part_of numbers.spec spec_fields) specs) → AllByRecursion (IsHeldPart (seen R w) response_told) specs
+  responses_held [] fits role signed said = tt
+  responses_held (spec ∷ specs) fits role signed said =
+      let roles = and_parts (is_replica spec.by) (list_all (λ spec. is_replica spec.by) specs) role in
+      (response_held spec fits.0 roles.0 signed.0 said.0, responses_held specs fits.1 roles.1 signed.1 said.1)
 
-  frame_runs : (s : State S) (frame : Frame) → IsReadable frame → in_role s frame ≡ true → AllByRecursion Verifies (parts_of frame) → AllByRecursion WasSaid (parts_of frame) → MayFrameRun (seen R w) frame
-  frame_runs s (frames.Request ask) fits role signed said =
-      request_by ask.by ask.stmt ask.sig role fits signed.0 (said.0 signed.0)
-  frame_runs s (frames.Order both) fits role signed said =
+  -- ---- a frame of normal operation
+
+  frame_held : (s : State S) (frame : Frame) → IsReadable frame → in_role s frame ≡ true → AllByRecursion Verifies (parts_of frame) → AllByRecursion WasSaid (parts_of frame) → IsFrameHeld (seen R w) frame
+  frame_held s (frames.Request ask) fits role signed said = request_by ask.by ask.stmt ask.sig role fits signed.0 (said.0 signed.0)
+  frame_held s (frames.Order both) fits role signed said =
       request_by both.ask.by both.ask.stmt both.ask.sig (and_parts (is_primary_of s.counts both.order.stmt.view.0 both.order.by) (is_client both.ask.by) role).1 fits signed.1.0 (said.1.0 signed.1.0)
-  frame_runs s (frames.SpecResponse spec reply with_order) fits role signed said = λ small. response_vouched spec (omega arith) fits (and_parts (is_replica spec.by) (is_order_of_primary s.counts with_order) role).0 signed.0 (said.0 signed.0)
-  frame_runs s (frames.Commit specs) fits role signed said = record { answer = answer_in; each = responses_vouched specs fits role signed said }
-  frame_runs s (frames.LocalCommit local) fits role signed said = tt
-  frame_runs s (frames.ConfirmReq confirm ask) fits role signed said =
+  frame_held s (frames.SpecResponse spec reply with_order) fits role signed said = response_held spec fits (and_parts (is_replica spec.by) (is_order_of_primary s.counts with_order) role).0 signed.0 said.0
+  frame_held s (frames.Commit specs) fits role signed said =
+      all_from (IsHeldPart (seen R w) response_told) specs (responses_held specs (all_listed (λ (spec : Signed Spec). FitsForClients spec.stmt) specs fits) role signed said)
+  frame_held s (frames.LocalCommit local) fits role signed said = tt
+  frame_held s (frames.ConfirmReq confirm ask) fits role signed said =
       let asked = and_parts (is_replica confirm.by) (is_client ask.by && is_primary_of s.counts confirm.stmt.view.0 (parties.Replica s.me)) role in
       request_by ask.by ask.stmt ask.sig (and_parts (is_client ask.by) (is_primary_of s.counts confirm.stmt.view.0 (parties.Replica s.me)) asked.1).0 fits signed.1.0 (said.1.0 signed.1.0)
-  frame_runs s (frames.FillHole hole) fits role signed said = tt
-  frame_runs s (frames.Hate hate) fits role signed said = tt
-  frame_runs s (frames.Pom first second) fits role signed said = tt
-  frame_runs s (frames.Checkpoint check) fits role signed said =
-      part_vouched R w check.by (text_of numbers.check check_fields check.by check.stmt) check.sig (check_statement check.stmt) role (check_back check.by check.stmt fits) signed.0 (said.0 signed.0)
+  frame_held s (frames.FillHole hole) fits role signed said = tt
+  frame_held s (frames.Hate hate) fits role signed said = tt
+  frame_held s (frames.Pom first second) fits role signed said = tt
+  frame_held s (frames.Checkpoint check) fits role signed said =
+      part_held numbers.check check_fields check_told check role (check_back (number_of_party check.by) check.by check.stmt fits) signed.0 said.0
 
-  pub event_runs : (s : State S) → s.keys ≡ keys_of w.setup → (bytes : List ℕ) → forger_in w bytes ≡ None → MayEventRun (seen R w) s (Heard bytes)
-  event_runs s keys bytes none frame is clear role =
-      frame_runs s frame (decoded_readable bytes frame is) role
-      (subst (λ (k : Keys). AllByRecursion (λ (part : Part). answer_to k part ≡ answers.Yes) (parts_of frame)) keys (all_verify s.keys (parts_of frame) clear))
-      (parts_said w bytes frame none is)
+  module _ (s : State S) (keys : s.keys ≡ keys_of w.setup) (bytes : List ℕ) (none : forger_in w bytes ≡ None) where
+    -- nothing is found against the parts of a frame, and it isn't forged
+    pub verified : (parts : List Part) → screen s.keys parts ≡ None → AllByRecursion Verifies parts
+    verified parts clear = subst (λ (k : Keys). AllByRecursion (λ (part : Part). answer_to k part ≡ answers.Yes) parts) keys (all_verify s.keys parts clear)
+
+    pub event_held : IsEventHeld (seen R w) s (Heard bytes)
+    event_held frame is clear role =
+        frame_held s frame (decoded_readable bytes frame is) role (verified (parts_of frame) clear) (parts_said w bytes (Plain frame) none (ap (λ (r : Result Frame FrameFault). either_read bytes r) is))

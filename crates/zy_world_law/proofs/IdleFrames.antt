@@ -1,0 +1,129 @@
+-- A report that tells an entry of a client that there can't be is nothing to a replica: by it, and by what has it, nothing is said or
+-- gained, and nothing that is kept changes.
+use Rattle.std.proofs.Common.{◌≡◌, ◌⊎◌, inl, inr, ◌<◌, ℕ, Bool, true, false, cond, List, [], ◌∷◌, get_or, Option, Some, None, Ok, Err, refl, sym, ap, subst}
+use Rattle.std.specs.Prelude.{All, nat_lt}
+use Rattle.std.proofs.lemmas.List.Elements.{All-cons, All-nil}
+use Rattle.zy_base.specs.Machine.{Rules}
+use Rattle.zy_base.specs.declared.cause.Cause.{Cause}
+use Rattle.zy_base.specs.declared.cause.Cause.TheVariants as causes
+use Rattle.zy_base.specs.declared.counts.Counts.{Counts}
+use Rattle.zy_base.specs.declared.step.Answer.{Answer}
+use Rattle.zy_base.specs.declared.step.Answer.TheVariants.{Refused, Taken}
+use Rattle.zy_begin_steps.proofs.Reported.{cert_refused, new_refused}
+use Rattle.zy_begin_steps.specs.Steps.{IsLawfulStep, IsWorldOf}
+use Rattle.zy_chain.specs.declared.entry.Entry.{Entry}
+use Rattle.zy_change.specs.Views.{has_begun, is_from, slot_of}
+use Rattle.zy_confirm.specs.Judging.{first_broken, or_later}
+use Rattle.zy_evidence.proofs.ProofLemmas.{all_clear}
+use Rattle.zy_evidence.specs.Rules.{number_of, rule_of}
+use Rattle.zy_evidence.specs.declared.rule.Rule.{Rule}
+use Rattle.zy_law.specs.World.{World}
+use Rattle.zy_parts.specs.declared.reports.Change.{Change}
+use Rattle.zy_parts.specs.declared.signed.Signed.{Signed}
+use Rattle.zy_seal.specs.Sealing.{SealerState}
+use Rattle.zy_table.specs.Beginning.{finished}
+use Rattle.zy_table.specs.Changes.{change, change_judged, send_cert}
+use Rattle.zy_table.specs.Deeds.{Going, Outcome, begin, ends, refused}
+use Rattle.zy_table.specs.Leaving.{Attempt, goes, is_overspent}
+use Rattle.zy_table.specs.State as table
+use Rattle.zy_table.specs.State.{State}
+use Rattle.zy_table.specs.Whole.{view_row}
+use Rattle.zy_table.specs.declared.deeds.Act.{Act}
+use Rattle.zy_table.specs.declared.deeds.Sent.{Sent}
+use Rattle.zy_vframes.specs.declared.frame.ViewCert.{ViewCert}
+use Rattle.zy_vframes.specs.declared.frame.ViewFrame.{ViewFrame}
+use Rattle.zy_vframes.specs.declared.frame.ViewFrame.TheVariants as frames
+use Rattle.zy_view_law.specs.Texts.{Texts}
+use Rattle.zy_view_steps.specs.Rows.{IsReady, blames}
+use Rattle.zy_world_law.proofs.DecodedReports.{AreOfClients, TellsOfClients}
+
+-- nothing is said, gained or changed
+pub record IsIdle {S : Type 0} (s : State S) (o : Outcome S) : Type 0 where
+  pub state : o.state ≡ s
+  pub acts : o.deeds.acts ≡ []
+  -- and if it is refused, that blames nobody
+  pub blameless : (cause : Cause) → o.answer ≡ Refused cause → blames cause ≡ false
+
+-- such a step is lawful
+pub idle_lawful : {S : Type 0} (R : Rules S) (interval : ℕ) (texts : Texts) (w : World) (r : ℕ) (s : State S) (history : List Entry) → IsReady R interval w r s history → IsWorldOf R interval w texts → (o : Outcome S) → IsIdle s o
+    → IsLawfulStep R interval texts w r s history o
+idle_lawful {S} R interval texts w r s history ready kept o is =
+    let of : State S → List Act → Outcome S = λ state acts. record { answer = o.answer; state = state; deeds = record { sent = o.deeds.sent; acts = acts } } in
+    subst (λ (state : State S). IsLawfulStep R interval texts w r s history (of state o.deeds.acts)) (sym is.state)
+    (subst (λ (acts : List Act). IsLawfulStep R interval texts w r s history (of s acts)) (sym is.acts)
+    (record { may = tt; tied = ready.tied; signer = ready.signer; interval_is = ready.interval_is; world = kept; gained = tt; works = λ work. work }))
+
+-- ---- entries of clients that there may be
+
+module _ (counts : Counts) (interval : ℕ) where
+  both_clear : (first later : Option Rule) → or_later first later ≡ None → (first ≡ None) × (later ≡ None)
+  both_clear None later is = (refl, is)
+  both_clear (Some rule) later is = absurd cc
+
+  of_clients : (c : Signed Change) → rule_of counts interval c.stmt ≡ None → AreOfClients c
+  of_clients c clear = ((all_clear counts interval c).0 clear).itself.entries.clients
+
+  all_of_clients : (list : List (Signed Change)) → first_broken counts interval list ≡ None → All AreOfClients list
+  all_of_clients [] clear = All-nil AreOfClients
+  all_of_clients (c ∷ rest) clear =
+      let both = both_clear (rule_of counts interval c.stmt) (first_broken counts interval rest) clear in
+      All-cons AreOfClients c rest (of_clients c both.0) (all_of_clients rest both.1)
+
+-- ---- the rows
+
+module _ {S : Type 0} (R : Rules S) (s : State S) where
+  by_cause : (cause : Cause) → blames cause ≡ false → IsIdle s (refused cause s)
+  by_cause cause free = record { state = refl; acts = refl; blameless = λ other is. let same : cause ≡ other = cc in subst (λ (c : Cause). blames c ≡ false) same free }
+
+  refused_idle : (attempt : Attempt S) (cause : Cause) → attempt ≡ Err cause → blames cause ≡ false → IsIdle s (finished R s attempt)
+  refused_idle attempt cause is free = subst (λ (a : Attempt S). IsIdle s (finished R s a)) (sym is) (by_cause cause free)
+
+  -- the certificate of the own view is sent at most
+  sent_idle : (vote : Signed Change) (cert : Option ViewCert) → IsIdle s (finished R s (goes Taken (send_cert vote.by cert (begin s))))
+  sent_idle vote None = by (is_overspent s.sealer)
+    where
+      by : (over : Bool) → IsIdle s (cond over (refused causes.KeySpent s) (ends Taken (begin s)))
+      by true = by_cause causes.KeySpent refl
+      by false = record { state = refl; acts = refl; blameless = λ cause is. absurd cc }
+  sent_idle vote (Some cert) = by (is_overspent s.sealer)
+    where
+      by : (over : Bool) → IsIdle s (cond over (refused causes.KeySpent s) (ends Taken (send_cert vote.by (Some cert) (begin s))))
+      by true = by_cause causes.KeySpent refl
+      by false = record { state = refl; acts = refl; blameless = λ cause is. absurd cc }
+
+  change_idle : (vote : Signed Change) (rule : Rule) → rule_of s.views.counts s.views.interval vote.stmt ≡ Some rule → IsIdle s (finished R s (change R s vote))
+  unfolding change
+  change_idle vote rule broken =
+      by (nat_lt vote.stmt.view.0 (table.own_view s)) (has_begun s.views.mode vote.stmt.view.0) (is_from vote.stmt.view.0 (slot_of vote.by s.views.changes)) (rule_of s.views.counts s.views.interval vote.stmt) broken
+    where
+      by : (old begun repeated : Bool) (found : Option Rule) → found ≡ Some rule
+          → IsIdle s (finished R s (cond old (Err causes.OldView) (cond begun (goes Taken (send_cert vote.by s.views.view_cert (begin s))) (cond repeated (Err causes.Repeat) (change_judged R s vote found)))))
+      by true begun repeated found is = by_cause causes.OldView refl
+      by false true repeated found is = sent_idle vote s.views.view_cert
+      by false false true found is = by_cause causes.Repeat refl
+      by false false false (Some other) is = by_cause (causes.BadReport (number_of other)) refl
+      by false false false None is = absurd cc
+
+  abbrev Splits : ViewFrame → Type 0
+  Splits frame = TellsOfClients frame ⊎ IsIdle s (view_row R s frame)
+
+  -- a frame's reports tell entries of clients that there may be, or it is nothing to the replica
+  pub of_clients_or_idle : (frame : ViewFrame) → Splits frame
+  of_clients_or_idle (frames.ViewChange vote) = by (rule_of s.views.counts s.views.interval vote.stmt) refl
+    where
+      by : (rule : Option Rule) → rule_of s.views.counts s.views.interval vote.stmt ≡ rule → Splits (frames.ViewChange vote)
+      by None clear = inl (of_clients s.views.counts s.views.interval vote clear)
+      by (Some rule) broken = inr (change_idle vote rule broken)
+  of_clients_or_idle (frames.NewView new) = by (first_broken s.views.counts s.views.interval new.stmt.changes) refl
+    where
+      by : (rule : Option Rule) → first_broken s.views.counts s.views.interval new.stmt.changes ≡ rule → Splits (frames.NewView new)
+      by None clear = inl (all_of_clients s.views.counts s.views.interval new.stmt.changes clear)
+      by (Some rule) broken = let end = new_refused R s new rule broken in inr (refused_idle _ end.0 end.1 end.2)
+  of_clients_or_idle (frames.ViewConfirm began) = inl tt
+  of_clients_or_idle (frames.ViewCert cert) = by (first_broken s.views.counts s.views.interval cert.new.stmt.changes) refl
+    where
+      by : (rule : Option Rule) → first_broken s.views.counts s.views.interval cert.new.stmt.changes ≡ rule → Splits (frames.ViewCert cert)
+      by None clear = inl (all_of_clients s.views.counts s.views.interval cert.new.stmt.changes clear)
+      by (Some rule) broken = let end = cert_refused R s cert rule broken in inr (refused_idle _ end.0 end.1 end.2)
+  of_clients_or_idle (frames.Fetch fetch) = inl tt
+  of_clients_or_idle (frames.State place snapshot) = inl tt

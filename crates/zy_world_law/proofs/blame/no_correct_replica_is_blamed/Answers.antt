@@ -1,0 +1,31 @@
+use Rattle.zy_world_law.proofs.BlamelessEvents.{blameless}
+use Rattle.zy_world_law.proofs.HeldLaw.{HeldLaw}
+use Rattle.zy_world_law.proofs.RunsSafe.{run_all}
+use Rattle.zy_world_law.proofs.StartGood.{start_good}
+use Rattle.zy_world_law.proofs.StepLaws.{StepLaws}
+use Rattle.zy_world_law.proofs.blame.no_correct_replica_is_blamed.Goals as goal
+use Rattle.zy_world_law.specs.Blame.{IsBlameless}
+use Rattle.zy_world_law.specs.World.{start}
+
+pub returns : goal.returns
+returns g c =
+    let R = g.M.Machine.rules in
+    let promised = c.held_responses.ensures in
+    let held : HeldLaw = record { starts = promised.starts; asks = promised.asks; steps = promised.steps; commits = promised.commits; completes = promised.completes } in
+    let steps : StepLaws R =
+    record {
+      gained = λ interval r texts w s history event may. c.gained_entries.ensures interval r texts w s history event may.ready may.world may.works may.honest;
+      lawful = λ interval r texts w s history event may gains. c.whole_steps.ensures.lawful interval r texts w s history event may.ready may.world may.works may.honest gains;
+      spelled = λ interval r texts w s history event may gains spelled. (
+        c.spelled_steps.ensures.says interval r texts w s history event may.ready may.world may.works may.honest gains spelled,
+        c.spelled_steps.ensures.keeps interval r texts w s history event may.ready may.world may.works may.honest gains spelled,
+      );
+      back = c.said_back.ensures;
+      state_blames = c.installed_states.ensures.blame;
+      same_keys = c.same_keys.ensures.keys;
+      spelled_first = c.spelled_start.ensures;
+    } in
+    record {
+      good = blameless R steps;
+      runs = λ setup schedule is. run_all R held steps (IsBlameless R) (blameless R steps) (start R setup) (start_good R held steps setup is) schedule;
+    }
