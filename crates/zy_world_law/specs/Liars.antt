@@ -22,7 +22,7 @@ use Rattle.zy_parts.specs.declared.statements.Spec.{Spec}
 use Rattle.zy_seal.specs.Sealing.{SealerState, sealed_by}
 use Rattle.zy_table.specs.Roles.{is_client}
 use Rattle.zy_table.specs.declared.deeds.AnyFrame.{AnyFrame}
-use Rattle.zy_table.specs.declared.deeds.AnyFrame.TheVariants.{Plain, View}
+use Rattle.zy_table.specs.declared.deeds.AnyFrame.TheVariants as any_frames
 use Rattle.zy_vframes.specs.declared.frame.ViewFrame.{ViewFrame}
 use Rattle.zy_vframes.specs.declared.frame.ViewFrame.TheVariants as views
 use Rattle.zy_wire.specs.Spelling.{Spelling, whole}
@@ -58,7 +58,7 @@ order_of view asks last =
 
 abbrev pub order_told : View → List (Signed Ask) → Option Telling
 order_told view asks =
-    option_map (λ last sealer. Plain (frames.Order (record { order = sealed_by numbers.order order_fields sealer (order_of view asks last); ask = last }))) (last_of asks)
+    option_map (λ last sealer. any_frames.Plain (frames.Order (record { order = sealed_by numbers.order order_fields sealer (order_of view asks last); ask = last }))) (last_of asks)
 
 abbrev pub spec_of : View → List ℕ → List (Signed Ask) → Signed Ask → Spec
 spec_of view reply asks last =
@@ -73,7 +73,7 @@ spec_of view reply asks last =
 
 abbrev pub spec_told : View → List ℕ → List (Signed Ask) → Option Telling
 spec_told view reply asks =
-    option_map (λ last sealer. Plain (frames.SpecResponse (sealed_by numbers.spec spec_fields sealer (spec_of view reply asks last)) reply None)) (last_of asks)
+    option_map (λ last sealer. any_frames.Plain (frames.SpecResponse (sealed_by numbers.spec spec_fields sealer (spec_of view reply asks last)) reply None)) (last_of asks)
 
 -- only replicas sign these
 abbrev pub by_replica : Party → Option Telling → Option Telling
@@ -90,10 +90,10 @@ abbrev pub told_as : {A : Type 0} → (Signed A → AnyFrame) → ℕ → Spelli
 told_as make number fields bytes = told make number fields (whole fields bytes)
 
 abbrev pub told_plain : {A : Type 0} → (Signed A → Frame) → ℕ → Spelling A → List ℕ → Option Telling
-told_plain make number fields bytes = told_as (λ signed. Plain (make signed)) number fields bytes
+told_plain make number fields bytes = told_as (λ signed. any_frames.Plain (make signed)) number fields bytes
 
 abbrev pub told_of_view : {A : Type 0} → (Signed A → ViewFrame) → ℕ → Spelling A → List ℕ → Option Telling
-told_of_view make number fields bytes = told_as (λ signed. View (make signed)) number fields bytes
+told_of_view make number fields bytes = told_as (λ signed. any_frames.View (make signed)) number fields bytes
 
 -- a request, a local commit, what asks for orders, a hate, a checkpoint, and what is said of a view change and of a snapshot can
 -- be told, each in its own frame
