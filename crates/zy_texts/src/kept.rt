@@ -4,10 +4,11 @@ ghost use Rattle.zy_base.specs.declared.ids.Digest.{Digest as Sum};
 ghost use Rattle.zy_chain.specs.Entries.{bytes_of_request};
 ghost use Rattle.zy_frames.specs.Frames.{IsFrameInRange};
 ghost use Rattle.zy_parts.specs.Statements.{IsAskInRange};
+ghost use Rattle.zy_world_law.specs.Reading.{IsInRange};
 ghost use Rattle.zy_world_law.specs.Texts.{ask_texts, digest_of, frame_texts, texts_of};
 ghost use Rattle.zy_world_law.specs.World.{first_texts};
 ghost use Rattle.zy_texts.specs.Kept.{Clashes, IsShown, Keeps, look_up};
-ghost use Rattle.zy_texts.specs.Reading.{IsAnyInRange};
+
 ghost use Rattle.zy_texts.specs.declared.fault.TextFault.TheVariants.{Clash};
 
 use crate::TextFault;
@@ -94,7 +95,7 @@ impl KeptTexts {
     /// Keeps what a frame brings: the entry of a client's request, a reply, of each entry that is reported its bytes and its
     /// link, or a snapshot. After a fault the texts before it may be kept.
     pub fn keep_frame(&mut self, frame: &AnyFrame) -> Result<(), TextFault>
-        requires { IsAnyInRange frame.now }
+        requires { IsInRange frame.now }
         ensures keeps { OnOk result (Keeps (texts_of frame.now) self.old self.new) }
         ensures clash { (d : Sum) → result ≡ Err (Clash d) → Clashes (texts_of frame.now) self.old d }
     {

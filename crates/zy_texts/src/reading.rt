@@ -2,8 +2,8 @@
 
 ghost use Rattle.std.specs.Prelude.{◌≡◌, Err, IfOk};
 ghost use Rattle.std.specs.Option.{ForSome};
-ghost use Rattle.zy_world_law.specs.Reading.{any_frame_in, either_read, parts_of, view_read};
-ghost use Rattle.zy_texts.specs.Reading.{IsAnyInRange};
+ghost use Rattle.zy_world_law.specs.Reading.{IsInRange, any_frame_in, either_read, parts_of, view_read};
+
 ghost use Rattle.zy_vframes.specs.ViewFrames as views;
 
 use std::alloc::Global;
@@ -15,7 +15,7 @@ use zy_table::AnyFrame;
 /// The frame that all of the bytes spell, if they spell one.
 pub fn read_frame(alloc: Global, bytes: &[u8]) -> Result<Option<AnyFrame>, Want>
     ensures value { IfOk result (λ frame. frame ≡ any_frame_in bytes.now) }
-    ensures in_range { IfOk result (λ frame. ForSome frame IsAnyInRange) }
+    ensures in_range { IfOk result (λ frame. ForSome frame IsInRange) }
 {
     match zy_frames::decode(alloc, bytes) {
         Ok(frame) => Ok(Some(AnyFrame::Plain(frame))),
@@ -31,7 +31,7 @@ fn read_not_plain(
     fault: FrameFault,
 ) -> Result<Option<AnyFrame>, Want>
     ensures value { IfOk result (λ frame. frame ≡ either_read bytes.now (Err fault)) }
-    ensures in_range { IfOk result (λ frame. ForSome frame IsAnyInRange) }
+    ensures in_range { IfOk result (λ frame. ForSome frame IsInRange) }
 {
     match fault {
         FrameFault::Kind => read_view_frame(alloc, bytes),
@@ -45,7 +45,7 @@ fn read_not_plain(
 
 fn read_view_frame(alloc: Global, bytes: &[u8]) -> Result<Option<AnyFrame>, Want>
     ensures value { IfOk result (λ frame. frame ≡ view_read (views.frame_in bytes.now)) }
-    ensures in_range { IfOk result (λ frame. ForSome frame IsAnyInRange) }
+    ensures in_range { IfOk result (λ frame. ForSome frame IsInRange) }
 {
     match zy_vframes::decode(alloc, bytes) {
         Ok(frame) => Ok(Some(AnyFrame::View(frame))),
@@ -56,7 +56,7 @@ fn read_view_frame(alloc: Global, bytes: &[u8]) -> Result<Option<AnyFrame>, Want
 
 /// What is signed in a frame, an outer part before those inside it.
 pub(crate) fn parts_of(alloc: Global, frame: &AnyFrame) -> Result<Vec<Part>, Want>
-    requires { IsAnyInRange frame.now }
+    requires { IsInRange frame.now }
     ensures { IfOk result (λ parts. parts.items ≡ parts_of frame.now) }
 {
     match frame {

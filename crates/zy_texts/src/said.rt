@@ -2,9 +2,9 @@ ghost use Rattle.std.specs.Prelude.{◌≡◌, ℕ, ◌≤◌, [], ◌++◌, Lis
 ghost use Rattle.zy_base.specs.declared.ids.Party.{Party as Speaker};
 ghost use Rattle.zy_seal.specs.Screening.{answer_to};
 ghost use Rattle.zy_world_law.specs.Honest.{is_unsaid, is_yes};
-ghost use Rattle.zy_world_law.specs.Reading.{parts_of as parts_in_frame};
+ghost use Rattle.zy_world_law.specs.Reading.{IsInRange, parts_of as parts_in_frame};
 ghost use Rattle.zy_world_law.specs.World.{correct_in, seats};
-ghost use Rattle.zy_texts.specs.Reading.{IsAnyInRange};
+
 ghost use Rattle.zy_texts.specs.Said.{AreShown, SaysAt, also_said, forger_among, is_among, is_forged_by, none_said, told_by};
 
 use crate::reading::parts_of;
@@ -71,7 +71,7 @@ impl SaidTexts {
     /// The correct party under whose key the first part of the frame verifies that the party didn't sign. Signatures are
     /// verified only on texts that weren't signed.
     pub fn forger(&self, directory: &Directory, frame: &AnyFrame) -> Result<Option<Party>, Want>
-        requires { IsAnyInRange frame.now }
+        requires { IsInRange frame.now }
         ensures { IfOk result (λ by. (said : Speaker → Option (List (List ℕ))) → AreShown said self.now → by ≡ forger_among directory.now said (parts_in_frame frame.now)) }
     {
         let parts = parts_of(self.alloc, frame)?;
