@@ -1,15 +1,19 @@
 ghost use Rattle.std.specs.Prelude.{◌≡◌, IfOk, Some, None, if◌then◌else◌};
 ghost use Rattle.std.specs.Option.{ForSome};
-ghost use Rattle.zy_frames.specs.Frames.{frame_in, IsFrameInRange, spelling};
+ghost use Rattle.zy_frames.specs.Frames.{frame_in, IsFrameInRange};
 ghost use Rattle.zy_parts.specs.Signing.{IsSignedInRange};
 ghost use Rattle.zy_parts.specs.Statements.{IsAskInRange};
+ghost use Rattle.zy_setup.specs.Telling.{IsEncoded};
 ghost use Rattle.zy_table.specs.Roles.{is_client};
+ghost use Rattle.zy_table.specs.declared.deeds.AnyFrame.TheVariants as any;
+ghost use Rattle.zy_vframes.specs.ViewFrames as views;
 ghost use Rattle.zy_world_law.specs.Liars.{request_read};
 
 use std::alloc::Global;
 use zy_base::{Bytes, Party, Want};
 use zy_frames::{DecodeFault, EncodeFault, Frame, decode, encode};
 use zy_parts::{Ask, Signed};
+use zy_vframes::ViewFrame;
 
 /// The request that all of the bytes spell as a frame. `None` where they spell none, or one that no client signed.
 pub fn request_in(alloc: Global, bytes: &[u8]) -> Result<Option<Signed<Ask>>, Want>
@@ -37,11 +41,23 @@ fn by_client(ask: Signed<Ask>) -> Option<Signed<Ask>>
 /// The frame's bytes.
 pub(crate) fn encoded(alloc: Global, frame: Frame) -> Result<Bytes, Want>
     requires { IsFrameInRange frame }
-    ensures { IfOk result (λ bytes. bytes ≡ spelling frame) }
+    ensures { IfOk result (λ bytes. IsEncoded (any.Plain frame) (Some bytes)) }
 {
     match encode(alloc, &frame) {
         Ok(bytes) => Ok(bytes),
         Err(EncodeFault::TooLong) => unreachable!(),
+        Err(EncodeFault::Want) => Err(Want),
+    }
+}
+
+/// Likewise of a frame of a change of view. `None` where they are more than a frame may have.
+pub(crate) fn encoded_view(alloc: Global, frame: ViewFrame) -> Result<Option<Bytes>, Want>
+    requires { views.IsFrameInRange frame }
+    ensures { IfOk result (IsEncoded (any.View frame)) }
+{
+    match zy_vframes::encode(alloc, &frame) {
+        Ok(bytes) => Ok(Some(bytes)),
+        Err(EncodeFault::TooLong) => Ok(None),
         Err(EncodeFault::Want) => Err(Want),
     }
 }

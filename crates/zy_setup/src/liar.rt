@@ -30,7 +30,7 @@ pub fn order_frame(
     asks: &[Signed<Ask>],
 ) -> Result<Bytes, SealFault>
     requires { IsOrderable view asks.now }
-    ensures frame { IfOk result (IsToldBy (order_told view asks.now) sealer.old) }
+    ensures frame { IfOk result (λ bytes. IsToldBy (order_told view asks.now) sealer.old (Some bytes)) }
     ensures spent_one { OnOk result (sealer.new ≡ spent_one sealer.old) }
     ensures spent { IsErrOf result SealFault.KeySpent ↔ (sealer.old.key.next ≡ 2 ^ levels_of sealer.old.key.height) }
     ensures unchanged { IsErrOf result SealFault.KeySpent → sealer.new ≡ sealer.old }
@@ -54,7 +54,7 @@ pub fn spec_frame(
 ) -> Result<Bytes, SealFault>
     requires asks { IsOrderable view asks.now }
     requires reply { length reply ≤ 1100 }
-    ensures frame { IfOk result (IsToldBy (spec_told view reply asks.now) sealer.old) }
+    ensures frame { IfOk result (λ bytes. IsToldBy (spec_told view reply asks.now) sealer.old (Some bytes)) }
     ensures spent_one { OnOk result (sealer.new ≡ spent_one sealer.old) }
     ensures spent { IsErrOf result SealFault.KeySpent ↔ (sealer.old.key.next ≡ 2 ^ levels_of sealer.old.key.height) }
     ensures unchanged { IsErrOf result SealFault.KeySpent → sealer.new ≡ sealer.old }

@@ -2,20 +2,22 @@ ghost use Rattle.std.specs.Prelude.{◌≡◌, ◌⊎◌, ◌↔◌, ◌^◌, If
 ghost use Rattle.std.specs.Option.{ForSome};
 ghost use Rattle.std.specs.Result.{result_ok};
 ghost use Rattle.zy_lms.specs.Height.{levels_of};
-ghost use Rattle.zy_frames.specs.Frames.{IsFrameInRange, spelling};
 ghost use Rattle.zy_seal.specs.Sealing.{spent_one};
 ghost use Rattle.zy_seal.specs.declared.sealer.SealFault.{SealFault};
-ghost use Rattle.zy_setup.specs.Telling.{IsTellable, telling_of};
+ghost use Rattle.zy_setup.specs.Telling.{IsEncoded, IsTellable, telling_of};
 ghost use Rattle.zy_wire.specs.Getting.{Decodes};
 ghost use Rattle.zy_wire.specs.Spelling.{whole};
 ghost use Rattle.zy_world_law.specs.Liars.{statement_numbered, statement_told};
+ghost use Rattle.zy_world_law.specs.Reading.{IsInRange};
 
-use crate::frames::encoded;
+use crate::frames::{encoded, encoded_view};
 use std::alloc::Global;
 use zy_base::{Bytes, Want};
 use zy_frames::Frame;
-use zy_parts::{Ask, Check, Hate, Hole, Local, Statement};
+use zy_parts::{Ask, Began, Change, Check, Fetch, Hate, Hole, Local, New, Statement};
 use zy_seal::{SealFault, Sealer};
+use zy_table::AnyFrame;
+use zy_vframes::ViewFrame;
 use zy_wire::{Cut, GetFault, Spelled};
 
 /// A statement that whoever has a key can be told to sign by its number and fields. Each goes in its own frame.
@@ -26,6 +28,10 @@ pub enum Tellable {
     Hole(Hole),
     Hate(Hate),
     Check(Check),
+    Change(Change),
+    New(New),
+    Began(Began),
+    Fetch(Fetch),
 }
 
 /// The statement whose number and fields all of the bytes spell. `None` where they spell none of these.
@@ -51,6 +57,10 @@ fn read_numbered(alloc: Global, number: u8, fields: &[u8]) -> Result<Option<Tell
         6 => Ok(read_fields(alloc, fields)?.map(Tellable::Hole)),
         7 => Ok(read_fields(alloc, fields)?.map(Tellable::Hate)),
         8 => Ok(read_fields(alloc, fields)?.map(Tellable::Check)),
+        9 => Ok(read_fields(alloc, fields)?.map(Tellable::Change)),
+        10 => Ok(read_fields(alloc, fields)?.map(Tellable::New)),
+        11 => Ok(read_fields(alloc, fields)?.map(Tellable::Began)),
+        12 => Ok(read_fields(alloc, fields)?.map(Tellable::Fetch)),
         _ => Ok(None),
     }
 }
@@ -78,35 +88,42 @@ fn read_whole<S: Spelled>(alloc: Global, bytes: &[u8]) -> Result<S, GetFault>
 }
 
 impl Tellable {
-    /// The frame with the statement, signed by the next leaf. `KeySpent` exactly where no leaf is left.
-    pub fn frame(self, alloc: Global, sealer: &mut Sealer) -> Result<Bytes, SealFault>
+    /// The frame with the statement, signed by the next leaf. `None` where it is longer than a frame may be; the leaf is spent
+    /// then too. `KeySpent` exactly where no leaf is left.
+    pub fn frame(self, alloc: Global, sealer: &mut Sealer) -> Result<Option<Bytes>, SealFault>
         requires { IsTellable self }
-        ensures frame { IfOk result (λ bytes. bytes ≡ spelling (telling_of self sealer.old)) }
+        ensures frame { IfOk result (IsEncoded (telling_of self sealer.old)) }
         ensures spent_one { OnOk result (sealer.new ≡ spent_one sealer.old) }
         ensures spent { IsErrOf result SealFault.KeySpent ↔ (sealer.old.key.next ≡ 2 ^ levels_of sealer.old.key.height) }
         ensures unchanged { IsErrOf result SealFault.KeySpent → sealer.new ≡ sealer.old }
         // After `Want` the leaf may be spent.
         ensures want { IsErrOf result SealFault.Want → (sealer.new ≡ sealer.old) ⊎ (sealer.new ≡ spent_one sealer.old) }
     {
-        let frame = self.signed(sealer)?;
-        Ok(encoded(alloc, frame)?)
+        match self.signed(sealer)? {
+            AnyFrame::Plain(frame) => Ok(Some(encoded(alloc, frame)?)),
+            AnyFrame::View(frame) => Ok(encoded_view(alloc, frame)?),
+        }
     }
 
     // Signed by the next leaf.
-    fn signed(self, sealer: &mut Sealer) -> Result<Frame, SealFault>
+    fn signed(self, sealer: &mut Sealer) -> Result<AnyFrame, SealFault>
         requires { IsTellable self }
         ensures frame { IfOk result (λ frame. frame ≡ telling_of self sealer.old) }
-        ensures in_range { IfOk result IsFrameInRange }
+        ensures in_range { IfOk result IsInRange }
         ensures spent_one { OnOk result (sealer.new ≡ spent_one sealer.old) }
         ensures spent { IsErrOf result SealFault.KeySpent ↔ (sealer.old.key.next ≡ 2 ^ levels_of sealer.old.key.height) }
         ensures unchanged { OnErr result (sealer.new ≡ sealer.old) }
     {
         match self {
-            Tellable::Ask(ask) => Ok(Frame::Request(sealer.seal(ask)?)),
-            Tellable::Local(local) => Ok(Frame::LocalCommit(sealer.seal(local)?)),
-            Tellable::Hole(hole) => Ok(Frame::FillHole(sealer.seal(hole)?)),
-            Tellable::Hate(hate) => Ok(Frame::Hate(sealer.seal(hate)?)),
-            Tellable::Check(check) => Ok(Frame::Checkpoint(sealer.seal(check)?)),
+            Tellable::Ask(ask) => Ok(AnyFrame::Plain(Frame::Request(sealer.seal(ask)?))),
+            Tellable::Local(local) => Ok(AnyFrame::Plain(Frame::LocalCommit(sealer.seal(local)?))),
+            Tellable::Hole(hole) => Ok(AnyFrame::Plain(Frame::FillHole(sealer.seal(hole)?))),
+            Tellable::Hate(hate) => Ok(AnyFrame::Plain(Frame::Hate(sealer.seal(hate)?))),
+            Tellable::Check(check) => Ok(AnyFrame::Plain(Frame::Checkpoint(sealer.seal(check)?))),
+            Tellable::Change(change) => Ok(AnyFrame::View(ViewFrame::ViewChange(sealer.seal(change)?))),
+            Tellable::New(new) => Ok(AnyFrame::View(ViewFrame::NewView(sealer.seal(new)?))),
+            Tellable::Began(began) => Ok(AnyFrame::View(ViewFrame::ViewConfirm(sealer.seal(began)?))),
+            Tellable::Fetch(fetch) => Ok(AnyFrame::View(ViewFrame::Fetch(sealer.seal(fetch)?))),
         }
     }
 }

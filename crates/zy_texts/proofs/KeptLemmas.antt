@@ -10,10 +10,10 @@ use Rattle.zy_base.specs.declared.ids.Digest.{Digest}
 use Rattle.zy_base.specs.declared.ids.Stamp.{Stamp}
 use Rattle.zy_admit.specs.Judging.{same_digest}
 use Rattle.zy_chain.specs.Entries.{bytes_of_entry, bytes_of_request, digest_of_entry, digest_of_request}
-use Rattle.zy_chain.specs.Heads.{empty_head}
+use Rattle.zy_chain.specs.Heads.{empty_head, head_after, head_from}
 use Rattle.zy_chain.specs.declared.entry.Entry.{Entry}
 use Rattle.zy_table.specs.declared.deeds.Got.{Got}
-use Rattle.zy_world_law.specs.Texts.{digest_of, got_texts, link_text, snapshot_texts, keep, keep_all, keep_beside, and_then}
+use Rattle.zy_world_law.specs.Texts.{digest_of, entry_texts, got_texts, link_text, snapshot_texts, keep, keep_all, keep_beside, and_then}
 use Rattle.zy_world_law.specs.World.{Texts, first_texts}
 use Rattle.zy_world_law.proofs.Tests.{bytes_same}
 use Rattle.zy_texts.specs.Kept.{Pairs, IsShown, Keeps, Clashes, look_up}
@@ -117,51 +117,86 @@ flat_split f (y ∷ xs) zero x within is = ap (λ z. f z ++ flat_map f xs) (sym 
 flat_split f (y ∷ xs) (suc i) x within is =
     ap (λ l. f y ++ l) (flat_split f xs i x (omega (arith, within)) is) ∙ sym (append_assoc (f y) (flat_map f (take i xs)) (f x ++ flat_map f (drop (suc i) xs)))
 
+-- ---- an entry, and the link by which it stands behind a head
+
+-- an entry, by its operation
+abbrev text_with : Entry → List ℕ → List ℕ
+text_with e op = bytes_of_request e.client e.stamp op
+
+module _ (head : Digest) (e : Entry) (old mid : Pairs) (op : List ℕ) (is : op ≡ e.op) where
+  pub entry_clashes : (d : Digest) → Clashes (text_with e op ∷ []) old d → Clashes (bytes_of_entry e ∷ link_text head e ∷ []) old d
+  entry_clashes d clash = clashes_first (bytes_of_entry e ∷ []) (link_text head e ∷ []) old d (subst (λ (l : List ℕ). Clashes (text_with e l ∷ []) old d) is clash)
+
+  module _ (digest : Digest) (spelled : digest ≡ digest_of (text_with e op)) where
+    digest_is : digest ≡ digest_of_entry e
+    digest_is = spelled ∙ ap (λ (l : List ℕ). digest_of (text_with e l)) is ∙ entry_digest e
+
+    link_is : head.0 ++ digest.0 ≡ link_text head e
+    link_is = ap (λ (d : Digest). head.0 ++ d.0) digest_is
+
+    pub head_behind : (d : Digest) → d ≡ digest_of (head.0 ++ digest.0) → d ≡ head_after head (digest_of_entry e)
+    unfolding head_after
+    head_behind d hashed = hashed ∙ ap digest_of link_is
+
+    module _ (kept : Keeps (text_with e op ∷ []) old mid) where
+      own : Keeps (bytes_of_entry e ∷ []) old mid
+      own = subst (λ (l : List ℕ). Keeps (text_with e l ∷ []) old mid) is kept
+
+      pub link_clashes : (d : Digest) → Clashes ((head.0 ++ digest.0) ∷ []) mid d → Clashes (bytes_of_entry e ∷ link_text head e ∷ []) old d
+      link_clashes d clash = clashes_then (bytes_of_entry e ∷ []) (link_text head e ∷ []) old mid d own (subst (λ (l : List ℕ). Clashes (l ∷ []) mid d) link_is clash)
+
+      pub linked_keeps : (new : Pairs) → Keeps ((head.0 ++ digest.0) ∷ []) mid new → Keeps (bytes_of_entry e ∷ link_text head e ∷ []) old new
+      linked_keeps new joined = keeps_both (bytes_of_entry e ∷ []) (link_text head e ∷ []) old mid new own (subst (λ (l : List ℕ). Keeps (l ∷ []) mid new) link_is joined)
+
+-- ---- entries behind a head
+
+-- one entry more
+pub entries_next : (head : Digest) (es : List Entry) (i : ℕ) (e : Entry) → i < length es → e ≡ get_or es i e
+    → entry_texts head (take (suc i) es) ≡ entry_texts head (take i es) ++ bytes_of_entry e ∷ link_text (head_from head (take i es)) e ∷ []
+entries_next head [] i e within is = absurd (omega (arith, within))
+entries_next head (y ∷ es) zero e within is = ap (λ (x : Entry). bytes_of_entry x ∷ link_text head x ∷ []) (sym is)
+entries_next head (y ∷ es) (suc i) e within is =
+    ap (λ (l : List (List ℕ)). bytes_of_entry y ∷ link_text head y ∷ l) (entries_next (head_after head (digest_of_entry y)) es i e (omega (arith, within)) is)
+
+-- and the head behind it
+pub head_next : (head : Digest) (es : List Entry) (i : ℕ) (e : Entry) → i < length es → e ≡ get_or es i e
+    → head_from head (take (suc i) es) ≡ head_after (head_from head (take i es)) (digest_of_entry e)
+head_next head [] i e within is = absurd (omega (arith, within))
+head_next head (y ∷ es) zero e within is = ap (λ (x : Entry). head_after head (digest_of_entry x)) (sym is)
+head_next head (y ∷ es) (suc i) e within is = head_next (head_after head (digest_of_entry y)) es i e (omega (arith, within)) is
+
+-- those before an entry, the entry, and those behind it
+pub entries_split : (head : Digest) (es : List Entry) (i : ℕ) (e : Entry) → i < length es → e ≡ get_or es i e
+    → entry_texts head es ≡ entry_texts head (take i es)
+    ++ ((bytes_of_entry e ∷ link_text (head_from head (take i es)) e ∷ []) ++ entry_texts (head_after (head_from head (take i es)) (digest_of_entry e)) (drop (suc i) es))
+entries_split head [] i e within is = absurd (omega (arith, within))
+entries_split head (y ∷ es) zero e within is =
+    ap (λ (x : Entry). bytes_of_entry x ∷ link_text head x ∷ entry_texts (head_after head (digest_of_entry x)) es) (sym is)
+entries_split head (y ∷ es) (suc i) e within is =
+    ap (λ (l : List (List ℕ)). bytes_of_entry y ∷ link_text head y ∷ l) (entries_split (head_after head (digest_of_entry y)) es i e (omega (arith, within)) is)
+
 -- ---- an entry that a step executed
 
 module _ (got : Got) where
-  abbrev entry_text : List ℕ → List ℕ
-  entry_text op = bytes_of_request got.entry.client got.entry.stamp op
-
-  abbrev own : List ℕ
-  own = bytes_of_entry got.entry
-
-  abbrev link : List ℕ
-  link = link_text got.before got.entry
+  abbrev linked_texts : List (List ℕ)
+  linked_texts = bytes_of_entry got.entry ∷ link_text got.before got.entry ∷ []
 
   abbrev snap : List (List ℕ)
   snap = snapshot_texts got.snapshot
 
-  module _ (old mid : Pairs) (op : List ℕ) (is : op ≡ got.entry.op) where
-    pub entry_keeps : Keeps (entry_text op ∷ []) old mid → Keeps (own ∷ []) old mid
-    entry_keeps kept = subst (λ (l : List ℕ). Keeps (entry_text l ∷ []) old mid) is kept
+  pub got_clashes : (old : Pairs) (d : Digest) → Clashes linked_texts old d → Clashes (got_texts got) old d
+  got_clashes old d clash = clashes_first linked_texts (got.reply ∷ snap) old d clash
 
-    pub entry_clashes : (d : Digest) → Clashes (entry_text op ∷ []) old d → Clashes (got_texts got) old d
-    entry_clashes d clash = clashes_first (own ∷ []) (link ∷ got.reply ∷ snap) old d (subst (λ (l : List ℕ). Clashes (entry_text l ∷ []) old d) is clash)
+  module _ (old linked : Pairs) (kept : Keeps linked_texts old linked) where
+    pub reply_clashes : (d : Digest) → Clashes (got.reply ∷ []) linked d → Clashes (got_texts got) old d
+    reply_clashes d clash = clashes_then linked_texts (got.reply ∷ snap) old linked d kept (clashes_first (got.reply ∷ []) snap linked d clash)
 
-    module _ (digest : Digest) (spelled : digest ≡ digest_of (entry_text op)) (kept : Keeps (entry_text op ∷ []) old mid) where
-      link_is : got.before.0 ++ digest.0 ≡ link
-      link_is = ap (λ (d : Digest). got.before.0 ++ d.0) (spelled ∙ ap (λ (l : List ℕ). digest_of (entry_text l)) is ∙ entry_digest got.entry)
+    module _ (replied : Pairs) (reply : Keeps (got.reply ∷ []) linked replied) where
+      three_kept : Keeps (linked_texts ++ got.reply ∷ []) old replied
+      three_kept = keeps_both linked_texts (got.reply ∷ []) old linked replied kept reply
 
-      pub link_clashes : (d : Digest) → Clashes ((got.before.0 ++ digest.0) ∷ []) mid d → Clashes (got_texts got) old d
-      link_clashes d clash =
-          clashes_then (own ∷ []) (link ∷ got.reply ∷ snap) old mid d (entry_keeps kept)
-          (clashes_first (link ∷ []) (got.reply ∷ snap) mid d (subst (λ (l : List ℕ). Clashes (l ∷ []) mid d) link_is clash))
+      pub snapshot_clashes : (d : Digest) → Clashes snap replied d → Clashes (got_texts got) old d
+      snapshot_clashes d clash = clashes_then (linked_texts ++ got.reply ∷ []) snap old replied d three_kept clash
 
-      module _ (linked : Pairs) (joined : Keeps ((got.before.0 ++ digest.0) ∷ []) mid linked) where
-        two_kept : Keeps (own ∷ link ∷ []) old linked
-        two_kept = keeps_both (own ∷ []) (link ∷ []) old mid linked (entry_keeps kept) (subst (λ (l : List ℕ). Keeps (l ∷ []) mid linked) link_is joined)
-
-        pub reply_clashes : (d : Digest) → Clashes (got.reply ∷ []) linked d → Clashes (got_texts got) old d
-        reply_clashes d clash =
-            clashes_then (own ∷ link ∷ []) (got.reply ∷ snap) old linked d two_kept (clashes_first (got.reply ∷ []) snap linked d clash)
-
-        module _ (replied : Pairs) (reply : Keeps (got.reply ∷ []) linked replied) where
-          three_kept : Keeps (own ∷ link ∷ got.reply ∷ []) old replied
-          three_kept = keeps_both (own ∷ link ∷ []) (got.reply ∷ []) old linked replied two_kept reply
-
-          pub snapshot_clashes : (d : Digest) → Clashes snap replied d → Clashes (got_texts got) old d
-          snapshot_clashes d clash = clashes_then (own ∷ link ∷ got.reply ∷ []) snap old replied d three_kept clash
-
-          pub got_keeps : (new : Pairs) → Keeps snap replied new → Keeps (got_texts got) old new
-          got_keeps new kept = keeps_both (own ∷ link ∷ got.reply ∷ []) snap old replied new three_kept kept
+      pub got_keeps : (new : Pairs) → Keeps snap replied new → Keeps (got_texts got) old new
+      got_keeps new kept = keeps_both (linked_texts ++ got.reply ∷ []) snap old replied new three_kept kept

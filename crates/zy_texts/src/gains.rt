@@ -32,9 +32,7 @@ impl KeptTexts {
         ensures keeps { OnOk result (Keeps (got_texts got.now) self.old self.new) }
         ensures clash { (d : Sum) → result ≡ Err (Clash d) → Clashes (got_texts got.now) self.old d }
     {
-        let entry = &got.entry;
-        let digest = self.keep_entry(entry.client, entry.stamp, entry.op.as_slice())?;
-        self.keep_joined(&got.before.0, &digest.0)?;
+        self.keep_linked(&got.before, &got.entry)?;
         self.keep(got.reply.as_slice())?;
         self.keep_snapshot(&got.snapshot)
     }

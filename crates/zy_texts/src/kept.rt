@@ -4,9 +4,11 @@ ghost use Rattle.zy_base.specs.declared.ids.Digest.{Digest as Sum};
 ghost use Rattle.zy_chain.specs.Entries.{bytes_of_request};
 ghost use Rattle.zy_frames.specs.Frames.{IsFrameInRange};
 ghost use Rattle.zy_parts.specs.Statements.{IsAskInRange};
-ghost use Rattle.zy_world_law.specs.Texts.{ask_texts, digest_of, frame_texts};
+ghost use Rattle.zy_world_law.specs.Reading.{IsInRange};
+ghost use Rattle.zy_world_law.specs.Texts.{ask_texts, digest_of, frame_texts, texts_of};
 ghost use Rattle.zy_world_law.specs.World.{first_texts};
 ghost use Rattle.zy_texts.specs.Kept.{Clashes, IsShown, Keeps, look_up};
+
 ghost use Rattle.zy_texts.specs.declared.fault.TextFault.TheVariants.{Clash};
 
 use crate::TextFault;
@@ -19,6 +21,7 @@ use zy_base::{Bytes, ClientId, Digest, Party, Stamp, Want};
 use zy_chain::EMPTY_HEAD;
 use zy_frames::Frame;
 use zy_parts::{Ask, Signed};
+use zy_table::AnyFrame;
 
 /// Texts, one under each SHA-256 value (FIPS 180-4). Contracts see the digests with their texts, in any order.
 #[derive(Drop)]
@@ -89,8 +92,21 @@ impl KeptTexts {
         }
     }
 
-    /// Keeps what a frame brings: the entry of a client's request, or a reply.
-    pub fn keep_frame(&mut self, frame: &Frame) -> Result<(), TextFault>
+    /// Keeps what a frame brings: the entry of a client's request, a reply, of each entry that is reported its bytes and its
+    /// link, or a snapshot. After a fault the texts before it may be kept.
+    pub fn keep_frame(&mut self, frame: &AnyFrame) -> Result<(), TextFault>
+        requires { IsInRange frame.now }
+        ensures keeps { OnOk result (Keeps (texts_of frame.now) self.old self.new) }
+        ensures clash { (d : Sum) → result ≡ Err (Clash d) → Clashes (texts_of frame.now) self.old d }
+    {
+        match frame {
+            AnyFrame::Plain(frame) => self.keep_plain(frame),
+            AnyFrame::View(frame) => self.keep_view_frame(frame),
+        }
+    }
+
+    // What a frame of normal operation brings.
+    fn keep_plain(&mut self, frame: &Frame) -> Result<(), TextFault>
         requires { IsFrameInRange frame.now }
         ensures keeps { OnOk result (Keeps (frame_texts frame.now) self.old self.new) }
         ensures clash { (d : Sum) → result ≡ Err (Clash d) → Clashes (frame_texts frame.now) self.old d }

@@ -1,18 +1,20 @@
 ghost use Rattle.std.specs.Prelude.{◌≡◌, ℕ, ◌≤◌, [], ◌++◌, List, map, slice_get, nat_eq, if◌then◌else◌, Option, None, Some, option_map, IfOk, OnOk};
 ghost use Rattle.zy_base.specs.declared.ids.Party.{Party as Speaker};
-ghost use Rattle.zy_frames.specs.Frames.{IsFrameInRange, parts_of};
 ghost use Rattle.zy_seal.specs.Screening.{answer_to};
 ghost use Rattle.zy_world_law.specs.Honest.{is_unsaid, is_yes};
+ghost use Rattle.zy_world_law.specs.Reading.{IsInRange, parts_of as parts_in_frame};
 ghost use Rattle.zy_world_law.specs.World.{correct_in, seats};
+
 ghost use Rattle.zy_texts.specs.Said.{AreShown, SaysAt, also_said, forger_among, is_among, is_forged_by, none_said, told_by};
 
+use crate::reading::parts_of;
 use crate::text_set::TextSet;
 use std::alloc::Global;
 use std::marker::Model;
 use zy_base::{ClientId, Party, ReplicaId, Said, Want};
-use zy_frames::{Frame, parts};
 use zy_parts::Part;
 use zy_seal::{Directory, SealAnswer, check};
+use zy_table::AnyFrame;
 
 /// The texts that each correct party signed. Nothing is known of a liar.
 #[derive(Drop)]
@@ -68,11 +70,11 @@ impl SaidTexts {
 
     /// The correct party under whose key the first part of the frame verifies that the party didn't sign. Signatures are
     /// verified only on texts that weren't signed.
-    pub fn forger(&self, directory: &Directory, frame: &Frame) -> Result<Option<Party>, Want>
-        requires { IsFrameInRange frame.now }
-        ensures { IfOk result (λ by. (said : Speaker → Option (List (List ℕ))) → AreShown said self.now → by ≡ forger_among directory.now said (parts_of frame.now)) }
+    pub fn forger(&self, directory: &Directory, frame: &AnyFrame) -> Result<Option<Party>, Want>
+        requires { IsInRange frame.now }
+        ensures { IfOk result (λ by. (said : Speaker → Option (List (List ℕ))) → AreShown said self.now → by ≡ forger_among directory.now said (parts_in_frame frame.now)) }
     {
-        let parts = parts(self.alloc, frame)?;
+        let parts = parts_of(self.alloc, frame)?;
         Ok(self.forger_in(directory, &parts))
     }
 

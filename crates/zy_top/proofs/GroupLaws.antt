@@ -16,7 +16,7 @@ use Rattle.zy_group.specs.declared.fault.GroupFault.{GroupFault}
 use Rattle.zy_group.specs.declared.fault.GroupFault.TheVariants as faults
 use Rattle.zy_group.specs.declared.replay.ReplayGroup.{ReplayGroup}
 use Rattle.zy_setup.specs.Starting.{IsStart}
-use Rattle.zy_world_law.specs.Setup.{Setup}
+use Rattle.zy_world_law.specs.Setup.{IsSetup, Setup}
 use Rattle.zy_words.specs.Calls.{exit_of_group_fault}
 use Rattle.zy_top.specs.Replaying.{IsSetupRead}
 use Rattle.zy_group.specs.Counts.{plain_counts}
@@ -190,3 +190,14 @@ fault_reads read faults.Want is = tt
 
 pub setup_read : (text : List ℕ) (g : ReplayGroup) (setup : Setup) → group_of text ≡ Ok g → setup ≡ setup_of g → IsSetupRead (group_of text) (Ok setup)
 setup_read text g setup read is = (subst IsStart (sym is) (group_starts text g read).0, (g, read, is))
+
+-- ---- what the laws of runs ask of a start
+
+pub start_sets_up : (setup : Setup) → IsStart setup → IsSetup setup
+start_sets_up setup starts =
+    record {
+      few = starts.few;
+      clients = starts.clients;
+      least_interval = let least : 4 ≤ setup.interval = starts.least_interval in omega (arith, least);
+      greatest_interval = starts.greatest_interval;
+    }

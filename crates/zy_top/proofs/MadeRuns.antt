@@ -30,6 +30,7 @@ use Rattle.zy_words.specs.declared.exit.Broken.{Broken}
 use Rattle.zy_words.specs.declared.exit.Exit.{Exit}
 use Rattle.zy_words.specs.declared.exit.Exit.TheVariants as exits
 use Rattle.zy_top.specs.declared.tale.Tale.{Tale}
+use Rattle.zy_top.proofs.GroupLaws.{start_sets_up}
 use Rattle.zy_words.proofs.Endings.{rose}
 use Rattle.zy_words.proofs.Stops.{IsWritten-none}
 
@@ -217,4 +218,4 @@ pub made_so_starts : (number : ℕ) (setup : Setup) → setup ≡ made_setup num
 made_so_starts number setup sets = subst IsStart (sym sets) (made_starts number)
 
 pub made_sets_up : (number : ℕ) → IsSetup (made_setup number)
-made_sets_up number = record { few = (made_starts number).few; clients = (made_starts number).clients }
+made_sets_up number = start_sets_up (made_setup number) (made_starts number)

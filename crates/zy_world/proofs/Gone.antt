@@ -9,6 +9,7 @@ use Rattle.zy_base.specs.declared.ids.Party.{Party}
 use Rattle.zy_base.specs.declared.ids.Party.TheVariants as parties
 use Rattle.zy_base.specs.declared.ids.ReplicaId.{ReplicaId}
 use Rattle.zy_base.specs.declared.step.Answer.{Answer}
+use Rattle.zy_base.specs.declared.step.Event.{Event}
 use Rattle.zy_base.specs.declared.step.Spoken.{Spoken}
 use Rattle.zy_chain.specs.Stretch.{Mark}
 use Rattle.zy_law.specs.World.{Stand}
@@ -44,9 +45,9 @@ remarks past (spoken ∷ said) = ap (λ (texts : List (List ℕ)). spoken.text �
 abbrev pub Says : Party → List Spoken → Told → Told → Type 0
 Says party said old new = (before : Party → Option (List (List ℕ))) → AreShown before old → AreShown (also_said before party (map (λ spoken. spoken.text) said)) new
 
-module _ {S : Type 0} (w : World S) (id : ReplicaId) (x : Replica S) (o : Outcome S) (r : ReplicaStep) (v : Shown S) (has : HasReplicaStepped w id x o r v) where
-  says : map (λ remark. remark.text) (stepped x o).said ≡ map (λ remark. remark.text) x.said ++ map (λ spoken. spoken.text) r.said
-  says =
+module _ {S : Type 0} (w : World S) (id : ReplicaId) (x : Replica S) (event : Event) (o : Outcome S) (r : ReplicaStep) (v : Shown S) (has : HasReplicaStepped w id x o r v) where
+  says : (texts : Texts) → map (λ remark. remark.text) (stepped texts event x o).said ≡ map (λ remark. remark.text) x.said ++ map (λ spoken. spoken.text) r.said
+  says texts =
       let said = said_from (parties.Replica o.state.me) 0 o.deeds.acts in
       map-append (λ remark. remark.text) x.said (map (remark_after x.past) said)
       ∙ ap (λ (texts : List (List ℕ)). map (λ remark. remark.text) x.said ++ texts)
@@ -57,30 +58,30 @@ module _ {S : Type 0} (w : World S) (id : ReplicaId) (x : Replica S) (o : Outcom
 
   pub replica_gone : (pairs : Pairs) (told : Told) (bag : Posted) (note : Note) → Keeps (flat_map got_texts r.got) v.texts pairs → Says (parties.Replica id) r.said v.said told
       → v.bag.passed ≤ length v.bag.mails → bag ≡ record { mails = v.bag.mails ++ map mail_to r.out; passed = v.bag.passed } → note ≡ replica_note id r.answer
-      → GoesTo (replica_goes w id x [] o) note (record v { texts = pairs; said = told; bag = bag })
+      → GoesTo (replica_goes w id x [] event o) note (record v { texts = pairs; said = told; bag = bag })
   replica_gone pairs told bag note keeps more within sent noted =
       let kept = keeps w.texts has.shows.texts in
       let all : keep_all (step_texts o.deeds.acts) w.texts ≡ Ok kept.0 = ap (λ (texts : List (List ℕ)). keep_all texts w.texts) (sym brings) ∙ kept.1 in
       let w1 : World S = record w { texts = kept.0 } in
       let v1 : Shown S = record v { seats = has.before; texts = pairs } in
       let s1 : Shows w1 v1 = with_texts w (record v { seats = has.before }) kept.0 pairs has.shows kept.2 in
-      let s2 : Shows (with_replica w1 id (stepped x o)) (record v1 { seats = v.seats; said = told }) =
-      shows_replica w1 v1 id x (stepped x o) (map (λ spoken. spoken.text) r.said) v.seats told s1 has.there says has.after (more (texts_of w.replicas w.clients) has.shows.said) in
+      let s2 : Shows (with_replica w1 id (stepped kept.0 event x o)) (record v1 { seats = v.seats; said = told }) =
+      shows_replica w1 v1 id x (stepped kept.0 event x o) (map (λ spoken. spoken.text) r.said) v.seats told s1 has.there (says kept.0) has.after (more (texts_of w.replicas w.clients) has.shows.said) in
       let out = outgoing_of o.state.me.0 o.state.counts.n o.deeds.sent in
       let put : bag ≡ record { mails = v.bag.mails ++ map mail_to out; passed = v.bag.passed } =
       sent ∙ ap (λ (frames : List (Party × List ℕ)). record { mails = v.bag.mails ++ map mail_to frames; passed = v.bag.passed }) has.step.out in
       record {
-        world = with_sent (with_replica w1 id (stepped x o)) out;
-        goes = ap (go_with w (λ u. with_sent (with_replica u id (stepped x o)) out) (replica_note id o.answer)) all
-            ∙ ap (λ (n : Note). Goes (with_sent (with_replica w1 id (stepped x o)) out) n) (ap (replica_note id) (sym has.step.answer) ∙ sym noted);
-        shows = shows_sent (with_replica w1 id (stepped x o)) (record v1 { seats = v.seats; said = told }) out bag s2 within put;
+        world = with_sent (with_replica w1 id (stepped kept.0 event x o)) out;
+        goes = ap (go_with w (λ u. with_sent (with_replica u id (stepped u.texts event x o)) out) (replica_note id o.answer)) all
+            ∙ ap (λ (n : Note). Goes (with_sent (with_replica w1 id (stepped kept.0 event x o)) out) n) (ap (replica_note id) (sym has.step.answer) ∙ sym noted);
+        shows = shows_sent (with_replica w1 id (stepped kept.0 event x o)) (record v1 { seats = v.seats; said = told }) out bag s2 within put;
       }
 
-  pub replica_clashes : (d : Digest) → Clashes (flat_map got_texts r.got) v.texts d → replica_goes w id x [] o ≡ Breaks (Clash d)
+  pub replica_clashes : (d : Digest) → Clashes (flat_map got_texts r.got) v.texts d → replica_goes w id x [] event o ≡ Breaks (Clash d)
   replica_clashes d clash =
       let all : keep_all (step_texts o.deeds.acts) w.texts ≡ Err d = ap (λ (texts : List (List ℕ)). keep_all texts w.texts) (sym brings) ∙ clash w.texts has.shows.texts in
       let out = outgoing_of o.state.me.0 o.state.counts.n o.deeds.sent in
-      ap (go_with w (λ u. with_sent (with_replica u id (stepped x o)) out) (replica_note id o.answer)) all
+      ap (go_with w (λ u. with_sent (with_replica u id (stepped u.texts event x o)) out) (replica_note id o.answer)) all
 
 module _ {S : Type 0} (w : World S) (id : ClientId) (x : Client) (o : ClientOutcome) (r : ClientStep) (v : Shown S) (has : HasClientStepped w id x o r v) where
   client_says : (client_stepped x o).said ≡ x.said ++ map (λ spoken. spoken.text) r.said

@@ -1,10 +1,9 @@
 -- A frame is heard, and what it brings to a party.
 use Rattle.std.proofs.Common.{◌≡◌, ℕ, ◌-◌, Bool, true, false, List, [], ◌∷◌, ◌++◌, length, map, Option, Some, None, Result, Ok, Err, refl, sym, ap, ap₂, ◌∙◌, subst}
-use Rattle.std.specs.Prelude.{slice_get, slice_set, option_map}
+use Rattle.std.specs.Prelude.{slice_get, slice_set, option_map, unwrap_or}
 use Rattle.std.specs.List.{find}
 use Rattle.std.proofs.lemmas.List.{append-nil}
 use Rattle.zy_base.specs.Machine.{Rules}
-use Rattle.zy_base.specs.declared.frame_fault.FrameFault.{FrameFault}
 use Rattle.zy_base.specs.declared.ids.ClientId.{ClientId}
 use Rattle.zy_base.specs.declared.ids.Digest.{Digest}
 use Rattle.zy_base.specs.declared.ids.Party.{Party}
@@ -14,13 +13,12 @@ use Rattle.zy_base.specs.declared.step.Event.{Event}
 use Rattle.zy_base.specs.declared.step.Event.TheVariants.{Heard, Timer}
 use Rattle.zy_base.specs.declared.step.TimerKind.{TimerKind}
 use Rattle.zy_base.specs.declared.step.TimerKind.TheVariants as timers
-use Rattle.zy_frames.specs.Frames.{frame_in, parts_of}
-use Rattle.zy_frames.specs.declared.frame.Frame.{Frame}
 use Rattle.zy_seal.specs.Keys.{Keys}
 use Rattle.zy_table.specs.ClientRows.{client_step}
 use Rattle.zy_table.specs.ClientState.{client_outgoing}
 use Rattle.zy_table.specs.Deeds.{outgoing_of}
-use Rattle.zy_table.specs.Step.{step}
+use Rattle.zy_table.specs.Whole.{whole_step}
+use Rattle.zy_table.specs.declared.deeds.AnyFrame.{AnyFrame}
 use Rattle.zy_texts.proofs.KeptLemmas.{keep_all-append}
 use Rattle.zy_texts.proofs.SaidLemmas.{same_shown}
 use Rattle.zy_texts.specs.Kept.{Pairs, Keeps, Clashes}
@@ -37,9 +35,10 @@ use Rattle.zy_world.specs.declared.seat.Seat.TheVariants as sat
 use Rattle.zy_world_law.specs.Events.{Broken, Happened, no_subject, go_with, keeping, unless_forged, stepped, client_stepped, with_replica, with_client, with_done, replica_note, client_note, completed_by, bring, bring_to_replica, bring_to_client, timer_of, replica_timer_in, client_timer_in}
 use Rattle.zy_world_law.specs.Events.Broken.{Forged, Clash}
 use Rattle.zy_world_law.specs.Events.Happened.{Goes, Breaks}
-use Rattle.zy_world_law.specs.Honest.{forger_in, parts_read, is_forged}
+use Rattle.zy_world_law.specs.Honest.{forger_in, is_forged}
+use Rattle.zy_world_law.specs.Reading.{any_frame_in, parts_of}
 use Rattle.zy_world_law.specs.Setup.{keys_of}
-use Rattle.zy_world_law.specs.Texts.{texts_in, texts_read, frame_texts, step_texts, keep_all, and_then}
+use Rattle.zy_world_law.specs.Texts.{texts_in, texts_of, step_texts, keep_all, and_then}
 use Rattle.zy_world_law.specs.World.{World, Replica, Client, Mail, Texts, texts_said, with_sent, delivered}
 use Rattle.zy_world_law.specs.declared.note.Note.{Note}
 use Rattle.zy_world_law.specs.declared.note.Note.TheVariants.{Quiet}
@@ -49,18 +48,18 @@ use Rattle.zy_world.proofs.ShownSeats.{said_is, whole_seat}
 -- ---- hearing
 
 -- bytes that are no frame
-pub heard_nothing : {S : Type 0} (w : World S) (bytes : List ℕ) (fault : FrameFault) → frame_in bytes ≡ Err fault → heard w bytes ≡ Ok w.texts
+pub heard_nothing : {S : Type 0} (w : World S) (bytes : List ℕ) → any_frame_in bytes ≡ None → heard w bytes ≡ Ok w.texts
 unfolding heard
-heard_nothing {S = S} w bytes fault is =
-    ap (λ (r : Result Frame FrameFault). heard_of (option_map (λ part. part.by) (find (is_forged w) (parts_read r))) (keep_all (texts_read r) w.texts)) is
+heard_nothing w bytes is =
+    ap (λ (f : Option AnyFrame). heard_of (option_map (λ part. part.by) (find (is_forged w) (unwrap_or (option_map parts_of f) []))) (keep_all (unwrap_or (option_map texts_of f) []) w.texts)) is
 
-heard_frame_is : {S : Type 0} (w : World S) (bytes : List ℕ) (frame : Frame) → frame_in bytes ≡ Ok frame
-    → heard w bytes ≡ heard_of (forger_among (keys_of w.setup) (texts_said w) (parts_of frame)) (keep_all (frame_texts frame) w.texts)
+heard_frame_is : {S : Type 0} (w : World S) (bytes : List ℕ) (frame : AnyFrame) → any_frame_in bytes ≡ Some frame
+    → heard w bytes ≡ heard_of (forger_among (keys_of w.setup) (texts_said w) (parts_of frame)) (keep_all (texts_of frame) w.texts)
 unfolding heard
-heard_frame_is {S = S} w bytes frame is =
-    ap (λ (r : Result Frame FrameFault). heard_of (option_map (λ part. part.by) (find (is_forged w) (parts_read r))) (keep_all (texts_read r) w.texts)) is
+heard_frame_is w bytes frame is =
+    ap (λ (f : Option AnyFrame). heard_of (option_map (λ part. part.by) (find (is_forged w) (unwrap_or (option_map parts_of f) []))) (keep_all (unwrap_or (option_map texts_of f) []) w.texts)) is
 
-module _ {S : Type 0} (w : World S) (v : Shown S) (s : Shows w v) (bytes : List ℕ) (frame : Frame) (is : frame_in bytes ≡ Ok frame) where
+module _ {S : Type 0} (w : World S) (v : Shown S) (s : Shows w v) (bytes : List ℕ) (frame : AnyFrame) (is : any_frame_in bytes ≡ Some frame) where
   -- the first that is named by everything that may have been said
   abbrev pub IsNamed : Option Party → Type 0
   IsNamed by = (said : Party → Option (List (List ℕ))) → AreShown said v.said → by ≡ forger_among v.keys said (parts_of frame)
@@ -70,7 +69,7 @@ module _ {S : Type 0} (w : World S) (v : Shown S) (s : Shows w v) (bytes : List 
       ap (λ (keys : Keys). forger_among keys (texts_said w) (parts_of frame)) s.keys
       ∙ sym (names (texts_said w) (same_shown (texts_of w.replicas w.clients) (texts_said w) v.said (said_is w) s.said))
 
-  pub heard_frame : (pairs : Pairs) → IsNamed None → Keeps (frame_texts frame) v.texts pairs → HeardTo w bytes (record v { texts = pairs })
+  pub heard_frame : (pairs : Pairs) → IsNamed None → Keeps (texts_of frame) v.texts pairs → HeardTo w bytes (record v { texts = pairs })
   heard_frame pairs none keeps =
       let kept = keeps w.texts s.texts in
       record {
@@ -80,9 +79,9 @@ module _ {S : Type 0} (w : World S) (v : Shown S) (s : Shows w v) (bytes : List 
       }
 
   pub frame_forged : (by : Party) → IsNamed (Some by) → heard w bytes ≡ Err (Forged by)
-  frame_forged by names = heard_frame_is w bytes frame is ∙ ap (λ (f : Option Party). heard_of f (keep_all (frame_texts frame) w.texts)) (named (Some by) names)
+  frame_forged by names = heard_frame_is w bytes frame is ∙ ap (λ (f : Option Party). heard_of f (keep_all (texts_of frame) w.texts)) (named (Some by) names)
 
-  pub frame_clashes : (d : Digest) → IsNamed None → Clashes (frame_texts frame) v.texts d → heard w bytes ≡ Err (Clash d)
+  pub frame_clashes : (d : Digest) → IsNamed None → Clashes (texts_of frame) v.texts d → heard w bytes ≡ Err (Clash d)
   frame_clashes d none clash = heard_frame_is w bytes frame is ∙ ap₂ heard_of (named None none) (clash w.texts s.texts)
 
 -- a text that clashed is told as the fault of the world
@@ -115,10 +114,10 @@ to_replica : {S : Type 0} (R : Rules S) (w : World S) (bag : List Mail) (id : Re
     → bring_to_replica R w (record w { bag = bag }) id bytes o ≡ carried (heard (record w { bag = bag }) bytes) (λ texts. replica_steps R (record w { bag = bag; texts = texts }) id (Heard bytes) o)
 unfolding heard replica_steps
 to_replica {S = S} R w bag id bytes (Some (Some x)) is =
-    let o = step R x.state (Heard bytes) in
+    let o = whole_step R x.state (Heard bytes) in
     let m : World S = record w { bag = bag } in
     heard_then m (texts_in bytes) (step_texts o.deeds.acts)
-    (λ v. with_sent (with_replica v id (stepped x o)) (outgoing_of o.state.me.0 o.state.counts.n o.deeds.sent))
+    (λ v. with_sent (with_replica v id (stepped v.texts (Heard bytes) x o)) (outgoing_of o.state.me.0 o.state.counts.n o.deeds.sent))
     (replica_note id o.answer) (forger_in m bytes)
 to_replica R w bag id bytes (Some None) is = absurd cc
 to_replica R w bag id bytes None is = absurd cc

@@ -15,16 +15,17 @@ use Rattle.zy_setup.specs.Telling.{IsToldBy, telling_of}
 use Rattle.zy_table.specs.Sending.{copies}
 use Rattle.zy_world.specs.Shown.{Shown, Keyed, seat_of, is_liar_seat, key_in, with_key, request_in, requests_in}
 use Rattle.zy_world.specs.Shows.{Shows}
-use Rattle.zy_world.specs.Tale.{IsTale, can_forge, can_lie, if_replica, told_in}
+use Rattle.zy_world.specs.Tale.{IsTale, can_forge, can_lie, if_replica, key_behind, told_in}
 use Rattle.zy_world.specs.declared.tale.Tale.{Tale}
 use Rattle.zy_world.specs.declared.tale.Tale.TheVariants as tales
-use Rattle.zy_world_law.specs.Events.{lie, forge, leaves_in, spent}
+use Rattle.zy_world_law.specs.Events.{lie, forge, leaves_in, no_subject, spent}
 use Rattle.zy_world_law.specs.Events.Happened.{Goes}
 use Rattle.zy_world_law.specs.Liars.{Telling, by_replica, last_of, requests_at}
 use Rattle.zy_world_law.specs.Setup.{Setup, sealer_of}
 use Rattle.zy_world_law.specs.World.{World, Mail, is_liar, is_correct, are_parties, with_sent}
 use Rattle.zy_world_law.specs.declared.note.Note.TheVariants as notes
-use Rattle.zy_world.proofs.Lied.{lies_is, is_right, all_there, shows_spent, lie_sent, lie_unsent, forge_sent, requests_is, told_if, last_there}
+use Rattle.zy_world.proofs.KeyLemmas.{key_put}
+use Rattle.zy_world.proofs.Lied.{lies_is, is_right, all_there, shows_spent, lie_sent, lie_too_long, lie_unsent, forge_sent, forge_too_long, requests_is, told_if, last_there}
 
 -- ---- what is told can be signed
 
@@ -64,12 +65,30 @@ module _ {S : Type 0} (g : World S) (v : Shown S) (s : Shows g v) (liar : Party)
   pub shows_lied : (keys : Keyed) → g.leaves liar ≢ leaves_in g → keys ≡ with_key v.liars liar (Some (spent_one (sealer_of g.setup liar (g.leaves liar)))) → Shows (spent g liar) (record v { liars = keys })
   shows_lied keys left is = shows_spent g v liar keys s lies (leaf_left left) is
 
-  pub lied : (told : Option Telling) (bytes : List ℕ) → g.leaves liar ≢ leaves_in g → IsToldBy told (sealer_of g.setup liar (g.leaves liar)) bytes
+  pub lied : (told : Option Telling) (bytes : List ℕ) → g.leaves liar ≢ leaves_in g → IsToldBy told (sealer_of g.setup liar (g.leaves liar)) (Some bytes)
       → lie g liar to told ≡ Goes (with_sent (spent g liar) (copies bytes to)) notes.Quiet
-  lied told bytes left tells = lie_sent g liar to told bytes can (leaf_left left) tells
+  lied told bytes left tells = lie_sent g liar to told can bytes (leaf_left left) tells
 
   pub unlied : (tale : Tale) → IsTale tale → g.leaves liar ≡ leaves_in g → lie g liar to (told_in tale) ≡ Goes g (notes.Refused None causes.KeySpent)
-  unlied tale can_tell used = let told = told_there tale can_tell in lie_unsent g liar to (told_in tale) told.0 can (omega (arith, used)) told.1
+  unlied tale can_tell used = let told = told_there tale can_tell in lie_unsent g liar to (told_in tale) can told.0 (omega (arith, used)) told.1
+
+  -- what is too long isn't sent, and the key is made anew
+  pub lied_too_long : (told : Option Telling) → g.leaves liar ≢ leaves_in g → IsToldBy told (sealer_of g.setup liar (g.leaves liar)) None → lie g liar to told ≡ no_subject g
+  lied_too_long told left tells = lie_too_long g liar to told can (leaf_left left) tells
+
+  pub leaf_within : g.leaves liar ≤ 2 ^ levels_of v.setup.height
+  leaf_within = subst (λ (setup : Setup). g.leaves liar ≤ 2 ^ levels_of setup.height) s.setup (s.liars.within liar lies)
+
+  -- the key behind what was told, by the setup that is shown
+  abbrev KeyBehind : Keyed → Option (List ℕ) → Setup → Type 0
+  KeyBehind keys bytes setup = keys ≡ with_key v.liars liar (Some (key_behind setup liar bytes (sealer_of g.setup liar (g.leaves liar))))
+
+  pub shows_again : (keys : Keyed) → KeyBehind keys None v.setup → Shows g (record v { liars = keys })
+  shows_again keys is =
+      subst (λ (k : Keyed). Shows g (record v { liars = k }))
+      (sym (key_put v.liars liar (sealer_of g.setup liar (g.leaves liar)) has_key)
+      ∙ sym (subst (KeyBehind keys None) (sym s.setup) is))
+      s
 
 -- no leaf was spent
 pub same_keys : {S : Type 0} (g : World S) (v : Shown S) → Shows g v → (keys : Keyed) → keys ≡ v.liars → Shows g (record v { liars = keys })
@@ -77,10 +96,15 @@ same_keys g v s keys is = subst (λ (k : Keyed). Shows g (record v { liars = k }
 
 -- ---- whoever made a key anew signs
 
-pub forged_as : {S : Type 0} (g : World S) (v : Shown S) → Shows g v → (party : Party) (to : List Party) (told : Option Telling) (bytes : List ℕ) → (is_correct g party && are_parties g to) ≡ true
-    → IsToldBy told (sealer_of v.setup party (2 ^ levels_of v.setup.height - 1)) bytes → forge g party to told ≡ Goes (with_sent g (copies bytes to)) notes.Quiet
-forged_as g v s party to told bytes can tells =
-    forge_sent g party to told bytes can (subst (λ (setup : Setup). IsToldBy told (sealer_of setup party (2 ^ levels_of setup.height - 1)) bytes) (sym s.setup) tells)
+module _ {S : Type 0} (g : World S) (v : Shown S) (s : Shows g v) (party : Party) (to : List Party) (told : Option Telling) (can : (is_correct g party && are_parties g to) ≡ true) where
+  by_last_leaf : (bytes : Option (List ℕ)) → IsToldBy told (sealer_of v.setup party (2 ^ levels_of v.setup.height - 1)) bytes → IsToldBy told (sealer_of g.setup party (leaves_in g - 1)) bytes
+  by_last_leaf bytes tells = subst (λ (setup : Setup). IsToldBy told (sealer_of setup party (2 ^ levels_of setup.height - 1)) bytes) (sym s.setup) tells
+
+  pub forged_as : (bytes : List ℕ) → IsToldBy told (sealer_of v.setup party (2 ^ levels_of v.setup.height - 1)) (Some bytes) → forge g party to told ≡ Goes (with_sent g (copies bytes to)) notes.Quiet
+  forged_as bytes tells = forge_sent g party to told can bytes (by_last_leaf (Some bytes) tells)
+
+  pub forged_too_long : IsToldBy told (sealer_of v.setup party (2 ^ levels_of v.setup.height - 1)) None → forge g party to told ≡ no_subject g
+  forged_too_long tells = forge_too_long g party to told can (by_last_leaf None tells)
 
 pub has_leaves : (height : Height) → 1 ≤ 2 ^ levels_of height
 has_leaves H5 = omega arith

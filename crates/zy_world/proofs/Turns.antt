@@ -8,7 +8,7 @@ use Rattle.zy_base.specs.declared.step.Event.{Event}
 use Rattle.zy_table.specs.ClientRows.{ask, client_step}
 use Rattle.zy_table.specs.ClientState.{ClientState, ClientOutcome}
 use Rattle.zy_table.specs.State.{State}
-use Rattle.zy_table.specs.Step as table
+use Rattle.zy_table.specs.Whole as table
 use Rattle.zy_world.specs.Answered.{GoesTo, IsBrokenBy, replica_steps, client_steps}
 use Rattle.zy_world.specs.Shown.{Shown, Seated, with_replica, with_client}
 use Rattle.zy_world.specs.Shows.{Shows}
@@ -45,23 +45,23 @@ module _ {S : Type 0} (R : Rules S) (w : World S) (v : Shown S) (s : Shows w v) 
   no_replica None is = refl
 
   pub nobody_steps : (step : Option ReplicaStep) (seats : Seated S) → step ≡ None → (seat ≡ None → (step ≡ None) × (seats ≡ v.seats))
-      → ((x : State S) → seat ≡ Some x → IsSomeAnd step (IsReplicaStep (table.step R x event)))
+      → ((x : State S) → seat ≡ Some x → IsSomeAnd step (IsReplicaStep (table.whole_step R x event)))
       → (note : Note) (u : Shown S) → ((g : World S) → Shows g (record v { seats = seats }) → GoesTo (no_subject g) note u)
       → GoesTo (replica_steps R w id event (slice_get w.replicas id.0)) note u
   nobody_steps step seats is missing stepped note u goes =
-      let none = none_made (λ (x : State S). IsReplicaStep (table.step R x event)) seat step is stepped in
+      let none = none_made (λ (x : State S). IsReplicaStep (table.whole_step R x event)) seat step is stepped in
       subst (λ (h : Happened S). GoesTo h note u) (sym (no_replica (slice_get w.replicas id.0) (sym sits ∙ none)))
       (goes w (subst (λ (t : Seated S). Shows w (record v { seats = t })) (sym (missing none).1) s))
 
   -- it is what the replica in its seat makes
   pub record IsTurn (r : ReplicaStep) (u : Shown S) : Type 0 where
     pub who : Replica S
-    pub is : replica_steps R w id event (slice_get w.replicas id.0) ≡ replica_goes w id who [] (table.step R who.state event)
-    pub has : HasReplicaStepped w id who (table.step R who.state event) r u
+    pub is : replica_steps R w id event (slice_get w.replicas id.0) ≡ replica_goes w id who [] event (table.whole_step R who.state event)
+    pub has : HasReplicaStepped w id who (table.whole_step R who.state event) r u
 
   module _ (step : Option ReplicaStep) (r : ReplicaStep) (seats : Seated S) (made : step ≡ Some r) (missing : seat ≡ None → (step ≡ None) × (seats ≡ v.seats))
-      (stepped : (x : State S) → seat ≡ Some x → IsSomeAnd step (IsReplicaStep (table.step R x event)))
-      (state : (x : State S) → seat ≡ Some x → seats ≡ with_replica v.seats id.0 (Some (table.step R x event).state)) where
+      (stepped : (x : State S) → seat ≡ Some x → IsSomeAnd step (IsReplicaStep (table.whole_step R x event)))
+      (state : (x : State S) → seat ≡ Some x → seats ≡ with_replica v.seats id.0 (Some (table.whole_step R x event).state)) where
     turn : (o : Option (Option (Replica S))) → slice_get w.replicas id.0 ≡ o → IsTurn r (record v { seats = seats })
     unfolding replica_steps
     turn (Some (Some x)) there =
@@ -74,7 +74,7 @@ module _ {S : Type 0} (R : Rules S) (w : World S) (v : Shown S) (s : Shows w v) 
             shows = s;
             there = there;
             after = state x.state here;
-            step = subst (λ (o : Option ReplicaStep). IsSomeAnd o (IsReplicaStep (table.step R x.state event))) made (stepped x.state here);
+            step = subst (λ (o : Option ReplicaStep). IsSomeAnd o (IsReplicaStep (table.whole_step R x.state event))) made (stepped x.state here);
           };
         }
     turn (Some None) there =

@@ -10,7 +10,7 @@ use Rattle.zy_base.specs.declared.step.Event.{Event}
 use Rattle.zy_base.specs.declared.step.TimerKind.{TimerKind}
 use Rattle.zy_base.specs.declared.step.TimerKind.TheVariants as timers
 use Rattle.zy_table.specs.ClientRows.{client_step}
-use Rattle.zy_table.specs.Step.{step}
+use Rattle.zy_table.specs.Whole.{whole_step}
 use Rattle.zy_texts.specs.declared.fault.TextFault.{TextFault}
 use Rattle.zy_texts.specs.declared.fault.TextFault.TheVariants as text_faults
 use Rattle.zy_world.specs.Shown.{Shown}
@@ -61,7 +61,7 @@ IsUnheardBy w bytes faults.Want = ⊤
 -- ---- a party in a seat makes a step; where none is correct the event has no subject
 
 unfoldable pub replica_steps : {S : Type 0} → Rules S → World S → ReplicaId → Event → Option (Option (Replica S)) → Happened S
-replica_steps R w id event (Some (Some x)) = replica_goes w id x [] (step R x.state event)
+replica_steps R w id event (Some (Some x)) = replica_goes w id x [] event (whole_step R x.state event)
 replica_steps R w id event (Some None) = no_subject w
 replica_steps R w id event None = no_subject w
 

@@ -1,13 +1,15 @@
 -- What a liar or a forger is told to sign.
-use Rattle.std.specs.Prelude.{◌≤◌, ◌&&◌, Bool, List, length, Option, Some, None}
+use Rattle.std.specs.Prelude.{ℕ, ◌≤◌, ◌&&◌, Bool, List, length, Option, Some, None}
 use Rattle.std.specs.List.{list_all}
 use Rattle.zy_base.specs.declared.ids.Party.{Party}
 use Rattle.zy_base.specs.declared.ids.Party.TheVariants as parties
+use Rattle.zy_seal.specs.Sealing.{SealerState, spent_one}
 use Rattle.zy_setup.specs.Telling.{IsOrderable, IsTellable, telling_of}
 use Rattle.zy_world.specs.Shown.{Seated, seat_of, is_seated, is_liar_seat, is_correct_seat}
 use Rattle.zy_world.specs.declared.tale.Tale.{Tale}
 use Rattle.zy_world.specs.declared.tale.Tale.TheVariants.{Order, Spec, Statement}
 use Rattle.zy_world_law.specs.Liars.{Telling, order_told, spec_told}
+use Rattle.zy_world_law.specs.Setup.{Setup, sealer_of}
 
 abbrev pub told_in : Tale → Option Telling
 told_in (Order view asks) = order_told view asks
@@ -19,6 +21,11 @@ abbrev pub IsTale : Tale → Type 0
 IsTale (Order view asks) = IsOrderable view asks
 IsTale (Spec view asks reply) = IsOrderable view asks × (length reply ≤ 1100)
 IsTale (Statement statement) = IsTellable statement
+
+-- The key of a liar behind its next frame; where that would be too long, it stands at its leaf as before.
+abbrev pub key_behind : Setup → Party → Option (List ℕ) → SealerState → SealerState
+key_behind setup liar (Some bytes) key = spent_one key
+key_behind setup liar None key = sealer_of setup liar key.key.next
 
 -- only replicas sign what is said of a history
 abbrev pub if_replica : {A : Type 0} → Party → Option A → Option A

@@ -1,22 +1,23 @@
 //! A correct party hears a frame and makes a step.
 
-ghost use Rattle.std.specs.Prelude.{◌≡◌, ◌≤◌, ℕ, List, [], length, slice_get, None, Some, Ok, IfOk, IfErr};
+ghost use Rattle.std.specs.Prelude.{◌≡◌, ◌≤◌, ℕ, List, [], length, slice_get, None, Some, IfOk, IfErr};
 ghost use Rattle.std.specs.List.{AllByRecursion};
+ghost use Rattle.zy_base.specs.declared.step.Event.{Event as Happening};
 ghost use Rattle.zy_chain.specs.Entries.{IsEntryInRange};
-ghost use Rattle.zy_frames.specs.Frames.{IsFrameInRange, frame_in};
 ghost use Rattle.zy_world.specs.Answered.{GoesTo, IsBrokenBy, HeardTo, IsUnheardBy, replica_steps, client_steps};
 ghost use Rattle.zy_world.specs.Shows.{Shows};
 ghost use Rattle.zy_table.specs.ClientState.{ClientOutcome};
 ghost use Rattle.zy_table.specs.Deeds.{Outcome};
 ghost use Rattle.zy_world.specs.Stepping.{HasReplicaStepped, HasClientStepped};
 ghost use Rattle.zy_world_law.specs.Events.{ask_in, no_subject, replica_goes, client_goes, replica_note, client_note as noted_client, client_answer};
+ghost use Rattle.zy_world_law.specs.Reading.{IsInRange, any_frame_in};
 ghost use Rattle.zy_world_law.specs.World.{World as Whole, Replica as AReplica, Client as AClient};
 
 use crate::step::{ClientStep, ReplicaStep};
 use crate::{World, WorldFault, WorldStepped};
 use zy_base::{Answer, Bytes, Cause, ClientId, Event, Machine, Party, ReplicaId, Want};
-use zy_frames::{DecodeFault, Frame, decode};
-use zy_table::Done;
+use zy_table::{AnyFrame, Done};
+use zy_texts::read_frame;
 use zy_world_law::Note;
 
 impl<M: Machine> World<M> {
@@ -39,17 +40,16 @@ impl<M: Machine> World<M> {
         ensures heard { (g : Whole M.State) → Shows g self → IfOk result (HeardTo g bytes.now) }
         ensures unheard { (g : Whole M.State) → Shows g self → IfErr result (IsUnheardBy g bytes.now) }
     {
-        match decode(self.alloc, bytes.as_slice()) {
-            Ok(frame) => self.hears_frame(&frame),
-            Err(DecodeFault::Frame(_)) => Ok(self),
-            Err(DecodeFault::Want) => Err(WorldFault::Want),
+        match read_frame(self.alloc, bytes.as_slice())? {
+            Some(frame) => self.hears_frame(&frame),
+            None => Ok(self),
         }
     }
 
-    fn hears_frame(mut self, frame: &Frame) -> Result<World<M>, WorldFault>
-        requires { IsFrameInRange frame.now }
-        ensures heard { (g : Whole M.State) (bytes : List ℕ) → Shows g self → frame_in bytes ≡ Ok frame.now → IfOk result (HeardTo g bytes) }
-        ensures unheard { (g : Whole M.State) (bytes : List ℕ) → Shows g self → frame_in bytes ≡ Ok frame.now → IfErr result (IsUnheardBy g bytes) }
+    fn hears_frame(mut self, frame: &AnyFrame) -> Result<World<M>, WorldFault>
+        requires { IsInRange frame.now }
+        ensures heard { (g : Whole M.State) (bytes : List ℕ) → Shows g self → any_frame_in bytes ≡ Some frame.now → IfOk result (HeardTo g bytes) }
+        ensures unheard { (g : Whole M.State) (bytes : List ℕ) → Shows g self → any_frame_in bytes ≡ Some frame.now → IfErr result (IsUnheardBy g bytes) }
     {
         match self.said.forger(&self.directory, frame)? {
             Some(by) => Err(WorldFault::Forged(by)),
@@ -82,8 +82,8 @@ impl<M: Machine> World<M> {
         step: ReplicaStep,
     ) -> Result<WorldStepped<M>, WorldFault>
         requires { AllByRecursion (λ got. IsEntryInRange got.entry) step.got }
-        ensures goes { (g : Whole M.State) (x : AReplica M.State) (o : Outcome M.State) → HasReplicaStepped g id x o step self → IfOk result (λ r. GoesTo (replica_goes g id x [] o) r.note r.world) }
-        ensures broken { (g : Whole M.State) (x : AReplica M.State) (o : Outcome M.State) → HasReplicaStepped g id x o step self → IfErr result (IsBrokenBy (replica_goes g id x [] o)) }
+        ensures goes { (g : Whole M.State) (x : AReplica M.State) (event : Happening) (o : Outcome M.State) → HasReplicaStepped g id x o step self → IfOk result (λ r. GoesTo (replica_goes g id x [] event o) r.note r.world) }
+        ensures broken { (g : Whole M.State) (x : AReplica M.State) (event : Happening) (o : Outcome M.State) → HasReplicaStepped g id x o step self → IfErr result (IsBrokenBy (replica_goes g id x [] event o)) }
     {
         let note = replica_note(id, step.answer);
         self.texts.keep_step(&step.got)?;

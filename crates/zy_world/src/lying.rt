@@ -139,13 +139,14 @@ impl<M: Machine> World<M> {
         self.seats.is_liar(liar) && self.seats.are_seated(to.as_slice())
     }
 
-    // Signs, and sends the frame.
+    // Signs, and sends the frame, unless it is longer than a frame may be.
     fn lies(mut self, liar: Party, to: &Items<Party>, tale: Tale) -> Result<WorldStepped<M>, Want>
         requires { IsTale tale }
         ensures { (g : Whole M.State) → Shows g self → (is_liar g liar && are_parties g to.now) ≡ true → IfOk result (λ r. GoesTo (lie g liar to.now (told_in tale)) r.note r.world) }
     {
-        match self.liars.sign(self.alloc, liar, tale) {
-            Ok(bytes) => self.sends(&bytes, to),
+        match self.liars.sign(self.alloc, &self.setup, liar, tale) {
+            Ok(Some(bytes)) => self.sends(&bytes, to),
+            Ok(None) => Ok(self.no_subject()),
             Err(SealFault::KeySpent) => Ok(self.noted(Note::Refused(None, Cause::KeySpent))),
             Err(SealFault::Want) => Err(Want),
         }
@@ -168,18 +169,20 @@ impl<M: Machine> World<M> {
         self.seats.is_correct(party) && self.seats.are_seated(to.as_slice())
     }
 
-    // Signs by the party's last leaf, and sends the frame.
+    // Signs by the party's last leaf, and sends the frame, unless it is longer than a frame may be.
     fn forges(self, party: Party, to: &Items<Party>, tale: Tale) -> Result<WorldStepped<M>, Want>
         requires { IsTale tale }
         ensures { (g : Whole M.State) → Shows g self → (is_correct g party && are_parties g to.now) ≡ true → IfOk result (λ r. GoesTo (forge g party to.now (told_in tale)) r.note r.world) }
     {
-        let bytes = self.forged(party, tale)?;
-        self.sends(&bytes, to)
+        match self.forged(party, tale)? {
+            Some(bytes) => self.sends(&bytes, to),
+            None => Ok(self.no_subject()),
+        }
     }
 
     // The frame under the party's key, made anew, by its last leaf.
     #[tactic(auto, using(crate::proofs::Lies::has_leaves))]
-    fn forged(&self, party: Party, tale: Tale) -> Result<Bytes, Want>
+    fn forged(&self, party: Party, tale: Tale) -> Result<Option<Bytes>, Want>
         requires { IsTale tale }
         ensures { IfOk result (IsToldBy (told_in tale) (sealer_of self.now.setup party (2 ^ levels_of self.now.setup.height - 1))) }
     {

@@ -5,7 +5,7 @@ ghost use Rattle.zy_chain.specs.Entries.{IsEntryInRange};
 ghost use Rattle.zy_table.specs.ClientRows.{ask as ask_row, client_step};
 ghost use Rattle.zy_table.specs.ClientState.{ClientState as AClient, ClientOutcome, is_waiting};
 ghost use Rattle.zy_table.specs.State.{State};
-ghost use Rattle.zy_table.specs.Step.{step as step_row};
+ghost use Rattle.zy_table.specs.Whole.{whole_step};
 ghost use Rattle.zy_client.specs.Stepped.{IsStepped};
 ghost use Rattle.zy_world.specs.Shown.{is_correct_seat, is_liar_seat, is_seated, seat_of, with_replica, with_client};
 ghost use Rattle.zy_world.specs.Stepping.{IsReplicaStep, IsClientStep, done_if};
@@ -100,9 +100,9 @@ impl<M: Machine> Seats<M> {
         event: Event,
     ) -> Result<Option<ReplicaStep>, Want>
         ensures missing { correct_in (slice_get self.old.replicas id.0) ≡ None → IfOk result (λ step. (step ≡ None) × (self.new ≡ self.old)) }
-        ensures stepped { (s : State M.State) → correct_in (slice_get self.old.replicas id.0) ≡ Some s → IfOk result (λ step. IsSomeAnd step (IsReplicaStep (step_row M.rules s event))) }
+        ensures stepped { (s : State M.State) → correct_in (slice_get self.old.replicas id.0) ≡ Some s → IfOk result (λ step. IsSomeAnd step (IsReplicaStep (whole_step M.rules s event))) }
         ensures entries { IfOk result (λ step. ForSome step (λ r. AllByRecursion (λ got. IsEntryInRange got.entry) r.got)) }
-        ensures state { (s : State M.State) → correct_in (slice_get self.old.replicas id.0) ≡ Some s → OnOk result (self.new ≡ with_replica self.old id.0 (Some (step_row M.rules s event).state)) }
+        ensures state { (s : State M.State) → correct_in (slice_get self.old.replicas id.0) ≡ Some s → OnOk result (self.new ≡ with_replica self.old id.0 (Some (whole_step M.rules s event).state)) }
     {
         match take_from(&mut self.replicas, id.0 as usize) {
             None => Ok(None),
@@ -117,11 +117,11 @@ impl<M: Machine> Seats<M> {
         replica: Replica<M>,
         event: Event,
     ) -> Result<ReplicaStep, Want>
-        ensures stepped { IfOk result (IsReplicaStep (step_row M.rules replica event)) }
+        ensures stepped { IfOk result (IsReplicaStep (whole_step M.rules replica event)) }
         ensures entries { IfOk result (λ r. AllByRecursion (λ got. IsEntryInRange got.entry) r.got) }
-        ensures state { OnOk result (self.new ≡ with_replica self.old id.0 (Some (step_row M.rules replica event).state)) }
+        ensures state { OnOk result (self.new ≡ with_replica self.old id.0 (Some (whole_step M.rules replica event).state)) }
     {
-        let stepped = replica.step(event)?;
+        let stepped = replica.whole_step(event)?;
         put_in(&mut self.replicas, id.0 as usize, stepped.replica);
         Ok(ReplicaStep {
             answer: stepped.answer,

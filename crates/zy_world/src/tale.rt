@@ -28,8 +28,13 @@ pub(crate) enum Tale {
 }
 
 impl Tale {
-    /// The frame, signed by the next leaf. `KeySpent` exactly where no leaf is left.
-    pub(crate) fn frame(self, alloc: Global, sealer: &mut Sealer) -> Result<Bytes, SealFault>
+    /// The frame, signed by the next leaf. `None` where it is longer than a frame may be; the leaf is spent then too.
+    /// `KeySpent` exactly where no leaf is left.
+    pub(crate) fn frame(
+        self,
+        alloc: Global,
+        sealer: &mut Sealer,
+    ) -> Result<Option<Bytes>, SealFault>
         requires { IsTale self }
         ensures frame { IfOk result (IsToldBy (told_in self) sealer.old) }
         ensures spent_one { OnOk result (sealer.new ≡ spent_one sealer.old) }
@@ -37,9 +42,13 @@ impl Tale {
         ensures unchanged { IsErrOf result SealFault.KeySpent → sealer.new ≡ sealer.old }
     {
         match self {
-            Tale::Order { view, asks } => order_frame(alloc, sealer, view, asks.as_slice()),
+            Tale::Order { view, asks } => {
+                let frame = order_frame(alloc, sealer, view, asks.as_slice())?;
+                Ok(Some(frame))
+            }
             Tale::Spec { view, asks, reply } => {
-                spec_frame(alloc, sealer, view, asks.as_slice(), reply)
+                let frame = spec_frame(alloc, sealer, view, asks.as_slice(), reply)?;
+                Ok(Some(frame))
             }
             Tale::Statement(statement) => statement.frame(alloc, sealer),
         }

@@ -2,7 +2,7 @@ use Rattle.std.proofs.Common.{◌≡◌, List, Option, Some, None, refl, sym, ap
 use Rattle.std.specs.Prelude.{slice_get}
 use Rattle.std.proofs.lemmas.Option.{same_Some}
 use Rattle.zy_table.specs.State.{State}
-use Rattle.zy_table.specs.Step.{step as step_row}
+use Rattle.zy_table.specs.Whole.{whole_step}
 use Rattle.zy_world.specs.Shown.{Seated, with_replica}
 use Rattle.zy_world.specs.Stepping.{IsReplicaStep}
 use Rattle.zy_world_law.specs.World.{correct_in}
@@ -22,12 +22,12 @@ pub returns-in_ok-replica_steps-in-Some-clause-stepped : goal.returns-in_ok-repl
 returns-in_ok-replica_steps-in-Some-clause-stepped g c s is =
     let found : c.in-Some.replica ≡ s =
     same_Some c.in-Some.replica s (sym c.in-Some.is ∙ c.take_from.ensures.taken ∙ ap (λ (v : Seated g.row.M-State.Denot). correct_in (slice_get v.replicas c.args.id.0)) c.self.view_is ∙ is) in
-    subst (λ (x : State g.row.M-State.Denot). IsReplicaStep (step_row g.M.Machine.rules x c.args.event) c.in_ok-replica_steps-in-Some.field-0) found c.in_ok-replica_steps-in-Some.ensures.stepped
+    subst (λ (x : State g.row.M-State.Denot). IsReplicaStep (whole_step g.M.Machine.rules x c.args.event) c.in_ok-replica_steps-in-Some.field-0) found c.in_ok-replica_steps-in-Some.ensures.stepped
 
 pub returns-in_ok-replica_steps-in-Some-clause-state : goal.returns-in_ok-replica_steps-in-Some-clause-state
 returns-in_ok-replica_steps-in-Some-clause-state g c s is =
     let seats : Seated g.row.M-State.Denot = record { replicas = c.self.inside.replicas.items; clients = c.self.inside.clients.items } in
-    let after : State g.row.M-State.Denot → Option (State g.row.M-State.Denot) = λ x. Some (step_row g.M.Machine.rules x c.args.event).state in
+    let after : State g.row.M-State.Denot → Option (State g.row.M-State.Denot) = λ x. Some (whole_step g.M.Machine.rules x c.args.event).state in
     let found : c.in-Some.replica ≡ s =
     same_Some c.in-Some.replica s (sym c.in-Some.is ∙ c.take_from.ensures.taken ∙ ap (λ (v : Seated g.row.M-State.Denot). correct_in (slice_get v.replicas c.args.id.0)) c.self.view_is ∙ is) in
     c.in_ok-replica_steps-in-Some.ensures.state

@@ -1,7 +1,7 @@
 use Rattle.std.proofs.Common.{◌≡◌, sym, subst}
 use Rattle.std.proofs.lemmas.Result.{err_from_is_err_and}
 use Rattle.std.specs.Prelude.{IfOk, IfErr}
-use Rattle.zy_table.specs.Step.{step}
+use Rattle.zy_table.specs.Whole.{whole_step}
 use Rattle.zy_world.specs.Answered.{GoesTo, IsBrokenBy}
 use Rattle.zy_world.specs.Shown.{Shown}
 use Rattle.zy_world.specs.Shows.{Shows}
@@ -19,14 +19,14 @@ returns-in-Some-clause-goes g c w s =
     let i = subst (λ (v : Shown g.row.M-State.Denot). Shows w v) (sym c.self.view_is) s in
     let t = replica_turn g.M.Machine.rules w _ i c.args.id c.args.event _ _ _ c.in-Some.is c.in_ok-step_replica.ensures.missing c.in_ok-step_replica.ensures.stepped c.in_ok-step_replica.ensures.state in
     subst (λ (h : Happened g.row.M-State.Denot). IfOk c.replica_stepped.result (λ r. GoesTo h r.note r.world)) (sym t.is)
-    (c.replica_stepped.ensures.goes w t.who (step g.M.Machine.rules t.who.state c.args.event) t.has)
+    (c.replica_stepped.ensures.goes w t.who c.args.event (whole_step g.M.Machine.rules t.who.state c.args.event) t.has)
 
 pub returns-in-Some-clause-broken : goal.returns-in-Some-clause-broken
 returns-in-Some-clause-broken g c w s =
     let i = subst (λ (v : Shown g.row.M-State.Denot). Shows w v) (sym c.self.view_is) s in
     let t = replica_turn g.M.Machine.rules w _ i c.args.id c.args.event _ _ _ c.in-Some.is c.in_ok-step_replica.ensures.missing c.in_ok-step_replica.ensures.stepped c.in_ok-step_replica.ensures.state in
     subst (λ (h : Happened g.row.M-State.Denot). IfErr c.replica_stepped.result (IsBrokenBy h)) (sym t.is)
-    (c.replica_stepped.ensures.broken w t.who (step g.M.Machine.rules t.who.state c.args.event) t.has)
+    (c.replica_stepped.ensures.broken w t.who c.args.event (whole_step g.M.Machine.rules t.who.state c.args.event) t.has)
 
 pub returns-in_err-step_replica-clause-broken : goal.returns-in_err-step_replica-clause-broken
 returns-in_err-step_replica-clause-broken g c w s =

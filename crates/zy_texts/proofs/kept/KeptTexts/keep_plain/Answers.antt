@@ -3,7 +3,7 @@ use Rattle.zy_frames.specs.declared.frame.Frame.{Frame}
 use Rattle.zy_world_law.specs.Texts.{frame_texts}
 use Rattle.zy_texts.specs.Kept.{Pairs, Keeps}
 use Rattle.zy_texts.proofs.KeptLemmas.{keeps_none}
-use Rattle.zy_texts.proofs.kept.KeptTexts.keep_frame.Goals as goal
+use Rattle.zy_texts.proofs.kept.KeptTexts.keep_plain.Goals as goal
 
 abbrev KeepsFrame : Pairs → Frame → Type 0
 KeepsFrame kept frame = Keeps (frame_texts frame) kept kept
