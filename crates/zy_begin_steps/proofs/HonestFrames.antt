@@ -1,5 +1,5 @@
 -- An honest frame's row is lawful: its parts are held.
-use Rattle.std.proofs.Common.{◌≡◌, ℕ, Bool, true, false, cond, Option, Some, None, Result, Ok, Err, List, map, get_or, refl, subst, arith}
+use Rattle.std.proofs.Common.{◌≡◌, ℕ, Bool, true, false, cond, Option, Some, None, Result, Ok, Err, List, map, get_or, refl, sym, subst, arith}
 use Rattle.std.specs.Prelude.{All}
 use Rattle.zy_base.specs.Machine.{Rules}
 use Rattle.zy_base.specs.declared.cause.Cause.{Cause}
@@ -8,20 +8,29 @@ use Rattle.zy_base.specs.declared.frame_fault.FrameFault.{FrameFault}
 use Rattle.zy_base.specs.declared.ids.Party.{Party}
 use Rattle.zy_base.specs.declared.ids.Party.TheVariants.{Replica, Client}
 use Rattle.zy_chain.specs.declared.entry.Entry.{Entry}
+use Rattle.zy_confirm.specs.Judging.{first_broken}
 use Rattle.zy_evidence.specs.Reading.{number_of_party}
+use Rattle.zy_evidence.specs.Rules.{rule_of}
+use Rattle.zy_evidence.specs.declared.rule.Rule.{Rule}
 use Rattle.zy_law.specs.World.{Statement, World}
 use Rattle.zy_parts.specs.Numbers as numbers
 use Rattle.zy_parts.specs.Reports.{began_fields}
 use Rattle.zy_parts.specs.Signing.{part_of}
 use Rattle.zy_parts.specs.declared.reports.Began.{Began}
+use Rattle.zy_parts.specs.declared.reports.Change.{Change}
+use Rattle.zy_parts.specs.declared.reports.New.{New}
 use Rattle.zy_parts.specs.declared.signed.Signed.{Signed}
 use Rattle.zy_seal.specs.Screening.{screen}
+use Rattle.zy_table.specs.Beginning.{finished}
 use Rattle.zy_table.specs.Changes.{change}
+use Rattle.zy_table.specs.Confirming.{new_view, view_certificate}
 use Rattle.zy_table.specs.Deeds.{Outcome, refused}
+use Rattle.zy_table.specs.Leaving.{Attempt}
 use Rattle.zy_table.specs.State.{State}
 use Rattle.zy_table.specs.Step.{unless}
 use Rattle.zy_table.specs.Whole.{hear_view, is_view_frame_in_role, view_decoded, view_row}
 use Rattle.zy_vframes.specs.Parts.{parts_of, parts_of_new}
+use Rattle.zy_vframes.specs.declared.frame.ViewCert.{ViewCert}
 use Rattle.zy_vframes.specs.declared.frame.ViewFrame.{ViewFrame}
 use Rattle.zy_vframes.specs.declared.frame.ViewFrame.TheVariants as frames
 use Rattle.zy_view_law.proofs.HonestTexts.{change_held, changes_held}
@@ -31,10 +40,12 @@ use Rattle.zy_view_law.specs.Held.{IsHeldChange, IsHeldPart, IsHonestPart, IsVou
 use Rattle.zy_view_law.specs.Texts.{Texts}
 use Rattle.zy_view_law.specs.Told.{began_told}
 use Rattle.zy_view_steps.proofs.HeardRows.{vote_attempt}
+use Rattle.zy_view_steps.proofs.Leaves.{IsLawfulAttempt}
 use Rattle.zy_view_steps.specs.Rows.{IsReady}
 use Rattle.zy_wire.specs.Spelling.{IsBytes}
 use Rattle.zy_begin_steps.proofs.Adopting.{finishes_leaving, refuses}
 use Rattle.zy_begin_steps.proofs.Installing.{IsReading, state_lawful}
+use Rattle.zy_begin_steps.proofs.Reported.{broken_attempt, cert_refused, links_of, links_of_all, new_refused}
 use Rattle.zy_begin_steps.proofs.Rows.{cert_lawful, confirmation_lawful, fetch_lawful, new_lawful}
 use Rattle.zy_begin_steps.specs.Frames.{IsHonestFrame, IsHonestlyRead, history_heard, history_read}
 use Rattle.zy_begin_steps.specs.Steps.{IsLawfulStep, IsWorldOf}
@@ -53,19 +64,51 @@ begans_held w list fits honest k d within =
 
 module _ {S : Type 0} (R : Rules S) (interval : ℕ) (texts : Texts) (w : World) (r : ℕ) (s : State S) (history : List Entry) (ready : IsReady R interval w r s history) (kept : IsWorldOf R interval w texts)
     (reading : (bytes : List ℕ) → IsBytes bytes → IsReading R bytes) where
+  -- ---- a report's links are kept where it breaks no rule, and else its row reads nothing of it
+
+  change_lawful : (vote : Signed Change) → IsHonestFrame w texts (frames.ViewChange vote) → IsLawfulStep R interval texts w r s history (finished R s (change R s vote))
+  change_lawful vote honest = finishes_leaving R interval texts w r s history ready kept (change R s vote) (by (rule_of s.views.counts s.views.interval vote.stmt) refl)
+    where
+      by : (rule : Option Rule) → rule_of s.views.counts s.views.interval vote.stmt ≡ rule → IsLawfulAttempt R interval w r s history ready (change R s vote)
+      by (Some rule) broken = broken_attempt R interval w r s history ready vote rule broken
+      by None clear =
+          let links = links_of w s.views.counts s.views.interval vote honest.brought clear in
+          let held : IsHeldChange w vote = change_held w vote honest.spelled links honest.parts in
+          vote_attempt R interval w r s history ready vote (by_replica w _ vote.by held.signer) held
+
+  refused_attempt : (attempt : Attempt S) (cause : Cause) → attempt ≡ Err cause → IsLawfulStep R interval texts w r s history (finished R s attempt)
+  refused_attempt attempt cause is = subst (λ (a : Attempt S). IsLawfulStep R interval texts w r s history (finished R s a)) (sym is) (refuses R interval texts w r s history ready kept cause)
+
+  new_frame_lawful : (new : Signed New) → IsHonestFrame w texts (frames.NewView new) → IsLawfulStep R interval texts w r s history (finished R s (new_view R s new))
+  new_frame_lawful new honest = by (first_broken s.views.counts s.views.interval new.stmt.changes) refl
+    where
+      by : (rule : Option Rule) → first_broken s.views.counts s.views.interval new.stmt.changes ≡ rule → IsLawfulStep R interval texts w r s history (finished R s (new_view R s new))
+      by (Some rule) broken = let end = new_refused R s new rule broken in refused_attempt (new_view R s new) end.0 end.1
+      by None clear =
+          let links = links_of_all w s.views.counts s.views.interval new.stmt.changes honest.brought clear in
+          new_lawful R interval texts w r s history ready kept new (changes_held w new honest.spelled links honest.parts)
+
+  cert_frame_lawful : (cert : ViewCert) → IsHonestFrame w texts (frames.ViewCert cert) → IsLawfulStep R interval texts w r s history (finished R s (view_certificate R s cert))
+  cert_frame_lawful cert honest = by (first_broken s.views.counts s.views.interval cert.new.stmt.changes) refl
+    where
+      by : (rule : Option Rule) → first_broken s.views.counts s.views.interval cert.new.stmt.changes ≡ rule → IsLawfulStep R interval texts w r s history (finished R s (view_certificate R s cert))
+      by (Some rule) broken = let end = cert_refused R s cert rule broken in refused_attempt (view_certificate R s cert) end.0 end.1
+      by None clear =
+          let begans = map (part_of numbers.began began_fields) cert.begans in
+          let links = links_of_all w s.views.counts s.views.interval cert.new.stmt.changes honest.brought clear in
+          cert_lawful R interval texts w r s history ready kept cert
+          (changes_held w cert.new honest.spelled.0 links (all_left (IsHonestPart w) (parts_of_new cert.new) begans honest.parts))
+          (begans_held w cert.begans honest.spelled.1 (all_right (IsHonestPart w) (parts_of_new cert.new) begans honest.parts))
+
+  -- ---- the rows
+
   pub frame_lawful : (frame : ViewFrame) → IsHonestFrame w texts frame → IsLawfulStep R interval texts w r s (history_heard texts s history frame (view_row R s frame)) (view_row R s frame)
-  frame_lawful (frames.ViewChange vote) honest =
-      let held : IsHeldChange w vote = change_held w vote honest.spelled honest.brought honest.parts in
-      finishes_leaving R interval texts w r s history ready kept (change R s vote) (vote_attempt R interval w r s history ready vote (by_replica w _ vote.by held.signer) held)
-  frame_lawful (frames.NewView new) honest = new_lawful R interval texts w r s history ready kept new (changes_held w new honest.spelled honest.brought honest.parts)
+  frame_lawful (frames.ViewChange vote) honest = change_lawful vote honest
+  frame_lawful (frames.NewView new) honest = new_frame_lawful new honest
   frame_lawful (frames.ViewConfirm vote) honest =
       let held = began_held w vote honest.spelled (honest.parts 0 (part_of numbers.began began_fields vote) (omega arith)) in
       confirmation_lawful R interval texts w r s history ready kept vote (by_replica w _ vote.by held) held
-  frame_lawful (frames.ViewCert cert) honest =
-      let begans = map (part_of numbers.began began_fields) cert.begans in
-      cert_lawful R interval texts w r s history ready kept cert
-      (changes_held w cert.new honest.spelled.0 honest.brought (all_left (IsHonestPart w) (parts_of_new cert.new) begans honest.parts))
-      (begans_held w cert.begans honest.spelled.1 (all_right (IsHonestPart w) (parts_of_new cert.new) begans honest.parts))
+  frame_lawful (frames.ViewCert cert) honest = cert_frame_lawful cert honest
   frame_lawful (frames.Fetch vote) honest = fetch_lawful R interval texts w r s history ready kept vote
   frame_lawful (frames.State place snapshot) honest = (state_lawful R interval texts w r s history ready kept snapshot (reading snapshot honest.spelled) honest.brought place).step
 

@@ -7,6 +7,7 @@ pub mod Ending
 pub mod HonestFrames
 pub mod Installing
 pub mod Judged
+pub mod Reported
 pub mod Responding
 pub mod Rows
 pub mod Taking

@@ -1,9 +1,11 @@
 -- What the laws of steps ask of a frame of a change of view that is heard.
-use Rattle.std.specs.Prelude.{◌≡◌, true, None, Result, Ok, Err, List, All}
+use Rattle.std.specs.Prelude.{◌≡◌, ◌<◌, true, None, Result, Ok, Err, List, All}
 use Rattle.zy_base.specs.declared.frame_fault.FrameFault.{FrameFault}
 use Rattle.zy_chain.specs.declared.entry.Entry.{Entry}
 use Rattle.zy_law.specs.World.{World}
 use Rattle.zy_parts.specs.Reports.{began_fields, change_fields, new_fields}
+use Rattle.zy_parts.specs.declared.reports.Change.{Change}
+use Rattle.zy_parts.specs.declared.signed.Signed.{Signed}
 use Rattle.zy_table.specs.Deeds.{Outcome}
 use Rattle.zy_seal.specs.Screening.{screen}
 use Rattle.zy_table.specs.State.{State}
@@ -26,12 +28,16 @@ IsSpelled (frames.ViewCert cert) = new_fields.Fits (new_spelled cert.new.stmt) �
 IsSpelled (frames.Fetch fetch) = Unit {0}
 IsSpelled (frames.State place snapshot) = IsBytes snapshot
 
+-- the links of a report's entries, where all of them are of clients that there may be
+abbrev pub AreLinksBrought : World → Signed Change → Type 0
+AreLinksBrought w c = All (λ e. e.client.0 < 64) c.stmt.told.entries → AreLinksKept w c
+
 -- what it brings is kept: the links of the entries that are reported, and a snapshot
 abbrev pub IsBroughtKept : World → Texts → ViewFrame → Type 0
-IsBroughtKept w texts (frames.ViewChange change) = AreLinksKept w change
-IsBroughtKept w texts (frames.NewView new) = All (AreLinksKept w) new.stmt.changes
+IsBroughtKept w texts (frames.ViewChange change) = AreLinksBrought w change
+IsBroughtKept w texts (frames.NewView new) = All (AreLinksBrought w) new.stmt.changes
 IsBroughtKept w texts (frames.ViewConfirm began) = Unit {0}
-IsBroughtKept w texts (frames.ViewCert cert) = All (AreLinksKept w) cert.new.stmt.changes
+IsBroughtKept w texts (frames.ViewCert cert) = All (AreLinksBrought w) cert.new.stmt.changes
 IsBroughtKept w texts (frames.Fetch fetch) = Unit {0}
 IsBroughtKept w texts (frames.State place snapshot) = IsKept texts snapshot
 
