@@ -1,3 +1,4 @@
+pub mod Binding
 pub mod Clock
 pub mod Faults
 pub mod Files

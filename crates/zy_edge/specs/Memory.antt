@@ -5,6 +5,7 @@ use Rattle.zy_edge.specs.Clock.{moment_at}
 use Rattle.zy_edge.specs.Faults.{raised}
 use Rattle.zy_edge.specs.Files.{Held, file_named}
 use Rattle.zy_edge.specs.Link.{Parcel, Mail}
+use Rattle.zy_edge.specs.declared.link.binding.Binding.{Binding}
 
 -- files, and what is left to be read of the chosen one
 pub record Shelf : Type 0 where
@@ -49,6 +50,7 @@ pub record MemoryLink : Type 0 where
   pub room : ℕ
   pub calls : CallCount
   pub receives : ℕ
+  pub binding : Binding
 
 abbrev pub mail_of : MemoryLink → Mail
 mail_of link = record { coming = link.coming; sent = link.sent }

@@ -16,6 +16,7 @@ pub use files::calm::CalmFiles;
 pub use files::memory::MemFiles;
 pub use files::real::RealFiles;
 pub use files::{Chosen, Files, Read};
+pub use link::binding::{Address, Binding};
 pub use link::memory::{MAX_PARCEL, MemLink};
 pub use link::udp::UdpLink;
 pub use link::{Bound, Heard, Link, Sent};

@@ -1,9 +1,12 @@
 ghost use Rattle.std.specs.Prelude.{◌≡◌, ℕ, Option};
+ghost use Rattle.zy_edge.specs.Binding.{after_binding};
 ghost use Rattle.zy_edge.specs.Faults.{IsCounted, raised};
+ghost use Rattle.zy_edge.specs.declared.link.binding.Binding.{Binding};
 ghost use Rattle.zy_edge.specs.Link.{Mail, StaysAsTold, IsHeard, IsSent, bind_failed, receive_failed, send_failed};
 
 use zy_base::Party;
 
+pub(crate) mod binding;
 pub(crate) mod memory;
 pub(crate) mod udp;
 
@@ -44,10 +47,14 @@ pub trait Link {
     /// The datagrams that are left to be heard and those that were sent, where they are told.
     ghost mail: { Self → Option Mail };
 
+    /// How often an address was asked for, and which one last.
+    ghost binding: { Self → Binding };
+
     /// Becomes the party. The own address is loopback with port `port + i` for replica i, and `port + 16 + c` for
     /// client c.
     fn bind(&mut self, port: u16, me: Party) -> Bound
         ensures mail { StaysAsTold (mail self.old) (mail self.new) }
+        ensures binding { binding self.new ≡ after_binding (record { port = port; party = me }) (binding self.old) }
         ensures receives { receives self.new ≡ receives self.old }
         ensures count { IsCounted (bind_failed result) (faults self.old) (faults self.new) };
 
@@ -55,11 +62,13 @@ pub trait Link {
     /// is lost.
     fn receive(&mut self, buf: &mut [u8], wait_ms: u64) -> Heard
         ensures mail { IsHeard result buf.new (mail self.old) (mail self.new) }
+        ensures binding { binding self.new ≡ binding self.old }
         ensures receives { receives self.new ≡ raised (receives self.old) }
         ensures count { IsCounted (receive_failed result) (faults self.old) (faults self.new) };
 
     fn send(&mut self, to: Party, bytes: &[u8]) -> Sent
         ensures mail { IsSent result to bytes.now (mail self.old) (mail self.new) }
+        ensures binding { binding self.new ≡ binding self.old }
         ensures receives { receives self.new ≡ receives self.old }
         ensures count { IsCounted (send_failed result) (faults self.old) (faults self.new) };
 }

@@ -1,7 +1,8 @@
 use crate::link::udp::is_quiet;
 use crate::{
-    Bound, CalmFiles, CalmSink, Chosen, Clock, Files, Heard, Link, MAX_PARCEL, MemClock, MemFiles,
-    MemLink, MemSink, Read, RealClock, RealFiles, Sent, Sink, StdSink, UdpLink, Wrote,
+    Address, Binding, Bound, CalmFiles, CalmSink, Chosen, Clock, Files, Heard, Link, MAX_PARCEL,
+    MemClock, MemFiles, MemLink, MemSink, Read, RealClock, RealFiles, Sent, Sink, StdSink, UdpLink,
+    Wrote,
 };
 use std::alloc::{AllocError, Global};
 use std::cell::Cell;
@@ -267,6 +268,32 @@ fn parcels_of_a_link_in_memory(rt: HostRuntime) -> Result<(), Fail> {
         link.parcel(1),
         (Party::Client(ClientId(0)), b"ab".as_slice())
     );
+    Ok(())
+}
+
+#[test]
+fn a_link_in_memory_tells_what_it_was_bound_to(rt: HostRuntime) -> Result<(), Fail> {
+    let alloc = rt.alloc();
+    let failing = Vec::from_slice(alloc, &[2])?;
+    let mut link = MemLink::new(alloc, Vec::new(alloc), failing, 1)?;
+    let (first, second) = (Party::Replica(ReplicaId(3)), Party::Client(ClientId(5)));
+    let at = |port, party| Some(Address { port, party });
+    let table = [
+        (Bound::Bound, 7000, first, 1),
+        (Bound::Failed, 7001, second, 2),
+    ];
+    let mut last = None;
+    for (bound, port, party, times) in table {
+        let before = Binding {
+            times: times - 1,
+            last,
+        };
+        assert_eq!(rt; link.binding(), before);
+        assert_eq!(rt; link.bind(port, party), bound);
+        last = at(port, party);
+    }
+    assert_eq!(rt; sent(&mut link, first, b"x"), 's');
+    assert_eq!(rt; link.binding(), Binding { times: 2, last });
     Ok(())
 }
 

@@ -1,8 +1,10 @@
-ghost use Rattle.std.specs.Prelude.{◌≡◌, ◌<◌, ◌≤◌, [], Some, IfOk, length, take, slice_get};
+ghost use Rattle.std.specs.Prelude.{◌≡◌, ◌<◌, ◌≤◌, [], None, Some, IfOk, length, take, slice_get};
+ghost use Rattle.zy_edge.specs.Binding.{after_binding};
 ghost use Rattle.zy_edge.specs.Faults.{IsCounted, raised};
 ghost use Rattle.zy_edge.specs.Link.{StaysAsTold, IsHeard, IsSent, bind_failed, receive_failed, send_failed};
 ghost use Rattle.zy_edge.specs.Memory.{next_is_listed, send_fails, counted, mail_of};
 
+use super::binding::{Address, Binding};
 use super::{Bound, Heard, Link, Sent};
 use crate::calls::Calls;
 use crate::faults::raised;
@@ -32,6 +34,7 @@ pub struct MemLink {
     room: usize,
     calls: Calls,
     receives: u64,
+    binding: Binding,
 }
 
 impl Model for MemLink {
@@ -46,6 +49,7 @@ impl Model for MemLink {
       room = m.room;
       calls = m.calls;
       receives = m.receives;
+      binding = m.binding;
     } };
 
     ghost invariant = { λ m. (m.next ≤ length m.heard.items) × (length m.sent.items ≤ m.room) × (m.room ≤ vec_capacity m.sent) };
@@ -67,6 +71,7 @@ impl MemLink {
           room = room;
           calls = record { failing = failing.items; made = 0; faults = 0 };
           receives = 0;
+          binding = record { times = 0; last = None };
         }) }
     {
         let room = room as usize;
@@ -77,7 +82,15 @@ impl MemLink {
             room,
             calls: Calls::new(failing),
             receives: 0,
+            binding: Binding::none(),
         })
+    }
+
+    /// How often it was bound, or was to be, and where last.
+    pub fn binding(&self) -> Binding
+        ensures { result ≡ self.now.binding }
+    {
+        self.binding
     }
 
     /// How many datagrams were sent.
@@ -115,16 +128,20 @@ impl Link for MemLink {
 
     ghost mail = { λ m. Some (mail_of m) };
 
-    fn bind(&mut self, _port: u16, _me: Party) -> Bound
+    ghost binding = { λ m. m.binding };
+
+    fn bind(&mut self, port: u16, me: Party) -> Bound
         ensures exactly { bind_failed result ≡ next_is_listed self.old.calls }
         ensures calls { self.new.calls ≡ counted (bind_failed result) self.old.calls }
         ensures room { self.new.room ≡ self.old.room }
         ensures mail { StaysAsTold (Some (mail_of self.old)) (Some (mail_of self.new)) }
+        ensures binding { self.new.binding ≡ after_binding (record { port = port; party = me }) self.old.binding }
         ensures receives { self.new.receives ≡ self.old.receives }
         ensures count { IsCounted (bind_failed result) self.old.calls.faults self.new.calls.faults }
     {
         let failed = self.calls.next_is_listed();
         self.calls.count(failed);
+        self.binding = self.binding.after(Address { port, party: me });
         if failed { Bound::Failed } else { Bound::Bound }
     }
 
@@ -133,6 +150,7 @@ impl Link for MemLink {
         ensures calls { self.new.calls ≡ counted (receive_failed result) self.old.calls }
         ensures room { self.new.room ≡ self.old.room }
         ensures mail { IsHeard result buf.new (Some (mail_of self.old)) (Some (mail_of self.new)) }
+        ensures binding { self.new.binding ≡ self.old.binding }
         ensures receives { self.new.receives ≡ raised self.old.receives }
         ensures count { IsCounted (receive_failed result) self.old.calls.faults self.new.calls.faults }
     {
@@ -157,6 +175,7 @@ impl Link for MemLink {
         ensures calls { self.new.calls ≡ counted (send_failed result) self.old.calls }
         ensures room { self.new.room ≡ self.old.room }
         ensures mail { IsSent result to bytes.now (Some (mail_of self.old)) (Some (mail_of self.new)) }
+        ensures binding { self.new.binding ≡ self.old.binding }
         ensures receives { self.new.receives ≡ self.old.receives }
         ensures count { IsCounted (send_failed result) self.old.calls.faults self.new.calls.faults }
     {

@@ -1,6 +1,7 @@
 ghost use Rattle.std.specs.Prelude.{◌≡◌, None};
 ghost use Rattle.std.specs.Io.{ReadsAtMost};
 
+use super::binding::{Address, Binding};
 use super::{Bound, Heard, Link, Sent};
 use crate::faults::raised;
 use std::io::{Error, ErrorKind};
@@ -27,6 +28,7 @@ pub struct UdpLink<'a, R: Net + Clock> {
     burst: u8,
     faults: u64,
     receives: u64,
+    binding: Binding,
 }
 
 impl<'a, R: Net + Clock> UdpLink<'a, R> {
@@ -34,6 +36,7 @@ impl<'a, R: Net + Clock> UdpLink<'a, R> {
     pub fn new(rt: &'a R) -> UdpLink<'a, R>
         ensures faults { ⟦<UdpLink<'a, R> as Link>⟧.faults result ≡ 0 }
         ensures receives { ⟦<UdpLink<'a, R> as Link>⟧.receives result ≡ 0 }
+        ensures binding { ⟦<UdpLink<'a, R> as Link>⟧.binding result ≡ record { times = 0; last = None } }
     {
         UdpLink {
             rt,
@@ -43,6 +46,7 @@ impl<'a, R: Net + Clock> UdpLink<'a, R> {
             burst: 0,
             faults: 0,
             receives: 0,
+            binding: Binding::none(),
         }
     }
 }
@@ -54,7 +58,10 @@ impl<R: Net + Clock> Link for UdpLink<'_, R> {
 
     ghost mail = { λ _. None };
 
+    ghost binding = { λ l. l.binding };
+
     fn bind(&mut self, port: u16, me: Party) -> Bound {
+        self.binding = self.binding.after(Address { port, party: me });
         match socket_of(self.rt, port, me) {
             Ok(socket) => {
                 self.port = port;
