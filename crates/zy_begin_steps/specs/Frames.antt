@@ -31,10 +31,6 @@ IsSpelled (frames.State place snapshot) = Unit {0}
 abbrev pub AreLinksBrought : World → Signed Change → Type 0
 AreLinksBrought w c = All (λ e. e.client.0 < 64) c.stmt.told.entries → AreLinksKept w c
 
--- the links of a report's entries, where all of them are of clients that there may be
-abbrev pub AreLinksBrought : World → Signed Change → Type 0
-AreLinksBrought w c = All (λ e. e.client.0 < 64) c.stmt.told.entries → AreLinksKept w c
-
 -- what it brings is kept: the links of the entries that are reported, and a snapshot
 abbrev pub IsBroughtKept : World → Texts → ViewFrame → Type 0
 IsBroughtKept w texts (frames.ViewChange change) = AreLinksBrought w change
