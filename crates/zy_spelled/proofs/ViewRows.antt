@@ -32,7 +32,7 @@ use Rattle.zy_parts.specs.declared.statements.Hole.{Hole}
 use Rattle.zy_parts.specs.declared.statements.Order.{Order}
 use Rattle.zy_table.specs.Beginning.{begun, certify, certify_with, confirms, finished}
 use Rattle.zy_table.specs.Changes.{change, change_judged, change_kept, send_cert}
-use Rattle.zy_table.specs.Deeds.{Going, Outcome, begin, ends, refused}
+use Rattle.zy_table.specs.Deeds.{Going, begin, ends, refused}
 use Rattle.zy_table.specs.Hates.{ask_for_hole, change_again, count_own, has_pending, hate, hate_again, hate_counted, hate_view, on_change_timer, on_request_timer, own_hate, say_hate, then_ask, with_hate_of}
 use Rattle.zy_table.specs.Leaving.{Attempt, collect, concluded, goes, is_overspent, leave}
 use Rattle.zy_table.specs.Misbehaviour.{blamed, pom, tell_all}

@@ -27,7 +27,7 @@ use Rattle.zy_parts.specs.Signing.{part_of}
 use Rattle.zy_seal.specs.Screening.{screen}
 use Rattle.zy_table.specs.Changes.{change}
 use Rattle.zy_table.specs.Confirming.{confirmation, new_view, view_certificate}
-use Rattle.zy_table.specs.Deeds.{Outcome, refused}
+use Rattle.zy_table.specs.Deeds.{refused}
 use Rattle.zy_table.specs.Fetching.{fetch, state_transfer}
 use Rattle.zy_table.specs.Hates.{hate, on_change_timer, on_request_timer}
 use Rattle.zy_table.specs.Misbehaviour.{pom, tell_all}

@@ -48,7 +48,7 @@ use Rattle.zy_parts.specs.declared.statements.Local.{Local}
 use Rattle.zy_parts.specs.declared.statements.Spec.{Spec}
 use Rattle.zy_table.specs.Checkpoints.{with_board}
 use Rattle.zy_table.specs.Commits.{give_local, say_local, send_local}
-use Rattle.zy_table.specs.Deeds.{Going, Outcome, begin, ends}
+use Rattle.zy_table.specs.Deeds.{Going, begin, ends}
 use Rattle.zy_table.specs.Gathering.{gather_at, own_at}
 use Rattle.zy_table.specs.Orders.{ask_for_missing}
 use Rattle.zy_table.specs.Requests.{ordered, request_waits, sealed_order}
