@@ -166,9 +166,19 @@ unfolding told_fields
 told_fits t roles clients (last_view, (began_place, (began_head, (began, (specs, (stable_view, (stable_place, (stable_head, (digest_is, (checks, entries)))))))))) =
     let first = and_parts (list_all is_by_replica t.began) _ roles in
     let rest = and_parts (are_specs_in_role t.specs) (list_all is_by_replica t.checks) first.1 in
-    let listed : FitsList entry_fields.Fits 0 64 t.entries = record { least = entries.least; most = entries.most; each = λ k d within. entries.each k d within (clients k d within) } in
-    (last_view, (began_place, (began_head, (list_fits began_fields began_fields.Fits 0 16 t.began first.0 began (λ x fits. fits),
-    (certificate_fits t.specs rest.0 specs, (stable_view, (stable_place, (stable_head, (digest_is, (list_fits check_fields check_fields.Fits 0 16 t.checks rest.1 checks (λ x fits. fits), listed))))))))))
+    let listed : FitsList entry_fields.Fits 0 64 t.entries = record { least = entries.least; most = entries.most; each = λ k d within. entries.each k d within (clients k d within) } in (
+      last_view,
+      (
+        began_place,
+        (
+          began_head,
+          (
+            list_fits began_fields began_fields.Fits 0 16 t.began first.0 began (λ x fits. fits),
+            (certificate_fits t.specs rest.0 specs, (stable_view, (stable_place, (stable_head, (digest_is, (list_fits check_fields check_fields.Fits 0 16 t.checks rest.1 checks (λ x fits. fits), listed)))))),
+          ),
+        ),
+      ),
+    )
 
 pub change_fits : (c : Signed Change) → is_change_in_role c ≡ true → AreOfClients c → IsChangeRead c.stmt → change_fields.Fits (change_spelled c.stmt)
 unfolding change_fields
@@ -176,16 +186,18 @@ change_fits c role clients is = (is.0, told_fits c.stmt.told (and_parts (is_repl
 
 pub new_fits : (n : New) → list_all is_change_in_role n.changes ≡ true → All AreOfClients n.changes → IsNewRead n → new_fields.Fits (new_spelled n)
 unfolding new_fields signed
-new_fits n roles clients is =
-    (is.0, record {
-      least = omega (arith, is.1.least, length-map n.changes (with_stmt change_spelled));
-      most = omega (arith, is.1.most, length-map n.changes (with_stmt change_spelled));
-      each = All-map (signed change_fields).Fits (with_stmt change_spelled) n.changes (λ k d within.
-          let x = is.1.each k d within in
-          let c : Signed Change = get_or n.changes k d in
-          let role = all_roles is_change_in_role n.changes roles k d within in
-          (x.0 (and_parts (is_replica c.by) (is_told_in_role c.stmt.told) role).0, (change_fits c role (clients k d within) x.1.0, x.1.1)));
-    })
+new_fits n roles clients is = (
+  is.0,
+  record {
+    least = omega (arith, is.1.least, length-map n.changes (with_stmt change_spelled));
+    most = omega (arith, is.1.most, length-map n.changes (with_stmt change_spelled));
+    each = All-map (signed change_fields).Fits (with_stmt change_spelled) n.changes (λ k d within.
+        let x = is.1.each k d within in
+        let c : Signed Change = get_or n.changes k d in
+        let role = all_roles is_change_in_role n.changes roles k d within in
+        (x.0 (and_parts (is_replica c.by) (is_told_in_role c.stmt.told) role).0, (change_fits c role (clients k d within) x.1.0, x.1.1)));
+  },
+)
 
 -- ---- frames
 

@@ -120,11 +120,11 @@ module _ {S : Type 0} (R : Rules S) (w : World S) (good : IsGood R w) (s : State
   pub honest_or_idle : IsEventHonest (seen R w) w.texts s (Heard bytes) ⊎ IsIdle s (whole_step R s (Heard bytes))
   honest_or_idle = elim (told (plain.frame_in bytes) refl) [
     | inl honest ↦ inl (record {
-        held = event_held R w good s keys bytes none;
-        honest = λ other is kind.
-            let same : bytes ≡ other = same_heard bytes other is in
-            subst (λ (b : List ℕ). IsHonestlyRead (seen R w) w.texts s (views.frame_in b)) same (honest (ap (λ (b : List ℕ). plain.frame_in b) same ∙ kind));
-      })
+      held = event_held R w good s keys bytes none;
+      honest = λ other is kind.
+          let same : bytes ≡ other = same_heard bytes other is in
+          subst (λ (b : List ℕ). IsHonestlyRead (seen R w) w.texts s (views.frame_in b)) same (honest (ap (λ (b : List ℕ). plain.frame_in b) same ∙ kind));
+    })
     | inr idle ↦ inr idle
   ]
 
