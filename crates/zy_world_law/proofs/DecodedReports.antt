@@ -11,7 +11,8 @@ use Rattle.zy_base.specs.declared.counts.Counts.{Counts}
 use Rattle.zy_base.specs.declared.frame_fault.FrameFault.{FrameFault}
 use Rattle.zy_chain.specs.Fields.{entry_fields}
 use Rattle.zy_chain.specs.declared.entry.Entry.{Entry}
-use Rattle.zy_begin_steps.specs.Frames.{IsSpelled}
+use Rattle.zy_begin_steps.proofs.IdleFrames.{TellsOfClients}
+use Rattle.zy_begin_steps.specs.Frames.{AreOfClients, IsSpelled}
 use Rattle.zy_parts.specs.Reports.{began_fields, certificate, change_fields, fetch_fields, new_fields, told_fields}
 use Rattle.zy_parts.specs.Signing.{signed}
 use Rattle.zy_parts.specs.Statements.{IsU62, check_fields, spec_fields}
@@ -157,10 +158,6 @@ certificate_fits : (specs : Option (List (Signed Spec))) → are_specs_in_role s
 certificate_fits None roles is = tt
 certificate_fits (Some specs) roles is = mapped_fits spec_fields FitsForClients 1 16 specs roles is spec_spelled response_fits
 
--- the entries are of clients that there may be
-abbrev pub AreOfClients : Signed Change → Type 0
-AreOfClients c = All (λ e. e.client.0 < 64) c.stmt.told.entries
-
 told_fits : (t : Told) → is_told_in_role t ≡ true → All (λ e. e.client.0 < 64) t.entries → IsToldRead t → told_fields.Fits (told_spelled t)
 unfolding told_fields
 told_fits t roles clients (last_view, (began_place, (began_head, (began, (specs, (stable_view, (stable_place, (stable_head, (digest_is, (checks, entries)))))))))) =
@@ -241,15 +238,6 @@ decoded_read bytes frame is =
     let b = bind_ok (frame_at a.0 (drop 2 bytes)) (λ read. ended read.0 read.1) frame a.2 in
     let c = ended_ok b.0.0 b.0.1 frame b.2 in
     subst IsFrameRead c.0 (frame_gives a.0 (drop 2 bytes) b.0.0 b.0.1 b.1)
-
--- a frame whose reports tell such entries
-abbrev pub TellsOfClients : ViewFrame → Type 0
-TellsOfClients (frames.ViewChange change) = AreOfClients change
-TellsOfClients (frames.NewView new) = All AreOfClients new.stmt.changes
-TellsOfClients (frames.ViewConfirm began) = Unit {0}
-TellsOfClients (frames.ViewCert cert) = All AreOfClients cert.new.stmt.changes
-TellsOfClients (frames.Fetch fetch) = Unit {0}
-TellsOfClients (frames.State place snapshot) = Unit {0}
 
 new_roles : (counts : Counts) (n : Signed New) → is_new_in_role counts n ≡ true → list_all is_change_in_role n.stmt.changes ≡ true
 new_roles counts n role = (and_parts (is_primary_of counts n.stmt.view.0 n.by) (list_all is_change_in_role n.stmt.changes) role).1

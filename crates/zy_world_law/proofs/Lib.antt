@@ -14,11 +14,11 @@ pub mod ToldSteps
 pub mod CommitStays
 pub mod ReplicaStep
 pub mod GainsKept
+pub mod IdleSteps
 pub mod FineSteps
 pub mod NotForged
 pub mod Vouched
 pub mod EventHeld
-pub mod IdleFrames
 pub mod HonestReports
 pub mod HonestEvents
 pub mod BagStays
