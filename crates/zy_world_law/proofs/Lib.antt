@@ -4,7 +4,6 @@ pub mod KeptTexts
 pub mod OneText
 pub mod Seats
 pub mod StepLaws
-pub mod DecodedFields
 pub mod DecodedInRange
 pub mod DecodedReports
 pub mod StillReady
