@@ -8,6 +8,7 @@ pub mod HonestFrames
 pub mod Installing
 pub mod Judged
 pub mod Reported
+pub mod IdleFrames
 pub mod Responding
 pub mod Rows
 pub mod Taking

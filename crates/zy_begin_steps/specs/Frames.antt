@@ -27,9 +27,13 @@ IsSpelled (frames.ViewCert cert) = new_fields.Fits (new_spelled cert.new.stmt) �
 IsSpelled (frames.Fetch fetch) = Unit {0}
 IsSpelled (frames.State place snapshot) = Unit {0}
 
--- the links of a report's entries, where all of them are of clients that there may be
+-- all entries of a report are of clients that there may be
+abbrev pub AreOfClients : Signed Change → Type 0
+AreOfClients c = All (λ e. e.client.0 < 64) c.stmt.told.entries
+
+-- the links of such a report's entries
 abbrev pub AreLinksBrought : World → Signed Change → Type 0
-AreLinksBrought w c = All (λ e. e.client.0 < 64) c.stmt.told.entries → AreLinksKept w c
+AreLinksBrought w c = AreOfClients c → AreLinksKept w c
 
 -- what it brings is kept: the links of the entries that are reported, and a snapshot
 abbrev pub IsBroughtKept : World → Texts → ViewFrame → Type 0

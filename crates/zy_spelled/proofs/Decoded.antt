@@ -1,22 +1,24 @@
 -- What is decoded can be spelled again, whatever the bytes are: what holds of all that a reader gives.
-use Rattle.std.proofs.Common.{◌≡◌, ℕ, zero, suc, ◌+◌, ◌<◌, ◌≤◌, ◌^◌, true, List, [], ◌∷◌, length, take, drop, Result, Ok, ap, subst, arith, ltb, ltb-false, ltb-true}
+use Rattle.std.proofs.Common.{◌≡◌, ℕ, zero, suc, ◌+◌, ◌<◌, ◌≤◌, ◌^◌, true, List, [], ◌∷◌, length, take, drop, Option, Some, None, Result, Ok, refl, ap, subst, arith, ltb, ltb-false, ltb-true}
 use Rattle.std.specs.List.{AllByRecursion}
 use Rattle.std.specs.Int.{Width, w8, w16, w32, to_be_bytes}
-use Rattle.std.specs.Prelude.{Option, nat_lt}
+use Rattle.std.specs.Prelude.{nat_lt}
 use Rattle.std.proofs.lemmas.List.{length-take}
 use Rattle.zy_base.specs.declared.frame_fault.FrameFault.{FrameFault}
 use Rattle.zy_base.specs.declared.frame_fault.FrameFault.TheVariants.{Short}
 use Rattle.zy_base.specs.declared.ids.Digest.{Digest}
 use Rattle.zy_base.specs.declared.ids.Party.{Party}
 use Rattle.zy_base.specs.declared.ids.Party.TheVariants.{Replica, Client}
+use Rattle.zy_lawful.proofs.Backing.{all_from}
 use Rattle.zy_lawful.proofs.Own.{by_test}
 use Rattle.zy_parts.specs.Signing.{signed}
 use Rattle.zy_parts.specs.Reports.{began_fields}
 use Rattle.zy_parts.specs.Statements.{IsU62, spec_fields, check_fields}
+use Rattle.zy_parts.specs.declared.signed.Signed.{Signed}
 use Rattle.zy_table.specs.Roles.{is_replica}
 use Rattle.zy_view_law.specs.Told.{number_spelled, spec_spelled}
 use Rattle.zy_wire.proofs.Parts.{bind_ok, guard_ok, ok_is, wide32}
-use Rattle.zy_wire.specs.Fields.{IsParty, u62, digest, digest_at, party, party_at, party_numbered, bytes16, bytes_at, list, list_at}
+use Rattle.zy_wire.specs.Fields.{FitsList, FitsOptional, IsParty, flagged_at, optional, optional_at, u62, digest, digest_at, party, party_at, party_numbered, bytes16, bytes_at, list, list_at}
 use Rattle.zy_wire.specs.Spelling.{Spelling, IsBytes, ◌>>=◌, word, word_at, exactly, exactly_at, pair, made, or_range, within, number_at, repeated_at}
 
 abbrev pub Gives : {A : Type 0} → (List ℕ → Result (A × List ℕ) FrameFault) → (A → Type 0) → Type 0
@@ -53,7 +55,7 @@ module _ (low high : ℕ) where
       let a = bind_ok (word_at w bytes) (λ x. or_range (within low high x.0) x.1) (n, rest) e in
       within_gives a.0.0 a.0.1 n rest a.2
 
-sized_gives : (w : Width) (max : ℕ) → Gives (bytes_at w max) (λ x. length x ≤ max)
+pub sized_gives : (w : Width) (max : ℕ) → Gives (bytes_at w max) (λ x. length x ≤ max)
 unfolding bytes_at
 sized_gives w max bytes x rest e =
     let a = bind_ok (number_at w 0 (max + 1) bytes) (λ n. (exactly n.0).at n.1) (x, rest) e in
@@ -61,7 +63,7 @@ sized_gives w max bytes x rest e =
     let long : length x ≡ a.0.0 = exactly_gives a.0.0 a.0.1 x rest a.2 in
     omega (arith, count.1)
 
-digest_gives : Gives digest_at (λ d. length d.0 ≡ 32)
+pub digest_gives : Gives digest_at (λ d. length d.0 ≡ 32)
 unfolding digest_at
 digest_gives bytes d rest e =
     let a = bind_ok (exactly_at 32 bytes) (λ x. Ok (record { 0 = x.0 }, x.1)) (d, rest) e in
@@ -103,22 +105,47 @@ module _ {A B : Type 0} (make : A → B) (S : Spelling A) (P : A → Type 0) (Q 
       subst (λ (p : B × List ℕ). Q p.0) (ok_is _ _ a.2) (whole a.0.0 (parts bytes a.0.0 a.0.1 a.1))
 
 module _ {A : Type 0} (S : Spelling A) (P : A → Type 0) (gives : Gives S.at P) where
-  repeated_gives : (n : ℕ) → Gives (repeated_at S n) (AllByRecursion P)
-  repeated_gives zero bytes xs rest e = subst (λ (p : List A × List ℕ). AllByRecursion P p.0) (ok_is ([], bytes) (xs, rest) e) tt
+  abbrev IsRepeated : ℕ → List A → Type 0
+  IsRepeated n xs = (length xs ≡ n) × AllByRecursion P xs
+
+  repeated_gives : (n : ℕ) → Gives (repeated_at S n) (IsRepeated n)
+  repeated_gives zero bytes xs rest e = subst (λ (p : List A × List ℕ). IsRepeated 0 p.0) (ok_is ([], bytes) (xs, rest) e) (refl, tt)
   repeated_gives (suc n) bytes xs rest e =
       let a = bind_ok (S.at bytes) (λ first. repeated_at S n first.1 >>= λ others. Ok (first.0 ∷ others.0, others.1)) (xs, rest) e in
       let b = bind_ok (repeated_at S n a.0.1) (λ others. Ok (a.0.0 ∷ others.0, others.1)) (xs, rest) a.2 in
-      subst (λ (p : List A × List ℕ). AllByRecursion P p.0) (ok_is _ _ b.2) (gives bytes a.0.0 a.0.1 a.1, repeated_gives n a.0.1 b.0.0 b.0.1 b.1)
+      let others = repeated_gives n a.0.1 b.0.0 b.0.1 b.1 in
+      subst (λ (p : List A × List ℕ). IsRepeated (suc n) p.0) (ok_is _ _ b.2) (ap suc others.0, (gives bytes a.0.0 a.0.1 a.1, others.1))
 
   pub list_gives : (min max : ℕ) → Gives (list min max S).at (AllByRecursion P)
   unfolding list_at
   list_gives min max bytes xs rest e =
       let a = bind_ok (number_at w16 min (max + 1) bytes) (λ n. repeated_at S n.0 n.1) (xs, rest) e in
-      repeated_gives a.0.0 a.0.1 xs rest a.2
+      (repeated_gives a.0.0 a.0.1 xs rest a.2).1
+
+  -- as many as are allowed
+  pub counted_gives : (min max : ℕ) → Gives (list min max S).at (FitsList P min max)
+  unfolding list_at
+  counted_gives min max bytes xs rest e =
+      let a = bind_ok (number_at w16 min (max + 1) bytes) (λ n. repeated_at S n.0 n.1) (xs, rest) e in
+      let count = number_gives min (max + 1) w16 bytes a.0.0 a.0.1 a.1 in
+      let all = repeated_gives a.0.0 a.0.1 xs rest a.2 in
+      record { least = omega (arith, count.0, all.0); most = omega (arith, count.1, all.0); each = all_from P xs all.1 }
+
+  flagged_gives : (n : ℕ) → Gives (flagged_at S n) (FitsOptional P)
+  flagged_gives zero bytes x rest e = subst (λ (p : Option A × List ℕ). FitsOptional P p.0) (ok_is (None, bytes) (x, rest) e) tt
+  flagged_gives (suc n) bytes x rest e =
+      let a = bind_ok (S.at bytes) (λ v. Ok (Some v.0, v.1)) (x, rest) e in
+      subst (λ (p : Option A × List ℕ). FitsOptional P p.0) (ok_is (Some a.0.0, a.0.1) (x, rest) a.2) (gives bytes a.0.0 a.0.1 a.1)
+
+  pub optional_gives : Gives (optional S).at (FitsOptional P)
+  unfolding optional_at
+  optional_gives bytes x rest e =
+      let a = bind_ok (number_at w8 0 2 bytes) (λ n. flagged_at S n.0 n.1) (x, rest) e in
+      flagged_gives a.0.0 a.0.1 x rest a.2
 
 -- ---- statements
 
-u62_gives : (least : ℕ) → Gives (u62 least).at (IsU62 least)
+pub u62_gives : (least : ℕ) → Gives (u62 least).at (IsU62 least)
 u62_gives least = number_gives least (2 ^ 62) _
 
 -- a client's number is spelled with four bytes
@@ -132,7 +159,7 @@ four_bytes n (suc (suc (suc (suc i)))) = omega arith
 spelled_small : (n : ℕ) → number_spelled n < 2 ^ 32
 spelled_small n = wide32.below (to_be_bytes w32 n) (four_bytes n)
 
-spec_gives : Gives spec_fields.at (λ spec. spec_fields.Fits (spec_spelled spec))
+pub spec_gives : Gives spec_fields.at (λ spec. spec_fields.Fits (spec_spelled spec))
 unfolding spec_fields
 spec_gives =
     made_gives _ (pair (u62 0) (pair (u62 1) (pair digest (pair digest (pair (word w32) (u62 0)))))) _ (λ spec. spec_fields.Fits (spec_spelled spec))
@@ -156,8 +183,19 @@ began_gives =
     made_gives _ (pair (u62 1) (pair (u62 0) digest)) _ _
     (pair_gives (u62 1) (pair (u62 0) digest) _ _ (u62_gives 1) (pair_gives (u62 0) digest _ _ (u62_gives 0) digest_gives)) (λ x fits. fits)
 
+-- What is read of a signed statement: its signer has a number, if that is a replica, and its signature isn't too long.
+abbrev pub IsSignedRead : {A : Type 0} → (A → Type 0) → Signed A → Type 0
+IsSignedRead P x = (is_replica x.by ≡ true → IsParty x.by) × (P x.stmt × (length x.sig ≤ 8192))
+
 -- with its signer and its signature
 module _ {A : Type 0} (fields : Spelling A) where
+  pub read_gives : (P : A → Type 0) → Gives fields.at P → Gives (signed fields).at (IsSignedRead P)
+  unfolding signed
+  read_gives P gives =
+      made_gives _ (pair party (pair fields (bytes16 8192))) _ (IsSignedRead P)
+      (pair_gives party (pair fields (bytes16 8192)) _ _ party_gives (pair_gives fields (bytes16 8192) _ _ gives (sized_gives w16 8192)))
+      (λ x fits. fits)
+
   pub signed_gives : (f : A → A) → Gives fields.at (λ x. fields.Fits (f x)) → Gives (signed fields).at (λ s. is_replica s.by ≡ true → (signed fields).Fits (record s { stmt = f s.stmt }))
   unfolding signed
   signed_gives f gives =

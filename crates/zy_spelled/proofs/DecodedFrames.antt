@@ -29,18 +29,18 @@ use Rattle.zy_spelled.proofs.Decoded.{Gives, all_give, began_gives, check_gives,
 -- ---- either kind
 
 module _ {F : Type 0} (P : F → Type 0) where
-  or_gives : (b : Bool) (first other : List ℕ → Result (F × List ℕ) FrameFault) → Gives first P → Gives other P → Gives (λ bytes. if b then first bytes else other bytes) P
+  pub or_gives : (b : Bool) (first other : List ℕ → Result (F × List ℕ) FrameFault) → Gives first P → Gives other P → Gives (λ bytes. if b then first bytes else other bytes) P
   or_gives true first other one others = one
   or_gives false first other one others = others
 
   -- of another kind nothing is said
-  other_gives : {A : Type 0} (make : A → F) (S : Spelling A) → ((x : A) → P (make x)) → Gives (made make S) P
+  pub other_gives : {A : Type 0} (make : A → F) (S : Spelling A) → ((x : A) → P (make x)) → Gives (made make S) P
   other_gives make S none = made_gives make S (λ x. Unit {0}) P (all_give S.at) (λ x any. none x)
 
-  fault_gives : (fault : FrameFault) → Gives (λ bytes. Err fault) P
+  pub fault_gives : (fault : FrameFault) → Gives (λ bytes. Err fault) P
   fault_gives fault bytes x rest e = absurd cc
 
-  framed_gives : (at : ℕ → List ℕ → Result (F × List ℕ) FrameFault) → ((kind : ℕ) → Gives (at kind) P) → (bytes : List ℕ) (frame : F) → framed_in at bytes ≡ Ok frame → P frame
+  pub framed_gives : (at : ℕ → List ℕ → Result (F × List ℕ) FrameFault) → ((kind : ℕ) → Gives (at kind) P) → (bytes : List ℕ) (frame : F) → framed_in at bytes ≡ Ok frame → P frame
   unfolding framed_in
   framed_gives at gives bytes frame is =
       let a = bind_ok (kind_in bytes) (λ k. at k (drop 2 bytes) >>= λ read. ended read.0 read.1) frame is in

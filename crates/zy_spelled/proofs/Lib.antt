@@ -1,8 +1,8 @@
 mod Adopts
 mod AtStart
 mod BeginRows
-mod Decoded
-mod DecodedFrames
+pub mod Decoded
+pub mod DecodedFrames
 mod Gathers
 mod Leaves
 mod Reports

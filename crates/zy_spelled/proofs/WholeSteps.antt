@@ -1,5 +1,6 @@
 -- What a replica says by a whole step can be spelled, and what it keeps after it.
-use Rattle.std.proofs.Common.{◌≡◌, ℕ, true, List, map, None, Result, Ok, Err, refl, subst}
+use Rattle.std.proofs.Common.{◌≡◌, inl, inr, ℕ, true, List, map, None, Result, Ok, Err, refl, sym, subst}
+use Rattle.std.specs.Prelude.{All}
 use Rattle.zy_base.specs.Machine.{Rules}
 use Rattle.zy_base.specs.declared.cause.Cause.TheVariants as causes
 use Rattle.zy_base.specs.declared.frame_fault.FrameFault.{FrameFault}
@@ -27,7 +28,7 @@ use Rattle.zy_parts.specs.Signing.{part_of}
 use Rattle.zy_seal.specs.Screening.{screen}
 use Rattle.zy_table.specs.Changes.{change}
 use Rattle.zy_table.specs.Confirming.{confirmation, new_view, view_certificate}
-use Rattle.zy_table.specs.Deeds.{refused}
+use Rattle.zy_table.specs.Deeds.{Outcome, refused}
 use Rattle.zy_table.specs.Fetching.{fetch, state_transfer}
 use Rattle.zy_table.specs.Hates.{hate, on_change_timer, on_request_timer}
 use Rattle.zy_table.specs.Misbehaviour.{pom, tell_all}
@@ -42,7 +43,7 @@ use Rattle.zy_vframes.specs.declared.frame.ViewFrame.{ViewFrame}
 use Rattle.zy_vframes.specs.declared.frame.ViewFrame.TheVariants as view_frames
 use Rattle.zy_view_law.proofs.HonestTexts.{change_held, changes_held}
 use Rattle.zy_view_law.proofs.Lists.{all_left}
-use Rattle.zy_view_law.specs.Held.{IsHonestPart}
+use Rattle.zy_view_law.specs.Held.{AreLinksKept, IsHonestPart}
 use Rattle.zy_view_law.specs.Texts.{Texts}
 use Rattle.zy_view_steps.specs.Rows.{IsReady}
 use Rattle.zy_view_steps.specs.Work.{IsAtWork}
@@ -50,12 +51,15 @@ use Rattle.zy_begin_steps.proofs.Admitted.{IsPlaced, placed}
 use Rattle.zy_begin_steps.proofs.HonestFrames.{by_replica}
 use Rattle.zy_begin_steps.proofs.Installing.{IsReading}
 use Rattle.zy_begin_steps.proofs.Requested.{order_admitted}
-use Rattle.zy_begin_steps.specs.Frames.{IsHonestFrame, IsHonestlyRead}
+use Rattle.zy_begin_steps.proofs.IdleFrames.{IsIdle, TellsOfClients, of_clients_or_idle}
+use Rattle.zy_begin_steps.specs.Frames.{AreLinksBrought, AreOfClients, IsHonestFrame, IsHonestlyRead}
 use Rattle.zy_begin_steps.specs.Steps.{IsWorldOf}
 use Rattle.zy_normal_steps.proofs.Steps.{unless_case}
 use Rattle.zy_normal_steps.specs.Whole.{IsEventHonest}
-use Rattle.zy_wire.specs.Spelling.{IsBytes}
-use Rattle.zy_spelled.specs.Spelled.{IsSpelled}
+use Rattle.zy_table.specs.declared.deeds.Act.{Act}
+use Rattle.zy_parts.specs.declared.reports.Change.{Change}
+use Rattle.zy_parts.specs.declared.signed.Signed.{Signed}
+use Rattle.zy_spelled.specs.Spelled.{FitAll, IsSpelled}
 use Rattle.zy_spelled.proofs.BeginRows.{certificate_adopted, confirmation_adopted, fetch_fine, new_fine, state_adopted}
 use Rattle.zy_spelled.proofs.DecodedFrames.{IsViewFrameSpelled, frame_spelled, view_frame_spelled}
 use Rattle.zy_spelled.proofs.Gathers.{IsDone}
@@ -63,7 +67,7 @@ use Rattle.zy_spelled.proofs.ViewRows.{change_fine, change_timer_fine, finishes,
 use Rattle.zy_spelled.proofs.Working.{Brings, asks, cases, holds, run_cases, takes}
 
 module _ {S : Type 0} (R : Rules S) (interval : ℕ) (texts : Texts) (w : World) (r : ℕ) (s : State S) (h : List Entry) (ready : IsReady R interval w r s h) (kept : IsWorldOf R interval w texts) (work : IsAtWork interval w r s)
-    (is : IsSpelled s) (reading : (bytes : List ℕ) → IsBytes bytes → IsReading R bytes) where
+    (is : IsSpelled s) (reading : (bytes : List ℕ) → IsReading R bytes) where
   abbrev Brought : Frame → Type 0
   Brought frame = Brings R interval texts w r s h ready kept work is frame
 
@@ -117,20 +121,31 @@ module _ {S : Type 0} (R : Rules S) (interval : ℕ) (texts : Texts) (w : World)
 
   -- ---- frames of a change of view
 
-  row_done : (frame : ViewFrame) → IsHonestFrame w texts frame → IsViewFrameSpelled frame → IsDone (view_row R s frame)
-  row_done (view_frames.ViewChange vote) honest fits =
-      let held = change_held w vote honest.spelled honest.brought honest.parts in
+  -- the links of reports whose entries are of clients that there may be
+  links_of : (list : List (Signed Change)) → All (AreLinksBrought w) list → All AreOfClients list → All (AreLinksKept w) list
+  links_of list brought clients k d within = brought k d within (clients k d within)
+
+  of_clients_done : (frame : ViewFrame) → TellsOfClients frame → IsHonestFrame w texts frame → IsViewFrameSpelled frame → IsDone (view_row R s frame)
+  of_clients_done (view_frames.ViewChange vote) clients honest fits =
+      let held = change_held w vote honest.spelled (honest.brought clients) honest.parts in
       finishes_leaving R s is (change R s vote) (change_fine R interval w r s h ready is vote (by_replica w _ vote.by held.signer) held (fits honest.spelled))
-  row_done (view_frames.NewView new) honest fits =
-      finishes_leaving R s is (new_view R s new) (new_fine R interval texts w r s h ready kept is new (changes_held w new honest.spelled honest.brought honest.parts) honest.spelled)
-  row_done (view_frames.ViewConfirm vote) honest fits = finishes R s is (confirmation R s vote) (confirmation_adopted R interval texts w r s h ready kept is vote fits)
-  row_done (view_frames.ViewCert cert) honest fits =
+  of_clients_done (view_frames.NewView new) clients honest fits =
+      finishes_leaving R s is (new_view R s new) (new_fine R interval texts w r s h ready kept is new (changes_held w new honest.spelled (links_of new.stmt.changes honest.brought clients) honest.parts) honest.spelled)
+  of_clients_done (view_frames.ViewConfirm vote) clients honest fits = finishes R s is (confirmation R s vote) (confirmation_adopted R interval texts w r s h ready kept is vote fits)
+  of_clients_done (view_frames.ViewCert cert) clients honest fits =
       let begans = map (part_of numbers.began began_fields) cert.begans in
-      let held = changes_held w cert.new honest.spelled.0 honest.brought (all_left (IsHonestPart w) (view_parts.parts_of_new cert.new) begans honest.parts) in
+      let held = changes_held w cert.new honest.spelled.0 (links_of cert.new.stmt.changes honest.brought clients) (all_left (IsHonestPart w) (view_parts.parts_of_new cert.new) begans honest.parts) in
       finishes R s is (view_certificate R s cert) (certificate_adopted R interval texts w r s h ready kept is cert held honest.spelled.0 fits)
-  row_done (view_frames.Fetch vote) honest fits = finishes_leaving R s is (fetch R s vote) (fetch_fine R interval texts w r s h ready kept is vote)
-  row_done (view_frames.State place snapshot) honest fits =
-      finishes R s is (state_transfer R s place snapshot) (state_adopted R interval texts w r s h ready kept is snapshot (reading snapshot honest.spelled) place)
+  of_clients_done (view_frames.Fetch vote) clients honest fits = finishes_leaving R s is (fetch R s vote) (fetch_fine R interval texts w r s h ready kept is vote)
+  of_clients_done (view_frames.State place snapshot) clients honest fits =
+      finishes R s is (state_transfer R s place snapshot) (state_adopted R interval texts w r s h ready kept is snapshot (reading snapshot) place)
+
+  idle_done : (o : Outcome S) → IsIdle s o → IsDone o
+  idle_done o idle low = record { acts = subst (λ (acts : List Act). FitAll acts) (sym idle.acts) tt; spelled = subst (λ (t : State S). IsSpelled t) (sym idle.state) is }
+
+  -- a report with another entry is nothing to it
+  row_done : (frame : ViewFrame) → IsHonestFrame w texts frame → IsViewFrameSpelled frame → IsDone (view_row R s frame)
+  row_done frame honest fits = elim (of_clients_or_idle R s frame) [ inl clients ↦ of_clients_done frame clients honest fits | inr idle ↦ idle_done (view_row R s frame) idle ]
 
   hears_done : (frame : ViewFrame) → (is_view_frame_in_role s.counts frame ≡ true → IsHonestFrame w texts frame) → (is_view_frame_in_role s.counts frame ≡ true → IsViewFrameSpelled frame) → IsDone (hear_view R s frame)
   hears_done frame honest fits =

@@ -66,7 +66,7 @@ use Rattle.zy_view_steps.specs.Rows.{IsReady, blames}
 use Rattle.zy_world_law.specs.Blame.{tells_state}
 use Rattle.zy_world_law.specs.Reading.{any_frame_in}
 use Rattle.zy_world_law.proofs.AttemptAnswers.{certificate_ends, change_ends, change_timer_ends, confirmation_ends, fetch_ends, finish_just, hate_ends, new_ends, order_ends, pom_ends, request_timer_ends, state_ends}
-use Rattle.zy_world_law.proofs.DecodedReports.{TellsOfClients}
+use Rattle.zy_begin_steps.proofs.IdleFrames.{TellsOfClients}
 use Rattle.zy_world_law.proofs.RowCauses.{IsFree, IsFreeAdmit, Just, admit_free, checkpoint_just, commit_just, confirm_just, free, hole_just, order_as_just, request_just, response_just, taken_just, view_just}
 use Rattle.zy_world_law.proofs.StepLaws.{StepLaws}
 

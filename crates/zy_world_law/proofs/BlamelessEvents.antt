@@ -58,10 +58,11 @@ use Rattle.zy_world_law.specs.declared.note.Note.{Note}
 use Rattle.zy_world_law.specs.declared.note.Note.TheVariants as notes
 use Rattle.zy_world_law.proofs.BagStays.{bag_good}
 use Rattle.zy_world_law.proofs.Blameless.{plain_just, timer_just, view_just_row}
-use Rattle.zy_world_law.proofs.DecodedReports.{TellsOfClients, decoded_read}
+use Rattle.zy_begin_steps.proofs.IdleFrames.{TellsOfClients}
+use Rattle.zy_world_law.proofs.DecodedReports.{decoded_read}
 use Rattle.zy_world_law.proofs.EventHeld.{verified}
 use Rattle.zy_world_law.proofs.HonestReports.{frame_honest}
-use Rattle.zy_world_law.proofs.IdleFrames.{IsIdle, of_clients_or_idle}
+use Rattle.zy_begin_steps.proofs.IdleFrames.{IsIdle, of_clients_or_idle}
 use Rattle.zy_world_law.proofs.KeptTexts.{all_kept}
 use Rattle.zy_world_law.proofs.NoConflict.{no_conflict}
 use Rattle.zy_world_law.proofs.NotForged.{parts_said}

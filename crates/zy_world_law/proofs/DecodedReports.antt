@@ -11,7 +11,8 @@ use Rattle.zy_base.specs.declared.counts.Counts.{Counts}
 use Rattle.zy_base.specs.declared.frame_fault.FrameFault.{FrameFault}
 use Rattle.zy_chain.specs.Fields.{entry_fields}
 use Rattle.zy_chain.specs.declared.entry.Entry.{Entry}
-use Rattle.zy_begin_steps.specs.Frames.{IsSpelled}
+use Rattle.zy_begin_steps.proofs.IdleFrames.{TellsOfClients}
+use Rattle.zy_begin_steps.specs.Frames.{AreOfClients, IsSpelled}
 use Rattle.zy_parts.specs.Reports.{began_fields, certificate, change_fields, fetch_fields, new_fields, told_fields}
 use Rattle.zy_parts.specs.Signing.{signed}
 use Rattle.zy_parts.specs.Statements.{IsU62, check_fields, spec_fields}
@@ -21,6 +22,8 @@ use Rattle.zy_parts.specs.declared.reports.New.{New}
 use Rattle.zy_parts.specs.declared.reports.Told.{Told}
 use Rattle.zy_parts.specs.declared.signed.Signed.{Signed}
 use Rattle.zy_parts.specs.declared.statements.Spec.{Spec}
+use Rattle.zy_spelled.proofs.Decoded.{Gives, IsSignedRead, all_give, began_gives, check_gives, counted_gives, digest_gives, made_gives, optional_gives, pair_gives, read_gives, sized_gives, spec_gives, u62_gives}
+use Rattle.zy_spelled.proofs.DecodedFrames.{fault_gives, framed_gives, or_gives}
 use Rattle.zy_table.specs.Roles.{is_primary_of, is_replica}
 use Rattle.zy_table.specs.Whole.{are_specs_in_role, is_by_replica, is_change_in_role, is_new_in_role, is_told_in_role, is_view_frame_in_role}
 use Rattle.zy_vframes.specs.ViewFrames.{frame_at, frame_in, state, view_certificate}
@@ -32,15 +35,9 @@ use Rattle.zy_wire.specs.Fields.{FitsList, FitsOptional, bytes16, digest, list, 
 use Rattle.zy_wire.specs.Framing.{framed_in}
 use Rattle.zy_wire.specs.Kind.{kind_in}
 use Rattle.zy_wire.specs.Spelling.{IsBytes, Spelling, ◌>>=◌, ended, made, pair, word, word_at}
-use Rattle.zy_world_law.proofs.DecodedFields.{FitsForClients, Gives, IsSignedRead, all_give, check_gives, digest_gives, list_gives, made_gives, optional_gives, pair_gives, signed_gives, sized_gives, spec_gives, u62_gives}
+use Rattle.zy_world_law.proofs.DecodedInRange.{FitsSpelled}
 
 -- ---- what is read
-
-began_gives : Gives began_fields.at began_fields.Fits
-unfolding began_fields
-began_gives =
-    made_gives _ (pair (u62 1) (pair (u62 0) digest)) _ _
-    (pair_gives (u62 1) (pair (u62 0) digest) _ _ (u62_gives 1) (pair_gives (u62 0) digest _ _ (u62_gives 0) digest_gives)) (λ x fits. fits)
 
 -- an entry, but for its client's number
 abbrev pub IsEntryRead : Entry → Type 0
@@ -54,7 +51,7 @@ entry_gives =
     (λ x fits small. (omega arith, fits.1))
 
 abbrev pub IsCertificateRead : Option (List (Signed Spec)) → Type 0
-IsCertificateRead specs = FitsOptional (FitsList (IsSignedRead FitsForClients) 1 16) specs
+IsCertificateRead specs = FitsOptional (FitsList (IsSignedRead FitsSpelled) 1 16) specs
 
 -- the fields of a report
 abbrev pub IsToldRead : Told → Type 0
@@ -81,15 +78,15 @@ told_gives =
     (pair_gives (u62 0) a _ _ (u62_gives 0)
     (pair_gives (u62 0) b _ _ (u62_gives 0)
     (pair_gives digest c _ _ digest_gives
-    (pair_gives begans d _ _ (list_gives (signed began_fields) (IsSignedRead began_fields.Fits) (signed_gives began_fields began_fields.Fits began_gives) 0 16)
+    (pair_gives begans d _ _ (counted_gives (signed began_fields) (IsSignedRead began_fields.Fits) (read_gives began_fields began_fields.Fits began_gives) 0 16)
     (pair_gives certificate e _ _
-    (optional_gives (list 1 16 (signed spec_fields)) (FitsList (IsSignedRead FitsForClients) 1 16) (list_gives (signed spec_fields) (IsSignedRead FitsForClients) (signed_gives spec_fields FitsForClients spec_gives) 1 16))
+    (optional_gives (list 1 16 (signed spec_fields)) (FitsList (IsSignedRead FitsSpelled) 1 16) (counted_gives (signed spec_fields) (IsSignedRead FitsSpelled) (read_gives spec_fields FitsSpelled spec_gives) 1 16))
     (pair_gives (u62 0) f _ _ (u62_gives 0)
     (pair_gives (u62 0) g _ _ (u62_gives 0)
     (pair_gives digest h _ _ digest_gives
     (pair_gives digest i _ _ digest_gives
-    (pair_gives checks entries _ _ (list_gives (signed check_fields) (IsSignedRead check_fields.Fits) (signed_gives check_fields check_fields.Fits check_gives) 0 16)
-    (list_gives entry_fields IsEntryRead entry_gives 0 64)))))))))))
+    (pair_gives checks entries _ _ (counted_gives (signed check_fields) (IsSignedRead check_fields.Fits) (read_gives check_fields check_fields.Fits check_gives) 0 16)
+    (counted_gives entry_fields IsEntryRead entry_gives 0 64)))))))))))
     (λ x fits. fits)
 
 abbrev pub IsChangeRead : Change → Type 0
@@ -106,21 +103,10 @@ new_gives : Gives new_fields.at IsNewRead
 unfolding new_fields
 new_gives =
     made_gives _ (pair (u62 1) (list 1 16 (signed change_fields))) _ IsNewRead
-    (pair_gives (u62 1) (list 1 16 (signed change_fields)) _ _ (u62_gives 1) (list_gives (signed change_fields) (IsSignedRead IsChangeRead) (signed_gives change_fields IsChangeRead change_gives) 1 16))
+    (pair_gives (u62 1) (list 1 16 (signed change_fields)) _ _ (u62_gives 1) (counted_gives (signed change_fields) (IsSignedRead IsChangeRead) (read_gives change_fields IsChangeRead change_gives) 1 16))
     (λ x fits. fits)
 
 -- ---- so it fits
-
--- of a response the number of its client is cut to 32 bits
-four_bytes : (n : ℕ) → IsBytes (to_be_bytes w32 n)
-four_bytes n zero = omega arith
-four_bytes n (suc zero) = omega arith
-four_bytes n (suc (suc zero)) = omega arith
-four_bytes n (suc (suc (suc zero))) = omega arith
-four_bytes n (suc (suc (suc (suc i)))) = omega arith
-
-pub response_fits : (spec : Spec) → FitsForClients spec → spec_fields.Fits (spec_spelled spec)
-response_fits spec fits = fits (number_spelled spec.client.0) (wide32.below (to_be_bytes w32 spec.client.0) (four_bytes spec.client.0))
 
 module _ {A : Type 0} (fields : Spelling A) (f : A → A) (P : A → Type 0) (each : (x : A) → P x → fields.Fits (f x)) where
   signed_fits : (x : Signed A) → is_by_replica x ≡ true → IsSignedRead P x → (signed fields).Fits (with_stmt f x)
@@ -155,11 +141,7 @@ module _ {A : Type 0} (fields : Spelling A) (P : A → Type 0) (min max : ℕ) (
 
 certificate_fits : (specs : Option (List (Signed Spec))) → are_specs_in_role specs ≡ true → IsCertificateRead specs → FitsOptional (FitsList (signed spec_fields).Fits 1 16) (option_map (map (with_stmt spec_spelled)) specs)
 certificate_fits None roles is = tt
-certificate_fits (Some specs) roles is = mapped_fits spec_fields FitsForClients 1 16 specs roles is spec_spelled response_fits
-
--- the entries are of clients that there may be
-abbrev pub AreOfClients : Signed Change → Type 0
-AreOfClients c = All (λ e. e.client.0 < 64) c.stmt.told.entries
+certificate_fits (Some specs) roles is = mapped_fits spec_fields FitsSpelled 1 16 specs roles is spec_spelled (λ spec fits. fits)
 
 told_fits : (t : Told) → is_told_in_role t ≡ true → All (λ e. e.client.0 < 64) t.entries → IsToldRead t → told_fields.Fits (told_spelled t)
 unfolding told_fields
@@ -210,46 +192,25 @@ IsFrameRead (frames.ViewCert cert) = IsNewRead cert.new.stmt × All (λ began. b
 IsFrameRead (frames.Fetch fetch) = Unit {0}
 IsFrameRead (frames.State place snapshot) = Unit {0}
 
-or_gives : (b : Bool) (first other : List ℕ → Result (ViewFrame × List ℕ) FrameFault) → Gives first IsFrameRead → Gives other IsFrameRead → Gives (λ bytes. if b then first bytes else other bytes) IsFrameRead
-or_gives true first other one others = one
-or_gives false first other one others = others
-
-fault_gives : (fault : FrameFault) → Gives (λ bytes. Err fault) IsFrameRead
-fault_gives fault bytes x rest e = absurd cc
-
 cert_gives : Gives view_certificate.at (λ cert. IsNewRead cert.new.stmt × All (λ began. began_fields.Fits began.stmt) cert.begans)
 cert_gives =
     made_gives _ (pair (signed new_fields) (list 1 16 (signed began_fields))) (λ x. IsSignedRead IsNewRead x.0 × FitsList (IsSignedRead began_fields.Fits) 1 16 x.1) _
-    (pair_gives (signed new_fields) (list 1 16 (signed began_fields)) _ _ (signed_gives new_fields IsNewRead new_gives)
-    (list_gives (signed began_fields) (IsSignedRead began_fields.Fits) (signed_gives began_fields began_fields.Fits began_gives) 1 16))
+    (pair_gives (signed new_fields) (list 1 16 (signed began_fields)) _ _ (read_gives new_fields IsNewRead new_gives)
+    (counted_gives (signed began_fields) (IsSignedRead began_fields.Fits) (read_gives began_fields began_fields.Fits began_gives) 1 16))
     (λ x fits. (fits.0.1.0, λ k d within. (fits.1.each k d within).1.0))
 
 frame_gives : (kind : ℕ) → Gives (frame_at kind) IsFrameRead
 unfolding frame_at
 frame_gives kind =
-    or_gives _ _ _ (made_gives frames.ViewChange (signed change_fields) _ IsFrameRead (signed_gives change_fields IsChangeRead change_gives) (λ c fits. fits.1.0))
-    (or_gives _ _ _ (made_gives frames.NewView (signed new_fields) _ IsFrameRead (signed_gives new_fields IsNewRead new_gives) (λ n fits. fits.1.0))
-    (or_gives _ _ _ (made_gives frames.ViewConfirm (signed began_fields) _ IsFrameRead (signed_gives began_fields began_fields.Fits began_gives) (λ b fits. fits.1.0))
-    (or_gives _ _ _ (made_gives frames.ViewCert view_certificate _ IsFrameRead cert_gives (λ c fits. fits))
-    (or_gives _ _ _ (made_gives frames.Fetch (signed fetch_fields) (λ x. Unit {0}) IsFrameRead (all_give (signed fetch_fields).at) (λ x any. tt))
-    (or_gives _ _ _ (made_gives (λ x. frames.State (record { 0 = x.0 }) x.1) state (λ x. Unit {0}) IsFrameRead (all_give state.at) (λ x any. tt)) (fault_gives _))))))
+    or_gives IsFrameRead _ _ _ (made_gives frames.ViewChange (signed change_fields) _ IsFrameRead (read_gives change_fields IsChangeRead change_gives) (λ c fits. fits.1.0))
+    (or_gives IsFrameRead _ _ _ (made_gives frames.NewView (signed new_fields) _ IsFrameRead (read_gives new_fields IsNewRead new_gives) (λ n fits. fits.1.0))
+    (or_gives IsFrameRead _ _ _ (made_gives frames.ViewConfirm (signed began_fields) _ IsFrameRead (read_gives began_fields began_fields.Fits began_gives) (λ b fits. fits.1.0))
+    (or_gives IsFrameRead _ _ _ (made_gives frames.ViewCert view_certificate _ IsFrameRead cert_gives (λ c fits. fits))
+    (or_gives IsFrameRead _ _ _ (made_gives frames.Fetch (signed fetch_fields) (λ x. Unit {0}) IsFrameRead (all_give (signed fetch_fields).at) (λ x any. tt))
+    (or_gives IsFrameRead _ _ _ (made_gives (λ x. frames.State (record { 0 = x.0 }) x.1) state (λ x. Unit {0}) IsFrameRead (all_give state.at) (λ x any. tt)) (fault_gives IsFrameRead _))))))
 
 pub decoded_read : (bytes : List ℕ) (frame : ViewFrame) → frame_in bytes ≡ Ok frame → IsFrameRead frame
-unfolding framed_in
-decoded_read bytes frame is =
-    let a = bind_ok (kind_in bytes) (λ k. frame_at k (drop 2 bytes) >>= λ read. ended read.0 read.1) frame is in
-    let b = bind_ok (frame_at a.0 (drop 2 bytes)) (λ read. ended read.0 read.1) frame a.2 in
-    let c = ended_ok b.0.0 b.0.1 frame b.2 in
-    subst IsFrameRead c.0 (frame_gives a.0 (drop 2 bytes) b.0.0 b.0.1 b.1)
-
--- a frame whose reports tell such entries
-abbrev pub TellsOfClients : ViewFrame → Type 0
-TellsOfClients (frames.ViewChange change) = AreOfClients change
-TellsOfClients (frames.NewView new) = All AreOfClients new.stmt.changes
-TellsOfClients (frames.ViewConfirm began) = Unit {0}
-TellsOfClients (frames.ViewCert cert) = All AreOfClients cert.new.stmt.changes
-TellsOfClients (frames.Fetch fetch) = Unit {0}
-TellsOfClients (frames.State place snapshot) = Unit {0}
+decoded_read bytes frame is = framed_gives IsFrameRead frame_at frame_gives bytes frame is
 
 new_roles : (counts : Counts) (n : Signed New) → is_new_in_role counts n ≡ true → list_all is_change_in_role n.stmt.changes ≡ true
 new_roles counts n role = (and_parts (is_primary_of counts n.stmt.view.0 n.by) (list_all is_change_in_role n.stmt.changes) role).1

@@ -4,6 +4,7 @@ use Rattle.std.proofs.Common.{append-nil, ◌≡◌, inl, ℕ, ◌-◌, Bool, tr
 use Rattle.std.specs.Prelude.{if◌then◌else◌, slice_get, option_map, unwrap_or, nat_le, nat_lt}
 use Rattle.std.specs.List.{AllByRecursion}
 use Rattle.std.specs.Option.{option_and_then}
+use Rattle.std.proofs.lemmas.Nat.{from_be_bytes-to_be_bytes_4}
 use Rattle.zy_base.specs.Machine.{Rules}
 use Rattle.zy_base.specs.declared.frame_fault.FrameFault.{FrameFault}
 use Rattle.zy_base.specs.declared.ids.ClientId.{ClientId}
@@ -97,7 +98,7 @@ module _ {S : Type 0} (R : Rules S) (law : HeldLaw) (steps : StepLaws R) where
           within = both.0;
           said = both.1;
           reply = brought.0;
-          spelled = decoded_readable bytes frame heard.frame r.spec.stmt.client.0;
+          spelled = λ small. subst (λ (n : ℕ). spec_fields.Fits (record r.spec.stmt { client = record { 0 = n } })) (from_be_bytes-to_be_bytes_4 r.spec.stmt.client.0 small) (decoded_readable bytes frame heard.frame);
         }
 
   -- ---- events of correct parties

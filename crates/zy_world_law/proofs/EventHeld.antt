@@ -45,9 +45,7 @@ use Rattle.zy_world_law.specs.Reading.{either_read}
 use Rattle.zy_world_law.specs.Seen.{seen, asked_by, asked_of, entry_in}
 use Rattle.zy_world_law.specs.Setup.{keys_of, public_key_of}
 use Rattle.zy_world_law.specs.World.{World, Client, client_at, texts_said}
-use Rattle.zy_world_law.proofs.DecodedFields.{FitsForClients}
-use Rattle.zy_world_law.proofs.DecodedInRange.{IsReadable, decoded_readable}
-use Rattle.zy_world_law.proofs.DecodedReports.{response_fits}
+use Rattle.zy_world_law.proofs.DecodedInRange.{FitsSpelled, IsReadable, decoded_readable}
 use Rattle.zy_world_law.proofs.NotForged.{IsSaid, parts_said}
 use Rattle.zy_world_law.proofs.ReadBack.{entry_back}
 use Rattle.zy_world_law.proofs.Screened.{all_verify}
@@ -121,11 +119,11 @@ module _ {S : Type 0} (R : Rules S) (w : World S) (good : IsGood R w) where
   part_held number fields say x role back signed said =
       subst (λ (s : Statement). IsVouchedBy (seen R w) s x.by) back (part_honest R w (part_of number fields x) role signed (said signed))
 
-  response_held : (spec : Signed Spec) → FitsForClients spec.stmt → is_replica spec.by ≡ true → Verifies (part_of numbers.spec spec_fields spec) → WasSaid (part_of numbers.spec spec_fields spec) → IsHeldPart (seen R w) response_told spec
+  response_held : (spec : Signed Spec) → FitsSpelled spec.stmt → is_replica spec.by ≡ true → Verifies (part_of numbers.spec spec_fields spec) → WasSaid (part_of numbers.spec spec_fields spec) → IsHeldPart (seen R w) response_told spec
   response_held spec fits role signed said =
-      part_held numbers.spec spec_fields response_told spec role (spec_back (number_of_party spec.by) spec.by spec.stmt (response_fits spec.stmt fits)) signed said
+      part_held numbers.spec spec_fields response_told spec role (spec_back (number_of_party spec.by) spec.by spec.stmt fits) signed said
 
-  responses_held : (specs : List (Signed Spec)) → AllByRecursion (λ spec. FitsForClients spec.stmt) specs → list_all (λ spec. is_replica spec.by) specs ≡ true
+  responses_held : (specs : List (Signed Spec)) → AllByRecursion (λ spec. FitsSpelled spec.stmt) specs → list_all (λ spec. is_replica spec.by) specs ≡ true
       → AllByRecursion Verifies (map (part_of numbers.spec spec_fields) specs) → AllByRecursion WasSaid (map (part_of numbers.spec spec_fields) specs) → AllByRecursion (IsHeldPart (seen R w) response_told) specs
   responses_held [] fits role signed said = tt
   responses_held (spec ∷ specs) fits role signed said =
@@ -140,7 +138,7 @@ module _ {S : Type 0} (R : Rules S) (w : World S) (good : IsGood R w) where
       request_by both.ask.by both.ask.stmt both.ask.sig (and_parts (is_primary_of s.counts both.order.stmt.view.0 both.order.by) (is_client both.ask.by) role).1 fits signed.1.0 (said.1.0 signed.1.0)
   frame_held s (frames.SpecResponse spec reply with_order) fits role signed said = response_held spec fits (and_parts (is_replica spec.by) (is_order_of_primary s.counts with_order) role).0 signed.0 said.0
   frame_held s (frames.Commit specs) fits role signed said =
-      all_from (IsHeldPart (seen R w) response_told) specs (responses_held specs (all_listed (λ (spec : Signed Spec). FitsForClients spec.stmt) specs fits) role signed said)
+      all_from (IsHeldPart (seen R w) response_told) specs (responses_held specs (all_listed (λ (spec : Signed Spec). FitsSpelled spec.stmt) specs fits) role signed said)
   frame_held s (frames.LocalCommit local) fits role signed said = tt
   frame_held s (frames.ConfirmReq confirm ask) fits role signed said =
       let asked = and_parts (is_replica confirm.by) (is_client ask.by && is_primary_of s.counts confirm.stmt.view.0 (parties.Replica s.me)) role in

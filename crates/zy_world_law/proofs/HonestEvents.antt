@@ -32,10 +32,11 @@ use Rattle.zy_world_law.specs.Seen.{seen}
 use Rattle.zy_world_law.specs.Setup.{keys_of}
 use Rattle.zy_world_law.specs.Texts.{texts_in, texts_of, view_frame_texts}
 use Rattle.zy_world_law.specs.World.{World}
-use Rattle.zy_world_law.proofs.DecodedReports.{TellsOfClients, decoded_read}
+use Rattle.zy_begin_steps.proofs.IdleFrames.{TellsOfClients}
+use Rattle.zy_world_law.proofs.DecodedReports.{decoded_read}
 use Rattle.zy_world_law.proofs.EventHeld.{event_held, verified}
 use Rattle.zy_world_law.proofs.HonestReports.{frame_honest}
-use Rattle.zy_world_law.proofs.IdleFrames.{IsIdle, of_clients_or_idle}
+use Rattle.zy_begin_steps.proofs.IdleFrames.{IsIdle, of_clients_or_idle}
 use Rattle.zy_world_law.proofs.NotForged.{parts_said}
 
 abbrev heard_as : List ℕ → Event

@@ -43,7 +43,8 @@ use Rattle.zy_world_law.specs.Seen.{seen}
 use Rattle.zy_world_law.specs.Setup.{keys_of}
 use Rattle.zy_world_law.specs.Texts.{entry_texts, is_link, report_texts, view_frame_texts}
 use Rattle.zy_world_law.specs.World.{Texts, World, texts_said}
-use Rattle.zy_world_law.proofs.DecodedReports.{AreOfClients, IsFrameRead, IsNewRead, IsToldRead, TellsOfClients, frame_spelled}
+use Rattle.zy_begin_steps.proofs.IdleFrames.{TellsOfClients}
+use Rattle.zy_world_law.proofs.DecodedReports.{IsFrameRead, IsNewRead, IsToldRead, frame_spelled}
 use Rattle.zy_world_law.proofs.NotForged.{IsSaid}
 use Rattle.zy_world_law.proofs.OneText.{link_is}
 use Rattle.zy_world_law.proofs.Vouched.{part_honest}

@@ -4,7 +4,6 @@ pub mod KeptTexts
 pub mod OneText
 pub mod Seats
 pub mod StepLaws
-pub mod DecodedFields
 pub mod DecodedInRange
 pub mod DecodedReports
 pub mod StillReady
@@ -14,11 +13,11 @@ pub mod ToldSteps
 pub mod CommitStays
 pub mod ReplicaStep
 pub mod GainsKept
+pub mod IdleSteps
 pub mod FineSteps
 pub mod NotForged
 pub mod Vouched
 pub mod EventHeld
-pub mod IdleFrames
 pub mod HonestReports
 pub mod HonestEvents
 pub mod BagStays

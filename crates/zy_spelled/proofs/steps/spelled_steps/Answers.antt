@@ -6,7 +6,7 @@ use Rattle.zy_spelled.proofs.steps.spelled_steps.Goals as goal
 pub returns : goal.returns
 returns g c =
     let M = g.M.Machine in
-    let reading = reading_of M.IsState M.rules c.showing.ensures.shown c.installing.ensures.stands in
+    let reading = reading_of M.IsState M.rules c.showing.ensures.spelled c.installing.ensures.shown c.installing.ensures.stands in
     record {
       says = λ interval r texts w s history event ready kept work honest gains is.
           (whole_done M.rules interval texts w r s history ready kept work is reading event honest

@@ -10,17 +10,13 @@ use Rattle.zy_base.specs.declared.counts.Counts.{Counts}
 use Rattle.zy_base.specs.declared.step.Answer.{Answer}
 use Rattle.zy_base.specs.declared.step.Answer.TheVariants.{Refused, Taken}
 use Rattle.zy_begin_steps.proofs.Reported.{cert_refused, new_refused}
-use Rattle.zy_begin_steps.specs.Steps.{IsLawfulStep, IsWorldOf}
-use Rattle.zy_chain.specs.declared.entry.Entry.{Entry}
 use Rattle.zy_change.specs.Views.{has_begun, is_from, slot_of}
 use Rattle.zy_confirm.specs.Judging.{first_broken, or_later}
 use Rattle.zy_evidence.proofs.ProofLemmas.{all_clear}
 use Rattle.zy_evidence.specs.Rules.{number_of, rule_of}
 use Rattle.zy_evidence.specs.declared.rule.Rule.{Rule}
-use Rattle.zy_law.specs.World.{World}
 use Rattle.zy_parts.specs.declared.reports.Change.{Change}
 use Rattle.zy_parts.specs.declared.signed.Signed.{Signed}
-use Rattle.zy_seal.specs.Sealing.{SealerState}
 use Rattle.zy_table.specs.Beginning.{finished}
 use Rattle.zy_table.specs.Changes.{change, change_judged, send_cert}
 use Rattle.zy_table.specs.Deeds.{Going, Outcome, begin, ends, refused}
@@ -28,14 +24,20 @@ use Rattle.zy_table.specs.Leaving.{Attempt, goes, is_overspent}
 use Rattle.zy_table.specs.State as table
 use Rattle.zy_table.specs.State.{State}
 use Rattle.zy_table.specs.Whole.{view_row}
-use Rattle.zy_table.specs.declared.deeds.Act.{Act}
-use Rattle.zy_table.specs.declared.deeds.Sent.{Sent}
 use Rattle.zy_vframes.specs.declared.frame.ViewCert.{ViewCert}
 use Rattle.zy_vframes.specs.declared.frame.ViewFrame.{ViewFrame}
 use Rattle.zy_vframes.specs.declared.frame.ViewFrame.TheVariants as frames
-use Rattle.zy_view_law.specs.Texts.{Texts}
-use Rattle.zy_view_steps.specs.Rows.{IsReady, blames}
-use Rattle.zy_world_law.proofs.DecodedReports.{AreOfClients, TellsOfClients}
+use Rattle.zy_view_steps.specs.Rows.{blames}
+use Rattle.zy_begin_steps.specs.Frames.{AreOfClients}
+
+-- a frame whose reports tell entries of such clients alone
+abbrev pub TellsOfClients : ViewFrame → Type 0
+TellsOfClients (frames.ViewChange change) = AreOfClients change
+TellsOfClients (frames.NewView new) = All AreOfClients new.stmt.changes
+TellsOfClients (frames.ViewConfirm began) = Unit {0}
+TellsOfClients (frames.ViewCert cert) = All AreOfClients cert.new.stmt.changes
+TellsOfClients (frames.Fetch fetch) = Unit {0}
+TellsOfClients (frames.State place snapshot) = Unit {0}
 
 -- nothing is said, gained or changed
 pub record IsIdle {S : Type 0} (s : State S) (o : Outcome S) : Type 0 where
@@ -43,15 +45,6 @@ pub record IsIdle {S : Type 0} (s : State S) (o : Outcome S) : Type 0 where
   pub acts : o.deeds.acts ≡ []
   -- and if it is refused, that blames nobody
   pub blameless : (cause : Cause) → o.answer ≡ Refused cause → blames cause ≡ false
-
--- such a step is lawful
-pub idle_lawful : {S : Type 0} (R : Rules S) (interval : ℕ) (texts : Texts) (w : World) (r : ℕ) (s : State S) (history : List Entry) → IsReady R interval w r s history → IsWorldOf R interval w texts → (o : Outcome S) → IsIdle s o
-    → IsLawfulStep R interval texts w r s history o
-idle_lawful {S} R interval texts w r s history ready kept o is =
-    let of : State S → List Act → Outcome S = λ state acts. record { answer = o.answer; state = state; deeds = record { sent = o.deeds.sent; acts = acts } } in
-    subst (λ (state : State S). IsLawfulStep R interval texts w r s history (of state o.deeds.acts)) (sym is.state)
-    (subst (λ (acts : List Act). IsLawfulStep R interval texts w r s history (of s acts)) (sym is.acts)
-    (record { may = tt; tied = ready.tied; signer = ready.signer; interval_is = ready.interval_is; world = kept; gained = tt; works = λ work. work }))
 
 -- ---- entries of clients that there may be
 
