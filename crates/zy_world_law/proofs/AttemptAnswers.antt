@@ -1,13 +1,12 @@
 -- A row that may fail on its way comes to no refusal but by its causes: where it ends, it is taken or held.
-use Rattle.std.proofs.Common.{◌≡◌, ℕ, ◌^◌, nat_eq, nat_lt, Bool, true, false, ◌||◌, not, List, Option, Some, None, Ok, Err, refl}
-use Rattle.std.specs.Prelude.{Result, if◌then◌else◌, slice_get}
+use Rattle.std.proofs.Common.{◌≡◌, ℕ, ◌^◌, nat_eq, nat_lt, Bool, ◌||◌, not, List, Option, Some, None, Ok, Err, refl}
+use Rattle.std.specs.Prelude.{Result, if◌then◌else◌}
 use Rattle.std.specs.List.{list_any}
 use Rattle.zy_base.specs.Machine.{Rules}
 use Rattle.zy_base.specs.declared.cause.Cause.{Cause}
 use Rattle.zy_base.specs.declared.cause.Cause.TheVariants as causes
 use Rattle.zy_base.specs.declared.ids.Place.{Place}
 use Rattle.zy_base.specs.declared.ids.Digest.{Digest}
-use Rattle.zy_base.specs.declared.ids.Party.{Party}
 use Rattle.zy_base.specs.declared.ids.Party.TheVariants.{Replica}
 use Rattle.zy_base.specs.declared.ids.View.{View}
 use Rattle.zy_base.specs.declared.step.Answer.{Answer}
@@ -43,13 +42,13 @@ use Rattle.zy_parts.specs.declared.signed.Signed.{Signed}
 use Rattle.zy_parts.specs.declared.statements.Hate.{Hate}
 use Rattle.zy_parts.specs.declared.statements.Order.{Order}
 use Rattle.zy_table.specs.Adopting.{verdict_of}
-use Rattle.zy_table.specs.Beginning.{adopt, adopt_as, adopt_from, adopt_if, begun, certify, certify_with, confirms, finished, wanted_of}
-use Rattle.zy_table.specs.Changes.{change, change_judged, change_kept}
+use Rattle.zy_table.specs.Beginning.{adopt, adopt_as, adopt_from, adopt_if, begun, certify_with, confirms, finished, wanted_of}
+use Rattle.zy_table.specs.Changes.{change, change_judged}
 use Rattle.zy_table.specs.Confirming.{certificate_compared, certificate_judged, confirmation, confirmation_beside, confirmation_judged, new_view, new_view_judged, view_certificate, with_confirmation}
 use Rattle.zy_table.specs.Deeds.{Going, Outcome, begin}
 use Rattle.zy_table.specs.Fetching.{fetch, fetch_judged, install, state_for, state_heard, state_judged, state_transfer}
-use Rattle.zy_table.specs.Hates.{count_own, has_pending, hate, hate_counted, hate_of, hate_view, on_change_timer, on_request_timer, own_hate, say_hate, then_ask, with_hate_of}
-use Rattle.zy_table.specs.Leaving.{Attempt, collect, concluded, given, goes, is_overspent, leave, leave_alone}
+use Rattle.zy_table.specs.Hates.{count_own, has_pending, hate, hate_counted, hate_view, on_change_timer, on_request_timer, own_hate, say_hate, then_ask, with_hate_of}
+use Rattle.zy_table.specs.Leaving.{Attempt, collect, concluded, given, is_overspent, leave, leave_alone}
 use Rattle.zy_table.specs.Misbehaviour.{blamed, pom, tell_all}
 use Rattle.zy_table.specs.State.{State, own_view}
 use Rattle.zy_table.specs.declared.deeds.Verdict.{Verdict}

@@ -1,7 +1,6 @@
 -- A step of a correct replica in a good world is refused for no cause that blames anyone, unless another snapshot is told.
-use Rattle.std.proofs.Common.{◌≡◌, ◌⊎◌, inl, inr, ℕ, nat_lt, Bool, true, false, List, [], Option, Some, None, Ok, Err, refl, sym, ap, ◌∙◌, subst, arith}
-use Rattle.std.specs.Prelude.{All, Result, map, if◌then◌else◌, option_map, unwrap_or}
-use Rattle.std.specs.List.{AllByRecursion}
+use Rattle.std.proofs.Common.{◌≡◌, inl, inr, ℕ, nat_lt, Bool, true, false, List, Some, None, Err, refl, sym, subst, arith}
+use Rattle.std.specs.Prelude.{All, map, if◌then◌else◌}
 use Rattle.zy_admit.specs.Judging.{judge_in, same_digest}
 use Rattle.zy_admit.specs.Orders.{stored_in}
 use Rattle.zy_admit.specs.declared.judging.Admit.{Admit}
@@ -9,9 +8,7 @@ use Rattle.zy_admit.specs.declared.judging.Admit.TheVariants as admits
 use Rattle.zy_base.specs.Machine.{Rules}
 use Rattle.zy_base.specs.declared.cause.Cause.{Cause}
 use Rattle.zy_base.specs.declared.cause.Cause.TheVariants as causes
-use Rattle.zy_base.specs.declared.frame_fault.FrameFault.{FrameFault}
-use Rattle.zy_base.specs.declared.frame_fault.FrameFault.TheVariants as faults
-use Rattle.zy_base.specs.declared.step.Event.TheVariants.{Heard, Timer}
+use Rattle.zy_base.specs.declared.step.Event.TheVariants.{Timer}
 use Rattle.zy_base.specs.declared.step.TimerKind.{TimerKind}
 use Rattle.zy_base.specs.declared.step.TimerKind.TheVariants as timers
 use Rattle.zy_begin_steps.proofs.Adopting.{unblamed, unblamed_leaving}
@@ -20,40 +17,27 @@ use Rattle.zy_begin_steps.proofs.Rows.{cert_attempt, confirmation_attempt, new_a
 use Rattle.zy_begin_steps.specs.Frames.{IsHonestFrame}
 use Rattle.zy_begin_steps.specs.Steps.{IsWorldOf}
 use Rattle.zy_chain.specs.declared.entry.Entry.{Entry}
-use Rattle.zy_check.specs.States.{fetch_cause}
-use Rattle.zy_frames.specs.Frames as plain
 use Rattle.zy_frames.specs.declared.frame.Frame.{Frame}
 use Rattle.zy_frames.specs.declared.frame.Frame.TheVariants as frames
 use Rattle.zy_frames.specs.declared.frame.OrderFrame.{OrderFrame}
 use Rattle.zy_law.specs.World as law
-use Rattle.zy_lawful.proofs.Own.{by_test}
 use Rattle.zy_parts.specs.Numbers as numbers
 use Rattle.zy_parts.specs.Reports.{began_fields}
 use Rattle.zy_parts.specs.Signing.{part_of}
-use Rattle.zy_parts.specs.declared.reports.Change.{Change}
 use Rattle.zy_parts.specs.declared.reports.Fetch.{Fetch}
-use Rattle.zy_parts.specs.declared.signed.Part.{Part}
 use Rattle.zy_parts.specs.declared.signed.Signed.{Signed}
-use Rattle.zy_seal.specs.Keys.{Keys}
-use Rattle.zy_seal.specs.Screening.{answer_to, is_bad, is_unknown, screen}
-use Rattle.zy_table.specs.Beginning.{begun, finished}
+use Rattle.zy_table.specs.Beginning.{begun}
 use Rattle.zy_table.specs.Changes.{change}
 use Rattle.zy_table.specs.Confirming.{confirmation, new_view, view_certificate}
-use Rattle.zy_table.specs.Deeds.{Outcome, refused}
 use Rattle.zy_table.specs.Fetching.{fetch, fetch_judged, state_transfer}
 use Rattle.zy_table.specs.Hates.{hate, on_change_timer, on_request_timer}
 use Rattle.zy_table.specs.Leaving.{Attempt}
 use Rattle.zy_table.specs.Misbehaviour.{pom, tell_all}
 use Rattle.zy_table.specs.Orders.{position_of}
-use Rattle.zy_table.specs.Roles.{in_role}
 use Rattle.zy_table.specs.State.{State}
-use Rattle.zy_table.specs.Step.{unless}
-use Rattle.zy_table.specs.Whole.{decoded_as, hear_plain, hear_view, is_view_frame_in_role, order_judged, plain_row, view_decoded, view_row, whole_step}
-use Rattle.zy_table.specs.declared.deeds.AnyFrame.{AnyFrame}
+use Rattle.zy_table.specs.Whole.{order_judged, plain_row, view_row, whole_step}
 use Rattle.zy_table.specs.declared.deeds.AnyFrame.TheVariants.{Plain, View}
-use Rattle.zy_vframes.specs.Parts as view_parts
 use Rattle.zy_vframes.specs.Parts.{parts_of_new}
-use Rattle.zy_vframes.specs.ViewFrames as views
 use Rattle.zy_vframes.specs.declared.frame.ViewFrame.{ViewFrame}
 use Rattle.zy_vframes.specs.declared.frame.ViewFrame.TheVariants as view_frames
 use Rattle.zy_view_law.proofs.HonestTexts.{change_held, changes_held}
@@ -64,7 +48,6 @@ use Rattle.zy_view_steps.proofs.HeardRows.{change_attempt, order_attempt, pom_at
 use Rattle.zy_view_steps.proofs.Leaves.{hate_attempt}
 use Rattle.zy_view_steps.specs.Rows.{IsReady, blames}
 use Rattle.zy_world_law.specs.Blame.{tells_state}
-use Rattle.zy_world_law.specs.Reading.{any_frame_in}
 use Rattle.zy_world_law.proofs.AttemptAnswers.{certificate_ends, change_ends, change_timer_ends, confirmation_ends, fetch_ends, finish_just, hate_ends, new_ends, order_ends, pom_ends, request_timer_ends, state_ends}
 use Rattle.zy_begin_steps.proofs.IdleFrames.{TellsOfClients}
 use Rattle.zy_world_law.proofs.RowCauses.{IsFree, IsFreeAdmit, Just, admit_free, checkpoint_just, commit_just, confirm_just, free, hole_just, order_as_just, request_just, response_just, taken_just, view_just}

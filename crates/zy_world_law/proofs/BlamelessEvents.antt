@@ -1,5 +1,5 @@
 -- Whatever event is next in a good world, no correct replica refuses it for a cause that blames anyone, unless another snapshot is told.
-use Rattle.std.proofs.Common.{◌≡◌, ◌⊎◌, inl, inr, ℕ, ◌-◌, Bool, true, false, ◌&&◌, ◌++◌, List, [], length, Option, Some, None, Ok, Err, refl, sym, ap, ◌∙◌, subst}
+use Rattle.std.proofs.Common.{◌≡◌, inl, inr, ℕ, Bool, true, false, ◌&&◌, ◌++◌, List, [], length, Option, Some, None, Ok, Err, refl, sym, ap, ◌∙◌, subst}
 use Rattle.std.specs.Prelude.{Result, if◌then◌else◌, nat_le, nat_lt, option_map, slice_get, unwrap_or}
 use Rattle.std.specs.List.{AllByRecursion}
 use Rattle.std.specs.Option.{option_and_then}
@@ -25,23 +25,21 @@ use Rattle.zy_lawful.proofs.Goes.{all_of_front}
 use Rattle.zy_lawful.proofs.Own.{by_test}
 use Rattle.zy_parts.specs.declared.signed.Part.{Part}
 use Rattle.zy_seal.specs.Screening.{answer_to, is_bad, is_unknown, screen}
-use Rattle.zy_seal.specs.Keys.{Keys}
 use Rattle.std.specs.List.{list_any}
 use Rattle.zy_table.specs.ClientRows.{ask, client_step}
 use Rattle.zy_table.specs.ClientState.{ClientOutcome, client_outgoing}
-use Rattle.zy_table.specs.Deeds.{Outcome, outgoing_of, refused}
+use Rattle.zy_table.specs.Deeds.{Outcome, outgoing_of}
 use Rattle.zy_table.specs.Roles.{in_role}
 use Rattle.zy_table.specs.State.{State}
 use Rattle.zy_table.specs.Step.{unless}
-use Rattle.zy_table.specs.Whole.{decoded_as, hear_plain, hear_view, is_view_frame_in_role, view_decoded, view_row, whole_step}
+use Rattle.zy_table.specs.Whole.{decoded_as, hear_plain, hear_view, is_view_frame_in_role, view_decoded, whole_step}
 use Rattle.zy_table.specs.declared.client.Done.{Done}
 use Rattle.zy_table.specs.declared.deeds.AnyFrame.{AnyFrame}
 use Rattle.zy_table.specs.declared.deeds.AnyFrame.TheVariants.{Plain, View}
 use Rattle.zy_vframes.specs.Parts.{parts_of}
 use Rattle.zy_vframes.specs.ViewFrames as views
 use Rattle.zy_vframes.specs.declared.frame.ViewFrame.{ViewFrame}
-use Rattle.zy_view_steps.specs.Rows.{blames}
-use Rattle.zy_world_law.specs.Blame.{BlamesNobody, IsBlameless, brings_state, tells_state}
+use Rattle.zy_world_law.specs.Blame.{IsBlameless, brings_state, tells_state}
 use Rattle.zy_world_law.specs.Events.{Broken, Happened, ask_in, bring, bring_to_client, bring_to_replica, client_goes, client_note, client_stepped, client_timer, client_timer_in, completed_by, deliver, forge, go_with, happens, history_of, leaves_in, lie, replica_goes, replica_note, replica_timer, replica_timer_in, sends_signed, stepped, timer_of, unless_forged, with_client, with_done, with_replica}
 use Rattle.zy_world_law.specs.Events.Happened.{Breaks, Goes}
 use Rattle.zy_world_law.specs.Good.{IsGood, IsKept}
@@ -49,8 +47,7 @@ use Rattle.zy_world_law.specs.Honest.{forger_in}
 use Rattle.zy_world_law.specs.Liars.{Telling, by_replica, order_told, requests_at, spec_told, statement_told}
 use Rattle.zy_world_law.specs.Reading.{any_frame_in, either_read, view_read}
 use Rattle.zy_world_law.specs.Seen.{seen}
-use Rattle.zy_world_law.specs.Setup.{keys_of, sealer_of}
-use Rattle.zy_world_law.specs.Texts.{keep_all, step_texts, texts_in, texts_of, view_frame_texts}
+use Rattle.zy_world_law.specs.Texts.{keep_all, step_texts, texts_in, texts_of}
 use Rattle.zy_world_law.specs.World.{Client, Mail, Replica, Texts, World, are_parties, correct_in, delivered, is_correct, is_liar, mail_at, replica_at, with_sent}
 use Rattle.zy_world_law.specs.declared.event.WorldEvent.{WorldEvent}
 use Rattle.zy_world_law.specs.declared.event.WorldEvent.TheVariants as events
@@ -58,15 +55,14 @@ use Rattle.zy_world_law.specs.declared.note.Note.{Note}
 use Rattle.zy_world_law.specs.declared.note.Note.TheVariants as notes
 use Rattle.zy_world_law.proofs.BagStays.{bag_good}
 use Rattle.zy_world_law.proofs.Blameless.{plain_just, timer_just, view_just_row}
-use Rattle.zy_begin_steps.proofs.IdleFrames.{TellsOfClients}
 use Rattle.zy_world_law.proofs.DecodedReports.{decoded_read}
 use Rattle.zy_world_law.proofs.EventHeld.{verified}
 use Rattle.zy_world_law.proofs.HonestReports.{frame_honest}
-use Rattle.zy_begin_steps.proofs.IdleFrames.{IsIdle, of_clients_or_idle}
+use Rattle.zy_begin_steps.proofs.IdleFrames.{of_clients_or_idle}
 use Rattle.zy_world_law.proofs.KeptTexts.{all_kept}
 use Rattle.zy_world_law.proofs.NoConflict.{no_conflict}
 use Rattle.zy_world_law.proofs.NotForged.{parts_said}
-use Rattle.zy_world_law.proofs.RowCauses.{IsFree, IsJustAnswer, Just, free, refused_just}
+use Rattle.zy_world_law.proofs.RowCauses.{IsFree, Just, free}
 use Rattle.zy_world_law.proofs.StepLaws.{StepLaws}
 use Rattle.zy_world_law.proofs.TextsStay.{texts_good}
 

@@ -1,7 +1,7 @@
 -- Why a frame of normal operation is refused: for what blames nobody, or because a checkpoint tells another snapshot than the own.
 use Rattle.std.proofs.Common.{◌≡◌, ◌⊎◌, inl, inr, ℕ, ◌+◌, nat_eq, nat_lt, Bool, true, false, List, [], ◌∷◌, Option, Some, None, Ok, Err, refl, subst}
 use Rattle.std.specs.Prelude.{◌%◌, Result, if◌then◌else◌, nat_le, option_map}
-use Rattle.zy_admit.specs.Judging.{entry_of, judge_at_end, judge_beside, judge_fresh, newer, same_digest, same_order}
+use Rattle.zy_admit.specs.Judging.{entry_of, judge_beside, judge_fresh, newer, same_digest, same_order}
 use Rattle.zy_admit.specs.Orders.{orders_from, stored_in}
 use Rattle.zy_admit.specs.declared.judging.Admit.{Admit}
 use Rattle.zy_admit.specs.declared.judging.Admit.TheVariants as admits
@@ -46,7 +46,7 @@ use Rattle.zy_parts.specs.declared.statements.Spec.{Spec}
 use Rattle.zy_table.specs.Checkpoints.{checkpoint, kept_as, response, with_board}
 use Rattle.zy_table.specs.Commits.{commit, commit_beside, commit_judged, local_at, local_said, locals_owed}
 use Rattle.zy_table.specs.Confirms.{confirm, confirm_after, order_again}
-use Rattle.zy_table.specs.Deeds.{Going, Outcome, ends, refused}
+use Rattle.zy_table.specs.Deeds.{Outcome, refused}
 use Rattle.zy_table.specs.Gathering.{checks_owed, own_at, with_certificate}
 use Rattle.zy_table.specs.Holes.{fill_hole, fill_with}
 use Rattle.zy_table.specs.Orders.{order_as, owes_hole}

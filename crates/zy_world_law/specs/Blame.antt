@@ -1,5 +1,5 @@
 -- For what no correct replica is blamed: by two orders of its own, or as another one refuses an event.
-use Rattle.std.specs.Prelude.{◌≡◌, ◌⊎◌, ℕ, Bool, true, false, Option, Some, None, option_map, unwrap_or}
+use Rattle.std.specs.Prelude.{◌≡◌, ◌⊎◌, Bool, true, false, Option, Some, None, option_map, unwrap_or}
 use Rattle.std.specs.Option.{option_and_then}
 use Rattle.zy_base.specs.Machine.{Rules}
 use Rattle.zy_base.specs.declared.cause.Cause.{Cause}
