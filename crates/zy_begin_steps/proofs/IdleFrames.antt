@@ -1,13 +1,12 @@
 -- A report that tells an entry of a client that there can't be is nothing to a replica: by it, and by what has it, nothing is said or
 -- gained, and nothing that is kept changes.
-use Rattle.std.proofs.Common.{◌≡◌, ◌⊎◌, inl, inr, ◌<◌, ℕ, Bool, true, false, cond, List, [], ◌∷◌, get_or, Option, Some, None, Ok, Err, refl, sym, ap, subst}
+use Rattle.std.proofs.Common.{◌≡◌, ◌⊎◌, inl, inr, ℕ, Bool, true, false, cond, List, [], ◌∷◌, Option, Some, None, Err, refl, sym, subst}
 use Rattle.std.specs.Prelude.{All, nat_lt}
 use Rattle.std.proofs.lemmas.List.Elements.{All-cons, All-nil}
 use Rattle.zy_base.specs.Machine.{Rules}
 use Rattle.zy_base.specs.declared.cause.Cause.{Cause}
 use Rattle.zy_base.specs.declared.cause.Cause.TheVariants as causes
 use Rattle.zy_base.specs.declared.counts.Counts.{Counts}
-use Rattle.zy_base.specs.declared.step.Answer.{Answer}
 use Rattle.zy_base.specs.declared.step.Answer.TheVariants.{Refused, Taken}
 use Rattle.zy_begin_steps.proofs.Reported.{cert_refused, new_refused}
 use Rattle.zy_change.specs.Views.{has_begun, is_from, slot_of}
@@ -19,7 +18,7 @@ use Rattle.zy_parts.specs.declared.reports.Change.{Change}
 use Rattle.zy_parts.specs.declared.signed.Signed.{Signed}
 use Rattle.zy_table.specs.Beginning.{finished}
 use Rattle.zy_table.specs.Changes.{change, change_judged, send_cert}
-use Rattle.zy_table.specs.Deeds.{Going, Outcome, begin, ends, refused}
+use Rattle.zy_table.specs.Deeds.{Outcome, begin, ends, refused}
 use Rattle.zy_table.specs.Leaving.{Attempt, goes, is_overspent}
 use Rattle.zy_table.specs.State as table
 use Rattle.zy_table.specs.State.{State}

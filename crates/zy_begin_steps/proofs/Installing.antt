@@ -40,7 +40,6 @@ use Rattle.zy_change.specs.declared.kept.Waiting.{Waiting}
 use Rattle.zy_evidence.specs.WellFormed.{IsWellFormedChange}
 use Rattle.zy_exec.specs.Reading.{is_rising}
 use Rattle.zy_exec.specs.Showing.{point_in, point_of, slots_of}
-use Rattle.zy_exec.specs.declared.known.Known.{Known}
 use Rattle.zy_exec.specs.declared.row.Row.{Row}
 use Rattle.zy_base.specs.declared.frame_fault.FrameFault.{FrameFault}
 use Rattle.zy_law.proofs.QuorumLemmas.{All_at}

@@ -1,13 +1,12 @@
 -- A row that may fail on its way comes to no refusal but by its causes: where it ends, it is taken or held.
-use Rattle.std.proofs.Common.{◌≡◌, ℕ, ◌^◌, nat_eq, nat_lt, Bool, true, false, ◌||◌, not, List, Option, Some, None, Ok, Err, refl}
-use Rattle.std.specs.Prelude.{Result, if◌then◌else◌, slice_get}
+use Rattle.std.proofs.Common.{◌≡◌, ℕ, ◌^◌, nat_eq, nat_lt, Bool, ◌||◌, not, List, Option, Some, None, Ok, Err, refl}
+use Rattle.std.specs.Prelude.{Result, if◌then◌else◌}
 use Rattle.std.specs.List.{list_any}
 use Rattle.zy_base.specs.Machine.{Rules}
 use Rattle.zy_base.specs.declared.cause.Cause.{Cause}
 use Rattle.zy_base.specs.declared.cause.Cause.TheVariants as causes
 use Rattle.zy_base.specs.declared.ids.Place.{Place}
 use Rattle.zy_base.specs.declared.ids.Digest.{Digest}
-use Rattle.zy_base.specs.declared.ids.Party.{Party}
 use Rattle.zy_base.specs.declared.ids.Party.TheVariants.{Replica}
 use Rattle.zy_base.specs.declared.ids.View.{View}
 use Rattle.zy_base.specs.declared.step.Answer.{Answer}
@@ -43,13 +42,13 @@ use Rattle.zy_parts.specs.declared.signed.Signed.{Signed}
 use Rattle.zy_parts.specs.declared.statements.Hate.{Hate}
 use Rattle.zy_parts.specs.declared.statements.Order.{Order}
 use Rattle.zy_table.specs.Adopting.{verdict_of}
-use Rattle.zy_table.specs.Beginning.{adopt, adopt_as, adopt_from, adopt_if, begun, certify, certify_with, confirms, finished, wanted_of}
-use Rattle.zy_table.specs.Changes.{change, change_judged, change_kept}
+use Rattle.zy_table.specs.Beginning.{adopt, adopt_as, adopt_from, adopt_if, begun, certify_with, confirms, finished, wanted_of}
+use Rattle.zy_table.specs.Changes.{change, change_judged}
 use Rattle.zy_table.specs.Confirming.{certificate_compared, certificate_judged, confirmation, confirmation_beside, confirmation_judged, new_view, new_view_judged, view_certificate, with_confirmation}
 use Rattle.zy_table.specs.Deeds.{Going, Outcome, begin}
 use Rattle.zy_table.specs.Fetching.{fetch, fetch_judged, install, state_for, state_heard, state_judged, state_transfer}
-use Rattle.zy_table.specs.Hates.{count_own, has_pending, hate, hate_counted, hate_of, hate_view, on_change_timer, on_request_timer, own_hate, say_hate, then_ask, with_hate_of}
-use Rattle.zy_table.specs.Leaving.{Attempt, collect, concluded, given, goes, is_overspent, leave, leave_alone}
+use Rattle.zy_table.specs.Hates.{count_own, has_pending, hate, hate_counted, hate_view, on_change_timer, on_request_timer, own_hate, say_hate, then_ask, with_hate_of}
+use Rattle.zy_table.specs.Leaving.{Attempt, collect, concluded, given, is_overspent, leave, leave_alone}
 use Rattle.zy_table.specs.Misbehaviour.{blamed, pom, tell_all}
 use Rattle.zy_table.specs.State.{State, own_view}
 use Rattle.zy_table.specs.declared.deeds.Verdict.{Verdict}
@@ -244,10 +243,10 @@ module _ {S : Type 0} (R : Rules S) where
 
     -- ---- the end of a row
 
-    pub finish_just : (tells : Bool) (attempt : Attempt S) → Ends attempt → ((cause : Cause) → begun R attempt ≡ Err cause → IsFree tells cause) → Just R s tells (finished R s attempt)
-    finish_just tells attempt is causes_free = by (begun R attempt) refl (begun_ends attempt is)
+    pub finish_just : (told : Option Digest) (attempt : Attempt S) → Ends attempt → ((cause : Cause) → begun R attempt ≡ Err cause → IsFree told cause) → Just R s told (finished R s attempt)
+    finish_just told attempt is causes_free = by (begun R attempt) refl (begun_ends attempt is)
       where
-        by : (last : Attempt S) → begun R attempt ≡ last → Ends last → Just R s tells (concluded s last)
-        by (Err cause) at ends = refused_just tells cause (causes_free cause at)
+        by : (last : Attempt S) → begun R attempt ≡ last → Ends last → Just R s told (concluded s last)
+        by (Err cause) at ends = refused_just told cause (causes_free cause at)
         by (Ok end) at ends =
-            by_test (λ (o : Outcome S). Just R s tells o) (is_overspent end.1.state.sealer) _ _ (λ over. free R s tells causes.KeySpent refl) (λ fits cause same. absurd (ends cause same))
+            by_test (λ (o : Outcome S). Just R s told o) (is_overspent end.1.state.sealer) _ _ (λ over. free R s told causes.KeySpent refl) (λ fits cause same. absurd (ends cause same))

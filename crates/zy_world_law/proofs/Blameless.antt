@@ -1,7 +1,6 @@
 -- A step of a correct replica in a good world is refused for no cause that blames anyone, unless another snapshot is told.
-use Rattle.std.proofs.Common.{◌≡◌, ◌⊎◌, inl, inr, ℕ, nat_lt, Bool, true, false, List, [], Option, Some, None, Ok, Err, refl, sym, ap, ◌∙◌, subst, arith}
-use Rattle.std.specs.Prelude.{All, Result, map, if◌then◌else◌, option_map, unwrap_or}
-use Rattle.std.specs.List.{AllByRecursion}
+use Rattle.std.proofs.Common.{◌≡◌, inl, inr, ℕ, nat_lt, Bool, true, false, List, Option, Some, None, Err, refl, sym, subst, arith}
+use Rattle.std.specs.Prelude.{All, map, if◌then◌else◌}
 use Rattle.zy_admit.specs.Judging.{judge_in, same_digest}
 use Rattle.zy_admit.specs.Orders.{stored_in}
 use Rattle.zy_admit.specs.declared.judging.Admit.{Admit}
@@ -9,9 +8,8 @@ use Rattle.zy_admit.specs.declared.judging.Admit.TheVariants as admits
 use Rattle.zy_base.specs.Machine.{Rules}
 use Rattle.zy_base.specs.declared.cause.Cause.{Cause}
 use Rattle.zy_base.specs.declared.cause.Cause.TheVariants as causes
-use Rattle.zy_base.specs.declared.frame_fault.FrameFault.{FrameFault}
-use Rattle.zy_base.specs.declared.frame_fault.FrameFault.TheVariants as faults
-use Rattle.zy_base.specs.declared.step.Event.TheVariants.{Heard, Timer}
+use Rattle.zy_base.specs.declared.ids.Digest.{Digest}
+use Rattle.zy_base.specs.declared.step.Event.TheVariants.{Timer}
 use Rattle.zy_base.specs.declared.step.TimerKind.{TimerKind}
 use Rattle.zy_base.specs.declared.step.TimerKind.TheVariants as timers
 use Rattle.zy_begin_steps.proofs.Adopting.{unblamed, unblamed_leaving}
@@ -20,40 +18,27 @@ use Rattle.zy_begin_steps.proofs.Rows.{cert_attempt, confirmation_attempt, new_a
 use Rattle.zy_begin_steps.specs.Frames.{IsHonestFrame}
 use Rattle.zy_begin_steps.specs.Steps.{IsWorldOf}
 use Rattle.zy_chain.specs.declared.entry.Entry.{Entry}
-use Rattle.zy_check.specs.States.{fetch_cause}
-use Rattle.zy_frames.specs.Frames as plain
 use Rattle.zy_frames.specs.declared.frame.Frame.{Frame}
 use Rattle.zy_frames.specs.declared.frame.Frame.TheVariants as frames
 use Rattle.zy_frames.specs.declared.frame.OrderFrame.{OrderFrame}
 use Rattle.zy_law.specs.World as law
-use Rattle.zy_lawful.proofs.Own.{by_test}
 use Rattle.zy_parts.specs.Numbers as numbers
 use Rattle.zy_parts.specs.Reports.{began_fields}
 use Rattle.zy_parts.specs.Signing.{part_of}
-use Rattle.zy_parts.specs.declared.reports.Change.{Change}
 use Rattle.zy_parts.specs.declared.reports.Fetch.{Fetch}
-use Rattle.zy_parts.specs.declared.signed.Part.{Part}
 use Rattle.zy_parts.specs.declared.signed.Signed.{Signed}
-use Rattle.zy_seal.specs.Keys.{Keys}
-use Rattle.zy_seal.specs.Screening.{answer_to, is_bad, is_unknown, screen}
-use Rattle.zy_table.specs.Beginning.{begun, finished}
+use Rattle.zy_table.specs.Beginning.{begun}
 use Rattle.zy_table.specs.Changes.{change}
 use Rattle.zy_table.specs.Confirming.{confirmation, new_view, view_certificate}
-use Rattle.zy_table.specs.Deeds.{Outcome, refused}
 use Rattle.zy_table.specs.Fetching.{fetch, fetch_judged, state_transfer}
 use Rattle.zy_table.specs.Hates.{hate, on_change_timer, on_request_timer}
 use Rattle.zy_table.specs.Leaving.{Attempt}
 use Rattle.zy_table.specs.Misbehaviour.{pom, tell_all}
 use Rattle.zy_table.specs.Orders.{position_of}
-use Rattle.zy_table.specs.Roles.{in_role}
 use Rattle.zy_table.specs.State.{State}
-use Rattle.zy_table.specs.Step.{unless}
-use Rattle.zy_table.specs.Whole.{decoded_as, hear_plain, hear_view, is_view_frame_in_role, order_judged, plain_row, view_decoded, view_row, whole_step}
-use Rattle.zy_table.specs.declared.deeds.AnyFrame.{AnyFrame}
+use Rattle.zy_table.specs.Whole.{order_judged, plain_row, view_row, whole_step}
 use Rattle.zy_table.specs.declared.deeds.AnyFrame.TheVariants.{Plain, View}
-use Rattle.zy_vframes.specs.Parts as view_parts
 use Rattle.zy_vframes.specs.Parts.{parts_of_new}
-use Rattle.zy_vframes.specs.ViewFrames as views
 use Rattle.zy_vframes.specs.declared.frame.ViewFrame.{ViewFrame}
 use Rattle.zy_vframes.specs.declared.frame.ViewFrame.TheVariants as view_frames
 use Rattle.zy_view_law.proofs.HonestTexts.{change_held, changes_held}
@@ -63,8 +48,7 @@ use Rattle.zy_view_law.specs.Texts.{Texts, digest_of}
 use Rattle.zy_view_steps.proofs.HeardRows.{change_attempt, order_attempt, pom_attempt, request_attempt, vote_attempt}
 use Rattle.zy_view_steps.proofs.Leaves.{hate_attempt}
 use Rattle.zy_view_steps.specs.Rows.{IsReady, blames}
-use Rattle.zy_world_law.specs.Blame.{tells_state}
-use Rattle.zy_world_law.specs.Reading.{any_frame_in}
+use Rattle.zy_world_law.specs.Blame.{state_told}
 use Rattle.zy_world_law.proofs.AttemptAnswers.{certificate_ends, change_ends, change_timer_ends, confirmation_ends, fetch_ends, finish_just, hate_ends, new_ends, order_ends, pom_ends, request_timer_ends, state_ends}
 use Rattle.zy_begin_steps.proofs.IdleFrames.{TellsOfClients}
 use Rattle.zy_world_law.proofs.RowCauses.{IsFree, IsFreeAdmit, Just, admit_free, checkpoint_just, commit_just, confirm_just, free, hole_just, order_as_just, request_just, response_just, taken_just, view_just}
@@ -73,87 +57,87 @@ use Rattle.zy_world_law.proofs.StepLaws.{StepLaws}
 module _ {S : Type 0} (R : Rules S) (laws : StepLaws R) (interval : ℕ) (texts : Texts) (w : law.World) (r : ℕ) (s : State S) (h : List Entry) (ready : IsReady R interval w r s h) (kept : IsWorldOf R interval w texts) where
   -- ---- frames of normal operation
 
-  judged_just : (tells : Bool) (both : OrderFrame) (a : Admit) → a ≡ judge_in s.orders both.order.stmt both.ask (position_of R s both) → Just R s tells (order_judged R s both a)
-  judged_just tells both admits.Evidence is =
+  judged_just : (told : Option Digest) (both : OrderFrame) (a : Admit) → a ≡ judge_in s.orders both.order.stmt both.ask (position_of R s both) → Just R s told (order_judged R s both a)
+  judged_just told both admits.Evidence is =
       let stored = stored_in s.orders both.order.stmt.place.0 in
-      finish_just R s tells (tell_all R s both.order stored) (order_ends R s both.order stored)
+      finish_just R s told (tell_all R s both.order stored) (order_ends R s both.order stored)
       (λ cause refuses. inl (unblamed_leaving R interval texts w r s h ready kept (tell_all R s both.order stored) (order_attempt R interval w r s h ready both.order stored) cause refuses))
-  judged_just tells both admits.Next is = order_as_just R s tells both admits.Next tt
-  judged_just tells both admits.Held is = order_as_just R s tells both admits.Held tt
-  judged_just tells both (admits.Refused cause) is =
-      order_as_just R s tells both (admits.Refused cause)
-      (subst (λ (a : Admit). IsFreeAdmit R s tells a) (sym is) (admit_free R s tells (stored_in s.orders both.order.stmt.place.0) both.order.stmt both.ask (position_of R s both)))
+  judged_just told both admits.Next is = order_as_just R s told both admits.Next tt
+  judged_just told both admits.Held is = order_as_just R s told both admits.Held tt
+  judged_just told both (admits.Refused cause) is =
+      order_as_just R s told both (admits.Refused cause)
+      (subst (λ (a : Admit). IsFreeAdmit R s told a) (sym is) (admit_free R s told (stored_in s.orders both.order.stmt.place.0) both.order.stmt both.ask (position_of R s both)))
 
-  pub plain_just : (frame : Frame) → Just R s (tells_state (Plain frame)) (plain_row R s frame)
-  plain_just (frames.Request ask) = request_just R s false ask
-  plain_just (frames.Order both) = view_just R s false both.order.stmt.view.0 _ (judged_just false both _ refl)
-  plain_just (frames.SpecResponse spec reply with_order) = view_just R s false spec.stmt.view.0 _ (response_just R s false spec)
-  plain_just (frames.Commit specs) = commit_just R s false specs
-  plain_just (frames.LocalCommit local) = free R s false causes.WrongRole refl
-  plain_just (frames.ConfirmReq confirmed ask) = view_just R s false confirmed.stmt.view.0 _ (confirm_just R s false confirmed ask)
-  plain_just (frames.FillHole hole) = view_just R s false hole.stmt.view.0 _ (hole_just R s false hole)
+  pub plain_just : (frame : Frame) → Just R s (state_told (Plain frame)) (plain_row R s frame)
+  plain_just (frames.Request ask) = request_just R s None ask
+  plain_just (frames.Order both) = view_just R s None both.order.stmt.view.0 _ (judged_just None both _ refl)
+  plain_just (frames.SpecResponse spec reply with_order) = view_just R s None spec.stmt.view.0 _ (response_just R s None spec)
+  plain_just (frames.Commit specs) = commit_just R s None specs
+  plain_just (frames.LocalCommit local) = free R s None causes.WrongRole refl
+  plain_just (frames.ConfirmReq confirmed ask) = view_just R s None confirmed.stmt.view.0 _ (confirm_just R s None confirmed ask)
+  plain_just (frames.FillHole hole) = view_just R s None hole.stmt.view.0 _ (hole_just R s None hole)
   plain_just (frames.Hate vote) =
-      finish_just R s false (hate R s vote) (hate_ends R s vote) (λ cause refuses. inl (unblamed_leaving R interval texts w r s h ready kept (hate R s vote) (hate_attempt R interval w r s h ready vote) cause refuses))
+      finish_just R s None (hate R s vote) (hate_ends R s vote) (λ cause refuses. inl (unblamed_leaving R interval texts w r s h ready kept (hate R s vote) (hate_attempt R interval w r s h ready vote) cause refuses))
   plain_just (frames.Pom first second) =
-      finish_just R s false (pom R s first second) (pom_ends R s first second)
+      finish_just R s None (pom R s first second) (pom_ends R s first second)
       (λ cause refuses. inl (unblamed_leaving R interval texts w r s h ready kept (pom R s first second) (pom_attempt R interval w r s h ready first second) cause refuses))
-  plain_just (frames.Checkpoint check) = view_just R s true check.stmt.view.0 _ (checkpoint_just R s true refl check)
+  plain_just (frames.Checkpoint check) = view_just R s (Some check.stmt.state) check.stmt.view.0 _ (checkpoint_just R s (Some check.stmt.state) check refl)
 
   -- ---- frames of a change of view
 
-  fetch_free : (vote : Signed Fetch) (cause : Cause) → begun R (fetch R s vote) ≡ Err cause → IsFree true cause
+  fetch_free : (vote : Signed Fetch) (cause : Cause) → begun R (fetch R s vote) ≡ Err cause → IsFree (Some vote.stmt.state) cause
   unfolding fetch
   fetch_free vote cause = by (nat_lt vote.stmt.place.0 s.board.stable.place.0) (nat_lt s.board.stable.place.0 vote.stmt.place.0) (same_digest s.board.stable.state vote.stmt.state)
     where
-      is_cause : (other : Cause) → IsFree true other → ◌≡◌ {A = Attempt S} (Err other) (Err cause) → IsFree true cause
-      is_cause other is same = let one : other ≡ cause = cc in subst (IsFree true) one is
+      is_cause : (other : Cause) → IsFree (Some vote.stmt.state) other → ◌≡◌ {A = Attempt S} (Err other) (Err cause) → IsFree (Some vote.stmt.state) cause
+      is_cause other is same = let one : other ≡ cause = cc in subst (IsFree (Some vote.stmt.state)) one is
 
       by : (below above same : Bool)
           → begun R (fetch_judged R s vote (if below then Some causes.OldPlace else (if above then Some (causes.Behind vote.stmt.place) else (if same then None else Some (causes.WrongState s.board.stable.state vote.stmt.state))))) ≡ Err cause
-          → IsFree true cause
+          → IsFree (Some vote.stmt.state) cause
       by true above same is = is_cause causes.OldPlace (inl refl) is
       by false true same is = is_cause (causes.Behind vote.stmt.place) (inl refl) is
-      by false false false is = is_cause (causes.WrongState s.board.stable.state vote.stmt.state) (inr (refl, (s.board.stable.state, vote.stmt.state, refl))) is
+      by false false false is = is_cause (causes.WrongState s.board.stable.state vote.stmt.state) (inr (record { own = s.board.stable.state; other = vote.stmt.state; told_is = refl; cause_is = refl })) is
       by false false true is = absurd cc
 
-  pub view_just_row : (frame : ViewFrame) → TellsOfClients frame → IsHonestFrame w texts frame → Just R s (tells_state (View frame)) (view_row R s frame)
+  pub view_just_row : (frame : ViewFrame) → TellsOfClients frame → IsHonestFrame w texts frame → Just R s (state_told (View frame)) (view_row R s frame)
   view_just_row (view_frames.ViewChange vote) clients honest =
       let held : IsHeldChange w vote = change_held w vote honest.spelled (honest.brought clients) honest.parts in
-      finish_just R s false (change R s vote) (change_ends R s vote)
+      finish_just R s None (change R s vote) (change_ends R s vote)
       (λ cause refuses. inl (unblamed_leaving R interval texts w r s h ready kept (change R s vote) (vote_attempt R interval w r s h ready vote (by_replica w _ vote.by held.signer) held) cause refuses))
   view_just_row (view_frames.NewView new) clients honest =
       let links : All (AreLinksKept w) new.stmt.changes = λ k d within. honest.brought k d within (clients k d within) in
-      finish_just R s false (new_view R s new) (new_ends R s new)
+      finish_just R s None (new_view R s new) (new_ends R s new)
       (λ cause refuses. inl (unblamed R interval texts w r s h ready kept (new_view R s new) (new_attempt R interval texts w r s h ready kept new (changes_held w new honest.spelled links honest.parts)) cause refuses))
   view_just_row (view_frames.ViewConfirm vote) clients honest =
       let held = began_held w vote honest.spelled (honest.parts 0 (part_of numbers.began began_fields vote) (omega arith)) in
-      finish_just R s false (confirmation R s vote) (confirmation_ends R s vote)
+      finish_just R s None (confirmation R s vote) (confirmation_ends R s vote)
       (λ cause refuses. inl (unblamed R interval texts w r s h ready kept (confirmation R s vote) (confirmation_attempt R interval texts w r s h ready kept vote (by_replica w _ vote.by held) held) cause refuses))
   view_just_row (view_frames.ViewCert cert) clients honest =
       let begans = map (part_of numbers.began began_fields) cert.begans in
       let links : All (AreLinksKept w) cert.new.stmt.changes = λ k d within. honest.brought k d within (clients k d within) in
-      finish_just R s false (view_certificate R s cert) (certificate_ends R s cert)
+      finish_just R s None (view_certificate R s cert) (certificate_ends R s cert)
       (λ cause refuses. inl (unblamed R interval texts w r s h ready kept (view_certificate R s cert)
       (cert_attempt R interval texts w r s h ready kept cert (changes_held w cert.new honest.spelled.0 links (all_left (IsHonestPart w) (parts_of_new cert.new) begans honest.parts))
       (begans_held w cert.begans honest.spelled.1 (all_right (IsHonestPart w) (parts_of_new cert.new) begans honest.parts))) cause refuses))
-  view_just_row (view_frames.Fetch vote) clients honest = finish_just R s true (fetch R s vote) (fetch_ends R s vote) (fetch_free vote)
+  view_just_row (view_frames.Fetch vote) clients honest = finish_just R s (Some vote.stmt.state) (fetch R s vote) (fetch_ends R s vote) (fetch_free vote)
   view_just_row (view_frames.State place snapshot) clients honest =
-      finish_just R s true (state_transfer R s place snapshot) (state_ends R s place snapshot) (λ cause refuses. by cause refuses (blames cause) refl)
+      finish_just R s (Some (digest_of snapshot)) (state_transfer R s place snapshot) (state_ends R s place snapshot) (λ cause refuses. by cause refuses (blames cause) refl)
     where
-      by : (cause : Cause) → begun R (state_transfer R s place snapshot) ≡ Err cause → (b : Bool) → blames cause ≡ b → IsFree true cause
+      by : (cause : Cause) → begun R (state_transfer R s place snapshot) ≡ Err cause → (b : Bool) → blames cause ≡ b → IsFree (Some (digest_of snapshot)) cause
       by cause refuses false is = inl is
       by cause refuses true is =
           let told = laws.state_blames interval r texts w s h place snapshot cause ready kept honest.brought refuses is in
-          inr (refl, (told.0, digest_of snapshot, told.1))
+          inr (record { own = told.0; other = digest_of snapshot; told_is = refl; cause_is = told.1 })
 
   -- ---- timers
 
-  pub timer_just : (kind : TimerKind) → Just R s false (whole_step R s (Timer kind))
+  pub timer_just : (kind : TimerKind) → Just R s None (whole_step R s (Timer kind))
   unfolding whole_step
   timer_just timers.Request =
-      finish_just R s false (on_request_timer R s s.views.mode) (request_timer_ends R s s.views.mode)
+      finish_just R s None (on_request_timer R s s.views.mode) (request_timer_ends R s s.views.mode)
       (λ cause refuses. inl (unblamed_leaving R interval texts w r s h ready kept (on_request_timer R s s.views.mode) (request_attempt R interval w r s h ready s.views.mode) cause refuses))
   timer_just timers.Change =
-      finish_just R s false (on_change_timer s s.views.mode) (change_timer_ends R s s.views.mode)
+      finish_just R s None (on_change_timer s s.views.mode) (change_timer_ends R s s.views.mode)
       (λ cause refuses. inl (unblamed_leaving R interval texts w r s h ready kept (on_change_timer s s.views.mode) (change_attempt R interval w r s h ready s.views.mode) cause refuses))
-  timer_just timers.Answer = taken_just false
+  timer_just timers.Answer = taken_just None

@@ -1,14 +1,13 @@
 -- What is decoded of a frame of a change of view can be spelled again, whatever the bytes are, where what is signed in it is by replicas
 -- and its reports tell entries of clients that there may be.
-use Rattle.std.proofs.Common.{◌≡◌, ℕ, zero, suc, ◌+◌, ◌<◌, ◌≤◌, ◌^◌, Bool, true, false, ◌&&◌, List, [], ◌∷◌, length, map, get_or, drop, Option, Some, None, Result, Ok, Err, refl, sym, ap, ◌∙◌, subst, arith}
-use Rattle.std.specs.Prelude.{All, option_map, if◌then◌else◌}
+use Rattle.std.proofs.Common.{◌≡◌, ℕ, zero, suc, ◌<◌, Bool, true, List, [], ◌∷◌, length, map, get_or, Option, Some, None, Ok, arith}
+use Rattle.std.specs.Prelude.{All, option_map}
 use Rattle.std.specs.List.{list_all}
-use Rattle.std.specs.Int.{w32, to_be_bytes, from_be_bytes}
+use Rattle.std.specs.Int.{w32}
 use Rattle.std.proofs.lemmas.Bool.{and_parts}
 use Rattle.std.proofs.lemmas.List.{length-map}
 use Rattle.std.proofs.lemmas.List.Elements.{All-map}
 use Rattle.zy_base.specs.declared.counts.Counts.{Counts}
-use Rattle.zy_base.specs.declared.frame_fault.FrameFault.{FrameFault}
 use Rattle.zy_chain.specs.Fields.{entry_fields}
 use Rattle.zy_chain.specs.declared.entry.Entry.{Entry}
 use Rattle.zy_begin_steps.proofs.IdleFrames.{TellsOfClients}
@@ -16,7 +15,6 @@ use Rattle.zy_begin_steps.specs.Frames.{AreOfClients, IsSpelled}
 use Rattle.zy_parts.specs.Reports.{began_fields, certificate, change_fields, fetch_fields, new_fields, told_fields}
 use Rattle.zy_parts.specs.Signing.{signed}
 use Rattle.zy_parts.specs.Statements.{IsU62, check_fields, spec_fields}
-use Rattle.zy_parts.specs.declared.reports.Began.{Began}
 use Rattle.zy_parts.specs.declared.reports.Change.{Change}
 use Rattle.zy_parts.specs.declared.reports.New.{New}
 use Rattle.zy_parts.specs.declared.reports.Told.{Told}
@@ -29,12 +27,9 @@ use Rattle.zy_table.specs.Whole.{are_specs_in_role, is_by_replica, is_change_in_
 use Rattle.zy_vframes.specs.ViewFrames.{frame_at, frame_in, state, view_certificate}
 use Rattle.zy_vframes.specs.declared.frame.ViewFrame.{ViewFrame}
 use Rattle.zy_vframes.specs.declared.frame.ViewFrame.TheVariants as frames
-use Rattle.zy_view_law.specs.Told.{change_spelled, new_spelled, number_spelled, spec_spelled, told_spelled, with_stmt}
-use Rattle.zy_wire.proofs.Parts.{bind_ok, ended_ok, wide32}
+use Rattle.zy_view_law.specs.Told.{change_spelled, new_spelled, spec_spelled, told_spelled, with_stmt}
 use Rattle.zy_wire.specs.Fields.{FitsList, FitsOptional, bytes16, digest, list, u62}
-use Rattle.zy_wire.specs.Framing.{framed_in}
-use Rattle.zy_wire.specs.Kind.{kind_in}
-use Rattle.zy_wire.specs.Spelling.{IsBytes, Spelling, ◌>>=◌, ended, made, pair, word, word_at}
+use Rattle.zy_wire.specs.Spelling.{Spelling, pair, word, word_at}
 use Rattle.zy_world_law.proofs.DecodedInRange.{FitsSpelled}
 
 -- ---- what is read

@@ -14,7 +14,6 @@ use Rattle.zy_begin_steps.specs.Frames.{IsHonestFrame, IsHonestlyRead}
 use Rattle.zy_frames.specs.Frames as plain
 use Rattle.zy_frames.specs.declared.frame.Frame.{Frame}
 use Rattle.zy_normal_steps.specs.Whole.{IsEventHonest}
-use Rattle.zy_parts.specs.declared.signed.Part.{Part}
 use Rattle.zy_seal.specs.Screening.{screen}
 use Rattle.zy_table.specs.Deeds.{Outcome, refused}
 use Rattle.zy_table.specs.State.{State}

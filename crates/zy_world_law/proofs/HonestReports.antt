@@ -1,6 +1,6 @@
 -- A frame of a change of view that isn't forged is honest: what is signed in it was said by its signer, or that lies, and what it brings is
 -- kept.
-use Rattle.std.proofs.Common.{◌≡◌, ◌<◌, ℕ, Bool, true, ◌&&◌, List, [], ◌∷◌, ◌++◌, map, Option, Some, None, Ok, refl, sym, ap, ◌∙◌, subst}
+use Rattle.std.proofs.Common.{◌≡◌, ◌<◌, ℕ, true, List, [], ◌∷◌, ◌++◌, map, Option, Some, None, refl, sym, subst}
 use Rattle.std.specs.Prelude.{All}
 use Rattle.std.specs.List.{AllByRecursion, flat_map, list_all}
 use Rattle.std.proofs.lemmas.Bool.{and_parts}
@@ -20,7 +20,7 @@ use Rattle.zy_lawful.proofs.Backing.{all_from, all_listed}
 use Rattle.zy_lawful.proofs.Goes.{all_of_both, all_of_front, all_of_rest}
 use Rattle.zy_lawful.specs.Tied.{next_head}
 use Rattle.zy_parts.specs.Numbers as numbers
-use Rattle.zy_parts.specs.Reports.{began_fields, change_fields, fetch_fields, new_fields}
+use Rattle.zy_parts.specs.Reports.{began_fields}
 use Rattle.zy_parts.specs.Signing.{part_of}
 use Rattle.zy_parts.specs.Statements.{check_fields, spec_fields}
 use Rattle.zy_parts.specs.declared.reports.Change.{Change}
@@ -42,7 +42,7 @@ use Rattle.zy_world_law.specs.Good.{IsKept}
 use Rattle.zy_world_law.specs.Seen.{seen}
 use Rattle.zy_world_law.specs.Setup.{keys_of}
 use Rattle.zy_world_law.specs.Texts.{entry_texts, is_link, report_texts, view_frame_texts}
-use Rattle.zy_world_law.specs.World.{Texts, World, texts_said}
+use Rattle.zy_world_law.specs.World.{World, texts_said}
 use Rattle.zy_begin_steps.proofs.IdleFrames.{TellsOfClients}
 use Rattle.zy_world_law.proofs.DecodedReports.{IsFrameRead, IsNewRead, IsToldRead, frame_spelled}
 use Rattle.zy_world_law.proofs.NotForged.{IsSaid}

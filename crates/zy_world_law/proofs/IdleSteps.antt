@@ -1,5 +1,5 @@
 -- A step by which nothing is said, gained or changed is lawful.
-use Rattle.std.proofs.Common.{ℕ, List, [], sym, subst}
+use Rattle.std.proofs.Common.{ℕ, List, sym, subst}
 use Rattle.zy_base.specs.Machine.{Rules}
 use Rattle.zy_begin_steps.proofs.IdleFrames.{IsIdle}
 use Rattle.zy_begin_steps.specs.Steps.{IsLawfulStep, IsWorldOf}

@@ -1,8 +1,6 @@
 -- No two verified orders of one view and place that differ are a correct replica's.
-use Rattle.std.proofs.Common.{◌≡◌, ℕ, true, Some, refl, sym, ap, subst}
+use Rattle.std.proofs.Common.{◌≡◌, true, ap, subst}
 use Rattle.zy_base.specs.Machine.{Rules}
-use Rattle.zy_base.specs.declared.ids.Party.{Party}
-use Rattle.zy_base.specs.declared.ids.Party.TheVariants as parties
 use Rattle.zy_base.specs.declared.ids.ReplicaId.{ReplicaId}
 use Rattle.zy_evidence.specs.Reading.{number_of_party}
 use Rattle.zy_law.specs.World.{Statement}

@@ -1,5 +1,5 @@
 -- A tied replica's stable checkpoint is backed, and tells the head and the snapshot of its own history there.
-use Rattle.std.proofs.Common.{◌≡◌, ◌≢◌, ◌⊎◌, inl, inr, ℕ, ◌<◌, List, [], take, fold, refl, sym, ap, ◌∙◌, subst, arith}
+use Rattle.std.proofs.Common.{◌≡◌, inl, inr, ℕ, ◌<◌, List, [], take, fold, refl, sym, ap, ◌∙◌, arith}
 use Rattle.std.proofs.lemmas.Bool.{cases_eq}
 use Rattle.zy_base.specs.Machine.{Rules}
 use Rattle.zy_chain.specs.Heads.{empty_head}
@@ -7,7 +7,7 @@ use Rattle.zy_chain.specs.declared.entry.Entry.{Entry}
 use Rattle.zy_law.proofs.ProvenStates.{proven_state}
 use Rattle.zy_law.specs.Histories.{Passes}
 use Rattle.zy_law.specs.Said.{IsBacked, Moment}
-use Rattle.zy_law.specs.World.{Statement, World}
+use Rattle.zy_law.specs.World.{World}
 use Rattle.zy_lawful.specs.Acts.{check_statement}
 use Rattle.zy_lawful.specs.Tied.{IsCheckpointOf, next_head, state_of}
 use Rattle.zy_parts.specs.declared.statements.Check.{Check}

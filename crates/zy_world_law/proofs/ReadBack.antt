@@ -1,5 +1,5 @@
 -- What a client signed is read back out of its text.
-use Rattle.std.proofs.Common.{◌≡◌, ℕ, ◌++◌, length, drop, Some, Ok, sym, ap, ◌∙◌, arith}
+use Rattle.std.proofs.Common.{◌≡◌, ℕ, ◌++◌, length, drop, Some, sym, ap, ◌∙◌, arith}
 use Rattle.std.proofs.Math.Seq.{drop-append_seam}
 use Rattle.std.proofs.lemmas.List.{length-append}
 use Rattle.std.specs.Int.{w8, w32}

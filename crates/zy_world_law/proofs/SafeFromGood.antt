@@ -27,13 +27,12 @@ use Rattle.zy_law.specs.Said.{Moment}
 use Rattle.zy_law.specs.World as law
 use Rattle.zy_law.specs.World.{Stand}
 use Rattle.zy_lawful.proofs.Backing.{all_from}
-use Rattle.zy_lawful.proofs.Own.{at_of}
 use Rattle.zy_lawful.proofs.Records.{answer_longer}
 use Rattle.zy_lawful.specs.Tied.{next_head}
 use Rattle.zy_world_law.specs.Events.{history_of}
 use Rattle.zy_world_law.specs.Good.{IsGood, IsDone, IsKept}
 use Rattle.zy_world_law.specs.Safe.{IsSafe, IsResult, IsAgreed, IsReplay, HasStable, Grows, completion_of, completions_of, mark_of}
-use Rattle.zy_world_law.specs.Seen.{seen, past_of, asked_by}
+use Rattle.zy_world_law.specs.Seen.{seen, asked_by}
 use Rattle.zy_world_law.specs.Texts.{is_link}
 use Rattle.zy_world_law.specs.World.{World, Replica, Client, Completed, replica_at, client_at}
 use Rattle.zy_world_law.proofs.Goings.{IsAfter}

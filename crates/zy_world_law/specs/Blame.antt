@@ -1,5 +1,5 @@
 -- For what no correct replica is blamed: by two orders of its own, or as another one refuses an event.
-use Rattle.std.specs.Prelude.{◌≡◌, ◌⊎◌, ℕ, Bool, true, false, Option, Some, None, option_map, unwrap_or}
+use Rattle.std.specs.Prelude.{◌≡◌, ◌⊎◌, false, Option, Some, None}
 use Rattle.std.specs.Option.{option_and_then}
 use Rattle.zy_base.specs.Machine.{Rules}
 use Rattle.zy_base.specs.declared.cause.Cause.{Cause}
@@ -25,6 +25,7 @@ use Rattle.zy_world_law.specs.Events.Happened.{Goes}
 use Rattle.zy_world_law.specs.Honest.{is_forged}
 use Rattle.zy_world_law.specs.Reading.{any_frame_in}
 use Rattle.zy_world_law.specs.Setup.{keys_of}
+use Rattle.zy_world_law.specs.Texts.{digest_of}
 use Rattle.zy_world_law.specs.World.{Replica, World, mail_at, replica_at}
 use Rattle.zy_world_law.specs.declared.event.WorldEvent.{WorldEvent}
 use Rattle.zy_world_law.specs.declared.event.WorldEvent.TheVariants as events
@@ -46,28 +47,29 @@ HasNoConflict {S} w =
 
 -- ---- refusals
 
--- the own snapshot is another than the one that is told
-abbrev pub IsWrongState : Cause → Type 0
-IsWrongState cause = (own : Digest) × (other : Digest) × (cause ≡ causes.WrongState own other)
-
--- one that lies may tell another snapshot by its checkpoint, by what it wishes for, and by a snapshot that it sends
-abbrev pub tells_state : AnyFrame → Bool
-tells_state (Plain (frames.Checkpoint check)) = true
-tells_state (View (view_frames.Fetch fetch)) = true
-tells_state (View (view_frames.State place snapshot)) = true
-tells_state frame = false
+-- The digest of a snapshot that a frame tells: by a checkpoint, by a wish for a snapshot, and by a snapshot that comes. One that lies may
+-- tell another than the own.
+abbrev pub state_told : AnyFrame → Option Digest
+state_told (Plain (frames.Checkpoint check)) = Some check.stmt.state
+state_told (View (view_frames.Fetch fetch)) = Some fetch.stmt.state
+state_told (View (view_frames.State place snapshot)) = Some (digest_of snapshot)
+state_told frame = None
 
 abbrev pub frame_brought : {S : Type 0} → World S → WorldEvent → Option AnyFrame
 frame_brought w (events.Deliver number to) = option_and_then (λ mail. any_frame_in mail.bytes) (mail_at w number)
 frame_brought w event = None
 
-abbrev pub brings_state : {S : Type 0} → World S → WorldEvent → Bool
-brings_state w event = unwrap_or (option_map tells_state (frame_brought w event)) false
+-- that is what is told, and the own one is another
+pub record IsOtherState (told : Option Digest) (cause : Cause) : Type 0 where
+  pub own : Digest
+  pub other : Digest
+  pub told_is : told ≡ Some other
+  pub cause_is : cause ≡ causes.WrongState own other
 
--- A cause to refuse an event blames nobody, or it is that another snapshot is told by such a frame: so neither do two heads stand
--- at one proven place, nor is a stable checkpoint or a snapshot against what a view begins with.
+-- A cause to refuse an event blames nobody, or it is that such a frame tells another snapshot: so neither do two heads stand at one
+-- proven place, nor is a stable checkpoint or a snapshot against what a view begins with.
 abbrev pub IsJust : {S : Type 0} → World S → WorldEvent → Cause → Type 0
-IsJust w event cause = (blames cause ≡ false) ⊎ ((brings_state w event ≡ true) × IsWrongState cause)
+IsJust w event cause = (blames cause ≡ false) ⊎ IsOtherState (option_and_then state_told (frame_brought w event)) cause
 
 -- a correct replica refuses an event for no other cause
 abbrev pub BlamesNobody : {S : Type 0} → Rules S → World S → WorldEvent → Type 0

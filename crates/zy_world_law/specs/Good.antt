@@ -1,9 +1,8 @@
 -- Good worlds: what honest events keep, and from which safety follows.
-use Rattle.std.specs.Prelude.{◌≡◌, ◌⊎◌, ℕ, ◌<◌, ◌≤◌, ◌^◌, List, length, Some, None, Contains, map}
+use Rattle.std.specs.Prelude.{◌≡◌, ◌⊎◌, ℕ, ◌<◌, ◌^◌, length, Some, None, Contains, map}
 use Rattle.std.specs.List.{AllByRecursion}
 use Rattle.zy_base.specs.Machine.{Rules}
 use Rattle.zy_base.specs.declared.ids.Party.TheVariants.{Replica}
-use Rattle.zy_chain.specs.declared.entry.Entry.{Entry}
 use Rattle.zy_client.specs.Held.{Holds}
 use Rattle.zy_begin_steps.specs.Steps.{IsWorldOf}
 use Rattle.zy_law.specs.Completed.{IsCompleted}
@@ -21,6 +20,7 @@ use Rattle.zy_parts.specs.declared.statements.Spec.{Spec}
 use Rattle.zy_table.specs.ClientRows.{kept_of}
 use Rattle.zy_table.specs.declared.client.Commit.{Commit}
 use Rattle.zy_table.specs.declared.client.Response.{Response}
+pub use Rattle.zy_view_law.specs.Texts.{IsKept}
 use Rattle.zy_spelled.specs.Spelled.{IsSpelled}
 use Rattle.zy_view_steps.specs.Rows.{IsReady}
 use Rattle.zy_view_steps.specs.Work.{IsAtWork}
@@ -28,12 +28,8 @@ use Rattle.zy_world_law.specs.Events.{history_of}
 use Rattle.zy_world_law.specs.Safe.{completion_of}
 use Rattle.zy_world_law.specs.Seen.{seen}
 use Rattle.zy_world_law.specs.Setup.{IsSetup, keys_of}
-use Rattle.zy_world_law.specs.Texts.{digest_of}
 use Rattle.zy_world_law.specs.World.{World, Client, Completed, Texts, replica_at, client_at}
 use Rattle.zy_world_law.specs.World as world
-
-abbrev pub IsKept : Texts → List ℕ → Type 0
-IsKept texts text = texts (digest_of text) ≡ Some text
 
 -- A correct replica is tied to what it said and where it stood, can work there, and what it keeps can be spelled.
 pub record IsTied {S : Type 0} (R : Rules S) (w : World S) (id : ℕ) (x : world.Replica S) : Type 0 where

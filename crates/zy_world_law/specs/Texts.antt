@@ -1,8 +1,7 @@
 -- The texts that events bring, and how they are kept: one for each SHA-256 value.
-use Rattle.std.specs.Prelude.{ℕ, nat_lt, nat_le, ◌^◌, ◌&&◌, Bool, false, if◌then◌else◌, List, [], ◌∷◌, ◌++◌, length, Option, Some, None, option_map, unwrap_or, Result, Ok, Err}
+use Rattle.std.specs.Prelude.{ℕ, nat_lt, nat_le, ◌^◌, ◌&&◌, Bool, false, if◌then◌else◌, List, [], ◌∷◌, length, Option, Some, None, option_map, unwrap_or, Result, Ok, Err}
 use Rattle.std.specs.List.{flat_map}
 use Rattle.std.specs.Str.{bytes_eq}
-use Rattle.sha2.specs.Sha256.{sha256}
 use Rattle.zy_base.specs.declared.ids.Digest.{Digest}
 use Rattle.zy_base.specs.declared.ids.Party.{Party}
 use Rattle.zy_base.specs.declared.ids.Party.TheVariants.{Replica, Client}
@@ -23,6 +22,7 @@ use Rattle.zy_table.specs.declared.deeds.AnyFrame.TheVariants.{Plain, View}
 use Rattle.zy_table.specs.declared.deeds.Got.{Got}
 use Rattle.zy_vframes.specs.declared.frame.ViewFrame.{ViewFrame}
 use Rattle.zy_vframes.specs.declared.frame.ViewFrame.TheVariants as views
+pub use Rattle.zy_view_law.specs.Texts.{digest_of, link_text}
 use Rattle.zy_world_law.specs.Reading.{any_frame_in}
 use Rattle.zy_world_law.specs.World.{Texts}
 
@@ -47,10 +47,6 @@ frame_texts (frames.FillHole hole) = []
 frame_texts (frames.Hate hate) = []
 frame_texts (frames.Pom first second) = []
 frame_texts (frames.Checkpoint check) = []
-
--- the text of a link of histories: the head before, and the entry's digest
-abbrev pub link_text : Digest → Entry → List ℕ
-link_text head e = head.0 ++ (digest_of_entry e).0
 
 -- of some entries above a head: the bytes of each, and the links along them
 abbrev pub entry_texts : Digest → List Entry → List (List ℕ)
@@ -91,9 +87,6 @@ abbrev pub step_texts : List Act → List (List ℕ)
 step_texts acts = flat_map got_texts (gains_in acts)
 
 -- ---- keeping
-
-abbrev pub digest_of : List ℕ → Digest
-digest_of text = record { 0 = sha256 text }
 
 abbrev pub with_text : Texts → List ℕ → Texts
 with_text texts text d = if same_digest d (digest_of text) then Some text else texts d

@@ -3,7 +3,6 @@ use Rattle.std.specs.Prelude.{ℕ, ◌+◌, ◌-◌, zero, suc, nat_eq, nat_lt, 
 use Rattle.std.specs.List.{range_with_len, list_any, list_all}
 use Rattle.zy_base.specs.Machine.{Rules}
 use Rattle.zy_base.specs.declared.ids.ClientId.{ClientId}
-use Rattle.zy_base.specs.declared.ids.Digest.{Digest}
 use Rattle.zy_base.specs.declared.ids.Party.{Party}
 use Rattle.zy_base.specs.declared.ids.Party.TheVariants as parties
 use Rattle.zy_chain.specs.Heads.{empty_head}
@@ -12,6 +11,7 @@ use Rattle.zy_law.specs.World.{Stand}
 use Rattle.zy_table.specs.ClientState.{ClientState, client_start}
 use Rattle.zy_table.specs.State.{State, start_of}
 use Rattle.zy_table.specs.declared.client.Done.{Done}
+pub use Rattle.zy_view_law.specs.Texts.{Texts}
 use Rattle.zy_world_law.specs.Setup.{Setup, sealer_of, keys_of}
 
 -- a signed text, and the number of its speaker's last stand when it was said
@@ -43,10 +43,6 @@ pub record Mail : Type 0 where
 pub record Completed : Type 0 where
   pub client : ClientId
   pub done : Done
-
--- the text that is kept under a digest
-abbrev pub Texts : Type 0
-Texts = Digest → Option (List ℕ)
 
 pub record World (S : Type 0) : Type 0 where
   pub setup : Setup
