@@ -2,4 +2,5 @@ mod Tellings
 mod FileLaws
 mod Runs
 mod Asks
+mod Bound
 pub mod ShortOps

@@ -9,7 +9,7 @@ use Rattle.zy_table.specs.ClientState.{ClientState, leaves_of}
 use Rattle.zy_words.specs.Ends.{IsAnswer, IsWritten, Verdict, is_write_fault}
 use Rattle.zy_words.specs.declared.exit.Exit.{Exit}
 use Rattle.zy_words.specs.declared.exit.Exit.TheVariants as exits
-use Rattle.zy_hosting.specs.Files.{Replica}
+use Rattle.zy_hosting.specs.Files.{Replica, Seat}
 use Rattle.zy_hosting.specs.declared.seat.NodeSeat.{NodeSeat}
 use Rattle.zy_hosting.specs.declared.seat.AskSeat.{AskSeat}
 
@@ -24,14 +24,14 @@ IsJudged read (Err exit) = read ≡ Err exit
 abbrev pub Leaves : ℕ → Secret → Type 0
 Leaves left secret = secret.next + left ≤ 2 ^ levels_of secret.height
 
--- the replica is what the files tell
-abbrev pub replica_in : Result NodeSeat Exit → Result Replica Exit
-replica_in (Ok seat) = Ok seat.replica
-replica_in (Err exit) = Err exit
+-- the party is what the files tell, and so is its address
+abbrev pub node_in : Result NodeSeat Exit → Result (Seat Replica) Exit
+node_in (Ok seat) = Ok (record { core = seat.replica; address = seat.address })
+node_in (Err exit) = Err exit
 
-abbrev pub client_in : Result AskSeat Exit → Result ClientState Exit
-client_in (Ok seat) = Ok seat.client
-client_in (Err exit) = Err exit
+abbrev pub asker_in : Result AskSeat Exit → Result (Seat ClientState) Exit
+asker_in (Ok seat) = Ok (record { core = seat.client; address = seat.address })
+asker_in (Err exit) = Err exit
 
 -- the client may ask: nothing waits, and its key has a leaf
 pub record MayAsk (client : ClientState) : Type 0 where

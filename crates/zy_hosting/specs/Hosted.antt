@@ -4,7 +4,11 @@ use Rattle.std.specs.Io.KnownBytes.{Keeps}
 use Rattle.zy_base.specs.Machine.{Rules}
 use Rattle.zy_base.specs.declared.ids.ClientId.{ClientId}
 use Rattle.zy_base.specs.declared.ids.ReplicaId.{ReplicaId}
+use Rattle.zy_base.specs.declared.ids.Party.{Party}
+use Rattle.zy_edge.specs.Binding.{after_binding}
 use Rattle.zy_edge.specs.Link.{StaysAsTold}
+use Rattle.zy_edge.specs.declared.link.binding.Address.{Address}
+use Rattle.zy_edge.specs.declared.link.binding.Binding.{Binding}
 use Rattle.zy_node.specs.Asking.{AsksAs}
 use Rattle.zy_node.specs.Replicas.{replica_rules}
 use Rattle.zy_node.specs.Told.{IsCutRun, IsRun, Outside, RoseBy}
@@ -20,7 +24,7 @@ use Rattle.zy_table.specs.declared.client.Done.{Done}
 use Rattle.zy_words.specs.Ends.{IsAnswer, IsWritten, Verdict}
 use Rattle.zy_words.specs.declared.exit.Exit.{Exit}
 use Rattle.zy_words.specs.declared.exit.Exit.TheVariants as exits
-use Rattle.zy_hosting.specs.Files.{Replica}
+use Rattle.zy_hosting.specs.Files.{Replica, Seat}
 use Rattle.zy_hosting.specs.Lines.{completion_line, state_digest}
 
 -- ---- what is written
@@ -62,6 +66,15 @@ is_unread exits.ReadFault = true
 is_unread exits.Want = true
 is_unread exit = false
 
+-- the outside of a command: what its turns tell of, and what was asked of the link by `bind`
+pub record Surroundings : Type 0 where
+  pub outside : Outside
+  pub binding : Binding
+
+-- an address was asked for once, and it is this one
+abbrev pub IsBoundTo : Address → Binding → Binding → Type 0
+IsBoundTo address before after = after ≡ after_binding address before
+
 -- nothing was sent or heard, as far as it is told
 pub record IsIdle (from to : Outside) : Type 0 where
   pub mail : StaysAsTold from.mail to.mail
@@ -101,19 +114,36 @@ abbrev pub IsAsking : ClientId → ClientState → List ℕ → ℕ → Exit →
 IsAsking id start op turns exit from to old new = IsAsked id start op turns exit from to old new ⊎ IsCutAsking start op turns exit from to old new
 
 -- the files could not be read, or memory was wanted before anything was done
-pub record IsUnread (exit : Exit) (from to : Outside) (old new : Option (List ℕ)) : Type 0 where
+pub record IsUnread (exit : Exit) (from to : Surroundings) (old new : Option (List ℕ)) : Type 0 where
   pub unread : IsTrue (is_unread exit)
   pub outside : to ≡ from
   pub written : Keeps old new
 
--- a node whose files are refused leaves link and clock alone; that the answer is that refusal is said elsewhere
-abbrev pub IsNodeRun : ReplicaId → Result Replica Exit → ℕ → Exit → Outside → Outside → Option (List ℕ) → Option (List ℕ) → Type 0
+-- A node whose files are refused leaves link and clock alone; that the answer is that refusal is said elsewhere. Else the address
+-- of its group's file is asked for once, before its turns.
+abbrev pub IsNodeRun : ReplicaId → Result (Seat Replica) Exit → ℕ → Exit → Surroundings → Surroundings → Option (List ℕ) → Option (List ℕ) → Type 0
 IsNodeRun id (Err refusal) turns exit from to old new = to ≡ from
-IsNodeRun id (Ok start) turns exit from to old new = IsServing id start turns exit from to old new ⊎ IsUnread exit from to old new
+IsNodeRun id (Ok seat) turns exit from to old new =
+    (IsBoundTo seat.address from.binding to.binding × IsServing id seat.core turns exit from.outside to.outside old new) ⊎ IsUnread exit from to old new
 
-abbrev pub IsAskRun : ClientId → Result ClientState Exit → List ℕ → ℕ → Exit → Outside → Outside → Option (List ℕ) → Option (List ℕ) → Type 0
+abbrev pub IsAskRun : ClientId → Result (Seat ClientState) Exit → List ℕ → ℕ → Exit → Surroundings → Surroundings → Option (List ℕ) → Option (List ℕ) → Type 0
 IsAskRun id (Err refusal) op turns exit from to old new = to ≡ from
-IsAskRun id (Ok start) op turns exit from to old new = IsAsking id start op turns exit from to old new ⊎ IsUnread exit from to old new
+IsAskRun id (Ok seat) op turns exit from to old new =
+    (IsBoundTo seat.address from.binding to.binding × IsAsking id seat.core op turns exit from.outside to.outside old new) ⊎ IsUnread exit from to old new
+
+-- some address of this party was asked for, and once
+abbrev pub IsBoundOnce : Party → Binding → Binding → Type 0
+IsBoundOnce party before after = (port : ℕ) × IsBoundTo (record { port = port; party = party }) before after
+
+-- Over any files: once the turns have ended, or the link has failed, an address of the party was asked for, and once. Where the
+-- files are refused or could not be read, none was. Memory may be wanted before that and behind it.
+abbrev pub IsBoundAs : Party → Exit → Binding → Binding → Type 0
+IsBoundAs party exits.Done before after = IsBoundOnce party before after
+IsBoundAs party exits.TurnsSpent before after = IsBoundOnce party before after
+IsBoundAs party exits.WriteFault before after = IsBoundOnce party before after
+IsBoundAs party exits.LinkFault before after = IsBoundOnce party before after
+IsBoundAs party exits.Want before after = (after ≡ before) ⊎ IsBoundOnce party before after
+IsBoundAs party exit before after = after ≡ before
 
 -- the verdict of the files: a refusal, or the turns decide
 abbrev pub files_verdict : {A : Type 0} → Result A Exit → Verdict

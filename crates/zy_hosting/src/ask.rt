@@ -1,5 +1,6 @@
 // The command `ask`.
 ghost use Rattle.std.specs.Prelude.{◌≡◌, ◌≤◌, IfSome, IsTrue, length};
+ghost use Rattle.zy_base.specs.declared.ids.Party.TheVariants as parties;
 ghost use Rattle.zy_edge.specs.Faults.{IsCounted};
 ghost use Rattle.zy_edge.specs.Files.{content_of};
 ghost use Rattle.zy_tuple.specs.Bytes as bytes;
@@ -7,13 +8,13 @@ ghost use Rattle.zy_tuple.specs.Values.{IsOp};
 ghost use Rattle.zy_words.specs.Ends.{IsAnswer, IsWritten, Verdict, is_link_fault, is_read_fault, is_refusal, is_usage, is_write_fault};
 ghost use Rattle.zy_hosting.specs.Calls.{MayAsk, is_hosting, is_turning};
 ghost use Rattle.zy_hosting.specs.Files.{asker_start};
-ghost use Rattle.zy_hosting.specs.Hosted.{IsAskRun, IsAsking, TookAll, files_verdict};
+ghost use Rattle.zy_hosting.specs.Hosted.{IsAskRun, IsAsking, IsBoundAs, IsBoundTo, TookAll, files_verdict};
 
 use crate::files::read_asker;
 use crate::seat::AskSeat;
 use crate::telling::{tell_done, tell_spent};
 use std::alloc::Global;
-use zy_base::{Bytes, ClientId, Party};
+use zy_base::{Bytes, ClientId};
 use zy_client::Client;
 use zy_edge::{Bound, Clock, Files, Link, Sink};
 use zy_node::{AskFault, Asked, ask_over};
@@ -39,8 +40,10 @@ pub fn run_ask<F: Files, S: Sink, L: Link, C: Clock>(
     ensures answer { IfSome (F.held files.old) (λ held. IsAnswer (files_verdict (asker_start id (content_of held group.now) (content_of held secret.now))) result) }
     ensures written { IfSome (F.held files.old) (λ held. IsWritten (files_verdict (asker_start id (content_of held group.now) (content_of held secret.now))) result (S.taken out.old) (S.taken out.new)) }
     ensures hosted { IfSome (F.held files.old) (λ held. IsAskRun id (asker_start id (content_of held group.now) (content_of held secret.now)) (bytes.op_bytes op.now) turns result
-        (record { mail = L.mail link.old; receives = L.receives link.old; moments = C.moments clock.old }) (record { mail = L.mail link.new; receives = L.receives link.new; moments = C.moments clock.new })
+        (record { outside = record { mail = L.mail link.old; receives = L.receives link.old; moments = C.moments clock.old }; binding = L.binding link.old })
+        (record { outside = record { mail = L.mail link.new; receives = L.receives link.new; moments = C.moments clock.new }; binding = L.binding link.new })
         (S.taken out.old) (S.taken out.new)) }
+    ensures bound { IsBoundAs (parties.Client id) result (L.binding link.old) (L.binding link.new) }
     ensures spent { TookAll turns result (L.receives link.old) (L.receives link.new) }
     ensures started { IfSome (F.held files.old) (λ held. (files_verdict (asker_start id (content_of held group.now) (content_of held secret.now)) ≡ Verdict.Hosted) → IsTrue (is_hosting result)) }
     ensures judged { IsTrue (is_usage result) → ⊥ }
@@ -76,13 +79,15 @@ fn ask<S: Sink, L: Link, C: Clock>(
     ensures asking { IsAsking id seat.client op turns result
         (record { mail = L.mail link.old; receives = L.receives link.old; moments = C.moments clock.old }) (record { mail = L.mail link.new; receives = L.receives link.new; moments = C.moments clock.new })
         (S.taken out.old) (S.taken out.new) }
+    ensures bound { IsBoundTo seat.address (L.binding link.old) (L.binding link.new) }
     ensures turning { IsTrue (is_turning result) }
     ensures refused { IsTrue (is_refusal result) → out.new ≡ out.old }
     ensures write_faults { IsCounted (is_write_fault result) (S.faults out.old) (S.faults out.new) }
     ensures link_faults { IsCounted (is_link_fault result) (L.faults link.old) (L.faults link.new) }
 {
-    match link.bind(seat.port, Party::Client(id)) {
-        Bound::Bound => wait(alloc, id, seat.client, op, turns, out, link, clock),
+    let AskSeat { client, address } = seat;
+    match link.bind(address.port, address.party) {
+        Bound::Bound => wait(alloc, id, client, op, turns, out, link, clock),
         Bound::Failed => Exit::LinkFault,
     }
 }
@@ -102,6 +107,7 @@ fn wait<S: Sink, L: Link, C: Clock>(
     ensures asking { IsAsking id client op turns result
         (record { mail = L.mail link.old; receives = L.receives link.old; moments = C.moments clock.old }) (record { mail = L.mail link.new; receives = L.receives link.new; moments = C.moments clock.new })
         (S.taken out.old) (S.taken out.new) }
+    ensures binding { L.binding link.new ≡ L.binding link.old }
     ensures turning { IsTrue (is_turning result) }
     ensures refused { IsTrue (is_refusal result) → out.new ≡ out.old }
     ensures write_faults { IsCounted (is_write_fault result) (S.faults out.old) (S.faults out.new) }

@@ -1,11 +1,12 @@
 // What the files of a node and of an ask tell.
 ghost use Rattle.std.specs.Prelude.{◌≡◌, ◌≤◌, ◌^◌, IfOk, IfSome};
+ghost use Rattle.zy_base.specs.declared.ids.Party.TheVariants as parties;
 ghost use Rattle.zy_edge.specs.Faults.{IsCounted};
 ghost use Rattle.zy_edge.specs.Files.{content_of};
 ghost use Rattle.zy_group.specs.Members.{AreMembers, IsNodeGroup, text_ask_group, text_node_group};
 ghost use Rattle.zy_group.specs.Secret.{text_secret};
 ghost use Rattle.zy_words.specs.Calls.{IsReading, stops_reading};
-ghost use Rattle.zy_hosting.specs.Calls.{IsJudged, Leaves, MayAsk, client_in, replica_in};
+ghost use Rattle.zy_hosting.specs.Calls.{IsJudged, Leaves, MayAsk, asker_in, node_in};
 ghost use Rattle.zy_hosting.specs.Files.{asker_start, judged, node_start};
 
 use crate::seat::{AskSeat, NodeSeat, ask_seat, node_seat};
@@ -23,7 +24,8 @@ pub(crate) fn read_node<F: Files>(
     id: ReplicaId,
     files: &mut F,
 ) -> Result<NodeSeat, Exit>
-    ensures told { IfSome (F.held files.old) (λ held. IsJudged (node_start id (content_of held group.now) (content_of held secret.now)) (replica_in result)) }
+    ensures told { IfSome (F.held files.old) (λ held. IsJudged (node_start id (content_of held group.now) (content_of held secret.now)) (node_in result)) }
+    ensures party { IfOk result (λ seat. seat.address.party ≡ parties.Replica id) }
     ensures exit { IsReading result }
     ensures count { IsCounted (stops_reading result) (F.faults files.old) (F.faults files.new) }
     ensures held { F.held files.new ≡ F.held files.old }
@@ -41,7 +43,8 @@ pub(crate) fn read_asker<F: Files>(
     id: ClientId,
     files: &mut F,
 ) -> Result<AskSeat, Exit>
-    ensures told { IfSome (F.held files.old) (λ held. IsJudged (asker_start id (content_of held group.now) (content_of held secret.now)) (client_in result)) }
+    ensures told { IfSome (F.held files.old) (λ held. IsJudged (asker_start id (content_of held group.now) (content_of held secret.now)) (asker_in result)) }
+    ensures party { IfOk result (λ seat. seat.address.party ≡ parties.Client id) }
     ensures leaf { IfOk result (λ seat. MayAsk seat.client) }
     ensures exit { IsReading result }
     ensures count { IsCounted (stops_reading result) (F.faults files.old) (F.faults files.new) }

@@ -1,14 +1,15 @@
-// A party in its place: its core as it begins, and the port from which the group's are counted.
+// A party in its place: its core as it begins, and the address at which it is heard.
 ghost use Rattle.std.specs.Prelude.{◌≡◌, ◌<◌, ◌≤◌, ◌+◌, ◌^◌, false, IfOk, length};
 ghost use Rattle.zy_base.specs.declared.ids.Party.TheVariants as parties;
 ghost use Rattle.zy_group.specs.Members.{AreMembers, IsNodeGroup};
 ghost use Rattle.zy_words.specs.Calls.{IsReading, stops_reading};
-ghost use Rattle.zy_hosting.specs.Calls.{IsJudged, Leaves, MayAsk, client_in, replica_in};
+ghost use Rattle.zy_hosting.specs.Calls.{IsJudged, Leaves, MayAsk, asker_in, node_in};
 ghost use Rattle.zy_hosting.specs.Files.{asker_of, client_of, node_of, replica_of};
 
 use std::alloc::Global;
 use zy_base::{ClientId, Party, ReplicaId, Stamp, Want};
 use zy_client::Client;
+use zy_edge::Address;
 use zy_group::{AskGroup, NodeGroup, Secret, own_key, plain_counts};
 use zy_lms::LmsKey;
 use zy_replica::Replica;
@@ -20,14 +21,14 @@ use zy_words::Exit;
 #[derive(Drop)]
 pub(crate) struct NodeSeat {
     pub(crate) replica: Replica<Space>,
-    pub(crate) port: u16,
+    pub(crate) address: Address,
 }
 
 /// A client in its place.
 #[derive(Drop)]
 pub(crate) struct AskSeat {
     pub(crate) client: Client,
-    pub(crate) port: u16,
+    pub(crate) address: Address,
 }
 
 /// The replica of the group that the secret is of.
@@ -39,14 +40,18 @@ pub(crate) fn node_seat(
 ) -> Result<NodeSeat, Exit>
     requires group { IsNodeGroup group }
     requires leaves { Leaves 0 secret.now }
-    ensures judged { IsJudged (node_of id group secret.now) (replica_in result) }
+    ensures judged { IsJudged (node_of id group secret.now) (node_in result) }
+    ensures party { IfOk result (λ seat. seat.address.party ≡ parties.Replica id) }
     ensures exit { IsReading result }
     ensures read { stops_reading result ≡ false }
 {
-    let port = group.members.port;
-    let key = own_key(alloc, Party::Replica(id), &group.members.keys, secret)?;
+    let address = Address {
+        port: group.members.port,
+        party: Party::Replica(id),
+    };
+    let key = own_key(alloc, address.party, &group.members.keys, secret)?;
     let replica = replica_of(alloc, id, group, key)?;
-    Ok(NodeSeat { replica, port })
+    Ok(NodeSeat { replica, address })
 }
 
 fn replica_of(
@@ -75,15 +80,19 @@ pub(crate) fn ask_seat(
     requires group { AreMembers group }
     requires leaves { Leaves 1 secret.now }
     requires stamp { secret.now.stamp ≤ 2 ^ 61 }
-    ensures judged { IsJudged (asker_of id group secret.now) (client_in result) }
+    ensures judged { IsJudged (asker_of id group secret.now) (asker_in result) }
+    ensures party { IfOk result (λ seat. seat.address.party ≡ parties.Client id) }
     ensures leaf { IfOk result (λ seat. MayAsk seat.client) }
     ensures exit { IsReading result }
     ensures read { stops_reading result ≡ false }
 {
-    let port = group.port;
-    let key = own_key(alloc, Party::Client(id), &group.keys, secret)?;
+    let address = Address {
+        port: group.port,
+        party: Party::Client(id),
+    };
+    let key = own_key(alloc, address.party, &group.keys, secret)?;
     let client = client_of(alloc, id, group, key, Stamp(secret.stamp))?;
-    Ok(AskSeat { client, port })
+    Ok(AskSeat { client, address })
 }
 
 fn client_of(

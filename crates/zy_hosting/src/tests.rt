@@ -4,7 +4,7 @@ use crate::{run_ask, run_node};
 use std::alloc::{AllocError, Global};
 use std::test::Fail;
 use zy_base::{Bytes, ClientId, Party, ReplicaId};
-use zy_edge::{MemClock, MemFiles, MemLink, MemSink};
+use zy_edge::{Address, Binding, MemClock, MemFiles, MemLink, MemSink};
 use zy_tuple::op_text_read;
 use zy_words::Exit;
 
@@ -69,15 +69,22 @@ fn held(alloc: Global, group: &str, secret: &str) -> Result<Vec<(Bytes, Bytes)>,
     Ok(files)
 }
 
-/// How a node or an ask ends for so many turns over a link that hears nothing and whose call with this number fails, and
-/// what the sink took.
+/// What a run came to: how it ended, what the sink took, and what was asked of the link by `bind`.
+#[derive(Drop)]
+struct Ran {
+    exit: Exit,
+    taken: Vec<u8>,
+    binding: Binding,
+}
+
+/// A node or an ask for so many turns, over a link that hears nothing and whose call with this number fails.
 fn run(
     alloc: Global,
     party: Party,
     texts: (&str, &str),
     turns: u32,
     failing: u64,
-) -> Result<(Exit, Vec<u8>), Fail> {
+) -> Result<Ran, Fail> {
     let mut files = MemFiles::new(alloc, held(alloc, texts.0, texts.1)?, Vec::new(alloc));
     let mut out = MemSink::new(alloc, Vec::new(alloc), 1_000)?;
     let failing = Vec::from_slice(alloc, &[failing])?;
@@ -98,7 +105,23 @@ fn run(
             )
         }
     };
-    Ok((exit, Vec::from_slice(alloc, out.taken())?))
+    Ok(Ran {
+        exit,
+        taken: Vec::from_slice(alloc, out.taken())?,
+        binding: link.binding(),
+    })
+}
+
+const UNBOUND: Binding = Binding {
+    times: 0,
+    last: None,
+};
+
+fn once_at(port: u16, party: Party) -> Binding {
+    Binding {
+        times: 1,
+        last: Some(Address { port, party }),
+    }
 }
 
 const COUNTS: &str = "f = 1\nk = 8\nclients = 4";
@@ -163,9 +186,10 @@ fn files_are_judged_in_their_order(rt: HostRuntime) -> Result<(), Fail> {
         };
         for (party, own) in [(REPLICA_0, &REPLICA), (CLIENT_3, &CLIENT)] {
             let secret = secret(alloc, own, count, others)?;
-            let answer = run(alloc, party, (group.as_str(), secret.as_str()), 1, 0)?;
-            assert_eq!(rt; answer.0, Exit::Group(field));
-            assert!(rt; answer.1.is_empty());
+            let ran = run(alloc, party, (group.as_str(), secret.as_str()), 1, 0)?;
+            assert_eq!(rt; ran.exit, Exit::Group(field));
+            assert!(rt; ran.taken.is_empty());
+            assert_eq!(rt; ran.binding, UNBOUND);
         }
     }
     Ok(())
@@ -186,9 +210,10 @@ fn keys_are_the_party_s(rt: HostRuntime) -> Result<(), Fail> {
     ];
     for (party, own, place, field) in table {
         let secret = secret(alloc, own, 4, place)?;
-        let answer = run(alloc, party, (group.as_str(), secret.as_str()), 1, 0)?;
-        assert_eq!(rt; answer.0, Exit::Group(field));
-        assert!(rt; answer.1.is_empty());
+        let ran = run(alloc, party, (group.as_str(), secret.as_str()), 1, 0)?;
+        assert_eq!(rt; ran.exit, Exit::Group(field));
+        assert!(rt; ran.taken.is_empty());
+        assert_eq!(rt; ran.binding, UNBOUND);
     }
     Ok(())
 }
@@ -220,14 +245,15 @@ fn turns_are_spent_or_the_link_fails(rt: HostRuntime) -> Result<(), Fail> {
         (CLIENT_3, client.as_str(), 2, 4, false, ""),
     ];
     for (party, secret, turns, failing, spent, text) in table {
-        let answer = run(alloc, party, (group.as_str(), secret), turns, failing)?;
+        let ran = run(alloc, party, (group.as_str(), secret), turns, failing)?;
         let exit = if spent {
             Exit::TurnsSpent
         } else {
             Exit::LinkFault
         };
-        assert_eq!(rt; answer.0, exit);
-        assert_eq!(rt; answer.1.as_slice(), text.as_bytes());
+        assert_eq!(rt; ran.exit, exit);
+        assert_eq!(rt; ran.taken.as_slice(), text.as_bytes());
+        assert_eq!(rt; ran.binding, once_at(47_000, party));
     }
     Ok(())
 }

@@ -26,6 +26,7 @@ impl Asker {
         requires { length op ≤ 1100 }
         ensures begins { BeginsAs client op result (L.mail link.old) (L.mail link.new) }
         ensures receives { L.receives link.new ≡ L.receives link.old }
+        ensures binding { L.binding link.new ≡ L.binding link.old }
         ensures count { IsCounted (is_ask_fault result) (L.faults link.old) (L.faults link.new) }
     {
         let ClientStepped {
@@ -49,6 +50,7 @@ impl Asker {
     /// One turn of `Host`.
     pub fn turn<L: Link, T: Clock>(self, link: &mut L, clock: &mut T) -> Result<Asker, AskFault>
         ensures turn { AskerTurnsTo self result (record { mail = L.mail link.old; receives = L.receives link.old; moments = T.moments clock.old }) (record { mail = L.mail link.new; receives = L.receives link.new; moments = T.moments clock.new }) }
+        ensures binding { L.binding link.new ≡ L.binding link.old }
         ensures count { IsCounted (is_ask_fault result) (L.faults link.old) (L.faults link.new) }
     {
         asker_of(self.host.turn(link, clock))
@@ -74,6 +76,7 @@ impl Asker {
         turns: u64,
     ) -> Result<Asker, AskFault>
         ensures run { AskerRunsTo turns self result (record { mail = L.mail link.old; receives = L.receives link.old; moments = T.moments clock.old }) (record { mail = L.mail link.new; receives = L.receives link.new; moments = T.moments clock.new }) }
+        ensures binding { L.binding link.new ≡ L.binding link.old }
         ensures count { IsCounted (is_ask_fault result) (L.faults link.old) (L.faults link.new) }
     {
         asker_of(self.host.serve(link, clock, turns))
@@ -87,6 +90,7 @@ impl Asker {
         turns: u64,
     ) -> Result<Asked, AskFault>
         ensures waits { WaitsAs self turns result (record { mail = L.mail link.old; receives = L.receives link.old; moments = T.moments clock.old }) (record { mail = L.mail link.new; receives = L.receives link.new; moments = T.moments clock.new }) }
+        ensures binding { L.binding link.new ≡ L.binding link.old }
         ensures count { IsCounted (is_ask_fault result) (L.faults link.old) (L.faults link.new) }
     {
         let asker = self.serve(link, clock, turns)?;
@@ -120,6 +124,7 @@ pub fn ask_over<L: Link, T: Clock>(
 ) -> Result<Asked, AskFault>
     requires { length op ≤ 1100 }
     ensures asks { AsksAs client op turns result (record { mail = L.mail link.old; receives = L.receives link.old; moments = T.moments clock.old }) (record { mail = L.mail link.new; receives = L.receives link.new; moments = T.moments clock.new }) }
+    ensures binding { L.binding link.new ≡ L.binding link.old }
     ensures count { IsCounted (is_ask_fault result) (L.faults link.old) (L.faults link.new) }
 {
     match Asker::begin(alloc, client, op, link)? {

@@ -75,6 +75,7 @@ impl<C: Core> Host<C> {
         clock: &mut T,
     ) -> Result<Host<C>, NodeFault<Host<C>>>
         ensures turn { TurnsTo C.rules self result (record { mail = L.mail link.old; receives = L.receives link.old; moments = T.moments clock.old }) (record { mail = L.mail link.new; receives = L.receives link.new; moments = T.moments clock.new }) }
+        ensures binding { L.binding link.new ≡ L.binding link.old }
         ensures count { IsCounted (is_link_fault result) (L.faults link.old) (L.faults link.new) }
     {
         let host = self.hear(link)?;
@@ -90,6 +91,7 @@ impl<C: Core> Host<C> {
         turns: u64,
     ) -> Result<Host<C>, NodeFault<Host<C>>>
         ensures run { RunsTo C.rules turns self result (record { mail = L.mail link.old; receives = L.receives link.old; moments = T.moments clock.old }) (record { mail = L.mail link.new; receives = L.receives link.new; moments = T.moments clock.new }) }
+        ensures binding { L.binding link.new ≡ L.binding link.old }
         ensures count { IsCounted (is_link_fault result) (L.faults link.old) (L.faults link.new) }
     {
         let mut host = self;
@@ -112,6 +114,7 @@ impl<C: Core> Host<C> {
     fn hear<L: Link>(self, link: &mut L) -> Result<Host<C>, NodeFault<Host<C>>>
         ensures hears { HearsTo C.rules self result (L.mail link.old) (L.mail link.new) (L.receives link.old) (L.receives link.new) }
         ensures receives { L.receives link.new ≡ raised (L.receives link.old) }
+        ensures binding { L.binding link.new ≡ L.binding link.old }
         ensures count { IsCounted (is_link_fault result) (L.faults link.old) (L.faults link.new) }
     {
         let mut room = [0; MAX_DATAGRAM];
@@ -125,6 +128,7 @@ impl<C: Core> Host<C> {
     fn take<L: Link>(mut self, datagram: &[u8], link: &mut L) -> Result<Host<C>, NodeFault<Host<C>>>
         ensures comes { ComesTo (takes C.rules datagram.now self) result (L.mail link.old) (L.mail link.new) }
         ensures receives { L.receives link.new ≡ L.receives link.old }
+        ensures binding { L.binding link.new ≡ L.binding link.old }
         ensures count { IsCounted (is_link_fault result) (L.faults link.old) (L.faults link.new) }
     {
         match self.gather(datagram)? {
@@ -145,6 +149,7 @@ impl<C: Core> Host<C> {
     fn step<L: Link>(self, event: Event, link: &mut L) -> Result<Host<C>, NodeFault<Host<C>>>
         ensures comes { ComesTo (steps C.rules event self) result (L.mail link.old) (L.mail link.new) }
         ensures receives { L.receives link.new ≡ L.receives link.old }
+        ensures binding { L.binding link.new ≡ L.binding link.old }
         ensures count { IsCounted (is_link_fault result) (L.faults link.old) (L.faults link.new) }
     {
         let (host, out) = self.handle(event)?;
@@ -179,6 +184,7 @@ impl<C: Core> Host<C> {
     ) -> Result<Host<C>, NodeFault<Host<C>>>
         ensures comes { ComesTo (record { host = self; sent = all_parcels out.now }) result (L.mail link.old) (L.mail link.new) }
         ensures receives { L.receives link.new ≡ L.receives link.old }
+        ensures binding { L.binding link.new ≡ L.binding link.old }
         ensures count { IsCounted (is_link_fault result) (L.faults link.old) (L.faults link.new) }
     {
         match send_all(self.alloc, link, out) {
@@ -203,6 +209,7 @@ impl<C: Core> Host<C> {
         requires { now < 2 ^ 62 }
         ensures fires { FiresAs C.rules now self result (L.mail link.old) (L.mail link.new) }
         ensures receives { L.receives link.new ≡ L.receives link.old }
+        ensures binding { L.binding link.new ≡ L.binding link.old }
         ensures count { IsCounted (is_link_fault result) (L.faults link.old) (L.faults link.new) }
     {
         let host = self.fire(TimerKind::Request, now, link)?;
@@ -220,6 +227,7 @@ impl<C: Core> Host<C> {
         requires { now < 2 ^ 62 }
         ensures comes { ComesTo (fires C.rules kind now self) result (L.mail link.old) (L.mail link.new) }
         ensures receives { L.receives link.new ≡ L.receives link.old }
+        ensures binding { L.binding link.new ≡ L.binding link.old }
         ensures count { IsCounted (is_link_fault result) (L.faults link.old) (L.faults link.new) }
     {
         if self.is_due(kind, now) {

@@ -53,6 +53,7 @@ impl<M: Machine> Node<M> {
         clock: &mut T,
     ) -> Result<Node<M>, NodeFault<Node<M>>>
         ensures turn { TurnsTo (replica_rules M.rules) self result (record { mail = L.mail link.old; receives = L.receives link.old; moments = T.moments clock.old }) (record { mail = L.mail link.new; receives = L.receives link.new; moments = T.moments clock.new }) }
+        ensures binding { L.binding link.new ≡ L.binding link.old }
         ensures count { IsCounted (is_link_fault result) (L.faults link.old) (L.faults link.new) }
     {
         node_of(self.host.turn(link, clock))
@@ -66,6 +67,7 @@ impl<M: Machine> Node<M> {
         turns: u64,
     ) -> Result<Node<M>, NodeFault<Node<M>>>
         ensures run { ServesTo (replica_rules M.rules) turns self result (record { mail = L.mail link.old; receives = L.receives link.old; moments = T.moments clock.old }) (record { mail = L.mail link.new; receives = L.receives link.new; moments = T.moments clock.new }) }
+        ensures binding { L.binding link.new ≡ L.binding link.old }
         ensures count { IsCounted (is_link_fault result) (L.faults link.old) (L.faults link.new) }
     {
         node_of(self.host.serve(link, clock, turns))

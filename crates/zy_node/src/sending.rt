@@ -23,6 +23,7 @@ pub(crate) fn send_all<L: Link>(
     ensures ok { OnOk result (Sends (all_parcels out.now) (L.mail link.old) (L.mail link.new)) }
     ensures err { OnErr result (SendsFront (all_parcels out.now) (L.mail link.old) (L.mail link.new)) }
     ensures receives { L.receives link.new ≡ L.receives link.old }
+    ensures binding { L.binding link.new ≡ L.binding link.old }
     ensures count { IsCounted (is_send_fault result) (L.faults link.old) (L.faults link.new) }
 {
     for (to, frame) in out {
@@ -40,6 +41,7 @@ fn send_frame<L: Link>(
     ensures ok { OnOk result (Sends (parcels_of (to, frame.now)) (L.mail link.old) (L.mail link.new)) }
     ensures err { OnErr result (SendsFront (parcels_of (to, frame.now)) (L.mail link.old) (L.mail link.new)) }
     ensures receives { L.receives link.new ≡ L.receives link.old }
+    ensures binding { L.binding link.new ≡ L.binding link.old }
     ensures count { IsCounted (is_send_fault result) (L.faults link.old) (L.faults link.new) }
 {
     let datagrams = pieces(alloc, frame)?;
@@ -62,6 +64,7 @@ fn send_pieces<L: Link>(link: &mut L, to: Party, datagrams: &[Bytes]) -> Result<
     ensures ok { OnOk result (Sends (parcels_to to datagrams.now) (L.mail link.old) (L.mail link.new)) }
     ensures err { OnErr result (SendsFront (parcels_to to datagrams.now) (L.mail link.old) (L.mail link.new)) }
     ensures receives { L.receives link.new ≡ L.receives link.old }
+    ensures binding { L.binding link.new ≡ L.binding link.old }
     ensures count { IsCounted (is_send_fault result) (L.faults link.old) (L.faults link.new) }
 {
     for datagram in datagrams {

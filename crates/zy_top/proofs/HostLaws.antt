@@ -1,15 +1,15 @@
 -- What a node and an ask come to, and that no other command ends as they do.
-use Rattle.std.proofs.Common.{◌≡◌, ℕ, ◌<◌, ◌⊎◌, inr, List, [], ◌∷◌, Option, Some, None, IfSome, Result, Ok, Err, refl, ap, arith}
+use Rattle.std.proofs.Common.{◌≡◌, ℕ, ◌<◌, ◌⊎◌, inl, inr, List, [], ◌∷◌, Option, Some, None, IfSome, Result, Ok, Err, refl, ap, arith}
 use Rattle.std.specs.Prelude.{◌≢◌, IsTrue, false}
 use Rattle.zy_edge.specs.Faults.{IsCounted, Rose}
 use Rattle.std.proofs.KnownBytes.{Keeps-refl}
 use Rattle.zy_edge.specs.Files.{Held, content_of}
+use Rattle.zy_edge.specs.declared.link.binding.Binding.{Binding}
 use Rattle.zy_hosting.specs.Calls.{is_hosting}
-use Rattle.zy_hosting.specs.Files.{asker_start}
-use Rattle.zy_hosting.specs.Hosted.{IsAskRun, files_verdict, is_end}
-use Rattle.zy_node.specs.Told.{Outside}
+use Rattle.zy_hosting.specs.Files.{Seat, asker_start}
+use Rattle.zy_hosting.specs.Hosted.{IsAskRun, Surroundings, files_verdict, is_end}
 use Rattle.zy_table.specs.ClientState.{ClientState}
-use Rattle.zy_top.specs.Hosting.{IsHosted}
+use Rattle.zy_top.specs.Hosting.{AreBound, IsHosted}
 use Rattle.zy_tuple.specs.Bytes.{op_bytes}
 use Rattle.zy_words.proofs.Endings.{rose}
 use Rattle.zy_words.specs.Ends.{IsReport, Verdict, is_foreign, is_link_fault, is_read_fault, is_write_fault}
@@ -74,17 +74,22 @@ not_spent exit own is = own (rw is refl)
 
 -- ---- the words of an ask
 
-unread : (id : ClientId) (start : Result ClientState Exit) (op : List ℕ) (turns : ℕ) (outside : Outside) (taken : Option (List ℕ)) → IsAskRun id start op turns exits.Want outside outside taken taken
+unread : (id : ClientId) (start : Result (Seat ClientState) Exit) (op : List ℕ) (turns : ℕ) (outside : Surroundings) (taken : Option (List ℕ)) → IsAskRun id start op turns exits.Want outside outside taken taken
 unread id (Err refusal) op turns outside taken = refl
 unread id (Ok start) op turns outside taken = inr (record { unread = refl; outside = refl; written = Keeps-refl taken })
 
 -- where memory is wanted for its operation, nothing was done
-pub asked_in_vain : (told : Option Held) (group secret : List ℕ) (id : ClientId) (turns : ℕ) (read : Result Op ℕ) (outside : Outside) (taken : Option (List ℕ))
+pub asked_in_vain : (told : Option Held) (group secret : List ℕ) (id : ClientId) (turns : ℕ) (read : Result Op ℕ) (outside : Surroundings) (taken : Option (List ℕ))
     → IsHosted told (asked group secret id turns read) exits.Want outside outside taken taken
 asked_in_vain told group secret id turns (Err word) outside taken = refl
 asked_in_vain None group secret id turns (Ok op) outside taken = tt
 asked_in_vain (Some files) group secret id turns (Ok op) outside taken =
     unread id (asker_start id (content_of files group) (content_of files secret)) (op_bytes op) turns outside taken
+
+-- and no address asked for
+pub unbound : (group secret : List ℕ) (id : ClientId) (turns : ℕ) (read : Result Op ℕ) (binding : Binding) → AreBound (asked group secret id turns read) exits.Want binding binding
+unbound group secret id turns (Err word) binding = refl
+unbound group secret id turns (Ok op) binding = inl refl
 
 unfoldable word_of : Result Command ℕ → ℕ
 word_of (Ok command) = 0

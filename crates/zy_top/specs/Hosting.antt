@@ -1,9 +1,10 @@
 -- The commands that take turns on a link.
 use Rattle.std.specs.Prelude.{◌≡◌, ◌≢◌, ℕ, Bool, true, false, IsTrue, List, Option, IfSome, Result, Ok, Err, ⊤}
+use Rattle.zy_base.specs.declared.ids.Party.TheVariants as parties
 use Rattle.zy_edge.specs.Files.{Held, content_of}
+use Rattle.zy_edge.specs.declared.link.binding.Binding.{Binding}
 use Rattle.zy_hosting.specs.Files.{asker_start, node_start}
-use Rattle.zy_hosting.specs.Hosted.{IsAskRun, IsNodeRun, TookAll, files_verdict, is_end}
-use Rattle.zy_node.specs.Told.{Outside}
+use Rattle.zy_hosting.specs.Hosted.{IsAskRun, IsBoundAs, IsNodeRun, Surroundings, TookAll, files_verdict, is_end}
 use Rattle.zy_tuple.specs.Bytes.{op_bytes}
 use Rattle.zy_words.specs.Ends.{Verdict}
 use Rattle.zy_words.specs.Words.{Command}
@@ -19,8 +20,9 @@ is_hosted (Ok (Command.Make number asks)) = false
 is_hosted (Ok (Command.Node group secret id turns)) = true
 is_hosted (Ok (Command.Ask group secret id turns op)) = true
 
--- what a node's turns and an ask's come to over files that are told; other commands hear and send nothing
-abbrev pub IsHosted : Option Held → Result Command ℕ → Exit → Outside → Outside → Option (List ℕ) → Option (List ℕ) → Type 0
+-- what a node's turns and an ask's come to over files that are told, at the address of their group's file; other commands hear and
+-- send nothing, and ask for no address
+abbrev pub IsHosted : Option Held → Result Command ℕ → Exit → Surroundings → Surroundings → Option (List ℕ) → Option (List ℕ) → Type 0
 IsHosted told (Err word) exit from to old new = to ≡ from
 IsHosted told (Ok (Command.Space script)) exit from to old new = to ≡ from
 IsHosted told (Ok (Command.Replay group schedule)) exit from to old new = to ≡ from
@@ -52,3 +54,14 @@ AreSpent (Ok (Command.Keys seed by height)) exit before after = exit ≢ exits.T
 AreSpent (Ok (Command.Make number asks)) exit before after = exit ≢ exits.TurnsSpent
 AreSpent (Ok (Command.Node group secret id turns)) exit before after = TookAll turns exit before after
 AreSpent (Ok (Command.Ask group secret id turns op)) exit before after = TookAll turns exit before after
+
+-- a node and an ask ask for an address of their party, and once, where their files are in order and can be read; no other command
+-- asks for one
+abbrev pub AreBound : Result Command ℕ → Exit → Binding → Binding → Type 0
+AreBound (Err word) exit before after = after ≡ before
+AreBound (Ok (Command.Space script)) exit before after = after ≡ before
+AreBound (Ok (Command.Replay group schedule)) exit before after = after ≡ before
+AreBound (Ok (Command.Keys seed by height)) exit before after = after ≡ before
+AreBound (Ok (Command.Make number asks)) exit before after = after ≡ before
+AreBound (Ok (Command.Node group secret id turns)) exit before after = IsBoundAs (parties.Replica id) exit before after
+AreBound (Ok (Command.Ask group secret id turns op)) exit before after = IsBoundAs (parties.Client id) exit before after

@@ -3,7 +3,7 @@ ghost use Rattle.zy_edge.specs.Faults.{IsCounted, Rose};
 ghost use Rattle.zy_edge.specs.Files.{content_of};
 ghost use Rattle.zy_words.specs.Calls.{exit_of, IsSent, stops_writing};
 ghost use Rattle.zy_words.specs.Ends.{IsAnswer, IsOwnAnswer, IsReport, IsWritten, is_foreign, is_link_fault, is_read_fault, is_refusal, is_write_fault};
-ghost use Rattle.zy_top.specs.Hosting.{AreSpent, EndsItself, IsHosted, is_hosted};
+ghost use Rattle.zy_top.specs.Hosting.{AreBound, AreSpent, EndsItself, IsHosted, is_hosted};
 ghost use Rattle.zy_top.specs.Verdict.{own_verdict, space_verdict, verdict};
 ghost use Rattle.zy_top.specs.Keys.{key_file};
 ghost use Rattle.zy_top.specs.Replaying.{IsSafeCommand};
@@ -65,10 +65,14 @@ pub fn zyzzyva<F: Files, S: Sink, L: Link, C: Clock>(
     // Over files that are told, a node and an ask send and hear what the run of their turns does, and write what it comes to;
     // after a fault of the link nothing is written, and a front of it was sent. Other commands touch neither link nor clock.
     ensures hosted { IsHosted (F.held files.old) (command_of (texts words.now)) result
-        (record { mail = L.mail link.old; receives = L.receives link.old; moments = C.moments clock.old })
-        (record { mail = L.mail link.new; receives = L.receives link.new; moments = C.moments clock.new })
+        (record { outside = record { mail = L.mail link.old; receives = L.receives link.old; moments = C.moments clock.old }; binding = L.binding link.old })
+        (record { outside = record { mail = L.mail link.new; receives = L.receives link.new; moments = C.moments clock.new }; binding = L.binding link.new })
         (S.taken out.old) (S.taken out.new) }
     ensures alone { (is_hosted (command_of (texts words.now)) ≡ false) → (link.new ≡ link.old) × (clock.new ≡ clock.old) }
+
+    // A node and an ask ask for an address once, as their party, once all their files are judged and before they send and hear:
+    // over files that are told, the one of the group's file (above). No other command asks for one.
+    ensures bound { AreBound (command_of (texts words.now)) result (L.binding link.old) (L.binding link.new) }
 
     // Turns are spent only where all were taken, over any files.
     ensures spent { AreSpent (command_of (texts words.now)) result (L.receives link.old) (L.receives link.new) }

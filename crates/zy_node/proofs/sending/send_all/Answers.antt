@@ -7,7 +7,7 @@ use Rattle.zy_node.proofs.SendLemmas.{Sends-nil, frames_before, on_err, one_fram
 use Rattle.zy_node.proofs.sending.send_all.Goals as goal
 
 pub loop-to-init : goal.loop-to-init
-loop-to-init g c = record { sent = Sends-nil (g.L.Link.mail c.args.link.now); receives = refl; faults = refl }
+loop-to-init g c = record { sent = Sends-nil (g.L.Link.mail c.args.link.now); receives = refl; binding = refl; faults = refl }
 
 pub returns-in_err-send_frame-clause-err : goal.returns-in_err-send_frame-clause-err
 returns-in_err-send_frame-clause-err g c =
@@ -29,6 +29,7 @@ loop-to-preserved g c =
     record {
       sent = one_frame_more c.args.out.now c.loop-to.to-index one first before after (omega arith) c.loop-to-item.is c.loop-to.invariant.sent sent;
       receives = c.in_ok-send_frame.ensures.receives ∙ c.loop-to.invariant.receives;
+      binding = c.in_ok-send_frame.ensures.binding ∙ c.loop-to.invariant.binding;
       faults = c.in_ok-send_frame.ensures.count ∙ c.loop-to.invariant.faults;
     }
 

@@ -6,7 +6,7 @@ use Rattle.zy_node.proofs.SendLemmas.{Sends-nil, datagrams_before, one_datagram_
 use Rattle.zy_node.proofs.sending.send_pieces.Goals as goal
 
 pub loop-datagram-init : goal.loop-datagram-init
-loop-datagram-init g c = record { sent = Sends-nil (g.L.Link.mail c.args.link.now); receives = refl; faults = refl }
+loop-datagram-init g c = record { sent = Sends-nil (g.L.Link.mail c.args.link.now); receives = refl; binding = refl; faults = refl }
 
 pub returns-in-Failed-clause-err : goal.returns-in-Failed-clause-err
 returns-in-Failed-clause-err g c =
@@ -23,6 +23,7 @@ loop-datagram-preserved g c =
       sent = one_datagram_more c.args.to c.args.datagrams.now c.loop-datagram.datagram-index c.datagram-item.result
           (g.L.Link.mail c.args.link.now) before after (omega arith) c.datagram-item.is c.loop-datagram.invariant.sent sent;
       receives = c.in-Sent.ensures.receives ∙ c.loop-datagram.invariant.receives;
+      binding = c.in-Sent.ensures.binding ∙ c.loop-datagram.invariant.binding;
       faults = c.in-Sent.ensures.count ∙ c.loop-datagram.invariant.faults;
     }
 

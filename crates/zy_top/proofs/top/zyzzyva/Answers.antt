@@ -9,7 +9,7 @@ use Rattle.zy_top.specs.Keys.{key_file}
 use Rattle.zy_top.specs.Verdict.{make_verdict, replay_verdict, verdict}
 use Rattle.zy_words.proofs.Endings.{cut_short, told_finishes}
 use Rattle.zy_top.proofs.Headline.{commands_are_safe}
-use Rattle.zy_top.proofs.HostLaws.{asked_in_vain, nothing_due, turns_end}
+use Rattle.zy_top.proofs.HostLaws.{asked_in_vain, nothing_due, turns_end, unbound}
 use Rattle.zy_top.proofs.MadeRuns.{made_finishes, own_answer}
 use Rattle.zy_top.proofs.top.zyzzyva.Goals as goal
 
@@ -120,3 +120,8 @@ pub returns-in-Err-Want-clause-hosted : goal.returns-in-Err-Want-clause-hosted
 returns-in-Err-Want-clause-hosted g c =
     let words : command_of (texts c.args.words.now) ≡ asked c.in-Ok-Ask.group.now c.in-Ok-Ask.secret.now c.in-Ok-Ask.id c.in-Ok-Ask.turns (op_alone (op_read c.in-Ok-Ask.op.now) (texts c.in-Ok-Ask.others.now)) = rw c.in-Ok-Ask.field-0-is at c.in-Ok-Ask.ensures in
     rw words (asked_in_vain (g.F.Files.held c.args.files.now) c.in-Ok-Ask.group.now c.in-Ok-Ask.secret.now c.in-Ok-Ask.id c.in-Ok-Ask.turns (op_alone (op_read c.in-Ok-Ask.op.now) (texts c.in-Ok-Ask.others.now)) _ (g.S.Sink.taken c.args.out.now))
+
+pub returns-in-Err-Want-clause-bound : goal.returns-in-Err-Want-clause-bound
+returns-in-Err-Want-clause-bound g c =
+    let words : command_of (texts c.args.words.now) ≡ asked c.in-Ok-Ask.group.now c.in-Ok-Ask.secret.now c.in-Ok-Ask.id c.in-Ok-Ask.turns (op_alone (op_read c.in-Ok-Ask.op.now) (texts c.in-Ok-Ask.others.now)) = rw c.in-Ok-Ask.field-0-is at c.in-Ok-Ask.ensures in
+    rw words (unbound c.in-Ok-Ask.group.now c.in-Ok-Ask.secret.now c.in-Ok-Ask.id c.in-Ok-Ask.turns (op_alone (op_read c.in-Ok-Ask.op.now) (texts c.in-Ok-Ask.others.now)) (g.L.Link.binding c.args.link.now))

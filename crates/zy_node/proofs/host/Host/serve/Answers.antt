@@ -4,7 +4,7 @@ use Rattle.zy_node.proofs.RunLemmas.{all_taken, cut_off, done_early, no_turns, o
 use Rattle.zy_node.proofs.host.Host.serve.Goals as goal
 
 pub loop-init : goal.loop-init
-loop-init g c = record { run = no_turns g.C.Core.rules c.args.self _; faults = refl }
+loop-init g c = record { run = no_turns g.C.Core.rules c.args.self _; binding = refl; faults = refl }
 
 pub returns-then-is_done-clause-run : goal.returns-then-is_done-clause-run
 returns-then-is_done-clause-run g c =
@@ -20,6 +20,7 @@ returns-in_err-host-clause-run g c =
 pub loop-preserved : goal.loop-preserved
 loop-preserved g c = record {
   run = one_turn_more g.C.Core.rules c.loop.counter c.args.self c.loop.host c.in_ok-host.host _ _ _ c.loop.invariant.run (sym c.is_done.ensures ∙ c.if-is_done.false) c.in_ok-host.ensures.turn;
+  binding = c.in_ok-host.ensures.binding ∙ c.loop.invariant.binding;
   faults = c.in_ok-host.ensures.count ∙ c.loop.invariant.faults;
 }
 

@@ -7,5 +7,6 @@ invariant-loop g l = record {
   run : IsRun g.C.Core.rules l.counter l.fn.self l.host
       (record { mail = g.L.Link.mail l.fn.link; receives = g.L.Link.receives l.fn.link; moments = g.T.Clock.moments l.fn.clock })
       (record { mail = g.L.Link.mail l.link; receives = g.L.Link.receives l.link; moments = g.T.Clock.moments l.clock });
+  binding : g.L.Link.binding l.link ≡ g.L.Link.binding l.fn.link;
   faults : g.L.Link.faults l.link ≡ g.L.Link.faults l.fn.link;
 }
