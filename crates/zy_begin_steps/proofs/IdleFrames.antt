@@ -1,17 +1,14 @@
 -- A report that tells an entry of a client that there can't be is nothing to a replica: by it, and by what has it, nothing is said or
 -- gained, and nothing that is kept changes.
-use Rattle.std.proofs.Common.{◌≡◌, ◌⊎◌, inl, inr, ℕ, Bool, true, false, cond, List, [], ◌∷◌, Option, Some, None, Err, refl, sym, subst}
+use Rattle.std.proofs.Common.{◌≡◌, ◌⊎◌, inl, inr, Bool, true, false, cond, [], Option, Some, None, Err, refl, sym, subst}
 use Rattle.std.specs.Prelude.{All, nat_lt}
-use Rattle.std.proofs.lemmas.List.Elements.{All-cons, All-nil}
 use Rattle.zy_base.specs.Machine.{Rules}
 use Rattle.zy_base.specs.declared.cause.Cause.{Cause}
 use Rattle.zy_base.specs.declared.cause.Cause.TheVariants as causes
-use Rattle.zy_base.specs.declared.counts.Counts.{Counts}
 use Rattle.zy_base.specs.declared.step.Answer.TheVariants.{Refused, Taken}
-use Rattle.zy_begin_steps.proofs.Reported.{cert_refused, new_refused}
+use Rattle.zy_begin_steps.proofs.Reported.{all_of_clients, cert_refused, new_refused, of_clients}
 use Rattle.zy_change.specs.Views.{has_begun, is_from, slot_of}
-use Rattle.zy_confirm.specs.Judging.{first_broken, or_later}
-use Rattle.zy_evidence.proofs.ProofLemmas.{all_clear}
+use Rattle.zy_confirm.specs.Judging.{first_broken}
 use Rattle.zy_evidence.specs.Rules.{number_of, rule_of}
 use Rattle.zy_evidence.specs.declared.rule.Rule.{Rule}
 use Rattle.zy_parts.specs.declared.reports.Change.{Change}
@@ -44,22 +41,6 @@ pub record IsIdle {S : Type 0} (s : State S) (o : Outcome S) : Type 0 where
   pub acts : o.deeds.acts ≡ []
   -- and if it is refused, that blames nobody
   pub blameless : (cause : Cause) → o.answer ≡ Refused cause → blames cause ≡ false
-
--- ---- entries of clients that there may be
-
-module _ (counts : Counts) (interval : ℕ) where
-  both_clear : (first later : Option Rule) → or_later first later ≡ None → (first ≡ None) × (later ≡ None)
-  both_clear None later is = (refl, is)
-  both_clear (Some rule) later is = absurd cc
-
-  of_clients : (c : Signed Change) → rule_of counts interval c.stmt ≡ None → AreOfClients c
-  of_clients c clear = ((all_clear counts interval c).0 clear).itself.entries.clients
-
-  all_of_clients : (list : List (Signed Change)) → first_broken counts interval list ≡ None → All AreOfClients list
-  all_of_clients [] clear = All-nil AreOfClients
-  all_of_clients (c ∷ rest) clear =
-      let both = both_clear (rule_of counts interval c.stmt) (first_broken counts interval rest) clear in
-      All-cons AreOfClients c rest (of_clients c both.0) (all_of_clients rest both.1)
 
 -- ---- the rows
 

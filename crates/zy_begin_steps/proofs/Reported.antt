@@ -1,7 +1,7 @@
 -- A report that tells an entry of a client that there can't be breaks a rule: its row refuses it, or reads nothing of it.
 use Rattle.std.proofs.Common.{◌≡◌, ℕ, nat_lt, Bool, true, false, cond, if◌then◌else◌, ◌||◌, List, [], ◌∷◌, length, map, Option, Some, None, Result, Err, refl, ap, ◌∙◌}
 use Rattle.std.specs.Prelude.{All}
-use Rattle.std.proofs.lemmas.List.Elements.{All-cons, All-head, All-nil, All-tail}
+use Rattle.std.proofs.lemmas.List.Elements.{All-cons, All-nil}
 use Rattle.zy_base.specs.Machine.{Rules}
 use Rattle.zy_base.specs.declared.cause.Cause.{Cause}
 use Rattle.zy_base.specs.declared.cause.Cause.TheVariants as causes
@@ -34,23 +34,36 @@ use Rattle.zy_view_law.specs.Held.{AreLinksKept}
 use Rattle.zy_view_steps.proofs.HeardRows.{sent_more}
 use Rattle.zy_view_steps.proofs.Leaves.{IsLawfulAttempt, IsOnWay, at_begin}
 use Rattle.zy_view_steps.specs.Rows.{IsReady, blames}
-use Rattle.zy_begin_steps.specs.Frames.{AreLinksBrought}
+use Rattle.zy_begin_steps.specs.Frames.{AreLinksBrought, AreOfClients}
 
-module _ (w : World) (counts : Counts) (interval : ℕ) where
-  -- one that breaks no rule has entries of such clients alone
-  pub links_of : (c : Signed Change) → AreLinksBrought w c → rule_of counts interval c.stmt ≡ None → AreLinksKept w c
-  links_of c brought clear = brought ((all_clear counts interval c).0 clear).itself.entries.clients
+-- ---- entries of clients that there may be
 
+module _ (counts : Counts) (interval : ℕ) where
   both_clear : (first later : Option Rule) → or_later first later ≡ None → (first ≡ None) × (later ≡ None)
   both_clear None later is = (refl, is)
   both_clear (Some rule) later is = absurd cc
 
-  -- so has each of many
-  pub links_of_all : (list : List (Signed Change)) → All (AreLinksBrought w) list → first_broken counts interval list ≡ None → All (AreLinksKept w) list
-  links_of_all [] brought clear = All-nil (AreLinksKept w)
-  links_of_all (c ∷ rest) brought clear =
+  -- one that breaks no rule
+  pub of_clients : (c : Signed Change) → rule_of counts interval c.stmt ≡ None → AreOfClients c
+  of_clients c clear = ((all_clear counts interval c).0 clear).itself.entries.clients
+
+  -- and so each of many
+  pub all_of_clients : (list : List (Signed Change)) → first_broken counts interval list ≡ None → All AreOfClients list
+  all_of_clients [] clear = All-nil AreOfClients
+  all_of_clients (c ∷ rest) clear =
       let both = both_clear (rule_of counts interval c.stmt) (first_broken counts interval rest) clear in
-      All-cons (AreLinksKept w) c rest (links_of c (All-head (AreLinksBrought w) c rest brought) both.0) (links_of_all rest (All-tail (AreLinksBrought w) c rest brought) both.1)
+      All-cons AreOfClients c rest (of_clients c both.0) (all_of_clients rest both.1)
+
+-- ---- so their links are kept
+
+module _ (w : World) (counts : Counts) (interval : ℕ) where
+  pub links_of : (c : Signed Change) → AreLinksBrought w c → rule_of counts interval c.stmt ≡ None → AreLinksKept w c
+  links_of c brought clear = brought (of_clients counts interval c clear)
+
+  pub links_of_all : (list : List (Signed Change)) → All (AreLinksBrought w) list → first_broken counts interval list ≡ None → All (AreLinksKept w) list
+  links_of_all list brought clear k d within = brought k d within (all_of_clients counts interval list clear k d within)
+
+-- ---- what refuses it
 
 -- Nothing is chosen out of a new view where a report breaks a rule, and that blames nobody.
 unchosen : (counts : Counts) (interval : ℕ) (n : New) (rule : Rule) → first_broken counts interval n.changes ≡ Some rule → (cause : Cause) × (chosen_in counts interval n ≡ Err cause) × (blames cause ≡ false)

@@ -56,17 +56,12 @@ use Rattle.zy_world_law.proofs.Completing.{IsEnded, backed, fast_completed, slow
 use Rattle.zy_world_law.proofs.DecodedInRange.{decoded_readable}
 use Rattle.zy_world_law.proofs.Goings.{IsAfter, IsEnd, client_goes_good}
 use Rattle.zy_world_law.proofs.HeldLaw.{HeldLaw}
+use Rattle.zy_world_law.proofs.HonestEvents.{same_heard}
 use Rattle.zy_world_law.proofs.KeptOrHeard.{IsSame, Comes, Tells, kept_or_brought, step_same, waited_before, completed_reply}
 use Rattle.zy_world_law.proofs.KeptTexts.{IsKeeping}
 use Rattle.zy_world_law.proofs.NotForged.{parts_said}
 use Rattle.zy_lawful.proofs.Goes.{all_of_both}
 use Rattle.zy_world_law.proofs.Vouched.{part_vouched}
-
-abbrev heard_as : List ℕ → Event
-heard_as bytes = Heard bytes
-
-same_bytes_heard : (a b : List ℕ) → heard_as a ≡ heard_as b → a ≡ b
-same_bytes_heard a b is = cc
 
 abbrev local_at : View × Place × Digest → Statement
 local_at p = Statement.Local p.0.0 (record { place = p.1.0; head = p.2 })
@@ -76,7 +71,7 @@ pub heard_vouched : {S : Type 0} (R : Rules S) (w : World S) (s : ClientState) �
     → IsHeardLocal s (Heard bytes) spec vote → IsVouchedBy (seen R w) (local_to spec) vote.by
 heard_vouched R w s keys bytes none spec vote heard =
     let frame : Frame = frames.LocalCommit vote in
-    let is : frame_in bytes ≡ Ok frame = ap frame_in (same_bytes_heard bytes heard.bytes heard.heard) ∙ heard.frame in
+    let is : frame_in bytes ≡ Ok frame = ap frame_in (same_heard bytes heard.bytes heard.heard) ∙ heard.frame in
     let signed : answer_to (keys_of w.setup) (part_of numbers.local local_fields vote) ≡ answers.Yes =
     subst (λ (k : Keys). answer_to k (part_of numbers.local local_fields vote) ≡ answers.Yes) keys heard.counted.signed in
     let said = (parts_said w bytes (Plain frame) none (ap (λ (r : Result Frame FrameFault). either_read bytes r) is)).0 signed in

@@ -38,10 +38,10 @@ use Rattle.zy_world_law.proofs.HonestReports.{frame_honest}
 use Rattle.zy_begin_steps.proofs.IdleFrames.{IsIdle, of_clients_or_idle}
 use Rattle.zy_world_law.proofs.NotForged.{parts_said}
 
-abbrev heard_as : List ℕ → Event
+abbrev pub heard_as : List ℕ → Event
 heard_as bytes = Heard bytes
 
-same_heard : (a b : List ℕ) → heard_as a ≡ heard_as b → a ≡ b
+pub same_heard : (a b : List ℕ) → heard_as a ≡ heard_as b → a ≡ b
 same_heard a b is = cc
 
 module _ {S : Type 0} (R : Rules S) (w : World S) (good : IsGood R w) (s : State S) (keys : s.keys ≡ keys_of w.setup) (bytes : List ℕ) (none : forger_in w bytes ≡ None) (kept : AllByRecursion (IsKept w.texts) (texts_in bytes)) where

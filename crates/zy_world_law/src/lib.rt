@@ -1,5 +1,6 @@
 //! The world of a replay and its law: what each event of a schedule makes of all parties, the frames and the kept texts, as
-//! definitions, and that every run is safe. The functions here are laws, which have no argument and do nothing.
+//! definitions; that every run is safe, and that no correct replica is blamed in one. The functions here are laws, which have no
+//! argument and do nothing.
 #![tactic(auto)]
 
 mod blame;
