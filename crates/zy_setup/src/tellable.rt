@@ -1,14 +1,15 @@
-ghost use Rattle.std.specs.Prelude.{◌≡◌, ◌⊎◌, ◌↔◌, ◌^◌, IfOk, OnOk, OnErr, IsErrOf, option_map};
+ghost use Rattle.std.specs.Prelude.{◌≡◌, ◌⊎◌, ◌↔◌, ◌^◌, IfOk, OnOk, IsErrOf, option_map};
 ghost use Rattle.std.specs.Option.{ForSome};
 ghost use Rattle.std.specs.Result.{result_ok};
 ghost use Rattle.zy_lms.specs.Height.{levels_of};
+ghost use Rattle.zy_frames.specs.Frames.{IsFrameInRange};
 ghost use Rattle.zy_seal.specs.Sealing.{spent_one};
 ghost use Rattle.zy_seal.specs.declared.sealer.SealFault.{SealFault};
 ghost use Rattle.zy_setup.specs.Telling.{IsEncoded, IsTellable, telling_of};
+ghost use Rattle.zy_table.specs.declared.deeds.AnyFrame.TheVariants as any;
 ghost use Rattle.zy_wire.specs.Getting.{Decodes};
 ghost use Rattle.zy_wire.specs.Spelling.{whole};
 ghost use Rattle.zy_world_law.specs.Liars.{statement_numbered, statement_told};
-ghost use Rattle.zy_world_law.specs.Reading.{IsInRange};
 
 use crate::frames::{encoded, encoded_view};
 use std::alloc::Global;
@@ -16,7 +17,6 @@ use zy_base::{Bytes, Want};
 use zy_frames::Frame;
 use zy_parts::{Ask, Began, Change, Check, Fetch, Hate, Hole, Local, New, Statement};
 use zy_seal::{SealFault, Sealer};
-use zy_table::AnyFrame;
 use zy_vframes::ViewFrame;
 use zy_wire::{Cut, GetFault, Spelled};
 
@@ -99,31 +99,28 @@ impl Tellable {
         // After `Want` the leaf may be spent.
         ensures want { IsErrOf result SealFault.Want → (sealer.new ≡ sealer.old) ⊎ (sealer.new ≡ spent_one sealer.old) }
     {
-        match self.signed(sealer)? {
-            AnyFrame::Plain(frame) => Ok(Some(encoded(alloc, frame)?)),
-            AnyFrame::View(frame) => Ok(encoded_view(alloc, frame)?),
-        }
-    }
-
-    // Signed by the next leaf.
-    fn signed(self, sealer: &mut Sealer) -> Result<AnyFrame, SealFault>
-        requires { IsTellable self }
-        ensures frame { IfOk result (λ frame. frame ≡ telling_of self sealer.old) }
-        ensures in_range { IfOk result IsInRange }
-        ensures spent_one { OnOk result (sealer.new ≡ spent_one sealer.old) }
-        ensures spent { IsErrOf result SealFault.KeySpent ↔ (sealer.old.key.next ≡ 2 ^ levels_of sealer.old.key.height) }
-        ensures unchanged { OnErr result (sealer.new ≡ sealer.old) }
-    {
         match self {
-            Tellable::Ask(ask) => Ok(AnyFrame::Plain(Frame::Request(sealer.seal(ask)?))),
-            Tellable::Local(local) => Ok(AnyFrame::Plain(Frame::LocalCommit(sealer.seal(local)?))),
-            Tellable::Hole(hole) => Ok(AnyFrame::Plain(Frame::FillHole(sealer.seal(hole)?))),
-            Tellable::Hate(hate) => Ok(AnyFrame::Plain(Frame::Hate(sealer.seal(hate)?))),
-            Tellable::Check(check) => Ok(AnyFrame::Plain(Frame::Checkpoint(sealer.seal(check)?))),
-            Tellable::Change(change) => Ok(AnyFrame::View(ViewFrame::ViewChange(sealer.seal(change)?))),
-            Tellable::New(new) => Ok(AnyFrame::View(ViewFrame::NewView(sealer.seal(new)?))),
-            Tellable::Began(began) => Ok(AnyFrame::View(ViewFrame::ViewConfirm(sealer.seal(began)?))),
-            Tellable::Fetch(fetch) => Ok(AnyFrame::View(ViewFrame::Fetch(sealer.seal(fetch)?))),
+            Tellable::Ask(ask) => Ok(told(alloc, Frame::Request(sealer.seal(ask)?))?),
+            Tellable::Local(local) => Ok(told(alloc, Frame::LocalCommit(sealer.seal(local)?))?),
+            Tellable::Hole(hole) => Ok(told(alloc, Frame::FillHole(sealer.seal(hole)?))?),
+            Tellable::Hate(hate) => Ok(told(alloc, Frame::Hate(sealer.seal(hate)?))?),
+            Tellable::Check(check) => Ok(told(alloc, Frame::Checkpoint(sealer.seal(check)?))?),
+            Tellable::Change(change) => {
+                Ok(encoded_view(alloc, ViewFrame::ViewChange(sealer.seal(change)?))?)
+            }
+            Tellable::New(new) => Ok(encoded_view(alloc, ViewFrame::NewView(sealer.seal(new)?))?),
+            Tellable::Began(began) => {
+                Ok(encoded_view(alloc, ViewFrame::ViewConfirm(sealer.seal(began)?))?)
+            }
+            Tellable::Fetch(fetch) => Ok(encoded_view(alloc, ViewFrame::Fetch(sealer.seal(fetch)?))?),
         }
     }
+}
+
+// No frame of normal operation is too long.
+fn told(alloc: Global, frame: Frame) -> Result<Option<Bytes>, Want>
+    requires { IsFrameInRange frame }
+    ensures { IfOk result (IsEncoded (any.Plain frame)) }
+{
+    Ok(Some(encoded(alloc, frame)?))
 }

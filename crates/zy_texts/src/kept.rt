@@ -4,10 +4,10 @@ ghost use Rattle.zy_base.specs.declared.ids.Digest.{Digest as Sum};
 ghost use Rattle.zy_chain.specs.Entries.{bytes_of_request};
 ghost use Rattle.zy_frames.specs.Frames.{IsFrameInRange};
 ghost use Rattle.zy_parts.specs.Statements.{IsAskInRange};
-ghost use Rattle.zy_world_law.specs.Reading.{IsInRange};
 ghost use Rattle.zy_world_law.specs.Texts.{ask_texts, digest_of, frame_texts, texts_of};
 ghost use Rattle.zy_world_law.specs.World.{first_texts};
 ghost use Rattle.zy_texts.specs.Kept.{Clashes, IsShown, Keeps, look_up};
+ghost use Rattle.zy_texts.specs.Reading.{IsInRange};
 
 ghost use Rattle.zy_texts.specs.declared.fault.TextFault.TheVariants.{Clash};
 

@@ -2,7 +2,8 @@
 
 ghost use Rattle.std.specs.Prelude.{◌≡◌, Err, IfOk};
 ghost use Rattle.std.specs.Option.{ForSome};
-ghost use Rattle.zy_world_law.specs.Reading.{IsInRange, any_frame_in, either_read, parts_of, view_read};
+ghost use Rattle.zy_world_law.specs.Reading.{any_frame_in, either_read, parts_of, view_read};
+ghost use Rattle.zy_texts.specs.Reading.{IsInRange};
 
 ghost use Rattle.zy_vframes.specs.ViewFrames as views;
 

@@ -2,7 +2,8 @@ ghost use Rattle.std.specs.Prelude.{◌≡◌, ℕ, ◌≤◌, [], ◌++◌, Lis
 ghost use Rattle.zy_base.specs.declared.ids.Party.{Party as Speaker};
 ghost use Rattle.zy_seal.specs.Screening.{answer_to};
 ghost use Rattle.zy_world_law.specs.Honest.{is_unsaid, is_yes};
-ghost use Rattle.zy_world_law.specs.Reading.{IsInRange, parts_of as parts_in_frame};
+ghost use Rattle.zy_world_law.specs.Reading.{parts_of as parts_in_frame};
+ghost use Rattle.zy_texts.specs.Reading.{IsInRange};
 ghost use Rattle.zy_world_law.specs.World.{correct_in, seats};
 
 ghost use Rattle.zy_texts.specs.Said.{AreShown, SaysAt, also_said, forger_among, is_among, is_forged_by, none_said, told_by};
