@@ -1,3 +1,4 @@
 pub mod Ready
 pub mod Stepped
 pub mod Held
+pub mod Hearing

@@ -1,4 +1,4 @@
-ghost use Rattle.std.specs.Prelude.{◌≡◌, ◌≤◌, length, map, IfOk, Ok, if◌then◌else◌};
+ghost use Rattle.std.specs.Prelude.{◌≡◌, ◌≤◌, length, map, IfOk, Ok, Err, if◌then◌else◌};
 ghost use Rattle.std.specs.List.{AllByRecursion};
 ghost use Rattle.zy_frames.specs.Frames.{IsFrameInRange, frame_in, parts_of};
 ghost use Rattle.zy_table.specs.Sending.{CanBeSent};
@@ -8,7 +8,9 @@ ghost use Rattle.zy_table.specs.ClientState.{spoken_of, timers_of, all_replicas,
 ghost use Rattle.zy_base.specs.declared.cause.Cause.TheVariants as causes;
 ghost use Rattle.zy_table.specs.Roles.{is_replica};
 ghost use Rattle.zy_table.specs.ClientState.{refused};
-ghost use Rattle.zy_table.specs.ClientRows.{ask as ask_row, hear as hear_row, hear_response as hear_response_row, is_by_primary, count_local, decoded, timer as timer_row, client_step};
+ghost use Rattle.zy_table.specs.ClientRows.{ask as ask_row, hear as hear_row, hear_response as hear_response_row, is_by_primary, count_local, decoded, timer as timer_row};
+ghost use Rattle.zy_client.specs.Hearing.{decoded_as, view_decoded, whole_client_step};
+ghost use Rattle.zy_vframes.specs.ViewFrames as views;
 ghost use Rattle.zy_client.specs.Ready.{IsKeepable};
 ghost use Rattle.zy_client.specs.Stepped.{IsStepped};
 
@@ -16,12 +18,13 @@ use crate::moved::Moved;
 use crate::{Client, ClientStepped};
 use std::alloc::Global;
 use zy_base::{
-    Bytes, Cause, ClientId, Event, Items, Outgoing, Party, ReplicaId, Said, Spoken, TimerKind, Want,
+    Bytes, Cause, ClientId, Event, FrameFault, Items, Outgoing, Party, ReplicaId, Said, Spoken, TimerKind, Want,
 };
 use zy_frames::{DecodeFault, Frame, decode, parts};
 use zy_parts::{Ask, Local, Order, Signed, signed_text};
 use zy_seal::screen_parts;
 use zy_table::{Response, Sent, outgoing};
+use zy_vframes::ViewFrame;
 
 impl Client {
     /// Asks: the request with the next stamp goes to the primary of the known view. Refused as `Waiting` while an
@@ -35,14 +38,14 @@ impl Client {
 
     /// What an event makes of the client.
     pub fn step(self, event: Event) -> Result<ClientStepped, Want>
-        ensures { IfOk result (IsStepped (client_step self event)) }
+        ensures { IfOk result (IsStepped (whole_client_step self event)) }
     {
         self.moves(event)?.finish()
     }
 
-    #[tactic(auto, unfolding(zy_table::specs::ClientRows::client_step))]
+    #[tactic(auto, unfolding(crate::specs::Hearing::whole_client_step))]
     fn moves(self, event: Event) -> Result<Moved, Want>
-        ensures { IfOk result (λ m. m ≡ client_step self event) }
+        ensures { IfOk result (λ m. m ≡ whole_client_step self event) }
     {
         match event {
             Event::Heard(bytes) => self.hears_bytes(&bytes),
@@ -61,12 +64,48 @@ impl Client {
     }
 
     fn hears_bytes(self, bytes: &Bytes) -> Result<Moved, Want>
-        ensures { IfOk result (λ m. m ≡ decoded self (frame_in bytes.now)) }
+        ensures { IfOk result (λ m. m ≡ decoded_as self bytes.now (frame_in bytes.now)) }
     {
         match decode(self.alloc, bytes.as_slice()) {
             Ok(frame) => self.hears(frame),
+            Err(DecodeFault::Frame(fault)) => self.not_plain(bytes, fault),
+            Err(DecodeFault::Want) => Err(Want),
+        }
+    }
+
+    // What is no frame of normal operation by its kind may be one of a view change.
+    fn not_plain(self, bytes: &Bytes, fault: FrameFault) -> Result<Moved, Want>
+        ensures { IfOk result (λ m. m ≡ decoded_as self bytes.now (Err fault)) }
+    {
+        match fault {
+            FrameFault::Kind => self.hears_view_bytes(bytes),
+            FrameFault::Short
+            | FrameFault::Version
+            | FrameFault::TooLong
+            | FrameFault::Trailing
+            | FrameFault::Range => Ok(self.refused(Cause::NotFrame(fault))),
+        }
+    }
+
+    fn hears_view_bytes(self, bytes: &Bytes) -> Result<Moved, Want>
+        ensures { IfOk result (λ m. m ≡ view_decoded self (views.frame_in bytes.now)) }
+    {
+        match zy_vframes::decode(self.alloc, bytes.as_slice()) {
+            Ok(frame) => self.hears_view(&frame),
             Err(DecodeFault::Frame(fault)) => Ok(self.refused(Cause::NotFrame(fault))),
             Err(DecodeFault::Want) => Err(Want),
+        }
+    }
+
+    // A client has no part in a change of view.
+    fn hears_view(self, frame: &ViewFrame) -> Result<Moved, Want>
+        requires { views.IsFrameInRange frame.now }
+        ensures { IfOk result (λ m. m ≡ view_decoded self (Ok frame.now)) }
+    {
+        let parts = zy_vframes::parts(self.alloc, frame)?;
+        match screen_parts(&self.directory, &parts) {
+            Some(cause) => Ok(self.refused(cause)),
+            None => Ok(self.refused(Cause::WrongRole)),
         }
     }
 

@@ -14,7 +14,7 @@ use Rattle.zy_base.specs.declared.step.Event.TheVariants.{Heard, Timer}
 use Rattle.zy_base.specs.declared.step.TimerKind.{TimerKind}
 use Rattle.zy_base.specs.declared.step.TimerKind.TheVariants as timers
 use Rattle.zy_seal.specs.Keys.{Keys}
-use Rattle.zy_table.specs.ClientRows.{client_step}
+use Rattle.zy_client.specs.Hearing.{whole_client_step}
 use Rattle.zy_table.specs.ClientState.{client_outgoing}
 use Rattle.zy_table.specs.Deeds.{outgoing_of}
 use Rattle.zy_table.specs.Whole.{whole_step}
@@ -126,7 +126,7 @@ to_client : {S : Type 0} (w : World S) (bag : List Mail) (id : ClientId) (bytes 
     → bring_to_client w (record w { bag = bag }) id bytes o ≡ carried (heard (record w { bag = bag }) bytes) (λ texts. client_steps (record w { bag = bag; texts = texts }) id (Heard bytes) o)
 unfolding heard client_steps
 to_client {S = S} w bag id bytes (Some (Some x)) is =
-    let o = client_step x.state (Heard bytes) in
+    let o = whole_client_step x.state (Heard bytes) in
     let m : World S = record w { bag = bag } in
     let done = completed_by x.state o.state in
     let change : World S → World S = λ v. with_done (with_sent (with_client v id (client_stepped x o)) (client_outgoing o.state.counts.n o.sent)) id done in

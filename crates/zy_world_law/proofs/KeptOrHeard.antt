@@ -5,6 +5,7 @@ use Rattle.std.proofs.lemmas.Option.{same_Some}
 use Rattle.zy_base.specs.declared.cause.Cause.{Cause}
 use Rattle.zy_base.specs.declared.cause.Cause.TheVariants as causes
 use Rattle.zy_base.specs.declared.frame_fault.FrameFault.{FrameFault}
+use Rattle.zy_base.specs.declared.frame_fault.FrameFault.TheVariants as faults
 use Rattle.zy_base.specs.declared.ids.Party.{Party}
 use Rattle.zy_base.specs.declared.ids.Party.TheVariants.{Replica, Client}
 use Rattle.zy_base.specs.declared.ids.View.{View}
@@ -27,7 +28,11 @@ use Rattle.zy_cert.specs.declared.votes.Vote.{Vote}
 use Rattle.zy_cert.specs.declared.votes.Vote.TheVariants as votes
 use Rattle.zy_seal.specs.Screening.{screen, answer_to}
 use Rattle.zy_seal.specs.declared.directory.SealAnswer.TheVariants as answers
-use Rattle.zy_table.specs.ClientRows.{ask, ask_while, asked, next_ask, client_step, kept_of, keep, completed_if, complete, done_of, agreeing, response_cause, evidence_by, told, keep_unless, respond, respond_while, is_for, done_by, complete_by, vote_on, local_beside, local_while, count_local, certified_in, ask_or_commit, run_out_while, run_out, is_by_primary, hear_response, hear, unless, decoded}
+use Rattle.zy_table.specs.ClientRows.{ask, ask_while, asked, next_ask, kept_of, keep, completed_if, complete, done_of, agreeing, response_cause, evidence_by, told, keep_unless, respond, respond_while, is_for, done_by, complete_by, vote_on, local_beside, local_while, count_local, certified_in, ask_or_commit, run_out_while, run_out, is_by_primary, hear_response, hear, unless, decoded}
+use Rattle.zy_client.specs.Hearing.{decoded_as, view_decoded, whole_client_step}
+use Rattle.zy_vframes.specs.Parts as view_parts
+use Rattle.zy_vframes.specs.ViewFrames as views
+use Rattle.zy_vframes.specs.declared.frame.ViewFrame.{ViewFrame}
 use Rattle.zy_table.specs.ClientState.{ClientState, ClientOutcome, leaves_of, refused, is_waiting}
 use Rattle.zy_table.specs.Roles.{is_replica}
 use Rattle.zy_table.specs.declared.client.Commit.{Commit}
@@ -123,15 +128,33 @@ module _ (s : ClientState) (bytes : List ℕ) where
   hears_read (Err fault) is = same refl
   hears_read (Ok frame) is = hears_unless frame is (screen s.keys (parts_of frame)) refl
 
-  pub heard_comes : Comes s (IsHeard s bytes) (client_step s (Heard bytes))
-  unfolding client_step
-  heard_comes = hears_read (frame_in bytes) refl
+  -- frames of a change of view leave all as it was
+  hears_view : (read : Result ViewFrame FrameFault) → Comes s (IsHeard s bytes) (view_decoded s read)
+  hears_view (Err fault) = same refl
+  hears_view (Ok frame) = screened (screen s.keys (view_parts.parts_of frame))
+    where
+      screened : (cause : Option Cause) → Comes s (IsHeard s bytes) (unless cause s (refused causes.WrongRole s))
+      screened (Some cause) = same refl
+      screened None = same refl
+
+  hears_either : (read : Result Frame FrameFault) → frame_in bytes ≡ read → Comes s (IsHeard s bytes) (decoded_as s bytes read)
+  hears_either (Err faults.Kind) is = hears_view (views.frame_in bytes)
+  hears_either (Err faults.Short) is = same refl
+  hears_either (Err faults.Version) is = same refl
+  hears_either (Err faults.TooLong) is = same refl
+  hears_either (Err faults.Trailing) is = same refl
+  hears_either (Err faults.Range) is = same refl
+  hears_either (Ok frame) is = hears_read (Ok frame) is
+
+  pub heard_comes : Comes s (IsHeard s bytes) (whole_client_step s (Heard bytes))
+  unfolding whole_client_step
+  heard_comes = hears_either (frame_in bytes) refl
 
 abbrev pub Nothing : ℕ → Response → Type 0
 Nothing id r = ⊥
 
-pub timer_comes : (s : ClientState) (kind : TimerKind) → Comes s Nothing (client_step s (Timer kind))
-unfolding client_step run_out
+pub timer_comes : (s : ClientState) (kind : TimerKind) → Comes s Nothing (whole_client_step s (Timer kind))
+unfolding whole_client_step run_out
 timer_comes s timers.Answer = runs_out s Nothing s.waiting
 timer_comes s timers.Request = same refl
 timer_comes s timers.Change = same refl
