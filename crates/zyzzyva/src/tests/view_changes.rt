@@ -126,7 +126,7 @@ const TOLD: &str = "2 refused world 27 NoSubject\n\
     r3 liar\n\
     agreed 0 0000000000000000000000000000000000000000000000000000000000000000\n";
 
-const FRONT: &str = "f = 1\nk = 8\nheight = 5\n\
+const FRONT: &str = "f = 1\nheight = 5\n\
     seed = \"0000000000000000000000000000000000000000000000000000000000000000\"\n";
 
 #[test]
@@ -134,18 +134,36 @@ fn views_change(rt: HostRuntime) -> Result<(), Fail> {
     let alloc = rt.alloc();
     let line: &[&[u8]] = &[b"zyzzyva", b"replay", b"group.toml", b"schedule.txt"];
     let table: [(&str, &str, &str, u8, &str); 6] = [
-        ("clients = 1\n", SILENT_SCHEDULE, SILENT, 0, ""),
-        ("clients = 3\nliars = [0]\n", PROVED_SCHEDULE, PROVED, 0, ""),
-        ("clients = 1\n", CERTIFIED_SCHEDULE, CERTIFIED, 0, ""),
-        ("clients = 1\nliars = [3]\n", STALE_SCHEDULE, STALE, 0, ""),
+        ("k = 8\nclients = 1\n", SILENT_SCHEDULE, SILENT, 0, ""),
         (
-            "clients = 1\n",
+            "k = 8\nclients = 3\nliars = [0]\n",
+            PROVED_SCHEDULE,
+            PROVED,
+            0,
+            "",
+        ),
+        ("k = 8\nclients = 1\n", CERTIFIED_SCHEDULE, CERTIFIED, 0, ""),
+        (
+            "k = 8\nclients = 1\nliars = [3]\n",
+            STALE_SCHEDULE,
+            STALE,
+            0,
+            "",
+        ),
+        (
+            "k = 8\nclients = 1\n",
             FORGED_SCHEDULE,
             "",
             7,
             "premise forged at event 2\n",
         ),
-        ("clients = 1\nliars = [3]\n", TOLD_SCHEDULE, TOLD, 0, ""),
+        (
+            "k = 8\nclients = 1\nliars = [3]\n",
+            TOLD_SCHEDULE,
+            TOLD,
+            0,
+            "",
+        ),
     ];
     for (parties, schedule, written, status, error) in table {
         let group = format!(in alloc; "{FRONT}{parties}")?;
@@ -154,5 +172,68 @@ fn views_change(rt: HostRuntime) -> Result<(), Fail> {
         assert_eq!(rt; out.as_slice(), written.as_bytes());
         assert_eq!(rt; (ended, line.as_str()), (status, error));
     }
+    Ok(())
+}
+
+const SPENT_END: &str = "ask c0 out (\"job\" 1)\n\
+    flow 100\n\
+    timer c0 answer\n\
+    flow 100\n\
+    timer r1 request\n\
+    timer r2 request\n\
+    flow 100\n\
+    timer c0 answer\n\
+    flow 100\n\
+    timer c0 answer\n\
+    flow 100\n";
+
+const SPENT: &str = "146 refused r0 23 KeySpent\n\
+    148 refused r0 23 KeySpent\n\
+    152 refused r0 23 KeySpent\n\
+    153 refused r0 23 KeySpent\n\
+    154 refused r0 23 KeySpent\n\
+    160 refused r0 23 KeySpent\n\
+    166 refused r0 23 KeySpent\n\
+    169 refused r0 23 KeySpent\n\
+    172 refused r0 23 KeySpent\n\
+    185 refused r0 23 KeySpent\n\
+    189 refused r0 6 NewerView\n\
+    197 refused r2 12 Repeat\n\
+    198 refused r3 12 Repeat\n\
+    200 refused r0 6 NewerView\n\
+    206 done c0 stamp 9 view 1 place 17 slow ok\n\
+    r0 active 0 length 16 head f291df9c1c787d476475ad896e7eaa51fc73643c9c06d8f3dad2fd46aa476d12 state c0f05345f7fcb2bfe18a3c626a65d528dbf4369f95cca62ec3e9c8ab3ee7b4c0\n\
+    r1 active 1 length 17 head 72df336d9950db231836fd57473cb11f6ce785e4a09cfdbc6685df8334d145ba state 6710d1b38c668981728598be414fc1f122a3f2a71bad609b9015a02f239ad4ef\n\
+    r2 active 1 length 17 head 72df336d9950db231836fd57473cb11f6ce785e4a09cfdbc6685df8334d145ba state 6710d1b38c668981728598be414fc1f122a3f2a71bad609b9015a02f239ad4ef\n\
+    r3 active 1 length 17 head 72df336d9950db231836fd57473cb11f6ce785e4a09cfdbc6685df8334d145ba state 6710d1b38c668981728598be414fc1f122a3f2a71bad609b9015a02f239ad4ef\n\
+    agreed 17 72df336d9950db231836fd57473cb11f6ce785e4a09cfdbc6685df8334d145ba\n";
+
+// The primary orders and answers 16 requests and has no leaf left; the others leave its view, which it can't.
+#[test]
+fn a_spent_primary(rt: HostRuntime) -> Result<(), Fail> {
+    let alloc = rt.alloc();
+    let mut schedule = String::new(alloc);
+    let mut written = String::new(alloc);
+    for done in 0u64..16 {
+        let (client, stamp) = (done % 2, done / 2 + 1);
+        let (event, place) = (9 * done + 9, done + 1);
+        let asked = format!(in alloc; "ask c{client} out (\"job\" 1)\nflow 8\n")?;
+        schedule.push_str(&asked)?;
+        let told = format!(in alloc;
+            "{event} done c{client} stamp {stamp} view 0 place {place} fast ok\n"
+        )?;
+        written.push_str(&told)?;
+    }
+    schedule.push_str(SPENT_END)?;
+    written.push_str(SPENT)?;
+    let line: &[&[u8]] = &[b"zyzzyva", b"replay", b"group.toml", b"schedule.txt"];
+    let group = format!(in alloc; "{FRONT}k = 32\nclients = 2\n")?;
+    let held = [
+        ("group.toml", group.as_str()),
+        ("schedule.txt", schedule.as_str()),
+    ];
+    let (out, ended, line) = run(alloc, line, &held)?;
+    assert_eq!(rt; out.as_slice(), written.as_bytes());
+    assert_eq!(rt; (ended, line.as_str()), (0, ""));
     Ok(())
 }
