@@ -1,5 +1,5 @@
 -- Asks, once the own address is had, over a link that has told nothing since.
-use Rattle.std.proofs.Common.{◌≡◌, ◌⊎◌, inl, inr, ℕ, ◌<◌, Bool, true, false, List, Option, Some, None, Result, Ok, Err, nat_le, refl, sym, ap, subst, ◌∙◌, arith}
+use Rattle.std.proofs.Common.{◌≡◌, ◌⊎◌, inl, inr, ℕ, Bool, true, false, List, Option, Some, None, Result, Ok, Err, nat_le, subst, arith}
 use Rattle.std.specs.Prelude.{IsTrue, if◌then◌else◌}
 use Rattle.std.proofs.KnownBytes.{Keeps-refl}
 use Rattle.std.proofs.lemmas.Bool.{le-leb}
@@ -16,10 +16,9 @@ use Rattle.zy_parts.specs.declared.signed.Signed.{Signed}
 use Rattle.zy_parts.specs.declared.statements.Ask.{Ask}
 use Rattle.zy_table.specs.ClientRows.{ask, ask_while, asked as asked_row, next_ask}
 use Rattle.zy_table.specs.ClientState.{ClientState, leaves_of, refused}
-use Rattle.zy_words.specs.Ends.{IsAnswer, IsWritten}
 use Rattle.zy_words.specs.declared.exit.Exit.{Exit}
 use Rattle.zy_hosting.specs.Calls.{IsTelling, MayAsk}
-use Rattle.zy_hosting.specs.Hosted.{IsAsked, IsAsking, IsIdle, ask_verdict, is_cut}
+use Rattle.zy_hosting.specs.Hosted.{IsAsking, IsIdle, ask_verdict, is_cut}
 use Rattle.zy_hosting.proofs.Runs.{at, front_from, idle_from, sends_from}
 
 -- a client that may ask isn't refused

@@ -1,5 +1,5 @@
 -- Operations are short.
-use Rattle.std.proofs.Common.{ℕ, ◌+◌, ◌*◌, ◌≤◌, List, [], ◌∷◌, length, arith, lit≤, length-append}
+use Rattle.std.proofs.Common.{ℕ, ◌*◌, ◌≤◌, List, [], ◌∷◌, length, arith, lit≤, length-append}
 use Rattle.std.specs.List.{AllByRecursion, flat_map}
 use Rattle.zy_tuple.specs.Bytes.{field_bytes, few_bytes, op_bytes, slot_bytes, template_bytes, tuple_bytes}
 use Rattle.zy_tuple.specs.Values.{IsField, IsOp, IsSlot, IsTemplate, IsTuple}

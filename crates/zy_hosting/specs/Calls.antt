@@ -3,8 +3,6 @@ use Rattle.std.specs.Prelude.{◌≡◌, ℕ, ◌<◌, ◌≤◌, ◌+◌, ◌^�
 use Rattle.zy_edge.specs.Faults.{IsCounted}
 use Rattle.zy_lms.specs.Height.{levels_of}
 use Rattle.zy_group.specs.declared.secret.Secret.{Secret}
-use Rattle.zy_parts.specs.declared.signed.Signed.{Signed}
-use Rattle.zy_parts.specs.declared.statements.Ask.{Ask}
 use Rattle.zy_table.specs.ClientState.{ClientState, leaves_of}
 use Rattle.zy_words.specs.Ends.{IsAnswer, IsWritten, Verdict, is_write_fault}
 use Rattle.zy_words.specs.declared.exit.Exit.{Exit}

@@ -6,6 +6,7 @@ use Rattle.zy_base.specs.declared.step.Answer.TheVariants as answers
 use Rattle.zy_edge.specs.Link.{Mail}
 use Rattle.zy_table.specs.ClientRows.{ask}
 use Rattle.zy_table.specs.ClientState.{ClientState}
+use Rattle.zy_node.specs.AskFaults.{of_node_fault}
 use Rattle.zy_node.specs.Clients.{client_rules, deed_of, is_complete}
 use Rattle.zy_node.specs.Told.{IsCutRun, IsCutTurn, IsRun, IsTurn, IsWholeRun, Outside, Sends, SendsFront}
 use Rattle.zy_node.specs.Turn.{HostState, all_parcels, host_of}
@@ -16,7 +17,6 @@ use Rattle.zy_node.specs.declared.asker.Asked.TheVariants as asked
 use Rattle.zy_node.specs.declared.asker.Begun.{Begun}
 use Rattle.zy_node.specs.declared.asker.Begun.TheVariants as begun
 use Rattle.zy_node.specs.declared.fault.NodeFault.{NodeFault}
-use Rattle.zy_node.specs.declared.fault.NodeFault.TheVariants as node_faults
 
 abbrev pub is_link : AskFault → Bool
 is_link ask_faults.Link = true
@@ -26,11 +26,10 @@ abbrev pub is_ask_fault : {A : Type 0} → Result A AskFault → Bool
 is_ask_fault (Ok value) = false
 is_ask_fault (Err fault) = is_link fault
 
--- a node's fault as that of the ask, which hands nothing back
+-- a node's turns as those of the ask
 abbrev pub ask_result : {N : Type 0} → Result N (NodeFault N) → Result N AskFault
 ask_result (Ok node) = Ok node
-ask_result (Err (node_faults.Link node)) = Err ask_faults.Link
-ask_result (Err node_faults.Want) = Err ask_faults.Want
+ask_result (Err fault) = Err (of_node_fault fault)
 
 -- ---- the beginning
 

@@ -108,8 +108,7 @@ fn asker_of(hosted: Result<Host<Client>, NodeFault<Host<Client>>>) -> Result<Ask
 {
     match hosted {
         Ok(host) => Ok(Asker { host }),
-        Err(NodeFault::Link(_)) => Err(AskFault::Link),
-        Err(NodeFault::Want) => Err(AskFault::Want),
+        Err(fault) => Err(AskFault::from(fault)),
     }
 }
 

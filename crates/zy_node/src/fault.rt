@@ -1,6 +1,6 @@
 ghost use Rattle.std.specs.Prelude.{◌≡◌};
 ghost use Rattle.zy_node.specs.declared.fault.NodeFault.TheVariants as node_faults;
-ghost use Rattle.zy_node.specs.AskFaults.{ask_fault_of};
+ghost use Rattle.zy_node.specs.AskFaults.{ask_fault_of, of_node_fault};
 ghost use Rattle.zy_node.specs.declared.fault.AskFault.TheVariants as ask_faults;
 ghost use Rattle.zy_node.specs.declared.fault.SendFault.TheVariants as send_faults;
 
@@ -61,6 +61,19 @@ impl From<SendFault> for AskFault {
         match fault {
             SendFault::Link => AskFault::Link,
             SendFault::Want => AskFault::Want,
+        }
+    }
+}
+
+// In a place of its own, the node is dropped as one value: where it is dropped in a match over what was hosted, each of its
+// fields is.
+impl<N: Drop> From<NodeFault<N>> for AskFault {
+    ghost from_gives = { λ fault ask. ask ≡ of_node_fault fault };
+
+    fn from(fault: NodeFault<N>) -> AskFault {
+        match fault {
+            NodeFault::Link(_) => AskFault::Link,
+            NodeFault::Want => AskFault::Want,
         }
     }
 }

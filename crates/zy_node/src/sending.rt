@@ -49,7 +49,6 @@ fn send_frame<L: Link>(
 }
 
 // The pieces of a frame as datagrams.
-#[tactic(auto, using(crate::proofs::PieceLemmas::empty, crate::proofs::PieceLemmas::too_long, crate::proofs::PieceLemmas::in_reach))]
 fn pieces(alloc: Global, frame: &[u8]) -> Result<Vec<Bytes>, Want>
     ensures { IfOk result (λ datagrams. datagrams.items ≡ pieces_of frame.now) }
 {

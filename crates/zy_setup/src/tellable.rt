@@ -112,7 +112,10 @@ impl Tellable {
             Tellable::Began(began) => {
                 Ok(encoded_view(alloc, ViewFrame::ViewConfirm(sealer.seal(began)?))?)
             }
-            Tellable::Fetch(fetch) => Ok(encoded_view(alloc, ViewFrame::Fetch(sealer.seal(fetch)?))?),
+            Tellable::Fetch(fetch) => Ok(encoded_view(
+                alloc,
+                ViewFrame::Fetch(sealer.seal(fetch)?),
+            )?),
         }
     }
 }

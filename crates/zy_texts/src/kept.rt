@@ -8,7 +8,6 @@ ghost use Rattle.zy_world_law.specs.Texts.{ask_texts, digest_of, frame_texts, te
 ghost use Rattle.zy_world_law.specs.World.{first_texts};
 ghost use Rattle.zy_texts.specs.Kept.{Clashes, IsShown, Keeps, look_up};
 ghost use Rattle.zy_texts.specs.Reading.{IsInRange};
-
 ghost use Rattle.zy_texts.specs.declared.fault.TextFault.TheVariants.{Clash};
 
 use crate::TextFault;

@@ -4,7 +4,6 @@ ghost use Rattle.std.specs.Prelude.{◌≡◌, Err, IfOk};
 ghost use Rattle.std.specs.Option.{ForSome};
 ghost use Rattle.zy_world_law.specs.Reading.{any_frame_in, either_read, parts_of, view_read};
 ghost use Rattle.zy_texts.specs.Reading.{IsInRange};
-
 ghost use Rattle.zy_vframes.specs.ViewFrames as views;
 
 use std::alloc::Global;
@@ -26,11 +25,7 @@ pub fn read_frame(alloc: Global, bytes: &[u8]) -> Result<Option<AnyFrame>, Want>
 }
 
 // What is no frame of normal operation by its kind may be one of a change of view.
-fn read_not_plain(
-    alloc: Global,
-    bytes: &[u8],
-    fault: FrameFault,
-) -> Result<Option<AnyFrame>, Want>
+fn read_not_plain(alloc: Global, bytes: &[u8], fault: FrameFault) -> Result<Option<AnyFrame>, Want>
     ensures value { IfOk result (λ frame. frame ≡ either_read bytes.now (Err fault)) }
     ensures in_range { IfOk result (λ frame. ForSome frame IsInRange) }
 {

@@ -5,7 +5,6 @@ ghost use Rattle.zy_world_law.specs.Honest.{is_unsaid, is_yes};
 ghost use Rattle.zy_world_law.specs.Reading.{parts_of as parts_in_frame};
 ghost use Rattle.zy_texts.specs.Reading.{IsInRange};
 ghost use Rattle.zy_world_law.specs.World.{correct_in, seats};
-
 ghost use Rattle.zy_texts.specs.Said.{AreShown, SaysAt, also_said, forger_among, is_among, is_forged_by, none_said, told_by};
 
 use crate::reading::parts_of;

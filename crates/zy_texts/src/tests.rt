@@ -1,20 +1,21 @@
 ghost use Rattle.std.specs.Prelude.{IfOk};
 ghost use Rattle.std.specs.List.{AllByRecursion};
 ghost use Rattle.zy_chain.specs.Entries.{IsEntryInRange};
-ghost use Rattle.zy_frames.specs.Frames.{IsFrameInRange};
 ghost use Rattle.zy_parts.specs.Statements.{IsAskInRange};
+ghost use Rattle.zy_texts.specs.Reading.{IsInRange};
 
 use super::*;
 use std::alloc::Global;
 use std::test::Fail;
-use zy_base::{Bytes, ClientId, Digest, Items, Party, Place, Said, Spoken, Stamp};
+use zy_base::{Bytes, ClientId, Digest, Items, Party, Place, ReplicaId, Said, Spoken, Stamp, View};
 use zy_chain::{EMPTY_HEAD, Entry};
 use zy_frames::Frame;
 use zy_lms::{Height, LmsKey};
 use zy_ots::OtsType;
-use zy_parts::{Ask, signed_text};
+use zy_parts::{Ask, Change, Signed, Told, signed_text};
 use zy_seal::{Directory, Sealer};
-use zy_table::{Gains, Got};
+use zy_table::{AnyFrame, Gains, Got};
+use zy_vframes::ViewFrame;
 
 const CLIENT: Party = Party::Client(ClientId(0));
 
@@ -39,15 +40,21 @@ const REPLY: Digest = Digest(
     *b"\x6e\x34\x0b\x9c\xff\xb3\x7a\x98\x9c\xa5\x44\xe6\xbb\x78\x0a\x2c\x78\x90\x1d\x3f\xb3\x37\x38\x76\x85\x11\xa3\x06\x17\xaf\xa0\x1d",
 );
 
+fn entry(alloc: Global) -> Result<Entry, Fail>
+    ensures { IfOk result IsEntryInRange }
+{
+    Ok(Entry {
+        client: ClientId(0),
+        stamp: Stamp(1),
+        op: Bytes::from_slice(alloc, &OPERATION)?,
+    })
+}
+
 // The step that executes the entry as the first.
 fn step(alloc: Global) -> Result<Gains, Fail>
     ensures { IfOk result (AllByRecursion (λ got. IsEntryInRange got.entry)) }
 {
-    let entry = Entry {
-        client: ClientId(0),
-        stamp: Stamp(1),
-        op: Bytes::from_slice(alloc, &OPERATION)?,
-    };
+    let entry = entry(alloc)?;
     let mut gains = Items::new(alloc);
     gains.push(Got {
         place: Place(1),
@@ -86,13 +93,13 @@ fn ask(alloc: Global) -> Result<Ask, Fail>
 }
 
 // The frame of the request, signed by the client, and the directory of its key.
-fn request(alloc: Global) -> Result<(Frame, Directory), Fail>
-    ensures { IfOk result (λ r. IsFrameInRange r.0) }
+fn request(alloc: Global) -> Result<(AnyFrame, Directory), Fail>
+    ensures { IfOk result (λ r. IsInRange r.0) }
 {
     let key = LmsKey::make(alloc, &[7; 32], &[9; 16], Height::H5, OtsType::W4, 0)?;
     let directory = Directory::new(alloc, Vec::new(alloc), vec![in alloc; key.public()]?);
     let signed = Sealer::new(alloc, CLIENT, key).seal(ask(alloc)?)?;
-    Ok((Frame::Request(signed), directory))
+    Ok((AnyFrame::Plain(Frame::Request(signed)), directory))
 }
 
 #[test]
@@ -102,6 +109,61 @@ fn keeps_what_a_request_brings(rt: HostRuntime) -> Result<(), Fail> {
     let (frame, _) = request(alloc)?;
     kept.keep_frame(&frame)?;
     assert_eq!(rt; kept.text(&ENTRY), Some(ENTRY_TEXT.as_slice()));
+    Ok(())
+}
+
+// A report of a history with the entry alone, which nothing proves.
+fn report(alloc: Global) -> Result<AnyFrame, Fail>
+    ensures { IfOk result IsInRange }
+{
+    let mut entries = Items::new(alloc);
+    entries.push(entry(alloc)?)?;
+    let told = Told {
+        last_view: View(0),
+        began_place: Place(0),
+        began_head: EMPTY_HEAD,
+        began: Items::new(alloc),
+        specs: None,
+        stable_view: View(0),
+        stable_place: Place(0),
+        stable_head: EMPTY_HEAD,
+        state: REPLY,
+        checks: Items::new(alloc),
+        entries,
+    };
+    Ok(AnyFrame::View(ViewFrame::ViewChange(Signed {
+        by: Party::Replica(ReplicaId(3)),
+        stmt: Change {
+            view: View(1),
+            told,
+        },
+        sig: Bytes::new(alloc),
+    })))
+}
+
+#[test]
+fn keeps_what_a_report_brings(rt: HostRuntime) -> Result<(), Fail> {
+    let alloc = rt.alloc();
+    let mut kept = KeptTexts::new(alloc)?;
+    kept.keep_frame(&report(alloc)?)?;
+    assert_eq!(rt; kept.text(&ENTRY), Some(ENTRY_TEXT.as_slice()));
+    let link = kept.text(&HEAD).ok_or("the link")?;
+    assert!(rt; link.ends_with(&ENTRY.0));
+    Ok(())
+}
+
+#[test]
+fn reads_frames_of_either_kind(rt: HostRuntime) -> Result<(), Fail> {
+    let alloc = rt.alloc();
+    // A request for the snapshot at place 1, by r2, whose signature is empty; a snapshot of one byte; and what is no frame.
+    let mut fetch = [0u8; 57];
+    fetch[..2].copy_from_slice(b"\x01\x0f");
+    fetch[6] = 2;
+    fetch[14] = 1;
+    let asked = read_frame(alloc, &fetch[..49])?;
+    assert!(rt; matches!(&asked, Some(AnyFrame::View(ViewFrame::Fetch(_)))));
+    assert!(rt; read_frame(alloc, &fetch)?.is_none());
+    assert!(rt; read_frame(alloc, b"\x01\x11")?.is_none());
     Ok(())
 }
 
@@ -120,10 +182,10 @@ fn said(alloc: Global) -> Result<Said, Fail> {
 fn forgers(
     alloc: Global,
     directory: &Directory,
-    frame: &Frame,
+    frame: &AnyFrame,
     lying: &[ClientId],
 ) -> Result<(Option<Party>, Option<Party>), Fail>
-    requires { IsFrameInRange frame.now }
+    requires { IsInRange frame.now }
 {
     let mut texts = SaidTexts::start(alloc, 4, &[], 1, lying)?;
     let before = texts.forger(directory, frame)?;

@@ -36,11 +36,11 @@ loop-entry-preserved c =
     let before = take i entries in
     let next : i + 1 ≡ suc i = omega arith in (
       c.in_ok-head.ensures.head
-      ∙ ap (λ (h : Digest). head_after h (digest_of_entry e)) c.loop-entry.invariant.0
-      ∙ sym (head_next head entries i e c.loop-entry-test.true c.entry-item.is)
-      ∙ ap (λ (n : ℕ). head_from head (take n entries)) (sym next),
+          ∙ ap (λ (h : Digest). head_after h (digest_of_entry e)) c.loop-entry.invariant.0
+          ∙ sym (head_next head entries i e c.loop-entry-test.true c.entry-item.is)
+          ∙ ap (λ (n : ℕ). head_from head (take n entries)) (sym next),
       subst (λ (n : ℕ). Keeps (entry_texts head (take n entries)) c.args.self.now c.keep_linked.new.self) (sym next)
-      (subst (λ (l : List (List ℕ)). Keeps l c.args.self.now c.keep_linked.new.self) (sym (entries_next head entries i e c.loop-entry-test.true c.entry-item.is))
-      (keeps_both (entry_texts head before) (two e (head_from head before)) c.args.self.now c.loop-entry.self c.keep_linked.new.self c.loop-entry.invariant.1
-      (subst (λ (h : Digest). Keeps (two e h) c.loop-entry.self c.keep_linked.new.self) c.loop-entry.invariant.0 c.in_ok-head.ensures.keeps))),
+          (subst (λ (l : List (List ℕ)). Keeps l c.args.self.now c.keep_linked.new.self) (sym (entries_next head entries i e c.loop-entry-test.true c.entry-item.is))
+          (keeps_both (entry_texts head before) (two e (head_from head before)) c.args.self.now c.loop-entry.self c.keep_linked.new.self c.loop-entry.invariant.1
+          (subst (λ (h : Digest). Keeps (two e h) c.loop-entry.self c.keep_linked.new.self) c.loop-entry.invariant.0 c.in_ok-head.ensures.keeps))),
     )
