@@ -38,7 +38,7 @@ use Rattle.zy_world_law.specs.Events.Happened.{Goes, Breaks}
 use Rattle.zy_world_law.specs.Honest.{forger_in, is_forged}
 use Rattle.zy_world_law.specs.Reading.{any_frame_in, parts_of}
 use Rattle.zy_world_law.specs.Setup.{keys_of}
-use Rattle.zy_world_law.specs.Texts.{texts_in, texts_of, step_texts, keep_all, and_then}
+use Rattle.zy_world_law.specs.Texts.{texts_in, texts_of as texts_in_frame, step_texts, keep_all, and_then}
 use Rattle.zy_world_law.specs.World.{World, Replica, Client, Mail, Texts, texts_said, with_sent, delivered}
 use Rattle.zy_world_law.specs.declared.note.Note.{Note}
 use Rattle.zy_world_law.specs.declared.note.Note.TheVariants.{Quiet}
@@ -51,13 +51,13 @@ use Rattle.zy_world.proofs.ShownSeats.{said_is, whole_seat}
 pub heard_nothing : {S : Type 0} (w : World S) (bytes : List ℕ) → any_frame_in bytes ≡ None → heard w bytes ≡ Ok w.texts
 unfolding heard
 heard_nothing w bytes is =
-    ap (λ (f : Option AnyFrame). heard_of (option_map (λ part. part.by) (find (is_forged w) (unwrap_or (option_map parts_of f) []))) (keep_all (unwrap_or (option_map texts_of f) []) w.texts)) is
+    ap (λ (f : Option AnyFrame). heard_of (option_map (λ part. part.by) (find (is_forged w) (unwrap_or (option_map parts_of f) []))) (keep_all (unwrap_or (option_map texts_in_frame f) []) w.texts)) is
 
 heard_frame_is : {S : Type 0} (w : World S) (bytes : List ℕ) (frame : AnyFrame) → any_frame_in bytes ≡ Some frame
-    → heard w bytes ≡ heard_of (forger_among (keys_of w.setup) (texts_said w) (parts_of frame)) (keep_all (texts_of frame) w.texts)
+    → heard w bytes ≡ heard_of (forger_among (keys_of w.setup) (texts_said w) (parts_of frame)) (keep_all (texts_in_frame frame) w.texts)
 unfolding heard
 heard_frame_is w bytes frame is =
-    ap (λ (f : Option AnyFrame). heard_of (option_map (λ part. part.by) (find (is_forged w) (unwrap_or (option_map parts_of f) []))) (keep_all (unwrap_or (option_map texts_of f) []) w.texts)) is
+    ap (λ (f : Option AnyFrame). heard_of (option_map (λ part. part.by) (find (is_forged w) (unwrap_or (option_map parts_of f) []))) (keep_all (unwrap_or (option_map texts_in_frame f) []) w.texts)) is
 
 module _ {S : Type 0} (w : World S) (v : Shown S) (s : Shows w v) (bytes : List ℕ) (frame : AnyFrame) (is : any_frame_in bytes ≡ Some frame) where
   -- the first that is named by everything that may have been said
@@ -69,7 +69,7 @@ module _ {S : Type 0} (w : World S) (v : Shown S) (s : Shows w v) (bytes : List 
       ap (λ (keys : Keys). forger_among keys (texts_said w) (parts_of frame)) s.keys
       ∙ sym (names (texts_said w) (same_shown (texts_of w.replicas w.clients) (texts_said w) v.said (said_is w) s.said))
 
-  pub heard_frame : (pairs : Pairs) → IsNamed None → Keeps (texts_of frame) v.texts pairs → HeardTo w bytes (record v { texts = pairs })
+  pub heard_frame : (pairs : Pairs) → IsNamed None → Keeps (texts_in_frame frame) v.texts pairs → HeardTo w bytes (record v { texts = pairs })
   heard_frame pairs none keeps =
       let kept = keeps w.texts s.texts in
       record {
@@ -79,9 +79,9 @@ module _ {S : Type 0} (w : World S) (v : Shown S) (s : Shows w v) (bytes : List 
       }
 
   pub frame_forged : (by : Party) → IsNamed (Some by) → heard w bytes ≡ Err (Forged by)
-  frame_forged by names = heard_frame_is w bytes frame is ∙ ap (λ (f : Option Party). heard_of f (keep_all (texts_of frame) w.texts)) (named (Some by) names)
+  frame_forged by names = heard_frame_is w bytes frame is ∙ ap (λ (f : Option Party). heard_of f (keep_all (texts_in_frame frame) w.texts)) (named (Some by) names)
 
-  pub frame_clashes : (d : Digest) → IsNamed None → Clashes (texts_of frame) v.texts d → heard w bytes ≡ Err (Clash d)
+  pub frame_clashes : (d : Digest) → IsNamed None → Clashes (texts_in_frame frame) v.texts d → heard w bytes ≡ Err (Clash d)
   frame_clashes d none clash = heard_frame_is w bytes frame is ∙ ap₂ heard_of (named None none) (clash w.texts s.texts)
 
 -- a text that clashed is told as the fault of the world

@@ -15,17 +15,17 @@ returns-in-Ok-Some g c w s can =
     let key = has_key w _ i c.args.liar c.args.to.now can in
     let left = c.in-Ok-Some.ensures.left _ key in
     subst (λ (h : Happened g.row.M-State.Denot). IfOk c.sends.result (λ r. GoesTo h r.note r.world))
-    (sym (lied w _ i c.args.liar c.args.to.now can (told_in c.args.tale) c.in-Ok-Some.bytes left (c.in-Ok-Some.ensures.frame _ key)))
+    (sym (lied w _ i c.args.liar c.args.to.now can (told_in c.args.tale) c.in-Ok-Some.bytes left (rw c.in-Ok-Some.field-0-is at (c.in-Ok-Some.ensures.frame _ key))))
     (c.sends.ensures (spent w c.args.liar) (shows_lied w _ i c.args.liar c.args.to.now can c.sign.new.self left
-    (c.in-Ok-Some.ensures.key _ key (leaf_within w _ i c.args.liar c.args.to.now can))))
+    (rw c.in-Ok-Some.field-0-is at (c.in-Ok-Some.ensures.key _ key (leaf_within w _ i c.args.liar c.args.to.now can)))))
 
 pub returns-in-Ok-None : goal.returns-in-Ok-None
 returns-in-Ok-None g c w s can =
     let i = subst (λ (v : Shown g.row.M-State.Denot). Shows w v) (sym c.self.view_is) s in
     let key = has_key w _ i c.args.liar c.args.to.now can in
     subst (λ (h : Happened g.row.M-State.Denot). GoesTo h c.no_subject.result.note c.no_subject.result.world)
-    (sym (lied_too_long w _ i c.args.liar c.args.to.now can (told_in c.args.tale) (c.in-Ok-None.ensures.left _ key) (c.in-Ok-None.ensures.frame _ key)))
-    (c.no_subject.ensures w (shows_again w _ i c.args.liar c.args.to.now can c.sign.new.self (c.in-Ok-None.ensures.key _ key (leaf_within w _ i c.args.liar c.args.to.now can))))
+    (sym (lied_too_long w _ i c.args.liar c.args.to.now can (told_in c.args.tale) (c.in-Ok-None.ensures.left _ key) (rw c.in-Ok-None.field-0-is at (c.in-Ok-None.ensures.frame _ key))))
+    (c.no_subject.ensures w (shows_again w _ i c.args.liar c.args.to.now can c.sign.new.self (rw c.in-Ok-None.field-0-is at (c.in-Ok-None.ensures.key _ key (leaf_within w _ i c.args.liar c.args.to.now can)))))
 
 pub returns-in-Err-KeySpent : goal.returns-in-Err-KeySpent
 returns-in-Err-KeySpent g c w s can =
