@@ -1,5 +1,5 @@
 // A party in its place: its core as it begins, and the address at which it is heard.
-ghost use Rattle.std.specs.Prelude.{◌≡◌, ◌<◌, ◌≤◌, ◌+◌, ◌^◌, false, IfOk, length};
+ghost use Rattle.std.specs.Prelude.{◌≡◌, ◌<◌, ◌≤◌, ◌^◌, false, IfOk, length};
 ghost use Rattle.zy_base.specs.declared.ids.Party.TheVariants as parties;
 ghost use Rattle.zy_group.specs.Members.{AreMembers, IsNodeGroup};
 ghost use Rattle.zy_words.specs.Calls.{IsReading, stops_reading};

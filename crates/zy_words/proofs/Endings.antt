@@ -1,5 +1,5 @@
 -- A command whose report is due writes it, where no object fails.
-use Rattle.std.proofs.Common.{◌≡◌, ℕ, ◌+◌, ◌-◌, ◌^◌, ◌<◌, ◌≤◌, ◌⊎◌, inl, inr, Bool, true, false, List, Option, Some, None, IfSome, Result, Ok, Err, refl, arith}
+use Rattle.std.proofs.Common.{◌≡◌, ℕ, ◌⊎◌, inl, inr, true, List, Option, Some, None, IfSome, Err, refl, arith}
 use Rattle.zy_edge.specs.Faults.{IsCounted, Rose}
 use Rattle.zy_edge.specs.Files.{Held}
 use Rattle.zy_words.specs.Calls.{IsSent}

@@ -1,6 +1,6 @@
 // The words behind `node` and `ask`.
-ghost use Rattle.std.specs.Prelude.{◌≡◌, ◌^◌};
-ghost use Rattle.zy_tuple.specs.Parties.{number_below, party_of};
+ghost use Rattle.std.specs.Prelude.{◌≡◌};
+ghost use Rattle.zy_tuple.specs.Parties.{party_of};
 ghost use Rattle.zy_tuple.specs.Reading.{op_read};
 ghost use Rattle.zy_words.specs.Calls.{IsCommand, IsNamed, IsOpRead, IsTurnsRead, named_in};
 ghost use Rattle.zy_words.specs.Words.{ask_op, ask_party, ask_words, client_in, names_of, node_alone, node_party, node_words, op_alone, replica_in, secret_named, texts, turns_of};

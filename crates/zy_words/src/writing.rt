@@ -1,5 +1,5 @@
 // Bytes that are written piece by piece.
-ghost use Rattle.std.specs.Prelude.{◌≡◌, ◌≢◌};
+ghost use Rattle.std.specs.Prelude.{◌≢◌};
 ghost use Rattle.zy_edge.specs.Faults.{IsCounted};
 ghost use Rattle.zy_words.specs.Calls.{IsSent, stops_writing};
 
