@@ -18,7 +18,8 @@ use crate::moved::Moved;
 use crate::{Client, ClientStepped};
 use std::alloc::Global;
 use zy_base::{
-    Bytes, Cause, ClientId, Event, FrameFault, Items, Outgoing, Party, ReplicaId, Said, Spoken, TimerKind, Want,
+    Bytes, Cause, ClientId, Event, FrameFault, Items, Outgoing, Party, ReplicaId, Said, Spoken,
+    TimerKind, Want,
 };
 use zy_frames::{DecodeFault, Frame, decode, parts};
 use zy_parts::{Ask, Local, Order, Signed, signed_text};
