@@ -59,7 +59,7 @@ fn setup(alloc: Global) -> Result<Setup, Fail> {
 fn told(alloc: Global, by: Party, bytes: &[u8]) -> Result<Bytes, Fail> {
     let mut sealer = sealer_at(alloc, &setup(alloc)?, by, 0)?;
     let statement = read_statement(alloc, bytes)?.ok_or("a statement")?;
-    Ok(statement.frame(alloc, &mut sealer)?)
+    Ok(statement.frame(alloc, &mut sealer)?.ok_or("a frame")?)
 }
 
 fn request(alloc: Global) -> Result<Signed<Ask>, Fail>
