@@ -193,13 +193,19 @@ fn forgers(
     Ok((before, texts.forger(directory, frame)?))
 }
 
+fn forgers_of_a_request(
+    alloc: Global,
+    lying: &[ClientId],
+) -> Result<(Option<Party>, Option<Party>), Fail> {
+    let (frame, directory) = request(alloc)?;
+    forgers(alloc, &directory, &frame, lying)
+}
+
 #[test]
 fn names_a_forger_of_what_is_unsaid(rt: HostRuntime) -> Result<(), Fail> {
-    let alloc = rt.alloc();
-    let (frame, directory) = request(alloc)?;
-    let named = forgers(alloc, &directory, &frame, &[])?;
+    let named = forgers_of_a_request(rt.alloc(), &[])?;
     assert_eq!(rt; named, (Some(CLIENT), None));
-    let named = forgers(alloc, &directory, &frame, &[ClientId(0)])?;
+    let named = forgers_of_a_request(rt.alloc(), &[ClientId(0)])?;
     assert_eq!(rt; named, (None, None));
     Ok(())
 }
