@@ -372,12 +372,15 @@ fn completes_after_its_primary_was_told_of(rt: HostRuntime) -> Result<(), Fail> 
     }
 }
 
+// A snapshot of no bytes at place 0, in which nothing is signed.
+const EMPTY_SNAPSHOT: [u8; 14] = [1, 16, 0, 0, 0, 0, 0, 0, 0, 0, 0, 0, 0, 0];
+
 #[test]
 fn frames_that_are_not_heard(rt: HostRuntime) -> Result<(), Fail> {
     Scene::start(rt.alloc(), 0)?
         .refuses_bytes(&[1, 10], Cause::NotFrame(FrameFault::Short))?
-        .refuses_bytes(&[1, 11], Cause::NotFrame(FrameFault::Kind))?
-        .refuses_bytes(&[1, 16], Cause::NotFrame(FrameFault::Kind))?
+        .refuses_bytes(&[1, 17], Cause::NotFrame(FrameFault::Kind))?
+        .refuses_bytes(&EMPTY_SNAPSHOT, Cause::WrongRole)?
         .refuses_hate(Cause::WrongRole)?;
     Ok(())
 }
