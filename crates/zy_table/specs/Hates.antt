@@ -61,13 +61,13 @@ abbrev pub hate_now : {S : Type 0} → State S → Hate
 hate_now s = record { view = record { 0 = own_view s } }
 
 -- it is signed where it wasn't, and kept for good
-abbrev pub say_hate : {S : Type 0} → Rules S → State S → Option (Signed Hate) → Going S
-say_hate R s (Some said) = send All (frames.Hate said) (begin s)
-say_hate R s None =
-    let said = sealed_by numbers.hate hate_fields s.sealer (hate_now s) in
+abbrev pub say_hate : {S : Type 0} → Rules S → Option (Signed Hate) → Going S → Going S
+say_hate R (Some said) g = send All (frames.Hate said) g
+say_hate R None g =
+    let said = sealed_by numbers.hate hate_fields g.state.sealer (hate_now g.state) in
     send All (frames.Hate said)
-    (act (Says (record { body = bodies.Hate said.stmt; stood = stood_of R s }))
-    (begin (record (spent s) { hate = Some said })))
+    (act (Says (record { body = bodies.Hate said.stmt; stood = stood_of R g.state }))
+    (record g { state = record (spent g.state) { hate = Some said } }))
 
 -- It goes to all, and is counted as one that is heard.
 abbrev pub count_own : {S : Type 0} → Rules S → Going S → Attempt S
@@ -75,8 +75,11 @@ count_own R g =
     if is_hated_by g.state.views (Replica g.state.me) then goes Taken g
     else hate_counted R (with_hate_of (Replica g.state.me) g)
 
-unfoldable pub hate_view : {S : Type 0} → Rules S → State S → Attempt S
-hate_view R s = count_own R (say_hate R s (own_hate s))
+unfoldable pub hate_from : {S : Type 0} → Rules S → Going S → Attempt S
+hate_from R g = count_own R (say_hate R (own_hate g.state) g)
+
+abbrev pub hate_view : {S : Type 0} → Rules S → State S → Attempt S
+hate_view R s = hate_from R (begin s)
 
 -- ---- the timers
 
@@ -103,11 +106,7 @@ abbrev pub change_again : {S : Type 0} → Option (Signed Change) → Going S �
 change_again None g = g
 change_again (Some change) g = send_view All (view_frames.ViewChange change) g
 
-abbrev pub hate_again : {S : Type 0} → Option (Signed Hate) → Going S → Going S
-hate_again None g = g
-hate_again (Some said) g = send All (frames.Hate said) g
-
-abbrev pub on_change_timer : {S : Type 0} → State S → Mode → Attempt S
-on_change_timer s (Active view) = goes Taken (begin s)
-on_change_timer s (Leaving view) =
-    goes Taken (hate_again (own_hate s) (change_again (change_for (own_view s) (own_change s.views)) (begin s)))
+-- and the view for which it leaves is hated, since it doesn't begin
+abbrev pub on_change_timer : {S : Type 0} → Rules S → State S → Mode → Attempt S
+on_change_timer R s (Active view) = goes Taken (begin s)
+on_change_timer R s (Leaving view) = hate_from R (change_again (change_for (own_view s) (own_change s.views)) (begin s))

@@ -1,6 +1,8 @@
 // The words of a command line that is made up, and whole runs over files in memory: what they write, their status and their
 // line on standard error, computed by programs that were written apart from this one.
 
+mod view_changes;
+
 use crate::fault_text::ending;
 use crate::words::words;
 use std::alloc::{AllocError, Global};

@@ -135,17 +135,19 @@ fn make_member<'a, R: Net + time::Clock>(
     Ok(Member { node, link })
 }
 
+// From the first of these numbers to the last replica.
 fn members<'a, R: Net + time::Clock>(
     rt: &'a R,
     alloc: Global,
     port: u16,
+    first: u8,
     directory: &Directory,
 ) -> Result<Vec<Member<'a, R>>, Fail>
     requires replicas { length directory.now.replicas ≤ 4 }
     requires clients { length directory.now.clients ≤ 64 }
 {
     let mut members = Vec::new(alloc);
-    for id in 0..4 {
+    for id in first..4 {
         members.push(make_member(rt, alloc, port, id, directory.clone()?)?)?;
     }
     Ok(members)
@@ -183,13 +185,15 @@ fn asker(alloc: Global, client: Client, link: &mut impl Link) -> Result<Asker, F
     }
 }
 
-fn is_first_completion(client: &Client) -> bool {
+// The first request is complete at the first place, with the reply `true`, by this path; and in the first view, or a later
+// one.
+fn is_first_completion(client: &Client, path: Path, is_later: bool) -> bool {
     match client.done() {
         Some(done) => {
             done.stamp == Stamp(1)
-                && done.view == View(0)
+                && (done.view > View(0)) == is_later
                 && done.place == Place(1)
-                && done.path == Path::Fast
+                && done.path == path
                 && done.reply.as_slice() == b"\x03".as_slice()
         }
         None => false,
@@ -202,7 +206,7 @@ fn four_nodes_answer_a_client(rt: HostRuntime) -> Result<(), Fail> {
     let port = 45_000 + (process::id(rt.process()) % 400 * 50) as u16;
     let mut clock = RealClock::new(&rt);
     let directory = directory(alloc)?;
-    let mut members = members(&rt, alloc, port, &directory)?;
+    let mut members = members(&rt, alloc, port, 0, &directory)?;
     let mut link = bound(&rt, port, CLIENT)?;
     let mut asker = asker(alloc, client(alloc, 0, directory)?, &mut link)?;
     for _ in 0..20 {
@@ -214,7 +218,27 @@ fn four_nodes_answer_a_client(rt: HostRuntime) -> Result<(), Fail> {
     }
     let client = asker.into_client();
     assert_eq!(rt; (client.key_next(), client.stamp()), (1, Stamp(1)));
-    assert!(rt; is_first_completion(&client));
+    assert!(rt; is_first_completion(&client, Path::Fast, false));
+    Ok(())
+}
+
+// The first primary never runs. Their timers make the others leave its view, and they answer in a later one.
+#[test]
+fn three_nodes_answer_a_client_without_their_primary(rt: HostRuntime) -> Result<(), Fail> {
+    let alloc = rt.alloc();
+    let port = 45_000 + (process::id(rt.process()) % 400 * 50) as u16;
+    let mut clock = RealClock::new(&rt);
+    let directory = directory(alloc)?;
+    let mut members = members(&rt, alloc, port, 1, &directory)?;
+    let mut link = bound(&rt, port, CLIENT)?;
+    let mut asker = asker(alloc, client(alloc, 0, directory)?, &mut link)?;
+    for _ in 0..600 {
+        if asker.client().done().is_none() {
+            members = all_turned(alloc, members, &mut clock)?;
+            asker = asker.turn(&mut link, &mut clock)?;
+        }
+    }
+    assert!(rt; is_first_completion(&asker.into_client(), Path::Slow, true));
     Ok(())
 }
 
