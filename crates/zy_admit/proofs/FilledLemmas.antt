@@ -1,5 +1,5 @@
 -- The orders in the first slots of a list, one slot on.
-use Rattle.std.proofs.Common.{◌≡◌, ◌+◌, ◌-◌, ◌≤◌, ◌++◌, ◌∷◌, [], ℕ, zero, suc, List, take, drop, slice_index_or, Option, Some, None, refl, ap, ◌∙◌, sym, arith}
+use Rattle.std.proofs.Common.{◌≡◌, ◌+◌, ◌-◌, ◌≤◌, ◌++◌, ◌∷◌, [], ℕ, zero, suc, List, take, drop, slice_index_or, Option, Some, None, refl, ap, ◌∙◌, arith}
 use Rattle.zy_frames.specs.declared.frame.OrderFrame.{OrderFrame}
 use Rattle.zy_admit.specs.Orders.{filled}
 

@@ -35,7 +35,7 @@ use Rattle.zy_table.specs.Holes.{fill_hole, fill_with}
 use Rattle.zy_table.specs.Requests.{request, request_waits, response_of, sealed_confirm}
 use Rattle.zy_table.specs.Running.{sealed_spec, spec_of}
 use Rattle.zy_table.specs.State as table
-use Rattle.zy_table.specs.State.{State, is_leaving_mode, is_primary, leaves_of, pending_of, spec_to, spent, with_spec}
+use Rattle.zy_table.specs.State.{State, is_leaving_mode, is_primary, spent, with_spec}
 use Rattle.zy_table.specs.declared.deeds.Act.TheVariants.{Says}
 use Rattle.zy_table.specs.declared.deeds.Body.TheVariants as bodies
 use Rattle.zy_view_law.proofs.InView.{says_other}

@@ -23,6 +23,6 @@ pub timer_lawful : {S : Type 0} (R : Rules S) (interval : ℕ) (texts : Texts) (
 timer_lawful R interval texts w r s history ready kept timers.Request =
     finishes_leaving R interval texts w r s history ready kept (on_request_timer R s s.views.mode) (request_attempt R interval w r s history ready s.views.mode)
 timer_lawful R interval texts w r s history ready kept timers.Change =
-    finishes_leaving R interval texts w r s history ready kept (on_change_timer s s.views.mode) (change_attempt R interval w r s history ready s.views.mode)
+    finishes_leaving R interval texts w r s history ready kept (on_change_timer R s s.views.mode) (change_attempt R interval w r s history ready s.views.mode)
 timer_lawful R interval texts w r s history ready kept timers.Answer =
     ends_lawfully R interval texts w r s history (begin s) Taken (ended R interval texts w r s history ready kept (begin s) (at_begin R interval w r s history ready))

@@ -10,8 +10,6 @@ use Rattle.std.proofs.lemmas.List.Quantifiers.{position-Some}
 use Rattle.std.proofs.lemmas.Option.{get_or_from_slice_get, same_Some, slice_get_within, slice_get-get_or}
 use Rattle.zy_base.specs.declared.counts.Counts.{Counts}
 use Rattle.zy_base.specs.declared.ids.Digest.{Digest}
-use Rattle.zy_base.specs.declared.ids.Party.{Party}
-use Rattle.zy_base.specs.declared.ids.Party.TheVariants.{Replica}
 use Rattle.zy_base.specs.declared.ids.Place.{Place}
 use Rattle.zy_base.specs.declared.ids.View.{View}
 use Rattle.zy_chain.specs.Stretch.{Mark, Stretch, end_of, head_in}
@@ -30,7 +28,7 @@ use Rattle.zy_choose.specs.Answer.{IsAnswer}
 use Rattle.zy_choose.specs.Choice.{IsChosen, provider_of}
 use Rattle.zy_choose.specs.Marks.{Has, has_mark, link}
 use Rattle.zy_choose.specs.Reports.{PlainReport}
-use Rattle.zy_choose.specs.Rules.{Fits, IsWellFormed}
+use Rattle.zy_choose.specs.Rules.{IsWellFormed}
 use Rattle.zy_choose.specs.declared.choice.Choice.TheVariants as choices
 use Rattle.zy_evidence.proofs.ProofLemmas.{all_clear}
 use Rattle.zy_evidence.specs.Reading.{number_of_party, read, stretch_of}

@@ -1,8 +1,8 @@
 -- What is owed by the numbers of the replicas is what is owed, whatever the signatures will be.
-use Rattle.std.proofs.Common.{◌≡◌, ℕ, zero, suc, ◌+◌, ◌<◌, ◌≤◌, ◌%◌, ◌^◌, nat_eq, nat_lt, nat_le, Bool, true, false, not, ◌&&◌, ◌||◌, if◌then◌else◌, List, [], ◌∷◌, length, map, take, filter, fold, count_by, cond, Option, Some, None, refl, sym, ap, ◌∙◌, subst, arith}
+use Rattle.std.proofs.Common.{◌≡◌, ℕ, suc, ◌+◌, ◌<◌, ◌≤◌, ◌%◌, ◌^◌, nat_eq, nat_lt, nat_le, Bool, true, false, not, ◌&&◌, ◌||◌, if◌then◌else◌, List, [], ◌∷◌, length, map, take, filter, fold, count_by, cond, Option, Some, None, refl, sym, ap, ◌∙◌, subst, arith}
 use Rattle.std.proofs.lemmas.Bool.{eqb-true, eqb-false, eq-eqb, ltb-true}
 use Rattle.std.proofs.lemmas.List.Sums.{sum_by-set}
-use Rattle.std.specs.Prelude.{slice_set, slice_index_or, slice_get, is_some, option_map, option_and_then, replicate, unwrap_or, min}
+use Rattle.std.specs.Prelude.{slice_set, slice_index_or, slice_get, is_some, option_map, unwrap_or, min}
 use Rattle.std.specs.List.{AllByRecursion, filter_map, cons_option, range_with_len, take-map, reduce}
 use Rattle.zy_base.specs.declared.cause.Cause.TheVariants as causes
 use Rattle.zy_base.specs.declared.ids.Party.{Party}
@@ -28,12 +28,12 @@ use Rattle.zy_change.specs.declared.kept.Chosen.{Chosen}
 use Rattle.zy_change.specs.declared.owed.Adoption.{Adoption}
 use Rattle.zy_change.specs.declared.owed.Owed.{Owed}
 use Rattle.zy_change.specs.Choosing.{choice_of}
-use Rattle.zy_change.specs.Views.{Views, Slots, own_view, leads, is_accepted, change_for, changes_for, view_above, views_above, began_equal, begans_equal, began_for, unless_other, without_others, first_of, certificate_of, left, with_change, with_hate, is_hated_by, has_begun, is_from, slot_of, with_new}
-use Rattle.zy_change.specs.Owing.{Pens, Onward, signed_by, change_to, nothing, refused, onward, provider_in, adoption_by, adopt_if, certify, certify_with, accepting, accept, gathered, new_of, is_gathering, giving, accepted_as, give, choice_in, collect, leaving_alone, leave, next_view, hate_counted, hate_owes_of, change_kept, change_judged, change_owes, sends_to}
-use Rattle.zy_change.specs.Fit.{IsFit, IsKeptChange}
+use Rattle.zy_change.specs.Views.{Views, Slots, own_view, leads, is_accepted, change_for, changes_for, view_above, views_above, began_equal, begans_equal, began_for, unless_other, without_others, with_change, with_hate, is_hated_by, has_begun, is_from, slot_of}
+use Rattle.zy_change.specs.Owing.{Pens, signed_by, change_to, nothing, refused, onward, provider_in, adoption_by, adopt_if, accept, gathered, is_gathering, giving, accepted_as, give, choice_in, collect, leave, next_view, hate_counted, hate_owes_of, change_kept, change_judged, change_owes, sends_to}
+use Rattle.zy_change.specs.Fit.{IsFit}
 use Rattle.zy_change.specs.Ahead.{heard_in, ahead, IsHeard, kept_change, heard_change, told_in, told_ahead, report_ahead, reporters, reports_ahead, told_nth, is_confirmed_by, confirms, confirmers, adoption_ahead, confirming, adopting_ahead, given_ahead, is_given, gathers_ahead, collect_ahead, leave_ahead, above_ahead, aboves_ahead, haters, least_ahead, hate_ahead, kept_ahead, judged_ahead, change_ahead}
 use Rattle.zy_change.proofs.FitLemmas.{as_long, all_there}
-use Rattle.zy_change.proofs.IndexLemmas.{read_set, read_map, map_long, by_index, each_same, map_kept, as_many_kept, filter_same, nth_kept, nth_mapped, all_taken}
+use Rattle.zy_change.proofs.IndexLemmas.{read_set, read_map, map_long, by_index, map_kept, as_many_kept, filter_same, nth_kept, nth_mapped, all_taken}
 
 -- ---- what is kept of each replica
 

@@ -1,5 +1,5 @@
 -- The choice as a function answers as the choice's definition says, so it is what is chosen.
-use Rattle.std.proofs.Common.{◌≡◌, ◌≢◌, ℕ, zero, suc, ◌+◌, ◌-◌, ◌<◌, ◌≤◌, ◌*◌, ◌^◌, max, nat_eq, nat_lt, nat_le, ◌==◌, ◌&&◌, not, Bool, true, false, cond, if◌then◌else◌, ◌⊎◌, inl, inr, List, [], ◌∷◌, ◌++◌, length, fold, filter, count_by, get_or, All, Any, Option, Some, None, IfSome, refl, sym, ap, ◌∙◌, subst, arith, append_assoc}
+use Rattle.std.proofs.Common.{◌≡◌, ◌≢◌, ℕ, zero, suc, ◌+◌, ◌-◌, ◌<◌, ◌≤◌, ◌*◌, ◌^◌, max, nat_eq, nat_lt, nat_le, ◌==◌, ◌&&◌, not, Bool, true, false, cond, if◌then◌else◌, ◌⊎◌, inl, inr, List, [], ◌∷◌, ◌++◌, length, fold, get_or, All, Any, Option, Some, None, IfSome, refl, sym, ap, ◌∙◌, subst, arith, append_assoc}
 use Rattle.std.proofs.lemmas.Bool.{eqb-true, eqb-false, ltb-true, ltb-false, leb-true, leb-false, le-leb, true≢false}
 use Rattle.std.proofs.lemmas.List.{append-nil, get_or_default}
 use Rattle.std.proofs.lemmas.List.Quantifiers.{position-Some}
@@ -9,7 +9,7 @@ use Rattle.zy_base.specs.declared.ids.Digest.{Digest}
 use Rattle.zy_chain.specs.Stretch.{Mark, Stretch, end_of, head_in}
 use Rattle.zy_cert.specs.Equal.{same_digest, digest-equal}
 use Rattle.zy_choose.specs.Answer.{IsAnswer}
-use Rattle.zy_choose.specs.Choice.{IsAgreed, IsAnchor, IsChosen, IsGreatestView, IsOnlyAnchor, IsPicked, last_in, provider_of}
+use Rattle.zy_choose.specs.Choice.{IsAgreed, IsGreatestView, IsPicked, last_in, provider_of}
 use Rattle.zy_choose.specs.Choice.IsPicked.{agreed, anchored}
 use Rattle.zy_choose.specs.Furthest.{IsFurthest, IsOne, IsTwo}
 use Rattle.zy_choose.specs.Marks.{Has, has_mark, link}

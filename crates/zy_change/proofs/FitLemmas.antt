@@ -28,7 +28,7 @@ use Rattle.zy_evidence.specs.Reading.{number_of_party, read_by}
 use Rattle.zy_evidence.specs.Rules.{rule_of, rule_of_proofs, rule_or, rule_of_itself, is_began_proven, is_spec_proven, is_stable_proven}
 use Rattle.zy_evidence.specs.declared.rule.Rule.{Rule}
 use Rattle.zy_evidence.specs.declared.rule.Rule.TheVariants as rules
-use Rattle.zy_change.specs.Views.{Views, with_change, start_of, change_for, own_view, told_of}
+use Rattle.zy_change.specs.Views.{Views, with_change, start_of, own_view, told_of}
 use Rattle.zy_change.specs.Owing.{change_to}
 use Rattle.zy_change.specs.Fit.{IsFit, IsKeptChange, IsTrueReport, IsStableInRange}
 use Rattle.zy_change.specs.Ahead.{IsHeard, IsReport, IsOwn, kept_change, heard_change, told_in, told_ahead, report_ahead, reports_ahead}

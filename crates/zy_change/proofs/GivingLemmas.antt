@@ -1,5 +1,5 @@
 -- What a new view's primary gives is in range, and what is kept with a new view stays fit.
-use Rattle.std.proofs.Common.{◌≡◌, ℕ, ◌<◌, ◌≤◌, List, [], ◌∷◌, length, take, nat_eq, ◌&&◌, not, Bool, true, false, if◌then◌else◌, ◌⊎◌, inl, inr, All, Option, Some, None, refl, sym, ap, ◌∙◌, subst, arith, ◌^◌}
+use Rattle.std.proofs.Common.{◌≡◌, ℕ, ◌<◌, ◌≤◌, List, [], ◌∷◌, length, nat_eq, ◌&&◌, not, Bool, true, false, if◌then◌else◌, ◌⊎◌, inl, inr, All, Option, Some, None, refl, sym, ap, ◌∙◌, subst, arith, ◌^◌}
 use Rattle.std.proofs.lemmas.Bool.{eqb-true}
 use Rattle.std.proofs.lemmas.List.Elements.{All-from_recursion}
 use Rattle.std.specs.List.{AllByRecursion, filter_map, range_with_len}
@@ -20,7 +20,7 @@ use Rattle.zy_change.specs.Owing.{gathered, new_of}
 use Rattle.zy_change.specs.Ahead.{kept_change}
 use Rattle.zy_change.specs.Fit.{IsFit, IsAccepted, IsGiven, IsKeptBegan, IsKeptChange, IsOwnBegan}
 use Rattle.zy_change.proofs.FitLemmas.{all_there, taken_there, kept_or_filled, as_long}
-use Rattle.zy_change.proofs.IndexLemmas.{all_taken, by_index, few_taken, map_long, read_map}
+use Rattle.zy_change.proofs.IndexLemmas.{all_taken, by_index, map_long, read_map}
 
 -- ---- what is given
 

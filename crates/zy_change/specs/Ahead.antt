@@ -1,6 +1,6 @@
 -- Inner forms, which only the code cites: what a step owes by the number of each replica, with a report put in that is
 -- heard, and the own one where the replica leaves. Nothing is signed here.
-use Rattle.std.specs.Prelude.{◌≡◌, ◌<◌, ℕ, ◌+◌, ◌^◌, nat_eq, nat_lt, nat_le, Bool, true, false, not, ◌&&◌, ◌||◌, if◌then◌else◌, List, length, min, take, filter, filter_map, slice_get, count_by, is_some, slice_index_or, unwrap_or, Option, Some, None, option_map, option_and_then, IfSome}
+use Rattle.std.specs.Prelude.{◌≡◌, ◌<◌, ℕ, ◌+◌, ◌^◌, nat_eq, nat_lt, nat_le, Bool, false, not, ◌&&◌, ◌||◌, if◌then◌else◌, List, length, min, take, filter, filter_map, slice_get, count_by, is_some, slice_index_or, unwrap_or, Option, Some, None, option_map, option_and_then, IfSome}
 use Rattle.std.specs.List.{range_with_len, reduce}
 use Rattle.zy_base.specs.declared.cause.Cause.TheVariants as causes
 use Rattle.zy_base.specs.declared.ids.Party.{Party}

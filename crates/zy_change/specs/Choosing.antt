@@ -1,6 +1,5 @@
 -- The choice out of reports as a function of them: it is what the choice's definition relates to them.
 use Rattle.std.specs.Prelude.{ℕ, zero, suc, ◌+◌, ◌-◌, max, nat_eq, nat_lt, nat_le, ◌&&◌, not, Bool, if◌then◌else◌, List, fold, find, filter_map, flat_map, count_by, Option, Some, None, option_map, unwrap_or}
-use Rattle.zy_base.specs.declared.ids.Digest.{Digest}
 use Rattle.zy_base.specs.declared.ids.Place.{Place}
 use Rattle.zy_chain.specs.Heads.{empty_head}
 use Rattle.zy_chain.specs.Stretch.{Mark, end_of, head_in}

@@ -1,12 +1,11 @@
 -- What a step of a view change owes. It is the row itself, composed without a key: the signatures that will be made are
 -- given, and nothing that is owed depends on them.
-use Rattle.std.specs.Prelude.{ℕ, ◌+◌, ◌^◌, nat_eq, nat_lt, nat_le, ◌&&◌, not, Bool, true, false, if◌then◌else◌, List, length, map, min, take, slice_get, count_by, Option, Some, None, option_map, unwrap_or}
+use Rattle.std.specs.Prelude.{ℕ, ◌+◌, ◌^◌, nat_eq, nat_lt, nat_le, ◌&&◌, not, Bool, if◌then◌else◌, List, length, map, min, take, slice_get, count_by, Option, Some, None, unwrap_or}
 use Rattle.std.specs.List.{reduce}
 use Rattle.zy_base.specs.declared.cause.Cause.{Cause}
 use Rattle.zy_base.specs.declared.cause.Cause.TheVariants as causes
 use Rattle.zy_base.specs.declared.ids.Party.{Party}
 use Rattle.zy_base.specs.declared.ids.Party.TheVariants.{Replica}
-use Rattle.zy_base.specs.declared.ids.ReplicaId.{ReplicaId}
 use Rattle.zy_base.specs.declared.ids.View.{View}
 use Rattle.zy_base.specs.declared.step.Answer.TheVariants.{Taken, Refused}
 use Rattle.zy_parts.specs.declared.reports.Began.{Began}
@@ -16,7 +15,6 @@ use Rattle.zy_parts.specs.declared.reports.Told.{Told}
 use Rattle.zy_parts.specs.declared.signed.Signed.{Signed}
 use Rattle.zy_parts.specs.declared.statements.Hate.{Hate}
 use Rattle.zy_vframes.specs.declared.frame.ViewCert.{ViewCert}
-use Rattle.zy_choose.specs.Reports.{PlainReport}
 use Rattle.zy_choose.specs.declared.choice.Choice.{Choice}
 use Rattle.zy_choose.specs.declared.choice.Choice.TheVariants as choices
 use Rattle.zy_evidence.specs.Reading.{number_of_party, read}

@@ -46,8 +46,7 @@ use Rattle.zy_table.specs.Roles.{is_replica}
 use Rattle.zy_table.specs.declared.client.Commit.{Commit}
 use Rattle.zy_table.specs.declared.client.Response.{Response}
 use Rattle.zy_table.specs.ClientState.{ClientState, client_start, leaves_of, refused}
-use Rattle.zy_table.specs.ClientRows.{ask, ask_while, asked, next_ask, kept_of, response_cause, is_own_order_if, is_repeated, keep, agreeing, completed_if, evidence_by, told, keep_unless, complete, respond, respond_while, is_for, complete_by, vote_on, local_beside, local_while, count_local, is_certified, certified_in, locals_for, send_commit, ask_or_commit, run_out, run_out_while, is_by_primary, hear_response, hear, unless, decoded}
-use Rattle.zy_client.specs.Hearing.{decoded_as, view_decoded, whole_client_step}
+use Rattle.zy_table.specs.ClientRows.{ask, ask_while, asked, next_ask, kept_of, response_cause, is_own_order_if, is_repeated, keep, agreeing, completed_if, evidence_by, told, keep_unless, complete, respond, respond_while, is_for, complete_by, vote_on, local_beside, local_while, count_local, is_certified, certified_in, locals_for, send_commit, ask_or_commit, run_out, run_out_while, is_by_primary, hear_response, hear, unless, decoded, decoded_as, view_decoded, client_step}
 use Rattle.zy_vframes.specs.Parts as view_parts
 use Rattle.zy_vframes.specs.ViewFrames as views
 use Rattle.zy_vframes.specs.declared.frame.ViewFrame.{ViewFrame}
@@ -291,8 +290,8 @@ hears_either s bytes (Err faults.Trailing) is = same refl
 hears_either s bytes (Err faults.Range) is = same refl
 hears_either s bytes (Ok frame) is = hears_bytes s (Heard bytes) bytes refl (Ok frame) is
 
-comes : (s : ClientState) (event : Event) → Comes s event (whole_client_step s event).state
-unfolding whole_client_step run_out
+comes : (s : ClientState) (event : Event) → Comes s event (client_step s event).state
+unfolding client_step run_out
 comes s (Heard bytes) = hears_either s bytes (frame_in bytes) refl
 comes s (Timer timers.Answer) = runs_out s (Timer timers.Answer) s.waiting refl
 comes s (Timer timers.Request) = same refl
@@ -440,7 +439,7 @@ sent_holds s waiting waits id r certified holds =
           (record { client = own.client; stamp = own.stamp; reply = own.reply; wanted = locals.wanted; votes = locals.votes; counted = locals.counted });
     }
 
-pub steps_hold : (s : ClientState) (event : Event) → Holds s → Holds (whole_client_step s event).state
+pub steps_hold : (s : ClientState) (event : Event) → Holds s → Holds (client_step s event).state
 steps_hold s event holds = elim (comes s event) [
   | same is ↦ subst Holds (sym is) holds
   | keeps waiting waits k ↦ subst Holds (sym k.filled)
@@ -457,10 +456,10 @@ kept_commit : (s : ClientState) (event : Event) (id : ℕ) (r : Response) (enoug
 kept_commit s event id r true commit held = from_before held
 kept_commit s event id r false commit held = from_before held
 
-pub steps_commit : (s : ClientState) (event : Event) (commit : Commit) → (whole_client_step s event).state.commit ≡ Some commit → CommitComes s event commit
+pub steps_commit : (s : ClientState) (event : Event) (commit : Commit) → (client_step s event).state.commit ≡ Some commit → CommitComes s event commit
 steps_commit s event commit held = from (comes s event)
   where
-    from : Comes s event (whole_client_step s event).state → CommitComes s event commit
+    from : Comes s event (client_step s event).state → CommitComes s event commit
     from (same is) = from_before (sym (ap (λ (x : ClientState). x.commit) is) ∙ held)
     from (keeps waiting waits k) =
         kept_commit s event k.id k.response (nat_le s.counts.fast (agreeing (keep s k.id k.response) k.response.spec.stmt)) commit
@@ -512,14 +511,14 @@ voted_completes s event waiting waits commit vote v full holds =
       done = refl;
     })
 
-pub steps_complete : (s : ClientState) (event : Event) (waiting : Signed Ask) → Holds s → s.waiting ≡ Some waiting → (whole_client_step s event).state.waiting ≡ None
-    → IsComplete s event (whole_client_step s event).state waiting
+pub steps_complete : (s : ClientState) (event : Event) (waiting : Signed Ask) → Holds s → s.waiting ≡ Some waiting → (client_step s event).state.waiting ≡ None
+    → IsComplete s event (client_step s event).state waiting
 steps_complete s event waiting holds waits ended = from (comes s event)
   where
-    still : (t : ClientState) → (whole_client_step s event).state ≡ t → t.waiting ≡ s.waiting → IsComplete s event (whole_client_step s event).state waiting
+    still : (t : ClientState) → (client_step s event).state ≡ t → t.waiting ≡ s.waiting → IsComplete s event (client_step s event).state waiting
     still t is wait = absurd (let wrong : Some waiting ≡ None = sym waits ∙ sym wait ∙ sym (ap (λ (x : ClientState). x.waiting) is) ∙ ended in cc)
 
-    from : Comes s event (whole_client_step s event).state → IsComplete s event (whole_client_step s event).state waiting
+    from : Comes s event (client_step s event).state → IsComplete s event (client_step s event).state waiting
     from (same is) = still s is refl
     from (keeps w wait k) =
         let held = subst (λ (x : Signed Ask). IsHeldBy s x k.id k.response) (same_ask s w waiting wait waits) k.held in

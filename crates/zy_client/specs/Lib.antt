@@ -1,4 +1,3 @@
 pub mod Ready
 pub mod Stepped
 pub mod Held
-pub mod Hearing

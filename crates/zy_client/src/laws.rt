@@ -8,8 +8,7 @@ ghost use Rattle.zy_parts.specs.declared.statements.Ask.{Ask};
 ghost use Rattle.zy_seal.specs.Keys.{Keys};
 ghost use Rattle.zy_seal.specs.Sealing.{SealerState};
 ghost use Rattle.zy_table.specs.ClientState.{ClientState, client_start};
-ghost use Rattle.zy_table.specs.ClientRows.{ask};
-ghost use Rattle.zy_client.specs.Hearing.{whole_client_step};
+ghost use Rattle.zy_table.specs.ClientRows.{ask, client_step};
 ghost use Rattle.zy_table.specs.declared.client.Commit.{Commit};
 ghost use Rattle.zy_client.specs.Held.{Holds, CommitComes, IsComplete};
 
@@ -21,7 +20,7 @@ ghost use Rattle.zy_client.specs.Held.{Holds, CommitComes, IsComplete};
 pub fn held_responses()
     ensures starts { (me : ClientId) (counts : Counts) (keys : Keys) (sealer : SealerState) (stamp : Stamp) → Holds (client_start me counts keys sealer stamp) }
     ensures asks { (s : ClientState) (op : List ℕ) → Holds s → Holds (ask s op).state }
-    ensures steps { (s : ClientState) (event : Event) → Holds s → Holds (whole_client_step s event).state }
-    ensures commits { (s : ClientState) (event : Event) (commit : Commit) → (whole_client_step s event).state.commit ≡ Some commit → CommitComes s event commit }
-    ensures completes { (s : ClientState) (event : Event) (waiting : Signed Ask) → Holds s → s.waiting ≡ Some waiting → (whole_client_step s event).state.waiting ≡ None → IsComplete s event (whole_client_step s event).state waiting }
+    ensures steps { (s : ClientState) (event : Event) → Holds s → Holds (client_step s event).state }
+    ensures commits { (s : ClientState) (event : Event) (commit : Commit) → (client_step s event).state.commit ≡ Some commit → CommitComes s event commit }
+    ensures completes { (s : ClientState) (event : Event) (waiting : Signed Ask) → Holds s → s.waiting ≡ Some waiting → (client_step s event).state.waiting ≡ None → IsComplete s event (client_step s event).state waiting }
 {}

@@ -4,12 +4,11 @@ ghost use Rattle.zy_frames.specs.Frames.{IsFrameInRange, frame_in, parts_of};
 ghost use Rattle.zy_table.specs.Sending.{CanBeSent};
 ghost use Rattle.zy_seal.specs.Screening.{screen};
 ghost use Rattle.zy_parts.specs.Statements.{IsAskInRange};
-ghost use Rattle.zy_table.specs.ClientState.{spoken_of, timers_of, all_replicas, client_outgoing};
+ghost use Rattle.zy_table.specs.ClientState.{spoken_of, all_replicas, client_outgoing};
 ghost use Rattle.zy_base.specs.declared.cause.Cause.TheVariants as causes;
 ghost use Rattle.zy_table.specs.Roles.{is_replica};
 ghost use Rattle.zy_table.specs.ClientState.{refused};
-ghost use Rattle.zy_table.specs.ClientRows.{ask as ask_row, hear as hear_row, hear_response as hear_response_row, is_by_primary, count_local, decoded, timer as timer_row};
-ghost use Rattle.zy_client.specs.Hearing.{decoded_as, view_decoded, whole_client_step};
+ghost use Rattle.zy_table.specs.ClientRows.{ask as ask_row, hear as hear_row, hear_response as hear_response_row, is_by_primary, count_local, decoded, timer as timer_row, decoded_as, view_decoded, client_step};
 ghost use Rattle.zy_vframes.specs.ViewFrames as views;
 ghost use Rattle.zy_client.specs.Ready.{IsKeepable};
 ghost use Rattle.zy_client.specs.Stepped.{IsStepped};
@@ -39,14 +38,14 @@ impl Client {
 
     /// What an event makes of the client.
     pub fn step(self, event: Event) -> Result<ClientStepped, Want>
-        ensures { IfOk result (IsStepped (whole_client_step self event)) }
+        ensures { IfOk result (IsStepped (client_step self event)) }
     {
         self.moves(event)?.finish()
     }
 
-    #[tactic(auto, unfolding(crate::specs::Hearing::whole_client_step))]
+    #[tactic(auto, unfolding(zy_table::specs::ClientRows::client_step))]
     fn moves(self, event: Event) -> Result<Moved, Want>
-        ensures { IfOk result (λ m. m ≡ whole_client_step self event) }
+        ensures { IfOk result (λ m. m ≡ client_step self event) }
     {
         match event {
             Event::Heard(bytes) => self.hears_bytes(&bytes),

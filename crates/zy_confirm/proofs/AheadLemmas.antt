@@ -1,5 +1,5 @@
 -- What is owed by the numbers of the replicas is what is owed, whatever the signatures will be.
-use Rattle.std.proofs.Common.{◌≡◌, ℕ, ◌+◌, ◌<◌, nat_eq, nat_le, nat_lt, not, ◌||◌, Bool, true, false, if◌then◌else◌, List, length, take, IfOk, IfSome, Option, Some, None, Result, Ok, Err, refl, sym, ap, ◌∙◌}
+use Rattle.std.proofs.Common.{◌≡◌, ℕ, ◌+◌, ◌<◌, nat_eq, nat_le, nat_lt, not, ◌||◌, Bool, true, false, if◌then◌else◌, List, length, take, IfOk, IfSome, Option, Some, None, Result, Ok, Err, refl, ap, ◌∙◌}
 use Rattle.std.specs.Prelude.{slice_set, option_map}
 use Rattle.zy_base.specs.declared.cause.Cause.{Cause}
 use Rattle.zy_base.specs.declared.cause.Cause.TheVariants as causes
@@ -7,7 +7,6 @@ use Rattle.zy_parts.specs.declared.reports.Began.{Began}
 use Rattle.zy_parts.specs.declared.reports.New.{New}
 use Rattle.zy_parts.specs.declared.reports.Told.{Told}
 use Rattle.zy_parts.specs.declared.signed.Signed.{Signed}
-use Rattle.zy_vframes.specs.declared.frame.ViewCert.{ViewCert}
 use Rattle.zy_cert.specs.Equal.{same_began, same_digest}
 use Rattle.zy_evidence.specs.Reading.{number_of_party}
 use Rattle.zy_change.specs.declared.kept.Accepted.{Accepted}
@@ -19,7 +18,7 @@ use Rattle.zy_change.specs.Views.{Views, Slots, own_view, is_accepted, leads, sl
 use Rattle.zy_change.specs.Owing.{Pens, signed_by, nothing, refused, onward, provider_in, adoption_by, adopt_if, certify, certify_with, accept, leaving_alone}
 use Rattle.zy_change.proofs.AheadLemmas.{confirmed_many, heard_many}
 use Rattle.zy_confirm.specs.Judging.{chosen_in}
-use Rattle.zy_confirm.specs.Confirming.{is_over, arriving, new_view_judged, new_view_owes, is_began_from, accepted_for, began_compared, began_judged, began_owes}
+use Rattle.zy_confirm.specs.Confirming.{is_over, new_view_judged, new_view_owes, is_began_from, accepted_for, began_compared, began_judged, began_owes}
 use Rattle.zy_confirm.specs.Ahead.{adopting_ahead, arriving_ahead, confirming_ahead, judged_ahead, new_view_ahead, compared_ahead, began_judged_ahead, began_ahead}
 
 module _ (v : Views) (by : ℕ) (a : Accepted) (owed : Owed) (slots : Slots Began) where

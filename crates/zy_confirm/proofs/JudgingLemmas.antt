@@ -1,11 +1,10 @@
 -- Reports that break no rule are those that a choice is made of.
-use Rattle.std.proofs.Common.{◌≡◌, ℕ, zero, suc, ◌+◌, ◌<◌, nat_eq, nat_lt, ◌||◌, not, Bool, true, false, if◌then◌else◌, List, [], ◌∷◌, ◌++◌, length, map, take, drop, get_or, arith, All, IfSome, Option, Some, None, Result, Ok, Err, refl, sym, ap, ◌∙◌, subst, drop-cons, add-one}
+use Rattle.std.proofs.Common.{◌≡◌, ℕ, zero, suc, ◌+◌, ◌<◌, nat_eq, nat_lt, ◌||◌, not, Bool, true, false, if◌then◌else◌, List, [], ◌∷◌, ◌++◌, length, map, take, drop, get_or, arith, All, Option, Some, None, Ok, Err, refl, sym, ap, ◌∙◌, subst, drop-cons, add-one}
 use Rattle.std.proofs.lemmas.Bool.{eqb-true}
 use Rattle.std.proofs.lemmas.List.{map-append, take_more}
 use Rattle.std.proofs.lemmas.List.Elements.{All-from_recursion}
 use Rattle.std.specs.List.{AllByRecursion}
 use Rattle.zy_base.specs.declared.counts.Counts.{Counts}
-use Rattle.zy_base.specs.declared.cause.Cause.{Cause}
 use Rattle.zy_base.specs.declared.cause.Cause.TheVariants as causes
 use Rattle.zy_base.specs.declared.ids.View.{View}
 use Rattle.zy_parts.specs.declared.reports.Change.{Change}
@@ -15,7 +14,7 @@ use Rattle.zy_parts.specs.Signing.{IsSignedInRange}
 use Rattle.zy_cert.specs.Signers.{has_repeat}
 use Rattle.zy_parts.specs.declared.signed.Signed.{Signed}
 use Rattle.zy_choose.specs.Reports.{PlainReport}
-use Rattle.zy_choose.specs.Rules.{Fits, IsWellFormed}
+use Rattle.zy_choose.specs.Rules.{IsWellFormed}
 use Rattle.zy_evidence.proofs.ProofLemmas.{all_clear}
 use Rattle.zy_choose.specs.declared.choice.Choice.{Choice}
 use Rattle.zy_choose.specs.declared.choice.Choice.TheVariants as choices

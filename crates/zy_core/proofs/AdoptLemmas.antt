@@ -1,9 +1,8 @@
 -- What a certificate's choice gives a replica that can take it up: a history with which its view can begin.
-use Rattle.std.proofs.Common.{◌≡◌, ◌≢◌, ℕ, ◌+◌, ◌-◌, ◌*◌, ◌%◌, ◌^◌, ◌<◌, ◌≤◌, nat_le, nat_lt, Bool, true, false, if◌then◌else◌, ◌⊎◌, inl, inr, List, [], ◌∷◌, ◌++◌, length, take, drop, filter, All, Option, Some, None, refl, sym, ap, ◌∙◌, subst, arith}
-use Rattle.std.specs.List.{AllByRecursion}
+use Rattle.std.proofs.Common.{◌≡◌, ◌≢◌, ℕ, ◌+◌, ◌-◌, ◌*◌, ◌%◌, ◌^◌, ◌<◌, ◌≤◌, nat_le, nat_lt, Bool, true, false, if◌then◌else◌, ◌⊎◌, List, [], ◌∷◌, ◌++◌, take, drop, filter, All, Option, Some, refl, sym, ap, ◌∙◌, subst, arith}
 use Rattle.std.specs.Prelude.{slice_get, IsSome}
 use Rattle.std.proofs.Math.Seq.{take-nil, drop-nil}
-use Rattle.std.proofs.lemmas.Bool.{cases_Bool, le-ltb, ltb-true, ltb-false}
+use Rattle.std.proofs.lemmas.Bool.{le-ltb, ltb-true, ltb-false}
 use Rattle.std.proofs.lemmas.List.{length-drop, length-take-le}
 use Rattle.std.proofs.lemmas.List.Elements.{All-append, All-drop, All-nil, All-take, recursion_from_All}
 use Rattle.std.proofs.lemmas.Option.{same_Some}
@@ -15,11 +14,11 @@ use Rattle.zy_base.specs.declared.ids.Place.{Place}
 use Rattle.zy_base.specs.declared.ids.View.{View}
 use Rattle.zy_chain.specs.Entries.{IsEntryInRange}
 use Rattle.zy_chain.specs.Heads.{head_from}
-use Rattle.zy_chain.specs.Stretch.{IsShared, Mark, Stretch, end_of, from_place, head_in}
+use Rattle.zy_chain.specs.Stretch.{IsShared, Mark, Stretch, end_of, head_in}
 use Rattle.zy_chain.specs.declared.entry.Entry.{Entry}
 use Rattle.zy_parts.specs.Reports.{IsChangeInRange, IsToldInRange}
 use Rattle.zy_parts.specs.Signing.{IsSignedInRange}
-use Rattle.zy_parts.specs.Statements.{IsCheckInRange, IsLocalInRange}
+use Rattle.zy_parts.specs.Statements.{IsLocalInRange}
 use Rattle.zy_parts.specs.declared.statements.Local.{Local}
 use Rattle.zy_parts.specs.declared.signed.Signed.{Signed}
 use Rattle.zy_parts.specs.declared.statements.Check.{Check}
@@ -36,7 +35,7 @@ use Rattle.zy_evidence.specs.Rules.{is_stable_proven}
 use Rattle.zy_evidence.specs.WellFormed.{IsCheckpoint, IsWellFormedChange}
 use Rattle.zy_check.proofs.BoardLemmas.{with_stable-is}
 use Rattle.zy_check.specs.Board.{Board, IsProof, cleared, no_round, start_of, stated, with_stable}
-use Rattle.zy_admit.specs.Orders.{Orders, no_orders}
+use Rattle.zy_admit.specs.Orders.{no_orders}
 use Rattle.zy_exec.proofs.ReplayLemmas.{head-along}
 use Rattle.zy_exec.proofs.SettleLemmas.{settled_end, settled_place}
 use Rattle.zy_exec.specs.Kept.{Kept, last_place, settled, stretch_of}
@@ -45,8 +44,8 @@ use Rattle.zy_change.proofs.AcceptedLemmas.{accepted_given, accepted_provider}
 use Rattle.zy_change.specs.declared.kept.Accepted.{Accepted}
 use Rattle.zy_change.specs.declared.kept.Chosen.{Chosen}
 use Rattle.zy_change.specs.declared.kept.Waiting.{Waiting}
-use Rattle.zy_change.specs.Fit.{IsCertified, IsFit, IsGiven, IsTrueReport}
-use Rattle.zy_change.specs.Views.{Views, adopted, told_of, without_waiting}
+use Rattle.zy_change.specs.Fit.{IsCertified, IsFit, IsGiven}
+use Rattle.zy_change.specs.Views.{adopted, told_of, without_waiting}
 use Rattle.zy_table.proofs.ReportLemmas.{fits-settled, own-fits, rule-stable, true-stable}
 use Rattle.zy_table.specs.Adopting.{common_with, taken_over, verdict_of}
 use Rattle.zy_table.specs.Beginning.{active_by, settled_as, with_history}

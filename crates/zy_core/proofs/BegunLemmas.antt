@@ -1,32 +1,24 @@
 -- A replica is ready as a view begins: its report is that of the view's certificate, with the history that was chosen.
-use Rattle.std.proofs.Common.{◌≡◌, ◌≢◌, ℕ, ◌+◌, ◌-◌, ◌*◌, ◌%◌, ◌^◌, ◌<◌, ◌≤◌, nat_lt, min, Bool, true, false, if◌then◌else◌, List, [], ◌∷◌, length, take, drop, fold, All, Option, Some, None, refl, sym, ap, ◌∙◌, subst, arith}
+use Rattle.std.proofs.Common.{◌≡◌, ◌≢◌, ℕ, ◌+◌, ◌-◌, ◌*◌, ◌%◌, ◌^◌, ◌<◌, ◌≤◌, true, if◌then◌else◌, List, [], ◌∷◌, length, All, refl, sym, ap, ◌∙◌, subst, arith}
 use Rattle.std.specs.List.{AllByRecursion}
-use Rattle.std.proofs.lemmas.Bool.{cases_Bool, le-leb, leb-true, ltb-true, ltb-false}
+use Rattle.std.proofs.lemmas.Bool.{le-leb, leb-true, ltb-true, ltb-false}
 use Rattle.std.proofs.lemmas.List.Elements.{All-from_recursion, All-nil}
 use Rattle.std.proofs.lemmas.Option.{same_Some}
-use Rattle.zy_base.specs.Machine.{Rules}
-use Rattle.zy_base.specs.declared.counts.Counts.{Counts}
 use Rattle.zy_base.specs.declared.ids.Digest.{Digest}
-use Rattle.zy_base.specs.declared.ids.Party.TheVariants.{Replica}
 use Rattle.zy_base.specs.declared.ids.Place.{Place}
 use Rattle.zy_base.specs.declared.ids.View.{View}
 use Rattle.zy_base.specs.declared.step.Mode.TheVariants.{Active}
 use Rattle.zy_chain.specs.Entries.{IsEntryInRange}
-use Rattle.zy_chain.specs.Stretch.{Mark, Stretch, end_of, head_in}
-use Rattle.zy_chain.specs.declared.entry.Entry.{Entry}
 use Rattle.zy_parts.specs.Signing.{IsSignedInRange}
 use Rattle.zy_parts.specs.Statements.{IsLocalInRange, IsSpecInRange, IsCheckInRange}
 use Rattle.zy_parts.specs.declared.signed.Signed.{Signed}
-use Rattle.zy_parts.specs.declared.statements.Check.{Check}
 use Rattle.zy_parts.specs.declared.statements.Local.{Local}
-use Rattle.zy_parts.specs.declared.statements.Spec.{Spec}
 use Rattle.zy_parts.specs.declared.reports.Told.{Told}
 use Rattle.zy_vframes.specs.declared.frame.ViewCert.{ViewCert}
 use Rattle.zy_vframes.specs.declared.frame.ViewFrame.TheVariants as frames
 use Rattle.zy_choose.specs.Rules.{Fits, IsWellFormed}
 use Rattle.zy_evidence.proofs.ItselfLemmas.{itself_clear}
-use Rattle.zy_evidence.specs.Reading.{read_by, began_of}
-use Rattle.zy_evidence.specs.Reading as reading
+use Rattle.zy_evidence.specs.Reading.{read_by}
 use Rattle.zy_evidence.specs.Rules.{is_stable_proven}
 use Rattle.zy_admit.specs.Orders.{no_orders}
 use Rattle.zy_check.proofs.BoardLemmas.{cleared-is}
@@ -35,13 +27,12 @@ use Rattle.zy_exec.specs.Kept.{Kept, last_place, stretch_of}
 use Rattle.zy_change.proofs.BeginningLemmas.{adopted-fit}
 use Rattle.zy_change.proofs.FitLemmas.{told_in_range, told_well}
 use Rattle.zy_change.specs.declared.kept.Chosen.{Chosen}
-use Rattle.zy_change.specs.Fit.{IsCertified, IsFit, IsStableInRange, IsTrueReport}
-use Rattle.zy_change.specs.Views.{Views, adopted, told_of}
-use Rattle.zy_table.specs.Leaving.{report_of}
+use Rattle.zy_change.specs.Fit.{IsCertified, IsFit, IsTrueReport}
+use Rattle.zy_change.specs.Views.{adopted, told_of}
 use Rattle.zy_table.specs.Sending.{CanBeSent}
 use Rattle.zy_table.specs.State.{State}
 use Rattle.zy_table.specs.declared.deeds.AnyFrame.TheVariants as sent
-use Rattle.zy_core.specs.Ready.{AreOwnViews, AreRoundsInRange, IsReady, IsRoundInRange}
+use Rattle.zy_core.specs.Ready.{IsReady}
 
 abbrev pub stable_in : Board → View × Place × Digest × Digest
 stable_in b = (b.stable.view, b.stable.place, b.stable.head, b.stable.state)

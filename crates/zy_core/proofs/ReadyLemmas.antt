@@ -1,6 +1,6 @@
 -- What each change of a replica leaves of what holds of every one.
 use Rattle.std.proofs.Common.{◌≡◌, ◌+◌, ◌-◌, ◌≤◌, ◌<◌, ◌++◌, ◌∷◌, [], ℕ, zero, suc, Bool, true, false, List, take, drop, length, replicate, set, slice_index_or, Option, Some, None, refl, ap, ◌∙◌, sym, subst, arith}
-use Rattle.std.specs.Prelude.{if◌then◌else◌, ◌*◌, ◌%◌, ◌^◌, nat_le, nat_lt, min, max, map, filter, All, slice_set, Result, Ok, Err, IfOk, OnOk, OnErr, IfSome, IfNone}
+use Rattle.std.specs.Prelude.{if◌then◌else◌, ◌*◌, ◌%◌, ◌^◌, nat_le, nat_lt, min, max, filter, All, slice_set, Result, Ok, Err, IfOk, OnOk, OnErr, IfSome, IfNone}
 use Rattle.std.specs.List.{AllByRecursion, find}
 use Rattle.std.specs.Option.{ForSome}
 use Rattle.std.proofs.lemmas.Bool.{ltb-true}

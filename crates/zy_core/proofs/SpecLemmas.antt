@@ -1,5 +1,5 @@
 -- What a replica's history has at a checkpoint can be answered.
-use Rattle.std.proofs.Common.{◌≡◌, ℕ, ◌+◌, ◌-◌, ◌<◌, ◌≤◌, ◌^◌, nat_le, Bool, true, false, if◌then◌else◌, All, List, [], Option, Some, None, sym, ap, subst, arith}
+use Rattle.std.proofs.Common.{◌≡◌, ℕ, ◌+◌, ◌-◌, ◌<◌, ◌≤◌, ◌^◌, nat_le, Bool, true, false, if◌then◌else◌, All, [], Some, None, ap, subst, arith}
 use Rattle.std.specs.Prelude.{slice_get}
 use Rattle.std.specs.Option.{ForSome}
 use Rattle.std.proofs.lemmas.Option.{get_or_from_slice_get, slice_get_within}
@@ -10,16 +10,13 @@ use Rattle.zy_chain.specs.Entries.{IsEntryInRange}
 use Rattle.zy_chain.specs.Stretch.{Stretch, entry_in}
 use Rattle.zy_chain.specs.declared.entry.Entry.{Entry}
 use Rattle.zy_parts.specs.Statements.{IsSpecInRange}
-use Rattle.zy_parts.specs.declared.signed.Signed.{Signed}
 use Rattle.zy_parts.specs.declared.reports.Change.{Change}
-use Rattle.zy_parts.specs.declared.reports.Told.{Told}
 use Rattle.zy_evidence.proofs.ProofLemmas.{all_clear}
 use Rattle.zy_evidence.specs.WellFormed.{IsWellFormedChange}
 use Rattle.zy_exec.specs.Kept.{last_place, stretch_of}
 use Rattle.zy_table.specs.Gathering.{own_at}
 use Rattle.zy_table.specs.Leaving.{report_of}
 use Rattle.zy_table.specs.State.{State, is_leaving}
-use Rattle.zy_table.specs.declared.kept.OwnCheckpoint.{OwnCheckpoint}
 use Rattle.zy_core.proofs.OwnLemmas.{own_entry, own_ready}
 use Rattle.zy_core.specs.Ready.{IsReady}
 

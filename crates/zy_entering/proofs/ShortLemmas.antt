@@ -1,5 +1,5 @@
 -- A new view out of which something is chosen can be sent, and so can its certificate: its reports are few, and short.
-use Rattle.std.proofs.Common.{◌≡◌, ℕ, ◌≤◌, nat_lt, Bool, true, false, if◌then◌else◌, [], length, All, Option, Some, None, Result, Ok, Err, refl, sym, ap, ◌∙◌, subst, arith}
+use Rattle.std.proofs.Common.{◌≡◌, ℕ, ◌≤◌, nat_lt, Bool, true, false, if◌then◌else◌, [], length, All, Option, Some, None, Result, Ok, Err, refl, sym, ap, ◌∙◌, arith}
 use Rattle.std.specs.Prelude.{◌||◌, IsSome, IfSome}
 use Rattle.std.proofs.lemmas.Bool.{ltb-false}
 use Rattle.std.proofs.lemmas.List.Elements.{All-weaker}
@@ -7,25 +7,20 @@ use Rattle.zy_base.specs.declared.cause.Cause.{Cause}
 use Rattle.zy_base.specs.declared.cause.Cause.TheVariants as causes
 use Rattle.zy_base.specs.declared.counts.Counts.{Counts}
 use Rattle.zy_base.specs.declared.ids.View.{View}
-use Rattle.zy_parts.specs.Reports.{IsNewInRange}
-use Rattle.zy_parts.specs.Signing.{IsSignedInRange}
 use Rattle.zy_parts.specs.declared.signed.Signed.{Signed}
 use Rattle.zy_parts.specs.declared.reports.New.{New}
 use Rattle.zy_parts.specs.declared.reports.Told.{Told}
 use Rattle.zy_vframes.specs.ViewFrames.{IsFrameInRange, IsShortNew, IsShortReport}
 use Rattle.zy_vframes.specs.declared.frame.ViewCert.{ViewCert}
 use Rattle.zy_vframes.specs.declared.frame.ViewFrame.TheVariants as frames
-use Rattle.zy_cert.specs.Signers.{has_repeat}
 use Rattle.zy_change.specs.declared.kept.Chosen.{Chosen}
 use Rattle.zy_change.specs.declared.owed.Adoption.{Adoption}
 use Rattle.zy_change.specs.declared.owed.Owed.{Owed}
-use Rattle.zy_change.specs.Choosing.{choice_of}
 use Rattle.zy_change.specs.Fit.{IsAccepted, IsCertified, IsGiven}
 use Rattle.zy_change.specs.Owing.{Pens, refused}
 use Rattle.zy_change.specs.Views.{Views, is_accepted, leads}
 use Rattle.zy_confirm.specs.Confirming.{cert_judged, is_over, new_view_judged, new_view_owes, view_cert_owes}
-use Rattle.zy_confirm.specs.Judging.{chosen_in, chosen_unless, first_broken, is_for_other}
-use Rattle.zy_evidence.specs.Reading.{read}
+use Rattle.zy_confirm.specs.Judging.{chosen_in}
 use Rattle.zy_table.proofs.ReportLemmas.{rule-short}
 use Rattle.zy_table.specs.Leaving.{report_of}
 use Rattle.zy_table.specs.Sending.{CanBeSent}

@@ -6,7 +6,6 @@ use Rattle.std.proofs.lemmas.List.{take_at, length-append}
 use Rattle.std.proofs.lemmas.List.Elements.{All-cons, All-drop, All-get_or, All-nil, All-push, All-same, All-take}
 use Rattle.std.proofs.Math.ListN.{get_or-eq_default}
 use Rattle.zy_base.specs.Machine.{Rules}
-use Rattle.zy_base.specs.declared.ids.Digest.{Digest}
 use Rattle.zy_chain.specs.declared.entry.Entry.{Entry}
 use Rattle.zy_exec.specs.declared.shot.Shot.{Shot}
 use Rattle.zy_exec.specs.Replay.{Point, step, along}

@@ -1,11 +1,9 @@
 -- What a step comes to with the view that begins at its end.
-use Rattle.std.proofs.Common.{◌≡◌, ◌+◌, ℕ, nat_lt, nat_le, Bool, true, false, if◌then◌else◌, List, ◌++◌, ◌∷◌, [], Option, Some, None, Ok, Err, refl, sym, ap, ◌∙◌, subst, arith}
+use Rattle.std.proofs.Common.{◌≡◌, ◌+◌, ℕ, nat_lt, false, if◌then◌else◌, ◌++◌, ◌∷◌, [], Option, Some, None, refl, sym, ap, ◌∙◌, subst}
 use Rattle.std.specs.Prelude.{slice_get}
 use Rattle.std.specs.List.{list_any}
 use Rattle.std.specs.Option.{ForSome}
 use Rattle.zy_base.specs.Machine.{Rules}
-use Rattle.zy_base.specs.declared.cause.Cause.{Cause}
-use Rattle.zy_base.specs.declared.cause.Cause.TheVariants as causes
 use Rattle.zy_base.specs.declared.ids.Party.TheVariants.{Replica}
 use Rattle.zy_base.specs.declared.ids.View.{View}
 use Rattle.zy_base.specs.declared.ids.ReplicaId.{ReplicaId}
@@ -26,14 +24,14 @@ use Rattle.zy_change.specs.declared.owed.Owed.{Owed}
 use Rattle.zy_change.specs.Views.{certificate_if, certificate_of}
 use Rattle.zy_table.specs.declared.deeds.Verdict.{Verdict}
 use Rattle.zy_table.specs.declared.deeds.Verdict.TheVariants as verdicts
-use Rattle.zy_table.specs.State.{State, own_view}
-use Rattle.zy_table.specs.Deeds.{Going, Outcome, begin, ends, refused}
+use Rattle.zy_table.specs.State.{State}
+use Rattle.zy_table.specs.Deeds.{Going, ends}
 use Rattle.zy_table.specs.Adopting.{verdict_of}
 use Rattle.zy_table.specs.Leaving.{Attempt, accept, concluded, give_new, goes, leave_alone}
 use Rattle.zy_table.specs.Changes.{send_cert}
 use Rattle.zy_table.specs.Beginning.{adopt, adopt_as, adopt_from, adopt_if, begun, certify, certify_with, confirms, finished, take_up, wait_for}
-use Rattle.zy_leaving.proofs.FollowLemmas.{conclusion, counted_first, spent_both}
-use Rattle.zy_leaving.specs.Carrying.{attempted_as, carried, concluded_as, give, give_if, leave_if, send_if}
+use Rattle.zy_leaving.proofs.FollowLemmas.{counted_first, spent_both}
+use Rattle.zy_leaving.specs.Carrying.{attempted_as, carried, give, give_if, leave_if, send_if}
 use Rattle.zy_leaving.specs.Follows.{Begins, Follows, IsBegun, IsSigner, spent_many}
 use Rattle.zy_adopt.specs.Meeting.{Meets}
 use Rattle.zy_finish.specs.Ending.{IsSoFar, TakesUp, counted, ending, ending_as, finished_as, finished_by, verdict_on}

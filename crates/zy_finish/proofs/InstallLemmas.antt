@@ -1,5 +1,5 @@
 -- Once the snapshot that is waited for is installed, the choice is taken up from there.
-use Rattle.std.proofs.Common.{◌≡◌, ℕ, ◌≤◌, Bool, true, false, List, [], ◌∷◌, Option, Some, None, refl, sym, ap, ◌∙◌, subst, arith}
+use Rattle.std.proofs.Common.{◌≡◌, ℕ, ◌≤◌, true, false, List, [], ◌∷◌, Option, Some, None, refl, sym, ap, ◌∙◌, arith}
 use Rattle.std.specs.Prelude.{nat_le, nat_lt, if◌then◌else◌, slice_get}
 use Rattle.std.proofs.lemmas.Bool.{le-leb, le-ltb}
 use Rattle.zy_base.specs.Machine.{Rules}
@@ -16,7 +16,7 @@ use Rattle.zy_cert.specs.Equal.{same_digest, digest-equal}
 use Rattle.zy_check.specs.Board.{stated, with_stable}
 use Rattle.zy_check.specs.States.{state_cause}
 use Rattle.zy_exec.proofs.SettleLemmas.{settled_none}
-use Rattle.zy_exec.specs.Kept.{Kept, last_place}
+use Rattle.zy_exec.specs.Kept.{Kept}
 use Rattle.zy_exec.specs.Replay.{Point}
 use Rattle.zy_exec.specs.Showing.{point_in}
 use Rattle.zy_evidence.specs.Reading.{stretch_of}
@@ -25,8 +25,8 @@ use Rattle.zy_table.specs.declared.deeds.Verdict.{Verdict}
 use Rattle.zy_table.specs.declared.deeds.Verdict.TheVariants.{Take}
 use Rattle.zy_table.specs.State.{State}
 use Rattle.zy_table.specs.Deeds.{begin}
-use Rattle.zy_table.specs.Adopting.{verdict_above, verdict_beside, verdict_of}
-use Rattle.zy_table.specs.Leaving.{Attempt, concluded, goes}
+use Rattle.zy_table.specs.Adopting.{verdict_beside, verdict_of}
+use Rattle.zy_table.specs.Leaving.{concluded, goes}
 use Rattle.zy_table.specs.Beginning.{adopt, adopt_as, adopt_from, finished, take_up, wanted_of}
 use Rattle.zy_table.specs.Fetching.{install, installed, state_for, state_heard, state_judged, state_transfer}
 use Rattle.zy_adopt.proofs.CommonLemmas.{head_first, head_within}

@@ -1,13 +1,11 @@
 -- How many leaves an adoption spends.
-use Rattle.std.proofs.Common.{◌≡◌, ℕ, zero, suc, ◌+◌, ◌-◌, ◌%◌, ◌<◌, ◌≤◌, nat_lt, nat_eq, Bool, true, false, if◌then◌else◌, List, [], ◌∷◌, ◌++◌, length, take, get_or, All, Option, Some, None, refl, sym, ap, ◌∙◌, subst, arith}
+use Rattle.std.proofs.Common.{◌≡◌, ℕ, suc, ◌+◌, ◌-◌, ◌%◌, ◌<◌, ◌≤◌, nat_lt, nat_eq, Bool, true, false, if◌then◌else◌, List, [], ◌∷◌, ◌++◌, length, take, get_or, All, Option, Some, None, refl, sym, ap, ◌∙◌, subst, arith}
 use Rattle.std.specs.Prelude.{IsSome, is_some, find}
 use Rattle.std.proofs.lemmas.Bool.{cond_both, eq-eqb, le-ltb, ltb-true}
 use Rattle.std.proofs.lemmas.List.{get_or_default, length-take-le}
 use Rattle.zy_base.specs.Machine.{Rules}
 use Rattle.zy_base.specs.declared.ids.Place.{Place}
-use Rattle.zy_chain.specs.Stretch.{end_of, entry_in, head_in}
-use Rattle.zy_chain.specs.declared.entry.Entry.{Entry}
-use Rattle.zy_base.specs.declared.ids.Digest.{Digest}
+use Rattle.zy_chain.specs.Stretch.{entry_in, head_in}
 use Rattle.zy_base.specs.declared.ids.Party.{Party}
 use Rattle.zy_cert.specs.Equal.{same_fetch}
 use Rattle.zy_parts.specs.declared.signed.Signed.{Signed}
@@ -24,7 +22,7 @@ use Rattle.zy_evidence.specs.Reading as reports
 use Rattle.zy_change.specs.declared.kept.Chosen.{Chosen}
 use Rattle.zy_table.specs.declared.kept.OwnCheckpoint.{OwnCheckpoint}
 use Rattle.zy_table.specs.State.{State, own_view}
-use Rattle.zy_table.specs.Deeds.{Going, begin}
+use Rattle.zy_table.specs.Deeds.{Going}
 use Rattle.zy_table.specs.Gathering.{own_at, own_from, settled_at, state_in}
 use Rattle.zy_table.specs.Adopting.{checkpoints_between, taken_over}
 use Rattle.zy_table.specs.Leaving.{leave_alone}

@@ -1,10 +1,6 @@
 -- No frame of these kinds is too long.
-use Rattle.std.proofs.Common.{◌≡◌, ℕ, ◌+◌, ◌≤◌, List, [], ◌∷◌, ◌++◌, length, ap, sym, refl, ◌∙◌, subst, arith}
-use Rattle.zy_wire.specs.Kind.{frame_version}
-use Rattle.zy_wire.specs.Spelling.{Spelling}
-use Rattle.zy_wire.specs.Fields.{bytes16}
+use Rattle.std.proofs.Common.{◌≡◌, ℕ, ◌+◌, ◌≤◌, [], ◌∷◌, ◌++◌, length, ◌∙◌, arith}
 use Rattle.zy_wire.proofs.Lengths.{IsAtMost, sized16-at_most, pair-at_most, converted-at_most, optional-at_most, list-at_most}
-use Rattle.zy_parts.specs.Statements.{local_fields, hole_fields, hate_fields, check_fields}
 use Rattle.zy_parts.specs.Signing.{signed}
 use Rattle.zy_parts.proofs.Lengths.{signed-at_most, ask-at_most, order-at_most, spec-at_most, local-at_most, confirm-at_most, hole-at_most, hate-at_most, check-at_most}
 use Rattle.zy_frames.specs.declared.frame.Frame.{Frame}

@@ -1,6 +1,6 @@
 -- The counts of a group of 3f + 1 replicas.
-use Rattle.std.specs.Prelude.{ℕ, ◌+◌, ◌*◌, ◌==◌, if◌then◌else◌}
-use Rattle.std.proofs.Common.{lit<, lit≤}
+use Rattle.std.specs.Prelude.{ℕ, ◌+◌, ◌*◌, ◌≤◌, ◌==◌, if◌then◌else◌}
+use Rattle.std.proofs.Common.{arith, lit≤}
 use Rattle.zy_base.specs.Counts.{IsSound}
 use Rattle.zy_base.specs.declared.counts.Counts.{Counts}
 
@@ -11,81 +11,27 @@ abbrev pub counts_for : (f : ℕ) → IsSoundFor f → Counts
 counts_for f sound =
     record { n = 3 * f + 1; f = f; fast = 3 * f + 1; cert = 2 * f + 1; local = 2 * f + 1; change = 2 * f + 1; agree = f + 1; sound = sound }
 
-pub sound_one : IsSoundFor 1
-sound_one = record {
-  two_certificates = lit< tt;
-  certificate_and_fast = lit< tt;
-  fast_and_change = lit≤ tt;
-  two_agreements = lit< tt;
-  true_agreement = lit< tt;
-  local_and_change = lit< tt;
-  certificate_in_reach = lit≤ tt;
-  local_in_reach = lit≤ tt;
-  change_in_reach = lit≤ tt;
-  fast_in_reach = lit≤ tt;
-  short_certificate = lit≤ tt;
-  short_local = lit≤ tt;
-  short_change = lit≤ tt;
-  few = lit≤ tt;
-}
-
-pub sound_two : IsSoundFor 2
-sound_two = record {
-  two_certificates = lit< tt;
-  certificate_and_fast = lit< tt;
-  fast_and_change = lit≤ tt;
-  two_agreements = lit< tt;
-  true_agreement = lit< tt;
-  local_and_change = lit< tt;
-  certificate_in_reach = lit≤ tt;
-  local_in_reach = lit≤ tt;
-  change_in_reach = lit≤ tt;
-  fast_in_reach = lit≤ tt;
-  short_certificate = lit≤ tt;
-  short_local = lit≤ tt;
-  short_change = lit≤ tt;
-  few = lit≤ tt;
-}
-
-pub sound_three : IsSoundFor 3
-sound_three = record {
-  two_certificates = lit< tt;
-  certificate_and_fast = lit< tt;
-  fast_and_change = lit≤ tt;
-  two_agreements = lit< tt;
-  true_agreement = lit< tt;
-  local_and_change = lit< tt;
-  certificate_in_reach = lit≤ tt;
-  local_in_reach = lit≤ tt;
-  change_in_reach = lit≤ tt;
-  fast_in_reach = lit≤ tt;
-  short_certificate = lit≤ tt;
-  short_local = lit≤ tt;
-  short_change = lit≤ tt;
-  few = lit≤ tt;
-}
-
-pub sound_four : IsSoundFor 4
-sound_four = record {
-  two_certificates = lit< tt;
-  certificate_and_fast = lit< tt;
-  fast_and_change = lit≤ tt;
-  two_agreements = lit< tt;
-  true_agreement = lit< tt;
-  local_and_change = lit< tt;
-  certificate_in_reach = lit≤ tt;
-  local_in_reach = lit≤ tt;
-  change_in_reach = lit≤ tt;
-  fast_in_reach = lit≤ tt;
-  short_certificate = lit≤ tt;
-  short_local = lit≤ tt;
-  short_change = lit≤ tt;
-  few = lit≤ tt;
+pub sound_for : (f : ℕ) → f ≤ 4 → IsSoundFor f
+sound_for f most = record {
+  two_certificates = omega arith;
+  certificate_and_fast = omega arith;
+  fast_and_change = omega arith;
+  two_agreements = omega arith;
+  true_agreement = omega arith;
+  local_and_change = omega arith;
+  certificate_in_reach = omega arith;
+  local_in_reach = omega arith;
+  change_in_reach = omega arith;
+  fast_in_reach = omega arith;
+  short_certificate = omega (arith, most);
+  short_local = omega (arith, most);
+  short_change = omega (arith, most);
+  few = omega (arith, most);
 }
 
 -- where at most f of them lie, from 1 to 4
 abbrev pub plain_counts : ℕ → Counts
 plain_counts f =
-    if f == 1 then counts_for 1 sound_one
-    else (if f == 2 then counts_for 2 sound_two
-    else (if f == 3 then counts_for 3 sound_three else counts_for 4 sound_four))
+    if f == 1 then counts_for 1 (sound_for 1 (lit≤ tt))
+    else (if f == 2 then counts_for 2 (sound_for 2 (lit≤ tt))
+    else (if f == 3 then counts_for 3 (sound_for 3 (lit≤ tt)) else counts_for 4 (sound_for 4 (lit≤ tt))))

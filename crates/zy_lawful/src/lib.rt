@@ -1,4 +1,4 @@
-//! Each step of the answer table is lawful. The crate has no code: its functions are laws, which have no argument and do
+//! Each step of normal operation, as the answer table has it, is lawful. The crate has no code: its functions are laws, which have no argument and do
 //! nothing, and whose contracts speak of all worlds and all replicas.
 #![tactic(auto)]
 

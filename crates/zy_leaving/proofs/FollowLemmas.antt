@@ -38,7 +38,7 @@ use Rattle.zy_change.specs.declared.kept.Accepted.{Accepted}
 use Rattle.zy_change.specs.declared.kept.Chosen.{Chosen}
 use Rattle.zy_change.specs.declared.owed.Adoption.{Adoption}
 use Rattle.zy_change.specs.declared.owed.Owed.{Owed}
-use Rattle.zy_change.specs.Views.{Views, began_equal, began_for, begans_equal, without_others, with_new, left, with_change, with_hate, certificate_if, certificate_of, first_of, own_view as views_own, views_above, view_above, has_begun, is_from, slot_of, is_hated_by}
+use Rattle.zy_change.specs.Views.{Views, began_equal, began_for, begans_equal, without_others, left, with_change, with_hate, certificate_if, certificate_of, first_of, own_view as views_own, views_above, view_above, has_begun, is_from, slot_of, is_hated_by}
 use Rattle.zy_change.specs.Owing.{Pens, Onward, new_of, nothing, onward, is_gathering, choice_in, next_view, hated_by_many, is_left_behind, least_above, change_to, signed_by}
 use Rattle.zy_change.specs.Owing as owing
 use Rattle.zy_change.specs.Owing.{accept as accept_owed, collect as collect_owed, leave as leave_owed}
@@ -57,7 +57,7 @@ use Rattle.zy_table.specs.Beginning.{adopt, adopt_from, adopt_if, begun, certify
 use Rattle.zy_table.specs.Hates.{hate as hate_row, hate_of, hate_counted as counted_row, with_hate_of}
 use Rattle.zy_table.specs.Changes.{change as change_row, change_kept, change_judged, send_cert}
 use Rattle.zy_leaving.specs.Carrying.{leave_if, give, carried, attempted_as, concluded_as, carried_out, kept_unless}
-use Rattle.zy_leaving.specs.Follows.{spent_many, signs_for, Follows, IsSigner, SignsAsItself, Begins, IsBegun, IsLeaveOwed, IsCountedOwed, IsHateOwed, IsChangeOwed}
+use Rattle.zy_leaving.specs.Follows.{spent_many, signs_for, Follows, IsSigner, SignsAsItself, Begins, IsLeaveOwed, IsCountedOwed, IsHateOwed, IsChangeOwed}
 
 pub for_none : {A : Type 0} (P : A → Type 0) → ForSome None P
 for_none P = λ x is. absurd cc

@@ -9,7 +9,6 @@ use Rattle.zy_ots.specs.declared.ots_type.OtsType.TheVariants.{W4, W8}
 use Rattle.zy_ots.specs.OtsType as OtsType
 use Rattle.zy_ots.specs.Coef.{number_at}
 use Rattle.zy_ots.specs.OneTime as OneTime
-use Rattle.zy_ots.specs.OneTime.{HasForm, candidate_of}
 use Rattle.zy_ots.proofs.OneTimeLemmas.{Verifies-signature}
 use Rattle.zy_ots.proofs.NumberLemmas.{number_at-spelled}
 use Rattle.zy_lms.specs.declared.height.Height.{Height}

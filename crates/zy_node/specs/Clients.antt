@@ -1,7 +1,7 @@
 -- What a client's node has to know of it.
 use Rattle.std.specs.Prelude.{nat_eq, Bool, false, Option, Some, None}
 use Rattle.zy_base.specs.declared.ids.Stamp.{Stamp}
-use Rattle.zy_client.specs.Hearing.{whole_client_step}
+use Rattle.zy_table.specs.ClientRows.{client_step}
 use Rattle.zy_table.specs.ClientState.{ClientState, ClientOutcome, client_outgoing, timers_of}
 use Rattle.zy_table.specs.declared.client.Done.{Done}
 use Rattle.zy_node.specs.Rules.{Deed, Rules}
@@ -18,4 +18,4 @@ abbrev pub is_complete : ClientState → Bool
 is_complete s = is_of s.stamp s.done
 
 abbrev pub client_rules : Rules ClientState
-client_rules = record { step = λ event s. deed_of (whole_client_step s event); timers = timers_of; is_done = is_complete }
+client_rules = record { step = λ event s. deed_of (client_step s event); timers = timers_of; is_done = is_complete }

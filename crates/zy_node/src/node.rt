@@ -97,7 +97,7 @@ impl<M: Machine> Core for Replica<M> {
             timers: _,
             said: _,
             got: _,
-        } = self.whole_step(event)?;
+        } = self.step(event)?;
         Ok(Moved { core: replica, out })
     }
 

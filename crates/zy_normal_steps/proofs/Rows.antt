@@ -57,7 +57,7 @@ use Rattle.zy_table.specs.Orders.{ask_for_missing, hole_of}
 use Rattle.zy_table.specs.Requests.{order_of, ordered, request_waits, sealed_order}
 use Rattle.zy_table.specs.Running.{next_known, run, spec_of}
 use Rattle.zy_table.specs.State as table
-use Rattle.zy_table.specs.State.{State, is_primary, spent, stood_of, window_of, with_pending, with_spec}
+use Rattle.zy_table.specs.State.{State, is_primary, stood_of, window_of, with_spec}
 use Rattle.zy_table.specs.declared.deeds.Body.TheVariants as bodies
 use Rattle.zy_table.specs.declared.deeds.Remark.{Remark}
 use Rattle.zy_table.specs.declared.deeds.Sent.{Sent}

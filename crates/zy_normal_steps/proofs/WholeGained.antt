@@ -26,7 +26,7 @@ use Rattle.zy_lawful.proofs.GainedEntries.{step_gained}
 use Rattle.zy_lawful.proofs.Own.{by_test}
 use Rattle.zy_lawful.specs.Acts.{spec_statement}
 use Rattle.zy_lawful.specs.Tied as lawful
-use Rattle.zy_lawful.specs.Tied.{AreVouched, IsGained, MayEventRun, MayFrameRun}
+use Rattle.zy_lawful.specs.Tied.{IsGained, MayFrameRun}
 use Rattle.zy_parts.specs.declared.signed.Signed.{Signed}
 use Rattle.zy_parts.specs.declared.statements.Spec.{Spec}
 use Rattle.zy_seal.specs.Screening.{screen}
@@ -41,7 +41,6 @@ use Rattle.zy_table.specs.Step.{decoded, hear, row, step, unless}
 use Rattle.zy_table.specs.Whole.{decoded_as, hear_plain, order, order_judged, plain_row, whole_step}
 use Rattle.zy_vframes.specs.ViewFrames as views
 use Rattle.zy_view_law.specs.Held as held
-use Rattle.zy_view_law.specs.Held.{IsHeldPart}
 use Rattle.zy_view_law.specs.Texts.{Texts}
 use Rattle.zy_view_law.specs.Told.{response_told, spec_spelled}
 use Rattle.zy_view_steps.proofs.AtWork.{told_alike}

@@ -1,12 +1,11 @@
 //! The replica: bytes or a timer go in, an answer and the frames to send come out, and each step is that of the answer
-//! table, in view 0 or where it takes part in changes of view.
+//! table.
 #![tactic(auto)]
 
 mod outcome;
 mod replica;
 mod roles;
 mod step;
-mod whole;
 
 pub use replica::{Replica, Stepped};
 pub use zy_table::{Gains, Got};

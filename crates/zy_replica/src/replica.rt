@@ -5,13 +5,11 @@ ghost use Rattle.zy_base.specs.declared.ids.Party.TheVariants as parties;
 ghost use Rattle.zy_chain.specs.Entries.{IsEntryInRange};
 ghost use Rattle.zy_exec.specs.Kept.{now_of, last_place};
 ghost use Rattle.zy_exec.specs.Snapshot.{snapshot_of};
-ghost use Rattle.zy_table.specs.Step.{step as step_row};
-ghost use Rattle.zy_table.specs.Whole.{whole_step as whole_row};
+ghost use Rattle.zy_table.specs.Whole.{whole_step as step_row};
 ghost use Rattle.zy_table.specs.Deeds.{outgoing_of, said_from, gains_in};
 
 use crate::outcome::finish;
 use crate::step::moves;
-use crate::whole::moves_whole;
 use std::alloc::Global;
 use std::marker::Model;
 use zy_base::{
@@ -75,7 +73,7 @@ impl<M: Machine> Replica<M> {
         }
     }
 
-    /// What an event makes of the replica in view 0, which hears nothing of a change of view.
+    /// What an event makes of the replica: the whole answer table, for every frame and timer.
     pub fn step(self, event: Event) -> Result<Stepped<M>, Want>
         ensures answer { IfOk result (λ s. s.answer ≡ (step_row M.rules self event).answer) }
         ensures replica { IfOk result (λ s. s.replica ≡ (step_row M.rules self event).state) }
@@ -87,20 +85,6 @@ impl<M: Machine> Replica<M> {
     {
         let Replica { core } = self;
         finish(moves(core, event)?)
-    }
-
-    /// What an event makes of the replica, changes of view among it: the whole answer table, for every frame and timer.
-    pub fn whole_step(self, event: Event) -> Result<Stepped<M>, Want>
-        ensures answer { IfOk result (λ s. s.answer ≡ (whole_row M.rules self event).answer) }
-        ensures replica { IfOk result (λ s. s.replica ≡ (whole_row M.rules self event).state) }
-        ensures out { IfOk result (λ s. s.out ≡ outgoing_of (whole_row M.rules self event).state.me.0 (whole_row M.rules self event).state.counts.n (whole_row M.rules self event).deeds.sent) }
-        ensures timers { IfOk result (λ s. s.timers ≡ timers_of (whole_row M.rules self event).state) }
-        ensures said { IfOk result (λ s. s.said ≡ said_from (parties.Replica (whole_row M.rules self event).state.me) 0 (whole_row M.rules self event).deeds.acts) }
-        ensures got { IfOk result (λ s. s.got ≡ gains_in (whole_row M.rules self event).deeds.acts) }
-        ensures range { IfOk result (λ s. AllByRecursion (λ got. IsEntryInRange got.entry) s.got) }
-    {
-        let Replica { core } = self;
-        finish(moves_whole(core, event)?)
     }
 
     /// Whether it takes part in its view, and which that is.

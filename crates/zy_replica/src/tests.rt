@@ -18,7 +18,7 @@ use entering_rows::{OF_ENTERING, OF_SNAPSHOTS, OF_VIEW_CERTIFICATES};
 use leaving_rows::{OF_BLAME, OF_LEAVING, OF_THE_LAST_LEAVES};
 use more_rows::{OF_CERTIFICATES, OF_OTHER_FRAMES};
 use new_view_rows::{OF_CONFIRMATIONS, OF_NEW_VIEWS};
-use report_rows::OF_REPORTS;
+use report_rows::{OF_REPORTS, OF_TIMERS};
 use rows::{OF_ORDERS, OF_THE_PRIMARY, OF_WAITING_REQUESTS};
 use std::alloc::Global;
 use std::test::Fail;
@@ -105,8 +105,13 @@ fn the_last_leaves(rt: HostRuntime) -> Result<(), Fail> {
 }
 
 #[test]
-fn reports_and_timers(rt: HostRuntime) -> Result<(), Fail> {
+fn reports(rt: HostRuntime) -> Result<(), Fail> {
     all_follow(rt.alloc(), OF_REPORTS)
+}
+
+#[test]
+fn timers(rt: HostRuntime) -> Result<(), Fail> {
+    all_follow(rt.alloc(), OF_TIMERS)
 }
 
 #[test]

@@ -1,23 +1,19 @@
-//! What a replica answers to one that lacks orders, and when it asks again for those that it lacks itself.
+//! What a replica answers to one that lacks orders.
 
 ghost use Rattle.std.specs.Prelude.{◌≡◌, ◌≤◌, ◌<◌, ◌^◌, IfOk, map, [], nat_le, if◌then◌else◌};
 ghost use Rattle.zy_base.specs.declared.cause.Cause.TheVariants as causes;
 ghost use Rattle.zy_base.specs.declared.step.Answer.TheVariants as Answer;
-ghost use Rattle.zy_base.specs.declared.ids.View.{View};
-ghost use Rattle.zy_base.specs.declared.step.Mode.TheVariants as modes;
 ghost use Rattle.zy_exec.specs.Kept.{last_place};
 ghost use Rattle.zy_table.specs.Deeds.{refused as refused_with};
 ghost use Rattle.std.specs.List.{AllByRecursion};
-ghost use Rattle.std.specs.Option.{ForSome};
 ghost use Rattle.zy_parts.specs.Signing.{IsSignedInRange};
 ghost use Rattle.zy_parts.specs.Statements.{IsHoleInRange};
-ghost use Rattle.zy_admit.specs.Orders.{orders_from};
-ghost use Rattle.zy_table.specs.Holes.{order_to, fill_with as filled_with, fill_hole as fill_row, ask_again as again};
+ghost use Rattle.zy_table.specs.Holes.{order_to, fill_with as filled_with, fill_hole as fill_row};
 ghost use Rattle.zy_core.specs.Ready.{IsOrderReady};
 
 use std::alloc::Global;
-use zy_base::{Answer, Cause, Items, Machine, Mode, Party, Want};
-use zy_core::{Core, Moved, Progress, signed_copy};
+use zy_base::{Answer, Cause, Items, Machine, Party, Want};
+use zy_core::{Core, Moved, Progress};
 use zy_frames::{Frame, OrderFrame};
 use zy_parts::{Hole, Signed};
 use zy_table::{AnyFrame, Deeds, Sent, To};
@@ -86,54 +82,4 @@ pub(crate) fn fill_hole<M: Machine>(core: Core<M>, hole: Signed<Hole>) -> Result
 {
     let orders = core.orders_asked(&hole.stmt)?;
     fill_with(core, hole, orders)
-}
-
-// A copy of what it asked the primary for last.
-fn hole_asked<M: Machine>(core: &Core<M>) -> Result<Option<Signed<Hole>>, Want>
-    ensures hole { IfOk result (λ hole. hole ≡ core.now.hole) }
-    ensures range { IfOk result (λ hole. ForSome hole (IsSignedInRange IsHoleInRange)) }
-{
-    match core.hole() {
-        Some(hole) => Ok(Some(signed_copy(hole)?)),
-        None => Ok(None),
-    }
-}
-
-fn ask_while_active<M: Machine>(core: Core<M>, hole: Option<Signed<Hole>>) -> Result<Moved<M>, Want>
-    requires { ForSome hole (IsSignedInRange IsHoleInRange) }
-    ensures { (view : View) → IfOk result (λ m. m ≡ again core (modes.Active view) hole) }
-{
-    match hole {
-        Some(hole) => {
-            let progress = core.begin().send_hole(To::All, hole)?;
-            Ok(progress.ends(Answer::Taken))
-        }
-        None => Ok(core.begin().ends(Answer::Taken)),
-    }
-}
-
-fn ask_with<M: Machine>(
-    core: Core<M>,
-    mode: Mode,
-    hole: Option<Signed<Hole>>,
-) -> Result<Moved<M>, Want>
-    requires { ForSome hole (IsSignedInRange IsHoleInRange) }
-    ensures { IfOk result (λ m. m ≡ again core mode hole) }
-{
-    match mode {
-        Mode::Active(_) => ask_while_active(core, hole),
-        Mode::Leaving(_) => {
-            drop(hole);
-            Ok(core.begin().ends(Answer::Taken))
-        }
-    }
-}
-
-/// The missing orders are asked for again, of all replicas, while it is active.
-pub fn ask_again<M: Machine>(core: Core<M>) -> Result<Moved<M>, Want>
-    ensures { IfOk result (λ m. m ≡ again core core.views.mode core.hole) }
-{
-    let mode = core.mode();
-    let hole = hole_asked(&core)?;
-    ask_with(core, mode, hole)
 }

@@ -9,6 +9,5 @@ mod orders;
 mod requests;
 mod rows;
 
-pub use holes::ask_again;
 pub use orders::{judge, order_as};
 pub use rows::row;

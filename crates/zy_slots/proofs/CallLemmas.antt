@@ -1,5 +1,5 @@
 -- What the calls need, and what they make of the shape.
-use Rattle.std.proofs.Common.{◌≡◌, ◌≢◌, ◌⊎◌, ℕ, zero, suc, ◌+◌, ◌<◌, ◌≤◌, true, false, List, [], ◌∷◌, ◌++◌, length, Option, Some, None, IfSome, refl, sym, ap, ◌∙◌, subst, inl, inr, arith, append-nil}
+use Rattle.std.proofs.Common.{◌≡◌, ◌≢◌, ◌⊎◌, ℕ, ◌+◌, ◌<◌, ◌≤◌, true, false, List, [], ◌∷◌, ◌++◌, length, Option, Some, None, IfSome, refl, sym, ap, ◌∙◌, subst, inl, inr, arith, append-nil}
 use Rattle.std.specs.List.{AllByRecursion}
 use Rattle.zy_slots.specs.declared.link.Link.{Link}
 use Rattle.zy_slots.specs.declared.slot.Kind.TheVariants.{Order, Chain, Pile}
@@ -7,8 +7,8 @@ use Rattle.zy_slots.specs.declared.slot.Held.{Held}
 use Rattle.zy_slots.specs.declared.slot.Slot.{Slot}
 use Rattle.zy_slots.specs.Rings.{first_of, last_of, between, IsRing}
 use Rattle.zy_slots.specs.Columns.{no_slot, ends_at, slot_at, linked, AreWithin, IsDetached, IsAttached, StaysBeside, StaysInPiles, IsHeldNow, IsTaken}
-use Rattle.zy_slots.specs.Cells.{Cell, Kept, Cells, KeptByNone, IsFresh, Stands, IsLive, ids, chain_of, kept}
-use Rattle.zy_slots.specs.Shape.{times, kept_ids, cells_of, total, AreAmong, IsAmong, Rises, IsAged, IsAgedBetween, IsShape, IsLinked, HoldsLive, HoldsKept}
+use Rattle.zy_slots.specs.Cells.{Cell, Kept, KeptByNone, IsFresh, ids, chain_of, kept}
+use Rattle.zy_slots.specs.Shape.{times, kept_ids, IsAmong, Rises, IsAgedBetween, IsShape, HoldsLive, HoldsKept}
 use Rattle.zy_slots.proofs.PutLemmas.{next_of, prev_of}
 use Rattle.zy_slots.proofs.TimesLemmas.{times-append, times_self, times_middle, among_more, first_among, last_among}
 use Rattle.zy_slots.proofs.RingLemmas.{detached_elsewhere}
@@ -17,7 +17,6 @@ use Rattle.zy_slots.proofs.NameLemmas.{kept_by_none, named_front}
 use Rattle.zy_slots.proofs.AgeLemmas.{aged_anew, age_new, age_other, rises_parts, rises_chain, aged_between, all_younger, all_older, same_cut, next_age, below_next}
 use Rattle.zy_slots.proofs.StepLemmas.{laid, out_shape, in_shape}
 use Rattle.zy_slots.proofs.PileLemmas.{stacked_shape, unstacked_shape, kept_after, freed_shape, taken_shape, grown_shape, held_shape, anew_shape}
-use Rattle.zy_slots.proofs.ViewLemmas.{settled}
 
 pub within_from_among : (limit : ℕ) (places : List ℕ) (place : Option ℕ) → ((other : ℕ) → 0 < times other places → other < limit) → IsAmong places place
     → IfSome place (λ p. p < limit)

@@ -1,9 +1,9 @@
 -- What unlinked cells keep as their neighbours.
-use Rattle.std.proofs.Common.{◌≡◌, ◌≢◌, ◌⊎◌, ℕ, zero, suc, ◌+◌, ◌<◌, ◌≤◌, List, [], ◌∷◌, ◌++◌, Option, Some, None, refl, sym, ap, ◌∙◌, subst, inl, inr, arith}
+use Rattle.std.proofs.Common.{◌≡◌, ◌≢◌, ◌⊎◌, ℕ, zero, suc, ◌+◌, ◌<◌, ◌≤◌, List, [], ◌∷◌, ◌++◌, Option, Some, None, sym, ap, ◌∙◌, arith}
 use Rattle.zy_slots.specs.declared.link.Link.{Link}
-use Rattle.zy_slots.specs.Cells.{Cell, Kept, IsApart, KeptByNone}
+use Rattle.zy_slots.specs.Cells.{Kept, IsApart, KeptByNone}
 use Rattle.zy_slots.specs.Shape.{times, IsAmong, AreAmong, AreNamed, kept_ids}
-use Rattle.zy_slots.proofs.TimesLemmas.{times-append, times_self, not_there, among_more}
+use Rattle.zy_slots.proofs.TimesLemmas.{times-append, not_there, among_more}
 
 among_fewer : (seen fewer : List ℕ) (gone : ℕ) (place : Option ℕ) → place ≢ Some gone
     → ((other : ℕ) → other ≢ gone → 0 < times other seen → 0 < times other fewer) → IsAmong seen place → IsAmong fewer place

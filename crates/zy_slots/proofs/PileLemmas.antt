@@ -1,24 +1,23 @@
 -- The shape of the slots where a place goes onto a pile or off it, where what a loose one holds changes, and where one is added.
-use Rattle.std.proofs.Common.{◌≡◌, ◌≢◌, ◌⊎◌, ℕ, zero, suc, ◌+◌, ◌<◌, ◌≤◌, Bool, true, false, List, [], ◌∷◌, ◌++◌, length, get_or, Option, Some, None, refl, sym, ap, ◌∙◌, subst, inl, inr, arith, length-append}
+use Rattle.std.proofs.Common.{◌≡◌, ◌≢◌, ◌⊎◌, ℕ, zero, suc, ◌+◌, ◌<◌, ◌≤◌, false, List, [], ◌∷◌, ◌++◌, length, Option, None, refl, sym, ap, ◌∙◌, subst, inl, inr, arith, length-append}
 use Rattle.std.specs.List.{AllByRecursion}
 use Rattle.std.proofs.lemmas.Bool.{cases_eq}
 use Rattle.zy_slots.specs.declared.link.Link.{Link}
-use Rattle.zy_slots.specs.declared.slot.Kind.{Kind}
 use Rattle.zy_slots.specs.declared.slot.Kind.TheVariants.{Order, Chain, Pile}
 use Rattle.zy_slots.specs.declared.slot.Held.{Held}
 use Rattle.zy_slots.specs.declared.slot.Slot.{Slot}
-use Rattle.zy_slots.specs.Rings.{first_of, last_of, between, IsRing}
+use Rattle.zy_slots.specs.Rings.{between, IsRing}
 use Rattle.zy_slots.specs.Columns.{no_slot, ends_at, slot_at, linked, link_of, IsDetached, IsAttached, StaysBeside, IsHeldNow}
 use Rattle.zy_slots.specs.Cells.{Cell, Kept, KeptByNone, ids, chain_of}
-use Rattle.zy_slots.specs.Shape.{times, kept_ids, Layout, total, AreAmong, AreNamed, Rises, IsAged, IsSound, IsShape, HoldsLive, HoldsKept}
+use Rattle.zy_slots.specs.Shape.{times, kept_ids, total, AreAmong, IsAged, IsSound, IsShape, HoldsLive, HoldsKept}
 use Rattle.zy_slots.proofs.PutLemmas.{next_of}
 use Rattle.zy_slots.proofs.TimesLemmas.{times-append, times_self, times_middle, other_place, never}
 use Rattle.zy_slots.proofs.RingLemmas.{ring_same, detached, detached_elsewhere, attached, attached_elsewhere}
 use Rattle.zy_slots.proofs.ColumnLemmas.{same_column}
-use Rattle.zy_slots.proofs.ListLemmas.{all_split, all_parts, all_join, all_map, all_among, kept_ids-append}
+use Rattle.zy_slots.proofs.ListLemmas.{all_split, all_join, all_map, all_among, kept_ids-append}
 use Rattle.zy_slots.proofs.NameLemmas.{both_more, named_more, named_without, named_taken}
 use Rattle.zy_slots.proofs.AgeLemmas.{rises_anew, stack_anew, aged_anew}
-use Rattle.zy_slots.proofs.StepLemmas.{laid, size_of, moved}
+use Rattle.zy_slots.proofs.StepLemmas.{laid, moved}
 
 -- a pile's first place
 pub first_link : (at : Option ℕ → Link) (places : List ℕ) (ends : Link) → at None ≡ ends → IsRing at places

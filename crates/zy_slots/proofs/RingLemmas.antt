@@ -1,11 +1,11 @@
 -- One place more or less in a ring.
 use Rattle.std.proofs.Common.{◌≡◌, ◌≢◌, ◌⊎◌, ℕ, ◌+◌, ◌<◌, ◌≤◌, List, [], ◌∷◌, ◌++◌, Option, Some, None, refl, sym, ap, ◌∙◌, subst, inl, inr, arith, append_assoc, append-nil}
 use Rattle.zy_slots.specs.declared.link.Link.{Link}
-use Rattle.zy_slots.specs.Rings.{first_of, last_from, last_of, between, IsRing}
-use Rattle.zy_slots.specs.Columns.{IsPut, IsJoined, IsDetached, IsAttached}
-use Rattle.zy_slots.specs.Shape.{times, IsAmong}
+use Rattle.zy_slots.specs.Rings.{first_of, last_of, between, IsRing}
+use Rattle.zy_slots.specs.Columns.{IsJoined, IsDetached, IsAttached}
+use Rattle.zy_slots.specs.Shape.{times}
 use Rattle.zy_slots.proofs.PutLemmas.{next_of, prev_of, same_link}
-use Rattle.zy_slots.proofs.TimesLemmas.{times-append, times_self, times_there, not_there, first_among, last_among, last-append, some_last, split_cases}
+use Rattle.zy_slots.proofs.TimesLemmas.{times-append, times_there, not_there, first_among, last_among, last-append, some_last, split_cases}
 
 -- a ring whose links are the same
 pub ring_same : (at at' : Option ℕ → Link) (places : List ℕ) → IsRing at places → at' None ≡ at None

@@ -1,5 +1,5 @@
 -- The calls over the slots as they are kept and the cells that are seen.
-use Rattle.std.proofs.Common.{◌≡◌, ◌≢◌, ◌⊎◌, ℕ, zero, suc, ◌+◌, ◌<◌, ◌≤◌, true, false, eqb, List, [], ◌∷◌, ◌++◌, length, replicate, Option, Some, None, IfSome, IsSome, option_map, refl, sym, ap, ◌∙◌, subst, inl, inr, arith}
+use Rattle.std.proofs.Common.{◌≡◌, ◌≢◌, ◌⊎◌, ℕ, zero, suc, ◌+◌, ◌<◌, ◌≤◌, true, false, List, [], ◌∷◌, ◌++◌, length, replicate, Option, Some, None, IfSome, IsSome, option_map, refl, sym, ap, ◌∙◌, subst, inl, inr, arith}
 use Rattle.std.specs.List.{AllByRecursion}
 use Rattle.std.proofs.lemmas.Bool.Decides.{eqb_tells}
 use Rattle.zy_slots.specs.declared.link.Link.{Link}
@@ -7,19 +7,17 @@ use Rattle.zy_slots.specs.declared.slot.Kind.TheVariants.{Order, Chain, Pile}
 use Rattle.zy_slots.specs.declared.slots.SlotId.{SlotId}
 use Rattle.zy_slots.specs.declared.slot.Held.{Held}
 use Rattle.zy_slots.specs.declared.slot.Slot.{Slot}
-use Rattle.zy_slots.specs.Rings.{first_of, last_from, last_of, between, IsRing}
-use Rattle.zy_slots.specs.declared.slot.Kind.{Kind}
+use Rattle.zy_slots.specs.Rings.{first_of, last_of, IsRing}
 use Rattle.zy_slots.specs.Columns.{no_link, ends_at, slot_at, linked, link_of, AreWithin, IsTaken, StaysBeside, IsHeldNow}
 use Rattle.zy_slots.specs.Cells.{Cell, Kept, Cells, KeptByNone, IsFresh, Stands, IsLive, CanRelink, CanTakeLast, ids, chain_of, kept, relinked, put_behind}
-use Rattle.zy_slots.specs.Shape.{times, kept_ids, cells_of, total, IsSound, IsShape, IsLinked, HoldsLive, HoldsKept}
+use Rattle.zy_slots.specs.Shape.{times, kept_ids, cells_of, IsShape, IsLinked, HoldsLive, HoldsKept}
 use Rattle.zy_slots.proofs.PutLemmas.{next_of, prev_of}
 use Rattle.zy_slots.proofs.TimesLemmas.{times-append, times_self, times_middle, last-append}
 use Rattle.zy_slots.proofs.ColumnLemmas.{no_ends}
 use Rattle.zy_slots.proofs.ListLemmas.{all_split, ids_middle, ids-append, kept_ids-append, chain-append, times_chain}
-use Rattle.zy_slots.proofs.AgeLemmas.{aged_anew, next_age}
 use Rattle.zy_slots.proofs.StepLemmas.{laid}
 use Rattle.zy_slots.proofs.ViewLemmas.{viewed, settled, linked_now, put_back, found_live}
-use Rattle.zy_slots.proofs.CallLemmas.{within_from_among, between_within, NeedsOut, needs_out, order_at, chain_at, Unlinks, unlinked_shape, Relinks, relinked_shape, Takes, taken_last_shape, Forgets, forgotten_shape, Inserts, found_shape, inserted_shape, inserted_fresh}
+use Rattle.zy_slots.proofs.CallLemmas.{between_within, NeedsOut, needs_out, order_at, chain_at, Unlinks, unlinked_shape, Relinks, relinked_shape, Takes, taken_last_shape, Forgets, forgotten_shape, Inserts, found_shape, inserted_shape, inserted_fresh}
 
 no_split : (earlier : List ℕ) (place : ℕ) (later : List ℕ) → [] ≡ earlier ++ place ∷ later → ⊥
 no_split [] place later split = cc

@@ -1,22 +1,21 @@
 -- The shape of the slots through the small steps that the calls are made of.
-use Rattle.std.proofs.Common.{◌≡◌, ◌≢◌, ◌⊎◌, ℕ, zero, suc, ◌+◌, ◌<◌, ◌≤◌, Bool, true, false, List, [], ◌∷◌, ◌++◌, length, get_or, Option, Some, None, refl, sym, ap, ◌∙◌, subst, inl, inr, arith, length-append}
+use Rattle.std.proofs.Common.{◌≡◌, ◌≢◌, ◌⊎◌, ℕ, ◌+◌, ◌<◌, ◌≤◌, List, [], ◌∷◌, ◌++◌, length, Option, sym, ap, ◌∙◌, subst, inl, inr, arith, length-append}
 use Rattle.std.specs.List.{AllByRecursion}
 use Rattle.std.proofs.lemmas.Bool.{cases_eq}
 use Rattle.zy_slots.specs.declared.link.Link.{Link}
 use Rattle.zy_slots.specs.declared.slot.Kind.TheVariants.{Order, Chain, Pile}
 use Rattle.zy_slots.specs.declared.slot.Held.{Held}
 use Rattle.zy_slots.specs.declared.slot.Slot.{Slot}
-use Rattle.zy_slots.specs.Rings.{first_of, last_of, between, IsRing}
-use Rattle.zy_slots.specs.Columns.{no_slot, ends_at, slot_at, linked, link_of, IsDetached, IsAttached, StaysBeside, StaysInPiles, IsHeldNow}
-use Rattle.zy_slots.specs.Cells.{Cell, Kept, KeptByNone, ids, chain_of}
-use Rattle.zy_slots.specs.Shape.{times, kept_ids, Layout, total, AreAmong, AreNamed, Rises, IsAged, IsSound, IsShape, HoldsLive, HoldsKept}
-use Rattle.zy_slots.proofs.PutLemmas.{next_of, prev_of}
+use Rattle.zy_slots.specs.Rings.{between, IsRing}
+use Rattle.zy_slots.specs.Columns.{ends_at, slot_at, linked, IsDetached, IsAttached, StaysInPiles}
+use Rattle.zy_slots.specs.Cells.{Cell, Kept, ids, chain_of}
+use Rattle.zy_slots.specs.Shape.{times, kept_ids, Layout, total, AreNamed, Rises, IsAged, IsSound, IsShape, HoldsLive, HoldsKept}
 use Rattle.zy_slots.proofs.TimesLemmas.{times-append, times_self, times_middle}
 use Rattle.zy_slots.proofs.RingLemmas.{ring_same, detached, detached_elsewhere, attached, attached_elsewhere}
 use Rattle.zy_slots.proofs.ColumnLemmas.{same_column}
 use Rattle.zy_slots.proofs.ListLemmas.{all_split, all_parts, all_join, all_map, all_among, ids_middle, ids-append, kept_ids-append, chain-append, chain_middle, chain_beside, times_chain, times_chains}
-use Rattle.zy_slots.proofs.NameLemmas.{named_more, named_without, named_taken}
-use Rattle.zy_slots.proofs.AgeLemmas.{rises_out, rises_in, rises_anew, stack_anew, aged_anew}
+use Rattle.zy_slots.proofs.NameLemmas.{named_more}
+use Rattle.zy_slots.proofs.AgeLemmas.{rises_out, rises_in}
 
 module _ {T : Type 0} where
   abbrev pub laid : List (Cell T) → List (Kept T) → List ℕ → List ℕ → (ℕ → ℕ) → Layout T

@@ -1,14 +1,14 @@
 -- The cells that the links lead through are those of the rings.
-use Rattle.std.proofs.Common.{◌≡◌, ◌≢◌, ◌⊎◌, ℕ, zero, suc, ◌+◌, ◌<◌, ◌≤◌, eqb, cond, List, [], ◌∷◌, ◌++◌, length, Option, Some, None, refl, sym, ap, ◌∙◌, subst, inl, inr, arith, append_assoc}
+use Rattle.std.proofs.Common.{◌≡◌, ◌≢◌, ◌⊎◌, ℕ, zero, suc, ◌+◌, ◌<◌, ◌≤◌, eqb, List, [], ◌∷◌, ◌++◌, length, Option, Some, refl, sym, ap, ◌∙◌, subst, inl, inr, arith, append_assoc}
 use Rattle.std.specs.List.{AllByRecursion}
 use Rattle.std.proofs.lemmas.Bool.{eq-eqb}
 use Rattle.std.proofs.lemmas.Bool.Decides.{eqb_tells}
 use Rattle.std.proofs.lemmas.List.{length-map}
 use Rattle.zy_slots.specs.declared.link.Link.{Link}
-use Rattle.zy_slots.specs.declared.slot.Kind.TheVariants.{Order, Chain, Pile}
+use Rattle.zy_slots.specs.declared.slot.Kind.TheVariants.{Order, Pile}
 use Rattle.zy_slots.specs.declared.slot.Held.{Held}
 use Rattle.zy_slots.specs.declared.slot.Slot.{Slot}
-use Rattle.zy_slots.specs.Rings.{first_of, last_from, last_of, between, IsRing}
+use Rattle.zy_slots.specs.Rings.{first_of, last_from, last_of, IsRing}
 use Rattle.zy_slots.specs.Columns.{slot_at, linked}
 use Rattle.zy_slots.specs.Cells.{Cell, Kept, Cells, ids, put_behind}
 use Rattle.zy_slots.specs.Shape.{times, walk, kept_ids, with_cell, cells_at, with_kept, stack_at, cells_of, Layout, IsShape, IsLinked, HoldsLive, HoldsKept}

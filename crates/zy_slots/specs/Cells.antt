@@ -1,8 +1,8 @@
 -- What contracts see of linked slots: the live cells in the order of their insertion, and a stack of unlinked ones,
 -- each with the neighbours that it had in both orders.
-use Rattle.std.specs.Prelude.{◌≡◌, ◌≢◌, ◌==◌, ℕ, if◌then◌else◌, List, [], ◌∷◌, ◌++◌, map, filter, Option, Some, None, refl}
+use Rattle.std.specs.Prelude.{◌≡◌, ◌≢◌, ◌==◌, ℕ, if◌then◌else◌, List, [], ◌∷◌, ◌++◌, map, filter, Option, Some, None}
 use Rattle.std.specs.List.{AllByRecursion}
-use Rattle.std.specs.Coded.{Coded, code_by, coded×, coded_ℕ, coded_list, coded_option}
+use Rattle.std.specs.Coded.{coded×}
 use Rattle.zy_slots.specs.declared.link.Link.{Link}
 use Rattle.zy_slots.specs.Rings.{between}
 

@@ -3,7 +3,6 @@ use Rattle.std.specs.Prelude.{◌≡◌, ◌==◌, ℕ, zero, suc, ◌+◌, ◌<
 use Rattle.std.specs.List.{AllByRecursion}
 use Rattle.zy_slots.specs.declared.link.Link.{Link}
 use Rattle.zy_slots.specs.declared.slot.Kind.TheVariants.{Order, Chain, Pile}
-use Rattle.zy_slots.specs.declared.slot.Held.{Held}
 use Rattle.zy_slots.specs.declared.slot.Slot.{Slot}
 use Rattle.zy_slots.specs.Rings.{IsRing}
 use Rattle.zy_slots.specs.Cells.{Cell, Kept, Cells, ids, chain_of}

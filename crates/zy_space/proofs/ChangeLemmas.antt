@@ -8,7 +8,7 @@ use Rattle.zy_tuple.specs.declared.values.Field.{Field}
 use Rattle.zy_tuple.specs.Values.{IsTuple}
 use Rattle.zy_space.specs.declared.changes.Change.{Change}
 use Rattle.zy_space.specs.declared.changes.Change.TheVariants.{Same, Put, Took}
-use Rattle.zy_space.specs.Timeline.{Timeline, onward}
+use Rattle.zy_space.specs.Timeline.{onward}
 use Rattle.zy_space.specs.Bucket.{bucket_of}
 use Rattle.zy_space.specs.Changes.{tuples_of, undone, CanUndo, earlier, trail_of, LeadsBack, HoldsTuple, AllTuples, AllKeptTuples, IsSound, IsSpace, IsStep, IsPutLast}
 

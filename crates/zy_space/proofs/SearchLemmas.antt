@@ -1,7 +1,6 @@
 -- The first match of its bucket is the oldest match of all.
-use Rattle.std.proofs.Common.{◌≡◌, ◌≢◌, ℕ, ◌+◌, ◌<◌, ◌≤◌, Bool, true, false, eqb, cond, List, [], ◌∷◌, ◌++◌, length, map, filter, Option, Some, None, refl, sym, ap, ◌∙◌, subst, inl, inr, append_assoc, arith}
-use Rattle.std.specs.Option.{IfSome, IfNone, option_map}
-use Rattle.std.specs.List.{AllByRecursion}
+use Rattle.std.proofs.Common.{◌≡◌, ◌≢◌, ℕ, ◌+◌, ◌<◌, ◌≤◌, Bool, true, false, eqb, cond, List, [], ◌∷◌, ◌++◌, length, Option, Some, None, refl, sym, ap, ◌∙◌, subst, inl, inr, append_assoc, arith}
+use Rattle.std.specs.Option.{IfNone, option_map}
 use Rattle.std.proofs.lemmas.Bool.{cases_Bool}
 use Rattle.std.proofs.lemmas.Bool.Decides.{eqb_tells}
 use Rattle.std.proofs.lemmas.List.{length-append, append-nil, map-append}
@@ -14,7 +13,7 @@ use Rattle.zy_tuple.specs.declared.values.Slot.{Slot}
 use Rattle.zy_tuple.specs.declared.values.Reply.TheVariants.{Got}
 use Rattle.zy_tuple.specs.Values.{IsTuple, matches}
 use Rattle.zy_space.specs.TupleSpace.{oldest, without_oldest, found}
-use Rattle.zy_space.specs.Bucket.{bucket_of, wanted_bucket}
+use Rattle.zy_space.specs.Bucket.{wanted_bucket}
 use Rattle.zy_space.specs.Search.{searched, NoneMatch, IsFirstMatch, IsOldestAt, IsAbsent}
 use Rattle.zy_space.specs.Changes.{tuples_of, HoldsTuple, AllTuples}
 use Rattle.zy_space.proofs.BucketLemmas.{match_in_bucket}

@@ -1,12 +1,11 @@
 -- The bytes of operations, replies and states.
-use Rattle.std.proofs.Common.{◌≡◌, ℕ, suc, true, List, None, Err, [], ◌∷◌, length, map, Result, Ok, ◌≤◌, refl, ap, ◌∙◌, arith}
+use Rattle.std.proofs.Common.{◌≡◌, ℕ, suc, true, List, None, Err, [], ◌∷◌, length, Result, Ok, ◌≤◌, refl, ◌∙◌, arith}
 use Rattle.std.specs.Prelude.{IsErr, nat_lt}
 use Rattle.std.proofs.lemmas.Bool.{lt-ltb, and_from}
 use Rattle.zy_base.specs.declared.frame_fault.FrameFault.{FrameFault}
 use Rattle.zy_wire.specs.Spelling.{IsBytes, whole}
 use Rattle.zy_wire.proofs.Parts.{whole_takes}
 use Rattle.zy_tuple.specs.declared.values.Field.{Field}
-use Rattle.zy_tuple.specs.Values.{IsTuple}
 use Rattle.zy_tuple.specs.Bytes.{op_in}
 use Rattle.zy_space.specs.Service.{is_bytes, answered, ran, value_of, state_in, state_spelling, IsSpaceState}
 use Rattle.zy_slots.specs.Cells.{Cells}

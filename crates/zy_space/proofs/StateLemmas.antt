@@ -1,5 +1,5 @@
 -- The bytes of the live tuples.
-use Rattle.std.proofs.Common.{◌≡◌, ℕ, ◌+◌, ◌<◌, ◌≤◌, List, [], ◌∷◌, ◌++◌, length, Option, Some, None, Result, Ok, refl, sym, ap, ◌∙◌, subst, append_assoc, arith}
+use Rattle.std.proofs.Common.{◌≡◌, ℕ, ◌+◌, ◌<◌, ◌≤◌, List, [], ◌∷◌, ◌++◌, length, Option, Some, None, Ok, refl, sym, ap, ◌∙◌, subst, append_assoc, arith}
 use Rattle.std.specs.Option.{option_map}
 use Rattle.std.specs.List.{flat_map}
 use Rattle.std.specs.Int.{w16}
@@ -7,7 +7,7 @@ use Rattle.std.proofs.lemmas.Grind.{flat_map-append}
 use Rattle.std.proofs.lemmas.List.{append-nil, length-append}
 use Rattle.zy_slots.specs.declared.slots.SlotId.{SlotId}
 use Rattle.zy_slots.specs.Rings.{first_of}
-use Rattle.zy_slots.specs.Cells.{Cell, Cells, ids, Stands, IsLive, with_live}
+use Rattle.zy_slots.specs.Cells.{Cell, Cells, ids, Stands, IsLive}
 use Rattle.zy_slots.proofs.ListLemmas.{all_split, all_join}
 use Rattle.zy_tuple.specs.declared.values.Field.{Field}
 use Rattle.zy_tuple.specs.Values.{IsTuple}

@@ -73,7 +73,7 @@ use Rattle.zy_table.specs.Confirming.{certificate_compared, certificate_judged, 
 use Rattle.zy_table.specs.Deeds.{Going, Outcome, begin, ends, refused}
 use Rattle.zy_table.specs.Fetching.{fetch, fetch_judged, install, installed, state_for, state_heard, state_judged, state_transfer}
 use Rattle.zy_table.specs.Gathering.{own_at}
-use Rattle.zy_table.specs.Hates.{ask_for_hole, change_again, has_pending, hate, hate_again, hate_counted, hate_view, on_change_timer, on_request_timer, own_hate, say_hate, then_ask, with_hate_of}
+use Rattle.zy_table.specs.Hates.{ask_for_hole, change_again, has_pending, hate, hate_counted, hate_from, hate_view, on_change_timer, on_request_timer, own_hate, say_hate, then_ask, with_hate_of}
 use Rattle.zy_table.specs.Leaving.{Attempt, accept, collect, concluded, give_new, given, goes, is_overspent, leave, leave_alone}
 use Rattle.zy_table.specs.Misbehaviour.{blamed, pom, tell_all}
 use Rattle.zy_table.specs.Orders.{order_as, position_of}
@@ -295,15 +295,16 @@ module _ {S : Type 0} (R : Rules S) (s : State S) where
       (λ least. by_test HasSameEnd (nat_lt (table.own_view s) vote.stmt.view.0) _ _ (λ newer. tt)
       (λ own. by_test HasSameEnd (is_hated_by s.views vote.by) _ _ (λ repeated. tt) (λ first. counts_hate vote.by (begin s) start)))
 
-  says_hate : (said : Option (Signed Hate)) → Same (say_hate R s said)
-  says_hate (Some said) = start
-  says_hate None = record { keys = refl; me = refl; counts = refl; interval = refl }
+  says_hate : (said : Option (Signed Hate)) (g : Going S) → Same g → Same (say_hate R said g)
+  says_hate (Some said) g is = is
+  says_hate None g is = record { keys = is.keys; me = is.me; counts = is.counts; interval = is.interval }
 
-  hates_view : HasSameEnd (hate_view R s)
-  unfolding hate_view
-  hates_view =
-      let g : Going S = say_hate R s (own_hate s) in
-      by_test HasSameEnd (is_hated_by g.state.views (Replica g.state.me)) _ _ (λ counted. says_hate (own_hate s)) (λ first. counts_hate (Replica g.state.me) g (says_hate (own_hate s)))
+  hates_from : (g : Going S) → Same g → HasSameEnd (hate_from R g)
+  unfolding hate_from
+  hates_from g is =
+      let t : Going S = say_hate R (own_hate g.state) g in
+      let said = says_hate (own_hate g.state) g is in
+      by_test HasSameEnd (is_hated_by t.state.views (Replica t.state.me)) _ _ (λ counted. said) (λ first. counts_hate (Replica t.state.me) t said)
 
   blames : (told : Result View Cause) → HasSameEnd (blamed R s told)
   blames (Err cause) = tt
@@ -329,24 +330,20 @@ module _ {S : Type 0} (R : Rules S) (s : State S) where
   then_asks (Ok end) is = asks_hole end.1.state.views.mode end.1.state.hole end.1 is
 
   request_timer : (mode : Mode) → HasSameEnd (on_request_timer R s mode)
-  request_timer (Active view) = then_asks _ (by_test HasSameEnd (has_pending s) (hate_view R s) (goes Taken (begin s)) (λ waits. hates_view) (λ none. start))
+  request_timer (Active view) = then_asks _ (by_test HasSameEnd (has_pending s) (hate_view R s) (goes Taken (begin s)) (λ waits. hates_from (begin s) start) (λ none. start))
   request_timer (Leaving view) = start
 
   again : (change : Option (Signed Change)) (g : Going S) → Same g → Same (change_again change g)
   again None g is = is
   again (Some change) g is = is
 
-  hates_again : (said : Option (Signed Hate)) (g : Going S) → Same g → Same (hate_again said g)
-  hates_again None g is = is
-  hates_again (Some said) g is = is
-
-  change_timer : (mode : Mode) → HasSameEnd (on_change_timer s mode)
+  change_timer : (mode : Mode) → HasSameEnd (on_change_timer R s mode)
   change_timer (Active view) = start
-  change_timer (Leaving view) = hates_again (own_hate s) _ (again (change_for (table.own_view s) (own_change s.views)) (begin s) start)
+  change_timer (Leaving view) = hates_from _ (again (change_for (table.own_view s) (own_change s.views)) (begin s) start)
 
   timer_same : (kind : TimerKind) → HasSame (timer R s kind)
   timer_same timers.Request = finishes (on_request_timer R s s.views.mode) (request_timer s.views.mode)
-  timer_same timers.Change = finishes (on_change_timer s s.views.mode) (change_timer s.views.mode)
+  timer_same timers.Change = finishes (on_change_timer R s s.views.mode) (change_timer s.views.mode)
   timer_same timers.Answer = start
 
   -- ---- frames of a change of view

@@ -33,7 +33,7 @@ use Rattle.zy_parts.specs.declared.statements.Order.{Order}
 use Rattle.zy_table.specs.Beginning.{begun, certify, certify_with, confirms, finished}
 use Rattle.zy_table.specs.Changes.{change, change_judged, change_kept, send_cert}
 use Rattle.zy_table.specs.Deeds.{Going, begin, ends, refused}
-use Rattle.zy_table.specs.Hates.{ask_for_hole, change_again, count_own, has_pending, hate, hate_again, hate_counted, hate_view, on_change_timer, on_request_timer, own_hate, say_hate, then_ask, with_hate_of}
+use Rattle.zy_table.specs.Hates.{ask_for_hole, change_again, count_own, has_pending, hate, hate_counted, hate_from, hate_view, on_change_timer, on_request_timer, own_hate, say_hate, then_ask, with_hate_of}
 use Rattle.zy_table.specs.Leaving.{Attempt, collect, concluded, goes, is_overspent, leave}
 use Rattle.zy_table.specs.Misbehaviour.{blamed, pom, tell_all}
 use Rattle.zy_table.specs.State.{State}
@@ -41,12 +41,12 @@ use Rattle.zy_table.specs.State as table
 use Rattle.zy_vframes.specs.declared.frame.ViewCert.{ViewCert}
 use Rattle.zy_view_law.specs.Held.{IsHeldChange}
 use Rattle.zy_view_law.specs.Told.{change_spelled}
-use Rattle.zy_view_steps.proofs.HeardRows.{kept_on, least_later, said_hate, sent_more}
+use Rattle.zy_view_steps.proofs.HeardRows.{kept_on, least_later, said_hate, sent_more, told_again}
 use Rattle.zy_view_steps.proofs.Leaves.{IsOnWay, at_begin, hated_more}
 use Rattle.zy_view_steps.specs.Rows.{IsReady}
 use Rattle.zy_spelled.specs.Spelled.{AreViewsSpelled, IsChangeSpelled, IsSpelled}
 use Rattle.zy_spelled.proofs.Adopts.{IsAdopted, certifies}
-use Rattle.zy_spelled.proofs.Gathers.{IsDone, IsGoing}
+use Rattle.zy_spelled.proofs.Gathers.{IsDone, IsGoing, fit_said}
 use Rattle.zy_spelled.proofs.Leaves.{IsEarly, IsFine, collects, leave_fine}
 use Rattle.zy_spelled.proofs.Slots.{filled}
 
@@ -197,17 +197,21 @@ module _ {S : Type 0} (R : Rules S) (interval : ℕ) (w : World) (r : ℕ) (s : 
       by true = is
       by false = counts (with_hate_of (Replica g.state.me) g) (hated_more R interval w r s history ready g way (Replica g.state.me)) (hated_spelled (Replica g.state.me) g is)
 
-  says_hate : (said : Option (Signed Hate)) → IsEarly (say_hate R s said)
-  says_hate (Some said) = record { going = record { acts = tt; spelled = is }; few = early.few }
-  says_hate None =
+  says_hate : (said : Option (Signed Hate)) (g : Going S) → IsEarly g → IsEarly (say_hate R said g)
+  says_hate (Some said) g is = record { going = record { acts = is.going.acts; spelled = is.going.spelled }; few = is.few }
+  says_hate None g is =
+      let spelled = is.going.spelled in
       record {
-        going = record { acts = (tt, tt); spelled = record { signer = is.signer; views = is.views; history = is.history; board = is.board } };
-        few = early.few;
+        going = record {
+          acts = fit_said g.deeds.acts _ is.going.acts tt;
+          spelled = record { signer = spelled.signer; views = spelled.views; history = spelled.history; board = spelled.board };
+        };
+        few = is.few;
       }
 
-  hates_view : IsFine (hate_view R s)
-  unfolding hate_view
-  hates_view = counts_own (say_hate R s (own_hate s)) (said_hate R interval w r s history ready (own_hate s)) (says_hate (own_hate s))
+  hates_from : (g : Going S) → Way g → IsEarly g → IsFine (hate_from R g)
+  unfolding hate_from
+  hates_from g way is = counts_own (say_hate R (own_hate g.state) g) (said_hate R interval w r s history ready (own_hate g.state) g way) (says_hate (own_hate g.state) g is)
 
   -- ---- two orders of the primary
 
@@ -244,7 +248,7 @@ module _ {S : Type 0} (R : Rules S) (interval : ℕ) (w : World) (r : ℕ) (s : 
   request_timer_fine (Active view) = then_asks (if has_pending s then hate_view R s else goes Taken (begin s)) (by (has_pending s))
     where
       by : (b : Bool) → IsFine (cond b (hate_view R s) (goes Taken (begin s)))
-      by true = hates_view
+      by true = hates_from (begin s) start early
       by false = early
   request_timer_fine (Leaving view) = early
 
@@ -252,14 +256,11 @@ module _ {S : Type 0} (R : Rules S) (interval : ℕ) (w : World) (r : ℕ) (s : 
   again None g is = is
   again (Some change) g is = record { going = record { acts = is.going.acts; spelled = is.going.spelled }; few = is.few }
 
-  hates_again : (said : Option (Signed Hate)) (g : Going S) → IsEarly g → IsEarly (hate_again said g)
-  hates_again None g is = is
-  hates_again (Some said) g is = record { going = record { acts = is.going.acts; spelled = is.going.spelled }; few = is.few }
-
-  pub change_timer_fine : (mode : Mode) → IsFine (on_change_timer s mode)
+  pub change_timer_fine : (mode : Mode) → IsFine (on_change_timer R s mode)
   change_timer_fine (Active view) = early
   change_timer_fine (Leaving view) =
-      hates_again (own_hate s) (change_again (change_for (table.own_view s) (own_change s.views)) (begin s)) (again (change_for (table.own_view s) (own_change s.views)) (begin s) early)
+      let own : Option (Signed Change) = change_for (table.own_view s) (own_change s.views) in
+      hates_from (change_again own (begin s)) (told_again R interval w r s history ready own (begin s) start) (again own (begin s) early)
 
   -- ---- another's report
 

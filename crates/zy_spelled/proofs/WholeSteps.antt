@@ -170,7 +170,7 @@ module _ {S : Type 0} (R : Rules S) (interval : ℕ) (texts : Texts) (w : World)
 
   timer_done : (kind : TimerKind) → IsDone (timer R s kind)
   timer_done timers.Request = finishes_leaving R s is (on_request_timer R s s.views.mode) (request_timer_fine R interval w r s h ready is s.views.mode)
-  timer_done timers.Change = finishes_leaving R s is (on_change_timer s s.views.mode) (change_timer_fine R interval w r s h ready is s.views.mode)
+  timer_done timers.Change = finishes_leaving R s is (on_change_timer R s s.views.mode) (change_timer_fine R interval w r s h ready is s.views.mode)
   timer_done timers.Answer = λ low. record { acts = tt; spelled = is }
 
   -- where the history stays in range

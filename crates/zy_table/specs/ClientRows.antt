@@ -3,6 +3,7 @@ use Rattle.std.specs.Prelude.{ℕ, ◌+◌, ◌%◌, nat_lt, nat_le, nat_eq, ◌
 use Rattle.std.specs.List.{find, filter_map, list_any}
 use Rattle.sha2.specs.Sha256.{sha256}
 use Rattle.zy_base.specs.declared.frame_fault.FrameFault.{FrameFault}
+use Rattle.zy_base.specs.declared.frame_fault.FrameFault.TheVariants as faults
 use Rattle.zy_base.specs.declared.cause.Cause.{Cause}
 use Rattle.zy_base.specs.declared.cause.Cause.TheVariants as causes
 use Rattle.zy_base.specs.declared.ids.View.{View}
@@ -23,7 +24,10 @@ use Rattle.zy_parts.specs.declared.statements.Order.{Order}
 use Rattle.zy_parts.specs.declared.statements.Spec.{Spec}
 use Rattle.zy_frames.specs.declared.frame.Frame.{Frame}
 use Rattle.zy_frames.specs.declared.frame.Frame.TheVariants as frames
-use Rattle.zy_frames.specs.Frames.{frame_in, parts_of}
+use Rattle.zy_frames.specs.Frames as plain
+use Rattle.zy_vframes.specs.declared.frame.ViewFrame.{ViewFrame}
+use Rattle.zy_vframes.specs.Parts as view_parts
+use Rattle.zy_vframes.specs.ViewFrames as views
 use Rattle.zy_seal.specs.Screening.{screen}
 use Rattle.zy_seal.specs.Sealing.{sealed_by, spent_one}
 use Rattle.zy_admit.specs.Judging.{same_digest}
@@ -301,7 +305,18 @@ unless (Some cause) s outcome = refused cause s
 
 abbrev pub decoded : ClientState → Result Frame FrameFault → ClientOutcome
 decoded s (Err fault) = refused (causes.NotFrame fault) s
-decoded s (Ok frame) = unless (screen s.keys (parts_of frame)) s (hear s frame)
+decoded s (Ok frame) = unless (screen s.keys (plain.parts_of frame)) s (hear s frame)
+
+-- it has no part in a change of view
+abbrev pub view_decoded : ClientState → Result ViewFrame FrameFault → ClientOutcome
+view_decoded s (Err fault) = refused (causes.NotFrame fault) s
+view_decoded s (Ok frame) = unless (screen s.keys (view_parts.parts_of frame)) s (refused causes.WrongRole s)
+
+-- what is no frame of normal operation by its kind may be one of a view change
+abbrev pub decoded_as : ClientState → List ℕ → Result Frame FrameFault → ClientOutcome
+decoded_as s bytes (Err faults.Kind) = view_decoded s (views.frame_in bytes)
+decoded_as s bytes (Err fault) = refused (causes.NotFrame fault) s
+decoded_as s bytes (Ok frame) = decoded s (Ok frame)
 
 abbrev pub timer : ClientState → TimerKind → ClientOutcome
 timer s timers.Answer = run_out s
@@ -310,5 +325,5 @@ timer s timers.Change = taken s
 
 -- the outcome of an event
 unfoldable pub client_step : ClientState → Event → ClientOutcome
-client_step s (Heard bytes) = decoded s (frame_in bytes)
+client_step s (Heard bytes) = decoded_as s bytes (plain.frame_in bytes)
 client_step s (Timer kind) = timer s kind

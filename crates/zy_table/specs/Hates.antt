@@ -1,12 +1,11 @@
 -- What a replica makes of a hate of its view, another's or its own, and of its timers.
-use Rattle.std.specs.Prelude.{ℕ, nat_eq, nat_lt, Bool, true, false, if◌then◌else◌, Option, Some, None, Result, Ok, Err, is_some}
+use Rattle.std.specs.Prelude.{ℕ, nat_eq, nat_lt, Bool, if◌then◌else◌, Option, Some, None, Ok, Err, is_some}
 use Rattle.std.specs.List.{list_any}
 use Rattle.zy_base.specs.Machine.{Rules}
 use Rattle.zy_base.specs.declared.cause.Cause.TheVariants as causes
 use Rattle.zy_base.specs.declared.ids.Party.{Party}
 use Rattle.zy_base.specs.declared.ids.Party.TheVariants.{Replica}
 use Rattle.zy_base.specs.declared.ids.View.{View}
-use Rattle.zy_base.specs.declared.step.Answer.{Answer}
 use Rattle.zy_base.specs.declared.step.Answer.TheVariants.{Taken}
 use Rattle.zy_base.specs.declared.step.Mode.{Mode}
 use Rattle.zy_base.specs.declared.step.Mode.TheVariants.{Active, Leaving}
@@ -24,8 +23,8 @@ use Rattle.zy_change.specs.Owing.{hated_by_many, next_view}
 use Rattle.zy_table.specs.declared.deeds.To.TheVariants.{All}
 use Rattle.zy_table.specs.declared.deeds.Body.TheVariants as bodies
 use Rattle.zy_table.specs.declared.deeds.Act.TheVariants.{Says}
-use Rattle.zy_table.specs.State.{State, own_view, is_leaving_mode, spent, stood_of}
-use Rattle.zy_table.specs.Deeds.{Going, Outcome, send, send_view, act, begin}
+use Rattle.zy_table.specs.State.{State, own_view, spent, stood_of}
+use Rattle.zy_table.specs.Deeds.{Going, send, send_view, act, begin}
 use Rattle.zy_table.specs.Leaving.{Attempt, goes, leave}
 
 abbrev pub with_hate_of : {S : Type 0} → Party → Going S → Going S
@@ -61,13 +60,13 @@ abbrev pub hate_now : {S : Type 0} → State S → Hate
 hate_now s = record { view = record { 0 = own_view s } }
 
 -- it is signed where it wasn't, and kept for good
-abbrev pub say_hate : {S : Type 0} → Rules S → State S → Option (Signed Hate) → Going S
-say_hate R s (Some said) = send All (frames.Hate said) (begin s)
-say_hate R s None =
-    let said = sealed_by numbers.hate hate_fields s.sealer (hate_now s) in
+abbrev pub say_hate : {S : Type 0} → Rules S → Option (Signed Hate) → Going S → Going S
+say_hate R (Some said) g = send All (frames.Hate said) g
+say_hate R None g =
+    let said = sealed_by numbers.hate hate_fields g.state.sealer (hate_now g.state) in
     send All (frames.Hate said)
-    (act (Says (record { body = bodies.Hate said.stmt; stood = stood_of R s }))
-    (begin (record (spent s) { hate = Some said })))
+    (act (Says (record { body = bodies.Hate said.stmt; stood = stood_of R g.state }))
+    (record g { state = record (spent g.state) { hate = Some said } }))
 
 -- It goes to all, and is counted as one that is heard.
 abbrev pub count_own : {S : Type 0} → Rules S → Going S → Attempt S
@@ -75,8 +74,11 @@ count_own R g =
     if is_hated_by g.state.views (Replica g.state.me) then goes Taken g
     else hate_counted R (with_hate_of (Replica g.state.me) g)
 
-unfoldable pub hate_view : {S : Type 0} → Rules S → State S → Attempt S
-hate_view R s = count_own R (say_hate R s (own_hate s))
+unfoldable pub hate_from : {S : Type 0} → Rules S → Going S → Attempt S
+hate_from R g = count_own R (say_hate R (own_hate g.state) g)
+
+abbrev pub hate_view : {S : Type 0} → Rules S → State S → Attempt S
+hate_view R s = hate_from R (begin s)
 
 -- ---- the timers
 
@@ -103,11 +105,7 @@ abbrev pub change_again : {S : Type 0} → Option (Signed Change) → Going S �
 change_again None g = g
 change_again (Some change) g = send_view All (view_frames.ViewChange change) g
 
-abbrev pub hate_again : {S : Type 0} → Option (Signed Hate) → Going S → Going S
-hate_again None g = g
-hate_again (Some said) g = send All (frames.Hate said) g
-
-abbrev pub on_change_timer : {S : Type 0} → State S → Mode → Attempt S
-on_change_timer s (Active view) = goes Taken (begin s)
-on_change_timer s (Leaving view) =
-    goes Taken (hate_again (own_hate s) (change_again (change_for (own_view s) (own_change s.views)) (begin s)))
+-- and the view for which it leaves is hated, since it doesn't begin
+abbrev pub on_change_timer : {S : Type 0} → Rules S → State S → Mode → Attempt S
+on_change_timer R s (Active view) = goes Taken (begin s)
+on_change_timer R s (Leaving view) = hate_from R (change_again (change_for (own_view s) (own_change s.views)) (begin s))

@@ -1,11 +1,9 @@
 -- How a replica leaves its view: it says so with its report, and as the new view's primary it gives the reports of enough
 -- replicas and confirms the choice out of them.
-use Rattle.std.specs.Prelude.{ℕ, ◌^◌, nat_lt, Bool, if◌then◌else◌, List, [], ◌∷◌, map, replicate, Option, Some, None, Result, Ok, Err}
+use Rattle.std.specs.Prelude.{ℕ, ◌^◌, nat_lt, Bool, if◌then◌else◌, [], ◌∷◌, replicate, None, Result, Ok, Err}
 use Rattle.zy_base.specs.Machine.{Rules}
 use Rattle.zy_base.specs.declared.cause.Cause.{Cause}
 use Rattle.zy_base.specs.declared.cause.Cause.TheVariants as causes
-use Rattle.zy_base.specs.declared.ids.Digest.{Digest}
-use Rattle.zy_base.specs.declared.ids.Place.{Place}
 use Rattle.zy_base.specs.declared.ids.View.{View}
 use Rattle.zy_base.specs.declared.step.Answer.{Answer}
 use Rattle.zy_base.specs.declared.step.Answer.TheVariants.{Taken}
@@ -25,7 +23,7 @@ use Rattle.zy_seal.specs.Sealing.{SealerState, sealed_by}
 use Rattle.zy_admit.specs.Orders.{orders_up_to}
 use Rattle.zy_change.specs.declared.kept.Accepted.{Accepted}
 use Rattle.zy_change.specs.declared.kept.Chosen.{Chosen}
-use Rattle.zy_change.specs.Views.{Views, told_of, began_for, left, with_change, with_new}
+use Rattle.zy_change.specs.Views.{told_of, began_for, left, with_change, with_new}
 use Rattle.zy_change.specs.Owing.{change_to, new_of, is_gathering, choice_in}
 use Rattle.zy_table.specs.declared.deeds.To.TheVariants.{All}
 use Rattle.zy_table.specs.declared.deeds.Body.TheVariants as bodies

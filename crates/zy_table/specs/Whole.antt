@@ -117,7 +117,7 @@ decoded_as R s bytes (Ok frame) = unless (screen s.keys (plain.parts_of frame)) 
 
 abbrev pub timer : {S : Type 0} → Rules S → State S → TimerKind → Outcome S
 timer R s timers.Request = finished R s (on_request_timer R s s.views.mode)
-timer R s timers.Change = finished R s (on_change_timer s s.views.mode)
+timer R s timers.Change = finished R s (on_change_timer R s s.views.mode)
 timer R s timers.Answer = ends Taken (begin s)
 
 -- the outcome of an event

@@ -5,7 +5,6 @@ use Rattle.std.specs.List.{IsDistinct}
 use Rattle.std.specs.declared.alloc.Global.{Global}
 use Rattle.std.proofs.KnownBytes.{Keeps-refl}
 use Rattle.std.proofs.lemmas.List.Sums.{sum_by-cons}
-use Rattle.zy_base.specs.Machine.{Rules}
 use Rattle.zy_edge.specs.Faults.{IsCounted, Rose}
 use Rattle.zy_edge.specs.Files.{Held}
 use Rattle.zy_report.specs.Lines.{summary_line}

@@ -7,7 +7,7 @@ use Rattle.zy_schedule.specs.declared.line.Line.{Line}
 use Rattle.zy_world.specs.Shown.{Shown}
 use Rattle.zy_world.specs.Shows.{Shows}
 use Rattle.zy_world_law.specs.Events as events
-use Rattle.zy_world_law.specs.Events.{Happened, happens}
+use Rattle.zy_world_law.specs.Events.{happens}
 use Rattle.zy_world_law.specs.Events.Happened.{Goes, Breaks}
 use Rattle.zy_world_law.specs.Runs.{Rest, comes_to, ends, flow, flow_on, goes_on, run, run_line}
 use Rattle.zy_world_law.specs.World.{World, next_undelivered}

@@ -28,7 +28,6 @@ use Rattle.zy_words.specs.Ends.{Verdict, limit}
 use Rattle.zy_words.specs.Words.{Command, command_of}
 use Rattle.zy_words.specs.declared.exit.Broken.{Broken}
 use Rattle.zy_words.specs.declared.exit.Broken.TheVariants as broken
-use Rattle.zy_words.specs.declared.exit.Exit.{Exit}
 use Rattle.zy_words.specs.declared.exit.Exit.TheVariants as exits
 
 -- a reply's text, and a line feed (10)

@@ -8,7 +8,6 @@ use Rattle.zy_wire.specs.Framing.{frame_bytes, framed_in}
 use Rattle.zy_parts.specs.declared.signed.Signed.{Signed}
 use Rattle.zy_parts.specs.declared.statements.Spec.{Spec}
 use Rattle.zy_parts.specs.declared.reports.Told.{Told}
-use Rattle.zy_parts.specs.declared.reports.Change.{Change}
 use Rattle.zy_parts.specs.declared.reports.New.{New}
 use Rattle.zy_parts.specs.Statements.{IsU62}
 use Rattle.zy_parts.specs.Reports.{change_fields, IsChangeInRange, new_fields, IsNewInRange, began_fields, IsBeganInRange, fetch_fields, IsFetchInRange}

@@ -30,7 +30,7 @@ use Rattle.zy_parts.specs.declared.statements.Hole.{Hole}
 use Rattle.zy_parts.specs.declared.statements.Order.{Order}
 use Rattle.zy_table.specs.Changes.{change, change_judged, change_kept, send_cert}
 use Rattle.zy_table.specs.Deeds.{Going, begin}
-use Rattle.zy_table.specs.Hates.{ask_for_hole, change_again, count_own, has_pending, hate_again, hate_counted, hate_now, hate_view, on_change_timer, on_request_timer, own_hate, say_hate, then_ask, with_hate_of}
+use Rattle.zy_table.specs.Hates.{ask_for_hole, change_again, count_own, has_pending, hate_counted, hate_from, hate_now, hate_view, on_change_timer, on_request_timer, own_hate, say_hate, then_ask, with_hate_of}
 use Rattle.zy_table.specs.Leaving.{Attempt, collect, concluded, goes, leave}
 use Rattle.zy_table.specs.Misbehaviour.{blamed, pom, tell_all}
 use Rattle.zy_table.specs.State as table
@@ -106,13 +106,12 @@ module _ {S : Type 0} (R : Rules S) (interval : ℕ) (w : World) (r : ℕ) (s : 
 
   -- ---- the own hate, and the timers
 
-  pub said_hate : (said : Option (Signed Hate)) → IsOnWay R interval w r s history ready (say_hate R s said)
-  said_hate (Some said) = sent_more (begin s) _ (at_begin R interval w r s history ready)
-  said_hate None =
-      let start = at_begin R interval w r s history ready in
-      let says = says_other R interval start.world start.lawful r start.correct (core_of s) history start.tied in
-      said_more R interval w r s history ready (begin s) start (record { body = bodies.Hate (hate_now s); stood = table.stood_of R s }) (say_hate R s None) refl says.may says.tied start.signer start.interval_is
-      (works_said interval start.world r _ s (λ v m request told. absurd cc))
+  pub said_hate : (said : Option (Signed Hate)) (g : Going S) → IsOnWay R interval w r s history ready g → IsOnWay R interval w r s history ready (say_hate R said g)
+  said_hate (Some said) g way = sent_more g _ way
+  said_hate None g way =
+      let says = says_other R interval way.world way.lawful r way.correct (core_of g.state) history way.tied in
+      said_more R interval w r s history ready g way (record { body = bodies.Hate (hate_now g.state); stood = table.stood_of R g.state }) (say_hate R None g) refl says.may says.tied way.signer way.interval_is
+      (works_said interval way.world r _ g.state (λ v m request told. absurd cc))
 
   counts_own : (g : Going S) → IsOnWay R interval w r s history ready g → IsLawfulAttempt R interval w r s history ready (count_own R g)
   counts_own g way = by (is_hated_by g.state.views (Replica g.state.me))
@@ -124,9 +123,10 @@ module _ {S : Type 0} (R : Rules S) (interval : ℕ) (w : World) (r : ℕ) (s : 
       by true = way
       by false = rest
 
-  hate_view_on : IsLawfulAttempt R interval w r s history ready (hate_view R s)
-  unfolding hate_view
-  hate_view_on = counts_own (say_hate R s (own_hate s)) (said_hate (own_hate s))
+  -- the own view is hated, by either timer
+  hates_from : (g : Going S) → IsOnWay R interval w r s history ready g → IsLawfulAttempt R interval w r s history ready (hate_from R g)
+  unfolding hate_from
+  hates_from g way = counts_own (say_hate R (own_hate g.state) g) (said_hate (own_hate g.state) g way)
 
   asks_hole : (mode : Mode) (hole : Option (Signed Hole)) (g : Going S) → IsOnWay R interval w r s history ready g → IsOnWay R interval w r s history ready (ask_for_hole mode hole g)
   asks_hole (Active view) (Some hole) g way = sent_more g _ way
@@ -141,29 +141,25 @@ module _ {S : Type 0} (R : Rules S) (interval : ℕ) (w : World) (r : ℕ) (s : 
   request_attempt (Active view) = then_asks (if has_pending s then hate_view R s else goes Taken (begin s)) (by (has_pending s))
     where
       by : (b : Bool) → IsLawfulAttempt R interval w r s history ready (cond b (hate_view R s) (goes Taken (begin s)))
-      by true = hate_view_on
+      by true = hates_from (begin s) (at_begin R interval w r s history ready)
       by false = at_begin R interval w r s history ready
   request_attempt (Leaving view) = at_begin R interval w r s history ready
 
   pub request_timer_lawful : IsLawfulRow R interval w r s history (concluded s (on_request_timer R s s.views.mode))
   request_timer_lawful = concluded_row R interval w r s history ready (on_request_timer R s s.views.mode) (request_attempt s.views.mode)
 
-  again : (change : Option (Signed Change)) (g : Going S) → IsOnWay R interval w r s history ready g → IsOnWay R interval w r s history ready (change_again change g)
-  again None g way = way
-  again (Some change) g way = sent_more g _ way
+  pub told_again : (change : Option (Signed Change)) (g : Going S) → IsOnWay R interval w r s history ready g → IsOnWay R interval w r s history ready (change_again change g)
+  told_again None g way = way
+  told_again (Some change) g way = sent_more g _ way
 
-  hates_again : (hate : Option (Signed Hate)) (g : Going S) → IsOnWay R interval w r s history ready g → IsOnWay R interval w r s history ready (hate_again hate g)
-  hates_again None g way = way
-  hates_again (Some said) g way = sent_more g _ way
-
-  pub change_attempt : (mode : Mode) → IsLawfulAttempt R interval w r s history ready (on_change_timer s mode)
+  pub change_attempt : (mode : Mode) → IsLawfulAttempt R interval w r s history ready (on_change_timer R s mode)
   change_attempt (Active view) = at_begin R interval w r s history ready
   change_attempt (Leaving view) =
-      hates_again (own_hate s) (change_again (change_for (table.own_view s) (own_change s.views)) (begin s))
-      (again (change_for (table.own_view s) (own_change s.views)) (begin s) (at_begin R interval w r s history ready))
+      hates_from (change_again (change_for (table.own_view s) (own_change s.views)) (begin s))
+      (told_again (change_for (table.own_view s) (own_change s.views)) (begin s) (at_begin R interval w r s history ready))
 
-  pub change_timer_lawful : IsLawfulRow R interval w r s history (concluded s (on_change_timer s s.views.mode))
-  change_timer_lawful = concluded_row R interval w r s history ready (on_change_timer s s.views.mode) (change_attempt s.views.mode)
+  pub change_timer_lawful : IsLawfulRow R interval w r s history (concluded s (on_change_timer R s s.views.mode))
+  change_timer_lawful = concluded_row R interval w r s history ready (on_change_timer R s s.views.mode) (change_attempt s.views.mode)
 
   -- ---- another's report
 

@@ -37,7 +37,7 @@ use Rattle.zy_view_law.specs.Held.{IsProvidedBy, mark_at}
 use Rattle.zy_view_law.specs.Texts.{IsKept, IsLink, Texts}
 use Rattle.zy_view_law.specs.Tied.{Core, IsChosenNew}
 use Rattle.zy_view_steps.proofs.Changing as changing
-use Rattle.zy_view_steps.proofs.Changing.{last_of_three, begun_lawful, choice_known, is_6, is_7, may_stand, some_chosen, start, three_agreed}
+use Rattle.zy_view_steps.proofs.Changing.{last_of_three, begun_lawful, choice_known, is_6, is_7, may_stand, some_chosen, three_agreed}
 use Rattle.zy_view_steps.proofs.EmptyHistory.{empty_kept, past_end}
 use Rattle.zy_view_steps.proofs.FirstEntry.{first_linked, is_first}
 use Rattle.zy_view_steps.proofs.Settled.{settled_setting, settled_stage}

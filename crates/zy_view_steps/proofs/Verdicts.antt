@@ -14,7 +14,6 @@ use Rattle.zy_chain.specs.declared.entry.Entry.{Entry}
 use Rattle.zy_evidence.specs.Reading.{stretch_of}
 use Rattle.zy_exec.proofs.SettleLemmas.{stands_snapshot}
 use Rattle.zy_exec.specs.Kept as kept
-use Rattle.zy_exec.specs.Kept.{Kept, StandsFor}
 use Rattle.zy_exec.specs.Replay.{Point, along, origin}
 use Rattle.zy_exec.specs.Shots.{digest_of_snapshot, snapshot_at, snapshot_in}
 use Rattle.zy_exec.specs.Snapshot.{snapshot_of}

@@ -28,7 +28,7 @@ pub fn heard_rows<M: Machine>()
     ensures pom { (interval r : ℕ) (w : World) (s : State M.State) (history : List Entry) (first second : Signed Order) → IsReady M.rules interval w r s history → IsLawfulRow M.rules interval w r s history (concluded s (pom M.rules s first second)) }
     ensures order { (interval r : ℕ) (w : World) (s : State M.State) (history : List Entry) (order : Signed Order) (kept : Option OrderFrame) → IsReady M.rules interval w r s history → IsLawfulRow M.rules interval w r s history (concluded s (tell_all M.rules s order kept)) }
     ensures request_timer { (interval r : ℕ) (w : World) (s : State M.State) (history : List Entry) → IsReady M.rules interval w r s history → IsLawfulRow M.rules interval w r s history (concluded s (on_request_timer M.rules s s.views.mode)) }
-    ensures change_timer { (interval r : ℕ) (w : World) (s : State M.State) (history : List Entry) → IsReady M.rules interval w r s history → IsLawfulRow M.rules interval w r s history (concluded s (on_change_timer s s.views.mode)) }
+    ensures change_timer { (interval r : ℕ) (w : World) (s : State M.State) (history : List Entry) → IsReady M.rules interval w r s history → IsLawfulRow M.rules interval w r s history (concluded s (on_change_timer M.rules s s.views.mode)) }
 {}
 
 /// A row in which a correct replica leaves its view is lawful, also where it leads the new view and keeps enough reports, so

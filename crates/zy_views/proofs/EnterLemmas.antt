@@ -1,6 +1,6 @@
 -- What a step owes to be adopted can be entered: the report that gives it breaks no rule and has the choice.
-use Rattle.std.proofs.Common.{◌≡◌, ℕ, ◌+◌, ◌^◌, ◌<◌, ◌≤◌, nat_eq, nat_lt, nat_le, Bool, true, false, if◌then◌else◌, List, [], length, map, Option, Some, None, refl, sym, ap, ◌∙◌, subst, arith}
-use Rattle.std.specs.Prelude.{replicate, filter_map, not, ◌&&◌}
+use Rattle.std.proofs.Common.{◌≡◌, ℕ, ◌+◌, ◌^◌, ◌<◌, ◌≤◌, nat_eq, nat_lt, Bool, true, false, if◌then◌else◌, [], length, Option, Some, None, refl, sym, ap, ◌∙◌, subst, arith}
+use Rattle.std.specs.Prelude.{◌&&◌}
 use Rattle.std.specs.Option.{ForSome}
 use Rattle.std.proofs.lemmas.Bool.{and_parts, leb-true, ltb-true, eqb-true}
 use Rattle.zy_base.specs.declared.cause.Cause.TheVariants as causes
@@ -23,14 +23,13 @@ use Rattle.zy_evidence.specs.Rules.{number_of, rule_of}
 use Rattle.zy_evidence.specs.declared.rule.Rule.{Rule}
 use Rattle.zy_change.proofs.AcceptedLemmas.{accepted_given, accepted_provider}
 use Rattle.zy_change.proofs.AheadLemmas.{above_own, first_above}
-use Rattle.zy_change.proofs.FitLemmas.{all_there, as_long, as_many, none_filled, told_later, with_change-fit}
+use Rattle.zy_change.proofs.FitLemmas.{all_there, as_long, as_many, told_later, with_change-fit}
 use Rattle.zy_change.proofs.GivingLemmas.{given, new_in_range}
 use Rattle.zy_change.specs.declared.kept.Accepted.{Accepted}
 use Rattle.zy_change.specs.declared.owed.Adoption.{Adoption}
 use Rattle.zy_change.specs.declared.owed.Owed.{Owed}
-use Rattle.zy_change.specs.Ahead.{IsReport}
 use Rattle.zy_change.specs.Fit.{IsAccepted, IsFit, IsKeptChange, IsTrueReport}
-use Rattle.zy_change.specs.Owing.{Onward, accept, accepted_as, accepting, adopt_if, adoption_by, change_judged, change_kept, change_owes, change_to, choice_in, collect, give, giving, hate_counted, hate_owes, hated_by_many, is_gathering, is_left_behind, leave, least_above, leaving_alone, leaving_owes, next_view, nothing, onward, provider_in, refused, sends_to, signed_by}
+use Rattle.zy_change.specs.Owing.{Onward, accept, accepted_as, accepting, adopt_if, adoption_by, change_judged, change_kept, change_to, choice_in, collect, give, giving, hate_counted, hate_owes, hated_by_many, is_gathering, is_left_behind, leave, least_above, leaving_alone, leaving_owes, next_view, nothing, onward, provider_in, refused, sends_to, signed_by}
 use Rattle.zy_change.specs.Views.{Views, certificate_of, changes_for, has_begun, is_from, is_hated_by, left, own_view, slot_of, view_above, views_above, with_change, with_hate}
 use Rattle.zy_table.specs.Leaving.{report_of}
 use Rattle.zy_table.specs.State.{State}

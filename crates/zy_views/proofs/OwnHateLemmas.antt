@@ -6,7 +6,6 @@ use Rattle.zy_base.specs.Machine.{Rules}
 use Rattle.zy_base.specs.declared.cause.Cause.TheVariants as causes
 use Rattle.zy_base.specs.declared.ids.Party.TheVariants.{Replica}
 use Rattle.zy_base.specs.declared.step.Answer.TheVariants.{Taken}
-use Rattle.zy_base.specs.declared.step.Stood.{Stood}
 use Rattle.zy_lms.specs.Height.{levels_of}
 use Rattle.zy_parts.specs.Numbers as numbers
 use Rattle.zy_parts.specs.Statements.{hate_fields}
@@ -20,10 +19,10 @@ use Rattle.zy_table.specs.declared.deeds.Act.TheVariants.{Says}
 use Rattle.zy_table.specs.declared.deeds.Body.TheVariants as bodies
 use Rattle.zy_table.specs.declared.deeds.To.TheVariants.{All}
 use Rattle.zy_table.specs.State.{State, leaves_of, own_view, spent, stood_of}
-use Rattle.zy_table.specs.Deeds.{Going, act, begin, refused, send}
+use Rattle.zy_table.specs.Deeds.{Going, act, refused, send}
 use Rattle.zy_table.specs.Beginning.{confirms, finished}
 use Rattle.zy_table.specs.Leaving.{concluded, goes, is_overspent}
-use Rattle.zy_table.specs.Hates.{own_hate, hate_for, hate_now, say_hate, count_own, hate_counted, hate_view, with_hate_of}
+use Rattle.zy_table.specs.Hates.{own_hate, hate_for, hate_now, say_hate, count_own, hate_counted, hate_from, with_hate_of}
 use Rattle.zy_leaving.specs.Follows.{Follows, SignsAsItself, IsHateOwed, IsCountedOwed, spent_many}
 use Rattle.zy_leaving.proofs.FollowLemmas.{counted_follows}
 use Rattle.zy_views.specs.Judging.{signs_of}
@@ -45,11 +44,14 @@ said_is_own s said kept same =
 abbrev pub IsOwnOwed : {S : Type 0} → State S → Owed → Type 0
 IsOwnOwed s owed = (vote : Signed Hate) → vote.by ≡ Replica s.me → vote.stmt ≡ hate_now s → IsHateOwed s vote owed
 
-module _ {S : Type 0} (R : Rules S) (s : State S) where
-  abbrev counted : Option (Signed Hate) → Going S
-  counted said = with_hate_of (Replica s.me) (say_hate R s said)
+module _ {S : Type 0} (R : Rules S) (g : Going S) where
+  abbrev s : State S
+  s = g.state
 
-  said_spends : (said : Option (Signed Hate)) → (say_hate R s said).state.sealer ≡ spent_many (signs_of said) s.sealer
+  abbrev counted : Option (Signed Hate) → Going S
+  counted said = with_hate_of (Replica s.me) (say_hate R said g)
+
+  said_spends : (said : Option (Signed Hate)) → (say_hate R said g).state.sealer ≡ spent_many (signs_of said) s.sealer
   said_spends None = refl
   said_spends (Some one) = none_spent s.sealer
 
@@ -60,17 +62,17 @@ module _ {S : Type 0} (R : Rules S) (s : State S) where
   abbrev own : Signed Hate
   own = sealed_by numbers.hate hate_fields s.sealer (hate_now s)
 
-  pub said_first : (core : State S) (signed : Signed Hate) (stood : Stood) (begun after : Going S) → core ≡ record (spent s) { hate = Some own } → signed ≡ own → stood ≡ stood_of R s → begun ≡ begin core
-      → after ≡ act (Says (record { body = bodies.Hate signed.stmt; stood = stood })) begun → send All (frames.Hate signed) after ≡ say_hate R s None
-  said_first core signed stood begun after kept sealed stands begins says = rw (says, begins, kept, sealed, stands) refl
+  pub said_first : (core : State S) (signed : Signed Hate) → core ≡ record (spent s) { hate = Some own } → signed ≡ own
+      → send All (frames.Hate signed) (act (Says (record { body = bodies.Hate signed.stmt; stood = stood_of R core })) (record { state = core; deeds = g.deeds })) ≡ say_hate R None g
+  said_first core signed kept sealed = rw (kept, sealed) refl
 
-  pub group_stays : (said : Option (Signed Hate)) → (say_hate R s said).state.counts ≡ s.counts
+  pub group_stays : (said : Option (Signed Hate)) → (say_hate R said g).state.counts ≡ s.counts
   group_stays None = refl
   group_stays (Some one) = refl
 
   -- ---- counted for the first time
 
-  pub counted_first : (said : Option (Signed Hate)) → is_hated_by s.views (Replica s.me) ≡ false → count_own R (say_hate R s said) ≡ hate_counted R (counted said)
+  pub counted_first : (said : Option (Signed Hate)) → is_hated_by s.views (Replica s.me) ≡ false → count_own R (say_hate R said g) ≡ hate_counted R (counted said)
   counted_first None new = rw new refl
   counted_first (Some one) new = rw new refl
 
@@ -86,40 +88,42 @@ module _ {S : Type 0} (R : Rules S) (s : State S) where
   signs_still None signer = signer
   signs_still (Some one) signer = signer
 
-  pub first_follows : (said : Option (Signed Hate)) (owed : Owed) → said ≡ own_hate s → is_hated_by s.views (Replica s.me) ≡ false → SignsAsItself s → IsOwnOwed s owed → Follows R (hate_view R s) owed (counted said)
-  unfolding hate_view
+  pub first_follows : (said : Option (Signed Hate)) (owed : Owed) → said ≡ own_hate s → is_hated_by s.views (Replica s.me) ≡ false → SignsAsItself s → IsOwnOwed s owed → Follows R (hate_from R g) owed (counted said)
+  unfolding hate_from
   first_follows said owed own new signer is =
-      subst (λ (o : Option (Signed Hate)). Follows R (count_own R (say_hate R s o)) owed (counted said)) own
+      subst (λ (o : Option (Signed Hate)). Follows R (count_own R (say_hate R o g)) owed (counted said)) own
       (rw (counted_first said new) (counted_follows R (counted said) owed (signs_still said signer) (owed_counted said owed new is)))
 
   -- ---- counted before
 
-  counted_again : (said : Option (Signed Hate)) → is_hated_by s.views (Replica s.me) ≡ true → count_own R (say_hate R s said) ≡ goes Taken (say_hate R s said)
+  counted_again : (said : Option (Signed Hate)) → is_hated_by s.views (Replica s.me) ≡ true → count_own R (say_hate R said g) ≡ goes Taken (say_hate R said g)
   counted_again None old = rw old refl
   counted_again (Some one) old = rw old refl
 
-  pub again_is : (said : Option (Signed Hate)) → said ≡ own_hate s → is_hated_by s.views (Replica s.me) ≡ true → hate_view R s ≡ goes Taken (say_hate R s said)
-  unfolding hate_view
-  again_is said own old = ap (λ (o : Option (Signed Hate)). count_own R (say_hate R s o)) (sym own) ∙ counted_again said old
+  pub again_is : (said : Option (Signed Hate)) → said ≡ own_hate s → is_hated_by s.views (Replica s.me) ≡ true → hate_from R g ≡ goes Taken (say_hate R said g)
+  unfolding hate_from
+  again_is said own old = ap (λ (o : Option (Signed Hate)). count_own R (say_hate R o g)) (sym own) ∙ counted_again said old
 
-  pub said_only : (said : Option (Signed Hate)) → list_any confirms (say_hate R s said).deeds.acts ≡ false
-  said_only None = refl
-  said_only (Some one) = refl
-
-  pub again_only : (said : Option (Signed Hate)) (end : Going S) → end ≡ say_hate R s said → list_any confirms end.deeds.acts ≡ false
-  again_only said end is = ap (λ (g : Going S). list_any confirms g.deeds.acts) is ∙ said_only said
-
-  pub again_taken : (said : Option (Signed Hate)) (end : Going S) → said ≡ own_hate s → is_hated_by s.views (Replica s.me) ≡ true → end ≡ say_hate R s said → finished R s (goes Taken end) ≡ finished R s (hate_view R s)
+  pub again_taken : (said : Option (Signed Hate)) (end : Going S) → said ≡ own_hate s → is_hated_by s.views (Replica s.me) ≡ true → end ≡ say_hate R said g → finished R s (goes Taken end) ≡ finished R s (hate_from R g)
   again_taken said end own old is = ap (λ (g : Going S). finished R s (goes Taken g)) is ∙ ap (finished R s) (sym (again_is said own old))
 
-  overspent : (said : Option (Signed Hate)) → s.sealer.key.next ≤ 2 ^ levels_of s.sealer.key.height → nat_le (signs_of said) (leaves_of s) ≡ false → is_overspent (say_hate R s said).state.sealer ≡ true
+  overspent : (said : Option (Signed Hate)) → s.sealer.key.next ≤ 2 ^ levels_of s.sealer.key.height → nat_le (signs_of said) (leaves_of s) ≡ false → is_overspent (say_hate R said g).state.sealer ≡ true
   overspent said within few =
       let many = leb-false _ _ few in
       ap is_overspent (said_spends said) ∙ lt-ltb _ _ (omega (arith, many, within))
 
-  pub again_spent : (said : Option (Signed Hate)) → said ≡ own_hate s → is_hated_by s.views (Replica s.me) ≡ true → s.sealer.key.next ≤ 2 ^ levels_of s.sealer.key.height → nat_le (signs_of said) (leaves_of s) ≡ false
-      → finished R s (hate_view R s) ≡ refused causes.KeySpent s
-  again_spent said own old within few =
-      ap (finished R s) (again_is said own old)
-      ∙ ap (concluded s) (begun_rests R (say_hate R s said) (said_only said))
-      ∙ (rw (overspent said within few) refl)
+  -- in a step that signed nothing so far
+  module _ (silent : g.deeds.acts ≡ []) where
+    pub said_only : (said : Option (Signed Hate)) → list_any confirms (say_hate R said g).deeds.acts ≡ false
+    said_only None = rw silent refl
+    said_only (Some one) = rw silent refl
+
+    pub again_only : (said : Option (Signed Hate)) (end : Going S) → end ≡ say_hate R said g → list_any confirms end.deeds.acts ≡ false
+    again_only said end is = ap (λ (g : Going S). list_any confirms g.deeds.acts) is ∙ said_only said
+
+    pub again_spent : (said : Option (Signed Hate)) → said ≡ own_hate s → is_hated_by s.views (Replica s.me) ≡ true → s.sealer.key.next ≤ 2 ^ levels_of s.sealer.key.height → nat_le (signs_of said) (leaves_of s) ≡ false
+        → finished R s (hate_from R g) ≡ refused causes.KeySpent s
+    again_spent said own old within few =
+        ap (finished R s) (again_is said own old)
+        ∙ ap (concluded s) (begun_rests R (say_hate R said g) (said_only said))
+        ∙ (rw (overspent said within few) refl)

@@ -1,6 +1,5 @@
 -- The steps of the rows in which a replica leaves its view.
-use Rattle.std.proofs.Common.{◌≡◌, ◌<◌, ℕ, false, Option, Some, None, refl, arith}
-use Rattle.std.specs.List.{list_any}
+use Rattle.std.proofs.Common.{◌≡◌, ◌<◌, ℕ, false, [], Option, Some, None, refl, arith}
 use Rattle.zy_base.specs.Machine.{Rules}
 use Rattle.zy_base.specs.declared.ids.Party.TheVariants.{Replica}
 use Rattle.zy_base.specs.declared.ids.ReplicaId.{ReplicaId}
@@ -16,9 +15,8 @@ use Rattle.zy_change.specs.Views.{is_hated_by}
 use Rattle.zy_table.specs.declared.deeds.To.TheVariants.{All}
 use Rattle.zy_table.specs.State.{State, own_view}
 use Rattle.zy_table.specs.Deeds.{Going, begin, send}
-use Rattle.zy_table.specs.Beginning.{confirms}
 use Rattle.zy_table.specs.Leaving.{leave}
-use Rattle.zy_table.specs.Hates.{hate, hate_view, own_hate, say_hate, with_hate_of}
+use Rattle.zy_table.specs.Hates.{hate, hate_from, own_hate, say_hate, with_hate_of}
 use Rattle.zy_table.specs.Changes.{change}
 use Rattle.zy_core.specs.Ready.{IsReady}
 use Rattle.zy_leaving.proofs.FollowLemmas.{change_follows, hate_follows, leave_follows}
@@ -27,13 +25,12 @@ use Rattle.zy_leaving.specs.Follows.{IsChangeOwed, IsHateOwed, IsLeaveOwed, IsSi
 use Rattle.zy_finish.specs.Ending.{IsSoFar}
 use Rattle.zy_entering.specs.Entering.{IsStep}
 use Rattle.zy_views.specs.Judging.{CanAll, signs_of}
-use Rattle.zy_views.proofs.HeardLemmas.{kept_unspent}
 use Rattle.zy_views.proofs.JudgedLemmas.{none_spent}
-use Rattle.zy_views.proofs.OwnHateLemmas.{IsOwnOwed, first_follows, spends_so_far}
+use Rattle.zy_views.proofs.OwnHateLemmas.{IsOwnOwed, first_follows, said_only, spends_so_far}
 
 -- the own hate, said and counted
-abbrev pub counted : {S : Type 0} → Rules S → State S → Option (Signed Hate) → Going S
-counted R s said = with_hate_of (Replica s.me) (say_hate R s said)
+abbrev pub counted : {S : Type 0} → Rules S → Going S → Option (Signed Hate) → Going S
+counted R g said = with_hate_of (Replica g.state.me) (say_hate R said g)
 
 module _ {S : Type 0} (R : Rules S) (s : State S) (signer : IsSigner s) (ready : IsReady s) (owed : Owed) (can : CanAll s owed) where
   pub hate_step : (vote : Signed Hate) → IsHateOwed s vote owed → IsStep R s 0 (hate R s vote) owed (with_hate_of vote.by (begin s))
@@ -102,33 +99,34 @@ module _ {S : Type 0} (R : Rules S) (s : State S) (signer : IsSigner s) (ready :
         enters = can;
       }
 
-  -- ---- the own hate
+-- ---- the own hate, in a step that signed nothing so far
 
-  own_far : (said : Option (Signed Hate)) (more : ℕ) → more ≡ signs_of said → IsSoFar s more (counted R s said)
-  own_far None more is = record { sealer = spends_so_far R s None more is; kept = refl; stable = refl }
-  own_far (Some one) more is = record { sealer = spends_so_far R s (Some one) more is; kept = refl; stable = refl }
+module _ {S : Type 0} (R : Rules S) (g : Going S) (signer : IsSigner g.state) (ready : IsReady g.state) (owed : Owed) (can : CanAll g.state owed) where
+  abbrev s : State S
+  s = g.state
 
-  own_fetches : (said : Option (Signed Hate)) → (counted R s said).state.fetches ≡ s.fetches
+  own_far : (said : Option (Signed Hate)) (more : ℕ) → more ≡ signs_of said → IsSoFar s more (counted R g said)
+  own_far None more is = record { sealer = spends_so_far R g None more is; kept = refl; stable = refl }
+  own_far (Some one) more is = record { sealer = spends_so_far R g (Some one) more is; kept = refl; stable = refl }
+
+  own_fetches : (said : Option (Signed Hate)) → (counted R g said).state.fetches ≡ s.fetches
   own_fetches None = refl
   own_fetches (Some one) = refl
 
-  own_same : (said : Option (Signed Hate)) → own_view (counted R s said).state ≡ own_view s
+  own_same : (said : Option (Signed Hate)) → own_view (counted R g said).state ≡ own_view s
   own_same None = refl
   own_same (Some one) = refl
 
-  own_unconfirmed : (said : Option (Signed Hate)) → list_any confirms (counted R s said).deeds.acts ≡ false
-  own_unconfirmed None = refl
-  own_unconfirmed (Some one) = refl
-
-  pub own_step : (said : Option (Signed Hate)) (more : ℕ) → more ≡ signs_of said → said ≡ own_hate s → is_hated_by s.views (Replica s.me) ≡ false → IsOwnOwed s owed → IsStep R s more (hate_view R s) owed (counted R s said)
-  own_step said more is own new owes =
+  pub own_step : g.deeds.acts ≡ [] → (said : Option (Signed Hate)) (more : ℕ) → more ≡ signs_of said → said ≡ own_hate s → is_hated_by s.views (Replica s.me) ≡ false → IsOwnOwed s owed
+      → IsStep R s more (hate_from R g) owed (counted R g said)
+  own_step silent said more is own new owes =
       record {
         signer = signer;
         ready = ready;
         so_far = own_far said more is;
         fetches = own_fetches said;
         view = own_same said;
-        unconfirmed = own_unconfirmed said;
-        follows = first_follows R s said owed own new signer.by owes;
+        unconfirmed = said_only R g silent said;
+        follows = first_follows R g said owed own new signer.by owes;
         enters = can;
       }

@@ -1,6 +1,6 @@
 -- What a timer brings about: the step goes on, unless it is refused, and what was said goes out again.
-use Rattle.std.proofs.Common.{◌≡◌, ◌+◌, ◌⊎◌, inl, inr, ℕ, List, Bool, true, false, Option, Some, None, refl, sym, ap, ◌∙◌, subst}
-use Rattle.std.specs.Prelude.{Result, Ok, Err, IfOk, nat_le, if◌then◌else◌, nat_lt, ◌^◌}
+use Rattle.std.proofs.Common.{◌≡◌, ◌+◌, ◌⊎◌, inl, inr, ℕ, List, [], Bool, true, false, Option, Some, None, refl, sym, ap, ◌∙◌, subst}
+use Rattle.std.specs.Prelude.{Ok, Err, IfOk, nat_le, if◌then◌else◌, nat_lt, ◌^◌}
 use Rattle.zy_base.specs.Machine.{Rules}
 use Rattle.zy_base.specs.declared.cause.Cause.TheVariants as causes
 use Rattle.zy_base.specs.declared.ids.Party.TheVariants.{Replica}
@@ -24,7 +24,7 @@ use Rattle.zy_table.specs.declared.deeds.AnyFrame.TheVariants as any
 use Rattle.zy_table.specs.State.{State}
 use Rattle.zy_table.specs.Deeds.{Going, Outcome, begin, refused, ends}
 use Rattle.zy_table.specs.Leaving.{Attempt, accept, collect, concluded, give_new, given, goes, is_overspent, leave, leave_alone, sealed_new}
-use Rattle.zy_table.specs.Hates.{ask_for_hole, change_again, hate_again, then_ask, count_own, hate_counted, hate_view, own_hate, say_hate, with_hate_of}
+use Rattle.zy_table.specs.Hates.{ask_for_hole, change_again, then_ask, count_own, hate_counted, hate_from, own_hate, say_hate, with_hate_of}
 use Rattle.std.specs.List.{list_any}
 use Rattle.zy_base.specs.declared.cause.Cause.{Cause}
 use Rattle.zy_base.specs.declared.ids.ReplicaId.{ReplicaId}
@@ -79,17 +79,6 @@ module _ {S : Type 0} (R : Rules S) where
       by : (b : Bool) → Takes (if b then leave R (next_view g.state.views) g else goes Taken g)
       by true = leave_takes (next_view g.state.views) g
       by false = refl
-
-  own_takes : (g : Going S) → Takes (count_own R g)
-  own_takes g = by (is_hated_by g.state.views (Replica g.state.me))
-    where
-      by : (b : Bool) → Takes (if b then goes Taken g else hate_counted R (with_hate_of (Replica g.state.me) g))
-      by true = refl
-      by false = counted_takes (with_hate_of (Replica g.state.me) g)
-
-  hate_takes : (s : State S) → Takes (hate_view R s)
-  unfolding hate_view
-  hate_takes s = own_takes (say_hate R s (own_hate s))
 
 -- ---- what is missing is asked for after it
 
@@ -154,6 +143,29 @@ module _ {S : Type 0} (R : Rules S) where
       by : (b : Bool) → then_ask (if b then collect R view (leave_alone R view g) else Err causes.NewerView) ≡ (if b then collect R view (leave_alone R view g) else Err causes.NewerView)
       by true = collect_same view view (leave_alone R view g) refl
       by false = refl
+
+  -- nor where it is leaving as it hates a view
+  counted_same : (own : View) (g : Going S) → g.state.views.mode ≡ Leaving own → then_ask (hate_counted R g) ≡ hate_counted R g
+  counted_same own g is = by (hated_by_many g.state.views)
+    where
+      by : (b : Bool) → then_ask (if b then leave R (next_view g.state.views) g else goes Taken g) ≡ (if b then leave R (next_view g.state.views) g else goes Taken g)
+      by true = leave_same (next_view g.state.views) g
+      by false = ap (goes Taken) (asks_nothing own g is)
+
+  own_same : (own : View) (g : Going S) → g.state.views.mode ≡ Leaving own → then_ask (count_own R g) ≡ count_own R g
+  own_same own g is = by (is_hated_by g.state.views (Replica g.state.me))
+    where
+      by : (b : Bool) → then_ask (if b then goes Taken g else hate_counted R (with_hate_of (Replica g.state.me) g)) ≡ (if b then goes Taken g else hate_counted R (with_hate_of (Replica g.state.me) g))
+      by true = ap (goes Taken) (asks_nothing own g is)
+      by false = counted_same own (with_hate_of (Replica g.state.me) g) is
+
+  said_mode : (said : Option (Signed Hate)) (g : Going S) → (say_hate R said g).state.views.mode ≡ g.state.views.mode
+  said_mode None g = refl
+  said_mode (Some one) g = refl
+
+  hate_same : (own : View) (g : Going S) → g.state.views.mode ≡ Leaving own → then_ask (hate_from R g) ≡ hate_from R g
+  unfolding hate_from
+  hate_same own g is = own_same own (say_hate R (own_hate g.state) g) (said_mode (own_hate g.state) g ∙ is)
 
   -- it has left its view, or nothing else is done
   abbrev IsCalm : Attempt S → Going S → Type 0
@@ -268,32 +280,36 @@ module _ {S : Type 0} (R : Rules S) (s : State S) (more : ℕ) (owed : Owed) (g 
 
 -- ---- the own hate
 
-pub repeat_asked : {S : Type 0} (R : Rules S) (s : State S) (said : Option (Signed Hate)) → said ≡ own_hate s → is_hated_by s.views (Replica s.me) ≡ true → asked (finished R s (hate_view R s)) ≡ finished R s (then_ask (hate_view R s))
-repeat_asked {S = S} R s said own old =
-    let is = again_is R s said own old in
-    ap (λ (a : Attempt S). asked (finished R s a)) is ∙ only_asked R s (say_hate R s said) (said_only R s said) ∙ ap (λ (a : Attempt S). finished R s (then_ask a)) (sym is)
+pub repeat_asked : {S : Type 0} (R : Rules S) (g : Going S) (said : Option (Signed Hate)) → g.deeds.acts ≡ [] → said ≡ own_hate g.state → is_hated_by g.state.views (Replica g.state.me) ≡ true
+    → asked (finished R g.state (hate_from R g)) ≡ finished R g.state (then_ask (hate_from R g))
+repeat_asked {S = S} R g said silent own old =
+    let is = again_is R g said own old in
+    ap (λ (a : Attempt S). asked (finished R g.state a)) is ∙ only_asked R g.state (say_hate R said g) (said_only R g silent said) ∙ ap (λ (a : Attempt S). finished R g.state (then_ask a)) (sym is)
 
-module _ {S : Type 0} (R : Rules S) (s : State S) (said : Option (Signed Hate)) (own : said ≡ own_hate s) (new : is_hated_by s.views (Replica s.me) ≡ false) where
-  abbrev g : Going S
-  g = with_hate_of (Replica s.me) (say_hate R s said)
+module _ {S : Type 0} (R : Rules S) (g : Going S) (said : Option (Signed Hate)) (own : said ≡ own_hate g.state) (new : is_hated_by g.state.views (Replica g.state.me) ≡ false) where
+  abbrev s : State S
+  s = g.state
 
-  own_first : hate_view R s ≡ hate_counted R g
-  unfolding hate_view
-  own_first = ap (λ (o : Option (Signed Hate)). count_own R (say_hate R s o)) (sym own) ∙ counted_first R s said new
+  abbrev counted : Going S
+  counted = with_hate_of (Replica s.me) (say_hate R said g)
 
-  module _ (more : ℕ) (owed : Owed) (step : IsStep R s more (hate_view R s) owed g) (leaves : LeavesToEnter s owed) where
-    counted_step : IsStep R s more (hate_counted R g) owed g
-    counted_step = subst (λ (a : Attempt S). IsStep R s more a owed g) own_first step
+  own_first : hate_from R g ≡ hate_counted R counted
+  unfolding hate_from
+  own_first = ap (λ (o : Option (Signed Hate)). count_own R (say_hate R o g)) (sym own) ∙ counted_first R g said new
 
-    pub own_refused : (cause : Cause) → finished R s (hate_view R s) ≡ refused cause s → finished R s (then_ask (hate_view R s)) ≡ refused cause s
+  module _ (more : ℕ) (owed : Owed) (step : IsStep R s more (hate_from R g) owed counted) (leaves : LeavesToEnter s owed) where
+    counted_step : IsStep R s more (hate_counted R counted) owed counted
+    counted_step = subst (λ (a : Attempt S). IsStep R s more a owed counted) own_first step
+
+    pub own_refused : (cause : Cause) → finished R s (hate_from R g) ≡ refused cause s → finished R s (then_ask (hate_from R g)) ≡ refused cause s
     own_refused cause is =
         ap (λ (a : Attempt S). finished R s (then_ask a)) own_first
-        ∙ first_refused R s more owed g counted_step leaves cause (ap (finished R s) (sym own_first) ∙ is)
+        ∙ first_refused R s more owed counted counted_step leaves cause (ap (finished R s) (sym own_first) ∙ is)
 
-    pub own_asked : (e : Ending) → ending_of R s more owed ≡ Ok e → asked_if e (finished R s (hate_view R s)) ≡ finished R s (then_ask (hate_view R s))
+    pub own_asked : (e : Ending) → ending_of R s more owed ≡ Ok e → asked_if e (finished R s (hate_from R g)) ≡ finished R s (then_ask (hate_from R g))
     own_asked e same =
         ap (λ (a : Attempt S). asked_if e (finished R s a)) own_first
-        ∙ first_asked R s more owed g counted_step leaves e same
+        ∙ first_asked R s more owed counted counted_step leaves e same
         ∙ ap (λ (a : Attempt S). finished R s (then_ask a)) (sym own_first)
 
 -- unless it is refused
@@ -303,11 +319,16 @@ going_asked answer g (inr is) = rw is refl
 
 -- ---- what was said as it left is sent again
 
-pub told_only : {S : Type 0} (s : State S) (change : Option (Signed Change)) (said : Option (Signed Hate)) → list_any confirms (hate_again said (change_again change (begin s))).deeds.acts ≡ false
-told_only s None None = refl
-told_only s None (Some one) = refl
-told_only s (Some c) None = refl
-told_only s (Some c) (Some one) = refl
+pub told_state : {S : Type 0} (change : Option (Signed Change)) (s : State S) → (change_again change (begin s)).state ≡ s
+told_state None s = refl
+told_state (Some one) s = refl
+
+pub told_silent : {S : Type 0} (change : Option (Signed Change)) (s : State S) → (change_again change (begin s)).deeds.acts ≡ []
+told_silent None s = refl
+told_silent (Some one) s = refl
+
+pub leaving_same : {S : Type 0} (R : Rules S) (change : Option (Signed Change)) (s : State S) (view : View) → s.views.mode ≡ Leaving view → then_ask (hate_from R (change_again change (begin s))) ≡ hate_from R (change_again change (begin s))
+leaving_same {S = S} R change s view is = hate_same R view (change_again change (begin s)) (ap (λ (t : State S). t.views.mode) (told_state change s) ∙ is)
 
 -- ---- the own report can be sent
 

@@ -1,6 +1,6 @@
 //! The own hate: it is said once, sent as often as the timer runs out, and counted as one that is heard.
 
-ghost use Rattle.std.specs.Prelude.{◌≡◌, ◌≤◌, ◌<◌, ◌+◌, ℕ, true, false, Some, None, Ok, IfOk};
+ghost use Rattle.std.specs.Prelude.{◌≡◌, ◌≤◌, ◌<◌, ◌+◌, ℕ, [], true, false, Some, None, Ok, IfOk};
 ghost use Rattle.std.specs.Option.{ForSome};
 ghost use Rattle.zy_parts.specs.Numbers as numbers;
 ghost use Rattle.zy_parts.specs.Signing.{IsSignedInRange};
@@ -15,9 +15,10 @@ ghost use Rattle.zy_table.specs.declared.deeds.To.TheVariants as tos;
 ghost use Rattle.zy_table.specs.declared.deeds.Act.TheVariants as acts;
 ghost use Rattle.zy_table.specs.declared.deeds.Body.TheVariants as bodies;
 ghost use Rattle.zy_table.specs.State.{State, leaves_of, spent, stood_of};
+ghost use Rattle.zy_table.specs.Deeds.{act as acting, refused as refused_with, send as sending};
 ghost use Rattle.zy_table.specs.Leaving.{Attempt};
 ghost use Rattle.zy_table.specs.Beginning.{finished};
-ghost use Rattle.zy_table.specs.Hates.{hate_for, own_hate as own_of, hate_now as now_of, say_hate as said_as, then_ask, with_hate_of, hate_view as hate_row};
+ghost use Rattle.zy_table.specs.Hates.{hate_for, own_hate as own_of, hate_now as now_of, say_hate as said_as, then_ask, with_hate_of, hate_from as hate_row};
 ghost use Rattle.zy_leaving.specs.Follows.{IsHateOwed};
 ghost use Rattle.zy_entering.specs.Entering.{IsJudged, IsStep, ending_of};
 ghost use Rattle.zy_views.specs.Judging.{CanAll, LeavesToEnter, asked_if, signs_of};
@@ -40,8 +41,8 @@ fn hate_now<M: Machine>(core: &Core<M>) -> Hate
     Hate { view: core.view() }
 }
 
-/// A copy of the own hate of the own view, where it was said.
-pub(crate) fn own_hate<M: Machine>(core: &Core<M>) -> Result<Option<Signed<Hate>>, Want>
+// A copy of the own hate of the own view, where it was said.
+fn own_hate<M: Machine>(core: &Core<M>) -> Result<Option<Signed<Hate>>, Want>
     ensures said { IfOk result (λ said. said ≡ own_of core.now) }
     ensures range { IfOk result (λ said. ForSome said (IsSignedInRange IsHateInRange)) }
 {
@@ -79,13 +80,13 @@ fn seal_hate<M: Machine>(core: Core<M>) -> Result<(Core<M>, Signed<Hate>), Want>
     Ok((core.keep_hate(copy), signed))
 }
 
-fn sign_hate<M: Machine>(core: Core<M>) -> Result<Progress<M>, Want>
-    requires leaf { 1 ≤ leaves_of core }
-    ensures { IfOk result (λ g. g ≡ said_as M.rules core None) }
+// What was signed is said, and goes to all.
+fn tell_hate<M: Machine>(progress: Progress<M>, signed: Signed<Hate>) -> Result<Progress<M>, Want>
+    requires { IsSignedInRange IsHateInRange signed }
+    ensures { IfOk result (λ g. g ≡ sending tos.All (frames.Hate signed) (acting (acts.Says (record { body = bodies.Hate signed.stmt; stood = stood_of M.rules progress.state })) progress)) }
 {
-    let stood = core.stood();
-    let (core, signed) = seal_hate(core)?;
-    match core.begin().says(Body::Hate(signed.stmt), stood) {
+    let stood = progress.core.stood();
+    match progress.says(Body::Hate(signed.stmt), stood) {
         Ok(progress) => progress.send(To::All, Frame::Hate(signed)),
         Err(want) => {
             drop(signed);
@@ -94,15 +95,32 @@ fn sign_hate<M: Machine>(core: Core<M>) -> Result<Progress<M>, Want>
     }
 }
 
+fn sign_hate<M: Machine>(progress: Progress<M>) -> Result<Progress<M>, Want>
+    requires leaf { 1 ≤ leaves_of progress.state }
+    ensures { IfOk result (λ g. g ≡ said_as M.rules None progress) }
+{
+    let Progress { core, deeds } = progress;
+    match seal_hate(core) {
+        Ok((core, signed)) => tell_hate(Progress { core, deeds }, signed),
+        Err(want) => {
+            drop(deeds);
+            Err(want)
+        }
+    }
+}
+
 // It goes to all. It is signed where it wasn't.
-fn say_hate<M: Machine>(core: Core<M>, said: Option<Signed<Hate>>) -> Result<Progress<M>, Want>
-    requires leaf { signs_of said ≤ leaves_of core }
+fn say_hate<M: Machine>(
+    progress: Progress<M>,
+    said: Option<Signed<Hate>>,
+) -> Result<Progress<M>, Want>
+    requires leaf { signs_of said ≤ leaves_of progress.state }
     requires said { ForSome said (IsSignedInRange IsHateInRange) }
-    ensures { IfOk result (λ g. g ≡ said_as M.rules core said) }
+    ensures { IfOk result (λ g. g ≡ said_as M.rules said progress) }
 {
     match said {
-        None => sign_hate(core),
-        Some(said) => core.begin().send(To::All, Frame::Hate(said)),
+        None => sign_hate(progress),
+        Some(said) => progress.send(To::All, Frame::Hate(said)),
     }
 }
 
@@ -119,26 +137,46 @@ fn signs(said: &Option<Signed<Hate>>) -> u64
 
 // ---- counting it
 
-// It was counted before: it goes to all again.
-fn repeat_hate<M: Machine>(core: Core<M>, said: Option<Signed<Hate>>) -> Result<Moved<M>, Want>
-    requires said { said ≡ own_of core }
-    requires range { ForSome said (IsSignedInRange IsHateInRange) }
-    requires counted { is_hated_by core.views (parties.Replica core.me) ≡ true }
-    ensures { IfOk result (λ m. m ≡ finished M.rules core (hate_row M.rules core)) }
+// A refusal takes back what the step did so far.
+fn refused<M: Machine, T: Drop>(
+    progress: Progress<M>,
+    content: T,
+    cause: Cause,
+) -> Result<Moved<M>, Want>
+    ensures { IfOk result (λ m. m ≡ refused_with cause progress.state) }
 {
-    if !core.has_leaves(signs(&said)) {
-        return core.not_heard(said, Cause::KeySpent);
-    }
-    Ok(taken(say_hate(core, said)?))
+    let Progress { core, deeds } = progress;
+    drop(deeds);
+    core.not_heard(content, cause)
 }
 
-fn count_own<M: Machine>(core: Core<M>, said: Option<Signed<Hate>>) -> Result<Progress<M>, Want>
-    requires leaf { signs_of said ≤ leaves_of core }
-    requires said { ForSome said (IsSignedInRange IsHateInRange) }
-    ensures { IfOk result (λ g. g ≡ with_hate_of (parties.Replica core.me) (said_as M.rules core said)) }
+// It was counted before: it goes to all again.
+fn repeat_hate<M: Machine>(
+    progress: Progress<M>,
+    said: Option<Signed<Hate>>,
+) -> Result<Moved<M>, Want>
+    requires silent { progress.deeds.acts ≡ [] }
+    requires said { said ≡ own_of progress.state }
+    requires range { ForSome said (IsSignedInRange IsHateInRange) }
+    requires counted { is_hated_by progress.state.views (parties.Replica progress.state.me) ≡ true }
+    ensures { IfOk result (λ m. m ≡ finished M.rules progress.state (hate_row M.rules progress)) }
 {
-    let own = unsigned(&core);
-    match say_hate(core, said) {
+    if !progress.core.has_leaves(signs(&said)) {
+        return refused(progress, said, Cause::KeySpent);
+    }
+    Ok(taken(say_hate(progress, said)?))
+}
+
+fn count_own<M: Machine>(
+    progress: Progress<M>,
+    said: Option<Signed<Hate>>,
+) -> Result<Progress<M>, Want>
+    requires leaf { signs_of said ≤ leaves_of progress.state }
+    requires said { ForSome said (IsSignedInRange IsHateInRange) }
+    ensures { IfOk result (λ g. g ≡ with_hate_of (parties.Replica progress.state.me) (said_as M.rules said progress)) }
+{
+    let own = unsigned(&progress.core);
+    match say_hate(progress, said) {
         Ok(progress) => count_hate(progress, own),
         Err(want) => {
             drop(own);
@@ -149,18 +187,18 @@ fn count_own<M: Machine>(core: Core<M>, said: Option<Signed<Hate>>) -> Result<Pr
 
 // It is said and counted, what it owes is carried out, and the step ends.
 fn carry_own<M: Machine>(
-    core: Core<M>,
+    progress: Progress<M>,
     said: Option<Signed<Hate>>,
     owed: Owed,
     ending: Ending,
 ) -> Result<Moved<M>, Want>
-    requires leaf { signs_of said ≤ leaves_of core }
+    requires leaf { signs_of said ≤ leaves_of progress.state }
     requires range { ForSome said (IsSignedInRange IsHateInRange) }
-    requires judged { IsJudged M.rules owed ending (with_hate_of (parties.Replica core.me) (said_as M.rules core said)) }
+    requires judged { IsJudged M.rules owed ending (with_hate_of (parties.Replica progress.state.me) (said_as M.rules said progress)) }
     requires in_range { IsOwedInRange owed }
-    ensures { (s : State M.State) (more : ℕ) (attempt : Attempt M.State) → IsStep M.rules s more attempt owed (with_hate_of (parties.Replica core.me) (said_as M.rules core said)) → ending_of M.rules s more owed ≡ Ok ending → IfOk result (λ m. m ≡ finished M.rules s attempt) }
+    ensures { (s : State M.State) (more : ℕ) (attempt : Attempt M.State) → IsStep M.rules s more attempt owed (with_hate_of (parties.Replica progress.state.me) (said_as M.rules said progress)) → ending_of M.rules s more owed ≡ Ok ending → IfOk result (λ m. m ≡ finished M.rules s attempt) }
 {
-    match count_own(core, said) {
+    match count_own(progress, said) {
         Ok(progress) => carry(progress, owed, ending),
         Err(want) => {
             drop(owed);
@@ -171,40 +209,41 @@ fn carry_own<M: Machine>(
 
 // The same, and missing orders are asked for.
 fn carry_and_ask<M: Machine>(
-    core: Core<M>,
+    progress: Progress<M>,
     said: Option<Signed<Hate>>,
     owed: Owed,
     ending: Ending,
 ) -> Result<Moved<M>, Want>
-    requires leaf { signs_of said ≤ leaves_of core }
+    requires leaf { signs_of said ≤ leaves_of progress.state }
     requires range { ForSome said (IsSignedInRange IsHateInRange) }
-    requires judged { IsJudged M.rules owed ending (with_hate_of (parties.Replica core.me) (said_as M.rules core said)) }
+    requires judged { IsJudged M.rules owed ending (with_hate_of (parties.Replica progress.state.me) (said_as M.rules said progress)) }
     requires in_range { IsOwedInRange owed }
-    ensures { (s : State M.State) (more : ℕ) (attempt : Attempt M.State) → IsStep M.rules s more attempt owed (with_hate_of (parties.Replica core.me) (said_as M.rules core said)) → ending_of M.rules s more owed ≡ Ok ending → IfOk result (λ m. m ≡ asked_if ending (finished M.rules s attempt)) }
+    ensures { (s : State M.State) (more : ℕ) (attempt : Attempt M.State) → IsStep M.rules s more attempt owed (with_hate_of (parties.Replica progress.state.me) (said_as M.rules said progress)) → ending_of M.rules s more owed ≡ Ok ending → IfOk result (λ m. m ≡ asked_if ending (finished M.rules s attempt)) }
 {
-    ask_unless(carry_own(core, said, owed, ending)?, ending)
+    ask_unless(carry_own(progress, said, owed, ending)?, ending)
 }
 
 // It is counted for the first time.
 fn first_hate<M: Machine>(
-    core: Core<M>,
+    progress: Progress<M>,
     said: Option<Signed<Hate>>,
     owed: Owed,
 ) -> Result<Moved<M>, Want>
-    requires said { said ≡ own_of core }
+    requires silent { progress.deeds.acts ≡ [] }
+    requires said { said ≡ own_of progress.state }
     requires range { ForSome said (IsSignedInRange IsHateInRange) }
-    requires new { is_hated_by core.views (parties.Replica core.me) ≡ false }
-    requires owed { (vote : Signed Hate) → vote.by ≡ parties.Replica core.me → vote.stmt ≡ now_of core → IsHateOwed core vote owed }
+    requires new { is_hated_by progress.state.views (parties.Replica progress.state.me) ≡ false }
+    requires owed { (vote : Signed Hate) → vote.by ≡ parties.Replica progress.state.me → vote.stmt ≡ now_of progress.state → IsHateOwed progress.state vote owed }
     requires in_range { IsOwedInRange owed }
-    requires enters { CanAll core owed }
-    requires leaves { LeavesToEnter core owed }
-    ensures { IfOk result (λ m. m ≡ finished M.rules core (then_ask (hate_row M.rules core))) }
+    requires enters { CanAll progress.state owed }
+    requires leaves { LeavesToEnter progress.state owed }
+    ensures { IfOk result (λ m. m ≡ finished M.rules progress.state (then_ask (hate_row M.rules progress))) }
 {
-    match judge_owed(&core, &owed, signs(&said)) {
-        Ok(Err(cause)) => core.not_heard((said, owed), cause),
-        Ok(Ok(ending)) => carry_and_ask(core, said, owed, ending),
+    match judge_owed(&progress.core, &owed, signs(&said)) {
+        Ok(Err(cause)) => refused(progress, (said, owed), cause),
+        Ok(Ok(ending)) => carry_and_ask(progress, said, owed, ending),
         Err(want) => {
-            drop((core, said, owed));
+            drop((progress, said, owed));
             Err(want)
         }
     }
@@ -224,37 +263,46 @@ fn owed_by_own<M: Machine>(core: &Core<M>) -> Result<Owed, Want>
 }
 
 // It was counted before, and missing orders are asked for.
-fn repeat_and_ask<M: Machine>(core: Core<M>, said: Option<Signed<Hate>>) -> Result<Moved<M>, Want>
-    requires said { said ≡ own_of core }
+fn repeat_and_ask<M: Machine>(
+    progress: Progress<M>,
+    said: Option<Signed<Hate>>,
+) -> Result<Moved<M>, Want>
+    requires silent { progress.deeds.acts ≡ [] }
+    requires said { said ≡ own_of progress.state }
     requires range { ForSome said (IsSignedInRange IsHateInRange) }
-    requires counted { is_hated_by core.views (parties.Replica core.me) ≡ true }
-    ensures { IfOk result (λ m. m ≡ finished M.rules core (then_ask (hate_row M.rules core))) }
+    requires counted { is_hated_by progress.state.views (parties.Replica progress.state.me) ≡ true }
+    ensures { IfOk result (λ m. m ≡ finished M.rules progress.state (then_ask (hate_row M.rules progress))) }
 {
-    ask_after(repeat_hate(core, said)?)
+    ask_after(repeat_hate(progress, said)?)
 }
 
-fn hate_with<M: Machine>(core: Core<M>, said: Option<Signed<Hate>>) -> Result<Moved<M>, Want>
-    requires said { said ≡ own_of core }
+fn hate_with<M: Machine>(
+    progress: Progress<M>,
+    said: Option<Signed<Hate>>,
+) -> Result<Moved<M>, Want>
+    requires silent { progress.deeds.acts ≡ [] }
+    requires said { said ≡ own_of progress.state }
     requires range { ForSome said (IsSignedInRange IsHateInRange) }
-    ensures { IfOk result (λ m. m ≡ finished M.rules core (then_ask (hate_row M.rules core))) }
+    ensures { IfOk result (λ m. m ≡ finished M.rules progress.state (then_ask (hate_row M.rules progress))) }
 {
-    if core.views().has_hate_of(core.me()) {
-        return repeat_and_ask(core, said);
+    if progress.core.views().has_hate_of(progress.core.me()) {
+        return repeat_and_ask(progress, said);
     }
-    match owed_by_own(&core) {
-        Ok(owed) => first_hate(core, said, owed),
+    match owed_by_own(&progress.core) {
+        Ok(owed) => first_hate(progress, said, owed),
         Err(want) => {
-            drop(said);
+            drop((progress, said));
             Err(want)
         }
     }
 }
 
-/// The own view is hated: all are told, the own hate is counted, and missing orders are asked for again, of all, if the
-/// replica is still in its view then.
-pub(crate) fn hate_and_ask<M: Machine>(core: Core<M>) -> Result<Moved<M>, Want>
-    ensures { IfOk result (λ m. m ≡ finished M.rules core (then_ask (hate_row M.rules core))) }
+/// The own view is hated, in a step that signed nothing so far: all are told, the own hate is counted, and missing orders
+/// are asked for again, of all, if the replica is in its view then.
+pub(crate) fn hate_and_ask<M: Machine>(progress: Progress<M>) -> Result<Moved<M>, Want>
+    requires { progress.deeds.acts ≡ [] }
+    ensures { IfOk result (λ m. m ≡ finished M.rules progress.state (then_ask (hate_row M.rules progress))) }
 {
-    let said = own_hate(&core)?;
-    hate_with(core, said)
+    let said = own_hate(&progress.core)?;
+    hate_with(progress, said)
 }

@@ -2,8 +2,6 @@
 
 ghost use Rattle.std.specs.Prelude.{◌≡◌, if◌then◌else◌, IfOk};
 ghost use Rattle.std.specs.Option.{ForSome};
-ghost use Rattle.zy_parts.specs.Signing.{IsSignedInRange};
-ghost use Rattle.zy_parts.specs.Statements.{IsHateInRange};
 ghost use Rattle.zy_vframes.specs.declared.frame.ViewFrame.TheVariants as view_frames;
 ghost use Rattle.zy_change.specs.Views.{change_for as change_of, own_change};
 ghost use Rattle.zy_table.specs.Sending.{CanBeSent};
@@ -13,15 +11,14 @@ ghost use Rattle.zy_base.specs.declared.step.Answer.TheVariants as Answer;
 ghost use Rattle.zy_table.specs.Deeds.{begin};
 ghost use Rattle.zy_table.specs.Leaving.{goes};
 ghost use Rattle.zy_table.specs.Beginning.{finished};
-ghost use Rattle.zy_table.specs.Hates.{then_ask, has_pending as some_pending, hate_view as hate_row, on_request_timer as request_row, on_change_timer as change_row, change_again as again_change, hate_again as again_hate, own_hate as own_of};
+ghost use Rattle.zy_table.specs.Hates.{then_ask, has_pending as some_pending, hate_from as hate_row, on_request_timer as request_row, on_change_timer as change_row, change_again as again_change};
 
 use crate::asking::ask_for_hole;
 use crate::judging::taken;
-use crate::own_hate::{hate_and_ask, own_hate};
+use crate::own_hate::hate_and_ask;
 use zy_base::{Answer, Machine, Mode, Want};
 use zy_core::{Core, Moved, Progress};
-use zy_frames::Frame;
-use zy_parts::{Change, Hate, Signed};
+use zy_parts::{Change, Signed};
 use zy_table::To;
 use zy_vframes::ViewFrame;
 
@@ -42,10 +39,10 @@ fn idle_and_ask<M: Machine>(core: Core<M>) -> Result<Moved<M>, Want>
 }
 
 fn request_while_active<M: Machine>(core: Core<M>) -> Result<Moved<M>, Want>
-    ensures { IfOk result (λ m. m ≡ finished M.rules core (then_ask (if some_pending core then hate_row M.rules core else goes Answer.Taken (begin core)))) }
+    ensures { IfOk result (λ m. m ≡ finished M.rules core (then_ask (if some_pending core then hate_row M.rules (begin core) else goes Answer.Taken (begin core)))) }
 {
     if core.has_pending() {
-        hate_and_ask(core)
+        hate_and_ask(core.begin())
     } else {
         idle_and_ask(core)
     }
@@ -95,53 +92,24 @@ fn change_again<M: Machine>(
     }
 }
 
-fn hate_again<M: Machine>(
-    progress: Progress<M>,
-    said: Option<Signed<Hate>>,
-) -> Result<Progress<M>, Want>
-    requires { ForSome said (IsSignedInRange IsHateInRange) }
-    ensures { IfOk result (λ g. g ≡ again_hate said progress) }
-{
-    match said {
-        None => Ok(progress),
-        Some(said) => progress.send(To::All, Frame::Hate(said)),
-    }
-}
-
-fn tell_again<M: Machine>(
-    core: Core<M>,
-    change: Option<Signed<Change>>,
-    said: Option<Signed<Hate>>,
-) -> Result<Moved<M>, Want>
-    requires change { ForSome change (λ c. CanBeSent (any.View (view_frames.ViewChange c))) }
-    requires said { ForSome said (IsSignedInRange IsHateInRange) }
-    ensures { IfOk result (λ m. m ≡ finished M.rules core (goes Answer.Taken (again_hate said (again_change change (begin core))))) }
-{
-    match change_again(core.begin(), change) {
-        Ok(progress) => Ok(taken(hate_again(progress, said)?)),
-        Err(want) => {
-            drop(said);
-            Err(want)
-        }
-    }
-}
-
-fn tell_leaving<M: Machine>(core: Core<M>) -> Result<Moved<M>, Want>
-    ensures { IfOk result (λ m. m ≡ finished M.rules core (goes Answer.Taken (again_hate (own_of core) (again_change (change_of (own_view core) (own_change core.views)) (begin core))))) }
+fn tell_again<M: Machine>(core: Core<M>) -> Result<Progress<M>, Want>
+    ensures { IfOk result (λ g. g ≡ again_change (change_of (own_view core) (own_change core.views)) (begin core)) }
 {
     let change = change_for(&core)?;
-    match own_hate(&core) {
-        Ok(said) => tell_again(core, change, said),
-        Err(want) => {
-            drop(change);
-            Err(want)
-        }
-    }
+    change_again(core.begin(), change)
 }
 
-/// The timer of changes: while it is leaving, what it said as it left goes to all again.
+// Nothing is asked for: it isn't in its view.
+fn tell_leaving<M: Machine>(core: Core<M>) -> Result<Moved<M>, Want>
+    ensures { IfOk result (λ m. m ≡ finished M.rules core (then_ask (hate_row M.rules (again_change (change_of (own_view core) (own_change core.views)) (begin core))))) }
+{
+    hate_and_ask(tell_again(core)?)
+}
+
+/// The timer of changes: while it is leaving, what it said as it left goes to all again, and the replica hates the view for
+/// which it left, since that doesn't begin.
 pub fn on_change_timer<M: Machine>(core: Core<M>) -> Result<Moved<M>, Want>
-    ensures { IfOk result (λ m. m ≡ finished M.rules core (change_row core core.views.mode)) }
+    ensures { IfOk result (λ m. m ≡ finished M.rules core (change_row M.rules core core.views.mode)) }
 {
     match core.mode() {
         Mode::Active(_) => Ok(idle(core)),

@@ -1,12 +1,11 @@
 -- How many bytes a spelling has at most, by its parts.
-use Rattle.std.proofs.Common.{◌≡◌, ℕ, zero, suc, ◌+◌, ◌*◌, ◌<◌, ◌≤◌, List, [], ◌∷◌, ◌++◌, length, Option, Some, None, refl, sym, ap, subst, ◌∙◌, arith}
-use Rattle.std.specs.Int.{Width, w8, w16, w32, w64, byte_len, to_be_bytes}
+use Rattle.std.proofs.Common.{◌≡◌, ℕ, suc, ◌+◌, ◌*◌, ◌<◌, ◌≤◌, List, [], ◌∷◌, ◌++◌, length, Option, Some, None, ◌∙◌, arith}
+use Rattle.std.specs.Int.{Width, w8, w16, w32, w64, byte_len}
 use Rattle.std.specs.List.{flat_map, AllByRecursion}
 use Rattle.std.proofs.lemmas.List.{length-append}
 use Rattle.std.proofs.lemmas.List.Concat.{flat_map-cons}
 use Rattle.std.proofs.lemmas.List.Elements.{recursion_from_All}
 use Rattle.std.proofs.Math.Nat.{suc-mul, mul-le-mul_right}
-use Rattle.zy_base.specs.declared.ids.Party.{Party}
 use Rattle.zy_wire.specs.Spelling.{Spelling, bytes_of, word, pair, converted}
 use Rattle.zy_wire.specs.Fields.{u62, digest, party, party_bytes, party_fields, sized, list, list_bytes, optional, optional_bytes}
 use Rattle.zy_wire.proofs.Parts.{IsWide, wide8, wide16, wide32, wide64}

@@ -1,7 +1,7 @@
 -- Frames: values of several kinds, each behind the version and the number of its kind.
 use Rattle.std.specs.Prelude.{ℕ, ◌≤◌, List, ◌∷◌, drop, Result}
 use Rattle.zy_base.specs.declared.frame_fault.FrameFault.{FrameFault}
-use Rattle.zy_wire.specs.Spelling.{Spelling, IsChoice, ◌>>=◌, ended}
+use Rattle.zy_wire.specs.Spelling.{IsChoice, ◌>>=◌, ended}
 use Rattle.zy_wire.specs.Kind.{frame_version, greatest_kind, kind_in}
 
 -- the version, the kind and the fields

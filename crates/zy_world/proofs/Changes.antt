@@ -1,28 +1,25 @@
 -- What a world shows after a change of one part.
-use Rattle.std.proofs.Common.{◌≡◌, ◌≢◌, ℕ, zero, suc, ◌+◌, ◌-◌, ◌<◌, ◌≤◌, Bool, true, false, not, ◌||◌, List, [], ◌∷◌, ◌++◌, length, map, Option, Some, None, refl, sym, ap, ap₂, ◌∙◌, subst, arith, inl, inr}
+use Rattle.std.proofs.Common.{◌≡◌, ◌≢◌, ℕ, zero, suc, ◌+◌, ◌-◌, ◌<◌, ◌≤◌, Bool, true, false, ◌||◌, List, [], ◌∷◌, ◌++◌, length, map, Option, Some, None, refl, sym, ap, ◌∙◌, subst, arith, inl, inr}
 use Rattle.std.specs.Prelude.{slice_get, slice_set, option_map, option_to_list, nat_eq, if◌then◌else◌}
 use Rattle.std.proofs.lemmas.Bool.{cases_lt, eqb-true, eqb-false}
 use Rattle.std.proofs.lemmas.List.{append-nil, length-set, map-append}
 use Rattle.std.proofs.lemmas.List.Sums.{fold-append}
-use Rattle.std.proofs.lemmas.Option.{same_Some, slice_get_within}
+use Rattle.std.proofs.lemmas.Option.{same_Some}
 use Rattle.zy_base.specs.declared.ids.ClientId.{ClientId}
 use Rattle.zy_base.specs.declared.ids.Party.{Party}
-use Rattle.zy_base.specs.declared.ids.Party.TheVariants as parties
 use Rattle.zy_chain.specs.Stretch.{Mark}
 use Rattle.zy_law.specs.Completed as law
-use Rattle.zy_law.specs.Completed.{Completion}
 use Rattle.zy_law.specs.Histories.{origin}
 use Rattle.zy_table.specs.declared.client.Done.{Done}
 use Rattle.zy_texts.specs.Kept.{Pairs, IsShown}
 use Rattle.zy_world.specs.Passed.{ArePast, is_past}
-use Rattle.zy_world.specs.Shown.{Shown, Seated, Posted, Mutes, numbered, delivered_if, with_delivered, dropped_if, with_dropped, muted_in, with_muted, is_seated, mark_after}
-use Rattle.zy_world.specs.Shows.{Shows, ShowsMutes}
+use Rattle.zy_world.specs.Shown.{Shown, Seated, Posted, numbered, delivered_if, with_delivered, dropped_if, with_dropped, mark_after}
+use Rattle.zy_world.specs.Shows.{Shows}
 use Rattle.zy_world_law.specs.Events.{with_done}
 use Rattle.zy_world_law.specs.Safe.{agreed_mark, completion_of}
 use Rattle.zy_world_law.specs.World as whole
-use Rattle.zy_world_law.specs.World.{World, Mail, Completed, mail_at, mail_to, with_sent, delivered, drop_frame, set_muted, is_party, same_party}
+use Rattle.zy_world_law.specs.World.{World, Mail, Completed, mail_at, mail_to, with_sent, delivered, drop_frame}
 use Rattle.zy_world_law.proofs.Seats.{get_set, get_set_other}
-use Rattle.zy_world.proofs.ShownSeats.{party_is, whole_seat}
 
 -- ---- the bag
 

@@ -1,15 +1,13 @@
 -- Which frame flows have left.
-use Rattle.std.proofs.Common.{◌≡◌, ℕ, zero, suc, ◌+◌, ◌<◌, ◌≤◌, Bool, true, false, not, cond, ◌&&◌, ◌||◌, List, [], ◌∷◌, length, drop, Option, Some, None, refl, sym, ap, ap₂, ◌∙◌, subst, arith}
+use Rattle.std.proofs.Common.{◌≡◌, ℕ, zero, suc, ◌+◌, ◌<◌, ◌≤◌, Bool, true, false, not, cond, ◌&&◌, ◌||◌, List, [], ◌∷◌, length, drop, Option, Some, None, refl, sym, ap, ap₂, ◌∙◌, arith}
 use Rattle.std.specs.Prelude.{slice_get, option_map, nat_lt, position}
 use Rattle.std.specs.List.{position_or_len}
 use Rattle.std.proofs.lemmas.Bool.{ltb-true, ltb-false}
 use Rattle.std.proofs.lemmas.List.{length-drop}
-use Rattle.zy_base.specs.declared.ids.Party.{Party}
-use Rattle.zy_world.specs.Passed.{ArePast, is_past, is_due_in}
+use Rattle.zy_world.specs.Passed.{is_past, is_due_in}
 use Rattle.zy_world.specs.Shown.{Shown, is_correct_seat, muted_in, seat_of}
 use Rattle.zy_world.specs.Shows.{Shows}
-use Rattle.zy_world.specs.declared.seat.Seat.{Seat}
-use Rattle.zy_world_law.specs.World.{World, Mail, is_correct, is_due, next_undelivered}
+use Rattle.zy_world_law.specs.World.{World, Mail, is_due, next_undelivered}
 use Rattle.zy_world.proofs.ShownSeats.{correct_is, seat_shown}
 
 -- ---- the first that passes, behind some that don't

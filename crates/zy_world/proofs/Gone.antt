@@ -1,8 +1,7 @@
 -- A party made a step, and the world goes on.
-use Rattle.std.proofs.Common.{◌≡◌, ℕ, ◌≤◌, List, [], ◌∷◌, ◌++◌, length, map, Option, Some, None, Result, Ok, Err, refl, sym, ap, ap₂, ◌∙◌, subst}
+use Rattle.std.proofs.Common.{◌≡◌, ℕ, ◌≤◌, List, [], ◌∷◌, ◌++◌, length, map, Option, Ok, Err, refl, sym, ap, ap₂, ◌∙◌}
 use Rattle.std.specs.List.{flat_map}
 use Rattle.std.proofs.lemmas.List.{map-append}
-use Rattle.zy_base.specs.Machine.{Rules}
 use Rattle.zy_base.specs.declared.ids.ClientId.{ClientId}
 use Rattle.zy_base.specs.declared.ids.Digest.{Digest}
 use Rattle.zy_base.specs.declared.ids.Party.{Party}
@@ -13,10 +12,9 @@ use Rattle.zy_base.specs.declared.step.Event.{Event}
 use Rattle.zy_base.specs.declared.step.Spoken.{Spoken}
 use Rattle.zy_chain.specs.Stretch.{Mark}
 use Rattle.zy_law.specs.World.{Stand}
-use Rattle.zy_table.specs.ClientState.{ClientOutcome, client_outgoing, spoken_of}
-use Rattle.zy_table.specs.Deeds.{Outcome, outgoing_of, said_from, gains_in}
+use Rattle.zy_table.specs.ClientState.{ClientOutcome, client_outgoing}
+use Rattle.zy_table.specs.Deeds.{Outcome, outgoing_of, said_from}
 use Rattle.zy_table.specs.declared.client.Done.{Done}
-use Rattle.zy_table.specs.declared.deeds.Got.{Got}
 use Rattle.zy_texts.specs.Kept.{Pairs, Keeps, Clashes}
 use Rattle.zy_texts.specs.Said.{Told, AreShown, also_said}
 use Rattle.zy_texts.specs.declared.fault.TextFault.{TextFault}
@@ -27,11 +25,11 @@ use Rattle.zy_world.specs.Shows.{Shows, texts_of}
 use Rattle.zy_world.specs.Stepping.{HasReplicaStepped, HasClientStepped}
 use Rattle.zy_world.specs.declared.step.ClientStep.{ClientStep}
 use Rattle.zy_world.specs.declared.step.ReplicaStep.{ReplicaStep}
-use Rattle.zy_world_law.specs.Events.{Broken, Happened, go_with, stepped, client_stepped, remark_after, with_replica, with_client, with_done, replica_goes, client_goes, replica_note, client_note, completed_by}
+use Rattle.zy_world_law.specs.Events.{Happened, go_with, stepped, client_stepped, remark_after, with_replica, with_client, with_done, replica_goes, client_goes, replica_note, client_note, completed_by}
 use Rattle.zy_world_law.specs.Events.Broken.{Clash}
 use Rattle.zy_world_law.specs.Events.Happened.{Goes, Breaks}
 use Rattle.zy_world_law.specs.Texts.{got_texts, step_texts, keep_all}
-use Rattle.zy_world_law.specs.World.{World, Replica, Client, Remark, Texts, mail_to, with_sent}
+use Rattle.zy_world_law.specs.World.{World, Replica, Client, Texts, mail_to, with_sent}
 use Rattle.zy_world_law.specs.declared.note.Note.{Note}
 use Rattle.zy_world.proofs.Changes.{with_texts, shows_sent, shows_done}
 use Rattle.zy_world.proofs.Stepped.{shows_replica, shows_client}

@@ -1,5 +1,5 @@
 -- A frame is heard, and what it brings to a party.
-use Rattle.std.proofs.Common.{◌≡◌, ℕ, ◌-◌, Bool, true, false, List, [], ◌∷◌, ◌++◌, length, map, Option, Some, None, Result, Ok, Err, refl, sym, ap, ap₂, ◌∙◌, subst}
+use Rattle.std.proofs.Common.{◌≡◌, ℕ, ◌-◌, true, false, List, [], ◌∷◌, ◌++◌, Option, Some, None, Result, Ok, Err, refl, sym, ap, ap₂, ◌∙◌}
 use Rattle.std.specs.Prelude.{slice_get, slice_set, option_map, unwrap_or}
 use Rattle.std.specs.List.{find}
 use Rattle.std.proofs.lemmas.List.{append-nil}
@@ -9,12 +9,11 @@ use Rattle.zy_base.specs.declared.ids.Digest.{Digest}
 use Rattle.zy_base.specs.declared.ids.Party.{Party}
 use Rattle.zy_base.specs.declared.ids.Party.TheVariants as parties
 use Rattle.zy_base.specs.declared.ids.ReplicaId.{ReplicaId}
-use Rattle.zy_base.specs.declared.step.Event.{Event}
 use Rattle.zy_base.specs.declared.step.Event.TheVariants.{Heard, Timer}
 use Rattle.zy_base.specs.declared.step.TimerKind.{TimerKind}
 use Rattle.zy_base.specs.declared.step.TimerKind.TheVariants as timers
 use Rattle.zy_seal.specs.Keys.{Keys}
-use Rattle.zy_client.specs.Hearing.{whole_client_step}
+use Rattle.zy_table.specs.ClientRows.{client_step}
 use Rattle.zy_table.specs.ClientState.{client_outgoing}
 use Rattle.zy_table.specs.Deeds.{outgoing_of}
 use Rattle.zy_table.specs.Whole.{whole_step}
@@ -30,7 +29,6 @@ use Rattle.zy_world.specs.Shown.{Shown, seat_in}
 use Rattle.zy_world.specs.Shows.{Shows, texts_of}
 use Rattle.zy_world.specs.declared.fault.WorldFault.{WorldFault}
 use Rattle.zy_world.specs.declared.fault.WorldFault.TheVariants as faults
-use Rattle.zy_world.specs.declared.seat.Seat.{Seat}
 use Rattle.zy_world.specs.declared.seat.Seat.TheVariants as sat
 use Rattle.zy_world_law.specs.Events.{Broken, Happened, no_subject, go_with, keeping, unless_forged, stepped, client_stepped, with_replica, with_client, with_done, replica_note, client_note, completed_by, bring, bring_to_replica, bring_to_client, timer_of, replica_timer_in, client_timer_in}
 use Rattle.zy_world_law.specs.Events.Broken.{Forged, Clash}
@@ -126,7 +124,7 @@ to_client : {S : Type 0} (w : World S) (bag : List Mail) (id : ClientId) (bytes 
     → bring_to_client w (record w { bag = bag }) id bytes o ≡ carried (heard (record w { bag = bag }) bytes) (λ texts. client_steps (record w { bag = bag; texts = texts }) id (Heard bytes) o)
 unfolding heard client_steps
 to_client {S = S} w bag id bytes (Some (Some x)) is =
-    let o = whole_client_step x.state (Heard bytes) in
+    let o = client_step x.state (Heard bytes) in
     let m : World S = record w { bag = bag } in
     let done = completed_by x.state o.state in
     let change : World S → World S = λ v. with_done (with_sent (with_client v id (client_stepped x o)) (client_outgoing o.state.counts.n o.sent)) id done in

@@ -1,15 +1,13 @@
 -- What liars and forgers sign.
-use Rattle.std.proofs.Common.{◌≡◌, ◌≢◌, ℕ, ◌+◌, ◌-◌, ◌^◌, ◌<◌, ◌≤◌, Bool, true, false, not, cond, ◌&&◌, List, [], ◌∷◌, ◌++◌, length, Option, Some, None, refl, sym, ap, ap₂, ◌∙◌, subst, arith}
-use Rattle.std.specs.Prelude.{slice_get, slice_set, option_map, nat_eq, nat_le, nat_lt, if◌then◌else◌}
+use Rattle.std.proofs.Common.{◌≡◌, ◌≢◌, ℕ, ◌+◌, ◌-◌, ◌^◌, ◌<◌, ◌≤◌, Bool, true, false, ◌&&◌, List, [], ◌∷◌, ◌++◌, length, Option, Some, None, refl, sym, ap, ap₂, ◌∙◌, subst, arith}
+use Rattle.std.specs.Prelude.{slice_get, slice_set, option_map, nat_eq, if◌then◌else◌}
 use Rattle.std.specs.List.{list_all}
 use Rattle.std.specs.Option.{option_and_then}
 use Rattle.std.proofs.lemmas.Bool.{eqb-true, eqb-false, lt-ltb, le-ltb, le-leb, lt-leb}
 use Rattle.std.proofs.lemmas.Option.{slice_get-get_or}
 use Rattle.zy_base.specs.declared.cause.Cause.TheVariants as causes
-use Rattle.zy_base.specs.declared.ids.ClientId.{ClientId}
 use Rattle.zy_base.specs.declared.ids.Party.{Party}
 use Rattle.zy_base.specs.declared.ids.Party.TheVariants as parties
-use Rattle.zy_base.specs.declared.ids.ReplicaId.{ReplicaId}
 use Rattle.zy_frames.specs.Frames.{frame_in}
 use Rattle.zy_lms.specs.Height.{levels_of}
 use Rattle.zy_parts.specs.declared.signed.Signed.{Signed}
@@ -18,10 +16,9 @@ use Rattle.zy_seal.specs.Sealing.{SealerState, spent_one}
 use Rattle.zy_setup.specs.Telling.{IsToldBy}
 use Rattle.zy_table.specs.Sending.{copies, spelling_of}
 use Rattle.zy_wire.specs.Kind.{frame_limit}
-use Rattle.zy_world.specs.Shown.{Shown, Seated, Keyed, seat_of, is_seated, is_liar_seat, is_correct_seat, key_in, with_key, request_in, requests_in}
+use Rattle.zy_world.specs.Shown.{Shown, Seated, Keyed, seat_of, is_seated, is_liar_seat, is_correct_seat, key_in, with_key, requests_in}
 use Rattle.zy_world.specs.Shows.{Shows, ShowsKeys}
 use Rattle.zy_world.specs.Tale.{if_replica}
-use Rattle.zy_world.specs.declared.seat.Seat.{Seat}
 use Rattle.zy_world_law.specs.Events.{Happened, no_subject, lie, forge, leaves_in, sends_signed, spent}
 use Rattle.zy_world_law.specs.Events.Happened.{Goes}
 use Rattle.zy_world_law.specs.Liars.{Telling, by_replica, last_of, request_read, requests_at}

@@ -1,7 +1,6 @@
 -- What a world shows after a party made a step.
-use Rattle.std.proofs.Common.{◌≡◌, ℕ, ◌≤◌, Bool, true, false, not, ◌||◌, List, [], ◌∷◌, ◌++◌, length, map, Option, Some, None, Result, Ok, Err, refl, sym, ap, ap₂, ◌∙◌, subst}
+use Rattle.std.proofs.Common.{◌≡◌, ℕ, ◌≤◌, Bool, true, false, not, ◌||◌, List, [], ◌∷◌, ◌++◌, length, map, Option, Some, refl, sym, ap, ◌∙◌, subst}
 use Rattle.std.specs.Prelude.{slice_get, slice_set, option_map, nat_eq, if◌then◌else◌}
-use Rattle.std.specs.List.{flat_map}
 use Rattle.std.proofs.lemmas.Bool.{eqb-true, eqb-false}
 use Rattle.std.proofs.lemmas.List.{length-set, map-set, map-append}
 use Rattle.zy_base.specs.declared.ids.ClientId.{ClientId}
@@ -13,12 +12,12 @@ use Rattle.zy_table.specs.State.{State}
 use Rattle.zy_texts.proofs.SaidLemmas.{same_shown}
 use Rattle.zy_texts.specs.Said.{Told, AreShown, also_said}
 use Rattle.zy_world.specs.Passed.{ArePast}
-use Rattle.zy_world.specs.Shown.{Shown, Seated, Keyed, Posted, seat_in, seat_of, is_liar_seat, is_correct_seat, with_replica, with_client}
-use Rattle.zy_world.specs.Shows.{Shows, ShowsSeats, ShowsKeys, ShowsMutes, texts_of}
+use Rattle.zy_world.specs.Shown.{Shown, Seated, Keyed, Posted, seat_of, is_liar_seat, is_correct_seat, with_replica, with_client}
+use Rattle.zy_world.specs.Shows.{Shows, ShowsKeys, ShowsMutes, texts_of}
 use Rattle.zy_world.specs.declared.seat.Seat.{Seat}
 use Rattle.zy_world_law.specs.Events as events
 use Rattle.zy_world_law.specs.Setup.{Setup}
-use Rattle.zy_world_law.specs.World.{World, Replica, Client, Mail, correct_in}
+use Rattle.zy_world_law.specs.World.{World, Replica, Client, correct_in}
 use Rattle.zy_world_law.proofs.Seats.{get_set, get_set_other}
 use Rattle.zy_world.proofs.SeatLemmas.{kind_of_set}
 use Rattle.zy_world.proofs.ShownSeats.{replica_shown, client_shown}

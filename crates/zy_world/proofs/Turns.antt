@@ -5,12 +5,11 @@ use Rattle.zy_base.specs.Machine.{Rules}
 use Rattle.zy_base.specs.declared.ids.ClientId.{ClientId}
 use Rattle.zy_base.specs.declared.ids.ReplicaId.{ReplicaId}
 use Rattle.zy_base.specs.declared.step.Event.{Event}
-use Rattle.zy_table.specs.ClientRows.{ask}
-use Rattle.zy_client.specs.Hearing.{whole_client_step}
+use Rattle.zy_table.specs.ClientRows.{ask, client_step}
 use Rattle.zy_table.specs.ClientState.{ClientState, ClientOutcome}
 use Rattle.zy_table.specs.State.{State}
 use Rattle.zy_table.specs.Whole as table
-use Rattle.zy_world.specs.Answered.{GoesTo, IsBrokenBy, replica_steps, client_steps}
+use Rattle.zy_world.specs.Answered.{GoesTo, replica_steps, client_steps}
 use Rattle.zy_world.specs.Shown.{Shown, Seated, with_replica, with_client}
 use Rattle.zy_world.specs.Shows.{Shows}
 use Rattle.zy_world.specs.Stepping.{IsReplicaStep, IsClientStep, HasReplicaStepped, HasClientStepped}
@@ -96,7 +95,7 @@ client_turns w id row (Some (Some x)) = client_goes w id x [] (row x.state)
 client_turns w id row (Some None) = no_subject w
 client_turns w id row None = no_subject w
 
-pub steps_is : {S : Type 0} (w : World S) (id : ClientId) (event : Event) (o : Option (Option Client)) → client_steps w id event o ≡ client_turns w id (λ x. whole_client_step x event) o
+pub steps_is : {S : Type 0} (w : World S) (id : ClientId) (event : Event) (o : Option (Option Client)) → client_steps w id event o ≡ client_turns w id (λ x. client_step x event) o
 unfolding client_steps
 steps_is w id event (Some (Some x)) = refl
 steps_is w id event (Some None) = refl

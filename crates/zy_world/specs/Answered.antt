@@ -9,7 +9,7 @@ use Rattle.zy_base.specs.declared.ids.ReplicaId.{ReplicaId}
 use Rattle.zy_base.specs.declared.step.Event.{Event}
 use Rattle.zy_base.specs.declared.step.TimerKind.{TimerKind}
 use Rattle.zy_base.specs.declared.step.TimerKind.TheVariants as timers
-use Rattle.zy_client.specs.Hearing.{whole_client_step}
+use Rattle.zy_table.specs.ClientRows.{client_step}
 use Rattle.zy_table.specs.Whole.{whole_step}
 use Rattle.zy_texts.specs.declared.fault.TextFault.{TextFault}
 use Rattle.zy_texts.specs.declared.fault.TextFault.TheVariants as text_faults
@@ -66,7 +66,7 @@ replica_steps R w id event (Some None) = no_subject w
 replica_steps R w id event None = no_subject w
 
 unfoldable pub client_steps : {S : Type 0} → World S → ClientId → Event → Option (Option Client) → Happened S
-client_steps w id event (Some (Some x)) = client_goes w id x [] (whole_client_step x.state event)
+client_steps w id event (Some (Some x)) = client_goes w id x [] (client_step x.state event)
 client_steps w id event (Some None) = no_subject w
 client_steps w id event None = no_subject w
 

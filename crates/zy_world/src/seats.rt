@@ -2,8 +2,7 @@ ghost use Rattle.std.specs.Prelude.{◌≡◌, ◌≤◌, length, slice_get, sli
 ghost use Rattle.std.specs.List.{AllByRecursion, list_all};
 ghost use Rattle.std.specs.Option.{ForSome};
 ghost use Rattle.zy_chain.specs.Entries.{IsEntryInRange};
-ghost use Rattle.zy_table.specs.ClientRows.{ask as ask_row};
-ghost use Rattle.zy_client.specs.Hearing.{whole_client_step};
+ghost use Rattle.zy_table.specs.ClientRows.{ask as ask_row, client_step};
 ghost use Rattle.zy_table.specs.ClientState.{ClientState as AClient, ClientOutcome, is_waiting};
 ghost use Rattle.zy_table.specs.State.{State};
 ghost use Rattle.zy_table.specs.Whole.{whole_step};
@@ -122,7 +121,7 @@ impl<M: Machine> Seats<M> {
         ensures entries { IfOk result (λ r. AllByRecursion (λ got. IsEntryInRange got.entry) r.got) }
         ensures state { OnOk result (self.new ≡ with_replica self.old id.0 (Some (whole_step M.rules replica event).state)) }
     {
-        let stepped = replica.whole_step(event)?;
+        let stepped = replica.step(event)?;
         put_in(&mut self.replicas, id.0 as usize, stepped.replica);
         Ok(ReplicaStep {
             answer: stepped.answer,
@@ -139,8 +138,8 @@ impl<M: Machine> Seats<M> {
         event: Event,
     ) -> Result<Option<ClientStep>, Want>
         ensures missing { correct_in (slice_get self.old.clients id.0) ≡ None → IfOk result (λ step. (step ≡ None) × (self.new ≡ self.old)) }
-        ensures stepped { (s : AClient) → correct_in (slice_get self.old.clients id.0) ≡ Some s → IfOk result (λ step. IsSomeAnd step (IsClientStep s (whole_client_step s event))) }
-        ensures state { (s : AClient) → correct_in (slice_get self.old.clients id.0) ≡ Some s → OnOk result (self.new ≡ with_client self.old id.0 (Some (whole_client_step s event).state)) }
+        ensures stepped { (s : AClient) → correct_in (slice_get self.old.clients id.0) ≡ Some s → IfOk result (λ step. IsSomeAnd step (IsClientStep s (client_step s event))) }
+        ensures state { (s : AClient) → correct_in (slice_get self.old.clients id.0) ≡ Some s → OnOk result (self.new ≡ with_client self.old id.0 (Some (client_step s event).state)) }
     {
         match take_from(&mut self.clients, id.0 as usize) {
             None => Ok(None),

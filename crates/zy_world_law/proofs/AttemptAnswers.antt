@@ -47,7 +47,7 @@ use Rattle.zy_table.specs.Changes.{change, change_judged}
 use Rattle.zy_table.specs.Confirming.{certificate_compared, certificate_judged, confirmation, confirmation_beside, confirmation_judged, new_view, new_view_judged, view_certificate, with_confirmation}
 use Rattle.zy_table.specs.Deeds.{Going, Outcome, begin}
 use Rattle.zy_table.specs.Fetching.{fetch, fetch_judged, install, state_for, state_heard, state_judged, state_transfer}
-use Rattle.zy_table.specs.Hates.{count_own, has_pending, hate, hate_counted, hate_view, on_change_timer, on_request_timer, own_hate, say_hate, then_ask, with_hate_of}
+use Rattle.zy_table.specs.Hates.{count_own, has_pending, hate, hate_counted, hate_from, on_change_timer, on_request_timer, own_hate, say_hate, then_ask, with_hate_of}
 use Rattle.zy_table.specs.Leaving.{Attempt, collect, concluded, given, is_overspent, leave, leave_alone}
 use Rattle.zy_table.specs.Misbehaviour.{blamed, pom, tell_all}
 use Rattle.zy_table.specs.State.{State, own_view}
@@ -229,17 +229,17 @@ module _ {S : Type 0} (R : Rules S) where
     counts_own : (g : Going S) → Ends (count_own R g)
     counts_own g = ends_tested (is_hated_by g.state.views (Replica g.state.me)) _ _ taking (hates_counted (with_hate_of (Replica g.state.me) g))
 
-    hates_view : Ends (hate_view R s)
-    unfolding hate_view
-    hates_view = counts_own (say_hate R s (own_hate s))
+    hates_from : (g : Going S) → Ends (hate_from R g)
+    unfolding hate_from
+    hates_from g = counts_own (say_hate R (own_hate g.state) g)
 
     pub request_timer_ends : (mode : Mode) → Ends (on_request_timer R s mode)
-    request_timer_ends (Active view) = asks_then _ (ends_tested (has_pending s) _ _ hates_view taking)
+    request_timer_ends (Active view) = asks_then _ (ends_tested (has_pending s) _ _ (hates_from (begin s)) taking)
     request_timer_ends (Leaving view) = taking
 
-    pub change_timer_ends : (mode : Mode) → Ends (on_change_timer s mode)
+    pub change_timer_ends : (mode : Mode) → Ends (on_change_timer R s mode)
     change_timer_ends (Active view) = taking
-    change_timer_ends (Leaving view) = taking
+    change_timer_ends (Leaving view) = hates_from _
 
     -- ---- the end of a row
 

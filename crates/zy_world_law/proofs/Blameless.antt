@@ -138,6 +138,6 @@ module _ {S : Type 0} (R : Rules S) (laws : StepLaws R) (interval : ℕ) (texts 
       finish_just R s None (on_request_timer R s s.views.mode) (request_timer_ends R s s.views.mode)
       (λ cause refuses. inl (unblamed_leaving R interval texts w r s h ready kept (on_request_timer R s s.views.mode) (request_attempt R interval w r s h ready s.views.mode) cause refuses))
   timer_just timers.Change =
-      finish_just R s None (on_change_timer s s.views.mode) (change_timer_ends R s s.views.mode)
-      (λ cause refuses. inl (unblamed_leaving R interval texts w r s h ready kept (on_change_timer s s.views.mode) (change_attempt R interval w r s h ready s.views.mode) cause refuses))
+      finish_just R s None (on_change_timer R s s.views.mode) (change_timer_ends R s s.views.mode)
+      (λ cause refuses. inl (unblamed_leaving R interval texts w r s h ready kept (on_change_timer R s s.views.mode) (change_attempt R interval w r s h ready s.views.mode) cause refuses))
   timer_just timers.Answer = taken_just None

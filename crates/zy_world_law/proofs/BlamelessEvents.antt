@@ -26,8 +26,7 @@ use Rattle.zy_lawful.proofs.Own.{by_test}
 use Rattle.zy_parts.specs.declared.signed.Part.{Part}
 use Rattle.zy_seal.specs.Screening.{answer_to, is_bad, is_unknown, screen}
 use Rattle.std.specs.List.{list_any}
-use Rattle.zy_table.specs.ClientRows.{ask}
-use Rattle.zy_client.specs.Hearing.{whole_client_step}
+use Rattle.zy_table.specs.ClientRows.{ask, client_step}
 use Rattle.zy_table.specs.ClientState.{ClientOutcome, client_outgoing}
 use Rattle.zy_table.specs.Deeds.{Outcome, outgoing_of}
 use Rattle.zy_table.specs.Roles.{in_role}
@@ -214,8 +213,8 @@ module _ {S : Type 0} (R : Rules S) (laws : StepLaws R) where
     to_client told bag id bytes (Some None) = quiet told _
     to_client told bag id bytes (Some (Some x)) = by (forger_in w bytes)
       where
-        by : (forger : Option Party) → TellsJust told (unless_forged forger (client_goes (record w { bag = bag }) id x (texts_in bytes) (whole_client_step x.state (Heard bytes))))
-        by None = client_just told (record w { bag = bag }) id x (texts_in bytes) (whole_client_step x.state (Heard bytes))
+        by : (forger : Option Party) → TellsJust told (unless_forged forger (client_goes (record w { bag = bag }) id x (texts_in bytes) (client_step x.state (Heard bytes))))
+        by None = client_just told (record w { bag = bag }) id x (texts_in bytes) (client_step x.state (Heard bytes))
         by (Some party) = breaks told (Breaks _) _ refl
 
     brings : (bag : List Mail) (to : Party) (bytes : List ℕ) → TellsJust (option_and_then state_told (any_frame_in bytes)) (bring R w (record w { bag = bag }) to bytes)
@@ -240,7 +239,7 @@ module _ {S : Type 0} (R : Rules S) (laws : StepLaws R) where
     replica_rings_in id kind (Some (Some x)) at = replica_rings id x (ap (λ (o : Option (Option (Replica S))). correct_in o) at) kind
 
     client_rings : (id : ClientId) (x : Client) (kind : TimerKind) → TellsJust None (client_timer w id x kind)
-    client_rings id x timers.Answer = client_just None w id x [] (whole_client_step x.state (Timer timers.Answer))
+    client_rings id x timers.Answer = client_just None w id x [] (client_step x.state (Timer timers.Answer))
     client_rings id x timers.Request = unnamed None w causes.NoSubject
     client_rings id x timers.Change = unnamed None w causes.NoSubject
 

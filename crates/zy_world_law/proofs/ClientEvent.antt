@@ -31,8 +31,7 @@ use Rattle.zy_parts.specs.declared.statements.Spec.{Spec}
 use Rattle.zy_seal.specs.Keys.{Keys}
 use Rattle.zy_seal.specs.Screening.{answer_to}
 use Rattle.zy_seal.specs.declared.directory.SealAnswer.TheVariants as answers
-use Rattle.zy_table.specs.ClientRows.{kept_of, agreeing, locals_for, done_of, done_by}
-use Rattle.zy_client.specs.Hearing.{whole_client_step}
+use Rattle.zy_table.specs.ClientRows.{kept_of, agreeing, locals_for, done_of, done_by, client_step}
 use Rattle.zy_table.specs.ClientState.{ClientState, ClientOutcome}
 use Rattle.zy_table.specs.Roles.{is_replica}
 use Rattle.zy_table.specs.declared.client.Commit.{Commit}
@@ -136,9 +135,9 @@ module _ {S : Type 0} (R : Rules S) (w : World S) (good : IsGood R w) (id : Clie
 -- ---- the event
 
 module _ {S : Type 0} (R : Rules S) (law : HeldLaw) (w : World S) (good : IsGood R w) (id : ClientId) (x : Client) (at : client_at w id.0 ≡ Some x) (event : Event) (texts : List (List ℕ))
-    (Brought : ℕ → Response → Type 0) (comes : Comes x.state Brought (whole_client_step x.state event)) where
+    (Brought : ℕ → Response → Type 0) (comes : Comes x.state Brought (client_step x.state event)) where
   abbrev o : ClientOutcome
-  o = whole_client_step x.state event
+  o = client_step x.state event
 
   abbrev with_texts : Texts → World S
   with_texts more = record w { texts = more }

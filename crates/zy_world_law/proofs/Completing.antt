@@ -30,8 +30,7 @@ use Rattle.zy_parts.specs.declared.signed.Signed.{Signed}
 use Rattle.zy_parts.specs.declared.statements.Ask.{Ask}
 use Rattle.zy_parts.specs.declared.statements.Local.{Local}
 use Rattle.zy_parts.specs.declared.statements.Spec.{Spec}
-use Rattle.zy_table.specs.ClientRows.{kept_of, agrees, agreeing, done_of, done_by}
-use Rattle.zy_client.specs.Hearing.{whole_client_step}
+use Rattle.zy_table.specs.ClientRows.{kept_of, agrees, agreeing, done_of, done_by, client_step}
 use Rattle.zy_table.specs.ClientState.{ClientState, is_waiting}
 use Rattle.zy_table.specs.declared.client.Commit.{Commit}
 use Rattle.zy_table.specs.declared.client.Done.{Done}
@@ -154,12 +153,12 @@ waits_not (Some ask) is = absurd cc
 pub record IsEnded (s : ClientState) (event : Event) (d : Done) : Type 0 where
   pub waiting : Signed Ask
   pub waited : s.waiting ≡ Some waiting
-  pub complete : IsComplete s event (whole_client_step s event).state waiting
-  pub done : (whole_client_step s event).state.done ≡ Some d
+  pub complete : IsComplete s event (client_step s event).state waiting
+  pub done : (client_step s event).state.done ≡ Some d
 
-pub completes : HeldLaw → (s : ClientState) (event : Event) (d : Done) → Holds s → completed_by s (whole_client_step s event).state ≡ Some d → IsEnded s event d
+pub completes : HeldLaw → (s : ClientState) (event : Event) (d : Done) → Holds s → completed_by s (client_step s event).state ≡ Some d → IsEnded s event d
 completes law s event d holds is =
-    let t : ClientState = (whole_client_step s event).state in
+    let t : ClientState = (client_step s event).state in
     let ends = ends_waiting s t d (is_waiting s.waiting) (is_waiting t.waiting) is in
     let (ask, waited) = waits s.waiting ends.0 in
     record { waiting = ask; waited = waited; complete = law.completes s event ask holds waited (waits_not t.waiting ends.1); done = ends.2 }

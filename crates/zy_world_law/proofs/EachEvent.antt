@@ -23,8 +23,7 @@ use Rattle.zy_parts.specs.Statements.{spec_fields}
 use Rattle.zy_seal.specs.Keys.{Keys}
 use Rattle.zy_seal.specs.Screening.{answer_to}
 use Rattle.zy_seal.specs.declared.directory.SealAnswer.TheVariants as answers
-use Rattle.zy_table.specs.ClientRows.{ask}
-use Rattle.zy_client.specs.Hearing.{whole_client_step}
+use Rattle.zy_table.specs.ClientRows.{ask, client_step}
 use Rattle.zy_table.specs.ClientState.{ClientState}
 use Rattle.zy_table.specs.Sending.{spelling_of}
 use Rattle.zy_table.specs.declared.client.Response.{Response}
@@ -118,7 +117,7 @@ module _ {S : Type 0} (R : Rules S) (law : HeldLaw) (steps : StepLaws R) where
 
     -- a frame: the world may have marked it
     heard_by_client : (u : World S) → IsGood R u → (id : ClientId) (x : Client) → client_at u id.0 ≡ Some x → (bytes : List ℕ) → forger_in u bytes ≡ None
-        → GoesGood u (client_goes u id x (texts_in bytes) (whole_client_step x.state (Heard bytes)))
+        → GoesGood u (client_goes u id x (texts_in bytes) (client_step x.state (Heard bytes)))
     heard_by_client u fine id x seat bytes none v note is =
         let keys = (fine.client_tied id.0 x seat).keys in
         client_event R law u fine id x seat (Heard bytes) (texts_in bytes) (IsHeard x.state bytes) (heard_comes x.state bytes)
@@ -126,7 +125,7 @@ module _ {S : Type 0} (R : Rules S) (law : HeldLaw) (steps : StepLaws R) where
         (λ more spec vote heard. heard_vouched R (record u { texts = more }) x.state keys bytes none spec vote heard) v note is
 
     client_hears : (u : World S) → IsGood R u → (id : ClientId) (x : Client) → client_at u id.0 ≡ Some x → (bytes : List ℕ) (forger : Option Party) → forger_in u bytes ≡ forger
-        → GoesGood u (unless_forged forger (client_goes u id x (texts_in bytes) (whole_client_step x.state (Heard bytes))))
+        → GoesGood u (unless_forged forger (client_goes u id x (texts_in bytes) (client_step x.state (Heard bytes))))
     client_hears u fine id x seat bytes None none = heard_by_client u fine id x seat bytes none
     client_hears u fine id x seat bytes (Some party) forged = breaks u (Broken.Forged party)
 

@@ -9,14 +9,13 @@ use Rattle.zy_parts.specs.declared.signed.Signed.{Signed}
 use Rattle.zy_parts.specs.declared.statements.Ask.{Ask}
 use Rattle.zy_seal.specs.Keys.{Keys}
 use Rattle.zy_seal.specs.Sealing.{SealerState}
-use Rattle.zy_table.specs.ClientRows.{ask}
-use Rattle.zy_client.specs.Hearing.{whole_client_step}
+use Rattle.zy_table.specs.ClientRows.{ask, client_step}
 use Rattle.zy_table.specs.ClientState.{ClientState, client_start}
 use Rattle.zy_table.specs.declared.client.Commit.{Commit}
 
 pub record HeldLaw : Type 0 where
   pub starts : (me : ClientId) (counts : Counts) (keys : Keys) (sealer : SealerState) (stamp : Stamp) → Holds (client_start me counts keys sealer stamp)
   pub asks : (s : ClientState) (op : List ℕ) → Holds s → Holds (ask s op).state
-  pub steps : (s : ClientState) (event : Event) → Holds s → Holds (whole_client_step s event).state
-  pub commits : (s : ClientState) (event : Event) (commit : Commit) → (whole_client_step s event).state.commit ≡ Some commit → CommitComes s event commit
-  pub completes : (s : ClientState) (event : Event) (waiting : Signed Ask) → Holds s → s.waiting ≡ Some waiting → (whole_client_step s event).state.waiting ≡ None → IsComplete s event (whole_client_step s event).state waiting
+  pub steps : (s : ClientState) (event : Event) → Holds s → Holds (client_step s event).state
+  pub commits : (s : ClientState) (event : Event) (commit : Commit) → (client_step s event).state.commit ≡ Some commit → CommitComes s event commit
+  pub completes : (s : ClientState) (event : Event) (waiting : Signed Ask) → Holds s → s.waiting ≡ Some waiting → (client_step s event).state.waiting ≡ None → IsComplete s event (client_step s event).state waiting

@@ -28,8 +28,7 @@ use Rattle.zy_cert.specs.declared.votes.Vote.{Vote}
 use Rattle.zy_cert.specs.declared.votes.Vote.TheVariants as votes
 use Rattle.zy_seal.specs.Screening.{screen, answer_to}
 use Rattle.zy_seal.specs.declared.directory.SealAnswer.TheVariants as answers
-use Rattle.zy_table.specs.ClientRows.{ask, ask_while, asked, next_ask, kept_of, keep, completed_if, complete, done_of, agreeing, response_cause, evidence_by, told, keep_unless, respond, respond_while, is_for, done_by, complete_by, vote_on, local_beside, local_while, count_local, certified_in, ask_or_commit, run_out_while, run_out, is_by_primary, hear_response, hear, unless, decoded}
-use Rattle.zy_client.specs.Hearing.{decoded_as, view_decoded, whole_client_step}
+use Rattle.zy_table.specs.ClientRows.{ask, ask_while, asked, next_ask, kept_of, keep, completed_if, complete, done_of, agreeing, response_cause, evidence_by, told, keep_unless, respond, respond_while, is_for, done_by, complete_by, vote_on, local_beside, local_while, count_local, certified_in, ask_or_commit, run_out_while, run_out, is_by_primary, hear_response, hear, unless, decoded, decoded_as, view_decoded, client_step}
 use Rattle.zy_vframes.specs.Parts as view_parts
 use Rattle.zy_vframes.specs.ViewFrames as views
 use Rattle.zy_vframes.specs.declared.frame.ViewFrame.{ViewFrame}
@@ -146,15 +145,15 @@ module _ (s : ClientState) (bytes : List ℕ) where
   hears_either (Err faults.Range) is = same refl
   hears_either (Ok frame) is = hears_read (Ok frame) is
 
-  pub heard_comes : Comes s (IsHeard s bytes) (whole_client_step s (Heard bytes))
-  unfolding whole_client_step
+  pub heard_comes : Comes s (IsHeard s bytes) (client_step s (Heard bytes))
+  unfolding client_step
   heard_comes = hears_either (frame_in bytes) refl
 
 abbrev pub Nothing : ℕ → Response → Type 0
 Nothing id r = ⊥
 
-pub timer_comes : (s : ClientState) (kind : TimerKind) → Comes s Nothing (whole_client_step s (Timer kind))
-unfolding whole_client_step run_out
+pub timer_comes : (s : ClientState) (kind : TimerKind) → Comes s Nothing (client_step s (Timer kind))
+unfolding client_step run_out
 timer_comes s timers.Answer = runs_out s Nothing s.waiting
 timer_comes s timers.Request = same refl
 timer_comes s timers.Change = same refl

@@ -25,7 +25,6 @@ use Rattle.zy_law.specs.Lawful.{AreAskedFor}
 use Rattle.zy_law.specs.Lists.{IsListOf, IsKnown}
 use Rattle.zy_law.specs.Said.{Moment}
 use Rattle.zy_law.specs.World as law
-use Rattle.zy_law.specs.World.{Stand}
 use Rattle.zy_lawful.proofs.Backing.{all_from}
 use Rattle.zy_lawful.proofs.Records.{answer_longer}
 use Rattle.zy_lawful.specs.Tied.{next_head}

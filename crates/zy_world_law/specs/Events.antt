@@ -19,8 +19,7 @@ use Rattle.zy_chain.specs.declared.entry.Entry.{Entry}
 use Rattle.zy_law.specs.World.{Stand}
 use Rattle.zy_lawful.specs.Acts.{stands_in}
 use Rattle.zy_lms.specs.Height.{levels_of}
-use Rattle.zy_table.specs.ClientRows.{ask}
-use Rattle.zy_client.specs.Hearing.{whole_client_step}
+use Rattle.zy_table.specs.ClientRows.{ask, client_step}
 use Rattle.zy_table.specs.ClientState.{ClientState, ClientOutcome, client_outgoing, spoken_of, is_waiting}
 use Rattle.zy_table.specs.Deeds.{Outcome, outgoing_of, said_from}
 use Rattle.zy_normal_steps.specs.Whole as whole
@@ -147,7 +146,7 @@ bring_to_replica R w marked id bytes None = no_subject w
 
 abbrev pub bring_to_client : {S : Type 0} → World S → World S → ClientId → List ℕ → Option (Option Client) → Happened S
 bring_to_client w marked id bytes (Some (Some x)) =
-    unless_forged (forger_in w bytes) (client_goes marked id x (texts_in bytes) (whole_client_step x.state (Heard bytes)))
+    unless_forged (forger_in w bytes) (client_goes marked id x (texts_in bytes) (client_step x.state (Heard bytes)))
 bring_to_client w marked id bytes (Some None) = Goes marked notes.Quiet
 bring_to_client w marked id bytes None = no_subject w
 
@@ -167,7 +166,7 @@ replica_timer R w id x timers.Change = replica_goes w id x [] (Timer timers.Chan
 replica_timer R w id x timers.Answer = no_subject w
 
 abbrev pub client_timer : {S : Type 0} → World S → ClientId → Client → TimerKind → Happened S
-client_timer w id x timers.Answer = client_goes w id x [] (whole_client_step x.state (Timer timers.Answer))
+client_timer w id x timers.Answer = client_goes w id x [] (client_step x.state (Timer timers.Answer))
 client_timer w id x timers.Request = no_subject w
 client_timer w id x timers.Change = no_subject w
 

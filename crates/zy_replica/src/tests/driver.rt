@@ -39,14 +39,6 @@ pub struct Begins {
     pub apart: u64,
     pub leaf: u32,
     pub how: How,
-    pub steps_by: StepsBy,
-}
-
-// Whether it takes part in changes of view.
-#[derive(Clone, Copy)]
-pub enum StepsBy {
-    Step,
-    WholeStep,
 }
 
 // What went before, which no event brings about yet.
@@ -503,26 +495,10 @@ fn replica_of(stepped: Stepped<Space>) -> Replica<Space> {
     replica
 }
 
-fn stepped_by(
-    replica: Replica<Space>,
-    steps_by: StepsBy,
-    event: Event,
-) -> Result<Stepped<Space>, Want> {
-    match steps_by {
-        StepsBy::Step => replica.step(event),
-        StepsBy::WholeStep => replica.whole_step(event),
-    }
-}
-
 // The replica after a step that is as it should be.
-pub fn takes(
-    replica: Replica<Space>,
-    steps_by: StepsBy,
-    event: Event,
-    step: &Step,
-) -> Result<Replica<Space>, Odd> {
+pub fn takes(replica: Replica<Space>, event: Event, step: &Step) -> Result<Replica<Space>, Odd> {
     let before = see(&replica);
-    let stepped = match stepped_by(replica, steps_by, event) {
+    let stepped = match replica.step(event) {
         Ok(stepped) => stepped,
         Err(_) => return Err(Odd::Want),
     };
@@ -535,14 +511,9 @@ pub fn takes(
     }
 }
 
-fn takes_next(
-    alloc: Global,
-    replica: Replica<Space>,
-    steps_by: StepsBy,
-    step: &Step,
-) -> Result<Replica<Space>, Odd> {
+fn takes_next(alloc: Global, replica: Replica<Space>, step: &Step) -> Result<Replica<Space>, Odd> {
     match event(alloc, step) {
-        Ok(event) => takes(replica, steps_by, event, step),
+        Ok(event) => takes(replica, event, step),
         Err(_) => {
             drop(replica);
             Err(Odd::Want)
@@ -557,7 +528,7 @@ pub fn follows(alloc: Global, row: &Row) -> Result<(), (usize, Odd)> {
         Err(odd) => return Err((0, odd)),
     };
     for (at, step) in row.steps.iter().enumerate() {
-        replica = match takes_next(alloc, replica, row.replica.steps_by, step) {
+        replica = match takes_next(alloc, replica, step) {
             Ok(replica) => replica,
             Err(odd) => return Err((at, odd)),
         };
@@ -572,7 +543,7 @@ const CUT: Step = Step::Refuses(Input::Bytes(&[]), Cause::NotFrame(FrameFault::S
 
 fn takes_cut(alloc: Global, replica: Replica<Space>, cut: &[u8]) -> Result<Replica<Space>, Odd> {
     match Bytes::from_slice(alloc, cut) {
-        Ok(bytes) => takes(replica, StepsBy::Step, Event::Heard(bytes), &CUT),
+        Ok(bytes) => takes(replica, Event::Heard(bytes), &CUT),
         Err(_) => {
             drop(replica);
             Err(Odd::Want)

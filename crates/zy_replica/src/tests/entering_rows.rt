@@ -14,17 +14,15 @@ use super::frames::Statement::{Began, Fetch};
 use super::frames::{BACKUP, CLIENT, EMPTY_STATE, FOURTH, OUTSIDER, PRIMARY, THIRD};
 use super::leaving_rows::*;
 use super::leaving_table::*;
+use super::rows::FOLLOWS;
 use super::table::*;
 use zy_base::{Answer, Cause, FrameFault, Place};
 
-const THIRD_TAKES_PART: Begins = Begins {
-    id: 2,
-    ..TAKES_PART
-};
+const THIRD_FOLLOWS: Begins = Begins { id: 2, ..FOLLOWS };
 
 pub const THIRD_BY_FOURS: Begins = Begins {
     apart: 4,
-    ..THIRD_TAKES_PART
+    ..THIRD_FOLLOWS
 };
 
 const THIRD_BY_FOURS_AT_32: Begins = Begins {
@@ -32,14 +30,11 @@ const THIRD_BY_FOURS_AT_32: Begins = Begins {
     ..THIRD_BY_FOURS
 };
 
-pub const FOURTH_TAKES_PART: Begins = Begins {
-    id: 3,
-    ..TAKES_PART
-};
+pub const FOURTH_FOLLOWS: Begins = Begins { id: 3, ..FOLLOWS };
 
 const FOURTH_BY_FOURS: Begins = Begins {
     apart: 4,
-    ..FOURTH_TAKES_PART
+    ..FOURTH_FOLLOWS
 };
 
 const FOURTH_BY_FOURS_AT_31: Begins = Begins {
@@ -49,13 +44,13 @@ const FOURTH_BY_FOURS_AT_31: Begins = Begins {
 
 const BY_FOURS: Begins = Begins {
     apart: 4,
-    ..TAKES_PART
+    ..FOLLOWS
 };
 
 pub const OF_ENTERING: &[Row] = &[
     Row {
         name: "it goes back to the choice once enough confirm it",
-        replica: THIRD_TAKES_PART,
+        replica: THIRD_FOLLOWS,
         steps: &[
             Does(
                 ORDER_1,
@@ -125,7 +120,7 @@ pub const OF_ENTERING: &[Row] = &[
     },
     Row {
         name: "the primary of the next view collects, gives, confirms and enters it in one step",
-        replica: TAKES_PART,
+        replica: FOLLOWS,
         steps: &[
             Does(
                 Frame(13, &[By(THIRD, Began(1, 0, &[0; 32]))]),
@@ -180,7 +175,7 @@ pub const OF_ENTERING: &[Row] = &[
 pub const OF_VIEW_CERTIFICATES: &[Row] = &[
     Row {
         name: "view certificates that are refused",
-        replica: THIRD_TAKES_PART,
+        replica: THIRD_FOLLOWS,
         steps: &[
             Refuses(
                 Frame(
@@ -353,7 +348,7 @@ pub const OF_VIEW_CERTIFICATES: &[Row] = &[
     },
     Row {
         name: "the primary of a view enters it by another's certificate",
-        replica: TAKES_PART,
+        replica: FOLLOWS,
         steps: &[Enters(CERTIFICATE_OF_2, Left(2, 0, false, 0, 2), 1, STATE_2, &[])],
     },
     Row {

@@ -3,39 +3,14 @@
 use super::checkpoint_table::{TELLS_2_BY_1, TELLS_3_BY_2};
 use super::driver::Input::{self, Frame, Timer};
 use super::driver::Step::{self, Does, Leaves, Refuses};
-use super::driver::{Begins, Left, Row, StepsBy};
+use super::driver::{Left, Row};
 use super::frames::Part::{As, By, Leaves as LeavesFor, LeavesAs, Raw};
 use super::frames::Statement::{Began, Hate, Hole, Order, Spec};
 use super::frames::{BACKUP, CLIENT, FOURTH, OUTSIDER, PRIMARY, THIRD, Told};
 use super::leaving_table::*;
-use super::rows::FOLLOWS;
+use super::rows::{FOLLOWS, FOLLOWS_AT_29, FOLLOWS_AT_30, FOLLOWS_AT_31, FOLLOWS_AT_32};
 use super::table::*;
 use zy_base::{Answer, Cause, Digest, FrameFault, TimerKind};
-
-pub const TAKES_PART: Begins = Begins {
-    steps_by: StepsBy::WholeStep,
-    ..FOLLOWS
-};
-
-const TAKES_PART_AT_29: Begins = Begins {
-    leaf: 29,
-    ..TAKES_PART
-};
-
-pub const TAKES_PART_AT_30: Begins = Begins {
-    leaf: 30,
-    ..TAKES_PART
-};
-
-pub const TAKES_PART_AT_31: Begins = Begins {
-    leaf: 31,
-    ..TAKES_PART
-};
-
-const TAKES_PART_AT_32: Begins = Begins {
-    leaf: 32,
-    ..TAKES_PART
-};
 
 pub const KEY_SPENT: Cause = Cause::KeySpent;
 
@@ -62,7 +37,7 @@ pub const CLASH: Cause = Cause::AnchorClash(
 pub const OF_BLAME: &[Row] = &[
     Row {
         name: "two orders of the primary for one place are told to all",
-        replica: TAKES_PART,
+        replica: FOLLOWS,
         steps: &[
             Does(
                 ORDER_1,
@@ -103,19 +78,22 @@ pub const OF_BLAME: &[Row] = &[
             Leaves(Timer(TimerKind::Answer), Left(3, 4, false, 0, 0), 1, &[]),
             Leaves(
                 CHANGE_TIMER,
-                Left(3, 4, false, 0, 0),
+                Left(3, 5, false, 1, 0),
                 1,
                 &[
                     (PRIMARY, LEAVES_FOR_1_WITH_3_BY_3),
                     (THIRD, LEAVES_FOR_1_WITH_3_BY_3),
                     (FOURTH, LEAVES_FOR_1_WITH_3_BY_3),
+                    (PRIMARY, HATES_VIEW_1_BY_4),
+                    (THIRD, HATES_VIEW_1_BY_4),
+                    (FOURTH, HATES_VIEW_1_BY_4),
                 ],
             ),
         ],
     },
     Row {
         name: "two orders that another tells",
-        replica: TAKES_PART,
+        replica: FOLLOWS,
         steps: &[
             Refuses(Frame(9, &[ORDERED_1, ORDERED_1]), Cause::NoConflict),
             Refuses(Frame(9, &[ORDERED_1, ORDERED_2]), Cause::NoConflict),
@@ -173,9 +151,9 @@ pub const OF_BLAME: &[Row] = &[
     },
     Row {
         name: "one hate more than can lie, in each mode",
-        replica: TAKES_PART,
+        replica: FOLLOWS,
         steps: &[
-            Refuses(Frame(8, &[By(THIRD, Hate(1))]), Cause::NewerView),
+            Refuses(HATE_OF_1_BY_THIRD, Cause::NewerView),
             Refuses(Frame(8, &[By(CLIENT, Hate(0))]), Cause::WrongRole),
             Refuses(Frame(8, &[By(OUTSIDER, Hate(0))]), Cause::UnknownParty),
             Refuses(Frame(8, &[As(THIRD, FOURTH, Hate(0))]), Cause::BadSignature),
@@ -192,12 +170,7 @@ pub const OF_BLAME: &[Row] = &[
                 ],
             ),
             Refuses(HATE_BY_PRIMARY, Cause::OldView),
-            Leaves(
-                Frame(8, &[By(THIRD, Hate(1))]),
-                Left(0, 1, false, 0, 0),
-                1,
-                &[],
-            ),
+            Leaves(HATE_OF_1_BY_THIRD, Left(0, 1, false, 0, 0), 1, &[]),
             Leaves(
                 Frame(8, &[By(PRIMARY, Hate(1))]),
                 Left(0, 2, false, 1, 0),
@@ -215,7 +188,7 @@ pub const OF_BLAME: &[Row] = &[
 pub const OF_LEAVING: &[Row] = &[
     Row {
         name: "the own hate is said once, and what is missing is asked for after it",
-        replica: TAKES_PART,
+        replica: FOLLOWS,
         steps: &[
             Does(REQUEST_TIMER, Answer::Taken, UNTOUCHED, &[]),
             Does(CHANGE_TIMER, Answer::Taken, UNTOUCHED, &[]),
@@ -267,19 +240,35 @@ pub const OF_LEAVING: &[Row] = &[
             Leaves(REQUEST_TIMER, Left(0, 4, false, 0, 0), 1, &[]),
             Leaves(
                 CHANGE_TIMER,
-                Left(0, 4, false, 0, 0),
+                Left(0, 5, false, 1, 0),
                 1,
                 &[
                     (PRIMARY, LEAVES_FOR_1_BY_3),
                     (THIRD, LEAVES_FOR_1_BY_3),
                     (FOURTH, LEAVES_FOR_1_BY_3),
+                    (PRIMARY, HATES_VIEW_1_BY_4),
+                    (THIRD, HATES_VIEW_1_BY_4),
+                    (FOURTH, HATES_VIEW_1_BY_4),
+                ],
+            ),
+            Leaves(
+                CHANGE_TIMER,
+                Left(0, 5, false, 0, 0),
+                1,
+                &[
+                    (PRIMARY, LEAVES_FOR_1_BY_3),
+                    (THIRD, LEAVES_FOR_1_BY_3),
+                    (FOURTH, LEAVES_FOR_1_BY_3),
+                    (PRIMARY, HATES_VIEW_1_BY_4),
+                    (THIRD, HATES_VIEW_1_BY_4),
+                    (FOURTH, HATES_VIEW_1_BY_4),
                 ],
             ),
         ],
     },
     Row {
         name: "the own hate is the one more",
-        replica: TAKES_PART,
+        replica: FOLLOWS,
         steps: &[
             COUNTS_HATE_BY_THIRD,
             Does(
@@ -305,7 +294,7 @@ pub const OF_LEAVING: &[Row] = &[
     },
     Row {
         name: "it leaves for the least of the views for which more have left than can lie",
-        replica: TAKES_PART,
+        replica: FOLLOWS,
         steps: &[
             Does(FOR_3_BY_THIRD, Answer::Taken, UNTOUCHED, &[]),
             Refuses(FOR_2_BY_THIRD, Cause::Repeat),
@@ -332,7 +321,7 @@ pub const OF_LEAVING: &[Row] = &[
     },
     Row {
         name: "the primary of the next view gives it out of enough reports",
-        replica: TAKES_PART,
+        replica: FOLLOWS,
         steps: &[
             KEEPS_1_BY_THIRD,
             Refuses(FOR_1_BY_THIRD, Cause::Repeat),
@@ -357,7 +346,7 @@ pub const OF_LEAVING: &[Row] = &[
     },
     Row {
         name: "reports that clash make no view",
-        replica: TAKES_PART,
+        replica: FOLLOWS,
         steps: &[
             Does(
                 Frame(11, &[LeavesFor(THIRD, 1, &CERTIFIES_1)]),
@@ -373,7 +362,7 @@ pub const OF_LEAVING: &[Row] = &[
 pub const OF_THE_LAST_LEAVES: &[Row] = &[
     Row {
         name: "the last leaves suffice for the report, the new view and its confirmation",
-        replica: TAKES_PART_AT_29,
+        replica: FOLLOWS_AT_29,
         steps: &[
             Does(FOR_1_BY_THIRD, Answer::Taken, Left(0, 29, false, 0, 0), &[]),
             Leaves(
@@ -396,7 +385,7 @@ pub const OF_THE_LAST_LEAVES: &[Row] = &[
     },
     Row {
         name: "no leaf is left for the confirmation",
-        replica: TAKES_PART_AT_30,
+        replica: FOLLOWS_AT_30,
         steps: &[
             Does(FOR_1_BY_THIRD, Answer::Taken, Left(0, 30, false, 0, 0), &[]),
             Refuses(FOR_1_BY_FOURTH, KEY_SPENT),
@@ -404,7 +393,7 @@ pub const OF_THE_LAST_LEAVES: &[Row] = &[
     },
     Row {
         name: "no leaf is left for the new view, nor for a report after the own hate",
-        replica: TAKES_PART_AT_31,
+        replica: FOLLOWS_AT_31,
         steps: &[
             Does(FOR_1_BY_THIRD, Answer::Taken, Left(0, 31, false, 0, 0), &[]),
             Refuses(FOR_1_BY_FOURTH, KEY_SPENT),
@@ -419,7 +408,7 @@ pub const OF_THE_LAST_LEAVES: &[Row] = &[
     },
     Row {
         name: "no leaf is left for the report",
-        replica: TAKES_PART_AT_32,
+        replica: FOLLOWS_AT_32,
         steps: &[
             Does(FOR_1_BY_THIRD, Answer::Taken, Left(0, 32, false, 0, 0), &[]),
             Refuses(FOR_2_BY_FOURTH, KEY_SPENT),
@@ -430,7 +419,7 @@ pub const OF_THE_LAST_LEAVES: &[Row] = &[
     },
     Row {
         name: "no view comes after the last",
-        replica: TAKES_PART,
+        replica: FOLLOWS,
         steps: &[
             Does(
                 Frame(11, &[LeavesFor(THIRD, LAST_VIEW, &NOTHING)]),
@@ -469,7 +458,7 @@ pub const OF_THE_LAST_LEAVES: &[Row] = &[
     },
     Row {
         name: "reports that are refused",
-        replica: TAKES_PART,
+        replica: FOLLOWS,
         steps: &[
             Refuses(
                 Frame(11, &[LeavesFor(OUTSIDER, 1, &NOTHING)]),

@@ -4,7 +4,7 @@ use super::driver::Input::{self, Frame};
 use super::driver::Step::{self, Does, Refuses};
 use super::driver::{Left, Row};
 use super::frames::Part::{As, By, Raw};
-use super::frames::Statement::{self, Confirm, Hate, Local, Order, Spec};
+use super::frames::Statement::{self, Confirm, Local, Spec};
 use super::frames::{BACKUP, CLIENT, FOURTH, OUTSIDER, PRIMARY, THIRD};
 use super::rows::{FOLLOWS, FOLLOWS_AT_31, LEADS};
 use super::table::*;
@@ -198,16 +198,11 @@ const SHORT: Cause = Cause::NotFrame(FrameFault::Short);
 
 pub const OF_OTHER_FRAMES: &[Row] = &[
     Row {
-        name: "kinds that a replica doesn't hear",
+        name: "kinds that a backup doesn't hear",
         replica: FOLLOWS,
         steps: &[
             Refuses(
                 Frame(5, &[By(THIRD, Local(0, 1, HEAD_1))]),
-                Cause::WrongRole,
-            ),
-            Refuses(Frame(8, &[By(THIRD, Hate(0))]), Cause::WrongRole),
-            Refuses(
-                Frame(9, &[ORDERED_1, By(PRIMARY, Order(0, 1, ANOTHER, ENTRY_1))]),
                 Cause::WrongRole,
             ),
             Refuses(
@@ -228,12 +223,12 @@ pub const OF_OTHER_FRAMES: &[Row] = &[
             Refuses(Input::Bytes(&[1]), SHORT),
             Refuses(Input::Bytes(&[2]), Cause::NotFrame(FrameFault::Version)),
             Refuses(Frame(0, &[]), NO_SUCH_KIND),
-            Refuses(Frame(11, &[]), NO_SUCH_KIND),
-            Refuses(Frame(12, &[]), NO_SUCH_KIND),
-            Refuses(Frame(13, &[]), NO_SUCH_KIND),
-            Refuses(Frame(14, &[]), NO_SUCH_KIND),
-            Refuses(Frame(15, &[]), NO_SUCH_KIND),
-            Refuses(Frame(16, &[]), NO_SUCH_KIND),
+            Refuses(Frame(11, &[]), SHORT),
+            Refuses(Frame(12, &[]), SHORT),
+            Refuses(Frame(13, &[]), SHORT),
+            Refuses(Frame(14, &[]), SHORT),
+            Refuses(Frame(15, &[]), SHORT),
+            Refuses(Frame(16, &[]), SHORT),
             Refuses(Frame(17, &[]), NO_SUCH_KIND),
             Refuses(
                 Frame(2, &[ORDERED_1, ASK_1, Raw(&[0])]),

@@ -3,19 +3,20 @@
 use super::driver::Input::Frame;
 use super::driver::Step::{Does, Leaves, Refuses};
 use super::driver::{Begins, Left, Row};
-use super::entering_rows::{FOURTH_TAKES_PART, THIRD_BY_FOURS};
+use super::entering_rows::{FOURTH_FOLLOWS, THIRD_BY_FOURS};
 use super::entering_table::*;
 use super::frames::Part::{As, By, Gives, GivesAs};
 use super::frames::Statement::Began;
 use super::frames::{BACKUP, CLIENT, FOURTH, OUTSIDER, PRIMARY, THIRD};
 use super::leaving_rows::*;
 use super::leaving_table::*;
+use super::rows::{FOLLOWS, FOLLOWS_AT_31};
 use super::table::HEAD_2;
 use zy_base::{Answer, Cause, FrameFault};
 
 const THIRD_AT_31: Begins = Begins {
     id: 2,
-    ..TAKES_PART_AT_31
+    ..FOLLOWS_AT_31
 };
 
 const THIRD_BY_FOURS_AT_30: Begins = Begins {
@@ -26,7 +27,7 @@ const THIRD_BY_FOURS_AT_30: Begins = Begins {
 pub const OF_NEW_VIEWS: &[Row] = &[
     Row {
         name: "new views that are refused",
-        replica: FOURTH_TAKES_PART,
+        replica: FOURTH_FOLLOWS,
         steps: &[
             Refuses(Frame(12, &[]), Cause::NotFrame(FrameFault::Short)),
             Refuses(
@@ -113,7 +114,7 @@ pub const OF_NEW_VIEWS: &[Row] = &[
     },
     Row {
         name: "reports of a new view that break a rule",
-        replica: FOURTH_TAKES_PART,
+        replica: FOURTH_FOLLOWS,
         steps: &[
             Refuses(
                 Frame(
@@ -254,7 +255,7 @@ pub const OF_NEW_VIEWS: &[Row] = &[
     },
     Row {
         name: "the primary of a new view hears its own",
-        replica: TAKES_PART,
+        replica: FOLLOWS,
         steps: &[Refuses(NEW_VIEW, Cause::Repeat)],
     },
     Row {
@@ -286,7 +287,7 @@ pub const OF_NEW_VIEWS: &[Row] = &[
 pub const OF_CONFIRMATIONS: &[Row] = &[
     Row {
         name: "confirmations and new views of a view that it left, and of a later one",
-        replica: TAKES_PART,
+        replica: FOLLOWS,
         steps: &[
             Refuses(Frame(13, &[By(CLIENT, CONFIRMED_2)]), Cause::WrongRole),
             Refuses(

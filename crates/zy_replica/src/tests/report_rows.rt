@@ -12,18 +12,19 @@ use super::frames::Part::Leaves as LeavesFor;
 use super::frames::{CLIENT, FOURTH, PRIMARY, THIRD};
 use super::leaving_rows::*;
 use super::leaving_table::*;
+use super::rows::{FOLLOWS, FOLLOWS_AT_30, FOLLOWS_AT_31};
 use super::table::*;
 use zy_base::{Answer, TimerKind};
 
-const TAKES_PART_BY_FOURS: Begins = Begins {
+const FOLLOWS_BY_FOURS: Begins = Begins {
     apart: 4,
-    ..TAKES_PART
+    ..FOLLOWS
 };
 
 pub const OF_REPORTS: &[Row] = &[
     Row {
         name: "the report has the commit certificate and the entry",
-        replica: TAKES_PART,
+        replica: FOLLOWS,
         steps: &[
             TAKES_1,
             Does(
@@ -49,7 +50,7 @@ pub const OF_REPORTS: &[Row] = &[
     },
     Row {
         name: "the report has the stable place with its proof, and the entries above it",
-        replica: TAKES_PART_BY_FOURS,
+        replica: FOLLOWS_BY_FOURS,
         steps: &[
             TAKES_1,
             TAKES_2,
@@ -96,7 +97,7 @@ pub const OF_REPORTS: &[Row] = &[
     },
     Row {
         name: "the new view is given out of the reports of the first replicas by number",
-        replica: TAKES_PART,
+        replica: FOLLOWS,
         steps: &[
             Does(FOR_1_BY_FOURTH, Answer::Taken, UNTOUCHED, &[]),
             Leaves(
@@ -127,7 +128,7 @@ pub const OF_REPORTS: &[Row] = &[
     },
     Row {
         name: "what one report certifies is confirmed, and one that clashes with it isn't kept",
-        replica: TAKES_PART,
+        replica: FOLLOWS,
         steps: &[
             Does(
                 Frame(11, &[LeavesFor(THIRD, 1, &CERTIFIES_1)]),
@@ -156,7 +157,7 @@ pub const OF_REPORTS: &[Row] = &[
     },
     Row {
         name: "no leaf is left for the confirmation once it has left",
-        replica: TAKES_PART_AT_30,
+        replica: FOLLOWS_AT_30,
         steps: &[
             Does(HATE_BY_THIRD, Answer::Taken, Left(0, 30, false, 0, 0), &[]),
             Leaves(
@@ -174,9 +175,12 @@ pub const OF_REPORTS: &[Row] = &[
             Refuses(FOR_1_BY_FOURTH, KEY_SPENT),
         ],
     },
+];
+
+pub const OF_TIMERS: &[Row] = &[
     Row {
         name: "no leaf is left for the report after the own hate, which isn't said then",
-        replica: TAKES_PART_AT_30,
+        replica: FOLLOWS_AT_30,
         steps: &[
             Does(HATE_BY_THIRD, Answer::Taken, Left(0, 30, false, 0, 0), &[]),
             Does(
@@ -196,21 +200,13 @@ pub const OF_REPORTS: &[Row] = &[
                     (FOURTH, LEAVES_FOR_1_BY_31),
                 ],
             ),
-            Leaves(
-                CHANGE_TIMER,
-                Left(0, 32, false, 0, 0),
-                1,
-                &[
-                    (PRIMARY, LEAVES_FOR_1_BY_31),
-                    (THIRD, LEAVES_FOR_1_BY_31),
-                    (FOURTH, LEAVES_FOR_1_BY_31),
-                ],
-            ),
+            Refuses(CHANGE_TIMER, KEY_SPENT),
+            Refuses(CHANGE_TIMER, KEY_SPENT),
         ],
     },
     Row {
         name: "the own hate is said again without a leaf",
-        replica: TAKES_PART_AT_30,
+        replica: FOLLOWS_AT_30,
         steps: &[
             Does(
                 REQUEST_1,
@@ -242,8 +238,118 @@ pub const OF_REPORTS: &[Row] = &[
         ],
     },
     Row {
+        name: "the own hate of a view that doesn't begin is the one more",
+        replica: FOLLOWS,
+        steps: &[
+            COUNTS_HATE_BY_THIRD,
+            Leaves(
+                HATE_BY_FOURTH,
+                Left(0, 1, false, 1, 0),
+                1,
+                &[
+                    (PRIMARY, LEAVES_FOR_1_BY_0),
+                    (THIRD, LEAVES_FOR_1_BY_0),
+                    (FOURTH, LEAVES_FOR_1_BY_0),
+                ],
+            ),
+            Leaves(HATE_OF_1_BY_THIRD, Left(0, 1, false, 0, 0), 1, &[]),
+            Leaves(
+                CHANGE_TIMER,
+                Left(0, 3, false, 2, 0),
+                2,
+                &[
+                    (PRIMARY, LEAVES_FOR_1_BY_0),
+                    (THIRD, LEAVES_FOR_1_BY_0),
+                    (FOURTH, LEAVES_FOR_1_BY_0),
+                    (PRIMARY, HATES_VIEW_1_BY_1),
+                    (THIRD, HATES_VIEW_1_BY_1),
+                    (FOURTH, HATES_VIEW_1_BY_1),
+                    (PRIMARY, LEAVES_FOR_2_BY_2),
+                    (THIRD, LEAVES_FOR_2_BY_2),
+                    (FOURTH, LEAVES_FOR_2_BY_2),
+                ],
+            ),
+            Leaves(
+                CHANGE_TIMER,
+                Left(0, 4, false, 1, 0),
+                2,
+                &[
+                    (PRIMARY, LEAVES_FOR_2_BY_2),
+                    (THIRD, LEAVES_FOR_2_BY_2),
+                    (FOURTH, LEAVES_FOR_2_BY_2),
+                    (PRIMARY, HATES_VIEW_2_BY_3),
+                    (THIRD, HATES_VIEW_2_BY_3),
+                    (FOURTH, HATES_VIEW_2_BY_3),
+                ],
+            ),
+        ],
+    },
+    Row {
+        name: "the last leaf suffices for the hate of a view that doesn't begin",
+        replica: FOLLOWS_AT_30,
+        steps: &[
+            Does(HATE_BY_THIRD, Answer::Taken, Left(0, 30, false, 0, 0), &[]),
+            Leaves(
+                HATE_BY_FOURTH,
+                Left(0, 31, false, 1, 0),
+                1,
+                &[
+                    (PRIMARY, LEAVES_FOR_1_BY_30),
+                    (THIRD, LEAVES_FOR_1_BY_30),
+                    (FOURTH, LEAVES_FOR_1_BY_30),
+                ],
+            ),
+            Leaves(
+                CHANGE_TIMER,
+                Left(0, 32, false, 1, 0),
+                1,
+                &[
+                    (PRIMARY, LEAVES_FOR_1_BY_30),
+                    (THIRD, LEAVES_FOR_1_BY_30),
+                    (FOURTH, LEAVES_FOR_1_BY_30),
+                    (PRIMARY, HATES_VIEW_1_BY_31),
+                    (THIRD, HATES_VIEW_1_BY_31),
+                    (FOURTH, HATES_VIEW_1_BY_31),
+                ],
+            ),
+            Leaves(
+                CHANGE_TIMER,
+                Left(0, 32, false, 0, 0),
+                1,
+                &[
+                    (PRIMARY, LEAVES_FOR_1_BY_30),
+                    (THIRD, LEAVES_FOR_1_BY_30),
+                    (FOURTH, LEAVES_FOR_1_BY_30),
+                    (PRIMARY, HATES_VIEW_1_BY_31),
+                    (THIRD, HATES_VIEW_1_BY_31),
+                    (FOURTH, HATES_VIEW_1_BY_31),
+                ],
+            ),
+            Refuses(HATE_OF_1_BY_THIRD, KEY_SPENT),
+        ],
+    },
+    Row {
+        name: "no leaf is left for the report after the hate of a view that doesn't begin, which isn't said then",
+        replica: FOLLOWS_AT_30,
+        steps: &[
+            Does(HATE_BY_THIRD, Answer::Taken, Left(0, 30, false, 0, 0), &[]),
+            Leaves(
+                HATE_BY_FOURTH,
+                Left(0, 31, false, 1, 0),
+                1,
+                &[
+                    (PRIMARY, LEAVES_FOR_1_BY_30),
+                    (THIRD, LEAVES_FOR_1_BY_30),
+                    (FOURTH, LEAVES_FOR_1_BY_30),
+                ],
+            ),
+            Leaves(HATE_OF_1_BY_THIRD, Left(0, 31, false, 0, 0), 1, &[]),
+            Refuses(CHANGE_TIMER, KEY_SPENT),
+        ],
+    },
+    Row {
         name: "no leaf is left for the report after two orders of one place",
-        replica: TAKES_PART_AT_31,
+        replica: FOLLOWS_AT_31,
         steps: &[
             Does(
                 ORDER_1,
@@ -256,7 +362,7 @@ pub const OF_REPORTS: &[Row] = &[
     },
     Row {
         name: "what is missing is asked for again, of all, until it leaves",
-        replica: TAKES_PART,
+        replica: FOLLOWS,
         steps: &[
             Does(
                 ORDER_2,

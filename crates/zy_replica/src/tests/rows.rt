@@ -2,7 +2,7 @@
 
 use super::driver::Input::{self, Frame};
 use super::driver::Step::{self, Does, Refuses, Turns};
-use super::driver::{Begins, How, Left, Row, StepsBy};
+use super::driver::{Begins, How, Left, Row};
 use super::frames::Part::{As, By};
 use super::frames::Statement::{Ask, Confirm, Hole, Order};
 use super::frames::{BACKUP, CLIENT, FOURTH, OUTSIDER, PRIMARY, STRANGER, THIRD};
@@ -15,7 +15,6 @@ pub const LEADS: Begins = Begins {
     apart: 8,
     leaf: 0,
     how: How::Anew,
-    steps_by: StepsBy::Step,
 };
 
 pub const FOLLOWS: Begins = Begins { id: 1, ..LEADS };
@@ -39,7 +38,12 @@ const LEADS_WITH_ANOTHER_RESPONSE_AT_30: Begins = Begins {
     ..LEADS_WITH_ANOTHER_RESPONSE
 };
 
-const FOLLOWS_AT_30: Begins = Begins {
+pub const FOLLOWS_AT_29: Begins = Begins {
+    leaf: 29,
+    ..FOLLOWS
+};
+
+pub const FOLLOWS_AT_30: Begins = Begins {
     leaf: 30,
     ..FOLLOWS
 };
@@ -49,7 +53,7 @@ pub const FOLLOWS_AT_31: Begins = Begins {
     ..FOLLOWS
 };
 
-const FOLLOWS_AT_32: Begins = Begins {
+pub const FOLLOWS_AT_32: Begins = Begins {
     leaf: 32,
     ..FOLLOWS
 };
@@ -271,7 +275,6 @@ pub const OF_ORDERS: &[Row] = &[
         steps: &[
             HOLD_2,
             Refuses(ORDER_2, Cause::Repeat),
-            Refuses(UNLIKE_2, Cause::Unmatched),
             Does(ORDER_3, Answer::Held, Left(0, 1, true, 0, 0), &[]),
             Does(
                 REQUEST_TIMER,
@@ -492,7 +495,6 @@ pub const OF_ORDERS: &[Row] = &[
                 &[(CLIENT, TELLS_1_BY_0)],
             ),
             Refuses(ORDER_1, Cause::Repeat),
-            Refuses(UNLIKE_1, Cause::Unmatched),
             Refuses(UNLIKE_2, Cause::WrongHead),
             Refuses(REPEATED, Cause::OldStamp),
         ],
@@ -536,7 +538,6 @@ pub const OF_WAITING_REQUESTS: &[Row] = &[
                 &[(PRIMARY, WAITS_1_BY_0)],
             ),
             Refuses(REQUEST_0, Cause::OldStamp),
-            Does(REQUEST_TIMER, Answer::Taken, Left(0, 1, true, 0, 0), &[]),
             Does(
                 REQUEST_2,
                 Answer::Taken,
@@ -581,16 +582,6 @@ pub const OF_WAITING_REQUESTS: &[Row] = &[
                 Answer::Held,
                 Left(0, 2, true, 1, 0),
                 &[(PRIMARY, ASKS_1_TO_1_BY_1)],
-            ),
-            Does(
-                REQUEST_TIMER,
-                Answer::Taken,
-                Left(0, 2, true, 0, 0),
-                &[
-                    (PRIMARY, ASKS_1_TO_1_BY_1),
-                    (THIRD, ASKS_1_TO_1_BY_1),
-                    (FOURTH, ASKS_1_TO_1_BY_1),
-                ],
             ),
             Does(
                 ORDER_1,

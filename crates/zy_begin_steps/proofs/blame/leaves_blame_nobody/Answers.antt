@@ -21,5 +21,5 @@ returns g c =
       request_timer = λ interval r texts w s history cause ready kept.
           unblamed_leaving R interval texts w r s history ready kept (on_request_timer R s s.views.mode) (request_attempt R interval w r s history ready s.views.mode) cause;
       change_timer = λ interval r texts w s history cause ready kept.
-          unblamed_leaving R interval texts w r s history ready kept (on_change_timer s s.views.mode) (change_attempt R interval w r s history ready s.views.mode) cause;
+          unblamed_leaving R interval texts w r s history ready kept (on_change_timer R s s.views.mode) (change_attempt R interval w r s history ready s.views.mode) cause;
     }

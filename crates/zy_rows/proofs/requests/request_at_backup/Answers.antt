@@ -1,4 +1,3 @@
-use Rattle.std.proofs.Common.{sym}
 use Rattle.zy_rows.proofs.requests.request_at_backup.Goals as goal
 
 pub tell_again-requires : goal.tell_again-requires

@@ -1,5 +1,4 @@
 use Rattle.zy_slots.specs.Columns.{linked}
-use Rattle.zy_slots.proofs.RingLemmas.{attached}
 use Rattle.zy_slots.proofs.ring.attach.Goals as goal
 
 pub returns-clause-links : goal.returns-clause-links

@@ -1,11 +1,11 @@
-use Rattle.std.proofs.Common.{rules, ◌≡◌, ◌<◌, ◌++◌, List, [], ◌∷◌, length, ap, ◌∙◌, subst}
+use Rattle.std.proofs.Common.{rules, ◌≡◌, ◌<◌, ◌++◌, List, [], ◌∷◌, ap, ◌∙◌, subst}
 use Rattle.std.proofs.lemmas.List.{nil_from_length}
-use Rattle.zy_slots.specs.Cells.{Kept, Cells, with_stack}
+use Rattle.zy_slots.specs.Cells.{Cells}
 use Rattle.zy_tuple.specs.declared.values.Field.{Field}
 use Rattle.zy_space.specs.declared.changes.Change.{Change}
 use Rattle.zy_space.specs.declared.changes.Change.TheVariants.{Same, Put, Took}
 use Rattle.zy_space.specs.Changes.{IsSound}
-use Rattle.zy_space.proofs.ChangeLemmas.{no_trail, some_kept, IsForgotten, forget_took, forget_other, stays-same, stays-put}
+use Rattle.zy_space.proofs.ChangeLemmas.{no_trail, some_kept, forget_took, forget_other, stays-same, stays-put}
 use Rattle.zy_space.proofs.changes.forget_oldest.Goals as goal
 
 -- the change that was popped is the oldest of the sound changes

@@ -1,6 +1,4 @@
-use Rattle.std.proofs.Common.{◌∙◌, sym, subst, arith}
-use Rattle.zy_slots.specs.Cells.{CanRelink, CanTakeLast}
-use Rattle.zy_space.specs.declared.changes.Change.{Change}
+use Rattle.std.proofs.Common.{◌∙◌, sym, arith}
 use Rattle.zy_space.specs.declared.changes.Change.TheVariants.{Put, Took}
 use Rattle.zy_space.specs.Changes.{CanUndo}
 use Rattle.zy_space.proofs.ChangeLemmas.{undone-put, length-undone_put, length-undone_took}

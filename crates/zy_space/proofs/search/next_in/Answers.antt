@@ -1,4 +1,3 @@
-use Rattle.std.proofs.Common.{rules, subst, sym}
 use Rattle.zy_space.proofs.SearchLemmas.{next_in_chain}
 use Rattle.zy_space.proofs.search.next_in.Goals as goal
 

@@ -1,6 +1,5 @@
-use Rattle.std.proofs.Common.{arith, ◌≤◌, length}
+use Rattle.std.proofs.Common.{arith, ◌≤◌}
 use Rattle.std.proofs.lemmas.Option.{IfSome_then}
-use Rattle.zy_space.specs.Search.{searched}
 use Rattle.zy_space.proofs.SearchLemmas.{chain_few, first_is_oldest, none_is_absent, none_then}
 use Rattle.zy_space.proofs.search.oldest_match.Goals as goal
 

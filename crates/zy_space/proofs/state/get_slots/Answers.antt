@@ -1,7 +1,6 @@
-use Rattle.std.proofs.lemmas.Result.{err_from_is_err_and}
 use Rattle.zy_wire.specs.Spelling.{repeated_at}
 use Rattle.zy_tuple.specs.Bytes.{tuple_spelling}
-use Rattle.zy_tuple.proofs.Items.{goes_on, item_fails}
+use Rattle.zy_tuple.proofs.Items.{goes_on}
 use Rattle.zy_space.specs.Changes.{tuples_of}
 use Rattle.zy_space.proofs.StateLemmas.{put_tuples, put_holds, put_stack, put_many, tuple_read}
 use Rattle.zy_space.proofs.state.get_slots.Goals as goal

@@ -1,4 +1,4 @@
-use Rattle.std.proofs.Common.{◌+◌, subst}
+use Rattle.std.proofs.Common.{◌+◌}
 use Rattle.zy_space.proofs.StateLemmas.{written_is_live, written_is_tuple, writes_on}
 use Rattle.zy_space.proofs.state.put_live.Goals as goal
 

@@ -1,4 +1,4 @@
-use Rattle.std.proofs.Common.{◌≡◌, ◌∙◌, ap, subst, sym}
+use Rattle.std.proofs.Common.{◌≡◌, ◌∙◌, subst, sym}
 use Rattle.zy_table.specs.Deeds.{Going}
 use Rattle.zy_entering.specs.Entering.{IsJudged, IsStep}
 use Rattle.zy_views.proofs.own_hate.carry_own.Goals as goal

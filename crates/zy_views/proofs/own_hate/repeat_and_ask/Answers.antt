@@ -7,5 +7,5 @@ use Rattle.zy_views.proofs.own_hate.repeat_and_ask.Goals as goal
 pub returns : goal.returns
 returns g c =
     subst (λ (o : Outcome g.row.M-State.Denot). IfOk c.ask_after.result (λ (m : Outcome g.row.M-State.Denot). m ≡ o))
-    (ap (λ (o : Outcome g.row.M-State.Denot). asked o) c.in_ok-repeat_hate.ensures ∙ repeat_asked g.M.Machine.rules c.args.core c.args.said c.requires.said c.requires.counted)
+    (ap (λ (o : Outcome g.row.M-State.Denot). asked o) c.in_ok-repeat_hate.ensures ∙ repeat_asked g.M.Machine.rules c.args.progress c.args.said c.requires.silent c.requires.said c.requires.counted)
     c.ask_after.ensures

@@ -1,4 +1,4 @@
-use Rattle.std.proofs.Common.{◌≡◌, Some, ap, subst, arith, rules}
+use Rattle.std.proofs.Common.{◌≡◌, Some, ap, subst, arith}
 use Rattle.std.proofs.lemmas.Grind.{common_steps}
 use Rattle.zy_change.proofs.AcceptedLemmas.{certified_from}
 use Rattle.zy_change.specs.Fit.{IsFit}

@@ -1,5 +1,4 @@
-use Rattle.std.proofs.Common.{◌≡◌, Some, sym, ◌∙◌, ap, subst}
-use Rattle.zy_change.specs.Fit.{IsCertified}
+use Rattle.std.proofs.Common.{◌≡◌, ◌∙◌}
 use Rattle.zy_core.proofs.ReadyLemmas.{certificate_sends, ready_without_accepted}
 use Rattle.zy_core.proofs.state.Core.take_certified.Goals as goal
 

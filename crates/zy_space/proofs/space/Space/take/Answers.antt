@@ -1,4 +1,4 @@
-use Rattle.std.proofs.Common.{◌≡◌, ◌∙◌, ◌++◌, ◌∷◌, length, length-append, sym, ap, subst, arith}
+use Rattle.std.proofs.Common.{◌≡◌, ◌∙◌, ◌++◌, ◌∷◌, length, length-append, sym, ap, arith}
 use Rattle.zy_space.specs.TupleSpace.{oldest, without_oldest, found}
 use Rattle.zy_space.specs.Timeline.{Timeline, onward}
 use Rattle.zy_space.specs.Changes.{tuples_of, trail_of}

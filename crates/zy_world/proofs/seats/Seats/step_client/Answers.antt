@@ -1,7 +1,7 @@
 use Rattle.std.proofs.Common.{◌≡◌, List, Option, Some, None, refl, sym, ap, ap₂, ◌∙◌, subst}
 use Rattle.std.specs.Prelude.{slice_get}
 use Rattle.std.proofs.lemmas.Option.{same_Some}
-use Rattle.zy_client.specs.Hearing.{whole_client_step}
+use Rattle.zy_table.specs.ClientRows.{client_step}
 use Rattle.zy_table.specs.ClientState.{ClientState}
 use Rattle.zy_world.specs.Shown.{Seated, with_client}
 use Rattle.zy_world.specs.Stepping.{IsClientStep}
@@ -22,8 +22,8 @@ pub returns-in_ok-client_made-in-Some-clause-stepped : goal.returns-in_ok-client
 returns-in_ok-client_made-in-Some-clause-stepped g c s is =
     let found : c.in-Some.client ≡ s =
     same_Some c.in-Some.client s (sym c.in-Some.is ∙ c.take_from.ensures.taken ∙ ap (λ (v : Seated g.row.M-State.Denot). correct_in (slice_get v.clients c.args.id.0)) c.self.view_is ∙ is) in
-    subst (λ (x : ClientState). IsClientStep x (whole_client_step x c.args.event) c.in_ok-client_made-in-Some.field-0) found
-    (c.in_ok-client_made-in-Some.ensures.stepped c.in-Some.client (whole_client_step c.in-Some.client c.args.event) (sym c.waits-waited.ensures) c.in_ok-stepped-in-Some.ensures)
+    subst (λ (x : ClientState). IsClientStep x (client_step x c.args.event) c.in_ok-client_made-in-Some.field-0) found
+    (c.in_ok-client_made-in-Some.ensures.stepped c.in-Some.client (client_step c.in-Some.client c.args.event) (sym c.waits-waited.ensures) c.in_ok-stepped-in-Some.ensures)
 
 pub returns-in_ok-client_made-in-Some-clause-state : goal.returns-in_ok-client_made-in-Some-clause-state
 returns-in_ok-client_made-in-Some-clause-state g c s is =
@@ -34,4 +34,4 @@ returns-in_ok-client_made-in-Some-clause-state g c s is =
     c.in_ok-client_made-in-Some.ensures.state
     ∙ ap (λ (xs : List (Option ClientState)). with_client (record seats { clients = xs }) c.args.id.0 (Some after)) c.take_from.ensures.left
     ∙ client_again seats c.args.id.0 None (Some after)
-    ∙ ap₂ (λ (v : Seated g.row.M-State.Denot) (x : ClientState). with_client v c.args.id.0 (Some x)) c.self.view_is (c.in_ok-stepped-in-Some.ensures.client ∙ ap (λ (x : ClientState). (whole_client_step x c.args.event).state) found)
+    ∙ ap₂ (λ (v : Seated g.row.M-State.Denot) (x : ClientState). with_client v c.args.id.0 (Some x)) c.self.view_is (c.in_ok-stepped-in-Some.ensures.client ∙ ap (λ (x : ClientState). (client_step x c.args.event).state) found)

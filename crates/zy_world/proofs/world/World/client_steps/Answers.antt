@@ -1,7 +1,7 @@
 use Rattle.std.proofs.Common.{◌≡◌, sym, ◌∙◌, subst}
 use Rattle.std.proofs.lemmas.Result.{err_from_is_err_and}
 use Rattle.std.specs.Prelude.{slice_get}
-use Rattle.zy_client.specs.Hearing.{whole_client_step}
+use Rattle.zy_table.specs.ClientRows.{client_step}
 use Rattle.zy_table.specs.ClientState.{ClientState, ClientOutcome}
 use Rattle.zy_world.specs.Answered.{GoesTo}
 use Rattle.zy_world.specs.Shown.{Shown}
@@ -14,12 +14,12 @@ pub returns-in-None-clause-goes : goal.returns-in-None-clause-goes
 returns-in-None-clause-goes g c w s =
     let i = subst (λ (v : Shown g.row.M-State.Denot). Shows w v) (sym c.self.view_is) s in
     subst (λ (h : Happened g.row.M-State.Denot). GoesTo h c.no_subject.result.note c.no_subject.result.world) (sym (steps_is w c.args.id c.args.event (slice_get w.clients c.args.id.0)))
-    (no_client_turns w _ i c.args.id (λ x. whole_client_step x c.args.event) _ _ c.in-None.is c.in_ok-step_client.ensures.missing c.in_ok-step_client.ensures.stepped _ _ c.no_subject.ensures)
+    (no_client_turns w _ i c.args.id (λ x. client_step x c.args.event) _ _ c.in-None.is c.in_ok-step_client.ensures.missing c.in_ok-step_client.ensures.stepped _ _ c.no_subject.ensures)
 
 pub returns-in_ok-client_stepped-in-Some-clause-goes : goal.returns-in_ok-client_stepped-in-Some-clause-goes
 returns-in_ok-client_stepped-in-Some-clause-goes g c w s =
     let i = subst (λ (v : Shown g.row.M-State.Denot). Shows w v) (sym c.self.view_is) s in
-    let row : ClientState → ClientOutcome = λ x. whole_client_step x c.args.event in
+    let row : ClientState → ClientOutcome = λ x. client_step x c.args.event in
     let t = client_turn w _ i c.args.id row _ _ _ c.in-Some.is c.in_ok-step_client.ensures.missing c.in_ok-step_client.ensures.stepped c.in_ok-step_client.ensures.state in
     subst (λ (h : Happened g.row.M-State.Denot). GoesTo h c.in_ok-client_stepped-in-Some.field-0.note c.in_ok-client_stepped-in-Some.field-0.world)
     (sym (steps_is w c.args.id c.args.event (slice_get w.clients c.args.id.0) ∙ t.is))
