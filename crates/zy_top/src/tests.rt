@@ -73,21 +73,21 @@ const JOBS_DONE: &str =
 
 const LOCK: &str = "cas (\"lock\" *) (\"lock\" 7)\ncas (\"lock\" *) (\"lock\" 7)\nrdp (\"lock\" *)";
 
-const fn refused(line: u64, rule: u8) -> Exit {
-    Exit::Text { line, rule }
-}
-
 /// A script, how it ends, and what is written.
 const SCRIPTS: [(&str, Exit, &str); 9] = [
     ("", Exit::Done, ""),
     (JOBS, Exit::Done, JOBS_DONE),
     (LOCK, Exit::Done, "true\nfalse\ntuple (\"lock\" 7)\n"),
     ("\n# out (1)\n\nout (1)\n#", Exit::Done, "ok\n"),
-    ("out (\"a\")\nrdp ()\n", refused(2, 3), ""),
-    ("out (\"a\")\n\n#\nput (1)\nrdp ()\n", refused(4, 1), ""),
-    ("out (1)\r\n", refused(1, 6), ""),
-    (" \n", refused(1, 1), ""),
-    ("out (1)\n#\nout (*)", refused(3, 7), ""),
+    ("out (\"a\")\nrdp ()\n", Exit::Text { line: 2, rule: 3 }, ""),
+    (
+        "out (\"a\")\n\n#\nput (1)\nrdp ()\n",
+        Exit::Text { line: 4, rule: 1 },
+        "",
+    ),
+    ("out (1)\r\n", Exit::Text { line: 1, rule: 6 }, ""),
+    (" \n", Exit::Text { line: 1, rule: 1 }, ""),
+    ("out (1)\n#\nout (*)", Exit::Text { line: 3, rule: 7 }, ""),
 ];
 
 #[test]
@@ -349,7 +349,7 @@ const GROUPS: [(&str, &str, Exit); 6] = [
     ("1", "lying_clients = [1]", Exit::Group(5)),
     ("1", "ots = 5", Exit::Group(8)),
     ("1", "f = 1", Exit::Group(0)),
-    ("1", "", refused(2, 1)),
+    ("1", "", Exit::Text { line: 2, rule: 1 }),
 ];
 
 #[test]
