@@ -12,81 +12,30 @@ use zy_base::{Answer, Bytes, Cause, Counts, Party, Place, ReplicaId, View};
 use zy_change::{Accepted, Chosen, Owed, ViewMachine};
 use zy_parts::{Began, Signed};
 
-// The view that is adopted, with which choice, and how many entries its report has.
-#[derive(Clone, Copy, Debug, PartialEq)]
-struct Adopted {
-    view: View,
-    chosen: Chosen,
-    entries: usize,
-}
-
-// The answer, what is left, confirmed and adopted, and how much is signed.
-#[derive(Clone, Copy, Debug, PartialEq)]
-struct Due {
-    answer: Answer,
-    leave: Option<View>,
-    confirm: Option<Chosen>,
-    adopt: Option<Adopted>,
-    signs: u64,
-}
+// The answer, what is left and confirmed, what is adopted with how many entries in its report, and how much is signed.
+type Due = (
+    Answer,
+    Option<View>,
+    Option<Chosen>,
+    Option<(View, Chosen, usize)>,
+    u64,
+);
 
 fn due_of(owed: &Owed) -> Due {
     let adopt = match &owed.adopt {
         None => None,
-        Some(adoption) => Some(Adopted {
-            view: adoption.view,
-            chosen: adoption.chosen,
-            entries: adoption.told.entries.len(),
-        }),
+        Some(adoption) => Some((adoption.view, adoption.chosen, adoption.told.entries.len())),
     };
-    Due {
-        answer: owed.answer,
-        leave: owed.leave,
-        confirm: owed.confirm,
-        adopt,
-        signs: owed.signs,
-    }
+    (owed.answer, owed.leave, owed.confirm, adopt, owed.signs)
 }
 
 // Nothing but the answer.
 const fn only(answer: Answer) -> Due {
-    Due {
-        answer,
-        leave: None,
-        confirm: None,
-        adopt: None,
-        signs: 0,
-    }
+    (answer, None, None, None, 0)
 }
 
 const fn refused(cause: Cause) -> Due {
     only(Answer::Refused(cause))
-}
-
-// A choice is confirmed, with what is left for it, and signed.
-fn confirms(leave: Option<View>, chosen: Chosen, signs: u64) -> Due {
-    Due {
-        leave,
-        confirm: Some(chosen),
-        signs,
-        ..only(Answer::Taken)
-    }
-}
-
-// Each of these histories has three entries.
-fn adoption_of(provider: usize, letters: &[u8]) -> Option<Adopted> {
-    Some(Adopted {
-        view: View(1),
-        chosen: chosen(provider, letters),
-        entries: 3,
-    })
-}
-
-fn adopts(provider: usize, letters: &[u8]) -> Due {
-    Due {
-        adopt: adoption_of(provider, letters),
-        ..only(Answer::Taken)
-    }
 }
 
 fn chosen(provider: usize, letters: &[u8]) -> Chosen {
@@ -353,13 +302,12 @@ const CONFIRMED: [(u64, u64, &[Report], usize, &[u8]); 6] = [
 fn choices_are_confirmed(rt: HostRuntime) -> Result<(), Fail> {
     for (left, view, reports, provider, letters) in &CONFIRMED {
         let due = owed_for_new(&rt, rt.alloc(), (3, *left), *view, reports)?;
-        let choice = chosen(*provider, letters);
-        let wanted = if left == view {
-            confirms(None, choice, 1)
+        let choice = Some(chosen(*provider, letters));
+        if left == view {
+            assert_eq!(rt; due, (Answer::Taken, None, choice, None, 1));
         } else {
-            confirms(Some(View(*view)), choice, 2)
-        };
-        assert_eq!(rt; due, wanted);
+            assert_eq!(rt; due, (Answer::Taken, Some(View(*view)), choice, None, 2));
+        }
     }
     Ok(())
 }
@@ -406,12 +354,12 @@ fn hear<R: Abort>(
 fn confirm<R: Abort>(
     rt: &R,
     alloc: Global,
-    mut machine: ViewMachine,
+    machine: &mut ViewMachine,
     view: u64,
     reports: &[Report],
-) -> Result<(ViewMachine, Due), Fail> {
+) -> Result<Due, Fail> {
     let frame = new_of(alloc, view, reports)?;
-    let owed = new_view(alloc, &machine, &frame)?;
+    let owed = new_view(alloc, machine, &frame)?;
     let due = due_of(&owed);
     match owed.confirm {
         None => Err(Fail::from("nothing to confirm")),
@@ -425,92 +373,58 @@ fn confirm<R: Abort>(
                 sig: Bytes::new(alloc),
             };
             machine.accept(accepted, own);
-            Ok((machine, due))
+            Ok(due)
         }
     }
 }
 
-// Whose confirmation is heard, of which view and history, and the answer.
-type Heard = (u8, u64, &'static [u8], Answer);
+// Whose confirmation is heard, for which view, place and head, and what it owes.
+type Heard = (u8, At, Due);
 
-const OLD: Answer = Answer::Refused(Cause::OldView);
-
-const REPEAT: Answer = Answer::Refused(Cause::Repeat);
-
-// What says another thing of its view is dropped.
-const BEFORE: [Heard; 7] = [
-    (3, 0, b"xyz", OLD),
-    (3, 2, b"xy", Answer::Held),
-    (3, 2, b"xy", REPEAT),
-    (3, 1, b"xyz", REPEAT),
-    (1, 1, b"xyz", Answer::Held),
-    (0, 1, b"xyw", Answer::Held),
-    (0, 1, b"xyz", REPEAT),
-];
-
-const AFTER: [Heard; 3] = [
-    (1, 1, b"xyz", REPEAT),
-    (0, 0, b"xyz", OLD),
-    (0, 2, b"xyz", Answer::Held),
-];
-
-// They owe nothing but these answers.
 fn hear_all<R: Abort>(
     rt: &R,
     alloc: Global,
-    mut machine: ViewMachine,
+    machine: &mut ViewMachine,
     rows: &[Heard],
-) -> Result<ViewMachine, Fail> {
-    for (by, view, letters, answer) in rows {
-        let due = hear(rt, alloc, &mut machine, *by, end_of(*view, letters))?;
-        assert_eq!(rt; due, only(*answer));
-    }
-    Ok(machine)
-}
-
-// Replica 2 hears confirmations, and then the new view.
-fn confirmed_late<R: Abort>(rt: &R, alloc: Global) -> Result<ViewMachine, Fail> {
-    let machine = hear_all(rt, alloc, replica(rt, alloc, 2, 0)?, &BEFORE)?;
-    let (machine, due) = confirm(rt, alloc, machine, 1, &CERTIFIED)?;
-    assert_eq!(rt; due, confirms(Some(View(1)), chosen(0, b"xyz"), 2));
-    Ok(machine)
-}
-
-// The third confirmation of the history that was chosen.
-fn hear_third<R: Abort>(
-    rt: &R,
-    alloc: Global,
-    mut machine: ViewMachine,
-) -> Result<ViewMachine, Fail> {
-    let due = hear(rt, alloc, &mut machine, 0, end_of(1, b"xyz"))?;
-    assert_eq!(rt; due, adopts(0, b"xyz"));
-    Ok(machine)
-}
-
-// Neither counts towards the third.
-#[test]
-fn other_histories_are_not_counted(rt: HostRuntime) -> Result<(), Fail> {
-    let alloc = rt.alloc();
-    let other = Cause::OtherHistory(head_of(b"xyz"), head_of(b"xyw"));
-    for (at, cause) in [
-        (end_of(1, b"xyw"), other),
-        ((1, 2, head_of(b"xyz")), Cause::Unmatched),
-    ] {
-        let mut machine = confirmed_late(&rt, alloc)?;
-        let due = hear(&rt, alloc, &mut machine, 0, at)?;
-        assert_eq!(rt; due, refused(cause));
-        hear_third(&rt, alloc, machine)?;
+) -> Result<(), Fail> {
+    for (by, at, due) in rows {
+        assert_eq!(rt; hear(rt, alloc, machine, *by, *at)?, *due);
     }
     Ok(())
 }
 
+// Replica 2 hears them before the new view and after it. What says another thing of its view is dropped.
 #[test]
-fn confirmations_after_the_third_are_judged(rt: HostRuntime) -> Result<(), Fail> {
+fn confirmations_are_judged(rt: HostRuntime) -> Result<(), Fail> {
     let alloc = rt.alloc();
-    let machine = hear_third(&rt, alloc, confirmed_late(&rt, alloc)?)?;
-    let machine = hear_all(&rt, alloc, machine, &AFTER)?;
+    let choice = chosen(0, b"xyz");
+    let (old, repeat) = (refused(Cause::OldView), refused(Cause::Repeat));
+    let other = refused(Cause::OtherHistory(head_of(b"xyz"), head_of(b"xyw")));
+    let before = [
+        (3, end_of(0, b"xyz"), old),
+        (3, end_of(2, b"xy"), only(Answer::Held)),
+        (3, end_of(2, b"xy"), repeat),
+        (3, end_of(1, b"xyz"), repeat),
+        (1, end_of(1, b"xyz"), only(Answer::Held)),
+        (0, end_of(1, b"xyw"), only(Answer::Held)),
+        (0, end_of(1, b"xyz"), repeat),
+    ];
+    let adopted = (Answer::Taken, None, None, Some((View(1), choice, 3)), 0);
+    let after = [
+        (0, end_of(1, b"xyw"), other),
+        (0, (1, 2, head_of(b"xyz")), refused(Cause::Unmatched)),
+        (0, end_of(1, b"xyz"), adopted),
+        (1, end_of(1, b"xyz"), repeat),
+        (0, end_of(0, b"xyz"), old),
+        (0, end_of(2, b"xyz"), only(Answer::Held)),
+    ];
+    let mut machine = replica(&rt, alloc, 2, 0)?;
+    hear_all(&rt, alloc, &mut machine, &before)?;
+    let due = confirm(&rt, alloc, &mut machine, 1, &CERTIFIED)?;
+    assert_eq!(rt; due, (Answer::Taken, Some(View(1)), Some(choice), None, 2));
+    hear_all(&rt, alloc, &mut machine, &after)?;
     let again = owed_by(alloc, &machine, 1, &CERTIFIED)?;
-    assert_eq!(rt; again, only(REPEAT));
+    assert_eq!(rt; again, repeat);
     Ok(())
 }
 
@@ -526,20 +440,21 @@ const CONFIRMED_BEFORE: [(u64, &[u8], u64, &[u8], bool); 4] = [
 #[test]
 fn enough_confirmed_it_before(rt: HostRuntime) -> Result<(), Fail> {
     let alloc = rt.alloc();
+    let choice = chosen(1, b"xyw");
     for (view, letters, other_view, others, begins) in &CONFIRMED_BEFORE {
         let mut machine = replica(&rt, alloc, 3, 0)?;
         hear(&rt, alloc, &mut machine, 0, end_of(*view, letters))?;
         hear(&rt, alloc, &mut machine, 2, end_of(*other_view, others))?;
-        let (_, due) = confirm(&rt, alloc, machine, 1, &SHARED)?;
-        let wanted = Due {
-            adopt: if *begins {
-                adoption_of(1, b"xyw")
-            } else {
-                None
-            },
-            ..confirms(Some(View(1)), chosen(1, b"xyw"), 2)
+        let due = confirm(&rt, alloc, &mut machine, 1, &SHARED)?;
+        let adopted = if *begins {
+            Some((View(1), choice, 3))
+        } else {
+            None
         };
-        assert_eq!(rt; due, wanted);
+        assert_eq!(rt;
+            due,
+            (Answer::Taken, Some(View(1)), Some(choice), adopted, 2)
+        );
     }
     Ok(())
 }
@@ -625,10 +540,11 @@ fn confirmations_of_certificates_are_judged(rt: HostRuntime) -> Result<(), Fail>
 // The primary of the view is no other, nor is one that left for it.
 #[test]
 fn certificates_are_adopted(rt: HostRuntime) -> Result<(), Fail> {
+    let adopted = Some((View(1), chosen(1, b"xyw"), 3));
     for own in [(3, 0), (3, 1), (1, 1)] {
         let confirmed = confirmed(end_of(1, b"xyw"));
         let due = owed_for_cert(&rt, rt.alloc(), own, &SHARED, &confirmed)?;
-        assert_eq!(rt; due, adopts(1, b"xyw"));
+        assert_eq!(rt; due, (Answer::Taken, None, None, adopted, 0));
     }
     Ok(())
 }
