@@ -140,6 +140,10 @@ fn refused(cause: Cause) -> Due {
     only(Answer::Refused(cause))
 }
 
+fn owes<R: Abort>(rt: &R, due: Due, want: Due) {
+    assert_eq!(rt; due, want);
+}
+
 fn leaves(view: u64) -> Due {
     (Answer::Taken, Some(View(view)), None, None, 1)
 }
@@ -200,11 +204,11 @@ fn count_hate<R: Abort>(rt: &R, alloc: Global, machine: &mut ViewMachine, by: u8
 fn go<R: Abort>(rt: &R, alloc: Global, machine: &mut ViewMachine, turn: Turn) -> Result<(), Fail> {
     match turn {
         Turn::Hates(by, view, want) => {
-            assert_eq!(rt; hate(rt, alloc, machine, by, view)?, want);
+            owes(rt, hate(rt, alloc, machine, by, view)?, want);
         }
         Turn::Counts(by, view) => count_hate(rt, alloc, machine, by, view),
         Turn::Reports(by, view, want) => {
-            assert_eq!(rt; report(rt, alloc, machine, by, view)?, want);
+            owes(rt, report(rt, alloc, machine, by, view)?, want);
         }
         Turn::Keeps(by, view, letters) => keep(rt, alloc, machine, (by, view), letters)?,
         Turn::Leaves(view) => leave(rt, machine, view),
@@ -212,11 +216,20 @@ fn go<R: Abort>(rt: &R, alloc: Global, machine: &mut ViewMachine, turn: Turn) ->
     Ok(())
 }
 
-#[test]
-fn hates_in_turn(rt: HostRuntime) -> Result<(), Fail> {
-    let alloc = rt.alloc();
-    let mut machine = replica(&rt, alloc, 0)?;
-    for turn in [
+fn go_all<R: Abort>(
+    rt: &R,
+    alloc: Global,
+    machine: &mut ViewMachine,
+    turns: &[Turn],
+) -> Result<(), Fail> {
+    for turn in turns {
+        go(rt, alloc, machine, *turn)?;
+    }
+    Ok(())
+}
+
+fn turns_of_hates() -> [Turn; 8] {
+    [
         Turn::Hates(1, 1, refused(Cause::NewerView)),
         Turn::Hates(1, 0, only(Answer::Taken)),
         Turn::Counts(1, 0),
@@ -225,10 +238,14 @@ fn hates_in_turn(rt: HostRuntime) -> Result<(), Fail> {
         Turn::Leaves(1),
         Turn::Hates(1, 0, refused(Cause::OldView)),
         Turn::Hates(1, 1, only(Answer::Taken)),
-    ] {
-        go(&rt, alloc, &mut machine, turn)?;
-    }
-    Ok(())
+    ]
+}
+
+#[test]
+fn hates_in_turn(rt: HostRuntime) -> Result<(), Fail> {
+    let alloc = rt.alloc();
+    let mut machine = replica(&rt, alloc, 0)?;
+    go_all(&rt, alloc, &mut machine, &turns_of_hates())
 }
 
 // What a report owes, where the own history is of these letters.
@@ -293,18 +310,18 @@ fn keep<R: Abort>(
     Ok(())
 }
 
-// The history that replicas 2 and 3 share goes before that of the primary.
-#[test]
-fn reports_in_turn(rt: HostRuntime) -> Result<(), Fail> {
-    let alloc = rt.alloc();
-    let mut machine = replica(&rt, alloc, 1)?;
-    let shared = Some(Chosen {
+// The choice where replicas 2 and 3 share this history.
+fn shared_by_two<R: Abort>(rt: &R, alloc: Global) -> Result<Option<Chosen>, Fail> {
+    Ok(Some(Chosen {
         provider: 1,
         place: Place(3),
-        head: history(&rt, alloc, b"xyw")?.head(),
-    });
+        head: history(rt, alloc, b"xyw")?.head(),
+    }))
+}
+
+fn turns_of_reports(shared: Option<Chosen>) -> [Turn; 10] {
     let given = Some(View(1));
-    for turn in [
+    [
         Turn::Reports(2, 1, only(Answer::Taken)),
         Turn::Keeps(2, 1, b"xyw"),
         Turn::Reports(2, 1, refused(Cause::Repeat)),
@@ -315,30 +332,60 @@ fn reports_in_turn(rt: HostRuntime) -> Result<(), Fail> {
         Turn::Reports(3, 1, (Answer::Taken, None, given, shared, 2)),
         Turn::Leaves(2),
         Turn::Reports(3, 1, refused(Cause::OldView)),
-    ] {
-        go(&rt, alloc, &mut machine, turn)?;
-    }
+    ]
+}
+
+// The history that replicas 2 and 3 share goes before that of the primary.
+#[test]
+fn reports_in_turn(rt: HostRuntime) -> Result<(), Fail> {
+    let alloc = rt.alloc();
+    let turns = turns_of_reports(shared_by_two(&rt, alloc)?);
+    let mut machine = replica(&rt, alloc, 1)?;
+    go_all(&rt, alloc, &mut machine, &turns)?;
     assert!(rt; machine.own_change().is_some() && machine.kept_cert().is_none());
     Ok(())
+}
+
+// What leaving for a view owes, where the own history is of one entry.
+fn leaves_for<R: Abort>(
+    rt: &R,
+    alloc: Global,
+    machine: &ViewMachine,
+    view: u64,
+) -> Result<Due, Fail> {
+    let own = told(rt, alloc, machine, b"x")?;
+    assert_eq!(rt; own.entries.len(), 1);
+    let is_true = is_true_report(alloc, machine, &own)?;
+    assert!(rt; is_true && machine.view().0 < view);
+    Ok(due(&machine.leaving(View(view), &own)?))
+}
+
+fn leaves_for_each<R: Abort>(
+    rt: &R,
+    alloc: Global,
+    machine: &ViewMachine,
+    rows: &[(u64, Due)],
+) -> Result<(), Fail> {
+    for row in rows {
+        owes(rt, leaves_for(rt, alloc, machine, row.0)?, row.1);
+    }
+    Ok(())
+}
+
+fn views_to_leave_for() -> [(u64, Due); 3] {
+    let last = (1 << 62) - 1;
+    [
+        (1, leaves(1)),
+        (last, leaves(last)),
+        (last + 1, refused(Cause::NewerView)),
+    ]
 }
 
 #[test]
 fn leaves_for_views(rt: HostRuntime) -> Result<(), Fail> {
     let alloc = rt.alloc();
     let machine = replica(&rt, alloc, 2)?;
-    let own = told(&rt, alloc, &machine, b"x")?;
-    let is_true = is_true_report(alloc, &machine, &own)?;
-    assert!(rt; is_true);
-    assert_eq!(rt; own.entries.len(), 1);
-    for (view, want) in [
-        (1, leaves(1)),
-        ((1 << 62) - 1, leaves((1 << 62) - 1)),
-        (1 << 62, refused(Cause::NewerView)),
-    ] {
-        assert!(rt; machine.view().0 < view);
-        assert_eq!(rt; due(&machine.leaving(View(view), &own)?), want);
-    }
-    Ok(())
+    leaves_for_each(&rt, alloc, &machine, &views_to_leave_for())
 }
 
 // A report that breaks a rule, by its number.
@@ -362,19 +409,33 @@ fn broken(number: u8, told: Told) -> Told
     }
 }
 
+// What a report that breaks a rule owes.
+fn broken_report<R: Abort>(
+    rt: &R,
+    alloc: Global,
+    machine: &ViewMachine,
+    number: u8,
+) -> Result<Due, Fail> {
+    let told = told(rt, alloc, machine, b"x")?;
+    change(rt, alloc, machine, &vote(alloc, 2, 1, broken(number, told)))
+}
+
+fn judges_broken_reports<R: Abort>(
+    rt: &R,
+    alloc: Global,
+    machine: &ViewMachine,
+    rules: &[u8],
+) -> Result<(), Fail> {
+    for rule in rules {
+        let due = broken_report(rt, alloc, machine, *rule)?;
+        owes(rt, due, refused(Cause::BadReport(*rule)));
+    }
+    Ok(())
+}
+
 #[test]
 fn reports_that_break_a_rule(rt: HostRuntime) -> Result<(), Fail> {
     let alloc = rt.alloc();
     let machine = replica(&rt, alloc, 1)?;
-    for number in [2, 3, 5] {
-        let report = vote(
-            alloc,
-            2,
-            1,
-            broken(number, told(&rt, alloc, &machine, b"x")?),
-        );
-        let want = refused(Cause::BadReport(number));
-        assert_eq!(rt; change(&rt, alloc, &machine, &report)?, want);
-    }
-    Ok(())
+    judges_broken_reports(&rt, alloc, &machine, &[2, 3, 5])
 }
