@@ -1,7 +1,11 @@
 mod fixture;
 
-ghost use Rattle.std.specs.Prelude.{◌≡◌, length};
+ghost use Rattle.std.specs.Prelude.{◌≡◌, length, All, IfOk};
 ghost use Rattle.zy_base.specs.declared.ids.Party.TheVariants.{Replica};
+ghost use Rattle.zy_parts.specs.Reports.{IsNewInRange};
+ghost use Rattle.zy_parts.specs.Signing.{IsSignedInRange};
+ghost use Rattle.zy_evidence.specs.Reading.{IsReplica};
+ghost use Rattle.zy_change.specs.Fit.{IsAccepted};
 
 use super::*;
 use fixture::{At, Confirmed, PLAIN, Report, cert_of, end_of, head_of, new_of};
@@ -10,7 +14,7 @@ use std::process::Abort;
 use std::test::Fail;
 use zy_base::{Answer, Bytes, Cause, Counts, Party, Place, ReplicaId, View};
 use zy_change::{Accepted, Chosen, Owed, ViewMachine};
-use zy_parts::{Began, Signed};
+use zy_parts::{Began, New, Signed};
 
 // The answer, what is left and confirmed, what is adopted with how many entries in its report, and how much is signed.
 type Due = (
@@ -36,6 +40,10 @@ const fn only(answer: Answer) -> Due {
 
 const fn refused(cause: Cause) -> Due {
     only(Answer::Refused(cause))
+}
+
+fn owes<R: Abort>(rt: &R, due: Due, want: Due) {
+    assert_eq!(rt; due, want);
 }
 
 fn chosen(provider: usize, letters: &[u8]) -> Chosen {
@@ -128,6 +136,7 @@ const SHARED: [Report; 3] = [PLAIN, TWO, THREE];
 // For another view.
 const LATER: Report = Report { by: 3, ..BEHIND };
 
+// What a new view owes.
 fn owed_by(
     alloc: Global,
     machine: &ViewMachine,
@@ -167,9 +176,9 @@ const REFUSED: [(u64, u64, &[Report], Cause); 11] = [
 // Replica 2 hears it.
 #[test]
 fn new_views_are_judged(rt: HostRuntime) -> Result<(), Fail> {
-    for (left, view, reports, cause) in &REFUSED {
-        let due = owed_for_new(&rt, rt.alloc(), (2, *left), *view, reports)?;
-        assert_eq!(rt; due, refused(*cause));
+    for row in &REFUSED {
+        let due = owed_for_new(&rt, rt.alloc(), (2, row.0), row.1, row.2)?;
+        owes(&rt, due, refused(row.3));
     }
     Ok(())
 }
@@ -237,27 +246,31 @@ const BROKEN: [(u8, Report); 8] = [
     (9, UNFIT),
 ];
 
-// The first rule counts that the first bad report breaks; the last one breaks another.
+// A new view in which a report breaks a rule, and the next one another.
+fn owed_for_broken<R: Abort>(rt: &R, alloc: Global, number: u8, bad: &Report) -> Result<Due, Fail> {
+    let plain = Report {
+        view: bad.view,
+        ..PLAIN
+    };
+    let last_view = if number == 3 { bad.view } else { 0 };
+    let reports = [
+        Report { by: 1, ..plain },
+        *bad,
+        Report {
+            by: 2,
+            last: (last_view, b"x"),
+            ..plain
+        },
+    ];
+    owed_for_new(rt, alloc, (2, 0), bad.view, &reports)
+}
+
+// The first rule counts that the first bad report breaks.
 #[test]
 fn reports_of_new_views_are_judged(rt: HostRuntime) -> Result<(), Fail> {
-    for (number, bad) in &BROKEN {
-        let last_view = if *number == 3 { bad.view } else { 0 };
-        let reports = [
-            Report {
-                by: 1,
-                view: bad.view,
-                ..PLAIN
-            },
-            *bad,
-            Report {
-                by: 2,
-                view: bad.view,
-                last: (last_view, b"x"),
-                ..PLAIN
-            },
-        ];
-        let due = owed_for_new(&rt, rt.alloc(), (2, 0), bad.view, &reports)?;
-        assert_eq!(rt; due, refused(Cause::BadReport(*number)), "rule {number}");
+    for row in &BROKEN {
+        let due = owed_for_broken(&rt, rt.alloc(), row.0, &row.1)?;
+        owes(&rt, due, refused(Cause::BadReport(row.0)));
     }
     Ok(())
 }
@@ -282,13 +295,15 @@ const CLASHING: [Report; 3] = [
 fn anchors_clash(rt: HostRuntime) -> Result<(), Fail> {
     let due = owed_for_new(&rt, rt.alloc(), (2, 0), 1, &CLASHING)?;
     let clash = Cause::AnchorClash(head_of(b"x"), head_of(b"u"));
-    assert_eq!(rt; due, refused(clash));
+    owes(&rt, due, refused(clash));
     Ok(())
 }
 
 // For which view the replica has left, unless it is 0; the new view, its reports, and the provider and the history that
 // are chosen.
-const CONFIRMED: [(u64, u64, &[Report], usize, &[u8]); 6] = [
+type Choice = (u64, u64, &'static [Report], usize, &'static [u8]);
+
+const CONFIRMED: [Choice; 6] = [
     (0, 1, &CERTIFIED, 0, b"xyz"),
     (0, 2, &LATEST, 0, b"xy"),
     (1, 2, &BEGUN, 0, b"xyz"),
@@ -297,17 +312,22 @@ const CONFIRMED: [(u64, u64, &[Report], usize, &[u8]); 6] = [
     (1, 1, &SHARED, 1, b"xyw"),
 ];
 
+// A view that isn't left for yet is left for first.
+fn confirms(row: &Choice) -> Due {
+    let choice = Some(chosen(row.3, row.4));
+    if row.0 == row.1 {
+        (Answer::Taken, None, choice, None, 1)
+    } else {
+        (Answer::Taken, Some(View(row.1)), choice, None, 2)
+    }
+}
+
 // Replica 3 hears it.
 #[test]
 fn choices_are_confirmed(rt: HostRuntime) -> Result<(), Fail> {
-    for (left, view, reports, provider, letters) in &CONFIRMED {
-        let due = owed_for_new(&rt, rt.alloc(), (3, *left), *view, reports)?;
-        let choice = Some(chosen(*provider, letters));
-        if left == view {
-            assert_eq!(rt; due, (Answer::Taken, None, choice, None, 1));
-        } else {
-            assert_eq!(rt; due, (Answer::Taken, Some(View(*view)), choice, None, 2));
-        }
+    for row in &CONFIRMED {
+        let due = owed_for_new(&rt, rt.alloc(), (3, row.0), row.1, row.2)?;
+        owes(&rt, due, confirms(row));
     }
     Ok(())
 }
@@ -350,6 +370,35 @@ fn hear<R: Abort>(
     Ok(due)
 }
 
+// What a new view owes, and its choice.
+fn choose(alloc: Global, machine: &ViewMachine, frame: &Signed<New>) -> Result<(Due, Chosen), Fail>
+    requires signers { All (λ c. IsReplica c.by) frame.now.stmt.changes }
+    requires in_range { IsSignedInRange IsNewInRange frame.now }
+    ensures { IfOk result (λ r. IsAccepted machine.now.counts machine.now.interval (record { new = frame.now; chosen = r.1 })) }
+{
+    let owed = new_view(alloc, machine, frame)?;
+    match owed.confirm {
+        None => Err(Fail::from("nothing to confirm")),
+        Some(chosen) => Ok((due_of(&owed), chosen)),
+    }
+}
+
+// The view is left for, and the choice confirmed.
+fn accept<R: Abort>(rt: &R, alloc: Global, machine: &mut ViewMachine, accepted: Accepted)
+    requires accepted { IsAccepted machine.old.counts machine.old.interval accepted }
+    requires in_range { IsSignedInRange IsNewInRange accepted.new }
+{
+    let view = accepted.new.stmt.view;
+    assert!(rt; machine.last_view() <= view && accepted.chosen.place.0 < 1 << 62);
+    machine.leave(view);
+    let own = Signed {
+        by: Party::Replica(machine.me()),
+        stmt: accepted.began(),
+        sig: Bytes::new(alloc),
+    };
+    machine.accept(accepted, own);
+}
+
 // What the new view owes, which is then confirmed.
 fn confirm<R: Abort>(
     rt: &R,
@@ -358,24 +407,10 @@ fn confirm<R: Abort>(
     view: u64,
     reports: &[Report],
 ) -> Result<Due, Fail> {
-    let frame = new_of(alloc, view, reports)?;
-    let owed = new_view(alloc, machine, &frame)?;
-    let due = due_of(&owed);
-    match owed.confirm {
-        None => Err(Fail::from("nothing to confirm")),
-        Some(chosen) => {
-            assert!(rt; machine.last_view() <= frame.stmt.view);
-            machine.leave(frame.stmt.view);
-            let accepted = Accepted { new: frame, chosen };
-            let own = Signed {
-                by: Party::Replica(machine.me()),
-                stmt: accepted.began(),
-                sig: Bytes::new(alloc),
-            };
-            machine.accept(accepted, own);
-            Ok(due)
-        }
-    }
+    let new = new_of(alloc, view, reports)?;
+    let (due, chosen) = choose(alloc, machine, &new)?;
+    accept(rt, alloc, machine, Accepted { new, chosen });
+    Ok(due)
 }
 
 // Whose confirmation is heard, for which view, place and head, and what it owes.
@@ -388,73 +423,109 @@ fn hear_all<R: Abort>(
     rows: &[Heard],
 ) -> Result<(), Fail> {
     for (by, at, due) in rows {
-        assert_eq!(rt; hear(rt, alloc, machine, *by, *at)?, *due);
+        owes(rt, hear(rt, alloc, machine, *by, *at)?, *due);
     }
     Ok(())
 }
 
-// Replica 2 hears them before the new view and after it. What says another thing of its view is dropped.
-#[test]
-fn confirmations_are_judged(rt: HostRuntime) -> Result<(), Fail> {
-    let alloc = rt.alloc();
-    let choice = chosen(0, b"xyz");
+fn before_the_new_view() -> [Heard; 7] {
+    let held = only(Answer::Held);
     let (old, repeat) = (refused(Cause::OldView), refused(Cause::Repeat));
-    let other = refused(Cause::OtherHistory(head_of(b"xyz"), head_of(b"xyw")));
-    let before = [
+    [
         (3, end_of(0, b"xyz"), old),
-        (3, end_of(2, b"xy"), only(Answer::Held)),
+        (3, end_of(2, b"xy"), held),
         (3, end_of(2, b"xy"), repeat),
         (3, end_of(1, b"xyz"), repeat),
-        (1, end_of(1, b"xyz"), only(Answer::Held)),
-        (0, end_of(1, b"xyw"), only(Answer::Held)),
+        (1, end_of(1, b"xyz"), held),
+        (0, end_of(1, b"xyw"), held),
         (0, end_of(1, b"xyz"), repeat),
-    ];
-    let adopted = (Answer::Taken, None, None, Some((View(1), choice, 3)), 0);
-    let after = [
-        (0, end_of(1, b"xyw"), other),
+    ]
+}
+
+// What says another thing of the new view is dropped with it.
+fn after_the_new_view() -> [Heard; 6] {
+    let other = Cause::OtherHistory(head_of(b"xyz"), head_of(b"xyw"));
+    let adopted = Some((View(1), chosen(0, b"xyz"), 3));
+    [
+        (0, end_of(1, b"xyw"), refused(other)),
         (0, (1, 2, head_of(b"xyz")), refused(Cause::Unmatched)),
-        (0, end_of(1, b"xyz"), adopted),
-        (1, end_of(1, b"xyz"), repeat),
-        (0, end_of(0, b"xyz"), old),
+        (
+            0,
+            end_of(1, b"xyz"),
+            (Answer::Taken, None, None, adopted, 0),
+        ),
+        (1, end_of(1, b"xyz"), refused(Cause::Repeat)),
+        (0, end_of(0, b"xyz"), refused(Cause::OldView)),
         (0, end_of(2, b"xyz"), only(Answer::Held)),
-    ];
-    let mut machine = replica(&rt, alloc, 2, 0)?;
-    hear_all(&rt, alloc, &mut machine, &before)?;
-    let due = confirm(&rt, alloc, &mut machine, 1, &CERTIFIED)?;
-    assert_eq!(rt; due, (Answer::Taken, Some(View(1)), Some(choice), None, 2));
-    hear_all(&rt, alloc, &mut machine, &after)?;
-    let again = owed_by(alloc, &machine, 1, &CERTIFIED)?;
-    assert_eq!(rt; again, repeat);
+    ]
+}
+
+// The new view is confirmed between them, and heard once more.
+fn confirms_between<R: Abort>(
+    rt: &R,
+    alloc: Global,
+    machine: &mut ViewMachine,
+) -> Result<(), Fail> {
+    hear_all(rt, alloc, machine, &before_the_new_view())?;
+    let due = confirm(rt, alloc, machine, 1, &CERTIFIED)?;
+    owes(rt, due, confirms(&CONFIRMED[0]));
+    hear_all(rt, alloc, machine, &after_the_new_view())?;
+    let again = owed_by(alloc, machine, 1, &CERTIFIED)?;
+    owes(rt, again, refused(Cause::Repeat));
     Ok(())
 }
 
+#[test]
+fn confirmations_are_judged(rt: HostRuntime) -> Result<(), Fail> {
+    let alloc = rt.alloc();
+    let mut machine = replica(&rt, alloc, 2, 0)?;
+    confirms_between(&rt, alloc, &mut machine)
+}
+
 // For which view and history replicas 0 and 2 confirm, and whether the new view begins with that.
-const CONFIRMED_BEFORE: [(u64, &[u8], u64, &[u8], bool); 4] = [
-    (1, b"xyw", 1, b"xyw", true),
-    (1, b"xyw", 1, b"xyz", false),
-    (1, b"xy", 1, b"xyw", false),
-    (1, b"xyw", 2, b"xyw", false),
+type Before = ((u64, &'static [u8]), (u64, &'static [u8]), bool);
+
+const CONFIRMED_BEFORE: [Before; 4] = [
+    ((1, b"xyw"), (1, b"xyw"), true),
+    ((1, b"xyw"), (1, b"xyz"), false),
+    ((1, b"xy"), (1, b"xyw"), false),
+    ((1, b"xyw"), (2, b"xyw"), false),
 ];
 
-// Replica 3 hears the new view after the confirmations of others.
+// What is owed for the new view after them.
+fn confirm_after<R: Abort>(
+    rt: &R,
+    alloc: Global,
+    machine: &mut ViewMachine,
+    row: &Before,
+) -> Result<Due, Fail> {
+    hear(rt, alloc, machine, 0, end_of(row.0.0, row.0.1))?;
+    hear(rt, alloc, machine, 2, end_of(row.1.0, row.1.1))?;
+    confirm(rt, alloc, machine, 1, &SHARED)
+}
+
+fn begins_so<R: Abort>(rt: &R, alloc: Global, row: &Before) -> Result<(), Fail> {
+    let mut machine = replica(rt, alloc, 3, 0)?;
+    let due = confirm_after(rt, alloc, &mut machine, row)?;
+    owes(rt, due, begins_at_once(row.2));
+    Ok(())
+}
+
+fn begins_at_once(begins: bool) -> Due {
+    let choice = chosen(1, b"xyw");
+    let adopted = if begins {
+        Some((View(1), choice, 3))
+    } else {
+        None
+    };
+    (Answer::Taken, Some(View(1)), Some(choice), adopted, 2)
+}
+
+// Replica 3 hears the new view after them.
 #[test]
 fn enough_confirmed_it_before(rt: HostRuntime) -> Result<(), Fail> {
-    let alloc = rt.alloc();
-    let choice = chosen(1, b"xyw");
-    for (view, letters, other_view, others, begins) in &CONFIRMED_BEFORE {
-        let mut machine = replica(&rt, alloc, 3, 0)?;
-        hear(&rt, alloc, &mut machine, 0, end_of(*view, letters))?;
-        hear(&rt, alloc, &mut machine, 2, end_of(*other_view, others))?;
-        let due = confirm(&rt, alloc, &mut machine, 1, &SHARED)?;
-        let adopted = if *begins {
-            Some((View(1), choice, 3))
-        } else {
-            None
-        };
-        assert_eq!(rt;
-            due,
-            (Answer::Taken, Some(View(1)), Some(choice), adopted, 2)
-        );
+    for row in &CONFIRMED_BEFORE {
+        begins_so(&rt, rt.alloc(), row)?;
     }
     Ok(())
 }
@@ -470,7 +541,17 @@ fn confirmed(at: At) -> Confirmed {
     }
 }
 
-// What the certificate owes; its choice is the history xyw where the reports are those that share it.
+// What a certificate owes; its choice is the history xyw where the reports are those that share it.
+fn owed_by_cert(
+    alloc: Global,
+    machine: &ViewMachine,
+    reports: &[Report],
+    confirmed: &Confirmed,
+) -> Result<Due, Fail> {
+    let cert = cert_of(alloc, reports, confirmed)?;
+    Ok(due_of(&view_cert(alloc, machine, &cert)?))
+}
+
 fn owed_for_cert<R: Abort>(
     rt: &R,
     alloc: Global,
@@ -479,8 +560,7 @@ fn owed_for_cert<R: Abort>(
     confirmed: &Confirmed,
 ) -> Result<Due, Fail> {
     let machine = replica(rt, alloc, own.0, own.1)?;
-    let cert = cert_of(alloc, reports, confirmed)?;
-    Ok(due_of(&view_cert(alloc, &machine, &cert)?))
+    owed_by_cert(alloc, &machine, reports, confirmed)
 }
 
 // For which view the replica has left, unless it is 0; the reports, and the cause against the certificate.
@@ -501,39 +581,51 @@ fn reports_of_certificates_are_judged(rt: HostRuntime) -> Result<(), Fail> {
         by: &[0],
         ..confirmed(end_of(1, b"xyw"))
     };
-    for (left, reports, cause) in &UNCERTIFIED {
-        let due = owed_for_cert(&rt, rt.alloc(), (3, *left), reports, &alone)?;
-        assert_eq!(rt; due, refused(*cause));
+    for row in &UNCERTIFIED {
+        let due = owed_for_cert(&rt, rt.alloc(), (3, row.0), row.1, &alone)?;
+        owes(&rt, due, refused(row.2));
     }
     Ok(())
 }
 
-// Which replica hears it, and for which view it has left, unless it is 0; who confirms, for which view and history, and
-// for which view the last of them does; the cause against it.
-const CONFIRMED_OTHERWISE: [(u8, u64, &[u8], u64, &[u8], u64, Cause); 7] = [
-    (3, 2, &[0, 2, 3], 1, b"xyw", 1, Cause::OldView),
-    (3, 0, &[0, 2], 1, b"xyw", 1, Cause::TooFew(2)),
-    (3, 0, &[0, 1, 2, 3], 1, b"xyw", 1, Cause::Mixed),
-    (3, 0, &[0, 2, 0], 1, b"xyw", 1, Cause::Repeat),
-    (3, 0, &[0, 2, 3], 1, b"xyw", 2, Cause::Mixed),
-    (3, 0, &[0, 2, 3], 2, b"xyw", 2, Cause::Unmatched),
-    (3, 0, &[0, 2, 3], 1, b"xyz", 1, Cause::Unmatched),
+// For which view replica 3 has left, unless it is 0; who confirms, for which view and history, and for which view the last
+// of them does; the cause against it.
+type Otherwise = (u64, &'static [u8], u64, &'static [u8], u64, Cause);
+
+const CONFIRMED_OTHERWISE: [Otherwise; 7] = [
+    (2, &[0, 2, 3], 1, b"xyw", 1, Cause::OldView),
+    (0, &[0, 2], 1, b"xyw", 1, Cause::TooFew(2)),
+    (0, &[0, 1, 2, 3], 1, b"xyw", 1, Cause::Mixed),
+    (0, &[0, 2, 0], 1, b"xyw", 1, Cause::Repeat),
+    (0, &[0, 2, 3], 1, b"xyw", 2, Cause::Mixed),
+    (0, &[0, 2, 3], 2, b"xyw", 2, Cause::Unmatched),
+    (0, &[0, 2, 3], 1, b"xyz", 1, Cause::Unmatched),
 ];
+
+fn confirmed_so(row: &Otherwise) -> Confirmed {
+    Confirmed {
+        by: row.1,
+        at: end_of(row.2, row.3),
+        last: end_of(row.4, row.3),
+    }
+}
 
 #[test]
 fn confirmations_of_certificates_are_judged(rt: HostRuntime) -> Result<(), Fail> {
-    for (id, left, by, view, letters, last, cause) in &CONFIRMED_OTHERWISE {
-        let confirmed = Confirmed {
-            by,
-            at: end_of(*view, letters),
-            last: end_of(*last, letters),
-        };
-        let due = owed_for_cert(&rt, rt.alloc(), (*id, *left), &SHARED, &confirmed)?;
-        assert_eq!(rt; due, refused(*cause));
+    for row in &CONFIRMED_OTHERWISE {
+        let confirmed = confirmed_so(row);
+        let due = owed_for_cert(&rt, rt.alloc(), (3, row.0), &SHARED, &confirmed)?;
+        owes(&rt, due, refused(row.5));
     }
+    Ok(())
+}
+
+// With the right head at another place.
+#[test]
+fn a_displaced_certificate(rt: HostRuntime) -> Result<(), Fail> {
     let displaced = confirmed((1, 2, head_of(b"xyw")));
     let due = owed_for_cert(&rt, rt.alloc(), (3, 0), &SHARED, &displaced)?;
-    assert_eq!(rt; due, refused(Cause::Unmatched));
+    owes(&rt, due, refused(Cause::Unmatched));
     Ok(())
 }
 
@@ -541,29 +633,49 @@ fn confirmations_of_certificates_are_judged(rt: HostRuntime) -> Result<(), Fail>
 #[test]
 fn certificates_are_adopted(rt: HostRuntime) -> Result<(), Fail> {
     let adopted = Some((View(1), chosen(1, b"xyw"), 3));
+    let confirmed = confirmed(end_of(1, b"xyw"));
     for own in [(3, 0), (3, 1), (1, 1)] {
-        let confirmed = confirmed(end_of(1, b"xyw"));
         let due = owed_for_cert(&rt, rt.alloc(), own, &SHARED, &confirmed)?;
-        assert_eq!(rt; due, (Answer::Taken, None, None, adopted, 0));
+        owes(&rt, due, (Answer::Taken, None, None, adopted, 0));
     }
     Ok(())
 }
 
-// The view has begun.
+// The certificate's view begins.
+fn adopt(alloc: Global, machine: &mut ViewMachine, confirmed: &Confirmed) -> Result<(), Fail> {
+    let cert = cert_of(alloc, &SHARED, confirmed)?;
+    match view_cert(alloc, machine, &cert)?.adopt {
+        None => Err(Fail::from("nothing to adopt")),
+        Some(adoption) => {
+            machine.adopted(cert, adoption.chosen);
+            Ok(())
+        }
+    }
+}
+
+// The certificate, the new view and a confirmation come too late.
+fn hears_too_late<R: Abort>(
+    rt: &R,
+    alloc: Global,
+    machine: &mut ViewMachine,
+    at: At,
+) -> Result<(), Fail> {
+    let old = refused(Cause::OldView);
+    owes(
+        rt,
+        owed_by_cert(alloc, machine, &SHARED, &confirmed(at))?,
+        old,
+    );
+    owes(rt, owed_by(alloc, machine, 1, &SHARED)?, old);
+    owes(rt, hear(rt, alloc, machine, 0, at)?, old);
+    Ok(())
+}
+
 #[test]
 fn a_view_begins_once(rt: HostRuntime) -> Result<(), Fail> {
     let alloc = rt.alloc();
-    let mut machine = replica(&rt, alloc, 3, 0)?;
     let at = end_of(1, b"xyw");
-    let cert = cert_of(alloc, &SHARED, &confirmed(at))?;
-    match view_cert(alloc, &machine, &cert)?.adopt {
-        None => return Err(Fail::from("nothing to adopt")),
-        Some(adoption) => machine.adopted(cert, adoption.chosen),
-    }
-    let again = cert_of(alloc, &SHARED, &confirmed(at))?;
-    let old = refused(Cause::OldView);
-    assert_eq!(rt; due_of(&view_cert(alloc, &machine, &again)?), old);
-    assert_eq!(rt; due_of(&new_view(alloc, &machine, &again.new)?), old);
-    assert_eq!(rt; hear(&rt, alloc, &mut machine, 0, at)?, old);
-    Ok(())
+    let mut machine = replica(&rt, alloc, 3, 0)?;
+    adopt(alloc, &mut machine, &confirmed(at))?;
+    hears_too_late(&rt, alloc, &mut machine, at)
 }
