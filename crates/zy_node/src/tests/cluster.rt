@@ -5,6 +5,7 @@ ghost use Rattle.std.specs.Prelude.{◌≡◌, ◌≤◌, length, IfOk};
 use crate::{AskFault, Asked, Asker, Begun, Node, NodeFault, ask_over};
 use std::alloc::Global;
 use std::net::Net;
+use std::process::Abort;
 use std::test::Fail;
 use std::{process, time};
 use zy_base::{Bytes, Cause, ClientId, Counts, Party, Place, ReplicaId, Stamp, View, Want};
@@ -196,84 +197,170 @@ fn is_first_completion(client: &Client) -> bool {
     }
 }
 
+// A round in which each node takes a turn, and the client.
+fn take_rounds<'a, R: Net + time::Clock>(
+    rt: &'a R,
+    alloc: Global,
+    mut members: Vec<Member<'a, R>>,
+    mut asker: Asker,
+    link: &mut UdpLink<'a, R>,
+) -> Result<(Vec<Member<'a, R>>, Client), Fail> {
+    let mut clock = RealClock::new(rt);
+    for _ in 0..20 {
+        members = all_turned(alloc, members, &mut clock)?;
+        asker = asker.turn(link, &mut clock)?;
+    }
+    Ok((members, asker.into_client()))
+}
+
 #[test]
 fn four_nodes_answer_a_client(rt: HostRuntime) -> Result<(), Fail> {
     let alloc = rt.alloc();
     let port = 45_000 + (process::id(rt.process()) % 400 * 50) as u16;
-    let mut clock = RealClock::new(&rt);
     let directory = directory(alloc)?;
-    let mut members = members(&rt, alloc, port, &directory)?;
+    let members = members(&rt, alloc, port, &directory)?;
     let mut link = bound(&rt, port, CLIENT)?;
-    let mut asker = asker(alloc, client(alloc, 0, directory)?, &mut link)?;
-    for _ in 0..20 {
-        members = all_turned(alloc, members, &mut clock)?;
-        asker = asker.turn(&mut link, &mut clock)?;
-    }
+    let asker = asker(alloc, client(alloc, 0, directory)?, &mut link)?;
+    let (members, client) = take_rounds(&rt, alloc, members, asker, &mut link)?;
     for member in &members {
         assert_eq!(rt; member.node.replica().length(), Place(1));
     }
-    let client = asker.into_client();
     assert_eq!(rt; (client.key_next(), client.stamp()), (1, Stamp(1)));
     assert!(rt; is_first_completion(&client));
     Ok(())
 }
 
-// What a client comes to over a link that hears nothing, with the number of the call that fails: how it ends, the next
-// leaf and the stamp, and how many datagrams were sent.
-#[test]
-fn asks_without_an_answer(rt: HostRuntime) -> Result<(), Fail> {
-    let alloc = rt.alloc();
-    let table: [(u32, u64, u64, &str, u32, u64, usize); 6] = [
-        (0, 0, 0, "spent", 1, 1, 1),
-        (0, 0, 2, "spent", 1, 1, 1),
-        (0, 1, 2, "link", 0, 0, 0),
-        (0, 2, 2, "link", 0, 0, 1),
-        (31, 0, 1, "spent", 32, 1, 1),
-        (32, 1, 2, "refused", 32, 0, 0),
-    ];
-    for (next, failing, turns, wanted, leaf, stamp, sent) in table {
-        assert!(rt; next <= 32);
-        let failing = Vec::from_slice(alloc, &[failing])?;
-        let mut link = MemLink::new(alloc, Vec::new(alloc), failing, 8)?;
-        let mut clock = MemClock::new(alloc, Vec::from_slice(alloc, &[0])?);
-        let client = client(alloc, next, no_keys(alloc)?)?;
-        let op = operation(alloc)?;
-        let asked = ask_over(alloc, client, op, &mut link, &mut clock, turns);
-        let (end, client) = match asked {
-            Ok(Asked::Done(client)) => ("done", Some(client)),
-            Ok(Asked::Spent(client)) => ("spent", Some(client)),
-            Ok(Asked::Refused(client, Cause::KeySpent)) => ("refused", Some(client)),
-            Ok(Asked::Refused(client, _)) => ("refused otherwise", Some(client)),
-            Err(AskFault::Link) => ("link", None),
-            Err(AskFault::Want) => ("want", None),
-        };
-        assert_eq!(rt; end, wanted);
-        assert_eq!(rt; link.parcels(), sent);
-        if let Some(client) = client {
-            assert_eq!(rt; client.key_next(), leaf);
-            assert_eq!(rt; client.stamp(), Stamp(stamp));
-        }
+// A client whose key is at a leaf, over a link that hears nothing, of which this call fails, for so many turns; how it
+// ends, the next leaf and the stamp, and how many datagrams were sent.
+#[derive(Clone, Copy)]
+struct Alone {
+    next: u32,
+    failing: u64,
+    turns: u64,
+    end: &'static str,
+    leaf: u32,
+    stamp: u64,
+    sent: usize,
+}
+
+const SPENT: Alone = Alone {
+    next: 0,
+    failing: 0,
+    turns: 2,
+    end: "spent",
+    leaf: 1,
+    stamp: 1,
+    sent: 1,
+};
+
+const WITHOUT_A_LINK: Alone = Alone {
+    failing: 1,
+    end: "link",
+    leaf: 0,
+    stamp: 0,
+    sent: 0,
+    ..SPENT
+};
+
+const ALONE: [Alone; 6] = [
+    Alone { turns: 0, ..SPENT },
+    SPENT,
+    WITHOUT_A_LINK,
+    Alone {
+        failing: 2,
+        sent: 1,
+        ..WITHOUT_A_LINK
+    },
+    Alone {
+        next: 31,
+        turns: 1,
+        leaf: 32,
+        ..SPENT
+    },
+    Alone {
+        next: 32,
+        failing: 1,
+        end: "refused",
+        leaf: 32,
+        stamp: 0,
+        sent: 0,
+        ..SPENT
+    },
+];
+
+// How an ask ends, and the client that is left.
+fn end_of(asked: Result<Asked, AskFault>) -> (&'static str, Option<Client>) {
+    match asked {
+        Ok(Asked::Done(client)) => ("done", Some(client)),
+        Ok(Asked::Spent(client)) => ("spent", Some(client)),
+        Ok(Asked::Refused(client, Cause::KeySpent)) => ("refused", Some(client)),
+        Ok(Asked::Refused(client, _)) => ("refused otherwise", Some(client)),
+        Err(AskFault::Link) => ("link", None),
+        Err(AskFault::Want) => ("want", None),
+    }
+}
+
+fn ask_alone<R: Abort>(
+    rt: &R,
+    alloc: Global,
+    row: &Alone,
+    link: &mut MemLink,
+) -> Result<(&'static str, Option<Client>), Fail> {
+    assert!(rt; row.next <= 32);
+    let client = client(alloc, row.next, no_keys(alloc)?)?;
+    let mut clock = MemClock::new(alloc, Vec::from_slice(alloc, &[0])?);
+    let asked = ask_over(
+        alloc,
+        client,
+        operation(alloc)?,
+        link,
+        &mut clock,
+        row.turns,
+    );
+    Ok(end_of(asked))
+}
+
+fn asks_alone<R: Abort>(rt: &R, alloc: Global, row: &Alone) -> Result<(), Fail> {
+    let failing = Vec::from_slice(alloc, &[row.failing])?;
+    let mut link = MemLink::new(alloc, Vec::new(alloc), failing, 8)?;
+    let (end, client) = ask_alone(rt, alloc, row, &mut link)?;
+    assert_eq!(rt; (end, link.parcels()), (row.end, row.sent));
+    if let Some(client) = client {
+        assert_eq!(rt;
+            (client.key_next(), client.stamp()),
+            (row.leaf, Stamp(row.stamp))
+        );
     }
     Ok(())
 }
 
-// A node alone, by its turns.
+#[test]
+fn asks_without_an_answer(rt: HostRuntime) -> Result<(), Fail> {
+    for row in &ALONE {
+        asks_alone(&rt, rt.alloc(), row)?;
+    }
+    Ok(())
+}
+
+// Whether a node alone takes all its turns, over a link of which this call fails.
+fn takes_turns<R: Abort>(rt: &R, alloc: Global, failing: u64, turns: u64) -> Result<bool, Fail> {
+    let failing = Vec::from_slice(alloc, &[failing])?;
+    let mut link = MemLink::new(alloc, Vec::new(alloc), failing, 8)?;
+    let mut clock = MemClock::new(alloc, Vec::from_slice(alloc, &[0])?);
+    let node = node(alloc, 2, no_keys(alloc)?)?;
+    let (node, ended) = match node.serve(&mut link, &mut clock, turns) {
+        Ok(node) => (node, true),
+        Err(NodeFault::Link(node)) => (node, false),
+        Err(NodeFault::Want) => return Err(Fail::from(Want)),
+    };
+    assert_eq!(rt; (node.replica().length(), link.parcels()), (Place(0), 0));
+    Ok(ended)
+}
+
 #[test]
 fn a_node_alone(rt: HostRuntime) -> Result<(), Fail> {
-    let alloc = rt.alloc();
     for (failing, turns, ends) in [(1, 0, true), (0, 3, true), (1, 1, false)] {
-        let failing = Vec::from_slice(alloc, &[failing])?;
-        let mut link = MemLink::new(alloc, Vec::new(alloc), failing, 8)?;
-        let mut clock = MemClock::new(alloc, Vec::from_slice(alloc, &[0])?);
-        let node = node(alloc, 2, no_keys(alloc)?)?;
-        let (node, ended) = match node.serve(&mut link, &mut clock, turns) {
-            Ok(node) => (node, true),
-            Err(NodeFault::Link(node)) => (node, false),
-            Err(NodeFault::Want) => return Err(Fail::from(Want)),
-        };
-        assert_eq!(rt; ended, ends);
-        assert_eq!(rt; node.replica().length(), Place(0));
-        assert_eq!(rt; link.parcels(), 0);
+        assert_eq!(rt; takes_turns(&rt, rt.alloc(), failing, turns)?, ends);
     }
     Ok(())
 }
