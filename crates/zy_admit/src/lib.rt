@@ -7,6 +7,3 @@ mod queue;
 
 pub use admission::Admission;
 pub use judging::{Admit, Position, client_of, is_newer, request_digest_of};
-
-#[cfg(test)]
-mod tests;

@@ -9,6 +9,3 @@ mod taking;
 pub use judging::judge;
 pub use laws::{adoptions, checkpoints, verdicts};
 pub use taking::take_over;
-
-#[cfg(test)]
-mod tests;

@@ -2,9 +2,10 @@ ghost use Rattle.std.specs.Prelude.{◌≡◌};
 ghost use Rattle.zy_base.specs.Cause.{number_of, name_of};
 
 use crate::{Digest, FrameFault, Place, Stamp};
+use std::fmt;
 
 /// Why a frame, a timer or a request was refused.
-#[derive(Clone, Copy, Debug, PartialEq, Eq)]
+#[derive(Clone, Copy, PartialEq, Eq)]
 pub enum Cause {
     /// The bytes are no frame, and why.
     NotFrame(FrameFault),
@@ -131,5 +132,11 @@ impl Cause {
             Cause::Waiting(..) => "Waiting",
             Cause::NoSubject => "NoSubject",
         }
+    }
+}
+
+impl fmt::Debug for Cause {
+    fn fmt<W: fmt::Write>(&self, f: &mut fmt::Formatter<W>) -> fmt::Result {
+        f.write_str(self.name())
     }
 }

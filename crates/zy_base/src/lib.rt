@@ -24,6 +24,3 @@ pub use restore_fault::RestoreFault;
 pub use step::{Answer, Event, Mode, Outgoing, Said, Spoken, Stood, TimerKind, Timers};
 pub use steps::Steps;
 pub use want::Want;
-
-#[cfg(test)]
-mod tests;

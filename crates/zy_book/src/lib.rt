@@ -11,6 +11,3 @@ pub use book::Book;
 pub use fault::{BookFault, KeepFault};
 pub use laws::histories;
 pub use node::{Node, TextId};
-
-#[cfg(test)]
-mod tests;

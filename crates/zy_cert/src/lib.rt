@@ -17,6 +17,3 @@ pub use matching::Matching;
 pub use misbehaviour::pom;
 pub use signers::{has_repeat, has_signer};
 pub use votes::{Vote, Votes};
-
-#[cfg(test)]
-mod tests;

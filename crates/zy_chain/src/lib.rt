@@ -7,6 +7,3 @@ mod spine;
 
 pub use entry::{EMPTY_HEAD, Entry, entry_bytes, entry_digest, next_head, request_digest};
 pub use spine::Spine;
-
-#[cfg(test)]
-mod tests;

@@ -17,6 +17,3 @@ pub use laws::{certificates, providers, true_reports};
 pub use machine::ViewMachine;
 pub use owed::{Adoption, Owed};
 pub use owing::adoption;
-
-#[cfg(test)]
-mod tests;

@@ -14,6 +14,3 @@ pub use checkpoints::Checkpoints;
 pub use kept::Kept;
 pub use laws::{boards, kept_votes, stays};
 pub use states::{StateFault, take_state};
-
-#[cfg(test)]
-mod tests;

@@ -11,6 +11,3 @@ pub use choice::{Choice, choose};
 pub use laws::one_answer;
 pub use report::{Report, ReportRule};
 pub use rules::well_formed;
-
-#[cfg(test)]
-mod tests;

@@ -13,6 +13,3 @@ mod step;
 pub use client::{Client, ClientStepped};
 pub use laws::held_responses;
 pub use zy_table::{Done, Path};
-
-#[cfg(test)]
-mod tests;

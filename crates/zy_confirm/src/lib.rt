@@ -5,6 +5,3 @@ mod judging;
 mod owing;
 
 pub use owing::{began, new_view, view_cert};
-
-#[cfg(test)]
-mod tests;

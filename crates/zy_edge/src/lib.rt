@@ -24,6 +24,3 @@ pub use sink::calm::CalmSink;
 pub use sink::memory::MemSink;
 pub use sink::stdout::StdSink;
 pub use sink::{Sink, Wrote};
-
-#[cfg(test)]
-mod tests;

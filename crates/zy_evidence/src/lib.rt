@@ -11,6 +11,3 @@ pub use judging::report_in;
 pub use laws::well_formed_reports;
 pub use reading::read;
 pub use rule::{ReportFault, Rule};
-
-#[cfg(test)]
-mod tests;

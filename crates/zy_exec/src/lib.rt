@@ -15,6 +15,3 @@ pub use exec::Exec;
 pub use install_fault::InstallFault;
 pub use known::{CLIENTS, Known, nothing};
 pub use laws::{histories, installing, places, points, settling, showing};
-
-#[cfg(test)]
-mod tests;

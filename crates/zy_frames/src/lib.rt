@@ -12,6 +12,3 @@ pub use frame::{Frame, OrderFrame};
 pub use laws::frames;
 pub use part_list::parts;
 pub use zy_wire::{EncodeFault, GetFault as DecodeFault};
-
-#[cfg(test)]
-mod tests;

@@ -18,6 +18,3 @@ pub use numbers::Numbers;
 pub use own::own_key;
 pub use replay::{ReplayGroup, read_replay_group};
 pub use secret::{Secret, read_secret};
-
-#[cfg(test)]
-mod tests;

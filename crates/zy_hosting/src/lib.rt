@@ -10,6 +10,3 @@ mod telling;
 pub use ask::run_ask;
 pub use node::run_node;
 pub use telling::completion_line;
-
-#[cfg(test)]
-mod tests;

@@ -6,8 +6,6 @@
 mod height;
 mod key;
 mod laws;
-#[cfg(test)]
-mod tests;
 mod tree;
 mod verification;
 

@@ -18,6 +18,3 @@ pub use due::Due;
 pub use fault::{AskFault, NodeFault};
 pub use host::Host;
 pub use node::Node;
-
-#[cfg(test)]
-mod tests;

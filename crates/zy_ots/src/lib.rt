@@ -8,8 +8,6 @@ mod chain_block;
 mod digits;
 mod one_time;
 mod ots_type;
-#[cfg(test)]
-mod tests;
 
 pub use digits::{checksum, coef, u32_at};
 pub use one_time::{ots_public, ots_recover, ots_sign, ots_sign_onto, prefix_hasher};

@@ -12,6 +12,3 @@ pub use reports::{Began, Change, Fetch, New, Told};
 pub use signed::{Part, Signed, push_parts, signed_text};
 pub use statement::Statement;
 pub use statements::{Ask, Check, Confirm, Hate, Hole, Local, Order, Spec};
-
-#[cfg(test)]
-mod tests;

@@ -11,6 +11,3 @@ pub use cutting::cut;
 pub use gather::{Gather, Gathered};
 pub use order::any_order;
 pub use piece::{MAX_DATAGRAM, MAX_PAYLOAD, MAX_PIECES, PieceFault};
-
-#[cfg(test)]
-mod tests;

@@ -9,6 +9,3 @@ mod step;
 
 pub use replica::{Replica, Stepped};
 pub use zy_table::{Gains, Got};
-
-#[cfg(test)]
-mod tests;

@@ -13,6 +13,3 @@ pub use key_file::{key_line, key_lines};
 pub use replicas::{agreed_line, replica_line};
 pub use replies::reply_line;
 pub use summary::summary_line;
-
-#[cfg(test)]
-mod tests;

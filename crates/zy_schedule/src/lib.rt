@@ -14,6 +14,3 @@ pub use fault::ScheduleFault;
 pub use line::Line;
 pub use making::make;
 pub use reading::{read_schedule, read_script};
-
-#[cfg(test)]
-mod tests;

@@ -12,6 +12,3 @@ pub use directory::{Directory, SealAnswer, check};
 pub use laws::seals;
 pub use screening::screen_parts;
 pub use sealer::{SealFault, Sealer};
-
-#[cfg(test)]
-mod tests;

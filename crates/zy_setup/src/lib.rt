@@ -13,6 +13,3 @@ pub use keyring::{Keyring, sealer_at};
 pub use liar::{order_frame, spec_frame};
 pub use setup::Setup;
 pub use tellable::{Tellable, read_statement};
-
-#[cfg(test)]
-mod tests;

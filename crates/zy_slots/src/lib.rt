@@ -10,6 +10,3 @@ mod slot;
 mod slots;
 
 pub use slots::{SlotId, Slots};
-
-#[cfg(test)]
-mod tests;

@@ -10,6 +10,3 @@ mod state;
 mod tagged;
 
 pub use space::{Space, TUPLE_LIMIT, Tuples};
-
-#[cfg(test)]
-mod tests;

@@ -15,6 +15,3 @@ pub use fault::TextFault;
 pub use kept::KeptTexts;
 pub use reading::read_frame;
 pub use said::SaidTexts;
-
-#[cfg(test)]
-mod tests;

@@ -13,6 +13,3 @@ mod tally;
 mod top;
 
 pub use top::zyzzyva;
-
-#[cfg(test)]
-mod tests;

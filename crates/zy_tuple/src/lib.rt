@@ -16,6 +16,3 @@ pub use reading::{numeral, op_text_read, reply_text_read};
 pub use spelling::{op_bytes, op_read, reply_bytes, reply_read, tuple_get, tuple_put};
 pub use values::{Field, Op, Reply, Slot, Template, Tuple};
 pub use writing::{op_text, reply_text, reply_text_put};
-
-#[cfg(test)]
-mod tests;

@@ -12,6 +12,3 @@ pub use frame::{ViewCert, ViewFrame};
 pub use laws::view_frames;
 pub use part_list::parts;
 pub use zy_wire::{EncodeFault, GetFault as DecodeFault};
-
-#[cfg(test)]
-mod tests;

@@ -25,6 +25,3 @@ pub use optional::{get_optional, put_optional};
 pub use party::party_array;
 pub use put::Put;
 pub use spelled::Spelled;
-
-#[cfg(test)]
-mod tests;

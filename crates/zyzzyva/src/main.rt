@@ -2,8 +2,6 @@
 #![tactic(auto)]
 
 mod fault_text;
-#[cfg(test)]
-mod tests;
 mod words;
 
 use fault_text::ending;

@@ -1,5 +1,0 @@
-use Rattle.std.proofs.Common.{IsTrue}
-use Rattle.zy_edge.proofs.tests.answers.Given as goal
-
-abbrev pub invariant-loop : goal.invariant-loop
-invariant-loop g l = IsTrue (g.F.Files.is_chosen l.files)

@@ -1,7 +1,0 @@
-use Rattle.std.proofs.Common.{sym, subst}
-use Rattle.zy_schedule.specs.declared.line.Line.{Line}
-use Rattle.zy_schedule.specs.Texts.{IsSaid}
-use Rattle.zy_schedule.proofs.tests.written.Goals as goal
-
-pub text_of-requires : goal.text_of-requires
-text_of-requires c = subst (λ (line : Line). IsSaid line) (sym c.line-item.is) (c.requires c.loop-line.line-index c.line-item.result c.loop-line-test.true)
