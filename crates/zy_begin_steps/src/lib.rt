@@ -14,4 +14,4 @@ pub use frames::honest_frames;
 pub use heard::{beginning_rows, fetched_states};
 pub use leaving::{finished_rows, finished_timers};
 pub use resting::resting_rows;
-pub use states::installed_states;
+pub use states::transfer_rows;

@@ -18,7 +18,7 @@ use zy_exec::{installing, showing};
 /// A snapshot that a correct replica waits for, and that is kept, is installed lawfully: the view begins with one act, from the
 /// list for which the snapshot stands, as it is read out of the kept texts. Where the snapshot is refused nothing changes,
 /// and of what blames others there is only that the bytes that came aren't those that are wanted.
-pub fn installed_states<M: Machine>()
+pub fn transfer_rows<M: Machine>()
     ensures lawful { (interval r : ℕ) (texts : Texts) (w : World) (s : State M.State) (history : List Entry) (place : Place) (bytes : List ℕ) → IsReady M.rules interval w r s history → IsWorldOf M.rules interval w texts → IsKept texts bytes → IsLawfulStep M.rules interval texts w r s (history_from texts s history (finished M.rules s (state_transfer M.rules s place bytes))) (finished M.rules s (state_transfer M.rules s place bytes)) }
     ensures blame { (interval r : ℕ) (texts : Texts) (w : World) (s : State M.State) (history : List Entry) (place : Place) (bytes : List ℕ) (cause : Cause) → IsReady M.rules interval w r s history → IsWorldOf M.rules interval w texts → IsKept texts bytes → begun M.rules (state_transfer M.rules s place bytes) ≡ Err cause → blames cause ≡ true → (wanted : Digest) × (cause ≡ WrongState wanted (digest_of bytes)) }
 {

@@ -19,7 +19,7 @@ returns g c =
         c.spelled_steps.ensures.keeps interval r texts w s history event may.ready may.world may.works may.honest gains spelled,
       );
       back = c.said_back.ensures;
-      state_blames = c.installed_states.ensures.blame;
+      state_blames = c.transfer_rows.ensures.blame;
       same_keys = c.same_keys.ensures.keys;
       spelled_first = c.spelled_start.ensures;
     } in

@@ -1,6 +1,6 @@
 use Rattle.std.proofs.Common.{subst}
 use Rattle.zy_begin_steps.proofs.Installing.{IsOfBytes, reading_of, state_lawful}
-use Rattle.zy_begin_steps.proofs.states.installed_states.Goals as goal
+use Rattle.zy_begin_steps.proofs.states.transfer_rows.Goals as goal
 use Rattle.zy_table.specs.Leaving.{Attempt}
 
 pub returns : goal.returns
