@@ -8,7 +8,7 @@ use Rattle.zy_base.specs.declared.frame_fault.FrameFault.{FrameFault}
 use Rattle.zy_base.specs.declared.ids.Party.{Party}
 use Rattle.zy_base.specs.declared.ids.Party.TheVariants.{Replica, Client}
 use Rattle.zy_chain.specs.declared.entry.Entry.{Entry}
-use Rattle.zy_confirm.specs.Judging.{first_broken}
+use Rattle.zy_change.specs.Judging.{first_broken}
 use Rattle.zy_evidence.specs.Reading.{number_of_party}
 use Rattle.zy_evidence.specs.Rules.{rule_of}
 use Rattle.zy_evidence.specs.declared.rule.Rule.{Rule}

@@ -8,7 +8,7 @@ use Rattle.zy_base.specs.declared.cause.Cause.TheVariants as causes
 use Rattle.zy_base.specs.declared.step.Answer.TheVariants.{Refused, Taken}
 use Rattle.zy_begin_steps.proofs.Reported.{all_of_clients, cert_refused, new_refused, of_clients}
 use Rattle.zy_change.specs.Views.{has_begun, is_from, slot_of}
-use Rattle.zy_confirm.specs.Judging.{first_broken}
+use Rattle.zy_change.specs.Judging.{first_broken}
 use Rattle.zy_evidence.specs.Rules.{number_of, rule_of}
 use Rattle.zy_evidence.specs.declared.rule.Rule.{Rule}
 use Rattle.zy_parts.specs.declared.reports.Change.{Change}

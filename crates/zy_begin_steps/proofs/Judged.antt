@@ -21,8 +21,8 @@ use Rattle.zy_change.specs.declared.kept.Chosen.{Chosen}
 use Rattle.zy_choose.specs.Marks.{link}
 use Rattle.zy_choose.specs.declared.choice.Choice.{Choice}
 use Rattle.zy_choose.specs.declared.choice.Choice.TheVariants as choices
-use Rattle.zy_confirm.proofs.JudgingLemmas.{all_given, chosen_from}
-use Rattle.zy_confirm.specs.Judging.{chosen_in, chosen_unless, first_broken, is_for_other}
+use Rattle.zy_change.proofs.JudgingLemmas.{all_given, chosen_from}
+use Rattle.zy_change.specs.Judging.{chosen_in, chosen_unless, first_broken, is_for_other}
 use Rattle.zy_evidence.proofs.ProofLemmas.{all_clear}
 use Rattle.zy_evidence.specs.Reading.{IsReplica, read}
 use Rattle.zy_evidence.specs.Rules.{is_certified_at, number_of, rule_of}

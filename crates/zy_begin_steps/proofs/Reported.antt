@@ -13,8 +13,8 @@ use Rattle.zy_change.specs.Choosing.{choice_of}
 use Rattle.zy_change.specs.Views.{has_begun, is_accepted, is_from, leads, slot_of}
 use Rattle.zy_change.specs.declared.kept.Chosen.{Chosen}
 use Rattle.zy_choose.specs.declared.choice.Choice.{Choice}
-use Rattle.zy_confirm.specs.Confirming.{is_over}
-use Rattle.zy_confirm.specs.Judging.{chosen_in, chosen_unless, first_broken, is_for_other, or_later}
+use Rattle.zy_change.specs.Confirming.{is_over}
+use Rattle.zy_change.specs.Judging.{chosen_in, chosen_unless, first_broken, is_for_other, or_later}
 use Rattle.zy_evidence.proofs.ProofLemmas.{all_clear}
 use Rattle.zy_evidence.specs.Reading.{read}
 use Rattle.zy_evidence.specs.Rules.{number_of, rule_of}

@@ -22,8 +22,8 @@ use Rattle.zy_change.specs.Views.{began_for, has_begun, is_accepted, leads, own_
 use Rattle.zy_change.specs.declared.kept.Accepted.{Accepted}
 use Rattle.zy_change.specs.declared.kept.Chosen.{Chosen}
 use Rattle.zy_check.specs.States.{fetch_cause}
-use Rattle.zy_confirm.specs.Confirming.{accepted_for, is_began_from, is_over}
-use Rattle.zy_confirm.specs.Judging.{chosen_in}
+use Rattle.zy_change.specs.Confirming.{accepted_for, is_began_from, is_over}
+use Rattle.zy_change.specs.Judging.{chosen_in}
 use Rattle.zy_evidence.specs.Reading.{number_of_party}
 use Rattle.zy_evidence.specs.Rules.{is_certified_at}
 use Rattle.zy_law.specs.World.{World}

@@ -5,3 +5,6 @@ pub mod ChoosingLemmas
 pub mod GivingLemmas
 pub mod BeginningLemmas
 pub mod AcceptedLemmas
+pub mod JudgingLemmas
+pub mod EnteringAheadLemmas
+pub mod CertLemmas

@@ -5,7 +5,8 @@ ghost use Rattle.zy_change.specs.Fit.{IsAccepted, IsGiven, IsOwnBegan};
 ghost use Rattle.zy_change.specs.Owing as owing;
 ghost use Rattle.zy_change.specs.Views as views;
 
-use crate::{Accepted, ViewMachine};
+use crate::kept::Accepted;
+use crate::machine::ViewMachine;
 use zy_base::{Items, View, Want};
 use zy_parts::{Began, Change, New, Signed};
 

@@ -13,7 +13,7 @@ ghost use Rattle.zy_evidence.specs.Reading.{number_of_party};
 ghost use Rattle.zy_base.specs.declared.ids.Party.TheVariants as parties;
 
 use crate::slots::no_slots;
-use crate::{Accepted, Certificate, Waiting};
+use crate::kept::{Accepted, Certificate, Waiting};
 use std::alloc::Global;
 use std::marker::Model;
 use zy_base::{Counts, Digest, Items, Mode, Party, Place, ReplicaId, View, Want};

@@ -1,7 +1,7 @@
 ghost use Rattle.std.specs.Prelude.{◌≡◌, Some};
 ghost use Rattle.zy_change.specs.Owing as owing;
 
-use crate::Chosen;
+use crate::kept::Chosen;
 use zy_base::{Answer, Cause, ReplicaId, View};
 use zy_parts::Told;
 

@@ -15,7 +15,9 @@ ghost use Rattle.zy_change.specs.Owing as owing;
 ghost use Rattle.zy_change.specs.Views as views;
 
 use crate::machine::index_of;
-use crate::{Adoption, Chosen, Owed, ViewMachine};
+use crate::kept::Chosen;
+use crate::machine::ViewMachine;
+use crate::owed::{Adoption, Owed};
 use zy_base::{Cause, Mode, Party, ReplicaId, View, Want};
 use zy_choose::Choice;
 use zy_evidence::{ReportFault, Rule, report_in};

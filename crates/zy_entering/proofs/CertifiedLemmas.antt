@@ -28,9 +28,9 @@ use Rattle.zy_change.specs.declared.owed.Owed.{Owed}
 use Rattle.zy_change.proofs.AcceptedLemmas.{accepted_provider}
 use Rattle.zy_change.specs.Fit.{IsAccepted}
 use Rattle.zy_change.specs.Owing.{adoption_by, nothing, provider_in, refused as refused_owed}
-use Rattle.zy_confirm.proofs.JudgingLemmas.{accepted}
-use Rattle.zy_confirm.specs.Confirming.{cert_compared, cert_judged, is_over, view_cert_owes}
-use Rattle.zy_confirm.specs.Judging.{chosen_in}
+use Rattle.zy_change.proofs.JudgingLemmas.{accepted}
+use Rattle.zy_change.specs.Confirming.{cert_compared, cert_judged, is_over, view_cert_owes}
+use Rattle.zy_change.specs.Judging.{chosen_in}
 use Rattle.zy_table.specs.State.{State, leaves_of, own_view}
 use Rattle.zy_table.specs.Deeds.{Outcome, begin, refused}
 use Rattle.zy_table.specs.Adopting.{verdict_of}

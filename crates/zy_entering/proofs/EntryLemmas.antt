@@ -22,7 +22,7 @@ use Rattle.zy_change.proofs.AcceptedLemmas.{accepted_given, accepted_provider}
 use Rattle.zy_change.specs.Fit.{IsAccepted, IsFit}
 use Rattle.zy_change.specs.Owing.{adopt_if, adoption_by, certify, certify_with, change_to, nothing, onward, provider_in, refused}
 use Rattle.zy_change.specs.Views.{Views, began_for, certificate_if, certificate_of, own_view, slot_of, with_began}
-use Rattle.zy_confirm.specs.Confirming.{accepted_for, began_compared, began_judged, began_owes, is_began_from, is_over}
+use Rattle.zy_change.specs.Confirming.{accepted_for, began_compared, began_judged, began_owes, is_began_from, is_over}
 use Rattle.zy_table.specs.State.{State}
 use Rattle.zy_leaving.proofs.FollowLemmas.{for_none, for_some, new_of_cert}
 use Rattle.zy_entering.specs.Entering.{CanEnter, view_after}

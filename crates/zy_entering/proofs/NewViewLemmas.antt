@@ -17,8 +17,8 @@ use Rattle.zy_change.specs.declared.kept.Chosen.{Chosen}
 use Rattle.zy_change.specs.declared.owed.Owed.{Owed}
 use Rattle.zy_change.specs.Owing.{Onward, Pens, accept as accept_owed, accepting, adopt_if, leaving_alone, nothing, onward, refused as refused_owed}
 use Rattle.zy_change.specs.Views.{certificate_of, is_accepted, leads}
-use Rattle.zy_confirm.specs.Confirming.{is_over, new_view_judged, new_view_owes}
-use Rattle.zy_confirm.specs.Judging.{chosen_in}
+use Rattle.zy_change.specs.Confirming.{is_over, new_view_judged, new_view_owes}
+use Rattle.zy_change.specs.Judging.{chosen_in}
 use Rattle.zy_table.specs.State.{State, leaves_of, own_view}
 use Rattle.zy_table.specs.Deeds.{Going, Outcome, begin, refused}
 use Rattle.zy_table.specs.Leaving.{accept, leave_alone, report_of}

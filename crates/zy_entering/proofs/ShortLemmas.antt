@@ -19,8 +19,8 @@ use Rattle.zy_change.specs.declared.owed.Owed.{Owed}
 use Rattle.zy_change.specs.Fit.{IsAccepted, IsCertified, IsGiven}
 use Rattle.zy_change.specs.Owing.{Pens, refused}
 use Rattle.zy_change.specs.Views.{Views, is_accepted, leads}
-use Rattle.zy_confirm.specs.Confirming.{cert_judged, is_over, new_view_judged, new_view_owes, view_cert_owes}
-use Rattle.zy_confirm.specs.Judging.{chosen_in}
+use Rattle.zy_change.specs.Confirming.{cert_judged, is_over, new_view_judged, new_view_owes, view_cert_owes}
+use Rattle.zy_change.specs.Judging.{chosen_in}
 use Rattle.zy_table.proofs.ReportLemmas.{rule-short}
 use Rattle.zy_table.specs.Leaving.{report_of}
 use Rattle.zy_table.specs.Sending.{CanBeSent}

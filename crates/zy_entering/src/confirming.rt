@@ -38,7 +38,7 @@ fn owed_by_new<M: Machine>(core: &Core<M>, new: &Signed<New>) -> Result<Owed, Wa
     ensures owed { IfOk result (IsNewOwed core.now new.now) }
     ensures accepted { IfOk result (Accepts core.now new.now) }
 {
-    zy_confirm::new_view(core.allocator(), core.views(), new)
+    zy_change::new_view(core.allocator(), core.views(), new)
 }
 
 // The view is left for, where it is above the own one, and the choice is confirmed.
@@ -159,7 +159,7 @@ fn owed_by_vote<M: Machine>(core: &Core<M>, vote: &Signed<Began>) -> Result<Owed
     ensures fit { IsFit core.now.views }
 {
     let _own = core.views().view();
-    zy_confirm::began(core.views(), vote)
+    zy_change::began(core.views(), vote)
 }
 
 /// Another's confirmation of a new view's choice, whose signature is verified. Its signer is a replica of the group. It is
@@ -188,7 +188,7 @@ fn owed_by_cert<M: Machine>(core: &Core<M>, cert: &ViewCert) -> Result<Owed, Wan
     ensures owed { IfOk result (IsCertOwed core.now cert.now) }
     ensures certified { IfOk result (λ o. IfSome o.adopt (λ a. IsCertified core.now.views.counts core.now.views.interval cert.now a.chosen)) }
 {
-    zy_confirm::view_cert(core.allocator(), core.views(), cert)
+    zy_change::view_cert(core.allocator(), core.views(), cert)
 }
 
 fn chosen_of(owed: &Owed) -> Chosen

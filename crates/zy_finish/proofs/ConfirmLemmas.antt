@@ -32,8 +32,8 @@ use Rattle.zy_change.specs.declared.owed.Owed.{Owed}
 use Rattle.zy_change.specs.Views.{Views, began_for, certificate_of, is_accepted, leads, slot_of, with_began}
 use Rattle.zy_change.specs.Owing as owing
 use Rattle.zy_change.specs.Owing.{accept as accept_owed, adoption_by, leaving_alone, nothing, onward, provider_in, refused as refused_owed}
-use Rattle.zy_confirm.specs.Judging.{chosen_in}
-use Rattle.zy_confirm.specs.Confirming.{accepted_for, arriving, began_compared, began_judged, began_owes, cert_compared, cert_judged, is_began_from, is_over, new_view_judged as owes_judged, new_view_owes, view_cert_owes}
+use Rattle.zy_change.specs.Judging.{chosen_in}
+use Rattle.zy_change.specs.Confirming.{accepted_for, arriving, began_compared, began_judged, began_owes, cert_compared, cert_judged, is_began_from, is_over, new_view_judged as owes_judged, new_view_owes, view_cert_owes}
 use Rattle.zy_exec.specs.Kept.{reply_in}
 use Rattle.zy_table.specs.declared.deeds.Act.{Act}
 use Rattle.zy_table.specs.declared.deeds.Verdict.{Verdict}

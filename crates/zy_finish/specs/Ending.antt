@@ -18,7 +18,7 @@ use Rattle.zy_change.specs.declared.kept.Chosen.{Chosen}
 use Rattle.zy_change.specs.declared.owed.Adoption.{Adoption}
 use Rattle.zy_change.specs.declared.owed.Owed.{Owed}
 use Rattle.zy_change.specs.Owing.{Pens}
-use Rattle.zy_confirm.specs.Confirming.{new_view_owes, began_owes, view_cert_owes}
+use Rattle.zy_change.specs.Confirming.{new_view_owes, began_owes, view_cert_owes}
 use Rattle.zy_table.specs.declared.deeds.Verdict.{Verdict}
 use Rattle.zy_table.specs.declared.deeds.Verdict.TheVariants as verdicts
 use Rattle.zy_table.specs.State.{State, leaves_of}

@@ -21,8 +21,8 @@ use Rattle.zy_change.specs.Views.{Views, began_for, is_accepted, leads, slot_of,
 use Rattle.zy_change.specs.declared.kept.Accepted.{Accepted}
 use Rattle.zy_change.specs.declared.kept.Chosen.{Chosen}
 use Rattle.zy_change.specs.declared.kept.Waiting.{Waiting}
-use Rattle.zy_confirm.specs.Confirming.{accepted_for, is_began_from, is_over}
-use Rattle.zy_confirm.specs.Judging.{chosen_in}
+use Rattle.zy_change.specs.Confirming.{accepted_for, is_began_from, is_over}
+use Rattle.zy_change.specs.Judging.{chosen_in}
 use Rattle.zy_evidence.specs.Rules.{is_certified_at}
 use Rattle.zy_exec.specs.Replay.{Point}
 use Rattle.zy_exec.specs.Showing.{point_in}

@@ -37,8 +37,8 @@ use Rattle.zy_change.specs.declared.kept.Chosen.{Chosen}
 use Rattle.zy_change.specs.declared.kept.Waiting.{Waiting}
 use Rattle.zy_choose.specs.declared.choice.Choice.{Choice}
 use Rattle.zy_choose.specs.declared.choice.Choice.TheVariants as choices
-use Rattle.zy_confirm.specs.Confirming.{accepted_for, is_began_from, is_over}
-use Rattle.zy_confirm.specs.Judging.{chosen_in}
+use Rattle.zy_change.specs.Confirming.{accepted_for, is_began_from, is_over}
+use Rattle.zy_change.specs.Judging.{chosen_in}
 use Rattle.zy_evidence.specs.Reading.{stretch_of}
 use Rattle.zy_evidence.specs.Rules.{is_certified_at, rule_of}
 use Rattle.zy_evidence.specs.declared.rule.Rule.{Rule}

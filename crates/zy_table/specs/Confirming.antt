@@ -18,8 +18,8 @@ use Rattle.zy_evidence.specs.Rules.{is_certified_at}
 use Rattle.zy_change.specs.declared.kept.Accepted.{Accepted}
 use Rattle.zy_change.specs.declared.kept.Chosen.{Chosen}
 use Rattle.zy_change.specs.Views.{leads, is_accepted, slot_of, began_for, with_began}
-use Rattle.zy_confirm.specs.Judging.{chosen_in}
-use Rattle.zy_confirm.specs.Confirming.{is_over, is_began_from, accepted_for}
+use Rattle.zy_change.specs.Judging.{chosen_in}
+use Rattle.zy_change.specs.Confirming.{is_over, is_began_from, accepted_for}
 use Rattle.zy_table.specs.State.{State}
 use Rattle.zy_table.specs.Deeds.{begin}
 use Rattle.zy_table.specs.Leaving.{Attempt, goes, accept}

@@ -3,7 +3,7 @@ use Rattle.zy_parts.specs.declared.reports.Told.{Told}
 use Rattle.zy_change.specs.Owing.{Pens}
 use Rattle.zy_change.specs.Views.{Views}
 use Rattle.zy_change.specs.declared.owed.Owed.{Owed}
-use Rattle.zy_confirm.specs.Confirming.{new_view_owes}
+use Rattle.zy_change.specs.Confirming.{new_view_owes}
 use Rattle.zy_entering.proofs.NewViewLemmas.{for_all}
 use Rattle.zy_entering.proofs.confirming.owed_by_new.Goals as goal
 

@@ -1,3 +1,0 @@
-pub mod JudgingLemmas
-pub mod AheadLemmas
-pub mod CertLemmas
