@@ -23,18 +23,18 @@ use Rattle.zy_lawful.specs.Tied.{Agrees, MayRun}
 use Rattle.zy_seal.specs.Keys.{Keys}
 use Rattle.zy_seal.specs.Sealing.{SealerState}
 use Rattle.zy_table.specs.State.{State, start_of}
-use Rattle.zy_view_law.proofs.TieKept.{tied_at_start}
-use Rattle.zy_view_law.proofs.TiedGrown.{parts_more}
-use Rattle.zy_view_law.specs.Adopted.{IsHistoryKept}
-use Rattle.zy_view_law.specs.Held.{IsHeldPart}
-use Rattle.zy_view_law.specs.Texts.{AreLinks, Texts}
-use Rattle.zy_view_law.specs.Tied.{IsTied}
-use Rattle.zy_view_law.specs.Told.{check_told, response_told}
-use Rattle.zy_view_steps.specs.Cores.{core_of}
-use Rattle.zy_view_steps.proofs.EmptyHistory.{empty_kept}
-use Rattle.zy_begin_steps.specs.Steps.{IsWorldOf}
-use Rattle.zy_view_steps.specs.Rows.{IsReady}
-use Rattle.zy_view_steps.specs.Work.{IsAtWork, IsRoundHeld, last_long}
+use Rattle.zy_law_views.proofs.TieKept.{tied_at_start}
+use Rattle.zy_law_views.proofs.TiedGrown.{parts_more}
+use Rattle.zy_law_views.specs.Adopted.{IsHistoryKept}
+use Rattle.zy_law_views.specs.Held.{IsHeldPart}
+use Rattle.zy_law_views.specs.Texts.{AreLinks, Texts}
+use Rattle.zy_law_views.specs.Tied.{IsTied}
+use Rattle.zy_law_views.specs.Told.{check_told, response_told}
+use Rattle.zy_law_views.specs.Cores.{core_of}
+use Rattle.zy_law_views.proofs.EmptyHistory.{empty_kept}
+use Rattle.zy_law_views.specs.Steps.{IsWorldOf}
+use Rattle.zy_law_views.specs.Rows.{IsReady}
+use Rattle.zy_law_views.specs.Work.{IsAtWork, IsRoundHeld, last_long}
 
 module _ {S : Type 0} (R : Rules S) (interval r : ℕ) (w : World) (me : ReplicaId) (counts : Counts) (keys : Keys) (sealer : SealerState) where
   pub ready_at_start : 0 < interval → IsLawful w → IsStart w → Agrees R w → IsCorrect w r → me.0 ≡ r → counts ≡ w.counts → sealer.me ≡ Replica me → IsReady R interval w r (start_of R interval me counts keys sealer) []

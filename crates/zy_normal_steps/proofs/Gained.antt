@@ -25,8 +25,8 @@ use Rattle.zy_table.specs.State.{leaves_of}
 use Rattle.zy_table.specs.declared.deeds.Act.{Act}
 use Rattle.zy_table.specs.declared.deeds.Act.TheVariants.{Gains}
 use Rattle.zy_table.specs.declared.deeds.Got.{Got}
-use Rattle.zy_view_law.specs.Adopted.{IsHistoryKept}
-use Rattle.zy_view_law.specs.Texts.{IsKept, Texts}
+use Rattle.zy_law_views.specs.Adopted.{IsHistoryKept}
+use Rattle.zy_law_views.specs.Texts.{IsKept, Texts}
 use Rattle.zy_normal_steps.specs.Gains.{AreGainsKept, IsGainKept}
 
 -- ---- one entry more

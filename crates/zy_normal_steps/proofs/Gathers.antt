@@ -50,17 +50,17 @@ use Rattle.zy_table.specs.State as table
 use Rattle.zy_table.specs.State.{State, stood_of}
 use Rattle.zy_table.specs.declared.deeds.Body.TheVariants as bodies
 use Rattle.zy_table.specs.declared.deeds.Remark.{Remark}
-use Rattle.zy_view_law.proofs.InView.{says_checkpoint}
-use Rattle.zy_view_law.proofs.ProvenReports.{spec_certified}
-use Rattle.zy_view_law.proofs.TieKept.{tied_holding, tied_settled}
-use Rattle.zy_view_law.specs.Held.{IsHeldPart, mark_at}
-use Rattle.zy_view_law.specs.Texts.{Texts}
-use Rattle.zy_view_law.specs.Tied.{Core, IsCommitHeld, IsFarEnough, IsGrounded, IsTied, SaysLawfully, said_now, settled_with}
-use Rattle.zy_view_law.specs.Told.{check_told, response_told}
-use Rattle.zy_view_steps.proofs.AtWork.{own_held, work_board, work_said}
-use Rattle.zy_view_steps.specs.Cores.{core_of}
+use Rattle.zy_law_views.proofs.InView.{says_checkpoint}
+use Rattle.zy_law_views.proofs.ProvenReports.{spec_certified}
+use Rattle.zy_law_views.proofs.TieKept.{tied_holding, tied_settled}
+use Rattle.zy_law_views.specs.Held.{IsHeldPart, mark_at}
+use Rattle.zy_law_views.specs.Texts.{Texts}
+use Rattle.zy_law_views.specs.Tied.{Core, IsCommitHeld, IsFarEnough, IsGrounded, IsTied, SaysLawfully, said_now, settled_with}
+use Rattle.zy_law_views.specs.Told.{check_told, response_told}
+use Rattle.zy_law_views.proofs.AtWork.{own_held, work_board, work_said}
+use Rattle.zy_law_views.specs.Cores.{core_of}
 use Rattle.zy_normal_steps.proofs.Working.{IsWorking, goes_as, last_view_is, own_view_is, says, standing}
-use Rattle.zy_view_steps.specs.Work.{workplace_of}
+use Rattle.zy_law_views.specs.Work.{workplace_of}
 
 -- the place and the head that a response tells
 abbrev pub mark_in : Spec → Mark

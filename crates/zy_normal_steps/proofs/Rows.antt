@@ -62,26 +62,26 @@ use Rattle.zy_table.specs.declared.deeds.Body.TheVariants as bodies
 use Rattle.zy_table.specs.declared.deeds.Remark.{Remark}
 use Rattle.zy_table.specs.declared.deeds.Sent.{Sent}
 use Rattle.zy_table.specs.declared.kept.OwnCheckpoint.{OwnCheckpoint}
-use Rattle.zy_begin_steps.proofs.Adopting.{ends_lawfully}
-use Rattle.zy_begin_steps.proofs.Responding.{above_base}
-use Rattle.zy_begin_steps.specs.Steps.{IsLawfulStep, IsWorldOf}
-use Rattle.zy_view_law.proofs.InView.{says_commit, says_order, says_other}
-use Rattle.zy_view_law.proofs.ProvenReports.{spec_certified}
-use Rattle.zy_view_law.proofs.RunningOn.{kept_passes}
-use Rattle.zy_view_law.specs.Held.{IsHeldPart, mark_at}
-use Rattle.zy_view_law.specs.Texts.{Texts}
-use Rattle.zy_view_law.specs.Tied.{AreOrdersUpTo, Core, IsCommitHeld, IsFarEnough, IsTied, SaysLawfully, said_now}
-use Rattle.zy_view_law.specs.Told.{check_told, response_told}
-use Rattle.zy_view_steps.proofs.AtWork.{last_of, still_may, work_board, work_said}
-use Rattle.zy_view_steps.specs.Cores.{core_of}
-use Rattle.zy_view_steps.specs.Rows.{IsReady}
+use Rattle.zy_law_views.proofs.Adopting.{ends_lawfully}
+use Rattle.zy_law_views.proofs.Responding.{above_base}
+use Rattle.zy_law_views.specs.Steps.{IsLawfulStep, IsWorldOf}
+use Rattle.zy_law_views.proofs.InView.{says_commit, says_order, says_other}
+use Rattle.zy_law_views.proofs.ProvenReports.{spec_certified}
+use Rattle.zy_law_views.proofs.RunningOn.{kept_passes}
+use Rattle.zy_law_views.specs.Held.{IsHeldPart, mark_at}
+use Rattle.zy_law_views.specs.Texts.{Texts}
+use Rattle.zy_law_views.specs.Tied.{AreOrdersUpTo, Core, IsCommitHeld, IsFarEnough, IsTied, SaysLawfully, said_now}
+use Rattle.zy_law_views.specs.Told.{check_told, response_told}
+use Rattle.zy_law_views.proofs.AtWork.{last_of, still_may, work_board, work_said}
+use Rattle.zy_law_views.specs.Cores.{core_of}
+use Rattle.zy_law_views.specs.Rows.{IsReady}
 use Rattle.zy_normal_steps.proofs.Gathers.{IsHere, far_enough, gathers, holds, is_here, mark_in}
 use Rattle.zy_normal_steps.proofs.Gained.{one_gains}
 use Rattle.zy_normal_steps.proofs.Runs.{next_goes, one_goes, run_goes}
-use Rattle.zy_begin_steps.proofs.Backups.{answered_on, waits_on}
+use Rattle.zy_law_views.proofs.Backups.{answered_on, waits_on}
 use Rattle.zy_normal_steps.proofs.Working.{IsWorking, begins, on_way, same_world, clients_now, goes_as, last_view_is, own_view_is, says, standing}
 use Rattle.zy_normal_steps.specs.Heard.{IsFrameHeld}
-use Rattle.zy_view_steps.specs.Work.{IsAtWork, IsWorkTied, Workplace, last_long, workplace_of}
+use Rattle.zy_law_views.specs.Work.{IsAtWork, IsWorkTied, Workplace, last_long, workplace_of}
 use Rattle.zy_normal_steps.specs.Gains.{AreGainsKept}
 
 -- ---- what is kept, changed

@@ -44,18 +44,18 @@ use Rattle.zy_table.specs.State.{State, leaves_of, stood_of}
 use Rattle.zy_table.specs.declared.deeds.Body.TheVariants as bodies
 use Rattle.zy_table.specs.declared.deeds.Remark.{Remark}
 use Rattle.zy_table.specs.declared.deeds.To.TheVariants.{All}
-use Rattle.zy_begin_steps.proofs.Responding.{true_reply}
-use Rattle.zy_view_law.proofs.InView.{says_response}
-use Rattle.zy_view_law.specs.Held.{IsHeldPart, IsVouchedBy, mark_at}
-use Rattle.zy_view_law.specs.Texts.{Texts}
-use Rattle.zy_view_law.specs.Tied.{AreOrdersUpTo, Core, IsTied, SaysLawfully, said_now}
-use Rattle.zy_view_law.specs.Told.{check_told, response_told}
-use Rattle.zy_view_steps.proofs.AtWork.{own_held, told_alike, work_board, work_said}
-use Rattle.zy_view_steps.specs.Cores.{core_of}
+use Rattle.zy_law_views.proofs.Responding.{true_reply}
+use Rattle.zy_law_views.proofs.InView.{says_response}
+use Rattle.zy_law_views.specs.Held.{IsHeldPart, IsVouchedBy, mark_at}
+use Rattle.zy_law_views.specs.Texts.{Texts}
+use Rattle.zy_law_views.specs.Tied.{AreOrdersUpTo, Core, IsTied, SaysLawfully, said_now}
+use Rattle.zy_law_views.specs.Told.{check_told, response_told}
+use Rattle.zy_law_views.proofs.AtWork.{own_held, told_alike, work_board, work_said}
+use Rattle.zy_law_views.specs.Cores.{core_of}
 use Rattle.zy_normal_steps.proofs.Gained.{held_gains, one_gains}
 use Rattle.zy_normal_steps.proofs.Gathers.{IsHere, gathers, is_here}
 use Rattle.zy_normal_steps.proofs.Working.{IsWorking, gains, goes_as, last_view_is, own_view_is, says, standing}
-use Rattle.zy_view_steps.specs.Work.{workplace_of}
+use Rattle.zy_law_views.specs.Work.{workplace_of}
 use Rattle.zy_normal_steps.specs.Gains.{AreGainsKept, IsGainKept}
 
 -- ---- where what is kept begins and ends

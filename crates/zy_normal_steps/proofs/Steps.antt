@@ -41,17 +41,17 @@ use Rattle.zy_table.specs.Roles.{in_role, view_cause}
 use Rattle.zy_table.specs.State.{State, is_leaving, is_leaving_mode, own_view}
 use Rattle.zy_table.specs.Step.{commit_in_view, decoded, hear, row, step, timer, unless}
 use Rattle.zy_table.specs.declared.deeds.Sent.{Sent}
-use Rattle.zy_view_law.specs.Held.{IsHeldPart}
-use Rattle.zy_view_law.specs.Texts.{Texts}
-use Rattle.zy_view_law.specs.Told.{check_told, response_told}
-use Rattle.zy_view_steps.specs.Rows.{IsReady}
-use Rattle.zy_begin_steps.specs.Steps.{IsLawfulStep, IsWorldOf}
-use Rattle.zy_begin_steps.proofs.Admitted.{IsPlaced, placed}
-use Rattle.zy_begin_steps.proofs.Requested.{RoomCases, RunCases, confirm_row, order_admitted, request_row}
+use Rattle.zy_law_views.specs.Held.{IsHeldPart}
+use Rattle.zy_law_views.specs.Texts.{Texts}
+use Rattle.zy_law_views.specs.Told.{check_told, response_told}
+use Rattle.zy_law_views.specs.Rows.{IsReady}
+use Rattle.zy_law_views.specs.Steps.{IsLawfulStep, IsWorldOf}
+use Rattle.zy_law_views.proofs.Admitted.{IsPlaced, placed}
+use Rattle.zy_law_views.proofs.Requested.{RoomCases, RunCases, confirm_row, order_admitted, request_row}
 use Rattle.zy_normal_steps.proofs.Rows as rows
 use Rattle.zy_normal_steps.proofs.Rows.{Goes, done}
 use Rattle.zy_normal_steps.specs.Heard.{IsEventHeld, IsFrameHeld}
-use Rattle.zy_view_steps.specs.Work.{IsAtWork}
+use Rattle.zy_law_views.specs.Work.{IsAtWork}
 use Rattle.zy_normal_steps.specs.Gains.{AreGainsKept}
 
 pub unless_case : {S : Type 0} (s : State S) (P : Outcome S → Type 0) → ((cause : Cause) → P (refused cause s)) → (cause : Option Cause) (o : Outcome S) → (cause ≡ None → P o) → P (unless cause s o)

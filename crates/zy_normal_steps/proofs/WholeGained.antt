@@ -40,20 +40,20 @@ use Rattle.zy_table.specs.State.{State}
 use Rattle.zy_table.specs.Step.{decoded, hear, row, step, unless}
 use Rattle.zy_table.specs.Whole.{decoded_as, hear_plain, order, order_judged, plain_row, whole_step}
 use Rattle.zy_vframes.specs.ViewFrames as views
-use Rattle.zy_view_law.specs.Held as held
-use Rattle.zy_view_law.specs.Texts.{Texts}
-use Rattle.zy_view_law.specs.Told.{response_told, spec_spelled}
-use Rattle.zy_view_steps.proofs.AtWork.{told_alike}
-use Rattle.zy_view_steps.proofs.HeardRows.{order_attempt, pom_attempt}
-use Rattle.zy_view_steps.proofs.Leaves.{hate_attempt}
-use Rattle.zy_view_steps.specs.Rows.{IsReady}
-use Rattle.zy_view_steps.specs.Work.{IsAtWork}
-use Rattle.zy_begin_steps.proofs.Adopting.{finishes_leaving}
-use Rattle.zy_begin_steps.proofs.HonestFrames as view_frames
-use Rattle.zy_begin_steps.proofs.Installing.{IsReading}
-use Rattle.zy_begin_steps.proofs.Timers.{timer_lawful}
-use Rattle.zy_begin_steps.specs.Frames.{IsHonestlyRead}
-use Rattle.zy_begin_steps.specs.Steps.{IsWorldOf}
+use Rattle.zy_law_views.specs.Held as held
+use Rattle.zy_law_views.specs.Texts.{Texts}
+use Rattle.zy_law_views.specs.Told.{response_told, spec_spelled}
+use Rattle.zy_law_views.proofs.AtWork.{told_alike}
+use Rattle.zy_law_views.proofs.HeardRows.{order_attempt, pom_attempt}
+use Rattle.zy_law_views.proofs.Leaves.{hate_attempt}
+use Rattle.zy_law_views.specs.Rows.{IsReady}
+use Rattle.zy_law_views.specs.Work.{IsAtWork}
+use Rattle.zy_law_views.proofs.Adopting.{finishes_leaving}
+use Rattle.zy_law_views.proofs.HonestFrames as view_frames
+use Rattle.zy_law_views.proofs.Installing.{IsReading}
+use Rattle.zy_law_views.proofs.Timers.{timer_lawful}
+use Rattle.zy_law_views.specs.Frames.{IsHonestlyRead}
+use Rattle.zy_law_views.specs.Steps.{IsWorldOf}
 use Rattle.zy_normal_steps.proofs.Steps.{unless_case}
 use Rattle.zy_normal_steps.specs.Heard.{IsEventHeld, IsFrameHeld}
 use Rattle.zy_normal_steps.specs.Whole.{IsEventHonest}

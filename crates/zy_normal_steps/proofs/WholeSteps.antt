@@ -38,19 +38,19 @@ use Rattle.zy_table.specs.State.{State, is_leaving, own_view}
 use Rattle.zy_table.specs.Step.{unless}
 use Rattle.zy_table.specs.Whole.{decoded_as, hear_plain, order, order_judged, plain_row, whole_step}
 use Rattle.zy_vframes.specs.ViewFrames as views
-use Rattle.zy_view_law.specs.Texts.{Texts}
-use Rattle.zy_view_steps.proofs.HeardRows.{order_attempt, pom_attempt}
-use Rattle.zy_view_steps.proofs.Leaves.{hate_attempt}
-use Rattle.zy_view_steps.specs.Rows.{IsReady}
-use Rattle.zy_view_steps.specs.Work.{IsAtWork}
-use Rattle.zy_begin_steps.proofs.Adopting.{finishes_leaving, refuses}
-use Rattle.zy_begin_steps.proofs.Backups.{active_in}
-use Rattle.zy_begin_steps.proofs.HonestFrames as view_frames
-use Rattle.zy_begin_steps.proofs.Installing.{IsReading}
-use Rattle.zy_begin_steps.proofs.Timers.{timer_lawful}
-use Rattle.zy_begin_steps.specs.Frames.{IsHonestlyRead}
-use Rattle.zy_begin_steps.specs.Steps.{IsLawfulStep, IsWorldOf}
-use Rattle.zy_begin_steps.proofs.Admitted.{IsPlaced, placed}
+use Rattle.zy_law_views.specs.Texts.{Texts}
+use Rattle.zy_law_views.proofs.HeardRows.{order_attempt, pom_attempt}
+use Rattle.zy_law_views.proofs.Leaves.{hate_attempt}
+use Rattle.zy_law_views.specs.Rows.{IsReady}
+use Rattle.zy_law_views.specs.Work.{IsAtWork}
+use Rattle.zy_law_views.proofs.Adopting.{finishes_leaving, refuses}
+use Rattle.zy_law_views.proofs.Backups.{active_in}
+use Rattle.zy_law_views.proofs.HonestFrames as view_frames
+use Rattle.zy_law_views.proofs.Installing.{IsReading}
+use Rattle.zy_law_views.proofs.Timers.{timer_lawful}
+use Rattle.zy_law_views.specs.Frames.{IsHonestlyRead}
+use Rattle.zy_law_views.specs.Steps.{IsLawfulStep, IsWorldOf}
+use Rattle.zy_law_views.proofs.Admitted.{IsPlaced, placed}
 use Rattle.zy_normal_steps.proofs.Steps.{order_as_lawful, read_lawful, unless_case}
 use Rattle.zy_normal_steps.specs.Gains.{AreGainsKept}
 use Rattle.zy_normal_steps.specs.Heard.{IsFrameHeld}

@@ -40,20 +40,20 @@ use Rattle.zy_table.specs.declared.deeds.Act.{Act}
 use Rattle.zy_table.specs.declared.deeds.Act.TheVariants.{Gains, Says}
 use Rattle.zy_table.specs.declared.deeds.Got.{Got}
 use Rattle.zy_table.specs.declared.deeds.Remark.{Remark}
-use Rattle.zy_view_law.proofs.TieKept.{may_run, tied_run}
-use Rattle.zy_view_law.proofs.TiedGrown.{one_longer}
-use Rattle.zy_view_law.specs.Texts.{Texts}
-use Rattle.zy_view_law.specs.Tied.{Core, IsAhead, IsRunnableNext, IsTied, SaysLawfully, said_now}
-use Rattle.zy_view_steps.proofs.AtWork.{last_of, may_there, still_may, work_stood}
-use Rattle.zy_view_steps.proofs.Leaves.{IsOnWay, at_begin, begin_world}
-use Rattle.zy_view_steps.proofs.Led.{LeadsTo, leads_on, leads_saying}
-use Rattle.zy_view_steps.specs.Cores.{core_of}
-use Rattle.zy_view_steps.specs.Rows.{IsReady}
-use Rattle.zy_begin_steps.proofs.Backups.{clients_of}
-use Rattle.zy_begin_steps.proofs.Worlds.{world_said, world_stood}
-use Rattle.zy_begin_steps.specs.Steps.{IsWorldOf}
+use Rattle.zy_law_views.proofs.TieKept.{may_run, tied_run}
+use Rattle.zy_law_views.proofs.TiedGrown.{one_longer}
+use Rattle.zy_law_views.specs.Texts.{Texts}
+use Rattle.zy_law_views.specs.Tied.{Core, IsAhead, IsRunnableNext, IsTied, SaysLawfully, said_now}
+use Rattle.zy_law_views.proofs.AtWork.{last_of, may_there, still_may, work_stood}
+use Rattle.zy_law_views.proofs.Leaves.{IsOnWay, at_begin, begin_world}
+use Rattle.zy_law_views.proofs.Led.{LeadsTo, leads_on, leads_saying}
+use Rattle.zy_law_views.specs.Cores.{core_of}
+use Rattle.zy_law_views.specs.Rows.{IsReady}
+use Rattle.zy_law_views.proofs.Backups.{clients_of}
+use Rattle.zy_law_views.proofs.Worlds.{world_said, world_stood}
+use Rattle.zy_law_views.specs.Steps.{IsWorldOf}
 use Rattle.zy_normal_steps.proofs.Gained.{longer_kept}
-use Rattle.zy_view_steps.specs.Work.{IsAtWork, IsWorkTied, last_long, workplace_of}
+use Rattle.zy_law_views.specs.Work.{IsAtWork, IsWorkTied, last_long, workplace_of}
 use Rattle.zy_normal_steps.specs.Gains.{IsGainKept}
 
 -- an entry that is gained

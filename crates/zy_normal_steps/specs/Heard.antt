@@ -11,8 +11,8 @@ use Rattle.zy_lawful.specs.Tied.{MayRun}
 use Rattle.zy_seal.specs.Screening.{screen}
 use Rattle.zy_table.specs.Roles.{in_role}
 use Rattle.zy_table.specs.State.{State}
-use Rattle.zy_view_law.specs.Held.{IsHeldPart}
-use Rattle.zy_view_law.specs.Told.{check_told, response_told}
+use Rattle.zy_law_views.specs.Held.{IsHeldPart}
+use Rattle.zy_law_views.specs.Told.{check_told, response_told}
 
 -- the requests in it may be run, and its responses and its checkpoint are held
 abbrev pub IsFrameHeld : World → Frame → Type 0

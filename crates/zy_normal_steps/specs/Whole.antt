@@ -11,8 +11,8 @@ use Rattle.zy_law.specs.World.{World}
 use Rattle.zy_table.specs.Deeds.{Outcome}
 use Rattle.zy_table.specs.State.{State}
 use Rattle.zy_vframes.specs.ViewFrames as views
-use Rattle.zy_view_law.specs.Texts.{Texts}
-use Rattle.zy_begin_steps.specs.Frames.{IsHonestlyRead, history_read}
+use Rattle.zy_law_views.specs.Texts.{Texts}
+use Rattle.zy_law_views.specs.Frames.{IsHonestlyRead, history_read}
 use Rattle.zy_normal_steps.specs.Heard.{IsEventHeld}
 
 -- What is read as a frame of normal operation is held; and what isn't, by its kind, but as one of a change of view, is honest.

@@ -13,10 +13,10 @@ ghost use Rattle.zy_table.specs.Confirms.{confirm};
 ghost use Rattle.zy_table.specs.Orders.{order};
 ghost use Rattle.zy_table.specs.Requests.{request};
 ghost use Rattle.zy_table.specs.State.{State};
-ghost use Rattle.zy_view_law.specs.Texts.{Texts};
-ghost use Rattle.zy_view_steps.specs.Rows.{IsReady};
-ghost use Rattle.zy_begin_steps.specs.Steps.{IsLawfulStep, IsWorldOf};
-ghost use Rattle.zy_view_steps.specs.Work.{IsAtWork};
+ghost use Rattle.zy_law_views.specs.Texts.{Texts};
+ghost use Rattle.zy_law_views.specs.Rows.{IsReady};
+ghost use Rattle.zy_law_views.specs.Steps.{IsLawfulStep, IsWorldOf};
+ghost use Rattle.zy_law_views.specs.Work.{IsAtWork};
 ghost use Rattle.zy_normal_steps.specs.Gains.{AreGainsKept};
 
 use zy_base::Machine;

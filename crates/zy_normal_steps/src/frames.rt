@@ -7,11 +7,11 @@ ghost use Rattle.zy_law.specs.World.{World};
 ghost use Rattle.zy_table.specs.Deeds.{refused};
 ghost use Rattle.zy_table.specs.State.{State, is_leaving};
 ghost use Rattle.zy_table.specs.Step.{row, step};
-ghost use Rattle.zy_view_law.specs.Texts.{Texts};
-ghost use Rattle.zy_view_steps.specs.Rows.{IsReady};
-ghost use Rattle.zy_begin_steps.specs.Steps.{IsLawfulStep, IsWorldOf};
+ghost use Rattle.zy_law_views.specs.Texts.{Texts};
+ghost use Rattle.zy_law_views.specs.Rows.{IsReady};
+ghost use Rattle.zy_law_views.specs.Steps.{IsLawfulStep, IsWorldOf};
 ghost use Rattle.zy_normal_steps.specs.Heard.{IsEventHeld};
-ghost use Rattle.zy_view_steps.specs.Work.{IsAtWork};
+ghost use Rattle.zy_law_views.specs.Work.{IsAtWork};
 ghost use Rattle.zy_normal_steps.specs.Gains.{AreGainsKept};
 
 use zy_base::Machine;

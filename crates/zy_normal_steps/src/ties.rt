@@ -12,10 +12,10 @@ ghost use Rattle.zy_seal.specs.Keys.{Keys};
 ghost use Rattle.zy_seal.specs.Sealing.{SealerState};
 ghost use Rattle.zy_table.specs.State.{State, start_of};
 ghost use Rattle.zy_lawful.specs.Tied.{Agrees};
-ghost use Rattle.zy_view_law.specs.Texts.{AreLinks, Texts};
-ghost use Rattle.zy_begin_steps.specs.Steps.{IsWorldOf};
-ghost use Rattle.zy_view_steps.specs.Rows.{IsReady};
-ghost use Rattle.zy_view_steps.specs.Work.{IsAtWork};
+ghost use Rattle.zy_law_views.specs.Texts.{AreLinks, Texts};
+ghost use Rattle.zy_law_views.specs.Steps.{IsWorldOf};
+ghost use Rattle.zy_law_views.specs.Rows.{IsReady};
+ghost use Rattle.zy_law_views.specs.Work.{IsAtWork};
 
 use zy_base::Machine;
 

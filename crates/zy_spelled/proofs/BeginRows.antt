@@ -41,13 +41,13 @@ use Rattle.zy_table.specs.Deeds.{begin}
 use Rattle.zy_table.specs.Fetching.{fetch, fetch_judged, install, installed, state_for, state_heard, state_judged, state_transfer}
 use Rattle.zy_table.specs.State.{State}
 use Rattle.zy_vframes.specs.declared.frame.ViewCert.{ViewCert}
-use Rattle.zy_view_law.specs.Held.{IsHeldChange}
-use Rattle.zy_view_law.specs.Texts.{Texts}
-use Rattle.zy_view_law.specs.Told.{new_spelled}
-use Rattle.zy_view_steps.specs.Rows.{IsReady}
-use Rattle.zy_begin_steps.proofs.Installing.{IsReading}
-use Rattle.zy_begin_steps.proofs.Rows.{chosen_of}
-use Rattle.zy_begin_steps.specs.Steps.{IsWorldOf}
+use Rattle.zy_law_views.specs.Held.{IsHeldChange}
+use Rattle.zy_law_views.specs.Texts.{Texts}
+use Rattle.zy_law_views.specs.Told.{new_spelled}
+use Rattle.zy_law_views.specs.Rows.{IsReady}
+use Rattle.zy_law_views.proofs.Installing.{IsReading}
+use Rattle.zy_law_views.proofs.Rows.{chosen_of}
+use Rattle.zy_law_views.specs.Steps.{IsWorldOf}
 use Rattle.zy_wire.specs.Fields.{FitsList}
 use Rattle.zy_spelled.specs.Spelled.{AreViewsSpelled, IsBeganSpelled, IsChoiceSpelled, IsSpelled, IsWaitingSpelled}
 use Rattle.zy_spelled.proofs.Adopts.{IsAdopted, adopts, certifies}

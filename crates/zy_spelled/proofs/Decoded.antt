@@ -16,7 +16,7 @@ use Rattle.zy_parts.specs.Reports.{began_fields}
 use Rattle.zy_parts.specs.Statements.{IsU62, spec_fields, check_fields}
 use Rattle.zy_parts.specs.declared.signed.Signed.{Signed}
 use Rattle.zy_table.specs.Roles.{is_replica}
-use Rattle.zy_view_law.specs.Told.{number_spelled, spec_spelled}
+use Rattle.zy_law_views.specs.Told.{number_spelled, spec_spelled}
 use Rattle.zy_wire.proofs.Parts.{bind_ok, guard_ok, ok_is, wide32}
 use Rattle.zy_wire.specs.Fields.{FitsList, FitsOptional, IsParty, flagged_at, optional, optional_at, u62, digest, digest_at, party, party_at, party_numbered, bytes16, bytes_at, list, list_at}
 use Rattle.zy_wire.specs.Spelling.{Spelling, IsBytes, ◌>>=◌, word, word_at, exactly, exactly_at, pair, made, or_range, within, number_at, repeated_at}

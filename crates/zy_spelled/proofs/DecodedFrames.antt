@@ -17,7 +17,7 @@ use Rattle.zy_table.specs.Whole.{is_by_replica, is_view_frame_in_role}
 use Rattle.zy_vframes.specs.ViewFrames as views
 use Rattle.zy_vframes.specs.declared.frame.ViewFrame.{ViewFrame}
 use Rattle.zy_vframes.specs.declared.frame.ViewFrame.TheVariants as view_frames
-use Rattle.zy_view_law.specs.Told.{change_spelled}
+use Rattle.zy_law_views.specs.Told.{change_spelled}
 use Rattle.zy_wire.proofs.Parts.{bind_ok, ended_ok}
 use Rattle.zy_wire.specs.Fields.{bytes16, list}
 use Rattle.zy_wire.specs.Framing.{framed_in}

@@ -28,13 +28,13 @@ use Rattle.zy_table.specs.Deeds.{Going}
 use Rattle.zy_table.specs.Leaving.{Attempt, accept, collect, give_new, given, goes, leave, leave_alone, report_of, sealed_change, sealed_new}
 use Rattle.zy_table.specs.State.{State}
 use Rattle.zy_table.specs.State as table
-use Rattle.zy_view_law.proofs.LawfulChoice.{chosen_is}
-use Rattle.zy_view_law.specs.Held.{IsProperNew}
-use Rattle.zy_view_law.specs.Tied.{IsChosenNew}
-use Rattle.zy_view_law.specs.Told.{change_spelled, new_spelled}
-use Rattle.zy_view_steps.proofs.Gathered.{gathered_proper}
-use Rattle.zy_view_steps.proofs.Leaves.{IsOnWay, leave_on}
-use Rattle.zy_view_steps.specs.Rows.{IsReady}
+use Rattle.zy_law_views.proofs.LawfulChoice.{chosen_is}
+use Rattle.zy_law_views.specs.Held.{IsProperNew}
+use Rattle.zy_law_views.specs.Tied.{IsChosenNew}
+use Rattle.zy_law_views.specs.Told.{change_spelled, new_spelled}
+use Rattle.zy_law_views.proofs.Gathered.{gathered_proper}
+use Rattle.zy_law_views.proofs.Leaves.{IsOnWay, leave_on}
+use Rattle.zy_law_views.specs.Rows.{IsReady}
 use Rattle.zy_spelled.specs.Spelled.{AreViewsSpelled, IsAcceptedSpelled, IsBeganSpelled, IsChangeSpelled}
 use Rattle.zy_spelled.proofs.Gathers.{IsGoing, fit_said}
 use Rattle.zy_spelled.proofs.Reports.{change_fits, chosen_spelled, gathered_fits, report_fits}

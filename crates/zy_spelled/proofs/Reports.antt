@@ -27,10 +27,10 @@ use Rattle.zy_parts.specs.declared.signed.Signed.{Signed}
 use Rattle.zy_parts.specs.declared.statements.Spec.{Spec}
 use Rattle.zy_table.specs.Leaving.{report_of}
 use Rattle.zy_table.specs.State.{State}
-use Rattle.zy_view_law.proofs.AdoptedLists.{provider_formed, provider_has_it}
-use Rattle.zy_view_law.specs.Held.{IsProvidedBy, mark_at}
-use Rattle.zy_view_law.specs.Tied.{IsChosenNew}
-use Rattle.zy_view_law.specs.Told.{change_spelled, new_spelled, spec_spelled, told_spelled, with_stmt}
+use Rattle.zy_law_views.proofs.AdoptedLists.{provider_formed, provider_has_it}
+use Rattle.zy_law_views.specs.Held.{IsProvidedBy, mark_at}
+use Rattle.zy_law_views.specs.Tied.{IsChosenNew}
+use Rattle.zy_law_views.specs.Told.{change_spelled, new_spelled, spec_spelled, told_spelled, with_stmt}
 use Rattle.zy_wire.specs.Fields.{FitsList, FitsOptional}
 use Rattle.zy_spelled.specs.Spelled.{IsChangeSpelled, IsCheckSpelled, IsChoiceSpelled, IsSpecSpelled, IsSpelled}
 use Rattle.zy_spelled.proofs.Sizes.{head_long}

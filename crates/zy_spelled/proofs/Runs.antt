@@ -37,7 +37,7 @@ use Rattle.zy_table.specs.Running.{executed, fits_end, got_of, next_known, respo
 use Rattle.zy_table.specs.State.{State, leaves_of, own_view}
 use Rattle.zy_table.specs.declared.deeds.Act.TheVariants.{Gains}
 use Rattle.zy_table.specs.declared.kept.OwnCheckpoint.{OwnCheckpoint}
-use Rattle.zy_view_law.specs.Told.{spec_spelled}
+use Rattle.zy_law_views.specs.Told.{spec_spelled}
 use Rattle.zy_spelled.specs.Spelled.{IsCheckSpelled, IsSpecSpelled, IsSpelled}
 use Rattle.zy_spelled.proofs.Gathers.{IsGoing, IsOwnSpelled, board_like, fit-append, fit_said, gathers, rounds_of, state_long}
 use Rattle.zy_spelled.proofs.SaidBack.{same_spelled}

@@ -10,8 +10,8 @@ use Rattle.zy_parts.specs.declared.statements.Spec.{Spec}
 use Rattle.zy_table.specs.Deeds.{text_by}
 use Rattle.zy_table.specs.declared.deeds.Body.{Body}
 use Rattle.zy_table.specs.declared.deeds.Body.TheVariants as bodies
-use Rattle.zy_view_law.proofs.ReadBack.{began_back, change_back, check_back, local_back, new_back, order_back, spec_back}
-use Rattle.zy_view_law.specs.Told.{spec_spelled, spec_told, statement_in}
+use Rattle.zy_law_views.proofs.ReadBack.{began_back, change_back, check_back, local_back, new_back, order_back, spec_back}
+use Rattle.zy_law_views.specs.Told.{spec_spelled, spec_told, statement_in}
 use Rattle.zy_spelled.specs.Spelled.{FitsBody}
 
 -- a client's number of four bytes is spelled as it is

@@ -92,8 +92,8 @@ use Rattle.zy_vframes.specs.ViewFrames as views
 use Rattle.zy_vframes.specs.declared.frame.ViewCert.{ViewCert}
 use Rattle.zy_vframes.specs.declared.frame.ViewFrame.{ViewFrame}
 use Rattle.zy_vframes.specs.declared.frame.ViewFrame.TheVariants as view_frames
-use Rattle.zy_begin_steps.proofs.Admitted.{IsPlaced, placed}
-use Rattle.zy_begin_steps.proofs.Requested.{RunCases, order_admitted}
+use Rattle.zy_law_views.proofs.Admitted.{IsPlaced, placed}
+use Rattle.zy_law_views.proofs.Requested.{RunCases, order_admitted}
 use Rattle.zy_normal_steps.proofs.Steps.{unless_case}
 
 module _ {S : Type 0} (R : Rules S) (s : State S) where

@@ -39,11 +39,11 @@ use Rattle.zy_table.specs.Misbehaviour.{blamed, pom, tell_all}
 use Rattle.zy_table.specs.State.{State}
 use Rattle.zy_table.specs.State as table
 use Rattle.zy_vframes.specs.declared.frame.ViewCert.{ViewCert}
-use Rattle.zy_view_law.specs.Held.{IsHeldChange}
-use Rattle.zy_view_law.specs.Told.{change_spelled}
-use Rattle.zy_view_steps.proofs.HeardRows.{kept_on, least_later, said_hate, sent_more, told_again}
-use Rattle.zy_view_steps.proofs.Leaves.{IsOnWay, at_begin, hated_more}
-use Rattle.zy_view_steps.specs.Rows.{IsReady}
+use Rattle.zy_law_views.specs.Held.{IsHeldChange}
+use Rattle.zy_law_views.specs.Told.{change_spelled}
+use Rattle.zy_law_views.proofs.HeardRows.{kept_on, least_later, said_hate, sent_more, told_again}
+use Rattle.zy_law_views.proofs.Leaves.{IsOnWay, at_begin, hated_more}
+use Rattle.zy_law_views.specs.Rows.{IsReady}
 use Rattle.zy_spelled.specs.Spelled.{AreViewsSpelled, IsChangeSpelled, IsSpelled}
 use Rattle.zy_spelled.proofs.Adopts.{IsAdopted, certifies}
 use Rattle.zy_spelled.proofs.Gathers.{IsDone, IsGoing, fit_said}

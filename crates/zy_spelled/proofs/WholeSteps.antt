@@ -41,19 +41,19 @@ use Rattle.zy_vframes.specs.Parts as view_parts
 use Rattle.zy_vframes.specs.ViewFrames as views
 use Rattle.zy_vframes.specs.declared.frame.ViewFrame.{ViewFrame}
 use Rattle.zy_vframes.specs.declared.frame.ViewFrame.TheVariants as view_frames
-use Rattle.zy_view_law.proofs.HonestTexts.{change_held, changes_held}
-use Rattle.zy_view_law.proofs.Lists.{all_left}
-use Rattle.zy_view_law.specs.Held.{AreLinksKept, IsHonestPart}
-use Rattle.zy_view_law.specs.Texts.{Texts}
-use Rattle.zy_view_steps.specs.Rows.{IsReady}
-use Rattle.zy_view_steps.specs.Work.{IsAtWork}
-use Rattle.zy_begin_steps.proofs.Admitted.{IsPlaced, placed}
-use Rattle.zy_begin_steps.proofs.HonestFrames.{by_replica}
-use Rattle.zy_begin_steps.proofs.Installing.{IsReading}
-use Rattle.zy_begin_steps.proofs.Requested.{order_admitted}
-use Rattle.zy_begin_steps.proofs.IdleFrames.{IsIdle, TellsOfClients, of_clients_or_idle}
-use Rattle.zy_begin_steps.specs.Frames.{AreLinksBrought, AreOfClients, IsHonestFrame, IsHonestlyRead}
-use Rattle.zy_begin_steps.specs.Steps.{IsWorldOf}
+use Rattle.zy_law_views.proofs.HonestTexts.{change_held, changes_held}
+use Rattle.zy_law_views.proofs.Lists.{all_left}
+use Rattle.zy_law_views.specs.Held.{AreLinksKept, IsHonestPart}
+use Rattle.zy_law_views.specs.Texts.{Texts}
+use Rattle.zy_law_views.specs.Rows.{IsReady}
+use Rattle.zy_law_views.specs.Work.{IsAtWork}
+use Rattle.zy_law_views.proofs.Admitted.{IsPlaced, placed}
+use Rattle.zy_law_views.proofs.HonestFrames.{by_replica}
+use Rattle.zy_law_views.proofs.Installing.{IsReading}
+use Rattle.zy_law_views.proofs.Requested.{order_admitted}
+use Rattle.zy_law_views.proofs.IdleFrames.{IsIdle, TellsOfClients, of_clients_or_idle}
+use Rattle.zy_law_views.specs.Frames.{AreLinksBrought, AreOfClients, IsHonestFrame, IsHonestlyRead}
+use Rattle.zy_law_views.specs.Steps.{IsWorldOf}
 use Rattle.zy_normal_steps.proofs.Steps.{unless_case}
 use Rattle.zy_normal_steps.specs.Whole.{IsEventHonest}
 use Rattle.zy_table.specs.declared.deeds.Act.{Act}

@@ -54,13 +54,13 @@ use Rattle.zy_table.specs.Orders.{ask_for_missing}
 use Rattle.zy_table.specs.Requests.{ordered, request_waits, sealed_order}
 use Rattle.zy_table.specs.Running.{run, spec_of}
 use Rattle.zy_table.specs.State.{State, own_view}
-use Rattle.zy_view_law.proofs.ReadLists.{all_runnable}
-use Rattle.zy_view_law.specs.Texts.{Texts}
-use Rattle.zy_view_steps.specs.Rows.{IsReady}
-use Rattle.zy_view_steps.specs.Work.{IsAtWork}
-use Rattle.zy_begin_steps.proofs.Backups.{record_is}
-use Rattle.zy_begin_steps.proofs.Requested.{RunCases}
-use Rattle.zy_begin_steps.specs.Steps.{IsWorldOf}
+use Rattle.zy_law_views.proofs.ReadLists.{all_runnable}
+use Rattle.zy_law_views.specs.Texts.{Texts}
+use Rattle.zy_law_views.specs.Rows.{IsReady}
+use Rattle.zy_law_views.specs.Work.{IsAtWork}
+use Rattle.zy_law_views.proofs.Backups.{record_is}
+use Rattle.zy_law_views.proofs.Requested.{RunCases}
+use Rattle.zy_law_views.specs.Steps.{IsWorldOf}
 use Rattle.zy_normal_steps.proofs.Rows.{check_stays, spec_stays}
 use Rattle.zy_normal_steps.specs.Heard.{IsFrameHeld}
 use Rattle.zy_wire.specs.Fields.{FitsList}

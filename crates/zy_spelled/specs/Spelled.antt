@@ -23,7 +23,7 @@ use Rattle.zy_table.specs.declared.deeds.Act.{Act}
 use Rattle.zy_table.specs.declared.deeds.Act.TheVariants.{Says, Gains, Adopts}
 use Rattle.zy_table.specs.declared.deeds.Body.{Body}
 use Rattle.zy_table.specs.declared.deeds.Body.TheVariants as bodies
-use Rattle.zy_view_law.specs.Told.{change_spelled, new_spelled, spec_spelled, with_stmt}
+use Rattle.zy_law_views.specs.Told.{change_spelled, new_spelled, spec_spelled, with_stmt}
 use Rattle.zy_wire.specs.Fields.{FitsList, FitsOptional, IsParty}
 
 -- ---- what is said

@@ -3,7 +3,7 @@ ghost use Rattle.zy_base.specs.declared.ids.Party.{Party};
 ghost use Rattle.zy_lawful.specs.Acts.{statement_by};
 ghost use Rattle.zy_table.specs.Deeds.{text_by};
 ghost use Rattle.zy_table.specs.declared.deeds.Body.{Body};
-ghost use Rattle.zy_view_law.specs.Told.{statement_in};
+ghost use Rattle.zy_law_views.specs.Told.{statement_in};
 ghost use Rattle.zy_spelled.specs.Spelled.{FitsBody};
 
 /// What can be spelled is read back out of the text that is signed, as the law reads it.

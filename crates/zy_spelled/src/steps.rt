@@ -1,15 +1,15 @@
 ghost use Rattle.std.specs.Prelude.{ℕ, List};
 ghost use Rattle.zy_base.specs.declared.step.Event.{Event};
-ghost use Rattle.zy_begin_steps.specs.Steps.{IsWorldOf};
+ghost use Rattle.zy_law_views.specs.Steps.{IsWorldOf};
 ghost use Rattle.zy_chain.specs.declared.entry.Entry.{Entry};
 ghost use Rattle.zy_law.specs.World.{World};
 ghost use Rattle.zy_normal_steps.specs.Gains.{AreGainsKept};
 ghost use Rattle.zy_normal_steps.specs.Whole.{IsEventHonest};
 ghost use Rattle.zy_table.specs.State.{State};
 ghost use Rattle.zy_table.specs.Whole.{whole_step};
-ghost use Rattle.zy_view_law.specs.Texts.{Texts};
-ghost use Rattle.zy_view_steps.specs.Rows.{IsReady};
-ghost use Rattle.zy_view_steps.specs.Work.{IsAtWork};
+ghost use Rattle.zy_law_views.specs.Texts.{Texts};
+ghost use Rattle.zy_law_views.specs.Rows.{IsReady};
+ghost use Rattle.zy_law_views.specs.Work.{IsAtWork};
 ghost use Rattle.zy_spelled.specs.Spelled.{FitAll, IsSpelled};
 
 use zy_base::Machine;

@@ -12,11 +12,11 @@ use Rattle.zy_base.specs.declared.ids.Digest.{Digest}
 use Rattle.zy_base.specs.declared.step.Event.TheVariants.{Timer}
 use Rattle.zy_base.specs.declared.step.TimerKind.{TimerKind}
 use Rattle.zy_base.specs.declared.step.TimerKind.TheVariants as timers
-use Rattle.zy_begin_steps.proofs.Adopting.{unblamed, unblamed_leaving}
-use Rattle.zy_begin_steps.proofs.HonestFrames.{began_held, begans_held, by_replica}
-use Rattle.zy_begin_steps.proofs.Rows.{cert_attempt, confirmation_attempt, new_attempt}
-use Rattle.zy_begin_steps.specs.Frames.{IsHonestFrame}
-use Rattle.zy_begin_steps.specs.Steps.{IsWorldOf}
+use Rattle.zy_law_views.proofs.Adopting.{unblamed, unblamed_leaving}
+use Rattle.zy_law_views.proofs.HonestFrames.{began_held, begans_held, by_replica}
+use Rattle.zy_law_views.proofs.Rows.{cert_attempt, confirmation_attempt, new_attempt}
+use Rattle.zy_law_views.specs.Frames.{IsHonestFrame}
+use Rattle.zy_law_views.specs.Steps.{IsWorldOf}
 use Rattle.zy_chain.specs.declared.entry.Entry.{Entry}
 use Rattle.zy_frames.specs.declared.frame.Frame.{Frame}
 use Rattle.zy_frames.specs.declared.frame.Frame.TheVariants as frames
@@ -41,16 +41,16 @@ use Rattle.zy_table.specs.declared.deeds.AnyFrame.TheVariants.{Plain, View}
 use Rattle.zy_vframes.specs.Parts.{parts_of_new}
 use Rattle.zy_vframes.specs.declared.frame.ViewFrame.{ViewFrame}
 use Rattle.zy_vframes.specs.declared.frame.ViewFrame.TheVariants as view_frames
-use Rattle.zy_view_law.proofs.HonestTexts.{change_held, changes_held}
-use Rattle.zy_view_law.proofs.Lists.{all_left, all_right}
-use Rattle.zy_view_law.specs.Held.{AreLinksKept, IsHeldChange, IsHonestPart}
-use Rattle.zy_view_law.specs.Texts.{Texts, digest_of}
-use Rattle.zy_view_steps.proofs.HeardRows.{change_attempt, order_attempt, pom_attempt, request_attempt, vote_attempt}
-use Rattle.zy_view_steps.proofs.Leaves.{hate_attempt}
-use Rattle.zy_view_steps.specs.Rows.{IsReady, blames}
+use Rattle.zy_law_views.proofs.HonestTexts.{change_held, changes_held}
+use Rattle.zy_law_views.proofs.Lists.{all_left, all_right}
+use Rattle.zy_law_views.specs.Held.{AreLinksKept, IsHeldChange, IsHonestPart}
+use Rattle.zy_law_views.specs.Texts.{Texts, digest_of}
+use Rattle.zy_law_views.proofs.HeardRows.{change_attempt, order_attempt, pom_attempt, request_attempt, vote_attempt}
+use Rattle.zy_law_views.proofs.Leaves.{hate_attempt}
+use Rattle.zy_law_views.specs.Rows.{IsReady, blames}
 use Rattle.zy_world_law.specs.Blame.{state_told}
 use Rattle.zy_world_law.proofs.AttemptAnswers.{certificate_ends, change_ends, change_timer_ends, confirmation_ends, fetch_ends, finish_just, hate_ends, new_ends, order_ends, pom_ends, request_timer_ends, state_ends}
-use Rattle.zy_begin_steps.proofs.IdleFrames.{TellsOfClients}
+use Rattle.zy_law_views.proofs.IdleFrames.{TellsOfClients}
 use Rattle.zy_world_law.proofs.RowCauses.{IsFree, IsFreeAdmit, Just, admit_free, checkpoint_just, commit_just, confirm_just, free, hole_just, order_as_just, request_just, response_just, taken_just, view_just}
 use Rattle.zy_world_law.proofs.StepLaws.{StepLaws}
 

@@ -58,7 +58,7 @@ use Rattle.zy_world_law.proofs.Blameless.{plain_just, timer_just, view_just_row}
 use Rattle.zy_world_law.proofs.DecodedReports.{decoded_read}
 use Rattle.zy_world_law.proofs.EventHeld.{verified}
 use Rattle.zy_world_law.proofs.HonestReports.{frame_honest}
-use Rattle.zy_begin_steps.proofs.IdleFrames.{of_clients_or_idle}
+use Rattle.zy_law_views.proofs.IdleFrames.{of_clients_or_idle}
 use Rattle.zy_world_law.proofs.KeptTexts.{all_kept}
 use Rattle.zy_world_law.proofs.NoConflict.{no_conflict}
 use Rattle.zy_world_law.proofs.NotForged.{parts_said}

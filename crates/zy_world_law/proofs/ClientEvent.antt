@@ -43,8 +43,8 @@ use Rattle.zy_world_law.specs.Good.{IsGood, IsClientTied, IsBackedBy, IsCommitBa
 use Rattle.zy_world_law.specs.Honest.{forger_in}
 use Rattle.zy_world_law.specs.Safe.{completion_of}
 use Rattle.zy_table.specs.declared.deeds.AnyFrame.TheVariants.{Plain}
-use Rattle.zy_view_law.proofs.ReadBack.{local_back}
-use Rattle.zy_view_law.specs.Told.{statement_in}
+use Rattle.zy_law_views.proofs.ReadBack.{local_back}
+use Rattle.zy_law_views.specs.Told.{statement_in}
 use Rattle.zy_evidence.specs.Reading.{number_of_party}
 use Rattle.zy_world_law.specs.Reading.{either_read}
 use Rattle.zy_world_law.specs.Seen.{seen}

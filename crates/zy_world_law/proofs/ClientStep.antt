@@ -9,7 +9,7 @@ use Rattle.std.proofs.lemmas.Option.{same_Some}
 use Rattle.zy_base.specs.Machine.{Rules}
 use Rattle.zy_base.specs.declared.ids.ClientId.{ClientId}
 use Rattle.zy_base.specs.declared.step.Spoken.{Spoken}
-use Rattle.zy_begin_steps.specs.Steps.{IsWorldOf}
+use Rattle.zy_law_views.specs.Steps.{IsWorldOf}
 use Rattle.zy_chain.specs.declared.entry.Entry.{Entry}
 use Rattle.zy_client.specs.Held.{Holds}
 use Rattle.zy_law.proofs.GrownLemmas.{completed_grown}
@@ -25,8 +25,8 @@ use Rattle.zy_table.specs.ClientRows.{kept_of}
 use Rattle.zy_table.specs.ClientState.{ClientOutcome, spoken_of}
 use Rattle.zy_table.specs.declared.client.Commit.{Commit}
 use Rattle.zy_table.specs.declared.client.Response.{Response}
-use Rattle.zy_view_steps.specs.Rows.{IsReady}
-use Rattle.zy_view_steps.specs.Work.{IsAtWork}
+use Rattle.zy_law_views.specs.Rows.{IsReady}
+use Rattle.zy_law_views.specs.Work.{IsAtWork}
 use Rattle.zy_world_law.specs.Events.{client_stepped, with_client, history_of}
 use Rattle.zy_world_law.specs.Good.{IsGood, IsTied, IsClientTied, IsBackedBy, IsCommitBacked, IsDone}
 use Rattle.zy_world_law.specs.Safe.{completion_of}

@@ -39,9 +39,9 @@ use Rattle.zy_world_law.specs.Events.{completed_by}
 use Rattle.zy_world_law.specs.Good.{IsGood, IsClientTied, IsBackedBy, IsCommitBacked, local_to}
 use Rattle.zy_world_law.specs.Safe.{completion_of}
 use Rattle.zy_world_law.specs.Seen.{seen}
-use Rattle.zy_view_law.proofs.ReadBack.{spec_back}
-use Rattle.zy_view_law.specs.Told.{statement_in}
-use Rattle.zy_view_steps.proofs.AtWork.{told_alike}
+use Rattle.zy_law_views.proofs.ReadBack.{spec_back}
+use Rattle.zy_law_views.specs.Told.{statement_in}
+use Rattle.zy_law_views.proofs.AtWork.{told_alike}
 use Rattle.zy_world_law.specs.World.{World, Client, client_at}
 use Rattle.zy_world_law.proofs.Agreeing.{Picked, picked, rising_differ}
 use Rattle.zy_world_law.proofs.HeldLaw.{HeldLaw}

@@ -10,8 +10,8 @@ use Rattle.std.proofs.lemmas.List.Elements.{All-map}
 use Rattle.zy_base.specs.declared.counts.Counts.{Counts}
 use Rattle.zy_chain.specs.Fields.{entry_fields}
 use Rattle.zy_chain.specs.declared.entry.Entry.{Entry}
-use Rattle.zy_begin_steps.proofs.IdleFrames.{TellsOfClients}
-use Rattle.zy_begin_steps.specs.Frames.{AreOfClients, IsSpelled}
+use Rattle.zy_law_views.proofs.IdleFrames.{TellsOfClients}
+use Rattle.zy_law_views.specs.Frames.{AreOfClients, IsSpelled}
 use Rattle.zy_parts.specs.Reports.{began_fields, certificate, change_fields, fetch_fields, new_fields, told_fields}
 use Rattle.zy_parts.specs.Signing.{signed}
 use Rattle.zy_parts.specs.Statements.{IsU62, check_fields, spec_fields}
@@ -27,7 +27,7 @@ use Rattle.zy_table.specs.Whole.{are_specs_in_role, is_by_replica, is_change_in_
 use Rattle.zy_vframes.specs.ViewFrames.{frame_at, frame_in, state, view_certificate}
 use Rattle.zy_vframes.specs.declared.frame.ViewFrame.{ViewFrame}
 use Rattle.zy_vframes.specs.declared.frame.ViewFrame.TheVariants as frames
-use Rattle.zy_view_law.specs.Told.{change_spelled, new_spelled, spec_spelled, told_spelled, with_stmt}
+use Rattle.zy_law_views.specs.Told.{change_spelled, new_spelled, spec_spelled, told_spelled, with_stmt}
 use Rattle.zy_wire.specs.Fields.{FitsList, FitsOptional, bytes16, digest, list, u62}
 use Rattle.zy_wire.specs.Spelling.{Spelling, pair, word, word_at}
 use Rattle.zy_world_law.proofs.DecodedInRange.{FitsSpelled}

@@ -35,9 +35,9 @@ use Rattle.zy_seal.specs.declared.directory.SealAnswer.TheVariants as answers
 use Rattle.zy_table.specs.Roles.{in_role, is_client, is_order_of_primary, is_replica, is_primary_of}
 use Rattle.zy_table.specs.State.{State}
 use Rattle.zy_table.specs.declared.deeds.AnyFrame.TheVariants.{Plain}
-use Rattle.zy_view_law.proofs.ReadBack.{check_back, spec_back}
-use Rattle.zy_view_law.specs.Held.{IsHeldPart, IsVouchedBy}
-use Rattle.zy_view_law.specs.Told.{check_told, response_told, statement_in}
+use Rattle.zy_law_views.proofs.ReadBack.{check_back, spec_back}
+use Rattle.zy_law_views.specs.Held.{IsHeldPart, IsVouchedBy}
+use Rattle.zy_law_views.specs.Told.{check_told, response_told, statement_in}
 use Rattle.zy_wire.specs.Spelling.{Spelling}
 use Rattle.zy_world_law.specs.Good.{IsGood}
 use Rattle.zy_world_law.specs.Honest.{forger_in}

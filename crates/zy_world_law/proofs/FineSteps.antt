@@ -18,7 +18,7 @@ use Rattle.zy_world_law.specs.Seen.{seen}
 use Rattle.zy_world_law.specs.Texts.{step_texts}
 use Rattle.zy_world_law.specs.World.{Replica, World, replica_at}
 use Rattle.zy_world_law.proofs.GainsKept.{gains_kept}
-use Rattle.zy_begin_steps.proofs.IdleFrames.{IsIdle}
+use Rattle.zy_law_views.proofs.IdleFrames.{IsIdle}
 use Rattle.zy_world_law.proofs.IdleSteps.{idle_lawful}
 use Rattle.zy_world_law.proofs.ReplicaStep.{IsFineStep}
 use Rattle.zy_world_law.proofs.StepLaws.{MayStep, StepLaws}

@@ -32,7 +32,7 @@ use Rattle.zy_world_law.proofs.BagStays.{bag_good}
 use Rattle.zy_world_law.proofs.ClientStep.{client_good, own_seat, completed_after}
 use Rattle.zy_world_law.proofs.DoneStays.{done_good}
 use Rattle.zy_world_law.proofs.FineSteps.{step_fine}
-use Rattle.zy_begin_steps.proofs.IdleFrames.{IsIdle}
+use Rattle.zy_law_views.proofs.IdleFrames.{IsIdle}
 use Rattle.zy_world_law.proofs.StepLaws.{StepLaws}
 use Rattle.zy_world_law.proofs.KeptOrHeard.{IsSame}
 use Rattle.zy_world_law.proofs.KeptTexts.{IsKeeping, Stay, all_kept}

@@ -10,7 +10,7 @@ use Rattle.zy_base.specs.declared.frame_fault.FrameFault.TheVariants as faults
 use Rattle.zy_base.specs.declared.step.Event.{Event}
 use Rattle.zy_base.specs.declared.step.Event.TheVariants.{Heard, Timer}
 use Rattle.zy_base.specs.declared.step.TimerKind.{TimerKind}
-use Rattle.zy_begin_steps.specs.Frames.{IsHonestFrame, IsHonestlyRead}
+use Rattle.zy_law_views.specs.Frames.{IsHonestFrame, IsHonestlyRead}
 use Rattle.zy_frames.specs.Frames as plain
 use Rattle.zy_frames.specs.declared.frame.Frame.{Frame}
 use Rattle.zy_normal_steps.specs.Whole.{IsEventHonest}
@@ -31,11 +31,11 @@ use Rattle.zy_world_law.specs.Seen.{seen}
 use Rattle.zy_world_law.specs.Setup.{keys_of}
 use Rattle.zy_world_law.specs.Texts.{texts_in, texts_of, view_frame_texts}
 use Rattle.zy_world_law.specs.World.{World}
-use Rattle.zy_begin_steps.proofs.IdleFrames.{TellsOfClients}
+use Rattle.zy_law_views.proofs.IdleFrames.{TellsOfClients}
 use Rattle.zy_world_law.proofs.DecodedReports.{decoded_read}
 use Rattle.zy_world_law.proofs.EventHeld.{event_held, verified}
 use Rattle.zy_world_law.proofs.HonestReports.{frame_honest}
-use Rattle.zy_begin_steps.proofs.IdleFrames.{IsIdle, of_clients_or_idle}
+use Rattle.zy_law_views.proofs.IdleFrames.{IsIdle, of_clients_or_idle}
 use Rattle.zy_world_law.proofs.NotForged.{parts_said}
 
 abbrev pub heard_as : List ℕ → Event

@@ -10,7 +10,7 @@ use Rattle.zy_base.specs.declared.counts.Counts.{Counts}
 use Rattle.zy_base.specs.declared.ids.Digest.{Digest}
 use Rattle.zy_base.specs.declared.ids.Party.{Party}
 use Rattle.zy_base.specs.declared.ids.Party.TheVariants.{Client, Replica}
-use Rattle.zy_begin_steps.specs.Frames.{AreLinksBrought, IsBroughtKept, IsHonestFrame}
+use Rattle.zy_law_views.specs.Frames.{AreLinksBrought, IsBroughtKept, IsHonestFrame}
 use Rattle.zy_chain.specs.Entries.{digest_of_entry}
 use Rattle.zy_chain.specs.Fields.{entry-in_range, entry_fields}
 use Rattle.zy_chain.specs.Heads.{head_after}
@@ -36,14 +36,14 @@ use Rattle.zy_table.specs.Whole.{are_specs_in_role, is_by_replica, is_change_in_
 use Rattle.zy_vframes.specs.Parts.{parts_of, parts_of_certificate, parts_of_change, parts_of_new, parts_of_told}
 use Rattle.zy_vframes.specs.declared.frame.ViewFrame.{ViewFrame}
 use Rattle.zy_vframes.specs.declared.frame.ViewFrame.TheVariants as frames
-use Rattle.zy_view_law.specs.Held.{IsHonestPart}
+use Rattle.zy_law_views.specs.Held.{IsHonestPart}
 use Rattle.zy_wire.specs.Spelling.{Spelling}
 use Rattle.zy_world_law.specs.Good.{IsKept}
 use Rattle.zy_world_law.specs.Seen.{seen}
 use Rattle.zy_world_law.specs.Setup.{keys_of}
 use Rattle.zy_world_law.specs.Texts.{entry_texts, is_link, report_texts, view_frame_texts}
 use Rattle.zy_world_law.specs.World.{World, texts_said}
-use Rattle.zy_begin_steps.proofs.IdleFrames.{TellsOfClients}
+use Rattle.zy_law_views.proofs.IdleFrames.{TellsOfClients}
 use Rattle.zy_world_law.proofs.DecodedReports.{IsFrameRead, IsNewRead, IsToldRead, frame_spelled}
 use Rattle.zy_world_law.proofs.NotForged.{IsSaid}
 use Rattle.zy_world_law.proofs.OneText.{link_is}

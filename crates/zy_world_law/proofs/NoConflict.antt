@@ -10,10 +10,10 @@ use Rattle.zy_parts.specs.Statements.{order_fields}
 use Rattle.zy_parts.specs.declared.signed.Signed.{Signed}
 use Rattle.zy_parts.specs.declared.statements.Order.{Order}
 use Rattle.zy_table.specs.Roles.{is_replica}
-use Rattle.zy_view_law.proofs.NoBlame.{never_in_conflict}
-use Rattle.zy_view_law.proofs.ReadBack.{order_back}
-use Rattle.zy_view_law.specs.Held.{IsHeldPart, IsVouchedBy}
-use Rattle.zy_view_law.specs.Told.{order_told}
+use Rattle.zy_law_views.proofs.NoBlame.{never_in_conflict}
+use Rattle.zy_law_views.proofs.ReadBack.{order_back}
+use Rattle.zy_law_views.specs.Held.{IsHeldPart, IsVouchedBy}
+use Rattle.zy_law_views.specs.Told.{order_told}
 use Rattle.zy_world_law.specs.Blame.{HasNoConflict, IsOrderOf}
 use Rattle.zy_world_law.specs.Good.{IsGood}
 use Rattle.zy_world_law.specs.Seen.{seen}

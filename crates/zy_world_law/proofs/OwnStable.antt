@@ -12,13 +12,13 @@ use Rattle.zy_lawful.specs.Acts.{check_statement}
 use Rattle.zy_lawful.specs.Tied.{IsCheckpointOf, next_head, state_of}
 use Rattle.zy_parts.specs.declared.statements.Check.{Check}
 use Rattle.zy_table.specs.State.{State}
-use Rattle.zy_view_law.proofs.Backing.{cert_backed}
-use Rattle.zy_view_law.proofs.OwnReport.{own_base}
-use Rattle.zy_view_law.proofs.ProvenReports.{check_cert, some_local}
-use Rattle.zy_view_law.specs.Held.{mark_at}
-use Rattle.zy_view_law.specs.Told.{check_told}
-use Rattle.zy_view_steps.specs.Cores.{core_of}
-use Rattle.zy_view_steps.specs.Rows.{IsReady}
+use Rattle.zy_law_views.proofs.Backing.{cert_backed}
+use Rattle.zy_law_views.proofs.OwnReport.{own_base}
+use Rattle.zy_law_views.proofs.ProvenReports.{check_cert, some_local}
+use Rattle.zy_law_views.specs.Held.{mark_at}
+use Rattle.zy_law_views.specs.Told.{check_told}
+use Rattle.zy_law_views.specs.Cores.{core_of}
+use Rattle.zy_law_views.specs.Rows.{IsReady}
 use Rattle.zy_world_law.specs.Safe.{IsStableBacked}
 
 module _ {S : Type 0} (R : Rules S) (interval : ℕ) (w : World) (r : ℕ) (s : State S) (h : List Entry) (ready : IsReady R interval w r s h) where

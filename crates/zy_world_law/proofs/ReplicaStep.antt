@@ -10,7 +10,7 @@ use Rattle.zy_base.specs.Machine.{Rules}
 use Rattle.zy_base.specs.declared.ids.Party.TheVariants as parties
 use Rattle.zy_base.specs.declared.ids.ReplicaId.{ReplicaId}
 use Rattle.zy_base.specs.declared.step.Event.{Event}
-use Rattle.zy_begin_steps.specs.Steps.{IsLawfulStep, IsWorldOf}
+use Rattle.zy_law_views.specs.Steps.{IsLawfulStep, IsWorldOf}
 use Rattle.zy_chain.specs.declared.entry.Entry.{Entry}
 use Rattle.zy_law.proofs.GrownLemmas.{completed_grown}
 use Rattle.zy_law.specs.Completed.{Completion, IsCompleted}
@@ -27,8 +27,8 @@ use Rattle.zy_table.specs.Deeds.{Outcome, said_from}
 use Rattle.zy_table.specs.State.{State, own_view}
 use Rattle.zy_table.specs.declared.client.Commit.{Commit}
 use Rattle.zy_table.specs.declared.client.Response.{Response}
-use Rattle.zy_view_steps.specs.Rows.{IsReady}
-use Rattle.zy_view_steps.specs.Work.{IsAtWork}
+use Rattle.zy_law_views.specs.Rows.{IsReady}
+use Rattle.zy_law_views.specs.Work.{IsAtWork}
 use Rattle.zy_world_law.specs.Events.{stepped, with_replica, remark_after, history_of}
 use Rattle.zy_world_law.specs.Good.{IsGood, IsTied, IsClientTied, IsBackedBy, IsCommitBacked, IsDone}
 use Rattle.zy_world_law.specs.Safe.{completion_of}

@@ -16,7 +16,7 @@ use Rattle.zy_base.specs.declared.ids.Place.{Place}
 use Rattle.zy_base.specs.declared.ids.View.{View}
 use Rattle.zy_base.specs.declared.step.Answer.{Answer}
 use Rattle.zy_base.specs.declared.step.Answer.TheVariants.{Held, Refused, Taken}
-use Rattle.zy_begin_steps.proofs.Judged.{uncertified}
+use Rattle.zy_law_views.proofs.Judged.{uncertified}
 use Rattle.zy_cert.specs.Certificates.{certified}
 use Rattle.zy_cert.specs.Equal as certs
 use Rattle.zy_cert.specs.Equal.{same_spec}
@@ -57,7 +57,7 @@ use Rattle.zy_table.specs.State.{State, is_leaving, is_primary, leaves_of, own_v
 use Rattle.zy_table.specs.Step.{commit_in_view, unless}
 use Rattle.zy_table.specs.declared.kept.OwnCheckpoint.{OwnCheckpoint}
 use Rattle.zy_table.specs.declared.kept.Pending.{Pending}
-use Rattle.zy_view_steps.specs.Rows.{blames}
+use Rattle.zy_law_views.specs.Rows.{blames}
 use Rattle.zy_world_law.specs.Blame.{IsOtherState}
 
 -- it blames nobody; or this is what is told of a snapshot, and the own one is another

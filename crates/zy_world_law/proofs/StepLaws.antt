@@ -11,7 +11,7 @@ use Rattle.zy_base.specs.declared.ids.Party.TheVariants.{Replica}
 use Rattle.zy_base.specs.declared.ids.Place.{Place}
 use Rattle.zy_base.specs.declared.ids.ReplicaId.{ReplicaId}
 use Rattle.zy_base.specs.declared.step.Event.{Event}
-use Rattle.zy_begin_steps.specs.Steps.{IsLawfulStep, IsWorldOf}
+use Rattle.zy_law_views.specs.Steps.{IsLawfulStep, IsWorldOf}
 use Rattle.zy_chain.specs.declared.entry.Entry.{Entry}
 use Rattle.zy_law.specs.World.{World}
 use Rattle.zy_lawful.specs.Acts.{statement_by}
@@ -27,10 +27,10 @@ use Rattle.zy_table.specs.Fetching.{state_transfer}
 use Rattle.zy_table.specs.State.{State, start_of}
 use Rattle.zy_table.specs.Whole.{whole_step}
 use Rattle.zy_table.specs.declared.deeds.Body.{Body}
-use Rattle.zy_view_law.specs.Texts.{IsKept, Texts, digest_of}
-use Rattle.zy_view_law.specs.Told.{statement_in}
-use Rattle.zy_view_steps.specs.Rows.{IsReady, blames}
-use Rattle.zy_view_steps.specs.Work.{IsAtWork}
+use Rattle.zy_law_views.specs.Texts.{IsKept, Texts, digest_of}
+use Rattle.zy_law_views.specs.Told.{statement_in}
+use Rattle.zy_law_views.specs.Rows.{IsReady, blames}
+use Rattle.zy_law_views.specs.Work.{IsAtWork}
 
 -- each statement that can be spelled is read back out of its text
 abbrev pub ReadsBack : Type 0

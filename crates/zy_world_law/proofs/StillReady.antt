@@ -8,10 +8,10 @@ use Rattle.zy_law.specs.Steps.{IsGrown, grown}
 use Rattle.zy_law.specs.World.{Spoken, Stand, World}
 use Rattle.zy_normal_steps.proofs.AtStart.{work_grown}
 use Rattle.zy_table.specs.State.{State}
-use Rattle.zy_view_law.proofs.TiedGrown.{tied_more}
-use Rattle.zy_view_steps.specs.Cores.{core_of}
-use Rattle.zy_view_steps.specs.Rows.{IsReady}
-use Rattle.zy_view_steps.specs.Work.{IsAtWork}
+use Rattle.zy_law_views.proofs.TiedGrown.{tied_more}
+use Rattle.zy_law_views.specs.Cores.{core_of}
+use Rattle.zy_law_views.specs.Rows.{IsReady}
+use Rattle.zy_law_views.specs.Work.{IsAtWork}
 
 module _ {S : Type 0} (R : Rules S) (w : World) (asked : ℕ → List Entry) (said : ℕ → List Spoken) (past : ℕ → List Stand) (kept : Digest → Entry → Bool) (more : IsGrown w asked said past kept) where
   abbrev pub later : World

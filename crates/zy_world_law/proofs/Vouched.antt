@@ -15,9 +15,9 @@ use Rattle.zy_seal.specs.Checking.{answer_under}
 use Rattle.zy_seal.specs.Screening.{answer_to}
 use Rattle.zy_seal.specs.declared.directory.SealAnswer.TheVariants as answers
 use Rattle.zy_table.specs.Roles.{is_replica}
-use Rattle.zy_view_law.specs.Held as held
-use Rattle.zy_view_law.specs.Held.{IsHonestPart}
-use Rattle.zy_view_law.specs.Told.{statement_in}
+use Rattle.zy_law_views.specs.Held as held
+use Rattle.zy_law_views.specs.Held.{IsHonestPart}
+use Rattle.zy_law_views.specs.Told.{statement_in}
 use Rattle.zy_world_law.specs.Seen.{seen, said_of, spoken_by}
 use Rattle.zy_world_law.specs.Setup.{keys_of, public_key_of}
 use Rattle.zy_world_law.specs.World.{World, Replica, Remark, replica_at, texts_said}

@@ -12,7 +12,7 @@ use Rattle.zy_lawful.specs.Tied.{next_head, last_reply, state_of}
 use Rattle.zy_parts.specs.Numbers as numbers
 use Rattle.zy_parts.specs.Statements.{ask_fields, entry_of}
 use Rattle.zy_parts.specs.declared.statements.Ask.{Ask}
-use Rattle.zy_view_law.specs.Told.{number_of, statement_in}
+use Rattle.zy_law_views.specs.Told.{number_of, statement_in}
 use Rattle.zy_wire.specs.Spelling.{whole}
 use Rattle.zy_world_law.specs.Texts.{is_link}
 use Rattle.zy_world_law.specs.World.{World, Replica, Client, Remark, replica_at, client_at}

@@ -22,7 +22,7 @@ use Rattle.zy_table.specs.declared.deeds.AnyFrame.TheVariants.{Plain, View}
 use Rattle.zy_table.specs.declared.deeds.Got.{Got}
 use Rattle.zy_vframes.specs.declared.frame.ViewFrame.{ViewFrame}
 use Rattle.zy_vframes.specs.declared.frame.ViewFrame.TheVariants as views
-pub use Rattle.zy_view_law.specs.Texts.{digest_of, link_text}
+pub use Rattle.zy_law_views.specs.Texts.{digest_of, link_text}
 use Rattle.zy_world_law.specs.Reading.{any_frame_in}
 use Rattle.zy_world_law.specs.World.{Texts}
 

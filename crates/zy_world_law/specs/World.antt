@@ -11,7 +11,7 @@ use Rattle.zy_law.specs.World.{Stand}
 use Rattle.zy_table.specs.ClientState.{ClientState, client_start}
 use Rattle.zy_table.specs.State.{State, start_of}
 use Rattle.zy_table.specs.declared.client.Done.{Done}
-pub use Rattle.zy_view_law.specs.Texts.{Texts}
+pub use Rattle.zy_law_views.specs.Texts.{Texts}
 use Rattle.zy_world_law.specs.Setup.{Setup, sealer_of, keys_of}
 
 -- a signed text, and the number of its speaker's last stand when it was said

@@ -9,7 +9,7 @@ ghost use Rattle.zy_world_law.specs.declared.event.WorldEvent.{WorldEvent};
 ghost use Rattle.zy_world_law.specs.declared.note.Note.{Note};
 
 use zy_base::Machine;
-use zy_begin_steps::transfer_rows;
+use zy_law_views::transfer_rows;
 use zy_client::held_responses;
 use zy_normal_steps::{gained_entries, whole_steps};
 use zy_spelled::{said_back, same_keys, spelled_start, spelled_steps};

@@ -7,7 +7,7 @@ ghost use Rattle.zy_world_law.specs.Setup.{IsSetup, Setup};
 ghost use Rattle.zy_world_law.specs.World.{start};
 
 use zy_base::Machine;
-use zy_begin_steps::transfer_rows;
+use zy_law_views::transfer_rows;
 use zy_client::held_responses;
 use zy_normal_steps::{gained_entries, whole_steps};
 use zy_spelled::{said_back, same_keys, spelled_start, spelled_steps};

@@ -1,4 +1,4 @@
-use Rattle.zy_begin_steps.proofs.Installing.{reading_of}
+use Rattle.zy_law_views.proofs.Installing.{reading_of}
 use Rattle.zy_normal_steps.proofs.WholeGained.{whole_gained}
 use Rattle.zy_normal_steps.proofs.whole.gained_entries.Goals as goal
 

@@ -1,4 +1,4 @@
-use Rattle.zy_begin_steps.proofs.Installing.{reading_of}
+use Rattle.zy_law_views.proofs.Installing.{reading_of}
 use Rattle.zy_normal_steps.proofs.WholeSteps.{ready_after, whole_lawful}
 use Rattle.zy_normal_steps.proofs.whole.whole_steps.Goals as goal
 

@@ -1,4 +1,4 @@
-use Rattle.zy_begin_steps.proofs.Installing.{reading_of}
+use Rattle.zy_law_views.proofs.Installing.{reading_of}
 use Rattle.zy_normal_steps.proofs.WholeSteps.{whole_lawful}
 use Rattle.zy_spelled.proofs.WholeSteps.{whole_done}
 use Rattle.zy_spelled.proofs.steps.spelled_steps.Goals as goal

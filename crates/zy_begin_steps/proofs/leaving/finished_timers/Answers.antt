@@ -1,5 +1,0 @@
-use Rattle.zy_begin_steps.proofs.Timers.{timer_lawful}
-use Rattle.zy_begin_steps.proofs.leaving.finished_timers.Goals as goal
-
-pub returns : goal.returns
-returns g c = λ interval r texts w s history kind ready kept. timer_lawful g.M.Machine.rules interval texts w r s history ready kept kind

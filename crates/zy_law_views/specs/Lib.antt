@@ -1,0 +1,12 @@
+pub mod Told
+pub mod Held
+pub mod Texts
+pub mod Adopted
+pub mod Tied
+pub mod Adoptions
+pub mod Cores
+pub mod Example
+pub mod Rows
+pub mod Work
+pub mod Steps
+pub mod Frames

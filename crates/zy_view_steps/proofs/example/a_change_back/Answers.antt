@@ -1,5 +1,0 @@
-use Rattle.zy_view_steps.proofs.SmallChange.{change_back}
-use Rattle.zy_view_steps.proofs.example.a_change_back.Goals as goal
-
-pub returns : goal.returns
-returns g c = λ interval some. change_back g.M.Machine.rules interval some

@@ -1,5 +1,0 @@
-use Rattle.zy_view_steps.proofs.SmallChange.{small_change}
-use Rattle.zy_view_steps.proofs.example.a_change_of_view.Goals as goal
-
-pub returns : goal.returns
-returns g c = small_change g.M.Machine.rules

@@ -1,5 +1,0 @@
-pub mod Adoptions
-pub mod Cores
-pub mod Example
-pub mod Rows
-pub mod Work
