@@ -8,8 +8,8 @@ use Rattle.zy_frames.specs.declared.frame.Frame.TheVariants as frames
 use Rattle.zy_parts.specs.Signing.{signed}
 use Rattle.zy_parts.specs.Statements.{ask_fields, order_fields, spec_fields, local_fields, confirm_fields, hole_fields, hate_fields, check_fields}
 use Rattle.zy_parts.specs.declared.statements.Spec.{Spec}
-use Rattle.zy_spelled.proofs.Decoded.{Gives, IsSignedRead, all_give, check_gives, counted_gives, digest_gives, made_gives, pair_gives, read_gives, sized_gives, spec_gives, u62_gives}
-use Rattle.zy_spelled.proofs.DecodedFrames.{fault_gives, framed_gives, or_gives, other_gives}
+use Rattle.zy_law_steps.proofs.Decoded.{Gives, IsSignedRead, all_give, check_gives, counted_gives, digest_gives, made_gives, pair_gives, read_gives, sized_gives, spec_gives, u62_gives}
+use Rattle.zy_law_steps.proofs.DecodedFrames.{fault_gives, framed_gives, or_gives, other_gives}
 use Rattle.zy_law_views.specs.Told.{spec_spelled}
 use Rattle.zy_wire.specs.Fields.{FitsList, bytes16, digest, u62}
 use Rattle.zy_wire.specs.Spelling.{pair}

@@ -20,8 +20,8 @@ use Rattle.zy_parts.specs.declared.reports.New.{New}
 use Rattle.zy_parts.specs.declared.reports.Told.{Told}
 use Rattle.zy_parts.specs.declared.signed.Signed.{Signed}
 use Rattle.zy_parts.specs.declared.statements.Spec.{Spec}
-use Rattle.zy_spelled.proofs.Decoded.{Gives, IsSignedRead, all_give, began_gives, check_gives, counted_gives, digest_gives, made_gives, optional_gives, pair_gives, read_gives, sized_gives, spec_gives, u62_gives}
-use Rattle.zy_spelled.proofs.DecodedFrames.{fault_gives, framed_gives, or_gives}
+use Rattle.zy_law_steps.proofs.Decoded.{Gives, IsSignedRead, all_give, began_gives, check_gives, counted_gives, digest_gives, made_gives, optional_gives, pair_gives, read_gives, sized_gives, spec_gives, u62_gives}
+use Rattle.zy_law_steps.proofs.DecodedFrames.{fault_gives, framed_gives, or_gives}
 use Rattle.zy_table.specs.Roles.{is_primary_of, is_replica}
 use Rattle.zy_table.specs.Whole.{are_specs_in_role, is_by_replica, is_change_in_role, is_new_in_role, is_told_in_role, is_view_frame_in_role}
 use Rattle.zy_vframes.specs.ViewFrames.{frame_at, frame_in, state, view_certificate}

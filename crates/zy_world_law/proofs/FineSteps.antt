@@ -5,9 +5,9 @@ use Rattle.zy_base.specs.Machine.{Rules}
 use Rattle.zy_base.specs.declared.step.Event.{Event}
 use Rattle.zy_chain.specs.declared.entry.Entry.{Entry}
 use Rattle.zy_lawful.specs.Acts.{stands_in}
-use Rattle.zy_normal_steps.specs.Whole as whole
-use Rattle.zy_normal_steps.specs.Whole.{IsEventHonest}
-use Rattle.zy_spelled.specs.Spelled.{FitAll, IsSpelled}
+use Rattle.zy_law_steps.specs.Whole as whole
+use Rattle.zy_law_steps.specs.Whole.{IsEventHonest}
+use Rattle.zy_law_steps.specs.Spelled.{FitAll, IsSpelled}
 use Rattle.zy_table.specs.Deeds.{Outcome}
 use Rattle.zy_table.specs.State.{State, own_view}
 use Rattle.zy_table.specs.Whole.{whole_step}

@@ -10,7 +10,7 @@ use Rattle.zy_base.specs.declared.ids.Digest.{Digest}
 use Rattle.zy_base.specs.declared.ids.ReplicaId.{ReplicaId}
 use Rattle.zy_base.specs.declared.step.Event.{Event}
 use Rattle.zy_client.specs.Held.{Holds}
-use Rattle.zy_normal_steps.specs.Whole.{IsEventHonest}
+use Rattle.zy_law_steps.specs.Whole.{IsEventHonest}
 use Rattle.zy_parts.specs.declared.signed.Signed.{Signed}
 use Rattle.zy_parts.specs.declared.statements.Ask.{Ask}
 use Rattle.zy_lawful.proofs.Goes.{all_of_front, all_of_rest}

@@ -13,7 +13,7 @@ use Rattle.zy_base.specs.declared.step.TimerKind.{TimerKind}
 use Rattle.zy_law_views.specs.Frames.{IsHonestFrame, IsHonestlyRead}
 use Rattle.zy_frames.specs.Frames as plain
 use Rattle.zy_frames.specs.declared.frame.Frame.{Frame}
-use Rattle.zy_normal_steps.specs.Whole.{IsEventHonest}
+use Rattle.zy_law_steps.specs.Whole.{IsEventHonest}
 use Rattle.zy_seal.specs.Screening.{screen}
 use Rattle.zy_table.specs.Deeds.{Outcome, refused}
 use Rattle.zy_table.specs.State.{State}

@@ -20,9 +20,9 @@ use Rattle.zy_law.specs.World as law
 use Rattle.zy_law.specs.World.{Stand}
 use Rattle.zy_lawful.proofs.TieLemmas.{lists_after}
 use Rattle.zy_lawful.specs.Acts.{world_after, history_after, spoken_in, stands_in, with_more}
-use Rattle.zy_normal_steps.proofs.WholeSteps.{ready_after}
-use Rattle.zy_normal_steps.specs.Whole as whole
-use Rattle.zy_spelled.specs.Spelled.{FitAll, IsSpelled}
+use Rattle.zy_law_steps.proofs.WholeSteps.{ready_after}
+use Rattle.zy_law_steps.specs.Whole as whole
+use Rattle.zy_law_steps.specs.Spelled.{FitAll, IsSpelled}
 use Rattle.zy_table.specs.Deeds.{Outcome, said_from}
 use Rattle.zy_table.specs.State.{State, own_view}
 use Rattle.zy_table.specs.declared.client.Commit.{Commit}

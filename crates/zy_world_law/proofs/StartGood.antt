@@ -13,7 +13,7 @@ use Rattle.zy_law.specs.Said.{IsCorrect}
 use Rattle.zy_law.specs.Steps.{IsStart}
 use Rattle.zy_law.specs.World as law
 use Rattle.zy_lawful.specs.Tied.{Agrees}
-use Rattle.zy_normal_steps.proofs.AtStart.{ready_at_start, texts_at_start, work_at_start}
+use Rattle.zy_law_steps.proofs.AtStart.{ready_at_start, texts_at_start, work_at_start}
 use Rattle.zy_seal.specs.Sealing.{SealerState}
 use Rattle.zy_world_law.specs.Good.{IsGood, IsTied, IsClientTied}
 use Rattle.zy_world_law.specs.Seen.{seen, said_of, past_of, spoken_by}

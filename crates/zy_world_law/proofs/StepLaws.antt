@@ -16,11 +16,11 @@ use Rattle.zy_chain.specs.declared.entry.Entry.{Entry}
 use Rattle.zy_law.specs.World.{World}
 use Rattle.zy_lawful.specs.Acts.{statement_by}
 use Rattle.zy_lawful.specs.Tied.{IsGained}
-use Rattle.zy_normal_steps.specs.Gains.{AreGainsKept}
-use Rattle.zy_normal_steps.specs.Whole.{IsEventHonest, history_of}
+use Rattle.zy_law_steps.specs.Gains.{AreGainsKept}
+use Rattle.zy_law_steps.specs.Whole.{IsEventHonest, history_of}
 use Rattle.zy_seal.specs.Keys.{Keys}
 use Rattle.zy_seal.specs.Sealing.{SealerState}
-use Rattle.zy_spelled.specs.Spelled.{FitAll, FitsBody, IsSpelled}
+use Rattle.zy_law_steps.specs.Spelled.{FitAll, FitsBody, IsSpelled}
 use Rattle.zy_table.specs.Beginning.{begun}
 use Rattle.zy_table.specs.Deeds.{gains_in, text_by}
 use Rattle.zy_table.specs.Fetching.{state_transfer}

@@ -6,7 +6,7 @@ use Rattle.zy_chain.specs.declared.entry.Entry.{Entry}
 use Rattle.zy_law.specs.Lawful.{IsLawful}
 use Rattle.zy_law.specs.Steps.{IsGrown, grown}
 use Rattle.zy_law.specs.World.{Spoken, Stand, World}
-use Rattle.zy_normal_steps.proofs.AtStart.{work_grown}
+use Rattle.zy_law_steps.proofs.AtStart.{work_grown}
 use Rattle.zy_table.specs.State.{State}
 use Rattle.zy_law_views.proofs.TiedGrown.{tied_more}
 use Rattle.zy_law_views.specs.Cores.{core_of}

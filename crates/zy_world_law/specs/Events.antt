@@ -22,7 +22,7 @@ use Rattle.zy_lms.specs.Height.{levels_of}
 use Rattle.zy_table.specs.ClientRows.{ask, client_step}
 use Rattle.zy_table.specs.ClientState.{ClientState, ClientOutcome, client_outgoing, spoken_of, is_waiting}
 use Rattle.zy_table.specs.Deeds.{Outcome, outgoing_of, said_from}
-use Rattle.zy_normal_steps.specs.Whole as whole
+use Rattle.zy_law_steps.specs.Whole as whole
 use Rattle.zy_table.specs.Sending.{copies, spelling_of}
 use Rattle.zy_table.specs.State.{own_view}
 use Rattle.zy_table.specs.Whole.{whole_step}

@@ -21,7 +21,7 @@ use Rattle.zy_table.specs.ClientRows.{kept_of}
 use Rattle.zy_table.specs.declared.client.Commit.{Commit}
 use Rattle.zy_table.specs.declared.client.Response.{Response}
 pub use Rattle.zy_law_views.specs.Texts.{IsKept}
-use Rattle.zy_spelled.specs.Spelled.{IsSpelled}
+use Rattle.zy_law_steps.specs.Spelled.{IsSpelled}
 use Rattle.zy_law_views.specs.Rows.{IsReady}
 use Rattle.zy_law_views.specs.Work.{IsAtWork}
 use Rattle.zy_world_law.specs.Events.{history_of}

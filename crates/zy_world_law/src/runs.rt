@@ -9,8 +9,8 @@ ghost use Rattle.zy_world_law.specs.World.{start};
 use zy_base::Machine;
 use zy_law_views::transfer_rows;
 use zy_client::held_responses;
-use zy_normal_steps::{gained_entries, whole_steps};
-use zy_spelled::{said_back, same_keys, spelled_start, spelled_steps};
+use zy_law_steps::{gained_entries, whole_steps};
+use zy_law_steps::{said_back, same_keys, spelled_start, spelled_steps};
 
 /// Every run is safe: for each setup in which at most f replicas lie, and each schedule, each world of the run is safe, and
 /// the agreed list before each event is a front of the one after it.

@@ -1,0 +1,4 @@
+pub mod Gains
+pub mod Heard
+pub mod Whole
+pub mod Spelled

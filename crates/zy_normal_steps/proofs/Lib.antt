@@ -1,9 +1,0 @@
-pub mod Gained
-pub mod Working
-pub mod Gathers
-pub mod Runs
-pub mod Rows
-pub mod Steps
-pub mod AtStart
-pub mod WholeSteps
-pub mod WholeGained

@@ -1,5 +1,0 @@
-use Rattle.zy_normal_steps.proofs.Steps.{row_refused}
-use Rattle.zy_normal_steps.proofs.frames.leaving_refuses.Goals as goal
-
-pub returns : goal.returns
-returns g c = λ s frame leaving. row_refused g.M.Machine.rules s leaving frame

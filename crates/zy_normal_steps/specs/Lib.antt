@@ -1,3 +1,0 @@
-pub mod Gains
-pub mod Heard
-pub mod Whole
