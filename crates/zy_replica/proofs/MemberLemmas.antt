@@ -24,7 +24,7 @@ use Rattle.zy_evidence.specs.Reading.{IsReplica, number_of_party}
 use Rattle.zy_table.specs.Roles.{in_role, is_primary_of, is_replica}
 use Rattle.zy_table.specs.State.{State}
 use Rattle.zy_table.specs.Whole.{is_by_replica, is_change_in_role, is_new_in_role, is_told_in_role, is_view_frame_in_role}
-use Rattle.zy_rows.proofs.ScreenLemmas.{has_key, screened}
+use Rattle.zy_replica_normal.proofs.ScreenLemmas.{has_key, screened}
 
 replica_below : (keys : Keys) (by : Party) (text sig : List ℕ) → is_replica by ≡ true → is_unknown (answer_of keys by text sig) ≡ false → number_of_party by < length keys.replicas
 replica_below keys (Replica id) text sig replica known = has_key keys.replicas id.0 text sig known

@@ -16,7 +16,7 @@ use zy_core::{Core, Moved};
 use zy_entering::{confirmation, fetch, new_view, state_transfer, view_certificate};
 use zy_frames::{DecodeFault, Frame, OrderFrame};
 use zy_parts::{Fetch, Order, Signed};
-use zy_rows::row;
+use zy_replica_normal::row;
 use zy_seal::screen_parts;
 use zy_vframes::ViewFrame;
 use zy_views::{change, hate, on_change_timer, on_request_timer, order_or_blame, pom};

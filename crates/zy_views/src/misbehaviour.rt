@@ -28,7 +28,7 @@ use zy_core::{Core, Moved};
 use zy_entering::{Ending, carry, judge_owed};
 use zy_frames::{Frame, OrderFrame};
 use zy_parts::{Order, Signed};
-use zy_rows::{judge, order_as};
+use zy_replica_normal::{judge, order_as};
 use zy_table::To;
 
 fn next_view<M: Machine>(core: &Core<M>) -> View

@@ -1,6 +1,6 @@
 use Rattle.std.proofs.Common.{◌++◌, List, length, refl, sym, ◌∙◌, ap, arith}
 use Rattle.zy_table.specs.declared.deeds.Got.{Got}
-use Rattle.zy_rows.proofs.MovedLemmas.{moved, all_told}
+use Rattle.zy_replica_normal.proofs.MovedLemmas.{moved, all_told}
 use Rattle.zy_replica.proofs.outcome.push_all.Goals as goal
 
 pub loop-entry-preserved : goal.loop-entry-preserved

@@ -5,7 +5,7 @@ use Rattle.zy_base.specs.declared.ids.Party.TheVariants as parties
 use Rattle.zy_table.specs.Deeds.{said_from, gains_in}
 use Rattle.zy_table.specs.declared.deeds.Act.{Act}
 use Rattle.zy_table.specs.declared.deeds.Got.{Got}
-use Rattle.zy_rows.proofs.MovedLemmas.{moved, all_told}
+use Rattle.zy_replica_normal.proofs.MovedLemmas.{moved, all_told}
 use Rattle.zy_replica.proofs.ToldLemmas.{gains_in_range}
 use Rattle.zy_replica.proofs.outcome.told.Goals as goal
 

@@ -1,4 +1,4 @@
-use Rattle.zy_rows.proofs.ScreenLemmas.{order_ready}
+use Rattle.zy_replica_normal.proofs.ScreenLemmas.{order_ready}
 use Rattle.zy_replica.proofs.step.order_in_view.Goals as goal
 
 pub order_or_blame-requires : goal.order_or_blame-requires

@@ -1,0 +1,156 @@
+-- An entry that was executed, and its answer.
+use Rattle.std.proofs.Common.{◌≡◌, ◌+◌, ◌-◌, ◌≤◌, ◌<◌, ◌++◌, ◌∷◌, [], ℕ, Bool, true, false, List, length, take, Option, Some, None, refl, ap, ◌∙◌, sym, subst, arith}
+use Rattle.std.specs.Prelude.{if◌then◌else◌, nat_lt, ◌||◌}
+use Rattle.std.proofs.Math.Seq.{take-length}
+use Rattle.std.proofs.lemmas.Bool.{ltb-true}
+use Rattle.std.proofs.lemmas.List.{length-append}
+use Rattle.zy_base.specs.Machine.{Rules}
+use Rattle.zy_base.specs.declared.ids.Digest.{Digest}
+use Rattle.zy_base.specs.declared.ids.Party.TheVariants.{Replica}
+use Rattle.zy_parts.specs.Statements.{IsSpecInRange}
+use Rattle.zy_parts.specs.declared.signed.Signed.{Signed}
+use Rattle.zy_parts.specs.declared.statements.Order.{Order}
+use Rattle.zy_parts.specs.declared.statements.Spec.{Spec}
+use Rattle.zy_frames.specs.declared.frame.Frame.TheVariants as frames
+use Rattle.zy_frames.specs.declared.frame.OrderFrame.{OrderFrame}
+use Rattle.zy_exec.specs.declared.known.Known.{Known}
+use Rattle.zy_base.specs.declared.ids.View.{View}
+use Rattle.zy_base.specs.declared.step.Mode.TheVariants.{Active}
+use Rattle.zy_chain.specs.declared.entry.Entry.{Entry}
+use Rattle.zy_chain.specs.Entries.{digest_of_entry}
+use Rattle.zy_chain.specs.Heads.{head_after, head_from}
+use Rattle.zy_chain.specs.Stretch.{head_in}
+use Rattle.zy_exec.specs.Kept.{Kept, last_place, longer, now_of, stretch_of}
+use Rattle.zy_exec.specs.Replay.{Point}
+use Rattle.zy_exec.proofs.ReplayLemmas.{along-append, head-along, place-along}
+use Rattle.zy_admit.specs.Judging.{entry_of}
+use Rattle.zy_check.specs.Board.{IsBoard}
+use Rattle.zy_table.specs.declared.deeds.To.TheVariants.{All}
+use Rattle.zy_table.specs.declared.kept.OwnCheckpoint.{OwnCheckpoint}
+use Rattle.zy_table.specs.State.{own_view, is_leaving, leaves_of}
+use Rattle.zy_table.specs.Deeds.{Going, send}
+use Rattle.zy_table.specs.Gathering.{state_in, own_with, with_own_spec, owes_check, gather, signs_with}
+use Rattle.zy_table.specs.Running.{spec_of, next_known, executed, sealed_spec, respond, share, answered, signs_of, run_one}
+use Rattle.zy_core.specs.Ready.{IsOwnReady}
+use Rattle.zy_core.proofs.OwnLemmas.{own_is_last, state_shown}
+use Rattle.zy_replica_normal.proofs.SignLemmas.{signs_cover, signs_counted, signs_executed}
+
+-- ---- at a multiple of the interval
+
+module _ {S : Type 0} (R : Rules S) (order : Signed Order) (signed : Signed Spec) (reply : List ℕ) (state : Digest) (g kept told : Going S) (own : OwnCheckpoint) (own_is : own ≡ own_with signed.stmt state)
+    (kept_is : kept ≡ record g { state = with_own_spec g.state own signed }) (told_is : told ≡ send All (frames.SpecResponse signed reply (Some order)) kept) where
+  pub shared : gather R own false told ≡ share R order signed reply (Some state) g
+  shared = rw (told_is, kept_is, own_is) refl
+
+  pub shared_own : IsOwnReady g.state.kept g.state.views.last_view (own_with signed.stmt state) → IsOwnReady told.state.kept told.state.views.last_view own
+  shared_own ready = rw (told_is, kept_is, own_is) ready
+
+  pub shared_leaf : (if owes_check (with_own_spec g.state (own_with signed.stmt state) signed) (own_with signed.stmt state) false then 1 else 0) ≤ leaves_of g.state → (if owes_check told.state own false then 1 else 0) ≤ leaves_of told.state
+  shared_leaf leaf = rw (told_is, kept_is, own_is) leaf
+
+-- ---- the answer
+
+module _ {S : Type 0} (R : Rules S) (g : Going S) (order : Signed Order) (spec : Spec) (reply : List ℕ) where
+  abbrev after : Going S
+  after = respond R order (sealed_spec g.state spec) reply g
+
+  pub answered_none : state_in R g.state.kept spec.place.0 ≡ None → after ≡ answered R order spec reply g
+  answered_none none = ap (λ (state : Option Digest). share R order (sealed_spec g.state spec) reply state after) (sym none)
+
+  module _ (state : Digest) (there : state_in R g.state.kept spec.place.0 ≡ Some state) (told : Going S) (signed : Signed Spec) (told_is : told ≡ after) (signed_is : signed ≡ sealed_spec g.state spec) where
+    pub answered_some : share R order signed reply (Some state) told ≡ answered R order spec reply g
+    answered_some = rw (told_is, signed_is) (ap (λ (state : Option Digest). share R order (sealed_spec g.state spec) reply state after) (sym there))
+
+    own_after : IsSpecInRange spec → spec.view ≡ g.state.views.last_view → head_in (stretch_of g.state.kept) spec.place.0 ≡ Some spec.head → g.state.kept.base.place < spec.place.0 → spec.place.0 ≤ last_place g.state.kept
+        → IsOwnReady after.state.kept after.state.views.last_view (own_with spec state)
+    own_after range view head above within =
+        record {
+          range = (range.0, range.1);
+          view = view;
+          head = head;
+          same_view = refl;
+          same_place = refl;
+          same_head = refl;
+          above = above;
+          within = within;
+          multiple = (state_shown R g.state.kept spec.place.0 state there).multiple;
+        }
+
+    pub own_told : IsSpecInRange spec → spec.view ≡ g.state.views.last_view → head_in (stretch_of g.state.kept) spec.place.0 ≡ Some spec.head → g.state.kept.base.place < spec.place.0 → spec.place.0 ≤ last_place g.state.kept
+        → IsOwnReady told.state.kept told.state.views.last_view (own_with signed.stmt state)
+    own_told range view head above within = rw (told_is, signed_is) (own_after range view head above within)
+
+    leaf_after : IsBoard g.state.board → g.state.sealer.me ≡ Replica g.state.me → signs_with g.state spec (Some state) ≤ leaves_of g.state
+        → (if owes_check (with_own_spec after.state (own_with spec state) (sealed_spec g.state spec)) (own_with spec state) false then 1 else 0) ≤ leaves_of after.state
+    leaf_after board signer enough = omega (arith, enough, signs_cover g.state (sealed_spec g.state spec) state board signer)
+
+    pub leaf_told : IsBoard g.state.board → g.state.sealer.me ≡ Replica g.state.me → signs_with g.state spec (Some state) ≤ leaves_of g.state
+        → (if owes_check (with_own_spec told.state (own_with signed.stmt state) signed) (own_with signed.stmt state) false then 1 else 0) ≤ leaves_of told.state
+    leaf_told board signer enough = rw (told_is, signed_is) (leaf_after board signer enough)
+
+-- ---- an order that is run
+
+inside : (place base end : ℕ) (head : Digest) → base ≤ place → place ≤ end → (if nat_lt place base || nat_lt end place then None else Some head) ≡ Some head
+inside place base end head above below = by (nat_lt place base) (nat_lt end place) refl refl
+  where
+    by : (first second : Bool) → nat_lt place base ≡ first → nat_lt end place ≡ second → (if first || second then None else Some head) ≡ Some head
+    by true second less is = let low : place < base = ltb-true place base less in absurd (omega (arith, above))
+    by false true is less = let high : end < place = ltb-true end place less in absurd (omega (arith, below))
+    by false false is also = refl
+
+-- the head at the end of a history with one entry more
+longer_head : {S : Type 0} (R : Rules S) (k : Kept S) (e : Entry) → head_in (stretch_of (longer k e)) (last_place k + 1) ≡ Some (head_after (now_of R k).head (digest_of_entry e))
+longer_head R k e =
+    let many : length (k.entries ++ e ∷ []) ≡ length k.entries + 1 = length-append k.entries (e ∷ []) in
+    let whole : last_place k + 1 - k.base.place ≡ length (k.entries ++ e ∷ []) = omega (arith, many) in
+    inside (last_place k + 1) k.base.place (k.base.place + length (k.entries ++ e ∷ [])) (head_from k.base.head (take (last_place k + 1 - k.base.place) (k.entries ++ e ∷ []))) (omega arith) (omega (arith, many))
+    ∙ ap (λ (n : ℕ). Some (head_from k.base.head (take n (k.entries ++ e ∷ [])))) whole
+    ∙ ap (λ (l : List Entry). Some (head_from k.base.head l)) (take-length (k.entries ++ e ∷ []))
+    ∙ ap Some (sym (head-along R k.base (k.entries ++ e ∷ [])) ∙ ap (λ (p : Point _). p.head) (along-append R k.base k.entries e))
+
+module _ {S : Type 0} (R : Rules S) (g : Going S) (o : OrderFrame) (ran : Going S) (view : ℕ) (known : Known) (spec : Spec) (ran_is : ran ≡ executed R o.ask g) (view_is : view ≡ own_view g.state)
+    (known_is : known ≡ next_known R g.state o.ask) (spec_is : spec ≡ spec_of view o.ask known) where
+  place_is : spec.place.0 ≡ last_place g.state.kept + 1
+  place_is =
+      ap (λ (x : Spec). x.place.0) spec_is ∙ ap (λ (x : Known). x.place.0) known_is ∙ ap (λ (n : ℕ). n + 1) (place-along R g.state.kept.base g.state.kept.entries)
+
+  last_is : last_place ran.state.kept ≡ last_place g.state.kept + 1
+  last_is = ap (λ (x : Going S). last_place x.state.kept) ran_is ∙ omega (arith, length-append g.state.kept.entries (entry_of o.ask ∷ []))
+
+  pub ran_above : ran.state.kept.base.place < spec.place.0
+  ran_above = let base = ap (λ (x : Going S). x.state.kept.base.place) ran_is in omega (arith, base, place_is)
+
+  pub ran_within : spec.place.0 ≤ last_place ran.state.kept
+  ran_within = omega (arith, place_is, last_is)
+
+  pub ran_view : ((v : View) → g.state.views.mode ≡ Active v → g.state.views.last_view ≡ v) → is_leaving g.state ≡ false → spec.view ≡ ran.state.views.last_view
+  ran_view active not_leaving =
+      own_is_last g.state active not_leaving spec.view (ap (λ (x : Spec). x.view.0) spec_is ∙ view_is) ∙ ap (λ (x : Going S). x.state.views.last_view) (sym ran_is)
+
+  pub ran_head : head_in (stretch_of ran.state.kept) spec.place.0 ≡ Some spec.head
+  ran_head =
+      ap (λ (x : Going S). head_in (stretch_of x.state.kept) spec.place.0) ran_is
+      ∙ ap (head_in (stretch_of (longer g.state.kept (entry_of o.ask)))) place_is
+      ∙ longer_head R g.state.kept (entry_of o.ask)
+      ∙ ap Some (sym (ap (λ (x : Spec). x.head) spec_is ∙ ap (λ (x : Known). x.head) known_is))
+
+  pub ran_board : IsBoard g.state.board → IsBoard ran.state.board
+  ran_board is = subst (λ (x : Going S). IsBoard x.state.board) (sym ran_is) is
+
+  pub ran_signer : g.state.sealer.me ≡ Replica g.state.me → ran.state.sealer.me ≡ Replica ran.state.me
+  ran_signer is = subst (λ (x : Going S). x.state.sealer.me ≡ Replica x.state.me) (sym ran_is) is
+
+  pub ran_leaf : signs_of R g.state o.ask ≤ leaves_of g.state → signs_with ran.state spec (state_in R ran.state.kept spec.place.0) ≤ leaves_of ran.state
+  ran_leaf enough =
+      let signs =
+      signs_counted R g.state ran.state o.ask view known spec (state_in R ran.state.kept spec.place.0)
+      (λ x st. ap (λ (y : Going S). signs_with y.state x st) ran_is ∙ signs_executed R o.ask g x st) (ap (λ (y : Going S). y.state.kept) ran_is) view_is known_is spec_is refl in
+      let leaves = ap (λ (y : Going S). leaves_of y.state) ran_is in
+      omega (arith, signs, leaves, enough)
+
+  pub ran_answered : answered R o.order spec known.reply ran ≡ run_one R o g
+  unfolding run_one
+  ran_answered =
+      ap (λ (x : Going S). answered R o.order spec known.reply x) ran_is
+      ∙ ap (λ (x : Spec). answered R o.order x known.reply (executed R o.ask g)) (spec_is ∙ ap (λ (v : ℕ). spec_of v o.ask known) view_is)
+      ∙ ap (λ (k : Known). answered R o.order (spec_of (own_view g.state) o.ask k) k.reply (executed R o.ask g)) known_is

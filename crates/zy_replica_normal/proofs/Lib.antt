@@ -1,0 +1,12 @@
+mod AnswerLemmas
+mod GatherLemmas
+mod HeldLemmas
+mod SignLemmas
+mod SlotLemmas
+mod CheckpointLemmas
+mod CommitLemmas
+mod FillLemmas
+pub mod MovedLemmas
+mod RunLemmas
+pub mod ScreenLemmas
+mod WithinLemmas

@@ -1,0 +1,49 @@
+use Rattle.std.proofs.Common.{◌≡◌, ◌≤◌, subst, ◌∙◌, ap, arith}
+use Rattle.std.specs.Prelude.{IfOk}
+use Rattle.zy_base.specs.declared.ids.View.{View}
+use Rattle.zy_base.specs.declared.step.Mode.TheVariants.{Active}
+use Rattle.zy_base.specs.declared.ids.Party.TheVariants.{Replica}
+use Rattle.zy_check.specs.Board.{IsBoard}
+use Rattle.zy_parts.specs.declared.signed.Signed.{Signed}
+use Rattle.zy_parts.specs.declared.statements.Order.{Order}
+use Rattle.zy_table.specs.Running.{answered}
+use Rattle.zy_table.specs.State.{own_view}
+use Rattle.zy_table.specs.Deeds.{Going}
+use Rattle.zy_exec.specs.Kept.{last_place}
+use Rattle.zy_replica_normal.proofs.GatherLemmas.{all_active}
+use Rattle.zy_replica_normal.proofs.AnswerLemmas.{ran_above, ran_within, ran_view, ran_head, ran_board, ran_signer, ran_leaf, ran_answered}
+use Rattle.zy_replica_normal.proofs.running.run_one.Goals as goal
+
+pub answer-requires-clause-above : goal.answer-requires-clause-above
+answer-requires-clause-above g c = ran_above g.M.Machine.rules c.args.progress c.args.frame.now c.in_ok-ran.ran c.view-own_view.result.0 c.in_ok-ran.known c.spec_of-spec.result c.in_ok-ran.ensures.progress (c.view-own_view.ensures.view ∙ ap (λ (x : Going g.row.M-State.Denot). own_view x.state) c.progress.view_is) c.in_ok-ran.ensures.known c.spec_of-spec.ensures
+
+pub answer-requires-clause-within : goal.answer-requires-clause-within
+answer-requires-clause-within g c = ran_within g.M.Machine.rules c.args.progress c.args.frame.now c.in_ok-ran.ran c.view-own_view.result.0 c.in_ok-ran.known c.spec_of-spec.result c.in_ok-ran.ensures.progress (c.view-own_view.ensures.view ∙ ap (λ (x : Going g.row.M-State.Denot). own_view x.state) c.progress.view_is) c.in_ok-ran.ensures.known c.spec_of-spec.ensures
+
+pub answer-requires-clause-view : goal.answer-requires-clause-view
+answer-requires-clause-view g c =
+    let active = subst (λ (x : Going g.row.M-State.Denot). (v : View) → x.state.views.mode ≡ Active v → x.state.views.last_view ≡ v) c.progress.view_is c.view-own_view.ensures.ready.views.active in
+    ran_view g.M.Machine.rules c.args.progress c.args.frame.now c.in_ok-ran.ran c.view-own_view.result.0 c.in_ok-ran.known c.spec_of-spec.result c.in_ok-ran.ensures.progress (c.view-own_view.ensures.view ∙ ap (λ (x : Going g.row.M-State.Denot). own_view x.state) c.progress.view_is) c.in_ok-ran.ensures.known c.spec_of-spec.ensures active c.requires.active
+
+pub answer-requires-clause-head : goal.answer-requires-clause-head
+answer-requires-clause-head g c = ran_head g.M.Machine.rules c.args.progress c.args.frame.now c.in_ok-ran.ran c.view-own_view.result.0 c.in_ok-ran.known c.spec_of-spec.result c.in_ok-ran.ensures.progress (c.view-own_view.ensures.view ∙ ap (λ (x : Going g.row.M-State.Denot). own_view x.state) c.progress.view_is) c.in_ok-ran.ensures.known c.spec_of-spec.ensures
+
+pub answer-requires-clause-board : goal.answer-requires-clause-board
+answer-requires-clause-board g c = ran_board g.M.Machine.rules c.args.progress c.args.frame.now c.in_ok-ran.ran c.view-own_view.result.0 c.in_ok-ran.known c.spec_of-spec.result c.in_ok-ran.ensures.progress (c.view-own_view.ensures.view ∙ ap (λ (x : Going g.row.M-State.Denot). own_view x.state) c.progress.view_is) c.in_ok-ran.ensures.known c.spec_of-spec.ensures (subst (λ (x : Going g.row.M-State.Denot). IsBoard x.state.board) c.progress.view_is c.view-own_view.ensures.ready.board)
+
+pub answer-requires-clause-signer : goal.answer-requires-clause-signer
+answer-requires-clause-signer g c = ran_signer g.M.Machine.rules c.args.progress c.args.frame.now c.in_ok-ran.ran c.view-own_view.result.0 c.in_ok-ran.known c.spec_of-spec.result c.in_ok-ran.ensures.progress (c.view-own_view.ensures.view ∙ ap (λ (x : Going g.row.M-State.Denot). own_view x.state) c.progress.view_is) c.in_ok-ran.ensures.known c.spec_of-spec.ensures (subst (λ (x : Going g.row.M-State.Denot). x.state.sealer.me ≡ Replica x.state.me) c.progress.view_is c.view-own_view.ensures.ready.signer)
+
+pub answer-requires-clause-leaf : goal.answer-requires-clause-leaf
+answer-requires-clause-leaf g c = ran_leaf g.M.Machine.rules c.args.progress c.args.frame.now c.in_ok-ran.ran c.view-own_view.result.0 c.in_ok-ran.known c.spec_of-spec.result c.in_ok-ran.ensures.progress (c.view-own_view.ensures.view ∙ ap (λ (x : Going g.row.M-State.Denot). own_view x.state) c.progress.view_is) c.in_ok-ran.ensures.known c.spec_of-spec.ensures c.requires.leaf
+
+pub returns-clause-progress : goal.returns-clause-progress
+returns-clause-progress g c =
+    subst (λ (x : Going g.row.M-State.Denot). IfOk c.answer.result (λ (end : Going g.row.M-State.Denot). end ≡ x))
+    (ap (λ (order : Signed Order). answered g.M.Machine.rules order c.spec_of-spec.result c.in_ok-ran.known.reply c.in_ok-ran.ran) c.in_ok-order.ensures
+    ∙ ran_answered g.M.Machine.rules c.args.progress c.args.frame.now c.in_ok-ran.ran c.view-own_view.result.0 c.in_ok-ran.known c.spec_of-spec.result c.in_ok-ran.ensures.progress (c.view-own_view.ensures.view ∙ ap (λ (x : Going g.row.M-State.Denot). own_view x.state) c.progress.view_is) c.in_ok-ran.ensures.known c.spec_of-spec.ensures) c.answer.ensures
+
+pub returns-clause-active : goal.returns-clause-active
+returns-clause-active g c =
+    let base = subst (λ (x : Going g.row.M-State.Denot). x.state.orders.base ≤ last_place x.state.kept) c.progress.view_is (let stable = c.view-own_view.ensures.ready.stable in omega (arith, stable)) in
+    all_active g.M.Machine.rules c.args.frame.now c.args.progress base c.requires.active c.answer.result (returns-clause-progress g c)

@@ -1,7 +1,0 @@
-mod CheckpointLemmas
-mod CommitLemmas
-mod FillLemmas
-pub mod MovedLemmas
-mod RunLemmas
-pub mod ScreenLemmas
-mod WithinLemmas

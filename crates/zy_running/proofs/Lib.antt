@@ -1,5 +1,0 @@
-mod AnswerLemmas
-mod GatherLemmas
-mod HeldLemmas
-mod SignLemmas
-mod SlotLemmas

@@ -1,4 +1,0 @@
-use Rattle.zy_running.proofs.gathering.gather_at.Goals as goal
-
-pub gather-requires-clause-own : goal.gather-requires-clause-own
-gather-requires-clause-own g c = c.requires.own c.in-Some.own c.in-Some.is
