@@ -33,9 +33,9 @@ use Rattle.zy_change.specs.Owing.{Onward, accept, accepted_as, accepting, adopt_
 use Rattle.zy_change.specs.Views.{Views, certificate_of, changes_for, has_begun, is_from, is_hated_by, left, own_view, slot_of, view_above, views_above, with_change, with_hate}
 use Rattle.zy_table.specs.Leaving.{report_of}
 use Rattle.zy_table.specs.State.{State}
-use Rattle.zy_leaving.proofs.FollowLemmas.{for_some}
-use Rattle.zy_leaving.specs.Follows.{IsChangeOwed, IsHateOwed, IsLeaveOwed}
-use Rattle.zy_entering.specs.Entering.{view_after}
+use Rattle.zy_replica_views.proofs.FollowLemmas.{for_some}
+use Rattle.zy_replica_views.specs.Follows.{IsChangeOwed, IsHateOwed, IsLeaveOwed}
+use Rattle.zy_replica_views.specs.Entering.{view_after}
 use Rattle.zy_views.specs.Judging.{CanAll, LeavesToEnter}
 use Rattle.zy_views.proofs.HeardLemmas.{no_pens}
 

@@ -23,10 +23,10 @@ use Rattle.zy_change.specs.Owing.{Pens}
 use Rattle.zy_change.specs.Owing as owing
 use Rattle.zy_change.specs.Views.{Views, own_view, has_begun, is_from, slot_of}
 use Rattle.zy_table.specs.State.{State}
-use Rattle.zy_leaving.specs.Carrying.{kept_unless}
-use Rattle.zy_leaving.specs.Follows.{spent_many}
-use Rattle.zy_entering.specs.Entering.{ending_as, ending_of}
-use Rattle.zy_entering.specs.declared.judging.Ending.{Ending}
+use Rattle.zy_replica_views.specs.Carrying.{kept_unless}
+use Rattle.zy_replica_views.specs.Follows.{spent_many}
+use Rattle.zy_replica_views.specs.Entering.{ending_as, ending_of}
+use Rattle.zy_replica_views.specs.declared.judging.Ending.{Ending}
 use Rattle.zy_views.proofs.JudgedLemmas.{none_spent}
 
 -- ---- one that is kept breaks no rule

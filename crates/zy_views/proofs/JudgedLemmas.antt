@@ -14,9 +14,9 @@ use Rattle.zy_table.specs.State.{State}
 use Rattle.zy_table.specs.Deeds.{Going, Outcome, refused, ends}
 use Rattle.zy_table.specs.Leaving.{Attempt, concluded, goes, is_overspent}
 use Rattle.zy_table.specs.Beginning.{begun, certify, confirms, finished}
-use Rattle.zy_leaving.specs.Follows.{spent_many}
-use Rattle.zy_entering.proofs.StepLemmas.{step_refused}
-use Rattle.zy_entering.specs.Entering.{IsStep, ending_of}
+use Rattle.zy_replica_views.specs.Follows.{spent_many}
+use Rattle.zy_replica_views.proofs.StepLemmas.{step_refused}
+use Rattle.zy_replica_views.specs.Entering.{IsStep, ending_of}
 
 -- as the code comes to it
 pub comes_refused : {S : Type 0} (R : Rules S) (s : State S) (more : ℕ) (attempt : Attempt S) (owed : Owed) (g : Going S) → IsStep R s more attempt owed g → (r : Result (Outcome S) Want) (cause : Cause) → ending_of R s more owed ≡ Err cause

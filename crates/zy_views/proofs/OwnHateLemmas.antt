@@ -23,8 +23,8 @@ use Rattle.zy_table.specs.Deeds.{Going, act, refused, send}
 use Rattle.zy_table.specs.Beginning.{confirms, finished}
 use Rattle.zy_table.specs.Leaving.{concluded, goes, is_overspent}
 use Rattle.zy_table.specs.Hates.{own_hate, hate_for, hate_now, say_hate, count_own, hate_counted, hate_from, with_hate_of}
-use Rattle.zy_leaving.specs.Follows.{Follows, SignsAsItself, IsHateOwed, IsCountedOwed, spent_many}
-use Rattle.zy_leaving.proofs.FollowLemmas.{counted_follows}
+use Rattle.zy_replica_views.specs.Follows.{Follows, SignsAsItself, IsHateOwed, IsCountedOwed, spent_many}
+use Rattle.zy_replica_views.proofs.FollowLemmas.{counted_follows}
 use Rattle.zy_views.specs.Judging.{signs_of}
 use Rattle.zy_views.proofs.JudgedLemmas.{begun_rests, none_spent}
 

@@ -19,11 +19,11 @@ use Rattle.zy_table.specs.Leaving.{leave}
 use Rattle.zy_table.specs.Hates.{hate, hate_from, own_hate, say_hate, with_hate_of}
 use Rattle.zy_table.specs.Changes.{change}
 use Rattle.zy_core.specs.Ready.{IsReady}
-use Rattle.zy_leaving.proofs.FollowLemmas.{change_follows, hate_follows, leave_follows}
-use Rattle.zy_leaving.specs.Carrying.{kept_unless}
-use Rattle.zy_leaving.specs.Follows.{IsChangeOwed, IsHateOwed, IsLeaveOwed, IsSigner}
-use Rattle.zy_finish.specs.Ending.{IsSoFar}
-use Rattle.zy_entering.specs.Entering.{IsStep}
+use Rattle.zy_replica_views.proofs.FollowLemmas.{change_follows, hate_follows, leave_follows}
+use Rattle.zy_replica_views.specs.Carrying.{kept_unless}
+use Rattle.zy_replica_views.specs.Follows.{IsChangeOwed, IsHateOwed, IsLeaveOwed, IsSigner}
+use Rattle.zy_replica_views.specs.Ending.{IsSoFar}
+use Rattle.zy_replica_views.specs.Entering.{IsStep}
 use Rattle.zy_views.specs.Judging.{CanAll, signs_of}
 use Rattle.zy_views.proofs.JudgedLemmas.{none_spent}
 use Rattle.zy_views.proofs.OwnHateLemmas.{IsOwnOwed, first_follows, said_only, spends_so_far}

@@ -37,11 +37,11 @@ use Rattle.zy_table.specs.declared.deeds.Verdict.{Verdict}
 use Rattle.zy_table.specs.declared.deeds.Verdict.TheVariants as verdicts
 use Rattle.zy_table.specs.Beginning.{begun, confirms, finished}
 use Rattle.zy_table.specs.Changes.{send_cert}
-use Rattle.zy_leaving.specs.Carrying.{attempted_as, carried, give, give_if, leave_if, send_if}
-use Rattle.zy_finish.specs.Ending.{verdict_on}
-use Rattle.zy_entering.specs.Entering.{IsStep, ending_as, ending_by, ending_of, ending_with, unless_spent}
-use Rattle.zy_entering.specs.declared.judging.Ending.{Ending}
-use Rattle.zy_entering.specs.declared.judging.Ending.TheVariants.{Rests, TakesUp, Waits}
+use Rattle.zy_replica_views.specs.Carrying.{attempted_as, carried, give, give_if, leave_if, send_if}
+use Rattle.zy_replica_views.specs.Ending.{verdict_on}
+use Rattle.zy_replica_views.specs.Entering.{IsStep, ending_as, ending_by, ending_of, ending_with, unless_spent}
+use Rattle.zy_replica_views.specs.declared.judging.Ending.{Ending}
+use Rattle.zy_replica_views.specs.declared.judging.Ending.TheVariants.{Rests, TakesUp, Waits}
 use Rattle.zy_parts.specs.declared.statements.Hate.{Hate}
 use Rattle.zy_views.proofs.JudgedLemmas.{begun_rests}
 use Rattle.zy_views.proofs.OwnHateLemmas.{again_is, counted_first, said_only}

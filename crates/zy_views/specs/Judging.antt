@@ -10,9 +10,9 @@ use Rattle.zy_parts.specs.declared.statements.Hate.{Hate}
 use Rattle.zy_table.specs.State.{State}
 use Rattle.zy_table.specs.Deeds.{Outcome, ends}
 use Rattle.zy_table.specs.Hates.{ask_for_hole}
-use Rattle.zy_entering.specs.Entering.{CanEnter}
-use Rattle.zy_entering.specs.declared.judging.Ending.{Ending}
-use Rattle.zy_entering.specs.declared.judging.Ending.TheVariants.{Rests, TakesUp, Waits}
+use Rattle.zy_replica_views.specs.Entering.{CanEnter}
+use Rattle.zy_replica_views.specs.declared.judging.Ending.{Ending}
+use Rattle.zy_replica_views.specs.declared.judging.Ending.TheVariants.{Rests, TakesUp, Waits}
 
 -- what is owed to be adopted can be judged
 abbrev pub CanAll : {S : Type 0} → State S → Owed → Type 0

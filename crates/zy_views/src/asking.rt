@@ -9,7 +9,7 @@ ghost use Rattle.zy_views.specs.Judging.{asked, asked_if};
 
 use zy_base::{Answer, Machine, Mode, Want};
 use zy_core::{Core, Moved, Progress, signed_copy};
-use zy_entering::Ending;
+use zy_replica_views::Ending;
 use zy_frames::Frame;
 use zy_parts::{Hole, Signed};
 use zy_table::To;

@@ -11,15 +11,15 @@ ghost use Rattle.zy_table.specs.Deeds.{begin};
 ghost use Rattle.zy_table.specs.Leaving.{Attempt};
 ghost use Rattle.zy_table.specs.Beginning.{finished};
 ghost use Rattle.zy_table.specs.Changes.{change as change_row};
-ghost use Rattle.zy_leaving.specs.Carrying.{kept_unless as kept_as};
-ghost use Rattle.zy_leaving.specs.Follows.{IsChangeOwed};
-ghost use Rattle.zy_entering.specs.Entering.{IsJudged, IsStep, ending_of};
+ghost use Rattle.zy_replica_views.specs.Carrying.{kept_unless as kept_as};
+ghost use Rattle.zy_replica_views.specs.Follows.{IsChangeOwed};
+ghost use Rattle.zy_replica_views.specs.Entering.{IsJudged, IsStep, ending_of};
 ghost use Rattle.zy_views.specs.Judging.{CanAll};
 
 use zy_base::{Machine, ReplicaId, Want};
 use zy_change::Owed;
 use zy_core::{Core, Moved};
-use zy_entering::{Ending, carry, judge_owed};
+use zy_replica_views::{Ending, carry, judge_owed};
 use zy_parts::{Change, Signed};
 
 // What a report owes, whatever the signatures will be.

@@ -9,14 +9,14 @@ ghost use Rattle.zy_table.specs.Deeds.{begin};
 ghost use Rattle.zy_table.specs.Leaving.{Attempt};
 ghost use Rattle.zy_table.specs.Beginning.{finished};
 ghost use Rattle.zy_table.specs.Hates.{hate as hate_row, with_hate_of};
-ghost use Rattle.zy_leaving.specs.Follows.{IsHateOwed};
-ghost use Rattle.zy_entering.specs.Entering.{IsJudged, IsStep, ending_of};
+ghost use Rattle.zy_replica_views.specs.Follows.{IsHateOwed};
+ghost use Rattle.zy_replica_views.specs.Entering.{IsJudged, IsStep, ending_of};
 ghost use Rattle.zy_views.specs.Judging.{CanAll, LeavesToEnter};
 
 use zy_base::{Machine, Want};
 use zy_change::Owed;
 use zy_core::{Core, Moved, Progress};
-use zy_entering::{Ending, carry, judge_owed};
+use zy_replica_views::{Ending, carry, judge_owed};
 use zy_parts::{Hate, Signed};
 
 // What a hate owes, whatever the signatures will be.

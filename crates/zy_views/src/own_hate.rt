@@ -19,8 +19,8 @@ ghost use Rattle.zy_table.specs.Deeds.{act as acting, refused as refused_with, s
 ghost use Rattle.zy_table.specs.Leaving.{Attempt};
 ghost use Rattle.zy_table.specs.Beginning.{finished};
 ghost use Rattle.zy_table.specs.Hates.{hate_for, own_hate as own_of, hate_now as now_of, say_hate as said_as, then_ask, with_hate_of, hate_from as hate_row};
-ghost use Rattle.zy_leaving.specs.Follows.{IsHateOwed};
-ghost use Rattle.zy_entering.specs.Entering.{IsJudged, IsStep, ending_of};
+ghost use Rattle.zy_replica_views.specs.Follows.{IsHateOwed};
+ghost use Rattle.zy_replica_views.specs.Entering.{IsJudged, IsStep, ending_of};
 ghost use Rattle.zy_views.specs.Judging.{CanAll, LeavesToEnter, asked_if, signs_of};
 
 use crate::asking::{ask_after, ask_unless};
@@ -29,7 +29,7 @@ use crate::judging::taken;
 use zy_base::{Bytes, Cause, Machine, Party, Want};
 use zy_change::Owed;
 use zy_core::{Core, Moved, Progress, signed_copy};
-use zy_entering::{Ending, carry, judge_owed};
+use zy_replica_views::{Ending, carry, judge_owed};
 use zy_frames::Frame;
 use zy_parts::{Hate, Signed};
 use zy_table::{Body, To};

@@ -1,7 +1,7 @@
 use Rattle.std.proofs.Common.{◌≡◌, ◌∙◌, ap, subst, sym}
 use Rattle.zy_table.specs.State.{State}
 use Rattle.zy_table.specs.Deeds.{Going, begin}
-use Rattle.zy_entering.specs.Entering.{IsJudged, IsStep}
+use Rattle.zy_replica_views.specs.Entering.{IsJudged, IsStep}
 use Rattle.zy_views.proofs.changes.carry_change.Goals as goal
 
 pub carry-requires-clause-judged : goal.carry-requires-clause-judged

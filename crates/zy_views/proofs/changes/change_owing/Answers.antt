@@ -2,7 +2,7 @@ use Rattle.std.proofs.Common.{◌∙◌, sym}
 use Rattle.zy_table.specs.Deeds.{begin}
 use Rattle.zy_table.specs.Changes.{change}
 use Rattle.zy_table.specs.Leaving.{report_of}
-use Rattle.zy_leaving.specs.Carrying.{kept_unless}
+use Rattle.zy_replica_views.specs.Carrying.{kept_unless}
 use Rattle.zy_views.proofs.HeardLemmas.{change_keeps, goes_on, no_pens}
 use Rattle.zy_views.proofs.JudgedLemmas.{comes_refused}
 use Rattle.zy_views.proofs.StepsLemmas.{change_step}

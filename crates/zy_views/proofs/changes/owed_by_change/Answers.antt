@@ -4,7 +4,7 @@ use Rattle.zy_change.specs.declared.owed.Owed.{Owed}
 use Rattle.zy_change.specs.Owing.{change_owes}
 use Rattle.zy_change.specs.Views.{Views}
 use Rattle.zy_change.specs.Fit.{IsFit, IsTrueReport}
-use Rattle.zy_leaving.specs.Follows.{IsChangeOwed}
+use Rattle.zy_replica_views.specs.Follows.{IsChangeOwed}
 use Rattle.zy_views.specs.Judging.{CanAll}
 use Rattle.zy_views.proofs.EnterLemmas.{change_can}
 use Rattle.zy_views.proofs.JudgedLemmas.{owed_for_all, owed_so}

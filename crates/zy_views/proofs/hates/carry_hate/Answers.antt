@@ -1,7 +1,7 @@
 use Rattle.std.proofs.Common.{◌≡◌, ◌∙◌, ap, subst, sym}
 use Rattle.zy_table.specs.Deeds.{Going}
 use Rattle.zy_table.specs.Hates.{with_hate_of}
-use Rattle.zy_entering.specs.Entering.{IsJudged, IsStep}
+use Rattle.zy_replica_views.specs.Entering.{IsJudged, IsStep}
 use Rattle.zy_views.proofs.hates.carry_hate.Goals as goal
 
 pub carry-requires-clause-judged : goal.carry-requires-clause-judged

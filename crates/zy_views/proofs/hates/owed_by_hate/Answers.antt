@@ -4,7 +4,7 @@ use Rattle.zy_change.specs.declared.owed.Owed.{Owed}
 use Rattle.zy_change.specs.Owing.{hate_owes}
 use Rattle.zy_change.specs.Views.{Views}
 use Rattle.zy_change.specs.Fit.{IsFit, IsTrueReport}
-use Rattle.zy_leaving.specs.Follows.{IsHateOwed}
+use Rattle.zy_replica_views.specs.Follows.{IsHateOwed}
 use Rattle.zy_views.specs.Judging.{CanAll, LeavesToEnter}
 use Rattle.zy_views.proofs.EnterLemmas.{hate_can, hate_leaves}
 use Rattle.zy_views.proofs.JudgedLemmas.{owed_for_all, owed_so}

@@ -2,7 +2,7 @@ use Rattle.std.proofs.Common.{◌≡◌, ◌∙◌, ap, subst, sym}
 use Rattle.zy_frames.specs.declared.frame.Frame.TheVariants as frames
 use Rattle.zy_table.specs.declared.deeds.To.TheVariants.{All}
 use Rattle.zy_table.specs.Deeds.{Going, send}
-use Rattle.zy_entering.specs.Entering.{IsJudged, IsStep}
+use Rattle.zy_replica_views.specs.Entering.{IsJudged, IsStep}
 use Rattle.zy_views.proofs.misbehaviour.carry_blame.Goals as goal
 
 pub carry-requires-clause-judged : goal.carry-requires-clause-judged

@@ -2,7 +2,7 @@ use Rattle.std.proofs.Common.{◌≡◌, ◌∙◌, sym, subst}
 use Rattle.zy_change.specs.Owing.{next_view}
 use Rattle.zy_table.specs.Deeds.{Going, begin}
 use Rattle.zy_table.specs.Leaving.{leave}
-use Rattle.zy_entering.specs.Entering.{IsJudged, IsStep}
+use Rattle.zy_replica_views.specs.Entering.{IsJudged, IsStep}
 use Rattle.zy_views.proofs.JudgedLemmas.{comes_refused}
 use Rattle.zy_views.proofs.StepsLemmas.{leave_step}
 use Rattle.zy_views.proofs.misbehaviour.leave_owing.Goals as goal

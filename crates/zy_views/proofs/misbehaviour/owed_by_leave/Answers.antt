@@ -5,7 +5,7 @@ use Rattle.zy_change.specs.declared.owed.Owed.{Owed}
 use Rattle.zy_change.specs.Owing.{leaving_owes, next_view}
 use Rattle.zy_change.specs.Views.{Views}
 use Rattle.zy_change.specs.Fit.{IsFit, IsTrueReport}
-use Rattle.zy_leaving.specs.Follows.{IsLeaveOwed}
+use Rattle.zy_replica_views.specs.Follows.{IsLeaveOwed}
 use Rattle.zy_views.specs.Judging.{CanAll}
 use Rattle.zy_views.proofs.EnterLemmas.{leave_can}
 use Rattle.zy_views.proofs.JudgedLemmas.{owed_for_all, owed_so}

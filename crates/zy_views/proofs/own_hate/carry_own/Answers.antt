@@ -1,6 +1,6 @@
 use Rattle.std.proofs.Common.{◌≡◌, ◌∙◌, subst, sym}
 use Rattle.zy_table.specs.Deeds.{Going}
-use Rattle.zy_entering.specs.Entering.{IsJudged, IsStep}
+use Rattle.zy_replica_views.specs.Entering.{IsJudged, IsStep}
 use Rattle.zy_views.proofs.own_hate.carry_own.Goals as goal
 
 pub carry-requires-clause-judged : goal.carry-requires-clause-judged

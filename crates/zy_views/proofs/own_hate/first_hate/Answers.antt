@@ -3,9 +3,9 @@ use Rattle.zy_table.specs.State.{State}
 use Rattle.zy_table.specs.Deeds.{Going, Outcome}
 use Rattle.zy_table.specs.Hates.{hate_from}
 use Rattle.zy_core.specs.Ready.{IsReady}
-use Rattle.zy_leaving.specs.Follows.{IsSigner}
-use Rattle.zy_entering.specs.Entering.{ending_of}
-use Rattle.zy_entering.proofs.StepLemmas.{signs_within, step_refused}
+use Rattle.zy_replica_views.specs.Follows.{IsSigner}
+use Rattle.zy_replica_views.specs.Entering.{ending_of}
+use Rattle.zy_replica_views.proofs.StepLemmas.{signs_within, step_refused}
 use Rattle.zy_views.specs.Judging.{CanAll}
 use Rattle.zy_views.proofs.StepsLemmas.{counted, own_step}
 use Rattle.zy_views.proofs.TimerLemmas.{own_asked, own_refused}

@@ -1,4 +1,0 @@
-pub mod SignLemmas
-pub mod EndLemmas
-pub mod ConfirmLemmas
-pub mod InstallLemmas

@@ -1,8 +1,0 @@
-use Rattle.zy_finish.proofs.SignLemmas.{taken_signs, waiting_signs}
-use Rattle.zy_finish.proofs.laws.signatures.Goals as goal
-
-pub returns-clause-taken : goal.returns-clause-taken
-returns-clause-taken g c = taken_signs g.M.Machine.rules
-
-pub returns-clause-waiting : goal.returns-clause-waiting
-returns-clause-waiting g c = waiting_signs g.M.Machine.rules

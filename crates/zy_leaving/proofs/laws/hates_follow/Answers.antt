@@ -1,8 +1,0 @@
-use Rattle.zy_leaving.proofs.FollowLemmas.{hate_follows, counted_follows}
-use Rattle.zy_leaving.proofs.laws.hates_follow.Goals as goal
-
-pub returns-clause-heard : goal.returns-clause-heard
-returns-clause-heard g c = hate_follows g.M.Machine.rules
-
-pub returns-clause-counted : goal.returns-clause-counted
-returns-clause-counted g c = counted_follows g.M.Machine.rules

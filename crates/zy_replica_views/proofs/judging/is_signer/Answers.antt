@@ -1,0 +1,11 @@
+use Rattle.std.proofs.Common.{◌∙◌, ap, sym}
+use Rattle.zy_base.specs.declared.ids.Party.TheVariants.{Replica}
+use Rattle.zy_base.specs.declared.ids.ReplicaId.{ReplicaId}
+use Rattle.zy_replica_views.proofs.judging.is_signer.Goals as goal
+
+pub returns-clause-signer : goal.returns-clause-signer
+returns-clause-signer g c =
+    record {
+      by = c.has_leaves.ensures.ready.signer ∙ ap (λ (id : ReplicaId). Replica id) (sym c.has_leaves.ensures.ready.views.me);
+      within = c.has_leaves.ensures.within;
+    }

@@ -1,0 +1,20 @@
+use Rattle.std.proofs.Common.{◌≡◌, ◌≤◌, true, sym, subst}
+use Rattle.std.specs.Option.{ForSome}
+use Rattle.zy_change.specs.Owing.{is_gathering}
+use Rattle.zy_table.specs.State.{leaves_of}
+use Rattle.zy_table.specs.Deeds.{Going}
+use Rattle.zy_replica_views.specs.Follows.{IsChosenIn}
+use Rattle.zy_replica_views.proofs.CarryLemmas.{signs_left}
+use Rattle.zy_replica_views.proofs.leaving.carry_out.Goals as goal
+
+pub give_if-requires-clause-leaves : goal.give_if-requires-clause-leaves
+give_if-requires-clause-leaves g c =
+    signs_left g.M.Machine.rules c.args.progress c.in_ok-left.left c.args.owed.now.leave c.args.owed.now.gather c.in_ok-left.ensures (subst (λ n. n ≤ leaves_of c.args.progress.state) (sym c.requires.can.signs) c.requires.leaves)
+
+pub give_if-requires-clause-gathers : goal.give_if-requires-clause-gathers
+give_if-requires-clause-gathers g c =
+    subst (λ (x : Going g.row.M-State.Denot). ForSome c.args.owed.now.gather (λ view. is_gathering x.state.views view.0 ≡ true)) (sym c.in_ok-left.ensures) c.requires.can.gathers
+
+pub give_if-requires-clause-chosen : goal.give_if-requires-clause-chosen
+give_if-requires-clause-chosen g c =
+    subst (λ (x : Going g.row.M-State.Denot). ForSome c.args.owed.now.gather (λ view. ForSome c.args.owed.now.confirm (IsChosenIn x view))) (sym c.in_ok-left.ensures) c.requires.can.chosen
