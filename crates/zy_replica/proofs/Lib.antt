@@ -1,2 +1,9 @@
+mod BlameLemmas
+mod EnterLemmas
+mod HeardLemmas
+mod JudgedLemmas
+mod OwnHateLemmas
+mod StepsLemmas
+mod TimerLemmas
 mod MemberLemmas
 mod ToldLemmas

@@ -2,10 +2,17 @@
 //! table.
 #![tactic(auto)]
 
+mod asking;
+mod changes;
+mod hates;
+mod judging;
+mod misbehaviour;
 mod outcome;
+mod own_hate;
 mod replica;
 mod roles;
 mod step;
+mod timers;
 
 pub use replica::{Replica, Stepped};
 pub use zy_table::{Gains, Got};

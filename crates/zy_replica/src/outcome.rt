@@ -9,7 +9,7 @@ ghost use Rattle.zy_table.specs.Sending.{CanBeSent};
 ghost use Rattle.zy_table.specs.Deeds.{outgoing_of, others, text_by, said_from, gains_in};
 ghost use Rattle.zy_core.specs.Ready.{IsActInRange, IsBodyInRange};
 
-use crate::{Replica, Stepped};
+use crate::replica::{Replica, Stepped};
 use std::alloc::Global;
 use zy_base::{Bytes, Items, Machine, Outgoing, Party, ReplicaId, Said, Spoken, Want};
 use zy_core::{Moved, Progress};

@@ -19,7 +19,10 @@ use zy_parts::{Fetch, Order, Signed};
 use zy_replica_normal::row;
 use zy_seal::screen_parts;
 use zy_vframes::ViewFrame;
-use zy_views::{change, hate, on_change_timer, on_request_timer, order_or_blame, pom};
+use crate::changes::change;
+use crate::hates::hate;
+use crate::misbehaviour::{order_or_blame, pom};
+use crate::timers::{on_change_timer, on_request_timer};
 
 #[tactic(auto, unfolding(zy_table::specs::Whole::whole_step))]
 pub(crate) fn moves<M: Machine>(core: Core<M>, event: Event) -> Result<Moved<M>, Want>
