@@ -9,7 +9,7 @@ use Rattle.zy_schedule.specs.Reading.{schedule_of}
 use Rattle.zy_schedule.specs.declared.fault.ScheduleFault.{ScheduleFault}
 use Rattle.zy_schedule.specs.declared.fault.ScheduleFault.TheVariants as faults
 use Rattle.zy_schedule.specs.declared.line.Line.{Line}
-use Rattle.zy_setup.specs.Starting.{IsStart}
+use Rattle.zy_world_setup.specs.Starting.{IsStart}
 use Rattle.zy_world_law.specs.Setup.{Setup}
 use Rattle.zy_words.specs.Calls.{IsFileRead, IsReading, exit_of_fault, is_reading}
 use Rattle.zy_top.specs.Group.{group_of}

@@ -10,7 +10,7 @@ use Rattle.zy_edge.specs.Files.{Held}
 use Rattle.zy_report.specs.Lines.{summary_line}
 use Rattle.zy_schedule.specs.Making.{made_lines}
 use Rattle.zy_schedule.specs.declared.line.Line.{Line}
-use Rattle.zy_setup.specs.Starting.{IsStart}
+use Rattle.zy_world_setup.specs.Starting.{IsStart}
 use Rattle.zy_world_law.specs.Events as events
 use Rattle.zy_space.specs.Service.{space_rules}
 use Rattle.zy_world_law.specs.Runs.{End, Run, run}

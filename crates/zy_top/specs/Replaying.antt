@@ -8,7 +8,7 @@ use Rattle.zy_edge.specs.Files.{Held, content_of}
 use Rattle.zy_schedule.specs.Making.{made_lines}
 use Rattle.zy_schedule.specs.Reading.{schedule_of}
 use Rattle.zy_schedule.specs.declared.line.Line.{Line}
-use Rattle.zy_setup.specs.Starting.{IsStart}
+use Rattle.zy_world_setup.specs.Starting.{IsStart}
 use Rattle.zy_space.specs.Service.{space_rules}
 use Rattle.zy_world.specs.Shown.{Shown}
 use Rattle.zy_world.specs.Shows.{Shows}

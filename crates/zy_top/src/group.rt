@@ -6,7 +6,7 @@ ghost use Rattle.zy_top.specs.Replaying.{IsSetupRead};
 use std::alloc::Global;
 use zy_base::{ClientId, ReplicaId, Want};
 use zy_group::{ReplayGroup, plain_counts, read_replay_group};
-use zy_setup::Setup;
+use zy_world_setup::Setup;
 use zy_words::Exit;
 
 /// What the world of the group that a file's text tells of begins with.

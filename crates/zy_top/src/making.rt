@@ -2,7 +2,7 @@
 ghost use Rattle.std.specs.Prelude.{◌≡◌, ℕ, All, IfOk, ◌≤◌, length};
 ghost use Rattle.zy_edge.specs.Faults.{IsCounted};
 ghost use Rattle.zy_schedule.specs.Texts.{IsSaid};
-ghost use Rattle.zy_setup.specs.Starting.{IsStart};
+ghost use Rattle.zy_world_setup.specs.Starting.{IsStart};
 ghost use Rattle.zy_words.specs.Calls.{exit_of};
 ghost use Rattle.zy_top.specs.Group as groups;
 ghost use Rattle.zy_top.specs.Replaying.{IsRunning, IsSafeMake, IsSummedUp};
@@ -20,7 +20,7 @@ use zy_group::plain_counts;
 use zy_lms::Height;
 use zy_ots::OtsType;
 use zy_schedule::{Line, make};
-use zy_setup::Setup;
+use zy_world_setup::Setup;
 use zy_space::Space;
 use zy_words::{Asks, Exit, write_all};
 use zy_world::World;

@@ -2,7 +2,7 @@
 ghost use Rattle.std.specs.Prelude.{◌≡◌, ◌≤◌, All, IfOk, length};
 ghost use Rattle.zy_edge.specs.Faults.{IsCounted};
 ghost use Rattle.zy_schedule.specs.Texts.{IsSaid};
-ghost use Rattle.zy_setup.specs.Starting.{IsStart};
+ghost use Rattle.zy_world_setup.specs.Starting.{IsStart};
 ghost use Rattle.zy_words.specs.Calls.{exit_of};
 ghost use Rattle.zy_top.specs.Replaying.{IsRunning, verdict_in};
 ghost use Rattle.zy_words.specs.Ends.{IsAnswer, IsWritten, is_write_fault, limit};
@@ -16,7 +16,7 @@ use std::alloc::Global;
 use zy_base::{Machine, Want};
 use zy_edge::Sink;
 use zy_schedule::Line;
-use zy_setup::Setup;
+use zy_world_setup::Setup;
 use zy_words::{Broken, Exit, write_all};
 use zy_world::World;
 

@@ -3,7 +3,7 @@ ghost use Rattle.std.specs.Prelude.{◌≡◌, ℕ, List, All, IfOk, IfSome, IsT
 ghost use Rattle.zy_edge.specs.Faults.{IsCounted};
 ghost use Rattle.zy_edge.specs.Files.{content_of};
 ghost use Rattle.zy_schedule.specs.Texts.{IsSaid};
-ghost use Rattle.zy_setup.specs.Starting.{IsStart};
+ghost use Rattle.zy_world_setup.specs.Starting.{IsStart};
 ghost use Rattle.zy_words.specs.Calls.{IsReading, exit_of, stops_reading};
 ghost use Rattle.zy_top.specs.Replaying.{IsGroupJudged, IsRunning, IsSafeReplay, IsScheduleJudged};
 ghost use Rattle.zy_words.specs.Ends.{IsAnswer, IsWritten, is_read_fault, is_foreign, is_refusal, is_write_fault, limit};
@@ -17,7 +17,7 @@ use crate::replayed::{replay, write_replayed};
 use std::alloc::Global;
 use zy_edge::{Files, Sink};
 use zy_schedule::{Line, read_schedule};
-use zy_setup::Setup;
+use zy_world_setup::Setup;
 use zy_space::Space;
 use zy_words::{Exit, read_file};
 use zy_world_law::runs_are_safe;

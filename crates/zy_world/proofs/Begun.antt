@@ -11,9 +11,9 @@ use Rattle.zy_base.specs.declared.ids.Party.{Party}
 use Rattle.zy_base.specs.declared.ids.Party.TheVariants as parties
 use Rattle.zy_table.specs.ClientState.{client_start}
 use Rattle.zy_table.specs.State.{start_of}
-use Rattle.zy_texts.proofs.SaidLemmas.{same_shown, start_shown}
-use Rattle.zy_texts.specs.Kept.{IsShown}
-use Rattle.zy_texts.specs.Said.{none_said}
+use Rattle.zy_world_setup.proofs.SaidLemmas.{same_shown, start_shown}
+use Rattle.zy_world_setup.specs.Kept.{IsShown}
+use Rattle.zy_world_setup.specs.Said.{none_said}
 use Rattle.zy_law.specs.Histories.{origin}
 use Rattle.zy_world.specs.Shown.{Shown, Seated, Keyed, Mutes, seat_in, seat_of, is_liar_seat, key_in, muted_in}
 use Rattle.zy_world.specs.Shows.{Shows, ShowsSeats, ShowsKeys, ShowsMutes, texts_of}

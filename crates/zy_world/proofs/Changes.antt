@@ -11,7 +11,7 @@ use Rattle.zy_chain.specs.Stretch.{Mark}
 use Rattle.zy_law.specs.Completed as law
 use Rattle.zy_law.specs.Histories.{origin}
 use Rattle.zy_table.specs.declared.client.Done.{Done}
-use Rattle.zy_texts.specs.Kept.{Pairs, IsShown}
+use Rattle.zy_world_setup.specs.Kept.{Pairs, IsShown}
 use Rattle.zy_world.specs.Passed.{ArePast, is_past}
 use Rattle.zy_world.specs.Shown.{Shown, Seated, Posted, numbered, delivered_if, with_delivered, dropped_if, with_dropped, mark_after}
 use Rattle.zy_world.specs.Shows.{Shows}

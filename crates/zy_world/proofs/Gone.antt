@@ -15,10 +15,10 @@ use Rattle.zy_law.specs.World.{Stand}
 use Rattle.zy_table.specs.ClientState.{ClientOutcome, client_outgoing}
 use Rattle.zy_table.specs.Deeds.{Outcome, outgoing_of, said_from}
 use Rattle.zy_table.specs.declared.client.Done.{Done}
-use Rattle.zy_texts.specs.Kept.{Pairs, Keeps, Clashes}
-use Rattle.zy_texts.specs.Said.{Told, AreShown, also_said}
-use Rattle.zy_texts.specs.declared.fault.TextFault.{TextFault}
-use Rattle.zy_texts.specs.declared.fault.TextFault.TheVariants as text_faults
+use Rattle.zy_world_setup.specs.Kept.{Pairs, Keeps, Clashes}
+use Rattle.zy_world_setup.specs.Said.{Told, AreShown, also_said}
+use Rattle.zy_world_setup.specs.declared.fault.TextFault.{TextFault}
+use Rattle.zy_world_setup.specs.declared.fault.TextFault.TheVariants as text_faults
 use Rattle.zy_world.specs.Answered.{GoesTo, IsBrokenBy, world_fault}
 use Rattle.zy_world.specs.Shown.{Shown, Posted, mark_after}
 use Rattle.zy_world.specs.Shows.{Shows, texts_of}

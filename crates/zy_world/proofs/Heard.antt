@@ -18,12 +18,12 @@ use Rattle.zy_table.specs.ClientState.{client_outgoing}
 use Rattle.zy_table.specs.Deeds.{outgoing_of}
 use Rattle.zy_table.specs.Whole.{whole_step}
 use Rattle.zy_table.specs.declared.deeds.AnyFrame.{AnyFrame}
-use Rattle.zy_texts.proofs.KeptLemmas.{keep_all-append}
-use Rattle.zy_texts.proofs.SaidLemmas.{same_shown}
-use Rattle.zy_texts.specs.Kept.{Pairs, Keeps, Clashes}
-use Rattle.zy_texts.specs.Said.{AreShown, forger_among}
-use Rattle.zy_texts.specs.declared.fault.TextFault.{TextFault}
-use Rattle.zy_texts.specs.declared.fault.TextFault.TheVariants as text_faults
+use Rattle.zy_world_setup.proofs.KeptLemmas.{keep_all-append}
+use Rattle.zy_world_setup.proofs.SaidLemmas.{same_shown}
+use Rattle.zy_world_setup.specs.Kept.{Pairs, Keeps, Clashes}
+use Rattle.zy_world_setup.specs.Said.{AreShown, forger_among}
+use Rattle.zy_world_setup.specs.declared.fault.TextFault.{TextFault}
+use Rattle.zy_world_setup.specs.declared.fault.TextFault.TheVariants as text_faults
 use Rattle.zy_world.specs.Answered.{HeardTo, IsBrokenBy, IsUnheardBy, world_fault, heard, heard_of, steps, replica_steps, client_steps, has_timer}
 use Rattle.zy_world.specs.Shown.{Shown, seat_in}
 use Rattle.zy_world.specs.Shows.{Shows, texts_of}

@@ -13,7 +13,7 @@ use Rattle.zy_lms.specs.Height.{levels_of}
 use Rattle.zy_parts.specs.declared.signed.Signed.{Signed}
 use Rattle.zy_parts.specs.declared.statements.Ask.{Ask}
 use Rattle.zy_seal.specs.Sealing.{SealerState, spent_one}
-use Rattle.zy_setup.specs.Telling.{IsToldBy}
+use Rattle.zy_world_setup.specs.Telling.{IsToldBy}
 use Rattle.zy_table.specs.Sending.{copies, spelling_of}
 use Rattle.zy_wire.specs.Kind.{frame_limit}
 use Rattle.zy_world.specs.Shown.{Shown, Seated, Keyed, seat_of, is_seated, is_liar_seat, is_correct_seat, key_in, with_key, requests_in}

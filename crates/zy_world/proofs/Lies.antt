@@ -11,7 +11,7 @@ use Rattle.zy_lms.specs.declared.height.Height.TheVariants.{H5, H10}
 use Rattle.zy_parts.specs.declared.signed.Signed.{Signed}
 use Rattle.zy_parts.specs.declared.statements.Ask.{Ask}
 use Rattle.zy_seal.specs.Sealing.{spent_one}
-use Rattle.zy_setup.specs.Telling.{IsToldBy, telling_of}
+use Rattle.zy_world_setup.specs.Telling.{IsToldBy, telling_of}
 use Rattle.zy_table.specs.Sending.{copies}
 use Rattle.zy_world.specs.Shown.{Shown, Keyed, seat_of, is_liar_seat, key_in, with_key, request_in, requests_in}
 use Rattle.zy_world.specs.Shows.{Shows}

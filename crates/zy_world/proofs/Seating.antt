@@ -4,7 +4,7 @@ use Rattle.std.specs.Prelude.{nat_eq, if◌then◌else◌}
 use Rattle.std.specs.List.{list_any, range_with_len}
 use Rattle.std.proofs.lemmas.List.{length-append}
 use Rattle.std.proofs.lemmas.List.FromFn.{length-map-range_with_len, map-range_with_len_more}
-use Rattle.zy_texts.proofs.ListLemmas.{any_number}
+use Rattle.zy_world_setup.proofs.ListLemmas.{any_number}
 
 -- ---- one seat, and one key
 

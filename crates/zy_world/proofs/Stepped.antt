@@ -9,8 +9,8 @@ use Rattle.zy_base.specs.declared.ids.Party.TheVariants as parties
 use Rattle.zy_base.specs.declared.ids.ReplicaId.{ReplicaId}
 use Rattle.zy_table.specs.ClientState.{ClientState}
 use Rattle.zy_table.specs.State.{State}
-use Rattle.zy_texts.proofs.SaidLemmas.{same_shown}
-use Rattle.zy_texts.specs.Said.{Told, AreShown, also_said}
+use Rattle.zy_world_setup.proofs.SaidLemmas.{same_shown}
+use Rattle.zy_world_setup.specs.Said.{Told, AreShown, also_said}
 use Rattle.zy_world.specs.Passed.{ArePast}
 use Rattle.zy_world.specs.Shown.{Shown, Seated, Keyed, Posted, seat_of, is_liar_seat, is_correct_seat, with_replica, with_client}
 use Rattle.zy_world.specs.Shows.{Shows, ShowsKeys, ShowsMutes, texts_of}

@@ -11,8 +11,8 @@ use Rattle.zy_base.specs.declared.step.TimerKind.{TimerKind}
 use Rattle.zy_base.specs.declared.step.TimerKind.TheVariants as timers
 use Rattle.zy_table.specs.ClientRows.{client_step}
 use Rattle.zy_table.specs.Whole.{whole_step}
-use Rattle.zy_texts.specs.declared.fault.TextFault.{TextFault}
-use Rattle.zy_texts.specs.declared.fault.TextFault.TheVariants as text_faults
+use Rattle.zy_world_setup.specs.declared.fault.TextFault.{TextFault}
+use Rattle.zy_world_setup.specs.declared.fault.TextFault.TheVariants as text_faults
 use Rattle.zy_world.specs.Shown.{Shown}
 use Rattle.zy_world.specs.Shows.{Shows}
 use Rattle.zy_world.specs.declared.fault.WorldFault.{WorldFault}

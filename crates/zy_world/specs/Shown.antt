@@ -12,8 +12,8 @@ use Rattle.zy_seal.specs.Sealing.{SealerState}
 use Rattle.zy_table.specs.ClientState.{ClientState}
 use Rattle.zy_table.specs.State.{State}
 use Rattle.zy_table.specs.declared.client.Done.{Done}
-use Rattle.zy_texts.specs.Kept.{Pairs}
-use Rattle.zy_texts.specs.Said.{Told}
+use Rattle.zy_world_setup.specs.Kept.{Pairs}
+use Rattle.zy_world_setup.specs.Said.{Told}
 use Rattle.zy_world.specs.declared.seat.Seat.{Seat}
 use Rattle.zy_world.specs.declared.seat.Seat.TheVariants as sat
 use Rattle.zy_world_law.specs.Liars.{request_read}

@@ -3,8 +3,8 @@ use Rattle.std.specs.Prelude.{◌≡◌, ℕ, ◌≤◌, ◌^◌, Bool, true, Li
 use Rattle.zy_base.specs.declared.ids.Party.{Party}
 use Rattle.zy_base.specs.declared.ids.Party.TheVariants as parties
 use Rattle.zy_lms.specs.Height.{levels_of}
-use Rattle.zy_texts.specs.Kept.{IsShown}
-use Rattle.zy_texts.specs.Said.{AreShown}
+use Rattle.zy_world_setup.specs.Kept.{IsShown}
+use Rattle.zy_world_setup.specs.Said.{AreShown}
 use Rattle.zy_world.specs.Passed.{ArePast}
 use Rattle.zy_world.specs.Shown.{Shown, Seated, Keyed, Mutes, seat_of, is_liar_seat, key_in, muted_in}
 use Rattle.zy_world_law.specs.Safe.{agreed_mark}

@@ -4,7 +4,7 @@ use Rattle.std.specs.List.{list_all}
 use Rattle.zy_base.specs.declared.ids.Party.{Party}
 use Rattle.zy_base.specs.declared.ids.Party.TheVariants as parties
 use Rattle.zy_seal.specs.Sealing.{SealerState, spent_one}
-use Rattle.zy_setup.specs.Telling.{IsOrderable, IsTellable, telling_of}
+use Rattle.zy_world_setup.specs.Telling.{IsOrderable, IsTellable, telling_of}
 use Rattle.zy_world.specs.Shown.{Seated, seat_of, is_seated, is_liar_seat, is_correct_seat}
 use Rattle.zy_world.specs.declared.tale.Tale.{Tale}
 use Rattle.zy_world.specs.declared.tale.Tale.TheVariants.{Order, Spec, Statement}

@@ -11,7 +11,7 @@ use std::alloc::Global;
 use std::marker::Model;
 use zy_base::{Bytes, Items, Outgoing, Party, Want};
 use zy_parts::{Ask, Signed};
-use zy_setup::request_in;
+use zy_world_setup::request_in;
 
 /// A frame that was sent, with its marks.
 #[derive(Debug, Drop)]

@@ -1,6 +1,6 @@
 use std::alloc::AllocError;
 use zy_base::{Digest, Party, Want};
-use zy_texts::TextFault;
+use zy_world_setup::TextFault;
 
 /// Why a world can't go on. It is gone then.
 #[derive(Clone, Copy, Debug, PartialEq, Eq)]

@@ -10,7 +10,7 @@ ghost use Rattle.zy_table.specs.ClientState.{ClientOutcome};
 ghost use Rattle.zy_table.specs.Deeds.{Outcome};
 ghost use Rattle.zy_world.specs.Stepping.{HasReplicaStepped, HasClientStepped};
 ghost use Rattle.zy_world_law.specs.Events.{ask_in, no_subject, replica_goes, client_goes, replica_note, client_note as noted_client, client_answer};
-ghost use Rattle.zy_texts.specs.Reading.{IsInRange};
+ghost use Rattle.zy_world_setup.specs.Reading.{IsInRange};
 ghost use Rattle.zy_world_law.specs.Reading.{any_frame_in};
 ghost use Rattle.zy_world_law.specs.World.{World as Whole, Replica as AReplica, Client as AClient};
 
@@ -18,7 +18,7 @@ use crate::step::{ClientStep, ReplicaStep};
 use crate::{World, WorldFault, WorldStepped};
 use zy_base::{Answer, Bytes, Cause, ClientId, Event, Machine, Party, ReplicaId, Want};
 use zy_table::{AnyFrame, Done};
-use zy_texts::read_frame;
+use zy_world_setup::read_frame;
 use zy_world_law::Note;
 
 impl<M: Machine> World<M> {

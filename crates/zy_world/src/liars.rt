@@ -2,7 +2,7 @@ ghost use Rattle.std.specs.Prelude.{◌≡◌, ◌≢◌, ◌≤◌, ◌^◌, �
 ghost use Rattle.zy_lms.specs.Height.{levels_of};
 ghost use Rattle.zy_seal.specs.Sealing.{SealerState};
 ghost use Rattle.zy_seal.specs.declared.sealer.SealFault.TheVariants.{KeySpent};
-ghost use Rattle.zy_setup.specs.Telling.{IsToldBy};
+ghost use Rattle.zy_world_setup.specs.Telling.{IsToldBy};
 ghost use Rattle.zy_world.specs.Tale.{IsTale, key_behind, told_in};
 ghost use Rattle.zy_world.specs.Shown.{key_in, with_key};
 ghost use Rattle.zy_world_law.specs.Setup.{sealer_of};
@@ -13,7 +13,7 @@ use std::alloc::Global;
 use std::marker::Model;
 use zy_base::{Bytes, ClientId, Party, ReplicaId, Want};
 use zy_seal::{SealFault, Sealer};
-use zy_setup::{Setup, sealer_at};
+use zy_world_setup::{Setup, sealer_at};
 
 /// The keys of the liars, each at its next leaf, none where a party doesn't lie.
 #[derive(Drop)]

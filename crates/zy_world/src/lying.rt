@@ -9,7 +9,7 @@ ghost use Rattle.zy_parts.specs.Statements.{IsAskInRange};
 ghost use Rattle.zy_world.specs.Answered.{GoesTo};
 ghost use Rattle.zy_world.specs.Event.{IsHistoryTold};
 ghost use Rattle.zy_world.specs.Shows.{Shows};
-ghost use Rattle.zy_setup.specs.Telling.{IsToldBy};
+ghost use Rattle.zy_world_setup.specs.Telling.{IsToldBy};
 ghost use Rattle.zy_table.specs.Sending.{copies};
 ghost use Rattle.zy_world.specs.Tale.{IsTale, can_forge, can_lie, if_replica, told_in};
 ghost use Rattle.zy_world_law.specs.Events.{lie, forge, raw};
@@ -24,7 +24,7 @@ use crate::{World, WorldStepped};
 use zy_base::{Bytes, Cause, Items, Machine, Party, View, Want};
 use zy_parts::{Ask, Signed};
 use zy_seal::SealFault;
-use zy_setup::{read_statement, sealer_at};
+use zy_world_setup::{read_statement, sealer_at};
 use zy_world_law::Note;
 
 impl<M: Machine> World<M> {

@@ -3,7 +3,7 @@
 ghost use Rattle.std.specs.Prelude.{◌≡◌, ◌≤◌, ◌<◌, ◌++◌, ◌∷◌, [], ℕ, length, map, nat_eq, if◌then◌else◌, None, Some, IfOk, OnOk};
 ghost use Rattle.std.specs.List.{list_any, range_with_len};
 ghost use Rattle.zy_base.specs.declared.ids.Party.TheVariants as parties;
-ghost use Rattle.zy_setup.specs.Starting.{IsStart, client_sealers, replica_sealers};
+ghost use Rattle.zy_world_setup.specs.Starting.{IsStart, client_sealers, replica_sealers};
 ghost use Rattle.zy_world.specs.Shows.{Shows};
 ghost use Rattle.zy_world.specs.Starting.{replica_seat, client_seat, replica_key, client_key};
 ghost use Rattle.zy_world_law.specs.Setup.{sealer_of};
@@ -20,8 +20,8 @@ use zy_base::{ClientId, Machine, ReplicaId, Stamp, Want};
 use zy_client::Client;
 use zy_replica::Replica;
 use zy_seal::{Directory, Sealer};
-use zy_setup::{Keyring, Setup};
-use zy_texts::{KeptTexts, SaidTexts};
+use zy_world_setup::{Keyring, Setup};
+use zy_world_setup::{KeptTexts, SaidTexts};
 
 impl<M: Machine> World<M> {
     /// The world before its first event: each key at its leaf 0, each client at the stamp 0, and nothing sent.

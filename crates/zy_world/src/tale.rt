@@ -1,14 +1,14 @@
 ghost use Rattle.std.specs.Prelude.{◌≡◌, ◌↔◌, ◌^◌, IfOk, OnOk, IsErrOf};
 ghost use Rattle.zy_lms.specs.Height.{levels_of};
 ghost use Rattle.zy_seal.specs.Sealing.{spent_one};
-ghost use Rattle.zy_setup.specs.Telling.{IsToldBy};
+ghost use Rattle.zy_world_setup.specs.Telling.{IsToldBy};
 ghost use Rattle.zy_world.specs.Tale.{IsTale, told_in};
 
 use std::alloc::Global;
 use zy_base::{Bytes, Items, View};
 use zy_parts::{Ask, Signed};
 use zy_seal::{SealFault, Sealer};
-use zy_setup::{Tellable, order_frame, spec_frame};
+use zy_world_setup::{Tellable, order_frame, spec_frame};
 
 /// What a liar or a forger is told to sign.
 #[derive(Drop)]

@@ -1,6 +1,6 @@
 use Rattle.std.proofs.Common.{◌≡◌, Some, None, sym, ap, ◌∙◌, subst}
 use Rattle.std.specs.Prelude.{IfOk, option_map}
-use Rattle.zy_setup.specs.Telling.{telling_of}
+use Rattle.zy_world_setup.specs.Telling.{telling_of}
 use Rattle.zy_world.specs.Answered.{GoesTo}
 use Rattle.zy_world_law.specs.Events.{Happened, lie}
 use Rattle.zy_world_law.specs.Liars.{statement_told}

@@ -8,7 +8,7 @@ use Rattle.zy_seal.specs.Keys.{Keys}
 use Rattle.zy_seal.specs.Sealing.{SealerState}
 use Rattle.zy_table.specs.ClientState.{ClientState}
 use Rattle.zy_table.specs.State.{State}
-use Rattle.zy_texts.specs.Said.{none_said}
+use Rattle.zy_world_setup.specs.Said.{none_said}
 use Rattle.zy_world.specs.Starting.{replica_seat, client_seat}
 use Rattle.zy_world_law.specs.Setup.{Setup, keys_of, public_key_of}
 use Rattle.zy_world.proofs.Begun.{shows_start}

@@ -1,0 +1,5 @@
+mod OneMore
+mod AsTold
+pub mod KeptLemmas
+pub mod ListLemmas
+pub mod SaidLemmas
