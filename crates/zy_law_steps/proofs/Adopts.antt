@@ -16,10 +16,10 @@ use Rattle.zy_change.specs.declared.kept.Accepted.{Accepted}
 use Rattle.zy_change.specs.declared.kept.Chosen.{Chosen}
 use Rattle.zy_evidence.specs.Reading.{stretch_of}
 use Rattle.zy_exec.specs.Kept.{Kept, last_place}
-use Rattle.zy_lawful.proofs.Backing.{all_listed}
-use Rattle.zy_lawful.proofs.Goes.{all_of_both}
-use Rattle.zy_lawful.proofs.KeptVotes.{none_kept}
-use Rattle.zy_lawful.proofs.Own.{all_drop, by_test}
+use Rattle.zy_law_normal.proofs.Backing.{all_listed}
+use Rattle.zy_law_normal.proofs.Goes.{all_of_both}
+use Rattle.zy_law_normal.proofs.KeptVotes.{none_kept}
+use Rattle.zy_law_normal.proofs.Own.{all_drop, by_test}
 use Rattle.zy_parts.specs.Reports.{began_fields}
 use Rattle.zy_parts.specs.Statements.{IsU62}
 use Rattle.zy_parts.specs.declared.reports.Began.{Began}

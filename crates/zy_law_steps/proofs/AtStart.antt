@@ -17,9 +17,9 @@ use Rattle.zy_law.specs.Lawful.{IsLawful}
 use Rattle.zy_law.specs.Said.{IsCorrect}
 use Rattle.zy_law.specs.Steps.{IsGrown, IsStart, grown}
 use Rattle.zy_law.specs.World.{Spoken, Stand, World}
-use Rattle.zy_lawful.proofs.KeptVotes.{none_kept}
-use Rattle.zy_lawful.proofs.OneEntry.{slots_more}
-use Rattle.zy_lawful.specs.Tied.{Agrees, MayRun}
+use Rattle.zy_law_normal.proofs.KeptVotes.{none_kept}
+use Rattle.zy_law_normal.proofs.OneEntry.{slots_more}
+use Rattle.zy_law_normal.specs.Tied.{Agrees, MayRun}
 use Rattle.zy_seal.specs.Keys.{Keys}
 use Rattle.zy_seal.specs.Sealing.{SealerState}
 use Rattle.zy_table.specs.State.{State, start_of}

@@ -27,7 +27,7 @@ use Rattle.zy_evidence.specs.Rules.{is_certified_at}
 use Rattle.zy_exec.specs.Replay.{Point}
 use Rattle.zy_exec.specs.Showing.{point_in}
 use Rattle.zy_law.specs.World.{World}
-use Rattle.zy_lawful.proofs.Backing.{all_from}
+use Rattle.zy_law_normal.proofs.Backing.{all_from}
 use Rattle.zy_parts.specs.Reports.{new_fields}
 use Rattle.zy_parts.specs.declared.reports.Began.{Began}
 use Rattle.zy_parts.specs.declared.reports.Change.{Change}

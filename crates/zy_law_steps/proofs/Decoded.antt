@@ -9,8 +9,8 @@ use Rattle.zy_base.specs.declared.frame_fault.FrameFault.TheVariants.{Short}
 use Rattle.zy_base.specs.declared.ids.Digest.{Digest}
 use Rattle.zy_base.specs.declared.ids.Party.{Party}
 use Rattle.zy_base.specs.declared.ids.Party.TheVariants.{Replica, Client}
-use Rattle.zy_lawful.proofs.Backing.{all_from}
-use Rattle.zy_lawful.proofs.Own.{by_test}
+use Rattle.zy_law_normal.proofs.Backing.{all_from}
+use Rattle.zy_law_normal.proofs.Own.{by_test}
 use Rattle.zy_parts.specs.Signing.{signed}
 use Rattle.zy_parts.specs.Reports.{began_fields}
 use Rattle.zy_parts.specs.Statements.{IsU62, spec_fields, check_fields}

@@ -14,10 +14,10 @@ use Rattle.zy_exec.specs.Kept.{Kept, StandsFor, longer, now_of}
 use Rattle.zy_exec.specs.Replay.{Point, along, answer_at, known_of, origin}
 use Rattle.zy_exec.specs.Shots.{snapshot_at, snapshot_due, snapshot_in}
 use Rattle.zy_frames.specs.declared.frame.OrderFrame.{OrderFrame}
-use Rattle.zy_lawful.proofs.Follow.{Keeps, one_keeps}
-use Rattle.zy_lawful.proofs.Goes.{all_of_front, all_of_rest, gains_in-append}
-use Rattle.zy_lawful.proofs.Own.{by_test}
-use Rattle.zy_lawful.proofs.Records.{answer_longer, answer_pushed}
+use Rattle.zy_law_normal.proofs.Follow.{Keeps, one_keeps}
+use Rattle.zy_law_normal.proofs.Goes.{all_of_front, all_of_rest, gains_in-append}
+use Rattle.zy_law_normal.proofs.Own.{by_test}
+use Rattle.zy_law_normal.proofs.Records.{answer_longer, answer_pushed}
 use Rattle.zy_law.specs.World.{World}
 use Rattle.zy_table.specs.Deeds.{Going, gains_in}
 use Rattle.zy_table.specs.Running.{fits_end, got_of, run_held, run_one, signs_of}

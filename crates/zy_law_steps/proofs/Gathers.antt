@@ -30,14 +30,14 @@ use Rattle.zy_law.specs.Fixed.{IsCertified}
 use Rattle.zy_law.specs.Histories.{Passes}
 use Rattle.zy_law.specs.Steps.{after_saying}
 use Rattle.zy_law.specs.World.{Spoken, Statement, World}
-use Rattle.zy_lawful.proofs.Committed.{IsFurthest, by_certificate, from_came, from_further, holding}
-use Rattle.zy_lawful.proofs.Follow.{in_state}
-use Rattle.zy_lawful.proofs.Going.{slots_from}
-use Rattle.zy_lawful.proofs.KeptVotes.{AreFirst, AreKeptOf, after_check_kept, are_first, at_place, with_stable_kept}
-use Rattle.zy_lawful.proofs.OneEntry.{fold_is}
-use Rattle.zy_lawful.proofs.Own.{IsOwnOf, own_checkpoint}
-use Rattle.zy_lawful.specs.Acts.{statement_by}
-use Rattle.zy_lawful.specs.Tied.{IsHeldFrom}
+use Rattle.zy_law_normal.proofs.Committed.{IsFurthest, by_certificate, from_came, from_further, holding}
+use Rattle.zy_law_normal.proofs.Follow.{in_state}
+use Rattle.zy_law_normal.proofs.Going.{slots_from}
+use Rattle.zy_law_normal.proofs.KeptVotes.{AreFirst, AreKeptOf, after_check_kept, are_first, at_place, with_stable_kept}
+use Rattle.zy_law_normal.proofs.OneEntry.{fold_is}
+use Rattle.zy_law_normal.proofs.Own.{IsOwnOf, own_checkpoint}
+use Rattle.zy_law_normal.specs.Acts.{statement_by}
+use Rattle.zy_law_normal.specs.Tied.{IsHeldFrom}
 use Rattle.zy_parts.specs.Numbers as numbers
 use Rattle.zy_parts.specs.Statements.{check_fields}
 use Rattle.zy_parts.specs.declared.signed.Signed.{Signed}

@@ -34,15 +34,15 @@ use Rattle.zy_law.specs.Histories.{Passes}
 use Rattle.zy_law.specs.Lawful.{IsOrdered}
 use Rattle.zy_law.specs.Steps.{after_saying}
 use Rattle.zy_law.specs.World.{Spoken, Statement, World}
-use Rattle.zy_lawful.proofs.Cases.{IsNew, IsOwnCommit, IsPut, responded, with_held}
-use Rattle.zy_lawful.proofs.Committed.{IsFurthest, certified_said, from_came, holding}
-use Rattle.zy_lawful.proofs.Follow.{in_state}
-use Rattle.zy_lawful.proofs.Going.{slots_put}
-use Rattle.zy_lawful.proofs.KeptVotes.{AreKeptOf, with_check_kept, with_spec_kept}
-use Rattle.zy_lawful.proofs.OneEntry.{AreOrdersOf, next_ordered, orders_of_longer, orders_of_said, place_now}
-use Rattle.zy_lawful.proofs.Own.{client_told, head_told, kept_case, state_told}
-use Rattle.zy_lawful.specs.Acts.{statement_by}
-use Rattle.zy_lawful.specs.Tied.{MayRun}
+use Rattle.zy_law_normal.proofs.Cases.{IsNew, IsOwnCommit, IsPut, responded, with_held}
+use Rattle.zy_law_normal.proofs.Committed.{IsFurthest, certified_said, from_came, holding}
+use Rattle.zy_law_normal.proofs.Follow.{in_state}
+use Rattle.zy_law_normal.proofs.Going.{slots_put}
+use Rattle.zy_law_normal.proofs.KeptVotes.{AreKeptOf, with_check_kept, with_spec_kept}
+use Rattle.zy_law_normal.proofs.OneEntry.{AreOrdersOf, next_ordered, orders_of_longer, orders_of_said, place_now}
+use Rattle.zy_law_normal.proofs.Own.{client_told, head_told, kept_case, state_told}
+use Rattle.zy_law_normal.specs.Acts.{statement_by}
+use Rattle.zy_law_normal.specs.Tied.{MayRun}
 use Rattle.zy_parts.specs.declared.signed.Signed.{Signed}
 use Rattle.zy_parts.specs.declared.statements.Ask.{Ask}
 use Rattle.zy_parts.specs.declared.statements.Check.{Check}

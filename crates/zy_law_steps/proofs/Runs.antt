@@ -24,14 +24,14 @@ use Rattle.zy_frames.specs.declared.frame.OrderFrame.{OrderFrame}
 use Rattle.zy_law.proofs.EntriesAskedFor.{entry_within}
 use Rattle.zy_law.specs.Steps.{after_saying}
 use Rattle.zy_law.specs.World.{Answer, Spoken, Statement, World}
-use Rattle.zy_lawful.proofs.Follow.{Keeps, end_settled, in_state, one_keeps}
-use Rattle.zy_lawful.proofs.Going.{slots_from, slots_with}
-use Rattle.zy_lawful.proofs.KeptVotes.{AreKeptOf, after_spec_kept, without_others_kept}
-use Rattle.zy_lawful.proofs.OneEntry.{AreOrdersOf, fold_is, known_next, orders_of_longer}
-use Rattle.zy_lawful.proofs.Own.{by_test, state_told}
-use Rattle.zy_lawful.proofs.Records.{IsLastOf}
-use Rattle.zy_lawful.specs.Acts.{statement_by}
-use Rattle.zy_lawful.specs.Tied.{MayRun, MaySlotRun}
+use Rattle.zy_law_normal.proofs.Follow.{Keeps, end_settled, in_state, one_keeps}
+use Rattle.zy_law_normal.proofs.Going.{slots_from, slots_with}
+use Rattle.zy_law_normal.proofs.KeptVotes.{AreKeptOf, after_spec_kept, without_others_kept}
+use Rattle.zy_law_normal.proofs.OneEntry.{AreOrdersOf, fold_is, known_next, orders_of_longer}
+use Rattle.zy_law_normal.proofs.Own.{by_test, state_told}
+use Rattle.zy_law_normal.proofs.Records.{IsLastOf}
+use Rattle.zy_law_normal.specs.Acts.{statement_by}
+use Rattle.zy_law_normal.specs.Tied.{MayRun, MaySlotRun}
 use Rattle.zy_parts.specs.declared.signed.Signed.{Signed}
 use Rattle.zy_parts.specs.declared.statements.Check.{Check}
 use Rattle.zy_parts.specs.declared.statements.Order.{Order}

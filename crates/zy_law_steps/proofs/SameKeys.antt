@@ -49,10 +49,10 @@ use Rattle.zy_frames.specs.Frames as plain
 use Rattle.zy_frames.specs.declared.frame.Frame.{Frame}
 use Rattle.zy_frames.specs.declared.frame.Frame.TheVariants as frames
 use Rattle.zy_frames.specs.declared.frame.OrderFrame.{OrderFrame}
-use Rattle.zy_lawful.proofs.Cases.{Cases, decoded_case, with_held}
-use Rattle.zy_lawful.proofs.Committed.{holding}
-use Rattle.zy_lawful.proofs.Follow.{Keeps, gather_at_keeps, one_keeps}
-use Rattle.zy_lawful.proofs.Own.{by_test}
+use Rattle.zy_law_normal.proofs.Cases.{Cases, decoded_case, with_held}
+use Rattle.zy_law_normal.proofs.Committed.{holding}
+use Rattle.zy_law_normal.proofs.Follow.{Keeps, gather_at_keeps, one_keeps}
+use Rattle.zy_law_normal.proofs.Own.{by_test}
 use Rattle.zy_parts.specs.declared.reports.Began.{Began}
 use Rattle.zy_parts.specs.declared.reports.Change.{Change}
 use Rattle.zy_parts.specs.declared.reports.Fetch.{Fetch}

@@ -5,7 +5,7 @@ use Rattle.std.specs.Prelude.{IfSome, not, nat_eq, nat_le, slice_get, ◌&&◌}
 use Rattle.std.proofs.lemmas.List.{length-map}
 use Rattle.std.proofs.lemmas.List.Elements.{All-map}
 use Rattle.std.proofs.lemmas.List.Quantifiers.{position-Some}
-use Rattle.zy_lawful.proofs.Own.{by_test}
+use Rattle.zy_law_normal.proofs.Own.{by_test}
 use Rattle.zy_cert.specs.Equal.{same_began}
 use Rattle.zy_change.proofs.FitLemmas.{taken_there}
 use Rattle.zy_change.specs.Views.{Slots, began_equal, began_past, change_for, change_past, unless_other}

@@ -8,7 +8,7 @@ use Rattle.zy_base.specs.Machine.{Rules}
 use Rattle.zy_base.specs.declared.counts.Counts.{Counts}
 use Rattle.zy_base.specs.declared.ids.Party.TheVariants.{Replica}
 use Rattle.zy_base.specs.declared.ids.ReplicaId.{ReplicaId}
-use Rattle.zy_lawful.proofs.KeptVotes.{none_kept}
+use Rattle.zy_law_normal.proofs.KeptVotes.{none_kept}
 use Rattle.zy_seal.specs.Keys.{Keys}
 use Rattle.zy_seal.specs.Sealing.{SealerState}
 use Rattle.zy_table.specs.State.{start_of}

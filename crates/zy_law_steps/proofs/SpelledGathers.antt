@@ -19,10 +19,10 @@ use Rattle.zy_check.specs.Board.{Board, Stays, checks_at, specs_at, with_stable}
 use Rattle.zy_exec.proofs.ReplayLemmas.{head-along}
 use Rattle.zy_exec.specs.Kept.{last_place, stretch_of}
 use Rattle.zy_exec.specs.Shots.{digest_of_snapshot, snapshot_in}
-use Rattle.zy_lawful.proofs.Committed.{holding}
-use Rattle.zy_lawful.proofs.Follow.{in_state}
-use Rattle.zy_lawful.proofs.KeptVotes.{AreKeptOf, after_check_kept, are_first, at_place, with_stable_kept}
-use Rattle.zy_lawful.proofs.Own.{all_drop, at_of, by_test, kept_case, some_unless}
+use Rattle.zy_law_normal.proofs.Committed.{holding}
+use Rattle.zy_law_normal.proofs.Follow.{in_state}
+use Rattle.zy_law_normal.proofs.KeptVotes.{AreKeptOf, after_check_kept, are_first, at_place, with_stable_kept}
+use Rattle.zy_law_normal.proofs.Own.{all_drop, at_of, by_test, kept_case, some_unless}
 use Rattle.zy_parts.specs.Numbers as numbers
 use Rattle.zy_parts.specs.Signing.{signed}
 use Rattle.zy_parts.specs.Statements.{IsU62, check_fields, spec_fields}

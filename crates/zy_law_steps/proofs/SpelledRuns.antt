@@ -19,12 +19,12 @@ use Rattle.zy_exec.specs.declared.known.Known.{Known}
 use Rattle.zy_exec.specs.Shots.{snapshot_in}
 use Rattle.zy_frames.specs.declared.frame.OrderFrame.{OrderFrame}
 use Rattle.zy_law.specs.World.{World}
-use Rattle.zy_lawful.proofs.Follow.{Keeps, end_settled, in_state, one_keeps}
-use Rattle.zy_lawful.proofs.Going.{slots_from}
-use Rattle.zy_lawful.proofs.Goes.{all_of_both}
-use Rattle.zy_lawful.proofs.KeptVotes.{after_spec_kept, without_others_kept}
-use Rattle.zy_lawful.proofs.Own.{by_test}
-use Rattle.zy_lawful.specs.Tied.{MayRun, MaySlotRun}
+use Rattle.zy_law_normal.proofs.Follow.{Keeps, end_settled, in_state, one_keeps}
+use Rattle.zy_law_normal.proofs.Going.{slots_from}
+use Rattle.zy_law_normal.proofs.Goes.{all_of_both}
+use Rattle.zy_law_normal.proofs.KeptVotes.{after_spec_kept, without_others_kept}
+use Rattle.zy_law_normal.proofs.Own.{by_test}
+use Rattle.zy_law_normal.specs.Tied.{MayRun, MaySlotRun}
 use Rattle.zy_parts.specs.Numbers as numbers
 use Rattle.zy_parts.specs.Statements.{IsU62, check_fields, spec_fields}
 use Rattle.zy_parts.specs.declared.signed.Signed.{Signed}

@@ -19,9 +19,9 @@ use Rattle.zy_frames.specs.declared.frame.Frame.{Frame}
 use Rattle.zy_frames.specs.declared.frame.Frame.TheVariants as frames
 use Rattle.zy_frames.specs.declared.frame.OrderFrame.{OrderFrame}
 use Rattle.zy_law.specs.World.{World}
-use Rattle.zy_lawful.proofs.Cases.{decoded_case}
-use Rattle.zy_lawful.proofs.Own.{by_test}
-use Rattle.zy_lawful.specs.Tied.{MayRun}
+use Rattle.zy_law_normal.proofs.Cases.{decoded_case}
+use Rattle.zy_law_normal.proofs.Own.{by_test}
+use Rattle.zy_law_normal.specs.Tied.{MayRun}
 use Rattle.zy_parts.specs.Numbers as numbers
 use Rattle.zy_parts.specs.Reports.{began_fields}
 use Rattle.zy_parts.specs.Signing.{part_of}

@@ -31,15 +31,15 @@ use Rattle.zy_frames.specs.declared.frame.OrderFrame.{OrderFrame}
 use Rattle.zy_law.proofs.EntriesAskedFor.{entry_within}
 use Rattle.zy_law.specs.Said.{Moment}
 use Rattle.zy_law.specs.World.{World}
-use Rattle.zy_lawful.proofs.Backing.{all_from, all_listed}
-use Rattle.zy_lawful.proofs.Cases.{Cases, IsOwnCommit, IsPut, responded, with_held}
-use Rattle.zy_lawful.proofs.Committed.{IsFurthest, holding}
-use Rattle.zy_lawful.proofs.Follow.{gather_at_keeps}
-use Rattle.zy_lawful.proofs.Going.{slots_put}
-use Rattle.zy_lawful.proofs.KeptVotes.{with_check_kept, with_spec_kept}
-use Rattle.zy_lawful.proofs.Own.{at_of}
-use Rattle.zy_lawful.proofs.Records.{IsLastOf}
-use Rattle.zy_lawful.specs.Tied.{MayRun}
+use Rattle.zy_law_normal.proofs.Backing.{all_from, all_listed}
+use Rattle.zy_law_normal.proofs.Cases.{Cases, IsOwnCommit, IsPut, responded, with_held}
+use Rattle.zy_law_normal.proofs.Committed.{IsFurthest, holding}
+use Rattle.zy_law_normal.proofs.Follow.{gather_at_keeps}
+use Rattle.zy_law_normal.proofs.Going.{slots_put}
+use Rattle.zy_law_normal.proofs.KeptVotes.{with_check_kept, with_spec_kept}
+use Rattle.zy_law_normal.proofs.Own.{at_of}
+use Rattle.zy_law_normal.proofs.Records.{IsLastOf}
+use Rattle.zy_law_normal.specs.Tied.{MayRun}
 use Rattle.zy_parts.specs.Signing.{signed}
 use Rattle.zy_parts.specs.Statements.{IsU62, local_fields, order_fields, spec_fields}
 use Rattle.zy_parts.specs.declared.signed.Signed.{Signed}

@@ -23,9 +23,9 @@ use Rattle.zy_frames.specs.declared.frame.Frame.{Frame}
 use Rattle.zy_frames.specs.declared.frame.Frame.TheVariants as frames
 use Rattle.zy_frames.specs.declared.frame.OrderFrame.{OrderFrame}
 use Rattle.zy_law.specs.World.{World}
-use Rattle.zy_lawful.proofs.Cases.{Cases, IsPut, decoded_case}
-use Rattle.zy_lawful.proofs.Own.{by_test}
-use Rattle.zy_lawful.specs.Tied.{MayRun}
+use Rattle.zy_law_normal.proofs.Cases.{Cases, IsPut, decoded_case}
+use Rattle.zy_law_normal.proofs.Own.{by_test}
+use Rattle.zy_law_normal.specs.Tied.{MayRun}
 use Rattle.zy_parts.specs.declared.signed.Signed.{Signed}
 use Rattle.zy_parts.specs.declared.statements.Ask.{Ask}
 use Rattle.zy_parts.specs.declared.statements.Confirm.{Confirm}

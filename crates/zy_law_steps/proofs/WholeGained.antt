@@ -21,12 +21,12 @@ use Rattle.zy_frames.specs.declared.frame.Frame.{Frame}
 use Rattle.zy_frames.specs.declared.frame.Frame.TheVariants as frames
 use Rattle.zy_frames.specs.declared.frame.OrderFrame.{OrderFrame}
 use Rattle.zy_law.specs.World.{Answer, Statement, World}
-use Rattle.zy_lawful.proofs.Backing.{all_listed}
-use Rattle.zy_lawful.proofs.GainedEntries.{step_gained}
-use Rattle.zy_lawful.proofs.Own.{by_test}
-use Rattle.zy_lawful.specs.Acts.{spec_statement}
-use Rattle.zy_lawful.specs.Tied as lawful
-use Rattle.zy_lawful.specs.Tied.{IsGained, MayFrameRun}
+use Rattle.zy_law_normal.proofs.Backing.{all_listed}
+use Rattle.zy_law_normal.proofs.GainedEntries.{step_gained}
+use Rattle.zy_law_normal.proofs.Own.{by_test}
+use Rattle.zy_law_normal.specs.Acts.{spec_statement}
+use Rattle.zy_law_normal.specs.Tied as lawful
+use Rattle.zy_law_normal.specs.Tied.{IsGained, MayFrameRun}
 use Rattle.zy_parts.specs.declared.signed.Signed.{Signed}
 use Rattle.zy_parts.specs.declared.statements.Spec.{Spec}
 use Rattle.zy_seal.specs.Screening.{screen}

@@ -25,9 +25,9 @@ use Rattle.zy_law.specs.Steps as law
 use Rattle.zy_law.specs.Steps.Act.{Move, Say}
 use Rattle.zy_law.specs.Steps.{AllMay, after_acts, after_saying, after_standing}
 use Rattle.zy_law.specs.World.{World}
-use Rattle.zy_lawful.proofs.Own.{by_test}
-use Rattle.zy_lawful.specs.Acts.{acts_of, history_after, world_after}
-use Rattle.zy_lawful.specs.Tied.{MayRun}
+use Rattle.zy_law_normal.proofs.Own.{by_test}
+use Rattle.zy_law_normal.specs.Acts.{acts_of, history_after, world_after}
+use Rattle.zy_law_normal.specs.Tied.{MayRun}
 use Rattle.zy_seal.specs.Screening.{screen}
 use Rattle.zy_table.specs.Deeds.{Outcome, refused}
 use Rattle.zy_table.specs.Hates.{hate}

@@ -25,11 +25,11 @@ use Rattle.zy_law.specs.Lawful.{AreAskedFor, IsLawful}
 use Rattle.zy_law.specs.Said.{IsCorrect, Moment, Stood}
 use Rattle.zy_law.specs.Steps.{MaySay, MayStand, after_saying, after_standing}
 use Rattle.zy_law.specs.World.{Spoken, Stand, World}
-use Rattle.zy_lawful.proofs.Goes.{all_of_both, gains_in-append}
-use Rattle.zy_lawful.proofs.OneEntry.{AreOrdersOf, may_stand}
-use Rattle.zy_lawful.specs.Acts.{spoken_at, stand_with, statement_by}
-use Rattle.zy_lawful.specs.Tied as lawful
-use Rattle.zy_lawful.specs.Tied.{IsGained, MayRun}
+use Rattle.zy_law_normal.proofs.Goes.{all_of_both, gains_in-append}
+use Rattle.zy_law_normal.proofs.OneEntry.{AreOrdersOf, may_stand}
+use Rattle.zy_law_normal.specs.Acts.{spoken_at, stand_with, statement_by}
+use Rattle.zy_law_normal.specs.Tied as lawful
+use Rattle.zy_law_normal.specs.Tied.{IsGained, MayRun}
 use Rattle.zy_parts.specs.declared.signed.Signed.{Signed}
 use Rattle.zy_parts.specs.declared.statements.Ask.{Ask}
 use Rattle.zy_table.specs.Deeds.{Going, begin, gains_in}

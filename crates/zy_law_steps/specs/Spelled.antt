@@ -8,7 +8,7 @@ use Rattle.zy_change.specs.declared.kept.Chosen.{Chosen}
 use Rattle.zy_change.specs.declared.kept.Waiting.{Waiting}
 use Rattle.zy_check.specs.Board.{Board}
 use Rattle.zy_exec.specs.Kept.{Kept}
-use Rattle.zy_lawful.specs.Tied.{IsRoundOf}
+use Rattle.zy_law_normal.specs.Tied.{IsRoundOf}
 use Rattle.zy_parts.specs.Reports.{began_fields, change_fields, new_fields}
 use Rattle.zy_parts.specs.Signing.{signed}
 use Rattle.zy_parts.specs.Statements.{IsU62, check_fields, local_fields, order_fields, spec_fields}

@@ -5,7 +5,7 @@ ghost use Rattle.zy_base.specs.declared.step.Mode.TheVariants.{Active};
 ghost use Rattle.zy_chain.specs.declared.entry.Entry.{Entry};
 ghost use Rattle.zy_frames.specs.declared.frame.OrderFrame.{OrderFrame};
 ghost use Rattle.zy_law.specs.World.{World};
-ghost use Rattle.zy_lawful.specs.Tied.{MayRun};
+ghost use Rattle.zy_law_normal.specs.Tied.{MayRun};
 ghost use Rattle.zy_parts.specs.declared.signed.Signed.{Signed};
 ghost use Rattle.zy_parts.specs.declared.statements.Ask.{Ask};
 ghost use Rattle.zy_parts.specs.declared.statements.Confirm.{Confirm};

@@ -1,6 +1,6 @@
 ghost use Rattle.std.specs.Prelude.{◌≡◌, ℕ};
 ghost use Rattle.zy_base.specs.declared.ids.Party.{Party};
-ghost use Rattle.zy_lawful.specs.Acts.{statement_by};
+ghost use Rattle.zy_law_normal.specs.Acts.{statement_by};
 ghost use Rattle.zy_table.specs.Deeds.{text_by};
 ghost use Rattle.zy_table.specs.declared.deeds.Body.{Body};
 ghost use Rattle.zy_law_views.specs.Told.{statement_in};

@@ -11,7 +11,7 @@ ghost use Rattle.zy_law.specs.World.{Spoken, Stand, World};
 ghost use Rattle.zy_seal.specs.Keys.{Keys};
 ghost use Rattle.zy_seal.specs.Sealing.{SealerState};
 ghost use Rattle.zy_table.specs.State.{State, start_of};
-ghost use Rattle.zy_lawful.specs.Tied.{Agrees};
+ghost use Rattle.zy_law_normal.specs.Tied.{Agrees};
 ghost use Rattle.zy_law_views.specs.Texts.{AreLinks, Texts};
 ghost use Rattle.zy_law_views.specs.Steps.{IsWorldOf};
 ghost use Rattle.zy_law_views.specs.Rows.{IsReady};

@@ -9,7 +9,7 @@ use Rattle.zy_admit.specs.declared.judging.Position.{Position}
 use Rattle.zy_chain.specs.Entries.{digest_of_entry}
 use Rattle.zy_chain.specs.Heads.{head_after}
 use Rattle.zy_frames.specs.declared.frame.OrderFrame.{OrderFrame}
-use Rattle.zy_lawful.proofs.Own.{by_test}
+use Rattle.zy_law_normal.proofs.Own.{by_test}
 use Rattle.zy_parts.specs.declared.signed.Signed.{Signed}
 use Rattle.zy_parts.specs.declared.statements.Ask.{Ask}
 use Rattle.zy_parts.specs.declared.statements.Order.{Order}

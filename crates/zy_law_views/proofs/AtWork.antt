@@ -19,9 +19,9 @@ use Rattle.zy_frames.specs.declared.frame.OrderFrame.{OrderFrame}
 use Rattle.zy_law.specs.Said.{IsCorrect, IsVouched, Says, Stood}
 use Rattle.zy_law.specs.Steps.{after_saying, after_standing}
 use Rattle.zy_law.specs.World.{Spoken, Stand, Statement, World}
-use Rattle.zy_lawful.proofs.KeptVotes.{none_kept}
-use Rattle.zy_lawful.proofs.OneEntry.{slots_more}
-use Rattle.zy_lawful.specs.Tied.{MayRun, MaySlotRun}
+use Rattle.zy_law_normal.proofs.KeptVotes.{none_kept}
+use Rattle.zy_law_normal.proofs.OneEntry.{slots_more}
+use Rattle.zy_law_normal.specs.Tied.{MayRun, MaySlotRun}
 use Rattle.zy_parts.specs.declared.statements.Spec.{Spec}
 use Rattle.zy_table.specs.State.{State}
 use Rattle.zy_law_views.proofs.TiedGrown.{has_said_last, own_said, parts_said, parts_stood}

@@ -23,9 +23,9 @@ use Rattle.zy_law.proofs.EntriesAskedFor.{entry_within}
 use Rattle.zy_law.specs.Histories.{AreKept}
 use Rattle.zy_law.specs.Said.{Moment}
 use Rattle.zy_law.specs.World.{World}
-use Rattle.zy_lawful.proofs.Own.{by_test}
-use Rattle.zy_lawful.proofs.Records.{IsLastOf, IsRecord, records}
-use Rattle.zy_lawful.specs.Tied.{IsOfClient}
+use Rattle.zy_law_normal.proofs.Own.{by_test}
+use Rattle.zy_law_normal.proofs.Records.{IsLastOf, IsRecord, records}
+use Rattle.zy_law_normal.specs.Tied.{IsOfClient}
 use Rattle.zy_parts.specs.declared.signed.Signed.{Signed}
 use Rattle.zy_parts.specs.declared.statements.Ask.{Ask}
 use Rattle.zy_parts.specs.declared.statements.Hole.{Hole}

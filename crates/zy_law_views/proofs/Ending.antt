@@ -22,9 +22,9 @@ use Rattle.zy_law.specs.Lawful.{AreAskedFor, IsLawful}
 use Rattle.zy_law.specs.Said.{IsCorrect}
 use Rattle.zy_law.specs.Steps.{MayStand, after_standing}
 use Rattle.zy_law.specs.World.{Stand, World}
-use Rattle.zy_lawful.proofs.Goes.{all_of_rest, gains_in-append}
-use Rattle.zy_lawful.specs.Acts.{adopted_history, stand_adopted}
-use Rattle.zy_lawful.specs.Tied.{IsGained, MayRun, next_head}
+use Rattle.zy_law_normal.proofs.Goes.{all_of_rest, gains_in-append}
+use Rattle.zy_law_normal.specs.Acts.{adopted_history, stand_adopted}
+use Rattle.zy_law_normal.specs.Tied.{IsGained, MayRun, next_head}
 use Rattle.zy_table.specs.Beginning.{respond_at, respond_to}
 use Rattle.zy_table.specs.Deeds.{Going, begin, gains_in}
 use Rattle.zy_table.specs.Gathering.{own_at}

@@ -45,7 +45,7 @@ use Rattle.zy_base.specs.declared.frame_fault.FrameFault.{FrameFault}
 use Rattle.zy_law.proofs.QuorumLemmas.{All_at}
 use Rattle.zy_law.specs.Steps.{MayStand, after_standing}
 use Rattle.zy_law.specs.World.{World}
-use Rattle.zy_lawful.specs.Acts.{adopted_history}
+use Rattle.zy_law_normal.specs.Acts.{adopted_history}
 use Rattle.zy_parts.specs.declared.reports.Change.{Change}
 use Rattle.zy_parts.specs.declared.reports.Fetch.{Fetch}
 use Rattle.zy_parts.specs.declared.signed.Signed.{Signed}

@@ -26,8 +26,8 @@ use Rattle.zy_law.specs.Lawful.{IsLawful}
 use Rattle.zy_law.specs.Said.{IsCorrect}
 use Rattle.zy_law.specs.Steps.{MaySay, after_saying, grown, with_last}
 use Rattle.zy_law.specs.World.{Spoken, Statement, World}
-use Rattle.zy_lawful.proofs.Goes.{gains_in-append}
-use Rattle.zy_lawful.specs.Acts.{spoken_at, statement_by}
+use Rattle.zy_law_normal.proofs.Goes.{gains_in-append}
+use Rattle.zy_law_normal.specs.Acts.{spoken_at, statement_by}
 use Rattle.zy_parts.specs.Numbers as numbers
 use Rattle.zy_parts.specs.Reports.{began_fields}
 use Rattle.zy_parts.specs.declared.reports.New.{New}

@@ -7,8 +7,8 @@ use Rattle.std.proofs.Common.{append_assoc}
 use Rattle.zy_law.specs.Steps as law
 use Rattle.zy_law.specs.Steps.{AllMay, MaySay, MayStand, after_act, after_acts, after_saying, after_standing}
 use Rattle.zy_law.specs.World.{World}
-use Rattle.zy_lawful.proofs.Goes.{AllMay-append}
-use Rattle.zy_lawful.specs.Acts.{adopted_history, history_after, law_acts, spoken_at, stand_adopted}
+use Rattle.zy_law_normal.proofs.Goes.{AllMay-append}
+use Rattle.zy_law_normal.specs.Acts.{adopted_history, history_after, law_acts, spoken_at, stand_adopted}
 use Rattle.zy_table.specs.declared.deeds.Act.{Act}
 use Rattle.zy_table.specs.declared.deeds.Act.TheVariants.{Says, Adopts}
 use Rattle.zy_table.specs.declared.deeds.Got.{Got}

@@ -15,8 +15,8 @@ use Rattle.zy_chain.specs.Entries.{digest_of_entry}
 use Rattle.zy_exec.specs.Kept.{known_in, last_place}
 use Rattle.zy_exec.specs.declared.known.Known.{Known}
 use Rattle.zy_frames.specs.declared.frame.OrderFrame.{OrderFrame}
-use Rattle.zy_lawful.proofs.Cases.{IsNew, responded, with_held}
-use Rattle.zy_lawful.proofs.Own.{by_test}
+use Rattle.zy_law_normal.proofs.Cases.{IsNew, responded, with_held}
+use Rattle.zy_law_normal.proofs.Own.{by_test}
 use Rattle.zy_parts.specs.declared.signed.Signed.{Signed}
 use Rattle.zy_parts.specs.declared.statements.Ask.{Ask}
 use Rattle.zy_parts.specs.declared.statements.Confirm.{Confirm}

@@ -27,10 +27,10 @@ use Rattle.zy_law.specs.Histories.{IsEntryAt, Passes}
 use Rattle.zy_law.specs.Lawful.{IsTrueAnswer}
 use Rattle.zy_law.specs.Steps.{MaySay, after_saying}
 use Rattle.zy_law.specs.World.{Answer, Spoken, Statement, World}
-use Rattle.zy_lawful.proofs.KeptVotes.{AreKeptOf, after_spec_kept, without_others_kept}
-use Rattle.zy_lawful.proofs.Records.{answer_longer}
-use Rattle.zy_lawful.specs.Acts.{spec_statement}
-use Rattle.zy_lawful.specs.Tied.{Agrees}
+use Rattle.zy_law_normal.proofs.KeptVotes.{AreKeptOf, after_spec_kept, without_others_kept}
+use Rattle.zy_law_normal.proofs.Records.{answer_longer}
+use Rattle.zy_law_normal.specs.Acts.{spec_statement}
+use Rattle.zy_law_normal.specs.Tied.{Agrees}
 use Rattle.zy_parts.specs.declared.statements.Spec.{Spec}
 use Rattle.zy_table.specs.Beginning.{respond_alone, respond_at, respond_to}
 use Rattle.zy_table.specs.Deeds.{Going}

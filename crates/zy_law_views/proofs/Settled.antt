@@ -24,7 +24,7 @@ use Rattle.zy_law.specs.Lawful.{IsLawful, IsTrueAnswer}
 use Rattle.zy_law.specs.Said.{IsCorrect}
 use Rattle.zy_law.specs.Steps.{IsStart, after_saying, after_standing}
 use Rattle.zy_law.specs.World.{Answer, Spoken, Stand, Statement, World}
-use Rattle.zy_lawful.specs.Tied.{last_reply, state_of}
+use Rattle.zy_law_normal.specs.Tied.{last_reply, state_of}
 use Rattle.zy_parts.specs.declared.signed.Signed.{Signed}
 use Rattle.zy_parts.specs.declared.statements.Check.{Check}
 use Rattle.zy_parts.specs.declared.statements.Spec.{Spec}

@@ -18,8 +18,8 @@ use Rattle.zy_exec.specs.Kept.{Kept, longer, settled}
 use Rattle.zy_law.proofs.QuorumLemmas.{All_at}
 use Rattle.zy_law.specs.Steps.{MayStand, after_standing}
 use Rattle.zy_law.specs.World.{World}
-use Rattle.zy_lawful.specs.Acts.{adopted_history}
-use Rattle.zy_lawful.specs.Tied.{IsGained, MayRun}
+use Rattle.zy_law_normal.specs.Acts.{adopted_history}
+use Rattle.zy_law_normal.specs.Tied.{IsGained, MayRun}
 use Rattle.zy_parts.specs.declared.reports.Change.{Change}
 use Rattle.zy_parts.specs.declared.reports.Told.{Told}
 use Rattle.zy_parts.specs.declared.signed.Signed.{Signed}

@@ -6,7 +6,7 @@ use Rattle.zy_law.proofs.GrownLemmas.{each_item}
 use Rattle.zy_law.specs.Said.{IsCorrect, Moment}
 use Rattle.zy_law.specs.Steps.{after_standing, grown}
 use Rattle.zy_law.specs.World.{Spoken, Stand, World}
-use Rattle.zy_lawful.specs.Tied.{Agrees}
+use Rattle.zy_law_normal.specs.Tied.{Agrees}
 use Rattle.zy_law_views.specs.Adopted.{IsHistoryKept, Matches}
 use Rattle.zy_law_views.specs.Texts.{Texts}
 use Rattle.zy_law_views.specs.Steps.{IsWorldOf}

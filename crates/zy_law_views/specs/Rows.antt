@@ -10,7 +10,7 @@ use Rattle.zy_law.specs.Lawful.{IsLawful}
 use Rattle.zy_law.specs.Said.{IsCorrect}
 use Rattle.zy_law.specs.Steps.{AllMay}
 use Rattle.zy_law.specs.World.{World}
-use Rattle.zy_lawful.specs.Acts.{acts_of, world_after}
+use Rattle.zy_law_normal.specs.Acts.{acts_of, world_after}
 use Rattle.zy_table.specs.Deeds.{Outcome}
 use Rattle.zy_table.specs.State.{State}
 use Rattle.zy_law_views.specs.Tied.{IsTied}

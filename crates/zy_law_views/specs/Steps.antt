@@ -10,8 +10,8 @@ use Rattle.zy_change.specs.Owing.{provider_in}
 use Rattle.zy_change.specs.declared.kept.Waiting.{Waiting}
 use Rattle.zy_law.specs.Steps.{AllMay}
 use Rattle.zy_law.specs.World.{World}
-use Rattle.zy_lawful.specs.Acts.{acts_of, history_after, world_after}
-use Rattle.zy_lawful.specs.Tied.{Agrees, IsGained}
+use Rattle.zy_law_normal.specs.Acts.{acts_of, history_after, world_after}
+use Rattle.zy_law_normal.specs.Tied.{Agrees, IsGained}
 use Rattle.zy_parts.specs.declared.reports.Change.{Change}
 use Rattle.zy_parts.specs.declared.signed.Signed.{Signed}
 use Rattle.zy_table.specs.Deeds.{Outcome, gains_in}

@@ -7,7 +7,7 @@ use Rattle.zy_base.specs.declared.ids.View.{View}
 use Rattle.zy_admit.specs.Orders.{Orders}
 use Rattle.zy_check.specs.Board.{Board, Round}
 use Rattle.zy_law.specs.World.{Stand, World}
-use Rattle.zy_lawful.specs.Tied.{IsRoundOf, MaySlotRun}
+use Rattle.zy_law_normal.specs.Tied.{IsRoundOf, MaySlotRun}
 use Rattle.zy_table.specs.State.{State}
 use Rattle.zy_law_views.specs.Held.{IsHeldPart}
 use Rattle.zy_law_views.specs.Tied.{AreOrdersUpTo}

@@ -18,7 +18,7 @@ use Rattle.zy_table.specs.Deeds.{Going, begin, send}
 use Rattle.zy_table.specs.Leaving.{leave}
 use Rattle.zy_table.specs.Hates.{hate, hate_from, own_hate, say_hate, with_hate_of}
 use Rattle.zy_table.specs.Changes.{change}
-use Rattle.zy_core.specs.Ready.{IsReady}
+use Rattle.zy_replica_state.specs.Ready.{IsReady}
 use Rattle.zy_replica_views.proofs.FollowLemmas.{change_follows, hate_follows, leave_follows}
 use Rattle.zy_replica_views.specs.Carrying.{kept_unless}
 use Rattle.zy_replica_views.specs.Follows.{IsChangeOwed, IsHateOwed, IsLeaveOwed, IsSigner}

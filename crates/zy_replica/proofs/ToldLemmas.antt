@@ -7,7 +7,7 @@ use Rattle.zy_table.specs.declared.deeds.Act.{Act}
 use Rattle.zy_table.specs.declared.deeds.Act.TheVariants.{Says, Gains, Adopts}
 use Rattle.zy_table.specs.declared.deeds.Got.{Got}
 use Rattle.zy_table.specs.Adopting.{IsGotInRange}
-use Rattle.zy_core.specs.Ready.{IsActInRange}
+use Rattle.zy_replica_state.specs.Ready.{IsActInRange}
 
 both_in_range : (gots more : List Got) → AllByRecursion IsGotInRange gots → AllByRecursion (λ (got : Got). IsEntryInRange got.entry) more
     → AllByRecursion (λ (got : Got). IsEntryInRange got.entry) (gots ++ more)

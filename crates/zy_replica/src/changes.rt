@@ -18,7 +18,7 @@ ghost use Rattle.zy_replica.specs.Judging.{CanAll};
 
 use zy_base::{Machine, ReplicaId, Want};
 use zy_change::Owed;
-use zy_core::{Core, Moved};
+use zy_replica_state::{Core, Moved};
 use zy_replica_views::{Ending, carry, judge_owed};
 use zy_parts::{Change, Signed};
 

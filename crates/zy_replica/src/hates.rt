@@ -15,7 +15,7 @@ ghost use Rattle.zy_replica.specs.Judging.{CanAll, LeavesToEnter};
 
 use zy_base::{Machine, Want};
 use zy_change::Owed;
-use zy_core::{Core, Moved, Progress};
+use zy_replica_state::{Core, Moved, Progress};
 use zy_replica_views::{Ending, carry, judge_owed};
 use zy_parts::{Hate, Signed};
 

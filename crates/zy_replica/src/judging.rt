@@ -8,7 +8,7 @@ ghost use Rattle.zy_table.specs.Leaving.{goes};
 ghost use Rattle.zy_table.specs.Beginning.{confirms, finished};
 
 use zy_base::{Answer, Machine};
-use zy_core::{Moved, Progress};
+use zy_replica_state::{Moved, Progress};
 
 // A step ends that signed no more than it could, and confirmed no new view.
 pub(crate) fn taken<M: Machine>(progress: Progress<M>) -> Moved<M>

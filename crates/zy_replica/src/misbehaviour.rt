@@ -16,7 +16,7 @@ ghost use Rattle.zy_table.specs.Misbehaviour.{blamed as blamed_by, pom as pom_ro
 ghost use Rattle.zy_table.specs.Whole.{order_judged as judged_as, order as order_row};
 ghost use Rattle.zy_table.specs.Orders.{position_of};
 ghost use Rattle.zy_admit.specs.Judging.{judge_in};
-ghost use Rattle.zy_core.specs.Ready.{IsOrderReady};
+ghost use Rattle.zy_replica_state.specs.Ready.{IsOrderReady};
 ghost use Rattle.zy_replica_views.specs.Follows.{IsLeaveOwed};
 ghost use Rattle.zy_replica_views.specs.Entering.{IsJudged, IsStep, ending_of};
 ghost use Rattle.zy_replica.specs.Judging.{CanAll};
@@ -24,7 +24,7 @@ ghost use Rattle.zy_replica.specs.Judging.{CanAll};
 use zy_admit::Admit;
 use zy_base::{Cause, Machine, View, Want};
 use zy_change::Owed;
-use zy_core::{Core, Moved};
+use zy_replica_state::{Core, Moved};
 use zy_replica_views::{Ending, carry, judge_owed};
 use zy_frames::{Frame, OrderFrame};
 use zy_parts::{Order, Signed};

@@ -7,12 +7,12 @@ ghost use Rattle.zy_chain.specs.Entries.{IsEntryInRange};
 ghost use Rattle.zy_table.specs.State.{timers_of};
 ghost use Rattle.zy_table.specs.Sending.{CanBeSent};
 ghost use Rattle.zy_table.specs.Deeds.{outgoing_of, others, text_by, said_from, gains_in};
-ghost use Rattle.zy_core.specs.Ready.{IsActInRange, IsBodyInRange};
+ghost use Rattle.zy_replica_state.specs.Ready.{IsActInRange, IsBodyInRange};
 
 use crate::replica::{Replica, Stepped};
 use std::alloc::Global;
 use zy_base::{Bytes, Items, Machine, Outgoing, Party, ReplicaId, Said, Spoken, Want};
-use zy_core::{Moved, Progress};
+use zy_replica_state::{Moved, Progress};
 use zy_parts::signed_text;
 use zy_table::{Act, Body, Deeds, Gains, Remark, Sent, outgoing};
 

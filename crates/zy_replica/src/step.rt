@@ -12,7 +12,7 @@ ghost use Rattle.zy_table.specs.Whole.{is_view_frame_in_role as has_view_role, w
 
 use crate::roles::{in_role, is_view_frame_in_role};
 use zy_base::{Answer, Bytes, Cause, Event, FrameFault, Machine, TimerKind, Want};
-use zy_core::{Core, Moved};
+use zy_replica_state::{Core, Moved};
 use zy_replica_views::{confirmation, fetch, new_view, state_transfer, view_certificate};
 use zy_frames::{DecodeFault, Frame, OrderFrame};
 use zy_parts::{Fetch, Order, Signed};

@@ -31,8 +31,8 @@ use Rattle.zy_table.specs.State.{own_view, is_leaving, leaves_of}
 use Rattle.zy_table.specs.Deeds.{Going, send}
 use Rattle.zy_table.specs.Gathering.{state_in, own_with, with_own_spec, owes_check, gather, signs_with}
 use Rattle.zy_table.specs.Running.{spec_of, next_known, executed, sealed_spec, respond, share, answered, signs_of, run_one}
-use Rattle.zy_core.specs.Ready.{IsOwnReady}
-use Rattle.zy_core.proofs.OwnLemmas.{own_is_last, state_shown}
+use Rattle.zy_replica_state.specs.Ready.{IsOwnReady}
+use Rattle.zy_replica_state.proofs.OwnLemmas.{own_is_last, state_shown}
 use Rattle.zy_replica_normal.proofs.SignLemmas.{signs_cover, signs_counted, signs_executed}
 
 -- ---- at a multiple of the interval

@@ -28,7 +28,7 @@ use Rattle.zy_cert.specs.Signers.{has_other, has_repeat}
 use Rattle.zy_exec.specs.Kept.{last_place, stretch_of}
 use Rattle.zy_table.specs.declared.kept.OwnCheckpoint.{OwnCheckpoint}
 use Rattle.zy_table.specs.State.{State, is_leaving, is_leaving_mode, leaves_of, own_view}
-use Rattle.zy_core.specs.Ready.{IsOwnCertificate, IsReady}
+use Rattle.zy_replica_state.specs.Ready.{IsOwnCertificate, IsReady}
 use Rattle.zy_table.specs.Deeds.{refused, ends}
 use Rattle.zy_change.specs.Views.{is_further}
 use Rattle.zy_table.specs.Gathering.{with_certificate, checks_owed, gather_at}

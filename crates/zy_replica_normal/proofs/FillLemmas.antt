@@ -17,7 +17,7 @@ use Rattle.zy_table.specs.declared.deeds.Sent.{Sent}
 use Rattle.zy_table.specs.State.{State}
 use Rattle.zy_table.specs.Deeds.{refused}
 use Rattle.zy_table.specs.Holes.{order_to, fill_with}
-use Rattle.zy_core.specs.Ready.{IsOrderReady}
+use Rattle.zy_replica_state.specs.Ready.{IsOrderReady}
 
 pub none_at : (n : ℕ) → true ≡ (n == 0) → n ≡ 0
 none_at n is = eqb-true n 0 (sym is)

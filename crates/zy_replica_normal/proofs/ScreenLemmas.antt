@@ -20,7 +20,7 @@ use Rattle.zy_seal.specs.Screening.{screen, answer_to, is_unknown}
 use Rattle.zy_admit.specs.Judging.{asking}
 use Rattle.zy_table.specs.Roles.{is_client, is_replica, is_primary_of, in_role}
 use Rattle.zy_table.specs.State.{State}
-use Rattle.zy_core.specs.Ready.{IsAskReady, IsOrderReady}
+use Rattle.zy_replica_state.specs.Ready.{IsAskReady, IsOrderReady}
 
 -- no part of a screened frame has an unknown signer
 all_known : (keys : Keys) (parts : List Part) (unknown : Bool) (bad : Option Cause) → (if unknown then Some causes.UnknownParty else bad) ≡ None → unknown ≡ false

@@ -18,11 +18,11 @@ ghost use Rattle.zy_cert.specs.Equal.{same_spec};
 ghost use Rattle.zy_cert.specs.Points.{point_of_spec};
 ghost use Rattle.zy_chain.specs.Stretch.{head_in};
 ghost use Rattle.zy_exec.specs.Kept.{stretch_of};
-ghost use Rattle.zy_core.specs.Ready.{IsOwnCertificate, IsOwnReady};
+ghost use Rattle.zy_replica_state.specs.Ready.{IsOwnCertificate, IsOwnReady};
 
 use zy_base::{Answer, Cause, ClientId, Digest, Items, Machine, Place, View, Want};
 use zy_cert::check_cert;
-use zy_core::{Core, Moved, Progress, signed_copy};
+use zy_replica_state::{Core, Moved, Progress, signed_copy};
 use zy_parts::{Local, Signed, Spec};
 use crate::gathering::gather_at;
 use zy_table::{Body, OwnCheckpoint};

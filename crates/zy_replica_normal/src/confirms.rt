@@ -8,12 +8,12 @@ ghost use Rattle.zy_exec.specs.Kept.{known_in};
 ghost use Rattle.zy_table.specs.Deeds.{refused as refused_with};
 ghost use Rattle.zy_table.specs.Requests.{request as request_row};
 ghost use Rattle.zy_table.specs.Confirms.{order_again as again, confirm_after as after, confirm as confirm_row};
-ghost use Rattle.zy_core.specs.Ready.{IsAskReady};
+ghost use Rattle.zy_replica_state.specs.Ready.{IsAskReady};
 
 use crate::requests::{hear_request, is_older, is_same};
 use zy_admit::{client_of, request_digest_of};
 use zy_base::{Answer, Cause, Machine, Party, Place, Stamp, Want};
-use zy_core::{Core, Moved};
+use zy_replica_state::{Core, Moved};
 use zy_parts::{Ask, Confirm, Signed};
 
 // The order that it has for it, where that is kept.

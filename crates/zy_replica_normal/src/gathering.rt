@@ -10,10 +10,10 @@ ghost use Rattle.zy_seal.specs.Sealing.{sealed_by};
 ghost use Rattle.zy_check.specs.Judging.{after_check};
 ghost use Rattle.zy_table.specs.State.{leaves_of, spent};
 ghost use Rattle.zy_table.specs.Gathering.{certificate_at, keep_certificate, owes_check, checks_owed, say_check as check_said, say_check_if as check_said_if, settle_own as own_settled, gather as gathered, gather_at as gathered_at};
-ghost use Rattle.zy_core.specs.Ready.{IsOwnReady};
+ghost use Rattle.zy_replica_state.specs.Ready.{IsOwnReady};
 
 use zy_base::{Machine, Want};
-use zy_core::{Core, Progress, signed_copy};
+use zy_replica_state::{Core, Progress, signed_copy};
 use zy_parts::{Check, Signed};
 use zy_table::{Body, OwnCheckpoint};
 

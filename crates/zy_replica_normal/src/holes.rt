@@ -9,11 +9,11 @@ ghost use Rattle.std.specs.List.{AllByRecursion};
 ghost use Rattle.zy_parts.specs.Signing.{IsSignedInRange};
 ghost use Rattle.zy_parts.specs.Statements.{IsHoleInRange};
 ghost use Rattle.zy_table.specs.Holes.{order_to, fill_with as filled_with, fill_hole as fill_row};
-ghost use Rattle.zy_core.specs.Ready.{IsOrderReady};
+ghost use Rattle.zy_replica_state.specs.Ready.{IsOrderReady};
 
 use std::alloc::Global;
 use zy_base::{Answer, Cause, Items, Machine, Party, Want};
-use zy_core::{Core, Moved, Progress};
+use zy_replica_state::{Core, Moved, Progress};
 use zy_frames::{Frame, OrderFrame};
 use zy_parts::{Hole, Signed};
 use zy_table::{AnyFrame, Deeds, Sent, To};

@@ -8,7 +8,7 @@ ghost use Rattle.zy_frames.specs.declared.frame.Frame.TheVariants as frames;
 ghost use Rattle.zy_seal.specs.Screening.{screen};
 ghost use Rattle.zy_table.specs.Roles.{in_role as has_role};
 ghost use Rattle.zy_table.specs.Step.{commit_in_view as committed_in_view, row as row_of};
-ghost use Rattle.zy_core.specs.Ready.{IsAskReady};
+ghost use Rattle.zy_replica_state.specs.Ready.{IsAskReady};
 
 use crate::checkpoints::{checkpoint, response};
 use crate::commits::commit;
@@ -17,7 +17,7 @@ use crate::holes::fill_hole;
 use crate::orders::hear_order;
 use crate::requests::hear_request;
 use zy_base::{Bytes, Cause, Items, Machine, Want};
-use zy_core::{Core, Moved};
+use zy_replica_state::{Core, Moved};
 use zy_frames::{Frame, OrderFrame};
 use zy_parts::{Ask, Check, Confirm, Hole, Order, Signed, Spec};
 

@@ -22,14 +22,14 @@ ghost use Rattle.zy_table.specs.State.{own_view, is_leaving, window_of, leaves_o
 ghost use Rattle.zy_table.specs.Deeds.{ends, send, act as acting};
 ghost use Rattle.zy_table.specs.Gathering.{own_with as own_by, with_own_spec, owes_check, state_in, signs_with as signs_by};
 ghost use Rattle.zy_table.specs.Running.{executed, without_pending, next_known, got_from, spec_of as spec_for, respond as respond_with, share as shared, answered, signs_of as signs_for, run_one as one_run, run_held as held_run, fits_end as fits, run as whole_run};
-ghost use Rattle.zy_core.specs.Ready.{IsAskReady, IsOrderReady, IsOwnReady};
+ghost use Rattle.zy_replica_state.specs.Ready.{IsAskReady, IsOrderReady, IsOwnReady};
 ghost use Rattle.zy_table.specs.Adopting.{IsGotInRange};
 
 use crate::gathering::gather;
 use zy_admit::{client_of, is_newer, request_digest_of};
 use zy_base::{Answer, Bytes, Digest, Machine, Place, Want};
 use zy_chain::next_head;
-use zy_core::{Core, Moved, Progress, bytes_copy, entry_of, own_with, signed_copy, spec_of};
+use zy_replica_state::{Core, Moved, Progress, bytes_copy, entry_of, own_with, signed_copy, spec_of};
 use zy_exec::Known;
 use zy_frames::OrderFrame;
 use zy_parts::{Ask, Order, Signed, Spec};

@@ -35,8 +35,8 @@ use Rattle.zy_table.specs.Gathering.{settled_at}
 use Rattle.zy_table.specs.Adopting.{taken_over, verdict_above, verdict_beside, verdict_of}
 use Rattle.zy_table.specs.Leaving.{goes}
 use Rattle.zy_table.specs.Beginning.{active_by, adopt, adopt_as, adopt_from, adopt_if, adoption_of, begin_view, certify, certify_with, respond_up_to, take_up}
-use Rattle.zy_core.proofs.AdoptLemmas.{adopts}
-use Rattle.zy_core.specs.Ready.{IsReady}
+use Rattle.zy_replica_state.proofs.AdoptLemmas.{adopts}
+use Rattle.zy_replica_state.specs.Ready.{IsReady}
 use Rattle.zy_replica_views.specs.Signing.{CanTake, signs_by}
 use Rattle.zy_replica_views.specs.Out.{out_of}
 

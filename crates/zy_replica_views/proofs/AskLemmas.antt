@@ -13,7 +13,7 @@ use Rattle.zy_table.specs.Beginning.{fetch_to}
 use Rattle.zy_table.specs.Deeds.{others}
 use Rattle.zy_table.specs.Sending.{CanBeSent}
 use Rattle.zy_table.specs.declared.deeds.Sent.{Sent}
-use Rattle.zy_core.proofs.OthersLemmas.{name, kept, others_next}
+use Rattle.zy_replica_state.proofs.OthersLemmas.{name, kept, others_next}
 
 abbrev pub asked_below : List (Signed Check) → ℕ → ℕ → List Party
 asked_below proof me n = filter (λ by. has_signer by proof) (others me n)

@@ -13,7 +13,7 @@ use Rattle.zy_table.specs.Deeds.{Going, act}
 use Rattle.zy_table.specs.Adopting.{checkpoints_between, common_with, gots_of, taken_over}
 use Rattle.zy_table.specs.Beginning.{active_by, begin_view, with_history}
 use Rattle.zy_table.specs.Gathering.{settled_at}
-use Rattle.zy_core.proofs.AdoptLemmas.{taken_interval}
+use Rattle.zy_replica_state.proofs.AdoptLemmas.{taken_interval}
 
 module _ {S : Type 0} (R : Rules S) (cert : ViewCert) (chosen : Chosen) (told : Told) (place : Place) (s : State S) where
   abbrev begun_as : Bool → State S

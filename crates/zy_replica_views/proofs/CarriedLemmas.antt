@@ -24,9 +24,9 @@ use Rattle.zy_table.specs.State.{State, own_view}
 use Rattle.zy_table.specs.Deeds.{Going}
 use Rattle.zy_table.specs.Leaving.{accept, give_new, leave_alone}
 use Rattle.zy_table.specs.Changes.{send_cert}
-use Rattle.zy_adopt.proofs.CommonLemmas.{head_within}
-use Rattle.zy_adopt.proofs.MeetLemmas.{takes_meets}
-use Rattle.zy_core.specs.Ready.{IsReady}
+use Rattle.zy_replica_adopt.proofs.CommonLemmas.{head_within}
+use Rattle.zy_replica_adopt.proofs.MeetLemmas.{takes_meets}
+use Rattle.zy_replica_state.specs.Ready.{IsReady}
 use Rattle.zy_replica_views.specs.Carrying.{carried, give, give_if, leave_if, send_if}
 use Rattle.zy_replica_views.specs.Ending.{TakesUp}
 use Rattle.zy_replica_views.specs.Entering.{CanEnter, view_after}

@@ -37,7 +37,7 @@ use Rattle.zy_table.specs.Adopting.{verdict_of}
 use Rattle.zy_table.specs.Leaving.{goes}
 use Rattle.zy_table.specs.Beginning.{adopt, finished}
 use Rattle.zy_table.specs.Confirming.{view_certificate}
-use Rattle.zy_core.specs.Ready.{IsReady}
+use Rattle.zy_replica_state.specs.Ready.{IsReady}
 use Rattle.zy_replica_views.proofs.FollowLemmas.{for_none, for_some, none_spent}
 use Rattle.zy_replica_views.specs.Follows.{IsSigner}
 use Rattle.zy_replica_views.specs.Ending.{IsCertOwed, finished_by, outcome_of}

@@ -14,7 +14,7 @@ use Rattle.zy_table.specs.State.{State}
 use Rattle.zy_table.specs.Deeds.{Going, Outcome, begin, refused}
 use Rattle.zy_table.specs.Beginning.{certify, finished}
 use Rattle.zy_table.specs.Confirming.{confirmation, with_confirmation}
-use Rattle.zy_core.specs.Ready.{IsReady}
+use Rattle.zy_replica_state.specs.Ready.{IsReady}
 use Rattle.zy_replica_views.proofs.FollowLemmas.{none_spent}
 use Rattle.zy_replica_views.specs.Follows.{IsSigner}
 use Rattle.zy_replica_views.specs.Ending.{IsBeganOwed, finished_by}

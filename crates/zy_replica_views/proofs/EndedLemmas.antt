@@ -33,7 +33,7 @@ use Rattle.zy_table.specs.Beginning.{adopt, adopt_as, adopt_from, adopt_if, begu
 use Rattle.zy_replica_views.proofs.FollowLemmas.{counted_first, spent_both}
 use Rattle.zy_replica_views.specs.Carrying.{attempted_as, carried, give, give_if, leave_if, send_if}
 use Rattle.zy_replica_views.specs.Follows.{Begins, Follows, IsBegun, IsSigner, spent_many}
-use Rattle.zy_adopt.specs.Meeting.{Meets}
+use Rattle.zy_replica_adopt.specs.Meeting.{Meets}
 use Rattle.zy_replica_views.specs.Ending.{IsSoFar, TakesUp, counted, ending, ending_as, finished_as, finished_by, verdict_on}
 use Rattle.zy_replica_views.specs.Signing.{CanTake, signs_taken, signs_waiting}
 use Rattle.zy_replica_views.proofs.SignLemmas.{taken_signs, waiting_signs}

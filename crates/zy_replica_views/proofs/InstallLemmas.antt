@@ -29,8 +29,8 @@ use Rattle.zy_table.specs.Adopting.{verdict_beside, verdict_of}
 use Rattle.zy_table.specs.Leaving.{concluded, goes}
 use Rattle.zy_table.specs.Beginning.{adopt, adopt_as, adopt_from, finished, take_up, wanted_of}
 use Rattle.zy_table.specs.Fetching.{install, installed, state_for, state_heard, state_judged, state_transfer}
-use Rattle.zy_adopt.proofs.CommonLemmas.{head_first, head_within}
-use Rattle.zy_adopt.proofs.MeetLemmas.{takes_meets}
+use Rattle.zy_replica_adopt.proofs.CommonLemmas.{head_first, head_within}
+use Rattle.zy_replica_adopt.proofs.MeetLemmas.{takes_meets}
 use Rattle.zy_replica_views.specs.Follows.{IsSigner}
 use Rattle.zy_replica_views.specs.Ending.{IsStableShown, counted}
 use Rattle.zy_replica_views.specs.Signing.{CanTake, signs_taken}

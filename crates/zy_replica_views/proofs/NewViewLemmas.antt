@@ -24,7 +24,7 @@ use Rattle.zy_table.specs.Deeds.{Going, Outcome, begin, refused}
 use Rattle.zy_table.specs.Leaving.{accept, leave_alone, report_of}
 use Rattle.zy_table.specs.Beginning.{arrive, certify, finished}
 use Rattle.zy_table.specs.Confirming.{new_view}
-use Rattle.zy_core.specs.Ready.{IsReady}
+use Rattle.zy_replica_state.specs.Ready.{IsReady}
 use Rattle.zy_replica_views.proofs.FollowLemmas.{for_none}
 use Rattle.zy_replica_views.specs.Follows.{IsSigner}
 use Rattle.zy_replica_views.specs.Ending.{IsNewOwed, confirmed, finished_by}

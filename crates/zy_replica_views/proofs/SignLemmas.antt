@@ -27,9 +27,9 @@ use Rattle.zy_table.specs.Gathering.{own_at, own_from, settled_at, state_in}
 use Rattle.zy_table.specs.Adopting.{checkpoints_between, taken_over}
 use Rattle.zy_table.specs.Leaving.{leave_alone}
 use Rattle.zy_table.specs.Beginning.{arrive, ask_each, asked_of, begin_view, fetch_said, kept_waiting, respond_at, respond_to, take_up, wait_for, wanted_of}
-use Rattle.zy_adopt.proofs.CommonLemmas.{head_there}
-use Rattle.zy_adopt.proofs.PlaceLemmas.{checkpoints_are, entry_within}
-use Rattle.zy_adopt.proofs.TakenLemmas.{taken_end}
+use Rattle.zy_replica_adopt.proofs.CommonLemmas.{head_there}
+use Rattle.zy_replica_adopt.proofs.PlaceLemmas.{checkpoints_are, entry_within}
+use Rattle.zy_replica_adopt.proofs.TakenLemmas.{taken_end}
 use Rattle.zy_replica_views.proofs.FollowLemmas.{none_spent, spent_both}
 use Rattle.zy_replica_views.specs.Follows.{spent_many}
 use Rattle.zy_replica_views.specs.Signing.{CanTake, signs_taken, signs_waiting, stable_then}

@@ -42,8 +42,8 @@ use Rattle.zy_table.specs.Adopting.{checkpoints_between, common_with, gots_of, t
 use Rattle.zy_table.specs.Leaving.{goes}
 use Rattle.zy_table.specs.Beginning.{active_by, finished, respond_up_to, take_up, wanted_of, with_history}
 use Rattle.zy_table.specs.Fetching.{install, installed, state_for, state_heard, state_judged, state_transfer}
-use Rattle.zy_core.proofs.AdoptLemmas.{provided, said, taken_interval, told_multiple, told_range}
-use Rattle.zy_core.specs.Ready.{IsReady, IsWaitingReady}
+use Rattle.zy_replica_state.proofs.AdoptLemmas.{provided, said, taken_interval, told_multiple, told_range}
+use Rattle.zy_replica_state.specs.Ready.{IsReady, IsWaitingReady}
 use Rattle.zy_replica_views.specs.Follows.{IsSigner}
 use Rattle.zy_replica_views.proofs.InstallLemmas.{installs}
 use Rattle.zy_replica_views.specs.Ending.{IsStableShown, counted}

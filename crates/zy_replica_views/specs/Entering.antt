@@ -28,7 +28,7 @@ use Rattle.zy_table.specs.Deeds.{Going, Outcome, ends}
 use Rattle.zy_table.specs.Adopting.{verdict_of}
 use Rattle.zy_table.specs.Leaving.{Attempt, goes}
 use Rattle.zy_table.specs.Beginning.{certify, confirms, fetch_said, wanted_of}
-use Rattle.zy_core.specs.Ready.{IsReady}
+use Rattle.zy_replica_state.specs.Ready.{IsReady}
 use Rattle.zy_replica_views.specs.Follows.{Follows, IsSigner}
 use Rattle.zy_replica_views.specs.Ending.{IsSoFar, verdict_on}
 use Rattle.zy_replica_views.specs.Signing.{signs_by, signs_taken}

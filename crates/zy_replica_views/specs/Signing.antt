@@ -9,7 +9,7 @@ use Rattle.zy_evidence.specs.Reading.{stretch_of}
 use Rattle.zy_table.specs.State.{State, own_view}
 use Rattle.zy_table.specs.Adopting.{checkpoints_between}
 use Rattle.zy_table.specs.Beginning.{fetch_said, wanted_of}
-use Rattle.zy_adopt.specs.Meeting.{Meets}
+use Rattle.zy_replica_adopt.specs.Meeting.{Meets}
 
 -- the stable place once the history of a report is taken up
 abbrev pub stable_then : {S : Type 0} → State S → Told → ℕ

@@ -22,7 +22,7 @@ use crate::beginning::take_up;
 use crate::waiting::{view_of, wait_for};
 use zy_base::{Answer, Machine, Want};
 use zy_change::Chosen;
-use zy_core::{Core, Moved, Progress};
+use zy_replica_state::{Core, Moved, Progress};
 use zy_vframes::ViewCert;
 
 /// The choice of a certificate is adopted, where it was judged that it is taken up or waits. There are leaves for all that

@@ -15,7 +15,7 @@ ghost use Rattle.zy_table.specs.Beginning.{begin_view as beginning, take_up as t
 use crate::responding::respond_up_to;
 use zy_base::{Machine, Want};
 use zy_change::Chosen;
-use zy_core::Progress;
+use zy_replica_state::Progress;
 use zy_vframes::ViewCert;
 
 /// The view of a certificate begins with its choice, which can be taken up: nothing is signed yet.

@@ -4,7 +4,7 @@ ghost use Rattle.std.specs.Prelude.{◌≡◌, IfOk};
 
 use std::alloc::Global;
 use zy_base::{Items, Want};
-use zy_core::bytes_copy;
+use zy_replica_state::bytes_copy;
 use zy_parts::{Began, Change, New, Signed};
 use zy_vframes::ViewCert;
 

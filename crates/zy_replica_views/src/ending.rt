@@ -11,7 +11,7 @@ use crate::judging::Ending;
 use zy_base::{Answer, Machine, Want};
 use crate::adopting::certify;
 use zy_change::Owed;
-use zy_core::{Moved, Progress};
+use zy_replica_state::{Moved, Progress};
 use crate::leaving::carry_out;
 
 /// A step ends with an answer; or with that of the view that begins, whose new view was confirmed.

@@ -22,14 +22,14 @@ ghost use Rattle.zy_table.specs.Deeds.{begin, ends};
 ghost use Rattle.zy_base.specs.declared.step.Answer.TheVariants.{Taken};
 ghost use Rattle.zy_replica_views.specs.Follows.{IsSigner};
 ghost use Rattle.zy_table.specs.Fetching.{fetch as fetch_row, installed, state_transfer as state_row};
-ghost use Rattle.zy_core.specs.Ready.{IsReady};
+ghost use Rattle.zy_replica_state.specs.Ready.{IsReady};
 ghost use Rattle.zy_replica_views.specs.Fetching.{Awaits, CanShow, IsAwaited, IsShownAt, against as cause_against, installed_as};
 
 use crate::judging::{checkpoints, is_signer};
 use zy_base::{Answer, Bytes, Cause, Machine, Place, View, Want};
 use crate::responding::respond_up_to;
 use zy_check::{StateFault, take_state};
-use zy_core::{Core, Moved, told_in};
+use zy_replica_state::{Core, Moved, told_in};
 use zy_exec::{Exec, InstallFault, showing};
 use zy_parts::{Fetch, Signed, Told};
 use zy_table::To;

@@ -5,17 +5,17 @@ ghost use Rattle.std.specs.Option.{ForSome};
 ghost use Rattle.zy_parts.specs.Reports.{IsToldInRange};
 ghost use Rattle.zy_table.specs.State.{leaves_of};
 ghost use Rattle.zy_table.specs.Adopting.{checkpoints_between};
-ghost use Rattle.zy_core.specs.Ready.{IsReady};
+ghost use Rattle.zy_replica_state.specs.Ready.{IsReady};
 ghost use Rattle.zy_replica_views.specs.Follows.{IsSigner};
 ghost use Rattle.zy_replica_views.specs.Ending.{verdict_on as verdict};
 ghost use Rattle.zy_replica_views.specs.Signing.{signs_taken as signs_to_take};
 ghost use Rattle.zy_replica_views.specs.Entering.{CanEnter, ending_by, ending_of, ending_with, signs_after, unless_spent as counted, view_after as view_then};
 
-use zy_adopt::judge;
+use zy_replica_adopt::judge;
 use zy_base::{Answer, Cause, Machine, Place, View, Want};
 use crate::waiting::wanted_of;
 use zy_change::{Adoption, Owed};
-use zy_core::Core;
+use zy_replica_state::Core;
 use zy_parts::Told;
 use zy_table::Verdict;
 

@@ -18,14 +18,14 @@ ghost use Rattle.zy_table.specs.State.{own_view, leaves_of, spent, stood_of};
 ghost use Rattle.zy_table.specs.Deeds.{act as acting, send_view as sending_view};
 ghost use Rattle.zy_table.specs.Leaving.{left_with, leave_alone as left_alone, sealed_change, sealed_new, give_new as given_new, accept as accepting};
 ghost use Rattle.zy_table.specs.Changes.{send_cert as sending_cert};
-ghost use Rattle.zy_core.specs.Ready.{IsKeptCert, IsReady};
+ghost use Rattle.zy_replica_state.specs.Ready.{IsKeptCert, IsReady};
 ghost use Rattle.zy_replica_views.specs.Carrying.{leave_if as left_if, sealed_began, give as giving, give_if as given_if, send_if as sent_if, carried};
 ghost use Rattle.zy_replica_views.specs.Follows.{CanCarry, IsChosenIn, signs_for};
 
 use crate::copies::{cert_copy, change_copy, new_copy, signed_change_copy, signed_new_copy};
 use zy_base::{Machine, Party, ReplicaId, View, Want};
 use zy_change::{Accepted, Chosen, Owed};
-use zy_core::{Core, Progress, signed_copy};
+use zy_replica_state::{Core, Progress, signed_copy};
 use zy_parts::{Began, Change, New, Signed};
 use zy_table::{Body, To};
 use zy_vframes::{ViewCert, ViewFrame};

@@ -17,7 +17,7 @@ use Rattle.zy_group.specs.declared.fault.GroupFault.TheVariants as faults
 use Rattle.zy_group.specs.declared.replay.ReplayGroup.{ReplayGroup}
 use Rattle.zy_world_setup.specs.Starting.{IsStart}
 use Rattle.zy_world_law.specs.Setup.{IsSetup, Setup}
-use Rattle.zy_words.specs.Calls.{exit_of_group_fault}
+use Rattle.zy_top_words.specs.Calls.{exit_of_group_fault}
 use Rattle.zy_top.specs.Replaying.{IsSetupRead}
 use Rattle.zy_group.specs.Counts.{plain_counts}
 use Rattle.zy_group.specs.Reading.{toml_of}

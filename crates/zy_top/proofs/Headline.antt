@@ -2,7 +2,7 @@
 use Rattle.std.proofs.Common.{ℕ, List, Option, Some, None, Result, Ok, Err}
 use Rattle.zy_edge.specs.Files.{Held, content_of}
 use Rattle.zy_top.specs.Replaying.{IsSafeCommand, IsSafeMake, IsSafeReplay}
-use Rattle.zy_words.specs.Words.{Command}
+use Rattle.zy_top_words.specs.Words.{Command}
 
 pub commands_are_safe : ((group schedule : List ℕ) → IsSafeReplay group schedule) → ((number asks : ℕ) → IsSafeMake number asks)
     → (told : Option Held) (asked : Result Command ℕ) → IsSafeCommand told asked

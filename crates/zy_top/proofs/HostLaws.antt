@@ -5,19 +5,19 @@ use Rattle.zy_edge.specs.Faults.{IsCounted, Rose}
 use Rattle.std.proofs.KnownBytes.{Keeps-refl}
 use Rattle.zy_edge.specs.Files.{Held, content_of}
 use Rattle.zy_edge.specs.declared.link.binding.Binding.{Binding}
-use Rattle.zy_hosting.specs.Calls.{is_hosting}
-use Rattle.zy_hosting.specs.Files.{Seat, asker_start}
-use Rattle.zy_hosting.specs.Hosted.{IsAskRun, Surroundings, files_verdict, is_end}
+use Rattle.zy_top_hosting.specs.Calls.{is_hosting}
+use Rattle.zy_top_hosting.specs.Files.{Seat, asker_start}
+use Rattle.zy_top_hosting.specs.Hosted.{IsAskRun, Surroundings, files_verdict, is_end}
 use Rattle.zy_table.specs.ClientState.{ClientState}
 use Rattle.zy_top.specs.Hosting.{AreBound, IsHosted}
 use Rattle.zy_tuple.specs.Bytes.{op_bytes}
-use Rattle.zy_words.proofs.Endings.{rose}
-use Rattle.zy_words.specs.Ends.{IsReport, Verdict, is_foreign, is_link_fault, is_read_fault, is_write_fault}
+use Rattle.zy_top_words.proofs.Endings.{rose}
+use Rattle.zy_top_words.specs.Ends.{IsReport, Verdict, is_foreign, is_link_fault, is_read_fault, is_write_fault}
 use Rattle.zy_base.specs.declared.ids.ClientId.{ClientId}
 use Rattle.zy_tuple.specs.declared.values.Op.{Op}
-use Rattle.zy_words.specs.Words.{Command, asked, op_alone}
-use Rattle.zy_words.specs.declared.exit.Exit.{Exit}
-use Rattle.zy_words.specs.declared.exit.Exit.TheVariants as exits
+use Rattle.zy_top_words.specs.Words.{Command, asked, op_alone}
+use Rattle.zy_top_words.specs.declared.exit.Exit.{Exit}
+use Rattle.zy_top_words.specs.declared.exit.Exit.TheVariants as exits
 
 -- ---- no report is due of files alone
 

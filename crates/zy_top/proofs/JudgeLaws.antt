@@ -11,13 +11,13 @@ use Rattle.zy_schedule.specs.declared.fault.ScheduleFault.TheVariants as faults
 use Rattle.zy_schedule.specs.declared.line.Line.{Line}
 use Rattle.zy_world_setup.specs.Starting.{IsStart}
 use Rattle.zy_world_law.specs.Setup.{Setup}
-use Rattle.zy_words.specs.Calls.{IsFileRead, IsReading, exit_of_fault, is_reading}
+use Rattle.zy_top_words.specs.Calls.{IsFileRead, IsReading, exit_of_fault, is_reading}
 use Rattle.zy_top.specs.Group.{group_of}
 use Rattle.zy_top.specs.Replaying.{IsGroupJudged, IsScheduleJudged, IsSetupRead, text_verdict}
-use Rattle.zy_words.specs.Ends.{IsAnswer, Verdict, limit}
+use Rattle.zy_top_words.specs.Ends.{IsAnswer, Verdict, limit}
 use Rattle.zy_top.specs.Verdict.{group_verdict, replay_verdict, schedule_verdict}
-use Rattle.zy_words.specs.declared.exit.Exit.{Exit}
-use Rattle.zy_words.specs.declared.exit.Exit.TheVariants as exits
+use Rattle.zy_top_words.specs.declared.exit.Exit.{Exit}
+use Rattle.zy_top_words.specs.declared.exit.Exit.TheVariants as exits
 
 -- ---- the group
 

@@ -18,20 +18,20 @@ use Rattle.zy_world_law.specs.Setup.{IsSetup, Setup}
 use Rattle.zy_world_law.specs.World.{World, start}
 use Rattle.zy_world_law.specs.declared.note.Note.{Note}
 use Rattle.zy_world_law.specs.declared.note.Note.TheVariants as notes
-use Rattle.zy_words.specs.Calls.{exit_of}
+use Rattle.zy_top_words.specs.Calls.{exit_of}
 use Rattle.zy_top.specs.Group.{made_setup}
 use Rattle.zy_top.specs.Replaying.{Adds, IsRunning, IsSummedUp, is_running}
-use Rattle.zy_hosting.specs.Lines.{is_fast}
+use Rattle.zy_top_hosting.specs.Lines.{is_fast}
 use Rattle.zy_top.specs.Telling.{agreed_of, is_done, is_done_fast, is_done_slow, is_refused, summary_of}
-use Rattle.zy_words.specs.Ends.{IsAnswer, IsOwnAnswer, IsReport, IsWritten, Verdict, is_write_fault}
+use Rattle.zy_top_words.specs.Ends.{IsAnswer, IsOwnAnswer, IsReport, IsWritten, Verdict, is_write_fault}
 use Rattle.zy_top.specs.Verdict.{make_verdict, sum_verdict, summed_up, what_broke}
-use Rattle.zy_words.specs.declared.exit.Broken.{Broken}
-use Rattle.zy_words.specs.declared.exit.Exit.{Exit}
-use Rattle.zy_words.specs.declared.exit.Exit.TheVariants as exits
+use Rattle.zy_top_words.specs.declared.exit.Broken.{Broken}
+use Rattle.zy_top_words.specs.declared.exit.Exit.{Exit}
+use Rattle.zy_top_words.specs.declared.exit.Exit.TheVariants as exits
 use Rattle.zy_top.specs.declared.tale.Tale.{Tale}
 use Rattle.zy_top.proofs.GroupLaws.{start_sets_up}
-use Rattle.zy_words.proofs.Endings.{rose}
-use Rattle.zy_words.proofs.Stops.{IsWritten-none}
+use Rattle.zy_top_words.proofs.Endings.{rose}
+use Rattle.zy_top_words.proofs.Stops.{IsWritten-none}
 
 -- ---- each completion is on one of two paths
 

@@ -4,14 +4,14 @@ use Rattle.zy_base.specs.Machine.{Rules}
 use Rattle.zy_world_law.specs.Events as events
 use Rattle.zy_world_law.specs.Runs.{End, Run}
 use Rattle.zy_world_law.specs.World.{World}
-use Rattle.zy_words.specs.Calls.{IsSent, exit_of}
+use Rattle.zy_top_words.specs.Calls.{IsSent, exit_of}
 use Rattle.zy_top.specs.Replaying.{Adds, IsRunning}
 use Rattle.zy_top.specs.Telling.{end_lines, note_lines}
-use Rattle.zy_words.specs.Ends.{IsAnswer, IsWritten, Verdict}
+use Rattle.zy_top_words.specs.Ends.{IsAnswer, IsWritten, Verdict}
 use Rattle.zy_top.specs.Verdict.{run_verdict, told_verdict, what_broke}
-use Rattle.zy_words.specs.declared.exit.Broken.{Broken}
-use Rattle.zy_words.specs.declared.exit.Exit.{Exit}
-use Rattle.zy_words.specs.declared.exit.Exit.TheVariants as exits
+use Rattle.zy_top_words.specs.declared.exit.Broken.{Broken}
+use Rattle.zy_top_words.specs.declared.exit.Exit.{Exit}
+use Rattle.zy_top_words.specs.declared.exit.Exit.TheVariants as exits
 use Rattle.zy_top.specs.declared.tale.Tale.{Tale}
 
 module _ {S : Type 0} (R : Rules S) (r : Run S) (old new : Tale) (none : old.tally.events ≡ 0) (empty : old.text.items ≡ []) (adds : Adds old new r.notes) where

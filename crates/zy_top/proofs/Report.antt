@@ -5,11 +5,11 @@ use Rattle.std.proofs.KnownBytes.{Appends-trans, Appends-nil}
 use Rattle.zy_tuple.specs.declared.values.Field.{Field}
 use Rattle.zy_tuple.specs.declared.values.Op.{Op}
 use Rattle.zy_space.specs.TupleSpace.{step}
-use Rattle.zy_words.specs.Calls.{IsSent}
-use Rattle.zy_words.specs.Ends.{AppendsFront}
+use Rattle.zy_top_words.specs.Calls.{IsSent}
+use Rattle.zy_top_words.specs.Ends.{AppendsFront}
 use Rattle.zy_top.specs.Verdict.{reply_line, report_from}
-use Rattle.zy_words.specs.declared.exit.Exit.{Exit}
-use Rattle.zy_words.specs.declared.exit.Exit.TheVariants as exits
+use Rattle.zy_top_words.specs.declared.exit.Exit.{Exit}
+use Rattle.zy_top_words.specs.declared.exit.Exit.TheVariants as exits
 
 -- what was taken, what stands in the buffer and what further operations reply make the report of all
 pub record Reported (before now : Option (List ℕ)) (ops : List Op) (buffer : List ℕ) (tuples : List (List Field)) (further : List Op) : Type 0 where

@@ -17,7 +17,7 @@ use Rattle.zy_world_law.specs.declared.note.Note.{Note}
 use Rattle.zy_top.specs.Replaying.{Adds, IsFar, IsPartRun, IsRun, IsTold, Passes, Stops, all_done, event_part}
 use Rattle.zy_top.specs.Telling.{is_done_fast, is_done_slow, is_refused, note_line, note_lines}
 use Rattle.zy_top.specs.Verdict.{what_broke}
-use Rattle.zy_words.specs.declared.exit.Broken.{Broken}
+use Rattle.zy_top_words.specs.declared.exit.Broken.{Broken}
 use Rattle.zy_top.specs.declared.running.Stop as stops
 use Rattle.zy_top.specs.declared.tale.Tale.{Tale}
 

@@ -3,13 +3,13 @@ use Rattle.std.specs.Prelude.{◌≡◌, ◌≢◌, ℕ, Bool, true, false, IsTr
 use Rattle.zy_base.specs.declared.ids.Party.TheVariants as parties
 use Rattle.zy_edge.specs.Files.{Held, content_of}
 use Rattle.zy_edge.specs.declared.link.binding.Binding.{Binding}
-use Rattle.zy_hosting.specs.Files.{asker_start, node_start}
-use Rattle.zy_hosting.specs.Hosted.{IsAskRun, IsBoundAs, IsNodeRun, Surroundings, TookAll, files_verdict, is_end}
+use Rattle.zy_top_hosting.specs.Files.{asker_start, node_start}
+use Rattle.zy_top_hosting.specs.Hosted.{IsAskRun, IsBoundAs, IsNodeRun, Surroundings, TookAll, files_verdict, is_end}
 use Rattle.zy_tuple.specs.Bytes.{op_bytes}
-use Rattle.zy_words.specs.Ends.{Verdict}
-use Rattle.zy_words.specs.Words.{Command}
-use Rattle.zy_words.specs.declared.exit.Exit.{Exit}
-use Rattle.zy_words.specs.declared.exit.Exit.TheVariants as exits
+use Rattle.zy_top_words.specs.Ends.{Verdict}
+use Rattle.zy_top_words.specs.Words.{Command}
+use Rattle.zy_top_words.specs.declared.exit.Exit.{Exit}
+use Rattle.zy_top_words.specs.declared.exit.Exit.TheVariants as exits
 
 abbrev pub is_hosted : Result Command ℕ → Bool
 is_hosted (Err word) = false

@@ -22,11 +22,11 @@ use Rattle.zy_world_law.specs.declared.event.WorldEvent.{WorldEvent}
 use Rattle.zy_world_law.specs.declared.note.Note.{Note}
 use Rattle.zy_top.specs.Group.{group_of, made_setup, setup_of}
 use Rattle.zy_top.specs.Telling.{is_done_fast, is_done_slow, is_refused, note_lines}
-use Rattle.zy_words.specs.Ends.{Verdict, limit}
+use Rattle.zy_top_words.specs.Ends.{Verdict, limit}
 use Rattle.zy_top.specs.Verdict.{replay_verdict, run_verdict, schedule_verdict, what_broke}
-use Rattle.zy_words.specs.Words.{Command}
-use Rattle.zy_words.specs.declared.exit.Exit.{Exit}
-use Rattle.zy_words.specs.declared.exit.Exit.TheVariants as exits
+use Rattle.zy_top_words.specs.Words.{Command}
+use Rattle.zy_top_words.specs.declared.exit.Exit.{Exit}
+use Rattle.zy_top_words.specs.declared.exit.Exit.TheVariants as exits
 use Rattle.zy_top.specs.declared.replayed.Replayed as replayed
 use Rattle.zy_top.specs.declared.running.Stop as stops
 use Rattle.zy_top.specs.declared.tale.Tale.{Tale}

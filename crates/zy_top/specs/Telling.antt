@@ -4,7 +4,7 @@ use Rattle.std.specs.Prelude.{ℕ, ◌+◌, Bool, true, false, not, List, [], �
 use Rattle.std.specs.List.{flat_map, range_with_len}
 use Rattle.zy_base.specs.Machine.{Rules}
 use Rattle.zy_chain.specs.Heads.{empty_head}
-use Rattle.zy_hosting.specs.Lines.{completion_line, is_fast, state_digest}
+use Rattle.zy_top_hosting.specs.Lines.{completion_line, is_fast, state_digest}
 use Rattle.zy_report.specs.Lines.{agreed_line, refused_line, replica_line, summary_line}
 use Rattle.zy_table.specs.State.{State, stood_of}
 use Rattle.zy_world_law.specs.Safe.{agreed_mark}

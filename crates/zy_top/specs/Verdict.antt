@@ -22,13 +22,13 @@ use Rattle.zy_world_law.specs.declared.note.Note.{Note}
 use Rattle.zy_top.specs.Group.{group_of, made_setup, setup_of}
 use Rattle.zy_top.specs.Keys.{key_file}
 use Rattle.zy_top.specs.Telling.{agreed_of, end_lines, note_lines, summary_of}
-use Rattle.zy_hosting.specs.Files.{asker_start, node_start}
-use Rattle.zy_hosting.specs.Hosted.{files_verdict}
-use Rattle.zy_words.specs.Ends.{Verdict, limit}
-use Rattle.zy_words.specs.Words.{Command, command_of}
-use Rattle.zy_words.specs.declared.exit.Broken.{Broken}
-use Rattle.zy_words.specs.declared.exit.Broken.TheVariants as broken
-use Rattle.zy_words.specs.declared.exit.Exit.TheVariants as exits
+use Rattle.zy_top_hosting.specs.Files.{asker_start, node_start}
+use Rattle.zy_top_hosting.specs.Hosted.{files_verdict}
+use Rattle.zy_top_words.specs.Ends.{Verdict, limit}
+use Rattle.zy_top_words.specs.Words.{Command, command_of}
+use Rattle.zy_top_words.specs.declared.exit.Broken.{Broken}
+use Rattle.zy_top_words.specs.declared.exit.Broken.TheVariants as broken
+use Rattle.zy_top_words.specs.declared.exit.Exit.TheVariants as exits
 
 -- a reply's text, and a line feed (10)
 abbrev pub reply_line : Reply → List ℕ

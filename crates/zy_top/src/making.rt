@@ -3,10 +3,10 @@ ghost use Rattle.std.specs.Prelude.{◌≡◌, ℕ, All, IfOk, ◌≤◌, length
 ghost use Rattle.zy_edge.specs.Faults.{IsCounted};
 ghost use Rattle.zy_schedule.specs.Texts.{IsSaid};
 ghost use Rattle.zy_world_setup.specs.Starting.{IsStart};
-ghost use Rattle.zy_words.specs.Calls.{exit_of};
+ghost use Rattle.zy_top_words.specs.Calls.{exit_of};
 ghost use Rattle.zy_top.specs.Group as groups;
 ghost use Rattle.zy_top.specs.Replaying.{IsRunning, IsSafeMake, IsSummedUp};
-ghost use Rattle.zy_words.specs.Ends.{IsAnswer, IsWritten, is_write_fault, limit};
+ghost use Rattle.zy_top_words.specs.Ends.{IsAnswer, IsWritten, is_write_fault, limit};
 ghost use Rattle.zy_top.specs.Verdict.{make_verdict, sum_verdict};
 ghost use Rattle.zy_world_law.specs.Runs.{run};
 ghost use Rattle.zy_world_law.specs.World.{start};
@@ -22,7 +22,7 @@ use zy_ots::OtsType;
 use zy_schedule::{Line, make};
 use zy_world_setup::Setup;
 use zy_space::Space;
-use zy_words::{Asks, Exit, write_all};
+use zy_top_words::{Asks, Exit, write_all};
 use zy_world::World;
 use zy_world_law::runs_are_safe;
 

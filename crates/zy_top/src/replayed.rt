@@ -3,9 +3,9 @@ ghost use Rattle.std.specs.Prelude.{◌≡◌, ◌≤◌, All, IfOk, length};
 ghost use Rattle.zy_edge.specs.Faults.{IsCounted};
 ghost use Rattle.zy_schedule.specs.Texts.{IsSaid};
 ghost use Rattle.zy_world_setup.specs.Starting.{IsStart};
-ghost use Rattle.zy_words.specs.Calls.{exit_of};
+ghost use Rattle.zy_top_words.specs.Calls.{exit_of};
 ghost use Rattle.zy_top.specs.Replaying.{IsRunning, verdict_in};
-ghost use Rattle.zy_words.specs.Ends.{IsAnswer, IsWritten, is_write_fault, limit};
+ghost use Rattle.zy_top_words.specs.Ends.{IsAnswer, IsWritten, is_write_fault, limit};
 ghost use Rattle.zy_top.specs.Verdict.{run_verdict};
 ghost use Rattle.zy_world_law.specs.Runs.{run};
 ghost use Rattle.zy_world_law.specs.World.{start};
@@ -17,7 +17,7 @@ use zy_base::{Machine, Want};
 use zy_edge::Sink;
 use zy_schedule::Line;
 use zy_world_setup::Setup;
-use zy_words::{Broken, Exit, write_all};
+use zy_top_words::{Broken, Exit, write_all};
 use zy_world::World;
 
 /// What is to be written.

@@ -4,9 +4,9 @@ ghost use Rattle.zy_edge.specs.Faults.{IsCounted};
 ghost use Rattle.zy_edge.specs.Files.{content_of};
 ghost use Rattle.zy_schedule.specs.Texts.{IsSaid};
 ghost use Rattle.zy_world_setup.specs.Starting.{IsStart};
-ghost use Rattle.zy_words.specs.Calls.{IsReading, exit_of, stops_reading};
+ghost use Rattle.zy_top_words.specs.Calls.{IsReading, exit_of, stops_reading};
 ghost use Rattle.zy_top.specs.Replaying.{IsGroupJudged, IsRunning, IsSafeReplay, IsScheduleJudged};
-ghost use Rattle.zy_words.specs.Ends.{IsAnswer, IsWritten, is_read_fault, is_foreign, is_refusal, is_write_fault, limit};
+ghost use Rattle.zy_top_words.specs.Ends.{IsAnswer, IsWritten, is_read_fault, is_foreign, is_refusal, is_write_fault, limit};
 ghost use Rattle.zy_top.specs.Verdict.{replay_verdict, run_verdict};
 ghost use Rattle.zy_space.specs.Service.{space_rules};
 ghost use Rattle.zy_world_law.specs.Runs.{run};
@@ -19,7 +19,7 @@ use zy_edge::{Files, Sink};
 use zy_schedule::{Line, read_schedule};
 use zy_world_setup::Setup;
 use zy_space::Space;
-use zy_words::{Exit, read_file};
+use zy_top_words::{Exit, read_file};
 use zy_world_law::runs_are_safe;
 
 /// Every world of a run that a group and a schedule tell of is safe, and the agreed list only grows.

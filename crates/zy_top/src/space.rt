@@ -3,7 +3,7 @@ ghost use Rattle.std.specs.Prelude.{◌≡◌, ◌++◌, [], All, IfOk};
 ghost use Rattle.zy_edge.specs.Faults.{IsCounted};
 ghost use Rattle.zy_space.specs.TupleSpace.{step};
 ghost use Rattle.zy_tuple.specs.Values.{IsOp};
-ghost use Rattle.zy_words.specs.Calls.{IsSent, stops_writing};
+ghost use Rattle.zy_top_words.specs.Calls.{IsSent, stops_writing};
 ghost use Rattle.zy_top.specs.Verdict.{reply_line, report_from};
 
 use std::alloc::Global;
@@ -11,7 +11,7 @@ use zy_base::{ClientId, Machine, Want};
 use zy_edge::Sink;
 use zy_space::Space;
 use zy_tuple::{Op, reply_text_put};
-use zy_words::{Exit, write_all};
+use zy_top_words::{Exit, write_all};
 
 /// The report is written whenever it has so many bytes, and at its end.
 const PIECE: usize = 16_384;

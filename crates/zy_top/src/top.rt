@@ -1,13 +1,13 @@
 ghost use Rattle.std.specs.Prelude.{◌≡◌, ◌↔◌, ◌⊎◌, ◌<◌, ℕ, false, Err, IfSome, IsTrue};
 ghost use Rattle.zy_edge.specs.Faults.{IsCounted, Rose};
 ghost use Rattle.zy_edge.specs.Files.{content_of};
-ghost use Rattle.zy_words.specs.Calls.{exit_of, IsSent, stops_writing};
-ghost use Rattle.zy_words.specs.Ends.{IsAnswer, IsOwnAnswer, IsReport, IsWritten, is_foreign, is_link_fault, is_read_fault, is_refusal, is_write_fault};
+ghost use Rattle.zy_top_words.specs.Calls.{exit_of, IsSent, stops_writing};
+ghost use Rattle.zy_top_words.specs.Ends.{IsAnswer, IsOwnAnswer, IsReport, IsWritten, is_foreign, is_link_fault, is_read_fault, is_refusal, is_write_fault};
 ghost use Rattle.zy_top.specs.Hosting.{AreBound, AreSpent, EndsItself, IsHosted, is_hosted};
 ghost use Rattle.zy_top.specs.Verdict.{own_verdict, space_verdict, verdict};
 ghost use Rattle.zy_top.specs.Keys.{key_file};
 ghost use Rattle.zy_top.specs.Replaying.{IsSafeCommand};
-ghost use Rattle.zy_words.specs.Words.{command_of, texts};
+ghost use Rattle.zy_top_words.specs.Words.{command_of, texts};
 
 use crate::keys::key_file;
 use crate::making::{made_runs_are_safe, run_make};
@@ -16,10 +16,10 @@ use crate::space::run_script;
 use std::alloc::Global;
 use zy_base::Party;
 use zy_edge::{Clock, Files, Link, Sink};
-use zy_hosting::{run_ask, run_node};
+use zy_top_hosting::{run_ask, run_node};
 use zy_lms::Height;
 use zy_schedule::read_script;
-use zy_words::{Command, Exit, OpFault, command_of, op_read_alone, read_file, write_all};
+use zy_top_words::{Command, Exit, OpFault, command_of, op_read_alone, read_file, write_all};
 
 /// Runs the command that the words ask for. Words are judged first, then the file that they name, whole, and
 /// nothing is written before.

@@ -32,7 +32,7 @@ use Rattle.zy_evidence.specs.declared.rule.Rule.{Rule}
 use Rattle.zy_exec.specs.Replay.{Point}
 use Rattle.zy_exec.specs.Showing.{point_in}
 use Rattle.zy_frames.specs.declared.frame.OrderFrame.{OrderFrame}
-use Rattle.zy_lawful.proofs.Own.{by_test}
+use Rattle.zy_law_normal.proofs.Own.{by_test}
 use Rattle.zy_parts.specs.declared.reports.Began.{Began}
 use Rattle.zy_parts.specs.declared.reports.Change.{Change}
 use Rattle.zy_parts.specs.declared.reports.Fetch.{Fetch}

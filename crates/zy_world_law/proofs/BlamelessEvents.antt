@@ -21,8 +21,8 @@ use Rattle.zy_base.specs.declared.step.TimerKind.{TimerKind}
 use Rattle.zy_base.specs.declared.step.TimerKind.TheVariants as timers
 use Rattle.zy_frames.specs.Frames as plain
 use Rattle.zy_frames.specs.declared.frame.Frame.{Frame}
-use Rattle.zy_lawful.proofs.Goes.{all_of_front}
-use Rattle.zy_lawful.proofs.Own.{by_test}
+use Rattle.zy_law_normal.proofs.Goes.{all_of_front}
+use Rattle.zy_law_normal.proofs.Own.{by_test}
 use Rattle.zy_parts.specs.declared.signed.Part.{Part}
 use Rattle.zy_seal.specs.Screening.{answer_to, is_bad, is_unknown, screen}
 use Rattle.std.specs.List.{list_any}

@@ -20,7 +20,7 @@ use Rattle.zy_frames.specs.Frames.{frame_in}
 use Rattle.zy_frames.specs.declared.frame.Frame.{Frame}
 use Rattle.zy_frames.specs.declared.frame.Frame.TheVariants as frames
 use Rattle.zy_law.specs.World.{Statement}
-use Rattle.zy_lawful.specs.Tied.{IsVouchedBy}
+use Rattle.zy_law_normal.specs.Tied.{IsVouchedBy}
 use Rattle.zy_parts.specs.Numbers as numbers
 use Rattle.zy_parts.specs.Signing.{part_of, text_of}
 use Rattle.zy_parts.specs.Statements.{local_fields}
@@ -60,7 +60,7 @@ use Rattle.zy_world_law.proofs.HonestEvents.{same_heard}
 use Rattle.zy_world_law.proofs.KeptOrHeard.{IsSame, Comes, Tells, kept_or_brought, step_same, waited_before, completed_reply}
 use Rattle.zy_world_law.proofs.KeptTexts.{IsKeeping}
 use Rattle.zy_world_law.proofs.NotForged.{parts_said}
-use Rattle.zy_lawful.proofs.Goes.{all_of_both}
+use Rattle.zy_law_normal.proofs.Goes.{all_of_both}
 use Rattle.zy_world_law.proofs.Vouched.{part_vouched}
 
 abbrev local_at : View × Place × Digest → Statement

@@ -9,8 +9,8 @@ use Rattle.zy_chain.specs.declared.entry.Entry.{Entry}
 use Rattle.zy_law.proofs.GrownLemmas.{vouched_grown, backed_grown}
 use Rattle.zy_law.specs.Steps.{grown}
 use Rattle.zy_law.specs.World.{Spoken, Stand, Statement, World}
-use Rattle.zy_lawful.specs.Acts.{spec_statement}
-use Rattle.zy_lawful.specs.Tied.{IsVouchedBy}
+use Rattle.zy_law_normal.specs.Acts.{spec_statement}
+use Rattle.zy_law_normal.specs.Tied.{IsVouchedBy}
 use Rattle.zy_parts.specs.declared.signed.Signed.{Signed}
 use Rattle.zy_parts.specs.declared.statements.Local.{Local}
 use Rattle.zy_table.specs.declared.client.Commit.{Commit}

@@ -20,9 +20,9 @@ use Rattle.zy_law.specs.Completed.{IsCompleted}
 use Rattle.zy_law.specs.Completed.IsCompleted.{fast, slow}
 use Rattle.zy_law.specs.Said.{IsVouched, IsBacked}
 use Rattle.zy_law.specs.World.{Statement}
-use Rattle.zy_lawful.proofs.Backing.{all_from, signed_backed}
-use Rattle.zy_lawful.specs.Acts.{spec_statement}
-use Rattle.zy_lawful.specs.Tied.{IsVouchedBy}
+use Rattle.zy_law_normal.proofs.Backing.{all_from, signed_backed}
+use Rattle.zy_law_normal.specs.Acts.{spec_statement}
+use Rattle.zy_law_normal.specs.Tied.{IsVouchedBy}
 use Rattle.zy_parts.specs.Numbers as numbers
 use Rattle.zy_parts.specs.Signing.{text_of}
 use Rattle.zy_parts.specs.Statements.{spec_fields}
@@ -47,7 +47,7 @@ use Rattle.zy_world_law.proofs.Agreeing.{Picked, picked, rising_differ}
 use Rattle.zy_world_law.proofs.HeldLaw.{HeldLaw}
 use Rattle.zy_world_law.proofs.KeptOrHeard.{IsSame}
 use Rattle.zy_world_law.proofs.Seats.{seat_of}
-use Rattle.zy_lawful.proofs.Goes.{all_of_both}
+use Rattle.zy_law_normal.proofs.Goes.{all_of_both}
 use Rattle.zy_world_law.proofs.Vouched.{text_vouched}
 
 -- ---- what a response to a client that there may be says

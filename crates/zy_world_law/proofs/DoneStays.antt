@@ -8,7 +8,7 @@ use Rattle.zy_table.specs.declared.client.Done.{Done}
 use Rattle.zy_world_law.specs.Events.{with_done}
 use Rattle.zy_world_law.specs.Good.{IsGood, IsDone}
 use Rattle.zy_world_law.specs.World.{World, Completed}
-use Rattle.zy_lawful.proofs.Goes.{all_of_both}
+use Rattle.zy_law_normal.proofs.Goes.{all_of_both}
 
 module _ {S : Type 0} (R : Rules S) (w : World S) (good : IsGood R w) (id : ClientId) (o : Option Done) (is_done : (d : Done) → o ≡ Some d → IsDone R w (record { client = id; done = d })) where
   abbrev w' : World S

@@ -17,8 +17,8 @@ use Rattle.zy_frames.specs.Frames.{parts_of}
 use Rattle.zy_frames.specs.declared.frame.Frame.{Frame}
 use Rattle.zy_frames.specs.declared.frame.Frame.TheVariants as frames
 use Rattle.zy_law.specs.World.{Statement}
-use Rattle.zy_lawful.proofs.Backing.{all_from, all_listed}
-use Rattle.zy_lawful.specs.Tied.{MayRun}
+use Rattle.zy_law_normal.proofs.Backing.{all_from, all_listed}
+use Rattle.zy_law_normal.specs.Tied.{MayRun}
 use Rattle.zy_law_steps.specs.Heard.{IsEventHeld, IsFrameHeld}
 use Rattle.zy_parts.specs.Exact.{ask-in_range}
 use Rattle.zy_parts.specs.Numbers as numbers

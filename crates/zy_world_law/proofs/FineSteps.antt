@@ -4,7 +4,7 @@ use Rattle.std.specs.List.{AllByRecursion}
 use Rattle.zy_base.specs.Machine.{Rules}
 use Rattle.zy_base.specs.declared.step.Event.{Event}
 use Rattle.zy_chain.specs.declared.entry.Entry.{Entry}
-use Rattle.zy_lawful.specs.Acts.{stands_in}
+use Rattle.zy_law_normal.specs.Acts.{stands_in}
 use Rattle.zy_law_steps.specs.Whole as whole
 use Rattle.zy_law_steps.specs.Whole.{IsEventHonest}
 use Rattle.zy_law_steps.specs.Spelled.{FitAll, IsSpelled}

@@ -4,8 +4,8 @@ use Rattle.std.specs.Prelude.{IfSome}
 use Rattle.std.specs.List.{AllByRecursion, flat_map}
 use Rattle.std.proofs.lemmas.List.Concat.{flat_map-cons}
 use Rattle.zy_base.specs.Machine.{Rules}
-use Rattle.zy_lawful.proofs.Goes.{all_of_front, all_of_rest}
-use Rattle.zy_lawful.specs.Tied.{IsGained}
+use Rattle.zy_law_normal.proofs.Goes.{all_of_front, all_of_rest}
+use Rattle.zy_law_normal.specs.Tied.{IsGained}
 use Rattle.zy_law_steps.specs.Gains.{AreGainsKept, IsGainKept}
 use Rattle.zy_table.specs.Deeds.{gains_in}
 use Rattle.zy_table.specs.declared.deeds.Act.{Act}

@@ -13,7 +13,7 @@ use Rattle.zy_client.specs.Held.{Holds}
 use Rattle.zy_law_steps.specs.Whole.{IsEventHonest}
 use Rattle.zy_parts.specs.declared.signed.Signed.{Signed}
 use Rattle.zy_parts.specs.declared.statements.Ask.{Ask}
-use Rattle.zy_lawful.proofs.Goes.{all_of_front, all_of_rest}
+use Rattle.zy_law_normal.proofs.Goes.{all_of_front, all_of_rest}
 use Rattle.zy_table.specs.ClientRows.{kept_of}
 use Rattle.zy_table.specs.ClientState.{ClientOutcome, client_outgoing}
 use Rattle.zy_table.specs.Deeds.{outgoing_of}

@@ -16,9 +16,9 @@ use Rattle.zy_chain.specs.Fields.{entry-in_range, entry_fields}
 use Rattle.zy_chain.specs.Heads.{head_after}
 use Rattle.zy_chain.specs.declared.entry.Entry.{Entry}
 use Rattle.zy_law.specs.Histories.{AreKept}
-use Rattle.zy_lawful.proofs.Backing.{all_from, all_listed}
-use Rattle.zy_lawful.proofs.Goes.{all_of_both, all_of_front, all_of_rest}
-use Rattle.zy_lawful.specs.Tied.{next_head}
+use Rattle.zy_law_normal.proofs.Backing.{all_from, all_listed}
+use Rattle.zy_law_normal.proofs.Goes.{all_of_both, all_of_front, all_of_rest}
+use Rattle.zy_law_normal.specs.Tied.{next_head}
 use Rattle.zy_parts.specs.Numbers as numbers
 use Rattle.zy_parts.specs.Reports.{began_fields}
 use Rattle.zy_parts.specs.Signing.{part_of}

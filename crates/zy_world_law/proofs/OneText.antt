@@ -14,7 +14,7 @@ use Rattle.zy_chain.specs.Heads.{head_after}
 use Rattle.zy_chain.specs.declared.entry.Entry.{Entry}
 use Rattle.zy_exec.specs.Installed.{IsRunnable}
 use Rattle.zy_law.specs.Histories.{HaveOneText}
-use Rattle.zy_lawful.specs.Tied.{next_head}
+use Rattle.zy_law_normal.specs.Tied.{next_head}
 use Rattle.zy_law_views.specs.Texts.{IsLink}
 use Rattle.zy_wire.proofs.Parts.{whole_again, ok_is}
 use Rattle.zy_wire.specs.Spelling.{whole}

@@ -8,8 +8,8 @@ use Rattle.zy_law.proofs.ProvenStates.{proven_state}
 use Rattle.zy_law.specs.Histories.{Passes}
 use Rattle.zy_law.specs.Said.{IsBacked, Moment}
 use Rattle.zy_law.specs.World.{World}
-use Rattle.zy_lawful.specs.Acts.{check_statement}
-use Rattle.zy_lawful.specs.Tied.{IsCheckpointOf, next_head, state_of}
+use Rattle.zy_law_normal.specs.Acts.{check_statement}
+use Rattle.zy_law_normal.specs.Tied.{IsCheckpointOf, next_head, state_of}
 use Rattle.zy_parts.specs.declared.statements.Check.{Check}
 use Rattle.zy_table.specs.State.{State}
 use Rattle.zy_law_views.proofs.Backing.{cert_backed}

@@ -18,8 +18,8 @@ use Rattle.zy_law.specs.Lawful.{IsLawful}
 use Rattle.zy_law.specs.Steps.{IsGrown, grown}
 use Rattle.zy_law.specs.World as law
 use Rattle.zy_law.specs.World.{Stand}
-use Rattle.zy_lawful.proofs.TieLemmas.{lists_after}
-use Rattle.zy_lawful.specs.Acts.{world_after, history_after, spoken_in, stands_in, with_more}
+use Rattle.zy_law_normal.proofs.TieLemmas.{lists_after}
+use Rattle.zy_law_normal.specs.Acts.{world_after, history_after, spoken_in, stands_in, with_more}
 use Rattle.zy_law_steps.proofs.WholeSteps.{ready_after}
 use Rattle.zy_law_steps.specs.Whole as whole
 use Rattle.zy_law_steps.specs.Spelled.{FitAll, IsSpelled}

@@ -34,7 +34,7 @@ use Rattle.zy_check.specs.declared.kept.Kept.TheVariants as answers
 use Rattle.zy_exec.specs.Kept.{known_in, last_place, stretch_of}
 use Rattle.zy_exec.specs.declared.known.Known.{Known}
 use Rattle.zy_frames.specs.declared.frame.OrderFrame.{OrderFrame}
-use Rattle.zy_lawful.proofs.Own.{by_test}
+use Rattle.zy_law_normal.proofs.Own.{by_test}
 use Rattle.zy_parts.specs.declared.signed.Signed.{Signed}
 use Rattle.zy_parts.specs.declared.statements.Ask.{Ask}
 use Rattle.zy_parts.specs.declared.statements.Check.{Check}

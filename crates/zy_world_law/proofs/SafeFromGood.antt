@@ -25,9 +25,9 @@ use Rattle.zy_law.specs.Lawful.{AreAskedFor}
 use Rattle.zy_law.specs.Lists.{IsListOf, IsKnown}
 use Rattle.zy_law.specs.Said.{Moment}
 use Rattle.zy_law.specs.World as law
-use Rattle.zy_lawful.proofs.Backing.{all_from}
-use Rattle.zy_lawful.proofs.Records.{answer_longer}
-use Rattle.zy_lawful.specs.Tied.{next_head}
+use Rattle.zy_law_normal.proofs.Backing.{all_from}
+use Rattle.zy_law_normal.proofs.Records.{answer_longer}
+use Rattle.zy_law_normal.specs.Tied.{next_head}
 use Rattle.zy_world_law.specs.Events.{history_of}
 use Rattle.zy_world_law.specs.Good.{IsGood, IsDone, IsKept}
 use Rattle.zy_world_law.specs.Safe.{IsSafe, IsResult, IsAgreed, IsReplay, HasStable, Grows, completion_of, completions_of, mark_of}

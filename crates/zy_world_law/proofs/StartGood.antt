@@ -12,7 +12,7 @@ use Rattle.zy_law.specs.Counting.{count_below}
 use Rattle.zy_law.specs.Said.{IsCorrect}
 use Rattle.zy_law.specs.Steps.{IsStart}
 use Rattle.zy_law.specs.World as law
-use Rattle.zy_lawful.specs.Tied.{Agrees}
+use Rattle.zy_law_normal.specs.Tied.{Agrees}
 use Rattle.zy_law_steps.proofs.AtStart.{ready_at_start, texts_at_start, work_at_start}
 use Rattle.zy_seal.specs.Sealing.{SealerState}
 use Rattle.zy_world_law.specs.Good.{IsGood, IsTied, IsClientTied}

@@ -14,8 +14,8 @@ use Rattle.zy_base.specs.declared.step.Event.{Event}
 use Rattle.zy_law_views.specs.Steps.{IsLawfulStep, IsWorldOf}
 use Rattle.zy_chain.specs.declared.entry.Entry.{Entry}
 use Rattle.zy_law.specs.World.{World}
-use Rattle.zy_lawful.specs.Acts.{statement_by}
-use Rattle.zy_lawful.specs.Tied.{IsGained}
+use Rattle.zy_law_normal.specs.Acts.{statement_by}
+use Rattle.zy_law_normal.specs.Tied.{IsGained}
 use Rattle.zy_law_steps.specs.Gains.{AreGainsKept}
 use Rattle.zy_law_steps.specs.Whole.{IsEventHonest, history_of}
 use Rattle.zy_seal.specs.Keys.{Keys}

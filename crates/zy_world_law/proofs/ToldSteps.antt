@@ -3,7 +3,7 @@ use Rattle.std.proofs.Common.{◌≡◌, ◌≢◌, ℕ, zero, suc, ◌+◌, ◌
 use Rattle.std.specs.Prelude.{slice_get}
 use Rattle.zy_base.specs.declared.ids.Party.{Party}
 use Rattle.zy_law.specs.World.{Spoken, Stand, Statement}
-use Rattle.zy_lawful.specs.Acts.{spoken_in, spoken_at, with_more}
+use Rattle.zy_law_normal.specs.Acts.{spoken_in, spoken_at, with_more}
 use Rattle.zy_law_steps.specs.Spelled.{FitAll}
 use Rattle.zy_table.specs.Deeds.{said_from}
 use Rattle.zy_table.specs.declared.deeds.Act.{Act}

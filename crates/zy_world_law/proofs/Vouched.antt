@@ -9,7 +9,7 @@ use Rattle.zy_base.specs.declared.ids.Party.TheVariants as parties
 use Rattle.zy_evidence.specs.Reading.{number_of_party}
 use Rattle.zy_law.specs.Said.{HasSaid, IsVouched}
 use Rattle.zy_law.specs.World.{Statement}
-use Rattle.zy_lawful.specs.Tied.{IsVouchedBy}
+use Rattle.zy_law_normal.specs.Tied.{IsVouchedBy}
 use Rattle.zy_parts.specs.declared.signed.Part.{Part}
 use Rattle.zy_seal.specs.Checking.{answer_under}
 use Rattle.zy_seal.specs.Screening.{answer_to}

@@ -17,7 +17,7 @@ use Rattle.zy_base.specs.declared.step.TimerKind.{TimerKind}
 use Rattle.zy_base.specs.declared.step.TimerKind.TheVariants as timers
 use Rattle.zy_chain.specs.declared.entry.Entry.{Entry}
 use Rattle.zy_law.specs.World.{Stand}
-use Rattle.zy_lawful.specs.Acts.{stands_in}
+use Rattle.zy_law_normal.specs.Acts.{stands_in}
 use Rattle.zy_lms.specs.Height.{levels_of}
 use Rattle.zy_table.specs.ClientRows.{ask, client_step}
 use Rattle.zy_table.specs.ClientState.{ClientState, ClientOutcome, client_outgoing, spoken_of, is_waiting}

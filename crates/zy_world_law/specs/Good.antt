@@ -9,8 +9,8 @@ use Rattle.zy_law.specs.Completed.{IsCompleted}
 use Rattle.zy_law.specs.Lawful.{IsLawful}
 use Rattle.zy_law.specs.Said.{IsBacked}
 use Rattle.zy_law.specs.World as law
-use Rattle.zy_lawful.specs.Acts.{spec_statement}
-use Rattle.zy_lawful.specs.Tied.{IsVouchedBy}
+use Rattle.zy_law_normal.specs.Acts.{spec_statement}
+use Rattle.zy_law_normal.specs.Tied.{IsVouchedBy}
 use Rattle.zy_parts.specs.Numbers as numbers
 use Rattle.zy_parts.specs.Signing.{text_of}
 use Rattle.zy_parts.specs.Statements.{spec_fields}

@@ -12,8 +12,8 @@ use Rattle.zy_law.specs.Completed.{Completion, IsAgreedList}
 use Rattle.zy_law.specs.Histories.{Passes, IsEntryAt, IsFront}
 use Rattle.zy_law.specs.Said.{IsBacked}
 use Rattle.zy_law.specs.World as law_world
-use Rattle.zy_lawful.specs.Acts.{check_statement}
-use Rattle.zy_lawful.specs.Tied.{next_head, IsCheckpointOf}
+use Rattle.zy_law_normal.specs.Acts.{check_statement}
+use Rattle.zy_law_normal.specs.Tied.{next_head, IsCheckpointOf}
 use Rattle.zy_parts.specs.declared.statements.Check.{Check}
 use Rattle.zy_world_law.specs.Events.{history_of}
 use Rattle.zy_world_law.specs.Seen.{seen, asked_by}

@@ -8,7 +8,7 @@ use Rattle.zy_chain.specs.Entries.{digest_of_entry}
 use Rattle.zy_chain.specs.declared.entry.Entry.{Entry}
 use Rattle.zy_law.specs.World as law
 use Rattle.zy_law.specs.World.{Stand}
-use Rattle.zy_lawful.specs.Tied.{next_head, last_reply, state_of}
+use Rattle.zy_law_normal.specs.Tied.{next_head, last_reply, state_of}
 use Rattle.zy_parts.specs.Numbers as numbers
 use Rattle.zy_parts.specs.Statements.{ask_fields, entry_of}
 use Rattle.zy_parts.specs.declared.statements.Ask.{Ask}

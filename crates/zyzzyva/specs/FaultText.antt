@@ -1,9 +1,9 @@
 -- What the program writes on standard error.
 use Rattle.std.specs.Prelude.{ℕ, List, [], ◌++◌, codes, decimal, Option, Some, None}
-use Rattle.zy_words.specs.declared.exit.Broken.{Broken}
-use Rattle.zy_words.specs.declared.exit.Broken.TheVariants.{Forged, Clash}
-use Rattle.zy_words.specs.declared.exit.Exit.{Exit}
-use Rattle.zy_words.specs.declared.exit.Exit.TheVariants.{Done, Usage, ReadFault, WriteFault, Text, Group, Premise, LinkFault, Want, TurnsSpent, TooLong}
+use Rattle.zy_top_words.specs.declared.exit.Broken.{Broken}
+use Rattle.zy_top_words.specs.declared.exit.Broken.TheVariants.{Forged, Clash}
+use Rattle.zy_top_words.specs.declared.exit.Exit.{Exit}
+use Rattle.zy_top_words.specs.declared.exit.Exit.TheVariants.{Done, Usage, ReadFault, WriteFault, Text, Group, Premise, LinkFault, Want, TurnsSpent, TooLong}
 
 abbrev pub broken_text : Broken → List ℕ
 broken_text Forged = codes "forged"

@@ -1,9 +1,9 @@
 ghost use Rattle.std.specs.Prelude.{◌≡◌, Some, option_map};
-ghost use Rattle.zy_words.specs.Ends.{status_of};
+ghost use Rattle.zy_top_words.specs.Ends.{status_of};
 ghost use Rattle.zyzzyva.specs.FaultText.{broken_text, fault_text, error_line};
 
 use std::fmt;
-use zy_words::{Broken, Exit};
+use zy_top_words::{Broken, Exit};
 
 /// The text of an exit on standard error, empty for `Done`.
 #[derive(Clone, Copy)]

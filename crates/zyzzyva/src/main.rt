@@ -9,7 +9,7 @@ use std::process::ExitCode;
 use words::words;
 use zy_edge::{RealClock, RealFiles, StdSink, UdpLink};
 use zy_top::zyzzyva;
-use zy_words::Exit;
+use zy_top_words::Exit;
 
 fn main(rt: HostRuntime) -> ExitCode {
     let exit = match words(&rt, rt.alloc()) {

@@ -1,5 +1,5 @@
 use Rattle.std.proofs.Common.{refl, sym, add-one}
-use Rattle.zy_core.proofs.OthersLemmas.{others_next}
+use Rattle.zy_replica_state.proofs.OthersLemmas.{others_next}
 use Rattle.zy_replica.proofs.outcome.others_of.Goals as goal
 
 pub loop-id-preserved : goal.loop-id-preserved

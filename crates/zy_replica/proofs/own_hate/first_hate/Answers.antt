@@ -2,7 +2,7 @@ use Rattle.std.proofs.Common.{◌≡◌, ◌≤◌, ◌+◌, ℕ, IfOk, ◌∙�
 use Rattle.zy_table.specs.State.{State}
 use Rattle.zy_table.specs.Deeds.{Going, Outcome}
 use Rattle.zy_table.specs.Hates.{hate_from}
-use Rattle.zy_core.specs.Ready.{IsReady}
+use Rattle.zy_replica_state.specs.Ready.{IsReady}
 use Rattle.zy_replica_views.specs.Follows.{IsSigner}
 use Rattle.zy_replica_views.specs.Entering.{ending_of}
 use Rattle.zy_replica_views.proofs.StepLemmas.{signs_within, step_refused}

@@ -7,7 +7,7 @@ use Rattle.zy_table.specs.State.{leaves_of}
 use Rattle.zy_table.specs.Deeds.{Going, Outcome}
 use Rattle.zy_table.specs.Adopting.{checkpoints_between, verdict_of}
 use Rattle.zy_table.specs.Leaving.{goes}
-use Rattle.zy_core.specs.Ready.{IsReady}
+use Rattle.zy_replica_state.specs.Ready.{IsReady}
 use Rattle.zy_replica_views.specs.Signing.{signs_by}
 use Rattle.zy_replica_views.proofs.SignLemmas.{begun_stable}
 use Rattle.zy_replica_views.proofs.AdoptingLemmas.{adopts_as, can_take, waits_above}

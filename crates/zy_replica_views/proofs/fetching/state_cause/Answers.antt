@@ -1,6 +1,6 @@
 use Rattle.std.proofs.Common.{◌∙◌, ap}
 use Rattle.zy_change.specs.Views.{Views}
-use Rattle.zy_core.proofs.AdoptLemmas.{provided}
+use Rattle.zy_replica_state.proofs.AdoptLemmas.{provided}
 use Rattle.zy_replica_views.proofs.StateLemmas.{heard_cause}
 use Rattle.zy_replica_views.proofs.fetching.state_cause.Goals as goal
 

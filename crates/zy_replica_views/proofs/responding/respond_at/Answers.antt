@@ -1,7 +1,7 @@
 use Rattle.std.proofs.Common.{sym, ap, ◌∙◌}
 use Rattle.zy_table.specs.Deeds.{Going}
 use Rattle.zy_table.specs.State.{is_leaving}
-use Rattle.zy_core.proofs.SpecLemmas.{own_spec}
+use Rattle.zy_replica_state.proofs.SpecLemmas.{own_spec}
 use Rattle.zy_replica_views.proofs.responding.respond_at.Goals as goal
 
 pub respond_own-requires-clause-spec : goal.respond_own-requires-clause-spec

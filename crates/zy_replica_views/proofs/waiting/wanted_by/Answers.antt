@@ -1,6 +1,6 @@
 use Rattle.std.proofs.Common.{◌≡◌, ◌<◌, ap, arith}
 use Rattle.zy_change.proofs.AcceptedLemmas.{accepted_provider}
-use Rattle.zy_core.proofs.AdoptLemmas.{provided}
+use Rattle.zy_replica_state.proofs.AdoptLemmas.{provided}
 use Rattle.zy_replica_views.proofs.AdoptingLemmas.{told_in_range}
 use Rattle.zy_replica_views.proofs.waiting.wanted_by.Goals as goal
 

@@ -1,9 +1,9 @@
 use Rattle.std.proofs.Common.{◌≤◌, Err, refl, arith}
 use Rattle.std.proofs.lemmas.Result.{err_from_is_err_and}
-use Rattle.zy_words.specs.declared.exit.Exit.TheVariants as exits
+use Rattle.zy_top_words.specs.declared.exit.Exit.TheVariants as exits
 use Rattle.zy_top.proofs.MadeRuns.{made_summed, summed_answers, summed_counts, summed_runs, summed_writes}
 use Rattle.zy_top.proofs.ReplayLaws.{sent_answers, sent_writes}
-use Rattle.zy_words.proofs.Stops.{IsWritten-none}
+use Rattle.zy_top_words.proofs.Stops.{IsWritten-none}
 use Rattle.zy_top.proofs.making.run_make.Goals as goal
 
 pub run_made-requires-clause-few : goal.run_made-requires-clause-few

@@ -2,9 +2,9 @@ use Rattle.std.proofs.Common.{◌∙◌}
 use Rattle.std.proofs.lemmas.Result.{err_from_is_err_and}
 use Rattle.zy_edge.specs.Files.{Held, content_of}
 use Rattle.zy_top.specs.Verdict.{replay_verdict}
-use Rattle.zy_words.proofs.Told.{both, each}
+use Rattle.zy_top_words.proofs.Told.{both, each}
 use Rattle.zy_top.proofs.JudgeLaws.{group_answers, schedule_answers}
-use Rattle.zy_words.proofs.Stops.{IsWritten-stopped}
+use Rattle.zy_top_words.proofs.Stops.{IsWritten-stopped}
 use Rattle.zy_top.proofs.replays.run_replay.Goals as goal
 
 pub returns-in_err-setup-clause-answer : goal.returns-in_err-setup-clause-answer

@@ -1,7 +1,7 @@
 use Rattle.std.proofs.Common.{refl}
 use Rattle.std.proofs.lemmas.Result.{err_from_is_err_and}
-use Rattle.zy_words.proofs.Stops.{IsWritten-none}
-use Rattle.zy_words.specs.declared.exit.Exit.TheVariants as exits
+use Rattle.zy_top_words.proofs.Stops.{IsWritten-none}
+use Rattle.zy_top_words.specs.declared.exit.Exit.TheVariants as exits
 use Rattle.zy_top.proofs.replays.run_told.Goals as goal
 
 pub returns-in_err-replayed-clause-written : goal.returns-in_err-replayed-clause-written

@@ -1,5 +1,5 @@
 use Rattle.std.proofs.lemmas.Result.{err_from_is_err_and}
-use Rattle.zy_hosting.proofs.ShortOps.{op_short}
+use Rattle.zy_top_hosting.proofs.ShortOps.{op_short}
 use Rattle.zy_top.proofs.running.run_ask.Goals as goal
 
 pub run_event-requires-clause-event : goal.run_event-requires-clause-event

@@ -1,5 +1,5 @@
 use Rattle.std.proofs.Common.{Err, refl, ap, ◌∙◌}
-use Rattle.zy_words.specs.declared.exit.Broken.TheVariants as broken
+use Rattle.zy_top_words.specs.declared.exit.Broken.TheVariants as broken
 use Rattle.zy_top.proofs.RunParts.{event_broke, event_told}
 use Rattle.zy_top.proofs.running.run_event.Goals as goal
 use Rattle.zy_world_law.specs.Events as events

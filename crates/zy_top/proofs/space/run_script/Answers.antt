@@ -1,7 +1,7 @@
 use Rattle.std.proofs.Common.{◌≡◌, ◌+◌, ◌∷◌, ◌∙◌, [], drop, arith}
 use Rattle.std.proofs.lemmas.Grind.{common_steps}
 use Rattle.std.proofs.lemmas.Result.{err_from_is_err_and}
-use Rattle.zy_words.proofs.Stops.{IsSent-none}
+use Rattle.zy_top_words.proofs.Stops.{IsSent-none}
 use Rattle.zy_top.proofs.Report.{Reported-more, Reported-written, Reported-stopped, IsSent-part, IsSent-last}
 use Rattle.zy_top.proofs.space.run_script.Goals as goal
 use Rattle.zy_top.proofs.space.run_script.Goals.{then-len-ge-PIECE+in_ok-write_all, else-len-ge-PIECE}

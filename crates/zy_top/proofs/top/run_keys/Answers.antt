@@ -1,6 +1,6 @@
 use Rattle.std.proofs.Common.{◌∙◌}
 use Rattle.std.proofs.lemmas.Result.{err_from_is_err_and}
-use Rattle.zy_words.proofs.Stops.{IsSent-none}
+use Rattle.zy_top_words.proofs.Stops.{IsSent-none}
 use Rattle.zy_top.proofs.top.run_keys.Goals as goal
 
 pub returns-in_err-text-clause-written : goal.returns-in_err-text-clause-written

@@ -1,7 +1,7 @@
 use Rattle.std.proofs.lemmas.Result.{err_from_is_err_and}
 use Rattle.zy_edge.specs.Files.{Held, content_of}
 use Rattle.zy_top.specs.Verdict.{space_verdict}
-use Rattle.zy_words.proofs.Stops.{IsWritten-stopped, unread-stops, fault-stops}
+use Rattle.zy_top_words.proofs.Stops.{IsWritten-stopped, unread-stops, fault-stops}
 use Rattle.zy_top.proofs.top.run_space.Goals as goal
 
 pub returns-in_err-text-clause-written : goal.returns-in_err-text-clause-written

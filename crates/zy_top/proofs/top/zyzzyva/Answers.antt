@@ -1,13 +1,13 @@
 use Rattle.std.proofs.Common.{◌≡◌, Ok, Err, refl, ap, ◌∙◌, inl}
-use Rattle.zy_hosting.specs.Files.{asker_start, node_start}
+use Rattle.zy_top_hosting.specs.Files.{asker_start, node_start}
 use Rattle.zy_tuple.specs.Reading.{op_read}
-use Rattle.zy_words.proofs.Stops.{IsWritten-stopped}
-use Rattle.zy_words.specs.Words.{Command, asked, command_of, op_alone, texts}
-use Rattle.zy_words.specs.declared.exit.Exit.TheVariants as exits
+use Rattle.zy_top_words.proofs.Stops.{IsWritten-stopped}
+use Rattle.zy_top_words.specs.Words.{Command, asked, command_of, op_alone, texts}
+use Rattle.zy_top_words.specs.declared.exit.Exit.TheVariants as exits
 use Rattle.zy_edge.specs.Files.{content_of}
 use Rattle.zy_top.specs.Keys.{key_file}
 use Rattle.zy_top.specs.Verdict.{make_verdict, replay_verdict, verdict}
-use Rattle.zy_words.proofs.Endings.{cut_short, told_finishes}
+use Rattle.zy_top_words.proofs.Endings.{cut_short, told_finishes}
 use Rattle.zy_top.proofs.Headline.{commands_are_safe}
 use Rattle.zy_top.proofs.HostLaws.{asked_in_vain, nothing_due, turns_end, unbound}
 use Rattle.zy_top.proofs.MadeRuns.{made_finishes, own_answer}

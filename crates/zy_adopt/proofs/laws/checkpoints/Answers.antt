@@ -1,5 +1,0 @@
-use Rattle.zy_adopt.proofs.PlaceLemmas.{checkpoints_are, entry_at_checkpoint}
-use Rattle.zy_adopt.proofs.laws.checkpoints.Goals as goal
-
-pub returns : goal.returns
-returns g c = record { places = checkpoints_are; entries = entry_at_checkpoint }

@@ -1,5 +1,0 @@
-use Rattle.zy_adopt.proofs.MeetLemmas.{takes_meets}
-use Rattle.zy_adopt.proofs.laws.verdicts.Goals as goal
-
-pub returns : goal.returns
-returns g c = takes_meets g.M.Machine.rules

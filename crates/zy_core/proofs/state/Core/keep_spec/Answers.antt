@@ -1,5 +1,0 @@
-use Rattle.zy_core.proofs.ReadyLemmas.{ready_specs}
-use Rattle.zy_core.proofs.state.Core.keep_spec.Goals as goal
-
-pub invariant_of-self : goal.invariant_of-self
-invariant_of-self g c = ready_specs _ c.self.invariant c.args.spec.stmt.client.0 c.args.spec c.requires.range

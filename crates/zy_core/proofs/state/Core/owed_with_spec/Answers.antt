@@ -1,4 +1,0 @@
-use Rattle.zy_core.proofs.state.Core.owed_with_spec.Goals as goal
-
-pub owes_with_spec-requires-clause-ready : goal.owes_with_spec-requires-clause-ready
-owes_with_spec-requires-clause-ready g c = c.requires.ready c.in-Some.own c.in-Some.is

@@ -1,0 +1,377 @@
+-- What a step can come to. What holds of each of these outcomes holds of the outcome of each event.
+use Rattle.std.proofs.Common.{◌≡◌, ℕ, ◌+◌, ◌≤◌, Bool, true, false, List, [], ◌∷◌, Option, Some, None, refl, sym, ap, ◌∙◌, arith, inl, inr, ltb-false, lt-ltb}
+use Rattle.std.specs.Prelude.{option_map, nat_le, nat_lt, nat_eq, if◌then◌else◌, Result, Ok, Err}
+use Rattle.std.proofs.lemmas.Bool.{cases_lt, eqb-false}
+use Rattle.zy_base.specs.Machine.{Rules}
+use Rattle.zy_base.specs.declared.cause.Cause.{Cause}
+use Rattle.zy_base.specs.declared.frame_fault.FrameFault.{FrameFault}
+use Rattle.zy_base.specs.declared.ids.ClientId.{ClientId}
+use Rattle.zy_base.specs.declared.ids.Digest.{Digest}
+use Rattle.zy_base.specs.declared.ids.Party.{Party}
+use Rattle.zy_base.specs.declared.ids.Place.{Place}
+use Rattle.zy_base.specs.declared.ids.View.{View}
+use Rattle.zy_base.specs.declared.step.Event.TheVariants as events
+use Rattle.zy_base.specs.declared.step.Mode.{Mode}
+use Rattle.zy_base.specs.declared.step.Mode.TheVariants.{Active, Leaving}
+use Rattle.zy_base.specs.declared.step.TimerKind.{TimerKind}
+use Rattle.zy_base.specs.declared.step.TimerKind.TheVariants as timers
+use Rattle.zy_chain.specs.Entries.{digest_of_entry}
+use Rattle.zy_chain.specs.Heads.{head_after}
+use Rattle.zy_chain.specs.Stretch.{head_in}
+use Rattle.zy_cert.proofs.CertificateLemmas.{certified-taken}
+use Rattle.zy_cert.specs.Certificates.{IsCertificate, certified}
+use Rattle.zy_cert.specs.Equal.{same_spec, spec-equal, digest-equal}
+use Rattle.zy_cert.specs.Points.{point_of_spec}
+use Rattle.zy_cert.specs.Signers.{has_signer}
+use Rattle.zy_change.specs.declared.kept.Certificate.{Certificate}
+use Rattle.zy_check.proofs.JudgingLemmas.{spec-new, check-new}
+use Rattle.zy_check.specs.Board as put_in
+use Rattle.zy_check.specs.Board.{Board, specs_at, checks_at}
+use Rattle.zy_check.specs.Judging.{is_refused, judge_spec, judge_check}
+use Rattle.zy_check.specs.declared.kept.Kept.{Kept}
+use Rattle.zy_check.specs.declared.kept.Kept.TheVariants as answers
+use Rattle.zy_admit.specs.Judging.{newer, entry_of, same_digest, same_order, judge_at_end, judge_fresh, judge_beside, judge_in}
+use Rattle.zy_admit.specs.declared.judging.Admit.{Admit}
+use Rattle.zy_admit.specs.declared.judging.Admit.TheVariants as admits
+use Rattle.zy_admit.specs.declared.judging.Position.{Position}
+use Rattle.zy_admit.specs.Orders.{Orders, with_order, stored_in}
+use Rattle.zy_frames.specs.Frames.{frame_in, parts_of}
+use Rattle.zy_frames.specs.declared.frame.Frame.{Frame}
+use Rattle.zy_frames.specs.declared.frame.Frame.TheVariants as frames
+use Rattle.zy_frames.specs.declared.frame.OrderFrame.{OrderFrame}
+use Rattle.zy_parts.specs.Numbers as numbers
+use Rattle.zy_parts.specs.Statements.{spec_fields}
+use Rattle.zy_parts.specs.declared.signed.Signed.{Signed}
+use Rattle.zy_parts.specs.declared.statements.Ask.{Ask}
+use Rattle.zy_parts.specs.declared.statements.Check.{Check}
+use Rattle.zy_parts.specs.declared.statements.Confirm.{Confirm}
+use Rattle.zy_parts.specs.declared.statements.Hole.{Hole}
+use Rattle.zy_parts.specs.declared.statements.Local.{Local}
+use Rattle.zy_parts.specs.declared.statements.Order.{Order as OrderStatement}
+use Rattle.zy_parts.specs.declared.statements.Spec.{Spec}
+use Rattle.zy_seal.specs.Screening.{screen}
+use Rattle.zy_seal.specs.Sealing.{sealed_by}
+use Rattle.zy_exec.specs.declared.known.Known.{Known}
+use Rattle.zy_exec.specs.Kept.{known_in, last_place, stretch_of}
+use Rattle.zy_table.specs.Checkpoints.{checkpoint, kept_as, response, with_board}
+use Rattle.zy_table.specs.Commits.{local_at, local_said, locals_owed, give_local, commit_as, commit_beside, commit_judged, commit}
+use Rattle.zy_table.specs.Confirms.{order_again, confirm_after, confirm}
+use Rattle.zy_table.specs.Deeds.{Outcome, begin, refused, ends, act}
+use Rattle.zy_admit.specs.Orders.{orders_from}
+use Rattle.zy_table.specs.Gathering.{checks_owed, gather_at, own_at}
+use Rattle.zy_table.specs.Holes.{fill_with, fill_hole, ask_again}
+use Rattle.zy_table.specs.Orders.{order_as, order, position_of, owes_hole, ask_for_missing}
+use Rattle.zy_table.specs.Requests.{said_already, respond_as, sealed_order, ordered, request_at_primary, request_waits, forward, request_at_backup, tell_primary, new_request, request_after, is_behind, request, response_of}
+use Rattle.zy_table.specs.Roles.{in_role, view_cause}
+use Rattle.zy_table.specs.Running.{run, signs_of, spec_of}
+use Rattle.zy_table.specs.State.{State, own_view, is_leaving, is_primary, window_of, stood_of, leaves_of, spent, with_spec, spec_to, pending_of}
+use Rattle.zy_table.specs.Step.{unless, commit_in_view, row, hear, decoded, timer, step}
+use Rattle.zy_table.specs.declared.deeds.Act.TheVariants.{Says}
+use Rattle.zy_table.specs.declared.deeds.Body.TheVariants as bodies
+use Rattle.zy_law_normal.proofs.Committed.{IsFurthest, by_certificate, holding}
+use Rattle.zy_law_normal.proofs.Own.{by_test}
+use Rattle.zy_table.specs.declared.deeds.Sent.{Sent}
+use Rattle.zy_table.specs.declared.kept.OwnCheckpoint.{OwnCheckpoint}
+use Rattle.zy_table.specs.declared.kept.Pending.{Pending}
+use Rattle.zy_base.specs.declared.cause.Cause.TheVariants as causes
+use Rattle.zy_base.specs.declared.step.Answer.TheVariants.{Taken, Held}
+
+abbrev IsNewer : Signed Ask → Position → Admit → Type 0
+IsNewer ask now a = a ≡ admits.Next → newer ask.stmt.stamp now.last ≡ true
+
+next_at_end : (order : OrderStatement) (ask : Signed Ask) (now : Position) → IsNewer ask now (judge_at_end order ask now)
+next_at_end order ask now =
+    by_test (IsNewer ask now) (same_digest order.head (head_after now.head (digest_of_entry (entry_of ask)))) _ _
+    (λ head. by_test (IsNewer ask now) (newer ask.stmt.stamp now.last) _ _ (λ new is. new) (λ old is. absurd cc))
+    (λ other is. absurd cc)
+
+next_fresh : (order : OrderStatement) (ask : Signed Ask) (now : Position) → IsNewer ask now (judge_fresh order ask now)
+next_fresh order ask now =
+    by_test (IsNewer ask now) (nat_le order.place.0 now.end.0) _ _ (λ old is. absurd cc)
+    (λ fresh. by_test (IsNewer ask now) (nat_lt now.window.0 order.place.0) _ _ (λ past is. absurd cc)
+    (λ inside. by_test (IsNewer ask now) (same_digest order.request (digest_of_entry (entry_of ask))) _ _
+    (λ same. by_test (IsNewer ask now) (nat_lt (now.end.0 + 1) order.place.0) _ _ (λ later is. absurd cc) (λ next. next_at_end order ask now))
+    (λ other is. absurd cc)))
+
+next_beside : (order : OrderStatement) (ask : Signed Ask) (now : Position) (kept : Option OrderFrame) → IsNewer ask now (judge_beside kept order ask now)
+next_beside order ask now None = next_fresh order ask now
+next_beside order ask now (Some kept) = by_test (IsNewer ask now) (same_order kept.order.stmt order) _ _ (λ same is. absurd cc) (λ other is. absurd cc)
+
+-- an order that is judged next has a newer stamp
+next_is_newer : (orders : Orders) (order : OrderStatement) (ask : Signed Ask) (now : Position) → judge_in orders order ask now ≡ admits.Next → newer ask.stmt.stamp now.last ≡ true
+next_is_newer orders order ask now = next_beside order ask now (stored_in orders order.place.0)
+
+stamp_above : (a b : ℕ) → nat_lt b a ≡ false → nat_eq b a ≡ false → nat_lt a b ≡ true
+stamp_above a b from other =
+    let below : a ≤ b = ltb-false b a from in
+    elim (cases_lt a b) [
+      | inl less ↦ lt-ltb a b less
+      | inr least ↦ absurd (eqb-false b a other (omega arith))
+    ]
+
+-- ---- outcomes
+
+abbrev pub responded : {S : Type 0} → Rules S → State S → Spec → Known → Outcome S
+responded R s spec known =
+    let signed = sealed_by numbers.spec spec_fields s.sealer spec in
+    ends Taken (response_of s signed known (act (Says (record { body = bodies.Spec spec; stood = stood_of R s })) (begin (with_spec (spent s) signed))))
+
+abbrev pub with_held : {S : Type 0} → State S → OrderFrame → State S
+with_held s o = record s { orders = with_order s.orders o }
+
+-- the order of a request, and an order, come with a stamp above the one that is known
+abbrev pub IsNew : {S : Type 0} → Rules S → State S → Signed Ask → Type 0
+IsNew R s ask = newer ask.stmt.stamp (option_map (λ (known : Known). known.stamp) (known_in R s.kept (entry_of ask).client.0)) ≡ true
+
+-- so many statements can still be signed
+abbrev pub HasLeaves : {S : Type 0} → State S → ℕ → Type 0
+HasLeaves s n = nat_le n (leaves_of s) ≡ true
+
+-- a local commit in the own view, of a place that the responses certify and of the own head there
+pub record IsOwnCommit {S : Type 0} (s : State S) (specs : List (Signed Spec)) (local : Local) : Type 0 where
+  pub view : local.view.0 ≡ own_view s
+  pub proves : certified same_spec point_of_spec s.counts.cert specs ≡ Ok (local.view, local.place, local.head)
+  pub own : head_in (stretch_of s.kept) local.place.0 ≡ Some local.head
+
+-- a response or a checkpoint that comes is kept, as the first of its signer for its place
+pub data IsPut {S : Type 0} (s : State S) (Heard : Frame → Type 0) (board : Board) : Type 0 where
+  new_spec : (vote : Signed Spec) (reply : List ℕ) (with_order : Option (Signed OrderStatement)) → Heard (frames.SpecResponse vote reply with_order)
+      → has_signer vote.by (specs_at s.board vote.stmt.place.0) ≡ false → board ≡ put_in.with_spec s.board vote → IsPut s Heard board
+  new_check : (vote : Signed Check) → Heard (frames.Checkpoint vote) → has_signer vote.by (checks_at s.board vote.stmt.place.0) ≡ false → board ≡ put_in.with_check s.board vote → IsPut s Heard board
+
+-- What is to be shown of a step's outcomes, where Heard holds of each frame that is answered by its row.
+pub record Cases {S : Type 0} (R : Rules S) (s : State S) (Heard : Frame → Type 0) (P : Outcome S → Type 0) : Type 0 where
+  pub refuses : (cause : Cause) → P (refused cause s)
+  pub stays : (sent : List Sent) → P (record { answer = Taken; state = s; deeds = record { sent = sent; acts = [] } })
+  pub responds : (ask : Signed Ask) (known : Known) → known_in R s.kept (entry_of ask).client.0 ≡ Some known → HasLeaves s 1 → P (responded R s (spec_of (own_view s) ask known) known)
+  pub orders : (ask : Signed Ask) → Heard (frames.Request ask) → is_primary s ≡ true → IsNew R s ask → HasLeaves s (signs_of R s ask + 1) → P (ends Taken (run R (sealed_order R s ask) (ordered R s ask)))
+  pub waits : (ask : Signed Ask) → HasLeaves s 1 → P (ends Taken (request_waits R s ask))
+  pub takes : (o : OrderFrame) → Heard (frames.Order o) → IsNew R s o.ask → HasLeaves s (signs_of R s o.ask) → P (ends Taken (run R o (begin (record (with_held s o) { hole = None }))))
+  pub asks : (o : OrderFrame) → Heard (frames.Order o) → HasLeaves s 1 → P (ends Held (ask_for_missing R (with_held s o)))
+  pub holds : (o : OrderFrame) → Heard (frames.Order o) → P (ends Held (begin (with_held s o)))
+  pub commits : (specs : List (Signed Spec)) (client : ClientId) (local : Local) (said : Option (Signed Local)) (held : Option Certificate) → Heard (frames.Commit specs) → IsOwnCommit s specs local
+      → IsFurthest local.place specs s.views.specs held → HasLeaves s (locals_owed said + checks_owed (holding s held) (own_at R s local.place.0) true)
+      → P (ends Taken (gather_at R (own_at R s local.place.0) true (give_local R client local said (holding s held))))
+  pub keeps : (board : Board) → IsPut s Heard board → P (ends Held (begin (with_board s board)))
+  pub gathers : (place : ℕ) (board : Board) → IsPut s Heard board → HasLeaves s (checks_owed (with_board s board) (own_at R s place) false)
+      → P (ends Taken (gather_at R (own_at R s place) false (begin (with_board s board))))
+  -- a request that a backup passes on may do what one of its client may
+  pub confirms : (confirm : Signed Confirm) (ask : Signed Ask) → Heard (frames.ConfirmReq confirm ask) → Heard (frames.Request ask)
+
+module _ {S : Type 0} (R : Rules S) (s : State S) (Heard : Frame → Type 0) (P : Outcome S → Type 0) (of : Cases R s Heard P) where
+  -- ---- REQUEST
+
+  respond_as_case : (ask : Signed Ask) (known : Known) (signed : Option (Signed Spec)) → known_in R s.kept (entry_of ask).client.0 ≡ Some known → P (respond_as R s signed (spec_of (own_view s) ask known) known)
+  respond_as_case ask known None is = by_test P (nat_le 1 (leaves_of s)) _ _ (of.responds ask known is) (λ none. of.refuses causes.KeySpent)
+  respond_as_case ask known (Some signed) is = of.stays (response_of s signed known (begin s)).deeds.sent
+
+  primary_case : (ask : Signed Ask) → Heard (frames.Request ask) → is_primary s ≡ true → IsNew R s ask → P (request_at_primary R s ask)
+  primary_case ask heard primary new =
+      by_test P (nat_lt (last_place s.kept) (window_of s)) _ _
+      (λ room. by_test P (nat_le (signs_of R s ask + 1) (leaves_of s)) _ _ (of.orders ask heard primary new) (λ none. of.refuses causes.KeySpent))
+      (λ full. of.refuses (causes.WindowFull (record { 0 = window_of s })))
+
+  forward_case : (ask : Signed Ask) → P (forward R s ask)
+  forward_case ask = by_test P (nat_le 1 (leaves_of s)) _ _ (of.waits ask) (λ none. of.refuses causes.KeySpent)
+
+  backup_case : (ask : Signed Ask) (pending : Option Pending) → P (request_at_backup R s ask pending)
+  backup_case ask None = forward_case ask
+  backup_case ask (Some pending) =
+      by_test P (nat_eq ask.stmt.stamp.0 pending.ask.stmt.stamp.0) _ _
+      (λ same. of.stays (tell_primary s pending (begin s)).deeds.sent)
+      (λ other. forward_case ask)
+
+  new_request_case : (ask : Signed Ask) → Heard (frames.Request ask) → IsNew R s ask → P (new_request R s ask)
+  new_request_case ask heard new =
+      by_test P (is_primary s) _ _ (λ primary. primary_case ask heard primary new) (λ backup. backup_case ask (pending_of s (entry_of ask).client))
+
+  request_after_case : (ask : Signed Ask) (known : Option Known) → known_in R s.kept (entry_of ask).client.0 ≡ known → Heard (frames.Request ask) → P (request_after R s ask known)
+  request_after_case ask None is heard =
+      new_request_case ask heard (ap (λ (o : Option Known). newer ask.stmt.stamp (option_map (λ (known : Known). known.stamp) o)) is)
+  request_after_case ask (Some known) is heard =
+      by_test P (nat_lt ask.stmt.stamp.0 known.stamp.0) _ _
+      (λ old. of.refuses causes.OldStamp)
+      (λ from. by_test P (nat_eq ask.stmt.stamp.0 known.stamp.0) _ _
+      (λ same. respond_as_case ask known (said_already (spec_to s (entry_of ask).client) (spec_of (own_view s) ask known)) is)
+      (λ other. new_request_case ask heard
+      (ap (λ (o : Option Known). newer ask.stmt.stamp (option_map (λ (k : Known). k.stamp) o)) is ∙ stamp_above known.stamp.0 ask.stmt.stamp.0 from other)))
+
+  request_case : (ask : Signed Ask) → Heard (frames.Request ask) → P (request R s ask)
+  unfolding request
+  request_case ask heard =
+      by_test P (is_leaving s) _ _ (λ leaving. of.refuses causes.NotActive)
+      (λ active. by_test P (is_behind ask (pending_of s (entry_of ask).client)) _ _ (λ behind. of.refuses causes.OldStamp)
+      (λ newest. request_after_case ask (known_in R s.kept (entry_of ask).client.0) refl heard))
+
+  -- ---- CONFIRM-REQ
+
+  order_again_case : (by : Party) (kept : Option OrderFrame) → P (order_again s by kept)
+  order_again_case by None = of.refuses causes.OldPlace
+  order_again_case by (Some kept) = of.stays (order_again s by (Some kept)).deeds.sent
+
+  confirm_after_case : (by : Party) (ask : Signed Ask) (known : Option Known) → Heard (frames.Request ask) → P (confirm_after R s by ask known)
+  confirm_after_case by ask None heard = request_case ask heard
+  confirm_after_case by ask (Some known) heard =
+      by_test P (nat_lt ask.stmt.stamp.0 known.stamp.0) _ _
+      (λ old. of.refuses causes.OldStamp)
+      (λ from. by_test P (nat_eq ask.stmt.stamp.0 known.stamp.0) _ _
+      (λ same. order_again_case by (stored_in s.orders known.place.0))
+      (λ other. request_case ask heard))
+
+  confirm_case : (confirmed : Signed Confirm) (ask : Signed Ask) → Heard (frames.Request ask) → P (confirm R s confirmed ask)
+  unfolding confirm
+  confirm_case confirmed ask heard =
+      by_test P (same_digest confirmed.stmt.request (digest_of_entry (entry_of ask))) _ _
+      (λ same. confirm_after_case confirmed.by ask (known_in R s.kept (entry_of ask).client.0) heard)
+      (λ other. of.refuses causes.Unmatched)
+
+  -- ---- COMMIT
+
+  commit_as_case : (specs : List (Signed Spec)) (client : ClientId) (local : Local) (said : Option (Signed Local)) → Heard (frames.Commit specs) → IsOwnCommit s specs local
+      → P (commit_as R s specs client local said (own_at R s local.place.0))
+  commit_as_case specs client local said heard own =
+      let mine : Option OwnCheckpoint = own_at R s local.place.0 in
+      by_certificate s
+      (λ (s' : State S). P (if nat_le (locals_owed said + checks_owed s' mine true) (leaves_of s) then ends Taken (gather_at R mine true (give_local R client local said s')) else refused causes.KeySpent s))
+      local.place specs
+      (λ held furthest.
+      by_test P (nat_le (locals_owed said + checks_owed (holding s held) mine true) (leaves_of s)) _ _
+      (λ left. of.commits specs client local said held heard own furthest left)
+      (λ none. of.refuses causes.KeySpent))
+
+  same_head : (own head : Digest) → same_digest own head ≡ true → own ≡ head
+  same_head own head is = (digest-equal own head).0 is
+
+  commit_beside_case : (specs : List (Signed Spec)) (client : ClientId) (local : Local) (own : Option Digest) → Heard (frames.Commit specs) → local.view.0 ≡ own_view s
+      → certified same_spec point_of_spec s.counts.cert specs ≡ Ok (local.view, local.place, local.head) → head_in (stretch_of s.kept) local.place.0 ≡ own → P (commit_beside R s specs client local own)
+  commit_beside_case specs client local None heard view proves is = of.refuses (causes.Behind local.place)
+  commit_beside_case specs client local (Some own) heard view proves is =
+      by_test P (same_digest own local.head) _ _
+      (λ same. commit_as_case specs client local (local_said s local) heard
+      (record { view = view; proves = proves; own = is ∙ ap (λ (d : Digest). Some d) (same_head own local.head same) }))
+      (λ other. of.refuses (causes.OtherHistory own local.head))
+
+  commit_judged_case : (specs : List (Signed Spec)) (client : ClientId) (point : Result (View × Place × Digest) Cause) → Heard (frames.Commit specs)
+      → ((p : View × Place × Digest) → point ≡ Ok p → p.0.0 ≡ own_view s) → certified same_spec point_of_spec s.counts.cert specs ≡ point → P (commit_judged R s specs client point)
+  commit_judged_case specs client (Err cause) heard view is = of.refuses cause
+  commit_judged_case specs client (Ok point) heard view is =
+      commit_beside_case specs client (local_at point) (head_in (stretch_of s.kept) point.1.0) heard (view point refl) is refl
+
+  -- the first of the responses is of the view that they certify
+  first_view : (first : Signed Spec) (others : List (Signed Spec)) (p : View × Place × Digest) → certified same_spec point_of_spec s.counts.cert (first ∷ others) ≡ Ok p → first.stmt.view.0 ≡ p.0.0
+  first_view first others p proves =
+      let is : IsCertificate point_of_spec s.counts.cert (first ∷ others) p = certified-taken same_spec spec-equal point_of_spec s.counts.cert (first ∷ others) p proves in
+      let one : first.stmt ≡ is.stmt = is.equal 0 first (omega arith) in
+      ap (λ (spec : Spec). spec.view.0) one ∙ ap (λ (q : View × Place × Digest). q.0.0) is.located
+
+  commit_case : (first : Signed Spec) (others : List (Signed Spec)) → Heard (frames.Commit (first ∷ others)) → first.stmt.view.0 ≡ own_view s → P (commit R s first.stmt (first ∷ others))
+  unfolding commit
+  commit_case first others heard view =
+      by_test P (nat_lt first.stmt.place.0 s.orders.base) _ _ (λ old. of.refuses causes.OldPlace)
+      (λ above. by_test P (nat_lt (last_place s.kept) first.stmt.place.0) _ _ (λ behind. of.refuses (causes.Behind first.stmt.place))
+      (λ inside. commit_judged_case (first ∷ others) first.stmt.client (certified same_spec point_of_spec s.counts.cert (first ∷ others)) heard
+      (λ p is. sym (first_view first others p is) ∙ view) refl))
+
+  -- ---- SPEC-RESPONSE and CHECKPOINT
+
+  kept_case : (place : ℕ) (answer : Kept) (board : Board) → (is_refused answer ≡ false → IsPut s Heard board) → P (kept_as R s (own_at R s place) answer board)
+  kept_case place answers.Held board put = of.keeps board (put refl)
+  kept_case place (answers.Kept number) board put =
+      by_test P (nat_le (checks_owed (with_board s board) (own_at R s place) false) (leaves_of s)) _ _ (λ left. of.gathers place board (put refl) left) (λ none. of.refuses causes.KeySpent)
+  kept_case place (answers.Refused cause) board put = of.refuses cause
+
+  response_case : (vote : Signed Spec) (reply : List ℕ) (with_order : Option (Signed OrderStatement)) → Heard (frames.SpecResponse vote reply with_order) → P (response R s vote)
+  unfolding response
+  response_case vote reply with_order heard =
+      let own : Option Spec = option_map (λ (o : OwnCheckpoint). o.spec) (own_at R s vote.stmt.place.0) in
+      kept_case vote.stmt.place.0 (judge_spec s.board vote own) (put_in.with_spec s.board vote) (λ kept. IsPut.new_spec vote reply with_order heard (spec-new s.board vote own kept) refl)
+
+  checkpoint_case : (vote : Signed Check) → Heard (frames.Checkpoint vote) → P (checkpoint R s vote)
+  unfolding checkpoint
+  checkpoint_case vote heard =
+      let own : Option Check = option_map (λ (o : OwnCheckpoint). o.check) (own_at R s vote.stmt.place.0) in
+      kept_case vote.stmt.place.0 (judge_check s.board vote own) (put_in.with_check s.board vote) (λ kept. IsPut.new_check vote heard (check-new s.board vote own kept) refl)
+
+  -- ---- ORDER
+
+  order_as_case : (o : OrderFrame) (a : Admit) → judge_in s.orders o.order.stmt o.ask (position_of R s o) ≡ a → Heard (frames.Order o) → P (order_as R s o a)
+  order_as_case o admits.Next is heard =
+      by_test P (nat_le (signs_of R s o.ask) (leaves_of s)) _ _ (of.takes o heard (next_is_newer s.orders o.order.stmt o.ask (position_of R s o) is)) (λ none. of.refuses causes.KeySpent)
+  order_as_case o admits.Held is heard =
+      by_test P (owes_hole s) _ _ (λ owes. by_test P (nat_le 1 (leaves_of s)) _ _ (of.asks o heard) (λ none. of.refuses causes.KeySpent)) (λ asked. of.holds o heard)
+  order_as_case o (admits.Refused cause) is heard = of.refuses cause
+  order_as_case o admits.Evidence is heard = of.refuses causes.Unmatched
+
+  order_case : (o : OrderFrame) → Heard (frames.Order o) → P (order R s o)
+  unfolding order
+  order_case o heard = order_as_case o (judge_in s.orders o.order.stmt o.ask (position_of R s o)) refl heard
+
+  -- ---- FILL-HOLE, and the timers
+
+  fill_with_case : (hole : Signed Hole) (orders : List OrderFrame) → P (fill_with s hole orders)
+  fill_with_case hole [] =
+      by_test P (nat_le hole.stmt.to.0 (last_place s.kept)) _ _ (λ old. of.refuses causes.OldPlace) (λ behind. of.refuses (causes.Behind hole.stmt.to))
+  fill_with_case hole (o ∷ orders) = of.stays (fill_with s hole (o ∷ orders)).deeds.sent
+
+  fill_hole_case : (hole : Signed Hole) → P (fill_hole s hole)
+  unfolding fill_hole
+  fill_hole_case hole = fill_with_case hole (orders_from hole.stmt.from.0 hole.stmt.to.0 s.orders)
+
+  ask_again_case : (mode : Mode) (hole : Option (Signed Hole)) → P (ask_again s mode hole)
+  ask_again_case (Active view) (Some hole) = of.stays (ask_again s (Active view) (Some hole)).deeds.sent
+  ask_again_case (Active view) None = of.stays []
+  ask_again_case (Leaving view) hole = of.stays []
+
+  timer_case : (kind : TimerKind) → P (timer s kind)
+  timer_case timers.Request = ask_again_case s.views.mode s.hole
+  timer_case timers.Change = of.stays []
+  timer_case timers.Answer = of.stays []
+
+  -- ---- the step
+
+  unless_case : (cause : Option Cause) (o : Outcome S) → (cause ≡ None → P o) → P (unless cause s o)
+  unless_case None o holds = holds refl
+  unless_case (Some cause) o holds = of.refuses cause
+
+  view_is : (view own : ℕ) (leaving : Bool) → (if nat_lt view own then Some causes.OldView else (if nat_lt own view then Some causes.NewerView else (if leaving then Some causes.NotActive else None))) ≡ None → view ≡ own
+  view_is view own leaving =
+      by_test (λ (o : Option Cause). o ≡ None → view ≡ own) (nat_lt view own) _ _ (λ old is. absurd cc)
+      (λ least. by_test (λ (o : Option Cause). o ≡ None → view ≡ own) (nat_lt own view) _ _ (λ newer is. absurd cc)
+      (λ most is. omega (arith, ltb-false view own least, ltb-false own view most)))
+
+  -- a frame's view that there is nothing against is the own
+  current_view : (view : ℕ) → view_cause s view ≡ None → view ≡ own_view s
+  current_view view is = view_is view (own_view s) (is_leaving s) is
+
+  commit_in_view_case : (specs : List (Signed Spec)) → Heard (frames.Commit specs) → P (commit_in_view R s specs)
+  commit_in_view_case [] heard = of.refuses (causes.TooFew 0)
+  commit_in_view_case (first ∷ others) heard =
+      unless_case (view_cause s first.stmt.view.0) (commit R s first.stmt (first ∷ others)) (λ current. commit_case first others heard (current_view first.stmt.view.0 current))
+
+  row_case : (frame : Frame) → Heard frame → P (row R s frame)
+  row_case (frames.Request ask) heard = request_case ask heard
+  row_case (frames.Order both) heard = unless_case (view_cause s both.order.stmt.view.0) (order R s both) (λ current. order_case both heard)
+  row_case (frames.SpecResponse spec reply with_order) heard = unless_case (view_cause s spec.stmt.view.0) (response R s spec) (λ current. response_case spec reply with_order heard)
+  row_case (frames.Commit specs) heard = commit_in_view_case specs heard
+  row_case (frames.LocalCommit local) heard = of.refuses causes.WrongRole
+  row_case (frames.ConfirmReq confirmed ask) heard =
+      unless_case (view_cause s confirmed.stmt.view.0) (confirm R s confirmed ask) (λ current. confirm_case confirmed ask (of.confirms confirmed ask heard))
+  row_case (frames.FillHole hole) heard = unless_case (view_cause s hole.stmt.view.0) (fill_hole s hole) (λ current. fill_hole_case hole)
+  row_case (frames.Hate hate) heard = of.refuses causes.WrongRole
+  row_case (frames.Pom first second) heard = of.refuses causes.WrongRole
+  row_case (frames.Checkpoint check) heard = unless_case (view_cause s check.stmt.view.0) (checkpoint R s check) (λ current. checkpoint_case check heard)
+
+  hear_case : (frame : Frame) → (in_role s frame ≡ true → Heard frame) → P (hear R s frame)
+  hear_case frame heard = by_test P (in_role s frame) _ _ (λ role. row_case frame (heard role)) (λ wrong. of.refuses causes.WrongRole)
+
+  pub decoded_case : (read : Result Frame FrameFault) → ((frame : Frame) → read ≡ Ok frame → screen s.keys (parts_of frame) ≡ None → in_role s frame ≡ true → Heard frame) → P (decoded R s read)
+  decoded_case (Err fault) heard = of.refuses (causes.NotFrame fault)
+  decoded_case (Ok frame) heard = unless_case (screen s.keys (parts_of frame)) (hear R s frame) (λ verified. hear_case frame (heard frame refl verified))
+
+  pub heard_case : (bytes : List ℕ) → ((frame : Frame) → frame_in bytes ≡ Ok frame → screen s.keys (parts_of frame) ≡ None → in_role s frame ≡ true → Heard frame) → P (step R s (events.Heard bytes))
+  unfolding step
+  heard_case bytes heard = decoded_case (frame_in bytes) heard
+
+  pub timer_step_case : (kind : TimerKind) → P (step R s (events.Timer kind))
+  unfolding step
+  timer_step_case kind = timer_case kind

@@ -1,5 +1,0 @@
-use Rattle.zy_lawful.proofs.FirstRequest.{first_request}
-use Rattle.zy_lawful.proofs.example.a_first_request.Goals as goal
-
-pub returns : goal.returns
-returns g c = first_request g.M.Machine.rules

@@ -1,5 +1,0 @@
-use Rattle.zy_lawful.proofs.TieLemmas.{lists_after, numbers_are}
-use Rattle.zy_lawful.proofs.ties.acts_told.Goals as goal
-
-pub returns : goal.returns
-returns c = record { lists = lists_after; numbers = numbers_are }

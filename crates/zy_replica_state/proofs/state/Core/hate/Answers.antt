@@ -1,0 +1,6 @@
+use Rattle.std.proofs.Common.{◌∙◌, ap}
+use Rattle.zy_table.specs.State.{State}
+use Rattle.zy_replica_state.proofs.state.Core.hate.Goals as goal
+
+pub returns-clause-range : goal.returns-clause-range
+returns-clause-range g c x is = c.self.invariant.hate x (ap (λ (s : State g.row.M-State.Denot). s.hate) c.self.view_is ∙ is)

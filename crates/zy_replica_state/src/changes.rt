@@ -1,0 +1,191 @@
+//! The changes of a replica, one at a time.
+
+ghost use Rattle.std.specs.Prelude.{◌≡◌, ◌≤◌, ◌<◌, ◌+◌, ◌++◌, ◌∷◌, [], length, Some, None, Option, Bool, IfOk};
+ghost use Rattle.std.specs.Option.{ForSome};
+ghost use Rattle.zy_chain.specs.Entries.{IsEntryInRange};
+ghost use Rattle.zy_parts.specs.Signing.{IsSignedInRange};
+ghost use Rattle.zy_parts.specs.Statements.{IsHoleInRange, IsLocalInRange, IsSpecInRange, spec_fields};
+ghost use Rattle.zy_parts.specs.Numbers as numbers;
+ghost use Rattle.zy_exec.specs.Replay.{step as one_entry};
+ghost use Rattle.zy_chain.specs.declared.entry.Entry.{Entry};
+ghost use Rattle.zy_exec.specs.Kept.{Kept, longer, last_place, now_of};
+ghost use Rattle.zy_seal.specs.Sealing.{sealed_by};
+ghost use Rattle.zy_admit.specs.Orders.{with_order, without_order};
+ghost use Rattle.zy_table.specs.State.{window_of, leaves_of, spent, with_spec as with_spec_of, pending_of as waiting_of, with_pending};
+ghost use Rattle.zy_table.specs.Running.{still_pending as still_waiting};
+ghost use Rattle.zy_table.specs.declared.kept.OwnCheckpoint.{OwnCheckpoint};
+ghost use Rattle.zy_table.specs.Gathering.{with_certificate, checks_owed};
+ghost use Rattle.zy_change.specs.Fit.{IsTrueReport};
+ghost use Rattle.zy_table.specs.Leaving.{report_of};
+ghost use Rattle.zy_replica_state.specs.Ready.{IsKeptPending, IsOrderReady, IsOwnCertificate};
+
+use crate::Core;
+use crate::copies::{frame_copy, signed_copy};
+use zy_base::{Bytes, ClientId, Items, Machine, Place, Stamp, Want};
+use zy_chain::Entry;
+use zy_frames::OrderFrame;
+use zy_parts::{Hole, Local, Signed, Spec, Statement};
+use zy_seal::SealFault;
+use zy_table::Pending;
+
+impl<M: Machine> Core<M> {
+    /// A statement signed by the next leaf, of which there is one.
+    pub fn seal<S: Statement>(mut self, stmt: S) -> Result<(Core<M>, Signed<S>), Want>
+        requires leaf { 1 ≤ leaves_of self }
+        requires range { S.in_range stmt }
+        ensures core { IfOk result (λ r. r.0 ≡ spent self) }
+        ensures value { IfOk result (λ r. r.1 ≡ sealed_by S.its_number S.spelling self.sealer stmt) }
+        ensures short { IfOk result (λ r. length r.1.sig ≤ 8192) }
+    {
+        match self.sealer.seal(stmt) {
+            Ok(signed) => Ok((self, signed)),
+            Err(SealFault::KeySpent) => unreachable!(),
+            Err(SealFault::Want) => Err(Want),
+        }
+    }
+
+    /// The response, signed and kept.
+    pub fn seal_spec(self, spec: Spec) -> Result<(Core<M>, Signed<Spec>), Want>
+        requires leaf { 1 ≤ leaves_of self }
+        requires spec { IsSpecInRange spec }
+        requires client { spec.client.0 < 64 }
+        ensures core { IfOk result (λ r. r.0 ≡ with_spec_of (spent self) (sealed_by numbers.spec spec_fields self.sealer spec)) }
+        ensures spec { IfOk result (λ r. r.1 ≡ sealed_by numbers.spec spec_fields self.sealer spec) }
+        ensures range { IfOk result (λ r. IsSignedInRange IsSpecInRange r.1) }
+    {
+        let (core, signed) = self.seal(spec)?;
+        let copy = signed_copy(&signed)?;
+        Ok((core.keep_spec(copy), signed))
+    }
+
+    /// One entry more, with its reply.
+    pub fn run_entry(mut self, entry: Entry) -> Result<(Core<M>, Bytes), Want>
+        requires room { last_place self.kept < window_of self }
+        requires client { entry.client.0 < 64 }
+        requires range { IsEntryInRange entry }
+        ensures core { IfOk result (λ r. r.0 ≡ record self { kept = longer self.kept entry }) }
+        ensures now { IfOk result (λ r. now_of M.rules r.0.kept ≡ one_entry M.rules (now_of M.rules self.kept) entry) }
+        ensures reply { IfOk result (λ r. r.1 ≡ M.rules.reply (now_of M.rules self.kept).state entry.client entry.op) }
+        ensures short { IfOk result (λ r. length r.1 ≤ 1100) }
+    {
+        match self.exec.run(entry) {
+            Ok(reply) => Ok((self, reply)),
+            Err((_, want)) => Err(want),
+        }
+    }
+
+    /// The last entry is taken out again, as if it had never been run.
+    pub fn unrun(mut self) -> Core<M>
+        requires { (k : Kept M.State) (e : Entry) → self.kept ≡ longer k e → IsTrueReport self.views (report_of (record self { kept = k })) }
+        ensures { (k : Kept M.State) (e : Entry) → self.kept ≡ longer k e → result ≡ record self { kept = k } }
+    {
+        self.exec.unrun();
+        self
+    }
+
+    // The last response to a client, in place of the one before.
+    fn keep_spec(mut self, spec: Signed<Spec>) -> Core<M>
+        requires client { spec.stmt.client.0 < 64 }
+        requires range { IsSignedInRange IsSpecInRange spec }
+        ensures { result ≡ with_spec_of self spec }
+    {
+        let at = spec.stmt.client.0 as usize;
+        self.specs[at] = Some(spec);
+        self
+    }
+
+    // ---- orders
+
+    /// An order above the end of the history is kept, in place of one that was kept there.
+    pub fn keep_order(mut self, order: OrderFrame) -> Result<Core<M>, Want>
+        requires order { IsOrderReady order }
+        requires above { last_place self.kept < order.order.stmt.place.0 }
+        requires within { order.order.stmt.place.0 ≤ window_of self }
+        ensures { IfOk result (λ r. r ≡ record self { orders = with_order self.orders order }) }
+    {
+        match self.orders.put(order) {
+            Ok(()) => Ok(self),
+            Err((_, want)) => Err(want),
+        }
+    }
+
+    /// The same of a copy.
+    pub fn keep_copy(self, order: &OrderFrame) -> Result<Core<M>, Want>
+        requires order { IsOrderReady order.now }
+        requires above { last_place self.kept < order.now.order.stmt.place.0 }
+        requires within { order.now.order.stmt.place.0 ≤ window_of self }
+        ensures { IfOk result (λ r. r ≡ record self { orders = with_order self.orders order.now }) }
+    {
+        let copy = frame_copy(order)?;
+        self.keep_order(copy)
+    }
+
+    /// The order of a place is dropped.
+    pub fn drop_order(mut self, place: Place) -> Core<M>
+        requires { last_place self.kept < place.0 }
+        ensures { result ≡ record self { orders = without_order self.orders place.0 } }
+    {
+        self.orders.drop_at(place);
+        self
+    }
+
+    /// What it asked the primary for last, or that nothing is missing any more.
+    pub fn keep_hole(mut self, hole: Option<Signed<Hole>>) -> Core<M>
+        requires { ForSome hole (IsSignedInRange IsHoleInRange) }
+        ensures { result ≡ record self { hole = hole } }
+    {
+        self.hole = hole;
+        self
+    }
+
+    // ---- requests that wait
+
+    /// A client's request that waits for its order, in place of its earlier one, or that none waits.
+    pub fn keep_pending(mut self, client: ClientId, pending: Option<Pending>) -> Core<M>
+        requires client { client.0 < 64 }
+        requires ready { IsKeptPending pending }
+        ensures { result ≡ with_pending self client pending }
+    {
+        self.pending[client.0 as usize] = pending;
+        self
+    }
+
+    /// A client's request waits no longer, where one of the client with this stamp was executed.
+    pub fn drop_pending(self, client: ClientId, stamp: Stamp) -> Core<M>
+        requires client { client.0 < 64 }
+        ensures { result ≡ with_pending self client (still_waiting stamp (waiting_of self client)) }
+    {
+        if self.still_waits(client, stamp) {
+            self
+        } else {
+            self.keep_pending(client, None)
+        }
+    }
+
+    // ---- what was said and certified
+
+    /// A commit certificate is kept where it is the first or further than the one before.
+    pub fn keep_certificate(mut self, place: Place, specs: Items<Signed<Spec>>) -> Core<M>
+        requires { IsOwnCertificate self place specs }
+        ensures core { result ≡ with_certificate self place specs }
+        ensures sealer { result.sealer ≡ self.sealer }
+        ensures kept { result.kept ≡ self.kept }
+        ensures mode { result.views.mode ≡ self.views.mode }
+        ensures last { result.views.last_view ≡ self.views.last_view }
+        ensures owed { (own : Option OwnCheckpoint) (brought : Bool) → checks_owed result own brought ≡ checks_owed self own brought }
+    {
+        self.views.keep_specs(place, specs.into_vec());
+        self
+    }
+
+    /// A local commit that was said.
+    pub fn keep_local(mut self, local: Signed<Local>) -> Result<Core<M>, Want>
+        requires { IsSignedInRange IsLocalInRange local }
+        ensures { IfOk result (λ r. r ≡ record self { locals = self.locals ++ local ∷ [] }) }
+    {
+        match self.locals.push(local) {
+            Ok(()) => Ok(self),
+            Err(want) => Err(want),
+        }
+    }
+}

@@ -1,0 +1,5 @@
+use Rattle.zy_top_hosting.proofs.Tellings.{untold}
+use Rattle.zy_top_hosting.proofs.telling.tell_done.Goals as goal
+
+pub returns-in-Err : goal.returns-in-Err
+returns-in-Err g c = untold _ _ _

@@ -1,0 +1,68 @@
+-- What the parts of a node's command and of an ask's give.
+use Rattle.std.specs.Prelude.{◌≡◌, ℕ, ◌<◌, ◌≤◌, ◌+◌, ◌^◌, Bool, true, false, IsTrue, List, Option, None, Result, Ok, Err, ⊤}
+use Rattle.zy_edge.specs.Faults.{IsCounted}
+use Rattle.zy_lms.specs.Height.{levels_of}
+use Rattle.zy_group.specs.declared.secret.Secret.{Secret}
+use Rattle.zy_table.specs.ClientState.{ClientState, leaves_of}
+use Rattle.zy_top_words.specs.Ends.{IsAnswer, IsWritten, Verdict, is_write_fault}
+use Rattle.zy_top_words.specs.declared.exit.Exit.{Exit}
+use Rattle.zy_top_words.specs.declared.exit.Exit.TheVariants as exits
+use Rattle.zy_top_hosting.specs.Files.{Replica, Seat}
+use Rattle.zy_top_hosting.specs.declared.seat.NodeSeat.{NodeSeat}
+use Rattle.zy_top_hosting.specs.declared.seat.AskSeat.{AskSeat}
+
+-- what was judged, or how it is refused, or a file could not be read, or memory was wanted
+abbrev pub IsJudged : {A : Type 0} → Result A Exit → Result A Exit → Type 0
+IsJudged read (Ok x) = read ≡ Ok x
+IsJudged read (Err exits.Want) = ⊤
+IsJudged read (Err exits.ReadFault) = ⊤
+IsJudged read (Err exit) = read ≡ Err exit
+
+-- so many leaves are left of its key
+abbrev pub Leaves : ℕ → Secret → Type 0
+Leaves left secret = secret.next + left ≤ 2 ^ levels_of secret.height
+
+-- the party is what the files tell, and so is its address
+abbrev pub node_in : Result NodeSeat Exit → Result (Seat Replica) Exit
+node_in (Ok seat) = Ok (record { core = seat.replica; address = seat.address })
+node_in (Err exit) = Err exit
+
+abbrev pub asker_in : Result AskSeat Exit → Result (Seat ClientState) Exit
+asker_in (Ok seat) = Ok (record { core = seat.client; address = seat.address })
+asker_in (Err exit) = Err exit
+
+-- the client may ask: nothing waits, and its key has a leaf
+pub record MayAsk (client : ClientState) : Type 0 where
+  pub free : client.waiting ≡ None
+  pub leaf : 0 < leaves_of client
+
+-- ---- what is written at the end
+
+-- what is told once the turns have ended ends so
+abbrev pub is_telling : Exit → Bool
+is_telling exits.Done = true
+is_telling exits.TurnsSpent = true
+is_telling exits.WriteFault = true
+is_telling exits.Want = true
+is_telling exit = false
+
+-- a verdict was told over a sink with this count of faults before and after
+pub record IsTelling (verdict : Verdict) (exit : Exit) (old new : Option (List ℕ)) (before after : ℕ) : Type 0 where
+  pub answer : IsAnswer verdict exit
+  pub written : IsWritten verdict exit old new
+  pub told : IsTrue (is_telling exit)
+  pub count : IsCounted (is_write_fault exit) before after
+
+-- how the turns of a node or of an ask may end
+abbrev pub is_turning : Exit → Bool
+is_turning exits.Done = true
+is_turning exits.TurnsSpent = true
+is_turning exits.WriteFault = true
+is_turning exits.LinkFault = true
+is_turning exits.Want = true
+is_turning exit = false
+
+-- and those whose files are in order, which may be read in vain
+abbrev pub is_hosting : Exit → Bool
+is_hosting exits.ReadFault = true
+is_hosting exit = is_turning exit

@@ -1,0 +1,91 @@
+// What the files of a node and of an ask tell.
+ghost use Rattle.std.specs.Prelude.{◌≡◌, ◌≤◌, ◌^◌, IfOk, IfSome};
+ghost use Rattle.zy_base.specs.declared.ids.Party.TheVariants as parties;
+ghost use Rattle.zy_edge.specs.Faults.{IsCounted};
+ghost use Rattle.zy_edge.specs.Files.{content_of};
+ghost use Rattle.zy_group.specs.Members.{AreMembers, IsNodeGroup, text_ask_group, text_node_group};
+ghost use Rattle.zy_group.specs.Secret.{text_secret};
+ghost use Rattle.zy_top_words.specs.Calls.{IsReading, stops_reading};
+ghost use Rattle.zy_top_hosting.specs.Calls.{IsJudged, Leaves, MayAsk, asker_in, node_in};
+ghost use Rattle.zy_top_hosting.specs.Files.{asker_start, judged, node_start};
+
+use crate::seat::{AskSeat, NodeSeat, ask_seat, node_seat};
+use std::alloc::Global;
+use zy_base::{ClientId, ReplicaId};
+use zy_edge::Files;
+use zy_group::{AskGroup, NodeGroup, Secret, read_ask_group, read_node_group, read_secret};
+use zy_top_words::{Exit, read_file};
+
+/// The replica that the files tell of.
+pub(crate) fn read_node<F: Files>(
+    alloc: Global,
+    group: &str,
+    secret: &str,
+    id: ReplicaId,
+    files: &mut F,
+) -> Result<NodeSeat, Exit>
+    ensures told { IfSome (F.held files.old) (λ held. IsJudged (node_start id (content_of held group.now) (content_of held secret.now)) (node_in result)) }
+    ensures party { IfOk result (λ seat. seat.address.party ≡ parties.Replica id) }
+    ensures exit { IsReading result }
+    ensures count { IsCounted (stops_reading result) (F.faults files.old) (F.faults files.new) }
+    ensures held { F.held files.new ≡ F.held files.old }
+{
+    let group = node_group(alloc, group, files)?;
+    let secret = secret_of(alloc, secret, 0, files)?;
+    node_seat(alloc, id, group, &secret)
+}
+
+/// The client that the files tell of.
+pub(crate) fn read_asker<F: Files>(
+    alloc: Global,
+    group: &str,
+    secret: &str,
+    id: ClientId,
+    files: &mut F,
+) -> Result<AskSeat, Exit>
+    ensures told { IfSome (F.held files.old) (λ held. IsJudged (asker_start id (content_of held group.now) (content_of held secret.now)) (asker_in result)) }
+    ensures party { IfOk result (λ seat. seat.address.party ≡ parties.Client id) }
+    ensures leaf { IfOk result (λ seat. MayAsk seat.client) }
+    ensures exit { IsReading result }
+    ensures count { IsCounted (stops_reading result) (F.faults files.old) (F.faults files.new) }
+    ensures held { F.held files.new ≡ F.held files.old }
+{
+    let group = ask_group(alloc, group, files)?;
+    let secret = secret_of(alloc, secret, 1, files)?;
+    ask_seat(alloc, id, group, &secret)
+}
+
+fn node_group<F: Files>(alloc: Global, name: &str, files: &mut F) -> Result<NodeGroup, Exit>
+    ensures told { IfSome (F.held files.old) (λ held. IsJudged (judged text_node_group (content_of held name.now)) result) }
+    ensures group { IfOk result IsNodeGroup }
+    ensures exit { IsReading result }
+    ensures count { IsCounted (stops_reading result) (F.faults files.old) (F.faults files.new) }
+    ensures held { F.held files.new ≡ F.held files.old }
+{
+    let text = read_file(alloc, files, name)?;
+    Ok(read_node_group(alloc, &text)?)
+}
+
+fn ask_group<F: Files>(alloc: Global, name: &str, files: &mut F) -> Result<AskGroup, Exit>
+    ensures told { IfSome (F.held files.old) (λ held. IsJudged (judged text_ask_group (content_of held name.now)) result) }
+    ensures group { IfOk result AreMembers }
+    ensures exit { IsReading result }
+    ensures count { IsCounted (stops_reading result) (F.faults files.old) (F.faults files.new) }
+    ensures held { F.held files.new ≡ F.held files.old }
+{
+    let text = read_file(alloc, files, name)?;
+    Ok(read_ask_group(alloc, &text)?)
+}
+
+fn secret_of<F: Files>(alloc: Global, name: &str, left: u32, files: &mut F) -> Result<Secret, Exit>
+    requires { left ≤ 1 }
+    ensures told { IfSome (F.held files.old) (λ held. IsJudged (judged (text_secret left) (content_of held name.now)) result) }
+    ensures leaves { IfOk result (Leaves left) }
+    ensures stamp { IfOk result (λ secret. secret.stamp ≤ 2 ^ 61) }
+    ensures exit { IsReading result }
+    ensures count { IsCounted (stops_reading result) (F.faults files.old) (F.faults files.new) }
+    ensures held { F.held files.new ≡ F.held files.old }
+{
+    let text = read_file(alloc, files, name)?;
+    Ok(read_secret(alloc, &text, left)?)
+}

@@ -1,0 +1,112 @@
+// A party in its place: its core as it begins, and the address at which it is heard.
+ghost use Rattle.std.specs.Prelude.{◌≡◌, ◌<◌, ◌≤◌, ◌^◌, false, IfOk, length};
+ghost use Rattle.zy_base.specs.declared.ids.Party.TheVariants as parties;
+ghost use Rattle.zy_group.specs.Members.{AreMembers, IsNodeGroup};
+ghost use Rattle.zy_top_words.specs.Calls.{IsReading, stops_reading};
+ghost use Rattle.zy_top_hosting.specs.Calls.{IsJudged, Leaves, MayAsk, asker_in, node_in};
+ghost use Rattle.zy_top_hosting.specs.Files.{asker_of, client_of, node_of, replica_of};
+
+use std::alloc::Global;
+use zy_base::{ClientId, Party, ReplicaId, Stamp, Want};
+use zy_client::Client;
+use zy_edge::Address;
+use zy_group::{AskGroup, NodeGroup, Secret, own_key, plain_counts};
+use zy_lms::LmsKey;
+use zy_replica::Replica;
+use zy_seal::Sealer;
+use zy_space::Space;
+use zy_top_words::Exit;
+
+/// A replica of a tuple space in its place.
+#[derive(Drop)]
+pub(crate) struct NodeSeat {
+    pub(crate) replica: Replica<Space>,
+    pub(crate) address: Address,
+}
+
+/// A client in its place.
+#[derive(Drop)]
+pub(crate) struct AskSeat {
+    pub(crate) client: Client,
+    pub(crate) address: Address,
+}
+
+/// The replica of the group that the secret is of.
+pub(crate) fn node_seat(
+    alloc: Global,
+    id: ReplicaId,
+    group: NodeGroup,
+    secret: &Secret,
+) -> Result<NodeSeat, Exit>
+    requires group { IsNodeGroup group }
+    requires leaves { Leaves 0 secret.now }
+    ensures judged { IsJudged (node_of id group secret.now) (node_in result) }
+    ensures party { IfOk result (λ seat. seat.address.party ≡ parties.Replica id) }
+    ensures exit { IsReading result }
+    ensures read { stops_reading result ≡ false }
+{
+    let address = Address {
+        port: group.members.port,
+        party: Party::Replica(id),
+    };
+    let key = own_key(alloc, address.party, &group.members.keys, secret)?;
+    let replica = replica_of(alloc, id, group, key)?;
+    Ok(NodeSeat { replica, address })
+}
+
+fn replica_of(
+    alloc: Global,
+    id: ReplicaId,
+    group: NodeGroup,
+    key: LmsKey,
+) -> Result<Replica<Space>, Want>
+    requires group { IsNodeGroup group }
+    requires member { id.0 < length group.members.keys.replicas }
+    ensures { IfOk result (λ replica. replica ≡ replica_of id group key) }
+{
+    let NodeGroup { k, members } = group;
+    let AskGroup { f, keys, port: _ } = members;
+    let sealer = Sealer::new(alloc, Party::Replica(id), key);
+    Replica::start(alloc, plain_counts(f), id, u64::from(k), sealer, keys)
+}
+
+/// The client of the group that the secret is of.
+pub(crate) fn ask_seat(
+    alloc: Global,
+    id: ClientId,
+    group: AskGroup,
+    secret: &Secret,
+) -> Result<AskSeat, Exit>
+    requires group { AreMembers group }
+    requires leaves { Leaves 1 secret.now }
+    requires stamp { secret.now.stamp ≤ 2 ^ 61 }
+    ensures judged { IsJudged (asker_of id group secret.now) (asker_in result) }
+    ensures party { IfOk result (λ seat. seat.address.party ≡ parties.Client id) }
+    ensures leaf { IfOk result (λ seat. MayAsk seat.client) }
+    ensures exit { IsReading result }
+    ensures read { stops_reading result ≡ false }
+{
+    let address = Address {
+        port: group.port,
+        party: Party::Client(id),
+    };
+    let key = own_key(alloc, address.party, &group.keys, secret)?;
+    let client = client_of(alloc, id, group, key, Stamp(secret.stamp))?;
+    Ok(AskSeat { client, address })
+}
+
+fn client_of(
+    alloc: Global,
+    id: ClientId,
+    group: AskGroup,
+    key: LmsKey,
+    stamp: Stamp,
+) -> Result<Client, Want>
+    requires group { AreMembers group }
+    requires stamp { stamp.0 ≤ 2 ^ 61 }
+    ensures { IfOk result (λ client. client ≡ client_of id group stamp key) }
+{
+    let AskGroup { f, keys, port: _ } = group;
+    let sealer = Sealer::new(alloc, Party::Client(id), key);
+    Client::start(alloc, plain_counts(f), id, sealer, keys, stamp)
+}

@@ -1,0 +1,202 @@
+// The words behind `node` and `ask`.
+ghost use Rattle.std.specs.Prelude.{◌≡◌};
+ghost use Rattle.zy_tuple.specs.Parties.{party_of};
+ghost use Rattle.zy_tuple.specs.Reading.{op_read};
+ghost use Rattle.zy_top_words.specs.Calls.{IsCommand, IsNamed, IsOpRead, IsTurnsRead, named_in};
+ghost use Rattle.zy_top_words.specs.Words.{ask_op, ask_party, ask_words, client_in, names_of, node_alone, node_party, node_words, op_alone, replica_in, secret_named, texts, turns_of};
+
+use crate::words::{Command, number_read};
+use std::alloc::Global;
+use zy_base::{ClientId, Party, ReplicaId};
+use zy_tuple::{LineFault, Op, op_text_read, party_text_read};
+
+/// The names of a group file and of a secret file, and the words behind them.
+#[derive(Clone, Copy)]
+pub(crate) struct Names<'a> {
+    group: &'a str,
+    secret: &'a str,
+    others: &'a [String],
+}
+
+/// How many turns, and the words behind.
+#[derive(Clone, Copy)]
+pub(crate) struct TurnsRead<'a> {
+    number: u32,
+    others: &'a [String],
+}
+
+fn names_of(words: &[String]) -> Result<Names<'_>, u64>
+    ensures { IsNamed (names_of (texts words.now)) result }
+{
+    let [group, others @ ..] = words else {
+        return Err(2);
+    };
+    if group.as_str().starts_with('-') {
+        return Err(2);
+    }
+    secret_named(group.as_str(), others)
+}
+
+fn secret_named<'a>(group: &'a str, words: &'a [String]) -> Result<Names<'a>, u64>
+    ensures { IsNamed (secret_named group.now (texts words.now)) result }
+{
+    let [secret, others @ ..] = words else {
+        return Err(3);
+    };
+    if secret.as_str().starts_with('-') {
+        return Err(3);
+    }
+    Ok(Names {
+        group,
+        secret: secret.as_str(),
+        others,
+    })
+}
+
+fn replica_in(word: &[u8]) -> Option<ReplicaId>
+    ensures { result ≡ replica_in (party_of word.now) }
+{
+    match party_text_read(word) {
+        Some(Party::Replica(id)) => Some(id),
+        Some(Party::Client(_)) => None,
+        None => None,
+    }
+}
+
+fn client_in(word: &[u8]) -> Option<ClientId>
+    ensures { result ≡ client_in (party_of word.now) }
+{
+    match party_text_read(word) {
+        Some(Party::Client(id)) => Some(id),
+        Some(Party::Replica(_)) => None,
+        None => None,
+    }
+}
+
+fn turns_of(words: &[String]) -> Result<TurnsRead<'_>, u64>
+    ensures { IsTurnsRead (turns_of (texts words.now)) result }
+{
+    let [turns, others @ ..] = words else {
+        return Err(5);
+    };
+    match number_read(turns.as_bytes()) {
+        Some(number) => Ok(TurnsRead { number, others }),
+        None => Err(5),
+    }
+}
+
+/// Behind `node` stand the names of a group file and of a secret file, a replica, and a number of turns.
+pub(crate) fn node_words(words: &[String]) -> Result<Command<'_>, u64>
+    ensures { IsCommand (node_words (texts words.now)) result }
+{
+    match names_of(words) {
+        Ok(names) => node_party(names),
+        Err(word) => Err(word),
+    }
+}
+
+fn node_party(names: Names<'_>) -> Result<Command<'_>, u64>
+    ensures { IsCommand (node_party (named_in names.entry) (texts names.entry.others.now)) result }
+{
+    let [party, others @ ..] = names.others else {
+        return Err(4);
+    };
+    let Some(id) = replica_in(party.as_bytes()) else {
+        return Err(4);
+    };
+    match turns_of(others) {
+        Ok(turns) => node_alone(names, id, turns.number, turns.others),
+        Err(word) => Err(word),
+    }
+}
+
+fn node_alone<'a>(
+    names: Names<'a>,
+    id: ReplicaId,
+    turns: u32,
+    words: &'a [String],
+) -> Result<Command<'a>, u64>
+    ensures { IsCommand (node_alone (named_in names.entry) id turns (texts words.now)) result }
+{
+    if !words.is_empty() {
+        return Err(6);
+    }
+    Ok(Command::Node {
+        group: names.group,
+        secret: names.secret,
+        id,
+        turns,
+    })
+}
+
+/// Behind `ask` stand the names of a group file and of a secret file, a client, a number of turns, and an operation, which
+/// is judged by `op_read_alone`.
+pub(crate) fn ask_words(words: &[String]) -> Result<Command<'_>, u64>
+    ensures { IsCommand (ask_words (texts words.now)) result }
+{
+    match names_of(words) {
+        Ok(names) => ask_party(names),
+        Err(word) => Err(word),
+    }
+}
+
+fn ask_party(names: Names<'_>) -> Result<Command<'_>, u64>
+    ensures { IsCommand (ask_party (named_in names.entry) (texts names.entry.others.now)) result }
+{
+    let [party, others @ ..] = names.others else {
+        return Err(4);
+    };
+    let Some(id) = client_in(party.as_bytes()) else {
+        return Err(4);
+    };
+    match turns_of(others) {
+        Ok(turns) => ask_op(names, id, turns.number, turns.others),
+        Err(word) => Err(word),
+    }
+}
+
+fn ask_op<'a>(
+    names: Names<'a>,
+    id: ClientId,
+    turns: u32,
+    words: &'a [String],
+) -> Result<Command<'a>, u64>
+    ensures { IsCommand (ask_op (named_in names.entry) id turns (texts words.now)) result }
+{
+    let [op, others @ ..] = words else {
+        return Err(6);
+    };
+    Ok(Command::Ask {
+        group: names.group,
+        secret: names.secret,
+        id,
+        turns,
+        op: op.as_str(),
+        others,
+    })
+}
+
+/// Why no operation is asked for.
+#[derive(Clone, Copy, Debug, PartialEq, Eq)]
+pub enum OpFault {
+    /// The word with this number, counted from 1, is no operation or is too many.
+    Word(u64),
+    Want,
+}
+
+/// The operation that the sixth word spells, with no word behind it.
+pub fn op_read_alone(alloc: Global, op: &str, others: &[String]) -> Result<Op, OpFault>
+    ensures { IsOpRead (op_alone (op_read op.now) (texts others.now)) result }
+{
+    match op_text_read(alloc, op.as_bytes()) {
+        Ok(op) => {
+            if others.is_empty() {
+                Ok(op)
+            } else {
+                Err(OpFault::Word(7))
+            }
+        }
+        Err(LineFault::Rule(_)) => Err(OpFault::Word(6)),
+        Err(LineFault::Want) => Err(OpFault::Want),
+    }
+}
