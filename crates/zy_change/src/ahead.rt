@@ -3,8 +3,7 @@ ghost use Rattle.zy_change.specs.Ahead as forms;
 ghost use Rattle.zy_change.specs.Ahead.{IsHeard, IsOwn};
 ghost use Rattle.zy_change.specs.Choosing.{choice_of};
 
-use crate::machine::ViewMachine;
-use crate::machine::index_of;
+use crate::machine::{ViewMachine, index_of};
 use zy_base::{Items, ReplicaId, View, Want};
 use zy_choose::{Choice, Report, choose};
 use zy_evidence::read;

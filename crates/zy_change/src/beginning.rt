@@ -6,9 +6,8 @@ ghost use Rattle.zy_change.specs.Views as views;
 ghost use Rattle.zy_change.specs.Ahead as forms;
 
 use crate::giving::change_copy;
-use crate::machine::{forget_all, index_of};
 use crate::kept::{Accepted, Chosen, Waiting};
-use crate::machine::ViewMachine;
+use crate::machine::{ViewMachine, forget_all, index_of};
 use std::alloc::Global;
 use zy_base::{Items, Mode, View, Want};
 use zy_parts::{Began, Change, New, Signed};

@@ -17,13 +17,13 @@ ghost use Rattle.zy_change.specs.EnteringAhead.{IsInFrames};
 ghost use Rattle.zy_change.specs.Confirming as confirming;
 
 use crate::judging::chosen_in;
-use std::alloc::Global;
-use zy_base::{Answer, Cause, Digest, Mode, Party, Place, View, Want};
-use zy_cert::check_cert;
 use crate::kept::{Accepted, Chosen};
 use crate::machine::ViewMachine;
 use crate::owed::Owed;
-use crate::entering::adoption;
+use crate::owing::adoption;
+use std::alloc::Global;
+use zy_base::{Answer, Cause, Digest, Mode, Party, Place, View, Want};
+use zy_cert::check_cert;
 use zy_parts::{Began, New, Signed, Told};
 use zy_vframes::ViewCert;
 

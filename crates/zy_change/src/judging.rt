@@ -8,11 +8,11 @@ ghost use Rattle.zy_change.specs.Ahead.{IsChoiceInRange};
 ghost use Rattle.zy_change.specs.Choosing.{choice_of};
 ghost use Rattle.zy_change.specs.Judging as judging;
 
+use crate::kept::Chosen;
+use crate::machine::ViewMachine;
 use std::alloc::Global;
 use zy_base::{Cause, Counts, Items, View, Want};
 use zy_cert::has_repeat;
-use crate::kept::Chosen;
-use crate::machine::ViewMachine;
 use zy_choose::{Choice, Report, choose};
 use zy_evidence::{ReportFault, Rule, report_in};
 use zy_parts::{Change, New, Signed};

@@ -12,8 +12,8 @@ ghost use Rattle.zy_change.specs.Fit.{IsCertified, IsFit, IsKeptChange};
 ghost use Rattle.zy_evidence.specs.Reading.{number_of_party};
 ghost use Rattle.zy_base.specs.declared.ids.Party.TheVariants as parties;
 
-use crate::slots::no_slots;
 use crate::kept::{Accepted, Certificate, Waiting};
+use crate::slots::no_slots;
 use std::alloc::Global;
 use std::marker::Model;
 use zy_base::{Counts, Digest, Items, Mode, Party, Place, ReplicaId, View, Want};

@@ -14,9 +14,8 @@ ghost use Rattle.zy_change.specs.Owing.{Pens};
 ghost use Rattle.zy_change.specs.Owing as owing;
 ghost use Rattle.zy_change.specs.Views as views;
 
-use crate::machine::index_of;
 use crate::kept::Chosen;
-use crate::machine::ViewMachine;
+use crate::machine::{ViewMachine, index_of};
 use crate::owed::{Adoption, Owed};
 use zy_base::{Cause, Mode, Party, ReplicaId, View, Want};
 use zy_choose::Choice;

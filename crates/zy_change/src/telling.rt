@@ -6,8 +6,8 @@ ghost use Rattle.zy_parts.specs.Reports.{IsToldInRange};
 ghost use Rattle.zy_change.specs.Fit.{IsStableInRange};
 ghost use Rattle.zy_change.specs.Views as views;
 
-use crate::machine::ViewMachine;
 use crate::kept::Certificate;
+use crate::machine::ViewMachine;
 use std::alloc::Global;
 use zy_base::{Digest, Items, Place, View, Want};
 use zy_chain::{Entry, Spine};

@@ -8,10 +8,10 @@ ghost use Rattle.zy_table.specs.Hates.{ask_for_hole as asked_for};
 ghost use Rattle.zy_replica.specs.Judging.{asked, asked_if};
 
 use zy_base::{Answer, Machine, Mode, Want};
-use zy_replica_state::{Core, Moved, Progress, signed_copy};
-use zy_replica_views::Ending;
 use zy_frames::Frame;
 use zy_parts::{Hole, Signed};
+use zy_replica_state::{Core, Moved, Progress, signed_copy};
+use zy_replica_views::Ending;
 use zy_table::To;
 
 // A copy of what it asked the primary for last.

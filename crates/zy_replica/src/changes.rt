@@ -18,9 +18,9 @@ ghost use Rattle.zy_replica.specs.Judging.{CanAll};
 
 use zy_base::{Machine, ReplicaId, Want};
 use zy_change::Owed;
+use zy_parts::{Change, Signed};
 use zy_replica_state::{Core, Moved};
 use zy_replica_views::{Ending, carry, judge_owed};
-use zy_parts::{Change, Signed};
 
 // What a report owes, whatever the signatures will be.
 fn owed_by_change<M: Machine>(core: &Core<M>, vote: &Signed<Change>) -> Result<Owed, Want>

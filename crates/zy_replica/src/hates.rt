@@ -15,9 +15,9 @@ ghost use Rattle.zy_replica.specs.Judging.{CanAll, LeavesToEnter};
 
 use zy_base::{Machine, Want};
 use zy_change::Owed;
+use zy_parts::{Hate, Signed};
 use zy_replica_state::{Core, Moved, Progress};
 use zy_replica_views::{Ending, carry, judge_owed};
-use zy_parts::{Hate, Signed};
 
 // What a hate owes, whatever the signatures will be.
 pub(crate) fn owed_by_hate<M: Machine>(core: &Core<M>, vote: &Signed<Hate>) -> Result<Owed, Want>

@@ -24,11 +24,11 @@ ghost use Rattle.zy_replica.specs.Judging.{CanAll};
 use zy_admit::Admit;
 use zy_base::{Cause, Machine, View, Want};
 use zy_change::Owed;
-use zy_replica_state::{Core, Moved};
-use zy_replica_views::{Ending, carry, judge_owed};
 use zy_frames::{Frame, OrderFrame};
 use zy_parts::{Order, Signed};
 use zy_replica_normal::{judge, order_as};
+use zy_replica_state::{Core, Moved};
+use zy_replica_views::{Ending, carry, judge_owed};
 use zy_table::To;
 
 fn next_view<M: Machine>(core: &Core<M>) -> View

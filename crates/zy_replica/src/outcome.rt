@@ -12,8 +12,8 @@ ghost use Rattle.zy_replica_state.specs.Ready.{IsActInRange, IsBodyInRange};
 use crate::replica::{Replica, Stepped};
 use std::alloc::Global;
 use zy_base::{Bytes, Items, Machine, Outgoing, Party, ReplicaId, Said, Spoken, Want};
-use zy_replica_state::{Moved, Progress};
 use zy_parts::signed_text;
+use zy_replica_state::{Moved, Progress};
 use zy_table::{Act, Body, Deeds, Gains, Remark, Sent, outgoing};
 
 // With frames and statements as bytes the step is done.

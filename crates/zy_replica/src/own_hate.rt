@@ -28,10 +28,10 @@ use crate::hates::{count_hate, owed_by_hate};
 use crate::judging::taken;
 use zy_base::{Bytes, Cause, Machine, Party, Want};
 use zy_change::Owed;
-use zy_replica_state::{Core, Moved, Progress, signed_copy};
-use zy_replica_views::{Ending, carry, judge_owed};
 use zy_frames::Frame;
 use zy_parts::{Hate, Signed};
+use zy_replica_state::{Core, Moved, Progress, signed_copy};
+use zy_replica_views::{Ending, carry, judge_owed};
 use zy_table::{Body, To};
 
 fn hate_now<M: Machine>(core: &Core<M>) -> Hate

@@ -16,8 +16,8 @@ use zy_base::{
     Answer, Counts, Digest, Event, Machine, Mode, Outgoing, Place, ReplicaId, Said, Stood, Timers,
     View, Want,
 };
-use zy_replica_state::Core;
 use zy_exec::Exec;
+use zy_replica_state::Core;
 use zy_seal::{Directory, Sealer};
 use zy_table::Gains;
 

@@ -6,9 +6,9 @@ ghost use Rattle.zy_table.specs.Roles.{in_role as has_role, is_client, is_replic
 ghost use Rattle.zy_table.specs.Whole as whole;
 
 use zy_base::{Items, Machine, Party};
-use zy_replica_state::Core;
 use zy_frames::Frame;
 use zy_parts::{Change, New, Order, Signed, Spec, Told};
+use zy_replica_state::Core;
 use zy_vframes::{ViewCert, ViewFrame};
 
 fn is_by_client(by: Party) -> bool

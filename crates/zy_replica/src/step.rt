@@ -10,19 +10,19 @@ ghost use Rattle.zy_seal.specs.Screening.{screen};
 ghost use Rattle.zy_table.specs.Roles.{in_role as has_role};
 ghost use Rattle.zy_table.specs.Whole.{is_view_frame_in_role as has_view_role, whole_step, timer as timer_row, decoded_as, view_decoded, hear_plain as plain_heard, hear_view as view_heard, plain_row as plain_row_of, view_row as view_row_of};
 
-use crate::roles::{in_role, is_view_frame_in_role};
-use zy_base::{Answer, Bytes, Cause, Event, FrameFault, Machine, TimerKind, Want};
-use zy_replica_state::{Core, Moved};
-use zy_replica_views::{confirmation, fetch, new_view, state_transfer, view_certificate};
-use zy_frames::{DecodeFault, Frame, OrderFrame};
-use zy_parts::{Fetch, Order, Signed};
-use zy_replica_normal::row;
-use zy_seal::screen_parts;
-use zy_vframes::ViewFrame;
 use crate::changes::change;
 use crate::hates::hate;
 use crate::misbehaviour::{order_or_blame, pom};
+use crate::roles::{in_role, is_view_frame_in_role};
 use crate::timers::{on_change_timer, on_request_timer};
+use zy_base::{Answer, Bytes, Cause, Event, FrameFault, Machine, TimerKind, Want};
+use zy_frames::{DecodeFault, Frame, OrderFrame};
+use zy_parts::{Fetch, Order, Signed};
+use zy_replica_normal::row;
+use zy_replica_state::{Core, Moved};
+use zy_replica_views::{confirmation, fetch, new_view, state_transfer, view_certificate};
+use zy_seal::screen_parts;
+use zy_vframes::ViewFrame;
 
 #[tactic(auto, unfolding(zy_table::specs::Whole::whole_step))]
 pub(crate) fn moves<M: Machine>(core: Core<M>, event: Event) -> Result<Moved<M>, Want>

@@ -17,8 +17,8 @@ use crate::asking::ask_for_hole;
 use crate::judging::taken;
 use crate::own_hate::hate_and_ask;
 use zy_base::{Answer, Machine, Mode, Want};
-use zy_replica_state::{Core, Moved, Progress};
 use zy_parts::{Change, Signed};
+use zy_replica_state::{Core, Moved, Progress};
 use zy_table::To;
 use zy_vframes::ViewFrame;
 

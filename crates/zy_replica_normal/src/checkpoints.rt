@@ -13,11 +13,11 @@ ghost use Rattle.zy_table.specs.Gathering.{checks_owed, gather_at as gathered_at
 ghost use Rattle.zy_table.specs.Checkpoints.{gathered, kept_as, response_beside as answered_beside, response as response_row, checkpoint_beside as checked_beside, checkpoint as checkpoint_row};
 ghost use Rattle.zy_replica_state.specs.Ready.{IsOwnReady};
 
+use crate::gathering::gather_at;
 use zy_base::{Answer, Cause, Machine, Want};
 use zy_check::Kept;
-use zy_replica_state::{Core, Moved};
 use zy_parts::{Check, Signed, Spec};
-use crate::gathering::gather_at;
+use zy_replica_state::{Core, Moved};
 use zy_table::OwnCheckpoint;
 
 // What is kept at a place is looked through, and with that the step ends.

@@ -20,11 +20,11 @@ ghost use Rattle.zy_chain.specs.Stretch.{head_in};
 ghost use Rattle.zy_exec.specs.Kept.{stretch_of};
 ghost use Rattle.zy_replica_state.specs.Ready.{IsOwnCertificate, IsOwnReady};
 
+use crate::gathering::gather_at;
 use zy_base::{Answer, Cause, ClientId, Digest, Items, Machine, Place, View, Want};
 use zy_cert::check_cert;
-use zy_replica_state::{Core, Moved, Progress, signed_copy};
 use zy_parts::{Local, Signed, Spec};
-use crate::gathering::gather_at;
+use zy_replica_state::{Core, Moved, Progress, signed_copy};
 use zy_table::{Body, OwnCheckpoint};
 
 fn local_at(point: (View, Place, Digest)) -> Local

@@ -13,8 +13,8 @@ ghost use Rattle.zy_replica_state.specs.Ready.{IsAskReady};
 use crate::requests::{hear_request, is_older, is_same};
 use zy_admit::{client_of, request_digest_of};
 use zy_base::{Answer, Cause, Machine, Party, Place, Stamp, Want};
-use zy_replica_state::{Core, Moved};
 use zy_parts::{Ask, Confirm, Signed};
+use zy_replica_state::{Core, Moved};
 
 // The order that it has for it, where that is kept.
 fn order_again<M: Machine>(core: Core<M>, by: Party, place: Place) -> Result<Moved<M>, Want>

@@ -13,8 +13,8 @@ ghost use Rattle.zy_table.specs.Gathering.{certificate_at, keep_certificate, owe
 ghost use Rattle.zy_replica_state.specs.Ready.{IsOwnReady};
 
 use zy_base::{Machine, Want};
-use zy_replica_state::{Core, Progress, signed_copy};
 use zy_parts::{Check, Signed};
+use zy_replica_state::{Core, Progress, signed_copy};
 use zy_table::{Body, OwnCheckpoint};
 
 // The checkpoint, signed and kept.

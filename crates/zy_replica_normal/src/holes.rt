@@ -13,9 +13,9 @@ ghost use Rattle.zy_replica_state.specs.Ready.{IsOrderReady};
 
 use std::alloc::Global;
 use zy_base::{Answer, Cause, Items, Machine, Party, Want};
-use zy_replica_state::{Core, Moved, Progress};
 use zy_frames::{Frame, OrderFrame};
 use zy_parts::{Hole, Signed};
+use zy_replica_state::{Core, Moved, Progress};
 use zy_table::{AnyFrame, Deeds, Sent, To};
 
 // Some orders, to the one that asked for them.

@@ -15,12 +15,12 @@ ghost use Rattle.zy_seal.specs.Sealing.{sealed_by};
 ghost use Rattle.zy_parts.specs.Statements.{IsHoleInRange, hole_fields};
 ghost use Rattle.zy_replica_state.specs.Ready.{IsOrderReady};
 
+use crate::running::{can_run, run_all};
 use zy_admit::{Admit, Position, client_of};
 use zy_base::{Answer, Cause, Machine, Place, Want};
-use zy_replica_state::{Core, Moved, Progress, signed_copy};
 use zy_frames::OrderFrame;
 use zy_parts::{Hole, Signed};
-use crate::running::{can_run, run_all};
+use zy_replica_state::{Core, Moved, Progress, signed_copy};
 use zy_table::{Body, To};
 
 fn position_of<M: Machine>(core: &Core<M>, frame: &OrderFrame) -> Position

@@ -21,14 +21,14 @@ ghost use Rattle.zy_table.specs.Running.{spec_of as spec_for, run, signs_of};
 ghost use Rattle.zy_table.specs.Requests.{response_of, respond_anew as anew, respond_with as answered_with, respond_again as answered_again, said_already as already, order_of as order_for, sealed_order as sealed, ordered as ordered_by, take_request as taken, request_at_primary as at_primary, confirm_of as confirm_for, sealed_confirm as confirmed, tell_primary as told_of, request_waits as waiting, forward as forwarded, request_at_backup as at_backup, new_request as fresh, request_after as after, is_behind as behind, request as request_row};
 ghost use Rattle.zy_replica_state.specs.Ready.{IsAskReady, IsKeptPending, IsOrderReady, IsPendingReady};
 
+use crate::running::{can_run, run_all};
 use zy_admit::{client_of, request_digest_of};
 use zy_base::{Answer, Cause, ClientId, Machine, Place, Stamp, Stood, Want};
 use zy_chain::next_head;
-use zy_replica_state::{Core, Moved, Progress, pending_copy, signed_copy, spec_of};
 use zy_exec::Known;
 use zy_frames::OrderFrame;
 use zy_parts::{Ask, Confirm, Order, Signed, Spec};
-use crate::running::{can_run, run_all};
+use zy_replica_state::{Core, Moved, Progress, pending_copy, signed_copy, spec_of};
 use zy_table::{Body, Pending};
 
 pub(crate) fn is_older(stamp: Stamp, last: Stamp) -> bool

@@ -17,9 +17,9 @@ use crate::holes::fill_hole;
 use crate::orders::hear_order;
 use crate::requests::hear_request;
 use zy_base::{Bytes, Cause, Items, Machine, Want};
-use zy_replica_state::{Core, Moved};
 use zy_frames::{Frame, OrderFrame};
 use zy_parts::{Ask, Check, Confirm, Hole, Order, Signed, Spec};
+use zy_replica_state::{Core, Moved};
 
 /// What a replica in its view makes of a frame whose signatures are verified and whose signers have the role for it. It
 /// takes no part in changes of view.

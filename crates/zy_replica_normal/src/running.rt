@@ -29,10 +29,12 @@ use crate::gathering::gather;
 use zy_admit::{client_of, is_newer, request_digest_of};
 use zy_base::{Answer, Bytes, Digest, Machine, Place, Want};
 use zy_chain::next_head;
-use zy_replica_state::{Core, Moved, Progress, bytes_copy, entry_of, own_with, signed_copy, spec_of};
 use zy_exec::Known;
 use zy_frames::OrderFrame;
 use zy_parts::{Ask, Order, Signed, Spec};
+use zy_replica_state::{
+    Core, Moved, Progress, bytes_copy, entry_of, own_with, signed_copy, spec_of,
+};
 use zy_table::{Act, Got, OwnCheckpoint};
 
 // ---- an entry is executed

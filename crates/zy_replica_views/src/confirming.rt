@@ -19,15 +19,15 @@ ghost use Rattle.zy_table.specs.Confirming.{confirmation as confirmation_row, ne
 ghost use Rattle.zy_replica_views.specs.Ending.{IsBeganOwed, IsCertOwed, IsNewOwed};
 ghost use Rattle.zy_replica_views.specs.Entering.{Accepts, ending_of, is_waiting as waiting};
 
+use crate::adopting::adopt;
 use crate::ending::end;
 use crate::judging::{Ending, judge_owed};
-use zy_base::{Machine, Want};
-use crate::adopting::adopt;
-use crate::waiting::arrive;
-use zy_change::{Accepted, Chosen, Owed};
-use zy_replica_state::{Core, Moved, Progress};
 use crate::leaving::accept;
+use crate::waiting::arrive;
+use zy_base::{Machine, Want};
+use zy_change::{Accepted, Chosen, Owed};
 use zy_parts::{Began, New, Signed};
+use zy_replica_state::{Core, Moved, Progress};
 use zy_vframes::ViewCert;
 
 // ---- a new view

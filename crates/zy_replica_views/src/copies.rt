@@ -4,8 +4,8 @@ ghost use Rattle.std.specs.Prelude.{◌≡◌, IfOk};
 
 use std::alloc::Global;
 use zy_base::{Items, Want};
-use zy_replica_state::bytes_copy;
 use zy_parts::{Began, Change, New, Signed};
+use zy_replica_state::bytes_copy;
 use zy_vframes::ViewCert;
 
 pub(crate) fn change_copy(change: &Change) -> Result<Change, Want>

@@ -7,12 +7,12 @@ ghost use Rattle.zy_table.specs.Leaving.{Attempt};
 ghost use Rattle.zy_table.specs.Beginning.{finished};
 ghost use Rattle.zy_replica_views.specs.Entering.{CanEnd, EndsAs, IsJudged, IsStep, ending_of};
 
-use crate::judging::Ending;
-use zy_base::{Answer, Machine, Want};
 use crate::adopting::certify;
+use crate::judging::Ending;
+use crate::leaving::carry_out;
+use zy_base::{Answer, Machine, Want};
 use zy_change::Owed;
 use zy_replica_state::{Moved, Progress};
-use crate::leaving::carry_out;
 
 /// A step ends with an answer; or with that of the view that begins, whose new view was confirmed.
 pub fn end<M: Machine>(

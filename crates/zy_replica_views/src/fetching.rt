@@ -26,12 +26,12 @@ ghost use Rattle.zy_replica_state.specs.Ready.{IsReady};
 ghost use Rattle.zy_replica_views.specs.Fetching.{Awaits, CanShow, IsAwaited, IsShownAt, against as cause_against, installed_as};
 
 use crate::judging::{checkpoints, is_signer};
-use zy_base::{Answer, Bytes, Cause, Machine, Place, View, Want};
 use crate::responding::respond_up_to;
+use zy_base::{Answer, Bytes, Cause, Machine, Place, View, Want};
 use zy_check::{StateFault, take_state};
-use zy_replica_state::{Core, Moved, told_in};
 use zy_exec::{Exec, InstallFault, showing};
 use zy_parts::{Fetch, Signed, Told};
+use zy_replica_state::{Core, Moved, told_in};
 use zy_table::To;
 use zy_vframes::ViewFrame;
 

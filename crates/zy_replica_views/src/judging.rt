@@ -11,12 +11,12 @@ ghost use Rattle.zy_replica_views.specs.Ending.{verdict_on as verdict};
 ghost use Rattle.zy_replica_views.specs.Signing.{signs_taken as signs_to_take};
 ghost use Rattle.zy_replica_views.specs.Entering.{CanEnter, ending_by, ending_of, ending_with, signs_after, unless_spent as counted, view_after as view_then};
 
-use zy_replica_adopt::judge;
-use zy_base::{Answer, Cause, Machine, Place, View, Want};
 use crate::waiting::wanted_of;
+use zy_base::{Answer, Cause, Machine, Place, View, Want};
 use zy_change::{Adoption, Owed};
-use zy_replica_state::Core;
 use zy_parts::Told;
+use zy_replica_adopt::judge;
+use zy_replica_state::Core;
 use zy_table::Verdict;
 
 /// How a step ends, once what it owes is carried out.

@@ -25,8 +25,8 @@ ghost use Rattle.zy_replica_views.specs.Follows.{CanCarry, IsChosenIn, signs_for
 use crate::copies::{cert_copy, change_copy, new_copy, signed_change_copy, signed_new_copy};
 use zy_base::{Machine, Party, ReplicaId, View, Want};
 use zy_change::{Accepted, Chosen, Owed};
-use zy_replica_state::{Core, Progress, signed_copy};
 use zy_parts::{Began, Change, New, Signed};
+use zy_replica_state::{Core, Progress, signed_copy};
 use zy_table::{Body, To};
 use zy_vframes::{ViewCert, ViewFrame};
 

@@ -19,6 +19,5 @@ mod waiting;
 
 pub use confirming::{confirmation, new_view, view_certificate};
 pub use ending::carry;
-pub use ending_laws::certificates;
 pub use fetching::{fetch, state_transfer};
 pub use judging::{Ending, judge_owed};

@@ -14,9 +14,9 @@ ghost use Rattle.zy_table.specs.Adopting.{checkpoints_between};
 ghost use Rattle.zy_table.specs.Beginning.{respond_alone as responding, respond_to as responding_to, respond_up_to as responding_up_to};
 
 use zy_base::{Bytes, Machine, Place, Want};
-use zy_replica_state::{Core, Progress, bytes_copy, signed_copy};
 use zy_parts::{Signed, Spec};
 use zy_replica_normal::keep_own_spec;
+use zy_replica_state::{Core, Progress, bytes_copy, signed_copy};
 use zy_table::OwnCheckpoint;
 
 /// The response to the entry of a checkpoint is signed and kept, and goes to its client and to all. No order goes with it.

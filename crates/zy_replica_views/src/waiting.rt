@@ -18,11 +18,11 @@ ghost use Rattle.zy_table.specs.Deeds.{act as acting};
 ghost use Rattle.zy_replica_state.specs.Ready.{IsReady, IsWaitingReady};
 ghost use Rattle.zy_table.specs.Beginning.{arrive as arriving, ask_each as asking_each, asked_of as those_asked, fetch_said, fetch_to as fetching, send_to_each as sent_to_each, wait_for as waiting_for, wanted_of as wanted};
 
+use crate::leaving::leave_alone;
 use zy_base::{Items, Machine, Party, ReplicaId, Stood, View, Want};
 use zy_change::Chosen;
-use zy_replica_state::{Core, Progress, signed_copy, told_in};
-use crate::leaving::leave_alone;
 use zy_parts::{Check, Fetch, Signed, Told};
+use zy_replica_state::{Core, Progress, signed_copy, told_in};
 use zy_table::{AnyFrame, Body, Sent, To};
 use zy_vframes::{ViewCert, ViewFrame};
 

@@ -6,8 +6,8 @@ ghost use Rattle.zy_top.specs.Replaying.{IsSetupRead};
 use std::alloc::Global;
 use zy_base::{ClientId, ReplicaId, Want};
 use zy_group::{ReplayGroup, plain_counts, read_replay_group};
-use zy_world_setup::Setup;
 use zy_top_words::Exit;
+use zy_world_setup::Setup;
 
 /// What the world of the group that a file's text tells of begins with.
 pub(crate) fn read_setup(alloc: Global, text: &[u8]) -> Result<Setup, Exit>

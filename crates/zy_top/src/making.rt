@@ -20,11 +20,11 @@ use zy_group::plain_counts;
 use zy_lms::Height;
 use zy_ots::OtsType;
 use zy_schedule::{Line, make};
-use zy_world_setup::Setup;
 use zy_space::Space;
 use zy_top_words::{Asks, Exit, write_all};
 use zy_world::World;
 use zy_world_law::runs_are_safe;
+use zy_world_setup::Setup;
 
 /// Every world of a run that is made is safe, and the agreed list only grows.
 pub(crate) fn made_runs_are_safe()

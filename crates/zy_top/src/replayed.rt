@@ -16,9 +16,9 @@ use std::alloc::Global;
 use zy_base::{Machine, Want};
 use zy_edge::Sink;
 use zy_schedule::Line;
-use zy_world_setup::Setup;
 use zy_top_words::{Broken, Exit, write_all};
 use zy_world::World;
+use zy_world_setup::Setup;
 
 /// What is to be written.
 #[derive(Drop)]

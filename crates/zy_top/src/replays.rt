@@ -17,10 +17,10 @@ use crate::replayed::{replay, write_replayed};
 use std::alloc::Global;
 use zy_edge::{Files, Sink};
 use zy_schedule::{Line, read_schedule};
-use zy_world_setup::Setup;
 use zy_space::Space;
 use zy_top_words::{Exit, read_file};
 use zy_world_law::runs_are_safe;
+use zy_world_setup::Setup;
 
 /// Every world of a run that a group and a schedule tell of is safe, and the agreed list only grows.
 pub(crate) fn replays_are_safe()

@@ -15,8 +15,8 @@ use crate::tale::Tale;
 use std::alloc::Global;
 use zy_base::{ClientId, Items, Machine, Party, View, Want};
 use zy_schedule::Line;
-use zy_tuple::{Op, Reply, op_bytes, reply_bytes};
 use zy_top_words::Broken;
+use zy_tuple::{Op, Reply, op_bytes, reply_bytes};
 use zy_world::{World, WorldFault, WorldStepped};
 use zy_world_law::{Note, WorldEvent};
 

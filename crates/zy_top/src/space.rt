@@ -10,8 +10,8 @@ use std::alloc::Global;
 use zy_base::{ClientId, Machine, Want};
 use zy_edge::Sink;
 use zy_space::Space;
-use zy_tuple::{Op, reply_text_put};
 use zy_top_words::{Exit, write_all};
+use zy_tuple::{Op, reply_text_put};
 
 /// The report is written whenever it has so many bytes, and at its end.
 const PIECE: usize = 16_384;

@@ -18,8 +18,8 @@ use zy_base::{Bytes, ClientId};
 use zy_client::Client;
 use zy_edge::{Bound, Clock, Files, Link, Sink};
 use zy_node::{AskFault, Asked, ask_over};
-use zy_tuple::{Op, op_bytes};
 use zy_top_words::Exit;
+use zy_tuple::{Op, op_bytes};
 
 /// Asks for an operation as a client of the group, takes turns until the request is complete, at most so many, and writes
 /// the completion, if it came, and where the client's key and stamps go on. The names are those of the group's file and of

@@ -18,8 +18,8 @@ use crate::step::{ClientStep, ReplicaStep};
 use crate::{World, WorldFault, WorldStepped};
 use zy_base::{Answer, Bytes, Cause, ClientId, Event, Machine, Party, ReplicaId, Want};
 use zy_table::{AnyFrame, Done};
-use zy_world_setup::read_frame;
 use zy_world_law::Note;
+use zy_world_setup::read_frame;
 
 impl<M: Machine> World<M> {
     pub(crate) fn noted(self, note: Note) -> WorldStepped<M>

@@ -24,8 +24,8 @@ use crate::{World, WorldStepped};
 use zy_base::{Bytes, Cause, Items, Machine, Party, View, Want};
 use zy_parts::{Ask, Signed};
 use zy_seal::SealFault;
-use zy_world_setup::{read_statement, sealer_at};
 use zy_world_law::Note;
+use zy_world_setup::{read_statement, sealer_at};
 
 impl<M: Machine> World<M> {
     /// A liar orders the requests of these frames as one history.

@@ -20,8 +20,7 @@ use zy_base::{ClientId, Machine, ReplicaId, Stamp, Want};
 use zy_client::Client;
 use zy_replica::Replica;
 use zy_seal::{Directory, Sealer};
-use zy_world_setup::{Keyring, Setup};
-use zy_world_setup::{KeptTexts, SaidTexts};
+use zy_world_setup::{KeptTexts, Keyring, SaidTexts, Setup};
 
 impl<M: Machine> World<M> {
     /// The world before its first event: each key at its leaf 0, each client at the stamp 0, and nothing sent.

@@ -14,8 +14,7 @@ use zy_base::{ClientId, Digest, Machine, Place, ReplicaId};
 use zy_client::Client;
 use zy_replica::Replica;
 use zy_seal::Directory;
-use zy_world_setup::Setup;
-use zy_world_setup::{KeptTexts, SaidTexts};
+use zy_world_setup::{KeptTexts, SaidTexts, Setup};
 
 /// All parties of a replay, the frames that were sent, and the texts that are kept. Contracts say of each whole world that it
 /// shows what an event makes of it.

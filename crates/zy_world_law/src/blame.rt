@@ -8,10 +8,11 @@ ghost use Rattle.zy_world_law.specs.Setup.{IsSetup, Setup};
 ghost use Rattle.zy_world_law.specs.World.{World};
 
 use zy_base::Machine;
-use zy_law_views::transfer_rows;
 use zy_client::held_responses;
-use zy_law_steps::{gained_entries, whole_steps};
-use zy_law_steps::{said_back, same_keys, spelled_start, spelled_steps};
+use zy_law_steps::{
+    gained_entries, said_back, same_keys, spelled_start, spelled_steps, whole_steps,
+};
+use zy_law_views::transfer_rows;
 
 /// No correct replica is blamed. In each world of a run, no two verified orders of one view and place that differ are signed by a
 /// correct replica, unless one is forged. And whatever event is next, no correct replica refuses it because two heads stand at one

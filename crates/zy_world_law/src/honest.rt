@@ -9,10 +9,11 @@ ghost use Rattle.zy_world_law.specs.declared.event.WorldEvent.{WorldEvent};
 ghost use Rattle.zy_world_law.specs.declared.note.Note.{Note};
 
 use zy_base::Machine;
-use zy_law_views::transfer_rows;
 use zy_client::held_responses;
-use zy_law_steps::{gained_entries, whole_steps};
-use zy_law_steps::{said_back, same_keys, spelled_start, spelled_steps};
+use zy_law_steps::{
+    gained_entries, said_back, same_keys, spelled_start, spelled_steps, whole_steps,
+};
+use zy_law_views::transfer_rows;
 
 /// The start is good where at most f replicas lie, an honest event keeps a good world good, a good world is safe, and the
 /// agreed list only grows.

@@ -7,10 +7,11 @@ ghost use Rattle.zy_world_law.specs.Setup.{IsSetup, Setup};
 ghost use Rattle.zy_world_law.specs.World.{start};
 
 use zy_base::Machine;
-use zy_law_views::transfer_rows;
 use zy_client::held_responses;
-use zy_law_steps::{gained_entries, whole_steps};
-use zy_law_steps::{said_back, same_keys, spelled_start, spelled_steps};
+use zy_law_steps::{
+    gained_entries, said_back, same_keys, spelled_start, spelled_steps, whole_steps,
+};
+use zy_law_views::transfer_rows;
 
 /// Every run is safe: for each setup in which at most f replicas lie, and each schedule, each world of the run is safe, and
 /// the agreed list before each event is a front of the one after it.

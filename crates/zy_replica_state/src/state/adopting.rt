@@ -30,12 +30,12 @@ use crate::Core;
 use crate::checkpoints::locals_from;
 use std::mem;
 use zy_admit::Admission;
-use zy_replica_adopt::take_over;
 use zy_base::{Items, Machine, Place, Want};
 use zy_change::{Chosen, Waiting};
 use zy_check::Checkpoints;
 use zy_exec::Exec;
 use zy_parts::{Check, Signed, Told};
+use zy_replica_adopt::take_over;
 use zy_table::Gains;
 use zy_vframes::ViewCert;
 
