@@ -78,7 +78,10 @@ const ROWS: [Row; 6] = [
 
 fn are_words(read: &[String], wanted: &[&[u8]]) -> bool {
     read.len() == wanted.len()
-        && read.iter().zip(wanted).all(|(word, wanted)| word.as_bytes() == *wanted)
+        && read
+            .iter()
+            .zip(wanted)
+            .all(|(word, wanted)| word.as_bytes() == *wanted)
 }
 
 #[test]

@@ -33,7 +33,11 @@ fn link_of_pieces(alloc: Global) -> Result<MemLink, Fail> {
     Ok(MemLink::new(alloc, coming, Vec::new(alloc), 8)?)
 }
 
-fn turned(host: Host<Probe>, link: &mut MemLink, clock: &mut MemClock) -> Result<Host<Probe>, Want> {
+fn turned(
+    host: Host<Probe>,
+    link: &mut MemLink,
+    clock: &mut MemClock,
+) -> Result<Host<Probe>, Want> {
     match host.turn(link, clock) {
         Ok(host) => Ok(host),
         Err(_) => Err(Want),

@@ -100,11 +100,23 @@ const COUNTS: &str = "f = 1\nk = 8\nclients = 4";
 const WRONG_FILES: [FilesRow; 30] = [
     ("f = 5\nport = 47000", KEYS, 0, "=", 1),
     (COUNTS, "", 0, "=", 9),
-    ("f = 1\nk = 8\nclients = 4\nkeys = 8\nport = 1", "", 0, "=", 9),
+    (
+        "f = 1\nk = 8\nclients = 4\nkeys = 8\nport = 1",
+        "",
+        0,
+        "=",
+        9,
+    ),
     ("f = 1\nk = 8\nclients = 4\nkeys = []", "", 0, "=", 9),
     ("f = 1\nk = 8\nclients = 5", KEYS, 0, "=", 9),
     (COUNTS, KEYS, 0, "=", 10),
-    ("f = 1\nk = 8\nclients = 4\nport = \"47000\"", KEYS, 0, "", 10),
+    (
+        "f = 1\nk = 8\nclients = 4\nport = \"47000\"",
+        KEYS,
+        0,
+        "",
+        10,
+    ),
     ("f = 1\nk = 8\nclients = 4\nport = 1023", KEYS, 0, "", 10),
     ("f = 1\nk = 8\nclients = 4\nport = 65457", KEYS, 0, "", 10),
     (GROUP, KEYS, 0, "=", 11),
@@ -163,9 +175,24 @@ const WRONG_KEYS: [KeyRow; 6] = [
     (CLIENT_3, &SECRET_OF_CLIENT, "next = 32", 16),
     (REPLICA_0, &SECRET_OF_CLIENT, "next = 32", 18),
     (CLIENT_3, &SECRET_OF_REPLICA, "next = 31", 18),
-    (Party::Replica(ReplicaId(1)), &SECRET_OF_REPLICA, "next = 0", 18),
-    (Party::Replica(ReplicaId(4)), &SECRET_OF_REPLICA, "next = 0", 18),
-    (Party::Client(ClientId(4)), &SECRET_OF_CLIENT, "next = 0", 18),
+    (
+        Party::Replica(ReplicaId(1)),
+        &SECRET_OF_REPLICA,
+        "next = 0",
+        18,
+    ),
+    (
+        Party::Replica(ReplicaId(4)),
+        &SECRET_OF_REPLICA,
+        "next = 0",
+        18,
+    ),
+    (
+        Party::Client(ClientId(4)),
+        &SECRET_OF_CLIENT,
+        "next = 0",
+        18,
+    ),
 ];
 
 fn runs_with(alloc: Global, row: &KeyRow) -> Result<Ran, Want> {
@@ -241,7 +268,13 @@ fn a_node_ends_with_its_turns_or_its_link(rt: HostRuntime) -> Result<(), Fail> {
     for row in &TURNS_OF_A_NODE {
         let secret = lines_and(rt.alloc(), &SECRET_OF_REPLICA, "next = 7\n")?;
         let ran = turns_taken(rt.alloc(), REPLICA_0, secret, row)?;
-        assert_eq!(rt; ran, ended(REPLICA_0, row.2), "{} turns, call {}", row.0, row.1);
+        assert_eq!(rt;
+            ran,
+            ended(REPLICA_0, row.2),
+            "{} turns, call {}",
+            row.0,
+            row.1
+        );
     }
     Ok(())
 }
@@ -251,7 +284,13 @@ fn an_ask_ends_with_its_turns_or_its_link(rt: HostRuntime) -> Result<(), Fail> {
     for row in &TURNS_OF_AN_ASK {
         let secret = lines_and(rt.alloc(), &SECRET_OF_CLIENT, "next = 0\nstamp = 0\n")?;
         let ran = turns_taken(rt.alloc(), CLIENT_3, secret, row)?;
-        assert_eq!(rt; ran, ended(CLIENT_3, row.2), "{} turns, call {}", row.0, row.1);
+        assert_eq!(rt;
+            ran,
+            ended(CLIENT_3, row.2),
+            "{} turns, call {}",
+            row.0,
+            row.1
+        );
     }
     Ok(())
 }

@@ -49,12 +49,36 @@ struct Step {
 }
 
 const STEPS: [Step; 6] = [
-    Step { piece: "abc", wrote: Wrote::Took(2), taken: "ab" },
-    Step { piece: "c", wrote: Wrote::Took(1), taken: "abc" },
-    Step { piece: "def", wrote: Wrote::Took(2), taken: "abcde" },
-    Step { piece: "fg", wrote: Wrote::Failed, taken: "abcde" },
-    Step { piece: "f", wrote: Wrote::Took(1), taken: "abcdef" },
-    Step { piece: "g", wrote: Wrote::Failed, taken: "abcdef" },
+    Step {
+        piece: "abc",
+        wrote: Wrote::Took(2),
+        taken: "ab",
+    },
+    Step {
+        piece: "c",
+        wrote: Wrote::Took(1),
+        taken: "abc",
+    },
+    Step {
+        piece: "def",
+        wrote: Wrote::Took(2),
+        taken: "abcde",
+    },
+    Step {
+        piece: "fg",
+        wrote: Wrote::Failed,
+        taken: "abcde",
+    },
+    Step {
+        piece: "f",
+        wrote: Wrote::Took(1),
+        taken: "abcdef",
+    },
+    Step {
+        piece: "g",
+        wrote: Wrote::Failed,
+        taken: "abcdef",
+    },
 ];
 
 fn has_taken(tape: &Tape, text: &str) -> bool {

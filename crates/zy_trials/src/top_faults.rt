@@ -68,9 +68,7 @@ fn long_script(alloc: Global) -> Result<Vec<(Bytes, Bytes)>, Want> {
 
 /// Whether the lines that were taken say that nothing was found, the last one maybe in part.
 fn are_nones(taken: &[u8]) -> bool {
-    taken
-        .chunks(5)
-        .all(|line| b"none\n".starts_with(line))
+    taken.chunks(5).all(|line| b"none\n".starts_with(line))
 }
 
 /// How the script ends, how many bytes were taken, and whether they are a front of the report.
@@ -93,7 +91,11 @@ fn a_script_ends_with_the_first_fault(rt: HostRuntime) -> Result<(), Fail> {
     for row in &SCRIPTS {
         let (files, sink, room, exit, taken) = *row;
         let end = script_ends(rt.alloc(), row)?;
-        assert_eq!(rt; end, (exit, taken, true), "files {files:?}, sink {sink:?}, room {room}");
+        assert_eq!(rt;
+            end,
+            (exit, taken, true),
+            "files {files:?}, sink {sink:?}, room {room}"
+        );
     }
     Ok(())
 }
