@@ -3,13 +3,14 @@
 ghost use Rattle.std.specs.Prelude.{◌≤◌, length};
 
 use crate::group::{ASKER, client_at, directory, lock_operation, node};
+use crate::loopback::{bound_link, first_port};
 use std::alloc::Global;
 use std::net::Net;
 use std::test::Fail;
 use std::{process, time};
 use zy_base::{Party, Place, ReplicaId, Stamp, View};
 use zy_client::{Client, Path};
-use zy_edge::{Bound, Clock, Link, RealClock, UdpLink};
+use zy_edge::{Clock, Link, RealClock, UdpLink};
 use zy_node::{Asker, Begun, Node, NodeFault};
 use zy_seal::Directory;
 use zy_space::Space;
@@ -19,18 +20,6 @@ use zy_space::Space;
 struct Member<'a, R: Net + time::Clock> {
     node: Node<Space>,
     link: UdpLink<'a, R>,
-}
-
-fn bound_link<'a, R: Net + time::Clock>(
-    rt: &'a R,
-    port: u16,
-    party: Party,
-) -> Result<UdpLink<'a, R>, Fail> {
-    let mut link = UdpLink::new(rt);
-    match link.bind(port, party) {
-        Bound::Bound => Ok(link),
-        Bound::Failed => Err(Fail::from("no address")),
-    }
 }
 
 fn make_member<'a, R: Net + time::Clock>(
@@ -118,7 +107,7 @@ fn after_rounds<'a, R: Net + time::Clock>(
     alloc: Global,
     number: u32,
 ) -> Result<(Vec<Member<'a, R>>, Client), Fail> {
-    let port = 45_000 + (number % 400 * 50) as u16;
+    let port = first_port(number);
     let directory = directory(alloc)?;
     let members = make_members(rt, alloc, port, &directory)?;
     let mut link = bound_link(rt, port, ASKER)?;

@@ -1,6 +1,6 @@
 // A frame of two pieces is heard once it is whole: a core that sends back what it hears sends the same two pieces.
 
-use crate::probe::{PEER, Probe};
+use crate::probe::{PEER, Probe, turned};
 use std::alloc::Global;
 use std::test::Fail;
 use zy_base::{Bytes, Want};
@@ -31,17 +31,6 @@ fn pieces_in_reverse(alloc: Global) -> Result<Vec<Bytes>, Fail> {
 fn link_of_pieces(alloc: Global) -> Result<MemLink, Fail> {
     let coming = pieces_in_reverse(alloc)?;
     Ok(MemLink::new(alloc, coming, Vec::new(alloc), 8)?)
-}
-
-fn turned(
-    host: Host<Probe>,
-    link: &mut MemLink,
-    clock: &mut MemClock,
-) -> Result<Host<Probe>, Want> {
-    match host.turn(link, clock) {
-        Ok(host) => Ok(host),
-        Err(_) => Err(Want),
-    }
 }
 
 /// How many datagrams are sent by the end of each of four turns.

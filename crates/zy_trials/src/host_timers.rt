@@ -3,23 +3,12 @@
 ghost use Rattle.std.specs.Prelude.{IsTrue};
 ghost use Rattle.zy_edge.specs.Clock.{are_moments};
 
-use crate::probe::Probe;
+use crate::probe::{Probe, turned};
 use std::alloc::Global;
 use std::test::Fail;
 use zy_base::Want;
 use zy_edge::{MemClock, MemLink};
 use zy_node::Host;
-
-fn turned(
-    host: Host<Probe>,
-    link: &mut MemLink,
-    clock: &mut MemClock,
-) -> Result<Host<Probe>, Want> {
-    match host.turn(link, clock) {
-        Ok(host) => Ok(host),
-        Err(_) => Err(Want),
-    }
-}
 
 /// Puts the last byte of each datagram that was sent after so many into the log, and a point behind them.
 fn log_turn(link: &MemLink, seen: usize, log: &mut Vec<u8>) -> Result<(), Want> {

@@ -2,9 +2,8 @@
 // how they end with their turns or with their link. Where files are refused nothing is written, and no address is asked for.
 
 use crate::outside::{Faults, NO_FAULTS, Outside, outside_of, two_files};
-use crate::secrets::{
-    CLIENT_3, GROUP, KEYS, REPLICA_0, SECRET_OF_CLIENT, SECRET_OF_REPLICA, lines_and,
-};
+use crate::secrets::{CLIENT_3, GROUP, KEYS, REPLICA_0, SECRET_OF_CLIENT, SECRET_OF_REPLICA};
+use crate::texts::lines_and;
 use std::alloc::Global;
 use std::test::Fail;
 use zy_base::{Bytes, ClientId, Party, ReplicaId, Want};

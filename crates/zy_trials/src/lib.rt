@@ -20,6 +20,8 @@ mod host_timers;
 #[cfg(test)]
 mod hosted;
 #[cfg(test)]
+mod loopback;
+#[cfg(test)]
 mod output;
 #[cfg(test)]
 mod outside;
@@ -33,6 +35,8 @@ mod real_files;
 mod secrets;
 #[cfg(test)]
 mod sockets;
+#[cfg(test)]
+mod texts;
 #[cfg(test)]
 mod top_faults;
 #[cfg(test)]

@@ -1,6 +1,7 @@
 // What a node, an ask or the whole program works on: files, a sink, a link that hears nothing and a clock, all in memory, of
 // which chosen calls fail.
 
+use crate::texts::text_bytes;
 use std::alloc::{AllocError, Global};
 use zy_base::{Bytes, Want};
 use zy_edge::{MemClock, MemFiles, MemLink, MemSink};
@@ -29,10 +30,6 @@ pub(crate) const NO_FAULTS: Faults<'static> = Faults {
     link: &[],
     room: 1_000,
 };
-
-pub(crate) fn text_bytes(alloc: Global, text: &str) -> Result<Bytes, Want> {
-    Bytes::from_slice(alloc, text.as_bytes())
-}
 
 /// The names and texts of two files.
 pub(crate) fn two_files(

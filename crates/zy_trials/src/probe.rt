@@ -5,7 +5,8 @@ ghost use Rattle.zy_base.specs.declared.ids.Party.TheVariants as parties;
 
 use std::alloc::Global;
 use zy_base::{Bytes, ClientId, Event, Items, Outgoing, Party, TimerKind, Timers, Want};
-use zy_node::{Core, Moved};
+use zy_edge::{MemClock, MemLink};
+use zy_node::{Core, Host, Moved};
 
 /// The one that it sends to.
 pub(crate) const PEER: Party = Party::Client(ClientId(7));
@@ -64,6 +65,18 @@ impl Probe {
     /// Whether Change runs.
     pub(crate) fn is_changing(&self) -> bool {
         self.change
+    }
+}
+
+/// One turn of its host, whose link is not to fail.
+pub(crate) fn turned(
+    host: Host<Probe>,
+    link: &mut MemLink,
+    clock: &mut MemClock,
+) -> Result<Host<Probe>, Want> {
+    match host.turn(link, clock) {
+        Ok(host) => Ok(host),
+        Err(_) => Err(Want),
     }
 }
 

@@ -1,8 +1,7 @@
 // The secret files of replica 0 and of client 3 in a group whose seed is zeros, and its group file. The public keys were
 // computed by Bouncy Castle 1.72.
 
-use std::alloc::Global;
-use zy_base::{Bytes, ClientId, Party, ReplicaId, Want};
+use zy_base::{ClientId, Party, ReplicaId};
 
 pub(crate) const REPLICA_0: Party = Party::Replica(ReplicaId(0));
 
@@ -35,18 +34,3 @@ pub(crate) const KEYS: &str = "\nkeys = [\
 
 /// The group without its keys.
 pub(crate) const GROUP: &str = "f = 1\nk = 8\nclients = 4\nport = 47000";
-
-/// Where a replica of no turns stands: no history, and the space of no tuples.
-pub(crate) const FIRST_STANDING: &str =
-    "r0 active 0 length 0 head 0000000000000000000000000000000000000000000000000000000000000000 \
-    state baf00e0b9e04a2563ee664311136c4f84d22d5790ea9171c344e6093d6b0bd12\n";
-
-/// These lines, and a text behind them.
-pub(crate) fn lines_and(alloc: Global, lines: &[&str], last: &str) -> Result<Bytes, Want> {
-    let mut text = Vec::new(alloc);
-    for line in lines {
-        text.extend_from_slice(line.as_bytes())?;
-    }
-    text.extend_from_slice(last.as_bytes())?;
-    Ok(Bytes::from(text))
-}

@@ -1,9 +1,8 @@
-// Datagrams over loopback, between replica 3 and client 5 of a group. Each test runs in a process of its own, so that its
-// number makes the group's first port.
+// Datagrams over loopback, between replica 3 and client 5 of a group.
 
-use std::net::Net;
+use crate::loopback::{bound_link, first_port};
+use std::process;
 use std::test::Fail;
-use std::{process, time};
 use zy_base::{ClientId, Party, ReplicaId};
 use zy_edge::{Bound, Heard, Link, MAX_PARCEL, Sent, UdpLink};
 
@@ -16,22 +15,6 @@ const TOO_FAR: Party = Party::Client(ClientId(65_535));
 
 /// How long a datagram that was sent may take.
 const WAIT_MS: u64 = 1000;
-
-fn first_port(process: process::Process) -> u16 {
-    20_000 + 50 * (process::id(process) % 400) as u16
-}
-
-fn bound_link<'a, R: Net + time::Clock>(
-    rt: &'a R,
-    port: u16,
-    party: Party,
-) -> Result<UdpLink<'a, R>, Fail> {
-    let mut link = UdpLink::new(rt);
-    match link.bind(port, party) {
-        Bound::Bound => Ok(link),
-        Bound::Failed => Err(Fail::from("no address")),
-    }
-}
 
 #[test]
 fn a_link_without_an_address_hears_nothing(rt: HostRuntime) {
@@ -53,7 +36,7 @@ fn a_port_above_the_last_one_is_not_bound(rt: HostRuntime) {
 
 #[test]
 fn an_address_is_bound_once(rt: HostRuntime) -> Result<(), Fail> {
-    let port = first_port(rt.process());
+    let port = first_port(process::id(rt.process()));
     let _first = bound_link(&rt, port, REPLICA)?;
     let second = UdpLink::new(&rt).bind(port, REPLICA);
     assert_eq!(rt; second, Bound::Failed);
@@ -62,7 +45,7 @@ fn an_address_is_bound_once(rt: HostRuntime) -> Result<(), Fail> {
 
 #[test]
 fn a_link_that_could_not_be_bound_hears_nothing(rt: HostRuntime) -> Result<(), Fail> {
-    let port = first_port(rt.process());
+    let port = first_port(process::id(rt.process()));
     let _first = bound_link(&rt, port, REPLICA)?;
     let heard = heard_behind_a_bind(&mut UdpLink::new(&rt), port);
     assert_eq!(rt; heard, Heard::Failed);
@@ -76,14 +59,19 @@ fn heard_behind_a_bind(link: &mut impl Link, port: u16) -> Heard {
 
 #[test]
 fn nothing_is_sent_above_the_last_port(rt: HostRuntime) -> Result<(), Fail> {
-    let sent = bound_link(&rt, first_port(rt.process()), REPLICA)?.send(TOO_FAR, b"nowhere");
+    let sent = bound_link(&rt, first_port(process::id(rt.process())), REPLICA)?.send(
+        TOO_FAR, b"nowhere",
+    );
     assert_eq!(rt; sent, Sent::Failed);
     Ok(())
 }
 
 #[test]
 fn an_idle_link_is_quiet(rt: HostRuntime) -> Result<(), Fail> {
-    let heard = bound_link(&rt, first_port(rt.process()), REPLICA)?.receive(&mut [0; 3], 20);
+    let heard = bound_link(&rt, first_port(process::id(rt.process())), REPLICA)?.receive(
+        &mut [0; 3],
+        20,
+    );
     assert_eq!(rt; heard, Heard::Quiet);
     Ok(())
 }
@@ -111,7 +99,7 @@ fn arrive(from: &mut impl Link, to: &mut impl Link, party: Party, bytes: &[u8]) 
 
 #[test]
 fn a_datagram_arrives_at_a_client(rt: HostRuntime) -> Result<(), Fail> {
-    let port = first_port(rt.process());
+    let port = first_port(process::id(rt.process()));
     let mut replica = bound_link(&rt, port, REPLICA)?;
     let mut client = bound_link(&rt, port, ASKER)?;
     assert!(rt; arrive(&mut replica, &mut client, ASKER, b"one"));
@@ -120,7 +108,7 @@ fn a_datagram_arrives_at_a_client(rt: HostRuntime) -> Result<(), Fail> {
 
 #[test]
 fn an_empty_datagram_arrives(rt: HostRuntime) -> Result<(), Fail> {
-    let port = first_port(rt.process());
+    let port = first_port(process::id(rt.process()));
     let mut replica = bound_link(&rt, port, REPLICA)?;
     let mut client = bound_link(&rt, port, ASKER)?;
     assert!(rt; arrive(&mut replica, &mut client, ASKER, b""));
@@ -129,7 +117,7 @@ fn an_empty_datagram_arrives(rt: HostRuntime) -> Result<(), Fail> {
 
 #[test]
 fn the_longest_datagram_arrives_at_a_replica(rt: HostRuntime) -> Result<(), Fail> {
-    let port = first_port(rt.process());
+    let port = first_port(process::id(rt.process()));
     let mut replica = bound_link(&rt, port, REPLICA)?;
     let mut client = bound_link(&rt, port, ASKER)?;
     assert!(rt; arrive(&mut client, &mut replica, REPLICA, &[9; MAX_PARCEL]));
@@ -143,7 +131,7 @@ fn arrive_both(from: &mut impl Link, to: &mut impl Link) -> bool {
 
 #[test]
 fn two_datagrams_arrive_in_their_order(rt: HostRuntime) -> Result<(), Fail> {
-    let port = first_port(rt.process());
+    let port = first_port(process::id(rt.process()));
     let mut replica = bound_link(&rt, port, REPLICA)?;
     let mut client = bound_link(&rt, port, ASKER)?;
     assert!(rt; arrive_both(&mut replica, &mut client));
@@ -159,7 +147,7 @@ fn cut_and_next(from: &mut impl Link, to: &mut impl Link) -> (Heard, Heard) {
 
 #[test]
 fn what_does_not_fit_the_buffer_is_lost(rt: HostRuntime) -> Result<(), Fail> {
-    let port = first_port(rt.process());
+    let port = first_port(process::id(rt.process()));
     let mut replica = bound_link(&rt, port, REPLICA)?;
     let mut client = bound_link(&rt, port, ASKER)?;
     let heard = cut_and_next(&mut replica, &mut client);

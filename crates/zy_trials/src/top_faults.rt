@@ -1,20 +1,13 @@
 // The whole program over files, a sink and a link of which chosen calls fail: how it ends, and what it has written by then.
 
-use crate::outside::{Faults, NO_FAULTS, Outside, outside_of, text_bytes, two_files};
-use crate::secrets::{GROUP, KEYS, SECRET_OF_CLIENT, SECRET_OF_REPLICA, lines_and};
-use std::alloc::{AllocError, Global};
+use crate::outside::{Faults, NO_FAULTS, Outside, outside_of, two_files};
+use crate::secrets::{GROUP, KEYS, SECRET_OF_CLIENT, SECRET_OF_REPLICA};
+use crate::texts::{lines_and, repeated, strings, text_bytes};
+use std::alloc::Global;
 use std::test::Fail;
 use zy_base::{Bytes, Want};
 use zy_top::zyzzyva;
 use zy_top_words::{Exit, ending};
-
-fn strings(alloc: Global, words: &[&str]) -> Result<Vec<String>, AllocError> {
-    let mut strings = Vec::new(alloc);
-    for word in words {
-        strings.push(String::from_str(alloc, word)?)?;
-    }
-    Ok(strings)
-}
 
 /// How a command line of these words ends.
 fn exit_of(alloc: Global, words: &[&str], outside: &mut Outside) -> Result<Exit, Want> {
@@ -27,15 +20,6 @@ fn exit_of(alloc: Global, words: &[&str], outside: &mut Outside) -> Result<Exit,
         &mut outside.link,
         &mut outside.clock,
     ))
-}
-
-/// So many times this line.
-fn repeated(alloc: Global, line: &str, count: u32) -> Result<Vec<u8>, AllocError> {
-    let mut text = Vec::new(alloc);
-    for _ in 0..count {
-        text.extend_from_slice(line.as_bytes())?;
-    }
-    Ok(text)
 }
 
 /// The failing calls of the file and of the sink, the sink's room, how the script ends then, and how many bytes of the report
@@ -62,7 +46,7 @@ const SCRIPTS: [ScriptRow; 9] = [
 
 /// 6,000 times an operation that finds nothing.
 fn long_script(alloc: Global) -> Result<Vec<(Bytes, Bytes)>, Want> {
-    let script = Bytes::from(repeated(alloc, "rdp (1)\n", 6_000)?);
+    let script = repeated(alloc, "rdp (1)\n", 6_000)?;
     two_files(alloc, ("script", script), ("other", Bytes::new(alloc)))
 }
 

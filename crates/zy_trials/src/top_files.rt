@@ -1,5 +1,6 @@
 // The whole program over files that never fail, and a sink that takes all.
 
+use crate::texts::{repeated, strings, text_bytes};
 use std::alloc::Global;
 use std::test::Fail;
 use zy_base::{Bytes, Want};
@@ -7,38 +8,20 @@ use zy_edge::{CalmFiles, CalmSink, MemClock, MemLink};
 use zy_top::zyzzyva;
 use zy_top_words::Exit;
 
-/// A line of sixteen bytes.
-const REMARK: &[u8] = b"# sixteen bytes\n";
+/// The most lines of sixteen bytes that a file may have.
+const MOST: u32 = 1_048_576;
 
-/// The most lines of this kind that a file may have.
-const MOST: usize = 1_048_576;
-
-/// A file named `script` of so many remarks.
-fn script_of(alloc: Global, lines: usize) -> Result<Vec<(Bytes, Bytes)>, Want> {
-    let mut text = Vec::new(alloc);
-    for _ in 0..lines {
-        text.extend_from_slice(REMARK)?;
-    }
-    one_file(alloc, Bytes::from(text))
-}
-
-fn one_file(alloc: Global, text: Bytes) -> Result<Vec<(Bytes, Bytes)>, Want> {
+/// A file named `script` of so many lines of sixteen bytes.
+fn script_of(alloc: Global, lines: u32) -> Result<Vec<(Bytes, Bytes)>, Want> {
+    let text = repeated(alloc, "# sixteen bytes\n", lines)?;
     let mut held = Vec::new(alloc);
-    held.push((Bytes::from_slice(alloc, b"script")?, text))?;
+    held.push((text_bytes(alloc, "script")?, text))?;
     Ok(held)
-}
-
-fn words_of(alloc: Global, name: &str) -> Result<Vec<String>, Want> {
-    let mut words = Vec::new(alloc);
-    for word in ["space", name] {
-        words.push(String::from_str(alloc, word)?)?;
-    }
-    Ok(words)
 }
 
 /// How the script with this name ends.
 fn script_exit(alloc: Global, mut files: CalmFiles, name: &str) -> Result<Exit, Want> {
-    let words = words_of(alloc, name)?;
+    let words = strings(alloc, &["space", name])?;
     let mut link = MemLink::new(alloc, Vec::new(alloc), Vec::new(alloc), 0)?;
     let mut clock = MemClock::new(alloc, Vec::from_slice(alloc, &[0])?);
     let mut out = CalmSink::new();
