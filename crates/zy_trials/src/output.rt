@@ -115,8 +115,18 @@ fn the_sink_tells_how_much_the_output_took(rt: HostRuntime) {
     assert_eq!(rt; good, STEPS.len(), "the first steps that went well");
 }
 
+/// Whether each piece is taken whole.
+fn are_taken(out: &mut impl Sink, pieces: &[&str]) -> bool {
+    for piece in pieces {
+        if piece.is_empty() || out.write(piece.as_bytes()) != Wrote::Took(piece.len()) {
+            return false;
+        }
+    }
+    true
+}
+
 #[test]
-fn the_real_output_takes_a_piece(rt: HostRuntime) {
-    let wrote = StdSink::new(&rt).write(b"abc");
-    assert_eq!(rt; wrote, Wrote::Took(3));
+fn the_real_output_takes_one_piece_after_another(rt: HostRuntime) {
+    let good = are_taken(&mut StdSink::new(&rt), &["ab", "cde", "f"]);
+    assert!(rt; good);
 }
