@@ -1,13 +1,13 @@
 ghost use Rattle.std.specs.Prelude.{◌≡◌, Some, option_map};
 ghost use Rattle.zy_top_words.specs.Ends.{status_of};
-ghost use Rattle.zyzzyva.specs.FaultText.{broken_text, fault_text, error_line};
+ghost use Rattle.zy_top_words.specs.FaultText.{broken_text, fault_text, error_line};
 
+use crate::{Broken, Exit};
 use std::fmt;
-use zy_top_words::{Broken, Exit};
 
 /// The text of an exit on standard error, empty for `Done`.
 #[derive(Clone, Copy)]
-pub(crate) struct FaultText(pub(crate) Exit);
+pub struct FaultText(pub(crate) Exit);
 
 impl fmt::Display for FaultText {
     ghost output = { λ text. Some (fault_text text.0) };
@@ -41,7 +41,7 @@ fn broken_text(what: Broken) -> &'static str
 }
 
 /// What a run that ended so leaves: the program's status, and its line on standard error, if it has one.
-pub(crate) fn ending(exit: Exit) -> (u8, Option<FaultText>)
+pub fn ending(exit: Exit) -> (u8, Option<FaultText>)
     ensures status { result.0 ≡ status_of exit }
     ensures line { option_map (λ text. fault_text text.0) result.1 ≡ error_line exit }
 {

@@ -6,7 +6,7 @@ use std::rt::Env;
 use zy_base::Want;
 
 /// The words of the command line, without the program's name.
-pub(crate) fn words(rt: &impl Env, alloc: Global) -> Result<Vec<String>, Want> {
+pub fn line_words(rt: &impl Env, alloc: Global) -> Result<Vec<String>, Want> {
     let mut words = Vec::new(alloc);
     for number in 1..usize::MAX {
         let Some(bytes) = word_bytes(rt, alloc, number)? else {
