@@ -2,10 +2,11 @@
 //!
 //! `ok` is an `Ok` with nothing in it, `Err` stands before a fault, bytes are hex digits, and a cause is its name and its values.
 
+use sha2::{Digest as _, Sha256};
 use std::alloc::Global;
 use std::io::ErrorKind;
 use std::{fmt, io};
-use zy_base::{Cause, Digest, Want};
+use zy_base::{Cause, ClientId, Digest, Party, ReplicaId, Want};
 
 /// Bytes, which print as hex digits.
 #[derive(Clone, Copy)]
@@ -25,9 +26,22 @@ pub(crate) fn hex_text(alloc: Global, bytes: &[u8]) -> io::Result<String> {
     Ok(hex::encode(alloc, bytes)?)
 }
 
-/// `true` or `false`.
-pub(crate) fn flag_text(alloc: Global, flag: bool) -> io::Result<String> {
-    Ok(format!(in alloc; "{flag}")?)
+/// A number, a flag or another value that prints.
+pub(crate) fn plain_text<T: fmt::Display>(alloc: Global, value: &T) -> io::Result<String> {
+    Ok(format!(in alloc; "{value}")?)
+}
+
+/// The SHA-256 of bytes (FIPS 180-4), which stands for long ones.
+pub(crate) fn sha_text(alloc: Global, bytes: &[u8]) -> io::Result<String> {
+    hex_text(alloc, &Sha256::digest(bytes))
+}
+
+/// A party: `r` or `c` and its number.
+pub(crate) fn party_text(alloc: Global, party: Party) -> io::Result<String> {
+    match party {
+        Party::Replica(ReplicaId(id)) => Ok(format!(in alloc; "r{id}")?),
+        Party::Client(ClientId(id)) => Ok(format!(in alloc; "c{id}")?),
+    }
 }
 
 /// A fault by its name.
