@@ -54,6 +54,9 @@ fn sealer_text(alloc: Global, sealer: &Sealer) -> io::Result<String> {
 
 /// The next leaf and how many are left, after the statement is sealed, and the signature's length and SHA-256.
 fn seal(alloc: Global, sealer: &mut Sealer, view: View) -> io::Result<String> {
+    if view.0 >= 1 << 62 {
+        return Err(not_a_line());
+    }
     let text = match sealer.seal(Hate { view }) {
         Ok(signed) => signature_text(alloc, signed.sig.as_slice())?,
         Err(fault) => fault_text(alloc, &fault)?,
