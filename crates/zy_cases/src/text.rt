@@ -21,27 +21,42 @@ impl<'a> fmt::Display for Hex<'a> {
     }
 }
 
+/// A party, which prints as `r` or `c` and its number.
+#[derive(Clone, Copy)]
+pub(crate) struct PartyText(pub(crate) Party);
+
+impl fmt::Display for PartyText {
+    fn fmt<W: fmt::Write>(&self, f: &mut fmt::Formatter<W>) -> fmt::Result {
+        match self.0 {
+            Party::Replica(ReplicaId(id)) => write!(f, "r{id}"),
+            Party::Client(ClientId(id)) => write!(f, "c{id}"),
+        }
+    }
+}
+
 /// The hex digits of bytes.
 pub(crate) fn hex_text(alloc: Global, bytes: &[u8]) -> io::Result<String> {
     Ok(hex::encode(alloc, bytes)?)
 }
 
-/// A number, a flag or another value that prints.
+/// `true` or `false`.
+pub(crate) fn flag_text(alloc: Global, flag: bool) -> io::Result<String> {
+    plain_text(alloc, &flag)
+}
+
+/// A number or another value that prints.
 pub(crate) fn plain_text<T: fmt::Display>(alloc: Global, value: &T) -> io::Result<String> {
     Ok(format!(in alloc; "{value}")?)
+}
+
+/// The answer of a call that has nothing to tell.
+pub(crate) fn ok_text(alloc: Global) -> io::Result<String> {
+    Ok(String::from_str(alloc, "ok")?)
 }
 
 /// The SHA-256 of bytes (FIPS 180-4), which stands for long ones.
 pub(crate) fn sha_text(alloc: Global, bytes: &[u8]) -> io::Result<String> {
     hex_text(alloc, &Sha256::digest(bytes))
-}
-
-/// A party: `r` or `c` and its number.
-pub(crate) fn party_text(alloc: Global, party: Party) -> io::Result<String> {
-    match party {
-        Party::Replica(ReplicaId(id)) => Ok(format!(in alloc; "r{id}")?),
-        Party::Client(ClientId(id)) => Ok(format!(in alloc; "c{id}")?),
-    }
 }
 
 /// A fault by its name.
