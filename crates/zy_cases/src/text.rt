@@ -54,6 +54,14 @@ pub(crate) fn ok_text(alloc: Global) -> io::Result<String> {
     Ok(String::from_str(alloc, "ok")?)
 }
 
+/// Bytes that are text, as it stands.
+pub(crate) fn text_of(alloc: Global, bytes: &[u8]) -> io::Result<String> {
+    match str::from_utf8(bytes) {
+        Ok(text) => Ok(String::from_str(alloc, text)?),
+        Err(_) => Err(io::Error::from(ErrorKind::InvalidData)),
+    }
+}
+
 /// The SHA-256 of bytes (FIPS 180-4), which stands for long ones.
 pub(crate) fn sha_text(alloc: Global, bytes: &[u8]) -> io::Result<String> {
     hex_text(alloc, &Sha256::digest(bytes))
