@@ -1,0 +1,115 @@
+//! Runs the cases of the lower crates, which stand as lines in the files of `data/`, and prints for each table how many of its
+//! rows agree. A row that doesn't is printed before, and then `stdout` differs, so that the gate fails.
+//!
+//! `words.rt` says how a table is written, `text.rt` how answers are. To add a table write its file into `data/`, its name into
+//! `TABLES`, its last line into `stdout`, and one arm into `answer`; where its rows are steps that follow each other, one arm into
+//! `run_table` in its place.
+//!
+//! A word on the command line names the one table that runs. To try it without any proof, in this folder:
+//! `rt try --seconds 600 $(for t in $(ls data); do echo --data $t=data/$t; done) -- TABLE`.
+#![tactic(auto)]
+
+mod cases;
+mod chain;
+mod groups;
+mod lms;
+mod ots;
+mod parts;
+mod pieces;
+mod seal;
+mod slots;
+mod text;
+mod tuple;
+mod wire;
+mod words;
+
+use cases::{Scene, run};
+use lms::Keys;
+use pieces::Gathers;
+use seal::Seals;
+use std::alloc::Global;
+use std::io::ErrorKind;
+use std::{env, io};
+use words::Row;
+
+/// The files of `data/`, in the order in which they run.
+const TABLES: [&str; 18] = [
+    "group-numbers",
+    "lists",
+    "fields",
+    "unlinked-values",
+    "datagrams",
+    "gathered-frames",
+    "one-time-signatures",
+    "keys",
+    "verification",
+    "seals",
+    "entries-and-heads",
+    "stretches",
+    "operation-lines",
+    "operation-bytes",
+    "reply-lines",
+    "reply-bytes",
+    "templates",
+    "signed-texts",
+];
+
+fn main(rt: HostRuntime) -> io::Result<()> {
+    let only = env::args(&rt)?.nth(1);
+    for table in TABLES {
+        if is_wanted(&only, table) {
+            run_table(&rt, table)?;
+        }
+    }
+    Ok(())
+}
+
+/// Whether a table runs: each does where no word names one.
+fn is_wanted(only: &Option<String>, table: &str) -> bool {
+    match only {
+        Some(name) => name.as_str() == table,
+        None => true,
+    }
+}
+
+/// Runs a table with what its rows share.
+fn run_table(rt: &HostRuntime, table: &'static str) -> io::Result<()> {
+    match table {
+        "gathered-frames" => run(rt, table, &mut Gathers::new(rt.alloc())),
+        "keys" => run(rt, table, &mut Keys::new()),
+        "seals" => run(rt, table, &mut Seals::new()),
+        _ => run(rt, table, &mut Calls(table)),
+    }
+}
+
+/// A table whose rows are calls apart from each other.
+#[derive(Drop)]
+struct Calls(&'static str);
+
+impl Scene for Calls {
+    fn step(&mut self, alloc: Global, row: &Row) -> io::Result<String> {
+        answer(alloc, self.0, row)
+    }
+}
+
+/// What the call of a row answers.
+fn answer(alloc: Global, table: &str, row: &Row) -> io::Result<String> {
+    match table {
+        "group-numbers" => groups::numbers(alloc, row),
+        "lists" => groups::lists(alloc, row),
+        "fields" => wire::fields(alloc, row),
+        "unlinked-values" => slots::steps(alloc, row),
+        "datagrams" => pieces::datagram(alloc, row),
+        "one-time-signatures" => ots::signatures(alloc, row),
+        "verification" => lms::verified(alloc, row),
+        "entries-and-heads" => chain::entries(alloc, row),
+        "stretches" => chain::stretches(alloc, row),
+        "operation-lines" => tuple::op_line(alloc, row),
+        "operation-bytes" => tuple::op_spelling(alloc, row),
+        "reply-lines" => tuple::reply_line(alloc, row),
+        "reply-bytes" => tuple::reply_spelling(alloc, row),
+        "templates" => tuple::template(alloc, row),
+        "signed-texts" => parts::text(alloc, row),
+        _ => Err(io::Error::from(ErrorKind::NotFound)),
+    }
+}
