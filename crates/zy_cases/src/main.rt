@@ -8,19 +8,52 @@
 //! Without any proof: `rt try $(for t in $(ls data); do echo --data $t=data/$t; done)` in this folder.
 #![tactic(auto)]
 
+mod adoptions;
+mod beginnings;
 mod cases;
+mod certs;
+mod changes;
+mod checkpoints;
+mod choices;
+mod evidence;
+mod frames;
 mod groups;
+mod orders;
+mod owed;
+mod statements;
 mod text;
 mod words;
 
+use adoptions::Histories;
 use cases::{Scene, run};
+use certs::Poll;
+use changes::Machines;
+use checkpoints::Board;
+use choices::Reports;
+use frames::Kinds;
+use orders::Orders;
 use std::alloc::Global;
 use std::io;
 use std::io::ErrorKind;
 use words::Row;
+use zy_base::Digest;
 
 /// The files of `data/`, in the order in which they run.
-const TABLES: [&str; 1] = ["group-numbers"];
+const TABLES: [&str; 13] = [
+    "group-numbers",
+    "frames",
+    "view-frames",
+    "votes",
+    "certificates",
+    "misbehaviour",
+    "checkpoints",
+    "choices",
+    "reports",
+    "orders",
+    "view-changes",
+    "view-beginnings",
+    "adoptions",
+];
 
 fn main(rt: HostRuntime) -> io::Result<()> {
     for table in TABLES {
@@ -32,6 +65,12 @@ fn main(rt: HostRuntime) -> io::Result<()> {
 /// Runs a table with what its rows share.
 fn run_table(rt: &HostRuntime, table: &'static str) -> io::Result<()> {
     match table {
+        "votes" => run(rt, table, &mut Poll::new(rt.alloc())),
+        "checkpoints" => run(rt, table, &mut Board::new(rt.alloc(), Digest([0; 32]))),
+        "choices" => run(rt, table, &mut Reports::new(rt.alloc())?),
+        "orders" => run(rt, table, &mut Orders::new(rt.alloc())),
+        "view-changes" | "view-beginnings" => run(rt, table, &mut Machines::new(rt.alloc())?),
+        "adoptions" => run(rt, table, &mut Histories::new(rt.alloc())?),
         _ => run(rt, table, &mut Calls(table)),
     }
 }
@@ -50,6 +89,11 @@ impl Scene for Calls {
 fn answer(alloc: Global, table: &str, row: &Row) -> io::Result<String> {
     match table {
         "group-numbers" => groups::numbers(alloc, row),
+        "frames" => frames::answer(alloc, Kinds::Plain, row),
+        "view-frames" => frames::answer(alloc, Kinds::Views, row),
+        "certificates" => certs::certificate(alloc, row),
+        "misbehaviour" => certs::misbehaviour(alloc, row),
+        "reports" => evidence::judged(alloc, row),
         _ => Err(io::Error::from(ErrorKind::NotFound)),
     }
 }

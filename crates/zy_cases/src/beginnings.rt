@@ -1,0 +1,177 @@
+//! The table `view-beginnings`: how a view begins, with its new view, the confirmations of it, and its certificate.
+
+ghost use Rattle.std.specs.Prelude.{◌≡◌, All, IfOk, IsTrue};
+ghost use Rattle.zy_change.specs.Fit.{IsAccepted};
+ghost use Rattle.zy_evidence.specs.Reading.{IsReplica};
+ghost use Rattle.zy_parts.specs.Reports.{IsNewInRange};
+ghost use Rattle.zy_parts.specs.Signing.{IsSignedInRange};
+ghost use Rattle.zy_vframes.specs.ViewFrames.{IsFrameInRange};
+ghost use Rattle.zy_vframes.specs.declared.frame.ViewFrame.TheVariants as frames;
+
+use crate::changes::{is_member, mode_text};
+use crate::evidence::is_replica;
+use crate::owed::owed_text;
+use crate::statements::{mark, party, spelled};
+use crate::text::lacking;
+use crate::words::{Row, not_a_line};
+use std::alloc::Global;
+use std::io;
+use zy_base::{Answer, Bytes, Party, View};
+use zy_change::{Accepted, Owed, ViewMachine, began, new_view, view_cert};
+use zy_parts::{Began, Change, New, Signed};
+use zy_vframes::{ViewCert, ViewFrame, decode};
+
+/// What the call of a row answers.
+pub(crate) fn step(alloc: Global, machine: &mut ViewMachine, row: &Row) -> io::Result<String> {
+    match row.call()? {
+        "new-view" => hear_new(alloc, machine, row),
+        "confirm" => confirm(alloc, machine, row),
+        "confirmation" => hear(alloc, machine, row),
+        "certificate" => hear_certificate(alloc, machine, row),
+        "begin-view" => begin_view(alloc, machine, row),
+        _ => Err(not_a_line()),
+    }
+}
+
+/// What a new view owes.
+fn hear_new(alloc: Global, machine: &ViewMachine, row: &Row) -> io::Result<String> {
+    let new = new_in(alloc, row)?;
+    let owed = new_view(alloc, machine, &new).map_err(lacking)?;
+    owed_text(alloc, &owed)
+}
+
+/// The same, and its choice is then confirmed.
+fn confirm(alloc: Global, machine: &mut ViewMachine, row: &Row) -> io::Result<String> {
+    let new = new_in(alloc, row)?;
+    let owed = new_view(alloc, machine, &new).map_err(lacking)?;
+    let text = owed_text(alloc, &owed)?;
+    match owed.confirm {
+        None => Err(not_a_line()),
+        Some(chosen) => {
+            accept(alloc, machine, Accepted { new, chosen })?;
+            Ok(text)
+        }
+    }
+}
+
+/// The view is left for, and the choice confirmed.
+fn accept(alloc: Global, machine: &mut ViewMachine, accepted: Accepted) -> io::Result<()>
+    requires accepted { IsAccepted machine.old.counts machine.old.interval accepted }
+    requires in_range { IsSignedInRange IsNewInRange accepted.new }
+{
+    let view = accepted.new.stmt.view;
+    if view < machine.last_view() || accepted.chosen.place.0 >= 1 << 62 {
+        return Err(not_a_line());
+    }
+    machine.leave(view);
+    let own = Signed {
+        by: Party::Replica(machine.me()),
+        stmt: accepted.began(),
+        sig: Bytes::new(alloc),
+    };
+    machine.accept(accepted, own);
+    Ok(())
+}
+
+/// What a confirmation owes. It is kept unless it is refused.
+fn hear(alloc: Global, machine: &mut ViewMachine, row: &Row) -> io::Result<String> {
+    let vote = began_in(alloc, row)?;
+    if !is_member(machine, vote.by) {
+        return Err(not_a_line());
+    }
+    let owed = began(machine, &vote).map_err(lacking)?;
+    let text = owed_text(alloc, &owed)?;
+    if !is_refused(&owed) {
+        keep(machine, vote)?;
+    }
+    Ok(text)
+}
+
+fn is_refused(owed: &Owed) -> bool {
+    matches!(owed.answer, Answer::Refused(_))
+}
+
+fn keep(machine: &mut ViewMachine, vote: Signed<Began>) -> io::Result<()> {
+    let began = vote.stmt;
+    if !is_member(machine, vote.by) || began.view.0 < 1 || began.view.0 >= 1 << 62 {
+        return Err(not_a_line());
+    }
+    if began.place.0 >= 1 << 62 || !vote.sig.is_empty() {
+        return Err(not_a_line());
+    }
+    machine.keep_began(vote);
+    Ok(())
+}
+
+/// What a view certificate owes.
+fn hear_certificate(alloc: Global, machine: &ViewMachine, row: &Row) -> io::Result<String> {
+    let cert = certificate_in(alloc, row)?;
+    let owed = view_cert(alloc, machine, &cert).map_err(lacking)?;
+    owed_text(alloc, &owed)
+}
+
+/// The view of a certificate begins.
+fn begin_view(alloc: Global, machine: &mut ViewMachine, row: &Row) -> io::Result<String> {
+    let cert = certificate_in(alloc, row)?;
+    let owed = view_cert(alloc, machine, &cert).map_err(lacking)?;
+    match owed.adopt {
+        None => Err(not_a_line()),
+        Some(adoption) => {
+            machine.adopted(cert, adoption.chosen);
+            mode_text(alloc, machine)
+        }
+    }
+}
+
+fn began_in(alloc: Global, row: &Row) -> io::Result<Signed<Began>> {
+    let (place, head) = mark(row.bytes("at")?)?;
+    Ok(Signed {
+        by: party(row, "by")?,
+        stmt: Began {
+            view: View(row.number("view")?),
+            place,
+            head,
+        },
+        sig: Bytes::new(alloc),
+    })
+}
+
+fn new_in(alloc: Global, row: &Row) -> io::Result<Signed<New>>
+    ensures in_range { IfOk result (IsSignedInRange IsNewInRange) }
+    ensures signers { IfOk result (λ new. All (λ c. IsReplica c.by) new.stmt.changes) }
+{
+    let new = spelled::<Signed<New>>(alloc, row.bytes("new")?)?;
+    if are_replicas(new.stmt.changes.as_slice()) {
+        Ok(new)
+    } else {
+        Err(not_a_line())
+    }
+}
+
+fn certificate_in(alloc: Global, row: &Row) -> io::Result<ViewCert>
+    ensures in_range { IfOk result (λ cert. IsFrameInRange (frames.ViewCert cert)) }
+    ensures signers { IfOk result (λ cert. All (λ c. IsReplica c.by) cert.new.stmt.changes) }
+{
+    match decode(alloc, row.bytes("certificate")?) {
+        Ok(ViewFrame::ViewCert(cert)) => of_replicas(cert),
+        _ => Err(not_a_line()),
+    }
+}
+
+fn of_replicas(cert: ViewCert) -> io::Result<ViewCert>
+    requires { IsFrameInRange (frames.ViewCert cert) }
+    ensures in_range { IfOk result (λ cert. IsFrameInRange (frames.ViewCert cert)) }
+    ensures signers { IfOk result (λ cert. All (λ c. IsReplica c.by) cert.new.stmt.changes) }
+{
+    if are_replicas(cert.new.stmt.changes.as_slice()) {
+        Ok(cert)
+    } else {
+        Err(not_a_line())
+    }
+}
+
+fn are_replicas(changes: &[Signed<Change>]) -> bool
+    ensures { IsTrue result → All (λ c. IsReplica c.by) changes.now }
+{
+    changes.iter().all(|change| is_replica(&change.by))
+}
