@@ -88,7 +88,12 @@ impl Histories {
         let place = Place(row.number("place")?);
         let stable = stable_of(&self.exec, Digest(row.array("state")?));
         let told = spelled::<Told>(alloc, row.bytes("told")?)?;
-        match take(alloc, &mut self.exec, &stable, &told, place)? {
+        let taking = take(alloc, &mut self.exec, &stable, &told, place)?;
+        self.taken(alloc, taking)
+    }
+
+    fn taken(&mut self, alloc: Global, taking: Taking) -> io::Result<String> {
+        match taking {
             Taking::Not(verdict) => verdict_text(alloc, &verdict),
             Taking::Taken(common, gains) => {
                 self.gains = gains;

@@ -1,23 +1,23 @@
 //! The table `view-beginnings`: how a view begins, with its new view, the confirmations of it, and its certificate.
 
-ghost use Rattle.std.specs.Prelude.{◌≡◌, All, IfOk, IsTrue};
-ghost use Rattle.zy_change.specs.Fit.{IsAccepted};
-ghost use Rattle.zy_evidence.specs.Reading.{IsReplica};
-ghost use Rattle.zy_parts.specs.Reports.{IsNewInRange};
+ghost use Rattle.std.specs.Prelude.{◌≡◌, ◌<◌, All, IfOk, IsTrue};
+ghost use Rattle.zy_change.specs.Fit.{IsAccepted, IsCertified};
+ghost use Rattle.zy_evidence.specs.Reading.{IsReplica, number_of_party};
+ghost use Rattle.zy_parts.specs.Reports.{IsBeganInRange, IsNewInRange};
 ghost use Rattle.zy_parts.specs.Signing.{IsSignedInRange};
 ghost use Rattle.zy_vframes.specs.ViewFrames.{IsFrameInRange};
 ghost use Rattle.zy_vframes.specs.declared.frame.ViewFrame.TheVariants as frames;
 
 use crate::changes::{is_member, mode_text};
 use crate::evidence::is_replica;
-use crate::owed::owed_text;
+use crate::owed::{owed_in, owed_text};
 use crate::statements::{mark, party, spelled};
 use crate::text::lacking;
 use crate::words::{Row, not_a_line};
 use std::alloc::Global;
 use std::io;
 use zy_base::{Answer, Bytes, Party, View};
-use zy_change::{Accepted, Owed, ViewMachine, began, new_view, view_cert};
+use zy_change::{Accepted, Chosen, ViewMachine, began, new_view, view_cert};
 use zy_parts::{Began, Change, New, Signed};
 use zy_vframes::{ViewCert, ViewFrame, decode};
 
@@ -36,21 +36,27 @@ pub(crate) fn step(alloc: Global, machine: &mut ViewMachine, row: &Row) -> io::R
 /// What a new view owes.
 fn hear_new(alloc: Global, machine: &ViewMachine, row: &Row) -> io::Result<String> {
     let new = new_in(alloc, row)?;
-    let owed = new_view(alloc, machine, &new).map_err(lacking)?;
-    owed_text(alloc, &owed)
+    owed_in(alloc, new_view(alloc, machine, &new))
 }
 
 /// The same, and its choice is then confirmed.
 fn confirm(alloc: Global, machine: &mut ViewMachine, row: &Row) -> io::Result<String> {
     let new = new_in(alloc, row)?;
-    let owed = new_view(alloc, machine, &new).map_err(lacking)?;
-    let text = owed_text(alloc, &owed)?;
+    let (chosen, text) = choice(alloc, machine, &new)?;
+    accept(alloc, machine, Accepted { new, chosen })?;
+    Ok(text)
+}
+
+/// What a new view owes that is confirmed.
+fn choice(alloc: Global, machine: &ViewMachine, new: &Signed<New>) -> io::Result<(Chosen, String)>
+    requires signers { All (λ c. IsReplica c.by) new.now.stmt.changes }
+    requires in_range { IsSignedInRange IsNewInRange new.now }
+    ensures { IfOk result (λ r. IsAccepted machine.now.counts machine.now.interval (record { new = new.now; chosen = r.0 })) }
+{
+    let owed = new_view(alloc, machine, new).map_err(lacking)?;
     match owed.confirm {
         None => Err(not_a_line()),
-        Some(chosen) => {
-            accept(alloc, machine, Accepted { new, chosen })?;
-            Ok(text)
-        }
+        Some(chosen) => Ok((chosen, owed_text(alloc, &owed)?)),
     }
 }
 
@@ -79,47 +85,61 @@ fn hear(alloc: Global, machine: &mut ViewMachine, row: &Row) -> io::Result<Strin
     if !is_member(machine, vote.by) {
         return Err(not_a_line());
     }
-    let owed = began(machine, &vote).map_err(lacking)?;
-    let text = owed_text(alloc, &owed)?;
-    if !is_refused(&owed) {
+    let (is_kept, text) = heard(alloc, machine, &vote)?;
+    if is_kept {
         keep(machine, vote)?;
     }
     Ok(text)
 }
 
-fn is_refused(owed: &Owed) -> bool {
-    matches!(owed.answer, Answer::Refused(_))
+fn heard(alloc: Global, machine: &ViewMachine, vote: &Signed<Began>) -> io::Result<(bool, String)>
+    requires { number_of_party vote.now.by < machine.now.counts.n }
+{
+    let owed = began(machine, vote).map_err(lacking)?;
+    let is_kept = !matches!(owed.answer, Answer::Refused(_));
+    Ok((is_kept, owed_text(alloc, &owed)?))
 }
 
 fn keep(machine: &mut ViewMachine, vote: Signed<Began>) -> io::Result<()> {
-    let began = vote.stmt;
-    if !is_member(machine, vote.by) || began.view.0 < 1 || began.view.0 >= 1 << 62 {
-        return Err(not_a_line());
-    }
-    if began.place.0 >= 1 << 62 || !vote.sig.is_empty() {
+    if !is_in_range(&vote) || !is_member(machine, vote.by) {
         return Err(not_a_line());
     }
     machine.keep_began(vote);
     Ok(())
 }
 
+fn is_in_range(vote: &Signed<Began>) -> bool
+    ensures { IsTrue result → IsSignedInRange IsBeganInRange vote.now }
+{
+    let began = vote.stmt;
+    let is_view = 1 <= began.view.0 && began.view.0 < 1 << 62;
+    is_view && began.place.0 < 1 << 62 && vote.sig.is_empty()
+}
+
 /// What a view certificate owes.
 fn hear_certificate(alloc: Global, machine: &ViewMachine, row: &Row) -> io::Result<String> {
     let cert = certificate_in(alloc, row)?;
-    let owed = view_cert(alloc, machine, &cert).map_err(lacking)?;
-    owed_text(alloc, &owed)
+    owed_in(alloc, view_cert(alloc, machine, &cert))
 }
 
 /// The view of a certificate begins.
 fn begin_view(alloc: Global, machine: &mut ViewMachine, row: &Row) -> io::Result<String> {
     let cert = certificate_in(alloc, row)?;
-    let owed = view_cert(alloc, machine, &cert).map_err(lacking)?;
-    match owed.adopt {
+    let chosen = certified(alloc, machine, &cert)?;
+    machine.adopted(cert, chosen);
+    mode_text(alloc, machine)
+}
+
+/// The choice that a certificate adopts.
+fn certified(alloc: Global, machine: &ViewMachine, cert: &ViewCert) -> io::Result<Chosen>
+    requires signers { All (λ c. IsReplica c.by) cert.now.new.stmt.changes }
+    requires in_range { IsFrameInRange (frames.ViewCert cert.now) }
+    ensures { IfOk result (IsCertified machine.now.counts machine.now.interval cert.now) }
+{
+    let owed = view_cert(alloc, machine, cert).map_err(lacking)?;
+    match &owed.adopt {
         None => Err(not_a_line()),
-        Some(adoption) => {
-            machine.adopted(cert, adoption.chosen);
-            mode_text(alloc, machine)
-        }
+        Some(adoption) => Ok(adoption.chosen),
     }
 }
 

@@ -2,17 +2,18 @@
 //! reports, new views, confirmations and view certificates.
 
 ghost use Rattle.std.specs.Prelude.{◌≡◌, ◌<◌, IfOk, IsTrue, None};
+ghost use Rattle.zy_base.specs.declared.ids.Party.TheVariants as parties;
 ghost use Rattle.zy_change.specs.Fit.{IsTrueReport};
 ghost use Rattle.zy_evidence.specs.Reading.{IsReplica, number_of_party};
 ghost use Rattle.zy_evidence.specs.Rules.{rule_of};
-ghost use Rattle.zy_parts.specs.Reports.{IsChangeInRange};
+ghost use Rattle.zy_parts.specs.Reports.{IsChangeInRange, IsToldInRange};
 ghost use Rattle.zy_parts.specs.Signing.{IsSignedInRange};
 
 use crate::beginnings;
 use crate::cases::Scene;
 use crate::choices::spine;
 use crate::evidence::is_replica;
-use crate::owed::owed_text;
+use crate::owed::owed_in;
 use crate::statements::{ok_text, party, spelled};
 use crate::text::{hex_text, lacking};
 use crate::words::{Row, not_a_line};
@@ -22,7 +23,7 @@ use zy_base::{Bytes, Counts, Digest, Mode, Party, Place, ReplicaId, View};
 use zy_chain::EMPTY_HEAD;
 use zy_change::ViewMachine;
 use zy_evidence::report_in;
-use zy_parts::{Change, Hate, Signed};
+use zy_parts::{Change, Hate, Signed, Told};
 use zy_wire::{Put, Spelled};
 
 const INTERVAL: u64 = 8;
@@ -56,7 +57,8 @@ impl Machines {
 
     fn keep_report(&mut self, alloc: Global, row: &Row) -> io::Result<String> {
         let change = change_in(alloc, row, "change")?;
-        if !keeps_rules(alloc, &self.machine, &change)? {
+        let is_kept = keeps_rules(alloc, &self.machine, &change)?;
+        if !is_kept || !is_member(&self.machine, change.by) {
             return Err(not_a_line());
         }
         self.machine.keep_change(change);
@@ -76,12 +78,10 @@ impl Scene for Machines {
     fn step(&mut self, alloc: Global, row: &Row) -> io::Result<String> {
         match row.call()? {
             "begin" => self.begin(alloc, row.number("id")?),
-            "hate" => hate(alloc, &self.machine, row),
             "count-hate" => self.count_hate(alloc, row),
-            "report" => report(alloc, &self.machine, row),
             "keep-report" => self.keep_report(alloc, row),
             "leave" => self.leave(alloc, View(row.number("view")?)),
-            "leaving" => leaving(alloc, &self.machine, row),
+            "hate" | "report" | "leaving" => owes(alloc, &self.machine, row),
             "tells" => tells(alloc, &self.machine, row),
             "kept" => kept_text(alloc, &self.machine),
             _ => beginnings::step(alloc, &mut self.machine, row),
@@ -99,37 +99,48 @@ fn start(alloc: Global, id: u64) -> io::Result<ViewMachine> {
     ViewMachine::start(alloc, counts, ReplicaId(id), INTERVAL).map_err(lacking)
 }
 
-/// What a hate owes, where this is the own report.
-fn hate(alloc: Global, machine: &ViewMachine, row: &Row) -> io::Result<String> {
-    let vote = hate_in(alloc, row)?;
+/// What a call owes that takes the own report.
+fn owes(alloc: Global, machine: &ViewMachine, row: &Row) -> io::Result<String> {
     let own = own_in(alloc, machine, row)?;
+    let told = &own.stmt.told;
+    match row.call()? {
+        "hate" => hate(alloc, machine, row, told),
+        "report" => report(alloc, machine, row, told),
+        _ => leaving(alloc, machine, row, told),
+    }
+}
+
+/// What a hate owes, where this is the own report.
+fn hate(alloc: Global, machine: &ViewMachine, row: &Row, told: &Told) -> io::Result<String>
+    requires { IsTrueReport machine.now told.now }
+{
+    let vote = hate_in(alloc, row)?;
     if !is_member(machine, vote.by) {
         return Err(not_a_line());
     }
-    let owed = machine.hate(&vote, &own.stmt.told).map_err(lacking)?;
-    owed_text(alloc, &owed)
+    owed_in(alloc, machine.hate(&vote, told))
 }
 
 /// What a report owes.
-fn report(alloc: Global, machine: &ViewMachine, row: &Row) -> io::Result<String> {
+fn report(alloc: Global, machine: &ViewMachine, row: &Row, told: &Told) -> io::Result<String>
+    requires { IsTrueReport machine.now told.now }
+{
     let change = change_in(alloc, row, "change")?;
-    let own = own_in(alloc, machine, row)?;
     if !is_member(machine, change.by) {
         return Err(not_a_line());
     }
-    let owed = machine.change(&change, &own.stmt.told).map_err(lacking)?;
-    owed_text(alloc, &owed)
+    owed_in(alloc, machine.change(&change, told))
 }
 
 /// What a leave for a later view owes.
-fn leaving(alloc: Global, machine: &ViewMachine, row: &Row) -> io::Result<String> {
+fn leaving(alloc: Global, machine: &ViewMachine, row: &Row, told: &Told) -> io::Result<String>
+    requires { IsTrueReport machine.now told.now }
+{
     let view = View(row.number("view")?);
-    let own = own_in(alloc, machine, row)?;
     if view <= machine.view() {
         return Err(not_a_line());
     }
-    let owed = machine.leaving(view, &own.stmt.told).map_err(lacking)?;
-    owed_text(alloc, &owed)
+    owed_in(alloc, machine.leaving(view, told))
 }
 
 /// What the replica would report with these entries above the empty history.
@@ -140,7 +151,15 @@ fn tells(alloc: Global, machine: &ViewMachine, row: &Row) -> io::Result<String> 
         return Err(not_a_line());
     }
     let stable = (View(0), Place(0), EMPTY_HEAD, state);
-    let told = machine.told(stable, &[], &spine).map_err(lacking)?;
+    match machine.told(stable, &[], &spine) {
+        Ok(told) => told_text(alloc, &told),
+        Err(want) => Err(lacking(want)),
+    }
+}
+
+fn told_text(alloc: Global, told: &Told) -> io::Result<String>
+    requires { IsToldInRange told.now }
+{
     let mut out = Put::new(alloc);
     told.put(&mut out).map_err(lacking)?;
     hex_text(alloc, out.done().as_slice())
@@ -215,7 +234,8 @@ fn keeps_rules(alloc: Global, machine: &ViewMachine, change: &Signed<Change>) ->
 
 /// A replica of the group.
 pub(crate) fn is_member(machine: &ViewMachine, by: Party) -> bool
-    ensures { IsTrue result → number_of_party by < machine.now.counts.n }
+    ensures member { IsTrue result → number_of_party by < machine.now.counts.n }
+    ensures replica { IsTrue result → by ≡ parties.Replica (record { 0 = number_of_party by }) }
 {
     match by {
         Party::Replica(id) => u64::from(id.0) < machine.counts().n,

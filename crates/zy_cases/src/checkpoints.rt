@@ -10,8 +10,8 @@ use crate::text::{Hex, cause_text, lacking};
 use crate::words::{Row, not_a_line};
 use std::alloc::Global;
 use std::io;
-use zy_base::{Bytes, ClientId, Digest, Party, Place, Stamp, View};
-use zy_check::{Checkpoints, Kept};
+use zy_base::{Bytes, ClientId, Digest, Party, Place, Stamp, View, Want};
+use zy_check::{Checkpoints, Kept, stays};
 use zy_parts::{Check, Signed, Spec};
 
 const INTERVAL: u64 = 4;
@@ -41,7 +41,7 @@ impl Board {
         let own = own_spec(row)?;
         let vote = signed(alloc, party(row, "by")?, said);
         let would = self.kept.judge_spec(&vote, own.as_ref());
-        match self.kept.spec(vote, own.as_ref()) {
+        match keep_spec(&mut self.kept, vote, own.as_ref()) {
             Ok(kept) => kept_text(alloc, would, kept),
             Err(want) => Err(lacking(want)),
         }
@@ -52,7 +52,7 @@ impl Board {
         let own = own_check(row)?;
         let vote = signed(alloc, party(row, "by")?, said);
         let would = self.kept.judge_vote(&vote, own.as_ref());
-        match self.kept.vote(vote, own.as_ref()) {
+        match keep_check(&mut self.kept, vote, own.as_ref()) {
             Ok(kept) => kept_text(alloc, would, kept),
             Err(want) => Err(lacking(want)),
         }
@@ -61,16 +61,17 @@ impl Board {
     fn drop_other(&mut self, alloc: Global, row: &Row) -> io::Result<String> {
         let spec = spec_in(row, "response")?;
         let check = check_in(row, "checkpoint")?;
-        self.kept.drop_other(&spec, &check);
+        drop_other(&mut self.kept, &spec, &check);
         ok_text(alloc)
     }
 
     fn clear(&mut self, alloc: Global) -> io::Result<String> {
-        self.kept.clear();
+        clear(&mut self.kept);
         ok_text(alloc)
     }
 
     /// One checkpoint makes its place stable.
+    #[tactic(auto, unfolding(zy_check::specs::Board::with_stable))]
     fn settle(&mut self, alloc: Global, row: &Row) -> io::Result<String> {
         let check = check_in(row, "said")?;
         let by = party(row, "by")?;
@@ -112,7 +113,40 @@ impl Scene for Board {
     }
 }
 
-fn signed<S>(alloc: Global, by: Party, stmt: S) -> Signed<S> {
+fn keep_spec(kept: &mut Checkpoints, vote: Signed<Spec>, own: Option<&Spec>) -> Result<Kept, Want>
+    ensures { kept.new.interval ≡ kept.old.interval }
+{
+    stays();
+    kept.spec(vote, own)
+}
+
+fn keep_check(
+    kept: &mut Checkpoints,
+    vote: Signed<Check>,
+    own: Option<&Check>,
+) -> Result<Kept, Want>
+    ensures { kept.new.interval ≡ kept.old.interval }
+{
+    stays();
+    kept.vote(vote, own)
+}
+
+fn drop_other(kept: &mut Checkpoints, spec: &Spec, check: &Check)
+    ensures { kept.new.interval ≡ kept.old.interval }
+{
+    stays();
+    kept.drop_other(spec, check);
+}
+
+fn clear(kept: &mut Checkpoints)
+    ensures { kept.new.interval ≡ kept.old.interval }
+{
+    kept.clear();
+}
+
+fn signed<S>(alloc: Global, by: Party, stmt: S) -> Signed<S>
+    ensures { result.stmt ≡ stmt }
+{
     Signed {
         by,
         stmt,

@@ -7,11 +7,24 @@ use crate::statements::{At, Name, spelled};
 use crate::text::{Hex, lacking};
 use crate::words::{Row, not_a_line};
 use std::alloc::Global;
-use std::io;
-use zy_base::{Counts, Party, Want};
+use std::{fmt, io};
+use zy_base::{Counts, Digest, Party, Place, Want};
 use zy_choose::Report;
 use zy_evidence::{ReportFault, report_in};
 use zy_parts::{Change, Signed};
+
+/// Where a commit certificate stands, if there is one.
+#[derive(Clone, Copy)]
+struct Certified(Option<(Place, Digest)>);
+
+impl fmt::Display for Certified {
+    fn fmt<W: fmt::Write>(&self, f: &mut fmt::Formatter<W>) -> fmt::Result {
+        match self.0 {
+            Some(mark) => write!(f, " certified {}", At(mark)),
+            None => Ok(()),
+        }
+    }
+}
 
 /// The first rule that the report of a change breaks, or the report as it is read.
 pub(crate) fn judged(alloc: Global, row: &Row) -> io::Result<String> {
@@ -45,24 +58,14 @@ fn judged_text(alloc: Global, read: Result<Report, ReportFault>) -> io::Result<S
 }
 
 fn report_text(alloc: Global, report: &Report) -> io::Result<String> {
-    let mut text = format!(in alloc;
-        "{} last {} began {}",
-        Name(Party::Replica(report.by)),
-        report.last_view.0,
-        At(report.began)
-    )?;
-    if let Some(mark) = report.cc {
-        text.push_str(format!(in alloc; " certified {}", At(mark))?.as_str())?;
-    }
-    text.push_str(stable_text(alloc, report)?.as_str())?;
-    Ok(text)
-}
-
-fn stable_text(alloc: Global, report: &Report) -> io::Result<String> {
     let (view, place, head, state) = report.stable;
     let spine = &report.spine;
     Ok(format!(in alloc;
-        " stable {} {} state {} entries {} {}",
+        "{} last {} began {}{} stable {} {} state {} entries {} {}",
+        Name(Party::Replica(report.by)),
+        report.last_view.0,
+        At(report.began),
+        Certified(report.cc),
         view.0,
         At((place, head)),
         Hex(&state.0),

@@ -1,10 +1,10 @@
 //! What a step of the machine of view changes owes, as a text: the answer, and then each thing that is owed.
 
 use crate::statements::At;
-use crate::text::cause_text;
+use crate::text::{cause_text, lacking};
 use std::alloc::Global;
 use std::{fmt, io};
-use zy_base::Answer;
+use zy_base::{Answer, Want};
 use zy_change::{Adoption, Chosen, Owed};
 
 /// What is owed beside the answer.
@@ -56,6 +56,14 @@ impl<'a> fmt::Display for Adopts<'a> {
         let choice = Choice(self.0.chosen);
         let entries = self.0.told.entries.len();
         write!(f, " adopt view {} {choice} of {entries} entries", view.0)
+    }
+}
+
+/// What a step owes, where memory sufficed.
+pub(crate) fn owed_in(alloc: Global, owed: Result<Owed, Want>) -> io::Result<String> {
+    match owed {
+        Ok(owed) => owed_text(alloc, &owed),
+        Err(want) => Err(lacking(want)),
     }
 }
 
