@@ -194,8 +194,13 @@ fn head_told(alloc: Global, told: &Told, place: Place) -> io::Result<Digest>
     requires { IsToldInRange told.now }
     ensures { IfOk result (λ head. head_in (stretch_of told.now) place.0 ≡ Some head) }
 {
-    let report = read(alloc, ReplicaId(0), told).map_err(lacking)?;
-    report.spine.head_at(place).ok_or_else(not_a_line)
+    match read(alloc, ReplicaId(0), told) {
+        Err(want) => Err(lacking(want)),
+        Ok(report) => match report.spine.head_at(place) {
+            None => Err(not_a_line()),
+            Some(head) => Ok(head),
+        },
+    }
 }
 
 fn has_clients(told: &Told) -> bool

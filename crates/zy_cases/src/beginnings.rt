@@ -53,10 +53,12 @@ fn choice(alloc: Global, machine: &ViewMachine, new: &Signed<New>) -> io::Result
     requires in_range { IsSignedInRange IsNewInRange new.now }
     ensures { IfOk result (λ r. IsAccepted machine.now.counts machine.now.interval (record { new = new.now; chosen = r.0 })) }
 {
-    let owed = new_view(alloc, machine, new).map_err(lacking)?;
-    match owed.confirm {
-        None => Err(not_a_line()),
-        Some(chosen) => Ok((chosen, owed_text(alloc, &owed)?)),
+    match new_view(alloc, machine, new) {
+        Err(want) => Err(lacking(want)),
+        Ok(owed) => match owed.confirm {
+            None => Err(not_a_line()),
+            Some(chosen) => Ok((chosen, owed_text(alloc, &owed)?)),
+        },
     }
 }
 
@@ -136,10 +138,12 @@ fn certified(alloc: Global, machine: &ViewMachine, cert: &ViewCert) -> io::Resul
     requires in_range { IsFrameInRange (frames.ViewCert cert.now) }
     ensures { IfOk result (IsCertified machine.now.counts machine.now.interval cert.now) }
 {
-    let owed = view_cert(alloc, machine, cert).map_err(lacking)?;
-    match &owed.adopt {
-        None => Err(not_a_line()),
-        Some(adoption) => Ok(adoption.chosen),
+    match view_cert(alloc, machine, cert) {
+        Err(want) => Err(lacking(want)),
+        Ok(owed) => match &owed.adopt {
+            None => Err(not_a_line()),
+            Some(adoption) => Ok(adoption.chosen),
+        },
     }
 }
 

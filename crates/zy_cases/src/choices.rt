@@ -117,7 +117,9 @@ fn client(row: &Row) -> io::Result<ClientId> {
 }
 
 /// One entry more, of this client with stamp 1 and one letter.
-fn push(alloc: Global, spine: &mut Spine, client: ClientId, letter: u8) -> io::Result<()> {
+fn push(alloc: Global, spine: &mut Spine, client: ClientId, letter: u8) -> io::Result<()>
+    ensures { spine.new.base ≡ spine.old.base }
+{
     let entry = Entry {
         client,
         stamp: Stamp(1),
