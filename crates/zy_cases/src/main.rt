@@ -9,31 +9,50 @@
 //! `rt try --seconds 600 $(for t in $(ls data); do echo --data $t=data/$t; done) -- TABLE`.
 #![tactic(auto)]
 
+mod adoptions;
+mod beginnings;
 mod cases;
+mod certs;
 mod chain;
+mod changes;
+mod checkpoints;
+mod choices;
+mod evidence;
+mod frames;
 mod groups;
 mod lms;
+mod orders;
 mod ots;
+mod owed;
 mod parts;
 mod pieces;
 mod seal;
 mod slots;
+mod statements;
 mod text;
 mod tuple;
 mod wire;
 mod words;
 
+use adoptions::Histories;
 use cases::{Scene, run};
 use lms::Keys;
 use pieces::Gathers;
 use seal::Seals;
+use certs::Poll;
+use changes::Machines;
+use checkpoints::Board;
+use choices::Reports;
+use frames::Kinds;
+use orders::Orders;
 use std::alloc::Global;
 use std::io::ErrorKind;
 use std::{env, io};
 use words::Row;
+use zy_base::Digest;
 
 /// The files of `data/`, in the order in which they run.
-const TABLES: [&str; 18] = [
+const TABLES: [&str; 30] = [
     "group-numbers",
     "lists",
     "fields",
@@ -52,6 +71,18 @@ const TABLES: [&str; 18] = [
     "reply-bytes",
     "templates",
     "signed-texts",
+    "frames",
+    "view-frames",
+    "votes",
+    "certificates",
+    "misbehaviour",
+    "checkpoints",
+    "choices",
+    "reports",
+    "orders",
+    "view-changes",
+    "view-beginnings",
+    "adoptions",
 ];
 
 fn main(rt: HostRuntime) -> io::Result<()> {
@@ -78,6 +109,12 @@ fn run_table(rt: &HostRuntime, table: &'static str) -> io::Result<()> {
         "gathered-frames" => run(rt, table, &mut Gathers::new(rt.alloc())),
         "keys" => run(rt, table, &mut Keys::new()),
         "seals" => run(rt, table, &mut Seals::new()),
+        "votes" => run(rt, table, &mut Poll::new(rt.alloc())),
+        "checkpoints" => run(rt, table, &mut Board::new(rt.alloc(), Digest([0; 32]))),
+        "choices" => run(rt, table, &mut Reports::new(rt.alloc())?),
+        "orders" => run(rt, table, &mut Orders::new(rt.alloc())),
+        "view-changes" | "view-beginnings" => run(rt, table, &mut Machines::new(rt.alloc())?),
+        "adoptions" => run(rt, table, &mut Histories::new(rt.alloc())?),
         _ => run(rt, table, &mut Calls(table)),
     }
 }
@@ -110,6 +147,11 @@ fn answer(alloc: Global, table: &str, row: &Row) -> io::Result<String> {
         "reply-bytes" => tuple::reply_spelling(alloc, row),
         "templates" => tuple::template(alloc, row),
         "signed-texts" => parts::text(alloc, row),
+        "frames" => frames::answer(alloc, Kinds::Plain, row),
+        "view-frames" => frames::answer(alloc, Kinds::Views, row),
+        "certificates" => certs::certificate(alloc, row),
+        "misbehaviour" => certs::misbehaviour(alloc, row),
+        "reports" => evidence::judged(alloc, row),
         _ => Err(io::Error::from(ErrorKind::NotFound)),
     }
 }
