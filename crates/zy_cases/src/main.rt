@@ -9,8 +9,14 @@
 #![tactic(auto)]
 
 mod cases;
+mod edge;
 mod groups;
+mod history;
+mod links;
+mod snapshots;
+mod space;
 mod text;
+mod values;
 mod words;
 
 use cases::{Scene, run};
@@ -20,7 +26,15 @@ use std::io::ErrorKind;
 use words::Row;
 
 /// The files of `data/`, in the order in which they run.
-const TABLES: [&str; 1] = ["group-numbers"];
+const TABLES: [&str; 7] = [
+    "group-numbers",
+    "files-in-memory",
+    "sinks-in-memory",
+    "links-in-memory",
+    "clocks",
+    "space",
+    "execution",
+];
 
 fn main(rt: HostRuntime) -> io::Result<()> {
     for table in TABLES {
@@ -32,6 +46,9 @@ fn main(rt: HostRuntime) -> io::Result<()> {
 /// Runs a table with what its rows share.
 fn run_table(rt: &HostRuntime, table: &'static str) -> io::Result<()> {
     match table {
+        "links-in-memory" => run(rt, table, &mut links::Links::new(rt.alloc())?),
+        "space" => run(rt, table, &mut space::Spaces::new(rt.alloc())?),
+        "execution" => run(rt, table, &mut history::Executions::new(rt.alloc())?),
         _ => run(rt, table, &mut Calls(table)),
     }
 }
@@ -50,6 +67,9 @@ impl Scene for Calls {
 fn answer(alloc: Global, table: &str, row: &Row) -> io::Result<String> {
     match table {
         "group-numbers" => groups::numbers(alloc, row),
+        "files-in-memory" => edge::files(alloc, row),
+        "sinks-in-memory" => edge::sinks(alloc, row),
+        "clocks" => edge::clocks(alloc, row),
         _ => Err(io::Error::from(ErrorKind::NotFound)),
     }
 }
