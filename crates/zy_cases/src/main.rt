@@ -8,11 +8,16 @@
 //! Without any proof: `rt try $(for t in $(ls data); do echo --data $t=data/$t; done)` in this folder.
 #![tactic(auto)]
 
+mod book;
 mod cases;
 mod edge;
+mod group_files;
 mod groups;
 mod history;
 mod links;
+mod report;
+mod schedule;
+mod schedule_lines;
 mod snapshots;
 mod space;
 mod text;
@@ -26,7 +31,7 @@ use std::io::ErrorKind;
 use words::Row;
 
 /// The files of `data/`, in the order in which they run.
-const TABLES: [&str; 7] = [
+const TABLES: [&str; 15] = [
     "group-numbers",
     "files-in-memory",
     "sinks-in-memory",
@@ -34,6 +39,14 @@ const TABLES: [&str; 7] = [
     "clocks",
     "space",
     "execution",
+    "schedules",
+    "long-schedules",
+    "scripts",
+    "made-schedules",
+    "report-lines",
+    "group-files",
+    "secret-files",
+    "histories",
 ];
 
 fn main(rt: HostRuntime) -> io::Result<()> {
@@ -49,6 +62,7 @@ fn run_table(rt: &HostRuntime, table: &'static str) -> io::Result<()> {
         "links-in-memory" => run(rt, table, &mut links::Links::new(rt.alloc())?),
         "space" => run(rt, table, &mut space::Spaces::new(rt.alloc())?),
         "execution" => run(rt, table, &mut history::Executions::new(rt.alloc())?),
+        "histories" => run(rt, table, &mut book::Books::new(rt.alloc())?),
         _ => run(rt, table, &mut Calls(table)),
     }
 }
@@ -70,6 +84,13 @@ fn answer(alloc: Global, table: &str, row: &Row) -> io::Result<String> {
         "files-in-memory" => edge::files(alloc, row),
         "sinks-in-memory" => edge::sinks(alloc, row),
         "clocks" => edge::clocks(alloc, row),
+        "schedules" => schedule::schedules(alloc, row),
+        "long-schedules" => schedule::long_schedules(alloc, row),
+        "scripts" => schedule::scripts(alloc, row),
+        "made-schedules" => schedule::made(alloc, row),
+        "report-lines" => report::lines(alloc, row),
+        "group-files" => group_files::groups(alloc, row),
+        "secret-files" => group_files::secrets(alloc, row),
         _ => Err(io::Error::from(ErrorKind::NotFound)),
     }
 }
