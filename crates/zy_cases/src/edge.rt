@@ -1,7 +1,7 @@
 //! The tables `files-in-memory`, `sinks-in-memory` and `clocks`: what stands for the outside in memory, with the calls that are to
 //! fail.
 
-ghost use Rattle.std.specs.Prelude.{IsTrue, ◌→◌};
+ghost use Rattle.std.specs.Prelude.{IsTrue};
 ghost use Rattle.zy_edge.specs.Clock.{are_moments as are_moments_lem};
 
 use crate::text::lacking;
