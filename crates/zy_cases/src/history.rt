@@ -8,7 +8,7 @@ ghost use Rattle.zy_tuple.specs.Values.{IsOp};
 use crate::cases::Scene;
 use crate::snapshots::{Change, places};
 use crate::text::{Hex, fault_text, hex_text, lacking};
-use crate::values::{MaybeHex, MaybeNumber, digest, number32, numbers, ok_text};
+use crate::values::{MaybeHex, MaybeNumber, digest, numbers, ok_text};
 use crate::words::{Row, not_a_line};
 use std::alloc::Global;
 use std::marker::Brand;
@@ -71,7 +71,7 @@ fn begin(alloc: Global, exec: &mut Exec<Space>) -> io::Result<String> {
 
 /// Runs a client's entry. The answer is the reply's bytes.
 fn run(alloc: Global, exec: &mut Exec<Space>, row: &Row) -> io::Result<String> {
-    let client = ClientId(number32(row, "client")?);
+    let client = ClientId(row.number32("client")?);
     let stamp = Stamp(row.number("stamp")?);
     let op = op_of(alloc, row.bytes("op")?)?;
     if client.0 >= 64 || stamp.0 >= 1 << 62 || op.len() > 1100 || exec.end().0 >= (1 << 62) - 1 {

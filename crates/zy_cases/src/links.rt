@@ -1,8 +1,8 @@
 //! The table `links-in-memory`: datagrams in memory, with the calls that are to fail. Its rows are calls on one link.
 
 use crate::cases::Scene;
-use crate::text::{Hex, lacking};
-use crate::values::{PartyText, numbers, ok_text, party};
+use crate::text::{Hex, PartyText, lacking};
+use crate::values::{numbers, ok_text};
 use crate::words::{Row, not_a_line};
 use std::alloc::Global;
 use std::io;
@@ -59,7 +59,7 @@ fn coming(alloc: Global, row: &Row) -> io::Result<Vec<Bytes>> {
 }
 
 fn bind(alloc: Global, link: &mut MemLink, row: &Row) -> io::Result<String> {
-    let me = party(row, "party")?;
+    let me = row.party("party")?;
     let port = u16::try_from(row.number("port")?).map_err(|_| not_a_line())?;
     let text = match link.bind(port, me) {
         Bound::Bound => "bound",
@@ -98,7 +98,7 @@ fn datagram_text(alloc: Global, bytes: Option<&[u8]>) -> io::Result<String> {
 }
 
 fn send(alloc: Global, link: &mut MemLink, row: &Row) -> io::Result<String> {
-    let to = party(row, "to")?;
+    let to = row.party("to")?;
     let text = match link.send(to, row.bytes("bytes")?) {
         Sent::Sent => "sent",
         Sent::Failed => "failed",

@@ -5,34 +5,64 @@
 //! `TABLES`, its last line into `stdout`, and one arm into `answer`; where its rows are steps that follow each other, one arm into
 //! `run_table` in its place.
 //!
-//! Without any proof: `rt try $(for t in $(ls data); do echo --data $t=data/$t; done)` in this folder.
+//! A word on the command line names the one table that runs. To try it without any proof, in this folder:
+//! `rt try --seconds 600 $(for t in $(ls data); do echo --data $t=data/$t; done) -- TABLE`.
 #![tactic(auto)]
 
 mod book;
 mod cases;
+mod chain;
 mod edge;
 mod group_files;
 mod groups;
 mod history;
 mod links;
+mod lms;
+mod ots;
+mod parts;
+mod pieces;
 mod report;
 mod schedule;
 mod schedule_lines;
+mod seal;
+mod slots;
 mod snapshots;
 mod space;
 mod text;
+mod tuple;
 mod values;
+mod wire;
 mod words;
 
 use cases::{Scene, run};
+use lms::Keys;
+use pieces::Gathers;
+use seal::Seals;
 use std::alloc::Global;
-use std::io;
 use std::io::ErrorKind;
+use std::{env, io};
 use words::Row;
 
 /// The files of `data/`, in the order in which they run.
-const TABLES: [&str; 15] = [
+const TABLES: [&str; 32] = [
     "group-numbers",
+    "lists",
+    "fields",
+    "unlinked-values",
+    "datagrams",
+    "gathered-frames",
+    "one-time-signatures",
+    "keys",
+    "verification",
+    "seals",
+    "entries-and-heads",
+    "stretches",
+    "operation-lines",
+    "operation-bytes",
+    "reply-lines",
+    "reply-bytes",
+    "templates",
+    "signed-texts",
     "files-in-memory",
     "sinks-in-memory",
     "links-in-memory",
@@ -50,15 +80,29 @@ const TABLES: [&str; 15] = [
 ];
 
 fn main(rt: HostRuntime) -> io::Result<()> {
+    let only = env::args(&rt)?.nth(1);
     for table in TABLES {
-        run_table(&rt, table)?;
+        if is_wanted(&only, table) {
+            run_table(&rt, table)?;
+        }
     }
     Ok(())
+}
+
+/// Whether a table runs: each does where no word names one.
+fn is_wanted(only: &Option<String>, table: &str) -> bool {
+    match only {
+        Some(name) => name.as_str() == table,
+        None => true,
+    }
 }
 
 /// Runs a table with what its rows share.
 fn run_table(rt: &HostRuntime, table: &'static str) -> io::Result<()> {
     match table {
+        "gathered-frames" => run(rt, table, &mut Gathers::new(rt.alloc())),
+        "keys" => run(rt, table, &mut Keys::new()),
+        "seals" => run(rt, table, &mut Seals::new()),
         "links-in-memory" => run(rt, table, &mut links::Links::new(rt.alloc())?),
         "space" => run(rt, table, &mut space::Spaces::new(rt.alloc())?),
         "execution" => run(rt, table, &mut history::Executions::new(rt.alloc())?),
@@ -81,6 +125,20 @@ impl Scene for Calls {
 fn answer(alloc: Global, table: &str, row: &Row) -> io::Result<String> {
     match table {
         "group-numbers" => groups::numbers(alloc, row),
+        "lists" => groups::lists(alloc, row),
+        "fields" => wire::fields(alloc, row),
+        "unlinked-values" => slots::steps(alloc, row),
+        "datagrams" => pieces::datagram(alloc, row),
+        "one-time-signatures" => ots::signatures(alloc, row),
+        "verification" => lms::verified(alloc, row),
+        "entries-and-heads" => chain::entries(alloc, row),
+        "stretches" => chain::stretches(alloc, row),
+        "operation-lines" => tuple::op_line(alloc, row),
+        "operation-bytes" => tuple::op_spelling(alloc, row),
+        "reply-lines" => tuple::reply_line(alloc, row),
+        "reply-bytes" => tuple::reply_spelling(alloc, row),
+        "templates" => tuple::template(alloc, row),
+        "signed-texts" => parts::text(alloc, row),
         "files-in-memory" => edge::files(alloc, row),
         "sinks-in-memory" => edge::sinks(alloc, row),
         "clocks" => edge::clocks(alloc, row),

@@ -1,7 +1,7 @@
 //! The table `report-lines`: the lines that a run writes.
 
 use crate::text::lacking;
-use crate::values::{byte, digest, maybe_number, number32, party};
+use crate::values::{byte, digest, maybe_number};
 use crate::words::{Row, not_a_line};
 use std::alloc::Global;
 use std::io;
@@ -54,7 +54,7 @@ fn put_letter(shown: &mut String, letter: char) -> io::Result<()> {
 
 fn done(alloc: Global, row: &Row) -> io::Result<Bytes> {
     let event = maybe_number(row, "event")?;
-    let client = ClientId(number32(row, "client")?);
+    let client = ClientId(row.number32("client")?);
     let stamp = Stamp(row.number("stamp")?);
     let view = View(row.number("view")?);
     let place = Place(row.number("place")?);
@@ -71,7 +71,7 @@ fn refused(alloc: Global, row: &Row) -> io::Result<Bytes> {
 
 fn maybe_party(row: &Row) -> io::Result<Option<Party>> {
     if row.has("party") {
-        Ok(Some(party(row, "party")?))
+        Ok(Some(row.party("party")?))
     } else {
         Ok(None)
     }
@@ -121,13 +121,13 @@ fn agreed(alloc: Global, row: &Row) -> io::Result<Bytes> {
 }
 
 fn key(alloc: Global, row: &Row) -> io::Result<Bytes> {
-    let next = number32(row, "next")?;
+    let next = row.number32("next")?;
     let stamp = Stamp(row.number("stamp")?);
     key_line(alloc, next, stamp).map_err(lacking)
 }
 
 fn key_file(alloc: Global, row: &Row) -> io::Result<Bytes> {
-    let party = party(row, "party")?;
+    let party = row.party("party")?;
     let seed = row.array("seed")?;
     let id = row.array("id")?;
     let height = byte(row, "height")?;

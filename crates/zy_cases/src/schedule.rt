@@ -5,7 +5,6 @@ ghost use Rattle.zy_schedule.specs.Texts.{IsSaid};
 
 use crate::schedule_lines::put_line;
 use crate::text::lacking;
-use crate::values::number32;
 use crate::words::{Row, not_a_line};
 use std::alloc::Global;
 use std::io;
@@ -90,8 +89,8 @@ pub(crate) fn scripts(alloc: Global, row: &Row) -> io::Result<String> {
 
 /// How many lines the schedule has that a `number` makes of so many `asks`, and its lines behind so many.
 pub(crate) fn made(alloc: Global, row: &Row) -> io::Result<String> {
-    let number = number32(row, "number")?;
-    let asks = number32(row, "asks")?;
+    let number = row.number32("number")?;
+    let asks = row.number32("asks")?;
     let behind = row.number("behind")?;
     match make(alloc, number, asks) {
         Ok(lines) => made_text(alloc, &lines, behind),

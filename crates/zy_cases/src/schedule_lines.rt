@@ -3,8 +3,7 @@
 ghost use Rattle.zy_schedule.specs.Texts.{IsSaid};
 ghost use Rattle.zy_tuple.specs.Values.{IsOp, IsReply};
 
-use crate::text::{Hex, lacking};
-use crate::values::PartyText;
+use crate::text::{Hex, PartyText, lacking};
 use crate::words::not_a_line;
 use std::alloc::Global;
 use std::io;

@@ -2,10 +2,11 @@
 //!
 //! `ok` is an `Ok` with nothing in it, `Err` stands before a fault, bytes are hex digits, and a cause is its name and its values.
 
+use sha2::{Digest as _, Sha256};
 use std::alloc::Global;
 use std::io::ErrorKind;
 use std::{fmt, io};
-use zy_base::{Cause, Digest, Want};
+use zy_base::{Cause, ClientId, Digest, Party, ReplicaId, Want};
 
 /// Bytes, which print as hex digits.
 #[derive(Clone, Copy)]
@@ -20,14 +21,37 @@ impl<'a> fmt::Display for Hex<'a> {
     }
 }
 
+/// A party, which prints as `r` or `c` and its number.
+#[derive(Clone, Copy)]
+pub(crate) struct PartyText(pub(crate) Party);
+
+impl fmt::Display for PartyText {
+    fn fmt<W: fmt::Write>(&self, f: &mut fmt::Formatter<W>) -> fmt::Result {
+        match self.0 {
+            Party::Replica(ReplicaId(id)) => write!(f, "r{id}"),
+            Party::Client(ClientId(id)) => write!(f, "c{id}"),
+        }
+    }
+}
+
 /// The hex digits of bytes.
 pub(crate) fn hex_text(alloc: Global, bytes: &[u8]) -> io::Result<String> {
     Ok(hex::encode(alloc, bytes)?)
 }
 
-/// `true` or `false`.
-pub(crate) fn flag_text(alloc: Global, flag: bool) -> io::Result<String> {
-    Ok(format!(in alloc; "{flag}")?)
+/// A number, a flag or another value that prints.
+pub(crate) fn plain_text<T: fmt::Display>(alloc: Global, value: &T) -> io::Result<String> {
+    Ok(format!(in alloc; "{value}")?)
+}
+
+/// The SHA-256 of bytes (FIPS 180-4), which stands for long ones.
+pub(crate) fn sha_text(alloc: Global, bytes: &[u8]) -> io::Result<String> {
+    hex_text(alloc, &Sha256::digest(bytes))
+}
+
+/// A party.
+pub(crate) fn party_text(alloc: Global, party: Party) -> io::Result<String> {
+    plain_text(alloc, &PartyText(party))
 }
 
 /// A fault by its name.

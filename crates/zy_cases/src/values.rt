@@ -1,20 +1,14 @@
-//! Words that are smaller numbers, lists of numbers, or parties, and answers that may be missing.
+//! Words that are bytes, lists of numbers or digests, and answers that may be missing.
 
 use crate::text::Hex;
-use crate::words::{Row, not_a_line};
+use crate::words::{Row, not_a_line, number};
 use std::alloc::Global;
 use std::{fmt, io};
-use zy_base::{ClientId, Digest, Party, ReplicaId};
-use zy_tuple::{numeral, party_text_read};
+use zy_base::Digest;
 
 /// The number that is the word with this name, of 8 bits.
 pub(crate) fn byte(row: &Row, name: &str) -> io::Result<u8> {
     u8::try_from(row.number(name)?).map_err(|_| not_a_line())
-}
-
-/// The same of 32 bits.
-pub(crate) fn number32(row: &Row, name: &str) -> io::Result<u32> {
-    u32::try_from(row.number(name)?).map_err(|_| not_a_line())
 }
 
 /// The number with this name, where there is one.
@@ -30,33 +24,14 @@ pub(crate) fn maybe_number(row: &Row, name: &str) -> io::Result<Option<u64>> {
 pub(crate) fn numbers(alloc: Global, row: &Row, name: &str) -> io::Result<Vec<u64>> {
     let mut numbers = Vec::new(alloc);
     for digits in row.text(name)?.split_whitespace() {
-        let number = numeral(digits.as_bytes()).ok_or_else(not_a_line)?;
-        numbers.push(number)?;
+        numbers.push(number(digits)?)?;
     }
     Ok(numbers)
-}
-
-/// The party that is the word with this name, as `r0` or `c3`.
-pub(crate) fn party(row: &Row, name: &str) -> io::Result<Party> {
-    party_text_read(row.bytes(name)?).ok_or_else(not_a_line)
 }
 
 /// The digest that is the word with this name.
 pub(crate) fn digest(row: &Row, name: &str) -> io::Result<Digest> {
     Ok(Digest(row.array(name)?))
-}
-
-/// A party, which prints as `r0` or `c3`.
-#[derive(Clone, Copy)]
-pub(crate) struct PartyText(pub(crate) Party);
-
-impl fmt::Display for PartyText {
-    fn fmt<W: fmt::Write>(&self, f: &mut fmt::Formatter<W>) -> fmt::Result {
-        match self.0 {
-            Party::Replica(ReplicaId(id)) => write!(f, "r{id}"),
-            Party::Client(ClientId(id)) => write!(f, "c{id}"),
-        }
-    }
 }
 
 /// Bytes that may be missing, and print as `-` then.

@@ -11,6 +11,7 @@
 //! | `hex:0a1b` | these, two digits each |
 //! | `text:abc` | of this text, which has no `+` |
 //! | `rep:N:0a` | N times this one |
+//! | `ramp:N` | N, each its place modulo 251, from 0 on |
 //! | `u8:N`, `u16:N`, `u32:N`, `u64:N` | of this number, the highest first |
 //! | `$NAME` | of a named value |
 //! | `cut:N` | the first N of those before it alone |
@@ -22,6 +23,8 @@
 use std::alloc::Global;
 use std::io;
 use std::io::ErrorKind;
+use zy_base::Party;
+use zy_tuple::party_text_read;
 
 /// A named value. A word that is a value alone has an empty name.
 #[derive(Drop)]
@@ -76,6 +79,16 @@ impl Row {
         number(self.text(name)?)
     }
 
+    /// The same, below 2^32.
+    pub(crate) fn number32(&self, name: &str) -> io::Result<u32> {
+        u32::try_from(self.number(name)?).map_err(|_| not_a_line())
+    }
+
+    /// The party that is the word with this name: `r` or `c` and its number.
+    pub(crate) fn party(&self, name: &str) -> io::Result<Party> {
+        party_text_read(self.bytes(name)?).ok_or_else(not_a_line)
+    }
+
     /// The word with this name, which has just so many bytes.
     pub(crate) fn array<const N: usize>(&self, name: &str) -> io::Result<[u8; N]> {
         let bytes = self.bytes(name)?;
@@ -109,6 +122,9 @@ pub(crate) fn read_line(alloc: Global, names: &mut Names, line: &str) -> io::Res
 
 fn keep(alloc: Global, names: &mut Names, named: &str) -> io::Result<Line> {
     let (name, value) = named.split_once('\t').ok_or_else(not_a_line)?;
+    if value_of(&names.words, name).is_some() {
+        return Err(not_a_line());
+    }
     let word = word_of(alloc, names, name, value)?;
     names.words.push(word)?;
     Ok(Line::Remark)
@@ -163,9 +179,10 @@ fn value_bytes(alloc: Global, names: &Names, value: &str) -> io::Result<Vec<u8>>
 }
 
 fn has_parts(value: &str) -> bool {
-    ["$", "hex:", "text:", "rep:", "u8:", "u16:", "u32:", "u64:"]
-        .iter()
-        .any(|start| value.starts_with(*start))
+    const STARTS: [&str; 9] = [
+        "$", "hex:", "text:", "rep:", "ramp:", "u8:", "u16:", "u32:", "u64:",
+    ];
+    STARTS.iter().any(|start| value.starts_with(*start))
 }
 
 /// Puts a part behind those before it.
@@ -179,6 +196,7 @@ fn put(alloc: Global, names: &Names, bytes: &mut Vec<u8>, part: &str) -> io::Res
         "hex" => put_hex(alloc, bytes, rest),
         "text" => Ok(bytes.extend_from_slice(rest.as_bytes())?),
         "rep" => put_rep(bytes, rest),
+        "ramp" => put_ramp(bytes, rest),
         "u8" => put_number(bytes, rest, 1),
         "u16" => put_number(bytes, rest, 2),
         "u32" => put_number(bytes, rest, 4),
@@ -201,6 +219,13 @@ fn put_rep(bytes: &mut Vec<u8>, part: &str) -> io::Result<()> {
     let (times, byte) = place_and_byte(part)?;
     for _ in 0..times {
         bytes.push(byte)?;
+    }
+    Ok(())
+}
+
+fn put_ramp(bytes: &mut Vec<u8>, len: &str) -> io::Result<()> {
+    for place in 0..number(len)? {
+        bytes.push((place % 251) as u8)?;
     }
     Ok(())
 }
@@ -245,15 +270,16 @@ fn place_and_byte(part: &str) -> io::Result<(usize, u8)> {
     }
 }
 
-fn number(digits: &str) -> io::Result<u64> {
+/// A number of 64 bits in decimal digits.
+pub(crate) fn number(digits: &str) -> io::Result<u64> {
     digits.parse::<u64>().map_err(|_| not_a_line())
 }
 
 /// A wanted answer, with the digits of the named values in it.
 fn wanted(alloc: Global, names: &Names, want: &str) -> io::Result<String> {
     let mut text = String::new(alloc);
-    for word in want.split(' ') {
-        if !text.is_empty() {
+    for (place, word) in want.split(' ').enumerate() {
+        if place > 0 {
             text.push(' ')?;
         }
         put_wanted(alloc, names, &mut text, word)?;
