@@ -1,8 +1,8 @@
 //! The table `histories`: the book of histories, and of texts. Its rows are steps of one book.
 
 use crate::cases::Scene;
-use crate::text::{lacking, plain_text};
-use crate::values::{MaybeNumber, digest, ok_text};
+use crate::text::{flag_text, lacking, ok_text};
+use crate::values::{MaybeNumber, digest};
 use crate::words::{Row, not_a_line};
 use std::alloc::Global;
 use std::io;
@@ -115,7 +115,7 @@ fn extends(alloc: Global, book: &Book, row: &Row) -> io::Result<String> {
     let longer = digest(row, "longer")?;
     let shorter = digest(row, "shorter")?;
     match (book.node_of(&longer), book.node_of(&shorter)) {
-        (Some(longer), Some(shorter)) => plain_text(alloc, &book.extends(longer, shorter)),
+        (Some(longer), Some(shorter)) => flag_text(alloc, book.extends(longer, shorter)),
         _ => Err(not_a_line()),
     }
 }

@@ -7,8 +7,8 @@ ghost use Rattle.zy_tuple.specs.Values.{IsOp};
 
 use crate::cases::Scene;
 use crate::snapshots::{Change, places};
-use crate::text::{Hex, fault_text, hex_text, lacking};
-use crate::values::{MaybeHex, MaybeNumber, digest, numbers, ok_text};
+use crate::text::{Hex, fault_text, hex_text, lacking, ok_text};
+use crate::values::{MaybeHex, MaybeNumber, digest, numbers};
 use crate::words::{Row, not_a_line};
 use std::alloc::Global;
 use std::marker::Brand;

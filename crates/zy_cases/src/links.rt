@@ -1,8 +1,8 @@
 //! The table `links-in-memory`: datagrams in memory, with the calls that are to fail. Its rows are calls on one link.
 
 use crate::cases::Scene;
-use crate::text::{Hex, PartyText, lacking};
-use crate::values::{numbers, ok_text};
+use crate::text::{Hex, PartyText, lacking, ok_text};
+use crate::values::numbers;
 use crate::words::{Row, not_a_line};
 use std::alloc::Global;
 use std::io;

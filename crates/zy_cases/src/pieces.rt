@@ -1,7 +1,7 @@
 //! The tables of frames that are cut into datagrams, and of those that are gathered from them.
 
 use crate::cases::Scene;
-use crate::text::{Hex, lacking, sha_text};
+use crate::text::{Hex, lacking, ok_text, sha_text};
 use crate::words::{Row, not_a_line};
 use std::alloc::Global;
 use std::io;
@@ -51,7 +51,7 @@ impl Scene for Gathers {
         match row.call()? {
             "begin" => {
                 self.0 = Gather::new(alloc);
-                Ok(String::from_str(alloc, "ok")?)
+                ok_text(alloc)
             }
             "add" => {
                 let gathered = self.0.add(row.bytes("datagram")?).map_err(lacking)?;

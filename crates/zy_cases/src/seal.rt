@@ -3,7 +3,7 @@
 use crate::cases::Scene;
 use crate::lms::key_of;
 use crate::ots::signature_text;
-use crate::text::{fault_text, party_text};
+use crate::text::{PartyText, fault_text};
 use crate::words::{Row, not_a_line};
 use std::alloc::{AllocError, Global};
 use std::io;
@@ -47,9 +47,11 @@ impl Scene for Seals {
 }
 
 fn sealer_text(alloc: Global, sealer: &Sealer) -> io::Result<String> {
-    let party = party_text(alloc, sealer.party())?;
     let (next, left) = (sealer.next_leaf(), sealer.left());
-    Ok(format!(in alloc; "party {party} next {next} left {left}")?)
+    Ok(format!(in alloc;
+        "party {} next {next} left {left}",
+        PartyText(sealer.party())
+    )?)
 }
 
 /// The next leaf and how many are left, after the statement is sealed, and the signature's length and SHA-256.

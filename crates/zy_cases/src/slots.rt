@@ -3,7 +3,7 @@
 ghost use Rattle.std.specs.Prelude.{◌≡◌, ◌<◌, ◌∷◌, ◌++◌, [], IfOk};
 ghost use Rattle.zy_slots.specs.Cells.{with_live};
 
-use crate::text::lacking;
+use crate::text::{lacking, text_of};
 use crate::words::{Row, not_a_line};
 use std::alloc::Global;
 use std::io;
@@ -60,20 +60,13 @@ fn seen_text(alloc: Global, seen: &Seen, step: &str) -> io::Result<String> {
         "bucket-without-two" => letters(alloc, seen, &seen.bucket_without_two),
         "relinked" => letters(alloc, seen, &seen.relinked),
         "bucket-relinked" => letters(alloc, seen, &seen.bucket_relinked),
-        "forgotten" => value_text(alloc, &seen.forgotten),
+        "forgotten" => text_of(alloc, seen.forgotten.as_slice()),
         "without-forgotten" => letters(alloc, seen, &seen.without_forgotten),
-        "taken" => value_text(alloc, &seen.taken),
+        "taken" => text_of(alloc, seen.taken.as_slice()),
         "left" => letters(alloc, seen, &seen.left),
         "ids-again" => letters(alloc, seen, &seen.ids_again),
         "filled" => letters(alloc, seen, &seen.filled),
         _ => Err(not_a_line()),
-    }
-}
-
-fn value_text(alloc: Global, value: &Bytes) -> io::Result<String> {
-    match str::from_utf8(value.as_slice()) {
-        Ok(text) => Ok(String::from_str(alloc, text)?),
-        Err(_) => Err(not_a_line()),
     }
 }
 

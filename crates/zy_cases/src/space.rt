@@ -4,14 +4,13 @@ ghost use Rattle.std.specs.Prelude.{◌≡◌, ◌<◌};
 ghost use Rattle.zy_tuple.specs.Values.{IsOp, IsReply};
 
 use crate::cases::Scene;
-use crate::text::{Hex, lacking};
-use crate::values::ok_text;
+use crate::text::{Hex, lacking, ok_text, text_of};
 use crate::words::{Row, not_a_line};
 use std::alloc::Global;
 use std::io;
 use std::marker::Brand;
 use std::sync::ledger::{Blank, Ledger};
-use zy_base::{Bytes, ClientId, Machine, RestoreFault, Steps};
+use zy_base::{ClientId, Machine, RestoreFault, Steps};
 use zy_space::Space;
 use zy_tuple::{Op, Reply, op_text_read, reply_text};
 
@@ -112,11 +111,8 @@ fn run_op(alloc: Global, space: &mut Space, op: &Op) -> io::Result<String>
 fn text_of_reply(alloc: Global, reply: &Reply) -> io::Result<String>
     requires { IsReply reply.now }
 {
-    text_of(reply_text(alloc, reply).map_err(lacking)?)
-}
-
-fn text_of(bytes: Bytes) -> io::Result<String> {
-    String::from_utf8(bytes.into_vec()).map_err(|_| not_a_line())
+    let text = reply_text(alloc, reply).map_err(lacking)?;
+    text_of(alloc, text.as_slice())
 }
 
 /// Runs one or two operations in turn, so many times. The answer is the last reply of a turn, if it is the same in each.

@@ -39,19 +39,32 @@ pub(crate) fn hex_text(alloc: Global, bytes: &[u8]) -> io::Result<String> {
     Ok(hex::encode(alloc, bytes)?)
 }
 
-/// A number, a flag or another value that prints.
+/// `true` or `false`.
+pub(crate) fn flag_text(alloc: Global, flag: bool) -> io::Result<String> {
+    plain_text(alloc, &flag)
+}
+
+/// A number or another value that prints.
 pub(crate) fn plain_text<T: fmt::Display>(alloc: Global, value: &T) -> io::Result<String> {
     Ok(format!(in alloc; "{value}")?)
+}
+
+/// The answer of a call that has nothing to tell.
+pub(crate) fn ok_text(alloc: Global) -> io::Result<String> {
+    Ok(String::from_str(alloc, "ok")?)
+}
+
+/// Bytes that are text, as it stands.
+pub(crate) fn text_of(alloc: Global, bytes: &[u8]) -> io::Result<String> {
+    match str::from_utf8(bytes) {
+        Ok(text) => Ok(String::from_str(alloc, text)?),
+        Err(_) => Err(io::Error::from(ErrorKind::InvalidData)),
+    }
 }
 
 /// The SHA-256 of bytes (FIPS 180-4), which stands for long ones.
 pub(crate) fn sha_text(alloc: Global, bytes: &[u8]) -> io::Result<String> {
     hex_text(alloc, &Sha256::digest(bytes))
-}
-
-/// A party.
-pub(crate) fn party_text(alloc: Global, party: Party) -> io::Result<String> {
-    plain_text(alloc, &PartyText(party))
 }
 
 /// A fault by its name.

@@ -2,11 +2,10 @@
 
 ghost use Rattle.zy_tuple.specs.Values.{IsOp, IsReply};
 
-use crate::text::{fault_text, hex_text, lacking, plain_text};
+use crate::text::{fault_text, flag_text, hex_text, lacking, text_of};
 use crate::words::{Row, not_a_line};
 use std::alloc::Global;
 use std::io;
-use zy_base::Bytes;
 use zy_tuple::{
     Op, Reply, matches, op_bytes, op_read, op_text, op_text_read, reply_bytes, reply_read,
     reply_text, reply_text_read,
@@ -24,14 +23,7 @@ fn op_text_again(alloc: Global, op: &Op) -> io::Result<String>
     requires { IsOp op.now }
 {
     let text = op_text(alloc, op).map_err(lacking)?;
-    text_of(alloc, &text)
-}
-
-fn text_of(alloc: Global, bytes: &Bytes) -> io::Result<String> {
-    match str::from_utf8(bytes.as_slice()) {
-        Ok(text) => Ok(String::from_str(alloc, text)?),
-        Err(_) => Err(not_a_line()),
-    }
+    text_of(alloc, text.as_slice())
 }
 
 /// A reply's text, read and written again.
@@ -46,7 +38,7 @@ fn reply_text_again(alloc: Global, reply: &Reply) -> io::Result<String>
     requires { IsReply reply.now }
 {
     let text = reply_text(alloc, reply).map_err(lacking)?;
-    text_of(alloc, &text)
+    text_of(alloc, text.as_slice())
 }
 
 /// The bytes of the operation with a text, and the operation's text from bytes.
@@ -113,7 +105,7 @@ fn reply_spelled(alloc: Global, bytes: &[u8]) -> io::Result<String> {
 pub(crate) fn template(alloc: Global, row: &Row) -> io::Result<String> {
     let template = op_text_read(alloc, row.bytes("template")?);
     match (template, op_text_read(alloc, row.bytes("tuple")?)) {
-        (Ok(Op::Rdp(slots)), Ok(Op::Out(fields))) => plain_text(alloc, &matches(&slots, &fields)),
+        (Ok(Op::Rdp(slots)), Ok(Op::Out(fields))) => flag_text(alloc, matches(&slots, &fields)),
         _ => Err(not_a_line()),
     }
 }

@@ -59,8 +59,3 @@ impl fmt::Display for MaybeNumber {
         }
     }
 }
-
-/// The answer `ok`.
-pub(crate) fn ok_text(alloc: Global) -> io::Result<String> {
-    Ok(String::from_str(alloc, "ok")?)
-}

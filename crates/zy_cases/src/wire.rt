@@ -1,10 +1,10 @@
 //! The table of the fields of the wire.
 
-use crate::text::{Hex, fault_text, hex_text, lacking, party_text, plain_text};
+use crate::text::{Hex, PartyText, fault_text, hex_text, lacking, ok_text, plain_text};
 use crate::words::{Row, not_a_line, number};
 use std::alloc::Global;
 use std::{fmt, io};
-use zy_base::{Digest, FrameFault, Party, Want};
+use zy_base::{Digest, FrameFault, Want};
 use zy_tuple::party_text_read;
 use zy_wire::{Cut, Put, kind_of};
 
@@ -116,7 +116,7 @@ fn get_plain(alloc: Global, cut: &mut Cut<'_>, kind: &str) -> io::Result<String>
         "u64" => got_text(alloc, cut.u64()),
         "flag" => got_text(alloc, cut.flag()),
         "digest" => digest_text(alloc, cut.digest()),
-        "party" => got_party(alloc, cut.party()),
+        "party" => got_text(alloc, cut.party().map(PartyText)),
         "end" => end_text(alloc, cut.end()),
         _ => Err(not_a_line()),
     }
@@ -129,16 +129,9 @@ fn digest_text(alloc: Global, got: Result<Digest, FrameFault>) -> io::Result<Str
     }
 }
 
-fn got_party(alloc: Global, got: Result<Party, FrameFault>) -> io::Result<String> {
-    match got {
-        Ok(party) => party_text(alloc, party),
-        Err(fault) => fault_text(alloc, &fault),
-    }
-}
-
 fn end_text(alloc: Global, ended: Result<(), FrameFault>) -> io::Result<String> {
     match ended {
-        Ok(()) => Ok(String::from_str(alloc, "ok")?),
+        Ok(()) => ok_text(alloc),
         Err(fault) => fault_text(alloc, &fault),
     }
 }
