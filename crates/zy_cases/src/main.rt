@@ -16,6 +16,8 @@ mod edge;
 mod group_files;
 mod groups;
 mod history;
+mod kept_texts;
+mod liars;
 mod links;
 mod lms;
 mod ots;
@@ -44,7 +46,7 @@ use std::{env, io};
 use words::Row;
 
 /// The files of `data/`, in the order in which they run.
-const TABLES: [&str; 32] = [
+const TABLES: [&str; 34] = [
     "group-numbers",
     "lists",
     "fields",
@@ -77,6 +79,8 @@ const TABLES: [&str; 32] = [
     "group-files",
     "secret-files",
     "histories",
+    "frames-of-liars",
+    "kept-texts",
 ];
 
 fn main(rt: HostRuntime) -> io::Result<()> {
@@ -106,6 +110,8 @@ fn run_table(rt: &HostRuntime, table: &'static str) -> io::Result<()> {
         "links-in-memory" => run(rt, table, &mut links::Links::new(rt.alloc())?),
         "space" => run(rt, table, &mut space::Spaces::new(rt.alloc())?),
         "execution" => run(rt, table, &mut history::Executions::new(rt.alloc())?),
+        "frames-of-liars" => run(rt, table, &mut liars::Group::new(rt.alloc())?),
+        "kept-texts" => run(rt, table, &mut kept_texts::Texts::new(rt.alloc())?),
         "histories" => run(rt, table, &mut book::Books::new(rt.alloc())?),
         _ => run(rt, table, &mut Calls(table)),
     }
