@@ -11,40 +11,53 @@
 
 mod adoptions;
 mod beginnings;
+mod book;
 mod cases;
 mod certs;
 mod chain;
 mod changes;
 mod checkpoints;
 mod choices;
+mod edge;
 mod evidence;
 mod frames;
+mod group_files;
 mod groups;
+mod history;
+mod kept_texts;
+mod liars;
+mod links;
 mod lms;
 mod orders;
 mod ots;
 mod owed;
 mod parts;
 mod pieces;
+mod report;
+mod schedule;
+mod schedule_lines;
 mod seal;
 mod slots;
+mod snapshots;
+mod space;
 mod statements;
 mod text;
 mod tuple;
+mod values;
 mod wire;
 mod words;
 
 use adoptions::Histories;
 use cases::{Scene, run};
-use lms::Keys;
-use pieces::Gathers;
-use seal::Seals;
 use certs::Poll;
 use changes::Machines;
 use checkpoints::Board;
 use choices::Reports;
 use frames::Kinds;
+use lms::Keys;
 use orders::Orders;
+use pieces::Gathers;
+use seal::Seals;
 use std::alloc::Global;
 use std::io::ErrorKind;
 use std::{env, io};
@@ -52,7 +65,7 @@ use words::Row;
 use zy_base::Digest;
 
 /// The files of `data/`, in the order in which they run.
-const TABLES: [&str; 30] = [
+const TABLES: [&str; 46] = [
     "group-numbers",
     "lists",
     "fields",
@@ -83,6 +96,22 @@ const TABLES: [&str; 30] = [
     "view-changes",
     "view-beginnings",
     "adoptions",
+    "files-in-memory",
+    "sinks-in-memory",
+    "links-in-memory",
+    "clocks",
+    "space",
+    "execution",
+    "schedules",
+    "long-schedules",
+    "scripts",
+    "made-schedules",
+    "report-lines",
+    "group-files",
+    "secret-files",
+    "histories",
+    "frames-of-liars",
+    "kept-texts",
 ];
 
 fn main(rt: HostRuntime) -> io::Result<()> {
@@ -115,6 +144,12 @@ fn run_table(rt: &HostRuntime, table: &'static str) -> io::Result<()> {
         "orders" => run(rt, table, &mut Orders::new(rt.alloc())),
         "view-changes" | "view-beginnings" => run(rt, table, &mut Machines::new(rt.alloc())?),
         "adoptions" => run(rt, table, &mut Histories::new(rt.alloc())?),
+        "links-in-memory" => run(rt, table, &mut links::Links::new(rt.alloc())?),
+        "space" => run(rt, table, &mut space::Spaces::new(rt.alloc())?),
+        "execution" => run(rt, table, &mut history::Executions::new(rt.alloc())?),
+        "frames-of-liars" => run(rt, table, &mut liars::Group::new(rt.alloc())?),
+        "kept-texts" => run(rt, table, &mut kept_texts::Texts::new(rt.alloc())?),
+        "histories" => run(rt, table, &mut book::Books::new(rt.alloc())?),
         _ => run(rt, table, &mut Calls(table)),
     }
 }
@@ -152,6 +187,16 @@ fn answer(alloc: Global, table: &str, row: &Row) -> io::Result<String> {
         "certificates" => certs::certificate(alloc, row),
         "misbehaviour" => certs::misbehaviour(alloc, row),
         "reports" => evidence::judged(alloc, row),
+        "files-in-memory" => edge::files(alloc, row),
+        "sinks-in-memory" => edge::sinks(alloc, row),
+        "clocks" => edge::clocks(alloc, row),
+        "schedules" => schedule::schedules(alloc, row),
+        "long-schedules" => schedule::long_schedules(alloc, row),
+        "scripts" => schedule::scripts(alloc, row),
+        "made-schedules" => schedule::made(alloc, row),
+        "report-lines" => report::lines(alloc, row),
+        "group-files" => group_files::groups(alloc, row),
+        "secret-files" => group_files::secrets(alloc, row),
         _ => Err(io::Error::from(ErrorKind::NotFound)),
     }
 }
