@@ -11,7 +11,7 @@ ghost use Rattle.zy_vframes.specs.declared.frame.ViewFrame.TheVariants as frames
 use crate::changes::{is_member, mode_text};
 use crate::evidence::is_replica;
 use crate::owed::{owed_in, owed_text};
-use crate::statements::{mark, party, spelled};
+use crate::statements::{mark, spelled};
 use crate::text::lacking;
 use crate::words::{Row, not_a_line};
 use std::alloc::Global;
@@ -150,7 +150,7 @@ fn certified(alloc: Global, machine: &ViewMachine, cert: &ViewCert) -> io::Resul
 fn began_in(alloc: Global, row: &Row) -> io::Result<Signed<Began>> {
     let (place, head) = mark(row.bytes("at")?)?;
     Ok(Signed {
-        by: party(row, "by")?,
+        by: row.party("by")?,
         stmt: Began {
             view: View(row.number("view")?),
             place,

@@ -2,8 +2,8 @@
 //! primary for one place.
 
 use crate::cases::Scene;
-use crate::statements::{ok_text, spelled, spelled_list};
-use crate::text::{Hex, cause_text, lacking};
+use crate::statements::{spelled, spelled_list};
+use crate::text::{Hex, cause_text, lacking, ok_text};
 use crate::words::{Row, not_a_line};
 use std::alloc::Global;
 use std::io;

@@ -14,8 +14,8 @@ use crate::cases::Scene;
 use crate::choices::spine;
 use crate::evidence::is_replica;
 use crate::owed::owed_in;
-use crate::statements::{ok_text, party, spelled};
-use crate::text::{hex_text, lacking};
+use crate::statements::spelled;
+use crate::text::{hex_text, lacking, ok_text};
 use crate::words::{Row, not_a_line};
 use std::alloc::Global;
 use std::io;
@@ -182,7 +182,7 @@ pub(crate) fn mode_text(alloc: Global, machine: &ViewMachine) -> io::Result<Stri
 
 fn hate_in(alloc: Global, row: &Row) -> io::Result<Signed<Hate>> {
     Ok(Signed {
-        by: party(row, "by")?,
+        by: row.party("by")?,
         stmt: Hate {
             view: View(row.number("view")?),
         },

@@ -5,8 +5,8 @@ ghost use Rattle.std.specs.Prelude.{◌≡◌, IfOk};
 ghost use Rattle.zy_check.specs.Board.{IsProof};
 
 use crate::cases::Scene;
-use crate::statements::{Name, digests, ok_text, party};
-use crate::text::{Hex, cause_text, lacking};
+use crate::statements::digests;
+use crate::text::{Hex, PartyText, cause_text, lacking, ok_text};
 use crate::words::{Row, not_a_line};
 use std::alloc::Global;
 use std::io;
@@ -39,7 +39,7 @@ impl Board {
     fn response(&mut self, alloc: Global, row: &Row) -> io::Result<String> {
         let said = spec_in(row, "said")?;
         let own = own_spec(row)?;
-        let vote = signed(alloc, party(row, "by")?, said);
+        let vote = signed(alloc, row.party("by")?, said);
         let would = self.kept.judge_spec(&vote, own.as_ref());
         match keep_spec(&mut self.kept, vote, own.as_ref()) {
             Ok(kept) => kept_text(alloc, would, kept),
@@ -50,7 +50,7 @@ impl Board {
     fn checkpoint(&mut self, alloc: Global, row: &Row) -> io::Result<String> {
         let said = check_in(row, "said")?;
         let own = own_check(row)?;
-        let vote = signed(alloc, party(row, "by")?, said);
+        let vote = signed(alloc, row.party("by")?, said);
         let would = self.kept.judge_vote(&vote, own.as_ref());
         match keep_check(&mut self.kept, vote, own.as_ref()) {
             Ok(kept) => kept_text(alloc, would, kept),
@@ -74,7 +74,7 @@ impl Board {
     #[tactic(auto, unfolding(zy_check::specs::Board::with_stable))]
     fn settle(&mut self, alloc: Global, row: &Row) -> io::Result<String> {
         let check = check_in(row, "said")?;
-        let by = party(row, "by")?;
+        let by = row.party("by")?;
         let place = check.place;
         if place.0 % INTERVAL != 0 || place < self.kept.stable_check().place {
             return Err(not_a_line());
@@ -220,8 +220,8 @@ fn ends_text<S>(alloc: Global, list: &[Signed<S>]) -> io::Result<String> {
         (Some(first), Some(last)) => Ok(format!(in alloc;
             "{} from {} to {}",
             list.len(),
-            Name(first.by),
-            Name(last.by)
+            PartyText(first.by),
+            PartyText(last.by)
         )?),
         _ => Ok(String::from_str(alloc, "none")?),
     }

@@ -5,8 +5,8 @@ ghost use Rattle.std.specs.Prelude.{◌≡◌, ◌<◌, ◌^◌, ◌↔◌, IfOk
 ghost use Rattle.zy_choose.specs.Rules.{IsWellFormed};
 
 use crate::cases::Scene;
-use crate::statements::{mark, ok_text};
-use crate::text::{Hex, lacking};
+use crate::statements::mark;
+use crate::text::{Hex, lacking, ok_text};
 use crate::words::{Row, not_a_line};
 use std::alloc::Global;
 use std::io;
@@ -101,19 +101,12 @@ pub(crate) fn spine(alloc: Global, stable: (Place, Digest), row: &Row) -> io::Re
     if stable.0.0 >= 1 << 62 {
         return Err(not_a_line());
     }
-    let client = client(row)?;
+    let client = ClientId(row.number32("client")?);
     let mut spine = Spine::new(alloc, stable.0, stable.1);
     for letter in row.bytes("entries")? {
         push(alloc, &mut spine, client, *letter)?;
     }
     Ok(spine)
-}
-
-fn client(row: &Row) -> io::Result<ClientId> {
-    match u32::try_from(row.number("client")?) {
-        Ok(id) => Ok(ClientId(id)),
-        Err(_) => Err(not_a_line()),
-    }
 }
 
 /// One entry more, of this client with stamp 1 and one letter.

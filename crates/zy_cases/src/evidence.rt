@@ -3,8 +3,8 @@
 ghost use Rattle.std.specs.Prelude.{◌↔◌, IsTrue};
 ghost use Rattle.zy_evidence.specs.Reading.{IsReplica};
 
-use crate::statements::{At, Name, spelled};
-use crate::text::{Hex, lacking};
+use crate::statements::{At, spelled};
+use crate::text::{Hex, PartyText, lacking};
 use crate::words::{Row, not_a_line};
 use std::alloc::Global;
 use std::{fmt, io};
@@ -62,7 +62,7 @@ fn report_text(alloc: Global, report: &Report) -> io::Result<String> {
     let spine = &report.spine;
     Ok(format!(in alloc;
         "{} last {} began {}{} stable {} {} state {} entries {} {}",
-        Name(Party::Replica(report.by)),
+        PartyText(Party::Replica(report.by)),
         report.last_view.0,
         At(report.began),
         Certified(report.cc),

@@ -3,8 +3,7 @@
 ghost use Rattle.zy_frames.specs.Frames as plain;
 ghost use Rattle.zy_vframes.specs.ViewFrames as views;
 
-use crate::statements::Name;
-use crate::text::{Hex, fault_text, lacking};
+use crate::text::{Hex, PartyText, fault_text, lacking};
 use crate::words::{Row, not_a_line};
 use std::alloc::Global;
 use std::{fmt, io};
@@ -115,7 +114,7 @@ fn part_text(alloc: Global, part: Option<&Part>) -> io::Result<String> {
         None => Ok(String::from_str(alloc, "None")?),
         Some(part) => Ok(format!(in alloc;
             "{} {} sig:{}",
-            Name(part.by),
+            PartyText(part.by),
             Hex(part.text.as_slice()),
             Hex(part.sig.as_slice())
         )?),

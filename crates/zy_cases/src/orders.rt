@@ -5,8 +5,8 @@ ghost use Rattle.zy_frames.specs.Frames.{IsFrameInRange};
 ghost use Rattle.zy_frames.specs.declared.frame.Frame.TheVariants as frames;
 
 use crate::cases::Scene;
-use crate::statements::{mark, ok_text};
-use crate::text::{cause_text, lacking};
+use crate::statements::mark;
+use crate::text::{cause_text, lacking, ok_text};
 use crate::words::{Row, not_a_line};
 use std::alloc::Global;
 use std::io;

@@ -1,27 +1,13 @@
-//! Statements, parties and points of histories in the words of rows.
+//! Statements and points of histories in the words of rows.
 
 ghost use Rattle.std.specs.Prelude.{IfOk};
 
 use crate::text::Hex;
-use crate::words::{Row, not_a_line};
+use crate::words::not_a_line;
 use std::alloc::Global;
 use std::{fmt, io};
-use zy_base::{Digest, Party, Place};
-use zy_tuple::party_text_read;
+use zy_base::{Digest, Place};
 use zy_wire::{Cut, Spelled};
-
-/// A party, which prints as `r0` or `c0`.
-#[derive(Clone, Copy)]
-pub(crate) struct Name(pub(crate) Party);
-
-impl fmt::Display for Name {
-    fn fmt<W: fmt::Write>(&self, f: &mut fmt::Formatter<W>) -> fmt::Result {
-        match self.0 {
-            Party::Replica(id) => write!(f, "r{}", id.0),
-            Party::Client(id) => write!(f, "c{}", id.0),
-        }
-    }
-}
 
 /// A place and the head there, which print as a number and hex digits.
 #[derive(Clone, Copy)]
@@ -32,11 +18,6 @@ impl fmt::Display for At {
         let (place, head) = self.0;
         write!(f, "{} {}", place.0, Hex(&head.0))
     }
-}
-
-/// The party that a word names.
-pub(crate) fn party(row: &Row, word: &str) -> io::Result<Party> {
-    party_text_read(row.bytes(word)?).ok_or_else(not_a_line)
 }
 
 /// A place and the head there, of eight and of 32 bytes.
@@ -90,9 +71,4 @@ pub(crate) fn next<T: Spelled>(alloc: Global, cut: &mut Cut<'_>) -> io::Result<T
         Ok(value) => Ok(value),
         Err(_) => Err(not_a_line()),
     }
-}
-
-/// What a call answers that has no answer.
-pub(crate) fn ok_text(alloc: Global) -> io::Result<String> {
-    Ok(String::from_str(alloc, "ok")?)
 }
