@@ -1,0 +1,65 @@
+-- The calls that a disk in memory keeps, and what they leave.
+use Rattle.std.proofs.Common.{◌≡◌, ◌⊎◌, inl, inr, ℕ, suc, ◌+◌, ◌-◌, ◌≤◌, true, false, Option, Some, List, [], ◌∷◌, ◌++◌, length, take, drop, reverse, refl, sym, ◌∙◌, ap, subst, arith, length-append}
+use Rattle.std.proofs.lemmas.List.{take_at, drop_at, reverse-append}
+use Rattle.zy_journal.specs.Disk.{with_bytes, Torn, Follows, Narrows, Elapses, Only}
+use Rattle.zy_journal.specs.Memory.{Call, Wrote, Synced, MemoryDisk, now_of, left_by, left_from, calls_of, AreInside, contents_of, after_call, after_write, after_sync}
+use Rattle.zy_journal.specs.declared.disk.Did as did
+use Rattle.zy_journal.specs.declared.disk.memory.Kept.{Kept}
+use Rattle.zy_journal.specs.declared.disk.memory.Kept.TheVariants as kept
+use Rattle.zy_journal.proofs.Files.{torn_same, written_torn}
+
+-- ---- what is kept
+
+pub kept_write : (past : List Kept) (written bytes : List ℕ) (at : ℕ) → calls_of (reverse (past ++ kept.Wrote at (length bytes) ∷ [])) (written ++ bytes) ≡ Wrote at bytes ∷ calls_of (reverse past) written
+kept_write past written bytes at =
+    let size : length written ≡ length (written ++ bytes) - length bytes = omega (arith, length-append written bytes) in
+    ap (λ (ks : List Kept). calls_of ks (written ++ bytes)) (reverse-append past (kept.Wrote at (length bytes) ∷ []))
+    ∙ (λ i. Wrote at (drop_at written bytes (length (written ++ bytes) - length bytes) size i) ∷ calls_of (reverse past) (take_at written bytes (length (written ++ bytes) - length bytes) size i))
+
+pub kept_sync : (past : List Kept) (written : List ℕ) → calls_of (reverse (past ++ kept.Synced ∷ [])) written ≡ Synced ∷ calls_of (reverse past) written
+kept_sync past written = ap (λ (ks : List Kept). calls_of ks written) (reverse-append past (kept.Synced ∷ []))
+
+-- ---- images
+
+-- what a read gives is one of them
+pub now_left : (first : List ℕ) (past : List Call) → AreInside first past → left_by first past (now_of first past)
+now_left first [] inside = refl
+now_left first (Wrote at bytes ∷ past) inside = (now_of first past, now_left first past inside.1, written_torn at bytes (now_of first past) inside.0)
+now_left first (Synced ∷ past) inside = refl
+
+pub elapses_same : (first : List ℕ) (past : List Call) → Elapses (length past) (length past) (left_from first past) (left_from first past) (left_by first past)
+elapses_same first past = record { later = omega arith; nothing_else = λ t image le left. inl left; keeps = λ t image le left. left }
+
+elapses_call : (first : List ℕ) (past : List Call) (call : Call) → Elapses (length past) (length (call ∷ past)) (left_from first past) (left_from first (call ∷ past)) (left_by first (call ∷ past))
+elapses_call first past call = record {
+  later = omega arith;
+  nothing_else = λ t image le left. was t image left;
+  keeps = λ t image le left. inr (le, left);
+}
+  where
+    was : (t : ℕ) (image : List ℕ) → left_from first (call ∷ past) t image → left_from first past t image ⊎ left_by first (call ∷ past) image
+    was t image (inl now) = inr now
+    was t image (inr earlier) = inl earlier.1
+
+module _ (disk : MemoryDisk) where
+  abbrev Images : MemoryDisk → List ℕ → Type 0
+  Images d = left_by d.first d.past
+
+  abbrev Goes : MemoryDisk → Type 0
+  Goes new = Elapses (length disk.past) (length new.past) (left_from disk.first disk.past) (left_from new.first new.past) (left_by new.first new.past)
+
+  pub write_goes : (result : did.Did) (at : ℕ) (bytes : List ℕ) → Goes (after_write result at bytes disk)
+  write_goes did.TheVariants.Did at bytes = elapses_call disk.first disk.past (Wrote at bytes)
+  write_goes did.TheVariants.Failed at bytes = elapses_same disk.first disk.past
+
+  pub write_follows : (result : did.Did) (at : ℕ) (bytes : List ℕ) → Follows (Torn at (length bytes)) (Images disk) (Images (after_write result at bytes disk))
+  write_follows did.TheVariants.Did at bytes = λ image left. left
+  write_follows did.TheVariants.Failed at bytes = λ image left. (image, left, torn_same at (length bytes) image)
+
+  pub sync_goes : (result : did.Did) → Goes (after_sync result disk)
+  sync_goes did.TheVariants.Did = elapses_call disk.first disk.past Synced
+  sync_goes did.TheVariants.Failed = elapses_same disk.first disk.past
+
+  pub sync_narrows : (result : did.Did) → AreInside (after_sync result disk).first (after_sync result disk).past → Narrows (Images disk) (Images (after_sync result disk))
+  sync_narrows did.TheVariants.Did inside = λ image is. subst (left_by disk.first disk.past) (sym is) (now_left disk.first disk.past inside)
+  sync_narrows did.TheVariants.Failed inside = λ image left. left
