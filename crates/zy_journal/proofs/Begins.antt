@@ -1,11 +1,13 @@
 -- What a file leaves of which a journal is made.
-use Rattle.std.proofs.Common.{◌≡◌, ◌≢◌, ◌⊎◌, inl, inr, ⊎_elim, ℕ, suc, ◌+◌, ◌≤◌, true, false, cond, List, [], ◌∷◌, ◌++◌, length, take, drop, refl, sym, ◌∙◌, ap, subst, arith, append_assoc, length-append, take-append-drop, length-take, length-drop}
+use Rattle.std.proofs.Common.{◌≡◌, ◌≢◌, ◌⊎◌, inl, inr, ⊎_elim, ℕ, suc, ◌+◌, ◌≤◌, true, false, cond, Option, IfSome, is_some, Result, Ok, Err, IfOk, OnOk, List, [], ◌∷◌, ◌++◌, length, take, drop, refl, sym, ◌∙◌, ap, subst, arith, append_assoc, length-append, take-append-drop, length-take, length-drop}
 use Rattle.std.proofs.lemmas.Bool.{cases_eq, cases_Bool}
 use Rattle.std.proofs.lemmas.List.{drop-drop, take_at}
 use Rattle.zy_base.specs.declared.ids.Digest.{Digest}
-use Rattle.zy_journal.specs.Disk.{with_bytes, StandsAt, Torn}
-use Rattle.zy_journal.specs.Journal.{mark_of, head_of, is_blank, Holds, StandsFor, Keeps, opened, IsMarked, IsGate, IsGateAt}
+use Rattle.zy_journal.specs.Disk.{with_bytes, StandsAt, Torn, Only, IsOnly}
+use Rattle.zy_journal.specs.Journal.{mark_of, head_of, is_blank, Holds, StandsFor, Keeps, opened, IsMarked, IsAtGate, IsGate, IsGateAt}
 use Rattle.zy_journal.specs.Starting.{IsShutAtFirst, IsShort}
+use Rattle.zy_journal.specs.declared.reading.OpenFault.{OpenFault}
+use Rattle.zy_journal.proofs.Told.{if_some, from_some, some_is, was_told}
 use Rattle.zy_journal.proofs.Files.{put_at, torn_front, torn_byte}
 use Rattle.zy_journal.proofs.Lists.{same_front, short_blank, shut_blank, used_file, long_used, blank_none, length-head}
 
@@ -34,35 +36,35 @@ module _ (identity : Digest) (size : length identity.0 ≡ 32) where
   length-made = omega (arith, size, length-append (mark_of identity) (0 ∷ []))
 
   module _ (first : ℕ) (rest : List ℕ) (shut : first ≢ 1) where
-    abbrev file : List ℕ
-    file = first ∷ rest
+    abbrev whole : List ℕ
+    whole = first ∷ rest
 
     abbrev more : List ℕ
     more = drop (length (made_bytes identity)) rest
 
-    written : with_bytes 1 (made_bytes identity) file ≡ first ∷ (made_bytes identity ++ more)
+    written : with_bytes 1 (made_bytes identity) whole ≡ first ∷ (made_bytes identity ++ more)
     written = put_at (first ∷ []) rest (made_bytes identity) 1 refl
 
-    pub begun : with_bytes 0 (1 ∷ []) (with_bytes 1 (made_bytes identity) file) ≡ opened identity file
+    pub begun : with_bytes 0 (1 ∷ []) (with_bytes 1 (made_bytes identity) whole) ≡ opened identity whole
     begun =
         ap (λ (l : List ℕ). with_bytes 0 (1 ∷ []) l) written ∙ put_at [] (first ∷ (made_bytes identity ++ more)) (1 ∷ []) 0 refl
         ∙ ap (λ (l : List ℕ). 1 ∷ l) (append_assoc (mark_of identity) (0 ∷ []) more)
         ∙ ap (λ (n : ℕ). head_of identity ++ (0 ∷ drop n rest)) length-made
-        ∙ sym (opened_blank identity file (shut_blank first rest shut))
+        ∙ sym (opened_blank identity whole (shut_blank first rest shut))
 
-    pub head_keeps : (image : List ℕ) → Torn 1 (length (made_bytes identity)) file image → Keeps identity file image
+    pub head_keeps : (image : List ℕ) → Torn 1 (length (made_bytes identity)) whole image → Keeps identity whole image
     head_keeps image torn =
-        blank_keeps identity file image (shut_blank first rest shut) (ap is_blank (torn_front (first ∷ []) rest image 1 (length (made_bytes identity)) refl torn) ∙ shut_blank first (drop 1 image) shut)
+        blank_keeps identity whole image (shut_blank first rest shut) (ap is_blank (torn_front (first ∷ []) rest image 1 (length (made_bytes identity)) refl torn) ∙ shut_blank first (drop 1 image) shut)
 
-    pub open_keeps : (image : List ℕ) → Torn 0 1 (with_bytes 1 (made_bytes identity) file) image → Keeps identity file image
+    pub open_keeps : (image : List ℕ) → Torn 0 1 (with_bytes 1 (made_bytes identity) whole) image → Keeps identity whole image
     open_keeps image torn =
         let one = torn_byte [] first (made_bytes identity ++ more) image 0 refl (subst (λ (f : List ℕ). Torn 0 1 f image) written torn) in
         elim (cases_eq one.byte 1) [
           | inl is_open ↦
               let spelled : image ≡ head_of identity ++ (0 ∷ more) = one.is ∙ ap (λ (b : ℕ). b ∷ (made_bytes identity ++ more)) is_open ∙ ap (λ (l : List ℕ). 1 ∷ l) (append_assoc (mark_of identity) (0 ∷ []) more) in
               let holds : Holds identity image [] = record { gate = 0; behind = more; spelled = spelled; shut = λ e. absurd cc; fits = tt; size = size } in
-              λ pieces stands. inr (subst (λ (ps : List (List ℕ)). Holds identity image ps) (sym (blank_none identity file pieces (shut_blank first rest shut) stands)) holds)
-          | inr not_open ↦ blank_keeps identity file image (shut_blank first rest shut) (ap is_blank one.is ∙ shut_blank one.byte (made_bytes identity ++ more) not_open)
+              λ pieces stands. inr (subst (λ (ps : List (List ℕ)). Holds identity image ps) (sym (blank_none identity whole pieces (shut_blank first rest shut) stands)) holds)
+          | inr not_open ↦ blank_keeps identity whole image (shut_blank first rest shut) (ap is_blank one.is ∙ shut_blank one.byte (made_bytes identity ++ more) not_open)
         ]
 
 -- each image of the two writes
@@ -87,7 +89,7 @@ shut_file file = 0 ∷ drop 1 file
 pub shut_written : (file : List ℕ) → with_bytes 0 (0 ∷ []) file ≡ shut_file file
 shut_written file = put_at [] file (0 ∷ []) 0 refl
 
-zero_shut : 0 ≡ 1 → ⊥
+zero_shut : ◌≡◌ {A = ℕ} 0 1 → ⊥
 zero_shut e = absurd cc
 
 pub shut_keeps : (identity : Digest) (file image : List ℕ) → IsShort file → Torn 0 1 file image → Keeps identity file image
@@ -151,3 +153,18 @@ not_marked identity file found size other stands marked =
 -- a file of at least 42 bytes that begins with 1 isn't blank
 pub used_of : (file : List ℕ) → 42 ≤ length file → StandsAt (1 ∷ []) 0 file → is_blank file ≡ false
 used_of file long stands = ap is_blank stands ∙ long_used (drop 1 file) (omega (arith, length-drop 1 file))
+
+-- what a journal leaves that was opened, over any disk
+pub gate_of_open : (result : Result ℕ OpenFault) (before after : Option (List ℕ)) (images : List ℕ → Type 0) (identity : Digest)
+    → OnOk result (IfSome before (λ _. length identity.0 ≡ 32)) → is_some after ≡ is_some before → IfOk result (λ gate. gate ≡ 41)
+    → OnOk result (IfSome before (λ file. IsOnly (opened identity file) after images)) → IfOk result (IsAtGate after images)
+gate_of_open (Err e) before after images identity size stays first done = tt
+gate_of_open (Ok gate) before after images identity size stays first done = if_some after (λ now. images now × Only now images × IsGate now gate) (λ now is.
+    let was = was_told before after now stays is in
+    let made = from_some before (λ f. IsOnly (opened identity f) after images) was.0 done was.1 in
+    let same : now ≡ opened identity was.0 = some_is now (opened identity was.0) (sym is ∙ made.told) in
+    (
+      subst images (sym same) made.image,
+      λ image left. made.only image left ∙ sym same,
+      subst (λ (l : List ℕ). IsGate l gate) (sym same) (subst (λ (n : ℕ). IsGate (opened identity was.0) n) (sym first) (gate_of_opened identity was.0 size)),
+    ))

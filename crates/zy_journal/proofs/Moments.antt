@@ -1,5 +1,5 @@
 -- How a run of a disk's calls goes on.
-use Rattle.std.proofs.Common.{◌≡◌, inl, inr, ⊎_elim, ℕ, ◌≤◌, List, Option, Some, IfSome, sym, ◌∙◌, subst, arith}
+use Rattle.std.proofs.Common.{◌≡◌, inl, inr, ⊎_elim, ℕ, ◌≤◌, List, Option, Some, IfSome, refl, sym, ◌∙◌, subst, arith}
 use Rattle.zy_journal.specs.Disk.{Elapses, LeavesOnly, Narrows, Rests}
 use Rattle.zy_journal.proofs.Told.{from_some}
 
@@ -47,4 +47,13 @@ module _ {D : Type 0} (contents : D → Option (List ℕ)) (may_leave : D → Li
     image = second.image;
     narrows = λ image is. first.narrows image (second.narrows image is);
     leaves = then_on moment left_since old mid new (may_leave old) first.leaves (weaker moment left_since mid new (may_leave mid) (may_leave old) first.narrows second.leaves);
+  }
+
+  -- no call
+  pub rests_still : (disk : D) → ((image : List ℕ) → left_since disk (moment disk) image → may_leave disk image) → IfSome (contents disk) (may_leave disk) → Rests contents may_leave moment left_since disk disk
+  rests_still disk only image = record {
+    same = refl;
+    image = image;
+    narrows = λ _ is. is;
+    leaves = record { later = omega arith; each = only; before = λ t image le left. inl left };
   }

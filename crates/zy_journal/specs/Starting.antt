@@ -16,7 +16,7 @@ IsShort file = (is_blank file ≡ true) × (length file ≤ 41)
 
 abbrev pub IsStart : Digest → List ℕ → Start → Type 0
 IsStart identity file Failed = Unit {0}
-IsStart identity file Mine = (is_blank file ≡ false) × IsMarked identity file
+IsStart identity file Mine = (is_blank file ≡ false) × IsMarked identity file × (length identity.0 ≡ 32)
 IsStart identity file Other = (is_blank file ≡ false) × (IsMarked identity file → ⊥)
 IsStart identity file Shut = IsShutAtFirst file
 IsStart identity file Short = IsShort file

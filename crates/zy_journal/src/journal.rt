@@ -1,8 +1,9 @@
-ghost use Rattle.std.specs.Prelude.{◌≡◌, ◌+◌, ◌++◌, ◌∷◌, [], ◌↔◌, IsTrue, IfSome, IfOk, OnOk, length};
+ghost use Rattle.std.specs.Prelude.{◌≡◌, ◌+◌, ◌++◌, ◌∷◌, [], ◌↔◌, IsTrue, IfSome, IfOk, OnOk, ℕ, List, length};
 ghost use Rattle.std.specs.Int.{w32, to_be_bytes};
 ghost use Rattle.zy_edge.specs.Faults.{IsCounted};
 ghost use Rattle.zy_journal.specs.Disk.{LeavesOnly, StaysTold};
-ghost use Rattle.zy_journal.specs.Journal.{IsPiece, IsAtEnd, IsFull, Has, HasOrNot, HandsBack, is_full_answer, append_failed};
+ghost use Rattle.zy_journal.specs.Journal.{IsPiece, IsAtEnd, IsFull, Has, HasOrNot, HandsBack, StandsFor, is_full_answer, append_failed};
+ghost use Rattle.zy_base.specs.declared.ids.Digest.{Digest};
 
 use crate::put::put_behind;
 use crate::{Did, Disk};
@@ -104,3 +105,9 @@ fn behind_gate(alloc: Global, piece: &[u8]) -> Result<Bytes, Want>
     block.push(0)?;
     Ok(Bytes::from(block))
 }
+
+/// What a file's bytes stand for is one list of records.
+#[tactic(auto, using(crate::proofs::Lists::one_list))]
+pub fn one_list()
+    ensures { (identity : Digest) (image : List ℕ) (first second : List (List ℕ)) → StandsFor identity image first → StandsFor identity image second → first ≡ second }
+{}

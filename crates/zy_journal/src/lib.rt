@@ -13,5 +13,5 @@ mod reading;
 pub use disk::memory::MemDisk;
 pub use disk::real::RealDisk;
 pub use disk::{Did, Disk, Filled, Size};
-pub use journal::{AppendFault, Journal, MAX_PIECE};
+pub use journal::{AppendFault, Journal, MAX_PIECE, one_list};
 pub use reading::{Next, NextFault, OpenFault, Reading};

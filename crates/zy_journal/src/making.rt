@@ -1,6 +1,6 @@
-ghost use Rattle.std.specs.Prelude.{◌≡◌, ◌≤◌, ◌<◌, ◌++◌, ◌∷◌, [], ℕ, List, IfSome, length};
+ghost use Rattle.std.specs.Prelude.{◌≡◌, ◌≤◌, ◌++◌, ◌∷◌, [], ◌↔◌, IsTrue, IfSome, length};
 ghost use Rattle.zy_edge.specs.Faults.{IsCounted};
-ghost use Rattle.zy_journal.specs.Disk.{Only, IsOnly, LeavesOnly, Rests, StaysTold, OnDid, did_failed};
+ghost use Rattle.zy_journal.specs.Disk.{Only, IsOnly, LeavesOnly, Rests, StandsAt, StaysTold, OnDid, did_failed};
 ghost use Rattle.zy_journal.specs.Journal.{Keeps, opened, mark_of};
 ghost use Rattle.zy_journal.specs.Starting.{IsStart, IsShutAtFirst, IsShort, start_failed};
 
@@ -72,7 +72,7 @@ fn whose<D: Disk>(disk: &mut D, identity: &Digest) -> Start
     match fill(disk, 1, &mut found) {
         Filled::Failed => Start::Failed,
         Filled::Filled => {
-            if found == mark_of(identity) {
+            if is_same(&found, &mark_of(identity)) {
                 Start::Mine
             } else {
                 Start::Other
@@ -87,6 +87,7 @@ pub(crate) fn shut_and_begin<D: Disk>(disk: &mut D, identity: &Digest) -> Did
     ensures done { OnDid result (IfSome (D.contents disk.old) (λ file. IsOnly (opened identity.now file) (D.contents disk.new) (D.may_leave disk.new))) }
     ensures told { StaysTold (D.contents disk.old) (D.contents disk.new) }
     ensures any_moment { IfSome (D.contents disk.old) (λ file. LeavesOnly D.moment D.left_since disk.old disk.new (Keeps identity.now file)) }
+    ensures size { OnDid result (length identity.now.0 ≡ 32) }
     ensures count { IsCounted (did_failed result) (D.faults disk.old) (D.faults disk.new) }
 {
     match put(disk, 0, &[0]) {
@@ -101,6 +102,7 @@ pub(crate) fn begin<D: Disk>(disk: &mut D, identity: &Digest) -> Did
     ensures done { OnDid result (IfSome (D.contents disk.old) (λ file. IsOnly (opened identity.now file) (D.contents disk.new) (D.may_leave disk.new))) }
     ensures told { StaysTold (D.contents disk.old) (D.contents disk.new) }
     ensures any_moment { IfSome (D.contents disk.old) (λ file. LeavesOnly D.moment D.left_since disk.old disk.new (Keeps identity.now file)) }
+    ensures size { length identity.now.0 ≡ 32 }
     ensures count { IsCounted (did_failed result) (D.faults disk.old) (D.faults disk.new) }
 {
     put_behind(disk, 0, &head_of(identity))
@@ -125,4 +127,10 @@ fn head_of(identity: &Digest) -> [u8; 41]
     let mut head = [0; 41];
     head[..40].copy_from_slice(&mark_of(identity));
     head
+}
+
+fn is_same(found: &[u8], mark: &[u8]) -> bool
+    ensures { IsTrue result ↔ (found.now ≡ mark.now) }
+{
+    found == mark
 }

@@ -120,6 +120,7 @@ fn settle<D: Disk>(disk: &mut D, identity: &Digest) -> Result<Reading, OpenFault
     ensures contents { OnOk result (IfSome (D.contents disk.old) (λ file. IsOnly (opened identity.now file) (D.contents disk.new) (D.may_leave disk.new))) }
     ensures exactly { IfSome (D.contents disk.old) (λ file. Opens identity.now file result) }
     ensures any_moment { IfSome (D.contents disk.old) (λ file. LeavesOnly D.moment D.left_since disk.old disk.new (Keeps identity.now file)) }
+    ensures size { OnOk result (IfSome (D.contents disk.old) (λ _. length identity.now.0 ≡ 32)) }
     ensures told { StaysTold (D.contents disk.old) (D.contents disk.new) }
     ensures count { IsCounted (open_failed result) (D.faults disk.old) (D.faults disk.new) }
 {
@@ -164,7 +165,8 @@ fn find<D: Disk>(disk: &mut D, gate: u64) -> Found
 
 /// What stands behind a gate that is open, in a file of this size.
 fn measure<D: Disk>(disk: &mut D, gate: u64, size: u64) -> Found
-    requires { IfSome (D.contents disk.old) (λ file. (size ≡ length file) × StandsAt (1 ∷ []) gate file) }
+    requires file { IfSome (D.contents disk.old) (λ file. (size ≡ length file) × StandsAt (1 ∷ []) gate file) }
+    requires image { IfSome (D.contents disk.old) (D.may_leave disk.old) }
     ensures found { IfSome (D.contents disk.old) (λ file. IsFound file gate result) }
     ensures room { HasRoom gate result }
     ensures rests { Rests D.contents D.may_leave D.moment D.left_since disk.old disk.new }
@@ -193,7 +195,8 @@ fn is_record(len: u32, left: u64) -> bool
 
 /// The record of so many bytes that stands there.
 fn piece_at<D: Disk>(alloc: Global, disk: &mut D, at: u64, len: u32) -> Result<Bytes, NextFault>
-    requires { IfSome (D.contents disk.old) (λ file. at + len ≤ length file) }
+    requires inside { IfSome (D.contents disk.old) (λ file. at + len ≤ length file) }
+    requires image { IfSome (D.contents disk.old) (D.may_leave disk.old) }
     ensures len { IfOk result (λ piece. length piece ≡ len) }
     ensures piece { IfOk result (λ piece. IfSome (D.contents disk.old) (λ file. StandsAt piece at file)) }
     ensures faults { IfErr result IsReadFault }

@@ -105,16 +105,20 @@ impl MemDisk {
     fn count(&mut self, failed: bool)
         ensures after { self.new ≡ after_call failed self.old }
         ensures inside { AreInside self.new.first self.new.past }
+        ensures count { IsCounted failed self.old.calls.faults self.new.calls.faults }
     {
         self.turns = self.turns.saturating_sub(1);
         self.calls.count(failed);
     }
 
+    /// Writes, and keeps the call.
+    #[tactic(auto, using(crate::proofs::Past::kept_write))]
     fn write(&mut self, at: usize, bytes: &[u8]) -> Did
         requires { at ≤ length (contents_of self.old) }
         ensures exactly { did_failed result ≡ write_fails self.old bytes.now }
         ensures after { self.new ≡ after_write result at bytes.now self.old }
         ensures inside { AreInside self.new.first self.new.past }
+        ensures count { IsCounted (did_failed result) self.old.calls.faults self.new.calls.faults }
     {
         if self.fails() || self.left < bytes.len() {
             self.count(true);
@@ -129,10 +133,13 @@ impl MemDisk {
         Did::Did
     }
 
+    /// Keeps a sync.
+    #[tactic(auto, using(crate::proofs::Past::kept_sync))]
     fn settle(&mut self) -> Did
         ensures exactly { did_failed result ≡ disk_fails self.old }
         ensures after { self.new ≡ after_sync result self.old }
         ensures inside { AreInside self.new.first self.new.past }
+        ensures count { IsCounted (did_failed result) self.old.calls.faults self.new.calls.faults }
     {
         if self.fails() {
             self.count(true);
@@ -170,7 +177,7 @@ fn overwrite(file: &mut Vec<u8>, at: usize, bytes: &[u8])
     requires inside { at ≤ length file.old.items }
     requires room { length file.old.items + length bytes.now ≤ vec_capacity file.old }
     ensures bytes { file.new.items ≡ with_bytes at bytes.now file.old.items }
-    ensures room { vec_capacity file.new ≡ vec_capacity file.old }
+    ensures room { vec_capacity file.old ≤ vec_capacity file.new }
 {
     let over = bytes.len().min(file.len() - at);
     file[at..at + over].copy_from_slice(&bytes[..over]);
@@ -181,7 +188,7 @@ fn overwrite(file: &mut Vec<u8>, at: usize, bytes: &[u8])
 fn append(bytes: &mut Vec<u8>, more: &[u8])
     requires { length bytes.old.items + length more.now ≤ vec_capacity bytes.old }
     ensures bytes { bytes.new.items ≡ bytes.old.items ++ more.now }
-    ensures room { vec_capacity bytes.new ≡ vec_capacity bytes.old }
+    ensures room { vec_capacity bytes.old ≤ vec_capacity bytes.new }
 {
     match bytes.extend_from_slice(more) {
         Ok(()) => {}
@@ -193,7 +200,7 @@ fn append(bytes: &mut Vec<u8>, more: &[u8])
 fn keep(past: &mut Vec<Kept>, call: Kept)
     requires { length past.old.items + 1 ≤ vec_capacity past.old }
     ensures past { past.new.items ≡ past.old.items ++ call ∷ [] }
-    ensures room { vec_capacity past.new ≡ vec_capacity past.old }
+    ensures room { vec_capacity past.old ≤ vec_capacity past.new }
 {
     match past.push(call) {
         Ok(()) => {}
@@ -216,6 +223,7 @@ impl Disk for MemDisk {
 
     ghost only_now = { λ m image left. only_left m.first m.past image left };
 
+    #[tactic(auto, using(crate::proofs::Past::call_steps))]
     fn open(&mut self, _name: &str) -> Did
         ensures exactly { did_failed result ≡ disk_fails self.old }
         ensures after { self.new ≡ after_call (did_failed result) self.old }
@@ -230,6 +238,7 @@ impl Disk for MemDisk {
         if failed { Did::Failed } else { Did::Did }
     }
 
+    #[tactic(auto, using(crate::proofs::Past::call_steps))]
     fn len(&mut self) -> Size
         ensures exactly { size_failed result ≡ disk_fails self.old }
         ensures after { self.new ≡ after_call (size_failed result) self.old }
@@ -249,6 +258,7 @@ impl Disk for MemDisk {
         }
     }
 
+    #[tactic(auto, using(crate::proofs::Past::call_steps))]
     fn read_at(&mut self, at: u64, buf: &mut [u8]) -> Filled
         requires { at + length buf.old ≤ length (contents_of self.old) }
         ensures exactly { fill_failed result ≡ disk_fails self.old }
@@ -270,6 +280,7 @@ impl Disk for MemDisk {
         Filled::Filled
     }
 
+    #[tactic(auto, using(crate::proofs::Past::write_steps))]
     fn write_at(&mut self, at: u64, bytes: &[u8]) -> Did
         requires { at ≤ length (contents_of self.old) }
         ensures exactly { did_failed result ≡ write_fails self.old bytes.now }
@@ -284,6 +295,7 @@ impl Disk for MemDisk {
         self.write(at as usize, bytes)
     }
 
+    #[tactic(auto, using(crate::proofs::Past::sync_steps))]
     fn sync(&mut self) -> Did
         ensures exactly { did_failed result ≡ disk_fails self.old }
         ensures after { self.new ≡ after_sync result self.old }

@@ -24,8 +24,8 @@ returns-in-Did-clause-any_moment g c =
         weaker g.D.Disk.moment g.D.Disk.left_since old new (λ image. Torn (gate + 1) (length bytes) file image ⊎ Torn gate 1 (with_bytes (gate + 1) bytes file) image) (HasOrNot file piece)
         (each_append file gate piece bytes end c.requires.piece stored) run)
 
-pub returns-in-Failed-clause-any_moment : goal.returns-in-Failed-clause-any_moment
-returns-in-Failed-clause-any_moment g c =
+pub returns-clause-any_moment : goal.returns-clause-any_moment
+returns-clause-any_moment g c =
     let old = c.args.disk.now in
     let new = c.put_behind.new.disk in
     let contents = g.D.Disk.contents old in
