@@ -166,5 +166,5 @@ gate_of_open (Ok gate) before after images identity size stays first done = if_s
     (
       subst images (sym same) made.image,
       λ image left. made.only image left ∙ sym same,
-      subst (λ (l : List ℕ). IsGate l gate) (sym same) (subst (λ (n : ℕ). IsGate (opened identity was.0) n) (sym first) (gate_of_opened identity was.0 size)),
+      subst (λ (l : List ℕ). IsGate l gate) (sym same) (subst (λ (n : ℕ). IsGate (opened identity was.0) n) (sym first) (gate_of_opened identity was.0 (from_some before (λ _. length identity.0 ≡ 32) was.0 size was.1))),
     ))

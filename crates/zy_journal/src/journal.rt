@@ -107,7 +107,6 @@ fn behind_gate(alloc: Global, piece: &[u8]) -> Result<Bytes, Want>
 }
 
 /// What a file's bytes stand for is one list of records.
-#[tactic(auto, using(crate::proofs::Lists::one_list))]
 pub fn one_list()
     ensures { (identity : Digest) (image : List ℕ) (first second : List (List ℕ)) → StandsFor identity image first → StandsFor identity image second → first ≡ second }
 {}
