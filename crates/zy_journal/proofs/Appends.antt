@@ -1,12 +1,12 @@
 -- What the two writes of an append leave.
-use Rattle.std.proofs.Common.{◌≡◌, ◌≢◌, ◌⊎◌, inl, inr, ⊎_elim, ℕ, ◌+◌, ◌<◌, ◌≤◌, false, List, [], ◌∷◌, ◌++◌, length, drop, refl, sym, ◌∙◌, ap, subst, arith, append_assoc, length-append}
+use Rattle.std.proofs.Common.{◌≡◌, ◌≢◌, ◌⊎◌, inl, inr, ⊎_elim, ℕ, ◌+◌, ◌<◌, false, List, [], ◌∷◌, ◌++◌, length, drop, sym, ◌∙◌, ap, subst, arith, append_assoc, length-append}
 use Rattle.std.specs.Int.{w32, to_be_bytes}
 use Rattle.std.proofs.lemmas.Bool.{cases_eq}
 use Rattle.zy_base.specs.declared.ids.Digest.{Digest}
 use Rattle.zy_journal.specs.Disk.{with_bytes, Torn}
-use Rattle.zy_journal.specs.Journal.{IsPiece, is_blank, block_of, blocks, head_of, Holds, StandsFor, Has, HasOrNot, IsGateAt, IsEnd}
+use Rattle.zy_journal.specs.Journal.{IsPiece, is_blank, block_of, blocks, head_of, Holds, StandsFor, Has, HasOrNot, IsEnd}
 use Rattle.zy_journal.proofs.Files.{put_at, torn_front, torn_byte}
-use Rattle.zy_journal.proofs.Lists.{AreListed, same_front, same_blocks, blocks_push, listed_push, length-block, length-head, length-blocks_push, used_holds, used_front, front_of, front_size, front_split}
+use Rattle.zy_journal.proofs.Lists.{same_front, same_blocks, blocks_push, listed_push, length-head, length-blocks_push, used_holds, used_front, front_of, front_size, front_split}
 
 -- the bytes behind a record's gate
 abbrev pub stored_bytes : List ℕ → List ℕ
@@ -45,7 +45,7 @@ module _ (file : List ℕ) (gate : ℕ) (piece : List ℕ) (end : IsEnd file gat
         gate = shut;
         behind = more;
         spelled = is ∙ append_assoc end.stands.head (blocks end.before) (shut ∷ more) ∙ ap (λ (l : List ℕ). l ++ (blocks end.before ++ (shut ∷ more))) the.0
-        ∙ ap (λ (ps : List (List ℕ)). head_of identity ++ (blocks ps ++ (shut ∷ more))) the.1;
+            ∙ ap (λ (ps : List (List ℕ)). head_of identity ++ (blocks ps ++ (shut ∷ more))) the.1;
         shut = is_shut;
         fits = holds.fits;
         size = holds.size;
@@ -59,8 +59,8 @@ module _ (file : List ℕ) (gate : ℕ) (piece : List ℕ) (end : IsEnd file gat
         gate = 0;
         behind = more;
         spelled = is ∙ append_assoc end.stands.head (blocks end.before) (1 ∷ (stored_bytes piece ++ more)) ∙ ap (λ (l : List ℕ). l ++ (blocks end.before ++ (1 ∷ (stored_bytes piece ++ more)))) the.0
-        ∙ ap (λ (ps : List (List ℕ)). head_of identity ++ (blocks ps ++ (1 ∷ (stored_bytes piece ++ more)))) the.1
-        ∙ ap (λ (l : List ℕ). head_of identity ++ (blocks pieces ++ l)) (block_behind piece more) ∙ ap (λ (l : List ℕ). head_of identity ++ l) (sym (blocks_push pieces piece (0 ∷ more)));
+            ∙ ap (λ (ps : List (List ℕ)). head_of identity ++ (blocks ps ++ (1 ∷ (stored_bytes piece ++ more)))) the.1
+            ∙ ap (λ (l : List ℕ). head_of identity ++ (blocks pieces ++ l)) (block_behind piece more) ∙ ap (λ (l : List ℕ). head_of identity ++ l) (sym (blocks_push pieces piece (0 ∷ more)));
         shut = λ e. absurd cc;
         fits = listed_push pieces piece holds.fits fits;
         size = holds.size;
@@ -126,13 +126,15 @@ module _ (file : List ℕ) (gate : ℕ) (piece : List ℕ) (end : IsEnd file gat
     where
       spelled : image ≡ end.stands.head ++ (blocks (end.before ++ piece ∷ []) ++ (0 ∷ rest))
       spelled = is ∙ opened_gate ∙ append_assoc end.stands.head (blocks end.before) (1 ∷ (stored_bytes piece ++ rest))
-        ∙ ap (λ (l : List ℕ). end.stands.head ++ (blocks end.before ++ l)) (block_behind piece rest) ∙ ap (λ (l : List ℕ). end.stands.head ++ l) (sym (blocks_push end.before piece (0 ∷ rest)))
+          ∙ ap (λ (l : List ℕ). end.stands.head ++ (blocks end.before ++ l)) (block_behind piece rest) ∙ ap (λ (l : List ℕ). end.stands.head ++ l) (sym (blocks_push end.before piece (0 ∷ rest)))
+
       sizes : length (blocks (end.before ++ piece ∷ [])) ≡ length (blocks end.before) + (5 + length piece)
       sizes = length-blocks_push end.before piece
+
       used_image : is_blank image ≡ false
       used_image = ap is_blank (is ∙ opened_gate ∙ append_assoc end.stands.head (blocks end.before) (1 ∷ (stored_bytes piece ++ rest)))
-        ∙ used_front end.stands.head (blocks end.before ++ (end.shut ∷ end.more)) (blocks end.before ++ (1 ∷ (stored_bytes piece ++ rest))) end.stands.long
-        (omega (arith, length-append (blocks end.before) (1 ∷ (stored_bytes piece ++ rest)))) (ap is_blank (sym end.stands.spelled) ∙ end.stands.used)
+          ∙ used_front end.stands.head (blocks end.before ++ (end.shut ∷ end.more)) (blocks end.before ++ (1 ∷ (stored_bytes piece ++ rest))) end.stands.long
+          (omega (arith, length-append (blocks end.before) (1 ∷ (stored_bytes piece ++ rest)))) (ap is_blank (sym end.stands.spelled) ∙ end.stands.used)
 
 -- the same of bytes that are those behind a record's gate
 pub each_append : (file : List ℕ) (gate : ℕ) (piece bytes : List ℕ) → IsEnd file gate → IsPiece piece → bytes ≡ stored_bytes piece

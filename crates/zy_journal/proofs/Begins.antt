@@ -1,10 +1,10 @@
 -- What a file leaves of which a journal is made.
-use Rattle.std.proofs.Common.{◌≡◌, ◌≢◌, ◌⊎◌, inl, inr, ⊎_elim, ℕ, suc, ◌+◌, ◌≤◌, true, false, cond, Option, IfSome, is_some, Result, Ok, Err, IfOk, OnOk, List, [], ◌∷◌, ◌++◌, length, take, drop, refl, sym, ◌∙◌, ap, subst, arith, append_assoc, length-append, take-append-drop, length-take, length-drop}
+use Rattle.std.proofs.Common.{◌≡◌, ◌≢◌, ◌⊎◌, inl, inr, ⊎_elim, ℕ, ◌≤◌, true, false, cond, Option, IfSome, is_some, Result, Ok, Err, IfOk, OnOk, List, [], ◌∷◌, ◌++◌, length, take, drop, refl, sym, ◌∙◌, ap, subst, arith, append_assoc, length-append, take-append-drop, length-take, length-drop}
 use Rattle.std.proofs.lemmas.Bool.{cases_eq, cases_Bool}
-use Rattle.std.proofs.lemmas.List.{drop-drop, take_at}
+use Rattle.std.proofs.lemmas.List.{drop-drop}
 use Rattle.zy_base.specs.declared.ids.Digest.{Digest}
 use Rattle.zy_journal.specs.Disk.{with_bytes, StandsAt, Torn, Only, IsOnly}
-use Rattle.zy_journal.specs.Journal.{mark_of, head_of, is_blank, Holds, StandsFor, Keeps, opened, IsMarked, IsAtGate, IsGate, IsGateAt}
+use Rattle.zy_journal.specs.Journal.{mark_of, head_of, is_blank, Holds, StandsFor, Keeps, opened, IsMarked, IsAtGate, IsGate}
 use Rattle.zy_journal.specs.Starting.{IsShutAtFirst, IsShort}
 use Rattle.zy_journal.specs.declared.reading.OpenFault.{OpenFault}
 use Rattle.zy_journal.proofs.Told.{if_some, from_some, some_is, was_told}
@@ -113,31 +113,31 @@ used_or_marked identity file = is_blank file ≡ false → IsMarked identity fil
 pub gate_of_opened : (identity : Digest) (file : List ℕ) → length identity.0 ≡ 32 → IsGate (opened identity file) 41
 gate_of_opened identity file size = elim (cases_Bool (is_blank file)) [
   | inl blank ↦ subst (λ (l : List ℕ). IsGate l 41) (sym (opened_blank identity file blank)) (record {
-      before = [];
-      behind = 0 ∷ drop 42 file;
-      stands = record {
-        head = head_of identity;
-        long = length-head identity size;
-        spelled = refl;
-        used = long_used (mark_of identity ++ (0 ∷ drop 42 file)) (omega (arith, size, length-append (mark_of identity) (0 ∷ drop 42 file)));
-        fits = tt;
-        place = refl;
-      };
-      inside = omega arith;
-    })
+    before = [];
+    behind = 0 ∷ drop 42 file;
+    stands = record {
+      head = head_of identity;
+      long = length-head identity size;
+      spelled = refl;
+      used = long_used (mark_of identity ++ (0 ∷ drop 42 file)) (omega (arith, size, length-append (mark_of identity) (0 ∷ drop 42 file)));
+      fits = tt;
+      place = refl;
+    };
+    inside = omega arith;
+  })
   | inr used ↦ subst (λ (l : List ℕ). IsGate l 41) (sym (opened_used identity file used)) (record {
-      before = [];
-      behind = drop 41 file;
-      stands = record {
-        head = take 41 file;
-        long = omega (arith, length-take 41 file, used_file file used);
-        spelled = sym (take-append-drop 41 file);
-        used = used;
-        fits = tt;
-        place = refl;
-      };
-      inside = omega (arith, length-drop 41 file, used_file file used);
-    })
+    before = [];
+    behind = drop 41 file;
+    stands = record {
+      head = take 41 file;
+      long = omega (arith, length-take 41 file, used_file file used);
+      spelled = sym (take-append-drop 41 file);
+      used = used;
+      fits = tt;
+      place = refl;
+    };
+    inside = omega (arith, length-drop 41 file, used_file file used);
+  })
 ]
 
 -- ---- whose journal it is
@@ -162,8 +162,7 @@ gate_of_open (Err e) before after images identity size stays first done = tt
 gate_of_open (Ok gate) before after images identity size stays first done = if_some after (λ now. images now × Only now images × IsGate now gate) (λ now is.
     let was = was_told before after now stays is in
     let made = from_some before (λ f. IsOnly (opened identity f) after images) was.0 done was.1 in
-    let same : now ≡ opened identity was.0 = some_is now (opened identity was.0) (sym is ∙ made.told) in
-    (
+    let same : now ≡ opened identity was.0 = some_is now (opened identity was.0) (sym is ∙ made.told) in (
       subst images (sym same) made.image,
       λ image left. made.only image left ∙ sym same,
       subst (λ (l : List ℕ). IsGate l gate) (sym same) (subst (λ (n : ℕ). IsGate (opened identity was.0) n) (sym first) (gate_of_opened identity was.0 (from_some before (λ _. length identity.0 ≡ 32) was.0 size was.1))),

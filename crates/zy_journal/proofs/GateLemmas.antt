@@ -1,10 +1,9 @@
 -- What is read at a gate.
-use Rattle.std.proofs.Common.{◌≡◌, ◌≢◌, inl, inr, ℕ, ◌+◌, ◌-◌, ◌^◌, ◌<◌, ◌≤◌, List, [], ◌∷◌, ◌++◌, length, drop, refl, sym, ◌∙◌, ap, subst, arith, append_assoc, length-append, length-drop}
+use Rattle.std.proofs.Common.{◌≡◌, ◌≢◌, ℕ, ◌+◌, ◌-◌, ◌^◌, ◌<◌, ◌≤◌, List, [], ◌∷◌, ◌++◌, length, drop, refl, sym, ◌∙◌, ap, subst, arith, append_assoc, length-append, length-drop}
 use Rattle.std.specs.Int.{w32, to_be_bytes}
-use Rattle.std.proofs.lemmas.List.{drop-drop}
 use Rattle.zy_journal.specs.Disk.{StandsAt}
 use Rattle.zy_journal.specs.Finding.{HasLength}
-use Rattle.zy_journal.specs.Journal.{IsPiece, block_of, blocks, IsGateAt, IsGate, IsEnd, IsShut, HasRecord, IsDamaged}
+use Rattle.zy_journal.specs.Journal.{block_of, blocks, IsGateAt, IsGate, IsEnd, HasRecord, IsDamaged}
 use Rattle.zy_journal.proofs.Files.{stands_then}
 use Rattle.zy_journal.proofs.Lists.{same_front, same_length, tail_is, blocks_push, listed_push, length-block, length-blocks_push, behind_gate, front_size, front_split, front_of}
 

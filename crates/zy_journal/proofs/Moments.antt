@@ -1,7 +1,6 @@
 -- How a run of a disk's calls goes on.
-use Rattle.std.proofs.Common.{◌≡◌, inl, inr, ⊎_elim, ℕ, ◌≤◌, List, Option, Some, IfSome, refl, sym, ◌∙◌, subst, arith}
+use Rattle.std.proofs.Common.{◌≡◌, inl, inr, ⊎_elim, ℕ, List, Option, IfSome, refl, ◌∙◌, arith}
 use Rattle.zy_journal.specs.Disk.{Elapses, LeavesOnly, Narrows, Rests}
-use Rattle.zy_journal.proofs.Told.{from_some}
 
 module _ {D : Type 0} (moment : D → ℕ) (left_since : D → ℕ → List ℕ → Type 0) where
   -- one call

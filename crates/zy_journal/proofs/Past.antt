@@ -1,7 +1,7 @@
 -- The calls that a disk in memory keeps, and what they leave.
-use Rattle.std.proofs.Common.{◌≡◌, ◌⊎◌, inl, inr, ℕ, suc, ◌+◌, ◌-◌, ◌≤◌, Bool, true, false, Option, Some, List, [], ◌∷◌, ◌++◌, length, take, drop, reverse, refl, sym, ◌∙◌, ap, subst, arith, length-append}
+use Rattle.std.proofs.Common.{◌≡◌, ◌⊎◌, inl, inr, ℕ, ◌-◌, Bool, Some, List, [], ◌∷◌, ◌++◌, length, reverse, refl, sym, ◌∙◌, ap, subst, arith, length-append}
 use Rattle.std.proofs.lemmas.List.{take_at, drop_at, reverse-append}
-use Rattle.zy_journal.specs.Disk.{with_bytes, Torn, Follows, Narrows, Elapses, Only, OnDid, IsWritten}
+use Rattle.zy_journal.specs.Disk.{Torn, Follows, Narrows, Elapses, Only, OnDid, IsWritten}
 use Rattle.zy_journal.specs.Memory.{Call, Wrote, Synced, MemoryDisk, now_of, left_by, left_from, calls_of, AreInside, contents_of, after_call, after_write, after_sync}
 use Rattle.zy_journal.specs.declared.disk.Did as did
 use Rattle.zy_journal.specs.declared.disk.memory.Kept.{Kept}
@@ -111,5 +111,7 @@ pub synced_contents : (old new : MemoryDisk) (result : did.Did) → new ≡ afte
 synced_contents old new result is = ap (λ (d : MemoryDisk). Some (contents_of d)) is ∙ contents_synced old result
 
 pub ruleset call_steps = (call_goes, call_narrows, call_contents, image_now)
+
 pub ruleset write_steps = (written_goes, written_follows, is_written, image_now)
+
 pub ruleset sync_steps = (synced_goes, synced_narrows, synced_only, synced_contents, image_now)

@@ -1,5 +1,5 @@
 -- What is told, and what holds of it.
-use Rattle.std.proofs.Common.{◌≡◌, Option, Some, None, IfSome, is_some, true, false, refl, sym, ◌∙◌, ap, subst}
+use Rattle.std.proofs.Common.{◌≡◌, Option, Some, None, IfSome, is_some, false, refl, sym, ◌∙◌, ap, subst}
 
 pub if_some : {A : Type 0} (told : Option A) (P : A → Type 0) → ((x : A) → told ≡ Some x → P x) → IfSome told P
 if_some None P each = tt

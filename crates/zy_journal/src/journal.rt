@@ -67,7 +67,7 @@ impl Journal {
         ensures full { IsTrue (is_full_answer result) ↔ IsFull self piece.now }
         ensures same { HandsBack result self disk.old disk.new }
         ensures told { StaysTold (D.contents disk.old) (D.contents disk.new) }
-            ensures count { IsCounted (append_failed result) (D.faults disk.old) (D.faults disk.new) }
+        ensures count { IsCounted (append_failed result) (D.faults disk.old) (D.faults disk.new) }
     {
         let gate = self.gate;
         if is_full(gate, piece) {

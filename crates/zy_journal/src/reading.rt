@@ -76,9 +76,9 @@ impl Reading {
         // Where the first sync failed nothing was written. From that sync on a crash at any moment leaves the records.
         ensures any_moment { (IsErrOf result OpenFault.Disk × Rests D.contents D.may_leave D.moment D.left_since disk.old disk.new)
             ⊎ ((synced : D) × Rests D.contents D.may_leave D.moment D.left_since disk.old synced
-                × IfSome (D.contents disk.old) (λ file. Only file (D.may_leave synced) × LeavesOnly D.moment D.left_since synced disk.new (Keeps identity.now file))) }
+            × IfSome (D.contents disk.old) (λ file. Only file (D.may_leave synced) × LeavesOnly D.moment D.left_since synced disk.new (Keeps identity.now file))) }
         ensures told { StaysTold (D.contents disk.old) (D.contents disk.new) }
-            ensures count { IsCounted (open_failed result) (D.faults disk.old) (D.faults disk.new) }
+        ensures count { IsCounted (open_failed result) (D.faults disk.old) (D.faults disk.new) }
     {
         match disk.sync() {
             Did::Did => settle(disk, identity),
@@ -93,7 +93,7 @@ impl Reading {
         ensures place { IsPlaced self result }
         ensures gate { StandsAtGate (D.contents disk.new) (D.may_leave disk.new) result }
         ensures rests { Rests D.contents D.may_leave D.moment D.left_since disk.old disk.new }
-            ensures count { IsCounted (next_failed result) (D.faults disk.old) (D.faults disk.new) }
+        ensures count { IsCounted (next_failed result) (D.faults disk.old) (D.faults disk.new) }
     {
         let gate = self.gate;
         match find(disk, gate) {

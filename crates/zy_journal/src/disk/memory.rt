@@ -38,11 +38,11 @@ impl Model for MemDisk {
     ghost Value = { MemoryDisk };
 
     ghost view = { λ m. record {
-        first = m.first;
-        past = calls_of (reverse m.past.items) m.written.items;
-        left = m.left;
-        turns = m.turns;
-        calls = m.calls;
+      first = m.first;
+      past = calls_of (reverse m.past.items) m.written.items;
+      left = m.left;
+      turns = m.turns;
+      calls = m.calls;
     } };
 
     ghost invariant = { λ m.

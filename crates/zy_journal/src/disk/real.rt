@@ -44,7 +44,12 @@ impl<R: std::rt::Files<File = File>> Disk for RealDisk<'_, R> {
     ghost only_now = { λ d image left. left };
 
     fn open(&mut self, name: &str) -> Did {
-        match File::options().read(true).write(true).create(true).open(self.rt, name) {
+        match File::options()
+            .read(true)
+            .write(true)
+            .create(true)
+            .open(self.rt, name)
+        {
             Ok(file) => {
                 self.file = Some(file);
                 Did::Did

@@ -1,6 +1,6 @@
-use Rattle.std.proofs.Common.{◌≡◌, inr, List, ℕ, is_some, ap, ◌∙◌, sym}
-use Rattle.zy_journal.specs.Disk.{Only, LeavesOnly, IsOnly}
-use Rattle.zy_journal.specs.Journal.{Keeps, opened}
+use Rattle.std.proofs.Common.{inr, ◌∙◌}
+use Rattle.zy_journal.specs.Disk.{Only, LeavesOnly}
+use Rattle.zy_journal.specs.Journal.{Keeps}
 use Rattle.zy_journal.proofs.Begins.{gate_of_open}
 use Rattle.zy_journal.proofs.Moments.{rests_once}
 use Rattle.zy_journal.proofs.Told.{if_some, from_some}
@@ -21,7 +21,7 @@ returns-in-Did-clause-any_moment g c =
       synced,
       rests_once D.contents D.may_leave D.moment D.left_since old synced (g.met.D.Disk.only_now old) c.sync.ensures.contents c.sync.ensures.image c.sync.ensures.crash c.sync.ensures.time,
       if_some (D.contents old) (λ file. Only file (D.may_leave synced) × LeavesOnly D.moment D.left_since synced new (Keeps c.args.identity.now file)) (λ file is. (
-          from_some (D.contents old) (λ f. Only f (D.may_leave synced)) file c.in-Did.ensures.durable is,
-          from_some (D.contents synced) (λ f. LeavesOnly D.moment D.left_since synced new (Keeps c.args.identity.now f)) file c.settle.ensures.any_moment (c.sync.ensures.contents ∙ is),
-        )),
+        from_some (D.contents old) (λ f. Only f (D.may_leave synced)) file c.in-Did.ensures.durable is,
+        from_some (D.contents synced) (λ f. LeavesOnly D.moment D.left_since synced new (Keeps c.args.identity.now f)) file c.settle.ensures.any_moment (c.sync.ensures.contents ∙ is),
+      )),
     )
