@@ -15,7 +15,7 @@ use Rattle.zy_journal.specs.declared.reading.OpenFault.TheVariants as open_fault
 
 -- ---- what an image stands for
 
--- a record's bytes: a byte and a frame of at most 8,388,608 bytes
+-- a record's bytes: at least one, and at most one more than twice a frame's most
 abbrev pub IsPiece : List ℕ → Type 0
 IsPiece piece = (1 ≤ length piece) × (length piece ≤ 8388609)
 

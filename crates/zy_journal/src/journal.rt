@@ -1,9 +1,9 @@
 ghost use Rattle.std.specs.Prelude.{◌≡◌, ◌+◌, ◌++◌, ◌∷◌, [], ◌↔◌, IsTrue, IfSome, IfOk, OnOk, ℕ, List, length};
 ghost use Rattle.std.specs.Int.{w32, to_be_bytes};
+ghost use Rattle.zy_base.specs.declared.ids.Digest.{Digest};
 ghost use Rattle.zy_edge.specs.Faults.{IsCounted};
 ghost use Rattle.zy_journal.specs.Disk.{LeavesOnly, StaysTold};
 ghost use Rattle.zy_journal.specs.Journal.{IsPiece, IsAtEnd, IsFull, Has, HasOrNot, HandsBack, StandsFor, is_full_answer, append_failed};
-ghost use Rattle.zy_base.specs.declared.ids.Digest.{Digest};
 
 use crate::put::put_behind;
 use crate::{Did, Disk};
@@ -11,7 +11,7 @@ use std::alloc::Global;
 use std::marker::Model;
 use zy_base::{Bytes, Want};
 
-/// The most bytes that a record may have: a byte and a frame of two pieces' parts.
+/// The most bytes that a record may have: one, and twice as many as a frame may have.
 pub const MAX_PIECE: usize = 8_388_609;
 
 /// No gate stands above this place.

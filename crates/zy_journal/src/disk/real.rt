@@ -44,12 +44,7 @@ impl<R: std::rt::Files<File = File>> Disk for RealDisk<'_, R> {
     ghost only_now = { λ d image left. left };
 
     fn open(&mut self, name: &str) -> Did {
-        match File::options()
-            .read(true)
-            .write(true)
-            .create(true)
-            .open(self.rt, name)
-        {
+        match open_file(self.rt, name) {
             Ok(file) => {
                 self.file = Some(file);
                 Did::Did
@@ -99,6 +94,25 @@ impl<R: std::rt::Files<File = File>> Disk for RealDisk<'_, R> {
                 Did::Failed
             }
         }
+    }
+}
+
+/// Opens a file, and syncs its folder, so that a crash doesn't take away the name of one that is new.
+fn open_file<R: std::rt::Files<File = File>>(rt: &R, name: &str) -> io::Result<File> {
+    let file = File::options()
+        .read(true)
+        .write(true)
+        .create(true)
+        .open(rt, name)?;
+    File::open(rt, folder_of(name))?.sync_all()?;
+    Ok(file)
+}
+
+fn folder_of(name: &str) -> &str {
+    match name.rsplit_once('/') {
+        Some(("", _)) => "/",
+        Some((folder, _)) => folder,
+        None => ".",
     }
 }
 
