@@ -12,8 +12,8 @@ mod adopting;
 mod owned;
 mod parts;
 
-use owned::{Voice, Work};
 pub use adopting::told_in;
+use owned::{Voice, Work};
 use sha2::{Digest as Hasher, Sha256};
 use std::alloc::Global;
 use std::marker::Model;

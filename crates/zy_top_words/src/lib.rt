@@ -2,14 +2,18 @@
 #![tactic(auto)]
 
 mod asks;
+mod command_line;
 mod exit;
+mod fault_text;
 mod hosted;
 mod reading;
 mod words;
 mod writing;
 
 pub use asks::Asks;
+pub use command_line::line_words;
 pub use exit::{Broken, Exit};
+pub use fault_text::{FaultText, ending};
 pub use hosted::{OpFault, op_read_alone};
 pub use reading::read_file;
 pub use words::{Command, command_of};

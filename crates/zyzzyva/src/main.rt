@@ -1,18 +1,13 @@
 //! The program: the real files, standard output, loopback and the clock for the top call, which has the theorem.
 #![tactic(auto)]
 
-mod fault_text;
-mod words;
-
-use fault_text::ending;
 use std::process::ExitCode;
-use words::words;
 use zy_edge::{RealClock, RealFiles, StdSink, UdpLink};
 use zy_top::zyzzyva;
-use zy_top_words::Exit;
+use zy_top_words::{Exit, ending, line_words};
 
 fn main(rt: HostRuntime) -> ExitCode {
-    let exit = match words(&rt, rt.alloc()) {
+    let exit = match line_words(&rt, rt.alloc()) {
         Ok(words) => zyzzyva(
             rt.alloc(),
             &words,
