@@ -1,8 +1,8 @@
-ghost use Rattle.std.specs.Prelude.{◌≡◌, ◌⊎◌, ◌+◌, ◌<◌, ◌≤◌, ◌∷◌, [], ◌↔◌, IsTrue, IfSome, IfOk, IfErr, OnOk, IsErrOf, length};
+ghost use Rattle.std.specs.Prelude.{◌≡◌, false, ◌⊎◌, ◌+◌, ◌<◌, ◌≤◌, ◌∷◌, [], ◌↔◌, IsTrue, IfSome, IfOk, IfErr, OnOk, IsErrOf, length};
 ghost use Rattle.zy_edge.specs.Faults.{IsCounted};
 ghost use Rattle.zy_journal.specs.Disk.{Only, IsOnly, LeavesOnly, Rests, StaysTold, StandsAt};
 ghost use Rattle.zy_journal.specs.Finding.{IsFound, HasRoom, IsReadFault, find_failed, piece_failed};
-ghost use Rattle.zy_journal.specs.Journal.{IsAtGate, IsNext, IsPlaced, StandsAtGate, Keeps, Opens, opened, open_failed, next_failed};
+ghost use Rattle.zy_journal.specs.Journal.{IsAtGate, IsNext, IsPlaced, StandsAtGate, Keeps, Opens, opened, is_blank, open_failed, next_failed};
 ghost use Rattle.zy_journal.specs.Starting.{IsBegun};
 
 use crate::look::{byte_at, fill, number_at, size_of};
@@ -77,6 +77,8 @@ impl Reading {
         ensures any_moment { (IsErrOf result OpenFault.Disk × Rests D.contents D.may_leave D.moment D.left_since disk.old disk.new)
             ⊎ ((synced : D) × Rests D.contents D.may_leave D.moment D.left_since disk.old synced
             × IfSome (D.contents disk.old) (λ file. Only file (D.may_leave synced) × LeavesOnly D.moment D.left_since synced disk.new (Keeps identity.now file))) }
+        // A file that isn't blank is not written, whatever it holds.
+        ensures spared { IfSome (D.contents disk.old) (λ file. is_blank file ≡ false → Rests D.contents D.may_leave D.moment D.left_since disk.old disk.new) }
         ensures told { StaysTold (D.contents disk.old) (D.contents disk.new) }
         ensures count { IsCounted (open_failed result) (D.faults disk.old) (D.faults disk.new) }
     {
@@ -120,6 +122,7 @@ fn settle<D: Disk>(disk: &mut D, identity: &Digest) -> Result<Reading, OpenFault
     ensures contents { OnOk result (IfSome (D.contents disk.old) (λ file. IsOnly (opened identity.now file) (D.contents disk.new) (D.may_leave disk.new))) }
     ensures exactly { IfSome (D.contents disk.old) (λ file. Opens identity.now file result) }
     ensures any_moment { IfSome (D.contents disk.old) (λ file. LeavesOnly D.moment D.left_since disk.old disk.new (Keeps identity.now file)) }
+    ensures spared { IfSome (D.contents disk.old) (λ file. is_blank file ≡ false → Rests D.contents D.may_leave D.moment D.left_since disk.old disk.new) }
     ensures size { OnOk result (IfSome (D.contents disk.old) (λ _. length identity.now.0 ≡ 32)) }
     ensures told { StaysTold (D.contents disk.old) (D.contents disk.new) }
     ensures count { IsCounted (open_failed result) (D.faults disk.old) (D.faults disk.new) }
