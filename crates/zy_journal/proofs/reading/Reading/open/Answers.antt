@@ -33,6 +33,6 @@ returns-in-Did-clause-spared g c =
     let new = c.settle.new.disk in
     let D = g.D.Disk in
     if_some (D.contents old) (λ file. is_blank file ≡ false → Rests D.contents D.may_leave D.moment D.left_since old new) (λ file is used.
-        rests_on D.contents D.may_leave D.moment D.left_since old synced new
-        (rests_once D.contents D.may_leave D.moment D.left_since old synced (g.met.D.Disk.only_now old) c.sync.ensures.contents c.sync.ensures.image c.sync.ensures.crash c.sync.ensures.time)
-        (from_some (D.contents synced) (λ f. is_blank f ≡ false → Rests D.contents D.may_leave D.moment D.left_since synced new) file c.settle.ensures.spared (c.sync.ensures.contents ∙ is) used))
+    rests_on D.contents D.may_leave D.moment D.left_since old synced new
+    (rests_once D.contents D.may_leave D.moment D.left_since old synced (g.met.D.Disk.only_now old) c.sync.ensures.contents c.sync.ensures.image c.sync.ensures.crash c.sync.ensures.time)
+    (from_some (D.contents synced) (λ f. is_blank f ≡ false → Rests D.contents D.may_leave D.moment D.left_since synced new) file c.settle.ensures.spared (c.sync.ensures.contents ∙ is) used))
