@@ -24,6 +24,7 @@ mod frames;
 mod group_files;
 mod groups;
 mod history;
+mod journal;
 mod kept_texts;
 mod liars;
 mod links;
@@ -65,7 +66,7 @@ use words::Row;
 use zy_base::Digest;
 
 /// The files of `data/`, in the order in which they run.
-const TABLES: [&str; 46] = [
+const TABLES: [&str; 47] = [
     "group-numbers",
     "lists",
     "fields",
@@ -112,6 +113,7 @@ const TABLES: [&str; 46] = [
     "histories",
     "frames-of-liars",
     "kept-texts",
+    "journals",
 ];
 
 fn main(rt: HostRuntime) -> io::Result<()> {
@@ -197,6 +199,7 @@ fn answer(alloc: Global, table: &str, row: &Row) -> io::Result<String> {
         "report-lines" => report::lines(alloc, row),
         "group-files" => group_files::groups(alloc, row),
         "secret-files" => group_files::secrets(alloc, row),
+        "journals" => journal::journal(alloc, row),
         _ => Err(io::Error::from(ErrorKind::NotFound)),
     }
 }

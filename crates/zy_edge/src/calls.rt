@@ -7,7 +7,7 @@ use std::marker::Model;
 
 /// The calls of an object in memory: which are to fail, how many were made, and how many have failed.
 #[derive(Debug, Drop)]
-pub(crate) struct Calls {
+pub struct Calls {
     failing: Vec<u64>,
     made: u64,
     faults: u64,
@@ -22,7 +22,7 @@ impl Model for Calls {
 }
 
 impl Calls {
-    pub(crate) fn new(failing: Vec<u64>) -> Calls
+    pub fn new(failing: Vec<u64>) -> Calls
         ensures { result ≡ record { failing = failing.items; made = 0; faults = 0 } }
     {
         Calls {
@@ -33,14 +33,14 @@ impl Calls {
     }
 
     /// Whether the next call is to fail. Calls are numbered from 1, and the number stays at 2^64 - 1.
-    pub(crate) fn next_is_listed(&self) -> bool
+    pub fn next_is_listed(&self) -> bool
         ensures { result ≡ next_is_listed self.now }
     {
         self.failing.contains(&raised(self.made))
     }
 
     /// Counts a call.
-    pub(crate) fn count(&mut self, failed: bool)
+    pub fn count(&mut self, failed: bool)
         ensures after { self.new ≡ counted failed self.old }
         ensures faults { IsCounted failed self.old.faults self.new.faults }
     {

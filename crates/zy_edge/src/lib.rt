@@ -9,9 +9,11 @@ mod files;
 mod link;
 mod sink;
 
+pub use calls::Calls;
 pub use clock::Clock;
 pub use clock::memory::MemClock;
 pub use clock::real::RealClock;
+pub use faults::raised;
 pub use files::calm::CalmFiles;
 pub use files::memory::MemFiles;
 pub use files::real::RealFiles;

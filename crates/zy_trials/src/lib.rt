@@ -30,6 +30,8 @@ mod probe;
 #[cfg(test)]
 mod real_clock;
 #[cfg(test)]
+mod real_disk;
+#[cfg(test)]
 mod real_files;
 #[cfg(test)]
 mod secrets;

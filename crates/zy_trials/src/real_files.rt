@@ -33,7 +33,7 @@ fn answers<F: Files>(alloc: Global, files: &mut F, name: &str) -> Result<Vec<u8>
 }
 
 /// The path of a file of this process alone.
-fn own_path(rt: &HostRuntime, alloc: Global) -> Result<String, Fail> {
+pub(crate) fn own_path(rt: &HostRuntime, alloc: Global) -> Result<String, Fail> {
     let folder = env::temp_dir(rt)?;
     let number = process::id(rt.process());
     Ok(format!(in alloc; "{}/zy_trials_{}", folder.display(), number)?)

@@ -1,0 +1,5 @@
+pub mod Disk
+pub mod Finding
+pub mod Journal
+pub mod Memory
+pub mod Starting
