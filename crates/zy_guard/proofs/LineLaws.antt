@@ -11,7 +11,9 @@ use Rattle.zy_tuple.specs.declared.values.Op.{Op}
 use Rattle.zy_tuple.specs.declared.values.Op.TheVariants.{Out, Rdp, Inp, Cas}
 use Rattle.zy_tuple.specs.Values.{IsSlot, IsTemplate}
 use Rattle.zy_tuple.specs.Texts.{slot_text, template_text, spaced}
-use Rattle.zy_tuple.specs.Reading.{◌>>=◌, slot_at, list_at, space_at, tuple_part, template_part, finished, op_read}
+use Rattle.zy_tuple.specs.declared.fault.LineFault.{LineFault}
+use Rattle.zy_tuple.specs.declared.fault.LineFault.TheVariants as faults
+use Rattle.zy_tuple.specs.Reading.{◌>>=◌, Fails, field_at, slot_at, list_at, space_at, tuple_part, template_part, finished, op_read}
 use Rattle.zy_tuple.proofs.Results.{ok_chosen, bind_ok, ok_is}
 use Rattle.zy_tuple.proofs.FieldLaws.{slots_read, list_takes, list_again}
 use Rattle.zy_guard.specs.Lines.{last_tuple, last_template}
@@ -48,6 +50,51 @@ out_read rest = finish_part Out (tuple_part (32 ∷ rest))
 pub rdp_read : (rest : List ℕ) → op_read (codes "rdp" ++ 32 ∷ rest) ≡ (last_template (32 ∷ rest) >>= λ template. Ok (Rdp template))
 unfolding op_read last_template
 rdp_read rest = finish_part Rdp (template_part (32 ∷ rest))
+
+-- what is told of the operation is told of the tuple
+module _ (line rest : List ℕ) (space : space_at line ≡ Ok rest) where
+  out_is : op_read (codes "out" ++ line) ≡ (last_tuple line >>= λ tuple. Ok (Out tuple))
+  out_is = let front = space_takes line rest space in ap (λ (l : List ℕ). op_read (codes "out" ++ l)) front ∙ out_read rest ∙ ap (λ (l : List ℕ). last_tuple l >>= λ tuple. Ok (Out tuple)) (sym front)
+
+  pub tuple_given : (op : Op) → op_read (codes "out" ++ line) ≡ Ok op → (tuple : List Field) × (last_tuple line ≡ Ok tuple) × (Out tuple ≡ op)
+  tuple_given op read = made_takes Out (last_tuple line) op (sym out_is ∙ read)
+
+  pub tuple_is : (tuple : List Field) → op_read (codes "out" ++ line) ≡ Ok (Out tuple) → last_tuple line ≡ Ok tuple
+  tuple_is tuple read = let a = tuple_given (Out tuple) read in a.1 ∙ ap Ok (same_out a.0 tuple a.2)
+    where
+      same_out : (a b : List Field) → Out a ≡ Out b → a ≡ b
+      same_out a b is = cc
+
+  pub tuple_fault : (fault : LineFault) → Fails fault (op_read (codes "out" ++ line)) → Fails fault (last_tuple line)
+  tuple_fault faults.Want fails = tt
+  tuple_fault (faults.Rule rule) fails = made_fails Out (last_tuple line) rule (sym out_is ∙ fails)
+
+  rdp_is : op_read (codes "rdp" ++ line) ≡ (last_template line >>= λ template. Ok (Rdp template))
+  rdp_is = let front = space_takes line rest space in ap (λ (l : List ℕ). op_read (codes "rdp" ++ l)) front ∙ rdp_read rest ∙ ap (λ (l : List ℕ). last_template l >>= λ template. Ok (Rdp template)) (sym front)
+
+  pub template_given : (op : Op) → op_read (codes "rdp" ++ line) ≡ Ok op → (template : List Slot) × (last_template line ≡ Ok template) × (Rdp template ≡ op)
+  template_given op read = made_takes Rdp (last_template line) op (sym rdp_is ∙ read)
+
+  pub template_is : (template : List Slot) → op_read (codes "rdp" ++ line) ≡ Ok (Rdp template) → last_template line ≡ Ok template
+  template_is template read = let a = template_given (Rdp template) read in a.1 ∙ ap Ok (same_rdp a.0 template a.2)
+    where
+      same_rdp : (a b : List Slot) → Rdp a ≡ Rdp b → a ≡ b
+      same_rdp a b is = cc
+
+  pub template_fault : (fault : LineFault) → Fails fault (op_read (codes "rdp" ++ line)) → Fails fault (last_template line)
+  template_fault faults.Want fails = tt
+  template_fault (faults.Rule rule) fails = made_fails Rdp (last_template line) rule (sym rdp_is ∙ fails)
+
+-- no part stands where no space does
+pub no_tuple : (line : List ℕ) (fault : LineFault) → Fails fault (space_at line) → Fails fault (last_tuple line)
+unfolding last_tuple tuple_part
+no_tuple line faults.Want fails = tt
+no_tuple line (faults.Rule rule) fails = ap (λ (r : Result (List ℕ) ℕ). (r >>= λ rest. list_at field_at rest) >>= λ tuple. finished tuple.0 tuple.1) fails
+
+pub no_template : (line : List ℕ) (fault : LineFault) → Fails fault (space_at line) → Fails fault (last_template line)
+unfolding last_template template_part
+no_template line faults.Want fails = tt
+no_template line (faults.Rule rule) fails = ap (λ (r : Result (List ℕ) ℕ). (r >>= λ rest. list_at slot_at rest) >>= λ template. finished template.0 template.1) fails
 
 -- ---- the template in front of a line
 

@@ -43,10 +43,14 @@ pub plain_is : (bytes : List ℕ) (given : Reply) (reply : GuardReply) → IsGua
 plain_is bytes given (Plain reply) fits is read = ap Plain (ok_is reply given (sym (reply_again reply fits) ∙ ap reply_in (sym is) ∙ read))
 plain_is bytes given (Denied denial) fits is read = let both : Err Range ≡ Ok given = sym (denied_none denial) ∙ ap reply_in (sym is) ∙ read in absurd (cc)
 
+read_and_not : (read : Result Reply FrameFault) (reply : Reply) → IsErr read → read ≡ Ok reply → ⊥
+read_and_not (Ok other) reply failed is = absurd (cc)
+read_and_not (Err fault) reply failed is = absurd (cc)
+
 -- other bytes that spell a reply spell a denial
 pub other_is : (bytes : List ℕ) (reply : GuardReply) → IsGuardReply reply → bytes ≡ guard_reply_bytes reply → IsErr (reply_in bytes) → other_text bytes ≡ guard_reply_text reply
 other_is bytes (Plain reply) fits is failed =
-    let both : IsErr (Ok reply) = subst (λ (r : Result Reply FrameFault). IsErr r) (ap reply_in is ∙ reply_again reply fits) failed in absurd (both)
+    absurd (read_and_not (reply_in bytes) reply failed (ap reply_in is ∙ reply_again reply fits))
 other_is bytes (Denied denial) fits is failed = ap other_text (is ∙ denied_bytes denial) ∙ denied_text denial
 
 rule_named : (rule : ℕ) → 1 ≤ rule → rule ≤ 4 → (denial : Denial) × (rule_of denial ≡ rule)

@@ -103,7 +103,7 @@ rising_stops least digits others stops = rw stops refl
 pub risen_fails : (text : List ℕ) (steps set least : ℕ) (rest digits : List ℕ) → IsRisen text steps set least rest → digits ≡ take_while in_number rest
     → (is_numeral digits && (leb least (digits_value 10 digits) && ltb (digits_value 10 digits) 64)) ≡ false → None ≡ rising 0 (parts_of text)
 risen_fails text steps set least rest digits risen front test =
-    let stops : rising least (parts_of rest) ≡ None = ap (rising least) (first_part rest) ∙ rising_stops least (take_while in_number rest) _ (rw front at test) in
+    let stops : rising least (parts_of rest) ≡ None = ap (rising least) (first_part rest) ∙ rising_stops least (take_while in_number rest) (parts_behind (drop (length (take_while in_number rest)) rest)) (rw front at test) in
     ap (with_set set) (sym stops) ∙ risen.so_far
 
 and_false : (a b : Bool) → (a ≡ true → b ≡ true → ⊥) → (a && b) ≡ false

@@ -52,10 +52,10 @@ pub fn owns_fewer(slots: &Slots<Owned>, owner: ClientId, limit: u64) -> bool
 {
     let mut at = slots.bucket_first(owner.0 as u8);
     for step in 0..limit {
-        let Some(id) = at else {
-            return true;
-        };
-        at = slots.bucket_next(id);
+        match at {
+            Some(id) => at = slots.bucket_next(id),
+            None => return true,
+        }
     }
     false
 }

@@ -11,7 +11,7 @@ put_last-requires c = (owned_read c.loop-place.cut c.in_ok-owned.owned c.owned_g
 
 pub returns-in_err-owned-clause-read : goal.returns-in_err-owned-clause-read
 returns-in_err-owned-clause-read c =
-    let p = err_from_is_err_and c.from_residual-in_err-owned.result c.from_residual-in_err-owned.ensures.1 in
+    let p = err_from_is_err_and c.from_residual.result c.from_residual.ensures.1 in
     rw (p.1, p.2) (item_fails owned_spelling c.in_err-owned.field-0.0 (values_of c.loop-place.slots.live) c.args.count c.loop-place.place c.loop-place.cut (repeated_at owned_spelling c.args.count c.args.cut.now) c.loop-place-test.true c.in_err-owned.ensures c.loop-place.invariant.so_far)
 
 pub loop-place-preserved : goal.loop-place-preserved

@@ -21,13 +21,13 @@ failed : (fault : OpFault) (read : Result (List Owned) FrameFault) → Fails fau
 failed faults.NotOp read fails is = fails
 failed faults.Want read fails is = absurd (cc)
 
-pub returns-then-is_few-in-Ok-clause-read : goal.returns-then-is_few-in-Ok-clause-read
-returns-then-is_few-in-Ok-clause-read c =
+pub returns-then-is_few-clause-read : goal.returns-then-is_few-clause-read
+returns-then-is_few-clause-read c =
     let state = values_of c.in-Ok.state.0.live in
     read_bytes c.args.bytes.now (λ i. omega (arith, c.type_inv.bytes i)) ∙ ap few_of c.in-Ok.ensures.read ∙ few_read state c.is_few.result c.is_few.ensures c.if-is_few.true
 
-pub returns-else-is_few-in-Ok-clause-not_state : goal.returns-else-is_few-in-Ok-clause-not_state
-returns-else-is_few-in-Ok-clause-not_state c =
+pub returns-else-is_few-clause-not_state : goal.returns-else-is_few-clause-not_state
+returns-else-is_few-clause-not_state c =
     let state = values_of c.in-Ok.state.0.live in
     λ is. read_bytes c.args.bytes.now (λ i. omega (arith, c.type_inv.bytes i)) ∙ ap few_of c.in-Ok.ensures.read ∙ many_read state c.is_few.result c.is_few.ensures c.if-is_few.false
 
