@@ -2,6 +2,7 @@
 use Rattle.std.proofs.Common.{◌≡◌, ◌≢◌, ℕ, zero, suc, ◌+◌, ◌<◌, ◌≤◌, Bool, true, false, cond, eqb, List, [], ◌∷◌, ◌++◌, length, take, drop, Option, Some, None, Result, Ok, Err, inl, inr, refl, sym, ap, subst, ◌∙◌, append_assoc, arith}
 use Rattle.std.specs.Prelude.{codes, map, slice_index}
 use Rattle.std.proofs.Math.Seq.{get_or-append_seam}
+use Rattle.std.proofs.lemmas.Option.{same_Some}
 use Rattle.std.proofs.lemmas.Bool.{eqb-true}
 use Rattle.std.proofs.lemmas.Bool.Decides.{eqb_tells}
 use Rattle.std.proofs.lemmas.List.{append-nil, take_at, drop_at, take-append-drop, length-append}
@@ -16,7 +17,7 @@ use Rattle.zy_tuple.specs.declared.fault.LineFault.TheVariants as faults
 use Rattle.zy_tuple.specs.Reading.{◌>>=◌, Fails, field_at, slot_at, list_at, space_at, tuple_part, template_part, finished, op_read}
 use Rattle.zy_tuple.proofs.Results.{ok_chosen, bind_ok, ok_is}
 use Rattle.zy_tuple.proofs.FieldLaws.{slots_read, list_takes, list_again}
-use Rattle.zy_guard.specs.Lines.{last_tuple, last_template}
+use Rattle.zy_guard.specs.Lines.{last_tuple, last_template, read_or_none, whole_template, template_up_to}
 
 pub space_takes : (line rest : List ℕ) → space_at line ≡ Ok rest → line ≡ 32 ∷ rest
 space_takes [] rest e = absurd cc
@@ -56,11 +57,14 @@ module _ (line rest : List ℕ) (space : space_at line ≡ Ok rest) where
   out_is : op_read (codes "out" ++ line) ≡ (last_tuple line >>= λ tuple. Ok (Out tuple))
   out_is = let front = space_takes line rest space in ap (λ (l : List ℕ). op_read (codes "out" ++ l)) front ∙ out_read rest ∙ ap (λ (l : List ℕ). last_tuple l >>= λ tuple. Ok (Out tuple)) (sym front)
 
-  pub tuple_given : (op : Op) → op_read (codes "out" ++ line) ≡ Ok op → (tuple : List Field) × (last_tuple line ≡ Ok tuple) × (Out tuple ≡ op)
+  tuple_given : (op : Op) → op_read (codes "out" ++ line) ≡ Ok op → (tuple : List Field) × (last_tuple line ≡ Ok tuple) × (Out tuple ≡ op)
   tuple_given op read = made_takes Out (last_tuple line) op (sym out_is ∙ read)
 
-  pub tuple_is : (tuple : List Field) → op_read (codes "out" ++ line) ≡ Ok (Out tuple) → last_tuple line ≡ Ok tuple
-  tuple_is tuple read = let a = tuple_given (Out tuple) read in a.1 ∙ ap Ok (same_out a.0 tuple a.2)
+  pub tuple_only : (op : Op) → op_read (codes "out" ++ line) ≡ Ok op → (tuple : List Field) × (op ≡ Out tuple)
+  tuple_only op read = let a = tuple_given op read in (a.0, sym a.2)
+
+  pub tuple_is : (op : Op) (tuple : List Field) → op_read (codes "out" ++ line) ≡ Ok op → op ≡ Out tuple → last_tuple line ≡ Ok tuple
+  tuple_is op tuple read is = let a = tuple_given op read in a.1 ∙ ap Ok (same_out a.0 tuple (a.2 ∙ is))
     where
       same_out : (a b : List Field) → Out a ≡ Out b → a ≡ b
       same_out a b is = cc
@@ -72,11 +76,14 @@ module _ (line rest : List ℕ) (space : space_at line ≡ Ok rest) where
   rdp_is : op_read (codes "rdp" ++ line) ≡ (last_template line >>= λ template. Ok (Rdp template))
   rdp_is = let front = space_takes line rest space in ap (λ (l : List ℕ). op_read (codes "rdp" ++ l)) front ∙ rdp_read rest ∙ ap (λ (l : List ℕ). last_template l >>= λ template. Ok (Rdp template)) (sym front)
 
-  pub template_given : (op : Op) → op_read (codes "rdp" ++ line) ≡ Ok op → (template : List Slot) × (last_template line ≡ Ok template) × (Rdp template ≡ op)
+  template_given : (op : Op) → op_read (codes "rdp" ++ line) ≡ Ok op → (template : List Slot) × (last_template line ≡ Ok template) × (Rdp template ≡ op)
   template_given op read = made_takes Rdp (last_template line) op (sym rdp_is ∙ read)
 
-  pub template_is : (template : List Slot) → op_read (codes "rdp" ++ line) ≡ Ok (Rdp template) → last_template line ≡ Ok template
-  template_is template read = let a = template_given (Rdp template) read in a.1 ∙ ap Ok (same_rdp a.0 template a.2)
+  pub template_only : (op : Op) → op_read (codes "rdp" ++ line) ≡ Ok op → (template : List Slot) × (op ≡ Rdp template)
+  template_only op read = let a = template_given op read in (a.0, sym a.2)
+
+  pub template_is : (op : Op) (template : List Slot) → op_read (codes "rdp" ++ line) ≡ Ok op → op ≡ Rdp template → last_template line ≡ Ok template
+  template_is op template read is = let a = template_given op read in a.1 ∙ ap Ok (same_rdp a.0 template (a.2 ∙ is))
     where
       same_rdp : (a b : List Slot) → Rdp a ≡ Rdp b → a ≡ b
       same_rdp a b is = cc
@@ -136,21 +143,34 @@ front_is line text rest template parts e =
     let t = last_takes text template e in
     ap template_part (parts ∙ ap (λ (l : List ℕ). l ++ rest) t.0) ∙ template_again template rest t.1
 
--- no template ends at a bracket (41) before this place
+read_is : (read : Result (List Slot) ℕ) (template : List Slot) → read_or_none read ≡ Some template → read ≡ Ok template
+read_is (Ok other) template is = ap Ok (same_Some other template is)
+read_is (Err rule) template is = absurd (cc)
+
+bracket_or_not : (b : Bool) (found : Option (List Slot)) (template : List Slot) → cond b found None ≡ Some template → found ≡ Some template
+bracket_or_not true found template is = is
+bracket_or_not false found template is = absurd (cc)
+
+-- a template that ends somewhere stands in front of the whole
+pub front_given : (line : List ℕ) (place : ℕ) (template : List Slot) → template_up_to line place ≡ Some template → template_part line ≡ Ok (template, drop (place + 1) line)
+front_given line place template is =
+    front_is line (take (place + 1) line) (drop (place + 1) line) template (sym (take-append-drop (place + 1) line))
+    (read_is (last_template (take (place + 1) line)) template (bracket_or_not (eqb (slice_index line place) 41) (whole_template (take (place + 1) line)) template is))
+
+-- none ends before this place
 pub NoneEnds : List ℕ → ℕ → Type 0
-NoneEnds line place = (k : ℕ) → k < place → slice_index line k ≡ 41 → (template : List Slot) → last_template (take (k + 1) line) ≡ Ok template → ⊥
+NoneEnds line place = (k : ℕ) → k < place → template_up_to line k ≡ None
 
 pub none_before : (line : List ℕ) → NoneEnds line 0
 unfolding NoneEnds
-none_before line k below bracket template e = omega (arith, below)
+none_before line k below = absurd (omega (arith, below))
 
--- the next place is no bracket, or the text up to it is no template
-pub none_yet : (line : List ℕ) (place : ℕ) → NoneEnds line place → (slice_index line place ≡ 41 → (template : List Slot) → last_template (take (place + 1) line) ≡ Ok template → ⊥) → NoneEnds line (place + 1)
+pub none_yet : (line : List ℕ) (place : ℕ) → NoneEnds line place → template_up_to line place ≡ None → NoneEnds line (place + 1)
 unfolding NoneEnds
-none_yet line place none here k below bracket template e =
+none_yet line place none here k below =
     elim (eqb_tells k place) [
-      | inl same ↦ here (subst (λ (p : ℕ). slice_index line p ≡ 41) same.1 bracket) template (subst (λ (p : ℕ). last_template (take (p + 1) line) ≡ Ok template) same.1 e)
-      | inr other ↦ none k (omega (arith, below, other.1)) bracket template e
+      | inl same ↦ subst (λ (p : ℕ). template_up_to line p ≡ None) (sym same.1) here
+      | inr other ↦ none k (omega (arith, below, other.1))
     ]
 
 bracket_front : List Slot → List ℕ
@@ -170,20 +190,30 @@ ends_somewhere line template rest none e =
     let here : slice_index line (length front) ≡ 41 = ap (λ (l : List ℕ). slice_index l (length front)) split ∙ get_or-append_seam front 41 rest 0 in
     let whole : take (length front + 1) line ≡ 32 ∷ template_text template =
     ap (take (length front + 1)) (t.0 ∙ ap (λ (l : List ℕ). l ++ rest) (text_ends template)) ∙ take_at (front ++ 41 ∷ []) rest (length front + 1) (length-append front (41 ∷ [])) ∙ sym (text_ends template) in
-    none (length front) (omega (arith, ap length split, length-append front (41 ∷ rest))) here template (ap last_template whole ∙ last_again template t.1)
+    let found : template_up_to line (length front) ≡ Some template = rw (here, ap last_template whole ∙ last_again template t.1) refl in
+    let both : Some template ≡ None = sym found ∙ none (length front) (omega (arith, ap length split, length-append front (41 ∷ rest))) in
+    absurd (cc)
 
 front_fails_so : (line : List ℕ) (read : Result (List Slot × List ℕ) ℕ) → NoneEnds line (length line) → template_part line ≡ read → (read >>= λ t. finished t.0 t.1) ≡ Err 6 → template_part line ≡ Err 6
 front_fails_so line (Ok part) none is six = absurd (ends_somewhere line part.0 part.1 none is)
 front_fails_so line (Err rule) none is six = let same : rule ≡ 6 = cc in is ∙ ap (λ (r : ℕ). Err r) same
 
-pub front_fails : (line : List ℕ) → NoneEnds line (length line) → last_template line ≡ Err 6 → template_part line ≡ Err 6
+pub front_fails : (line : List ℕ) (place : ℕ) → length line ≤ place → place ≤ length line → NoneEnds line place → last_template line ≡ Err 6 → template_part line ≡ Err 6
 unfolding last_template
-front_fails line none six = front_fails_so line (template_part line) none refl six
+front_fails line place all within none six =
+    let same : place ≡ length line = omega (arith, all, within) in
+    front_fails_so line (template_part line) (subst (NoneEnds line) same none) refl six
 
 -- ---- a template that ends the line stands in front of nothing
 
-pub last_is_front : (line : List ℕ) (template : List Slot) → last_template line ≡ Ok template → template_part line ≡ Ok (template, [])
+last_is_front : (line : List ℕ) (template : List Slot) → last_template line ≡ Ok template → template_part line ≡ Ok (template, [])
 last_is_front line template e = front_is line line [] template (sym (append-nil line)) e
+
+nothing_behind : (line : List ℕ) → drop (length line) line ≡ []
+nothing_behind line = ap (drop (length line)) (sym (append-nil line)) ∙ drop_at line [] (length line) refl
+
+pub last_is_whole : (line : List ℕ) (template : List Slot) → last_template line ≡ Ok template → template_part line ≡ Ok (template, drop (length line) line)
+last_is_whole line template e = last_is_front line template e ∙ ap (λ (rest : List ℕ). Ok (template, rest)) (sym (nothing_behind line))
 
 not_six : (line : List ℕ) (read : Result (List Slot × List ℕ) ℕ) (rule : ℕ) → (read >>= λ t. finished t.0 t.1) ≡ Err rule → rule ≢ 6 → read ≡ Err rule
 not_six line (Ok part) rule e other = absurd (ended part.0 part.1 e)
@@ -199,3 +229,7 @@ not_six line (Err same) rule e other = cc
 pub other_fault : (line : List ℕ) (rule : ℕ) → last_template line ≡ Err rule → rule ≢ 6 → template_part line ≡ Err rule
 unfolding last_template
 other_fault line rule e other = not_six line (template_part line) rule e other
+
+pub not_whole : (line : List ℕ) (rule : ℕ) (fault : LineFault) → fault ≡ faults.Rule rule → Fails fault (last_template line) → last_template line ≡ Err rule
+not_whole line rule faults.Want is fails = absurd (cc)
+not_whole line rule (faults.Rule other) is fails = let same : other ≡ rule = cc in fails ∙ ap (λ (r : ℕ). Err r) same

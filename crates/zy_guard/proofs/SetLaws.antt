@@ -1,5 +1,5 @@
 -- A list of rising numbers is read one number at a time.
-use Rattle.std.proofs.Common.{◌≡◌, ℕ, zero, suc, ◌+◌, ◌^◌, ◌<◌, ◌≤◌, Bool, true, false, cond, eqb, ltb, leb, ◌&&◌, List, [], ◌∷◌, length, take, drop, Option, Some, None, refl, sym, ap, ◌∙◌, inl, inr, arith}
+use Rattle.std.proofs.Common.{◌≡◌, ◌⊎◌, ℕ, zero, suc, ◌+◌, ◌-◌, ◌*◌, ◌%◌, ◌^◌, ◌<◌, ◌≤◌, Bool, true, false, cond, eqb, ltb, leb, ◌&&◌, List, [], ◌∷◌, length, take, drop, Option, Some, None, refl, sym, ap, ◌∙◌, inl, inr, arith}
 use Rattle.std.specs.Prelude.{take_while, IsTrue}
 use Rattle.std.specs.List.{slice_split, onto_first}
 use Rattle.std.specs.Option.{option_map}
@@ -8,8 +8,11 @@ use Rattle.std.proofs.Math.Pow.{pow_mono}
 use Rattle.std.proofs.lemmas.Bool.{cases_Bool, and_parts, lt-ltb, le-leb, ltb-true, leb-true}
 use Rattle.std.proofs.lemmas.Bool.Decides.{eqb_tells}
 use Rattle.std.proofs.lemmas.Grind.{pow_more}
+use Rattle.std.proofs.lemmas.Nat.{one_shl}
+use Rattle.std.proofs.lemmas.List.{take_at, take_rest}
 use Rattle.std.proofs.lemmas.List.Sums.{take_while-cons}
 use Rattle.zy_tuple.specs.Reading.{is_numeral}
+use Rattle.zy_tuple.proofs.NumberLaws.{take_while_parts}
 use Rattle.zy_guard.specs.Lines.{in_number, rising}
 
 abbrev pub parts_of : List ℕ → List (List ℕ)
@@ -72,6 +75,23 @@ one_read : (least : ℕ) (rest : List ℕ) → is_numeral (take_while in_number 
     → rising least (parts_of rest) ≡ with_set (2 ^ digits_value 10 (take_while in_number rest)) (rising (digits_value 10 (take_while in_number rest) + 1) (parts_behind (drop (length (take_while in_number rest)) rest)))
 one_read least rest numeral low high = ap (rising least) (first_part rest) ∙ rising_one least (take_while in_number rest) (parts_behind (drop (length (take_while in_number rest)) rest)) numeral low high
 
+first_of_some : (bytes : List ℕ) → 1 ≤ length bytes → (c : ℕ) × (bytes ≡ c ∷ drop 1 bytes)
+first_of_some [] some = absurd (omega (arith, some))
+first_of_some (c ∷ bytes) some = (c, refl)
+
+none_left : (bytes : List ℕ) → length bytes < 1 → bytes ≡ []
+none_left [] none = refl
+none_left (c ∷ bytes) none = absurd (omega (arith, none))
+
+-- a number and what stands behind it, as a line is cut
+pub number_front : (rest digits : List ℕ) (len : ℕ) → len ≡ length (take_while in_number rest) → digits ≡ take len rest → digits ≡ take_while in_number rest
+number_front rest digits len is cut =
+    let front = take_while in_number rest in
+    cut ∙ ap (λ (n : ℕ). take n rest) is ∙ ap (take (length front)) (take_while_parts in_number rest) ∙ take_at front (drop (length front) rest) (length front) refl
+
+pub number_back : (rest behind : List ℕ) (len : ℕ) → len ≡ length (take_while in_number rest) → behind ≡ drop len rest → behind ≡ drop (length (take_while in_number rest)) rest
+number_back rest behind len is cut = cut ∙ ap (λ (n : ℕ). drop n rest) is
+
 module _ (text : List ℕ) (steps set least : ℕ) (rest digits behind : List ℕ) (n : ℕ) (risen : IsRisen text steps set least rest)
     (front : digits ≡ take_while in_number rest) (back : behind ≡ drop (length (take_while in_number rest)) rest)
     (numeral : is_numeral digits ≡ true) (value : n ≡ digits_value 10 digits) (low : least ≤ n) (high : n < 64) where
@@ -94,6 +114,12 @@ module _ (text : List ℕ) (steps set least : ℕ) (rest digits behind : List �
   risen_ends is =
       let last : with_set (set + 2 ^ n) (Some 0) ≡ rising 0 (parts_of text) = rw is at step_read in
       ap Some (omega arith) ∙ last
+
+  pub risen_next : 1 ≤ length behind → IsRisen text (steps + 1) (set + (1 * 2 ^ n) % 18446744073709551616) (n + 1) (take (length behind - 1) (drop 1 behind))
+  risen_next some = let first = first_of_some behind some in rw (one_shl n 64 high, take_rest behind 1) (risen_on first.0 (drop 1 behind) first.1)
+
+  pub risen_last : length behind < 1 → Some (set + (1 * 2 ^ n) % 18446744073709551616) ≡ rising 0 (parts_of text)
+  risen_last none = rw (one_shl n 64 high) (risen_ends (none_left behind none))
 
 -- ---- what is no number that rises
 
@@ -122,3 +148,7 @@ no_number least digits never =
 pub risen_full : (text : List ℕ) (steps set least : ℕ) (rest : List ℕ) → IsRisen text steps set least rest → 64 ≤ steps → None ≡ rising 0 (parts_of text)
 risen_full text steps set least rest risen full =
     risen_fails text steps set least rest (take_while in_number rest) risen refl (no_number least (take_while in_number rest) (λ numeral low high. omega (arith, low, high, full, risen.many)))
+
+pub out_of_range : (client least value : ℕ) → (client < least) ⊎ ((least ≤ client) × (64 ≤ client)) → client ≡ value → least ≤ value → value < 64 → ⊥
+out_of_range client least value (inl below) is low high = omega (arith, below, is, low)
+out_of_range client least value (inr above) is low high = omega (arith, above.1, is, high)

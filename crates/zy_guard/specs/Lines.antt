@@ -1,7 +1,7 @@
 -- Lines of guard scripts, read from the left, and the texts of replies. The rule of the first part that can't be read is 8
 -- for the client, 2 for a missing part, another operation's word, a separator, a bracket or the start of a field, and 4 for
 -- a set; the others are those of the tuple space.
-use Rattle.std.specs.Prelude.{ℕ, ◌+◌, ◌-◌, ◌^◌, ◌==◌, nat_lt, nat_le, Bool, not, ◌&&◌, if◌then◌else◌, List, [], ◌∷◌, ◌++◌, length, drop, take_while, codes, Option, Some, None, Result, Ok, Err}
+use Rattle.std.specs.Prelude.{ℕ, ◌+◌, ◌-◌, ◌^◌, ◌==◌, nat_lt, nat_le, Bool, not, ◌&&◌, if◌then◌else◌, List, [], ◌∷◌, ◌++◌, length, take, drop, slice_index, take_while, codes, Option, Some, None, Result, Ok, Err}
 use Rattle.std.specs.Fmt.{decimal}
 use Rattle.std.specs.List.{slice_split}
 use Rattle.std.specs.Option.{option_map}
@@ -80,6 +80,10 @@ read_or_none (Err rule) = None
 -- the template that all of a text is
 abbrev pub whole_template : List ℕ → Option (List Slot)
 whole_template text = read_or_none (last_template text)
+
+-- the one that ends with a bracket (41) at this place
+abbrev pub template_up_to : List ℕ → ℕ → Option (List Slot)
+template_up_to line place = if slice_index line place == 41 then whole_template (take (place + 1) line) else None
 
 abbrev pub out_op : List ℕ → Result GuardOp ℕ
 out_op rest = access_part rest >>= λ access. last_tuple access.1 >>= λ tuple. Ok (Out access.0 tuple)

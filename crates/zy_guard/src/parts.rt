@@ -1,8 +1,11 @@
 //! Parts of a line. A tuple or a template is read as a part of an operation of the tuple space.
 
-ghost use Rattle.std.specs.Prelude.{◌≡◌, ◌++◌, length, take_while, drop, Err, IfOk, IfSome};
+ghost use Rattle.std.specs.Prelude.{◌≡◌, ◌<◌, ◌++◌, List, length, take_while, drop, Err, IfOk, IfSome};
 ghost use Rattle.zy_tuple.specs.Reading.{Gives, in_word, space_at, template_part, op_read};
 ghost use Rattle.zy_tuple.specs.Values.{IsOp, IsTuple, IsTemplate};
+ghost use Rattle.zy_tuple.specs.declared.values.Field.{Field};
+ghost use Rattle.zy_tuple.specs.declared.values.Op.TheVariants as ops;
+ghost use Rattle.zy_tuple.specs.declared.values.Slot.{Slot};
 ghost use Rattle.zy_guard.specs.Lines as lines;
 
 use std::alloc::{AllocError, Global};
@@ -50,6 +53,28 @@ fn op_with(alloc: Global, word: &[u8], rest: &[u8]) -> Result<Op, LineFault>
     op_text_read(alloc, &line)
 }
 
+// The tuple of an `out`.
+fn tuple_in(op: Op) -> Tuple
+    requires { (tuple : List Field) × (op ≡ ops.Out tuple) }
+    ensures { op ≡ ops.Out result }
+{
+    match op {
+        Op::Out(tuple) => tuple,
+        _ => unreachable!(),
+    }
+}
+
+// The template of a `rdp`.
+fn template_in(op: Op) -> Template
+    requires { (template : List Slot) × (op ≡ ops.Rdp template) }
+    ensures { op ≡ ops.Rdp result }
+{
+    match op {
+        Op::Rdp(template) => template,
+        _ => unreachable!(),
+    }
+}
+
 /// The tuple behind a space that ends the line.
 pub fn last_tuple(alloc: Global, line: &[u8]) -> Result<Tuple, LineFault>
     ensures read { Gives (λ x. x) result (lines.last_tuple line.now) }
@@ -57,8 +82,7 @@ pub fn last_tuple(alloc: Global, line: &[u8]) -> Result<Tuple, LineFault>
 {
     behind_space(line)?;
     match op_with(alloc, b"out", line) {
-        Ok(Op::Out(tuple)) => Ok(tuple),
-        Ok(_) => unreachable!(),
+        Ok(op) => Ok(tuple_in(op)),
         Err(fault) => Err(fault),
     }
 }
@@ -70,8 +94,7 @@ pub fn last_template(alloc: Global, line: &[u8]) -> Result<Template, LineFault>
 {
     behind_space(line)?;
     match op_with(alloc, b"rdp", line) {
-        Ok(Op::Rdp(template)) => Ok(template),
-        Ok(_) => unreachable!(),
+        Ok(op) => Ok(template_in(op)),
         Err(fault) => Err(fault),
     }
 }
@@ -88,18 +111,33 @@ fn whole_template(alloc: Global, text: &[u8]) -> Result<Option<Template>, Want>
     }
 }
 
-// The template in front of a line that has more behind it. It ends at the bracket up to which the text is one.
+// The template that ends with a bracket at this place, if one does.
+fn template_up_to(
+    alloc: Global,
+    line: &[u8],
+    place: usize,
+) -> Result<Option<Template>, Want>
+    requires { place < length line.now }
+    ensures read { IfOk result (λ template. template ≡ lines.template_up_to line.now place) }
+    ensures found { IfOk result (λ template. IfSome template IsTemplate) }
+{
+    if line[place] == b')' {
+        whole_template(alloc, &line[..place + 1])
+    } else {
+        Ok(None)
+    }
+}
+
+// The template in front of a line that has more behind it. It ends with the bracket up to which the text is one.
 fn front_template(alloc: Global, line: &[u8]) -> Result<(Template, &[u8]), LineFault>
     requires { lines.last_template line.now ≡ Err 6 }
     ensures read { Gives (λ x. (x.0, x.1.now)) result (template_part line.now) }
     ensures found { IfOk result (λ x. IsTemplate x.0) }
 {
     for place in 0..line.len() {
-        if line[place] == b')' {
-            let (text, rest) = line.split_at(place + 1);
-            if let Some(template) = whole_template(alloc, text)? {
-                return Ok((template, rest));
-            }
+        match template_up_to(alloc, line, place)? {
+            Some(template) => return Ok((template, &line[place + 1..])),
+            None => {}
         }
     }
     Err(LineFault::Rule(6))
@@ -112,7 +150,13 @@ pub fn template_behind_space(alloc: Global, line: &[u8]) -> Result<(Template, &[
 {
     match last_template(alloc, line) {
         Ok(template) => Ok((template, &line[line.len()..])),
-        Err(LineFault::Rule(6)) => front_template(alloc, line),
-        Err(fault) => Err(fault),
+        Err(LineFault::Rule(rule)) => {
+            if rule == 6 {
+                front_template(alloc, line)
+            } else {
+                Err(LineFault::Rule(rule))
+            }
+        }
+        Err(LineFault::Want) => Err(LineFault::Want),
     }
 }
