@@ -1,11 +1,11 @@
 -- Parts of lines: a tuple or a template that is read as a part of an operation of the tuple space.
-use Rattle.std.proofs.Common.{◌≡◌, ◌≢◌, ℕ, zero, suc, ◌+◌, ◌<◌, ◌≤◌, Bool, true, false, cond, eqb, List, [], ◌∷◌, ◌++◌, length, take, drop, Option, Some, None, Result, Ok, Err, inl, inr, refl, sym, ap, subst, ◌∙◌, append_assoc, arith}
+use Rattle.std.proofs.Common.{◌≡◌, ◌≢◌, ℕ, zero, suc, ◌+◌, ◌-◌, ◌<◌, ◌≤◌, Bool, true, false, cond, eqb, List, [], ◌∷◌, ◌++◌, length, take, drop, Option, Some, None, Result, Ok, Err, inl, inr, refl, sym, ap, subst, ◌∙◌, append_assoc, arith}
 use Rattle.std.specs.Prelude.{codes, map, slice_index}
 use Rattle.std.proofs.Math.Seq.{get_or-append_seam}
 use Rattle.std.proofs.lemmas.Option.{same_Some}
 use Rattle.std.proofs.lemmas.Bool.{eqb-true}
 use Rattle.std.proofs.lemmas.Bool.Decides.{eqb_tells}
-use Rattle.std.proofs.lemmas.List.{append-nil, take_at, drop_at, take-append-drop, length-append}
+use Rattle.std.proofs.lemmas.List.{append-nil, take_at, drop_at, take_rest, take-append-drop, length-append}
 use Rattle.zy_tuple.specs.declared.values.Field.{Field}
 use Rattle.zy_tuple.specs.declared.values.Slot.{Slot}
 use Rattle.zy_tuple.specs.declared.values.Op.{Op}
@@ -152,10 +152,12 @@ bracket_or_not true found template is = is
 bracket_or_not false found template is = absurd (cc)
 
 -- a template that ends somewhere stands in front of the whole
-pub front_given : (line : List ℕ) (place : ℕ) (template : List Slot) → template_up_to line place ≡ Some template → template_part line ≡ Ok (template, drop (place + 1) line)
+pub front_given : (line : List ℕ) (place : ℕ) (template : List Slot) → template_up_to line place ≡ Some template
+    → template_part line ≡ Ok (template, take (length line - (place + 1)) (drop (place + 1) line))
 front_given line place template is =
     front_is line (take (place + 1) line) (drop (place + 1) line) template (sym (take-append-drop (place + 1) line))
     (read_is (last_template (take (place + 1) line)) template (bracket_or_not (eqb (slice_index line place) 41) (whole_template (take (place + 1) line)) template is))
+    ∙ ap (λ (rest : List ℕ). Ok (template, rest)) (sym (take_rest line (place + 1)))
 
 -- none ends before this place
 pub NoneEnds : List ℕ → ℕ → Type 0
@@ -212,8 +214,8 @@ last_is_front line template e = front_is line line [] template (sym (append-nil 
 nothing_behind : (line : List ℕ) → drop (length line) line ≡ []
 nothing_behind line = ap (drop (length line)) (sym (append-nil line)) ∙ drop_at line [] (length line) refl
 
-pub last_is_whole : (line : List ℕ) (template : List Slot) → last_template line ≡ Ok template → template_part line ≡ Ok (template, drop (length line) line)
-last_is_whole line template e = last_is_front line template e ∙ ap (λ (rest : List ℕ). Ok (template, rest)) (sym (nothing_behind line))
+pub last_is_whole : (line : List ℕ) (template : List Slot) → last_template line ≡ Ok template → template_part line ≡ Ok (template, take (length line - length line) (drop (length line) line))
+last_is_whole line template e = last_is_front line template e ∙ ap (λ (rest : List ℕ). Ok (template, rest)) (sym (take_rest line (length line) ∙ nothing_behind line))
 
 not_six : (line : List ℕ) (read : Result (List Slot × List ℕ) ℕ) (rule : ℕ) → (read >>= λ t. finished t.0 t.1) ≡ Err rule → rule ≢ 6 → read ≡ Err rule
 not_six line (Ok part) rule e other = absurd (ended part.0 part.1 e)
