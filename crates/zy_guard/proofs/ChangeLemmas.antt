@@ -1,6 +1,5 @@
 -- What linked cells hold, and how a guarded space goes back and forgets.
-use Rattle.std.proofs.Common.{◌≡◌, ℕ, suc, ◌+◌, ◌-◌, ◌<◌, ◌≤◌, true, false, eqb, cond, List, [], ◌∷◌, ◌++◌, length, take, drop, map, reverse, Option, Some, None, refl, sym, ap, ◌∙◌, subst, arith}
-use Rattle.std.specs.List.{AllByRecursion}
+use Rattle.std.proofs.Common.{◌≡◌, ℕ, suc, ◌+◌, ◌-◌, ◌<◌, true, false, eqb, cond, List, [], ◌∷◌, ◌++◌, length, take, drop, reverse, Option, Some, None, refl, sym, ap, ◌∙◌, subst, arith}
 use Rattle.std.proofs.lemmas.List.{length-reverse, reverse-append, map-append, length-append, length-map, take_at}
 use Rattle.zy_slots.specs.Cells.{Cell, Kept, Cells, with_live, with_stack, Stands, put_behind, kept, relinked_onto, relinked, CanRelink, KeptByNone, CanTakeLast, IsFresh, IsApart}
 use Rattle.zy_slots.proofs.ListLemmas.{all_split, all_parts, all_join}

@@ -1,5 +1,5 @@
 -- What a client learns.
-use Rattle.std.proofs.Common.{◌≡◌, ℕ, ◌+◌, ◌<◌, ◌≤◌, Bool, true, false, eqb, ltb, cond, List, [], ◌∷◌, ◌++◌, Option, Some, None, Result, Ok, Err, refl, sym, ap, ◌∙◌, subst, inl, inr, arith}
+use Rattle.std.proofs.Common.{◌≡◌, ℕ, ◌+◌, ◌<◌, ◌≤◌, true, false, eqb, ltb, cond, List, [], ◌∷◌, ◌++◌, Option, Some, None, Result, Ok, Err, refl, sym, ap, ◌∙◌, subst, inl, inr, arith}
 use Rattle.std.specs.List.{AllByRecursion}
 use Rattle.std.proofs.lemmas.Bool.{cases_Bool, ltb-true, ltb-false, le-ltb}
 use Rattle.std.proofs.lemmas.Bool.Decides.{eqb_tells}
@@ -7,7 +7,6 @@ use Rattle.std.proofs.lemmas.List.{append-nil}
 use Rattle.std.proofs.lemmas.List.Elements.{filter-append}
 use Rattle.std.proofs.lemmas.Option.{same_Some}
 use Rattle.zy_base.specs.declared.frame_fault.FrameFault.{FrameFault}
-use Rattle.zy_tuple.specs.declared.values.Field.{Field}
 use Rattle.zy_tuple.specs.declared.values.Slot.{Slot}
 use Rattle.zy_tuple.specs.declared.values.Reply.{Reply}
 use Rattle.zy_tuple.specs.declared.values.Reply.TheVariants.{Done, True}
@@ -17,13 +16,12 @@ use Rattle.zy_guard.specs.declared.values.Denial.{Denial}
 use Rattle.zy_guard.specs.declared.values.Denial.TheVariants.{UnknownClient, OwnerNotReader, TakerNotReader, NotTaker}
 use Rattle.zy_guard.specs.declared.values.GuardOp.{GuardOp}
 use Rattle.zy_guard.specs.declared.values.GuardOp.TheVariants.{Out, Rdp, Inp, Cas}
-use Rattle.zy_guard.specs.declared.values.GuardReply.{GuardReply}
 use Rattle.zy_guard.specs.declared.values.GuardReply.TheVariants.{Plain, Denied}
 use Rattle.zy_guard.specs.GuardedSpace.{has, is_within, sees, may_take, visible, IsOwned, IsGuardState, owned_by, oldest, inserted, owned_of, found, taken, unless_found, allowed_step, access_denial, op_denial, denial, unless_denied, guard_step, rule_of}
 use Rattle.zy_guard.specs.Bytes.{op_in}
 use Rattle.zy_guard.specs.Service.{is_bytes, answered, ran}
-use Rattle.zy_guard.specs.Isolation.{IsOneMore, IsOneLess, ChangesByOne, access_in, IsToTake, Fails, IsFirstFailing}
-use Rattle.zy_guard.specs.SpaceLaws.{IsSplit, split_seen}
+use Rattle.zy_guard.specs.Isolation.{ChangesByOne, access_in, Fails, IsFirstFailing}
+use Rattle.zy_guard.specs.SpaceLaws.{split_seen}
 
 -- ---- a reply tells of what its client sees
 

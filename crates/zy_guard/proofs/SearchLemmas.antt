@@ -1,19 +1,18 @@
 -- A walk over the live tuples finds the oldest match that a client sees, and one over an owner's chain counts.
-use Rattle.std.proofs.Common.{◌≡◌, ◌≢◌, ℕ, ◌+◌, ◌<◌, ◌≤◌, Bool, true, false, eqb, ltb, cond, ◌&&◌, List, [], ◌∷◌, ◌++◌, length, Option, Some, None, refl, sym, ap, ◌∙◌, subst, inl, inr, append_assoc, arith}
+use Rattle.std.proofs.Common.{◌≡◌, ℕ, ◌+◌, ◌<◌, ◌≤◌, Bool, true, false, eqb, ltb, cond, List, [], ◌∷◌, ◌++◌, length, Option, Some, None, refl, sym, ap, ◌∙◌, subst, inl, inr, append_assoc, arith}
 use Rattle.std.specs.Option.{IfNone, option_map}
-use Rattle.std.proofs.lemmas.Bool.{cases_Bool, and_parts, lt-ltb, le-ltb}
+use Rattle.std.proofs.lemmas.Bool.{and_parts, lt-ltb, le-ltb}
 use Rattle.std.proofs.lemmas.Bool.Decides.{eqb_tells}
-use Rattle.std.proofs.lemmas.List.{length-append, append-nil, map-append}
+use Rattle.std.proofs.lemmas.List.{length-append, append-nil}
 use Rattle.zy_slots.specs.declared.slots.SlotId.{SlotId}
 use Rattle.zy_slots.specs.Rings.{first_of}
 use Rattle.zy_slots.specs.Cells.{Cell, Cells, ids, chain_of, Stands, IsLive}
-use Rattle.zy_slots.proofs.ListLemmas.{all_split}
 use Rattle.zy_tuple.specs.declared.values.Slot.{Slot}
 use Rattle.zy_tuple.specs.Values.{matches}
 use Rattle.zy_guard.specs.declared.values.Owned.{Owned}
 use Rattle.zy_guard.specs.GuardedSpace.{sees, visible, oldest, without_oldest, owned_by}
 use Rattle.zy_guard.specs.Search.{is_seen, NoneSeen, IsOldestAt}
-use Rattle.zy_guard.specs.Changes.{values_of, IsInChain, AllInChains}
+use Rattle.zy_guard.specs.Changes.{values_of, AllInChains}
 use Rattle.zy_guard.specs.SpaceLaws.{oldest_skips}
 
 abbrev Live : Type 0

@@ -1,5 +1,5 @@
 -- The bytes of operations, replies and states.
-use Rattle.std.proofs.Common.{◌≡◌, ℕ, suc, true, List, None, Err, [], ◌∷◌, length, Result, Ok, ◌≤◌, refl, ◌∙◌, arith}
+use Rattle.std.proofs.Common.{◌≡◌, ℕ, suc, true, List, None, Err, [], ◌∷◌, Result, Ok, refl}
 use Rattle.std.specs.Prelude.{IsErr, nat_lt}
 use Rattle.std.proofs.lemmas.Bool.{lt-ltb, and_from}
 use Rattle.zy_base.specs.declared.frame_fault.FrameFault.{FrameFault}

@@ -1,16 +1,16 @@
 -- The bytes of the live tuples.
-use Rattle.std.proofs.Common.{◌≡◌, ℕ, zero, suc, ◌+◌, ◌<◌, ◌≤◌, Bool, true, false, leb, ltb, cond, ◌&&◌, List, [], ◌∷◌, ◌++◌, length, Option, Some, None, Result, Ok, Err, refl, sym, ap, ◌∙◌, subst, append_assoc, inl, inr, arith}
+use Rattle.std.proofs.Common.{◌≡◌, ℕ, zero, suc, ◌+◌, ◌<◌, ◌≤◌, Bool, true, false, leb, ltb, ◌&&◌, List, [], ◌∷◌, ◌++◌, length, Option, Some, None, Ok, refl, sym, ap, ◌∙◌, subst, append_assoc, inl, inr, arith}
 use Rattle.std.specs.Option.{option_map}
 use Rattle.std.specs.List.{AllByRecursion, flat_map}
 use Rattle.std.specs.Int.{w16}
-use Rattle.std.proofs.lemmas.Bool.{and_from, and_parts, le-leb, lt-leb, ltb-true, ltb-false, cases_Bool}
+use Rattle.std.proofs.lemmas.Bool.{and_from, and_parts, le-leb, lt-leb, ltb-true, ltb-false}
 use Rattle.std.proofs.lemmas.Bool.Decides.{eqb_tells}
 use Rattle.std.proofs.lemmas.Grind.{flat_map-append}
 use Rattle.std.proofs.lemmas.List.{append-nil, length-append}
 use Rattle.zy_slots.specs.declared.slots.SlotId.{SlotId}
 use Rattle.zy_slots.specs.Rings.{first_of}
 use Rattle.zy_slots.specs.Cells.{Cell, Cells, ids, Stands, IsLive}
-use Rattle.zy_slots.proofs.ListLemmas.{all_split, all_join}
+use Rattle.zy_slots.proofs.ListLemmas.{all_join}
 use Rattle.zy_tuple.specs.declared.values.Slot.{Slot}
 use Rattle.zy_wire.specs.Spelling.{IsBytes, number}
 use Rattle.zy_wire.proofs.Parts.{IsBytes-after, wide16, number-exact}

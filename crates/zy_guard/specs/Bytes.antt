@@ -1,18 +1,16 @@
 -- The one spelling of each operation, reply and tuple of the guarded space in bytes, and how they are read from the left.
-use Rattle.std.specs.Prelude.{ℕ, ◌==◌, nat_lt, Bool, ◌&&◌, if◌then◌else◌, List, ◌++◌, Option, Some, None, Result, Ok, Err}
+use Rattle.std.specs.Prelude.{ℕ, ◌==◌, nat_lt, Bool, ◌&&◌, if◌then◌else◌, List, ◌++◌, Option, Some, None, Result, Err}
 use Rattle.std.specs.Int.{w8, w64}
 use Rattle.zy_base.specs.declared.frame_fault.FrameFault.{FrameFault}
 use Rattle.zy_base.specs.declared.frame_fault.FrameFault.TheVariants.{Range}
 use Rattle.zy_wire.specs.Spelling.{Spelling, ◌>>=◌, word, word_at, pair, converted, made, refined, ended}
-use Rattle.zy_tuple.specs.Bytes.{byte, slot, few_at, template_bytes, tuple_bytes, tuple_spelling, reply_bytes, reply_in}
+use Rattle.zy_tuple.specs.Bytes.{byte, slot, few_at, template_bytes, tuple_spelling, reply_bytes}
 use Rattle.zy_tuple.specs.Values.{IsTemplate}
 use Rattle.zy_tuple.specs.declared.values.Field.{Field}
 use Rattle.zy_tuple.specs.declared.values.Slot.{Slot}
-use Rattle.zy_tuple.specs.declared.values.Reply.{Reply}
 use Rattle.zy_guard.specs.declared.values.Access.{Access}
 use Rattle.zy_guard.specs.declared.values.Owned.{Owned}
 use Rattle.zy_guard.specs.declared.values.Denial.{Denial}
-use Rattle.zy_guard.specs.declared.values.Denial.TheVariants.{UnknownClient, OwnerNotReader, TakerNotReader, NotTaker}
 use Rattle.zy_guard.specs.declared.values.GuardOp.{GuardOp}
 use Rattle.zy_guard.specs.declared.values.GuardOp.TheVariants.{Out, Rdp, Inp, Cas}
 use Rattle.zy_guard.specs.declared.values.GuardReply.{GuardReply}

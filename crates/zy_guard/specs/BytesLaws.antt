@@ -1,12 +1,12 @@
 -- The bytes of operations and of tuples with their owners: what is read was spelled so, and what is spelled so is read.
-use Rattle.std.proofs.Common.{◌≡◌, ℕ, ◌+◌, ◌*◌, ◌^◌, ◌<◌, ◌≤◌, Bool, true, false, eqb, ltb, cond, ◌&&◌, List, [], ◌∷◌, ◌++◌, length, Option, Some, None, Result, Ok, Err, refl, sym, ap, subst, ◌∙◌, append_assoc, inl, inr, arith}
+use Rattle.std.proofs.Common.{◌≡◌, ℕ, ◌<◌, Bool, true, false, eqb, ltb, cond, ◌&&◌, List, [], ◌++◌, length, Some, None, Result, Ok, refl, sym, ap, subst, ◌∙◌, arith}
 use Rattle.std.specs.Int.{w8, w64}
-use Rattle.std.proofs.lemmas.Bool.{and_parts, and_from, ltb-true, lt-ltb, cases_Bool}
+use Rattle.std.proofs.lemmas.Bool.{and_parts, and_from, ltb-true, lt-ltb}
 use Rattle.std.proofs.lemmas.List.{append-nil}
 use Rattle.std.proofs.lemmas.Option.{same_Some}
 use Rattle.zy_base.specs.declared.frame_fault.FrameFault.{FrameFault}
 use Rattle.zy_base.specs.declared.frame_fault.FrameFault.TheVariants.{Range}
-use Rattle.zy_wire.specs.Spelling.{Spelling, ◌>>=◌, IsBytes, IsExact, bytes_of, word, word_at, pair, repeated, made, ended}
+use Rattle.zy_wire.specs.Spelling.{Spelling, IsBytes, IsExact, word, word_at, pair, repeated, made, ended}
 use Rattle.zy_wire.proofs.Parts.{IsBytes-after, bind_ok, bind_at, ended_ok, wide8, wide64, word-exact, repeated-exact, pair-exact, converted-exact, refined-exact, counted-exact}
 use Rattle.zy_wire.proofs.Choices.{Takes, Takes-or, Takes-none, made_again}
 use Rattle.zy_tuple.specs.declared.values.Field.{Field}
@@ -16,8 +16,8 @@ use Rattle.zy_guard.specs.declared.values.Access.{Access}
 use Rattle.zy_guard.specs.declared.values.Owned.{Owned}
 use Rattle.zy_guard.specs.declared.values.GuardOp.{GuardOp}
 use Rattle.zy_guard.specs.declared.values.GuardOp.TheVariants.{Out, Rdp, Inp, Cas}
-use Rattle.zy_guard.specs.GuardedSpace.{sees, is_within, IsAccess, IsGuardOp, IsOwned}
-use Rattle.zy_guard.specs.Bytes.{access_of, sets_of, access_spelling, template_spelling, out_spelling, cas_spelling, out_of, cas_of, op_kind, op_fields, op_bytes, op_of_kind, cas_at, op_at, op_in, owned_from, owned_parts, is_kept, if_kept, owned_made, owned_fields, owned_bytes, owned_at, owned_spelling}
+use Rattle.zy_guard.specs.GuardedSpace.{sees, is_within, IsGuardOp, IsOwned}
+use Rattle.zy_guard.specs.Bytes.{access_of, sets_of, access_spelling, template_spelling, out_spelling, cas_spelling, out_of, cas_of, op_kind, op_fields, op_bytes, op_of_kind, op_at, op_in, owned_from, owned_parts, is_kept, owned_made, owned_fields, owned_bytes, owned_at, owned_spelling}
 
 pub template-exact : IsExact template_spelling
 unfolding few_at few_bytes

@@ -1,5 +1,5 @@
 -- Inner forms, which only private contracts cite: which cell has the oldest match that a client sees.
-use Rattle.std.specs.Prelude.{◌≡◌, ℕ, true, false, Bool, ◌&&◌, List, ◌∷◌, ◌++◌, Option, Some, None}
+use Rattle.std.specs.Prelude.{◌≡◌, ℕ, false, Bool, ◌&&◌, List, ◌∷◌, ◌++◌, Some}
 use Rattle.std.specs.List.{AllByRecursion}
 use Rattle.zy_slots.specs.Cells.{Cell}
 use Rattle.zy_tuple.specs.declared.values.Slot.{Slot}

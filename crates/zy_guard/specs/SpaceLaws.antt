@@ -1,5 +1,5 @@
 -- What operations leave of a state.
-use Rattle.std.proofs.Common.{◌≡◌, ◌≢◌, ℕ, zero, suc, ◌+◌, ◌*◌, ◌<◌, ◌≤◌, Bool, true, false, eqb, ltb, cond, ◌&&◌, List, [], ◌∷◌, ◌++◌, length, Option, Some, None, inl, inr, refl, sym, ap, ◌∙◌, subst, arith}
+use Rattle.std.proofs.Common.{◌≡◌, ℕ, zero, suc, ◌+◌, ◌*◌, ◌<◌, ◌≤◌, true, false, eqb, ltb, cond, ◌&&◌, List, [], ◌∷◌, ◌++◌, length, Some, None, inl, inr, refl, sym, ap, ◌∙◌, subst, arith}
 use Rattle.std.specs.List.{AllByRecursion}
 use Rattle.std.proofs.lemmas.Bool.{cases_Bool, and_parts, ltb-true}
 use Rattle.std.proofs.lemmas.Option.{same_Some}
@@ -10,7 +10,6 @@ use Rattle.zy_tuple.specs.declared.values.Slot.{Slot}
 use Rattle.zy_tuple.specs.Values.{IsTuple, matches}
 use Rattle.zy_guard.specs.declared.values.Access.{Access}
 use Rattle.zy_guard.specs.declared.values.Owned.{Owned}
-use Rattle.zy_guard.specs.declared.values.Denial.{Denial}
 use Rattle.zy_guard.specs.declared.values.Denial.TheVariants.{UnknownClient, OwnerNotReader, TakerNotReader}
 use Rattle.zy_guard.specs.declared.values.GuardOp.{GuardOp}
 use Rattle.zy_guard.specs.GuardedSpace.{has, is_within, sees, visible, oldest, without_oldest, IsAccess, IsOwned, IsGuardState, owned_by, owned_of, access_denial, op_denial, denial}

@@ -112,11 +112,7 @@ fn whole_template(alloc: Global, text: &[u8]) -> Result<Option<Template>, Want>
 }
 
 // The template that ends with a bracket at this place, if one does.
-fn template_up_to(
-    alloc: Global,
-    line: &[u8],
-    place: usize,
-) -> Result<Option<Template>, Want>
+fn template_up_to(alloc: Global, line: &[u8], place: usize) -> Result<Option<Template>, Want>
     requires { place < length line.now }
     ensures read { IfOk result (λ template. template ≡ lines.template_up_to line.now place) }
     ensures found { IfOk result (λ template. IfSome template IsTemplate) }

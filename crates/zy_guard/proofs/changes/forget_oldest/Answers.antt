@@ -1,4 +1,4 @@
-use Rattle.std.proofs.Common.{rules, ◌≡◌, ◌<◌, ◌++◌, List, [], ◌∷◌, ap, ◌∙◌, subst}
+use Rattle.std.proofs.Common.{rules, ◌≡◌, List, [], ◌∷◌, ap, ◌∙◌, subst}
 use Rattle.std.proofs.lemmas.List.{nil_from_length}
 use Rattle.zy_slots.specs.Cells.{Cells}
 use Rattle.zy_guard.specs.declared.values.Owned.{Owned}

@@ -1,4 +1,4 @@
-use Rattle.std.proofs.Common.{◌+◌, ◌∙◌, sym}
+use Rattle.std.proofs.Common.{◌∙◌, sym}
 use Rattle.zy_guard.proofs.LineLaws.{front_given, none_before, none_yet, front_fails}
 use Rattle.zy_guard.proofs.parts.front_template.Goals as goal
 

@@ -1,4 +1,3 @@
-use Rattle.std.proofs.Common.{◌+◌}
 use Rattle.zy_guard.proofs.SearchLemmas.{count_goes_on, count_ends, count_is_full}
 use Rattle.zy_guard.proofs.search.owns_fewer.Goals as goal
 

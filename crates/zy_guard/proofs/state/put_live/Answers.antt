@@ -1,4 +1,3 @@
-use Rattle.std.proofs.Common.{◌+◌}
 use Rattle.zy_guard.proofs.StateLemmas.{written_is_live, written_is_owned, writes_on}
 use Rattle.zy_guard.proofs.state.put_live.Goals as goal
 

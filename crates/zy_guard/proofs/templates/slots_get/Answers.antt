@@ -1,7 +1,6 @@
-use Rattle.std.proofs.lemmas.Result.{err_from_is_err_and}
 use Rattle.zy_wire.specs.Spelling.{repeated_at}
 use Rattle.zy_tuple.specs.Bytes.{slot}
-use Rattle.zy_tuple.proofs.Items.{goes_on, item_fails, is_done}
+use Rattle.zy_tuple.proofs.Items.{goes_on}
 use Rattle.zy_guard.proofs.templates.slots_get.Goals as goal
 
 pub loop-place-preserved : goal.loop-place-preserved
