@@ -1,10 +1,11 @@
 //! Operations, replies and tuples with their owners as bytes.
 
-ghost use Rattle.std.specs.Prelude.{◌≡◌, ◌++◌, IfOk, OnOk};
+ghost use Rattle.std.specs.Prelude.{◌≡◌, ◌++◌, Ok, IfOk, OnOk};
 ghost use Rattle.zy_tuple.specs.Bytes.{ReadsOp};
 ghost use Rattle.zy_tuple.specs.Values.{IsTuple};
 ghost use Rattle.zy_guard.specs.GuardedSpace.{IsGuardOp, IsGuardReply, IsOwned};
 ghost use Rattle.zy_guard.specs.Bytes as spelled;
+ghost use Rattle.zy_guard.specs.declared.values.GuardOp.{GuardOp};
 
 use crate::templates::{template_get, template_put};
 use crate::{Access, ClientSet, Denial, GuardOp, GuardReply, Owned};
@@ -82,6 +83,8 @@ fn whole_op(alloc: Global, bytes: &[u8]) -> Result<GuardOp, OpFault>
 pub fn op_read(alloc: Global, bytes: &[u8]) -> Result<GuardOp, OpFault>
     // What is read is spelled so.
     ensures found { IfOk result (λ op. IsGuardOp op × (bytes.now ≡ spelled.op_bytes op)) }
+    // What is spelled so is read, unless memory runs out.
+    ensures only { (op : GuardOp) → IsGuardOp op → bytes.now ≡ spelled.op_bytes op → ReadsOp (λ x. x) result (Ok op) }
     // Whether it is an operation or not.
     ensures exact { ReadsOp (λ x. x) result (spelled.op_in bytes.now) }
 {

@@ -1,4 +1,4 @@
-//! Templates as bytes.
+//! Templates as bytes, as they stand in the operations of the tuple space.
 
 ghost use Rattle.std.specs.Prelude.{All, ◌≡◌, ◌++◌, length, OnOk};
 ghost use Rattle.std.specs.List.{list_all};
