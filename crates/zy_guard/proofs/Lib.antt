@@ -1,0 +1,8 @@
+pub mod IsolationLaws
+pub mod ChangeLemmas
+pub mod SearchLemmas
+pub mod StateLemmas
+pub mod ServiceLaws
+pub mod LineLaws
+pub mod SetLaws
+pub mod ReplyLaws
