@@ -1,0 +1,235 @@
+//! How a table is written.
+//!
+//! A line has words with tabs between. `#` begins a remark, and empty lines are passed over. These lines name what later lines
+//! speak of:
+//!
+//! | line | what it names |
+//! |---|---|
+//! | `key PARTY leaf:N PUBLIC PATH` | nothing: from here on every party signs by this leaf of the party's key, which has this public key and whose leaf has this path (RFC 8554, section 5.4) |
+//! | `let NAME VALUE` | the bytes |
+//! | `say NAME PARTY KIND FIELDS` | a statement with the party's signature; with `as PARTY` behind it, with the signature on the text of the other party |
+//! | `sent NAME length:N DIGEST` | a frame that is sent, by its length and its SHA-256 (FIPS 180-4) |
+//!
+//! These begin anew, with a replica of a group of four or with a client of it. Its own key is the one of the last `key`, and
+//! signs next by the leaf that is given:
+//!
+//! | line | who begins |
+//! |---|---|
+//! | `begin rN apart:N leaf:N` | a replica, whose snapshots are so many places apart |
+//! | `begin cN leaf:N` | a client |
+//!
+//! The others are rows, whose last word is the wanted answer (`text.rt`):
+//!
+//! | row | what comes |
+//! |---|---|
+//! | `hear BYTES WANT` | these bytes |
+//! | `cuts BYTES WANT` | one after another all that these bytes begin with and that is shorter, each of which has this answer |
+//! | `timer NAME WANT` | a timer runs out: `request`, `change` or `answer` |
+//! | `ask OPERATION WANT` | a client is to ask for this |
+//!
+//! Bytes are parts with `+` between:
+//!
+//! | part | the bytes |
+//! |---|---|
+//! | `hex:0a1b` | these, two digits each |
+//! | `rep:N:0a` | N times this one |
+//! | `count:N` | of this number, two of them |
+//! | `client:N` | of this number, four of them |
+//! | `view:N`, `place:N`, `stamp:N` | of this number, eight of them |
+//! | `frame:KIND` | of the version and of the kind, with which a frame begins |
+//! | `$NAME` | of a named value |
+//!
+//! In a wanted answer `$NAME` stands for the hex digits of the named value, or for the length and digest of a frame that is
+//! sent.
+
+use std::alloc::Global;
+use std::io;
+use std::io::ErrorKind;
+use zy_base::{ClientId, Party, ReplicaId, Want};
+
+/// The kinds of frames, whose numbers begin with 1.
+const FRAMES: [&str; 16] = [
+    "request", "order", "spec-response", "commit", "local-commit", "confirm-request", "fill-hole",
+    "hate", "pom", "checkpoint", "view-change", "new-view", "view-confirm", "view-cert", "fetch",
+    "state",
+];
+
+/// A value with its name.
+#[derive(Drop)]
+struct Named<T> {
+    name: String,
+    value: T,
+}
+
+/// What was named so far: bytes, and frames that are sent, as answers write them.
+#[derive(Drop)]
+pub(crate) struct Names {
+    bytes: Vec<Named<Vec<u8>>>,
+    texts: Vec<Named<String>>,
+}
+
+impl Names {
+    pub(crate) fn new(alloc: Global) -> Names {
+        Names {
+            bytes: Vec::new(alloc),
+            texts: Vec::new(alloc),
+        }
+    }
+
+    pub(crate) fn keep_bytes(
+        &mut self,
+        alloc: Global,
+        name: &str,
+        value: Vec<u8>,
+    ) -> io::Result<()> {
+        let name = String::from_str(alloc, name)?;
+        Ok(self.bytes.push(Named { name, value })?)
+    }
+
+    pub(crate) fn keep_text(&mut self, alloc: Global, name: &str, value: String) -> io::Result<()> {
+        let name = String::from_str(alloc, name)?;
+        Ok(self.texts.push(Named { name, value })?)
+    }
+
+    fn bytes(&self, name: &str) -> Option<&[u8]> {
+        let named = self.bytes.iter().rev().find(|named| named.name.as_str() == name)?;
+        Some(&named.value)
+    }
+
+    fn text(&self, name: &str) -> Option<&str> {
+        let named = self.texts.iter().rev().find(|named| named.name.as_str() == name)?;
+        Some(named.value.as_str())
+    }
+}
+
+/// The bytes that a value stands for.
+pub(crate) fn value(alloc: Global, names: &Names, text: &str) -> io::Result<Vec<u8>> {
+    let mut bytes = Vec::new(alloc);
+    for part in text.split('+') {
+        put(alloc, names, &mut bytes, part)?;
+    }
+    Ok(bytes)
+}
+
+/// Puts a part behind those before it.
+fn put(alloc: Global, names: &Names, bytes: &mut Vec<u8>, part: &str) -> io::Result<()> {
+    if let Some(name) = part.strip_prefix('$') {
+        let value = names.bytes(name).ok_or_else(not_a_line)?;
+        return Ok(bytes.extend_from_slice(value)?);
+    }
+    let (kind, rest) = part.split_once(':').ok_or_else(not_a_line)?;
+    match kind {
+        "hex" => put_hex(alloc, bytes, rest),
+        "rep" => put_rep(bytes, rest),
+        "count" => put_number(bytes, rest, 2),
+        "client" => put_number(bytes, rest, 4),
+        "view" | "place" | "stamp" => put_number(bytes, rest, 8),
+        "frame" => Ok(bytes.extend_from_slice(&[1, number_of(&FRAMES, rest)?])?),
+        _ => Err(not_a_line()),
+    }
+}
+
+fn put_hex(alloc: Global, bytes: &mut Vec<u8>, digits: &str) -> io::Result<()> {
+    match hex::decode(alloc, digits) {
+        Ok(decoded) => Ok(bytes.extend_from_slice(&decoded)?),
+        Err(_) => Err(not_a_line()),
+    }
+}
+
+fn put_rep(bytes: &mut Vec<u8>, part: &str) -> io::Result<()> {
+    let (times, byte) = part.split_once(':').ok_or_else(not_a_line)?;
+    let times = number(times)?;
+    let byte = u8::from_str_radix(byte, 16).map_err(|_| not_a_line())?;
+    for _ in 0..times {
+        bytes.push(byte)?;
+    }
+    Ok(())
+}
+
+fn put_number(bytes: &mut Vec<u8>, digits: &str, len: usize) -> io::Result<()> {
+    let number = number(digits)?.to_be_bytes();
+    match number.split_at_checked(8usize.saturating_sub(len)) {
+        Some((front, back)) if front.iter().all(|byte| *byte == 0) => {
+            Ok(bytes.extend_from_slice(back)?)
+        }
+        _ => Err(not_a_line()),
+    }
+}
+
+/// The number of a kind, from 1 on.
+pub(crate) fn number_of(kinds: &[&str], word: &str) -> io::Result<u8> {
+    let mut number = 1u8;
+    for kind in kinds {
+        if *kind == word {
+            return Ok(number);
+        }
+        number = number.saturating_add(1);
+    }
+    Err(not_a_line())
+}
+
+/// A number in decimal digits.
+pub(crate) fn number(digits: &str) -> io::Result<u64> {
+    digits.parse::<u64>().map_err(|_| not_a_line())
+}
+
+/// The number that stands behind this label.
+pub(crate) fn labelled(word: &str, label: &str) -> io::Result<u64> {
+    let (is, digits) = word.split_once(':').ok_or_else(not_a_line)?;
+    if is == label {
+        number(digits)
+    } else {
+        Err(not_a_line())
+    }
+}
+
+/// A party: `r1` is replica 1, `c0` is client 0.
+pub(crate) fn party(word: &str) -> io::Result<Party> {
+    if let Some(id) = word.strip_prefix('r') {
+        return Ok(Party::Replica(ReplicaId(id.parse::<u8>().map_err(|_| not_a_line())?)));
+    }
+    let id = word.strip_prefix('c').ok_or_else(not_a_line)?;
+    Ok(Party::Client(ClientId(id.parse::<u32>().map_err(|_| not_a_line())?)))
+}
+
+/// The first word, and what stands behind its tab.
+pub(crate) fn word_of(text: &str) -> io::Result<(&str, &str)> {
+    text.split_once('\t').ok_or_else(not_a_line)
+}
+
+/// A wanted answer, with what its names stand for.
+pub(crate) fn wanted(alloc: Global, names: &Names, want: &str) -> io::Result<String> {
+    let mut text = String::new(alloc);
+    for word in want.split(' ') {
+        if !text.is_empty() {
+            text.push(' ')?;
+        }
+        put_wanted(alloc, names, &mut text, word)?;
+    }
+    Ok(text)
+}
+
+fn put_wanted(alloc: Global, names: &Names, text: &mut String, word: &str) -> io::Result<()> {
+    match word.strip_prefix('$') {
+        Some(name) => put_named(alloc, names, text, name),
+        None => Ok(text.push_str(word)?),
+    }
+}
+
+fn put_named(alloc: Global, names: &Names, text: &mut String, name: &str) -> io::Result<()> {
+    if let Some(sent) = names.text(name) {
+        return Ok(text.push_str(sent)?);
+    }
+    let bytes = names.bytes(name).ok_or_else(not_a_line)?;
+    Ok(text.push_str(hex::encode(alloc, bytes)?.as_str())?)
+}
+
+/// The fault of a line that can't be read.
+pub(crate) fn not_a_line() -> io::Error {
+    io::Error::from(ErrorKind::InvalidInput)
+}
+
+/// The fault of a call that wants memory.
+pub(crate) fn lacking(_: Want) -> io::Error {
+    io::Error::from(ErrorKind::OutOfMemory)
+}
