@@ -114,7 +114,11 @@ fn put_request(text: &mut String, client: &Client) -> io::Result<()> {
 }
 
 fn put_done(text: &mut String, done: &Done) -> io::Result<()> {
-    write!(text, " done {} view {} place {}", done.stamp.0, done.view.0, done.place.0)?;
+    write!(
+        text,
+        " done {} view {} place {}",
+        done.stamp.0, done.view.0, done.place.0
+    )?;
     let path = match done.path {
         Path::Fast => "fast",
         Path::Slow => "slow",

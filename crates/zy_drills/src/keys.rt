@@ -122,12 +122,7 @@ fn signed_text(alloc: Global, signer: Party, number: u8, fields: &[u8]) -> io::R
 }
 
 /// Reads the words of a `say` behind its name: the bytes of a signed statement.
-pub(crate) fn said(
-    alloc: Global,
-    names: &Names,
-    key: &Key,
-    words: &str,
-) -> io::Result<Vec<u8>> {
+pub(crate) fn said(alloc: Global, names: &Names, key: &Key, words: &str) -> io::Result<Vec<u8>> {
     let (by, rest) = word_of(words)?;
     let (kind, rest) = word_of(rest)?;
     let by = party(by)?;

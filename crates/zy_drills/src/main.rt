@@ -1,9 +1,9 @@
-//! Runs the drills of `data/`: a replica or a client hears frames one after another, and each row says what it has to answer.
-//! Prints for each table how many of its rows agree. A row that doesn't is printed before, and then `stdout` differs, so that
-//! the gate fails.
+//! Runs the drills of `data/`: a replica or a client hears frames one after another, and each row says what it has to
+//! answer. Prints for each table how many of its rows agree. A row that doesn't is printed before, and then `stdout`
+//! differs, so that the gate fails.
 //!
-//! `words.rt` says how a table is written, `text.rt` how answers are. To add a table write its file into `data/` and its name
-//! into `TABLES`.
+//! `words.rt` says how a table is written, `text.rt` how answers are. To add a table write its file into `data/`, its name
+//! into `TABLES`, and its line into `stdout`.
 #![tactic(auto)]
 
 mod clients;
@@ -19,7 +19,7 @@ use std::io;
 use tables::run_table;
 
 /// The files of `data/`, in the order in which they run. What one of them names, those after it may speak of.
-const TABLES: [&str; 20] = [
+const TABLES: [&str; 25] = [
     "names",
     "the-primary",
     "orders",
@@ -40,6 +40,11 @@ const TABLES: [&str; 20] = [
     "confirmations",
     "view-certificates",
     "snapshots",
+    "client-names",
+    "client-asking",
+    "client-responses",
+    "client-misbehaviour",
+    "client-commits",
 ];
 
 fn main(rt: HostRuntime) -> io::Result<()> {

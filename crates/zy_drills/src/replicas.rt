@@ -131,7 +131,13 @@ fn is_quiet(stepped: &Stepped<Space>) -> bool {
 fn put_standing(text: &mut String, after: &Shown) -> io::Result<()> {
     let Stood { mode, length, head } = after.stood;
     put_mode(text, mode)?;
-    write!(text, " length {} head {} leaf {}", length.0, Hex(&head.0), after.leaf)?;
+    write!(
+        text,
+        " length {} head {} leaf {}",
+        length.0,
+        Hex(&head.0),
+        after.leaf
+    )?;
     put_state(text, mode, &after.state)
 }
 
@@ -170,9 +176,7 @@ fn put_deeds(text: &mut String, stepped: &Stepped<Space>) -> io::Result<()> {
 
 fn put_snapshot(text: &mut String, got: &Got) -> io::Result<()> {
     match &got.snapshot {
-        Some(bytes) => {
-            Ok(write!(text, " snapshot {} {}", got.place.0, Hex(&sha256(bytes)))?)
-        }
+        Some(bytes) => { Ok(write!(text, " snapshot {} {}", got.place.0, Hex(&sha256(bytes)))?) }
         None => Ok(()),
     }
 }

@@ -1,7 +1,7 @@
 //! How answers are written.
 //!
-//! First `Taken`, `Held`, or `Refused` with the cause: its name and its values. A refusal that sends and says nothing, and leaves all as
-//! it was, is no more than that. Else there follow, each with a space before it:
+//! First `Taken`, `Held`, or `Refused` with the cause: its name and its values. A refusal that sends and says nothing, and
+//! leaves all as it was, is no more than that. Else there follow, each with a space before it:
 //!
 //! | words | |
 //! |---|---|
@@ -20,7 +20,6 @@
 //! | `to PARTY LENGTH bytes DIGEST` | a frame that is sent, by its length and its SHA-256 |
 
 use sha2::{Digest as Hasher, Sha256};
-
 use std::fmt::Write;
 use std::{fmt, io};
 use zy_base::{Answer, Bytes, Cause, Digest, Outgoing, Party, Timers};

@@ -1,17 +1,21 @@
 //! How a table is written.
 //!
-//! A line has words with tabs between. `#` begins a remark, and empty lines are passed over. These lines name what later lines
-//! speak of:
+//! A line has words with tabs between. `#` begins a remark, and empty lines are passed over. These lines name what later
+//! lines speak of:
 //!
 //! | line | what it names |
 //! |---|---|
-//! | `key PARTY leaf:N PUBLIC PATH` | nothing: from here on every party signs by this leaf of the party's key, which has this public key and whose leaf has this path (RFC 8554, section 5.4) |
+//! | `key PARTY leaf:N PUBLIC PATH` | nothing: from here on all sign by this leaf of this party's key |
 //! | `let NAME VALUE` | the bytes |
-//! | `say NAME PARTY KIND FIELDS` | a statement with the party's signature; with `as PARTY` behind it, with the signature on the text of the other party |
+//! | `say NAME PARTY KIND FIELDS` | a statement with its signature |
+//! | `say NAME PARTY KIND FIELDS as PARTY` | the same with a signature on the text of the other party |
 //! | `sent NAME length:N DIGEST` | a frame that is sent, by its length and its SHA-256 (FIPS 180-4) |
 //!
-//! These begin anew, with a replica of a group of four or with a client of it. Its own key is the one of the last `key`, and
-//! signs next by the leaf that is given:
+//! A key is that of its party in a group whose seed is zero. Its public key and the path of the leaf (RFC 8554, section
+//! 5.4), behind the LMS type, are given.
+//!
+//! These begin anew, with a replica of a group of four or with a client of it, whose own key is the one of the last `key`
+//! and signs next by the leaf that is given:
 //!
 //! | line | who begins |
 //! |---|---|
@@ -23,7 +27,7 @@
 //! | row | what comes |
 //! |---|---|
 //! | `hear BYTES WANT` | these bytes |
-//! | `cuts BYTES WANT` | one after another all that these bytes begin with and that is shorter, each of which has this answer |
+//! | `cuts BYTES WANT` | one after another all beginnings of these bytes, each with this answer |
 //! | `timer NAME WANT` | a timer runs out: `request`, `change` or `answer` |
 //! | `ask OPERATION WANT` | a client is to ask for this |
 //!
@@ -39,8 +43,8 @@
 //! | `frame:KIND` | of the version and of the kind, with which a frame begins |
 //! | `$NAME` | of a named value |
 //!
-//! In a wanted answer `$NAME` stands for the hex digits of the named value, or for the length and digest of a frame that is
-//! sent.
+//! In a wanted answer `$NAME` stands for the hex digits of the named value, or for the length and digest of a frame that
+//! is sent.
 
 use std::alloc::Global;
 use std::io;
@@ -49,8 +53,21 @@ use zy_base::{ClientId, Party, ReplicaId, Want};
 
 /// The kinds of frames, whose numbers begin with 1.
 const FRAMES: [&str; 16] = [
-    "request", "order", "spec-response", "commit", "local-commit", "confirm-request", "fill-hole",
-    "hate", "pom", "checkpoint", "view-change", "new-view", "view-confirm", "view-cert", "fetch",
+    "request",
+    "order",
+    "spec-response",
+    "commit",
+    "local-commit",
+    "confirm-request",
+    "fill-hole",
+    "hate",
+    "pom",
+    "checkpoint",
+    "view-change",
+    "new-view",
+    "view-confirm",
+    "view-cert",
+    "fetch",
     "state",
 ];
 
@@ -92,12 +109,20 @@ impl Names {
     }
 
     fn bytes(&self, name: &str) -> Option<&[u8]> {
-        let named = self.bytes.iter().rev().find(|named| named.name.as_str() == name)?;
+        let named = self
+            .bytes
+            .iter()
+            .rev()
+            .find(|named| named.name.as_str() == name)?;
         Some(&named.value)
     }
 
     fn text(&self, name: &str) -> Option<&str> {
-        let named = self.texts.iter().rev().find(|named| named.name.as_str() == name)?;
+        let named = self
+            .texts
+            .iter()
+            .rev()
+            .find(|named| named.name.as_str() == name)?;
         Some(named.value.as_str())
     }
 }
