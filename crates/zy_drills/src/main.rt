@@ -19,7 +19,7 @@ use std::io;
 use tables::run_table;
 
 /// The files of `data/`, in the order in which they run. What one of them names, those after it may speak of.
-const TABLES: [&str; 25] = [
+const TABLES: &[&str] = &[
     "names",
     "the-primary",
     "orders",
@@ -49,8 +49,12 @@ const TABLES: [&str; 25] = [
 
 fn main(rt: HostRuntime) -> io::Result<()> {
     let mut stage = Stage::new(rt.alloc());
+    run_all(&rt, &mut stage)
+}
+
+fn run_all(rt: &HostRuntime, stage: &mut Stage) -> io::Result<()> {
     for table in TABLES {
-        run_table(&rt, table, &mut stage)?;
+        run_table(rt, *table, stage)?;
     }
     Ok(())
 }

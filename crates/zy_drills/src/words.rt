@@ -46,7 +46,9 @@
 //! In a wanted answer `$NAME` stands for the hex digits of the named value, or for the length and digest of a frame that
 //! is sent.
 
+use crate::text::Hex;
 use std::alloc::Global;
+use std::fmt::Write;
 use std::io;
 use std::io::ErrorKind;
 use zy_base::{ClientId, Party, ReplicaId, Want};
@@ -108,23 +110,19 @@ impl Names {
         Ok(self.texts.push(Named { name, value })?)
     }
 
-    fn bytes(&self, name: &str) -> Option<&[u8]> {
-        let named = self
-            .bytes
-            .iter()
-            .rev()
-            .find(|named| named.name.as_str() == name)?;
-        Some(&named.value)
+    fn bytes(&self, name: &str) -> Option<&Vec<u8>> {
+        last_named(&self.bytes, name)
     }
 
-    fn text(&self, name: &str) -> Option<&str> {
-        let named = self
-            .texts
-            .iter()
-            .rev()
-            .find(|named| named.name.as_str() == name)?;
-        Some(named.value.as_str())
+    fn text(&self, name: &str) -> Option<&String> {
+        last_named(&self.texts, name)
     }
+}
+
+/// What was given this name last.
+fn last_named<'a, T>(all: &'a [Named<T>], name: &str) -> Option<&'a T> {
+    let named = all.iter().rev().find(|named| named.name.as_str() == name)?;
+    Some(&named.value)
 }
 
 /// The bytes that a value stands for.
@@ -138,10 +136,20 @@ pub(crate) fn value(alloc: Global, names: &Names, text: &str) -> io::Result<Vec<
 
 /// Puts a part behind those before it.
 fn put(alloc: Global, names: &Names, bytes: &mut Vec<u8>, part: &str) -> io::Result<()> {
-    if let Some(name) = part.strip_prefix('$') {
-        let value = names.bytes(name).ok_or_else(not_a_line)?;
-        return Ok(bytes.extend_from_slice(value)?);
+    match part.strip_prefix('$') {
+        Some(name) => put_named(names, bytes, name),
+        None => put_spelled(alloc, bytes, part),
     }
+}
+
+fn put_named(names: &Names, bytes: &mut Vec<u8>, name: &str) -> io::Result<()> {
+    match names.bytes(name) {
+        Some(value) => Ok(bytes.extend_from_slice(value)?),
+        None => Err(not_a_line()),
+    }
+}
+
+fn put_spelled(alloc: Global, bytes: &mut Vec<u8>, part: &str) -> io::Result<()> {
     let (kind, rest) = part.split_once(':').ok_or_else(not_a_line)?;
     match kind {
         "hex" => put_hex(alloc, bytes, rest),
@@ -149,9 +157,15 @@ fn put(alloc: Global, names: &Names, bytes: &mut Vec<u8>, part: &str) -> io::Res
         "count" => put_number(bytes, rest, 2),
         "client" => put_number(bytes, rest, 4),
         "view" | "place" | "stamp" => put_number(bytes, rest, 8),
-        "frame" => Ok(bytes.extend_from_slice(&[1, number_of(&FRAMES, rest)?])?),
+        "frame" => put_frame(bytes, rest),
         _ => Err(not_a_line()),
     }
+}
+
+/// The version of frames, and a kind.
+fn put_frame(bytes: &mut Vec<u8>, kind: &str) -> io::Result<()> {
+    let number = number_of(&FRAMES, kind)?;
+    Ok(bytes.extend_from_slice(&[1, number])?)
 }
 
 fn put_hex(alloc: Global, bytes: &mut Vec<u8>, digits: &str) -> io::Result<()> {
@@ -162,13 +176,19 @@ fn put_hex(alloc: Global, bytes: &mut Vec<u8>, digits: &str) -> io::Result<()> {
 }
 
 fn put_rep(bytes: &mut Vec<u8>, part: &str) -> io::Result<()> {
-    let (times, byte) = part.split_once(':').ok_or_else(not_a_line)?;
-    let times = number(times)?;
-    let byte = u8::from_str_radix(byte, 16).map_err(|_| not_a_line())?;
+    let (times, byte) = times_and_byte(part)?;
     for _ in 0..times {
         bytes.push(byte)?;
     }
     Ok(())
+}
+
+fn times_and_byte(part: &str) -> io::Result<(u64, u8)> {
+    let (times, byte) = part.split_once(':').ok_or_else(not_a_line)?;
+    match u8::from_str_radix(byte, 16) {
+        Ok(byte) => Ok((number(times)?, byte)),
+        Err(_) => Err(not_a_line()),
+    }
 }
 
 fn put_number(bytes: &mut Vec<u8>, digits: &str, len: usize) -> io::Result<()> {
@@ -210,11 +230,18 @@ pub(crate) fn labelled(word: &str, label: &str) -> io::Result<u64> {
 
 /// A party: `r1` is replica 1, `c0` is client 0.
 pub(crate) fn party(word: &str) -> io::Result<Party> {
-    if let Some(id) = word.strip_prefix('r') {
-        return Ok(Party::Replica(ReplicaId(id.parse::<u8>().map_err(|_| not_a_line())?)));
+    match word.strip_prefix('r') {
+        Some(id) => Ok(Party::Replica(ReplicaId(id.parse::<u8>().map_err(|_| not_a_line())?))),
+        None => client(word),
     }
+}
+
+fn client(word: &str) -> io::Result<Party> {
     let id = word.strip_prefix('c').ok_or_else(not_a_line)?;
-    Ok(Party::Client(ClientId(id.parse::<u32>().map_err(|_| not_a_line())?)))
+    match id.parse::<u32>() {
+        Ok(id) => Ok(Party::Client(ClientId(id))),
+        Err(_) => Err(not_a_line()),
+    }
 }
 
 /// The first word, and what stands behind its tab.
@@ -225,28 +252,45 @@ pub(crate) fn word_of(text: &str) -> io::Result<(&str, &str)> {
 /// A wanted answer, with what its names stand for.
 pub(crate) fn wanted(alloc: Global, names: &Names, want: &str) -> io::Result<String> {
     let mut text = String::new(alloc);
-    for word in want.split(' ') {
-        if !text.is_empty() {
-            text.push(' ')?;
-        }
-        put_wanted(alloc, names, &mut text, word)?;
-    }
+    put_words(names, &mut text, want)?;
     Ok(text)
 }
 
-fn put_wanted(alloc: Global, names: &Names, text: &mut String, word: &str) -> io::Result<()> {
+fn put_words(names: &Names, text: &mut String, want: &str) -> io::Result<()> {
+    for word in want.split(' ') {
+        put_space(text)?;
+        put_word(names, text, word)?;
+    }
+    Ok(())
+}
+
+fn put_space(text: &mut String) -> io::Result<()> {
+    if !text.is_empty() {
+        text.push(' ')?;
+    }
+    Ok(())
+}
+
+fn put_word(names: &Names, text: &mut String, word: &str) -> io::Result<()> {
     match word.strip_prefix('$') {
-        Some(name) => put_named(alloc, names, text, name),
+        Some(name) => put_meant(names, text, name),
         None => Ok(text.push_str(word)?),
     }
 }
 
-fn put_named(alloc: Global, names: &Names, text: &mut String, name: &str) -> io::Result<()> {
-    if let Some(sent) = names.text(name) {
-        return Ok(text.push_str(sent)?);
+/// What a name stands for in an answer.
+fn put_meant(names: &Names, text: &mut String, name: &str) -> io::Result<()> {
+    match names.text(name) {
+        Some(sent) => Ok(text.push_str(sent.as_str())?),
+        None => put_digits(names, text, name),
     }
-    let bytes = names.bytes(name).ok_or_else(not_a_line)?;
-    Ok(text.push_str(hex::encode(alloc, bytes)?.as_str())?)
+}
+
+fn put_digits(names: &Names, text: &mut String, name: &str) -> io::Result<()> {
+    match names.bytes(name) {
+        Some(bytes) => Ok(write!(text, "{}", Hex(bytes))?),
+        None => Err(not_a_line()),
+    }
 }
 
 /// The fault of a line that can't be read.

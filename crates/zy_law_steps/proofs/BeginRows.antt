@@ -46,7 +46,7 @@ use Rattle.zy_law_views.specs.Texts.{Texts}
 use Rattle.zy_law_views.specs.Told.{new_spelled}
 use Rattle.zy_law_views.specs.Rows.{IsReady}
 use Rattle.zy_law_views.proofs.Installing.{IsReading}
-use Rattle.zy_law_views.proofs.Rows.{chosen_of}
+use Rattle.zy_law_views.proofs.BeginningRows.{chosen_of}
 use Rattle.zy_law_views.specs.Steps.{IsWorldOf}
 use Rattle.zy_wire.specs.Fields.{FitsList}
 use Rattle.zy_law_steps.specs.Spelled.{AreViewsSpelled, IsBeganSpelled, IsChoiceSpelled, IsSpelled, IsWaitingSpelled}

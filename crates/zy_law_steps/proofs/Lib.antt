@@ -3,7 +3,7 @@ pub mod Working
 pub mod Gathers
 pub mod Runs
 pub mod Rows
-pub mod Steps
+pub mod NormalSteps
 pub mod AtStart
 pub mod WholeSteps
 pub mod WholeGained

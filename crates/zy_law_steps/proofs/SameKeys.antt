@@ -94,7 +94,7 @@ use Rattle.zy_vframes.specs.declared.frame.ViewFrame.{ViewFrame}
 use Rattle.zy_vframes.specs.declared.frame.ViewFrame.TheVariants as view_frames
 use Rattle.zy_law_views.proofs.Admitted.{IsPlaced, placed}
 use Rattle.zy_law_views.proofs.Requested.{RunCases, order_admitted}
-use Rattle.zy_law_steps.proofs.Steps.{unless_case}
+use Rattle.zy_law_steps.proofs.NormalSteps.{unless_case}
 
 module _ {S : Type 0} (R : Rules S) (s : State S) where
   pub record IsSame (t : State S) : Type 0 where

@@ -54,7 +54,7 @@ use Rattle.zy_law_views.proofs.Requested.{order_admitted}
 use Rattle.zy_law_views.proofs.IdleFrames.{IsIdle, TellsOfClients, of_clients_or_idle}
 use Rattle.zy_law_views.specs.Frames.{AreLinksBrought, AreOfClients, IsHonestFrame, IsHonestlyRead}
 use Rattle.zy_law_views.specs.Steps.{IsWorldOf}
-use Rattle.zy_law_steps.proofs.Steps.{unless_case}
+use Rattle.zy_law_steps.proofs.NormalSteps.{unless_case}
 use Rattle.zy_law_steps.specs.Whole.{IsEventHonest}
 use Rattle.zy_table.specs.declared.deeds.Act.{Act}
 use Rattle.zy_parts.specs.declared.reports.Change.{Change}

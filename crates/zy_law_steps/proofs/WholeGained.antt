@@ -54,7 +54,7 @@ use Rattle.zy_law_views.proofs.Installing.{IsReading}
 use Rattle.zy_law_views.proofs.Timers.{timer_lawful}
 use Rattle.zy_law_views.specs.Frames.{IsHonestlyRead}
 use Rattle.zy_law_views.specs.Steps.{IsWorldOf}
-use Rattle.zy_law_steps.proofs.Steps.{unless_case}
+use Rattle.zy_law_steps.proofs.NormalSteps.{unless_case}
 use Rattle.zy_law_steps.specs.Heard.{IsEventHeld, IsFrameHeld}
 use Rattle.zy_law_steps.specs.Whole.{IsEventHonest}
 

@@ -51,7 +51,7 @@ use Rattle.zy_law_views.proofs.Timers.{timer_lawful}
 use Rattle.zy_law_views.specs.Frames.{IsHonestlyRead}
 use Rattle.zy_law_views.specs.Steps.{IsLawfulStep, IsWorldOf}
 use Rattle.zy_law_views.proofs.Admitted.{IsPlaced, placed}
-use Rattle.zy_law_steps.proofs.Steps.{order_as_lawful, read_lawful, unless_case}
+use Rattle.zy_law_steps.proofs.NormalSteps.{order_as_lawful, read_lawful, unless_case}
 use Rattle.zy_law_steps.specs.Gains.{AreGainsKept}
 use Rattle.zy_law_steps.specs.Heard.{IsFrameHeld}
 use Rattle.zy_law_steps.specs.Whole.{IsEventHonest, history_decoded, history_of}

@@ -41,7 +41,7 @@ use Rattle.zy_vframes.specs.declared.frame.ViewCert.{ViewCert}
 use Rattle.zy_law_views.proofs.Beginning.{may_begin}
 use Rattle.zy_law_views.proofs.Confirming.{chosen_start, may_confirm, tied_confirmed}
 use Rattle.zy_law_views.proofs.LawfulChoice.{chosen_is, never_clashes}
-use Rattle.zy_law_views.proofs.Leaving.{may_leave, tied_gone}
+use Rattle.zy_law_views.proofs.LeavingViews.{may_leave, tied_gone}
 use Rattle.zy_law_views.proofs.ProvenReports.{new_valid}
 use Rattle.zy_law_views.proofs.TiedGrown.{chosen_more, chosen_said, tied_more}
 use Rattle.zy_law_views.specs.Held.{IsHeldChange, IsHeldPart, IsProperNew, mark_at}

@@ -45,7 +45,7 @@ use Rattle.zy_law_views.specs.Rows.{IsReady}
 use Rattle.zy_law_views.proofs.Adopting.{finishes_leaving, refuses}
 use Rattle.zy_law_views.proofs.Installing.{IsReading, state_lawful}
 use Rattle.zy_law_views.proofs.Reported.{broken_attempt, cert_refused, links_of, links_of_all, new_refused}
-use Rattle.zy_law_views.proofs.Rows.{cert_lawful, confirmation_lawful, fetch_lawful, new_lawful}
+use Rattle.zy_law_views.proofs.BeginningRows.{cert_lawful, confirmation_lawful, fetch_lawful, new_lawful}
 use Rattle.zy_law_views.specs.Frames.{IsHonestFrame, IsHonestlyRead, history_heard, history_read}
 use Rattle.zy_law_views.specs.Steps.{IsLawfulStep, IsWorldOf}
 

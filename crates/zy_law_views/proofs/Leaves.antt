@@ -47,7 +47,7 @@ use Rattle.zy_table.specs.declared.deeds.Remark.{Remark}
 use Rattle.zy_law_views.proofs.Confirming.{may_confirm, tied_confirmed}
 use Rattle.zy_law_views.proofs.InView.{says_new}
 use Rattle.zy_law_views.proofs.LawfulChoice.{chosen_is, never_clashes}
-use Rattle.zy_law_views.proofs.Leaving.{may_leave, tied_gone}
+use Rattle.zy_law_views.proofs.LeavingViews.{may_leave, tied_gone}
 use Rattle.zy_law_views.proofs.TieKept.{tied_heard}
 use Rattle.zy_law_views.proofs.TiedGrown.{chosen_said}
 use Rattle.zy_law_views.specs.Held.{IsProperNew}

@@ -6,7 +6,7 @@ pub mod Grounded
 pub mod HonestTexts
 pub mod KeptFronts
 pub mod LawfulChoice
-pub mod Leaving
+pub mod LeavingViews
 pub mod Lists
 pub mod NoBlame
 pub mod OwnReport
@@ -44,7 +44,7 @@ pub mod Judged
 pub mod Reported
 pub mod IdleFrames
 pub mod Responding
-pub mod Rows
+pub mod BeginningRows
 pub mod Taking
 pub mod Timers
 pub mod Waiting

@@ -1,16 +1,19 @@
-ghost use Rattle.std.specs.Prelude.{◌≡◌, ◌≤◌, ◌<◌, ◌^◌, length, [], is_some, IfOk};
+ghost use Rattle.std.specs.Prelude.{◌≡◌, ◌≤◌, ◌<◌, ◌^◌, length, [], replicate, None, is_some, IfOk};
 ghost use Rattle.std.specs.List.{list_any};
 ghost use Rattle.sha2.specs.Sha256.{sha256};
 ghost use Rattle.zy_base.specs.declared.ids.Party.TheVariants as parties;
+ghost use Rattle.zy_check.specs.Board as boards;
 ghost use Rattle.zy_exec.specs.Kept.{now_of, last_place};
 ghost use Rattle.zy_exec.specs.Replay.{origin};
 ghost use Rattle.zy_exec.specs.Shots.{digest_of_snapshot};
 ghost use Rattle.zy_exec.specs.Snapshot.{snapshot_of};
 
 mod adopting;
+mod owned;
 mod parts;
 
 pub use adopting::told_in;
+use owned::{Voice, Work};
 use sha2::{Digest as Hasher, Sha256};
 use std::alloc::Global;
 use std::marker::Model;
@@ -43,26 +46,42 @@ pub struct Core<M: Machine> {
     pub(crate) fetches: Items<Signed<Fetch>>,
 }
 
-// What a replica holds is let go here. A derived drop would be written out again at each way out of a function.
+// A derived drop would be written out again at each way out of a function.
 impl<M: Machine> Drop for Core<M> {
     fn drop(self) {
         let Core {
             alloc: _,
             me: _,
             counts: _,
-            directory: _,
-            sealer: _,
-            views: _,
-            exec: _,
-            orders: _,
-            board: _,
-            hole: _,
-            specs: _,
-            pending: _,
-            locals: _,
-            hate: _,
-            fetches: _,
+            directory,
+            sealer,
+            views,
+            exec,
+            orders,
+            board,
+            hole,
+            specs,
+            pending,
+            locals,
+            hate,
+            fetches,
         } = self;
+        let _voice = Voice {
+            directory,
+            sealer,
+            views,
+            hole,
+            hate,
+            fetches,
+        };
+        let _work = Work {
+            exec,
+            orders,
+            board,
+            specs,
+            pending,
+            locals,
+        };
     }
 }
 
@@ -127,6 +146,28 @@ fn empty_digest<M: Machine>(exec: &Exec<M>) -> Digest
     }
 }
 
+// The empty history with the machine at its start, and the board on which its checkpoint is stable.
+fn empty_history<M: Machine>(alloc: Global, k: u64) -> Result<(Exec<M>, Checkpoints), Want>
+    requires least { 4 ≤ k }
+    requires most { k ≤ 32 }
+    ensures exec { IfOk result (λ r. r.0 ≡ record { interval = k; base = origin M.rules; entries = [] }) }
+    ensures board { IfOk result (λ r. r.1 ≡ boards.start_of k (digest_of_snapshot (snapshot_of M.rules (origin M.rules)))) }
+{
+    let exec = Exec::start(alloc, M::empty(alloc)?, k)?;
+    let board = Checkpoints::start(alloc, k, empty_digest(&exec));
+    Ok((exec, board))
+}
+
+// Room for the last response to each client, and for the request of each that waits.
+fn empty_rooms(alloc: Global) -> Result<(Vec<Option<Signed<Spec>>>, Vec<Option<Pending>>), Want>
+    ensures specs { IfOk result (λ r. r.0.items ≡ replicate 64 None) }
+    ensures pending { IfOk result (λ r. r.1.items ≡ replicate 64 None) }
+{
+    let specs = nothing(alloc)?;
+    let pending = nothing(alloc)?;
+    Ok((specs, pending))
+}
+
 impl<M: Machine> Core<M> {
     ghost use Rattle.zy_table.specs.State.{start_of, stood_of, timers_of, waits};
 
@@ -147,11 +188,9 @@ impl<M: Machine> Core<M> {
         requires most { k ≤ 32 }
         ensures { IfOk result (λ r. r ≡ start_of M.rules k me counts directory sealer) }
     {
-        let exec = Exec::start(alloc, M::empty(alloc)?, k)?;
+        let (specs, pending) = empty_rooms(alloc)?;
+        let (exec, board) = empty_history(alloc, k)?;
         let views = ViewMachine::start(alloc, counts, me, k)?;
-        let board = Checkpoints::start(alloc, k, empty_digest(&exec));
-        let specs = nothing(alloc)?;
-        let pending = nothing(alloc)?;
         Ok(Core {
             alloc,
             me,

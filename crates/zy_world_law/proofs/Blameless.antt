@@ -14,7 +14,7 @@ use Rattle.zy_base.specs.declared.step.TimerKind.{TimerKind}
 use Rattle.zy_base.specs.declared.step.TimerKind.TheVariants as timers
 use Rattle.zy_law_views.proofs.Adopting.{unblamed, unblamed_leaving}
 use Rattle.zy_law_views.proofs.HonestFrames.{began_held, begans_held, by_replica}
-use Rattle.zy_law_views.proofs.Rows.{cert_attempt, confirmation_attempt, new_attempt}
+use Rattle.zy_law_views.proofs.BeginningRows.{cert_attempt, confirmation_attempt, new_attempt}
 use Rattle.zy_law_views.specs.Frames.{IsHonestFrame}
 use Rattle.zy_law_views.specs.Steps.{IsWorldOf}
 use Rattle.zy_chain.specs.declared.entry.Entry.{Entry}

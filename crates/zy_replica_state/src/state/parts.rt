@@ -3,6 +3,7 @@
 ghost use Rattle.std.specs.Prelude.{◌≡◌};
 ghost use Rattle.zy_replica_state.specs.Ready.{IsReady};
 
+use super::owned::{Voice, Work};
 use crate::Core;
 use std::alloc::Global;
 use std::marker::Model;
@@ -40,19 +41,35 @@ impl<M: Machine> Drop for Parts<M> {
             alloc: _,
             me: _,
             counts: _,
-            directory: _,
-            sealer: _,
-            views: _,
-            exec: _,
-            orders: _,
-            board: _,
-            hole: _,
-            specs: _,
-            pending: _,
-            locals: _,
-            hate: _,
-            fetches: _,
+            directory,
+            sealer,
+            views,
+            exec,
+            orders,
+            board,
+            hole,
+            specs,
+            pending,
+            locals,
+            hate,
+            fetches,
         } = self;
+        let _voice = Voice {
+            directory,
+            sealer,
+            views,
+            hole,
+            hate,
+            fetches,
+        };
+        let _work = Work {
+            exec,
+            orders,
+            board,
+            specs,
+            pending,
+            locals,
+        };
     }
 }
 

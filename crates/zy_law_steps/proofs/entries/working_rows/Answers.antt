@@ -1,4 +1,4 @@
-use Rattle.zy_law_steps.proofs.Steps.{confirm_lawful, order_lawful, request_lawful}
+use Rattle.zy_law_steps.proofs.NormalSteps.{confirm_lawful, order_lawful, request_lawful}
 use Rattle.zy_law_steps.proofs.entries.working_rows.Goals as goal
 
 pub returns : goal.returns

@@ -1,4 +1,4 @@
-use Rattle.zy_law_steps.proofs.Steps.{row_refused}
+use Rattle.zy_law_steps.proofs.NormalSteps.{row_refused}
 use Rattle.zy_law_steps.proofs.frames.leaving_refuses.Goals as goal
 
 pub returns : goal.returns

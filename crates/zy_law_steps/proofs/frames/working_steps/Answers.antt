@@ -1,4 +1,4 @@
-use Rattle.zy_law_steps.proofs.Steps.{step_lawful}
+use Rattle.zy_law_steps.proofs.NormalSteps.{step_lawful}
 use Rattle.zy_law_steps.proofs.frames.working_steps.Goals as goal
 
 pub returns : goal.returns

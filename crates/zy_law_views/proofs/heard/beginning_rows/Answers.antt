@@ -1,4 +1,4 @@
-use Rattle.zy_law_views.proofs.Rows.{cert_lawful, confirmation_lawful, new_lawful}
+use Rattle.zy_law_views.proofs.BeginningRows.{cert_lawful, confirmation_lawful, new_lawful}
 use Rattle.zy_law_views.proofs.heard.beginning_rows.Goals as goal
 
 pub returns : goal.returns

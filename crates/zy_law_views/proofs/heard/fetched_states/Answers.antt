@@ -1,4 +1,4 @@
-use Rattle.zy_law_views.proofs.Rows.{fetch_lawful}
+use Rattle.zy_law_views.proofs.BeginningRows.{fetch_lawful}
 use Rattle.zy_law_views.proofs.heard.fetched_states.Goals as goal
 
 pub returns : goal.returns

@@ -1,4 +1,4 @@
-use Rattle.zy_law_views.proofs.Leaving.{may_leave, tied_gone}
+use Rattle.zy_law_views.proofs.LeavingViews.{may_leave, tied_gone}
 use Rattle.zy_law_views.proofs.views.leaving_views.Goals as goal
 
 pub returns : goal.returns

@@ -1,6 +1,6 @@
 use Rattle.zy_law_views.proofs.Adopting.{unblamed}
-use Rattle.zy_law_views.proofs.Rows.{cert_attempt, confirmation_attempt, new_attempt}
-use Rattle.zy_law_views.proofs.blame.beginnings_blame_nobody.Goals as goal
+use Rattle.zy_law_views.proofs.BeginningRows.{cert_attempt, confirmation_attempt, new_attempt}
+use Rattle.zy_law_views.proofs.blaming.beginnings_blame_nobody.Goals as goal
 use Rattle.zy_table.specs.Confirming.{confirmation, new_view, view_certificate}
 
 pub returns : goal.returns

@@ -1,5 +1,5 @@
 use Rattle.zy_law_views.proofs.Adopting.{unblamed_leaving}
-use Rattle.zy_law_views.proofs.blame.leaves_blame_nobody.Goals as goal
+use Rattle.zy_law_views.proofs.blaming.leaves_blame_nobody.Goals as goal
 use Rattle.zy_table.specs.Changes.{change}
 use Rattle.zy_table.specs.Hates.{hate, on_change_timer, on_request_timer}
 use Rattle.zy_table.specs.Misbehaviour.{pom, tell_all}
