@@ -42,7 +42,9 @@ fn see(client: &Client) -> Shown {
 }
 
 /// The client after it was to ask for an operation, and what this came to.
-pub(crate) fn ask(alloc: Global, client: Client, op: Bytes) -> io::Result<(Client, String)> {
+pub(crate) fn ask(alloc: Global, client: Client, op: Bytes) -> io::Result<(Client, String)>
+    requires { length op ≤ 1100 }
+{
     let before = see(&client);
     match client.ask(op) {
         Ok(stepped) => told(alloc, stepped, &before),

@@ -1,5 +1,7 @@
 //! What the lines of a table do.
 
+ghost use Rattle.std.specs.Prelude.{◌≤◌, length};
+
 use crate::keys::{Key, read_key, said};
 use crate::words::{Names, labelled, lacking, not_a_line, party, value, wanted, word_of};
 use crate::{clients, replicas};
@@ -145,12 +147,17 @@ fn time_out(alloc: Global, stage: &mut Stage, input: &str) -> io::Result<String>
 
 fn ask(alloc: Global, stage: &mut Stage, input: &str) -> io::Result<String> {
     let op = value(alloc, &stage.names, input)?;
+    if op.len() > 1100 {
+        return Err(not_a_line());
+    }
     let (subject, text) = asked(alloc, taken(&mut stage.subject), Bytes::from(op))?;
     stage.subject = subject;
     Ok(text)
 }
 
-fn asked(alloc: Global, subject: Subject, op: Bytes) -> io::Result<(Subject, String)> {
+fn asked(alloc: Global, subject: Subject, op: Bytes) -> io::Result<(Subject, String)>
+    requires { length op ≤ 1100 }
+{
     match subject {
         Subject::Client(client) => {
             let (client, text) = clients::ask(alloc, client, op)?;
