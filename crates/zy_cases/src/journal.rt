@@ -121,7 +121,9 @@ fn put_record(alloc: Global, text: &mut String, record: &[u8]) -> io::Result<()>
 
 fn put_fault(alloc: Global, text: &mut String, fault: NextFault) -> io::Result<()> {
     match fault {
-        NextFault::Damaged(gate) => Ok(text.push_str(format!(in alloc; "damaged {gate}")?.as_str())?),
+        NextFault::Damaged(gate) => Ok(text.push_str(format!(in alloc;
+            "damaged {gate}"
+        )?.as_str())?),
         _ => Ok(text.push_str(fault_text(alloc, &fault)?.as_str())?),
     }
 }
@@ -141,12 +143,7 @@ fn appended(
     }
 }
 
-fn stored(
-    alloc: Global,
-    disk: &mut MemDisk,
-    reading: Reading,
-    record: &[u8],
-) -> io::Result<String>
+fn stored(alloc: Global, disk: &mut MemDisk, reading: Reading, record: &[u8]) -> io::Result<String>
     requires gate { IsAtGate (Some (contents_of disk.old)) (left_by disk.old.first disk.old.past) reading }
     requires record { IsPiece record.now }
 {
