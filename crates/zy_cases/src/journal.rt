@@ -132,25 +132,25 @@ fn appended(
     alloc: Global,
     disk: &mut MemDisk,
     identity: &Digest,
-    record: &[u8],
+    piece: &[u8],
 ) -> io::Result<String> {
-    if record.is_empty() || record.len() > MAX_PIECE {
+    if piece.is_empty() || piece.len() > MAX_PIECE {
         return Ok(String::from_str(alloc, "not in range")?);
     }
     match Reading::open(disk, identity) {
-        Ok(reading) => stored(alloc, disk, reading, record),
+        Ok(reading) => stored(alloc, disk, reading, piece),
         Err(fault) => with_file(alloc, fault_text(alloc, &fault)?.as_str(), disk),
     }
 }
 
-fn stored(alloc: Global, disk: &mut MemDisk, reading: Reading, record: &[u8]) -> io::Result<String>
+fn stored(alloc: Global, disk: &mut MemDisk, reading: Reading, piece: &[u8]) -> io::Result<String>
     requires gate { IsAtGate (Some (contents_of disk.old)) (left_by disk.old.first disk.old.past) reading }
-    requires record { IsPiece record.now }
+    requires { IsPiece piece.now }
 {
     let mut text = String::new(alloc);
     match read_on(alloc, disk, reading, &mut text)? {
         Some(journal) => {
-            let answer = answer_of(journal.append(alloc, disk, record));
+            let answer = answer_of(journal.append(alloc, disk, piece));
             with_file(alloc, answer, disk)
         }
         None => Ok(text),

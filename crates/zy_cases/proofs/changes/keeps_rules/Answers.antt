@@ -14,5 +14,5 @@ no_rule (Some rule) c r e = cc
 pub returns-in-Ok : goal.returns-in-Ok
 returns-in-Ok c = λ _.
     let none : rule_of c.counts.result.now c.interval.result c.args.change.now.stmt ≡ None =
-        no_rule (rule_of c.counts.result.now c.interval.result c.args.change.now.stmt) c.args.change.now c.in-Ok.report c.in-Ok.ensures in
+    no_rule (rule_of c.counts.result.now c.interval.result c.args.change.now.stmt) c.args.change.now c.in-Ok.report c.in-Ok.ensures in
     cc (none, c.counts.ensures, c.interval.ensures.interval)
