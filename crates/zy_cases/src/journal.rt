@@ -145,7 +145,7 @@ fn appended(
 
 fn stored(alloc: Global, disk: &mut MemDisk, reading: Reading, piece: &[u8]) -> io::Result<String>
     requires gate { IsAtGate (Some (contents_of disk.old)) (left_by disk.old.first disk.old.past) reading }
-    requires { IsPiece piece.now }
+    requires fits { IsPiece piece.now }
 {
     let mut text = String::new(alloc);
     match read_on(alloc, disk, reading, &mut text)? {
