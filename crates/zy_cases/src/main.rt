@@ -23,6 +23,7 @@ mod evidence;
 mod frames;
 mod group_files;
 mod groups;
+mod guard;
 mod history;
 mod journal;
 mod kept_texts;
@@ -66,7 +67,7 @@ use words::Row;
 use zy_base::Digest;
 
 /// The files of `data/`, in the order in which they run.
-const TABLES: [&str; 47] = [
+const TABLES: [&str; 50] = [
     "group-numbers",
     "lists",
     "fields",
@@ -114,6 +115,9 @@ const TABLES: [&str; 47] = [
     "frames-of-liars",
     "kept-texts",
     "journals",
+    "guard-lines",
+    "guard-replies",
+    "guarded-space",
 ];
 
 fn main(rt: HostRuntime) -> io::Result<()> {
@@ -152,6 +156,7 @@ fn run_table(rt: &HostRuntime, table: &'static str) -> io::Result<()> {
         "frames-of-liars" => run(rt, table, &mut liars::Group::new(rt.alloc())?),
         "kept-texts" => run(rt, table, &mut kept_texts::Texts::new(rt.alloc())?),
         "histories" => run(rt, table, &mut book::Books::new(rt.alloc())?),
+        "guarded-space" => run(rt, table, &mut guard::Guards::new(rt.alloc())?),
         _ => run(rt, table, &mut Calls(table)),
     }
 }
@@ -200,6 +205,8 @@ fn answer(alloc: Global, table: &str, row: &Row) -> io::Result<String> {
         "group-files" => group_files::groups(alloc, row),
         "secret-files" => group_files::secrets(alloc, row),
         "journals" => journal::journal(alloc, row),
+        "guard-lines" => guard::line(alloc, row),
+        "guard-replies" => guard::reply(alloc, row),
         _ => Err(io::Error::from(ErrorKind::NotFound)),
     }
 }
