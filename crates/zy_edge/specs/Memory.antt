@@ -1,11 +1,11 @@
 -- The objects in memory, as contracts see them.
 use Rattle.std.specs.Prelude.{ℕ, ◌==◌, ◌||◌, ◌-◌, ◌^◌, nat_eq, nat_lt, nat_le, is_none, if◌then◌else◌, Bool, Option, Some, None, List, length, map}
 use Rattle.std.specs.List.{list_any, range_with_len}
+use Rattle.zy_edge.specs.Binding.{BindCalls}
 use Rattle.zy_edge.specs.Clock.{moment_at}
 use Rattle.zy_edge.specs.Faults.{raised}
 use Rattle.zy_edge.specs.Files.{Held, file_named}
 use Rattle.zy_edge.specs.Link.{Parcel, Mail}
-use Rattle.zy_edge.specs.declared.link.binding.Binding.{Binding}
 
 -- files, and what is left to be read of the chosen one
 pub record Shelf : Type 0 where
@@ -50,7 +50,7 @@ pub record MemoryLink : Type 0 where
   pub room : ℕ
   pub calls : CallCount
   pub receives : ℕ
-  pub binding : Binding
+  pub binding : BindCalls
 
 abbrev pub mail_of : MemoryLink → Mail
 mail_of link = record { coming = link.coming; sent = link.sent }

@@ -1,7 +1,6 @@
 ghost use Rattle.std.specs.Prelude.{◌≡◌, ℕ, Option};
-ghost use Rattle.zy_edge.specs.Binding.{after_binding};
+ghost use Rattle.zy_edge.specs.Binding.{BindCalls, after_binding};
 ghost use Rattle.zy_edge.specs.Faults.{IsCounted, raised};
-ghost use Rattle.zy_edge.specs.declared.link.binding.Binding.{Binding};
 ghost use Rattle.zy_edge.specs.Link.{Mail, StaysAsTold, IsHeard, IsSent, bind_failed, receive_failed, send_failed};
 
 use zy_base::Party;
@@ -47,14 +46,14 @@ pub trait Link {
     /// The datagrams that are left to be heard and those that were sent, where they are told.
     ghost mail: { Self → Option Mail };
 
-    /// How often an address was asked for, and which one last.
-    ghost binding: { Self → Binding };
+    /// How often an address was asked for, which one last, and where the link stood then.
+    ghost binding: { Self → BindCalls };
 
     /// Becomes the party. The own address is loopback with port `port + i` for replica i, and `port + 16 + c` for
     /// client c.
     fn bind(&mut self, port: u16, me: Party) -> Bound
         ensures mail { StaysAsTold (mail self.old) (mail self.new) }
-        ensures binding { binding self.new ≡ after_binding (record { port = port; party = me }) (binding self.old) }
+        ensures binding { binding self.new ≡ after_binding (record { port = port; party = me }) (record { receives = receives self.old; mail = mail self.old }) (binding self.old) }
         ensures receives { receives self.new ≡ receives self.old }
         ensures count { IsCounted (bind_failed result) (faults self.old) (faults self.new) };
 

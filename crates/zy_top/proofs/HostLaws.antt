@@ -1,10 +1,10 @@
 -- What a node and an ask come to, and that no other command ends as they do.
 use Rattle.std.proofs.Common.{◌≡◌, ℕ, ◌<◌, ◌⊎◌, inl, inr, List, [], ◌∷◌, Option, Some, None, IfSome, Result, Ok, Err, refl, ap, arith}
 use Rattle.std.specs.Prelude.{◌≢◌, IsTrue, false}
+use Rattle.zy_edge.specs.Binding.{BindCalls, Standing}
 use Rattle.zy_edge.specs.Faults.{IsCounted, Rose}
 use Rattle.std.proofs.KnownBytes.{Keeps-refl}
 use Rattle.zy_edge.specs.Files.{Held, content_of}
-use Rattle.zy_edge.specs.declared.link.binding.Binding.{Binding}
 use Rattle.zy_top_hosting.specs.Calls.{is_hosting}
 use Rattle.zy_top_hosting.specs.Files.{Seat, asker_start}
 use Rattle.zy_top_hosting.specs.Hosted.{IsAskRun, Surroundings, files_verdict, is_end}
@@ -87,9 +87,9 @@ asked_in_vain (Some files) group secret id turns (Ok op) outside taken =
     unread id (asker_start id (content_of files group) (content_of files secret)) (op_bytes op) turns outside taken
 
 -- and no address asked for
-pub unbound : (group secret : List ℕ) (id : ClientId) (turns : ℕ) (read : Result Op ℕ) (binding : Binding) → AreBound (asked group secret id turns read) exits.Want binding binding
-unbound group secret id turns (Err word) binding = refl
-unbound group secret id turns (Ok op) binding = inl refl
+pub unbound : (group secret : List ℕ) (id : ClientId) (turns : ℕ) (read : Result Op ℕ) (start : Standing) (binding : BindCalls) → AreBound (asked group secret id turns read) exits.Want start binding binding
+unbound group secret id turns (Err word) start binding = refl
+unbound group secret id turns (Ok op) start binding = inl refl
 
 unfoldable word_of : Result Command ℕ → ℕ
 word_of (Ok command) = 0

@@ -1,8 +1,8 @@
 -- The commands that take turns on a link.
 use Rattle.std.specs.Prelude.{◌≡◌, ◌≢◌, ℕ, Bool, true, false, IsTrue, List, Option, IfSome, Result, Ok, Err, ⊤}
 use Rattle.zy_base.specs.declared.ids.Party.TheVariants as parties
+use Rattle.zy_edge.specs.Binding.{BindCalls, Standing}
 use Rattle.zy_edge.specs.Files.{Held, content_of}
-use Rattle.zy_edge.specs.declared.link.binding.Binding.{Binding}
 use Rattle.zy_top_hosting.specs.Files.{asker_start, node_start}
 use Rattle.zy_top_hosting.specs.Hosted.{IsAskRun, IsBoundAs, IsNodeRun, Surroundings, TookAll, files_verdict, is_end}
 use Rattle.zy_tuple.specs.Bytes.{op_bytes}
@@ -55,13 +55,13 @@ AreSpent (Ok (Command.Make number asks)) exit before after = exit ≢ exits.Turn
 AreSpent (Ok (Command.Node group secret id turns)) exit before after = TookAll turns exit before after
 AreSpent (Ok (Command.Ask group secret id turns op)) exit before after = TookAll turns exit before after
 
--- a node and an ask ask for an address of their party, and once, where their files are in order and can be read; no other command
--- asks for one
-abbrev pub AreBound : Result Command ℕ → Exit → Binding → Binding → Type 0
-AreBound (Err word) exit before after = after ≡ before
-AreBound (Ok (Command.Space script)) exit before after = after ≡ before
-AreBound (Ok (Command.Replay group schedule)) exit before after = after ≡ before
-AreBound (Ok (Command.Keys seed by height)) exit before after = after ≡ before
-AreBound (Ok (Command.Make number asks)) exit before after = after ≡ before
-AreBound (Ok (Command.Node group secret id turns)) exit before after = IsBoundAs (parties.Replica id) exit before after
-AreBound (Ok (Command.Ask group secret id turns op)) exit before after = IsBoundAs (parties.Client id) exit before after
+-- a node and an ask ask for an address of their party, once and before anything is sent or heard, where their files are in order and
+-- can be read; no other command asks for one
+abbrev pub AreBound : Result Command ℕ → Exit → Standing → BindCalls → BindCalls → Type 0
+AreBound (Err word) exit start before after = after ≡ before
+AreBound (Ok (Command.Space script)) exit start before after = after ≡ before
+AreBound (Ok (Command.Replay group schedule)) exit start before after = after ≡ before
+AreBound (Ok (Command.Keys seed by height)) exit start before after = after ≡ before
+AreBound (Ok (Command.Make number asks)) exit start before after = after ≡ before
+AreBound (Ok (Command.Node group secret id turns)) exit start before after = IsBoundAs (parties.Replica id) exit start before after
+AreBound (Ok (Command.Ask group secret id turns op)) exit start before after = IsBoundAs (parties.Client id) exit start before after

@@ -70,9 +70,10 @@ pub fn zyzzyva<F: Files, S: Sink, L: Link, C: Clock>(
         (S.taken out.old) (S.taken out.new) }
     ensures alone { (is_hosted (command_of (texts words.now)) ≡ false) → (link.new ≡ link.old) × (clock.new ≡ clock.old) }
 
-    // A node and an ask ask for an address once, as their party, once all their files are judged and before they send and hear:
-    // over files that are told, the one of the group's file (above). No other command asks for one.
-    ensures bound { AreBound (command_of (texts words.now)) result (L.binding link.old) (L.binding link.new) }
+    // A node and an ask ask for an address once, as their party, where all their files are in order, and before they send and hear:
+    // the link stood then as at the start. Over files that are told it is the one of the group's file (above). No other command asks
+    // for one.
+    ensures bound { AreBound (command_of (texts words.now)) result (record { receives = L.receives link.old; mail = L.mail link.old }) (L.binding link.old) (L.binding link.new) }
 
     // Turns are spent only where all were taken, over any files.
     ensures spent { AreSpent (command_of (texts words.now)) result (L.receives link.old) (L.receives link.new) }

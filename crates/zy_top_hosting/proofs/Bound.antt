@@ -1,19 +1,19 @@
--- Once the turns of a command have ended, an address of its party was asked for.
+-- Once the turns of a command have ended, an address of its party was asked for first.
 use Rattle.std.proofs.Common.{◌≡◌, inr, subst}
 use Rattle.std.specs.Prelude.{IsTrue}
 use Rattle.zy_base.specs.declared.ids.Party.{Party}
+use Rattle.zy_edge.specs.Binding.{BindCalls, Standing}
 use Rattle.zy_edge.specs.declared.link.binding.Address.{Address}
-use Rattle.zy_edge.specs.declared.link.binding.Binding.{Binding}
 use Rattle.zy_top_words.specs.declared.exit.Exit.{Exit}
 use Rattle.zy_top_words.specs.declared.exit.Exit.TheVariants as exits
 use Rattle.zy_top_hosting.specs.Calls.{is_turning}
 use Rattle.zy_top_hosting.specs.Hosted.{IsBoundAs, IsBoundOnce, IsBoundTo}
 
-module _ (party : Party) (address : Address) (before after : Binding) (is : address.party ≡ party) (bound : IsBoundTo address before after) where
-  once : IsBoundOnce party before after
-  once = (address.port, subst (λ (p : Party). IsBoundTo (record { port = address.port; party = p }) before after) is bound)
+module _ (party : Party) (address : Address) (start : Standing) (before after : BindCalls) (is : address.party ≡ party) (bound : IsBoundTo address start before after) where
+  once : IsBoundOnce party start before after
+  once = (address.port, subst (λ (p : Party). IsBoundTo (record { port = address.port; party = p }) start before after) is bound)
 
-  pub bound_as : (exit : Exit) → IsTrue (is_turning exit) → IsBoundAs party exit before after
+  pub bound_as : (exit : Exit) → IsTrue (is_turning exit) → IsBoundAs party exit start before after
   bound_as exits.Done turning = once
   bound_as exits.TurnsSpent turning = once
   bound_as exits.WriteFault turning = once

@@ -5,10 +5,9 @@ use Rattle.zy_base.specs.Machine.{Rules}
 use Rattle.zy_base.specs.declared.ids.ClientId.{ClientId}
 use Rattle.zy_base.specs.declared.ids.ReplicaId.{ReplicaId}
 use Rattle.zy_base.specs.declared.ids.Party.{Party}
-use Rattle.zy_edge.specs.Binding.{after_binding}
+use Rattle.zy_edge.specs.Binding.{BindCalls, Standing, after_binding}
 use Rattle.zy_edge.specs.Link.{StaysAsTold}
 use Rattle.zy_edge.specs.declared.link.binding.Address.{Address}
-use Rattle.zy_edge.specs.declared.link.binding.Binding.{Binding}
 use Rattle.zy_node.specs.Asking.{AsksAs}
 use Rattle.zy_node.specs.Replicas.{replica_rules}
 use Rattle.zy_node.specs.Told.{IsCutRun, IsRun, Outside, RoseBy}
@@ -69,11 +68,15 @@ is_unread exit = false
 -- the outside of a command: what its turns tell of, and what was asked of the link by `bind`
 pub record Surroundings : Type 0 where
   pub outside : Outside
-  pub binding : Binding
+  pub binding : BindCalls
 
--- an address was asked for once, and it is this one
-abbrev pub IsBoundTo : Address → Binding → Binding → Type 0
-IsBoundTo address before after = after ≡ after_binding address before
+-- where its link stands
+abbrev pub standing_of : Outside → Standing
+standing_of outside = record { receives = outside.receives; mail = outside.mail }
+
+-- an address was asked for once, and it is this one; the link stood then where it began, so that nothing was sent or heard before
+abbrev pub IsBoundTo : Address → Standing → BindCalls → BindCalls → Type 0
+IsBoundTo address start before after = after ≡ after_binding address start before
 
 -- nothing was sent or heard, as far as it is told
 pub record IsIdle (from to : Outside) : Type 0 where
@@ -120,30 +123,30 @@ pub record IsUnread (exit : Exit) (from to : Surroundings) (old new : Option (Li
   pub written : Keeps old new
 
 -- A node whose files are refused leaves link and clock alone; that the answer is that refusal is said elsewhere. Else the address
--- of its group's file is asked for once, before its turns.
+-- of its group's file is asked for once, before anything is sent or heard, and then come its turns.
 abbrev pub IsNodeRun : ReplicaId → Result (Seat Replica) Exit → ℕ → Exit → Surroundings → Surroundings → Option (List ℕ) → Option (List ℕ) → Type 0
 IsNodeRun id (Err refusal) turns exit from to old new = to ≡ from
 IsNodeRun id (Ok seat) turns exit from to old new =
-    (IsBoundTo seat.address from.binding to.binding × IsServing id seat.core turns exit from.outside to.outside old new) ⊎ IsUnread exit from to old new
+    (IsBoundTo seat.address (standing_of from.outside) from.binding to.binding × IsServing id seat.core turns exit from.outside to.outside old new) ⊎ IsUnread exit from to old new
 
 abbrev pub IsAskRun : ClientId → Result (Seat ClientState) Exit → List ℕ → ℕ → Exit → Surroundings → Surroundings → Option (List ℕ) → Option (List ℕ) → Type 0
 IsAskRun id (Err refusal) op turns exit from to old new = to ≡ from
 IsAskRun id (Ok seat) op turns exit from to old new =
-    (IsBoundTo seat.address from.binding to.binding × IsAsking id seat.core op turns exit from.outside to.outside old new) ⊎ IsUnread exit from to old new
+    (IsBoundTo seat.address (standing_of from.outside) from.binding to.binding × IsAsking id seat.core op turns exit from.outside to.outside old new) ⊎ IsUnread exit from to old new
 
--- some address of this party was asked for, and once
-abbrev pub IsBoundOnce : Party → Binding → Binding → Type 0
-IsBoundOnce party before after = (port : ℕ) × IsBoundTo (record { port = port; party = party }) before after
+-- some address of this party was asked for, once, and before anything was sent or heard
+abbrev pub IsBoundOnce : Party → Standing → BindCalls → BindCalls → Type 0
+IsBoundOnce party start before after = (port : ℕ) × IsBoundTo (record { port = port; party = party }) start before after
 
--- Over any files: once the turns have ended, or the link has failed, an address of the party was asked for, and once. Where the
--- files are refused or could not be read, none was. Memory may be wanted before that and behind it.
-abbrev pub IsBoundAs : Party → Exit → Binding → Binding → Type 0
-IsBoundAs party exits.Done before after = IsBoundOnce party before after
-IsBoundAs party exits.TurnsSpent before after = IsBoundOnce party before after
-IsBoundAs party exits.WriteFault before after = IsBoundOnce party before after
-IsBoundAs party exits.LinkFault before after = IsBoundOnce party before after
-IsBoundAs party exits.Want before after = (after ≡ before) ⊎ IsBoundOnce party before after
-IsBoundAs party exit before after = after ≡ before
+-- Over any files: once the turns have ended, or the link has failed, an address of the party was asked for, once and first. Where
+-- the files are refused or could not be read, none was. Memory may be wanted before that and behind it.
+abbrev pub IsBoundAs : Party → Exit → Standing → BindCalls → BindCalls → Type 0
+IsBoundAs party exits.Done start before after = IsBoundOnce party start before after
+IsBoundAs party exits.TurnsSpent start before after = IsBoundOnce party start before after
+IsBoundAs party exits.WriteFault start before after = IsBoundOnce party start before after
+IsBoundAs party exits.LinkFault start before after = IsBoundOnce party start before after
+IsBoundAs party exits.Want start before after = (after ≡ before) ⊎ IsBoundOnce party start before after
+IsBoundAs party exit start before after = after ≡ before
 
 -- the verdict of the files: a refusal, or the turns decide
 abbrev pub files_verdict : {A : Type 0} → Result A Exit → Verdict

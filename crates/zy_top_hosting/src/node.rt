@@ -38,7 +38,7 @@ pub fn run_node<F: Files, S: Sink, L: Link, C: Clock>(
         (record { outside = record { mail = L.mail link.old; receives = L.receives link.old; moments = C.moments clock.old }; binding = L.binding link.old })
         (record { outside = record { mail = L.mail link.new; receives = L.receives link.new; moments = C.moments clock.new }; binding = L.binding link.new })
         (S.taken out.old) (S.taken out.new)) }
-    ensures bound { IsBoundAs (parties.Replica id) result (L.binding link.old) (L.binding link.new) }
+    ensures bound { IsBoundAs (parties.Replica id) result (record { receives = L.receives link.old; mail = L.mail link.old }) (L.binding link.old) (L.binding link.new) }
     ensures spent { TookAll turns result (L.receives link.old) (L.receives link.new) }
     ensures started { IfSome (F.held files.old) (λ held. (files_verdict (node_start id (content_of held group.now) (content_of held secret.now)) ≡ Verdict.Hosted) → IsTrue (is_hosting result)) }
     ensures judged { IsTrue (is_usage result) → ⊥ }
@@ -67,7 +67,7 @@ fn serve<S: Sink, L: Link, C: Clock>(
     ensures serving { IsServing id seat.replica turns result
         (record { mail = L.mail link.old; receives = L.receives link.old; moments = C.moments clock.old }) (record { mail = L.mail link.new; receives = L.receives link.new; moments = C.moments clock.new })
         (S.taken out.old) (S.taken out.new) }
-    ensures bound { IsBoundTo seat.address (L.binding link.old) (L.binding link.new) }
+    ensures bound { IsBoundTo seat.address (record { receives = L.receives link.old; mail = L.mail link.old }) (L.binding link.old) (L.binding link.new) }
     ensures turning { IsTrue (is_turning result) }
     ensures refused { IsTrue (is_refusal result) → out.new ≡ out.old }
     ensures write_faults { IsCounted (is_write_fault result) (S.faults out.old) (S.faults out.new) }

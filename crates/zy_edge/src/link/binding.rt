@@ -1,5 +1,5 @@
-ghost use Rattle.std.specs.Prelude.{◌≡◌, None};
-ghost use Rattle.zy_edge.specs.Binding.{after_binding};
+ghost use Rattle.std.specs.Prelude.{◌≡◌, None, Some};
+ghost use Rattle.zy_edge.specs.Faults.{raised};
 
 use crate::faults::raised;
 use zy_base::Party;
@@ -18,25 +18,29 @@ pub struct Binding {
     pub times: u64,
     /// The last one, also where it could not be had.
     pub last: Option<Address>,
+    /// How many receives were made before it was asked for.
+    pub receives: u64,
 }
 
 impl Binding {
     pub(crate) fn none() -> Binding
-        ensures { result ≡ record { times = 0; last = None } }
+        ensures { result ≡ record { times = 0; last = None; receives = 0 } }
     {
         Binding {
             times: 0,
             last: None,
+            receives: 0,
         }
     }
 
-    /// One address more was asked for.
-    pub(crate) fn after(self, address: Address) -> Binding
-        ensures { result ≡ after_binding address self }
+    /// One address more was asked for, after so many receives.
+    pub(crate) fn after(self, address: Address, receives: u64) -> Binding
+        ensures { result ≡ record { times = raised self.times; last = Some address; receives = receives } }
     {
         Binding {
             times: raised(self.times),
             last: Some(address),
+            receives,
         }
     }
 }

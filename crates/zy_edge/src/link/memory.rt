@@ -35,10 +35,14 @@ pub struct MemLink {
     calls: Calls,
     receives: u64,
     binding: Binding,
+    /// How many datagrams had been heard and sent when an address was asked for last.
+    heard_then: usize,
+    sent_then: usize,
 }
 
 impl Model for MemLink {
-    ghost use Rattle.std.specs.Prelude.{◌≤◌, drop, length, map, take, vec_capacity};
+    ghost use Rattle.std.specs.Prelude.{◌≤◌, Some, drop, length, map, take, vec_capacity};
+    ghost use Rattle.zy_edge.specs.Binding.{calls_of};
     ghost use Rattle.zy_edge.specs.Memory.{MemoryLink};
 
     ghost Value = { MemoryLink };
@@ -49,10 +53,13 @@ impl Model for MemLink {
       room = m.room;
       calls = m.calls;
       receives = m.receives;
-      binding = m.binding;
+      binding = calls_of m.binding (Some (record {
+        coming = drop m.heard_then m.heard.items;
+        sent = map (λ s. record { to = s.to; bytes = take s.len s.bytes }) (take m.sent_then m.sent.items);
+      }));
     } };
 
-    ghost invariant = { λ m. (m.next ≤ length m.heard.items) × (length m.sent.items ≤ m.room) × (m.room ≤ vec_capacity m.sent) };
+    ghost invariant = { λ m. (m.next ≤ length m.heard.items) × (length m.sent.items ≤ m.room) × (m.room ≤ vec_capacity m.sent) × (m.sent_then ≤ length m.sent.items) };
 }
 
 impl MemLink {
@@ -71,7 +78,7 @@ impl MemLink {
           room = room;
           calls = record { failing = failing.items; made = 0; faults = 0 };
           receives = 0;
-          binding = record { times = 0; last = None };
+          binding = record { times = 0; last = None; stood = record { receives = 0; mail = Some (record { coming = heard.items; sent = [] }) } };
         }) }
     {
         let room = room as usize;
@@ -83,12 +90,14 @@ impl MemLink {
             calls: Calls::new(failing),
             receives: 0,
             binding: Binding::none(),
+            heard_then: 0,
+            sent_then: 0,
         })
     }
 
-    /// How often it was bound, or was to be, and where last.
+    /// How often it was bound, or was to be, where last, and how many receives were made before that.
     pub fn binding(&self) -> Binding
-        ensures { result ≡ self.now.binding }
+        ensures { result ≡ record { times = self.now.binding.times; last = self.now.binding.last; receives = self.now.binding.stood.receives } }
     {
         self.binding
     }
@@ -130,18 +139,22 @@ impl Link for MemLink {
 
     ghost binding = { λ m. m.binding };
 
+    #[tactic(auto, using(std::proofs::lemmas::List::take_all))]
     fn bind(&mut self, port: u16, me: Party) -> Bound
         ensures exactly { bind_failed result ≡ next_is_listed self.old.calls }
         ensures calls { self.new.calls ≡ counted (bind_failed result) self.old.calls }
         ensures room { self.new.room ≡ self.old.room }
         ensures mail { StaysAsTold (Some (mail_of self.old)) (Some (mail_of self.new)) }
-        ensures binding { self.new.binding ≡ after_binding (record { port = port; party = me }) self.old.binding }
+        ensures binding { self.new.binding ≡ after_binding (record { port = port; party = me }) (record { receives = self.old.receives; mail = Some (mail_of self.old) }) self.old.binding }
         ensures receives { self.new.receives ≡ self.old.receives }
         ensures count { IsCounted (bind_failed result) self.old.calls.faults self.new.calls.faults }
     {
         let failed = self.calls.next_is_listed();
         self.calls.count(failed);
-        self.binding = self.binding.after(Address { port, party: me });
+        let asked = Address { port, party: me };
+        self.binding = self.binding.after(asked, self.receives);
+        self.heard_then = self.next;
+        self.sent_then = self.sent.len();
         if failed { Bound::Failed } else { Bound::Bound }
     }
 
@@ -170,6 +183,7 @@ impl Link for MemLink {
         }
     }
 
+    #[tactic(auto, using(crate::proofs::LinkLemmas::sent_before))]
     fn send(&mut self, to: Party, bytes: &[u8]) -> Sent
         ensures exactly { send_failed result ≡ send_fails self.old bytes.now }
         ensures calls { self.new.calls ≡ counted (send_failed result) self.old.calls }

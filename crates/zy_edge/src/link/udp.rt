@@ -1,5 +1,6 @@
 ghost use Rattle.std.specs.Prelude.{◌≡◌, None};
 ghost use Rattle.std.specs.Io.{ReadsAtMost};
+ghost use Rattle.zy_edge.specs.Binding.{calls_of};
 
 use super::binding::{Address, Binding};
 use super::{Bound, Heard, Link, Sent};
@@ -36,7 +37,7 @@ impl<'a, R: Net + Clock> UdpLink<'a, R> {
     pub fn new(rt: &'a R) -> UdpLink<'a, R>
         ensures faults { ⟦<UdpLink<'a, R> as Link>⟧.faults result ≡ 0 }
         ensures receives { ⟦<UdpLink<'a, R> as Link>⟧.receives result ≡ 0 }
-        ensures binding { ⟦<UdpLink<'a, R> as Link>⟧.binding result ≡ record { times = 0; last = None } }
+        ensures binding { ⟦<UdpLink<'a, R> as Link>⟧.binding result ≡ record { times = 0; last = None; stood = record { receives = 0; mail = None } } }
     {
         UdpLink {
             rt,
@@ -58,10 +59,11 @@ impl<R: Net + Clock> Link for UdpLink<'_, R> {
 
     ghost mail = { λ _. None };
 
-    ghost binding = { λ l. l.binding };
+    ghost binding = { λ l. calls_of l.binding None };
 
     fn bind(&mut self, port: u16, me: Party) -> Bound {
-        self.binding = self.binding.after(Address { port, party: me });
+        let asked = Address { port, party: me };
+        self.binding = self.binding.after(asked, self.receives);
         match socket_of(self.rt, port, me) {
             Ok(socket) => {
                 self.port = port;

@@ -124,4 +124,4 @@ returns-in-Err-Want-clause-hosted g c =
 pub returns-in-Err-Want-clause-bound : goal.returns-in-Err-Want-clause-bound
 returns-in-Err-Want-clause-bound g c =
     let words : command_of (texts c.args.words.now) ≡ asked c.in-Ok-Ask.group.now c.in-Ok-Ask.secret.now c.in-Ok-Ask.id c.in-Ok-Ask.turns (op_alone (op_read c.in-Ok-Ask.op.now) (texts c.in-Ok-Ask.others.now)) = rw c.in-Ok-Ask.field-0-is at c.in-Ok-Ask.ensures in
-    rw words (unbound c.in-Ok-Ask.group.now c.in-Ok-Ask.secret.now c.in-Ok-Ask.id c.in-Ok-Ask.turns (op_alone (op_read c.in-Ok-Ask.op.now) (texts c.in-Ok-Ask.others.now)) (g.L.Link.binding c.args.link.now))
+    rw words (unbound c.in-Ok-Ask.group.now c.in-Ok-Ask.secret.now c.in-Ok-Ask.id c.in-Ok-Ask.turns (op_alone (op_read c.in-Ok-Ask.op.now) (texts c.in-Ok-Ask.others.now)) (record { receives = g.L.Link.receives c.args.link.now; mail = g.L.Link.mail c.args.link.now }) (g.L.Link.binding c.args.link.now))

@@ -8,4 +8,4 @@ ask-requires-clause-short g c = rw c.in-Ok-op_bytes.ensures (op_short c.args.op.
 
 pub returns-in-Ok-op_bytes-clause-bound : goal.returns-in-Ok-op_bytes-clause-bound
 returns-in-Ok-op_bytes-clause-bound g c =
-    bound_as (Client c.args.id) c.in-Ok.seat.address (g.L.Link.binding c.args.link.now) (g.L.Link.binding c.ask.new.link) c.in-Ok.ensures.party c.ask.ensures.bound c.ask.result c.ask.ensures.turning
+    bound_as (Client c.args.id) c.in-Ok.seat.address (record { receives = g.L.Link.receives c.args.link.now; mail = g.L.Link.mail c.args.link.now }) (g.L.Link.binding c.args.link.now) (g.L.Link.binding c.ask.new.link) c.in-Ok.ensures.party c.ask.ensures.bound c.ask.result c.ask.ensures.turning
