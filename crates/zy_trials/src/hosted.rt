@@ -12,7 +12,7 @@ use zy_top_hosting::{run_ask, run_node};
 use zy_top_words::Exit;
 use zy_tuple::op_text_read;
 
-fn node_exit(alloc: Global, id: ReplicaId, turns: u32, outside: &mut Outside) -> Exit {
+pub(crate) fn node_exit(alloc: Global, id: ReplicaId, turns: u32, outside: &mut Outside) -> Exit {
     run_node(
         alloc,
         "group",
@@ -26,7 +26,7 @@ fn node_exit(alloc: Global, id: ReplicaId, turns: u32, outside: &mut Outside) ->
     )
 }
 
-fn ask_exit(alloc: Global, id: ClientId, turns: u32, outside: &mut Outside) -> Exit {
+pub(crate) fn ask_exit(alloc: Global, id: ClientId, turns: u32, outside: &mut Outside) -> Exit {
     match op_text_read(alloc, b"out (1)") {
         Ok(op) => run_ask(
             alloc,
@@ -86,6 +86,7 @@ fn refused_at(field: u8) -> Ran {
         binding: Binding {
             times: 0,
             last: None,
+            receives: 0,
         },
     }
 }
@@ -249,7 +250,7 @@ fn turns_taken(alloc: Global, party: Party, secret: Bytes, row: &TurnsRow) -> Re
     run(alloc, (party, turns), (group, secret), faults, text)
 }
 
-/// How a run ends whose files are good: its address was asked for once.
+/// How a run ends whose files are good: its address was asked for once, before anything was heard.
 fn ended(party: Party, exit: Exit) -> Ran {
     let port = 47_000;
     Ran {
@@ -258,6 +259,7 @@ fn ended(party: Party, exit: Exit) -> Ran {
         binding: Binding {
             times: 1,
             last: Some(Address { port, party }),
+            receives: 0,
         },
     }
 }
