@@ -41,7 +41,8 @@ fn sips(alloc: Global, failing: u64) -> Result<Sips, Want> {
 const LIED_TO: &str = "f = 1\nk = 8\nclients = 5\n\
     seed = \"0000000000000000000000000000000000000000000000000000000000000000\"\nheight = 5\nliars = [0]\n";
 
-const LIES: &str = "ask c0 out (\"job\" 1)\nask c1 out (\"job\" 2)\nask c2 inp (\"job\" 1)\nask c3 out (\"job\" 3)\n\
+const LIES: &str =
+    "ask c0 out (\"job\" 1)\nask c1 out (\"job\" 2)\nask c2 inp (\"job\" 1)\nask c3 out (\"job\" 3)\n\
     order r0 view 0 asks 1 to r1 r2 r3\norder r0 view 0 asks 1 2 to r1 r2 r3\norder r0 view 0 asks 1 2 3 to r1\n\
     order r0 view 0 asks 1 2 4 to r2 r3\nflow 100\norder r0 view 0 asks 1 2 3 to r2\nflow 100\nask c4 inp (\"job\" *)\n\
     timer c4 answer\nflow 100\ntimer c4 answer\nflow 100\ntimer c2 answer\nflow 100\ntimer c2 answer\nflow 100\n";
