@@ -16,17 +16,18 @@ use Rattle.zy_choose.specs.Reports.{PlainReport, proven}
 use Rattle.zy_choose.specs.Choice.{last_in, IsAgreed, IsChoice}
 use Rattle.zy_choose.specs.Choice.IsPicked.{anchored}
 use Rattle.zy_choose.proofs.MarkLemmas.{has_mark-Has}
+use Rattle.zy_law.specs.Conduct.{IsConduct}
 use Rattle.zy_law.specs.Fixed.{IsCertified}
 use Rattle.zy_law.specs.Histories.{Passes, IsEntryAt, AreKept, origin, mark_of_all}
 use Rattle.zy_law.specs.World.{Answer, Statement, Spoken, Stand, World}
 use Rattle.zy_law.specs.World.Statement.{Order, Spec, Local, Check, Began, Change, New}
 use Rattle.zy_law.specs.Said.{Says, Stood, HasSaid, IsVouched, IsBacked}
 use Rattle.zy_law.specs.Reports.{IsProven, IsValidReport, IsValidNew}
-use Rattle.zy_law.specs.Lawful.{IsLawful, IsVote, IsTrueResponse, IsTrueAnswer, IsTrueVote, IsOrdered, IsAskedFor, AreAskedFor}
+use Rattle.zy_law.specs.Lawful.{IsVote, IsTrueResponse, IsTrueAnswer, IsTrueVote, IsOrdered, IsAskedFor, AreAskedFor}
 use Rattle.zy_law.specs.Steps.{IsStart, MaySay, MayStand, AllMay, after_acts}
 use Rattle.zy_law.specs.Example.{next_text, text_of, first_entry, second_entry, first_mark, second_mark, first_answer, second_answer, before_all, primary_acts, backup_acts, answered, leave_acts, left, reports, report_of, says, begin_acts, confirmed, move_acts, example}
 use Rattle.zy_law.proofs.CountLemmas.{bit}
-use Rattle.zy_law.proofs.StepsLawful.{start_lawful, acts_lawful}
+use Rattle.zy_law.proofs.ConductLemmas.{acts_conduct, start_conduct}
 
 -- ---- tests of what was said
 
@@ -342,10 +343,10 @@ second_backup_may = (
   ),
 )
 
-answered_lawful : IsLawful answered
-answered_lawful =
-    acts_lawful (after_acts (after_acts before_all 0 primary_acts) 1 backup_acts) 2 backup_acts
-    (acts_lawful (after_acts before_all 0 primary_acts) 1 backup_acts (acts_lawful before_all 0 primary_acts (start_lawful before_all starts) primary_may) first_backup_may)
+answered_conduct : IsConduct answered
+answered_conduct =
+    acts_conduct (after_acts (after_acts before_all 0 primary_acts) 1 backup_acts) 2 backup_acts
+    (acts_conduct (after_acts before_all 0 primary_acts) 1 backup_acts (acts_conduct before_all 0 primary_acts (start_conduct before_all starts) primary_may) first_backup_may)
     second_backup_may
 
 -- ---- the leave
@@ -430,10 +431,10 @@ leave_may_2 = (
   ),
 )
 
-left_lawful : IsLawful left
-left_lawful =
-    acts_lawful (after_acts (after_acts answered 0 (leave_acts 0)) 1 (leave_acts 1)) 2 (leave_acts 2)
-    (acts_lawful (after_acts answered 0 (leave_acts 0)) 1 (leave_acts 1) (acts_lawful answered 0 (leave_acts 0) answered_lawful leave_may_0) leave_may_1)
+left_conduct : IsConduct left
+left_conduct =
+    acts_conduct (after_acts (after_acts answered 0 (leave_acts 0)) 1 (leave_acts 1)) 2 (leave_acts 2)
+    (acts_conduct (after_acts answered 0 (leave_acts 0)) 1 (leave_acts 1) (acts_conduct answered 0 (leave_acts 0) answered_conduct leave_may_0) leave_may_1)
     leave_may_2
 
 -- ---- the new view
@@ -569,10 +570,10 @@ begin_may_1 = (may_give refl, (may_confirm refl refl refl (valid_while refl refl
 begin_may_2 : AllMay (after_acts (after_acts left 0 begin_acts) 1 (says (New 1 reports) 2 ∷ begin_acts)) 2 begin_acts
 begin_may_2 = (may_confirm refl refl refl (valid_while refl refl refl refl refl refl refl refl refl) chosen, tt)
 
-confirmed_lawful : IsLawful confirmed
-confirmed_lawful =
-    acts_lawful (after_acts (after_acts left 0 begin_acts) 1 (says (New 1 reports) 2 ∷ begin_acts)) 2 begin_acts
-    (acts_lawful (after_acts left 0 begin_acts) 1 (says (New 1 reports) 2 ∷ begin_acts) (acts_lawful left 0 begin_acts left_lawful begin_may_0) begin_may_1)
+confirmed_conduct : IsConduct confirmed
+confirmed_conduct =
+    acts_conduct (after_acts (after_acts left 0 begin_acts) 1 (says (New 1 reports) 2 ∷ begin_acts)) 2 begin_acts
+    (acts_conduct (after_acts left 0 begin_acts) 1 (says (New 1 reports) 2 ∷ begin_acts) (acts_conduct left 0 begin_acts left_conduct begin_may_0) begin_may_1)
     begin_may_2
 
 abbrev began_spoken : Spoken
@@ -602,10 +603,10 @@ move_may_1 = (may_begin refl refl refl (began_certified refl refl refl refl) (re
 move_may_2 : AllMay (after_acts (after_acts confirmed 0 move_acts) 1 move_acts) 2 move_acts
 move_may_2 = (may_begin refl refl refl (began_certified refl refl refl refl) (refl, (refl, tt)) (tt, (tt, (tt, (tt, (tt, tt))))), tt)
 
-pub example_lawful : IsLawful example
-example_lawful =
-    acts_lawful (after_acts (after_acts confirmed 0 move_acts) 1 move_acts) 2 move_acts
-    (acts_lawful (after_acts confirmed 0 move_acts) 1 move_acts (acts_lawful confirmed 0 move_acts confirmed_lawful move_may_0) move_may_1)
+pub example_conduct : IsConduct example
+example_conduct =
+    acts_conduct (after_acts (after_acts confirmed 0 move_acts) 1 move_acts) 2 move_acts
+    (acts_conduct (after_acts confirmed 0 move_acts) 1 move_acts (acts_conduct confirmed 0 move_acts confirmed_conduct move_may_0) move_may_1)
     move_may_2
 
 -- ---- what it has

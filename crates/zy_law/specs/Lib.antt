@@ -1,4 +1,5 @@
 pub mod Completed
+pub mod Conduct
 pub mod Counting
 pub mod Example
 pub mod Fixed

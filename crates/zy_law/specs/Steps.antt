@@ -67,18 +67,18 @@ pub record IsStart (w : World) : Type 0 where
 pub record MayOrder (w : World) (r view : ℕ) (m : Mark) (request : Digest) : Type 0 where
   pub primary : view % w.counts.n ≡ r
   pub place : 0 < m.place
-  pub first : (number : ℕ) (y : Spoken) (k : Mark) (second : Digest) → Says w r number y → y.what ≡ Order view k second → m.place ≡ k.place → (m ≡ k) × (request ≡ second)
+  pub first : (number : ℕ) (y : Spoken) (k : Mark) (second : Digest) → Says w r number y → y.what ≡ Order view k second → m.place ≡ k.place → ⊥
   pub entries : (at : ℕ) (b : Stand) → Stood w r at b → b.view ≡ view → m.place ≤ length b.history → IsOrdered w b.history m request
 
 -- a confirmation of the choice of a valid new view, the first for the view
 pub record MayConfirm (w : World) (r view : ℕ) (m : Mark) : Type 0 where
   pub chosen : IsChosenStart w view m
-  pub first : (number : ℕ) (y : Spoken) (k : Mark) → Says w r number y → y.what ≡ Began view k → m ≡ k
+  pub first : (number : ℕ) (y : Spoken) (k : Mark) → Says w r number y → y.what ≡ Began view k → ⊥
 
 -- a leave with a true report, the first for the view
 pub record MayLeave (w : World) (r when view : ℕ) (report : PlainReport) : Type 0 where
   pub true_report : IsTrueReport w r (length (w.said r)) when view report
-  pub first : (number : ℕ) (y : Spoken) (second : PlainReport) → Says w r number y → y.what ≡ Change view second → report ≡ second
+  pub first : (number : ℕ) (y : Spoken) (second : PlainReport) → Says w r number y → y.what ≡ Change view second → ⊥
 
 abbrev pub MayTell : World → ℕ → ℕ → Statement → Type 0
 MayTell w r when (Order view m request) = MayOrder w r view m request

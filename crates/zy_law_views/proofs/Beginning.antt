@@ -107,6 +107,7 @@ module _ {S : Type 0} (R : Rules S) (interval : ℕ) (w : World) (lawful : IsLaw
           };
           quiet = record {
             ahead = refl;
+            gone = tt;
             left = λ number x view report says what. omega (arith, tied.quiet.left number x view report says what, is.own);
             confirmed = λ number x view k says what. omega (arith, tied.quiet.confirmed number x view k says what, is.own);
             once = λ number x k says what. tt;

@@ -30,7 +30,7 @@ use Rattle.zy_law_views.specs.Tied.{Core, IsAcceptedAs, IsChosenNew, IsConfirmed
 use Rattle.zy_law_views.specs.Told.{began_told}
 use Rattle.zy_law_views.proofs.LawfulChoice.{lawful_choice}
 use Rattle.zy_law_views.proofs.ProvenReports.{new_valid}
-use Rattle.zy_law_views.proofs.TiedGrown.{begun_said, chosen_said, grounded_said, has_said_last, hearing_said, own_said, standing_said}
+use Rattle.zy_law_views.proofs.TiedGrown.{begun_said, chosen_said, gone_said, grounded_said, has_said_last, hearing_said, own_said, standing_said}
 
 -- what is chosen out of a proper new view is a lawful start of it
 pub chosen_start : (w : World) → IsLawful w → w.next ≡ link → (interval : ℕ) (n : New) (chosen : Chosen) → IsChosenNew interval w n chosen → IsChosenStart w n.view.0 (mark_at chosen.place chosen.head)
@@ -129,6 +129,7 @@ module _ {S : Type 0} (R : Rules S) (interval : ℕ) (w : World) (lawful : IsLaw
           };
           quiet = record {
             ahead = tied.quiet.ahead;
+            gone = gone_said w r confirm c.views.mode tied.quiet.gone;
             left = λ number x other report says what.
                 own_said w r confirm (λ z. z.what ≡ Statement.Change other report → other ≤ own_view c.views)
                 (λ i z at is. tied.quiet.left i z other report at is) (λ is. absurd cc) number x says what;

@@ -20,7 +20,7 @@ use Rattle.zy_law.specs.Said.{IsCorrect, Says, Stood}
 use Rattle.zy_law.specs.Steps.{after_saying}
 use Rattle.zy_law.specs.World.{Answer, Spoken, Stand, Statement, World}
 use Rattle.zy_law_views.specs.Tied.{AreOrdersUpTo, Core, IsAhead, IsConfirmedAs, IsFarEnough, IsTied, SaysLawfully, said_now}
-use Rattle.zy_law_views.proofs.TiedGrown.{begun_said, grounded_said, hearing_said, own_said, standing_said}
+use Rattle.zy_law_views.proofs.TiedGrown.{begun_said, gone_said, grounded_said, hearing_said, own_said, standing_said}
 
 module _ {S : Type 0} (R : Rules S) (interval : ℕ) (w : World) (lawful : IsLawful w) (r : ℕ) (correct : IsCorrect w r) (c : Core S) (history : List Entry) (tied : IsTied R interval w r c history) where
   -- ---- the tie after a statement that neither leaves nor confirms
@@ -39,6 +39,7 @@ module _ {S : Type 0} (R : Rules S) (interval : ℕ) (w : World) (lawful : IsLaw
         standing = standing_said w r x R interval c history tied.standing;
         quiet = record {
           ahead = tied.quiet.ahead;
+          gone = gone_said w r x c.views.mode tied.quiet.gone;
           left = λ number y view report says what.
               own_said w r x (λ z. z.what ≡ Statement.Change view report → view ≤ own_view c.views) (λ i z at is. tied.quiet.left i z view report at is)
               (λ is. absurd (plain.leaves view report is)) number y says what;

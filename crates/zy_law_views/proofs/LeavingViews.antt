@@ -89,6 +89,7 @@ module _ {S : Type 0} (R : Rules S) (interval : ℕ) (w : World) (lawful : IsLaw
           };
           quiet = record {
             ahead = last_earlier;
+            gone = (let last = has_said_last w r leave in (last.0, last.1, read_by r (told_by c), last.2, last.3));
             left = λ number x other report says what.
                 own_said w r leave (λ z. z.what ≡ Statement.Change other report → other ≤ view.0)
                 (λ i z at is. omega (arith, tied.quiet.left i z other report at is)) (λ is. let same : view.0 ≡ other = cc in omega arith) number x says what;

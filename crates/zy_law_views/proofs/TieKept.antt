@@ -57,6 +57,7 @@ tied_at_start {S} R interval r w me state some start correct is told =
       };
       quiet = record {
         ahead = refl;
+        gone = tt;
         left = λ number x view report says what. none_said w r silent number x says;
         confirmed = λ number x view m says what. none_said w r silent number x says;
         once = λ number x m says what. tt;
@@ -144,6 +145,7 @@ module _ {S : Type 0} (R : Rules S) (interval : ℕ) (w : World) (lawful : IsLaw
           };
           quiet = record {
             ahead = tied.quiet.ahead;
+            gone = tied.quiet.gone;
             left = tied.quiet.left;
             confirmed = tied.quiet.confirmed;
             once = tied.quiet.once;
@@ -226,6 +228,7 @@ module _ {S : Type 0} (R : Rules S) (interval : ℕ) (w : World) (lawful : IsLaw
           };
           quiet = record {
             ahead = tied.quiet.ahead;
+            gone = tied.quiet.gone;
             left = tied.quiet.left;
             confirmed = tied.quiet.confirmed;
             once = tied.quiet.once;
@@ -278,6 +281,7 @@ module _ {S : Type 0} (R : Rules S) (interval : ℕ) (w : World) (lawful : IsLaw
         };
         quiet = record {
           ahead = tied.quiet.ahead;
+          gone = tied.quiet.gone;
           left = tied.quiet.left;
           confirmed = tied.quiet.confirmed;
           once = tied.quiet.once;

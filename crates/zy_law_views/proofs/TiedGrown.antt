@@ -8,6 +8,7 @@ use Rattle.zy_base.specs.declared.ids.Party.{Party}
 use Rattle.zy_base.specs.declared.ids.Party.TheVariants.{Replica, Client}
 use Rattle.zy_base.specs.declared.ids.View.{View}
 use Rattle.zy_base.specs.declared.step.Mode.{Mode}
+use Rattle.zy_base.specs.declared.step.Mode.TheVariants.{Active, Leaving}
 use Rattle.zy_chain.specs.Stretch.{Mark}
 use Rattle.zy_chain.specs.declared.entry.Entry.{Entry}
 use Rattle.zy_change.specs.Views.{Views}
@@ -25,7 +26,7 @@ use Rattle.zy_parts.specs.declared.reports.New.{New}
 use Rattle.zy_parts.specs.declared.reports.Told.{Told}
 use Rattle.zy_parts.specs.declared.signed.Signed.{Signed}
 use Rattle.zy_law_views.specs.Held.{AreProofsHeld, IsCertOf, IsHeldChange, IsHeldPart, IsProperNew, IsVouchedBy}
-use Rattle.zy_law_views.specs.Tied.{Core, IsAcceptedTied, IsBegun, IsChosenNew, IsCommitHeld, IsFarEnough, IsGrounded, IsHearing, IsKeptChange, IsQuiet, IsStanding, IsTied, IsWaitingTied, told_by}
+use Rattle.zy_law_views.specs.Tied.{Core, HasGone, IsAcceptedTied, IsBegun, IsChosenNew, IsCommitHeld, IsFarEnough, IsGrounded, IsHearing, IsKeptChange, IsQuiet, IsStanding, IsTied, IsWaitingTied, told_by}
 use Rattle.zy_law_views.specs.Told.{began_told, check_told, response_told}
 
 module _ (w : World) (asked : ℕ → List Entry) (said : ℕ → List Spoken) (past : ℕ → List Stand) (kept : Digest → Entry → Bool)
@@ -137,10 +138,15 @@ module _ (w : World) (asked : ℕ → List Entry) (said : ℕ → List Spoken) (
           covered = λ number x m at vote. is.covered number x m (was number x at) vote;
         }
 
+    gone_more : (mode : Mode) → HasGone (w.said r) mode → HasGone (said r) mode
+    gone_more (Active view) is = tt
+    gone_more (Leaving view) is = (is.0, is.1, is.2, says r is.0 is.1 is.3, is.4)
+
     quiet_more : ((number : ℕ) (x : Spoken) → slice_get (said r) number ≡ Some x → Says w r number x) → (v : Views) → IsQuiet w r v → IsQuiet more r v
     quiet_more was v is =
         record {
           ahead = is.ahead;
+          gone = gone_more v.mode is.gone;
           left = λ number x view report at what. is.left number x view report (was number x at) what;
           confirmed = λ number x view m at what. is.confirmed number x view m (was number x at) what;
           once = λ number x m at what. is.once number x m (was number x at) what;
@@ -195,6 +201,11 @@ module _ (w : World) (r : ℕ) (y : Spoken) where
 
   pub chosen_said : (interval : ℕ) (n : New) (chosen : Chosen) → IsChosenNew interval w n chosen → IsChosenNew interval (after_saying w r y) n chosen
   chosen_said interval n chosen is = chosen_more w w.asked (with_last w.said r y) w.past w.kept (λ q e has. has) (λ q i x at. with_last-kept w.said r y q i x at) (λ q i b at. at) (λ h e is. is) interval n chosen is
+
+  -- what was said before is said still
+  pub gone_said : (mode : Mode) → HasGone (w.said r) mode → HasGone ((after_saying w r y).said r) mode
+  gone_said (Active view) is = tt
+  gone_said (Leaving view) is = (is.0, is.1, is.2, with_last-kept w.said r y r is.0 is.1 is.3, is.4)
 
   module _ {S : Type 0} (R : Rules S) (interval : ℕ) (c : Core S) (history : List Entry) where
     pub standing_said : IsStanding R w r c history → IsStanding R (after_saying w r y) r c history

@@ -94,8 +94,15 @@ abbrev pub IsConfirmedAs : Mode → Option Accepted → Mark → Type 0
 IsConfirmedAs (Active view) accepted m = Unit {0}
 IsConfirmedAs (Leaving view) accepted m = IsAcceptedAs accepted view.0 m
 
+-- while it leaves for a view it has said so
+abbrev pub HasGone : List Spoken → Mode → Type 0
+HasGone said (Active view) = Unit {0}
+HasGone said (Leaving view) = (number : ℕ) × (x : Spoken) × (report : PlainReport) × (slice_get said number ≡ Some x) × (x.what ≡ Statement.Change view.0 report)
+
 pub record IsQuiet (w : World) (r : ℕ) (v : Views) : Type 0 where
   pub ahead : IsAhead v.last_view.0 v.mode
+  -- its mode is what it said: it leaves for the greatest view for which it said a leave, if that is above its last active one
+  pub gone : HasGone (w.said r) v.mode
   -- it left for no greater view than its own: so it may speak in its own, and leaves for a greater one once
   pub left : (number : ℕ) (x : Spoken) (view : ℕ) (report : PlainReport) → Says w r number x → x.what ≡ Statement.Change view report → view ≤ own_view v
   -- it confirmed no greater view, and its own one once: what it accepted

@@ -38,7 +38,7 @@ module _ {S : Type 0} (R : Rules S) (w : World S) (leaves : Party → ℕ) (bag 
         setup = good.setup;
         replicas = good.replicas;
         clients = good.clients;
-        lawful = good.lawful;
+        conduct = good.conduct;
         kept = good.kept;
         tied = λ id x at. tied_same id x (good.tied id x at);
         client_tied = λ id x at. client_same id x (good.client_tied id x at);

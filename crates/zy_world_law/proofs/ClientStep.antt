@@ -13,8 +13,9 @@ use Rattle.zy_law_views.specs.Steps.{IsWorldOf}
 use Rattle.zy_chain.specs.declared.entry.Entry.{Entry}
 use Rattle.zy_client.specs.Held.{Holds}
 use Rattle.zy_law.proofs.GrownLemmas.{completed_grown}
-use Rattle.zy_law.proofs.StepsLawful.{more_lawful}
+use Rattle.zy_law.proofs.ConductLemmas.{more_conduct}
 use Rattle.zy_law.specs.Completed.{Completion, IsCompleted}
+use Rattle.zy_law.specs.Conduct.{IsConduct}
 use Rattle.zy_law.specs.Lawful.{IsLawful}
 use Rattle.zy_law.specs.Said.{Moment}
 use Rattle.zy_law.specs.Steps.{IsGrown, grown}
@@ -104,8 +105,11 @@ module _ {S : Type 0} (R : Rules S) (w : World S) (good : IsGood R w) (id : Clie
   grows : IsGrown v (asked_by w') v.said v.past v.kept
   grows = record { asks = asks_stay; says = λ q i z has. has; stands = λ q i b has. has; keeps = λ d e is. is }
 
+  later_conduct : IsConduct later
+  later_conduct = more_conduct v (asked_by w') v.kept good.conduct asks_stay (record { more = λ d e is. is; one_text = good.lawful.one_text })
+
   later_lawful : IsLawful later
-  later_lawful = more_lawful v good.lawful (asked_by w') v.kept asks_stay (record { more = λ d e is. is; one_text = good.lawful.one_text })
+  later_lawful = later_conduct.lawful
 
   -- no replica stands elsewhere
   kept_after : IsWorldOf R w.setup.interval (seen R w') w.texts
@@ -193,7 +197,7 @@ module _ {S : Type 0} (R : Rules S) (w : World S) (good : IsGood R w) (id : Clie
         setup = good.setup;
         replicas = good.replicas;
         clients = length-set w.clients id.0 (Some x') ∙ good.clients;
-        lawful = subst IsLawful seen_is later_lawful;
+        conduct = subst IsConduct seen_is later_conduct;
         kept = kept_after;
         tied = tied_after;
         client_tied = client_after;

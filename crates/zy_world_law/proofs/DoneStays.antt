@@ -32,7 +32,7 @@ module _ {S : Type 0} (R : Rules S) (w : World S) (good : IsGood R w) (id : Clie
         setup = good.setup;
         replicas = good.replicas;
         clients = good.clients;
-        lawful = good.lawful;
+        conduct = good.conduct;
         kept = good.kept;
         tied = λ q x at. let t = good.tied q x at in record { ready = t.ready; works = t.works; keys = t.keys; spelled = t.spelled };
         client_tied = λ q x at. let t = good.client_tied q x at in

@@ -12,14 +12,16 @@ use Rattle.zy_base.specs.declared.ids.ReplicaId.{ReplicaId}
 use Rattle.zy_base.specs.declared.step.Event.{Event}
 use Rattle.zy_law_views.specs.Steps.{IsLawfulStep, IsWorldOf}
 use Rattle.zy_chain.specs.declared.entry.Entry.{Entry}
+use Rattle.zy_law.proofs.ConductLemmas.{acts_conduct}
 use Rattle.zy_law.proofs.GrownLemmas.{completed_grown}
 use Rattle.zy_law.specs.Completed.{Completion, IsCompleted}
+use Rattle.zy_law.specs.Conduct.{IsConduct}
 use Rattle.zy_law.specs.Lawful.{IsLawful}
 use Rattle.zy_law.specs.Steps.{IsGrown, grown}
 use Rattle.zy_law.specs.World as law
 use Rattle.zy_law.specs.World.{Stand}
 use Rattle.zy_law_normal.proofs.TieLemmas.{lists_after}
-use Rattle.zy_law_normal.specs.Acts.{world_after, history_after, spoken_in, stands_in, with_more}
+use Rattle.zy_law_normal.specs.Acts.{acts_of, world_after, history_after, spoken_in, stands_in, with_more}
 use Rattle.zy_law_steps.proofs.WholeSteps.{ready_after}
 use Rattle.zy_law_steps.specs.Whole as whole
 use Rattle.zy_law_steps.specs.Spelled.{FitAll, IsSpelled}
@@ -168,8 +170,8 @@ module _ {S : Type 0} (R : Rules S) (back : ReadsBack) (w : World S) (good : IsG
   ready_after_all : IsReady R interval (world_after v id.0 s history o) id.0 o.state (history_after history o.deeds.acts)
   ready_after_all = ready_after R interval w.texts v id.0 s h history o tie.ready fine.lawful
 
-  lawful_after : IsLawful (seen R w')
-  lawful_after = subst IsLawful after_is ready_after_all.lawful
+  conduct_after : IsConduct (seen R w')
+  conduct_after = subst IsConduct after_is (acts_conduct v id.0 (acts_of v id.0 s history o) good.conduct fine.lawful.may)
 
   own_ready : IsReady R interval (seen R w') id.0 o.state (history_of x'.past)
   own_ready =
@@ -291,7 +293,7 @@ module _ {S : Type 0} (R : Rules S) (back : ReadsBack) (w : World S) (good : IsG
         setup = good.setup;
         replicas = length-set w.replicas id.0 (Some x') ∙ good.replicas;
         clients = good.clients;
-        lawful = lawful_after;
+        conduct = conduct_after;
         kept = subst (λ (u : law.World). IsWorldOf R interval u w.texts) after_is fine.lawful.world;
         tied = tied_after;
         client_tied = client_after;

@@ -5,8 +5,10 @@ use Rattle.zy_base.specs.Machine.{Rules}
 use Rattle.zy_base.specs.declared.ids.Digest.{Digest}
 use Rattle.zy_law_views.specs.Steps.{IsWorldOf}
 use Rattle.zy_chain.specs.declared.entry.Entry.{Entry}
+use Rattle.zy_law.proofs.ConductLemmas.{more_conduct}
 use Rattle.zy_law.proofs.GrownLemmas.{completed_grown}
 use Rattle.zy_law.proofs.StepsLawful.{more_lawful}
+use Rattle.zy_law.specs.Conduct.{IsConduct}
 use Rattle.zy_law.specs.Lawful.{IsLawful}
 use Rattle.zy_law.specs.Said.{Moment}
 use Rattle.zy_law.specs.Steps.{IsGrown}
@@ -40,6 +42,9 @@ module _ {S : Type 0} (R : Rules S) (w : World S) (texts : Texts) (stay : Stay w
 
   still_lawful : IsLawful v → IsLawful (seen R w')
   still_lawful lawful = more_lawful v lawful v.asked (is_link texts) (λ q e has. has) (record { more = link_stays; one_text = one_text texts })
+
+  still_conduct : IsConduct v → IsConduct (seen R w')
+  still_conduct conduct = more_conduct v v.asked (is_link texts) conduct (λ q e has. has) (record { more = link_stays; one_text = one_text texts })
 
   tied_stays : IsLawful v → (id : ℕ) (x : Replica S) → IsTied R w id x → IsTied R w' id x
   tied_stays lawful id x t =
@@ -99,7 +104,7 @@ module _ {S : Type 0} (R : Rules S) (w : World S) (texts : Texts) (stay : Stay w
         setup = good.setup;
         replicas = good.replicas;
         clients = good.clients;
-        lawful = still_lawful good.lawful;
+        conduct = still_conduct good.conduct;
         kept = world_stays good.kept;
         tied = λ id x at. tied_stays good.lawful id x (good.tied id x at);
         client_tied = λ id x at. client_stays id x (good.client_tied id x at);

@@ -6,7 +6,7 @@ use Rattle.zy_base.specs.declared.ids.Party.TheVariants.{Replica}
 use Rattle.zy_client.specs.Held.{Holds}
 use Rattle.zy_law_views.specs.Steps.{IsWorldOf}
 use Rattle.zy_law.specs.Completed.{IsCompleted}
-use Rattle.zy_law.specs.Lawful.{IsLawful}
+use Rattle.zy_law.specs.Conduct.{IsConduct}
 use Rattle.zy_law.specs.Said.{IsBacked}
 use Rattle.zy_law.specs.World as law
 use Rattle.zy_law_normal.specs.Acts.{spec_statement}
@@ -78,7 +78,9 @@ pub record IsGood {S : Type 0} (R : Rules S) (w : World S) : Type 0 where
   -- there is a seat for each replica and each client
   pub replicas : length w.replicas ≡ w.setup.counts.n
   pub clients : length w.clients ≡ w.setup.clients
-  pub lawful : IsLawful (seen R w)
+  -- each correct replica keeps the rules of conduct to the letter
+  pub conduct : IsConduct (seen R w)
+  pub open conduct use *
   -- what each correct history leads to is kept
   pub kept : IsWorldOf R w.setup.interval (seen R w) w.texts
   pub tied : (id : ℕ) (x : world.Replica S) → replica_at w id ≡ Some x → IsTied R w id x
