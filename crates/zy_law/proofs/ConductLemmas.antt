@@ -5,14 +5,15 @@ use Rattle.zy_base.specs.declared.ids.Digest.{Digest}
 use Rattle.zy_chain.specs.declared.entry.Entry.{Entry}
 use Rattle.zy_chain.specs.Stretch.{Mark}
 use Rattle.zy_choose.specs.Reports.{PlainReport}
-use Rattle.zy_law.specs.Conduct.{HistoryStaysWhileLeaving, IsActive, IsConduct, SaidOnce, SaidWhileActive}
+use Rattle.zy_law.specs.Conduct.{AreReportsFormed, HistoryStaysWhileLeaving, IsActive, IsConduct, SaidOnce, SaidWhileActive}
+use Rattle.zy_law.specs.Formed.{IsFormedStart, IsInOrder}
 use Rattle.zy_law.specs.Lawful.{IsLawful, IsVote, StoodAt, view_of}
 use Rattle.zy_law.specs.Said.{IsCorrect, Says, Stood}
 use Rattle.zy_law.specs.Steps.{Act, AllMay, IsStart, May, MayConfirm, MayKeep, MayLeave, MayOrder, MaySay, MayStand, MayTell, after_act, after_acts, after_asking, after_keeping, after_saying, after_standing, grown, with_last}
 use Rattle.zy_law.specs.Steps.Act.{Say, Move}
 use Rattle.zy_law.specs.World.{Answer, Spoken, Stand, Statement, World}
 use Rattle.zy_law.specs.World.Statement.{Order, Spec, Local, Check, Began, Change}
-use Rattle.zy_law.proofs.GrownLemmas.{each_pair, with_last-contains}
+use Rattle.zy_law.proofs.GrownLemmas.{each_item, each_pair, formed_start_grown, with_last-contains, with_last-kept}
 use Rattle.zy_law.proofs.StepsLawful.{more_lawful, none_said, saying_lawful, standing_lawful, start_lawful}
 
 -- ---- what follows from the rules as safety takes them
@@ -59,6 +60,10 @@ start_conduct w start =
         confirmations = λ r number other x y view m k correct says then what also. absurd (none_said w start r number x correct says);
         orders = λ r number other x y view m k request second correct says then what also place. absurd (none_said w start r number x correct says);
       };
+      formed = record {
+        reports = λ r number x view report correct says what. absurd (none_said w start r number x correct says);
+        confirmed = λ r number x view m correct says what. absurd (none_said w start r number x correct says);
+      };
     }
 
 -- ---- a replica says something
@@ -96,14 +101,34 @@ module _ (w : World) (conduct : IsConduct w) (r : ℕ) (x : Spoken) (may : MaySa
             q number other y z says then (before q correct) what also;
       }
 
+  formed_said : IsLawful (after_saying w r x) → AreReportsFormed (after_saying w r x)
+  formed_said lawful =
+      record {
+        reports = λ q number y view report correct says what. record {
+          proven = (lawful.true_reports q number y view report correct says what).proven;
+          in_order =
+              each_item w.said r x (λ p i z. IsCorrect w p → z.what ≡ Change view report → IsInOrder w.next w.interval report)
+              (λ p i z at own is. (conduct.formed.reports p i z view report own at is).in_order)
+              (λ own is. let leave : MayLeave w r x.when view report = told_as (Change view report) is in leave.in_order)
+              q number y says (before q correct) what;
+        };
+        confirmed = λ q number y view m correct says what.
+            formed_start_grown w w.asked (with_last w.said r x) w.past w.kept (λ q e h. h) (λ q i y at. with_last-kept w.said r x q i y at) (λ q i b h. h) view m
+            (each_item w.said r x (λ p i z. IsCorrect w p → z.what ≡ Began view m → IsFormedStart w view m)
+            (λ p i z at own is. conduct.formed.confirmed p i z view m own at is)
+            (λ own is. let confirm : MayConfirm w r view m = told_as (Began view m) is in confirm.chosen)
+            q number y says (before q correct) what);
+      }
+
   pub saying_conduct : IsConduct (after_saying w r x)
   saying_conduct =
-      let lawful = saying_lawful w conduct.lawful r x may in
-      record { lawful = lawful; active = said_while_active (after_saying w r x) lawful; stays = history_stays (after_saying w r x) lawful; once = once_said }
+      let lawful : IsLawful (after_saying w r x) = saying_lawful w conduct.lawful r x may in
+      record { lawful = lawful; active = said_while_active (after_saying w r x) lawful; stays = history_stays (after_saying w r x) lawful; once = once_said; formed = formed_said lawful }
 
 -- ---- nothing more is said
 
-module _ (w : World) (conduct : IsConduct w) (asked : ℕ → List Entry) (past : ℕ → List Stand) (kept : Digest → Entry → Bool) where
+module _ (w : World) (conduct : IsConduct w) (asked : ℕ → List Entry) (past : ℕ → List Stand) (kept : Digest → Entry → Bool) (asks : (q : ℕ) (e : Entry) → Contains (w.asked q) e → Contains (asked q) e)
+    (stands : (q i : ℕ) (b : Stand) → Stood w q i b → slice_get (past q) i ≡ Some b) where
   abbrev more : World
   more = grown w asked w.said past kept
 
@@ -122,15 +147,23 @@ module _ (w : World) (conduct : IsConduct w) (asked : ℕ → List Entry) (past 
           orders = λ r number other x y view m k request second correct says then what also place.
               conduct.once.orders r number other x y view m k request second (as_before r correct) says then what also place;
         };
+        formed = record {
+          reports = λ r number x view report correct says what. record {
+            proven = (lawful.true_reports r number x view report correct says what).proven;
+            in_order = (conduct.formed.reports r number x view report (as_before r correct) says what).in_order;
+          };
+          confirmed = λ r number x view m correct says what.
+              formed_start_grown w asked w.said past kept asks (λ q i y h. h) stands view m (conduct.formed.confirmed r number x view m (as_before r correct) says what);
+        };
       }
 
 pub standing_conduct : (w : World) (r : ℕ) (b : Stand) → IsConduct w → MayStand w r b → IsConduct (after_standing w r b)
-standing_conduct w r b conduct may = silent_conduct w conduct w.asked (with_last w.past r b) w.kept (standing_lawful w conduct.lawful r b may)
+standing_conduct w r b conduct may = silent_conduct w conduct w.asked (with_last w.past r b) w.kept (λ q e has. has) (λ q i s at. with_last-kept w.past r b q i s at) (standing_lawful w conduct.lawful r b may)
 
 -- more is asked and kept
 pub more_conduct : (w : World) (asked : ℕ → List Entry) (kept : Digest → Entry → Bool) → IsConduct w → ((q : ℕ) (e : Entry) → Contains (w.asked q) e → Contains (asked q) e) → MayKeep w kept
     → IsConduct (grown w asked w.said w.past kept)
-more_conduct w asked kept conduct asks may = silent_conduct w conduct asked w.past kept (more_lawful w conduct.lawful asked kept asks may)
+more_conduct w asked kept conduct asks may = silent_conduct w conduct asked w.past kept asks (λ q i s at. at) (more_lawful w conduct.lawful asked kept asks may)
 
 pub asking_conduct : (w : World) (client : ℕ) (e : Entry) → IsConduct w → IsConduct (after_asking w client e)
 asking_conduct w client e conduct =

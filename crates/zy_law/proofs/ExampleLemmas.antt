@@ -18,6 +18,7 @@ use Rattle.zy_choose.specs.Choice.IsPicked.{anchored}
 use Rattle.zy_choose.proofs.MarkLemmas.{has_mark-Has}
 use Rattle.zy_law.specs.Conduct.{IsConduct}
 use Rattle.zy_law.specs.Fixed.{IsCertified}
+use Rattle.zy_law.specs.Formed.{IsInOrder}
 use Rattle.zy_law.specs.Histories.{Passes, IsEntryAt, AreKept, origin, mark_of_all}
 use Rattle.zy_law.specs.World.{Answer, Statement, Spoken, Stand, World}
 use Rattle.zy_law.specs.World.Statement.{Order, Spec, Local, Check, Began, Change, New}
@@ -373,10 +374,24 @@ report_proven {w} r three backed =
       stable_later = λ positive. absurd (omega arith);
     }
 
-may_leave : {w : World} {r : ℕ} → 3 ≡ length (w.past r) → Stood w r 2 two → w.next ≡ next_text → w.counts.cert ≡ 3 → IsIn (w.said r)
+-- the reports are in order
+in_order : {next : Digest → Entry → Digest} {interval : ℕ} (r : ℕ) → next ≡ next_text → interval ≡ 2 → IsInOrder next interval (report_of r)
+in_order {next} {interval} r is apart =
+    subst (λ (f : Digest → Entry → Digest). IsInOrder f interval (report_of r)) (sym is)
+    (subst (λ (k : ℕ). IsInOrder next_text k (report_of r)) (sym apart)
+    (record {
+      multiple = refl;
+      few = lit≤ tt;
+      clients = All-cons (λ (e : Entry). e.client.0 < 64) first_entry (second_entry ∷ []) (lit< tt) (All-cons (λ (e : Entry). e.client.0 < 64) second_entry [] (lit< tt) (All-nil (λ (e : Entry). e.client.0 < 64)));
+      end = omega arith;
+      began = record { within = lit≤ tt; shared = λ above. record { above = lit≤ tt; below = lit≤ tt; head = refl } };
+      spec = record { within = lit≤ tt; shared = λ above. record { above = lit≤ tt; below = lit≤ tt; head = refl } };
+    }))
+
+may_leave : {w : World} {r : ℕ} → 3 ≡ length (w.past r) → Stood w r 2 two → w.next ≡ next_text → w.interval ≡ 2 → w.counts.cert ≡ 3 → IsIn (w.said r)
     → list_all (λ (y : Spoken). leb (voted_place y.what) 2) (w.said r) ≡ true → IsBacked w 3 (Spec 0 second_mark second_answer)
     → MaySay w r (record { what = Change 1 (report_of r); when = 2 })
-may_leave {w} {r} now stood next three is_in votes backed =
+may_leave {w} {r} now stood next apart three is_in votes backed =
     record {
       now = now;
       silence = λ number y view spoken report at what of. absurd (not_left (w.said r) number y view report is_in at what);
@@ -394,6 +409,7 @@ may_leave {w} {r} now stood next three is_in votes backed =
                       let far = leb-true (voted_place y.what) 2 (list_all_at (λ (z : Spoken). leb (voted_place z.what) 2) (w.said r) earlier y votes at) in
                       record { spec = second_mark; held = refl; far = omega (arith, vote_is 0 m y.what vote, far) };
                 };
+            in_order = in_order r next apart;
             first = λ number y second at what. absurd (not_left (w.said r) number y 1 second is_in at what);
           };
     }
@@ -406,7 +422,7 @@ leave_may_0 = (
   may_commit refl refl
       (record { at = record { stand = two; stood = refl; view_is = refl; passes = passes_second }; certified = (second_answer, second_certified refl (3, second_spoken, refl, refl) (1, second_spoken, refl, refl) (1, second_spoken, refl, refl)) }),
   (
-    may_leave refl refl refl refl refl refl (second_certified refl (3, second_spoken, refl, refl) (1, second_spoken, refl, refl) (1, second_spoken, refl, refl)),
+    may_leave refl refl refl refl refl refl refl (second_certified refl (3, second_spoken, refl, refl) (1, second_spoken, refl, refl) (1, second_spoken, refl, refl)),
     tt,
   ),
 )
@@ -416,7 +432,7 @@ leave_may_1 = (
   may_commit refl refl
       (record { at = record { stand = two; stood = refl; view_is = refl; passes = passes_second }; certified = (second_answer, second_certified refl (3, second_spoken, refl, refl) (1, second_spoken, refl, refl) (1, second_spoken, refl, refl)) }),
   (
-    may_leave refl refl refl refl refl refl (second_certified refl (3, second_spoken, refl, refl) (1, second_spoken, refl, refl) (1, second_spoken, refl, refl)),
+    may_leave refl refl refl refl refl refl refl (second_certified refl (3, second_spoken, refl, refl) (1, second_spoken, refl, refl) (1, second_spoken, refl, refl)),
     tt,
   ),
 )
@@ -426,7 +442,7 @@ leave_may_2 = (
   may_commit refl refl
       (record { at = record { stand = two; stood = refl; view_is = refl; passes = passes_second }; certified = (second_answer, second_certified refl (3, second_spoken, refl, refl) (1, second_spoken, refl, refl) (1, second_spoken, refl, refl)) }),
   (
-    may_leave refl refl refl refl refl refl (second_certified refl (3, second_spoken, refl, refl) (1, second_spoken, refl, refl) (1, second_spoken, refl, refl)),
+    may_leave refl refl refl refl refl refl refl (second_certified refl (3, second_spoken, refl, refl) (1, second_spoken, refl, refl) (1, second_spoken, refl, refl)),
     tt,
   ),
 )
@@ -518,15 +534,20 @@ left_for said i y view report have at what =
     let told = leb-true (left_view y.what) 1 (list_all_at (λ (z : Spoken). leb (left_view z.what) 1) said i y have at) in
     omega (arith, told, ap left_view what)
 
-may_confirm : {w : World} {r : ℕ} → 3 ≡ length (w.past r) → HaveLeft (w.said r) → IsUnconfirmed (w.said r) → IsValidNew w 1 reports → IsChoice w.next w.counts.agree reports second_mark
+three_in_order : {next : Digest → Entry → Digest} {interval : ℕ} → next ≡ next_text → interval ≡ 2 → All (IsInOrder next interval) reports
+three_in_order {next} {interval} is apart =
+    All-cons (IsInOrder next interval) (report_of 0) (report_of 1 ∷ report_of 2 ∷ []) (in_order 0 is apart)
+    (All-cons (IsInOrder next interval) (report_of 1) (report_of 2 ∷ []) (in_order 1 is apart) (All-cons (IsInOrder next interval) (report_of 2) [] (in_order 2 is apart) (All-nil (IsInOrder next interval))))
+
+may_confirm : {w : World} {r : ℕ} → w.next ≡ next_text → w.interval ≡ 2 → 3 ≡ length (w.past r) → HaveLeft (w.said r) → IsUnconfirmed (w.said r) → IsValidNew w 1 reports → IsChoice w.next w.counts.agree reports second_mark
     → MaySay w r (record { what = Began 1 second_mark; when = 2 })
-may_confirm {w} {r} now have fresh valid choice =
+may_confirm {w} {r} is apart now have fresh valid choice =
     record {
       now = now;
       silence = λ number y view spoken report at what of. omega (arith, left_for (w.said r) number y view report have at what, same_Some 1 spoken of);
       told =
           record {
-            chosen = record { reports = reports; valid = valid; choice = choice };
+            chosen = record { start = record { reports = reports; valid = valid; choice = choice }; in_order = three_in_order is apart };
             first = λ number y k at what. absurd (not_confirmed (w.said r) number y 1 k fresh at what);
           };
     }
@@ -562,13 +583,13 @@ valid_while size three change a b c x y z =
     (3, record { what = Change 1 (report_of 2); when = 2 }, z, refl) (second_certified size (3, second_spoken, a, refl) (1, second_spoken, b, refl) (1, second_spoken, c, refl))
 
 begin_may_0 : AllMay left 0 begin_acts
-begin_may_0 = (may_confirm refl refl refl (valid_while refl refl refl refl refl refl refl refl refl) chosen, tt)
+begin_may_0 = (may_confirm refl refl refl refl refl (valid_while refl refl refl refl refl refl refl refl refl) chosen, tt)
 
 begin_may_1 : AllMay (after_acts left 0 begin_acts) 1 (says (New 1 reports) 2 ∷ begin_acts)
-begin_may_1 = (may_give refl, (may_confirm refl refl refl (valid_while refl refl refl refl refl refl refl refl refl) chosen, tt))
+begin_may_1 = (may_give refl, (may_confirm refl refl refl refl refl (valid_while refl refl refl refl refl refl refl refl refl) chosen, tt))
 
 begin_may_2 : AllMay (after_acts (after_acts left 0 begin_acts) 1 (says (New 1 reports) 2 ∷ begin_acts)) 2 begin_acts
-begin_may_2 = (may_confirm refl refl refl (valid_while refl refl refl refl refl refl refl refl refl) chosen, tt)
+begin_may_2 = (may_confirm refl refl refl refl refl (valid_while refl refl refl refl refl refl refl refl refl) chosen, tt)
 
 confirmed_conduct : IsConduct confirmed
 confirmed_conduct =

@@ -178,7 +178,7 @@ module _ (w : World) (lawful : IsLawful w) (r : ℕ) (x : Spoken) (may : MaySay 
           chosen_confirmations = λ q number y view m correct says what.
               each_item w.said r x (λ p i z. IsCorrect w p → z.what ≡ Began view m → IsChosenStart (after_saying w r x) view m)
               (λ p i z at own is. chosen_after view m (lawful.chosen_confirmations p i z view m own at is))
-              (λ own is. let confirm : MayConfirm w r view m = told_as (Began view m) is in chosen_after view m confirm.chosen)
+              (λ own is. let confirm : MayConfirm w r view m = told_as (Began view m) is in chosen_after view m confirm.chosen.start)
               q number y says (before q correct) what;
           one_confirmation = λ q number other y z view m k correct says then what also.
               each_pair w.said r x (λ p i j a b. IsCorrect w p → a.what ≡ Began view m → b.what ≡ Began view k → m ≡ k)

@@ -3,6 +3,7 @@ use Rattle.std.specs.Prelude.{◌≡◌, ℕ, ◌+◌, ◌<◌, ◌≤◌}
 use Rattle.zy_base.specs.declared.ids.Digest.{Digest}
 use Rattle.zy_chain.specs.Stretch.{Mark}
 use Rattle.zy_choose.specs.Reports.{PlainReport}
+use Rattle.zy_law.specs.Formed.{IsFormed, IsFormedStart}
 use Rattle.zy_law.specs.Lawful.{IsLawful, IsVote}
 use Rattle.zy_law.specs.Said.{IsCorrect, Says, Stood}
 use Rattle.zy_law.specs.World.{Answer, Spoken, Stand, World}
@@ -46,6 +47,15 @@ pub record SaidOnce (w : World) : Type 0 where
   pub orders : (r number other : ℕ) (x y : Spoken) (view : ℕ) (m k : Mark) (request second : Digest) → IsCorrect w r → Says w r number x → Says w r other y
       → x.what ≡ Order view m request → y.what ≡ Order view k second → m.place ≡ k.place → number ≡ other
 
+-- ---- well formed
+
+-- The report of a leave breaks no rule, and what is confirmed is the choice of a valid new view whose reports break none.
+pub record AreReportsFormed (w : World) : Type 0 where
+  pub reports : (r number : ℕ) (x : Spoken) (view : ℕ) (report : PlainReport) → IsCorrect w r → Says w r number x → x.what ≡ Change view report
+      → IsFormed w view report
+  pub confirmed : (r number : ℕ) (x : Spoken) (view : ℕ) (m : Mark) → IsCorrect w r → Says w r number x → x.what ≡ Began view m
+      → IsFormedStart w view m
+
 -- ---- the whole
 
 pub record IsConduct (w : World) : Type 0 where
@@ -55,3 +65,4 @@ pub record IsConduct (w : World) : Type 0 where
   pub active : SaidWhileActive w
   pub stays : HistoryStaysWhileLeaving w
   pub once : SaidOnce w
+  pub formed : AreReportsFormed w

@@ -6,8 +6,9 @@ use Rattle.zy_chain.specs.Heads.{empty_head}
 use Rattle.zy_chain.specs.Stretch.{Mark}
 use Rattle.zy_choose.specs.Reports.{PlainReport}
 use Rattle.zy_law.specs.Counting.{count_below}
+use Rattle.zy_law.specs.Formed.{IsFormedStart, IsInOrder}
 use Rattle.zy_law.specs.Histories.{AreKept, HaveOneText, mark_of_all}
-use Rattle.zy_law.specs.Lawful.{IsTrueResponse, IsTrueVote, IsTrueCheck, IsTrueReport, IsChosenStart, IsOrdered, IsNext, AreAskedFor, view_of}
+use Rattle.zy_law.specs.Lawful.{IsTrueResponse, IsTrueVote, IsTrueCheck, IsTrueReport, IsOrdered, IsNext, AreAskedFor, view_of}
 use Rattle.zy_law.specs.Said.{IsCorrect, Says, Stood, IsBacked}
 use Rattle.zy_law.specs.World.{Statement, Spoken, Stand, World}
 use Rattle.zy_law.specs.World.Statement.{Order, Spec, Local, Check, Began, Change, New, Other}
@@ -19,6 +20,7 @@ abbrev pub grown : World → (ℕ → List Entry) → (ℕ → List Spoken) → 
 grown w asked said past kept =
     record {
       counts = w.counts;
+      interval = w.interval;
       liar = w.liar;
       lying = w.lying;
       asked = asked;
@@ -70,14 +72,15 @@ pub record MayOrder (w : World) (r view : ℕ) (m : Mark) (request : Digest) : T
   pub first : (number : ℕ) (y : Spoken) (k : Mark) (second : Digest) → Says w r number y → y.what ≡ Order view k second → m.place ≡ k.place → ⊥
   pub entries : (at : ℕ) (b : Stand) → Stood w r at b → b.view ≡ view → m.place ≤ length b.history → IsOrdered w b.history m request
 
--- a confirmation of the choice of a valid new view, the first for the view
+-- a confirmation of the choice of a valid new view, whose reports are in order, the first for the view
 pub record MayConfirm (w : World) (r view : ℕ) (m : Mark) : Type 0 where
-  pub chosen : IsChosenStart w view m
+  pub chosen : IsFormedStart w view m
   pub first : (number : ℕ) (y : Spoken) (k : Mark) → Says w r number y → y.what ≡ Began view k → ⊥
 
--- a leave with a true report, the first for the view
+-- a leave with a true report that is in order, the first for the view
 pub record MayLeave (w : World) (r when view : ℕ) (report : PlainReport) : Type 0 where
   pub true_report : IsTrueReport w r (length (w.said r)) when view report
+  pub in_order : IsInOrder w.next w.interval report
   pub first : (number : ℕ) (y : Spoken) (second : PlainReport) → Says w r number y → y.what ≡ Change view second → ⊥
 
 abbrev pub MayTell : World → ℕ → ℕ → Statement → Type 0

@@ -37,8 +37,8 @@ use Rattle.zy_law_views.specs.Rows.{IsReady}
 use Rattle.zy_law_views.specs.Work.{IsAtWork, IsRoundHeld, last_long}
 
 module _ {S : Type 0} (R : Rules S) (interval r : ℕ) (w : World) (me : ReplicaId) (counts : Counts) (keys : Keys) (sealer : SealerState) where
-  pub ready_at_start : 0 < interval → IsLawful w → IsStart w → Agrees R w → IsCorrect w r → me.0 ≡ r → counts ≡ w.counts → sealer.me ≡ Replica me → IsReady R interval w r (start_of R interval me counts keys sealer) []
-  ready_at_start some lawful start agrees correct me_is counts_are signer =
+  pub ready_at_start : 0 < interval → w.interval ≡ interval → IsLawful w → IsStart w → Agrees R w → IsCorrect w r → me.0 ≡ r → counts ≡ w.counts → sealer.me ≡ Replica me → IsReady R interval w r (start_of R interval me counts keys sealer) []
+  ready_at_start some spaced lawful start agrees correct me_is counts_are signer =
       let first : digest_of_snapshot (snapshot_of R (origin R)) ≡ w.state [] =
       ap (λ (p : Point S). digest_of_snapshot (snapshot_of R p)) (sym (along-nil R (origin R))) ∙ ap (λ (f : List Entry → Digest). f []) (sym agrees.state) in
       record {
@@ -46,7 +46,7 @@ module _ {S : Type 0} (R : Rules S) (interval r : ℕ) (w : World) (me : Replica
         links = agrees.next;
         correct = correct;
         tied = subst (λ (c : Counts). IsTied R interval w r (core_of (start_of R interval me c keys sealer)) []) (sym counts_are)
-            (tied_at_start R interval r w me (digest_of_snapshot (snapshot_of R (origin R))) some start correct me_is first);
+            (tied_at_start R interval r w me (digest_of_snapshot (snapshot_of R (origin R))) some spaced start correct me_is first);
         signer = signer;
         interval_is = refl;
       }

@@ -97,6 +97,7 @@ module _ {S : Type 0} (R : Rules S) (interval : ℕ) (w : World) (lawful : IsLaw
         let heard = hearing_stood w r stand interval c.views tied.hearing in
         let low = last_below c.views.last_view.0 c.views.mode tied.quiet.ahead in
         record {
+          spaced = tied.spaced;
           standing = record {
             me = tied.standing.me;
             counts = tied.standing.counts;

@@ -18,6 +18,7 @@ use Rattle.zy_change.specs.declared.kept.Accepted.{Accepted}
 use Rattle.zy_change.specs.declared.kept.Chosen.{Chosen}
 use Rattle.zy_choose.specs.Marks.{link}
 use Rattle.zy_evidence.specs.Reading.{read}
+use Rattle.zy_law.specs.Formed.{IsFormedStart}
 use Rattle.zy_law.specs.Lawful.{IsChosenStart, IsLawful, IsVote}
 use Rattle.zy_law.specs.Said.{IsCorrect, IsVouched, Says}
 use Rattle.zy_law.specs.Steps.{MaySay, after_saying}
@@ -29,7 +30,7 @@ use Rattle.zy_law_views.specs.Held.{IsVouchedBy, mark_at}
 use Rattle.zy_law_views.specs.Tied.{Core, IsAcceptedAs, IsChosenNew, IsConfirmedAs, IsKeptBegan, IsTied, said_now}
 use Rattle.zy_law_views.specs.Told.{began_told}
 use Rattle.zy_law_views.proofs.LawfulChoice.{lawful_choice}
-use Rattle.zy_law_views.proofs.ProvenReports.{new_valid}
+use Rattle.zy_law_views.proofs.ProvenReports.{new_valid, reports_in_order}
 use Rattle.zy_law_views.proofs.TiedGrown.{begun_said, chosen_said, gone_said, grounded_said, has_said_last, hearing_said, own_said, standing_said}
 
 -- what is chosen out of a proper new view is a lawful start of it
@@ -40,6 +41,13 @@ chosen_start w lawful links interval n chosen is =
       valid = new_valid w interval n is.proper;
       choice = lawful_choice w lawful links interval n is.proper chosen.provider (mark_at chosen.place chosen.head) is.choice;
     }
+
+-- and its reports are in order
+pub formed_start : (w : World) → IsLawful w → w.next ≡ link → (interval : ℕ) → w.interval ≡ interval → (n : New) (chosen : Chosen) → IsChosenNew interval w n chosen
+    → IsFormedStart w n.view.0 (mark_at chosen.place chosen.head)
+unfolding chosen_start
+formed_start w lawful links interval spaced n chosen is =
+    record { start = chosen_start w lawful links interval n chosen is; in_order = reports_in_order w links interval spaced n is.proper }
 
 accepted_told : (accepted : Option Accepted) (view : ℕ) (m : Mark) → IsAcceptedAs accepted view m → is_accepted view accepted ≡ false → ⊥
 accepted_told accepted view m is none =
@@ -85,7 +93,7 @@ module _ {S : Type 0} (R : Rules S) (interval : ℕ) (w : World) (lawful : IsLaw
             let same : view.0 ≡ spoken = cc in
             omega (arith, tied.quiet.left number y other report says what, in_view);
         told = record {
-          chosen = chosen_start w lawful links interval a.new.stmt a.chosen is;
+          chosen = formed_start w lawful links interval tied.spaced a.new.stmt a.chosen is;
           first = λ number y k says what. absurd (none_said number y k says what);
         };
       }
@@ -119,6 +127,7 @@ module _ {S : Type 0} (R : Rules S) (interval : ℕ) (w : World) (lawful : IsLaw
         let begun = begun_said w r confirm R interval c history (λ k vote. absurd vote) tied.begun in
         let heard = hearing_said w r confirm interval c.views tied.hearing in
         record {
+          spaced = tied.spaced;
           standing = record {
             me = standing.me;
             counts = standing.counts;

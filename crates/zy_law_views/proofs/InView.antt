@@ -36,6 +36,7 @@ module _ {S : Type 0} (R : Rules S) (interval : ℕ) (w : World) (lawful : IsLaw
   tied_plain s plain =
       let x : Spoken = said_now w r s in
       record {
+        spaced = tied.spaced;
         standing = standing_said w r x R interval c history tied.standing;
         quiet = record {
           ahead = tied.quiet.ahead;

@@ -19,7 +19,7 @@ use Rattle.zy_parts.specs.declared.signed.Signed.{Signed}
 use Rattle.zy_law_views.specs.Held.{IsVouchedBy}
 use Rattle.zy_law_views.specs.Tied.{Core, IsKeptChange, IsTied, change_by, said_now, told_by}
 use Rattle.zy_law_views.specs.Told.{change_told}
-use Rattle.zy_law_views.proofs.OwnReport.{last_below, own_formed, own_links, own_proofs, own_true}
+use Rattle.zy_law_views.proofs.OwnReport.{last_below, own_formed, own_in_order, own_links, own_proofs, own_true}
 use Rattle.zy_law_views.proofs.TiedGrown.{begun_said, grounded_said, has_said_last, hearing_said, own_said, proofs_said, standing_said}
 
 module _ {S : Type 0} (R : Rules S) (interval : ℕ) (w : World) (lawful : IsLawful w) (links : w.next ≡ link) (r : ℕ) (correct : IsCorrect w r) (c : Core S) (history : List Entry)
@@ -41,6 +41,7 @@ module _ {S : Type 0} (R : Rules S) (interval : ℕ) (w : World) (lawful : IsLaw
         told = record {
           true_report = subst (λ (when : ℕ). IsTrueReport w r (length (w.said r)) when view.0 (read_by r (told_by c))) now
               (own_true R interval w links r c history tied (length (w.said r)) view last_earlier);
+          in_order = own_in_order R interval w links r c history tied view last_earlier;
           first = λ number y second says what. absurd (omega (arith, tied.quiet.left number y view.0 second says what));
         };
       }
@@ -79,6 +80,7 @@ module _ {S : Type 0} (R : Rules S) (interval : ℕ) (w : World) (lawful : IsLaw
         let heard = hearing_said w r leave interval c.views tied.hearing in
         let begun = begun_said w r leave R interval c history (λ m vote. absurd vote) tied.begun in
         record {
+          spaced = tied.spaced;
           standing = record {
             me = standing.me;
             counts = standing.counts;

@@ -43,10 +43,11 @@ none_said w r silent number x says =
     let nothing : slice_get [] number ≡ Some x = ap (λ (l : List Spoken). slice_get l number) (sym silent) ∙ says in
     absurd cc
 
-pub tied_at_start : {S : Type 0} (R : Rules S) (interval r : ℕ) (w : World) (me : ReplicaId) (state : Digest) → 0 < interval → IsStart w → IsCorrect w r → me.0 ≡ r → state ≡ w.state [] → IsTied R interval w r (core_at_start R interval w.counts me state) []
-tied_at_start {S} R interval r w me state some start correct is told =
+pub tied_at_start : {S : Type 0} (R : Rules S) (interval r : ℕ) (w : World) (me : ReplicaId) (state : Digest) → 0 < interval → w.interval ≡ interval → IsStart w → IsCorrect w r → me.0 ≡ r → state ≡ w.state [] → IsTied R interval w r (core_at_start R interval w.counts me state) []
+tied_at_start {S} R interval r w me state some apart start correct is told =
     let silent = start.silent r correct in
     record {
+      spaced = apart;
       standing = record {
         me = is;
         counts = refl;
@@ -135,6 +136,7 @@ module _ {S : Type 0} (R : Rules S) (interval : ℕ) (w : World) (lawful : IsLaw
         let proven = grounded.proven in
         let long = length-append c.kept.entries (e ∷ []) in
         record {
+          spaced = tied.spaced;
           standing = record {
             me = tied.standing.me;
             counts = tied.standing.counts;
@@ -187,6 +189,7 @@ module _ {S : Type 0} (R : Rules S) (interval : ℕ) (w : World) (lawful : IsLaw
   tied_settled place stable proof above below grounded =
       let begun = tied.begun in
       record {
+        spaced = tied.spaced;
         standing = record {
           me = tied.standing.me;
           counts = tied.standing.counts;
@@ -218,6 +221,7 @@ module _ {S : Type 0} (R : Rules S) (interval : ℕ) (w : World) (lawful : IsLaw
         let grounded = tied.grounded in
         let begun = tied.begun in
         record {
+          spaced = tied.spaced;
           standing = record {
             me = tied.standing.me;
             counts = tied.standing.counts;
@@ -271,6 +275,7 @@ module _ {S : Type 0} (R : Rules S) (interval : ℕ) (w : World) (lawful : IsLaw
       let begun = tied.begun in
       let proven = grounded.proven in
       record {
+        spaced = tied.spaced;
         standing = record {
           me = tied.standing.me;
           counts = tied.standing.counts;

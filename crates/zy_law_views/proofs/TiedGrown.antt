@@ -159,6 +159,7 @@ module _ (w : World) (asked : ℕ → List Entry) (said : ℕ → List Spoken) (
     tied_more told stood is =
         let was : (number : ℕ) (x : Spoken) → slice_get (said r) number ≡ Some x → Says w r number x = λ number x at. ap (λ (l : List Spoken). slice_get l number) (sym told) ∙ at in
         record {
+          spaced = is.spaced;
           standing = standing_more stood is.standing;
           quiet = quiet_more was c.views is.quiet;
           grounded = grounded_more is.grounded;

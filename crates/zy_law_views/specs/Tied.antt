@@ -201,6 +201,7 @@ pub record IsHearing (interval : ℕ) (w : World) (v : Views) : Type 0 where
 -- ---- the tie
 
 pub record IsTied {S : Type 0} (R : Rules S) (interval : ℕ) (w : World) (r : ℕ) (c : Core S) (history : List Entry) : Type 0 where
+  pub spaced : w.interval ≡ interval
   pub standing : IsStanding R w r c history
   pub quiet : IsQuiet w r c.views
   pub grounded : IsGrounded interval w c

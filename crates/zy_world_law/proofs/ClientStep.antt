@@ -87,6 +87,7 @@ module _ {S : Type 0} (R : Rules S) (w : World S) (good : IsGood R w) (id : Clie
   built lying =
       record {
         counts = v.counts;
+        interval = v.interval;
         liar = v.liar;
         lying = lying;
         asked = asked_by w';

@@ -138,6 +138,7 @@ module _ {S : Type 0} (R : Rules S) (back : ReadsBack) (w : World S) (good : IsG
   built liar said past =
       record {
         counts = v.counts;
+        interval = v.interval;
         liar = liar;
         lying = v.lying;
         asked = v.asked;

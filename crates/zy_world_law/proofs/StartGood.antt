@@ -160,7 +160,7 @@ module _ {S : Type 0} (R : Rules S) (held : HeldLaw) (steps : StepLaws R) (setup
       let small : q < 256 = omega (arith, here.0, setup.counts.sound.few) in
       subst (λ (y : Replica S). IsTied R w q y) (sym here.1)
       (record {
-        ready = ready_at_start R setup.interval q v (record { 0 = q }) setup.counts (keys_of setup) (sealer_at q) is.least_interval (start_lawful v begins) begins agrees (correct_at q x at) refl refl refl;
+        ready = ready_at_start R setup.interval q v (record { 0 = q }) setup.counts (keys_of setup) (sealer_at q) is.least_interval refl (start_lawful v begins) begins agrees (correct_at q x at) refl refl refl;
         works = work_at_start R setup.interval q v (record { 0 = q }) setup.counts (keys_of setup) (sealer_at q) begins (correct_at q x at) refl refl;
         keys = refl;
         spelled = steps.spelled_first setup.interval (record { 0 = q }) setup.counts (keys_of setup) (sealer_at q) is.greatest_interval small refl;
