@@ -5,15 +5,15 @@ use Rattle.zy_base.specs.declared.ids.Digest.{Digest}
 use Rattle.zy_chain.specs.declared.entry.Entry.{Entry}
 use Rattle.zy_chain.specs.Stretch.{Mark}
 use Rattle.zy_choose.specs.Reports.{PlainReport}
-use Rattle.zy_law.specs.Conduct.{AreReportsFormed, HistoryStaysWhileLeaving, IsActive, IsConduct, SaidOnce, SaidWhileActive}
+use Rattle.zy_law.specs.Conduct.{AreReportsFormed, HistoryStaysWhileLeaving, IsActive, IsConduct, IsGiven, NewsAreGiven, SaidOnce, SaidWhileActive}
 use Rattle.zy_law.specs.Formed.{IsFormedStart, IsInOrder}
 use Rattle.zy_law.specs.Lawful.{IsLawful, IsVote, StoodAt, view_of}
 use Rattle.zy_law.specs.Said.{IsCorrect, Says, Stood}
-use Rattle.zy_law.specs.Steps.{Act, AllMay, IsStart, May, MayConfirm, MayKeep, MayLeave, MayOrder, MaySay, MayStand, MayTell, after_act, after_acts, after_asking, after_keeping, after_saying, after_standing, grown, with_last}
+use Rattle.zy_law.specs.Steps.{Act, AllMay, IsStart, May, MayConfirm, MayGive, MayKeep, MayLeave, MayOrder, MaySay, MayStand, MayTell, after_act, after_acts, after_asking, after_keeping, after_saying, after_standing, grown, with_last}
 use Rattle.zy_law.specs.Steps.Act.{Say, Move}
 use Rattle.zy_law.specs.World.{Answer, Spoken, Stand, Statement, World}
-use Rattle.zy_law.specs.World.Statement.{Order, Spec, Local, Check, Began, Change}
-use Rattle.zy_law.proofs.GrownLemmas.{each_item, each_pair, formed_start_grown, with_last-contains, with_last-kept}
+use Rattle.zy_law.specs.World.Statement.{Order, Spec, Local, Check, Began, Change, New}
+use Rattle.zy_law.proofs.GrownLemmas.{each_item, each_pair, formed_new_grown, formed_start_grown, with_last-contains, with_last-kept}
 use Rattle.zy_law.proofs.StepsLawful.{more_lawful, none_said, saying_lawful, standing_lawful, start_lawful}
 
 -- ---- what follows from the rules as safety takes them
@@ -58,12 +58,14 @@ start_conduct w start =
       once = record {
         leaves = λ r number other x y view report second correct says then what also. absurd (none_said w start r number x correct says);
         confirmations = λ r number other x y view m k correct says then what also. absurd (none_said w start r number x correct says);
+        news = λ r number other x y view reports second correct says then what also. absurd (none_said w start r number x correct says);
         orders = λ r number other x y view m k request second correct says then what also place. absurd (none_said w start r number x correct says);
       };
       formed = record {
         reports = λ r number x view report correct says what. absurd (none_said w start r number x correct says);
         confirmed = λ r number x view m correct says what. absurd (none_said w start r number x correct says);
       };
+      given = λ r number x view reports correct says what. absurd (none_said w start r number x correct says);
     }
 
 -- ---- a replica says something
@@ -90,6 +92,13 @@ module _ (w : World) (conduct : IsConduct w) (r : ℕ) (x : Spoken) (may : MaySa
             (λ p i j a b at_i at_j own is too. conduct.once.confirmations p i j a b view m k own at_i at_j is too)
             (λ i a at own is too. let confirm : MayConfirm w r view k = told_as (Began view k) too in absurd (confirm.first i a m at is))
             (λ j b at own is too. let confirm : MayConfirm w r view m = told_as (Began view m) is in absurd (confirm.first j b k at too))
+            (λ own is too. refl)
+            q number other y z says then (before q correct) what also;
+        news = λ q number other y z view reports second correct says then what also.
+            each_pair w.said r x (λ p i j a b. IsCorrect w p → a.what ≡ New view reports → b.what ≡ New view second → i ≡ j)
+            (λ p i j a b at_i at_j own is too. conduct.once.news p i j a b view reports second own at_i at_j is too)
+            (λ i a at own is too. let give : MayGive w r view second = told_as (New view second) too in absurd (give.first i a reports at is))
+            (λ j b at own is too. let give : MayGive w r view reports = told_as (New view reports) is in absurd (give.first j b second at too))
             (λ own is too. refl)
             q number other y z says then (before q correct) what also;
         orders = λ q number other y z view m k request second correct says then what also place.
@@ -120,10 +129,22 @@ module _ (w : World) (conduct : IsConduct w) (r : ℕ) (x : Spoken) (may : MaySa
             q number y says (before q correct) what);
       }
 
+  given_said : NewsAreGiven (after_saying w r x)
+  given_said q number y view reports correct says what =
+      let was : IsGiven w q view reports =
+      each_item w.said r x (λ p i z. IsCorrect w p → z.what ≡ New view reports → IsGiven w p view reports)
+      (λ p i z at own is. conduct.given p i z view reports own at is)
+      (λ own is. let give : MayGive w r view reports = told_as (New view reports) is in record { primary = give.primary; formed = give.formed })
+      q number y says (before q correct) what in
+      record {
+        primary = was.primary;
+        formed = formed_new_grown w w.asked (with_last w.said r x) w.past w.kept (λ q e h. h) (λ q i y at. with_last-kept w.said r x q i y at) (λ q i b h. h) view reports was.formed;
+      }
+
   pub saying_conduct : IsConduct (after_saying w r x)
   saying_conduct =
       let lawful : IsLawful (after_saying w r x) = saying_lawful w conduct.lawful r x may in
-      record { lawful = lawful; active = said_while_active (after_saying w r x) lawful; stays = history_stays (after_saying w r x) lawful; once = once_said; formed = formed_said lawful }
+      record { lawful = lawful; active = said_while_active (after_saying w r x) lawful; stays = history_stays (after_saying w r x) lawful; once = once_said; formed = formed_said lawful; given = given_said }
 
 -- ---- nothing more is said
 
@@ -144,6 +165,7 @@ module _ (w : World) (conduct : IsConduct w) (asked : ℕ → List Entry) (past 
         once = record {
           leaves = λ r number other x y view report second correct says then what also. conduct.once.leaves r number other x y view report second (as_before r correct) says then what also;
           confirmations = λ r number other x y view m k correct says then what also. conduct.once.confirmations r number other x y view m k (as_before r correct) says then what also;
+          news = λ r number other x y view reports second correct says then what also. conduct.once.news r number other x y view reports second (as_before r correct) says then what also;
           orders = λ r number other x y view m k request second correct says then what also place.
               conduct.once.orders r number other x y view m k request second (as_before r correct) says then what also place;
         };
@@ -155,6 +177,9 @@ module _ (w : World) (conduct : IsConduct w) (asked : ℕ → List Entry) (past 
           confirmed = λ r number x view m correct says what.
               formed_start_grown w asked w.said past kept asks (λ q i y h. h) stands view m (conduct.formed.confirmed r number x view m (as_before r correct) says what);
         };
+        given = λ r number x view reports correct says what.
+            let was = conduct.given r number x view reports (as_before r correct) says what in
+            record { primary = was.primary; formed = formed_new_grown w asked w.said past kept asks (λ q i y h. h) stands view reports was.formed };
       }
 
 pub standing_conduct : (w : World) (r : ℕ) (b : Stand) → IsConduct w → MayStand w r b → IsConduct (after_standing w r b)

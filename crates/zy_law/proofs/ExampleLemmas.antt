@@ -1,5 +1,5 @@
 -- The small world is lawful, act by act.
-use Rattle.std.proofs.Common.{◌≡◌, ℕ, zero, suc, ◌+◌, ◌-◌, ◌<◌, ◌≤◌, Bool, true, false, not, leb, ltb, ◌&&◌, ◌⊎◌, inl, inr, List, [], ◌∷◌, ◌++◌, length, take, drop, get_or, Some, refl, sym, ap, ◌∙◌, subst, arith, lit<, lit≤}
+use Rattle.std.proofs.Common.{◌≡◌, ℕ, zero, suc, ◌+◌, ◌-◌, ◌%◌, ◌<◌, ◌≤◌, Bool, true, false, not, leb, ltb, ◌&&◌, ◌⊎◌, inl, inr, List, [], ◌∷◌, ◌++◌, length, take, drop, get_or, Some, refl, sym, ap, ◌∙◌, subst, arith, lit<, lit≤}
 use Rattle.std.specs.Prelude.{All, Contains, count_by, slice_get}
 use Rattle.std.specs.List.{list_all}
 use Rattle.std.proofs.lemmas.Bool.{and_parts, and_right, leb-true, ltb-true, false_from_ne_true}
@@ -552,8 +552,33 @@ may_confirm {w} {r} is apart now have fresh valid choice =
           };
     }
 
-may_give : {w : World} {r : ℕ} → 3 ≡ length (w.past r) → MaySay w r (record { what = New 1 reports; when = 2 })
-may_give now = record { now = now; silence = λ number y view spoken report at what of. absurd cc; told = tt }
+abbrev gives : Statement → Bool
+gives (New v r) = true
+gives _ = false
+
+-- none has given a new view yet
+abbrev IsUngiven : List Spoken → Type 0
+IsUngiven said = list_all (λ (y : Spoken). not (gives y.what)) said ≡ true
+
+not_given : (said : List Spoken) (i : ℕ) (y : Spoken) (view : ℕ) (r : List PlainReport) → IsUngiven said → slice_get said i ≡ Some y → y.what ≡ New view r → ⊥
+not_given said i y view r is_in at what =
+    let told = list_all_at (λ (z : Spoken). not (gives z.what)) said i y is_in at in
+    let is : not (gives y.what) ≡ false = ap (λ (s : Statement). not (gives s)) what in
+    absurd (cc (sym told, is))
+
+may_give : {w : World} {r : ℕ} → w.next ≡ next_text → w.interval ≡ 2 → 3 ≡ length (w.past r) → 1 % w.counts.n ≡ r → IsUngiven (w.said r) → IsValidNew w 1 reports
+    → MaySay w r (record { what = New 1 reports; when = 2 })
+may_give {w} {r} is apart now primary fresh valid =
+    record {
+      now = now;
+      silence = λ number y view spoken report at what of. absurd cc;
+      told =
+          record {
+            primary = primary;
+            formed = record { valid = valid; in_order = three_in_order is apart };
+            first = λ number y second at what. absurd (not_given (w.said r) number y 1 second fresh at what);
+          };
+    }
 
 may_begin : {w : World} {r : ℕ} → 3 ≡ length (w.past r) → Stood w r 2 two → HaveLeft (w.said r) → IsBacked w w.counts.cert (Began 1 (mark_of_all w.next (first_entry ∷ second_entry ∷ [])))
     → AreKept w.kept w.next empty_head (first_entry ∷ second_entry ∷ []) → AreOrdersOf w (first_entry ∷ second_entry ∷ []) (w.said r)
@@ -586,7 +611,7 @@ begin_may_0 : AllMay left 0 begin_acts
 begin_may_0 = (may_confirm refl refl refl refl refl (valid_while refl refl refl refl refl refl refl refl refl) chosen, tt)
 
 begin_may_1 : AllMay (after_acts left 0 begin_acts) 1 (says (New 1 reports) 2 ∷ begin_acts)
-begin_may_1 = (may_give refl, (may_confirm refl refl refl refl refl (valid_while refl refl refl refl refl refl refl refl refl) chosen, tt))
+begin_may_1 = (may_give refl refl refl refl refl (valid_while refl refl refl refl refl refl refl refl refl), (may_confirm refl refl refl refl refl (valid_while refl refl refl refl refl refl refl refl refl) chosen, tt))
 
 begin_may_2 : AllMay (after_acts (after_acts left 0 begin_acts) 1 (says (New 1 reports) 2 ∷ begin_acts)) 2 begin_acts
 begin_may_2 = (may_confirm refl refl refl refl refl (valid_while refl refl refl refl refl refl refl refl refl) chosen, tt)

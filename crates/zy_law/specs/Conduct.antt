@@ -1,13 +1,13 @@
 -- Conduct to the letter: what a correct replica keeps, also where safety takes less from it.
-use Rattle.std.specs.Prelude.{◌≡◌, ℕ, ◌+◌, ◌<◌, ◌≤◌}
+use Rattle.std.specs.Prelude.{◌≡◌, ℕ, ◌+◌, ◌%◌, ◌<◌, ◌≤◌, List}
 use Rattle.zy_base.specs.declared.ids.Digest.{Digest}
 use Rattle.zy_chain.specs.Stretch.{Mark}
 use Rattle.zy_choose.specs.Reports.{PlainReport}
-use Rattle.zy_law.specs.Formed.{IsFormed, IsFormedStart}
+use Rattle.zy_law.specs.Formed.{IsFormed, IsFormedNew, IsFormedStart}
 use Rattle.zy_law.specs.Lawful.{IsLawful, IsVote}
 use Rattle.zy_law.specs.Said.{IsCorrect, Says, Stood}
 use Rattle.zy_law.specs.World.{Answer, Spoken, Stand, World}
-use Rattle.zy_law.specs.World.Statement.{Order, Spec, Began, Change}
+use Rattle.zy_law.specs.World.Statement.{Order, Spec, Began, Change, New}
 
 -- ---- the mode
 
@@ -43,6 +43,9 @@ pub record SaidOnce (w : World) : Type 0 where
   -- one confirmation for a view
   pub confirmations : (r number other : ℕ) (x y : Spoken) (view : ℕ) (m k : Mark) → IsCorrect w r → Says w r number x → Says w r other y
       → x.what ≡ Began view m → y.what ≡ Began view k → number ≡ other
+  -- one new view for a view
+  pub news : (r number other : ℕ) (x y : Spoken) (view : ℕ) (reports second : List PlainReport) → IsCorrect w r → Says w r number x → Says w r other y
+      → x.what ≡ New view reports → y.what ≡ New view second → number ≡ other
   -- one order for a place of a view
   pub orders : (r number other : ℕ) (x y : Spoken) (view : ℕ) (m k : Mark) (request second : Digest) → IsCorrect w r → Says w r number x → Says w r other y
       → x.what ≡ Order view m request → y.what ≡ Order view k second → m.place ≡ k.place → number ≡ other
@@ -56,6 +59,16 @@ pub record AreReportsFormed (w : World) : Type 0 where
   pub confirmed : (r number : ℕ) (x : Spoken) (view : ℕ) (m : Mark) → IsCorrect w r → Says w r number x → x.what ≡ Began view m
       → IsFormedStart w view m
 
+-- It is given by its primary, and is valid.
+pub record IsGiven (w : World) (r view : ℕ) (reports : List PlainReport) : Type 0 where
+  pub primary : view % w.counts.n ≡ r
+  pub formed : IsFormedNew w view reports
+
+-- So is each new view.
+abbrev pub NewsAreGiven : World → Type 0
+NewsAreGiven w =
+    (r number : ℕ) (x : Spoken) (view : ℕ) (reports : List PlainReport) → IsCorrect w r → Says w r number x → x.what ≡ New view reports → IsGiven w r view reports
+
 -- ---- the whole
 
 pub record IsConduct (w : World) : Type 0 where
@@ -66,3 +79,4 @@ pub record IsConduct (w : World) : Type 0 where
   pub stays : HistoryStaysWhileLeaving w
   pub once : SaidOnce w
   pub formed : AreReportsFormed w
+  pub given : NewsAreGiven w

@@ -1,12 +1,12 @@
 -- The rules on a report that safety doesn't need: how much room it takes, and where what it proves stands among its entries.
-use Rattle.std.specs.Prelude.{◌≡◌, ℕ, ◌*◌, ◌^◌, ◌%◌, ◌<◌, ◌≤◌, All, IfSome, length}
+use Rattle.std.specs.Prelude.{◌≡◌, ℕ, ◌*◌, ◌^◌, ◌%◌, ◌<◌, ◌≤◌, List, All, IfSome, length}
 use Rattle.zy_base.specs.declared.ids.Digest.{Digest}
 use Rattle.zy_chain.specs.declared.entry.Entry.{Entry}
 use Rattle.zy_chain.specs.Stretch.{Mark, Stretch, end_of}
 use Rattle.zy_choose.specs.Marks.{Has}
 use Rattle.zy_choose.specs.Reports.{PlainReport}
 use Rattle.zy_law.specs.Lawful.{IsChosenStart}
-use Rattle.zy_law.specs.Reports.{IsProven}
+use Rattle.zy_law.specs.Reports.{IsProven, IsValidNew}
 use Rattle.zy_law.specs.World.{World}
 
 -- a mark that isn't past the end, and is the stretch's where it isn't below the base
@@ -28,6 +28,11 @@ pub record IsInOrder (next : Digest → Entry → Digest) (interval : ℕ) (r : 
 pub record IsFormed (w : World) (view : ℕ) (r : PlainReport) : Type 0 where
   pub proven : IsProven w view r
   pub in_order : IsInOrder w.next w.interval r
+
+-- a valid new view, each of whose reports is in order
+pub record IsFormedNew (w : World) (view : ℕ) (reports : List PlainReport) : Type 0 where
+  pub valid : IsValidNew w view reports
+  pub in_order : All (IsInOrder w.next w.interval) reports
 
 -- the choice of a valid new view, each of whose reports is in order
 pub record IsFormedStart (w : World) (view : ℕ) (m : Mark) : Type 0 where

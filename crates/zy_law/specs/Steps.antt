@@ -6,7 +6,7 @@ use Rattle.zy_chain.specs.Heads.{empty_head}
 use Rattle.zy_chain.specs.Stretch.{Mark}
 use Rattle.zy_choose.specs.Reports.{PlainReport}
 use Rattle.zy_law.specs.Counting.{count_below}
-use Rattle.zy_law.specs.Formed.{IsFormedStart, IsInOrder}
+use Rattle.zy_law.specs.Formed.{IsFormedNew, IsFormedStart, IsInOrder}
 use Rattle.zy_law.specs.Histories.{AreKept, HaveOneText, mark_of_all}
 use Rattle.zy_law.specs.Lawful.{IsTrueResponse, IsTrueVote, IsTrueCheck, IsTrueReport, IsOrdered, IsNext, AreAskedFor, view_of}
 use Rattle.zy_law.specs.Said.{IsCorrect, Says, Stood, IsBacked}
@@ -83,6 +83,12 @@ pub record MayLeave (w : World) (r when view : ℕ) (report : PlainReport) : Typ
   pub in_order : IsInOrder w.next w.interval report
   pub first : (number : ℕ) (y : Spoken) (second : PlainReport) → Says w r number y → y.what ≡ Change view second → ⊥
 
+-- a new view by its primary, whose reports are valid and in order, the first for the view
+pub record MayGive (w : World) (r view : ℕ) (reports : List PlainReport) : Type 0 where
+  pub primary : view % w.counts.n ≡ r
+  pub formed : IsFormedNew w view reports
+  pub first : (number : ℕ) (y : Spoken) (second : List PlainReport) → Says w r number y → y.what ≡ New view second → ⊥
+
 abbrev pub MayTell : World → ℕ → ℕ → Statement → Type 0
 MayTell w r when (Order view m request) = MayOrder w r view m request
 MayTell w r when (Spec view m a) = IsTrueResponse w r when view m a
@@ -90,7 +96,7 @@ MayTell w r when (Local view m) = IsTrueVote w r when view m
 MayTell w r when (Check view m state) = IsTrueCheck w r when view m state
 MayTell w r when (Began view m) = MayConfirm w r view m
 MayTell w r when (Change view report) = MayLeave w r when view report
-MayTell w r when (New view reports) = Unit {0}
+MayTell w r when (New view reports) = MayGive w r view reports
 MayTell w r when Other = Unit {0}
 
 -- A replica may say this now: at its last stand, in no view below one for which it left, and true.

@@ -101,6 +101,12 @@ module _ {S : Type 0} (R : Rules S) (interval : ℕ) (w : World) (lawful : IsLaw
             once = λ number x m says what.
                 absurd (own_said w r leave (λ z. z.what ≡ Statement.Began view.0 m → ⊥)
                 (λ i z at is. omega (arith, tied.quiet.confirmed i z view.0 m at is)) (λ is. cc) number x says what);
+            gave = λ number x other reports says what.
+                own_said w r leave (λ z. z.what ≡ Statement.New other reports → other ≤ view.0)
+                (λ i z at is. omega (arith, tied.quiet.gave i z other reports at is)) (λ is. absurd cc) number x says what;
+            gave_once = λ number x reports says what.
+                absurd (own_said w r leave (λ z. z.what ≡ Statement.New view.0 reports → ⊥)
+                (λ i z at is. omega (arith, tied.quiet.gave i z view.0 reports at is)) (λ is. cc) number x says what);
             voted = λ number x other m says vote.
                 own_said w r leave (λ z. IsVote other m z.what → other ≤ c.views.last_view.0)
                 (λ i z at is. tied.quiet.voted i z other m at is) (λ is. absurd is) number x says vote;

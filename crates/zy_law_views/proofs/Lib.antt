@@ -25,6 +25,7 @@ pub mod CommonPlaces
 pub mod EmptyHistory
 pub mod FirstEntry
 pub mod Gathered
+pub mod Giving
 pub mod HeardRows
 pub mod InstalledWorld
 pub mod Leaves

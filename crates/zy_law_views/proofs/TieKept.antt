@@ -62,6 +62,8 @@ tied_at_start {S} R interval r w me state some apart start correct is told =
         left = λ number x view report says what. none_said w r silent number x says;
         confirmed = λ number x view m says what. none_said w r silent number x says;
         once = λ number x m says what. tt;
+        gave = λ number x view reports says what. none_said w r silent number x says;
+        gave_once = λ number x reports says what. tt;
         voted = λ number x view m says vote. none_said w r silent number x says;
         ordered = λ number x view m request says what. none_said w r silent number x says;
       };
@@ -151,6 +153,8 @@ module _ {S : Type 0} (R : Rules S) (interval : ℕ) (w : World) (lawful : IsLaw
             left = tied.quiet.left;
             confirmed = tied.quiet.confirmed;
             once = tied.quiet.once;
+            gave = tied.quiet.gave;
+            gave_once = tied.quiet.gave_once;
             voted = tied.quiet.voted;
             ordered = tied.quiet.ordered;
           };
@@ -236,6 +240,8 @@ module _ {S : Type 0} (R : Rules S) (interval : ℕ) (w : World) (lawful : IsLaw
             left = tied.quiet.left;
             confirmed = tied.quiet.confirmed;
             once = tied.quiet.once;
+            gave = tied.quiet.gave;
+            gave_once = tied.quiet.gave_once;
             voted = tied.quiet.voted;
             ordered = tied.quiet.ordered;
           };
@@ -290,6 +296,8 @@ module _ {S : Type 0} (R : Rules S) (interval : ℕ) (w : World) (lawful : IsLaw
           left = tied.quiet.left;
           confirmed = tied.quiet.confirmed;
           once = tied.quiet.once;
+          gave = tied.quiet.gave;
+          gave_once = tied.quiet.gave_once;
           voted = tied.quiet.voted;
           ordered = tied.quiet.ordered;
         };

@@ -150,6 +150,8 @@ module _ (w : World) (asked : ℕ → List Entry) (said : ℕ → List Spoken) (
           left = λ number x view report at what. is.left number x view report (was number x at) what;
           confirmed = λ number x view m at what. is.confirmed number x view m (was number x at) what;
           once = λ number x m at what. is.once number x m (was number x at) what;
+          gave = λ number x view reports at what. is.gave number x view reports (was number x at) what;
+          gave_once = λ number x reports at what. is.gave_once number x reports (was number x at) what;
           voted = λ number x view m at vote. is.voted number x view m (was number x at) vote;
           ordered = λ number x view m request at what. is.ordered number x view m request (was number x at) what;
         }
