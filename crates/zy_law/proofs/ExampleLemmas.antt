@@ -380,7 +380,7 @@ in_order {next} {interval} r is apart =
     subst (λ (f : Digest → Entry → Digest). IsInOrder f interval (report_of r)) (sym is)
     (subst (λ (k : ℕ). IsInOrder next_text k (report_of r)) (sym apart)
     (record {
-      multiple = refl;
+      multiple = omega arith;
       few = lit≤ tt;
       clients = All-cons (λ (e : Entry). e.client.0 < 64) first_entry (second_entry ∷ []) (lit< tt) (All-cons (λ (e : Entry). e.client.0 < 64) second_entry [] (lit< tt) (All-nil (λ (e : Entry). e.client.0 < 64)));
       end = omega arith;
