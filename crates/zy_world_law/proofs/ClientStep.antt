@@ -1,6 +1,6 @@
 -- A step of a correct client keeps a good world good.
-use Rattle.std.proofs.Common.{◌≡◌, ◌≢◌, inl, inr, ℕ, Bool, List, [], ◌∷◌, map, Option, Some, refl, sym, ap, ◌∙◌, subst}
-use Rattle.std.specs.Prelude.{is_none, Contains, slice_get}
+use Rattle.std.proofs.Common.{◌≡◌, ◌≢◌, inl, inr, ℕ, Bool, List, [], ◌∷◌, map, Option, Some, None, refl, sym, ap, ◌∙◌, subst}
+use Rattle.std.specs.Prelude.{IfSome, is_none, Contains, slice_get}
 use Rattle.std.specs.List.{AllByRecursion, filter_map}
 use Rattle.std.proofs.lemmas.Bool.{cases_eq}
 use Rattle.std.proofs.lemmas.List.{length-set}
@@ -22,6 +22,7 @@ use Rattle.zy_law.specs.Steps.{IsGrown, grown}
 use Rattle.zy_law.specs.World as law
 use Rattle.zy_parts.specs.declared.signed.Signed.{Signed}
 use Rattle.zy_parts.specs.declared.statements.Ask.{Ask}
+use Rattle.zy_parts.specs.declared.statements.Order.{Order}
 use Rattle.zy_table.specs.ClientRows.{kept_of}
 use Rattle.zy_table.specs.ClientState.{ClientOutcome, spoken_of}
 use Rattle.zy_table.specs.declared.client.Commit.{Commit}
@@ -29,7 +30,7 @@ use Rattle.zy_table.specs.declared.client.Response.{Response}
 use Rattle.zy_law_views.specs.Rows.{IsReady}
 use Rattle.zy_law_views.specs.Work.{IsAtWork}
 use Rattle.zy_world_law.specs.Events.{client_stepped, with_client, history_of}
-use Rattle.zy_world_law.specs.Good.{IsGood, IsTied, IsClientTied, IsBackedBy, IsCommitBacked, IsDone}
+use Rattle.zy_world_law.specs.Good.{IsGood, IsTied, IsClientTied, IsBackedBy, IsCommitBacked, IsDone, IsOrderBacked}
 use Rattle.zy_world_law.specs.Safe.{completion_of}
 use Rattle.zy_world_law.specs.Seen.{seen, asked_by, asked_of, entry_in}
 use Rattle.zy_world_law.specs.World.{World, Replica, Client, Completed, replica_at, client_at, correct_in}
@@ -136,8 +137,12 @@ module _ {S : Type 0} (R : Rules S) (w : World S) (good : IsGood R w) (id : Clie
         spelled = before.spelled;
       }
 
+  ordered_after : (order : Option (Signed Order)) → IfSome order (IsOrderBacked w) → IfSome order (IsOrderBacked w')
+  ordered_after None is = tt
+  ordered_after (Some order) is = record { signer = is.signer; by = is.by; leads = is.leads; said = is.said }
+
   backed_after : (number : ℕ) (r : Response) → IsBackedBy w number r → IsBackedBy w' number r
-  backed_after number r b = record { within = b.within; said = b.said; reply = b.reply; spelled = b.spelled }
+  backed_after number r b = record { within = b.within; said = b.said; reply = b.reply; ordered = ordered_after r.order b.ordered; spelled = b.spelled }
 
   commit_after : (c : Commit) → IsCommitBacked v w.texts c → IsCommitBacked (seen R w') w.texts c
   commit_after c is =
