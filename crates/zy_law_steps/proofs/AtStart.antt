@@ -23,13 +23,14 @@ use Rattle.zy_law_normal.specs.Tied.{Agrees, MayRun}
 use Rattle.zy_seal.specs.Keys.{Keys}
 use Rattle.zy_seal.specs.Sealing.{SealerState}
 use Rattle.zy_table.specs.State.{State, start_of}
+use Rattle.zy_law_views.proofs.SignedSlots.{signed_more}
 use Rattle.zy_law_views.proofs.TieKept.{tied_at_start}
-use Rattle.zy_law_views.proofs.TiedGrown.{parts_more}
+use Rattle.zy_law_views.proofs.TiedGrown.{parts_more, vouched_more}
 use Rattle.zy_law_views.specs.Adopted.{IsHistoryKept}
 use Rattle.zy_law_views.specs.Held.{IsHeldPart}
 use Rattle.zy_law_views.specs.Texts.{AreLinks, Texts}
 use Rattle.zy_law_views.specs.Tied.{IsTied}
-use Rattle.zy_law_views.specs.Told.{check_told, response_told}
+use Rattle.zy_law_views.specs.Told.{check_told, order_told, response_told}
 use Rattle.zy_law_views.specs.Cores.{core_of}
 use Rattle.zy_law_views.proofs.EmptyHistory.{empty_kept}
 use Rattle.zy_law_views.specs.Steps.{IsWorldOf}
@@ -60,6 +61,7 @@ module _ {S : Type 0} (R : Rules S) (interval r : ℕ) (w : World) (me : Replica
         ordered = λ number x m request says what. let nothing : slice_get [] number ≡ Some x = ap (λ (l : List Spoken). slice_get l number) (sym (start.silent r correct)) ∙ says in absurd cc;
         based = refl;
         runs = tt;
+        signed = tt;
         few = omega arith;
         end = omega arith;
         near = none_kept (IsHeldPart w response_told) (IsHeldPart w check_told);
@@ -77,6 +79,7 @@ work_grown interval r w s asked said past kept more told stood is =
           omega (arith, is.ordered number x m request (ap (λ (l : List Spoken). slice_get l number) (sym told) ∙ says) what, ap last_long stood);
       based = is.based;
       runs = slots_more w (grown w asked said past kept) may s.orders.slots is.runs;
+      signed = signed_more w (grown w asked said past kept) (λ order held. vouched_more w asked said past kept more.asks more.says more.stands more.keeps (order_told order.stmt) order.by held) s.orders.slots is.signed;
       few = is.few;
       end = is.end;
       near = round s.board.near is.near;

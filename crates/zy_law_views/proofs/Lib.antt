@@ -31,6 +31,7 @@ pub mod InstalledWorld
 pub mod Leaves
 pub mod Led
 pub mod Settled
+pub mod SignedSlots
 pub mod SmallChange
 pub mod Verdicts
 pub mod Adopting

@@ -37,7 +37,7 @@ module _ (w : World) (asked : ℕ → List Entry) (said : ℕ → List Spoken) (
   abbrev more : World
   more = grown w asked said past kept
 
-  vouched_more : (s : Statement) (by : Party) → IsVouchedBy w s by → IsVouchedBy more s by
+  pub vouched_more : (s : Statement) (by : Party) → IsVouchedBy w s by → IsVouchedBy more s by
   vouched_more s (Replica id) vouched = vouched_grown w asked said past kept asks says stands s id.0 vouched
   vouched_more s (Client id) vouched = absurd vouched
 
@@ -227,6 +227,15 @@ module _ (w : World) (r : ℕ) (y : Spoken) where
           covered = λ number x m at vote.
               own_said w r y (λ z. IsVote c.views.last_view.0 m z.what → IsFarEnough c.views.specs m.place) (λ i z at is_vote. is.covered i z m at is_vote) (new m) number x at vote;
         }
+
+-- so is one statement that is held
+pub held_said : {S : Type 0} (w : World) (r : ℕ) (y : Spoken) (say : S → Statement) (x : Signed S) → IsHeldPart w say x → IsHeldPart (after_saying w r y) say x
+held_said w r y say x held =
+    vouched_more w w.asked (with_last w.said r y) w.past w.kept (λ q e has. has) (λ q i z at. with_last-kept w.said r y q i z at) (λ q i b at. at) (λ h e is. is) (say x.stmt) x.by held
+
+pub held_stood : {S : Type 0} (w : World) (r : ℕ) (b : Stand) (say : S → Statement) (x : Signed S) → IsHeldPart w say x → IsHeldPart (after_standing w r b) say x
+held_stood w r b say x held =
+    vouched_more w w.asked w.said (with_last w.past r b) w.kept (λ q e has. has) (λ q i z at. at) (λ q i d at. with_last-kept w.past r b q i d at) (λ h e is. is) (say x.stmt) x.by held
 
 -- ---- after it stands elsewhere
 
