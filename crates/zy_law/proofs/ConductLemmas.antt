@@ -4,7 +4,6 @@ use Rattle.std.specs.Prelude.{Contains, slice_get}
 use Rattle.zy_base.specs.declared.ids.Digest.{Digest}
 use Rattle.zy_chain.specs.declared.entry.Entry.{Entry}
 use Rattle.zy_chain.specs.Stretch.{Mark}
-use Rattle.zy_choose.specs.Reports.{PlainReport}
 use Rattle.zy_law.specs.Conduct.{AreReportsFormed, HistoryStaysWhileLeaving, IsActive, IsConduct, IsGiven, NewsAreGiven, SaidOnce, SaidWhileActive}
 use Rattle.zy_law.specs.Formed.{IsFormedStart, IsInOrder}
 use Rattle.zy_law.specs.Lawful.{IsLawful, IsVote, StoodAt, view_of}
@@ -12,7 +11,7 @@ use Rattle.zy_law.specs.Said.{IsCorrect, Says, Stood}
 use Rattle.zy_law.specs.Steps.{Act, AllMay, IsStart, May, MayConfirm, MayGive, MayKeep, MayLeave, MayOrder, MaySay, MayStand, MayTell, after_act, after_acts, after_asking, after_keeping, after_saying, after_standing, grown, with_last}
 use Rattle.zy_law.specs.Steps.Act.{Say, Move}
 use Rattle.zy_law.specs.World.{Spoken, Stand, Statement, World}
-use Rattle.zy_law.specs.World.Statement.{Order, Spec, Local, Check, Began, Change, New}
+use Rattle.zy_law.specs.World.Statement.{Order, Local, Check, Began, Change, New}
 use Rattle.zy_law.proofs.GrownLemmas.{each_item, each_pair, formed_new_grown, formed_start_grown, with_last-contains, with_last-kept}
 use Rattle.zy_law.proofs.StepsLawful.{more_lawful, none_said, saying_lawful, standing_lawful, start_lawful}
 

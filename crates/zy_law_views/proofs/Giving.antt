@@ -16,7 +16,7 @@ use Rattle.zy_law.specs.Lawful.{IsLawful, IsVote}
 use Rattle.zy_law.specs.Said.{IsCorrect, Says}
 use Rattle.zy_law.specs.Steps.{MaySay, after_saying}
 use Rattle.zy_law.specs.World.{Spoken, Statement, World}
-use Rattle.zy_law_views.specs.Tied.{Core, IsChosenNew, IsConfirmedAs, IsGivenAs, IsKeptNew, IsTied, given_with, said_now}
+use Rattle.zy_law_views.specs.Tied.{Core, IsChosenNew, IsGivenAs, IsKeptNew, IsTied, given_with, said_now}
 use Rattle.zy_law_views.specs.Told.{new_told}
 use Rattle.zy_law_views.proofs.Confirming.{none_confirmed, none_given}
 use Rattle.zy_law_views.proofs.ProvenReports.{new_valid, reports_in_order}
