@@ -8,7 +8,7 @@ use Rattle.zy_base.specs.declared.frame_fault.FrameFault.{FrameFault}
 use Rattle.zy_base.specs.declared.frame_fault.FrameFault.TheVariants as faults
 use Rattle.zy_base.specs.declared.step.Event.{Event}
 use Rattle.zy_base.specs.declared.step.Event.TheVariants.{Heard, Timer}
-use Rattle.zy_admit.specs.Judging.{entry_of, judge_in}
+use Rattle.zy_admit.specs.Judging.{judge_in}
 use Rattle.zy_admit.specs.Orders.{stored_in}
 use Rattle.zy_admit.specs.declared.judging.Admit.{Admit}
 use Rattle.zy_admit.specs.declared.judging.Admit.TheVariants as admits
