@@ -1,5 +1,5 @@
 -- The small world is lawful, act by act.
-use Rattle.std.proofs.Common.{◌≡◌, ℕ, zero, suc, ◌+◌, ◌-◌, ◌<◌, ◌≤◌, Bool, true, false, not, leb, ltb, ◌&&◌, ◌⊎◌, inl, inr, List, [], ◌∷◌, ◌++◌, length, take, drop, get_or, Some, refl, sym, ap, ◌∙◌, subst, arith, lit<, lit≤}
+use Rattle.std.proofs.Common.{◌≡◌, ℕ, zero, suc, ◌+◌, ◌-◌, ◌%◌, ◌<◌, ◌≤◌, Bool, true, false, not, leb, ltb, ◌&&◌, ◌⊎◌, inl, inr, List, [], ◌∷◌, ◌++◌, length, take, drop, get_or, Some, refl, sym, ap, ◌∙◌, subst, arith, lit<, lit≤}
 use Rattle.std.specs.Prelude.{All, Contains, count_by, slice_get}
 use Rattle.std.specs.List.{list_all}
 use Rattle.std.proofs.lemmas.Bool.{and_parts, and_right, leb-true, ltb-true, false_from_ne_true}
@@ -16,17 +16,19 @@ use Rattle.zy_choose.specs.Reports.{PlainReport, proven}
 use Rattle.zy_choose.specs.Choice.{last_in, IsAgreed, IsChoice}
 use Rattle.zy_choose.specs.Choice.IsPicked.{anchored}
 use Rattle.zy_choose.proofs.MarkLemmas.{has_mark-Has}
+use Rattle.zy_law.specs.Conduct.{IsConduct}
 use Rattle.zy_law.specs.Fixed.{IsCertified}
+use Rattle.zy_law.specs.Formed.{IsInOrder}
 use Rattle.zy_law.specs.Histories.{Passes, IsEntryAt, AreKept, origin, mark_of_all}
 use Rattle.zy_law.specs.World.{Answer, Statement, Spoken, Stand, World}
 use Rattle.zy_law.specs.World.Statement.{Order, Spec, Local, Check, Began, Change, New}
 use Rattle.zy_law.specs.Said.{Says, Stood, HasSaid, IsVouched, IsBacked}
 use Rattle.zy_law.specs.Reports.{IsProven, IsValidReport, IsValidNew}
-use Rattle.zy_law.specs.Lawful.{IsLawful, IsVote, IsTrueResponse, IsTrueAnswer, IsTrueVote, IsOrdered, IsAskedFor, AreAskedFor}
+use Rattle.zy_law.specs.Lawful.{IsVote, IsTrueResponse, IsTrueAnswer, IsTrueVote, IsOrdered, IsAskedFor, AreAskedFor}
 use Rattle.zy_law.specs.Steps.{IsStart, MaySay, MayStand, AllMay, after_acts}
 use Rattle.zy_law.specs.Example.{next_text, text_of, first_entry, second_entry, first_mark, second_mark, first_answer, second_answer, before_all, primary_acts, backup_acts, answered, leave_acts, left, reports, report_of, says, begin_acts, confirmed, move_acts, example}
 use Rattle.zy_law.proofs.CountLemmas.{bit}
-use Rattle.zy_law.proofs.StepsLawful.{start_lawful, acts_lawful}
+use Rattle.zy_law.proofs.ConductLemmas.{acts_conduct, start_conduct}
 
 -- ---- tests of what was said
 
@@ -342,10 +344,10 @@ second_backup_may = (
   ),
 )
 
-answered_lawful : IsLawful answered
-answered_lawful =
-    acts_lawful (after_acts (after_acts before_all 0 primary_acts) 1 backup_acts) 2 backup_acts
-    (acts_lawful (after_acts before_all 0 primary_acts) 1 backup_acts (acts_lawful before_all 0 primary_acts (start_lawful before_all starts) primary_may) first_backup_may)
+answered_conduct : IsConduct answered
+answered_conduct =
+    acts_conduct (after_acts (after_acts before_all 0 primary_acts) 1 backup_acts) 2 backup_acts
+    (acts_conduct (after_acts before_all 0 primary_acts) 1 backup_acts (acts_conduct before_all 0 primary_acts (start_conduct before_all starts) primary_may) first_backup_may)
     second_backup_may
 
 -- ---- the leave
@@ -372,10 +374,24 @@ report_proven {w} r three backed =
       stable_later = λ positive. absurd (omega arith);
     }
 
-may_leave : {w : World} {r : ℕ} → 3 ≡ length (w.past r) → Stood w r 2 two → w.next ≡ next_text → w.counts.cert ≡ 3 → IsIn (w.said r)
+-- the reports are in order
+in_order : {next : Digest → Entry → Digest} {interval : ℕ} (r : ℕ) → next ≡ next_text → interval ≡ 2 → IsInOrder next interval (report_of r)
+in_order {next} {interval} r is apart =
+    subst (λ (f : Digest → Entry → Digest). IsInOrder f interval (report_of r)) (sym is)
+    (subst (λ (k : ℕ). IsInOrder next_text k (report_of r)) (sym apart)
+    (record {
+      multiple = omega arith;
+      few = lit≤ tt;
+      clients = All-cons (λ (e : Entry). e.client.0 < 64) first_entry (second_entry ∷ []) (lit< tt) (All-cons (λ (e : Entry). e.client.0 < 64) second_entry [] (lit< tt) (All-nil (λ (e : Entry). e.client.0 < 64)));
+      end = omega arith;
+      began = record { within = lit≤ tt; shared = λ above. record { above = lit≤ tt; below = lit≤ tt; head = refl } };
+      spec = record { within = lit≤ tt; shared = λ above. record { above = lit≤ tt; below = lit≤ tt; head = refl } };
+    }))
+
+may_leave : {w : World} {r : ℕ} → 3 ≡ length (w.past r) → Stood w r 2 two → w.next ≡ next_text → w.interval ≡ 2 → w.counts.cert ≡ 3 → IsIn (w.said r)
     → list_all (λ (y : Spoken). leb (voted_place y.what) 2) (w.said r) ≡ true → IsBacked w 3 (Spec 0 second_mark second_answer)
     → MaySay w r (record { what = Change 1 (report_of r); when = 2 })
-may_leave {w} {r} now stood next three is_in votes backed =
+may_leave {w} {r} now stood next apart three is_in votes backed =
     record {
       now = now;
       silence = λ number y view spoken report at what of. absurd (not_left (w.said r) number y view report is_in at what);
@@ -393,6 +409,7 @@ may_leave {w} {r} now stood next three is_in votes backed =
                       let far = leb-true (voted_place y.what) 2 (list_all_at (λ (z : Spoken). leb (voted_place z.what) 2) (w.said r) earlier y votes at) in
                       record { spec = second_mark; held = refl; far = omega (arith, vote_is 0 m y.what vote, far) };
                 };
+            in_order = in_order r next apart;
             first = λ number y second at what. absurd (not_left (w.said r) number y 1 second is_in at what);
           };
     }
@@ -405,7 +422,7 @@ leave_may_0 = (
   may_commit refl refl
       (record { at = record { stand = two; stood = refl; view_is = refl; passes = passes_second }; certified = (second_answer, second_certified refl (3, second_spoken, refl, refl) (1, second_spoken, refl, refl) (1, second_spoken, refl, refl)) }),
   (
-    may_leave refl refl refl refl refl refl (second_certified refl (3, second_spoken, refl, refl) (1, second_spoken, refl, refl) (1, second_spoken, refl, refl)),
+    may_leave refl refl refl refl refl refl refl (second_certified refl (3, second_spoken, refl, refl) (1, second_spoken, refl, refl) (1, second_spoken, refl, refl)),
     tt,
   ),
 )
@@ -415,7 +432,7 @@ leave_may_1 = (
   may_commit refl refl
       (record { at = record { stand = two; stood = refl; view_is = refl; passes = passes_second }; certified = (second_answer, second_certified refl (3, second_spoken, refl, refl) (1, second_spoken, refl, refl) (1, second_spoken, refl, refl)) }),
   (
-    may_leave refl refl refl refl refl refl (second_certified refl (3, second_spoken, refl, refl) (1, second_spoken, refl, refl) (1, second_spoken, refl, refl)),
+    may_leave refl refl refl refl refl refl refl (second_certified refl (3, second_spoken, refl, refl) (1, second_spoken, refl, refl) (1, second_spoken, refl, refl)),
     tt,
   ),
 )
@@ -425,15 +442,15 @@ leave_may_2 = (
   may_commit refl refl
       (record { at = record { stand = two; stood = refl; view_is = refl; passes = passes_second }; certified = (second_answer, second_certified refl (3, second_spoken, refl, refl) (1, second_spoken, refl, refl) (1, second_spoken, refl, refl)) }),
   (
-    may_leave refl refl refl refl refl refl (second_certified refl (3, second_spoken, refl, refl) (1, second_spoken, refl, refl) (1, second_spoken, refl, refl)),
+    may_leave refl refl refl refl refl refl refl (second_certified refl (3, second_spoken, refl, refl) (1, second_spoken, refl, refl) (1, second_spoken, refl, refl)),
     tt,
   ),
 )
 
-left_lawful : IsLawful left
-left_lawful =
-    acts_lawful (after_acts (after_acts answered 0 (leave_acts 0)) 1 (leave_acts 1)) 2 (leave_acts 2)
-    (acts_lawful (after_acts answered 0 (leave_acts 0)) 1 (leave_acts 1) (acts_lawful answered 0 (leave_acts 0) answered_lawful leave_may_0) leave_may_1)
+left_conduct : IsConduct left
+left_conduct =
+    acts_conduct (after_acts (after_acts answered 0 (leave_acts 0)) 1 (leave_acts 1)) 2 (leave_acts 2)
+    (acts_conduct (after_acts answered 0 (leave_acts 0)) 1 (leave_acts 1) (acts_conduct answered 0 (leave_acts 0) answered_conduct leave_may_0) leave_may_1)
     leave_may_2
 
 -- ---- the new view
@@ -517,21 +534,51 @@ left_for said i y view report have at what =
     let told = leb-true (left_view y.what) 1 (list_all_at (λ (z : Spoken). leb (left_view z.what) 1) said i y have at) in
     omega (arith, told, ap left_view what)
 
-may_confirm : {w : World} {r : ℕ} → 3 ≡ length (w.past r) → HaveLeft (w.said r) → IsUnconfirmed (w.said r) → IsValidNew w 1 reports → IsChoice w.next w.counts.agree reports second_mark
+three_in_order : {next : Digest → Entry → Digest} {interval : ℕ} → next ≡ next_text → interval ≡ 2 → All (IsInOrder next interval) reports
+three_in_order {next} {interval} is apart =
+    All-cons (IsInOrder next interval) (report_of 0) (report_of 1 ∷ report_of 2 ∷ []) (in_order 0 is apart)
+    (All-cons (IsInOrder next interval) (report_of 1) (report_of 2 ∷ []) (in_order 1 is apart) (All-cons (IsInOrder next interval) (report_of 2) [] (in_order 2 is apart) (All-nil (IsInOrder next interval))))
+
+may_confirm : {w : World} {r : ℕ} → w.next ≡ next_text → w.interval ≡ 2 → 3 ≡ length (w.past r) → HaveLeft (w.said r) → IsUnconfirmed (w.said r) → IsValidNew w 1 reports → IsChoice w.next w.counts.agree reports second_mark
     → MaySay w r (record { what = Began 1 second_mark; when = 2 })
-may_confirm {w} {r} now have fresh valid choice =
+may_confirm {w} {r} is apart now have fresh valid choice =
     record {
       now = now;
       silence = λ number y view spoken report at what of. omega (arith, left_for (w.said r) number y view report have at what, same_Some 1 spoken of);
       told =
           record {
-            chosen = record { reports = reports; valid = valid; choice = choice };
+            chosen = record { start = record { reports = reports; valid = valid; choice = choice }; in_order = three_in_order is apart };
             first = λ number y k at what. absurd (not_confirmed (w.said r) number y 1 k fresh at what);
           };
     }
 
-may_give : {w : World} {r : ℕ} → 3 ≡ length (w.past r) → MaySay w r (record { what = New 1 reports; when = 2 })
-may_give now = record { now = now; silence = λ number y view spoken report at what of. absurd cc; told = tt }
+abbrev gives : Statement → Bool
+gives (New v r) = true
+gives _ = false
+
+-- none has given a new view yet
+abbrev IsUngiven : List Spoken → Type 0
+IsUngiven said = list_all (λ (y : Spoken). not (gives y.what)) said ≡ true
+
+not_given : (said : List Spoken) (i : ℕ) (y : Spoken) (view : ℕ) (r : List PlainReport) → IsUngiven said → slice_get said i ≡ Some y → y.what ≡ New view r → ⊥
+not_given said i y view r is_in at what =
+    let told = list_all_at (λ (z : Spoken). not (gives z.what)) said i y is_in at in
+    let is : not (gives y.what) ≡ false = ap (λ (s : Statement). not (gives s)) what in
+    absurd (cc (sym told, is))
+
+may_give : {w : World} {r : ℕ} → w.next ≡ next_text → w.interval ≡ 2 → 3 ≡ length (w.past r) → 1 % w.counts.n ≡ r → IsUngiven (w.said r) → IsValidNew w 1 reports
+    → MaySay w r (record { what = New 1 reports; when = 2 })
+may_give {w} {r} is apart now primary fresh valid =
+    record {
+      now = now;
+      silence = λ number y view spoken report at what of. absurd cc;
+      told =
+          record {
+            primary = primary;
+            formed = record { valid = valid; in_order = three_in_order is apart };
+            first = λ number y second at what. absurd (not_given (w.said r) number y 1 second fresh at what);
+          };
+    }
 
 may_begin : {w : World} {r : ℕ} → 3 ≡ length (w.past r) → Stood w r 2 two → HaveLeft (w.said r) → IsBacked w w.counts.cert (Began 1 (mark_of_all w.next (first_entry ∷ second_entry ∷ [])))
     → AreKept w.kept w.next empty_head (first_entry ∷ second_entry ∷ []) → AreOrdersOf w (first_entry ∷ second_entry ∷ []) (w.said r)
@@ -561,18 +608,18 @@ valid_while size three change a b c x y z =
     (3, record { what = Change 1 (report_of 2); when = 2 }, z, refl) (second_certified size (3, second_spoken, a, refl) (1, second_spoken, b, refl) (1, second_spoken, c, refl))
 
 begin_may_0 : AllMay left 0 begin_acts
-begin_may_0 = (may_confirm refl refl refl (valid_while refl refl refl refl refl refl refl refl refl) chosen, tt)
+begin_may_0 = (may_confirm refl refl refl refl refl (valid_while refl refl refl refl refl refl refl refl refl) chosen, tt)
 
 begin_may_1 : AllMay (after_acts left 0 begin_acts) 1 (says (New 1 reports) 2 ∷ begin_acts)
-begin_may_1 = (may_give refl, (may_confirm refl refl refl (valid_while refl refl refl refl refl refl refl refl refl) chosen, tt))
+begin_may_1 = (may_give refl refl refl refl refl (valid_while refl refl refl refl refl refl refl refl refl), (may_confirm refl refl refl refl refl (valid_while refl refl refl refl refl refl refl refl refl) chosen, tt))
 
 begin_may_2 : AllMay (after_acts (after_acts left 0 begin_acts) 1 (says (New 1 reports) 2 ∷ begin_acts)) 2 begin_acts
-begin_may_2 = (may_confirm refl refl refl (valid_while refl refl refl refl refl refl refl refl refl) chosen, tt)
+begin_may_2 = (may_confirm refl refl refl refl refl (valid_while refl refl refl refl refl refl refl refl refl) chosen, tt)
 
-confirmed_lawful : IsLawful confirmed
-confirmed_lawful =
-    acts_lawful (after_acts (after_acts left 0 begin_acts) 1 (says (New 1 reports) 2 ∷ begin_acts)) 2 begin_acts
-    (acts_lawful (after_acts left 0 begin_acts) 1 (says (New 1 reports) 2 ∷ begin_acts) (acts_lawful left 0 begin_acts left_lawful begin_may_0) begin_may_1)
+confirmed_conduct : IsConduct confirmed
+confirmed_conduct =
+    acts_conduct (after_acts (after_acts left 0 begin_acts) 1 (says (New 1 reports) 2 ∷ begin_acts)) 2 begin_acts
+    (acts_conduct (after_acts left 0 begin_acts) 1 (says (New 1 reports) 2 ∷ begin_acts) (acts_conduct left 0 begin_acts left_conduct begin_may_0) begin_may_1)
     begin_may_2
 
 abbrev began_spoken : Spoken
@@ -602,10 +649,10 @@ move_may_1 = (may_begin refl refl refl (began_certified refl refl refl refl) (re
 move_may_2 : AllMay (after_acts (after_acts confirmed 0 move_acts) 1 move_acts) 2 move_acts
 move_may_2 = (may_begin refl refl refl (began_certified refl refl refl refl) (refl, (refl, tt)) (tt, (tt, (tt, (tt, (tt, tt))))), tt)
 
-pub example_lawful : IsLawful example
-example_lawful =
-    acts_lawful (after_acts (after_acts confirmed 0 move_acts) 1 move_acts) 2 move_acts
-    (acts_lawful (after_acts confirmed 0 move_acts) 1 move_acts (acts_lawful confirmed 0 move_acts confirmed_lawful move_may_0) move_may_1)
+pub example_conduct : IsConduct example
+example_conduct =
+    acts_conduct (after_acts (after_acts confirmed 0 move_acts) 1 move_acts) 2 move_acts
+    (acts_conduct (after_acts confirmed 0 move_acts) 1 move_acts (acts_conduct confirmed 0 move_acts confirmed_conduct move_may_0) move_may_1)
     move_may_2
 
 -- ---- what it has

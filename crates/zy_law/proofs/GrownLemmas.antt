@@ -11,6 +11,7 @@ use Rattle.zy_chain.specs.Heads.{empty_head}
 use Rattle.zy_chain.specs.Stretch.{Mark}
 use Rattle.zy_choose.specs.Reports.{PlainReport}
 use Rattle.zy_law.specs.Fixed.{IsCertified, IsFixed}
+use Rattle.zy_law.specs.Formed.{IsFormedNew, IsFormedStart}
 use Rattle.zy_law.specs.Histories.{AreKept}
 use Rattle.zy_law.specs.Reports.{IsProven, IsValidReport, IsValidNew}
 use Rattle.zy_law.specs.World.{Answer, Statement, Spoken, Stand, World}
@@ -186,6 +187,13 @@ module _ (w : World) (asked : ℕ → List Entry) (said : ℕ → List Spoken) (
 
   pub chosen_grown : (view : ℕ) (m : Mark) → IsChosenStart w view m → IsChosenStart (grown w asked said past kept) view m
   chosen_grown view m c = record { reports = c.reports; valid = valid_grown view c.reports c.valid; choice = c.choice }
+
+  pub formed_start_grown : (view : ℕ) (m : Mark) → IsFormedStart w view m → IsFormedStart (grown w asked said past kept) view m
+  formed_start_grown view m f =
+      record { start = record { reports = f.start.reports; valid = valid_grown view f.start.reports f.start.valid; choice = f.start.choice }; in_order = f.in_order }
+
+  pub formed_new_grown : (view : ℕ) (reports : List PlainReport) → IsFormedNew w view reports → IsFormedNew (grown w asked said past kept) view reports
+  formed_new_grown view reports f = record { valid = valid_grown view reports f.valid; in_order = f.in_order }
 
   pub stood_at_grown : (r when view : ℕ) (m : Mark) → StoodAt w r when view m → StoodAt (grown w asked said past kept) r when view m
   stood_at_grown r when view m at = record { stand = at.stand; stood = stands r when at.stand at.stood; view_is = at.view_is; passes = at.passes }

@@ -2,6 +2,7 @@ pub mod BeganOnce
 pub mod ChoiceExtends
 pub mod ChoiceIsKnown
 pub mod CompletedLemmas
+pub mod ConductLemmas
 pub mod CountLemmas
 pub mod EntriesAskedFor
 pub mod ExampleLemmas

@@ -20,7 +20,7 @@ use Rattle.zy_law.proofs.GrownLemmas.{with_last-kept, with_last-longer, with_las
 -- ---- the start
 
 module _ (w : World) (start : IsStart w) where
-  none_said : (r number : ℕ) (x : Spoken) → IsCorrect w r → Says w r number x → ⊥
+  pub none_said : (r number : ℕ) (x : Spoken) → IsCorrect w r → Says w r number x → ⊥
   none_said r number x correct says =
       let nothing : slice_get [] number ≡ Some x = ap (λ (l : List Spoken). slice_get l number) (sym (start.silent r correct)) ∙ says in
       absurd cc
@@ -169,8 +169,8 @@ module _ (w : World) (lawful : IsLawful w) (r : ℕ) (x : Spoken) (may : MaySay 
           one_report = λ q number other y z view report second correct says then what also.
               each_pair w.said r x (λ p i j a b. IsCorrect w p → a.what ≡ Change view report → b.what ≡ Change view second → report ≡ second)
               (λ p i j a b at_i at_j own is too. lawful.one_report p i j a b view report second own at_i at_j is too)
-              (λ i a at own is too. let leave : MayLeave w r x.when view second = told_as (Change view second) too in sym (leave.first i a report at is))
-              (λ j b at own is too. let leave : MayLeave w r x.when view report = told_as (Change view report) is in leave.first j b second at too)
+              (λ i a at own is too. let leave : MayLeave w r x.when view second = told_as (Change view second) too in absurd (leave.first i a report at is))
+              (λ j b at own is too. let leave : MayLeave w r x.when view report = told_as (Change view report) is in absurd (leave.first j b second at too))
               (λ own is too. let same : Change view report ≡ Change view second = sym is ∙ too in cc)
               q number other y z says then (before q correct) what also;
         };
@@ -178,13 +178,13 @@ module _ (w : World) (lawful : IsLawful w) (r : ℕ) (x : Spoken) (may : MaySay 
           chosen_confirmations = λ q number y view m correct says what.
               each_item w.said r x (λ p i z. IsCorrect w p → z.what ≡ Began view m → IsChosenStart (after_saying w r x) view m)
               (λ p i z at own is. chosen_after view m (lawful.chosen_confirmations p i z view m own at is))
-              (λ own is. let confirm : MayConfirm w r view m = told_as (Began view m) is in chosen_after view m confirm.chosen)
+              (λ own is. let confirm : MayConfirm w r view m = told_as (Began view m) is in chosen_after view m confirm.chosen.start)
               q number y says (before q correct) what;
           one_confirmation = λ q number other y z view m k correct says then what also.
               each_pair w.said r x (λ p i j a b. IsCorrect w p → a.what ≡ Began view m → b.what ≡ Began view k → m ≡ k)
               (λ p i j a b at_i at_j own is too. lawful.one_confirmation p i j a b view m k own at_i at_j is too)
-              (λ i a at own is too. let confirm : MayConfirm w r view k = told_as (Began view k) too in sym (confirm.first i a m at is))
-              (λ j b at own is too. let confirm : MayConfirm w r view m = told_as (Began view m) is in confirm.first j b k at too)
+              (λ i a at own is too. let confirm : MayConfirm w r view k = told_as (Began view k) too in absurd (confirm.first i a m at is))
+              (λ j b at own is too. let confirm : MayConfirm w r view m = told_as (Began view m) is in absurd (confirm.first j b k at too))
               (λ own is too. let same : Began view m ≡ Began view k = sym is ∙ too in cc)
               q number other y z says then (before q correct) what also;
         };
@@ -200,8 +200,8 @@ module _ (w : World) (lawful : IsLawful w) (r : ℕ) (x : Spoken) (may : MaySay 
           one_order = λ q number other y z view m k request second correct says then what also place.
               each_pair w.said r x (λ p i j a b. IsCorrect w p → a.what ≡ Order view m request → b.what ≡ Order view k second → (m ≡ k) × (request ≡ second))
               (λ p i j a b at_i at_j own is too. lawful.one_order p i j a b view m k request second own at_i at_j is too place)
-              (λ i a at own is too. let order : MayOrder w r view k second = told_as (Order view k second) too in let same = order.first i a m request at is (sym place) in (sym same.0, sym same.1))
-              (λ j b at own is too. let order : MayOrder w r view m request = told_as (Order view m request) is in order.first j b k second at too place)
+              (λ i a at own is too. let order : MayOrder w r view k second = told_as (Order view k second) too in absurd (order.first i a m request at is (sym place)))
+              (λ j b at own is too. let order : MayOrder w r view m request = told_as (Order view m request) is in absurd (order.first j b k second at too place))
               (λ own is too. let same : Order view m request ≡ Order view k second = sym is ∙ too in (cc, cc))
               q number other y z says then (before q correct) what also;
           ordered_entries = λ q number at y b m request correct says stood what long.

@@ -78,6 +78,7 @@ abbrev pub before_all : World
 before_all =
     record {
       counts = four;
+      interval = 2;
       liar = λ r. nat_eq r 3;
       lying = λ client. false;
       asked = first_asked;

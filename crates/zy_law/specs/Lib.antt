@@ -1,7 +1,9 @@
 pub mod Completed
+pub mod Conduct
 pub mod Counting
 pub mod Example
 pub mod Fixed
+pub mod Formed
 pub mod Histories
 pub mod Lawful
 pub mod Lists

@@ -6,8 +6,9 @@ use Rattle.zy_chain.specs.Heads.{empty_head}
 use Rattle.zy_chain.specs.Stretch.{Mark}
 use Rattle.zy_choose.specs.Reports.{PlainReport}
 use Rattle.zy_law.specs.Counting.{count_below}
+use Rattle.zy_law.specs.Formed.{IsFormedNew, IsFormedStart, IsInOrder}
 use Rattle.zy_law.specs.Histories.{AreKept, HaveOneText, mark_of_all}
-use Rattle.zy_law.specs.Lawful.{IsTrueResponse, IsTrueVote, IsTrueCheck, IsTrueReport, IsChosenStart, IsOrdered, IsNext, AreAskedFor, view_of}
+use Rattle.zy_law.specs.Lawful.{IsTrueResponse, IsTrueVote, IsTrueCheck, IsTrueReport, IsOrdered, IsNext, AreAskedFor, view_of}
 use Rattle.zy_law.specs.Said.{IsCorrect, Says, Stood, IsBacked}
 use Rattle.zy_law.specs.World.{Statement, Spoken, Stand, World}
 use Rattle.zy_law.specs.World.Statement.{Order, Spec, Local, Check, Began, Change, New, Other}
@@ -19,6 +20,7 @@ abbrev pub grown : World → (ℕ → List Entry) → (ℕ → List Spoken) → 
 grown w asked said past kept =
     record {
       counts = w.counts;
+      interval = w.interval;
       liar = w.liar;
       lying = w.lying;
       asked = asked;
@@ -67,18 +69,25 @@ pub record IsStart (w : World) : Type 0 where
 pub record MayOrder (w : World) (r view : ℕ) (m : Mark) (request : Digest) : Type 0 where
   pub primary : view % w.counts.n ≡ r
   pub place : 0 < m.place
-  pub first : (number : ℕ) (y : Spoken) (k : Mark) (second : Digest) → Says w r number y → y.what ≡ Order view k second → m.place ≡ k.place → (m ≡ k) × (request ≡ second)
+  pub first : (number : ℕ) (y : Spoken) (k : Mark) (second : Digest) → Says w r number y → y.what ≡ Order view k second → m.place ≡ k.place → ⊥
   pub entries : (at : ℕ) (b : Stand) → Stood w r at b → b.view ≡ view → m.place ≤ length b.history → IsOrdered w b.history m request
 
--- a confirmation of the choice of a valid new view, the first for the view
+-- a confirmation of the choice of a valid new view, whose reports are in order, the first for the view
 pub record MayConfirm (w : World) (r view : ℕ) (m : Mark) : Type 0 where
-  pub chosen : IsChosenStart w view m
-  pub first : (number : ℕ) (y : Spoken) (k : Mark) → Says w r number y → y.what ≡ Began view k → m ≡ k
+  pub chosen : IsFormedStart w view m
+  pub first : (number : ℕ) (y : Spoken) (k : Mark) → Says w r number y → y.what ≡ Began view k → ⊥
 
--- a leave with a true report, the first for the view
+-- a leave with a true report that is in order, the first for the view
 pub record MayLeave (w : World) (r when view : ℕ) (report : PlainReport) : Type 0 where
   pub true_report : IsTrueReport w r (length (w.said r)) when view report
-  pub first : (number : ℕ) (y : Spoken) (second : PlainReport) → Says w r number y → y.what ≡ Change view second → report ≡ second
+  pub in_order : IsInOrder w.next w.interval report
+  pub first : (number : ℕ) (y : Spoken) (second : PlainReport) → Says w r number y → y.what ≡ Change view second → ⊥
+
+-- a new view by its primary, whose reports are valid and in order, the first for the view
+pub record MayGive (w : World) (r view : ℕ) (reports : List PlainReport) : Type 0 where
+  pub primary : view % w.counts.n ≡ r
+  pub formed : IsFormedNew w view reports
+  pub first : (number : ℕ) (y : Spoken) (second : List PlainReport) → Says w r number y → y.what ≡ New view second → ⊥
 
 abbrev pub MayTell : World → ℕ → ℕ → Statement → Type 0
 MayTell w r when (Order view m request) = MayOrder w r view m request
@@ -87,7 +96,7 @@ MayTell w r when (Local view m) = IsTrueVote w r when view m
 MayTell w r when (Check view m state) = IsTrueCheck w r when view m state
 MayTell w r when (Began view m) = MayConfirm w r view m
 MayTell w r when (Change view report) = MayLeave w r when view report
-MayTell w r when (New view reports) = Unit {0}
+MayTell w r when (New view reports) = MayGive w r view reports
 MayTell w r when Other = Unit {0}
 
 -- A replica may say this now: at its last stand, in no view below one for which it left, and true.

@@ -43,6 +43,8 @@ pub record Spoken : Type 0 where
 -- Parties are numbers. Of liars nothing is told but that they lie.
 pub record World : Type 0 where
   pub counts : Counts
+  -- how far the places lie apart at which checkpoints are said
+  pub interval : ℕ
   -- the replicas and the clients that lie
   pub liar : ℕ → Bool
   pub lying : ℕ → Bool

@@ -1,5 +1,6 @@
 ghost use Rattle.std.specs.Prelude.{◌≡◌, List, [], ◌∷◌};
 ghost use Rattle.zy_choose.specs.Choice.{IsChoice};
+ghost use Rattle.zy_law.specs.Conduct.{IsConduct};
 ghost use Rattle.zy_law.specs.Example.{example, first_entry, first_mark, reports, second_entry, second_mark};
 ghost use Rattle.zy_law.specs.Fixed.{IsCertified, IsFixed};
 ghost use Rattle.zy_law.specs.Lawful.{IsLawful};
@@ -13,6 +14,7 @@ ghost use Rattle.zy_law.specs.World.{Answer};
 pub fn a_lawful_world()
     ensures size { (example.counts.n ≡ 4) × (example.counts.f ≡ 1) }
     ensures lawful { IsLawful example }
+    ensures conduct { IsConduct example }
     ensures fast { (a : Answer) × IsBacked example 4 (Spec 0 first_mark a) }
     ensures slow { IsCertified example 0 second_mark × IsBacked example 3 (Local 0 second_mark) }
     ensures fixed { IsFixed example 0 first_mark × IsFixed example 0 second_mark }

@@ -23,13 +23,14 @@ use Rattle.zy_law_normal.specs.Tied.{Agrees, MayRun}
 use Rattle.zy_seal.specs.Keys.{Keys}
 use Rattle.zy_seal.specs.Sealing.{SealerState}
 use Rattle.zy_table.specs.State.{State, start_of}
+use Rattle.zy_law_views.proofs.SignedSlots.{signed_more}
 use Rattle.zy_law_views.proofs.TieKept.{tied_at_start}
-use Rattle.zy_law_views.proofs.TiedGrown.{parts_more}
+use Rattle.zy_law_views.proofs.TiedGrown.{parts_more, vouched_more}
 use Rattle.zy_law_views.specs.Adopted.{IsHistoryKept}
 use Rattle.zy_law_views.specs.Held.{IsHeldPart}
 use Rattle.zy_law_views.specs.Texts.{AreLinks, Texts}
 use Rattle.zy_law_views.specs.Tied.{IsTied}
-use Rattle.zy_law_views.specs.Told.{check_told, response_told}
+use Rattle.zy_law_views.specs.Told.{check_told, order_told, response_told}
 use Rattle.zy_law_views.specs.Cores.{core_of}
 use Rattle.zy_law_views.proofs.EmptyHistory.{empty_kept}
 use Rattle.zy_law_views.specs.Steps.{IsWorldOf}
@@ -37,8 +38,8 @@ use Rattle.zy_law_views.specs.Rows.{IsReady}
 use Rattle.zy_law_views.specs.Work.{IsAtWork, IsRoundHeld, last_long}
 
 module _ {S : Type 0} (R : Rules S) (interval r : ℕ) (w : World) (me : ReplicaId) (counts : Counts) (keys : Keys) (sealer : SealerState) where
-  pub ready_at_start : 0 < interval → IsLawful w → IsStart w → Agrees R w → IsCorrect w r → me.0 ≡ r → counts ≡ w.counts → sealer.me ≡ Replica me → IsReady R interval w r (start_of R interval me counts keys sealer) []
-  ready_at_start some lawful start agrees correct me_is counts_are signer =
+  pub ready_at_start : 0 < interval → w.interval ≡ interval → IsLawful w → IsStart w → Agrees R w → IsCorrect w r → me.0 ≡ r → counts ≡ w.counts → sealer.me ≡ Replica me → IsReady R interval w r (start_of R interval me counts keys sealer) []
+  ready_at_start some spaced lawful start agrees correct me_is counts_are signer =
       let first : digest_of_snapshot (snapshot_of R (origin R)) ≡ w.state [] =
       ap (λ (p : Point S). digest_of_snapshot (snapshot_of R p)) (sym (along-nil R (origin R))) ∙ ap (λ (f : List Entry → Digest). f []) (sym agrees.state) in
       record {
@@ -46,7 +47,7 @@ module _ {S : Type 0} (R : Rules S) (interval r : ℕ) (w : World) (me : Replica
         links = agrees.next;
         correct = correct;
         tied = subst (λ (c : Counts). IsTied R interval w r (core_of (start_of R interval me c keys sealer)) []) (sym counts_are)
-            (tied_at_start R interval r w me (digest_of_snapshot (snapshot_of R (origin R))) some start correct me_is first);
+            (tied_at_start R interval r w me (digest_of_snapshot (snapshot_of R (origin R))) some spaced start correct me_is first);
         signer = signer;
         interval_is = refl;
       }
@@ -60,6 +61,7 @@ module _ {S : Type 0} (R : Rules S) (interval r : ℕ) (w : World) (me : Replica
         ordered = λ number x m request says what. let nothing : slice_get [] number ≡ Some x = ap (λ (l : List Spoken). slice_get l number) (sym (start.silent r correct)) ∙ says in absurd cc;
         based = refl;
         runs = tt;
+        signed = tt;
         few = omega arith;
         end = omega arith;
         near = none_kept (IsHeldPart w response_told) (IsHeldPart w check_told);
@@ -77,6 +79,7 @@ work_grown interval r w s asked said past kept more told stood is =
           omega (arith, is.ordered number x m request (ap (λ (l : List Spoken). slice_get l number) (sym told) ∙ says) what, ap last_long stood);
       based = is.based;
       runs = slots_more w (grown w asked said past kept) may s.orders.slots is.runs;
+      signed = signed_more w (grown w asked said past kept) (λ order held. vouched_more w asked said past kept more.asks more.says more.stands more.keeps (order_told order.stmt) order.by held) s.orders.slots is.signed;
       few = is.few;
       end = is.end;
       near = round s.board.near is.near;

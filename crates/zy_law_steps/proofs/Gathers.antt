@@ -35,7 +35,7 @@ use Rattle.zy_law_normal.proofs.Follow.{in_state}
 use Rattle.zy_law_normal.proofs.Going.{slots_from}
 use Rattle.zy_law_normal.proofs.KeptVotes.{AreFirst, AreKeptOf, after_check_kept, are_first, at_place, with_stable_kept}
 use Rattle.zy_law_normal.proofs.OneEntry.{fold_is}
-use Rattle.zy_law_normal.proofs.Own.{IsOwnOf, own_checkpoint}
+use Rattle.zy_law_normal.proofs.Own.{IsOwnOf, all_drop, own_checkpoint}
 use Rattle.zy_law_normal.specs.Acts.{statement_by}
 use Rattle.zy_law_normal.specs.Tied.{IsHeldFrom}
 use Rattle.zy_parts.specs.Numbers as numbers
@@ -60,7 +60,7 @@ use Rattle.zy_law_views.specs.Told.{check_told, response_told}
 use Rattle.zy_law_views.proofs.AtWork.{own_held, work_board, work_said}
 use Rattle.zy_law_views.specs.Cores.{core_of}
 use Rattle.zy_law_steps.proofs.Working.{IsWorking, goes_as, last_view_is, own_view_is, says, standing}
-use Rattle.zy_law_views.specs.Work.{workplace_of}
+use Rattle.zy_law_views.specs.Work.{IsSlotSigned, workplace_of}
 
 -- the place and the head that a response tells
 abbrev pub mark_in : Spec → Mark
@@ -280,6 +280,7 @@ module _ {S : Type 0} (R : Rules S) (interval : ℕ) (texts : Texts) (w : World)
           ordered = is.work.ordered;
           based = sym at;
           runs = slots_from is.world n g.state.orders.slots is.work.runs;
+          signed = all_drop (IsSlotSigned is.world) n g.state.orders.slots is.work.signed;
           few = omega (arith, is.work.few, length-drop n g.state.orders.slots);
           end = omega (arith, is.work.end, length-drop n g.state.orders.slots, is.tied.grounded.end, here.own.below, here.own.above, based);
           near = rounds.near;

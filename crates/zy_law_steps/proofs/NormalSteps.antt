@@ -43,7 +43,7 @@ use Rattle.zy_table.specs.Step.{commit_in_view, decoded, hear, row, step, timer,
 use Rattle.zy_table.specs.declared.deeds.Sent.{Sent}
 use Rattle.zy_law_views.specs.Held.{IsHeldPart}
 use Rattle.zy_law_views.specs.Texts.{Texts}
-use Rattle.zy_law_views.specs.Told.{check_told, response_told}
+use Rattle.zy_law_views.specs.Told.{check_told, order_told, response_told}
 use Rattle.zy_law_views.specs.Rows.{IsReady}
 use Rattle.zy_law_views.specs.Steps.{IsLawfulStep, IsWorldOf}
 use Rattle.zy_law_views.proofs.Admitted.{IsPlaced, placed}
@@ -137,16 +137,16 @@ module _ {S : Type 0} (R : Rules S) (interval : ℕ) (texts : Texts) (w : World)
     confirm_does : (confirmed : Signed Confirm) (ask : Signed Ask) → MayRun w (entry_of ask) → Does (confirm R s confirmed ask)
     confirm_does confirmed ask may = confirm_row R s Does run_cases ask (room_cases ask may) confirmed
 
-    admitted_does : (o : OrderFrame) → MayRun w (entry_of o.ask) → (a : Admit) → IsPlaced o.order.stmt o.ask (position_of R s o) a → Does (order_as R s o a)
-    admitted_does o may =
+    admitted_does : (o : OrderFrame) → MayRun w (entry_of o.ask) → IsHeldPart w order_told o.order → (a : Admit) → IsPlaced o.order.stmt o.ask (position_of R s o) a → Does (order_as R s o a)
+    admitted_does o may held =
         order_admitted R s Does run_cases o
-        (λ new room. rows.takes R interval texts w r s h ready kept work view active o may new room.above room.below)
-        (λ room. rows.asks R interval texts w r s h ready kept work view active o may room.above room.below)
-        (λ room. rows.holds_order R interval texts w r s h ready kept work view active o may room.above room.below)
+        (λ new room. rows.takes R interval texts w r s h ready kept work view active o may held new room.above room.below)
+        (λ room. rows.asks R interval texts w r s h ready kept work view active o may held room.above room.below)
+        (λ room. rows.holds_order R interval texts w r s h ready kept work view active o may held room.above room.below)
 
-    order_does : (o : OrderFrame) → MayRun w (entry_of o.ask) → Does (order R s o)
+    order_does : (o : OrderFrame) → MayRun w (entry_of o.ask) → IsHeldPart w order_told o.order → Does (order R s o)
     unfolding order
-    order_does o may = admitted_does o may (judge_in s.orders o.order.stmt o.ask (position_of R s o)) (placed o.order.stmt o.ask (position_of R s o) s.orders)
+    order_does o may held = admitted_does o may held (judge_in s.orders o.order.stmt o.ask (position_of R s o)) (placed o.order.stmt o.ask (position_of R s o) s.orders)
 
     is_put : (board : Board) → IsPut s (IsVoteHeld w) board → IsPut s (IsFrameHeld w) board
     is_put board (IsPut.new_spec vote reply with_order heard new is) = IsPut.new_spec vote reply with_order heard new is
@@ -186,7 +186,7 @@ module _ {S : Type 0} (R : Rules S) (interval : ℕ) (texts : Texts) (w : World)
 
     frame_does : (frame : Frame) → (screen s.keys (parts_of frame) ≡ None → in_role s frame ≡ true → IsFrameHeld w frame) → Does (decoded R s (Ok frame))
     frame_does (frames.Request ask) heard = hear_does (frames.Request ask) (λ verified role. request_does ask (heard verified role))
-    frame_does (frames.Order both) heard = hear_does (frames.Order both) (λ verified role. in_view both.order.stmt.view.0 (order R s both) (order_does both (heard verified role)))
+    frame_does (frames.Order both) heard = hear_does (frames.Order both) (λ verified role. in_view both.order.stmt.view.0 (order R s both) (let may = heard verified role in order_does both may.0 may.1))
     frame_does (frames.ConfirmReq confirmed ask) heard =
         hear_does (frames.ConfirmReq confirmed ask) (λ verified role. in_view confirmed.stmt.view.0 (confirm R s confirmed ask) (confirm_does confirmed ask (heard verified role)))
     frame_does (frames.SpecResponse spec reply with_order) heard =
@@ -258,8 +258,8 @@ module _ {S : Type 0} (R : Rules S) (interval : ℕ) (texts : Texts) (w : World)
     pub confirm_lawful : (confirmed : Signed Confirm) (ask : Signed Ask) → MayRun w (entry_of ask) → AreGainsKept w texts (confirm R s confirmed ask).deeds.acts → IsLawfulStep R interval texts w r s h (confirm R s confirmed ask)
     confirm_lawful confirmed ask may gains = done R interval texts w r s h ready kept work view active (confirm R s confirmed ask) (confirm_does view active confirmed ask may) gains
 
-    pub order_lawful : (o : OrderFrame) → MayRun w (entry_of o.ask) → AreGainsKept w texts (order R s o).deeds.acts → IsLawfulStep R interval texts w r s h (order R s o)
-    order_lawful o may gains = done R interval texts w r s h ready kept work view active (order R s o) (order_does view active o may) gains
+    pub order_lawful : (o : OrderFrame) → MayRun w (entry_of o.ask) → IsHeldPart w order_told o.order → AreGainsKept w texts (order R s o).deeds.acts → IsLawfulStep R interval texts w r s h (order R s o)
+    order_lawful o may held gains = done R interval texts w r s h ready kept work view active (order R s o) (order_does view active o may held) gains
 
-    pub order_as_lawful : (o : OrderFrame) → MayRun w (entry_of o.ask) → (a : Admit) → IsPlaced o.order.stmt o.ask (position_of R s o) a → AreGainsKept w texts (order_as R s o a).deeds.acts → IsLawfulStep R interval texts w r s h (order_as R s o a)
-    order_as_lawful o may a is gains = done R interval texts w r s h ready kept work view active (order_as R s o a) (admitted_does view active o may a is) gains
+    pub order_as_lawful : (o : OrderFrame) → MayRun w (entry_of o.ask) → IsHeldPart w order_told o.order → (a : Admit) → IsPlaced o.order.stmt o.ask (position_of R s o) a → AreGainsKept w texts (order_as R s o a).deeds.acts → IsLawfulStep R interval texts w r s h (order_as R s o a)
+    order_as_lawful o may held a is gains = done R interval texts w r s h ready kept work view active (order_as R s o a) (admitted_does view active o may held a is) gains

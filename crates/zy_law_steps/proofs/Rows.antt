@@ -71,8 +71,8 @@ use Rattle.zy_law_views.proofs.RunningOn.{kept_passes}
 use Rattle.zy_law_views.specs.Held.{IsHeldPart, mark_at}
 use Rattle.zy_law_views.specs.Texts.{Texts}
 use Rattle.zy_law_views.specs.Tied.{AreOrdersUpTo, Core, IsCommitHeld, IsFarEnough, IsTied, SaysLawfully, said_now}
-use Rattle.zy_law_views.specs.Told.{check_told, response_told}
-use Rattle.zy_law_views.proofs.AtWork.{last_of, still_may, work_board, work_said}
+use Rattle.zy_law_views.specs.Told.{check_told, order_told, response_told}
+use Rattle.zy_law_views.proofs.AtWork.{last_of, own_held, still_may, work_board, work_said}
 use Rattle.zy_law_views.specs.Cores.{core_of}
 use Rattle.zy_law_views.specs.Rows.{IsReady}
 use Rattle.zy_law_steps.proofs.Gathers.{IsHere, far_enough, gathers, holds, is_here, mark_in}
@@ -81,6 +81,7 @@ use Rattle.zy_law_steps.proofs.Runs.{next_goes, one_goes, run_goes}
 use Rattle.zy_law_views.proofs.Backups.{answered_on, waits_on}
 use Rattle.zy_law_steps.proofs.Working.{IsWorking, begins, on_way, same_world, clients_now, goes_as, last_view_is, own_view_is, says, standing}
 use Rattle.zy_law_steps.specs.Heard.{IsFrameHeld}
+use Rattle.zy_law_views.proofs.SignedSlots.{signed_put}
 use Rattle.zy_law_views.specs.Work.{IsAtWork, IsWorkTied, Workplace, last_long, workplace_of}
 use Rattle.zy_law_steps.specs.Gains.{AreGainsKept}
 
@@ -117,9 +118,9 @@ pub record IsInWindow (interval : ℕ) (orders : Orders) (o : OrderFrame) : Type
   pub near : o.order.stmt.place.0 ≤ orders.base + 2 * interval
   pub low : o.order.stmt.place.0 < 2 ^ 62
 
-work_put : (interval : ℕ) (w : World) (r bound : ℕ) (p : Workplace) (o : OrderFrame) → IsWorkTied interval w r bound p → MayRun w (entry_of o.ask) → IsInWindow interval p.orders o
+work_put : (interval : ℕ) (w : World) (r bound : ℕ) (p : Workplace) (o : OrderFrame) → IsWorkTied interval w r bound p → MayRun w (entry_of o.ask) → IsHeldPart w order_told o.order → IsInWindow interval p.orders o
     → IsWorkTied interval w r bound (record p { orders = with_order p.orders o })
-work_put interval w r bound p o is may inside =
+work_put interval w r bound p o is may held inside =
     record {
       me = is.me;
       counts = is.counts;
@@ -127,6 +128,7 @@ work_put interval w r bound p o is may inside =
       ordered = is.ordered;
       based = is.based;
       runs = slots_put w p.orders o is.runs may;
+      signed = signed_put w p.orders o is.signed held;
       few = omega (arith, is.few, inside.above, inside.near, slots_long p.orders o);
       end = omega (arith, is.end, inside.above, inside.low, slots_long p.orders o);
       near = is.near;
@@ -220,30 +222,30 @@ module _ {S : Type 0} (R : Rules S) (interval : ℕ) (texts : Texts) (w : World)
         far = omega (arith, in_window.above);
       }
 
-  puts : (o : OrderFrame) → MayRun w (entry_of o.ask) → IsInWindow interval s.orders o → (hole : Option (Signed Hole)) → Works (begin (record (with_held s o) { hole = hole }))
+  puts : (o : OrderFrame) → MayRun w (entry_of o.ask) → IsHeldPart w order_told o.order → IsInWindow interval s.orders o → (hole : Option (Signed Hole)) → Works (begin (record (with_held s o) { hole = hole }))
   unfolding goes_as
-  puts o may in_window hole =
+  puts o may held in_window hole =
       goes_as R interval texts w r s h view 0 (begin s) start (begin (record (with_held s o) { hole = hole })) refl start.tied
-      (work_put interval start.world r (length start.now + 0) (workplace_of s) o start.work (start.may (entry_of o.ask) may) in_window) refl refl refl refl
+      (work_put interval start.world r (length start.now + 0) (workplace_of s) o start.work (start.may (entry_of o.ask) may) (subst (λ (u : World). IsHeldPart u order_told o.order) (sym same_start) held) in_window) refl refl refl refl
 
-  pub holds_order : (o : OrderFrame) → MayRun w (entry_of o.ask) → last_place s.kept < o.order.stmt.place.0 → o.order.stmt.place.0 ≤ window_of s → Goes (ends Held (begin (with_held s o)))
-  holds_order o may above below gains = puts o may (inside o above below) s.hole
+  pub holds_order : (o : OrderFrame) → MayRun w (entry_of o.ask) → IsHeldPart w order_told o.order → last_place s.kept < o.order.stmt.place.0 → o.order.stmt.place.0 ≤ window_of s → Goes (ends Held (begin (with_held s o)))
+  holds_order o may held above below gains = puts o may held (inside o above below) s.hole
 
-  pub asks : (o : OrderFrame) → MayRun w (entry_of o.ask) → last_place s.kept < o.order.stmt.place.0 → o.order.stmt.place.0 ≤ window_of s → Goes (ends Held (ask_for_missing R (with_held s o)))
-  asks o may above below gains =
+  pub asks : (o : OrderFrame) → MayRun w (entry_of o.ask) → IsHeldPart w order_told o.order → last_place s.kept < o.order.stmt.place.0 → o.order.stmt.place.0 ≤ window_of s → Goes (ends Held (ask_for_missing R (with_held s o)))
+  asks o may held above below gains =
       let s' : State S = with_held s o in
-      let put = puts o may (inside o above below) s.hole in
+      let put = puts o may held (inside o above below) s.hole in
       let remark : Remark = record { body = bodies.Hole (hole_of s'); stood = stood_of R s' } in
       let y : Spoken = said_now put.world r (statement_by r remark.body) in
       says R interval texts w r s h view 0 (begin s') put remark 0 (ask_for_missing R s') refl (says_other R interval put.world put.lawful r put.correct (core_of s') put.now put.tied) refl refl
       (work_said interval put.world r y (length put.now + 0) (length put.now + 0) (workplace_of s') (omega arith) (λ m request told. absurd cc) put.work)
 
-  pub takes : (o : OrderFrame) → MayRun w (entry_of o.ask) → IsNew R s o.ask → last_place s.kept < o.order.stmt.place.0 → o.order.stmt.place.0 ≤ window_of s
+  pub takes : (o : OrderFrame) → MayRun w (entry_of o.ask) → IsHeldPart w order_told o.order → IsNew R s o.ask → last_place s.kept < o.order.stmt.place.0 → o.order.stmt.place.0 ≤ window_of s
       → Goes (ends Taken (run R o (begin (record (with_held s o) { hole = None }))))
-  takes o may new above below gains =
+  takes o may held new above below gains =
       let s' : State S = record (with_held s o) { hole = None } in
       let in_window = inside o above below in
-      let put = puts o may in_window None in
+      let put = puts o may held in_window None in
       let top = s.orders.base + length (with_order s.orders o).slots in
       let is_top = top_of o in_window in
       let low : last_place s.kept < top = omega (arith, is_top.far) in
@@ -281,9 +283,10 @@ module _ {S : Type 0} (R : Rules S) (interval : ℕ) (texts : Texts) (w : World)
       let told : IsWorkTied interval (after_saying start.world r y) r (length start.now + 1) (workplace_of s) =
       work_said interval start.world r y (length start.now + 0) (length start.now + 1) (workplace_of s) (omega arith)
       (λ k request same. let marks : m ≡ k = cc in omega (arith, place, ap (λ (x : Mark). x.place) marks)) start.work in
+      let own_held_order : IsHeldPart (after_saying start.world r y) order_told o.order = own_held start.world r y o.order.by s.views.me start.correct ready.signer start.tied.standing.me in
       let on : IsWorking R interval texts w r s h view 1 g =
       says R interval texts w r s h view 0 (begin s) start remark 1 g refl says_it refl refl
-      (work_put interval (after_saying start.world r y) r (length start.now + 1) (workplace_of s) o told (still_may start.world r y e (start.may e may)) in_window) in
+      (work_put interval (after_saying start.world r y) r (length start.now + 1) (workplace_of s) o told (still_may start.world r y e (start.may e may)) own_held_order in_window) in
       let is : IsOrdered start.world (start.now ++ e ∷ []) m (digest_of_entry e) = next_ordered R start.world r s start.now start.lawful start.kept.agrees start.correct there e in
       let of : AreOrdersOf on.world r (table.own_view s) (start.now ++ e ∷ []) =
       orders_of_said start.world r (table.own_view s) (start.now ++ e ∷ []) y

@@ -55,6 +55,7 @@ use Rattle.zy_law_views.specs.Cores.{core_of}
 use Rattle.zy_law_steps.proofs.Gained.{held_gains, one_gains}
 use Rattle.zy_law_steps.proofs.Gathers.{IsHere, gathers, is_here}
 use Rattle.zy_law_steps.proofs.Working.{IsWorking, gains, goes_as, last_view_is, own_view_is, says, standing}
+use Rattle.zy_law_views.proofs.SignedSlots.{signed_with}
 use Rattle.zy_law_views.specs.Work.{workplace_of}
 use Rattle.zy_law_steps.specs.Gains.{AreGainsKept, IsGainKept}
 
@@ -208,6 +209,7 @@ module _ {S : Type 0} (R : Rules S) (interval : ℕ) (texts : Texts) (w : World)
         ordered = is.work.ordered;
         based = is.work.based;
         runs = slots_with is.world g.state.orders.slots at None is.work.runs tt;
+        signed = signed_with is.world g.state.orders.slots at None is.work.signed tt;
         few = omega (arith, is.work.few, length-set g.state.orders.slots at none_there);
         end = omega (arith, is.work.end, length-set g.state.orders.slots at none_there);
         near = is.work.near;

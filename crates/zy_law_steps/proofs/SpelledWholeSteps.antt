@@ -108,7 +108,7 @@ module _ {S : Type 0} (R : Rules S) (interval : ℕ) (texts : Texts) (w : World)
 
   frame_done : (frame : Frame) → IsBroughtOnceVerified frame → IsDone (unless (screen s.keys (plain.parts_of frame)) s (hear_plain R s frame))
   frame_done (frames.Order both) brought =
-      verified_done (frames.Order both) (λ verified role. unless_case s IsDone (refuses R s is) (view_cause s both.order.stmt.view.0) (order R s both) (λ current. order_done both (brought verified role).0))
+      verified_done (frames.Order both) (λ verified role. unless_case s IsDone (refuses R s is) (view_cause s both.order.stmt.view.0) (order R s both) (λ current. order_done both (brought verified role).0.0))
   frame_done (frames.Hate vote) brought = verified_done (frames.Hate vote) (λ verified role. finishes_leaving R s is (hate R s vote) (hate_fine R interval w r s h ready is vote))
   frame_done (frames.Pom first second) brought = verified_done (frames.Pom first second) (λ verified role. finishes_leaving R s is (pom R s first second) (pom_fine R interval w r s h ready is first second))
   frame_done (frames.Request ask) brought = stays_done (frames.Request ask) brought

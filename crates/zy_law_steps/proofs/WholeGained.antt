@@ -69,7 +69,7 @@ answer_read spec = record { client = (spec_spelled spec).client.0; stamp = spec.
 
 frame_may : (w : World) (frame : Frame) → IsFrameHeld w frame → MayFrameRun w frame
 frame_may w (frames.Request ask) is = is
-frame_may w (frames.Order both) is = is
+frame_may w (frames.Order both) is = is.0
 frame_may w (frames.SpecResponse spec reply with_order) is = λ small.
     vouched w (spec_statement spec.stmt) spec.by (subst (λ (t : Statement). held.IsVouchedBy w t spec.by) (sym (told_alike spec.stmt small)) is)
 frame_may w (frames.Commit specs) is =

@@ -8,7 +8,7 @@ use Rattle.zy_base.specs.declared.frame_fault.FrameFault.{FrameFault}
 use Rattle.zy_base.specs.declared.frame_fault.FrameFault.TheVariants as faults
 use Rattle.zy_base.specs.declared.step.Event.{Event}
 use Rattle.zy_base.specs.declared.step.Event.TheVariants.{Heard, Timer}
-use Rattle.zy_admit.specs.Judging.{entry_of, judge_in}
+use Rattle.zy_admit.specs.Judging.{judge_in}
 use Rattle.zy_admit.specs.Orders.{stored_in}
 use Rattle.zy_admit.specs.declared.judging.Admit.{Admit}
 use Rattle.zy_admit.specs.declared.judging.Admit.TheVariants as admits
@@ -27,7 +27,6 @@ use Rattle.zy_law.specs.Steps.{AllMay, after_acts, after_saying, after_standing}
 use Rattle.zy_law.specs.World.{World}
 use Rattle.zy_law_normal.proofs.Own.{by_test}
 use Rattle.zy_law_normal.specs.Acts.{acts_of, history_after, world_after}
-use Rattle.zy_law_normal.specs.Tied.{MayRun}
 use Rattle.zy_seal.specs.Screening.{screen}
 use Rattle.zy_table.specs.Deeds.{Outcome, refused}
 use Rattle.zy_table.specs.Hates.{hate}
@@ -96,17 +95,17 @@ module _ {S : Type 0} (R : Rules S) (interval : ℕ) (texts : Texts) (w : World)
       (λ least. by_test (λ (c : Option Cause). c ≡ None → is_leaving s ≡ false) (nat_lt (own_view s) view) _ _ (λ newer none. absurd cc)
       (λ most. by_test (λ (c : Option Cause). c ≡ None → is_leaving s ≡ false) (is_leaving s) _ _ (λ leaves none. absurd cc) (λ stays none. stays)))
 
-  order_judged_fine : (o : OrderFrame) → MayRun w (entry_of o.ask) → is_leaving s ≡ false → (a : Admit) → IsPlaced o.order.stmt o.ask (position_of R s o) a → IsFine (order_judged R s o a)
+  order_judged_fine : (o : OrderFrame) → IsFrameHeld w (frames.Order o) → is_leaving s ≡ false → (a : Admit) → IsPlaced o.order.stmt o.ask (position_of R s o) a → IsFine (order_judged R s o a)
   order_judged_fine o may stays admits.Evidence is gains =
       let stored = stored_in s.orders o.order.stmt.place.0 in
       finishes_leaving R interval texts w r s h ready kept (tell_all R s o.order stored) (order_attempt R interval w r s h ready o.order stored)
   order_judged_fine o may stays admits.Next is gains =
-      let active = active_in s.views.mode stays in order_as_lawful R interval texts w r s h ready kept work active.0 active.1 o may admits.Next is gains
+      let active = active_in s.views.mode stays in order_as_lawful R interval texts w r s h ready kept work active.0 active.1 o may.0 may.1 admits.Next is gains
   order_judged_fine o may stays admits.Held is gains =
-      let active = active_in s.views.mode stays in order_as_lawful R interval texts w r s h ready kept work active.0 active.1 o may admits.Held is gains
+      let active = active_in s.views.mode stays in order_as_lawful R interval texts w r s h ready kept work active.0 active.1 o may.0 may.1 admits.Held is gains
   order_judged_fine o may stays (admits.Refused cause) is gains = refuses R interval texts w r s h ready kept cause
 
-  order_fine : (o : OrderFrame) → MayRun w (entry_of o.ask) → is_leaving s ≡ false → IsFine (order R s o)
+  order_fine : (o : OrderFrame) → IsFrameHeld w (frames.Order o) → is_leaving s ≡ false → IsFine (order R s o)
   order_fine o may stays = order_judged_fine o may stays (judge_in s.orders o.order.stmt o.ask (position_of R s o)) (placed o.order.stmt o.ask (position_of R s o) s.orders)
 
   -- ---- a frame of normal operation

@@ -12,12 +12,12 @@ use Rattle.zy_seal.specs.Screening.{screen}
 use Rattle.zy_table.specs.Roles.{in_role}
 use Rattle.zy_table.specs.State.{State}
 use Rattle.zy_law_views.specs.Held.{IsHeldPart}
-use Rattle.zy_law_views.specs.Told.{check_told, response_told}
+use Rattle.zy_law_views.specs.Told.{check_told, order_told, response_told}
 
--- the requests in it may be run, and its responses and its checkpoint are held
+-- the requests in it may be run, and its order, its responses and its checkpoint are held
 abbrev pub IsFrameHeld : World → Frame → Type 0
 IsFrameHeld w (frames.Request ask) = MayRun w (entry_of ask)
-IsFrameHeld w (frames.Order both) = MayRun w (entry_of both.ask)
+IsFrameHeld w (frames.Order both) = MayRun w (entry_of both.ask) × IsHeldPart w order_told both.order
 IsFrameHeld w (frames.SpecResponse spec reply with_order) = IsHeldPart w response_told spec
 IsFrameHeld w (frames.Commit specs) = All (IsHeldPart w response_told) specs
 IsFrameHeld w (frames.ConfirmReq confirm ask) = MayRun w (entry_of ask)

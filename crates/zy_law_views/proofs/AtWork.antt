@@ -24,12 +24,13 @@ use Rattle.zy_law_normal.proofs.OneEntry.{slots_more}
 use Rattle.zy_law_normal.specs.Tied.{MayRun, MaySlotRun}
 use Rattle.zy_parts.specs.declared.statements.Spec.{Spec}
 use Rattle.zy_table.specs.State.{State}
-use Rattle.zy_law_views.proofs.TiedGrown.{has_said_last, own_said, parts_said, parts_stood}
+use Rattle.zy_law_views.proofs.SignedSlots.{signed_more}
+use Rattle.zy_law_views.proofs.TiedGrown.{has_said_last, held_said, held_stood, own_said, parts_said, parts_stood}
 use Rattle.zy_law_views.specs.Held.{IsHeldPart, IsVouchedBy, mark_at}
 use Rattle.zy_law_views.specs.Tied.{IsTied}
-use Rattle.zy_law_views.specs.Told.{check_told, response_told}
+use Rattle.zy_law_views.specs.Told.{check_told, order_told, response_told}
 use Rattle.zy_law_views.specs.Cores.{core_of}
-use Rattle.zy_law_views.specs.Work.{IsAtWork, IsRoundHeld, IsWorkTied, Workplace, last_long, workplace_of}
+use Rattle.zy_law_views.specs.Work.{IsAtWork, IsRoundHeld, IsSlotSigned, IsWorkTied, Workplace, last_long, workplace_of}
 
 -- ---- the last stand
 
@@ -88,6 +89,7 @@ work_said interval w r y low high p more new is =
           own_said w r y (λ z. z.what ≡ Statement.Order p.view.0 m request → m.place ≤ high) (λ i z at told. omega (arith, is.ordered i z m request at told)) (λ told. new m request told) number x says what;
       based = is.based;
       runs = slots_more w (after_saying w r y) (still_may w r y) p.orders.slots is.runs;
+      signed = signed_more w (after_saying w r y) (λ order held. held_said w r y order_told order held) p.orders.slots is.signed;
       few = is.few;
       end = is.end;
       near = round_said w r y p.board.near is.near;
@@ -103,6 +105,7 @@ work_stood interval w r b low high p more is =
       ordered = λ number x m request says what. omega (arith, is.ordered number x m request says what);
       based = is.based;
       runs = slots_more w (after_standing w r b) (may_there w r b) p.orders.slots is.runs;
+      signed = signed_more w (after_standing w r b) (λ order held. held_stood w r b order_told order held) p.orders.slots is.signed;
       few = is.few;
       end = is.end;
       near = round_stood w r b p.board.near is.near;
@@ -120,6 +123,7 @@ work_board interval w r bound p board is near far =
       ordered = is.ordered;
       based = is.based;
       runs = is.runs;
+      signed = is.signed;
       few = is.few;
       end = is.end;
       near = near;
@@ -143,6 +147,7 @@ work_shorter interval w r bound n p is =
       ordered = is.ordered;
       based = is.based;
       runs = all_take (MaySlotRun w) n p.orders.slots is.runs;
+      signed = all_take (IsSlotSigned w) n p.orders.slots is.signed;
       few = omega (arith, is.few, long);
       end = omega (arith, is.end, long);
       near = is.near;
@@ -175,6 +180,7 @@ work_begins R interval w r bound b p t list is tied me counts spaced orders near
       ordered = λ number x m request says what. absurd (unordered number x m request says what);
       based = base ∙ sym place;
       runs = subst (λ (l : List (Option OrderFrame)). AllByRecursion (MaySlotRun after) l) (sym slots) tt;
+      signed = subst (λ (l : List (Option OrderFrame)). AllByRecursion (IsSlotSigned after) l) (sym slots) tt;
       few = omega (arith, none);
       end = omega (arith, none, base, place, tied.grounded.end);
       near = subst (IsRoundHeld after) (sym near) kept;

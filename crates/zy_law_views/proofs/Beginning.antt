@@ -97,6 +97,7 @@ module _ {S : Type 0} (R : Rules S) (interval : ℕ) (w : World) (lawful : IsLaw
         let heard = hearing_stood w r stand interval c.views tied.hearing in
         let low = last_below c.views.last_view.0 c.views.mode tied.quiet.ahead in
         record {
+          spaced = tied.spaced;
           standing = record {
             me = tied.standing.me;
             counts = tied.standing.counts;
@@ -107,9 +108,12 @@ module _ {S : Type 0} (R : Rules S) (interval : ℕ) (w : World) (lawful : IsLaw
           };
           quiet = record {
             ahead = refl;
+            gone = tt;
             left = λ number x view report says what. omega (arith, tied.quiet.left number x view report says what, is.own);
             confirmed = λ number x view k says what. omega (arith, tied.quiet.confirmed number x view k says what, is.own);
             once = λ number x k says what. tt;
+            gave = λ number x view reports says what. omega (arith, tied.quiet.gave number x view reports says what, is.own);
+            gave_once = λ number x reports says what. tt;
             voted = λ number x view k says vote. omega (arith, tied.quiet.voted number x view k says vote, is.later);
             ordered = λ number x view k request says what. omega (arith, tied.quiet.ordered number x view k request says what, is.later);
           };

@@ -99,6 +99,7 @@ last_of_three a b c first second third view (suc (suc (suc k)), r, within, there
 
 -- What three correct replicas of four have come to in view 0, of which none left it.
 pub record Setting (S : Type 0) : Type 0 where
+  pub interval : ℕ
   pub asked : ℕ → List Entry
   pub said : ℕ → List Spoken
   pub past : ℕ → List Stand
@@ -116,6 +117,7 @@ abbrev pub world_of : {S : Type 0} → Setting S → World
 world_of t =
     record {
       counts = four;
+      interval = t.interval;
       liar = λ r. nat_eq r 3;
       lying = λ client. false;
       asked = t.asked;

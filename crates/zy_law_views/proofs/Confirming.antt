@@ -17,7 +17,9 @@ use Rattle.zy_change.specs.Views.{began_for, is_accepted, own_view, unless_other
 use Rattle.zy_change.specs.declared.kept.Accepted.{Accepted}
 use Rattle.zy_change.specs.declared.kept.Chosen.{Chosen}
 use Rattle.zy_choose.specs.Marks.{link}
+use Rattle.zy_choose.specs.Reports.{PlainReport}
 use Rattle.zy_evidence.specs.Reading.{read}
+use Rattle.zy_law.specs.Formed.{IsFormedStart}
 use Rattle.zy_law.specs.Lawful.{IsChosenStart, IsLawful, IsVote}
 use Rattle.zy_law.specs.Said.{IsCorrect, IsVouched, Says}
 use Rattle.zy_law.specs.Steps.{MaySay, after_saying}
@@ -26,11 +28,11 @@ use Rattle.zy_parts.specs.declared.reports.Began.{Began}
 use Rattle.zy_parts.specs.declared.reports.New.{New}
 use Rattle.zy_parts.specs.declared.signed.Signed.{Signed}
 use Rattle.zy_law_views.specs.Held.{IsVouchedBy, mark_at}
-use Rattle.zy_law_views.specs.Tied.{Core, IsAcceptedAs, IsChosenNew, IsConfirmedAs, IsKeptBegan, IsTied, said_now}
+use Rattle.zy_law_views.specs.Tied.{Core, IsAcceptedAs, IsChosenNew, IsConfirmedAs, IsGivenAs, IsKeptBegan, IsKeptNew, IsTied, confirmed_with, said_now}
 use Rattle.zy_law_views.specs.Told.{began_told}
 use Rattle.zy_law_views.proofs.LawfulChoice.{lawful_choice}
-use Rattle.zy_law_views.proofs.ProvenReports.{new_valid}
-use Rattle.zy_law_views.proofs.TiedGrown.{begun_said, chosen_said, grounded_said, has_said_last, hearing_said, own_said, standing_said}
+use Rattle.zy_law_views.proofs.ProvenReports.{new_valid, reports_in_order}
+use Rattle.zy_law_views.proofs.TiedGrown.{begun_said, chosen_said, gone_said, grounded_said, has_said_last, hearing_said, own_said, standing_said}
 
 -- what is chosen out of a proper new view is a lawful start of it
 pub chosen_start : (w : World) → IsLawful w → w.next ≡ link → (interval : ℕ) (n : New) (chosen : Chosen) → IsChosenNew interval w n chosen → IsChosenStart w n.view.0 (mark_at chosen.place chosen.head)
@@ -41,8 +43,20 @@ chosen_start w lawful links interval n chosen is =
       choice = lawful_choice w lawful links interval n is.proper chosen.provider (mark_at chosen.place chosen.head) is.choice;
     }
 
+-- and its reports are in order
+pub formed_start : (w : World) → IsLawful w → w.next ≡ link → (interval : ℕ) → w.interval ≡ interval → (n : New) (chosen : Chosen) → IsChosenNew interval w n chosen
+    → IsFormedStart w n.view.0 (mark_at chosen.place chosen.head)
+unfolding chosen_start
+formed_start w lawful links interval spaced n chosen is =
+    record { start = chosen_start w lawful links interval n chosen is; in_order = reports_in_order w links interval spaced n is.proper }
+
 accepted_told : (accepted : Option Accepted) (view : ℕ) (m : Mark) → IsAcceptedAs accepted view m → is_accepted view accepted ≡ false → ⊥
 accepted_told accepted view m is none =
+    let told : is_accepted view accepted ≡ true = ap (is_accepted view) is.is ∙ eq-eqb is.own.new.stmt.view.0 view is.of_view in
+    absurd cc
+
+given_told : (accepted : Option Accepted) (view : ℕ) (reports : List PlainReport) → IsKeptNew accepted view reports → is_accepted view accepted ≡ false → ⊥
+given_told accepted view reports is none =
     let told : is_accepted view accepted ≡ true = ap (is_accepted view) is.is ∙ eq-eqb is.own.new.stmt.view.0 view is.of_view in
     absurd cc
 
@@ -55,8 +69,30 @@ kept_before own (Some b) q is = by (nat_eq b.stmt.view.0 own.view.0 && not (same
     by true is = absurd cc
     by false is = is
 
+module _ {S : Type 0} (R : Rules S) (interval : ℕ) (w : World) (r : ℕ) (c : Core S) (history : List Entry) (tied : IsTied R interval w r c history) (a : Accepted)
+    (leaving : c.views.mode ≡ Leaving a.new.stmt.view) where
+  in_view : own_view c.views ≡ a.new.stmt.view.0
+  in_view = ap (λ (mode : Mode). (view_of mode).0) leaving
+
+  -- where it accepted none, it confirmed nothing of the view
+  pub none_confirmed : is_accepted a.new.stmt.view.0 c.views.accepted ≡ false → (number : ℕ) (y : Spoken) (k : Mark) → Says w r number y → y.what ≡ Statement.Began a.new.stmt.view.0 k → ⊥
+  none_confirmed none number y k says what =
+      let own : y.what ≡ Statement.Began (own_view c.views) k = what ∙ ap (λ (v : ℕ). Statement.Began v k) (sym in_view) in
+      let accepted : IsAcceptedAs c.views.accepted a.new.stmt.view.0 k = subst (λ (mode : Mode). IsConfirmedAs mode c.views.accepted k) leaving (tied.quiet.once number y k says own) in
+      accepted_told c.views.accepted a.new.stmt.view.0 k accepted none
+
+  -- and gave nothing for it
+  pub none_given : is_accepted a.new.stmt.view.0 c.views.accepted ≡ false → (number : ℕ) (y : Spoken) (reports : List PlainReport) → Says w r number y → y.what ≡ Statement.New a.new.stmt.view.0 reports → ⊥
+  none_given none number y reports says what =
+      let own : y.what ≡ Statement.New (own_view c.views) reports = what ∙ ap (λ (v : ℕ). Statement.New v reports) (sym in_view) in
+      let kept : IsKeptNew c.views.accepted a.new.stmt.view.0 reports = subst (λ (mode : Mode). IsGivenAs mode c.views.accepted reports) leaving (tied.quiet.gave_once number y reports says own) in
+      given_told c.views.accepted a.new.stmt.view.0 reports kept none
+
+-- where it confirmed nothing of the view, and gave nothing for it but this
 module _ {S : Type 0} (R : Rules S) (interval : ℕ) (w : World) (lawful : IsLawful w) (links : w.next ≡ link) (r : ℕ) (correct : IsCorrect w r) (c : Core S) (history : List Entry)
-    (tied : IsTied R interval w r c history) (a : Accepted) (leaving : c.views.mode ≡ Leaving a.new.stmt.view) (none : is_accepted a.new.stmt.view.0 c.views.accepted ≡ false)
+    (tied : IsTied R interval w r c history) (a : Accepted) (leaving : c.views.mode ≡ Leaving a.new.stmt.view)
+    (none_said : (number : ℕ) (y : Spoken) (k : Mark) → Says w r number y → y.what ≡ Statement.Began a.new.stmt.view.0 k → ⊥)
+    (given : (number : ℕ) (y : Spoken) (reports : List PlainReport) → Says w r number y → y.what ≡ Statement.New a.new.stmt.view.0 reports → IsKeptNew (Some a) a.new.stmt.view.0 reports)
     (is : IsChosenNew interval w a.new.stmt a.chosen) where
   abbrev view : View
   view = a.new.stmt.view
@@ -67,25 +103,18 @@ module _ {S : Type 0} (R : Rules S) (interval : ℕ) (w : World) (lawful : IsLaw
   abbrev confirm : Spoken
   confirm = said_now w r (began_told (began_for a.new.stmt.view a.chosen))
 
-  in_view : own_view c.views ≡ view.0
-  in_view = ap (λ (mode : Mode). (view_of mode).0) leaving
+  now_in : own_view c.views ≡ view.0
+  now_in = ap (λ (mode : Mode). (view_of mode).0) leaving
 
-  -- nothing was confirmed of the view
-  none_said : (number : ℕ) (y : Spoken) (k : Mark) → Says w r number y → y.what ≡ Statement.Began view.0 k → ⊥
-  none_said number y k says what =
-      let own : y.what ≡ Statement.Began (own_view c.views) k = what ∙ ap (λ (v : ℕ). Statement.Began v k) (sym in_view) in
-      let accepted : IsAcceptedAs c.views.accepted view.0 k = subst (λ (mode : Mode). IsConfirmedAs mode c.views.accepted k) leaving (tied.quiet.once number y k says own) in
-      accepted_told c.views.accepted view.0 k accepted none
-
-  pub may_confirm : MaySay w r confirm
-  may_confirm =
+  pub may_confirm_as : MaySay w r confirm
+  may_confirm_as =
       record {
         now = omega (arith, tied.standing.last);
         silence = λ number y other spoken report says what seen.
             let same : view.0 ≡ spoken = cc in
-            omega (arith, tied.quiet.left number y other report says what, in_view);
+            omega (arith, tied.quiet.left number y other report says what, now_in);
         told = record {
-          chosen = chosen_start w lawful links interval a.new.stmt a.chosen is;
+          chosen = formed_start w lawful links interval tied.spaced a.new.stmt a.chosen is;
           first = λ number y k says what. absurd (none_said number y k says what);
         };
       }
@@ -112,13 +141,17 @@ module _ {S : Type 0} (R : Rules S) (interval : ℕ) (w : World) (lawful : IsLaw
     new_once k same =
         subst (λ (mode : Mode). IsConfirmedAs mode (Some a) k) (sym leaving) (record { own = a; is = refl; of_view = refl; chosen = same })
 
-    pub tied_confirmed : IsTied R interval after r confirmed history
-    tied_confirmed =
+    kept_as : (reports : List PlainReport) → IsKeptNew (Some a) view.0 reports → IsGivenAs c.views.mode (Some a) reports
+    kept_as reports kept = subst (λ (mode : Mode). IsGivenAs mode (Some a) reports) (sym leaving) kept
+
+    pub tied_confirmed_as : IsTied R interval after r confirmed history
+    tied_confirmed_as =
         let standing = standing_said w r confirm R interval c history tied.standing in
         let grounded = grounded_said w r confirm R interval c history tied.grounded in
         let begun = begun_said w r confirm R interval c history (λ k vote. absurd vote) tied.begun in
         let heard = hearing_said w r confirm interval c.views tied.hearing in
         record {
+          spaced = tied.spaced;
           standing = record {
             me = standing.me;
             counts = standing.counts;
@@ -129,15 +162,22 @@ module _ {S : Type 0} (R : Rules S) (interval : ℕ) (w : World) (lawful : IsLaw
           };
           quiet = record {
             ahead = tied.quiet.ahead;
+            gone = gone_said w r confirm c.views.mode tied.quiet.gone;
             left = λ number x other report says what.
                 own_said w r confirm (λ z. z.what ≡ Statement.Change other report → other ≤ own_view c.views)
                 (λ i z at is. tied.quiet.left i z other report at is) (λ is. absurd cc) number x says what;
             confirmed = λ number x other k says what.
                 own_said w r confirm (λ z. z.what ≡ Statement.Began other k → other ≤ own_view c.views)
-                (λ i z at is. tied.quiet.confirmed i z other k at is) (λ is. let same : view.0 ≡ other = cc in omega (arith, in_view)) number x says what;
+                (λ i z at is. tied.quiet.confirmed i z other k at is) (λ is. let same : view.0 ≡ other = cc in omega (arith, now_in)) number x says what;
             once = λ number x k says what.
                 own_said w r confirm (λ z. z.what ≡ Statement.Began (own_view c.views) k → IsConfirmedAs c.views.mode (Some a) k)
-                (λ i z at is. absurd (none_said i z k at (is ∙ ap (λ (v : ℕ). Statement.Began v k) in_view))) (λ is. let same : m ≡ k = cc in new_once k same) number x says what;
+                (λ i z at is. absurd (none_said i z k at (is ∙ ap (λ (v : ℕ). Statement.Began v k) now_in))) (λ is. let same : m ≡ k = cc in new_once k same) number x says what;
+            gave = λ number x other reports says what.
+                own_said w r confirm (λ z. z.what ≡ Statement.New other reports → other ≤ own_view c.views)
+                (λ i z at is. tied.quiet.gave i z other reports at is) (λ is. absurd cc) number x says what;
+            gave_once = λ number x reports says what.
+                own_said w r confirm (λ z. z.what ≡ Statement.New (own_view c.views) reports → IsGivenAs c.views.mode (Some a) reports)
+                (λ i z at is. kept_as reports (given i z reports at (is ∙ ap (λ (v : ℕ). Statement.New v reports) now_in))) (λ is. absurd cc) number x says what;
             voted = λ number x other k says vote.
                 own_said w r confirm (λ z. IsVote other k z.what → other ≤ c.views.last_view.0)
                 (λ i z at is. tied.quiet.voted i z other k at is) (λ is. absurd is) number x says vote;
@@ -175,3 +215,19 @@ module _ {S : Type 0} (R : Rules S) (interval : ℕ) (w : World) (lawful : IsLaw
             waiting = heard.waiting;
           };
         }
+
+-- so where it accepted none
+module _ {S : Type 0} (R : Rules S) (interval : ℕ) (w : World) (lawful : IsLawful w) (links : w.next ≡ link) (r : ℕ) (correct : IsCorrect w r) (c : Core S) (history : List Entry)
+    (tied : IsTied R interval w r c history) (a : Accepted) (leaving : c.views.mode ≡ Leaving a.new.stmt.view) (none : is_accepted a.new.stmt.view.0 c.views.accepted ≡ false)
+    (is : IsChosenNew interval w a.new.stmt a.chosen) where
+  none_before : (number : ℕ) (y : Spoken) (k : Mark) → Says w r number y → y.what ≡ Statement.Began a.new.stmt.view.0 k → ⊥
+  none_before = none_confirmed R interval w r c history tied a leaving none
+
+  given_before : (number : ℕ) (y : Spoken) (reports : List PlainReport) → Says w r number y → y.what ≡ Statement.New a.new.stmt.view.0 reports → IsKeptNew (Some a) a.new.stmt.view.0 reports
+  given_before number y reports says what = absurd (none_given R interval w r c history tied a leaving none number y reports says what)
+
+  pub may_confirm : MaySay w r (said_now w r (began_told (began_for a.new.stmt.view a.chosen)))
+  may_confirm = may_confirm_as R interval w lawful links r correct c history tied a leaving none_before given_before is
+
+  pub tied_confirmed : (sig : List ℕ) → IsTied R interval (after_saying w r (said_now w r (began_told (began_for a.new.stmt.view a.chosen)))) r (confirmed_with a sig c) history
+  tied_confirmed sig = tied_confirmed_as R interval w lawful links r correct c history tied a leaving none_before given_before is sig

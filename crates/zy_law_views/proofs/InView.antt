@@ -19,8 +19,8 @@ use Rattle.zy_law.specs.Lawful.{IsLawful, IsTrueAnswer, IsVote, StoodAt}
 use Rattle.zy_law.specs.Said.{IsCorrect, Says, Stood}
 use Rattle.zy_law.specs.Steps.{after_saying}
 use Rattle.zy_law.specs.World.{Answer, Spoken, Stand, Statement, World}
-use Rattle.zy_law_views.specs.Tied.{AreOrdersUpTo, Core, IsAhead, IsConfirmedAs, IsFarEnough, IsTied, SaysLawfully, said_now}
-use Rattle.zy_law_views.proofs.TiedGrown.{begun_said, grounded_said, hearing_said, own_said, standing_said}
+use Rattle.zy_law_views.specs.Tied.{AreOrdersUpTo, Core, IsAhead, IsConfirmedAs, IsFarEnough, IsGivenAs, IsTied, SaysLawfully, said_now}
+use Rattle.zy_law_views.proofs.TiedGrown.{begun_said, gone_said, grounded_said, hearing_said, own_said, standing_said}
 
 module _ {S : Type 0} (R : Rules S) (interval : ℕ) (w : World) (lawful : IsLawful w) (r : ℕ) (correct : IsCorrect w r) (c : Core S) (history : List Entry) (tied : IsTied R interval w r c history) where
   -- ---- the tie after a statement that neither leaves nor confirms
@@ -28,6 +28,7 @@ module _ {S : Type 0} (R : Rules S) (interval : ℕ) (w : World) (lawful : IsLaw
   record IsPlain (s : Statement) : Type 0 where
     leaves : (view : ℕ) (report : PlainReport) → s ≡ Statement.Change view report → ⊥
     confirms : (view : ℕ) (m : Mark) → s ≡ Statement.Began view m → ⊥
+    gives : (view : ℕ) (reports : List PlainReport) → s ≡ Statement.New view reports → ⊥
     votes : (view : ℕ) (m : Mark) → IsVote view m s → view ≤ c.views.last_view.0
     covered : (m : Mark) → IsVote c.views.last_view.0 m s → IsFarEnough c.views.specs m.place
     orders : (view : ℕ) (m : Mark) (request : Digest) → s ≡ Statement.Order view m request → view ≤ c.views.last_view.0
@@ -36,9 +37,11 @@ module _ {S : Type 0} (R : Rules S) (interval : ℕ) (w : World) (lawful : IsLaw
   tied_plain s plain =
       let x : Spoken = said_now w r s in
       record {
+        spaced = tied.spaced;
         standing = standing_said w r x R interval c history tied.standing;
         quiet = record {
           ahead = tied.quiet.ahead;
+          gone = gone_said w r x c.views.mode tied.quiet.gone;
           left = λ number y view report says what.
               own_said w r x (λ z. z.what ≡ Statement.Change view report → view ≤ own_view c.views) (λ i z at is. tied.quiet.left i z view report at is)
               (λ is. absurd (plain.leaves view report is)) number y says what;
@@ -48,6 +51,12 @@ module _ {S : Type 0} (R : Rules S) (interval : ℕ) (w : World) (lawful : IsLaw
           once = λ number y m says what.
               own_said w r x (λ z. z.what ≡ Statement.Began (own_view c.views) m → IsConfirmedAs c.views.mode c.views.accepted m) (λ i z at is. tied.quiet.once i z m at is)
               (λ is. absurd (plain.confirms (own_view c.views) m is)) number y says what;
+          gave = λ number y view reports says what.
+              own_said w r x (λ z. z.what ≡ Statement.New view reports → view ≤ own_view c.views) (λ i z at is. tied.quiet.gave i z view reports at is)
+              (λ is. absurd (plain.gives view reports is)) number y says what;
+          gave_once = λ number y reports says what.
+              own_said w r x (λ z. z.what ≡ Statement.New (own_view c.views) reports → IsGivenAs c.views.mode c.views.accepted reports) (λ i z at is. tied.quiet.gave_once i z reports at is)
+              (λ is. absurd (plain.gives (own_view c.views) reports is)) number y says what;
           voted = λ number y view m says vote.
               own_said w r x (λ z. IsVote view m z.what → view ≤ c.views.last_view.0) (λ i z at is. tied.quiet.voted i z view m at is)
               (λ is. plain.votes view m is) number y says vote;
@@ -61,19 +70,6 @@ module _ {S : Type 0} (R : Rules S) (interval : ℕ) (w : World) (lawful : IsLaw
       }
 
   -- what is said when it leaves or is active alike
-  pub says_new : (view : ℕ) (reports : List PlainReport) → SaysLawfully R interval w r c history (Statement.New view reports)
-  says_new view reports =
-      record {
-        may = record { now = omega (arith, tied.standing.last); silence = λ number y other spoken report says what seen. absurd cc; told = tt };
-        tied = tied_plain (Statement.New view reports) (record {
-          leaves = λ view report is. cc;
-          confirms = λ view m is. cc;
-          votes = λ view m vote. absurd vote;
-          covered = λ m vote. absurd vote;
-          orders = λ view m request is. absurd cc;
-        });
-      }
-
   pub says_other : SaysLawfully R interval w r c history Statement.Other
   says_other =
       record {
@@ -81,6 +77,7 @@ module _ {S : Type 0} (R : Rules S) (interval : ℕ) (w : World) (lawful : IsLaw
         tied = tied_plain Statement.Other (record {
           leaves = λ view report is. cc;
           confirms = λ view m is. cc;
+          gives = λ view reports is. cc;
           votes = λ view m vote. absurd vote;
           covered = λ m vote. absurd vote;
           orders = λ view m request is. absurd cc;
@@ -124,6 +121,7 @@ module _ {S : Type 0} (R : Rules S) (interval : ℕ) (w : World) (lawful : IsLaw
           tied = tied_plain (Statement.Spec view.0 m a) (record {
             leaves = λ view report is. cc;
             confirms = λ view m is. cc;
+            gives = λ view reports is. cc;
             votes = λ view m vote. absurd vote;
             covered = λ m vote. absurd vote;
             orders = λ view m request is. absurd cc;
@@ -137,6 +135,7 @@ module _ {S : Type 0} (R : Rules S) (interval : ℕ) (w : World) (lawful : IsLaw
           tied = tied_plain (Statement.Local view.0 m) (record {
             leaves = λ view report is. cc;
             confirms = λ view m is. cc;
+            gives = λ view reports is. cc;
             votes = λ other k vote. omega (arith, vote.0, last_is);
             covered = λ k vote. subst (λ (x : Mark). IsFarEnough c.views.specs x.place) vote.1 far;
             orders = λ view m request is. absurd cc;
@@ -156,6 +155,7 @@ module _ {S : Type 0} (R : Rules S) (interval : ℕ) (w : World) (lawful : IsLaw
           tied = tied_plain (Statement.Check view.0 m state) (record {
             leaves = λ view report is. cc;
             confirms = λ view m is. cc;
+            gives = λ view reports is. cc;
             votes = λ other k vote. omega (arith, vote.0, last_is);
             covered = λ k vote. subst (λ (x : Mark). IsFarEnough c.views.specs x.place) vote.1 far;
             orders = λ view m request is. absurd cc;
@@ -186,6 +186,7 @@ module _ {S : Type 0} (R : Rules S) (interval : ℕ) (w : World) (lawful : IsLaw
           tied = tied_plain (Statement.Order view.0 m request) (record {
             leaves = λ view report is. cc;
             confirms = λ view m is. cc;
+            gives = λ view reports is. cc;
             votes = λ view m vote. absurd vote;
             covered = λ m vote. absurd vote;
             orders = λ other k second is. let same : view.0 ≡ other = cc in omega (arith, last_is);

@@ -1,6 +1,6 @@
 -- A replica on its way through a row in which it leaves its view: what it says so far is allowed, and it is tied then.
-use Rattle.std.proofs.Common.{◌≡◌, ℕ, ◌-◌, ◌^◌, ◌<◌, nat_lt, Bool, true, false, cond, not, List, [], ◌∷◌, ◌++◌, length, map, Ok, Err, refl, sym, ap, ◌∙◌, subst, arith}
-use Rattle.std.proofs.lemmas.Bool.{and_parts, not-true}
+use Rattle.std.proofs.Common.{◌≡◌, ℕ, ◌-◌, ◌%◌, ◌^◌, ◌<◌, nat_lt, Bool, true, false, cond, not, List, [], ◌∷◌, ◌++◌, length, map, Some, Ok, Err, refl, sym, ap, ◌∙◌, subst, arith}
+use Rattle.std.proofs.lemmas.Bool.{and_parts, eqb-true, not-true}
 use Rattle.zy_base.specs.Machine.{Rules}
 use Rattle.zy_base.specs.declared.cause.Cause.{Cause}
 use Rattle.zy_base.specs.declared.cause.Cause.TheVariants as causes
@@ -10,6 +10,7 @@ use Rattle.zy_base.specs.declared.ids.Party.TheVariants.{Replica}
 use Rattle.zy_base.specs.declared.ids.View.{View}
 use Rattle.zy_base.specs.declared.step.Answer.TheVariants.{Taken}
 use Rattle.zy_base.specs.declared.step.Mode.TheVariants.{Leaving}
+use Rattle.zy_chain.specs.Stretch.{Mark}
 use Rattle.zy_chain.specs.declared.entry.Entry.{Entry}
 use Rattle.zy_change.specs.Choosing.{choice_of}
 use Rattle.zy_change.specs.Owing.{change_to, choice_in, hated_by_many, is_gathering, new_of, next_view}
@@ -17,13 +18,14 @@ use Rattle.zy_change.specs.Views.{Views, began_for, is_accepted, is_hated_by, le
 use Rattle.zy_change.specs.declared.kept.Accepted.{Accepted}
 use Rattle.zy_change.specs.declared.kept.Chosen.{Chosen}
 use Rattle.zy_choose.specs.Marks.{link}
+use Rattle.zy_choose.specs.Reports.{PlainReport}
 use Rattle.zy_choose.specs.declared.choice.Choice.{Choice}
 use Rattle.zy_choose.specs.declared.choice.Choice.TheVariants as choices
 use Rattle.zy_evidence.specs.Reading.{read}
 use Rattle.zy_exec.specs.Kept.{last_place}
 use Rattle.zy_law.proofs.StepsLawful.{saying_lawful}
 use Rattle.zy_law.specs.Lawful.{IsLawful}
-use Rattle.zy_law.specs.Said.{IsCorrect}
+use Rattle.zy_law.specs.Said.{IsCorrect, Says}
 use Rattle.zy_law.specs.Steps.{MaySay, after_saying, grown, with_last}
 use Rattle.zy_law.specs.World.{Spoken, Statement, World}
 use Rattle.zy_law_normal.proofs.Goes.{gains_in-append}
@@ -44,15 +46,15 @@ use Rattle.zy_table.specs.declared.deeds.Act.{Act}
 use Rattle.zy_table.specs.declared.deeds.Act.TheVariants.{Says as SaysIt}
 use Rattle.zy_table.specs.declared.deeds.Body.TheVariants as bodies
 use Rattle.zy_table.specs.declared.deeds.Remark.{Remark}
-use Rattle.zy_law_views.proofs.Confirming.{may_confirm, tied_confirmed}
-use Rattle.zy_law_views.proofs.InView.{says_new}
+use Rattle.zy_law_views.proofs.Confirming.{may_confirm_as, none_confirmed, none_given, tied_confirmed_as}
+use Rattle.zy_law_views.proofs.Giving.{given_this, may_give, tied_given, unconfirmed}
 use Rattle.zy_law_views.proofs.LawfulChoice.{chosen_is, never_clashes}
 use Rattle.zy_law_views.proofs.LeavingViews.{may_leave, tied_gone}
 use Rattle.zy_law_views.proofs.TieKept.{tied_heard}
 use Rattle.zy_law_views.proofs.TiedGrown.{chosen_said}
 use Rattle.zy_law_views.specs.Held.{IsProperNew}
-use Rattle.zy_law_views.specs.Tied.{IsChosenNew, IsHearing, IsTied, said_now, told_by, with_heard}
-use Rattle.zy_law_views.specs.Told.{began_told, change_told}
+use Rattle.zy_law_views.specs.Tied.{IsChosenNew, IsHearing, IsKeptNew, IsTied, said_now, told_by, with_heard}
+use Rattle.zy_law_views.specs.Told.{began_told, change_told, new_told}
 use Rattle.zy_law_views.proofs.AtWork.{work_shorter, works_said}
 use Rattle.zy_law_views.proofs.Gathered.{gathered_proper}
 use Rattle.zy_law_views.proofs.Led.{LeadsTo, leads_nowhere, leads_on, leads_saying}
@@ -164,36 +166,54 @@ module _ {S : Type 0} (R : Rules S) (interval : ℕ) (w : World) (r : ℕ) (s : 
     unfolding leave_on said_more
     leave_says above = refl
 
-    -- the reports are given
-    give_on : (new : Signed New) → IsOnWay (give_new R new g)
-    unfolding give_new
-    give_on new =
-        let says = says_new R interval way.world way.lawful r way.correct (core_of g.state) history way.tied new.stmt.view.0 (map read new.stmt.changes) in
-        said_more g way (record { body = bodies.New new.stmt; stood = table.stood_of R g.state }) (give_new R new g) refl says.may says.tied way.signer way.interval_is
-        (works_said interval way.world r _ g.state (λ v m request told. absurd cc))
-
-  -- a new view is confirmed
-  pub accept_on : (g : Going S) (way : IsOnWay g) (a : Accepted) → g.state.views.mode ≡ Leaving a.new.stmt.view → is_accepted a.new.stmt.view.0 g.state.views.accepted ≡ false
+  -- a new view is confirmed, where nothing was confirmed of it, and nothing was given for it but this
+  accept_as : (g : Going S) (way : IsOnWay g) (a : Accepted) → g.state.views.mode ≡ Leaving a.new.stmt.view
+      → ((number : ℕ) (y : Spoken) (k : Mark) → Says way.world r number y → y.what ≡ Statement.Began a.new.stmt.view.0 k → ⊥)
+      → ((number : ℕ) (y : Spoken) (reports : List PlainReport) → Says way.world r number y → y.what ≡ Statement.New a.new.stmt.view.0 reports → IsKeptNew (Some a) a.new.stmt.view.0 reports)
       → IsChosenNew interval way.world a.new.stmt a.chosen → IsOnWay (accept R a g)
   unfolding accept
-  accept_on g way a leaving none is =
+  accept_as g way a leaving unconfirmed this is =
       let c = core_of g.state in
       let began = sealed_by numbers.began began_fields g.state.sealer (began_for a.new.stmt.view a.chosen) in
-      let may = may_confirm R interval way.world way.lawful way.links r way.correct c history way.tied a leaving none is in
-      let tied = tied_confirmed R interval way.world way.lawful way.links r way.correct c history way.tied a leaving none is began.sig in
+      let may = may_confirm_as R interval way.world way.lawful way.links r way.correct c history way.tied a leaving unconfirmed this is in
+      let tied = tied_confirmed_as R interval way.world way.lawful way.links r way.correct c history way.tied a leaving unconfirmed this is began.sig in
       said_more g way (record { body = bodies.Began began.stmt; stood = table.stood_of R g.state }) (accept R a g) refl may
       (subst (λ (by : Party). IsTied R interval (after_saying way.world r (said_now way.world r (began_told (began_for a.new.stmt.view a.chosen)))) r
       (record c { views = with_new a (record { by = by; stmt = began.stmt; sig = began.sig }) c.views }) history) (sym way.signer) tied)
       way.signer way.interval_is (works_said interval way.world r _ g.state (λ v m request told. absurd cc))
 
-  accept_given : (g : Going S) (way : IsOnWay g) (view : View) (new : Signed New) (chosen : Chosen) → g.state.views.mode ≡ Leaving view → is_accepted view.0 g.state.views.accepted ≡ false
-      → new.stmt.view ≡ view → IsChosenNew interval way.world new.stmt chosen → IsOnWay (accept R (record { new = new; chosen = chosen }) (give_new R new g))
-  unfolding give_new give_on said_more
-  accept_given g way view new chosen leaving none of_view is =
-      accept_on (give_new R new g) (give_on g way view new) (record { new = new; chosen = chosen })
-      (leaving ∙ ap (λ (v : View). Leaving v) (sym of_view))
-      (ap (λ (v : View). is_accepted v.0 g.state.views.accepted) of_view ∙ none)
-      (chosen_said way.world r (said_now way.world r (Statement.New new.stmt.view.0 (map read new.stmt.changes))) interval new.stmt chosen is)
+  pub accept_on : (g : Going S) (way : IsOnWay g) (a : Accepted) → g.state.views.mode ≡ Leaving a.new.stmt.view → is_accepted a.new.stmt.view.0 g.state.views.accepted ≡ false
+      → IsChosenNew interval way.world a.new.stmt a.chosen → IsOnWay (accept R a g)
+  accept_on g way a leaving none is =
+      accept_as g way a leaving (none_confirmed R interval way.world r (core_of g.state) history way.tied a leaving none)
+      (λ number y reports says what. absurd (none_given R interval way.world r (core_of g.state) history way.tied a leaving none number y reports says what)) is
+
+  -- ---- the reports are given
+
+  module _ (g : Going S) (way : IsOnWay g) (a : Accepted) (leaving : g.state.views.mode ≡ Leaving a.new.stmt.view) (none : is_accepted a.new.stmt.view.0 g.state.views.accepted ≡ false)
+      (leads_it : a.new.stmt.view.0 % way.world.counts.n ≡ r) (is : IsChosenNew interval way.world a.new.stmt a.chosen) where
+    abbrev give : Spoken
+    give = said_now way.world r (new_told a.new.stmt)
+
+    -- it keeps what it gave
+    abbrev keeping : Going S
+    keeping = record (give_new R a.new g) { state = record (give_new R a.new g).state { views = record (give_new R a.new g).state.views { accepted = Some a } } }
+
+    give_on : IsOnWay keeping
+    unfolding give_new
+    give_on =
+        said_more g way (record { body = bodies.New a.new.stmt; stood = table.stood_of R g.state }) keeping refl
+        (may_give R interval way.world way.lawful way.links r way.correct (core_of g.state) history way.tied a leaving none leads_it is)
+        (tied_given R interval way.world way.lawful way.links r way.correct (core_of g.state) history way.tied a leaving none leads_it is)
+        way.signer way.interval_is (works_said interval way.world r _ g.state (λ v m request told. absurd cc))
+
+    accept_given : IsOnWay (accept R a (give_new R a.new g))
+    unfolding give_new give_on said_more accept
+    accept_given =
+        accept_as keeping give_on a leaving
+        (unconfirmed R interval way.world way.lawful way.links r way.correct (core_of g.state) history way.tied a leaving none leads_it is)
+        (given_this R interval way.world way.lawful way.links r way.correct (core_of g.state) history way.tied a leaving none leads_it is)
+        (chosen_said way.world r give interval a.new.stmt a.chosen is)
 
   -- ---- an attempt
 
@@ -213,6 +233,11 @@ module _ {S : Type 0} (R : Rules S) (interval : ℕ) (w : World) (r : ℕ) (s : 
         n : New
         n = new_of v view
 
+        leads_it : view.0 % way.world.counts.n ≡ r
+        leads_it =
+            let both = and_parts (leads g.state.views view.0) _ gathers in
+            ap (λ (k : Counts). view.0 % k.n) (sym way.tied.standing.counts) ∙ eqb-true (view.0 % g.state.views.counts.n) g.state.views.me.0 both.0 ∙ way.tied.standing.me
+
         parts : (is_accepted view.0 g.state.views.accepted ≡ false) × IsProperNew way.world interval (new_of g.state.views view)
         parts =
             let both = and_parts (leads g.state.views view.0) _ gathers in
@@ -228,7 +253,7 @@ module _ {S : Type 0} (R : Rules S) (interval : ℕ) (w : World) (r : ℕ) (s : 
             let chosen : Chosen = record { provider = provider; place = place; head = head } in
             let is : IsChosenNew interval way.world n chosen =
             record { proper = parts.1; choice = chosen_is way.world way.lawful way.links interval n parts.1 provider place head (out (choices.Chosen provider place head) told) } in
-            accept_given g way view (sealed_new g.state view) chosen leaving parts.0 refl is
+            accept_given g way (record { new = sealed_new g.state view; chosen = chosen }) leaving parts.0 leads_it is
 
     pub collect_on : (g : Going S) (way : IsOnWay g) → g.state.views.mode ≡ Leaving view → IsLawfulAttempt (collect R view g)
     collect_on g way leaving = by (is_gathering g.state.views view.0) refl

@@ -19,7 +19,7 @@ use Rattle.zy_parts.specs.declared.signed.Signed.{Signed}
 use Rattle.zy_law_views.specs.Held.{IsVouchedBy}
 use Rattle.zy_law_views.specs.Tied.{Core, IsKeptChange, IsTied, change_by, said_now, told_by}
 use Rattle.zy_law_views.specs.Told.{change_told}
-use Rattle.zy_law_views.proofs.OwnReport.{last_below, own_formed, own_links, own_proofs, own_true}
+use Rattle.zy_law_views.proofs.OwnReport.{last_below, own_formed, own_in_order, own_links, own_proofs, own_true}
 use Rattle.zy_law_views.proofs.TiedGrown.{begun_said, grounded_said, has_said_last, hearing_said, own_said, proofs_said, standing_said}
 
 module _ {S : Type 0} (R : Rules S) (interval : ℕ) (w : World) (lawful : IsLawful w) (links : w.next ≡ link) (r : ℕ) (correct : IsCorrect w r) (c : Core S) (history : List Entry)
@@ -41,6 +41,7 @@ module _ {S : Type 0} (R : Rules S) (interval : ℕ) (w : World) (lawful : IsLaw
         told = record {
           true_report = subst (λ (when : ℕ). IsTrueReport w r (length (w.said r)) when view.0 (read_by r (told_by c))) now
               (own_true R interval w links r c history tied (length (w.said r)) view last_earlier);
+          in_order = own_in_order R interval w links r c history tied view last_earlier;
           first = λ number y second says what. absurd (omega (arith, tied.quiet.left number y view.0 second says what));
         };
       }
@@ -79,6 +80,7 @@ module _ {S : Type 0} (R : Rules S) (interval : ℕ) (w : World) (lawful : IsLaw
         let heard = hearing_said w r leave interval c.views tied.hearing in
         let begun = begun_said w r leave R interval c history (λ m vote. absurd vote) tied.begun in
         record {
+          spaced = tied.spaced;
           standing = record {
             me = standing.me;
             counts = standing.counts;
@@ -89,6 +91,7 @@ module _ {S : Type 0} (R : Rules S) (interval : ℕ) (w : World) (lawful : IsLaw
           };
           quiet = record {
             ahead = last_earlier;
+            gone = (let last = has_said_last w r leave in (last.0, last.1, read_by r (told_by c), last.2, last.3));
             left = λ number x other report says what.
                 own_said w r leave (λ z. z.what ≡ Statement.Change other report → other ≤ view.0)
                 (λ i z at is. omega (arith, tied.quiet.left i z other report at is)) (λ is. let same : view.0 ≡ other = cc in omega arith) number x says what;
@@ -98,6 +101,12 @@ module _ {S : Type 0} (R : Rules S) (interval : ℕ) (w : World) (lawful : IsLaw
             once = λ number x m says what.
                 absurd (own_said w r leave (λ z. z.what ≡ Statement.Began view.0 m → ⊥)
                 (λ i z at is. omega (arith, tied.quiet.confirmed i z view.0 m at is)) (λ is. cc) number x says what);
+            gave = λ number x other reports says what.
+                own_said w r leave (λ z. z.what ≡ Statement.New other reports → other ≤ view.0)
+                (λ i z at is. omega (arith, tied.quiet.gave i z other reports at is)) (λ is. absurd cc) number x says what;
+            gave_once = λ number x reports says what.
+                absurd (own_said w r leave (λ z. z.what ≡ Statement.New view.0 reports → ⊥)
+                (λ i z at is. omega (arith, tied.quiet.gave i z view.0 reports at is)) (λ is. cc) number x says what);
             voted = λ number x other m says vote.
                 own_said w r leave (λ z. IsVote other m z.what → other ≤ c.views.last_view.0)
                 (λ i z at is. tied.quiet.voted i z other m at is) (λ is. absurd is) number x says vote;

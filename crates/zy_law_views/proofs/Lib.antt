@@ -25,11 +25,13 @@ pub mod CommonPlaces
 pub mod EmptyHistory
 pub mod FirstEntry
 pub mod Gathered
+pub mod Giving
 pub mod HeardRows
 pub mod InstalledWorld
 pub mod Leaves
 pub mod Led
 pub mod Settled
+pub mod SignedSlots
 pub mod SmallChange
 pub mod Verdicts
 pub mod Adopting

@@ -18,12 +18,13 @@ use Rattle.zy_change.specs.Views.{specs_in}
 use Rattle.zy_change.specs.declared.kept.Certificate.{Certificate}
 use Rattle.zy_choose.specs.Marks.{Has, link}
 use Rattle.zy_choose.specs.Rules.{Fits}
-use Rattle.zy_evidence.specs.Reading.{mark_of_first, read_by, spec_of, stretch_of}
+use Rattle.zy_evidence.specs.Reading.{mark_of_first, read, read_by, spec_of, stretch_of}
 use Rattle.zy_evidence.specs.WellFormed.{IsSpecProven, IsWellFormedChange}
 use Rattle.zy_exec.proofs.ReplayLemmas.{head-along}
 use Rattle.zy_exec.specs.Replay.{Point, origin}
 use Rattle.zy_law.proofs.HistoryLemmas.{AreKept-drop}
 use Rattle.zy_law.proofs.ReportLemmas.{has_passes}
+use Rattle.zy_law.specs.Formed.{IsInOrder}
 use Rattle.zy_law.specs.Histories.{AreKept, Passes}
 use Rattle.zy_law.specs.Lawful.{IsLawful, IsTrueReport}
 use Rattle.zy_law.specs.Reports.{IsProven}
@@ -34,7 +35,7 @@ use Rattle.zy_parts.specs.declared.statements.Spec.{Spec}
 use Rattle.zy_law_views.specs.Held.{AreProofsHeld, IsHeldPart, mark_at}
 use Rattle.zy_law_views.specs.Told.{response_told}
 use Rattle.zy_law_views.specs.Tied.{Core, IsAhead, IsCommitHeld, IsFarEnough, IsTied, change_by, told_by}
-use Rattle.zy_law_views.proofs.ProvenReports.{report_proven}
+use Rattle.zy_law_views.proofs.ProvenReports.{report_in_order, report_proven}
 
 -- the own view isn't below the last active one
 pub last_below : (last : ℕ) (mode : Mode) → IsAhead last mode → last ≤ (view_of mode).0
@@ -133,6 +134,10 @@ module _ {S : Type 0} (R : Rules S) (interval : ℕ) (w : World) (links : w.next
   pub own_proven : (view : View) → c.views.last_view.0 < view.0 → IsProven w view.0 (read_by r (told_by c))
   own_proven view later =
       subst (λ (id : ℕ). IsProven w view.0 (read_by id (told_by c))) tied.standing.me (report_proven w interval (change_by c view []) (own_formed view [] later) own_proofs)
+
+  pub own_in_order : (view : View) → c.views.last_view.0 < view.0 → IsInOrder w.next w.interval (read_by r (told_by c))
+  own_in_order view later =
+      subst (λ (id : ℕ). IsInOrder w.next w.interval (read_by id (told_by c))) tied.standing.me (report_in_order w links interval tied.spaced (read (change_by c view [])) (own_formed view [] later).itself)
 
   pub own_true : (number : ℕ) (view : View) → c.views.last_view.0 < view.0 → IsTrueReport w r number tied.standing.number view.0 (read_by r (told_by c))
   own_true number view later =

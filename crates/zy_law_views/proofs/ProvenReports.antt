@@ -1,5 +1,5 @@
 -- A held report that breaks no rule proves what the law asks of it, and a new view of such reports is valid.
-use Rattle.std.proofs.Common.{◌≡◌, ◌≢◌, ℕ, ◌<◌, List, [], ◌∷◌, length, map, get_or, Option, Some, None, refl, sym, ap, ◌∙◌, subst, arith}
+use Rattle.std.proofs.Common.{◌≡◌, ◌≢◌, ℕ, ◌%◌, ◌<◌, List, [], ◌∷◌, length, map, get_or, Option, Some, None, refl, sym, ap, ◌∙◌, subst, arith}
 use Rattle.std.specs.Prelude.{All, IfSome}
 use Rattle.std.proofs.lemmas.List.{get_or-map, length-map}
 use Rattle.std.proofs.lemmas.List.Elements.{All-map}
@@ -9,10 +9,16 @@ use Rattle.zy_base.specs.declared.ids.Place.{Place}
 use Rattle.zy_base.specs.declared.ids.View.{View}
 use Rattle.zy_cert.specs.Certificates.{IsCertificate}
 use Rattle.zy_cert.specs.Points.{point_of_began, point_of_check, point_of_spec}
+use Rattle.zy_chain.specs.Stretch.{Mark, Stretch}
+use Rattle.zy_chain.specs.declared.entry.Entry.{Entry}
+use Rattle.zy_choose.specs.Marks.{Has, link}
+use Rattle.zy_choose.specs.Reports.{PlainReport}
+use Rattle.zy_choose.specs.Rules.{Fits, IsWellFormed}
 use Rattle.zy_evidence.specs.Reading.{mark_of_first, number_of_party, read, spec_of}
 use Rattle.zy_evidence.specs.WellFormed.{IsSpecProven, IsWellFormedChange}
 use Rattle.zy_law.proofs.HistoryLemmas.{mark_is}
 use Rattle.zy_law.specs.Fixed.{IsCertified}
+use Rattle.zy_law.specs.Formed.{IsInOrder, IsInReach}
 use Rattle.zy_law.specs.Histories.{origin}
 use Rattle.zy_law.specs.Reports.{IsProven, IsValidReport, IsValidNew}
 use Rattle.zy_law.specs.Said.{IsVouched}
@@ -95,6 +101,31 @@ module _ (w : World) where
             cert_backed w check_told w.counts.local (Statement.Check t.stable_view.0 (read c).stretch.base t.state) t.checks
             (check_cert w.counts.local t.checks (t.stable_view, t.stable_place, t.stable_head) t.state some_local proof.certificate proof.state held.checks);
       }
+
+  -- ---- the rules that safety doesn't need
+
+  module _ (links : w.next ≡ link) (interval : ℕ) (spaced : w.interval ≡ interval) where
+    in_reach : (s : Stretch) (m : Mark) → Fits s m → IsInReach w.next s m
+    in_reach s m fits = record { within = fits.within; shared = λ above. subst (λ (next : Digest → Entry → Digest). Has next s m) (sym links) (fits.shared above) }
+
+    in_reach_if : (s : Stretch) (o : Option Mark) → IfSome o (Fits s) → IfSome o (IsInReach w.next s)
+    in_reach_if s None fits = tt
+    in_reach_if s (Some m) fits = in_reach s m fits
+
+    pub report_in_order : (r : PlainReport) → IsWellFormed interval r → IsInOrder w.next w.interval r
+    report_in_order r is =
+        record {
+          multiple = ap (λ (k : ℕ). r.stretch.base.place % k) spaced ∙ is.stable.multiple;
+          few = omega (arith, is.entries.few, spaced);
+          clients = is.entries.clients;
+          end = is.entries.end;
+          began = in_reach r.stretch r.began is.began;
+          spec = in_reach_if r.stretch r.spec is.spec;
+        }
+
+    pub reports_in_order : (n : New) → IsProperNew w interval n → All (IsInOrder w.next w.interval) (map read n.changes)
+    reports_in_order n is =
+        All-map (IsInOrder w.next w.interval) read n.changes (λ k d within. report_in_order (read (get_or n.changes k d)) (is.well_formed k d within).itself)
 
   -- ---- a new view
 

@@ -96,6 +96,7 @@ module _ {S : Type 0} (R : Rules S) where
   abbrev setting_with : (ℕ → List Spoken) → (ℕ → List Stand) → (ℕ → List Entry) → (ℕ → Option Certificate) → (ℕ → Kept S) → (ℕ → Check) → (ℕ → List (Signed Check)) → Setting S
   setting_with said past histories held keeps stable proof =
       record {
+        interval = 1;
         asked = λ client. list_1;
         said = said;
         past = past;
@@ -131,7 +132,7 @@ module _ {S : Type 0} (R : Rules S) where
   lawful_0 = start_lawful world_0 starts
 
   tied_0 : (r : ℕ) → r < 3 → IsTied R 1 world_0 r (core_0 r) []
-  tied_0 r small = tied_at_start R 1 r world_0 (id_of r) (state_of R []) (omega arith) starts (correct_one setting_0 r small) refl refl
+  tied_0 r small = tied_at_start R 1 r world_0 (id_of r) (state_of R []) (omega arith) refl starts (correct_one setting_0 r small) refl refl
 
   -- ---- two of them run the entry
 

@@ -57,6 +57,7 @@ no_mark anchor m r none base past = by (has_mark link r.stretch anchor) (has_mar
 abbrev small_setting : {S : Type 0} → Rules S → ℕ → Digest → List Entry → (ℕ → List Entry) → (ℕ → List Stand) → (Digest → Entry → Bool) → Setting S
 small_setting R interval state ran asked past kept =
     record {
+      interval = interval;
       asked = asked;
       said = λ r. [];
       past = past;
@@ -145,8 +146,8 @@ module _ {S : Type 0} (R : Rules S) (interval : ℕ) (ran : List Entry) (asked :
 
 -- ---- nothing was run before
 
-none_kept : IsStart silent_world
-none_kept =
+none_kept : (interval : ℕ) → IsStart (silent_world interval)
+none_kept interval =
     record {
       few_liars = lit≤ tt;
       one_text = λ h k d e first second same. absurd cc;
@@ -155,16 +156,16 @@ none_kept =
     }
 
 abbrev silent_setting : {S : Type 0} → Rules S → ℕ → Setting S
-silent_setting R interval = small_setting R interval empty_head [] silent_world.asked silent_world.past silent_world.kept
+silent_setting R interval = small_setting R interval empty_head [] (silent_world interval).asked (silent_world interval).past (silent_world interval).kept
 
-silent_stage : {S : Type 0} (R : Rules S) (interval : ℕ) → 0 < interval → IsStage R interval (silent_setting R interval) silent_world (start R interval (silent_setting R interval))
+silent_stage : {S : Type 0} (R : Rules S) (interval : ℕ) → 0 < interval → IsStage R interval (silent_setting R interval) (silent_world interval) (start R interval (silent_setting R interval))
 silent_stage {S} R interval some =
-    record { lawful = start_lawful silent_world none_kept; links = refl; correct = correct_one (silent_setting R interval); tied = at }
+    record { lawful = start_lawful (silent_world interval) (none_kept interval); links = refl; correct = correct_one (silent_setting R interval); tied = at }
   where
-    at_start : (r : ℕ) → r < 3 → IsTied R interval silent_world r (core_of_one R interval empty_head r) []
-    at_start r small = tied_at_start R interval r silent_world (id_of r) empty_head some none_kept (correct_one (silent_setting R interval) r small) refl refl
+    at_start : (r : ℕ) → r < 3 → IsTied R interval (silent_world interval) r (core_of_one R interval empty_head r) []
+    at_start r small = tied_at_start R interval r (silent_world interval) (id_of r) empty_head some refl (none_kept interval) (correct_one (silent_setting R interval) r small) refl refl
 
-    at : (r : ℕ) → r < 3 → IsTied R interval silent_world r (start R interval (silent_setting R interval) r) ((silent_setting R interval).histories r)
+    at : (r : ℕ) → r < 3 → IsTied R interval (silent_world interval) r (start R interval (silent_setting R interval) r) ((silent_setting R interval).histories r)
     at zero small = at_start 0 small
     at (suc zero) small = at_start 1 small
     at (suc (suc zero)) small = at_start 2 small
@@ -176,7 +177,7 @@ small_change R interval some =
     let t = silent_setting R interval in
     let stage = silent_stage R interval some in
     let (chosen, is) = some_chosen R interval t stage in
-    let may = begins R interval [] silent_world.asked silent_world.past silent_world.kept empty_head stage chosen is in (
+    let may = begins R interval [] (silent_world interval).asked (silent_world interval).past (silent_world interval).kept empty_head stage chosen is in (
       world_7 R interval t stage chosen is 0 [] may,
       mark_at chosen.place chosen.head,
       begun_lawful R interval t stage chosen is 0 [] may,
@@ -188,8 +189,8 @@ small_change R interval some =
 
 -- ---- the first replica ran an entry, which no other did
 
-asked_starts : IsStart asked_world
-asked_starts =
+asked_starts : (interval : ℕ) → IsStart (asked_world interval)
+asked_starts interval =
     record {
       few_liars = lit≤ tt;
       one_text = one_link;
@@ -205,13 +206,13 @@ module _ {S : Type 0} (R : Rules S) (interval : ℕ) (some : 0 < interval) where
   core r = core_of_one R interval empty_head r
 
   abbrev asked_setting : Setting S
-  asked_setting = small_setting R interval empty_head [] asked_world.asked asked_world.past asked_world.kept
+  asked_setting = small_setting R interval empty_head [] (asked_world interval).asked (asked_world interval).past (asked_world interval).kept
 
-  start_tied : (r : ℕ) → r < 3 → IsTied R interval asked_world r (core r) []
-  start_tied r small = tied_at_start R interval r asked_world (id_of r) empty_head some asked_starts (correct_one asked_setting r small) refl refl
+  start_tied : (r : ℕ) → r < 3 → IsTied R interval (asked_world interval) r (core r) []
+  start_tied r small = tied_at_start R interval r (asked_world interval) (id_of r) empty_head some refl (asked_starts interval) (correct_one asked_setting r small) refl refl
 
-  runs : IsRunnableNext interval asked_world 0 (core 0) [] first_entry
-  runs = first_runs interval asked_world 0 (core 0) some (0, omega arith, refl) first_linked refl refl refl
+  runs : IsRunnableNext interval (asked_world interval) 0 (core 0) [] first_entry
+  runs = first_runs interval (asked_world interval) 0 (core 0) some (0, omega arith, refl) first_linked refl refl refl
 
   abbrev one_stand : Stand
   one_stand = record { view = 0; history = ran_one }
@@ -219,8 +220,8 @@ module _ {S : Type 0} (R : Rules S) (interval : ℕ) (some : 0 < interval) where
   abbrev ran_past : ℕ → List Stand
   ran_past = with_last (λ r. first_stand ∷ []) 0 one_stand
 
-  may : MayStand asked_world 0 one_stand
-  may = may_run R interval asked_world (start_lawful asked_world asked_starts) 0 (correct_one asked_setting 0 (omega arith)) (core 0) [] (start_tied 0 (omega arith)) (record { 0 = 0 }) refl first_entry runs
+  may : MayStand (asked_world interval) 0 one_stand
+  may = may_run R interval (asked_world interval) (start_lawful (asked_world interval) (asked_starts interval)) 0 (correct_one asked_setting 0 (omega arith)) (core 0) [] (start_tied 0 (omega arith)) (record { 0 = 0 }) refl first_entry runs
 
   abbrev ran_setting : Setting S
   ran_setting = small_setting R interval empty_head ran_one (λ client. ran_one) ran_past is_first_link
@@ -228,16 +229,16 @@ module _ {S : Type 0} (R : Rules S) (interval : ℕ) (some : 0 < interval) where
   ran_stage : IsStage R interval ran_setting (world_of ran_setting) (start R interval ran_setting)
   ran_stage =
       record {
-        lawful = standing_lawful asked_world (start_lawful asked_world asked_starts) 0 one_stand may;
+        lawful = standing_lawful (asked_world interval) (start_lawful (asked_world interval) (asked_starts interval)) 0 one_stand may;
         links = refl;
         correct = correct_one ran_setting;
         tied = at;
       }
     where
       at : (r : ℕ) → r < 3 → IsTied R interval (world_of ran_setting) r (start R interval ran_setting r) (ran_setting.histories r)
-      at zero small = tied_run R interval asked_world (start_lawful asked_world asked_starts) 0 (correct_one asked_setting 0 small) (core 0) [] (start_tied 0 small) (record { 0 = 0 }) refl first_entry runs
-      at (suc zero) small = others_stand R interval asked_world 0 1 one_stand (core 1) [] refl (start_tied 1 small)
-      at (suc (suc zero)) small = others_stand R interval asked_world 0 2 one_stand (core 2) [] refl (start_tied 2 small)
+      at zero small = tied_run R interval (asked_world interval) (start_lawful (asked_world interval) (asked_starts interval)) 0 (correct_one asked_setting 0 small) (core 0) [] (start_tied 0 small) (record { 0 = 0 }) refl first_entry runs
+      at (suc zero) small = others_stand R interval (asked_world interval) 0 1 one_stand (core 1) [] refl (start_tied 1 small)
+      at (suc (suc zero)) small = others_stand R interval (asked_world interval) 0 2 one_stand (core 2) [] refl (start_tied 2 small)
       at (suc (suc (suc r))) small = absurd (omega arith)
 
   pub change_back : (w : World) × (m : Mark) × IsLawful w × (w.counts.n ≡ 4) × (w.counts.f ≡ 1) × IsChosenStart w 1 m

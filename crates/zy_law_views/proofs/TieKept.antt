@@ -43,10 +43,11 @@ none_said w r silent number x says =
     let nothing : slice_get [] number ≡ Some x = ap (λ (l : List Spoken). slice_get l number) (sym silent) ∙ says in
     absurd cc
 
-pub tied_at_start : {S : Type 0} (R : Rules S) (interval r : ℕ) (w : World) (me : ReplicaId) (state : Digest) → 0 < interval → IsStart w → IsCorrect w r → me.0 ≡ r → state ≡ w.state [] → IsTied R interval w r (core_at_start R interval w.counts me state) []
-tied_at_start {S} R interval r w me state some start correct is told =
+pub tied_at_start : {S : Type 0} (R : Rules S) (interval r : ℕ) (w : World) (me : ReplicaId) (state : Digest) → 0 < interval → w.interval ≡ interval → IsStart w → IsCorrect w r → me.0 ≡ r → state ≡ w.state [] → IsTied R interval w r (core_at_start R interval w.counts me state) []
+tied_at_start {S} R interval r w me state some apart start correct is told =
     let silent = start.silent r correct in
     record {
+      spaced = apart;
       standing = record {
         me = is;
         counts = refl;
@@ -57,9 +58,12 @@ tied_at_start {S} R interval r w me state some start correct is told =
       };
       quiet = record {
         ahead = refl;
+        gone = tt;
         left = λ number x view report says what. none_said w r silent number x says;
         confirmed = λ number x view m says what. none_said w r silent number x says;
         once = λ number x m says what. tt;
+        gave = λ number x view reports says what. none_said w r silent number x says;
+        gave_once = λ number x reports says what. tt;
         voted = λ number x view m says vote. none_said w r silent number x says;
         ordered = λ number x view m request says what. none_said w r silent number x says;
       };
@@ -134,6 +138,7 @@ module _ {S : Type 0} (R : Rules S) (interval : ℕ) (w : World) (lawful : IsLaw
         let proven = grounded.proven in
         let long = length-append c.kept.entries (e ∷ []) in
         record {
+          spaced = tied.spaced;
           standing = record {
             me = tied.standing.me;
             counts = tied.standing.counts;
@@ -144,9 +149,12 @@ module _ {S : Type 0} (R : Rules S) (interval : ℕ) (w : World) (lawful : IsLaw
           };
           quiet = record {
             ahead = tied.quiet.ahead;
+            gone = tied.quiet.gone;
             left = tied.quiet.left;
             confirmed = tied.quiet.confirmed;
             once = tied.quiet.once;
+            gave = tied.quiet.gave;
+            gave_once = tied.quiet.gave_once;
             voted = tied.quiet.voted;
             ordered = tied.quiet.ordered;
           };
@@ -185,6 +193,7 @@ module _ {S : Type 0} (R : Rules S) (interval : ℕ) (w : World) (lawful : IsLaw
   tied_settled place stable proof above below grounded =
       let begun = tied.begun in
       record {
+        spaced = tied.spaced;
         standing = record {
           me = tied.standing.me;
           counts = tied.standing.counts;
@@ -216,6 +225,7 @@ module _ {S : Type 0} (R : Rules S) (interval : ℕ) (w : World) (lawful : IsLaw
         let grounded = tied.grounded in
         let begun = tied.begun in
         record {
+          spaced = tied.spaced;
           standing = record {
             me = tied.standing.me;
             counts = tied.standing.counts;
@@ -226,9 +236,12 @@ module _ {S : Type 0} (R : Rules S) (interval : ℕ) (w : World) (lawful : IsLaw
           };
           quiet = record {
             ahead = tied.quiet.ahead;
+            gone = tied.quiet.gone;
             left = tied.quiet.left;
             confirmed = tied.quiet.confirmed;
             once = tied.quiet.once;
+            gave = tied.quiet.gave;
+            gave_once = tied.quiet.gave_once;
             voted = tied.quiet.voted;
             ordered = tied.quiet.ordered;
           };
@@ -268,6 +281,7 @@ module _ {S : Type 0} (R : Rules S) (interval : ℕ) (w : World) (lawful : IsLaw
       let begun = tied.begun in
       let proven = grounded.proven in
       record {
+        spaced = tied.spaced;
         standing = record {
           me = tied.standing.me;
           counts = tied.standing.counts;
@@ -278,9 +292,12 @@ module _ {S : Type 0} (R : Rules S) (interval : ℕ) (w : World) (lawful : IsLaw
         };
         quiet = record {
           ahead = tied.quiet.ahead;
+          gone = tied.quiet.gone;
           left = tied.quiet.left;
           confirmed = tied.quiet.confirmed;
           once = tied.quiet.once;
+          gave = tied.quiet.gave;
+          gave_once = tied.quiet.gave_once;
           voted = tied.quiet.voted;
           ordered = tied.quiet.ordered;
         };

@@ -8,6 +8,7 @@ use Rattle.zy_base.specs.declared.ids.Party.{Party}
 use Rattle.zy_base.specs.declared.ids.Party.TheVariants.{Replica, Client}
 use Rattle.zy_base.specs.declared.ids.View.{View}
 use Rattle.zy_base.specs.declared.step.Mode.{Mode}
+use Rattle.zy_base.specs.declared.step.Mode.TheVariants.{Active, Leaving}
 use Rattle.zy_chain.specs.Stretch.{Mark}
 use Rattle.zy_chain.specs.declared.entry.Entry.{Entry}
 use Rattle.zy_change.specs.Views.{Views}
@@ -25,7 +26,7 @@ use Rattle.zy_parts.specs.declared.reports.New.{New}
 use Rattle.zy_parts.specs.declared.reports.Told.{Told}
 use Rattle.zy_parts.specs.declared.signed.Signed.{Signed}
 use Rattle.zy_law_views.specs.Held.{AreProofsHeld, IsCertOf, IsHeldChange, IsHeldPart, IsProperNew, IsVouchedBy}
-use Rattle.zy_law_views.specs.Tied.{Core, IsAcceptedTied, IsBegun, IsChosenNew, IsCommitHeld, IsFarEnough, IsGrounded, IsHearing, IsKeptChange, IsQuiet, IsStanding, IsTied, IsWaitingTied, told_by}
+use Rattle.zy_law_views.specs.Tied.{Core, HasGone, IsAcceptedTied, IsBegun, IsChosenNew, IsCommitHeld, IsFarEnough, IsGrounded, IsHearing, IsKeptChange, IsQuiet, IsStanding, IsTied, IsWaitingTied, told_by}
 use Rattle.zy_law_views.specs.Told.{began_told, check_told, response_told}
 
 module _ (w : World) (asked : ℕ → List Entry) (said : ℕ → List Spoken) (past : ℕ → List Stand) (kept : Digest → Entry → Bool)
@@ -36,7 +37,7 @@ module _ (w : World) (asked : ℕ → List Entry) (said : ℕ → List Spoken) (
   abbrev more : World
   more = grown w asked said past kept
 
-  vouched_more : (s : Statement) (by : Party) → IsVouchedBy w s by → IsVouchedBy more s by
+  pub vouched_more : (s : Statement) (by : Party) → IsVouchedBy w s by → IsVouchedBy more s by
   vouched_more s (Replica id) vouched = vouched_grown w asked said past kept asks says stands s id.0 vouched
   vouched_more s (Client id) vouched = absurd vouched
 
@@ -137,13 +138,20 @@ module _ (w : World) (asked : ℕ → List Entry) (said : ℕ → List Spoken) (
           covered = λ number x m at vote. is.covered number x m (was number x at) vote;
         }
 
+    gone_more : (mode : Mode) → HasGone (w.said r) mode → HasGone (said r) mode
+    gone_more (Active view) is = tt
+    gone_more (Leaving view) is = (is.0, is.1, is.2, says r is.0 is.1 is.3, is.4)
+
     quiet_more : ((number : ℕ) (x : Spoken) → slice_get (said r) number ≡ Some x → Says w r number x) → (v : Views) → IsQuiet w r v → IsQuiet more r v
     quiet_more was v is =
         record {
           ahead = is.ahead;
+          gone = gone_more v.mode is.gone;
           left = λ number x view report at what. is.left number x view report (was number x at) what;
           confirmed = λ number x view m at what. is.confirmed number x view m (was number x at) what;
           once = λ number x m at what. is.once number x m (was number x at) what;
+          gave = λ number x view reports at what. is.gave number x view reports (was number x at) what;
+          gave_once = λ number x reports at what. is.gave_once number x reports (was number x at) what;
           voted = λ number x view m at vote. is.voted number x view m (was number x at) vote;
           ordered = λ number x view m request at what. is.ordered number x view m request (was number x at) what;
         }
@@ -153,6 +161,7 @@ module _ (w : World) (asked : ℕ → List Entry) (said : ℕ → List Spoken) (
     tied_more told stood is =
         let was : (number : ℕ) (x : Spoken) → slice_get (said r) number ≡ Some x → Says w r number x = λ number x at. ap (λ (l : List Spoken). slice_get l number) (sym told) ∙ at in
         record {
+          spaced = is.spaced;
           standing = standing_more stood is.standing;
           quiet = quiet_more was c.views is.quiet;
           grounded = grounded_more is.grounded;
@@ -196,6 +205,11 @@ module _ (w : World) (r : ℕ) (y : Spoken) where
   pub chosen_said : (interval : ℕ) (n : New) (chosen : Chosen) → IsChosenNew interval w n chosen → IsChosenNew interval (after_saying w r y) n chosen
   chosen_said interval n chosen is = chosen_more w w.asked (with_last w.said r y) w.past w.kept (λ q e has. has) (λ q i x at. with_last-kept w.said r y q i x at) (λ q i b at. at) (λ h e is. is) interval n chosen is
 
+  -- what was said before is said still
+  pub gone_said : (mode : Mode) → HasGone (w.said r) mode → HasGone ((after_saying w r y).said r) mode
+  gone_said (Active view) is = tt
+  gone_said (Leaving view) is = (is.0, is.1, is.2, with_last-kept w.said r y r is.0 is.1 is.3, is.4)
+
   module _ {S : Type 0} (R : Rules S) (interval : ℕ) (c : Core S) (history : List Entry) where
     pub standing_said : IsStanding R w r c history → IsStanding R (after_saying w r y) r c history
     standing_said is = standing_more w w.asked (with_last w.said r y) w.past w.kept (λ q e has. has) (λ q i x at. with_last-kept w.said r y q i x at) (λ q i b at. at) (λ h e is. is) R interval r c history refl is
@@ -213,6 +227,15 @@ module _ (w : World) (r : ℕ) (y : Spoken) where
           covered = λ number x m at vote.
               own_said w r y (λ z. IsVote c.views.last_view.0 m z.what → IsFarEnough c.views.specs m.place) (λ i z at is_vote. is.covered i z m at is_vote) (new m) number x at vote;
         }
+
+-- so is one statement that is held
+pub held_said : {S : Type 0} (w : World) (r : ℕ) (y : Spoken) (say : S → Statement) (x : Signed S) → IsHeldPart w say x → IsHeldPart (after_saying w r y) say x
+held_said w r y say x held =
+    vouched_more w w.asked (with_last w.said r y) w.past w.kept (λ q e has. has) (λ q i z at. with_last-kept w.said r y q i z at) (λ q i b at. at) (λ h e is. is) (say x.stmt) x.by held
+
+pub held_stood : {S : Type 0} (w : World) (r : ℕ) (b : Stand) (say : S → Statement) (x : Signed S) → IsHeldPart w say x → IsHeldPart (after_standing w r b) say x
+held_stood w r b say x held =
+    vouched_more w w.asked w.said (with_last w.past r b) w.kept (λ q e has. has) (λ q i z at. at) (λ q i d at. with_last-kept w.past r b q i d at) (λ h e is. is) (say x.stmt) x.by held
 
 -- ---- after it stands elsewhere
 

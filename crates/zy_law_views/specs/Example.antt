@@ -26,10 +26,11 @@ use Rattle.zy_law_views.specs.Texts.{IsKept, Texts, link_text}
 use Rattle.zy_law_views.specs.Tied.{Core, core_at_start}
 
 -- what was asked for, where the replicas stood, and which texts are kept
-abbrev pub small_world : (ℕ → List Entry) → (ℕ → List Stand) → (Digest → Entry → Bool) → World
-small_world asked past kept =
+abbrev pub small_world : ℕ → (ℕ → List Entry) → (ℕ → List Stand) → (Digest → Entry → Bool) → World
+small_world interval asked past kept =
     record {
       counts = four;
+      interval = interval;
       liar = λ r. nat_eq r 3;
       lying = λ client. false;
       asked = asked;
@@ -46,15 +47,15 @@ abbrev pub first_stand : Stand
 first_stand = record { view = 0; history = [] }
 
 -- nothing was asked for, and no text is kept
-abbrev pub silent_world : World
-silent_world = small_world (λ client. []) (λ r. first_stand ∷ []) (λ head e. false)
+abbrev pub silent_world : ℕ → World
+silent_world interval = small_world interval (λ client. []) (λ r. first_stand ∷ []) (λ head e. false)
 
 -- Client 0 asked for one entry, and the text of the link to it is kept.
 abbrev pub is_first_link : Digest → Entry → Bool
 is_first_link head e = same_digest head empty_head && (nat_eq e.client.0 0 && (nat_eq e.stamp.0 1 && nat_eq (length e.op) 0))
 
-abbrev pub asked_world : World
-asked_world = small_world (λ client. first_entry ∷ []) (λ r. first_stand ∷ []) is_first_link
+abbrev pub asked_world : ℕ → World
+asked_world interval = small_world interval (λ client. first_entry ∷ []) (λ r. first_stand ∷ []) is_first_link
 
 abbrev pub id_of : ℕ → ReplicaId
 id_of r = record { 0 = r }

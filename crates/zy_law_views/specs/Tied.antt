@@ -94,13 +94,35 @@ abbrev pub IsConfirmedAs : Mode → Option Accepted → Mark → Type 0
 IsConfirmedAs (Active view) accepted m = Unit {0}
 IsConfirmedAs (Leaving view) accepted m = IsAcceptedAs accepted view.0 m
 
+-- the new view that it accepted is of this view, and has these reports
+pub record IsKeptNew (accepted : Option Accepted) (view : ℕ) (reports : List PlainReport) : Type 0 where
+  pub own : Accepted
+  pub is : accepted ≡ Some own
+  pub of_view : own.new.stmt.view.0 ≡ view
+  pub reports_are : map read own.new.stmt.changes ≡ reports
+
+-- no more is given of a view that has begun
+abbrev pub IsGivenAs : Mode → Option Accepted → List PlainReport → Type 0
+IsGivenAs (Active view) accepted reports = Unit {0}
+IsGivenAs (Leaving view) accepted reports = IsKeptNew accepted view.0 reports
+
+-- while it leaves for a view it has said so
+abbrev pub HasGone : List Spoken → Mode → Type 0
+HasGone said (Active view) = Unit {0}
+HasGone said (Leaving view) = (number : ℕ) × (x : Spoken) × (report : PlainReport) × (slice_get said number ≡ Some x) × (x.what ≡ Statement.Change view.0 report)
+
 pub record IsQuiet (w : World) (r : ℕ) (v : Views) : Type 0 where
   pub ahead : IsAhead v.last_view.0 v.mode
+  -- its mode is what it said: it leaves for the greatest view for which it said a leave, if that is above its last active one
+  pub gone : HasGone (w.said r) v.mode
   -- it left for no greater view than its own: so it may speak in its own, and leaves for a greater one once
   pub left : (number : ℕ) (x : Spoken) (view : ℕ) (report : PlainReport) → Says w r number x → x.what ≡ Statement.Change view report → view ≤ own_view v
   -- it confirmed no greater view, and its own one once: what it accepted
   pub confirmed : (number : ℕ) (x : Spoken) (view : ℕ) (m : Mark) → Says w r number x → x.what ≡ Statement.Began view m → view ≤ own_view v
   pub once : (number : ℕ) (x : Spoken) (m : Mark) → Says w r number x → x.what ≡ Statement.Began (own_view v) m → IsConfirmedAs v.mode v.accepted m
+  -- so with the new views that it gave
+  pub gave : (number : ℕ) (x : Spoken) (view : ℕ) (reports : List PlainReport) → Says w r number x → x.what ≡ Statement.New view reports → view ≤ own_view v
+  pub gave_once : (number : ℕ) (x : Spoken) (reports : List PlainReport) → Says w r number x → x.what ≡ Statement.New (own_view v) reports → IsGivenAs v.mode v.accepted reports
   -- it voted and ordered in no greater view than its last active one: so a view that it begins has no vote and no order of it
   pub voted : (number : ℕ) (x : Spoken) (view : ℕ) (m : Mark) → Says w r number x → IsVote view m x.what → view ≤ v.last_view.0
   pub ordered : (number : ℕ) (x : Spoken) (view : ℕ) (m : Mark) (request : Digest) → Says w r number x → x.what ≡ Statement.Order view m request → view ≤ v.last_view.0
@@ -194,6 +216,7 @@ pub record IsHearing (interval : ℕ) (w : World) (v : Views) : Type 0 where
 -- ---- the tie
 
 pub record IsTied {S : Type 0} (R : Rules S) (interval : ℕ) (w : World) (r : ℕ) (c : Core S) (history : List Entry) : Type 0 where
+  pub spaced : w.interval ≡ interval
   pub standing : IsStanding R w r c history
   pub quiet : IsQuiet w r c.views
   pub grounded : IsGrounded interval w c
@@ -246,6 +269,10 @@ with_heard changes begans hated waiting c = record c { views = record c.views { 
 -- it left for a view, with this signature on its leave
 abbrev pub left_with : {S : Type 0} → View → List ℕ → Core S → Core S
 left_with view sig c = record c { views = left view (with_change (change_by c view sig) c.views) }
+
+-- it gave a new view, and keeps it
+abbrev pub given_with : {S : Type 0} → Accepted → Core S → Core S
+given_with a c = record c { views = record c.views { accepted = Some a } }
 
 -- its confirmation of the choice out of a new view, with a signature
 abbrev pub began_by : {S : Type 0} → Core S → Accepted → List ℕ → Signed Began

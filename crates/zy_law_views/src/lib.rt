@@ -39,4 +39,4 @@ pub use rows::{heard_rows, leaving_rows};
 pub use speech::{asking, speaking};
 pub use states::transfer_rows;
 pub use steps::{keeping, running, ties_begin};
-pub use views::{confirming_views, leaving_views};
+pub use views::{confirming_views, giving_views, leaving_views};

@@ -4,7 +4,6 @@ ghost use Rattle.zy_base.specs.declared.ids.View.{View};
 ghost use Rattle.zy_base.specs.declared.step.Mode.TheVariants.{Active};
 ghost use Rattle.zy_chain.specs.Stretch.{Mark};
 ghost use Rattle.zy_chain.specs.declared.entry.Entry.{Entry};
-ghost use Rattle.zy_choose.specs.Reports.{PlainReport};
 ghost use Rattle.zy_law.specs.Fixed.{IsCertified};
 ghost use Rattle.zy_law.specs.Histories.{Passes};
 ghost use Rattle.zy_law.specs.Lawful.{IsLawful, IsTrueAnswer};
@@ -26,8 +25,7 @@ pub fn speaking<M: Machine>()
     ensures orders { (interval r : ℕ) (w : World) (c : Core M.State) (history : List Entry) (view : View) (m : Mark) (request : Digest) → IsLawful w → IsCorrect w r → IsTied M.rules interval w r c history → c.views.mode ≡ Active view → AreOrdersUpTo w r view.0 (length history) → length history < m.place → AreOrdersUpTo (after_saying w r (said_now w r (Statement.Order view.0 m request))) r view.0 m.place }
 {}
 
-/// What it says of no view, active or not: a new view's reports, and what only asks for something.
+/// What it says of no view, active or not: what only asks for something.
 pub fn asking<M: Machine>()
-    ensures new { (interval r view : ℕ) (w : World) (c : Core M.State) (history : List Entry) (reports : List PlainReport) → IsLawful w → IsCorrect w r → IsTied M.rules interval w r c history → SaysLawfully M.rules interval w r c history (Statement.New view reports) }
     ensures other { (interval r : ℕ) (w : World) (c : Core M.State) (history : List Entry) → IsLawful w → IsCorrect w r → IsTied M.rules interval w r c history → SaysLawfully M.rules interval w r c history Statement.Other }
 {}

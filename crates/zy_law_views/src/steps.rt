@@ -24,7 +24,7 @@ use zy_base::Machine;
 /// A replica that begins is tied to a world that begins. The tie holds as clients ask for more, other replicas speak and
 /// stand elsewhere, and more texts are kept.
 pub fn ties_begin<M: Machine>()
-    ensures start { (interval r : ℕ) (w : World) (me : ReplicaId) (state : Digest) → 0 < interval → IsStart w → IsCorrect w r → me.0 ≡ r → state ≡ w.state [] → IsTied M.rules interval w r (core_at_start M.rules interval w.counts me state) [] }
+    ensures start { (interval r : ℕ) (w : World) (me : ReplicaId) (state : Digest) → 0 < interval → w.interval ≡ interval → IsStart w → IsCorrect w r → me.0 ≡ r → state ≡ w.state [] → IsTied M.rules interval w r (core_at_start M.rules interval w.counts me state) [] }
     ensures grows { (interval r : ℕ) (w : World) (c : Core M.State) (history : List Entry) (asked : ℕ → List Entry) (said : ℕ → List Spoken) (past : ℕ → List Stand) (kept : Digest → Entry → Bool) → IsGrown w asked said past kept → said r ≡ w.said r → past r ≡ w.past r → IsTied M.rules interval w r c history → IsTied M.rules interval (grown w asked said past kept) r c history }
 {}
 

@@ -1,10 +1,13 @@
 -- What is sent, the marks of frames, muted parties and the leaves of liars are nothing to a good world.
-use Rattle.std.proofs.Common.{ℕ, Bool, List, [], ◌∷◌}
+use Rattle.std.proofs.Common.{ℕ, Bool, List, [], ◌∷◌, Option, Some, None}
+use Rattle.std.specs.Prelude.{IfSome}
 use Rattle.std.specs.List.{AllByRecursion}
 use Rattle.zy_base.specs.Machine.{Rules}
 use Rattle.zy_base.specs.declared.ids.Party.{Party}
+use Rattle.zy_parts.specs.declared.signed.Signed.{Signed}
+use Rattle.zy_parts.specs.declared.statements.Order.{Order}
 use Rattle.zy_table.specs.declared.client.Response.{Response}
-use Rattle.zy_world_law.specs.Good.{IsGood, IsTied, IsClientTied, IsBackedBy, IsDone}
+use Rattle.zy_world_law.specs.Good.{IsGood, IsTied, IsClientTied, IsBackedBy, IsDone, IsOrderBacked}
 use Rattle.zy_world_law.specs.World.{World, Replica, Client, Completed, Mail}
 
 module _ {S : Type 0} (R : Rules S) (w : World S) (leaves : Party → ℕ) (bag : List Mail) (muted : Party → Bool) where
@@ -14,8 +17,12 @@ module _ {S : Type 0} (R : Rules S) (w : World S) (leaves : Party → ℕ) (bag 
   tied_same : (id : ℕ) (x : Replica S) → IsTied R w id x → IsTied R w' id x
   tied_same id x t = record { ready = t.ready; works = t.works; keys = t.keys; spelled = t.spelled }
 
+  ordered_same : (o : Option (Signed Order)) → IfSome o (IsOrderBacked w) → IfSome o (IsOrderBacked w')
+  ordered_same None is = tt
+  ordered_same (Some order) is = record { signer = is.signer; by = is.by; leads = is.leads; said = is.said }
+
   backed_same : (id : ℕ) (r : Response) → IsBackedBy w id r → IsBackedBy w' id r
-  backed_same id r b = record { within = b.within; said = b.said; reply = b.reply; spelled = b.spelled }
+  backed_same id r b = record { within = b.within; said = b.said; reply = b.reply; ordered = ordered_same r.order b.ordered; spelled = b.spelled }
 
   client_same : (id : ℕ) (x : Client) → IsClientTied R w id x → IsClientTied R w' id x
   client_same id x t =
@@ -38,7 +45,7 @@ module _ {S : Type 0} (R : Rules S) (w : World S) (leaves : Party → ℕ) (bag 
         setup = good.setup;
         replicas = good.replicas;
         clients = good.clients;
-        lawful = good.lawful;
+        conduct = good.conduct;
         kept = good.kept;
         tied = λ id x at. tied_same id x (good.tied id x at);
         client_tied = λ id x at. client_same id x (good.client_tied id x at);

@@ -1,6 +1,6 @@
 -- A step of a correct client keeps a good world good.
-use Rattle.std.proofs.Common.{◌≡◌, ◌≢◌, inl, inr, ℕ, Bool, List, [], ◌∷◌, map, Option, Some, refl, sym, ap, ◌∙◌, subst}
-use Rattle.std.specs.Prelude.{is_none, Contains, slice_get}
+use Rattle.std.proofs.Common.{◌≡◌, ◌≢◌, inl, inr, ℕ, Bool, List, [], ◌∷◌, map, Option, Some, None, refl, sym, ap, ◌∙◌, subst}
+use Rattle.std.specs.Prelude.{IfSome, is_none, Contains, slice_get}
 use Rattle.std.specs.List.{AllByRecursion, filter_map}
 use Rattle.std.proofs.lemmas.Bool.{cases_eq}
 use Rattle.std.proofs.lemmas.List.{length-set}
@@ -13,14 +13,16 @@ use Rattle.zy_law_views.specs.Steps.{IsWorldOf}
 use Rattle.zy_chain.specs.declared.entry.Entry.{Entry}
 use Rattle.zy_client.specs.Held.{Holds}
 use Rattle.zy_law.proofs.GrownLemmas.{completed_grown}
-use Rattle.zy_law.proofs.StepsLawful.{more_lawful}
+use Rattle.zy_law.proofs.ConductLemmas.{more_conduct}
 use Rattle.zy_law.specs.Completed.{Completion, IsCompleted}
+use Rattle.zy_law.specs.Conduct.{IsConduct}
 use Rattle.zy_law.specs.Lawful.{IsLawful}
 use Rattle.zy_law.specs.Said.{Moment}
 use Rattle.zy_law.specs.Steps.{IsGrown, grown}
 use Rattle.zy_law.specs.World as law
 use Rattle.zy_parts.specs.declared.signed.Signed.{Signed}
 use Rattle.zy_parts.specs.declared.statements.Ask.{Ask}
+use Rattle.zy_parts.specs.declared.statements.Order.{Order}
 use Rattle.zy_table.specs.ClientRows.{kept_of}
 use Rattle.zy_table.specs.ClientState.{ClientOutcome, spoken_of}
 use Rattle.zy_table.specs.declared.client.Commit.{Commit}
@@ -28,7 +30,7 @@ use Rattle.zy_table.specs.declared.client.Response.{Response}
 use Rattle.zy_law_views.specs.Rows.{IsReady}
 use Rattle.zy_law_views.specs.Work.{IsAtWork}
 use Rattle.zy_world_law.specs.Events.{client_stepped, with_client, history_of}
-use Rattle.zy_world_law.specs.Good.{IsGood, IsTied, IsClientTied, IsBackedBy, IsCommitBacked, IsDone}
+use Rattle.zy_world_law.specs.Good.{IsGood, IsTied, IsClientTied, IsBackedBy, IsCommitBacked, IsDone, IsOrderBacked}
 use Rattle.zy_world_law.specs.Safe.{completion_of}
 use Rattle.zy_world_law.specs.Seen.{seen, asked_by, asked_of, entry_in}
 use Rattle.zy_world_law.specs.World.{World, Replica, Client, Completed, replica_at, client_at, correct_in}
@@ -86,6 +88,7 @@ module _ {S : Type 0} (R : Rules S) (w : World S) (good : IsGood R w) (id : Clie
   built lying =
       record {
         counts = v.counts;
+        interval = v.interval;
         liar = v.liar;
         lying = lying;
         asked = asked_by w';
@@ -104,8 +107,11 @@ module _ {S : Type 0} (R : Rules S) (w : World S) (good : IsGood R w) (id : Clie
   grows : IsGrown v (asked_by w') v.said v.past v.kept
   grows = record { asks = asks_stay; says = λ q i z has. has; stands = λ q i b has. has; keeps = λ d e is. is }
 
+  later_conduct : IsConduct later
+  later_conduct = more_conduct v (asked_by w') v.kept good.conduct asks_stay (record { more = λ d e is. is; one_text = good.lawful.one_text })
+
   later_lawful : IsLawful later
-  later_lawful = more_lawful v good.lawful (asked_by w') v.kept asks_stay (record { more = λ d e is. is; one_text = good.lawful.one_text })
+  later_lawful = later_conduct.lawful
 
   -- no replica stands elsewhere
   kept_after : IsWorldOf R w.setup.interval (seen R w') w.texts
@@ -131,8 +137,12 @@ module _ {S : Type 0} (R : Rules S) (w : World S) (good : IsGood R w) (id : Clie
         spelled = before.spelled;
       }
 
+  ordered_after : (order : Option (Signed Order)) → IfSome order (IsOrderBacked w) → IfSome order (IsOrderBacked w')
+  ordered_after None is = tt
+  ordered_after (Some order) is = record { signer = is.signer; by = is.by; leads = is.leads; said = is.said }
+
   backed_after : (number : ℕ) (r : Response) → IsBackedBy w number r → IsBackedBy w' number r
-  backed_after number r b = record { within = b.within; said = b.said; reply = b.reply; spelled = b.spelled }
+  backed_after number r b = record { within = b.within; said = b.said; reply = b.reply; ordered = ordered_after r.order b.ordered; spelled = b.spelled }
 
   commit_after : (c : Commit) → IsCommitBacked v w.texts c → IsCommitBacked (seen R w') w.texts c
   commit_after c is =
@@ -193,7 +203,7 @@ module _ {S : Type 0} (R : Rules S) (w : World S) (good : IsGood R w) (id : Clie
         setup = good.setup;
         replicas = good.replicas;
         clients = length-set w.clients id.0 (Some x') ∙ good.clients;
-        lawful = subst IsLawful seen_is later_lawful;
+        conduct = subst IsConduct seen_is later_conduct;
         kept = kept_after;
         tied = tied_after;
         client_tied = client_after;

@@ -18,10 +18,10 @@ use Rattle.zy_wire.specs.Spelling.{pair}
 abbrev pub FitsSpelled : Spec → Type 0
 FitsSpelled spec = spec_fields.Fits (spec_spelled spec)
 
--- the request of a frame, its local commit, its checkpoint, and its responses but for the client's number
+-- the request of a frame, its order, its local commit, its checkpoint, and its responses but for the client's number
 abbrev pub IsReadable : Frame → Type 0
 IsReadable (frames.Request ask) = ask_fields.Fits ask.stmt
-IsReadable (frames.Order both) = ask_fields.Fits both.ask.stmt
+IsReadable (frames.Order both) = order_fields.Fits both.order.stmt × ask_fields.Fits both.ask.stmt
 IsReadable (frames.SpecResponse spec reply with_order) = FitsSpelled spec.stmt
 IsReadable (frames.Commit specs) = All (λ spec. FitsSpelled spec.stmt) specs
 IsReadable (frames.LocalCommit local) = local_fields.Fits local.stmt
@@ -41,13 +41,20 @@ local_gives =
     made_gives _ (pair (u62 0) (pair (u62 1) digest)) _ _
     (pair_gives (u62 0) (pair (u62 1) digest) _ _ (u62_gives 0) (pair_gives (u62 1) digest _ _ (u62_gives 1) digest_gives)) (λ x fits. fits)
 
+order_stmt_gives : Gives order_fields.at order_fields.Fits
+unfolding order_fields
+order_stmt_gives =
+    made_gives _ (pair (u62 0) (pair (u62 1) (pair digest digest))) _ _
+    (pair_gives (u62 0) (pair (u62 1) (pair digest digest)) _ _ (u62_gives 0)
+    (pair_gives (u62 1) (pair digest digest) _ _ (u62_gives 1) (pair_gives digest digest _ _ digest_gives digest_gives))) (λ x fits. fits)
+
 -- ---- frames
 
-order_gives : Gives order.at (λ both. ask_fields.Fits both.ask.stmt)
+order_gives : Gives order.at (λ both. order_fields.Fits both.order.stmt × ask_fields.Fits both.ask.stmt)
 order_gives =
-    made_gives _ (pair (signed order_fields) (signed ask_fields)) (λ x. Unit {0} × IsSignedRead ask_fields.Fits x.1) (λ both. ask_fields.Fits both.ask.stmt)
-    (pair_gives (signed order_fields) (signed ask_fields) (λ x. Unit {0}) (IsSignedRead ask_fields.Fits) (all_give (signed order_fields).at) (read_gives ask_fields ask_fields.Fits ask_gives))
-    (λ x fits. fits.1.1.0)
+    made_gives _ (pair (signed order_fields) (signed ask_fields)) (λ x. IsSignedRead order_fields.Fits x.0 × IsSignedRead ask_fields.Fits x.1) (λ both. order_fields.Fits both.order.stmt × ask_fields.Fits both.ask.stmt)
+    (pair_gives (signed order_fields) (signed ask_fields) (IsSignedRead order_fields.Fits) (IsSignedRead ask_fields.Fits) (read_gives order_fields order_fields.Fits order_stmt_gives) (read_gives ask_fields ask_fields.Fits ask_gives))
+    (λ x fits. (fits.0.1.0, fits.1.1.0))
 
 response_gives : Gives spec_response.at (λ x. IsSignedRead FitsSpelled x.0 × Unit {0})
 response_gives =
@@ -66,7 +73,7 @@ frame_gives : (kind : ℕ) → Gives (frame_at kind) IsReadable
 unfolding frame_at
 frame_gives kind =
     or_gives IsReadable _ _ _ (made_gives frames.Request request _ IsReadable (read_gives ask_fields ask_fields.Fits ask_gives) (λ ask fits. fits.1.0))
-    (or_gives IsReadable _ _ _ (made_gives frames.Order order (λ both. ask_fields.Fits both.ask.stmt) IsReadable order_gives (λ both fits. fits))
+    (or_gives IsReadable _ _ _ (made_gives frames.Order order (λ both. order_fields.Fits both.order.stmt × ask_fields.Fits both.ask.stmt) IsReadable order_gives (λ both fits. fits))
     (or_gives IsReadable _ _ _ (made_gives (λ x. frames.SpecResponse x.0 x.1.0 x.1.1) spec_response (λ x. IsSignedRead FitsSpelled x.0 × Unit {0}) IsReadable response_gives (λ x fits. fits.0.1.0))
     (or_gives IsReadable _ _ _ (made_gives frames.Commit commit (FitsList (IsSignedRead FitsSpelled) 1 16) IsReadable commit_gives (λ x fits k d within. (fits.each k d within).1.0))
     (or_gives IsReadable _ _ _ (made_gives frames.LocalCommit (signed local_fields) (IsSignedRead local_fields.Fits) IsReadable (read_gives local_fields local_fields.Fits local_gives) (λ local fits. fits.1.0))

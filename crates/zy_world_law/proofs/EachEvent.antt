@@ -1,11 +1,13 @@
 -- Each honest event keeps a good world good.
 use Rattle.zy_table.specs.Whole.{whole_step}
-use Rattle.std.proofs.Common.{append-nil, ◌≡◌, inl, ℕ, ◌-◌, Bool, true, false, ◌&&◌, List, [], ◌∷◌, length, Option, Some, None, Result, Ok, refl, sym, ap, ◌∙◌, subst}
-use Rattle.std.specs.Prelude.{if◌then◌else◌, slice_get, option_map, unwrap_or, nat_le, nat_lt}
+use Rattle.std.proofs.Common.{append-nil, ◌≡◌, inl, ℕ, ◌-◌, ◌%◌, nat_eq, Bool, true, false, ◌&&◌, List, [], ◌∷◌, length, Option, Some, None, Result, Ok, refl, sym, ap, ◌∙◌, subst}
+use Rattle.std.specs.Prelude.{IfSome, if◌then◌else◌, slice_get, option_map, unwrap_or, nat_le, nat_lt}
 use Rattle.std.specs.List.{AllByRecursion}
 use Rattle.std.specs.Option.{option_and_then}
+use Rattle.std.proofs.lemmas.Bool.{eqb-true}
 use Rattle.std.proofs.lemmas.Nat.{from_be_bytes-to_be_bytes_4}
 use Rattle.zy_base.specs.Machine.{Rules}
+use Rattle.zy_base.specs.declared.counts.Counts.{Counts}
 use Rattle.zy_base.specs.declared.frame_fault.FrameFault.{FrameFault}
 use Rattle.zy_base.specs.declared.ids.ClientId.{ClientId}
 use Rattle.zy_base.specs.declared.ids.Party.{Party}
@@ -14,24 +16,27 @@ use Rattle.zy_base.specs.declared.ids.ReplicaId.{ReplicaId}
 use Rattle.zy_base.specs.declared.step.Event.TheVariants.{Heard, Timer}
 use Rattle.zy_base.specs.declared.step.TimerKind.{TimerKind}
 use Rattle.zy_base.specs.declared.step.TimerKind.TheVariants as timers
-use Rattle.zy_frames.specs.Frames.{frame_in}
+use Rattle.zy_frames.specs.Frames.{frame_in, part_of_optional}
 use Rattle.zy_frames.specs.declared.frame.Frame.{Frame}
 use Rattle.zy_frames.specs.declared.frame.Frame.TheVariants as frames
 use Rattle.zy_parts.specs.Numbers as numbers
 use Rattle.zy_parts.specs.Signing.{part_of, text_of}
-use Rattle.zy_parts.specs.Statements.{spec_fields}
+use Rattle.zy_parts.specs.Statements.{order_fields, spec_fields}
+use Rattle.zy_parts.specs.declared.signed.Signed.{Signed}
+use Rattle.zy_parts.specs.declared.statements.Order.{Order}
 use Rattle.zy_seal.specs.Keys.{Keys}
 use Rattle.zy_seal.specs.Screening.{answer_to}
 use Rattle.zy_seal.specs.declared.directory.SealAnswer.TheVariants as answers
-use Rattle.zy_table.specs.ClientRows.{ask, client_step}
+use Rattle.zy_table.specs.ClientRows.{ask, client_step, is_by_primary}
 use Rattle.zy_table.specs.ClientState.{ClientState}
+use Rattle.zy_table.specs.Roles.{is_primary_of}
 use Rattle.zy_table.specs.Sending.{spelling_of}
 use Rattle.zy_table.specs.declared.client.Response.{Response}
 use Rattle.zy_table.specs.declared.deeds.AnyFrame.{AnyFrame}
 use Rattle.zy_table.specs.declared.deeds.AnyFrame.TheVariants.{Plain}
 use Rattle.zy_world_law.specs.Events.{Happened, Broken, unless_forged, ask_in, deliver, bring, bring_to_replica, bring_to_client, timer_of, replica_timer_in, client_timer_in, replica_timer, client_timer, lie, forge, happens, replica_goes, client_goes, leaves_in}
 use Rattle.zy_world_law.specs.Events.Happened.{Goes, Breaks}
-use Rattle.zy_world_law.specs.Good.{IsGood, IsBackedBy, IsKept}
+use Rattle.zy_world_law.specs.Good.{IsGood, IsBackedBy, IsKept, IsOrderBacked}
 use Rattle.zy_world_law.specs.Honest.{forger_in}
 use Rattle.zy_world_law.specs.Liars.{Telling, requests_at, order_told, spec_told, by_replica, statement_told}
 use Rattle.zy_world_law.specs.Setup.{keys_of, sealer_of}
@@ -49,7 +54,8 @@ use Rattle.zy_world_law.proofs.HonestEvents.{honest_or_idle, timer_honest}
 use Rattle.zy_world_law.proofs.Goings.{IsAfter, goes_is, replica_goes_good, client_goes_good}
 use Rattle.zy_world_law.proofs.HeldLaw.{HeldLaw}
 use Rattle.zy_world_law.proofs.KeptOrHeard.{IsHeard, IsAsked, Nothing, heard_comes, timer_comes, ask_comes}
-use Rattle.zy_world_law.proofs.NotForged.{IsSaid, parts_said}
+use Rattle.zy_world_law.proofs.NotForged.{IsSaid, WasSaid, parts_said}
+use Rattle.zy_world_law.proofs.Screened.{Verifies}
 use Rattle.zy_world_law.proofs.StepLaws.{StepLaws}
 use Rattle.zy_world_law.proofs.Vouched.{verified_said}
 
@@ -80,9 +86,34 @@ module _ {S : Type 0} (R : Rules S) (law : HeldLaw) (steps : StepLaws R) where
   spells bytes frame is = ap (λ (r : Result Frame FrameFault). either_read bytes r) is
 
   module _ (w : World S) where
-    heard_backed : (s : ClientState) → s.keys ≡ keys_of w.setup → (bytes : List ℕ) → forger_in w bytes ≡ None → AllByRecursion (IsKept w.texts) (texts_in bytes)
+    -- an order beside a response, of which each part that verifies was said
+    order_backed : (s : ClientState) → s.keys ≡ keys_of w.setup → s.counts ≡ w.setup.counts → (o : Option (Signed Order)) → is_by_primary s o ≡ true → AllByRecursion (Verifies s.keys) (part_of_optional o)
+        → AllByRecursion (WasSaid w) (part_of_optional o) → IfSome o (IsOrderBacked w)
+    order_backed s keys counts None primary signed said = tt
+    order_backed s keys counts (Some order) primary signed said = by order.by refl
+      where
+        under : answer_to (keys_of w.setup) (part_of numbers.order order_fields order) ≡ answers.Yes
+        under = subst (λ (k : Keys). answer_to k (part_of numbers.order order_fields order) ≡ answers.Yes) keys signed.0
+
+        by : (p : Party) → order.by ≡ p → IsOrderBacked w order
+        by (parties.Replica id) is =
+            let text : List ℕ = text_of numbers.order order_fields (parties.Replica id) order.stmt in
+            let own : answer_to (keys_of w.setup) (record { by = parties.Replica id; text = text; sig = order.sig }) ≡ answers.Yes =
+            subst (λ (p : Party). answer_to (keys_of w.setup) (record { by = p; text = text_of numbers.order order_fields p order.stmt; sig = order.sig }) ≡ answers.Yes) is under in
+            let was : IsSaid (texts_said w (parties.Replica id)) text =
+            subst (λ (p : Party). IsSaid (texts_said w p) (text_of numbers.order order_fields p order.stmt)) is (said.0 under) in
+            let first : nat_eq (order.stmt.view.0 % s.counts.n) id.0 ≡ true = ap (is_primary_of s.counts order.stmt.view.0) (sym is) ∙ primary in
+            record {
+              signer = id;
+              by = is;
+              leads = ap (λ (n : Counts). order.stmt.view.0 % n.n) (sym counts) ∙ eqb-true (order.stmt.view.0 % s.counts.n) id.0 first;
+              said = (verified_said w id.0 text order.sig own was).1;
+            }
+        by (parties.Client id) is = let never : false ≡ true = ap (is_primary_of s.counts order.stmt.view.0) (sym is) ∙ primary in absurd cc
+
+    heard_backed : (s : ClientState) → s.keys ≡ keys_of w.setup → s.counts ≡ w.setup.counts → (bytes : List ℕ) → forger_in w bytes ≡ None → AllByRecursion (IsKept w.texts) (texts_in bytes)
         → (number : ℕ) (r : Response) → IsHeard s bytes number r → IsBackedBy w number r
-    heard_backed s keys bytes none kept number r heard =
+    heard_backed s keys counts bytes none kept number r heard =
         let frame : Frame = frames.SpecResponse r.spec r.reply r.order in
         let signed : answer_to (keys_of w.setup) (part_of numbers.spec spec_fields r.spec) ≡ answers.Yes =
         subst (λ (k : Keys). answer_to k (part_of numbers.spec spec_fields r.spec) ≡ answers.Yes) keys heard.signed in
@@ -94,10 +125,12 @@ module _ {S : Type 0} (R : Rules S) (law : HeldLaw) (steps : StepLaws R) where
         let brought : AllByRecursion (IsKept w.texts) (r.reply ∷ []) =
         subst (λ (o : Option AnyFrame). AllByRecursion (IsKept w.texts) (unwrap_or (option_map texts_of o) [])) (spells bytes frame heard.frame) kept in
         let both = verified_said w number text r.spec.sig own said in
+        let parts = parts_said w bytes (Plain frame) none (spells bytes frame heard.frame) in
         record {
           within = both.0;
           said = both.1;
           reply = brought.0;
+          ordered = order_backed s keys counts r.order heard.primary heard.ordered parts.1;
           spelled = λ small. subst (λ (n : ℕ). spec_fields.Fits (record r.spec.stmt { client = record { 0 = n } })) (from_be_bytes-to_be_bytes_4 r.spec.stmt.client.0 small) (decoded_readable bytes frame heard.frame);
         }
 
@@ -120,8 +153,9 @@ module _ {S : Type 0} (R : Rules S) (law : HeldLaw) (steps : StepLaws R) where
         → GoesGood u (client_goes u id x (texts_in bytes) (client_step x.state (Heard bytes)))
     heard_by_client u fine id x seat bytes none v note is =
         let keys = (fine.client_tied id.0 x seat).keys in
+        let counts = (fine.client_tied id.0 x seat).counts in
         client_event R law u fine id x seat (Heard bytes) (texts_in bytes) (IsHeard x.state bytes) (heard_comes x.state bytes)
-        (λ more keeping number r heard. heard_backed (record u { texts = more }) x.state keys bytes none keeping.kept number r heard)
+        (λ more keeping number r heard. heard_backed (record u { texts = more }) x.state keys counts bytes none keeping.kept number r heard)
         (λ more spec vote heard. heard_vouched R (record u { texts = more }) x.state keys bytes none spec vote heard) v note is
 
     client_hears : (u : World S) → IsGood R u → (id : ClientId) (x : Client) → client_at u id.0 ≡ Some x → (bytes : List ℕ) (forger : Option Party) → forger_in u bytes ≡ forger

@@ -6,6 +6,7 @@ use Rattle.std.proofs.lemmas.Bool.{and_parts}
 use Rattle.std.proofs.lemmas.List.FromFn.{length-map-range_with_len}
 use Rattle.std.proofs.lemmas.Option.{same_Some, slice_get_within}
 use Rattle.zy_base.specs.Machine.{Rules}
+use Rattle.zy_base.specs.declared.counts.Counts.{Counts}
 use Rattle.zy_base.specs.declared.frame_fault.FrameFault.{FrameFault}
 use Rattle.zy_base.specs.declared.ids.ClientId.{ClientId}
 use Rattle.zy_base.specs.declared.ids.Party.{Party}
@@ -23,7 +24,7 @@ use Rattle.zy_law_steps.specs.Heard.{IsEventHeld, IsFrameHeld}
 use Rattle.zy_parts.specs.Exact.{ask-in_range}
 use Rattle.zy_parts.specs.Numbers as numbers
 use Rattle.zy_parts.specs.Signing.{part_of, text_of}
-use Rattle.zy_parts.specs.Statements.{ask_fields, spec_fields, check_fields}
+use Rattle.zy_parts.specs.Statements.{ask_fields, order_fields, spec_fields, check_fields}
 use Rattle.zy_parts.specs.Statements as statements
 use Rattle.zy_parts.specs.declared.signed.Part.{Part}
 use Rattle.zy_parts.specs.declared.signed.Signed.{Signed}
@@ -35,9 +36,9 @@ use Rattle.zy_seal.specs.declared.directory.SealAnswer.TheVariants as answers
 use Rattle.zy_table.specs.Roles.{in_role, is_client, is_order_of_primary, is_replica, is_primary_of}
 use Rattle.zy_table.specs.State.{State}
 use Rattle.zy_table.specs.declared.deeds.AnyFrame.TheVariants.{Plain}
-use Rattle.zy_law_views.proofs.ReadBack.{check_back, spec_back}
+use Rattle.zy_law_views.proofs.ReadBack.{check_back, order_back, spec_back}
 use Rattle.zy_law_views.specs.Held.{IsHeldPart, IsVouchedBy}
-use Rattle.zy_law_views.specs.Told.{check_told, response_told, statement_in}
+use Rattle.zy_law_views.specs.Told.{check_told, order_told, response_told, statement_in}
 use Rattle.zy_wire.specs.Spelling.{Spelling}
 use Rattle.zy_world_law.specs.Good.{IsGood}
 use Rattle.zy_world_law.specs.Honest.{forger_in}
@@ -130,12 +131,20 @@ module _ {S : Type 0} (R : Rules S) (w : World S) (good : IsGood R w) where
       let roles = and_parts (is_replica spec.by) (list_all (λ spec. is_replica spec.by) specs) role in
       (response_held spec fits.0 roles.0 signed.0 said.0, responses_held specs fits.1 roles.1 signed.1 said.1)
 
+  primary_replica : (counts : Counts) (view : ℕ) (by : Party) → is_primary_of counts view by ≡ true → is_replica by ≡ true
+  primary_replica counts view (parties.Replica id) is = refl
+  primary_replica counts view (parties.Client id) is = absurd cc
+
   -- ---- a frame of normal operation
 
   frame_held : (s : State S) (frame : Frame) → IsReadable frame → in_role s frame ≡ true → AllByRecursion Verifies (parts_of frame) → AllByRecursion WasSaid (parts_of frame) → IsFrameHeld (seen R w) frame
   frame_held s (frames.Request ask) fits role signed said = request_by ask.by ask.stmt ask.sig role fits signed.0 (said.0 signed.0)
   frame_held s (frames.Order both) fits role signed said =
-      request_by both.ask.by both.ask.stmt both.ask.sig (and_parts (is_primary_of s.counts both.order.stmt.view.0 both.order.by) (is_client both.ask.by) role).1 fits signed.1.0 (said.1.0 signed.1.0)
+      let roles = and_parts (is_primary_of s.counts both.order.stmt.view.0 both.order.by) (is_client both.ask.by) role in (
+        request_by both.ask.by both.ask.stmt both.ask.sig roles.1 fits.1 signed.1.0 (said.1.0 signed.1.0),
+        part_held numbers.order order_fields order_told both.order (primary_replica s.counts both.order.stmt.view.0 both.order.by roles.0)
+            (order_back (number_of_party both.order.by) both.order.by both.order.stmt fits.0) signed.0 said.0,
+      )
   frame_held s (frames.SpecResponse spec reply with_order) fits role signed said = response_held spec fits (and_parts (is_replica spec.by) (is_order_of_primary s.counts with_order) role).0 signed.0 said.0
   frame_held s (frames.Commit specs) fits role signed said =
       all_from (IsHeldPart (seen R w) response_told) specs (responses_held specs (all_listed (λ (spec : Signed Spec). FitsSpelled spec.stmt) specs fits) role signed said)

@@ -1,6 +1,7 @@
 -- What a client keeps after a step was kept before, or came with the frame; and what a step leaves as it is.
 use Rattle.std.proofs.Common.{◌≡◌, ◌⊎◌, inl, inr, ℕ, zero, suc, Bool, true, false, List, [], ◌∷◌, ◌++◌, replicate, Option, Some, None, Result, Ok, Err, refl, sym, ap, ◌∙◌, subst}
 use Rattle.std.specs.Prelude.{if◌then◌else◌, nat_le, slice_set, slice_index_or}
+use Rattle.std.specs.List.{AllByRecursion}
 use Rattle.std.proofs.lemmas.Option.{same_Some}
 use Rattle.zy_base.specs.declared.cause.Cause.{Cause}
 use Rattle.zy_base.specs.declared.cause.Cause.TheVariants as causes
@@ -12,7 +13,7 @@ use Rattle.zy_base.specs.declared.ids.View.{View}
 use Rattle.zy_base.specs.declared.step.Event.TheVariants.{Heard, Timer}
 use Rattle.zy_base.specs.declared.step.TimerKind.{TimerKind}
 use Rattle.zy_base.specs.declared.step.TimerKind.TheVariants as timers
-use Rattle.zy_frames.specs.Frames.{frame_in, parts_of}
+use Rattle.zy_frames.specs.Frames.{frame_in, part_of_optional, parts_of}
 use Rattle.zy_frames.specs.declared.frame.Frame.{Frame}
 use Rattle.zy_frames.specs.declared.frame.Frame.TheVariants as frames
 use Rattle.zy_parts.specs.Numbers as numbers
@@ -38,13 +39,16 @@ use Rattle.zy_table.specs.declared.client.Commit.{Commit}
 use Rattle.zy_table.specs.declared.client.Done.{Done}
 use Rattle.zy_table.specs.declared.client.Response.{Response}
 use Rattle.zy_world_law.specs.Events.{completed_by}
-use Rattle.zy_world_law.proofs.Screened.{all_verify}
+use Rattle.zy_world_law.proofs.Screened.{Verifies, all_verify}
 
 -- a response that came with the frame, which the replica of its slot signed
 pub record IsHeard (s : ClientState) (bytes : List ℕ) (id : ℕ) (r : Response) : Type 0 where
   pub frame : frame_in bytes ≡ Ok (frames.SpecResponse r.spec r.reply r.order)
   pub by : r.spec.by ≡ Replica (record { 0 = id })
   pub signed : answer_to s.keys (part_of numbers.spec spec_fields r.spec) ≡ answers.Yes
+  -- an order beside it, which the primary of its view signed
+  pub primary : is_by_primary s r.order ≡ true
+  pub ordered : AllByRecursion (Verifies s.keys) (part_of_optional r.order)
 
 -- all stays; or a response is kept, with whom it blames; or another certificate is held, or more local commits to it; or it completes
 pub data Comes (s : ClientState) (Brought : ℕ → Response → Type 0) (o : ClientOutcome) : Type 0 where
@@ -70,11 +74,12 @@ module _ (s : ClientState) (Brought : ℕ → Response → Type 0) where
   responds None id r brought = same refl
   responds (Some waiting) id r brought = kept_unless (response_cause s waiting id r) id r brought
 
-  if_primary : (primary : Bool) (id : ℕ) (r : Response) → Brought id r → Comes s Brought (if primary then respond s id r else refused causes.WrongRole s)
+  if_primary : (primary : Bool) (id : ℕ) (r : Response) → (primary ≡ true → Brought id r) → Comes s Brought (if primary then respond s id r else refused causes.WrongRole s)
   unfolding respond
-  if_primary primary id r brought = if_comes primary _ _ (responds s.waiting id r brought) (same refl)
+  if_primary true id r brought = responds s.waiting id r (brought refl)
+  if_primary false id r brought = same refl
 
-  hears_response : (r : Response) (by : Party) → ((id : ℕ) → by ≡ Replica (record { 0 = id }) → Brought id r) → Comes s Brought (hear_response s r by)
+  hears_response : (r : Response) (by : Party) → ((id : ℕ) → by ≡ Replica (record { 0 = id }) → is_by_primary s r.order ≡ true → Brought id r) → Comes s Brought (hear_response s r by)
   hears_response r (Client id) brought = same refl
   hears_response r (Replica id) brought = if_primary (is_by_primary s r.order) id.0 r (brought id.0 refl)
 
@@ -108,7 +113,9 @@ module _ (s : ClientState) (bytes : List ℕ) where
   hears : (frame : Frame) → frame_in bytes ≡ Ok frame → screen s.keys (parts_of frame) ≡ None → Comes s (IsHeard s bytes) (hear s frame)
   hears (frames.SpecResponse spec reply order) is clear =
       hears_response s (IsHeard s bytes) (record { spec = spec; reply = reply; order = order }) spec.by
-      (λ id by. record { frame = is; by = by; signed = (all_verify s.keys (parts_of (frames.SpecResponse spec reply order)) clear).0 })
+      (λ id by primary.
+      let verify = all_verify s.keys (parts_of (frames.SpecResponse spec reply order)) clear in
+      record { frame = is; by = by; signed = verify.0; primary = primary; ordered = verify.1 })
   hears (frames.LocalCommit local) is clear = hears_local s (IsHeard s bytes) (is_replica local.by) local
   hears (frames.Request ask) is clear = same refl
   hears (frames.Order both) is clear = same refl

@@ -44,7 +44,7 @@ verified_said true o text signed is = said_by o text is
 verified_said false o text signed is = absurd cc
 
 module _ {S : Type 0} (w : World S) where
-  abbrev WasSaid : Part → Type 0
+  abbrev pub WasSaid : Part → Type 0
   WasSaid part = answer_to (keys_of w.setup) part ≡ answers.Yes → IsSaid (texts_said w part.by) part.text
 
   pub was_said : (part : Part) → is_forged w part ≡ false → WasSaid part

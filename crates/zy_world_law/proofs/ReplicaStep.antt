@@ -1,6 +1,6 @@
 -- A step of a correct replica keeps a good world good.
 use Rattle.std.proofs.Common.{◌≡◌, ◌≢◌, ℕ, ◌+◌, ◌-◌, inl, inr, Bool, List, [], ◌∷◌, ◌++◌, length, map, Option, Some, None, sym, ap, ◌∙◌, subst, arith}
-use Rattle.std.specs.Prelude.{slice_get, option_map, unwrap_or, is_none, Contains}
+use Rattle.std.specs.Prelude.{IfSome, slice_get, option_map, unwrap_or, is_none, Contains}
 use Rattle.std.specs.List.{AllByRecursion}
 use Rattle.std.proofs.lemmas.Bool.{cases_eq}
 use Rattle.std.proofs.lemmas.List.{length-set}
@@ -12,17 +12,21 @@ use Rattle.zy_base.specs.declared.ids.ReplicaId.{ReplicaId}
 use Rattle.zy_base.specs.declared.step.Event.{Event}
 use Rattle.zy_law_views.specs.Steps.{IsLawfulStep, IsWorldOf}
 use Rattle.zy_chain.specs.declared.entry.Entry.{Entry}
+use Rattle.zy_law.proofs.ConductLemmas.{acts_conduct}
 use Rattle.zy_law.proofs.GrownLemmas.{completed_grown}
 use Rattle.zy_law.specs.Completed.{Completion, IsCompleted}
+use Rattle.zy_law.specs.Conduct.{IsConduct}
 use Rattle.zy_law.specs.Lawful.{IsLawful}
 use Rattle.zy_law.specs.Steps.{IsGrown, grown}
 use Rattle.zy_law.specs.World as law
 use Rattle.zy_law.specs.World.{Stand}
 use Rattle.zy_law_normal.proofs.TieLemmas.{lists_after}
-use Rattle.zy_law_normal.specs.Acts.{world_after, history_after, spoken_in, stands_in, with_more}
+use Rattle.zy_law_normal.specs.Acts.{acts_of, world_after, history_after, spoken_in, stands_in, with_more}
 use Rattle.zy_law_steps.proofs.WholeSteps.{ready_after}
 use Rattle.zy_law_steps.specs.Whole as whole
 use Rattle.zy_law_steps.specs.Spelled.{FitAll, IsSpelled}
+use Rattle.zy_parts.specs.declared.signed.Signed.{Signed}
+use Rattle.zy_parts.specs.declared.statements.Order.{Order}
 use Rattle.zy_table.specs.Deeds.{Outcome, said_from}
 use Rattle.zy_table.specs.State.{State, own_view}
 use Rattle.zy_table.specs.declared.client.Commit.{Commit}
@@ -30,7 +34,7 @@ use Rattle.zy_table.specs.declared.client.Response.{Response}
 use Rattle.zy_law_views.specs.Rows.{IsReady}
 use Rattle.zy_law_views.specs.Work.{IsAtWork}
 use Rattle.zy_world_law.specs.Events.{stepped, with_replica, remark_after, history_of}
-use Rattle.zy_world_law.specs.Good.{IsGood, IsTied, IsClientTied, IsBackedBy, IsCommitBacked, IsDone}
+use Rattle.zy_world_law.specs.Good.{IsGood, IsTied, IsClientTied, IsBackedBy, IsCommitBacked, IsDone, IsOrderBacked}
 use Rattle.zy_world_law.specs.Safe.{completion_of}
 use Rattle.zy_world_law.specs.Seen.{seen, said_of, past_of, spoken_by}
 use Rattle.zy_world_law.specs.World.{World, Replica, Client, Completed, Remark, replica_at, client_at, correct_in}
@@ -136,6 +140,7 @@ module _ {S : Type 0} (R : Rules S) (back : ReadsBack) (w : World S) (good : IsG
   built liar said past =
       record {
         counts = v.counts;
+        interval = v.interval;
         liar = liar;
         lying = v.lying;
         asked = v.asked;
@@ -168,8 +173,8 @@ module _ {S : Type 0} (R : Rules S) (back : ReadsBack) (w : World S) (good : IsG
   ready_after_all : IsReady R interval (world_after v id.0 s history o) id.0 o.state (history_after history o.deeds.acts)
   ready_after_all = ready_after R interval w.texts v id.0 s h history o tie.ready fine.lawful
 
-  lawful_after : IsLawful (seen R w')
-  lawful_after = subst IsLawful after_is ready_after_all.lawful
+  conduct_after : IsConduct (seen R w')
+  conduct_after = subst IsConduct after_is (acts_conduct v id.0 (acts_of v id.0 s history o) good.conduct fine.lawful.may)
 
   own_ready : IsReady R interval (seen R w') id.0 o.state (history_of x'.past)
   own_ready =
@@ -245,12 +250,18 @@ module _ {S : Type 0} (R : Rules S) (back : ReadsBack) (w : World S) (good : IsG
     | inr other ↦ other_seat number other ∙ none
   ]
 
+  ordered_after : (order : Option (Signed Order)) → IfSome order (IsOrderBacked w) → IfSome order (IsOrderBacked w')
+  ordered_after None is = tt
+  ordered_after (Some order) is =
+      record { signer = is.signer; by = is.by; leads = is.leads; said = elim is.said [ inl none ↦ inl (nobody_after is.signer.0 none) | inr has ↦ inr (text_after is.signer.0 _ has) ] }
+
   backed_after : (number : ℕ) (r : Response) → IsBackedBy w number r → IsBackedBy w' number r
   backed_after number r b =
       record {
         within = b.within;
         said = elim b.said [ inl none ↦ inl (nobody_after number none) | inr has ↦ inr (text_after number _ has) ];
         reply = b.reply;
+        ordered = ordered_after r.order b.ordered;
         spelled = b.spelled;
       }
 
@@ -291,7 +302,7 @@ module _ {S : Type 0} (R : Rules S) (back : ReadsBack) (w : World S) (good : IsG
         setup = good.setup;
         replicas = length-set w.replicas id.0 (Some x') ∙ good.replicas;
         clients = good.clients;
-        lawful = lawful_after;
+        conduct = conduct_after;
         kept = subst (λ (u : law.World). IsWorldOf R interval u w.texts) after_is fine.lawful.world;
         tied = tied_after;
         client_tied = client_after;

@@ -7,6 +7,7 @@ use Rattle.std.proofs.lemmas.List.FromFn.{length-range_with_len, get_or-range_wi
 use Rattle.std.proofs.lemmas.Option.{same_Some, slice_get-map, slice_get-get_or, slice_get_past}
 use Rattle.zy_base.specs.Machine.{Rules}
 use Rattle.zy_base.specs.declared.ids.Party.TheVariants as parties
+use Rattle.zy_law.proofs.ConductLemmas.{start_conduct}
 use Rattle.zy_law.proofs.StepsLawful.{start_lawful}
 use Rattle.zy_law.specs.Counting.{count_below}
 use Rattle.zy_law.specs.Said.{IsCorrect}
@@ -159,7 +160,7 @@ module _ {S : Type 0} (R : Rules S) (held : HeldLaw) (steps : StepLaws R) (setup
       let small : q < 256 = omega (arith, here.0, setup.counts.sound.few) in
       subst (λ (y : Replica S). IsTied R w q y) (sym here.1)
       (record {
-        ready = ready_at_start R setup.interval q v (record { 0 = q }) setup.counts (keys_of setup) (sealer_at q) is.least_interval (start_lawful v begins) begins agrees (correct_at q x at) refl refl refl;
+        ready = ready_at_start R setup.interval q v (record { 0 = q }) setup.counts (keys_of setup) (sealer_at q) is.least_interval refl (start_lawful v begins) begins agrees (correct_at q x at) refl refl refl;
         works = work_at_start R setup.interval q v (record { 0 = q }) setup.counts (keys_of setup) (sealer_at q) begins (correct_at q x at) refl refl;
         keys = refl;
         spelled = steps.spelled_first setup.interval (record { 0 = q }) setup.counts (keys_of setup) (sealer_at q) is.greatest_interval small refl;
@@ -183,7 +184,7 @@ module _ {S : Type 0} (R : Rules S) (held : HeldLaw) (steps : StepLaws R) (setup
         setup = is;
         replicas = length-seats setup.counts.n setup.liars (starting_replica R setup);
         clients = length-seats setup.clients setup.lying_clients (starting_client setup);
-        lawful = start_lawful v begins;
+        conduct = start_conduct v begins;
         kept = texts_at_start R setup.interval first_texts v begins agrees (λ head e kept. link_of first_texts head e kept);
         tied = tied;
         client_tied = client_tied;

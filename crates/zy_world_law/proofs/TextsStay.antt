@@ -1,19 +1,24 @@
 -- More kept texts keep a good world good.
-use Rattle.std.proofs.Common.{◌≡◌, ℕ, true, List, [], ◌∷◌, refl}
+use Rattle.std.proofs.Common.{◌≡◌, ℕ, true, List, [], ◌∷◌, Option, Some, None, refl}
+use Rattle.std.specs.Prelude.{IfSome}
 use Rattle.std.specs.List.{AllByRecursion}
 use Rattle.zy_base.specs.Machine.{Rules}
 use Rattle.zy_base.specs.declared.ids.Digest.{Digest}
 use Rattle.zy_law_views.specs.Steps.{IsWorldOf}
 use Rattle.zy_chain.specs.declared.entry.Entry.{Entry}
+use Rattle.zy_law.proofs.ConductLemmas.{more_conduct}
 use Rattle.zy_law.proofs.GrownLemmas.{completed_grown}
 use Rattle.zy_law.proofs.StepsLawful.{more_lawful}
+use Rattle.zy_law.specs.Conduct.{IsConduct}
 use Rattle.zy_law.specs.Lawful.{IsLawful}
 use Rattle.zy_law.specs.Said.{Moment}
 use Rattle.zy_law.specs.Steps.{IsGrown}
 use Rattle.zy_law.specs.World as law
+use Rattle.zy_parts.specs.declared.signed.Signed.{Signed}
+use Rattle.zy_parts.specs.declared.statements.Order.{Order}
 use Rattle.zy_table.specs.declared.client.Response.{Response}
 use Rattle.zy_world_law.specs.Events.{history_of}
-use Rattle.zy_world_law.specs.Good.{IsGood, IsTied, IsClientTied, IsBackedBy, IsDone}
+use Rattle.zy_world_law.specs.Good.{IsGood, IsTied, IsClientTied, IsBackedBy, IsDone, IsOrderBacked}
 use Rattle.zy_world_law.specs.Safe.{completion_of}
 use Rattle.zy_world_law.specs.Seen.{seen}
 use Rattle.zy_world_law.specs.Texts.{is_link}
@@ -41,6 +46,9 @@ module _ {S : Type 0} (R : Rules S) (w : World S) (texts : Texts) (stay : Stay w
   still_lawful : IsLawful v → IsLawful (seen R w')
   still_lawful lawful = more_lawful v lawful v.asked (is_link texts) (λ q e has. has) (record { more = link_stays; one_text = one_text texts })
 
+  still_conduct : IsConduct v → IsConduct (seen R w')
+  still_conduct conduct = more_conduct v v.asked (is_link texts) conduct (λ q e has. has) (record { more = link_stays; one_text = one_text texts })
+
   tied_stays : IsLawful v → (id : ℕ) (x : Replica S) → IsTied R w id x → IsTied R w' id x
   tied_stays lawful id x t =
       record {
@@ -66,8 +74,12 @@ module _ {S : Type 0} (R : Rules S) (w : World S) (texts : Texts) (stay : Stay w
         };
       }
 
+  ordered_stays : (o : Option (Signed Order)) → IfSome o (IsOrderBacked w) → IfSome o (IsOrderBacked w')
+  ordered_stays None is = tt
+  ordered_stays (Some order) is = record { signer = is.signer; by = is.by; leads = is.leads; said = is.said }
+
   backed_stays : (id : ℕ) (r : Response) → IsBackedBy w id r → IsBackedBy w' id r
-  backed_stays id r b = record { within = b.within; said = b.said; reply = stay_kept w.texts texts stay r.reply b.reply; spelled = b.spelled }
+  backed_stays id r b = record { within = b.within; said = b.said; reply = stay_kept w.texts texts stay r.reply b.reply; ordered = ordered_stays r.order b.ordered; spelled = b.spelled }
 
   client_stays : (id : ℕ) (x : Client) → IsClientTied R w id x → IsClientTied R w' id x
   client_stays id x t =
@@ -99,7 +111,7 @@ module _ {S : Type 0} (R : Rules S) (w : World S) (texts : Texts) (stay : Stay w
         setup = good.setup;
         replicas = good.replicas;
         clients = good.clients;
-        lawful = still_lawful good.lawful;
+        conduct = still_conduct good.conduct;
         kept = world_stays good.kept;
         tied = λ id x at. tied_stays good.lawful id x (good.tied id x at);
         client_tied = λ id x at. client_stays id x (good.client_tied id x at);

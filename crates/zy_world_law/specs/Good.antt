@@ -1,21 +1,23 @@
 -- Good worlds: what honest events keep, and from which safety follows.
-use Rattle.std.specs.Prelude.{◌≡◌, ◌⊎◌, ℕ, ◌<◌, ◌^◌, length, Some, None, Contains, map}
+use Rattle.std.specs.Prelude.{◌≡◌, ◌⊎◌, ℕ, ◌%◌, ◌<◌, ◌^◌, length, Some, None, IfSome, Contains, map}
 use Rattle.std.specs.List.{AllByRecursion}
 use Rattle.zy_base.specs.Machine.{Rules}
 use Rattle.zy_base.specs.declared.ids.Party.TheVariants.{Replica}
+use Rattle.zy_base.specs.declared.ids.ReplicaId.{ReplicaId}
 use Rattle.zy_client.specs.Held.{Holds}
 use Rattle.zy_law_views.specs.Steps.{IsWorldOf}
 use Rattle.zy_law.specs.Completed.{IsCompleted}
-use Rattle.zy_law.specs.Lawful.{IsLawful}
+use Rattle.zy_law.specs.Conduct.{IsConduct}
 use Rattle.zy_law.specs.Said.{IsBacked}
 use Rattle.zy_law.specs.World as law
 use Rattle.zy_law_normal.specs.Acts.{spec_statement}
 use Rattle.zy_law_normal.specs.Tied.{IsVouchedBy}
 use Rattle.zy_parts.specs.Numbers as numbers
 use Rattle.zy_parts.specs.Signing.{text_of}
-use Rattle.zy_parts.specs.Statements.{spec_fields}
+use Rattle.zy_parts.specs.Statements.{order_fields, spec_fields}
 use Rattle.zy_parts.specs.declared.signed.Signed.{Signed}
 use Rattle.zy_parts.specs.declared.statements.Ask.{Ask}
+use Rattle.zy_parts.specs.declared.statements.Order.{Order}
 use Rattle.zy_parts.specs.declared.statements.Spec.{Spec}
 use Rattle.zy_table.specs.ClientRows.{kept_of}
 use Rattle.zy_table.specs.declared.client.Commit.{Commit}
@@ -38,11 +40,20 @@ pub record IsTied {S : Type 0} (R : Rules S) (w : World S) (id : ℕ) (x : world
   pub keys : x.state.keys ≡ keys_of w.setup
   pub spelled : IsSpelled x.state
 
+-- An order is of the primary of its view, and one that this said, unless that lies.
+pub record IsOrderBacked {S : Type 0} (w : World S) (order : Signed Order) : Type 0 where
+  pub signer : ReplicaId
+  pub by : order.by ≡ Replica signer
+  pub leads : order.stmt.view.0 % w.setup.counts.n ≡ signer.0
+  pub said : (replica_at w signer.0 ≡ None) ⊎ ((x : world.Replica S) × (replica_at w signer.0 ≡ Some x) × Contains (map (λ remark. remark.text) x.said) (text_of numbers.order order_fields (Replica signer) order.stmt))
+
 -- a response is one that its replica said, unless that lies, and its reply is kept
 pub record IsBackedBy {S : Type 0} (w : World S) (id : ℕ) (r : Response) : Type 0 where
   pub within : id < w.setup.counts.n
   pub said : (replica_at w id ≡ None) ⊎ ((x : world.Replica S) × (replica_at w id ≡ Some x) × Contains (map (λ remark. remark.text) x.said) (text_of numbers.spec spec_fields (Replica (record { 0 = id })) r.spec.stmt))
   pub reply : IsKept w.texts r.reply
+  -- and so is the order that came with it
+  pub ordered : IfSome r.order (IsOrderBacked w)
   -- it can be spelled, if its client can
   pub spelled : r.spec.stmt.client.0 < 2 ^ 32 → spec_fields.Fits r.spec.stmt
 
@@ -78,7 +89,9 @@ pub record IsGood {S : Type 0} (R : Rules S) (w : World S) : Type 0 where
   -- there is a seat for each replica and each client
   pub replicas : length w.replicas ≡ w.setup.counts.n
   pub clients : length w.clients ≡ w.setup.clients
-  pub lawful : IsLawful (seen R w)
+  -- each correct replica keeps the rules of conduct to the letter
+  pub conduct : IsConduct (seen R w)
+  pub open conduct use *
   -- what each correct history leads to is kept
   pub kept : IsWorldOf R w.setup.interval (seen R w) w.texts
   pub tied : (id : ℕ) (x : world.Replica S) → replica_at w id ≡ Some x → IsTied R w id x

@@ -56,6 +56,7 @@ abbrev pub seen : {S : Type 0} → Rules S → World S → law.World
 seen R w =
     record {
       counts = w.setup.counts;
+      interval = w.setup.interval;
       liar = λ id. is_none (replica_at w id);
       lying = λ id. is_none (client_at w id);
       asked = asked_by w;

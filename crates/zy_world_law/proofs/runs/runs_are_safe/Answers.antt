@@ -4,6 +4,7 @@ use Rattle.zy_world_law.proofs.SafeFromGood.{safe}
 use Rattle.zy_world_law.proofs.StartGood.{start_good}
 use Rattle.zy_world_law.proofs.StepLaws.{StepLaws}
 use Rattle.zy_world_law.proofs.runs.runs_are_safe.Goals as goal
+use Rattle.zy_world_law.specs.Good.{IsGood}
 use Rattle.zy_world_law.specs.Safe.{IsSafe}
 use Rattle.zy_world_law.specs.World.{start}
 
@@ -27,5 +28,6 @@ returns g c =
     } in
     record {
       safe = λ setup schedule is. run_all R held steps (IsSafe R) (safe R) (start R setup) (start_good R held steps setup is) schedule;
+      good = λ setup schedule is. run_all R held steps (IsGood R) (λ w good. good) (start R setup) (start_good R held steps setup is) schedule;
       grows = λ setup schedule is. run_grows R held steps (start R setup) (start_good R held steps setup is) schedule;
     }
