@@ -10,9 +10,6 @@ pub mod Follow
 pub mod Gathers
 pub mod Runs
 pub mod Cases
-pub mod Rows
-pub mod EachStep
 pub mod TieLemmas
-pub mod RefusedRows
 pub mod FirstRequest
 pub mod GainedEntries

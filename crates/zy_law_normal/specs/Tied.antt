@@ -8,8 +8,6 @@ use Rattle.zy_base.specs.declared.ids.Party.{Party}
 use Rattle.zy_base.specs.declared.ids.Party.TheVariants.{Replica, Client}
 use Rattle.zy_base.specs.declared.ids.Place.{Place}
 use Rattle.zy_base.specs.declared.ids.View.{View}
-use Rattle.zy_base.specs.declared.step.Event.{Event}
-use Rattle.zy_base.specs.declared.step.Event.TheVariants.{Heard, Timer}
 use Rattle.zy_chain.specs.Entries.{IsEntryInRange, digest_of_entry}
 use Rattle.zy_chain.specs.Heads.{head_after, head_of}
 use Rattle.zy_chain.specs.Stretch.{Mark}
@@ -26,13 +24,12 @@ use Rattle.zy_exec.specs.Kept.{StandsFor}
 use Rattle.zy_exec.specs.Replay.{origin, along, answer_at}
 use Rattle.zy_exec.specs.Shots.{digest_of_snapshot}
 use Rattle.zy_exec.specs.Snapshot.{snapshot_of}
-use Rattle.zy_frames.specs.Frames.{frame_in, parts_of}
 use Rattle.zy_frames.specs.declared.frame.Frame.{Frame}
 use Rattle.zy_frames.specs.declared.frame.Frame.TheVariants as frames
 use Rattle.zy_frames.specs.declared.frame.OrderFrame.{OrderFrame}
 use Rattle.zy_law.specs.Fixed.{IsCertified}
-use Rattle.zy_law.specs.Lawful.{IsLawful, IsVote}
-use Rattle.zy_law.specs.Said.{IsCorrect, Says, Stood, IsVouched}
+use Rattle.zy_law.specs.Lawful.{IsVote}
+use Rattle.zy_law.specs.Said.{Says, Stood, IsVouched}
 use Rattle.zy_law.specs.World.{Answer, Spoken, Statement, World}
 use Rattle.zy_law.specs.World.Statement.{Order, Change}
 use Rattle.zy_choose.specs.Reports.{PlainReport}
@@ -40,11 +37,8 @@ use Rattle.zy_law_normal.specs.Acts.{spec_statement, check_statement}
 use Rattle.zy_parts.specs.declared.signed.Signed.{Signed}
 use Rattle.zy_parts.specs.declared.statements.Check.{Check}
 use Rattle.zy_parts.specs.declared.statements.Spec.{Spec}
-use Rattle.zy_seal.specs.Screening.{screen}
 use Rattle.zy_table.specs.Deeds.{gains_in}
-use Rattle.zy_table.specs.Roles.{in_role}
 use Rattle.zy_table.specs.State.{State, own_view, is_leaving}
-use Rattle.zy_table.specs.Step.{step}
 use Rattle.zy_table.specs.declared.deeds.Act.{Act}
 use Rattle.zy_table.specs.declared.deeds.Got.{Got}
 
@@ -197,6 +191,14 @@ pub record IsTied {S : Type 0} (R : Rules S) (w : World) (r : ℕ) (s : State S)
 
 -- ---- what an event brings
 
+-- a frame by which no view ends: an order may differ from the kept one of its place
+abbrev pub IsNormal : Frame → Type 0
+IsNormal (frames.Order both) = ⊥
+IsNormal (frames.Hate vote) = ⊥
+IsNormal (frames.Pom first second) = ⊥
+IsNormal _ = Unit {0}
+
+-- the requests of a frame may be run, and its responses and its checkpoint counted
 abbrev pub MayFrameRun : World → Frame → Type 0
 MayFrameRun w (frames.Request ask) = MayRun w (entry_of ask)
 MayFrameRun w (frames.Order both) = MayRun w (entry_of both.ask)
@@ -205,12 +207,6 @@ MayFrameRun w (frames.Commit specs) = AreVouched w specs
 MayFrameRun w (frames.ConfirmReq confirm ask) = MayRun w (entry_of ask)
 MayFrameRun w (frames.Checkpoint check) = IsCheckVouched w check
 MayFrameRun w _ = Unit {0}
-
--- the requests of a verified frame may be run, and its responses and its checkpoint counted
-abbrev pub MayEventRun : {S : Type 0} → World → State S → Event → Type 0
-MayEventRun w s (Heard bytes) =
-    (frame : Frame) → frame_in bytes ≡ Ok frame → screen s.keys (parts_of frame) ≡ None → in_role s frame ≡ true → MayFrameRun w frame
-MayEventRun w s (Timer kind) = Unit {0}
 
 -- a gained entry may run, and leads from the head before it to the head after it
 pub record IsGained (w : World) (got : Got) : Type 0 where
@@ -223,14 +219,3 @@ IsLinkKept w got = w.kept got.before got.entry ≡ true
 
 abbrev pub AreLinksKept : World → List Act → Type 0
 AreLinksKept w acts = AllByRecursion (IsLinkKept w) (gains_in acts)
-
--- A correct replica, tied to a lawful world with a history, meets an event: its requests are signed by clients that asked
--- or lie, its responses and checkpoints by replicas that said them or lie, and the texts of the entries that it runs are
--- kept.
-pub record IsHonestStep {S : Type 0} (R : Rules S) (w : World) (r : ℕ) (s : State S) (history : List Entry) (event : Event) : Type 0 where
-  pub lawful : IsLawful w
-  pub agrees : Agrees R w
-  pub correct : IsCorrect w r
-  pub tied : IsTied R w r s history
-  pub asks : MayEventRun w s event
-  pub links : AreLinksKept w (step R s event).deeds.acts

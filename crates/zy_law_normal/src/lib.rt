@@ -3,9 +3,7 @@
 #![tactic(auto)]
 
 mod example;
-mod steps;
 mod ties;
 
 pub use example::a_first_request;
-pub use steps::{gained_entries, lawful_steps, refusals};
 pub use ties::{acts_told, ties_hold};
