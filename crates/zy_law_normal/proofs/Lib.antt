@@ -7,8 +7,6 @@ pub mod Committed
 pub mod KeptVotes
 pub mod Going
 pub mod Follow
-pub mod Gathers
-pub mod Runs
 pub mod Cases
 pub mod TieLemmas
 pub mod FirstRequest

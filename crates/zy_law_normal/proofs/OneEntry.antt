@@ -17,28 +17,25 @@ use Rattle.zy_base.specs.declared.ids.Stamp.{Stamp}
 use Rattle.zy_chain.specs.declared.entry.Entry.{Entry}
 use Rattle.zy_chain.specs.Entries.{digest_of_entry}
 use Rattle.zy_chain.specs.Heads.{empty_head, head_of}
-use Rattle.zy_chain.specs.Stretch.{Mark, head_in}
-use Rattle.zy_choose.specs.Reports.{PlainReport}
+use Rattle.zy_chain.specs.Stretch.{Mark}
 use Rattle.zy_admit.specs.Judging.{newer, entry_of}
 use Rattle.zy_frames.specs.declared.frame.OrderFrame.{OrderFrame}
 use Rattle.zy_exec.specs.declared.known.Known.{Known}
 use Rattle.zy_exec.specs.Replay.{Point, origin, answer_at, known_of}
-use Rattle.zy_exec.specs.Kept.{StandsFor, longer, now_of, known_in, stretch_of}
+use Rattle.zy_exec.specs.Kept.{StandsFor, longer, now_of, known_in}
 use Rattle.zy_exec.proofs.ReplayLemmas.{place-along, head-along, clients_push}
 use Rattle.zy_exec.proofs.HistoryLemmas.{stands_leads, stands_run}
-use Rattle.zy_law.specs.Fixed.{IsCertified}
-use Rattle.zy_law.specs.Histories.{IsEntryAt, AreKept, Passes}
+use Rattle.zy_law.specs.Histories.{IsEntryAt, AreKept}
 use Rattle.zy_law.specs.Lawful.{IsLawful, IsOrdered, IsAskedFor}
 use Rattle.zy_law.specs.Said.{IsCorrect, Says, Stood, Moment}
 use Rattle.zy_law.specs.Steps.{MaySay, MayStand, after_saying, after_standing, with_last}
 use Rattle.zy_law.specs.World.{Spoken, Stand, World}
-use Rattle.zy_law.specs.World.Statement.{Order, Spec, Local, Check, Change, Other}
+use Rattle.zy_law.specs.World.Statement.{Order, Spec}
 use Rattle.zy_law.proofs.EntriesAskedFor.{entry_within, entry_longer, all_asked_for}
 use Rattle.zy_law.proofs.GrownLemmas.{each_item}
 use Rattle.zy_law.proofs.HistoryLemmas.{Passes-longer}
 use Rattle.zy_law.proofs.PastLemmas.{later_front}
-use Rattle.zy_law_normal.specs.Tied.{Agrees, IsOfClient, MayRun, MaySlotRun, IsStanding, AreOrdersUpTo, state_of}
-use Rattle.zy_law_normal.proofs.Own.{head_told}
+use Rattle.zy_law_normal.specs.Tied.{Agrees, IsOfClient, MayRun, MaySlotRun, IsStanding, AreOrdersUpTo}
 use Rattle.zy_law_normal.proofs.Records.{IsLastOf, IsRecord, records, last_of_next, entry_last, entry_before, entry_pushed, answer_longer}
 use Rattle.zy_table.specs.State.{State, own_view, is_leaving_mode}
 
@@ -174,27 +171,6 @@ module _ {S : Type 0} (R : Rules S) (w : World) (r : ℕ) (s : State S) (h : Lis
         asks = slots;
       }
 
-  pub saying_runs : (y : Spoken) (e : Entry) → MayRun w e → MayRun (after_saying w r y) e
-  saying_runs y e may = record { client = may.client; range = may.range; asked = may.asked }
-
-  -- after it said what is no leave
-  unfoldable pub standing_said : (y : Spoken) → ((view : ℕ) (report : PlainReport) → y.what ≡ Change view report → ⊥) → IsStanding R (after_saying w r y) r s h
-  standing_said y stays =
-      record {
-        me = x.me;
-        counts = x.counts;
-        signer = x.signer;
-        active = x.active;
-        number = x.number;
-        stood = x.stood;
-        last = x.last;
-        stands = x.stands;
-        clients = x.clients;
-        left = λ number z view report says what.
-            own_said w r y (λ z. z.what ≡ Change view report → view ≤ own_view s) (λ i z at is. x.left i z view report at is) (λ is. absurd (stays view report is)) number z says what;
-        asks = slots_more w (after_saying w r y) (saying_runs y) s.orders.slots x.asks;
-      }
-
   -- it may answer a client's last entry
   pub may_respond : (client : ℕ) (k : Known) → IsLastOf R h client k
       → MaySay w r (record { what = Spec (own_view s) (record { place = k.place.0; head = k.head }) (record { client = client; stamp = k.stamp.0; reply = record { 0 = sha256 k.reply } }); when = x.number })
@@ -240,54 +216,6 @@ module _ {S : Type 0} (R : Rules S) (w : World) (r : ℕ) (s : State S) (h : Lis
         };
       }
 
-  -- the history passes a place where this is its head
-  pub passes_own : (place : ℕ) (head : Digest) → head_in (stretch_of s.kept) place ≡ Some head → Passes w.next h (record { place = place; head = head })
-  passes_own place head is =
-      let there = head_told R s.kept h x.stands place head is in
-      record { within = there.0; head = fold_is (take place h) ∙ there.1 }
-
-  -- it may commit its history up to a place that a commit certificate proves
-  pub may_commit : (view : ℕ) (m : Mark) → view ≡ own_view s → head_in (stretch_of s.kept) m.place ≡ Some m.head → IsCertified w view m → MaySay w r (record { what = Local view m; when = x.number })
-  may_commit view m current own certified =
-      record {
-        now = x.last;
-        silence = λ number y left spoken report says what of. let same = same_Some view spoken of in omega (arith, x.left number y left report says what);
-        told = record {
-          at = record {
-            stand = record { view = own_view s; history = h };
-            stood = x.stood;
-            view_is = sym current;
-            passes = passes_own m.place m.head own;
-          };
-          certified = certified;
-        };
-      }
-
-  -- and say the checkpoint there, which tells the own snapshot
-  pub may_check : (view : ℕ) (m : Mark) (state : Digest) → view ≡ own_view s → m.place ≤ length h → head_of (take m.place h) ≡ m.head → state_of R (take m.place h) ≡ state → IsCertified w view m
-      → MaySay w r (record { what = Check view m state; when = x.number })
-  may_check view m state current within head snapshot certified =
-      record {
-        now = x.last;
-        silence = λ number y left spoken report says what of. let same = same_Some view spoken of in omega (arith, x.left number y left report says what);
-        told = record {
-          vote = record {
-            at = record {
-              stand = record { view = own_view s; history = h };
-              stood = x.stood;
-              view_is = sym current;
-              passes = record { within = within; head = fold_is (take m.place h) ∙ head };
-            };
-            certified = certified;
-          };
-          snapshot = ap (λ (f : List Entry → Digest). f (take m.place h)) agrees.state ∙ snapshot;
-        };
-      }
-
-  -- and say things on which no safety rests
-  pub may_tell : MaySay w r (record { what = Other; when = x.number })
-  may_tell = record { now = x.last; silence = λ number y view spoken report says what of. absurd cc; told = tt }
-
   -- its earlier orders are of a longer history too
   pub orders_of_longer : (e : Entry) → AreOrdersUpTo w r (own_view s) (length h) → AreOrdersOf w r (own_view s) (h ++ e ∷ [])
   orders_of_longer e up said y m request says what far =
@@ -310,12 +238,6 @@ module _ {S : Type 0} (R : Rules S) (w : World) (r : ℕ) (s : State S) (h : Lis
         there = is.there;
         digest = ap (λ (f : Entry → Digest). f is.entry) agrees.digest ∙ ap digest_of_entry (sym last.1);
       }
-
--- orders after something was said
-pub up_to_said : (w : World) (r view place : ℕ) (y : Spoken) → ((m : Mark) (request : Digest) → y.what ≡ Order view m request → m.place ≤ place) → AreOrdersUpTo w r view place
-    → AreOrdersUpTo (after_saying w r y) r view place
-up_to_said w r view place y new up number z m request says what =
-    own_said w r y (λ z. z.what ≡ Order view m request → m.place ≤ place) (λ i z at is. up i z m request at is) (λ is. new m request is) number z says what
 
 pub orders_of_said : (w : World) (r view : ℕ) (history : List Entry) (y : Spoken) → ((m : Mark) (request : Digest) → y.what ≡ Order view m request → IsOrdered w history m request) → AreOrdersOf w r view history
     → AreOrdersOf (after_saying w r y) r view history

@@ -6,4 +6,4 @@ mod example;
 mod ties;
 
 pub use example::a_first_request;
-pub use ties::{acts_told, ties_hold};
+pub use ties::acts_told;

@@ -98,21 +98,21 @@ module _ {S : Type 0} (R : Rules S) (interval : ℕ) (texts : Texts) (w : World)
       unless_case s IsDone (refuses R s is) (screen s.keys (plain.parts_of frame)) (hear_plain R s frame)
       (λ verified. by_test IsDone (in_role s frame) (plain_row R s frame) (refused causes.WrongRole s) (λ role. done verified role) (λ wrong. refuses R s is causes.WrongRole))
 
-  row_done : (frame : Frame) → IsNormal frame → IsBroughtOnceVerified frame → IsDone (unless (screen s.keys (plain.parts_of frame)) s (hear_plain R s frame))
-  row_done frame normal brought = verified_done frame (λ verified role. row_case R s Brought IsDone (cases R interval texts w r s h ready kept work is) frame normal (brought verified role))
+  normal_done : (frame : Frame) → IsNormal frame → IsBroughtOnceVerified frame → IsDone (unless (screen s.keys (plain.parts_of frame)) s (hear_plain R s frame))
+  normal_done frame normal brought = verified_done frame (λ verified role. row_case R s Brought IsDone (cases R interval texts w r s h ready kept work is) frame normal (brought verified role))
 
   frame_done : (frame : Frame) → IsBroughtOnceVerified frame → IsDone (unless (screen s.keys (plain.parts_of frame)) s (hear_plain R s frame))
   frame_done (frames.Order both) brought =
       verified_done (frames.Order both) (λ verified role. unless_case s IsDone (refuses R s is) (view_cause s both.order.stmt.view.0) (order R s both) (λ current. order_done both (brought verified role).0))
   frame_done (frames.Hate vote) brought = verified_done (frames.Hate vote) (λ verified role. finishes_leaving R s is (hate R s vote) (hate_fine R interval w r s h ready is vote))
   frame_done (frames.Pom first second) brought = verified_done (frames.Pom first second) (λ verified role. finishes_leaving R s is (pom R s first second) (pom_fine R interval w r s h ready is first second))
-  frame_done (frames.Request ask) brought = row_done (frames.Request ask) tt brought
-  frame_done (frames.SpecResponse spec reply with_order) brought = row_done (frames.SpecResponse spec reply with_order) tt brought
-  frame_done (frames.Commit specs) brought = row_done (frames.Commit specs) tt brought
-  frame_done (frames.LocalCommit local) brought = row_done (frames.LocalCommit local) tt brought
-  frame_done (frames.ConfirmReq confirmed ask) brought = row_done (frames.ConfirmReq confirmed ask) tt brought
-  frame_done (frames.FillHole hole) brought = row_done (frames.FillHole hole) tt brought
-  frame_done (frames.Checkpoint check) brought = row_done (frames.Checkpoint check) tt brought
+  frame_done (frames.Request ask) brought = normal_done (frames.Request ask) tt brought
+  frame_done (frames.SpecResponse spec reply with_order) brought = normal_done (frames.SpecResponse spec reply with_order) tt brought
+  frame_done (frames.Commit specs) brought = normal_done (frames.Commit specs) tt brought
+  frame_done (frames.LocalCommit local) brought = normal_done (frames.LocalCommit local) tt brought
+  frame_done (frames.ConfirmReq confirmed ask) brought = normal_done (frames.ConfirmReq confirmed ask) tt brought
+  frame_done (frames.FillHole hole) brought = normal_done (frames.FillHole hole) tt brought
+  frame_done (frames.Checkpoint check) brought = normal_done (frames.Checkpoint check) tt brought
 
   -- ---- frames of a change of view
 

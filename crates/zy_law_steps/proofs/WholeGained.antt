@@ -1,5 +1,5 @@
 -- Each entry that a step gains may run, on the head before it, whatever is kept of it.
-use Rattle.std.proofs.Common.{◌≡◌, ℕ, true, List, None, Ok, Err, refl, sym, subst}
+use Rattle.std.proofs.Common.{◌≡◌, ℕ, true, List, None, Ok, Err, refl}
 use Rattle.std.specs.List.{AllByRecursion}
 use Rattle.std.specs.Prelude.{Result}
 use Rattle.zy_base.specs.Machine.{Rules}
@@ -7,8 +7,6 @@ use Rattle.zy_base.specs.declared.cause.Cause.{Cause}
 use Rattle.zy_base.specs.declared.cause.Cause.TheVariants as causes
 use Rattle.zy_base.specs.declared.frame_fault.FrameFault.{FrameFault}
 use Rattle.zy_base.specs.declared.frame_fault.FrameFault.TheVariants as faults
-use Rattle.zy_base.specs.declared.ids.Party.{Party}
-use Rattle.zy_base.specs.declared.ids.Party.TheVariants.{Client, Replica}
 use Rattle.zy_base.specs.declared.step.Event.{Event}
 use Rattle.zy_base.specs.declared.step.Event.TheVariants.{Heard, Timer}
 use Rattle.zy_admit.specs.Judging.{entry_of, judge_in}
@@ -20,15 +18,10 @@ use Rattle.zy_frames.specs.Frames as plain
 use Rattle.zy_frames.specs.declared.frame.Frame.{Frame}
 use Rattle.zy_frames.specs.declared.frame.Frame.TheVariants as frames
 use Rattle.zy_frames.specs.declared.frame.OrderFrame.{OrderFrame}
-use Rattle.zy_law.specs.World.{Answer, Statement, World}
-use Rattle.zy_law_normal.proofs.Backing.{all_listed}
+use Rattle.zy_law.specs.World.{World}
 use Rattle.zy_law_normal.proofs.GainedEntries.{order_gained, row_gained}
 use Rattle.zy_law_normal.proofs.Own.{by_test}
-use Rattle.zy_law_normal.specs.Acts.{spec_statement}
-use Rattle.zy_law_normal.specs.Tied as lawful
-use Rattle.zy_law_normal.specs.Tied.{IsGained, IsNormal, MayFrameRun}
-use Rattle.zy_parts.specs.declared.signed.Signed.{Signed}
-use Rattle.zy_parts.specs.declared.statements.Spec.{Spec}
+use Rattle.zy_law_normal.specs.Tied.{IsGained, IsNormal, MayFrameRun, MayRun}
 use Rattle.zy_seal.specs.Screening.{screen}
 use Rattle.zy_table.specs.Deeds.{Outcome, gains_in, refused}
 use Rattle.zy_table.specs.Hates.{hate}
@@ -41,8 +34,6 @@ use Rattle.zy_table.specs.Whole.{decoded_as, hear_plain, order, order_judged, pl
 use Rattle.zy_vframes.specs.ViewFrames as views
 use Rattle.zy_law_views.specs.Held as held
 use Rattle.zy_law_views.specs.Texts.{Texts}
-use Rattle.zy_law_views.specs.Told.{response_told, spec_spelled}
-use Rattle.zy_law_views.proofs.AtWork.{told_alike}
 use Rattle.zy_law_views.proofs.HeardRows.{order_attempt, pom_attempt}
 use Rattle.zy_law_views.proofs.Leaves.{hate_attempt}
 use Rattle.zy_law_views.specs.Rows.{IsReady}
@@ -57,31 +48,18 @@ use Rattle.zy_law_steps.proofs.NormalSteps.{unless_case}
 use Rattle.zy_law_steps.specs.Heard.{IsEventHeld, IsFrameHeld}
 use Rattle.zy_law_steps.specs.Whole.{IsEventHonest}
 
--- ---- what is held is vouched for
-
-vouched : (w : World) (s : Statement) (by : Party) → held.IsVouchedBy w s by → lawful.IsVouchedBy w s by
-vouched w s (Replica id) is = is
-vouched w s (Client id) is = is
-
-abbrev answer_read : Spec → Answer
-answer_read spec = record { client = (spec_spelled spec).client.0; stamp = spec.stamp.0; reply = spec.reply }
-
+-- its requests may be run
 frame_may : (w : World) (frame : Frame) → IsFrameHeld w frame → MayFrameRun w frame
 frame_may w (frames.Request ask) is = is
 frame_may w (frames.Order both) is = is
-frame_may w (frames.SpecResponse spec reply with_order) is = λ small.
-    vouched w (spec_statement spec.stmt) spec.by (subst (λ (t : Statement). held.IsVouchedBy w t spec.by) (sym (told_alike spec.stmt small)) is)
-frame_may w (frames.Commit specs) is =
-    record {
-      answer = answer_read;
-      each = all_listed (λ (spec : Signed Spec). lawful.IsVouchedBy w (response_told spec.stmt) spec.by) specs (λ k d within. vouched w _ _ (is k d within));
-    }
+frame_may w (frames.SpecResponse spec reply with_order) is = tt
+frame_may w (frames.Commit specs) is = tt
 frame_may w (frames.LocalCommit local) is = tt
 frame_may w (frames.ConfirmReq confirm ask) is = is
 frame_may w (frames.FillHole hole) is = tt
 frame_may w (frames.Hate hate) is = tt
 frame_may w (frames.Pom first second) is = tt
-frame_may w (frames.Checkpoint check) is = vouched w _ check.by is
+frame_may w (frames.Checkpoint check) is = tt
 
 module _ {S : Type 0} (R : Rules S) (interval : ℕ) (texts : Texts) (w : World) (r : ℕ) (s : State S) (h : List Entry) (ready : IsReady R interval w r s h) (kept_texts : IsWorldOf R interval w texts) (work : IsAtWork interval w r s) where
   abbrev Gains : Outcome S → Type 0
@@ -92,7 +70,7 @@ module _ {S : Type 0} (R : Rules S) (interval : ℕ) (texts : Texts) (w : World)
 
   -- ---- a frame of normal operation
 
-  judged_gain : (both : OrderFrame) → lawful.MayRun w (entry_of both.ask) → (a : Admit) → Gains (order_judged R s both a)
+  judged_gain : (both : OrderFrame) → MayRun w (entry_of both.ask) → (a : Admit) → Gains (order_judged R s both a)
   judged_gain both may admits.Evidence =
       let stored = stored_in s.orders both.order.stmt.place.0 in
       (finishes_leaving R interval texts w r s h ready kept_texts (tell_all R s both.order stored) (order_attempt R interval w r s h ready both.order stored)).gained
