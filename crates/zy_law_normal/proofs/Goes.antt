@@ -1,12 +1,9 @@
 -- Acts one after another: with one more at the end.
 use Rattle.std.proofs.Common.{◌≡◌, ℕ, ◌+◌, List, [], ◌∷◌, ◌++◌, append_assoc, refl, sym, ap, ◌∙◌}
 use Rattle.std.specs.List.{AllByRecursion}
-use Rattle.zy_chain.specs.declared.entry.Entry.{Entry}
 use Rattle.zy_law.specs.Steps as law
-use Rattle.zy_law.specs.Steps.Act.{Say, Move}
 use Rattle.zy_law.specs.Steps.{AllMay, after_act, after_acts}
 use Rattle.zy_law.specs.World.{World}
-use Rattle.zy_law_normal.specs.Acts.{law_acts, history_after, spoken_at, stand_with, adopted_history, stand_adopted}
 use Rattle.zy_table.specs.Deeds.{gains_in}
 use Rattle.zy_table.specs.declared.deeds.Act.{Act}
 use Rattle.zy_table.specs.declared.deeds.Got.{Got}
@@ -18,29 +15,6 @@ use Rattle.zy_table.specs.declared.deeds.Act.TheVariants.{Says, Gains, Adopts}
 pub AllMay-append : (w : World) (r : ℕ) (xs ys : List law.Act) → AllMay w r xs → AllMay (after_acts w r xs) r ys → AllMay w r (xs ++ ys)
 AllMay-append w r [] ys first then = then
 AllMay-append w r (x ∷ xs) ys first then = (first.0, AllMay-append (after_act w r x) r xs ys first.1 then)
-
--- the number of the last stand after some acts
-pub number_after : ℕ → List Act → ℕ
-number_after number [] = number
-number_after number (Says remark ∷ acts) = number_after number acts
-number_after number (Gains got ∷ acts) = number_after (number + 1) acts
-number_after number (Adopts begun common gots ∷ acts) = number_after (number + 1) acts
-
--- the view after some acts
-pub view_after : ℕ → List Act → ℕ
-view_after view [] = view
-view_after view (Says remark ∷ acts) = view_after view acts
-view_after view (Gains got ∷ acts) = view_after view acts
-view_after view (Adopts begun common gots ∷ acts) = view_after begun.0 acts
-
-law_acts-append : (r view number : ℕ) (h : List Entry) (xs ys : List Act)
-    → law_acts r view number h (xs ++ ys) ≡ law_acts r view number h xs ++ law_acts r (view_after view xs) (number_after number xs) (history_after h xs) ys
-unfolding number_after view_after
-law_acts-append r view number h [] ys = refl
-law_acts-append r view number h (Says remark ∷ xs) ys = ap (λ (l : List law.Act). Say (spoken_at r number remark) ∷ l) (law_acts-append r view number h xs ys)
-law_acts-append r view number h (Gains got ∷ xs) ys = ap (λ (l : List law.Act). Move (stand_with view h got) ∷ l) (law_acts-append r view (number + 1) (h ++ got.entry ∷ []) xs ys)
-law_acts-append r view number h (Adopts begun common gots ∷ xs) ys =
-    ap (λ (l : List law.Act). Move (stand_adopted begun h common gots) ∷ l) (law_acts-append r begun.0 (number + 1) (adopted_history h common gots) xs ys)
 
 -- ---- what was gained
 

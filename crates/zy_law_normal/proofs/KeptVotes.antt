@@ -1,15 +1,12 @@
 -- What is kept of responses and checkpoints, with one more and with fewer.
-use Rattle.std.proofs.Common.{◌≡◌, ◌≢◌, ◌⊎◌, inl, inr, ℕ, ◌+◌, ◌*◌, Bool, true, false, cond, nat_eq, nat_le, List, length, take, get_or, All, Option, Some, None, refl, sym, ap, ◌∙◌, subst, arith}
-use Rattle.std.specs.Prelude.{slice_get, AllPairs}
+use Rattle.std.proofs.Common.{◌≡◌, ◌≢◌, ℕ, ◌+◌, ◌*◌, Bool, true, false, cond, nat_eq, nat_le, List, length, take, get_or, All, Option, Some, None, refl, sym, ◌∙◌, subst, arith}
+use Rattle.std.specs.Prelude.{AllPairs}
 use Rattle.std.specs.Bool.{Decides}
 use Rattle.std.proofs.lemmas.Bool.{cond-true, cond-false, cond_both, leb-true}
 use Rattle.std.proofs.Math.Seq.{get_or-take}
 use Rattle.std.proofs.lemmas.List.{length-take, length-take-le}
 use Rattle.std.proofs.lemmas.List.Elements.{All-nil, All-take, All-weaker, filter_passes}
 use Rattle.std.proofs.lemmas.Option.{same_Some}
-use Rattle.zy_base.specs.declared.ids.Party.{Party}
-use Rattle.zy_base.specs.declared.ids.Party.TheVariants.{Replica}
-use Rattle.zy_base.specs.declared.ids.ReplicaId.{ReplicaId}
 use Rattle.zy_cert.specs.Equal.{same_spec, same_check}
 use Rattle.zy_cert.specs.Signers.{AreDifferent, has_signer}
 use Rattle.zy_check.proofs.JudgingLemmas.{spec-new, check-new}
@@ -17,14 +14,7 @@ use Rattle.zy_check.proofs.VoteLemmas.{All-put, All-only, put-rising, only-risin
 use Rattle.zy_check.specs.Board.{Board, Round, no_round, height, round_at, specs_at, checks_at, with_round, put_spec, put_check, only_spec, only_check, with_spec, with_check, without_other_specs, without_other_checks, without_others, stated, with_stable}
 use Rattle.zy_check.specs.Judging.{judge_spec, judge_check, is_refused, after_spec, after_check}
 use Rattle.zy_check.specs.Votes.{only, IsRising}
-use Rattle.zy_law.specs.Said.{IsBacked, IsCorrect, IsVouched}
-use Rattle.zy_law.specs.Steps.{after_saying, with_last}
-use Rattle.zy_law.specs.World.{Spoken, Statement, World}
-use Rattle.zy_law_normal.proofs.Backing.{all_listed, signed_backed}
-use Rattle.zy_law_normal.proofs.OneEntry.{last_own}
-use Rattle.zy_law_normal.proofs.Records.{entry_pushed}
-use Rattle.zy_law_normal.specs.Acts.{check_statement}
-use Rattle.zy_law_normal.specs.Tied.{IsVouchedBy, IsRoundOf, IsProven, IsStable}
+use Rattle.zy_law_normal.specs.Tied.{IsRoundOf}
 use Rattle.zy_parts.specs.declared.signed.Signed.{Signed}
 use Rattle.zy_parts.specs.declared.statements.Check.{Check}
 use Rattle.zy_parts.specs.declared.statements.Spec.{Spec}
@@ -138,16 +128,6 @@ module _ (V : Signed Spec → Type 0) (C : Signed Check → Type 0) where
 
 -- ---- what a replica itself said
 
--- what it just said
-said_itself : (w : World) (r : ℕ) (y : Spoken) → IsCorrect w r → IsVouched (after_saying w r y) y.what r
-said_itself w r y correct =
-    let last : slice_get (with_last w.said r y r) (length (w.said r)) ≡ Some y = ap (λ (l : List Spoken). slice_get l (length (w.said r))) (last_own w.said r y) ∙ entry_pushed (w.said r) y in
-    record { within = correct.within; said = inr (length (w.said r), y, last, refl) }
-
-pub own_vouched : (w : World) (r : ℕ) (y : Spoken) (by : Party) (me : ReplicaId) → IsCorrect w r → by ≡ Replica me → me.0 ≡ r → IsVouchedBy (after_saying w r y) y.what by
-own_vouched w r y by me correct signer is =
-    subst (λ (p : Party). IsVouchedBy (after_saying w r y) y.what p) (sym signer) (subst (λ (n : ℕ). IsVouched (after_saying w r y) y.what n) (sym is) (said_itself w r y correct))
-
 -- ---- so many of the first that are equal to the own one
 
 module _ {A : Type 0} (same : A → A → Bool) (equal : (x y : A) → Decides (same x y) (x ≡ y)) (V : Signed A → Type 0) where
@@ -182,13 +162,3 @@ module _ {A : Type 0} (same : A → A → Bool) (equal : (x y : A) → Decides (
   are_first count own list got rising all some = first_by (nat_le count (length (only same own list))) count own list got refl rising all some
 
 -- ---- a stable checkpoint is backed
-
--- each of a proof stands behind the checkpoint
-proven_by : (w : World) (check : Check) (proof : List (Signed Check)) → IsProven w check proof → All (λ vote. IsVouchedBy w (check_statement check) vote.by) proof
-proven_by w check proof is k d small = subst (λ (c : Check). IsVouchedBy w (check_statement c) (get_or proof k d).by) (is.equal k d small) (is.vouched k d small)
-
-pub stable_backed : (w : World) (board : Board) → IsStable w board → (board.stable.place.0 ≡ 0) ⊎ IsBacked w w.counts.local (check_statement board.stable)
-stable_backed w board (inl none) = inl none
-stable_backed w board (inr is) =
-    let told : Statement = check_statement board.stable in
-    inr (signed_backed w told w.counts.local board.proof is.many is.different (all_listed (λ (vote : Signed Check). IsVouchedBy w told vote.by) board.proof (proven_by w board.stable board.proof is)))

@@ -11,9 +11,8 @@ use Rattle.zy_chain.specs.Heads.{head_after, head_of}
 use Rattle.zy_chain.specs.Stretch.{Mark}
 use Rattle.zy_chain.specs.declared.entry.Entry.{Entry}
 use Rattle.zy_admit.specs.Judging.{entry_of}
-use Rattle.zy_cert.specs.Signers.{AreDifferent}
 use Rattle.zy_change.specs.declared.kept.Certificate.{Certificate}
-use Rattle.zy_check.specs.Board.{Board, Round}
+use Rattle.zy_check.specs.Board.{Round}
 use Rattle.zy_check.specs.Votes.{IsRising}
 use Rattle.zy_exec.specs.Kept.{StandsFor}
 use Rattle.zy_exec.specs.Replay.{origin, along, answer_at}
@@ -26,7 +25,6 @@ use Rattle.zy_law.specs.Said.{Says, Stood, IsVouched}
 use Rattle.zy_law.specs.World.{Spoken, Statement, World}
 use Rattle.zy_law.specs.World.Statement.{Order, Change}
 use Rattle.zy_choose.specs.Reports.{PlainReport}
-use Rattle.zy_law_normal.specs.Acts.{check_statement}
 use Rattle.zy_parts.specs.declared.signed.Signed.{Signed}
 use Rattle.zy_parts.specs.declared.statements.Check.{Check}
 use Rattle.zy_parts.specs.declared.statements.Spec.{Spec}
@@ -76,10 +74,6 @@ abbrev pub IsVouchedBy : World → Statement → Party → Type 0
 IsVouchedBy w statement (Replica id) = IsVouched w statement id.0
 IsVouchedBy w statement (Client id) = ⊥
 
--- and so is a checkpoint
-abbrev pub IsCheckVouched : World → Signed Check → Type 0
-IsCheckVouched w vote = IsVouchedBy w (check_statement vote.stmt) vote.by
-
 -- ---- the tie
 
 -- A replica stands in the world where its state says: in its view, with a history that it stands for.
@@ -119,17 +113,6 @@ pub record IsRoundOf (V : Signed Spec → Type 0) (C : Signed Check → Type 0) 
   pub specs_rise : IsRising round.specs
   pub checks : All C round.checks
   pub checks_rise : IsRising round.checks
-
--- so many different replicas prove a checkpoint, each of which said it, or lies
-pub record IsProven (w : World) (check : Check) (proof : List (Signed Check)) : Type 0 where
-  pub many : length proof ≡ w.counts.local
-  pub equal : All (λ vote. vote.stmt ≡ check) proof
-  pub different : AreDifferent proof
-  pub vouched : All (IsCheckVouched w) proof
-
--- the stable checkpoint is that of the empty history, or it is proven
-abbrev pub IsStable : World → Board → Type 0
-IsStable w board = (board.stable.place.0 ≡ 0) ⊎ IsProven w board.stable board.proof
 
 -- a checkpoint tells the head and the snapshot of a history's first entries
 pub record IsCheckpointOf {S : Type 0} (R : Rules S) (history : List Entry) (check : Check) : Type 0 where
