@@ -48,7 +48,6 @@ use Rattle.zy_table.specs.Deeds.{Outcome, begin, refused, ends, act}
 use Rattle.zy_admit.specs.Orders.{orders_from}
 use Rattle.zy_table.specs.Gathering.{checks_owed, gather_at, own_at}
 use Rattle.zy_table.specs.Holes.{fill_with, fill_hole}
-use Rattle.zy_table.specs.Orders.{order}
 use Rattle.zy_table.specs.Requests.{said_already, respond_as, sealed_order, ordered, request_at_primary, request_waits, forward, request_at_backup, tell_primary, new_request, request_after, is_behind, request, response_of}
 use Rattle.zy_table.specs.Roles.{view_cause}
 use Rattle.zy_table.specs.Running.{run, signs_of, spec_of}

@@ -1,5 +1,5 @@
-//! Each step of normal operation, as the answer table has it, is lawful. The crate has no code: its functions are laws, which have no argument and do
-//! nothing, and whose contracts speak of all worlds and all replicas.
+//! What the laws of steps share: a step's deeds as acts of the law, and what the rows of normal operation can come to. The crate has no code: its
+//! functions are laws, which have no argument and do nothing, and whose contracts speak of all worlds and all replicas.
 #![tactic(auto)]
 
 mod example;
