@@ -2,3 +2,4 @@ mod PollLemmas
 mod CertificateLemmas
 mod EvidenceLemmas
 mod HeldLemmas
+mod RefusedLemmas

@@ -5,13 +5,15 @@ ghost use Rattle.zy_table.specs.Sending.{CanBeSent};
 ghost use Rattle.zy_seal.specs.Screening.{screen};
 ghost use Rattle.zy_parts.specs.Statements.{IsAskInRange};
 ghost use Rattle.zy_table.specs.ClientState.{spoken_of, all_replicas, client_outgoing};
+ghost use Rattle.zy_base.specs.declared.cause.Cause.{Cause};
 ghost use Rattle.zy_base.specs.declared.cause.Cause.TheVariants as causes;
+ghost use Rattle.zy_base.specs.declared.step.Answer.TheVariants.{Refused};
 ghost use Rattle.zy_table.specs.Roles.{is_replica};
 ghost use Rattle.zy_table.specs.ClientState.{refused};
 ghost use Rattle.zy_table.specs.ClientRows.{ask as ask_row, hear as hear_row, hear_response as hear_response_row, is_by_primary, count_local, decoded, timer as timer_row, decoded_as, view_decoded, client_step};
 ghost use Rattle.zy_vframes.specs.ViewFrames as views;
 ghost use Rattle.zy_client.specs.Ready.{IsKeepable};
-ghost use Rattle.zy_client.specs.Stepped.{IsStepped};
+ghost use Rattle.zy_client.specs.Stepped.{IsStepped, IsUnchanged};
 
 use crate::moved::Moved;
 use crate::{Client, ClientStepped};
@@ -28,17 +30,20 @@ use zy_vframes::ViewFrame;
 
 impl Client {
     /// Asks: the request with the next stamp goes to the primary of the known view. Refused as `Waiting` while an
-    /// earlier request waits, and as `KeySpent` where no leaf is left.
+    /// earlier request waits, and as `KeySpent` where no leaf is left. After a refusal all is as before, and nothing
+    /// is sent.
     pub fn ask(self, op: Bytes) -> Result<ClientStepped, Want>
         requires { length op ≤ 1100 }
-        ensures { IfOk result (IsStepped (ask_row self op)) }
+        ensures stepped { IfOk result (IsStepped (ask_row self op)) }
+        ensures refused { IfOk result (λ s. (cause : Cause) → s.answer ≡ Refused cause → IsUnchanged self s) }
     {
         self.asks(op)?.finish()
     }
 
-    /// What an event makes of the client.
+    /// What an event makes of the client. After a refusal all is as before, and nothing is sent.
     pub fn step(self, event: Event) -> Result<ClientStepped, Want>
-        ensures { IfOk result (IsStepped (client_step self event)) }
+        ensures stepped { IfOk result (IsStepped (client_step self event)) }
+        ensures refused { IfOk result (λ s. (cause : Cause) → s.answer ≡ Refused cause → IsUnchanged self s) }
     {
         self.moves(event)?.finish()
     }

@@ -1,26 +1,16 @@
--- Signed equal statements of so many different replicas, each of which said so or lies, are backed; so is the point of a
--- commit certificate.
-use Rattle.std.proofs.Common.{◌≡◌, ◌≢◌, ℕ, zero, suc, ◌<◌, List, [], ◌∷◌, length, map, get_or, Ok, sym, ap, ◌∙◌, subst, arith}
+-- Signed equal statements of so many different replicas, each of which said so or lies, are backed.
+use Rattle.std.proofs.Common.{◌≡◌, ◌≢◌, ℕ, zero, suc, ◌<◌, List, [], ◌∷◌, length, map, get_or, sym, ap, ◌∙◌, subst, arith}
 use Rattle.std.specs.Prelude.{All}
 use Rattle.std.specs.List.{AllByRecursion, AllPairs}
 use Rattle.std.proofs.lemmas.List.{get_or-map, length-map}
 use Rattle.std.proofs.lemmas.List.Kept.{AllPairs-cons}
-use Rattle.zy_base.specs.declared.ids.Digest.{Digest}
 use Rattle.zy_base.specs.declared.ids.Party.{Party}
 use Rattle.zy_base.specs.declared.ids.Party.TheVariants.{Replica, Client}
-use Rattle.zy_base.specs.declared.ids.Place.{Place}
-use Rattle.zy_base.specs.declared.ids.View.{View}
-use Rattle.zy_cert.proofs.CertificateLemmas.{certified-taken}
-use Rattle.zy_cert.specs.Certificates.{IsCertificate, certified}
-use Rattle.zy_cert.specs.Equal.{same_spec, spec-equal}
-use Rattle.zy_cert.specs.Points.{point_of_spec}
 use Rattle.zy_cert.specs.Signers.{AreDifferent}
-use Rattle.zy_law.specs.Fixed.{IsCertified}
 use Rattle.zy_law.specs.Said.{IsVouched, IsBacked}
-use Rattle.zy_law.specs.World.{Answer, Statement, World}
-use Rattle.zy_law_normal.specs.Tied.{IsVouchedBy, AreVouched, response_with}
+use Rattle.zy_law.specs.World.{Statement, World}
+use Rattle.zy_law_normal.specs.Tied.{IsVouchedBy}
 use Rattle.zy_parts.specs.declared.signed.Signed.{Signed}
-use Rattle.zy_parts.specs.declared.statements.Spec.{Spec}
 
 pub all_from : {A : Type 0} (P : A → Type 0) (xs : List A) → AllByRecursion P xs → All P xs
 all_from P [] all k d within = absurd (omega arith)
@@ -86,28 +76,3 @@ module _ (w : World) (s : Statement) where
           different = numbers_differ list all different;
           vouched = all_from (IsVouched w s) (numbers_of list) (numbers_vouched list all);
         }
-
--- ---- commit certificates
-
-module _ (w : World) (answer : Spec → Answer) where
-  -- equal responses are read alike
-  read_alike : (list : List (Signed Spec)) (stmt : Spec) → AllByRecursion (λ spec. IsVouchedBy w (response_with (answer spec.stmt) spec.stmt) spec.by) list → All (λ spec. spec.stmt ≡ stmt) list
-      → AllByRecursion (λ spec. IsVouchedBy w (response_with (answer stmt) stmt) spec.by) list
-  read_alike [] stmt each equal = tt
-  read_alike (spec ∷ list) stmt each equal = (
-    subst (λ (x : Spec). IsVouchedBy w (response_with (answer x) x) spec.by) (equal 0 spec (omega arith)) each.0,
-    read_alike list stmt each.1 (λ k d within. equal (suc k) d (omega arith)),
-  )
-
-abbrev response_at : Answer → View × Place × Digest → Statement
-response_at a point = Statement.Spec point.0.0 (record { place = point.1.0; head = point.2 }) a
-
--- a commit certificate of responses that were said, or that liars signed, is one of the law
-pub certified_in : (w : World) (specs : List (Signed Spec)) (point : View × Place × Digest) → AreVouched w specs → certified same_spec point_of_spec w.counts.cert specs ≡ Ok point
-    → IsCertified w point.0.0 (record { place = point.1.0; head = point.2 })
-certified_in w specs point vouched proves =
-    let is : IsCertificate point_of_spec w.counts.cert specs point = certified-taken same_spec spec-equal point_of_spec w.counts.cert specs point proves in
-    let a : Answer = vouched.answer is.stmt in
-    let backed : IsBacked w w.counts.cert (response_with a is.stmt) =
-    signed_backed w (response_with a is.stmt) w.counts.cert specs is.len is.different (read_alike w vouched.answer specs is.stmt vouched.each is.equal) in
-    (a, subst (λ (p : View × Place × Digest). IsBacked w w.counts.cert (response_at a p)) is.located backed)

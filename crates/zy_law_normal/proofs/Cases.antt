@@ -1,22 +1,15 @@
--- What a step can come to. What holds of each of these outcomes holds of the outcome of each event.
+-- What the rows of normal operation can come to. What holds of each of these outcomes holds of each row's.
 use Rattle.std.proofs.Common.{◌≡◌, ℕ, ◌+◌, ◌≤◌, Bool, true, false, List, [], ◌∷◌, Option, Some, None, refl, sym, ap, ◌∙◌, arith, inl, inr, ltb-false, lt-ltb}
 use Rattle.std.specs.Prelude.{option_map, nat_le, nat_lt, nat_eq, if◌then◌else◌, Result, Ok, Err}
 use Rattle.std.proofs.lemmas.Bool.{cases_lt, eqb-false}
 use Rattle.zy_base.specs.Machine.{Rules}
 use Rattle.zy_base.specs.declared.cause.Cause.{Cause}
-use Rattle.zy_base.specs.declared.frame_fault.FrameFault.{FrameFault}
 use Rattle.zy_base.specs.declared.ids.ClientId.{ClientId}
 use Rattle.zy_base.specs.declared.ids.Digest.{Digest}
 use Rattle.zy_base.specs.declared.ids.Party.{Party}
 use Rattle.zy_base.specs.declared.ids.Place.{Place}
 use Rattle.zy_base.specs.declared.ids.View.{View}
-use Rattle.zy_base.specs.declared.step.Event.TheVariants as events
-use Rattle.zy_base.specs.declared.step.Mode.{Mode}
-use Rattle.zy_base.specs.declared.step.Mode.TheVariants.{Active, Leaving}
-use Rattle.zy_base.specs.declared.step.TimerKind.{TimerKind}
-use Rattle.zy_base.specs.declared.step.TimerKind.TheVariants as timers
 use Rattle.zy_chain.specs.Entries.{digest_of_entry}
-use Rattle.zy_chain.specs.Heads.{head_after}
 use Rattle.zy_chain.specs.Stretch.{head_in}
 use Rattle.zy_cert.proofs.CertificateLemmas.{certified-taken}
 use Rattle.zy_cert.specs.Certificates.{IsCertificate, certified}
@@ -30,12 +23,8 @@ use Rattle.zy_check.specs.Board.{Board, specs_at, checks_at}
 use Rattle.zy_check.specs.Judging.{is_refused, judge_spec, judge_check}
 use Rattle.zy_check.specs.declared.kept.Kept.{Kept}
 use Rattle.zy_check.specs.declared.kept.Kept.TheVariants as answers
-use Rattle.zy_admit.specs.Judging.{newer, entry_of, same_digest, same_order, judge_at_end, judge_fresh, judge_beside, judge_in}
-use Rattle.zy_admit.specs.declared.judging.Admit.{Admit}
-use Rattle.zy_admit.specs.declared.judging.Admit.TheVariants as admits
-use Rattle.zy_admit.specs.declared.judging.Position.{Position}
-use Rattle.zy_admit.specs.Orders.{Orders, with_order, stored_in}
-use Rattle.zy_frames.specs.Frames.{frame_in, parts_of}
+use Rattle.zy_admit.specs.Judging.{newer, entry_of, same_digest}
+use Rattle.zy_admit.specs.Orders.{with_order, stored_in}
 use Rattle.zy_frames.specs.declared.frame.Frame.{Frame}
 use Rattle.zy_frames.specs.declared.frame.Frame.TheVariants as frames
 use Rattle.zy_frames.specs.declared.frame.OrderFrame.{OrderFrame}
@@ -49,7 +38,6 @@ use Rattle.zy_parts.specs.declared.statements.Hole.{Hole}
 use Rattle.zy_parts.specs.declared.statements.Local.{Local}
 use Rattle.zy_parts.specs.declared.statements.Order.{Order as OrderStatement}
 use Rattle.zy_parts.specs.declared.statements.Spec.{Spec}
-use Rattle.zy_seal.specs.Screening.{screen}
 use Rattle.zy_seal.specs.Sealing.{sealed_by}
 use Rattle.zy_exec.specs.declared.known.Known.{Known}
 use Rattle.zy_exec.specs.Kept.{known_in, last_place, stretch_of}
@@ -59,47 +47,22 @@ use Rattle.zy_table.specs.Confirms.{order_again, confirm_after, confirm}
 use Rattle.zy_table.specs.Deeds.{Outcome, begin, refused, ends, act}
 use Rattle.zy_admit.specs.Orders.{orders_from}
 use Rattle.zy_table.specs.Gathering.{checks_owed, gather_at, own_at}
-use Rattle.zy_table.specs.Holes.{fill_with, fill_hole, ask_again}
-use Rattle.zy_table.specs.Orders.{order_as, order, position_of, owes_hole, ask_for_missing}
+use Rattle.zy_table.specs.Holes.{fill_with, fill_hole}
 use Rattle.zy_table.specs.Requests.{said_already, respond_as, sealed_order, ordered, request_at_primary, request_waits, forward, request_at_backup, tell_primary, new_request, request_after, is_behind, request, response_of}
-use Rattle.zy_table.specs.Roles.{in_role, view_cause}
+use Rattle.zy_table.specs.Roles.{view_cause}
 use Rattle.zy_table.specs.Running.{run, signs_of, spec_of}
 use Rattle.zy_table.specs.State.{State, own_view, is_leaving, is_primary, window_of, stood_of, leaves_of, spent, with_spec, spec_to, pending_of}
-use Rattle.zy_table.specs.Step.{unless, commit_in_view, row, hear, decoded, timer, step}
+use Rattle.zy_table.specs.Whole.{unless, commit_in_view, plain_row}
 use Rattle.zy_table.specs.declared.deeds.Act.TheVariants.{Says}
 use Rattle.zy_table.specs.declared.deeds.Body.TheVariants as bodies
 use Rattle.zy_law_normal.proofs.Committed.{IsFurthest, by_certificate, holding}
 use Rattle.zy_law_normal.proofs.Own.{by_test}
+use Rattle.zy_law_normal.specs.Tied.{IsNormal}
 use Rattle.zy_table.specs.declared.deeds.Sent.{Sent}
 use Rattle.zy_table.specs.declared.kept.OwnCheckpoint.{OwnCheckpoint}
 use Rattle.zy_table.specs.declared.kept.Pending.{Pending}
 use Rattle.zy_base.specs.declared.cause.Cause.TheVariants as causes
 use Rattle.zy_base.specs.declared.step.Answer.TheVariants.{Taken, Held}
-
-abbrev IsNewer : Signed Ask → Position → Admit → Type 0
-IsNewer ask now a = a ≡ admits.Next → newer ask.stmt.stamp now.last ≡ true
-
-next_at_end : (order : OrderStatement) (ask : Signed Ask) (now : Position) → IsNewer ask now (judge_at_end order ask now)
-next_at_end order ask now =
-    by_test (IsNewer ask now) (same_digest order.head (head_after now.head (digest_of_entry (entry_of ask)))) _ _
-    (λ head. by_test (IsNewer ask now) (newer ask.stmt.stamp now.last) _ _ (λ new is. new) (λ old is. absurd cc))
-    (λ other is. absurd cc)
-
-next_fresh : (order : OrderStatement) (ask : Signed Ask) (now : Position) → IsNewer ask now (judge_fresh order ask now)
-next_fresh order ask now =
-    by_test (IsNewer ask now) (nat_le order.place.0 now.end.0) _ _ (λ old is. absurd cc)
-    (λ fresh. by_test (IsNewer ask now) (nat_lt now.window.0 order.place.0) _ _ (λ past is. absurd cc)
-    (λ inside. by_test (IsNewer ask now) (same_digest order.request (digest_of_entry (entry_of ask))) _ _
-    (λ same. by_test (IsNewer ask now) (nat_lt (now.end.0 + 1) order.place.0) _ _ (λ later is. absurd cc) (λ next. next_at_end order ask now))
-    (λ other is. absurd cc)))
-
-next_beside : (order : OrderStatement) (ask : Signed Ask) (now : Position) (kept : Option OrderFrame) → IsNewer ask now (judge_beside kept order ask now)
-next_beside order ask now None = next_fresh order ask now
-next_beside order ask now (Some kept) = by_test (IsNewer ask now) (same_order kept.order.stmt order) _ _ (λ same is. absurd cc) (λ other is. absurd cc)
-
--- an order that is judged next has a newer stamp
-next_is_newer : (orders : Orders) (order : OrderStatement) (ask : Signed Ask) (now : Position) → judge_in orders order ask now ≡ admits.Next → newer ask.stmt.stamp now.last ≡ true
-next_is_newer orders order ask now = next_beside order ask now (stored_in orders order.place.0)
 
 stamp_above : (a b : ℕ) → nat_lt b a ≡ false → nat_eq b a ≡ false → nat_lt a b ≡ true
 stamp_above a b from other =
@@ -139,16 +102,13 @@ pub data IsPut {S : Type 0} (s : State S) (Heard : Frame → Type 0) (board : Bo
       → has_signer vote.by (specs_at s.board vote.stmt.place.0) ≡ false → board ≡ put_in.with_spec s.board vote → IsPut s Heard board
   new_check : (vote : Signed Check) → Heard (frames.Checkpoint vote) → has_signer vote.by (checks_at s.board vote.stmt.place.0) ≡ false → board ≡ put_in.with_check s.board vote → IsPut s Heard board
 
--- What is to be shown of a step's outcomes, where Heard holds of each frame that is answered by its row.
+-- What is to be shown of a row's outcomes, where Heard holds of each frame that is answered by its row.
 pub record Cases {S : Type 0} (R : Rules S) (s : State S) (Heard : Frame → Type 0) (P : Outcome S → Type 0) : Type 0 where
   pub refuses : (cause : Cause) → P (refused cause s)
   pub stays : (sent : List Sent) → P (record { answer = Taken; state = s; deeds = record { sent = sent; acts = [] } })
   pub responds : (ask : Signed Ask) (known : Known) → known_in R s.kept (entry_of ask).client.0 ≡ Some known → HasLeaves s 1 → P (responded R s (spec_of (own_view s) ask known) known)
   pub orders : (ask : Signed Ask) → Heard (frames.Request ask) → is_primary s ≡ true → IsNew R s ask → HasLeaves s (signs_of R s ask + 1) → P (ends Taken (run R (sealed_order R s ask) (ordered R s ask)))
   pub waits : (ask : Signed Ask) → HasLeaves s 1 → P (ends Taken (request_waits R s ask))
-  pub takes : (o : OrderFrame) → Heard (frames.Order o) → IsNew R s o.ask → HasLeaves s (signs_of R s o.ask) → P (ends Taken (run R o (begin (record (with_held s o) { hole = None }))))
-  pub asks : (o : OrderFrame) → Heard (frames.Order o) → HasLeaves s 1 → P (ends Held (ask_for_missing R (with_held s o)))
-  pub holds : (o : OrderFrame) → Heard (frames.Order o) → P (ends Held (begin (with_held s o)))
   pub commits : (specs : List (Signed Spec)) (client : ClientId) (local : Local) (said : Option (Signed Local)) (held : Option Certificate) → Heard (frames.Commit specs) → IsOwnCommit s specs local
       → IsFurthest local.place specs s.views.specs held → HasLeaves s (locals_owed said + checks_owed (holding s held) (own_at R s local.place.0) true)
       → P (ends Taken (gather_at R (own_at R s local.place.0) true (give_local R client local said (holding s held))))
@@ -292,21 +252,7 @@ module _ {S : Type 0} (R : Rules S) (s : State S) (Heard : Frame → Type 0) (P 
       let own : Option Check = option_map (λ (o : OwnCheckpoint). o.check) (own_at R s vote.stmt.place.0) in
       kept_case vote.stmt.place.0 (judge_check s.board vote own) (put_in.with_check s.board vote) (λ kept. IsPut.new_check vote heard (check-new s.board vote own kept) refl)
 
-  -- ---- ORDER
-
-  order_as_case : (o : OrderFrame) (a : Admit) → judge_in s.orders o.order.stmt o.ask (position_of R s o) ≡ a → Heard (frames.Order o) → P (order_as R s o a)
-  order_as_case o admits.Next is heard =
-      by_test P (nat_le (signs_of R s o.ask) (leaves_of s)) _ _ (of.takes o heard (next_is_newer s.orders o.order.stmt o.ask (position_of R s o) is)) (λ none. of.refuses causes.KeySpent)
-  order_as_case o admits.Held is heard =
-      by_test P (owes_hole s) _ _ (λ owes. by_test P (nat_le 1 (leaves_of s)) _ _ (of.asks o heard) (λ none. of.refuses causes.KeySpent)) (λ asked. of.holds o heard)
-  order_as_case o (admits.Refused cause) is heard = of.refuses cause
-  order_as_case o admits.Evidence is heard = of.refuses causes.Unmatched
-
-  order_case : (o : OrderFrame) → Heard (frames.Order o) → P (order R s o)
-  unfolding order
-  order_case o heard = order_as_case o (judge_in s.orders o.order.stmt o.ask (position_of R s o)) refl heard
-
-  -- ---- FILL-HOLE, and the timers
+  -- ---- FILL-HOLE
 
   fill_with_case : (hole : Signed Hole) (orders : List OrderFrame) → P (fill_with s hole orders)
   fill_with_case hole [] =
@@ -317,17 +263,7 @@ module _ {S : Type 0} (R : Rules S) (s : State S) (Heard : Frame → Type 0) (P 
   unfolding fill_hole
   fill_hole_case hole = fill_with_case hole (orders_from hole.stmt.from.0 hole.stmt.to.0 s.orders)
 
-  ask_again_case : (mode : Mode) (hole : Option (Signed Hole)) → P (ask_again s mode hole)
-  ask_again_case (Active view) (Some hole) = of.stays (ask_again s (Active view) (Some hole)).deeds.sent
-  ask_again_case (Active view) None = of.stays []
-  ask_again_case (Leaving view) hole = of.stays []
-
-  timer_case : (kind : TimerKind) → P (timer s kind)
-  timer_case timers.Request = ask_again_case s.views.mode s.hole
-  timer_case timers.Change = of.stays []
-  timer_case timers.Answer = of.stays []
-
-  -- ---- the step
+  -- ---- the row
 
   unless_case : (cause : Option Cause) (o : Outcome S) → (cause ≡ None → P o) → P (unless cause s o)
   unless_case None o holds = holds refl
@@ -348,30 +284,15 @@ module _ {S : Type 0} (R : Rules S) (s : State S) (Heard : Frame → Type 0) (P 
   commit_in_view_case (first ∷ others) heard =
       unless_case (view_cause s first.stmt.view.0) (commit R s first.stmt (first ∷ others)) (λ current. commit_case first others heard (current_view first.stmt.view.0 current))
 
-  row_case : (frame : Frame) → Heard frame → P (row R s frame)
-  row_case (frames.Request ask) heard = request_case ask heard
-  row_case (frames.Order both) heard = unless_case (view_cause s both.order.stmt.view.0) (order R s both) (λ current. order_case both heard)
-  row_case (frames.SpecResponse spec reply with_order) heard = unless_case (view_cause s spec.stmt.view.0) (response R s spec) (λ current. response_case spec reply with_order heard)
-  row_case (frames.Commit specs) heard = commit_in_view_case specs heard
-  row_case (frames.LocalCommit local) heard = of.refuses causes.WrongRole
-  row_case (frames.ConfirmReq confirmed ask) heard =
+  pub row_case : (frame : Frame) → IsNormal frame → Heard frame → P (plain_row R s frame)
+  row_case (frames.Request ask) normal heard = request_case ask heard
+  row_case (frames.SpecResponse spec reply with_order) normal heard = unless_case (view_cause s spec.stmt.view.0) (response R s spec) (λ current. response_case spec reply with_order heard)
+  row_case (frames.Commit specs) normal heard = commit_in_view_case specs heard
+  row_case (frames.LocalCommit local) normal heard = of.refuses causes.WrongRole
+  row_case (frames.ConfirmReq confirmed ask) normal heard =
       unless_case (view_cause s confirmed.stmt.view.0) (confirm R s confirmed ask) (λ current. confirm_case confirmed ask (of.confirms confirmed ask heard))
-  row_case (frames.FillHole hole) heard = unless_case (view_cause s hole.stmt.view.0) (fill_hole s hole) (λ current. fill_hole_case hole)
-  row_case (frames.Hate hate) heard = of.refuses causes.WrongRole
-  row_case (frames.Pom first second) heard = of.refuses causes.WrongRole
-  row_case (frames.Checkpoint check) heard = unless_case (view_cause s check.stmt.view.0) (checkpoint R s check) (λ current. checkpoint_case check heard)
-
-  hear_case : (frame : Frame) → (in_role s frame ≡ true → Heard frame) → P (hear R s frame)
-  hear_case frame heard = by_test P (in_role s frame) _ _ (λ role. row_case frame (heard role)) (λ wrong. of.refuses causes.WrongRole)
-
-  pub decoded_case : (read : Result Frame FrameFault) → ((frame : Frame) → read ≡ Ok frame → screen s.keys (parts_of frame) ≡ None → in_role s frame ≡ true → Heard frame) → P (decoded R s read)
-  decoded_case (Err fault) heard = of.refuses (causes.NotFrame fault)
-  decoded_case (Ok frame) heard = unless_case (screen s.keys (parts_of frame)) (hear R s frame) (λ verified. hear_case frame (heard frame refl verified))
-
-  pub heard_case : (bytes : List ℕ) → ((frame : Frame) → frame_in bytes ≡ Ok frame → screen s.keys (parts_of frame) ≡ None → in_role s frame ≡ true → Heard frame) → P (step R s (events.Heard bytes))
-  unfolding step
-  heard_case bytes heard = decoded_case (frame_in bytes) heard
-
-  pub timer_step_case : (kind : TimerKind) → P (step R s (events.Timer kind))
-  unfolding step
-  timer_step_case kind = timer_case kind
+  row_case (frames.FillHole hole) normal heard = unless_case (view_cause s hole.stmt.view.0) (fill_hole s hole) (λ current. fill_hole_case hole)
+  row_case (frames.Checkpoint check) normal heard = unless_case (view_cause s check.stmt.view.0) (checkpoint R s check) (λ current. checkpoint_case check heard)
+  row_case (frames.Order both) normal heard = absurd normal
+  row_case (frames.Hate vote) normal heard = absurd normal
+  row_case (frames.Pom first second) normal heard = absurd normal

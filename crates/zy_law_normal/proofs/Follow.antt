@@ -1,18 +1,13 @@
 -- What holds on the way through a step, where all that follows an executed entry keeps it; and where the base moves.
-use Rattle.std.proofs.Common.{◌≡◌, ℕ, ◌-◌, ◌≤◌, inl, inr, Bool, true, false, List, take, drop, Option, Some, None, sym, ap, ◌∙◌, subst, arith}
-use Rattle.std.proofs.Math.ListN.{drop_of_length-le}
-use Rattle.std.proofs.lemmas.Bool.{cases_lt}
-use Rattle.std.proofs.lemmas.List.{length-drop, length-take, take_all}
+use Rattle.std.proofs.Common.{◌≡◌, ℕ, ◌-◌, Bool, true, false, List, take, Option, Some, None, arith}
+use Rattle.std.proofs.lemmas.List.{length-drop, length-take}
 use Rattle.zy_base.specs.Machine.{Rules}
 use Rattle.zy_base.specs.declared.ids.Digest.{Digest}
 use Rattle.zy_base.specs.declared.ids.Place.{Place}
-use Rattle.zy_chain.specs.declared.entry.Entry.{Entry}
 use Rattle.zy_change.specs.Views.{is_further}
 use Rattle.zy_change.specs.declared.kept.Certificate.{Certificate}
 use Rattle.zy_exec.proofs.ReplayLemmas.{place-along}
-use Rattle.zy_exec.proofs.SettleLemmas.{stands_settled}
-use Rattle.zy_exec.specs.Kept.{Kept, StandsFor, last_place, settled}
-use Rattle.zy_exec.specs.Replay.{along}
+use Rattle.zy_exec.specs.Kept.{Kept, last_place, settled}
 use Rattle.zy_frames.specs.declared.frame.Frame.{Frame}
 use Rattle.zy_frames.specs.declared.frame.OrderFrame.{OrderFrame}
 use Rattle.zy_law_normal.proofs.Committed.{holding}
@@ -91,27 +86,3 @@ pub end_settled : {S : Type 0} (R : Rules S) (k : Kept S) (place : ℕ) → last
 end_settled R k place =
     let n = place - k.base.place in
     omega (arith, place-along R k.base (take n k.entries), length-take n k.entries, length-drop n k.entries)
-
-settled_past : {S : Type 0} (R : Rules S) (k : Kept S) (place : ℕ) → last_place k ≤ place → settled R (last_place k) k ≡ settled R place k
-settled_past {S} R k place past =
-    let n = place - k.base.place in
-    let m = last_place k - k.base.place in
-    let es = k.entries in
-    let fronts : take m es ≡ take n es = take_all m es (omega arith) ∙ sym (take_all n es (omega arith)) in
-    let rests : drop m es ≡ drop n es = drop_of_length-le es (omega arith) ∙ sym (drop_of_length-le es (omega arith)) in
-    ap (λ (l : List Entry). let to : Kept S = record { interval = k.interval; base = along R k.base l; entries = drop m es } in to) fronts
-    ∙ ap (λ (l : List Entry). let to : Kept S = record { interval = k.interval; base = along R k.base (take n es); entries = l } in to) rests
-
-settled_below : {S : Type 0} (R : Rules S) (k : Kept S) (place : ℕ) → place ≤ k.base.place → settled R k.base.place k ≡ settled R place k
-settled_below {S} R k place below =
-    let none : k.base.place - k.base.place ≡ place - k.base.place = omega arith in
-    ap (λ (n : ℕ). let to : Kept S = record { interval = k.interval; base = along R k.base (take n k.entries); entries = drop n k.entries } in to) none
-
-pub stands_wherever : {S : Type 0} (R : Rules S) (k : Kept S) (h : List Entry) (place : ℕ) → StandsFor R k h → StandsFor R (settled R place k) h
-stands_wherever {S} R k h place stands = elim (cases_lt place k.base.place) [
-  | inl below ↦ subst (λ (to : Kept S). StandsFor R to h) (settled_below R k place (omega arith)) (stands_settled R k h k.base.place (omega arith) (omega arith) stands)
-  | inr above ↦ elim (cases_lt (last_place k) place) [
-    | inl past ↦ subst (λ (to : Kept S). StandsFor R to h) (settled_past R k place (omega arith)) (stands_settled R k h (last_place k) (omega arith) (omega arith) stands)
-    | inr within ↦ stands_settled R k h place (omega arith) (omega arith) stands
-  ]
-]

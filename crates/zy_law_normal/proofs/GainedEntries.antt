@@ -1,19 +1,20 @@
--- The entries that a step gains may run, each on the head before it.
+-- The entries that a row gains may run, each on the head before it.
 use Rattle.std.proofs.Common.{◌+◌, ◌-◌, true, false, List, [], ◌∷◌, ◌++◌, Option, Some, None, refl, sym, subst}
 use Rattle.std.specs.Prelude.{nat_le}
 use Rattle.std.specs.List.{AllByRecursion}
 use Rattle.zy_admit.specs.Judging.{entry_of}
 use Rattle.zy_admit.specs.Orders.{slots_above}
+use Rattle.zy_admit.specs.declared.judging.Admit.{Admit}
+use Rattle.zy_admit.specs.declared.judging.Admit.TheVariants as admits
 use Rattle.zy_base.specs.Machine.{Rules}
 use Rattle.zy_base.specs.declared.ids.ClientId.{ClientId}
-use Rattle.zy_base.specs.declared.step.Event.{Event}
-use Rattle.zy_base.specs.declared.step.Event.TheVariants.{Heard, Timer}
 use Rattle.zy_change.specs.declared.kept.Certificate.{Certificate}
 use Rattle.zy_exec.specs.Kept.{last_place}
+use Rattle.zy_frames.specs.declared.frame.Frame.{Frame}
 use Rattle.zy_frames.specs.declared.frame.OrderFrame.{OrderFrame}
 use Rattle.zy_law.specs.World.{World}
-use Rattle.zy_law_normal.specs.Tied.{IsGained, MayRun, MaySlotRun, MayFrameRun, MayEventRun}
-use Rattle.zy_law_normal.proofs.Cases.{Cases, with_held, heard_case, timer_step_case}
+use Rattle.zy_law_normal.specs.Tied.{IsGained, IsNormal, MayRun, MaySlotRun, MayFrameRun}
+use Rattle.zy_law_normal.proofs.Cases.{Cases, with_held, row_case}
 use Rattle.zy_law_normal.proofs.Committed.{holding}
 use Rattle.zy_law_normal.proofs.Follow.{Keeps, gather_at_keeps, one_keeps}
 use Rattle.zy_law_normal.proofs.Goes.{all_of_both, gains_in-append}
@@ -28,7 +29,8 @@ use Rattle.zy_table.specs.Requests.{ordered, sealed_order}
 use Rattle.zy_table.specs.Gathering.{own_at}
 use Rattle.zy_table.specs.Running.{got_of, run_one, run_held, run, fits_end, signs_of}
 use Rattle.zy_table.specs.State.{State, leaves_of}
-use Rattle.zy_table.specs.Step.{step}
+use Rattle.zy_table.specs.Orders.{order_as, owes_hole}
+use Rattle.zy_table.specs.Whole.{plain_row}
 use Rattle.zy_table.specs.declared.deeds.Act.{Act}
 use Rattle.zy_table.specs.declared.deeds.Act.TheVariants.{Says, Gains}
 use Rattle.zy_table.specs.declared.deeds.Remark.{Remark}
@@ -93,9 +95,6 @@ module _ {S : Type 0} (R : Rules S) (w : World) where
           responds = λ ask known known_is left. tt;
           orders = λ ask may primary new left. run_gained (sealed_order R s ask) (ordered R s ask) (slots_put w s.orders (sealed_order R s ask) slots may) may tt;
           waits = λ ask left. tt;
-          takes = λ o may new left. run_gained o (begin (record (with_held s o) { hole = None })) (slots_put w s.orders o slots may) may tt;
-          asks = λ o may left. tt;
-          holds = λ o may. tt;
           commits = λ specs client local said held may own furthest left.
               gather_at_keeps R (λ g. AreGained g.deeds.acts) gained_kept (own_at R s local.place.0) true (give_local R client local said (holding s held)) (local_gained client local said held);
           keeps = λ board put. tt;
@@ -103,6 +102,12 @@ module _ {S : Type 0} (R : Rules S) (w : World) where
           confirms = λ confirm ask may. may;
         }
 
-    pub step_gained : (event : Event) → MayEventRun w s event → Gained (step R s event)
-    step_gained (Heard bytes) may = heard_case R s (MayFrameRun w) Gained cases bytes may
-    step_gained (Timer kind) may = timer_step_case R s (MayFrameRun w) Gained cases kind
+    pub row_gained : (frame : Frame) → IsNormal frame → MayFrameRun w frame → Gained (plain_row R s frame)
+    row_gained frame normal may = row_case R s (MayFrameRun w) Gained cases frame normal may
+
+    pub order_gained : (o : OrderFrame) → MayRun w (entry_of o.ask) → (a : Admit) → Gained (order_as R s o a)
+    order_gained o may admits.Next =
+        by_test Gained (nat_le (signs_of R s o.ask) (leaves_of s)) _ _ (λ left. run_gained o (begin (record (with_held s o) { hole = None })) (slots_put w s.orders o slots may) may tt) (λ none. tt)
+    order_gained o may admits.Held = by_test Gained (owes_hole s) _ _ (λ owes. by_test Gained (nat_le 1 (leaves_of s)) _ _ (λ left. tt) (λ none. tt)) (λ asked. tt)
+    order_gained o may (admits.Refused cause) = tt
+    order_gained o may admits.Evidence = tt

@@ -7,12 +7,7 @@ pub mod Committed
 pub mod KeptVotes
 pub mod Going
 pub mod Follow
-pub mod Gathers
-pub mod Runs
 pub mod Cases
-pub mod Rows
-pub mod EachStep
 pub mod TieLemmas
-pub mod RefusedRows
 pub mod FirstRequest
 pub mod GainedEntries

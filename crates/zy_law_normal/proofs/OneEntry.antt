@@ -1,51 +1,38 @@
 -- What a replica that stands in the world may say there, and where it may stand next.
-use Rattle.std.proofs.Common.{◌≡◌, ℕ, ◌+◌, ◌-◌, ◌%◌, ◌<◌, ◌≤◌, inl, inr, Bool, true, cond, List, [], ◌∷◌, ◌++◌, length, take, drop, get_or, Option, Some, None, refl, sym, ap, ◌∙◌, subst, arith, eq-eqb, ltb-true}
-use Rattle.std.specs.Prelude.{slice_get, option_map, unwrap_or, fold}
+use Rattle.std.proofs.Common.{◌≡◌, ℕ, ◌+◌, ◌-◌, ◌<◌, ◌≤◌, inl, inr, Bool, true, List, [], ◌∷◌, ◌++◌, length, take, get_or, Option, Some, None, refl, sym, ap, ◌∙◌, subst, arith, ltb-true}
+use Rattle.std.specs.Prelude.{slice_get, option_map, fold}
 use Rattle.std.specs.List.{AllByRecursion}
-use Rattle.std.proofs.lemmas.List.{length-append, take-append-drop, length-take-le}
 use Rattle.std.proofs.lemmas.Bool.{cases_lt}
-use Rattle.std.proofs.lemmas.Option.{same_Some, slice_get_within}
-use Rattle.sha2.specs.Sha256.{sha256}
+use Rattle.std.proofs.lemmas.Option.{same_Some}
 use Rattle.zy_base.specs.Machine.{Rules}
 use Rattle.zy_base.specs.declared.ids.Digest.{Digest}
-use Rattle.zy_base.specs.Step.{view_of}
 use Rattle.zy_base.specs.declared.ids.ClientId.{ClientId}
-use Rattle.zy_base.specs.declared.ids.Party.TheVariants.{Replica}
-use Rattle.zy_base.specs.declared.ids.ReplicaId.{ReplicaId}
-use Rattle.zy_base.specs.declared.step.Mode.{Mode}
 use Rattle.zy_base.specs.declared.ids.Stamp.{Stamp}
 use Rattle.zy_chain.specs.declared.entry.Entry.{Entry}
 use Rattle.zy_chain.specs.Entries.{digest_of_entry}
 use Rattle.zy_chain.specs.Heads.{empty_head, head_of}
-use Rattle.zy_chain.specs.Stretch.{Mark, head_in}
-use Rattle.zy_choose.specs.Reports.{PlainReport}
+use Rattle.zy_chain.specs.Stretch.{Mark}
 use Rattle.zy_admit.specs.Judging.{newer, entry_of}
 use Rattle.zy_frames.specs.declared.frame.OrderFrame.{OrderFrame}
 use Rattle.zy_exec.specs.declared.known.Known.{Known}
-use Rattle.zy_exec.specs.Replay.{Point, origin, answer_at, known_of}
-use Rattle.zy_exec.specs.Kept.{StandsFor, longer, now_of, known_in, stretch_of}
-use Rattle.zy_exec.proofs.ReplayLemmas.{place-along, head-along, clients_push}
-use Rattle.zy_exec.proofs.HistoryLemmas.{stands_leads, stands_run}
-use Rattle.zy_law.specs.Fixed.{IsCertified}
-use Rattle.zy_law.specs.Histories.{IsEntryAt, AreKept, Passes}
+use Rattle.zy_exec.specs.Replay.{Point, origin, known_of}
+use Rattle.zy_exec.specs.Kept.{longer, now_of, known_in}
+use Rattle.zy_exec.proofs.ReplayLemmas.{place-along, head-along}
+use Rattle.zy_exec.proofs.HistoryLemmas.{stands_leads}
+use Rattle.zy_law.specs.Histories.{IsEntryAt, AreKept}
 use Rattle.zy_law.specs.Lawful.{IsLawful, IsOrdered, IsAskedFor}
-use Rattle.zy_law.specs.Said.{IsCorrect, Says, Stood, Moment}
-use Rattle.zy_law.specs.Steps.{MaySay, MayStand, after_saying, after_standing, with_last}
-use Rattle.zy_law.specs.World.{Spoken, Stand, World}
-use Rattle.zy_law.specs.World.Statement.{Order, Spec, Local, Check, Change, Other}
+use Rattle.zy_law.specs.Said.{IsCorrect, Says, Moment}
+use Rattle.zy_law.specs.Steps.{MayStand, after_saying}
+use Rattle.zy_law.specs.World.{Spoken, World}
+use Rattle.zy_law.specs.World.Statement.{Order}
 use Rattle.zy_law.proofs.EntriesAskedFor.{entry_within, entry_longer, all_asked_for}
 use Rattle.zy_law.proofs.GrownLemmas.{each_item}
 use Rattle.zy_law.proofs.HistoryLemmas.{Passes-longer}
-use Rattle.zy_law.proofs.PastLemmas.{later_front}
-use Rattle.zy_law_normal.specs.Tied.{Agrees, IsOfClient, MayRun, MaySlotRun, IsStanding, AreOrdersUpTo, state_of}
-use Rattle.zy_law_normal.proofs.Own.{head_told}
-use Rattle.zy_law_normal.proofs.Records.{IsLastOf, IsRecord, records, last_of_next, entry_last, entry_before, entry_pushed, answer_longer}
-use Rattle.zy_table.specs.State.{State, own_view, is_leaving_mode}
+use Rattle.zy_law_normal.specs.Tied.{Agrees, MayRun, MaySlotRun, IsStanding, AreOrdersUpTo}
+use Rattle.zy_law_normal.proofs.Records.{IsLastOf, IsRecord, records, last_of_next, entry_last, entry_before}
+use Rattle.zy_table.specs.State.{State, own_view}
 
 -- ---- lists
-
-pub last_own : {A : Type 0} (lists : ℕ → List A) (of : ℕ) (x : A) → with_last lists of x of ≡ lists of ++ x ∷ []
-last_own lists of x = ap (λ (b : Bool). cond b (lists of ++ x ∷ []) (lists of)) (eq-eqb of of refl)
 
 kept_pushed : (kept : Digest → Entry → Bool) (next : Digest → Entry → Digest) (head : Digest) (es : List Entry) (e : Entry) → AreKept kept next head es → kept (fold next head es) e ≡ true
     → AreKept kept next head (es ++ e ∷ [])
@@ -135,159 +122,6 @@ module _ {S : Type 0} (R : Rules S) (w : World) (r : ℕ) (s : State S) (h : Lis
         ordered = orders;
       }
 
-  pub moving_runs : (b : Stand) (e : Entry) → MayRun w e → MayRun (after_standing w r b) e
-  moving_runs b e may = record { client = may.client; range = may.range; asked = may.asked }
-
-  -- and it stands there then
-  unfoldable pub standing_moved : (e : Entry) → IsOfClient e → IsStanding R (after_standing w r (record { view = own_view s; history = h ++ e ∷ [] })) r (record s { kept = longer s.kept e }) (h ++ e ∷ [])
-  standing_moved e client =
-      let b : Stand = record { view = own_view s; history = h ++ e ∷ [] } in
-      record {
-        me = x.me;
-        counts = x.counts;
-        signer = x.signer;
-        active = x.active;
-        number = x.number + 1;
-        stood = ap (λ (l : List Stand). slice_get l (x.number + 1)) (last_own w.past r b) ∙ ap (λ (i : ℕ). slice_get (w.past r ++ b ∷ []) i) x.last ∙ entry_pushed (w.past r) b;
-        last = omega (arith, x.last, ap (λ (l : List Stand). length l) (last_own w.past r b), length-append (w.past r) (b ∷ []));
-        stands = stands_run R s.kept h e x.stands;
-        clients = clients_push h e x.clients client;
-        left = x.left;
-        asks = slots_more w (after_standing w r b) (moving_runs b) s.orders.slots x.asks;
-      }
-
-  -- in another state of the same view that stands for the history, and keeps orders that may be run
-  unfoldable pub standing_as : (s' : State S) → s'.me ≡ s.me → s'.counts ≡ s.counts → s'.sealer.me ≡ s.sealer.me → s'.views.mode ≡ s.views.mode → StandsFor R s'.kept h → AllByRecursion (MaySlotRun w) s'.orders.slots → IsStanding R w r s' h
-  standing_as s' me counts signer mode stands slots =
-      let view : own_view s ≡ own_view s' = ap (λ (m : Mode). (view_of m).0) (sym mode) in
-      record {
-        me = ap (λ (id : ReplicaId). id.0) me ∙ x.me;
-        counts = counts ∙ x.counts;
-        signer = signer ∙ x.signer ∙ ap (λ (id : ReplicaId). Replica id) (sym me);
-        active = ap is_leaving_mode mode ∙ x.active;
-        number = x.number;
-        stood = subst (λ (v : ℕ). Stood w r x.number (record { view = v; history = h })) view x.stood;
-        last = x.last;
-        stands = stands;
-        clients = x.clients;
-        left = λ said y v report says what. subst (λ (u : ℕ). v ≤ u) view (x.left said y v report says what);
-        asks = slots;
-      }
-
-  pub saying_runs : (y : Spoken) (e : Entry) → MayRun w e → MayRun (after_saying w r y) e
-  saying_runs y e may = record { client = may.client; range = may.range; asked = may.asked }
-
-  -- after it said what is no leave
-  unfoldable pub standing_said : (y : Spoken) → ((view : ℕ) (report : PlainReport) → y.what ≡ Change view report → ⊥) → IsStanding R (after_saying w r y) r s h
-  standing_said y stays =
-      record {
-        me = x.me;
-        counts = x.counts;
-        signer = x.signer;
-        active = x.active;
-        number = x.number;
-        stood = x.stood;
-        last = x.last;
-        stands = x.stands;
-        clients = x.clients;
-        left = λ number z view report says what.
-            own_said w r y (λ z. z.what ≡ Change view report → view ≤ own_view s) (λ i z at is. x.left i z view report at is) (λ is. absurd (stays view report is)) number z says what;
-        asks = slots_more w (after_saying w r y) (saying_runs y) s.orders.slots x.asks;
-      }
-
-  -- it may answer a client's last entry
-  pub may_respond : (client : ℕ) (k : Known) → IsLastOf R h client k
-      → MaySay w r (record { what = Spec (own_view s) (record { place = k.place.0; head = k.head }) (record { client = client; stamp = k.stamp.0; reply = record { 0 = sha256 k.reply } }); when = x.number })
-  may_respond client k is =
-      let within = entry_within h k.place.0 is.entry is.there in
-      let long : length (take k.place.0 h) ≡ k.place.0 = length-take-le k.place.0 h within in
-      let front : answer_at R (take k.place.0 h) k.place.0 ≡ answer_at R h k.place.0 =
-      sym (ap (λ (es : List Entry). answer_at R es k.place.0) (sym (take-append-drop k.place.0 h)) ∙ answer_longer R (take k.place.0 h) (drop k.place.0 h) k.place.0 (omega arith)) in
-      let digest : Option (List ℕ) → Digest = λ o. record { 0 = sha256 (unwrap_or o []) } in
-      let reply : w.reply (take k.place.0 h) ≡ record { 0 = sha256 k.reply } =
-      ap (λ (f : List Entry → Digest). f (take k.place.0 h)) agrees.reply
-      ∙ ap (λ (n : ℕ). digest (answer_at R (take k.place.0 h) n)) long
-      ∙ ap digest (front ∙ is.reply) in
-      record {
-        now = x.last;
-        silence = λ number y view spoken report says what of. let same = same_Some (own_view s) spoken of in omega (arith, x.left number y view report says what);
-        told = record {
-          at = record {
-            stand = record { view = own_view s; history = h };
-            stood = x.stood;
-            view_is = refl;
-            passes = record { within = within; head = fold_is (take k.place.0 h) ∙ is.head };
-          };
-          answer = record { entry = is.entry; last = is.there; client = is.client_is; stamp = ap (λ (t : Stamp). t.0) is.stamp; reply = reply };
-        };
-      }
-
-  -- a primary may order an entry for the next place
-  pub may_order : (m : Mark) (request : Digest) → own_view s % w.counts.n ≡ r → AreOrdersUpTo w r (own_view s) (length h) → m.place ≡ length h + 1
-      → MaySay w r (record { what = Order (own_view s) m request; when = x.number })
-  may_order m request primary up next =
-      record {
-        now = x.last;
-        silence = λ number y view spoken report says what of. let same = same_Some (own_view s) spoken of in omega (arith, x.left number y view report says what);
-        told = record {
-          primary = primary;
-          place = omega arith;
-          first = λ number y k second says what same. absurd (omega (arith, up number y k second says what));
-          entries = λ at b stood view long.
-              let before : at ≤ x.number = let within = slice_get_within (w.past r) at b stood in omega (arith, x.last) in
-              let front = later_front w lawful r at x.number b (record { view = own_view s; history = h }) correct before stood x.stood view in
-              absurd (omega (arith, ap (λ (l : List Entry). length l) front.1, length-append b.history front.0));
-        };
-      }
-
-  -- the history passes a place where this is its head
-  pub passes_own : (place : ℕ) (head : Digest) → head_in (stretch_of s.kept) place ≡ Some head → Passes w.next h (record { place = place; head = head })
-  passes_own place head is =
-      let there = head_told R s.kept h x.stands place head is in
-      record { within = there.0; head = fold_is (take place h) ∙ there.1 }
-
-  -- it may commit its history up to a place that a commit certificate proves
-  pub may_commit : (view : ℕ) (m : Mark) → view ≡ own_view s → head_in (stretch_of s.kept) m.place ≡ Some m.head → IsCertified w view m → MaySay w r (record { what = Local view m; when = x.number })
-  may_commit view m current own certified =
-      record {
-        now = x.last;
-        silence = λ number y left spoken report says what of. let same = same_Some view spoken of in omega (arith, x.left number y left report says what);
-        told = record {
-          at = record {
-            stand = record { view = own_view s; history = h };
-            stood = x.stood;
-            view_is = sym current;
-            passes = passes_own m.place m.head own;
-          };
-          certified = certified;
-        };
-      }
-
-  -- and say the checkpoint there, which tells the own snapshot
-  pub may_check : (view : ℕ) (m : Mark) (state : Digest) → view ≡ own_view s → m.place ≤ length h → head_of (take m.place h) ≡ m.head → state_of R (take m.place h) ≡ state → IsCertified w view m
-      → MaySay w r (record { what = Check view m state; when = x.number })
-  may_check view m state current within head snapshot certified =
-      record {
-        now = x.last;
-        silence = λ number y left spoken report says what of. let same = same_Some view spoken of in omega (arith, x.left number y left report says what);
-        told = record {
-          vote = record {
-            at = record {
-              stand = record { view = own_view s; history = h };
-              stood = x.stood;
-              view_is = sym current;
-              passes = record { within = within; head = fold_is (take m.place h) ∙ head };
-            };
-            certified = certified;
-          };
-          snapshot = ap (λ (f : List Entry → Digest). f (take m.place h)) agrees.state ∙ snapshot;
-        };
-      }
-
-  -- and say things on which no safety rests
-  pub may_tell : MaySay w r (record { what = Other; when = x.number })
-  may_tell = record { now = x.last; silence = λ number y view spoken report says what of. absurd cc; told = tt }
-
   -- its earlier orders are of a longer history too
   pub orders_of_longer : (e : Entry) → AreOrdersUpTo w r (own_view s) (length h) → AreOrdersOf w r (own_view s) (h ++ e ∷ [])
   orders_of_longer e up said y m request says what far =
@@ -310,12 +144,6 @@ module _ {S : Type 0} (R : Rules S) (w : World) (r : ℕ) (s : State S) (h : Lis
         there = is.there;
         digest = ap (λ (f : Entry → Digest). f is.entry) agrees.digest ∙ ap digest_of_entry (sym last.1);
       }
-
--- orders after something was said
-pub up_to_said : (w : World) (r view place : ℕ) (y : Spoken) → ((m : Mark) (request : Digest) → y.what ≡ Order view m request → m.place ≤ place) → AreOrdersUpTo w r view place
-    → AreOrdersUpTo (after_saying w r y) r view place
-up_to_said w r view place y new up number z m request says what =
-    own_said w r y (λ z. z.what ≡ Order view m request → m.place ≤ place) (λ i z at is. up i z m request at is) (λ is. new m request is) number z says what
 
 pub orders_of_said : (w : World) (r view : ℕ) (history : List Entry) (y : Spoken) → ((m : Mark) (request : Digest) → y.what ≡ Order view m request → IsOrdered w history m request) → AreOrdersOf w r view history
     → AreOrdersOf (after_saying w r y) r view history

@@ -110,22 +110,3 @@ module _ {S : Type 0} (R : Rules S) (s : State S) (place : ℕ) (Q : Option OwnC
   pub kept_case : Q (own_at R s place)
   kept_case =
       by_parts (entry_in (stretch_of s.kept) place) (head_in (stretch_of s.kept) place) (reply_in R s.kept place) (state_in R s.kept place) refl refl refl
-
--- nothing is said of a place, or what the history has there
-pub own_case : {S : Type 0} (R : Rules S) (s : State S) (h : List Entry) → StandsFor R s.kept h → AllByRecursion IsOfClient h → (place : ℕ) (Q : Option OwnCheckpoint → Type 0) → Q None
-    → ((spec : Spec) (state : Digest) → IsOwnOf R (own_view s) s.kept h spec state → spec.place.0 ≡ place → head_in (stretch_of s.kept) place ≡ Some spec.head → Q (Some (own_with spec state)))
-    → Q (own_at R s place)
-own_case R s h stands clients place Q none some =
-    kept_case R s place Q none
-    (λ e head reply state at head_is state_is.
-    let told = state_told R s.kept h stands place state state_is in
-    some (spec_at (own_view s) place e head reply) state
-    (record {
-      view_is = refl;
-      above = told.0;
-      below = told.1.0;
-      head = (head_told R s.kept h stands place head head_is).1;
-      state_is = told.1.1;
-      client = client_told R s.kept h stands place e at clients;
-    })
-    refl head_is)

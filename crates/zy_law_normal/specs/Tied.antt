@@ -1,51 +1,34 @@
 -- How a replica's state is tied to what it said and where it stood.
-use Rattle.std.specs.Prelude.{◌≡◌, ◌⊎◌, ℕ, ◌+◌, ◌<◌, ◌≤◌, true, false, List, [], length, take, All, Option, Some, None, IfSome, unwrap_or, Contains, Ok}
+use Rattle.std.specs.Prelude.{◌≡◌, ◌⊎◌, ℕ, ◌+◌, ◌<◌, ◌≤◌, true, false, List, [], length, take, All, Option, Some, None, unwrap_or, Contains}
 use Rattle.std.specs.List.{AllByRecursion}
 use Rattle.sha2.specs.Sha256.{sha256}
 use Rattle.zy_base.specs.Machine.{Rules}
 use Rattle.zy_base.specs.declared.ids.Digest.{Digest}
 use Rattle.zy_base.specs.declared.ids.Party.{Party}
 use Rattle.zy_base.specs.declared.ids.Party.TheVariants.{Replica, Client}
-use Rattle.zy_base.specs.declared.ids.Place.{Place}
-use Rattle.zy_base.specs.declared.ids.View.{View}
-use Rattle.zy_base.specs.declared.step.Event.{Event}
-use Rattle.zy_base.specs.declared.step.Event.TheVariants.{Heard, Timer}
 use Rattle.zy_chain.specs.Entries.{IsEntryInRange, digest_of_entry}
 use Rattle.zy_chain.specs.Heads.{head_after, head_of}
 use Rattle.zy_chain.specs.Stretch.{Mark}
 use Rattle.zy_chain.specs.declared.entry.Entry.{Entry}
 use Rattle.zy_admit.specs.Judging.{entry_of}
-use Rattle.zy_cert.specs.Certificates.{certified}
-use Rattle.zy_cert.specs.Equal.{same_spec}
-use Rattle.zy_cert.specs.Points.{point_of_spec}
-use Rattle.zy_cert.specs.Signers.{AreDifferent}
 use Rattle.zy_change.specs.declared.kept.Certificate.{Certificate}
-use Rattle.zy_check.specs.Board.{Board, Round}
+use Rattle.zy_check.specs.Board.{Round}
 use Rattle.zy_check.specs.Votes.{IsRising}
 use Rattle.zy_exec.specs.Kept.{StandsFor}
 use Rattle.zy_exec.specs.Replay.{origin, along, answer_at}
 use Rattle.zy_exec.specs.Shots.{digest_of_snapshot}
 use Rattle.zy_exec.specs.Snapshot.{snapshot_of}
-use Rattle.zy_frames.specs.Frames.{frame_in, parts_of}
 use Rattle.zy_frames.specs.declared.frame.Frame.{Frame}
 use Rattle.zy_frames.specs.declared.frame.Frame.TheVariants as frames
 use Rattle.zy_frames.specs.declared.frame.OrderFrame.{OrderFrame}
-use Rattle.zy_law.specs.Fixed.{IsCertified}
-use Rattle.zy_law.specs.Lawful.{IsLawful, IsVote}
-use Rattle.zy_law.specs.Said.{IsCorrect, Says, Stood, IsVouched}
-use Rattle.zy_law.specs.World.{Answer, Spoken, Statement, World}
+use Rattle.zy_law.specs.Said.{Says, Stood, IsVouched}
+use Rattle.zy_law.specs.World.{Spoken, Statement, World}
 use Rattle.zy_law.specs.World.Statement.{Order, Change}
 use Rattle.zy_choose.specs.Reports.{PlainReport}
-use Rattle.zy_law_normal.specs.Acts.{spec_statement, check_statement}
 use Rattle.zy_parts.specs.declared.signed.Signed.{Signed}
 use Rattle.zy_parts.specs.declared.statements.Check.{Check}
 use Rattle.zy_parts.specs.declared.statements.Spec.{Spec}
-use Rattle.zy_seal.specs.Screening.{screen}
-use Rattle.zy_table.specs.Deeds.{gains_in}
-use Rattle.zy_table.specs.Roles.{in_role}
 use Rattle.zy_table.specs.State.{State, own_view, is_leaving}
-use Rattle.zy_table.specs.Step.{step}
-use Rattle.zy_table.specs.declared.deeds.Act.{Act}
 use Rattle.zy_table.specs.declared.deeds.Got.{Got}
 
 -- ---- heads, digests and replies of the law
@@ -91,23 +74,6 @@ abbrev pub IsVouchedBy : World → Statement → Party → Type 0
 IsVouchedBy w statement (Replica id) = IsVouched w statement id.0
 IsVouchedBy w statement (Client id) = ⊥
 
--- a response with its answer as the law reads it
-abbrev pub response_with : Answer → Spec → Statement
-response_with answer spec = Statement.Spec spec.view.0 (record { place = spec.place.0; head = spec.head }) answer
-
--- each response is of a replica that said so, or lies; equal ones are read with one answer
-pub record AreVouched (w : World) (specs : List (Signed Spec)) : Type 0 where
-  pub answer : Spec → Answer
-  pub each : AllByRecursion (λ spec. IsVouchedBy w (response_with (answer spec.stmt) spec.stmt) spec.by) specs
-
--- a response to a client that there may be is of a replica that said so, or lies
-abbrev pub IsResponseVouched : World → Signed Spec → Type 0
-IsResponseVouched w vote = vote.stmt.client.0 < 64 → IsVouchedBy w (spec_statement vote.stmt) vote.by
-
--- and so is a checkpoint
-abbrev pub IsCheckVouched : World → Signed Check → Type 0
-IsCheckVouched w vote = IsVouchedBy w (check_statement vote.stmt) vote.by
-
 -- ---- the tie
 
 -- A replica stands in the world where its state says: in its view, with a history that it stands for.
@@ -133,25 +99,11 @@ abbrev pub AreOrdersUpTo : World → ℕ → ℕ → ℕ → Type 0
 AreOrdersUpTo w r view place =
     (said : ℕ) (x : Spoken) (m : Mark) (request : Digest) → Says w r said x → x.what ≡ Order view m request → m.place ≤ place
 
-abbrev pub point_at : ℕ → Place → Digest → View × Place × Digest
-point_at view place head = (record { 0 = view }, place, head)
-
--- the responses certify the place of a history in the view, and so the law says
-pub record IsBackedIn (w : World) (view : ℕ) (certificate : Certificate) : Type 0 where
-  pub head : Digest
-  pub proves : certified same_spec point_of_spec w.counts.cert certificate.specs ≡ Ok (point_at view certificate.place head)
-  pub backed : IsCertified w view (record { place = certificate.place.0; head = head })
-
 -- a certificate is held, of this place or one further on
 pub record IsHeldFrom (held : Option Certificate) (place : ℕ) : Type 0 where
   pub certificate : Certificate
   pub is : held ≡ Some certificate
   pub far : place ≤ certificate.place.0
-
--- the certificate that it holds is of the view, and at least as far as each local commit and checkpoint that it said there
-pub record IsCommitted (w : World) (r view : ℕ) (held : Option Certificate) : Type 0 where
-  pub backed : IfSome held (IsBackedIn w view)
-  pub far : (said : ℕ) (x : Spoken) (m : Mark) → Says w r said x → IsVote view m x.what → IsHeldFrom held m.place
 
 -- ---- what is kept of responses and checkpoints
 
@@ -162,75 +114,29 @@ pub record IsRoundOf (V : Signed Spec → Type 0) (C : Signed Check → Type 0) 
   pub checks : All C round.checks
   pub checks_rise : IsRising round.checks
 
--- it may be counted
-abbrev pub IsRoundVouched : World → Round → Type 0
-IsRoundVouched w round = IsRoundOf (IsResponseVouched w) (IsCheckVouched w) round
-
--- so many different replicas prove a checkpoint, each of which said it, or lies
-pub record IsProven (w : World) (check : Check) (proof : List (Signed Check)) : Type 0 where
-  pub many : length proof ≡ w.counts.local
-  pub equal : All (λ vote. vote.stmt ≡ check) proof
-  pub different : AreDifferent proof
-  pub vouched : All (IsCheckVouched w) proof
-
--- the stable checkpoint is that of the empty history, or it is proven
-abbrev pub IsStable : World → Board → Type 0
-IsStable w board = (board.stable.place.0 ≡ 0) ⊎ IsProven w board.stable board.proof
-
 -- a checkpoint tells the head and the snapshot of a history's first entries
 pub record IsCheckpointOf {S : Type 0} (R : Rules S) (history : List Entry) (check : Check) : Type 0 where
   pub within : check.place.0 ≤ length history
   pub head : head_of (take check.place.0 history) ≡ check.head
   pub state : state_of R (take check.place.0 history) ≡ check.state
 
-pub record IsBoardTied {S : Type 0} (R : Rules S) (w : World) (history : List Entry) (board : Board) : Type 0 where
-  pub near : IsRoundVouched w board.near
-  pub far : IsRoundVouched w board.far
-  pub stable : IsStable w board
-  pub own : IsCheckpointOf R history board.stable
-
-pub record IsTied {S : Type 0} (R : Rules S) (w : World) (r : ℕ) (s : State S) (history : List Entry) : Type 0 where
-  pub standing : IsStanding R w r s history
-  pub ordered : AreOrdersUpTo w r (own_view s) (length history)
-  pub committed : IsCommitted w r (own_view s) s.views.specs
-  pub board : IsBoardTied R w history s.board
-
 -- ---- what an event brings
 
+-- a frame by which no view ends: an order may differ from the kept one of its place
+abbrev pub IsNormal : Frame → Type 0
+IsNormal (frames.Order both) = ⊥
+IsNormal (frames.Hate vote) = ⊥
+IsNormal (frames.Pom first second) = ⊥
+IsNormal _ = Unit {0}
+
+-- the request of a frame may be run
 abbrev pub MayFrameRun : World → Frame → Type 0
 MayFrameRun w (frames.Request ask) = MayRun w (entry_of ask)
 MayFrameRun w (frames.Order both) = MayRun w (entry_of both.ask)
-MayFrameRun w (frames.SpecResponse spec reply with_order) = IsResponseVouched w spec
-MayFrameRun w (frames.Commit specs) = AreVouched w specs
 MayFrameRun w (frames.ConfirmReq confirm ask) = MayRun w (entry_of ask)
-MayFrameRun w (frames.Checkpoint check) = IsCheckVouched w check
 MayFrameRun w _ = Unit {0}
-
--- the requests of a verified frame may be run, and its responses and its checkpoint counted
-abbrev pub MayEventRun : {S : Type 0} → World → State S → Event → Type 0
-MayEventRun w s (Heard bytes) =
-    (frame : Frame) → frame_in bytes ≡ Ok frame → screen s.keys (parts_of frame) ≡ None → in_role s frame ≡ true → MayFrameRun w frame
-MayEventRun w s (Timer kind) = Unit {0}
 
 -- a gained entry may run, and leads from the head before it to the head after it
 pub record IsGained (w : World) (got : Got) : Type 0 where
   pub run : MayRun w got.entry
   pub head : got.head ≡ next_head got.before got.entry
-
--- the text of the link by which an entry was gained is kept
-abbrev pub IsLinkKept : World → Got → Type 0
-IsLinkKept w got = w.kept got.before got.entry ≡ true
-
-abbrev pub AreLinksKept : World → List Act → Type 0
-AreLinksKept w acts = AllByRecursion (IsLinkKept w) (gains_in acts)
-
--- A correct replica, tied to a lawful world with a history, meets an event: its requests are signed by clients that asked
--- or lie, its responses and checkpoints by replicas that said them or lie, and the texts of the entries that it runs are
--- kept.
-pub record IsHonestStep {S : Type 0} (R : Rules S) (w : World) (r : ℕ) (s : State S) (history : List Entry) (event : Event) : Type 0 where
-  pub lawful : IsLawful w
-  pub agrees : Agrees R w
-  pub correct : IsCorrect w r
-  pub tied : IsTied R w r s history
-  pub asks : MayEventRun w s event
-  pub links : AreLinksKept w (step R s event).deeds.acts

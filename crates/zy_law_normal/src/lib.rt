@@ -1,11 +1,9 @@
-//! Each step of normal operation, as the answer table has it, is lawful. The crate has no code: its functions are laws, which have no argument and do
-//! nothing, and whose contracts speak of all worlds and all replicas.
+//! What the laws of steps share: a step's deeds as acts of the law, and what the rows of normal operation can come to. The crate has no code: its
+//! functions are laws, which have no argument and do nothing, and whose contracts speak of all worlds and all replicas.
 #![tactic(auto)]
 
 mod example;
-mod steps;
 mod ties;
 
 pub use example::a_first_request;
-pub use steps::{gained_entries, lawful_steps, refusals};
-pub use ties::{acts_told, ties_hold};
+pub use ties::acts_told;

@@ -1,31 +1,11 @@
-ghost use Rattle.std.specs.Prelude.{◌≡◌, ◌≢◌, ◌+◌, Bool, List, [], map, ℕ};
-ghost use Rattle.zy_base.specs.declared.counts.Counts.{Counts};
-ghost use Rattle.zy_base.specs.declared.ids.Digest.{Digest};
+ghost use Rattle.std.specs.Prelude.{◌≡◌, ◌+◌, List, map, ℕ};
 ghost use Rattle.zy_base.specs.declared.ids.Party.{Party};
-ghost use Rattle.zy_base.specs.declared.ids.Party.TheVariants.{Replica};
-ghost use Rattle.zy_base.specs.declared.ids.ReplicaId.{ReplicaId};
 ghost use Rattle.zy_chain.specs.declared.entry.Entry.{Entry};
-ghost use Rattle.zy_law.specs.Said.{IsCorrect};
-ghost use Rattle.zy_law.specs.Steps as law;
-ghost use Rattle.zy_law.specs.Steps.{IsGrown, IsStart, after_acts, grown};
-ghost use Rattle.zy_law.specs.World.{Spoken, Stand, World};
+ghost use Rattle.zy_law.specs.Steps.{after_acts, grown};
+ghost use Rattle.zy_law.specs.World.{World};
 ghost use Rattle.zy_law_normal.specs.Acts.{law_acts, spoken_in, stands_in, with_more};
-ghost use Rattle.zy_law_normal.specs.Tied.{IsTied};
-ghost use Rattle.zy_seal.specs.Keys.{Keys};
-ghost use Rattle.zy_seal.specs.Sealing.{SealerState};
 ghost use Rattle.zy_table.specs.Deeds.{said_from};
-ghost use Rattle.zy_table.specs.State.{State, start_of};
 ghost use Rattle.zy_table.specs.declared.deeds.Act.{Act};
-
-use zy_base::Machine;
-
-/// A replica that begins, and signs as itself, is tied to a world that begins, with the empty history. The tie holds as clients ask for more,
-/// more texts are kept, and other replicas act.
-pub fn ties_hold<M: Machine>()
-    ensures start { (w : World) (r interval : ℕ) (me : ReplicaId) (counts : Counts) (keys : Keys) (sealer : SealerState) → IsStart w → IsCorrect w r → me.0 ≡ r → counts ≡ w.counts → sealer.me ≡ Replica me → IsTied M.rules w r (start_of M.rules interval me counts keys sealer) [] }
-    ensures grows { (w : World) (r : ℕ) (s : State M.State) (h : List Entry) (asked : ℕ → List Entry) (said : ℕ → List Spoken) (past : ℕ → List Stand) (kept : Digest → Entry → Bool) → IsGrown w asked said past kept → said r ≡ w.said r → past r ≡ w.past r → IsTied M.rules w r s h → IsTied M.rules (grown w asked said past kept) r s h }
-    ensures others { (w : World) (r other : ℕ) (s : State M.State) (h : List Entry) (acts : List law.Act) → r ≢ other → IsTied M.rules w r s h → IsTied M.rules (after_acts w other acts) r s h }
-{}
 
 /// The world after a replica's acts has longer lists of what it said and where it stood, and is else as before. Each
 /// statement has the number of the last stand before the step, and one more for each entry that was executed and each view

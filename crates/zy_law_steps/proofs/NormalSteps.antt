@@ -1,56 +1,45 @@
--- Each step of a replica that stays in its view is lawful, whichever view that is, and also while it leaves one.
-use Rattle.std.proofs.Common.{◌≡◌, ℕ, true, List, [], ◌∷◌, Option, Some, None, Ok, Err, refl, sym, ap, subst}
-use Rattle.std.specs.Prelude.{All, Result, nat_lt}
+-- Each row by which a replica stays in its view is lawful, whichever view that is, and also while it leaves one.
+use Rattle.std.proofs.Common.{◌≡◌, ℕ, true, List, [], ◌∷◌, Option, Some, None, refl, sym, ap, subst}
+use Rattle.std.specs.Prelude.{All, nat_lt}
 use Rattle.zy_base.specs.Machine.{Rules}
 use Rattle.zy_base.specs.declared.cause.Cause.{Cause}
 use Rattle.zy_base.specs.declared.cause.Cause.TheVariants as causes
-use Rattle.zy_base.specs.declared.frame_fault.FrameFault.{FrameFault}
 use Rattle.zy_base.specs.declared.ids.View.{View}
-use Rattle.zy_base.specs.declared.step.Answer.{Answer}
-use Rattle.zy_base.specs.declared.step.Answer.TheVariants.{Refused, Taken}
-use Rattle.zy_base.specs.declared.step.Event.{Event}
-use Rattle.zy_base.specs.declared.step.Event.TheVariants as events
 use Rattle.zy_base.specs.declared.step.Mode.{Mode}
 use Rattle.zy_base.specs.declared.step.Mode.TheVariants.{Active, Leaving}
-use Rattle.zy_base.specs.declared.step.TimerKind.{TimerKind}
-use Rattle.zy_base.specs.declared.step.TimerKind.TheVariants as timers
-use Rattle.zy_admit.specs.Judging.{entry_of, judge_in}
+use Rattle.zy_admit.specs.Judging.{entry_of}
 use Rattle.zy_admit.specs.declared.judging.Admit.{Admit}
 use Rattle.zy_chain.specs.declared.entry.Entry.{Entry}
 use Rattle.zy_check.specs.Board.{Board}
-use Rattle.zy_frames.specs.Frames.{frame_in, parts_of}
 use Rattle.zy_frames.specs.declared.frame.Frame.{Frame}
 use Rattle.zy_frames.specs.declared.frame.Frame.TheVariants as frames
 use Rattle.zy_frames.specs.declared.frame.OrderFrame.{OrderFrame}
 use Rattle.zy_law.specs.World.{World}
-use Rattle.zy_law_normal.proofs.Cases.{Cases, IsPut, decoded_case}
+use Rattle.zy_law_normal.proofs.Cases.{Cases, IsPut, row_case}
 use Rattle.zy_law_normal.proofs.Own.{by_test}
-use Rattle.zy_law_normal.specs.Tied.{MayRun}
+use Rattle.zy_law_normal.specs.Tied.{IsNormal, MayRun}
 use Rattle.zy_parts.specs.declared.signed.Signed.{Signed}
 use Rattle.zy_parts.specs.declared.statements.Ask.{Ask}
 use Rattle.zy_parts.specs.declared.statements.Confirm.{Confirm}
-use Rattle.zy_parts.specs.declared.statements.Hole.{Hole}
 use Rattle.zy_parts.specs.declared.statements.Spec.{Spec}
-use Rattle.zy_seal.specs.Screening.{screen}
 use Rattle.zy_table.specs.Confirms.{confirm}
 use Rattle.zy_table.specs.Deeds.{Outcome, refused}
-use Rattle.zy_table.specs.Holes.{ask_again}
-use Rattle.zy_table.specs.Orders.{order, order_as, position_of}
+use Rattle.zy_table.specs.Orders.{order_as, position_of}
 use Rattle.zy_table.specs.Requests.{request}
-use Rattle.zy_table.specs.Roles.{in_role, view_cause}
+use Rattle.zy_table.specs.Roles.{view_cause}
 use Rattle.zy_table.specs.State.{State, is_leaving, is_leaving_mode, own_view}
-use Rattle.zy_table.specs.Step.{commit_in_view, decoded, hear, row, step, timer, unless}
-use Rattle.zy_table.specs.declared.deeds.Sent.{Sent}
+use Rattle.zy_table.specs.Whole.{commit_in_view, order, plain_row, unless}
 use Rattle.zy_law_views.specs.Held.{IsHeldPart}
 use Rattle.zy_law_views.specs.Texts.{Texts}
 use Rattle.zy_law_views.specs.Told.{check_told, order_told, response_told}
 use Rattle.zy_law_views.specs.Rows.{IsReady}
 use Rattle.zy_law_views.specs.Steps.{IsLawfulStep, IsWorldOf}
-use Rattle.zy_law_views.proofs.Admitted.{IsPlaced, placed}
+use Rattle.zy_law_views.proofs.Admitted.{IsPlaced}
+use Rattle.zy_law_views.proofs.Adopting.{refuses}
 use Rattle.zy_law_views.proofs.Requested.{RoomCases, RunCases, confirm_row, order_admitted, request_row}
 use Rattle.zy_law_steps.proofs.Rows as rows
 use Rattle.zy_law_steps.proofs.Rows.{Goes, done}
-use Rattle.zy_law_steps.specs.Heard.{IsEventHeld, IsFrameHeld}
+use Rattle.zy_law_steps.specs.Heard.{IsFrameHeld}
 use Rattle.zy_law_views.specs.Work.{IsAtWork}
 use Rattle.zy_law_steps.specs.Gains.{AreGainsKept}
 
@@ -81,24 +70,20 @@ module _ {S : Type 0} (R : Rules S) (s : State S) (leaving : is_leaving s ≡ tr
   commit_refused [] = refused_is (causes.TooFew 0)
   commit_refused (first ∷ others) = out_of_view first.stmt.view.0 _
 
-  pub row_refused : (frame : Frame) → IsRefused (row R s frame)
-  row_refused (frames.Request ask) = request_refused ask
-  row_refused (frames.Order both) = out_of_view both.order.stmt.view.0 (order R s both)
-  row_refused (frames.SpecResponse spec reply with_order) = out_of_view spec.stmt.view.0 _
-  row_refused (frames.Commit specs) = commit_refused specs
-  row_refused (frames.LocalCommit local) = refused_is causes.WrongRole
-  row_refused (frames.ConfirmReq confirmed ask) = out_of_view confirmed.stmt.view.0 _
-  row_refused (frames.FillHole hole) = out_of_view hole.stmt.view.0 _
-  row_refused (frames.Hate hate) = refused_is causes.WrongRole
-  row_refused (frames.Pom first second) = refused_is causes.WrongRole
-  row_refused (frames.Checkpoint check) = out_of_view check.stmt.view.0 _
+  pub row_refused : (frame : Frame) → IsNormal frame → IsRefused (plain_row R s frame)
+  row_refused (frames.Request ask) normal = request_refused ask
+  row_refused (frames.SpecResponse spec reply with_order) normal = out_of_view spec.stmt.view.0 _
+  row_refused (frames.Commit specs) normal = commit_refused specs
+  row_refused (frames.LocalCommit local) normal = refused_is causes.WrongRole
+  row_refused (frames.ConfirmReq confirmed ask) normal = out_of_view confirmed.stmt.view.0 _
+  row_refused (frames.FillHole hole) normal = out_of_view hole.stmt.view.0 _
+  row_refused (frames.Checkpoint check) normal = out_of_view check.stmt.view.0 _
+  row_refused (frames.Order both) normal = absurd normal
+  row_refused (frames.Hate vote) normal = absurd normal
+  row_refused (frames.Pom first second) normal = absurd normal
 
-  hear_refused : (frame : Frame) → IsRefused (hear R s frame)
-  hear_refused frame = by_test IsRefused (in_role s frame) (row R s frame) (refused causes.WrongRole s) (λ role. row_refused frame) (λ wrong. refused_is causes.WrongRole)
-
-  pub read_refused : (read : Result Frame FrameFault) → IsRefused (decoded R s read)
-  read_refused (Err fault) = refused_is (causes.NotFrame fault)
-  read_refused (Ok frame) = unless_case s IsRefused refused_is (screen s.keys (parts_of frame)) (hear R s frame) (λ verified. hear_refused frame)
+  pub order_refused : (both : OrderFrame) → IsRefused (plain_row R s (frames.Order both))
+  order_refused both = out_of_view both.order.stmt.view.0 (order R s both)
 
 -- ---- what it does while it is active
 
@@ -144,10 +129,6 @@ module _ {S : Type 0} (R : Rules S) (interval : ℕ) (texts : Texts) (w : World)
         (λ room. rows.asks R interval texts w r s h ready kept work view active o may held room.above room.below)
         (λ room. rows.holds_order R interval texts w r s h ready kept work view active o may held room.above room.below)
 
-    order_does : (o : OrderFrame) → MayRun w (entry_of o.ask) → IsHeldPart w order_told o.order → Does (order R s o)
-    unfolding order
-    order_does o may held = admitted_does o may held (judge_in s.orders o.order.stmt o.ask (position_of R s o)) (placed o.order.stmt o.ask (position_of R s o) s.orders)
-
     is_put : (board : Board) → IsPut s (IsVoteHeld w) board → IsPut s (IsFrameHeld w) board
     is_put board (IsPut.new_spec vote reply with_order heard new is) = IsPut.new_spec vote reply with_order heard new is
     is_put board (IsPut.new_check vote heard new is) = IsPut.new_check vote heard new is
@@ -160,94 +141,43 @@ module _ {S : Type 0} (R : Rules S) (interval : ℕ) (texts : Texts) (w : World)
           responds = λ ask known is left. run_cases.responds ask known is;
           orders = λ ask heard primary new left. absurd heard;
           waits = λ ask left. run_cases.waits ask;
-          takes = λ o heard new left. absurd heard;
-          asks = λ o heard left. absurd heard;
-          holds = λ o heard. absurd heard;
           commits = λ specs client local said held heard own furthest left. rows.commits R interval texts w r s h ready kept work view active specs local held heard own furthest client said;
           keeps = λ board put. rows.keeps_board R interval texts w r s h ready kept work view active board (is_put board put);
           gathers = λ place board put left. rows.looks_through R interval texts w r s h ready kept work view active place board (is_put board put);
           confirms = λ confirm ask heard. absurd heard;
         }
 
-    -- a frame by what it is, once its signatures are verified and its signers have their roles
-    hear_does : (frame : Frame) → (screen s.keys (parts_of frame) ≡ None → in_role s frame ≡ true → Does (row R s frame)) → Does (decoded R s (Ok frame))
-    hear_does frame does =
-        unless_case s Does run_cases.refuses (screen s.keys (parts_of frame)) (hear R s frame)
-        (λ verified. by_test Does (in_role s frame) (row R s frame) (refused causes.WrongRole s) (λ role. does verified role) (λ wrong. run_cases.refuses causes.WrongRole))
-
     in_view : (frame_view : ℕ) (o : Outcome S) → Does o → Does (unless (view_cause s frame_view) s o)
     in_view frame_view o does = unless_case s Does run_cases.refuses (view_cause s frame_view) o (λ current. does)
 
-    votes_do : (frame : Frame) → ((other : Frame) → ◌≡◌ {A = Result Frame FrameFault} (Ok frame) (Ok other) → screen s.keys (parts_of other) ≡ None → in_role s other ≡ true → IsVoteHeld w other) → Does (decoded R s (Ok frame))
-    votes_do frame heard = decoded_case R s (IsVoteHeld w) Does vote_cases (Ok frame) heard
+    votes_do : (frame : Frame) → IsNormal frame → IsVoteHeld w frame → Does (plain_row R s frame)
+    votes_do frame normal heard = row_case R s (IsVoteHeld w) Does vote_cases frame normal heard
 
-    same_frame : (P : Frame → Type 0) (frame other : Frame) → ◌≡◌ {A = Result Frame FrameFault} (Ok frame) (Ok other) → P frame → P other
-    same_frame P frame other is holds = let same : frame ≡ other = cc in subst P same holds
+    row_does : (frame : Frame) → IsNormal frame → IsFrameHeld w frame → Does (plain_row R s frame)
+    row_does (frames.Request ask) normal heard = request_does ask heard
+    row_does (frames.ConfirmReq confirmed ask) normal heard = in_view confirmed.stmt.view.0 (confirm R s confirmed ask) (confirm_does confirmed ask heard)
+    row_does (frames.SpecResponse spec reply with_order) normal heard = votes_do (frames.SpecResponse spec reply with_order) tt heard
+    row_does (frames.Commit specs) normal heard = votes_do (frames.Commit specs) tt heard
+    row_does (frames.Checkpoint check) normal heard = votes_do (frames.Checkpoint check) tt heard
+    row_does (frames.LocalCommit local) normal heard = votes_do (frames.LocalCommit local) tt heard
+    row_does (frames.FillHole hole) normal heard = votes_do (frames.FillHole hole) tt heard
+    row_does (frames.Order both) normal heard = absurd normal
+    row_does (frames.Hate vote) normal heard = absurd normal
+    row_does (frames.Pom first second) normal heard = absurd normal
 
-    frame_does : (frame : Frame) → (screen s.keys (parts_of frame) ≡ None → in_role s frame ≡ true → IsFrameHeld w frame) → Does (decoded R s (Ok frame))
-    frame_does (frames.Request ask) heard = hear_does (frames.Request ask) (λ verified role. request_does ask (heard verified role))
-    frame_does (frames.Order both) heard = hear_does (frames.Order both) (λ verified role. in_view both.order.stmt.view.0 (order R s both) (let may = heard verified role in order_does both may.0 may.1))
-    frame_does (frames.ConfirmReq confirmed ask) heard =
-        hear_does (frames.ConfirmReq confirmed ask) (λ verified role. in_view confirmed.stmt.view.0 (confirm R s confirmed ask) (confirm_does confirmed ask (heard verified role)))
-    frame_does (frames.SpecResponse spec reply with_order) heard =
-        votes_do (frames.SpecResponse spec reply with_order) (λ other is. same_frame (λ f. screen s.keys (parts_of f) ≡ None → in_role s f ≡ true → IsVoteHeld w f) (frames.SpecResponse spec reply with_order) other is heard)
-    frame_does (frames.Commit specs) heard =
-        votes_do (frames.Commit specs) (λ other is. same_frame (λ f. screen s.keys (parts_of f) ≡ None → in_role s f ≡ true → IsVoteHeld w f) (frames.Commit specs) other is heard)
-    frame_does (frames.Checkpoint check) heard =
-        votes_do (frames.Checkpoint check) (λ other is. same_frame (λ f. screen s.keys (parts_of f) ≡ None → in_role s f ≡ true → IsVoteHeld w f) (frames.Checkpoint check) other is heard)
-    frame_does (frames.LocalCommit local) heard =
-        votes_do (frames.LocalCommit local) (λ other is. same_frame (λ f. screen s.keys (parts_of f) ≡ None → in_role s f ≡ true → IsVoteHeld w f) (frames.LocalCommit local) other is heard)
-    frame_does (frames.FillHole hole) heard =
-        votes_do (frames.FillHole hole) (λ other is. same_frame (λ f. screen s.keys (parts_of f) ≡ None → in_role s f ≡ true → IsVoteHeld w f) (frames.FillHole hole) other is heard)
-    frame_does (frames.Hate vote) heard =
-        votes_do (frames.Hate vote) (λ other is. same_frame (λ f. screen s.keys (parts_of f) ≡ None → in_role s f ≡ true → IsVoteHeld w f) (frames.Hate vote) other is heard)
-    frame_does (frames.Pom first second) heard =
-        votes_do (frames.Pom first second) (λ other is. same_frame (λ f. screen s.keys (parts_of f) ≡ None → in_role s f ≡ true → IsVoteHeld w f) (frames.Pom first second) other is heard)
+  -- ---- while it leaves one, nothing changes
 
-    read_does : (read : Result Frame FrameFault) → ((frame : Frame) → read ≡ Ok frame → screen s.keys (parts_of frame) ≡ None → in_role s frame ≡ true → IsFrameHeld w frame) → Does (decoded R s read)
-    read_does (Err fault) heard = run_cases.refuses (causes.NotFrame fault)
-    read_does (Ok frame) heard = frame_does frame (heard frame refl)
+  leaving_lawful : is_leaving s ≡ true → (frame : Frame) → IsNormal frame → IsLawfulStep R interval texts w r s h (plain_row R s frame)
+  leaving_lawful leaving frame normal =
+      let is = row_refused R s leaving frame normal in
+      subst (λ (o : Outcome S). IsLawfulStep R interval texts w r s h o) (sym is.1) (refuses R interval texts w r s h ready kept is.0)
 
-    pub active_lawful : (read : Result Frame FrameFault) → ((frame : Frame) → read ≡ Ok frame → screen s.keys (parts_of frame) ≡ None → in_role s frame ≡ true → IsFrameHeld w frame)
-        → AreGainsKept w texts (decoded R s read).deeds.acts → IsLawfulStep R interval texts w r s h (decoded R s read)
-    active_lawful read heard gains = done R interval texts w r s h ready kept work view active (decoded R s read) (read_does read heard) gains
+  row_in : (mode : Mode) → s.views.mode ≡ mode → (frame : Frame) → IsNormal frame → IsFrameHeld w frame → AreGainsKept w texts (plain_row R s frame).deeds.acts → IsLawfulStep R interval texts w r s h (plain_row R s frame)
+  row_in (Active view) is frame normal held gains = done R interval texts w r s h ready kept work view is (plain_row R s frame) (row_does view is frame normal held) gains
+  row_in (Leaving view) is frame normal held gains = leaving_lawful (ap is_leaving_mode is) frame normal
 
-  -- ---- while it leaves one, and by its timers, nothing changes
-
-  at_rest : (answer : Answer) (sent : List Sent) → IsLawfulStep R interval texts w r s h (record { answer = answer; state = s; deeds = record { sent = sent; acts = [] } })
-  at_rest answer sent = record { may = tt; tied = ready.tied; world = kept; signer = ready.signer; interval_is = ready.interval_is; gained = tt; works = λ before. before }
-
-  leaving_lawful : is_leaving s ≡ true → (read : Result Frame FrameFault) → IsLawfulStep R interval texts w r s h (decoded R s read)
-  leaving_lawful leaving read =
-      let is = read_refused R s leaving read in
-      subst (λ (o : Outcome S). IsLawfulStep R interval texts w r s h o) (sym is.1) (at_rest (Refused is.0) [])
-
-  -- ---- a step
-
-  read_in : (mode : Mode) → s.views.mode ≡ mode → (read : Result Frame FrameFault)
-      → ((frame : Frame) → read ≡ Ok frame → screen s.keys (parts_of frame) ≡ None → in_role s frame ≡ true → IsFrameHeld w frame) → AreGainsKept w texts (decoded R s read).deeds.acts
-      → IsLawfulStep R interval texts w r s h (decoded R s read)
-  read_in (Active view) is read held gains = active_lawful view is read held gains
-  read_in (Leaving view) is read held gains = leaving_lawful (ap is_leaving_mode is) read
-
-  pub read_lawful : (read : Result Frame FrameFault) → ((frame : Frame) → read ≡ Ok frame → screen s.keys (parts_of frame) ≡ None → in_role s frame ≡ true → IsFrameHeld w frame)
-      → AreGainsKept w texts (decoded R s read).deeds.acts → IsLawfulStep R interval texts w r s h (decoded R s read)
-  read_lawful = read_in s.views.mode refl
-
-  asks_again : (mode : Mode) (hole : Option (Signed Hole)) → IsLawfulStep R interval texts w r s h (ask_again s mode hole)
-  asks_again (Active view) (Some hole) = at_rest Taken (ask_again s (Active view) (Some hole)).deeds.sent
-  asks_again (Active view) None = at_rest Taken []
-  asks_again (Leaving view) hole = at_rest Taken []
-
-  timer_lawful : (kind : TimerKind) → IsLawfulStep R interval texts w r s h (timer s kind)
-  timer_lawful timers.Request = asks_again s.views.mode s.hole
-  timer_lawful timers.Change = at_rest Taken []
-  timer_lawful timers.Answer = at_rest Taken []
-
-  pub step_lawful : (event : Event) → IsEventHeld w s event → AreGainsKept w texts (step R s event).deeds.acts → IsLawfulStep R interval texts w r s h (step R s event)
-  unfolding step
-  step_lawful (events.Heard bytes) held gains = read_lawful (frame_in bytes) held gains
-  step_lawful (events.Timer kind) held gains = timer_lawful kind
+  pub row_lawful : (frame : Frame) → IsNormal frame → IsFrameHeld w frame → AreGainsKept w texts (plain_row R s frame).deeds.acts → IsLawfulStep R interval texts w r s h (plain_row R s frame)
+  row_lawful = row_in s.views.mode refl
 
   -- ---- rows
 
@@ -257,9 +187,6 @@ module _ {S : Type 0} (R : Rules S) (interval : ℕ) (texts : Texts) (w : World)
 
     pub confirm_lawful : (confirmed : Signed Confirm) (ask : Signed Ask) → MayRun w (entry_of ask) → AreGainsKept w texts (confirm R s confirmed ask).deeds.acts → IsLawfulStep R interval texts w r s h (confirm R s confirmed ask)
     confirm_lawful confirmed ask may gains = done R interval texts w r s h ready kept work view active (confirm R s confirmed ask) (confirm_does view active confirmed ask may) gains
-
-    pub order_lawful : (o : OrderFrame) → MayRun w (entry_of o.ask) → IsHeldPart w order_told o.order → AreGainsKept w texts (order R s o).deeds.acts → IsLawfulStep R interval texts w r s h (order R s o)
-    order_lawful o may held gains = done R interval texts w r s h ready kept work view active (order R s o) (order_does view active o may held) gains
 
     pub order_as_lawful : (o : OrderFrame) → MayRun w (entry_of o.ask) → IsHeldPart w order_told o.order → (a : Admit) → IsPlaced o.order.stmt o.ask (position_of R s o) a → AreGainsKept w texts (order_as R s o a).deeds.acts → IsLawfulStep R interval texts w r s h (order_as R s o a)
     order_as_lawful o may held a is gains = done R interval texts w r s h ready kept work view active (order_as R s o a) (admitted_does view active o may held a is) gains

@@ -191,10 +191,6 @@ module _ {S : Type 0} (R : Rules S) (interval : ℕ) (texts : Texts) (w : World)
 
   -- ---- an order
 
-  -- the end of the history isn't below the stable place
-  end_is : last_place s.kept ≡ length h
-  end_is = stands_end R s.kept h ready.tied.standing.stands
-
   base_low : s.orders.base ≤ last_place s.kept
   base_low = omega (arith, work.based)
 

@@ -49,8 +49,9 @@ use Rattle.zy_frames.specs.Frames as plain
 use Rattle.zy_frames.specs.declared.frame.Frame.{Frame}
 use Rattle.zy_frames.specs.declared.frame.Frame.TheVariants as frames
 use Rattle.zy_frames.specs.declared.frame.OrderFrame.{OrderFrame}
-use Rattle.zy_law_normal.proofs.Cases.{Cases, decoded_case, with_held}
+use Rattle.zy_law_normal.proofs.Cases.{Cases, row_case, with_held}
 use Rattle.zy_law_normal.proofs.Committed.{holding}
+use Rattle.zy_law_normal.specs.Tied.{IsNormal}
 use Rattle.zy_law_normal.proofs.Follow.{Keeps, gather_at_keeps, one_keeps}
 use Rattle.zy_law_normal.proofs.Own.{by_test}
 use Rattle.zy_parts.specs.declared.reports.Began.{Began}
@@ -82,8 +83,7 @@ use Rattle.zy_table.specs.Roles.{in_role, view_cause}
 use Rattle.zy_table.specs.Running.{fits_end, run, run_held, run_one, signs_of}
 use Rattle.zy_table.specs.State.{State, leaves_of}
 use Rattle.zy_table.specs.State as table
-use Rattle.zy_table.specs.Step.{decoded, unless}
-use Rattle.zy_table.specs.Whole.{decoded_as, hear_plain, hear_view, is_view_frame_in_role, order, order_judged, plain_row, timer, view_decoded, view_row, whole_step}
+use Rattle.zy_table.specs.Whole.{decoded_as, hear_plain, hear_view, is_view_frame_in_role, order, order_judged, plain_row, timer, unless, view_decoded, view_row, whole_step}
 use Rattle.zy_table.specs.declared.deeds.Verdict.{Verdict}
 use Rattle.zy_table.specs.declared.deeds.Verdict.TheVariants.{Take, Wait, Refuse}
 use Rattle.zy_table.specs.declared.kept.OwnCheckpoint.{OwnCheckpoint}
@@ -170,9 +170,6 @@ module _ {S : Type 0} (R : Rules S) (s : State S) where
         responds = λ ask known known_is left. run_cases.responds ask known known_is;
         orders = λ ask heard primary new left. run_same (sealed_order R s ask) (ordered R s ask) (record { keys = refl; me = refl; counts = refl; interval = refl });
         waits = λ ask left. run_cases.waits ask;
-        takes = λ o heard new left. takes o;
-        asks = λ o heard left. record { keys = refl; me = refl; counts = refl; interval = refl };
-        holds = λ o heard. record { keys = refl; me = refl; counts = refl; interval = refl };
         commits = λ specs client local said held heard own furthest left.
             gather_at_keeps R Same keeps (own_at R s local.place.0) true (give_local R client local said (holding s held)) (local_same client local said held);
         keeps = λ board put. record { keys = refl; me = refl; counts = refl; interval = refl };
@@ -459,12 +456,12 @@ module _ {S : Type 0} (R : Rules S) (s : State S) where
       by admits.Held place = as_it_is admits.Held place
       by (admits.Refused cause) place = as_it_is (admits.Refused cause) place
 
-  stays_same : (frame : Frame) → HasSame (decoded R s (Ok frame))
-  stays_same frame = decoded_case R s AnyFrame HasSame cases (Ok frame) (λ other is verified role. tt)
-
   verified_same : (frame : Frame) → HasSame (plain_row R s frame) → HasSame (unless (screen s.keys (plain.parts_of frame)) s (hear_plain R s frame))
   verified_same frame same =
       unless_case s HasSame refuses (screen s.keys (plain.parts_of frame)) (hear_plain R s frame) (λ verified. by_test HasSame (in_role s frame) (plain_row R s frame) (refused causes.WrongRole s) (λ role. same) (λ wrong. start))
+
+  row_same : (frame : Frame) → IsNormal frame → HasSame (unless (screen s.keys (plain.parts_of frame)) s (hear_plain R s frame))
+  row_same frame normal = verified_same frame (row_case R s AnyFrame HasSame cases frame normal tt)
 
   frame_same : (frame : Frame) → HasSame (unless (screen s.keys (plain.parts_of frame)) s (hear_plain R s frame))
   frame_same (frames.Order both) =
@@ -472,13 +469,13 @@ module _ {S : Type 0} (R : Rules S) (s : State S) where
       (λ current. order_judged_same both (judge_in s.orders both.order.stmt both.ask (position_of R s both)) (placed both.order.stmt both.ask (position_of R s both) s.orders)))
   frame_same (frames.Hate vote) = verified_same (frames.Hate vote) (finishes (hate R s vote) (hates vote))
   frame_same (frames.Pom first second) = verified_same (frames.Pom first second) (finishes (pom R s first second) (misbehaves first second))
-  frame_same (frames.Request ask) = stays_same (frames.Request ask)
-  frame_same (frames.SpecResponse spec reply with_order) = stays_same (frames.SpecResponse spec reply with_order)
-  frame_same (frames.Commit specs) = stays_same (frames.Commit specs)
-  frame_same (frames.LocalCommit local) = stays_same (frames.LocalCommit local)
-  frame_same (frames.ConfirmReq confirmed ask) = stays_same (frames.ConfirmReq confirmed ask)
-  frame_same (frames.FillHole hole) = stays_same (frames.FillHole hole)
-  frame_same (frames.Checkpoint check) = stays_same (frames.Checkpoint check)
+  frame_same (frames.Request ask) = row_same (frames.Request ask) tt
+  frame_same (frames.SpecResponse spec reply with_order) = row_same (frames.SpecResponse spec reply with_order) tt
+  frame_same (frames.Commit specs) = row_same (frames.Commit specs) tt
+  frame_same (frames.LocalCommit local) = row_same (frames.LocalCommit local) tt
+  frame_same (frames.ConfirmReq confirmed ask) = row_same (frames.ConfirmReq confirmed ask) tt
+  frame_same (frames.FillHole hole) = row_same (frames.FillHole hole) tt
+  frame_same (frames.Checkpoint check) = row_same (frames.Checkpoint check) tt
 
   view_same : (read : Result ViewFrame FrameFault) → HasSame (view_decoded R s read)
   view_same (Err fault) = start

@@ -28,9 +28,6 @@ use Rattle.zy_wire.specs.Spelling.{Spelling}
 
 -- ---- a signature
 
-value_long : (t : OtsType) (id : List ℕ) (q : ℕ) (seed digest : List ℕ) (i : ℕ) → length (one_time.signed_value t id q seed digest i) ≡ 32
-value_long t id q seed digest i = length-chain _ _ 0 _ (length-sha256 _)
-
 one_time_long : (t : OtsType) (id : List ℕ) (q : ℕ) (seed message : List ℕ) → length (one_time.signature_of t id q seed message) ≡ 36 + 32 * ots_types.chain_count_of t
 unfolding one_time.signature_of
 one_time_long t id q seed message =

@@ -19,9 +19,9 @@ use Rattle.zy_frames.specs.declared.frame.Frame.{Frame}
 use Rattle.zy_frames.specs.declared.frame.Frame.TheVariants as frames
 use Rattle.zy_frames.specs.declared.frame.OrderFrame.{OrderFrame}
 use Rattle.zy_law.specs.World.{World}
-use Rattle.zy_law_normal.proofs.Cases.{decoded_case}
+use Rattle.zy_law_normal.proofs.Cases.{row_case}
 use Rattle.zy_law_normal.proofs.Own.{by_test}
-use Rattle.zy_law_normal.specs.Tied.{MayRun}
+use Rattle.zy_law_normal.specs.Tied.{IsNormal, MayRun}
 use Rattle.zy_parts.specs.Numbers as numbers
 use Rattle.zy_parts.specs.Reports.{began_fields}
 use Rattle.zy_parts.specs.Signing.{part_of}
@@ -35,8 +35,7 @@ use Rattle.zy_table.specs.Misbehaviour.{pom, tell_all}
 use Rattle.zy_table.specs.Orders.{order_as, position_of}
 use Rattle.zy_table.specs.Roles.{in_role, view_cause}
 use Rattle.zy_table.specs.State.{State}
-use Rattle.zy_table.specs.Step.{decoded, unless}
-use Rattle.zy_table.specs.Whole.{decoded_as, hear_plain, hear_view, is_view_frame_in_role, order, order_judged, plain_row, timer, view_decoded, view_row, whole_step}
+use Rattle.zy_table.specs.Whole.{decoded_as, hear_plain, hear_view, is_view_frame_in_role, order, order_judged, plain_row, timer, unless, view_decoded, view_row, whole_step}
 use Rattle.zy_vframes.specs.Parts as view_parts
 use Rattle.zy_vframes.specs.ViewFrames as views
 use Rattle.zy_vframes.specs.declared.frame.ViewFrame.{ViewFrame}
@@ -76,13 +75,6 @@ module _ {S : Type 0} (R : Rules S) (interval : ℕ) (texts : Texts) (w : World)
   abbrev IsBroughtOnceVerified : Frame → Type 0
   IsBroughtOnceVerified frame = screen s.keys (plain.parts_of frame) ≡ None → in_role s frame ≡ true → Brought frame
 
-  same_frame : (P : Frame → Type 0) (frame other : Frame) → ◌≡◌ {A = Result Frame FrameFault} (Ok frame) (Ok other) → P frame → P other
-  same_frame P frame other same holds = let is_frame : frame ≡ other = cc in subst P is_frame holds
-
-  stays_done : (frame : Frame) → IsBroughtOnceVerified frame → IsDone (decoded R s (Ok frame))
-  stays_done frame brought =
-      decoded_case R s Brought IsDone (cases R interval texts w r s h ready kept work is) (Ok frame) (λ other same. same_frame IsBroughtOnceVerified frame other same brought)
-
   order_judged_done : (o : OrderFrame) → MayRun w (entry_of o.ask) → (a : Admit) → IsPlaced o.order.stmt o.ask (position_of R s o) a → IsDone (order_judged R s o a)
   order_judged_done o may a place = by a place
     where
@@ -106,18 +98,21 @@ module _ {S : Type 0} (R : Rules S) (interval : ℕ) (texts : Texts) (w : World)
       unless_case s IsDone (refuses R s is) (screen s.keys (plain.parts_of frame)) (hear_plain R s frame)
       (λ verified. by_test IsDone (in_role s frame) (plain_row R s frame) (refused causes.WrongRole s) (λ role. done verified role) (λ wrong. refuses R s is causes.WrongRole))
 
+  normal_done : (frame : Frame) → IsNormal frame → IsBroughtOnceVerified frame → IsDone (unless (screen s.keys (plain.parts_of frame)) s (hear_plain R s frame))
+  normal_done frame normal brought = verified_done frame (λ verified role. row_case R s Brought IsDone (cases R interval texts w r s h ready kept work is) frame normal (brought verified role))
+
   frame_done : (frame : Frame) → IsBroughtOnceVerified frame → IsDone (unless (screen s.keys (plain.parts_of frame)) s (hear_plain R s frame))
   frame_done (frames.Order both) brought =
       verified_done (frames.Order both) (λ verified role. unless_case s IsDone (refuses R s is) (view_cause s both.order.stmt.view.0) (order R s both) (λ current. order_done both (brought verified role).0.0))
   frame_done (frames.Hate vote) brought = verified_done (frames.Hate vote) (λ verified role. finishes_leaving R s is (hate R s vote) (hate_fine R interval w r s h ready is vote))
   frame_done (frames.Pom first second) brought = verified_done (frames.Pom first second) (λ verified role. finishes_leaving R s is (pom R s first second) (pom_fine R interval w r s h ready is first second))
-  frame_done (frames.Request ask) brought = stays_done (frames.Request ask) brought
-  frame_done (frames.SpecResponse spec reply with_order) brought = stays_done (frames.SpecResponse spec reply with_order) brought
-  frame_done (frames.Commit specs) brought = stays_done (frames.Commit specs) brought
-  frame_done (frames.LocalCommit local) brought = stays_done (frames.LocalCommit local) brought
-  frame_done (frames.ConfirmReq confirmed ask) brought = stays_done (frames.ConfirmReq confirmed ask) brought
-  frame_done (frames.FillHole hole) brought = stays_done (frames.FillHole hole) brought
-  frame_done (frames.Checkpoint check) brought = stays_done (frames.Checkpoint check) brought
+  frame_done (frames.Request ask) brought = normal_done (frames.Request ask) tt brought
+  frame_done (frames.SpecResponse spec reply with_order) brought = normal_done (frames.SpecResponse spec reply with_order) tt brought
+  frame_done (frames.Commit specs) brought = normal_done (frames.Commit specs) tt brought
+  frame_done (frames.LocalCommit local) brought = normal_done (frames.LocalCommit local) tt brought
+  frame_done (frames.ConfirmReq confirmed ask) brought = normal_done (frames.ConfirmReq confirmed ask) tt brought
+  frame_done (frames.FillHole hole) brought = normal_done (frames.FillHole hole) tt brought
+  frame_done (frames.Checkpoint check) brought = normal_done (frames.Checkpoint check) tt brought
 
   -- ---- frames of a change of view
 

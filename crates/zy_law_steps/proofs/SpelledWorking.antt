@@ -219,9 +219,6 @@ module _ {S : Type 0} (R : Rules S) (interval : ℕ) (texts : Texts) (w : World)
         responds = λ ask known there left. responds ask known there;
         orders = λ ask brings primary new left. orders ask brings.0;
         waits = λ ask left. waits ask;
-        takes = λ o brings new left. takes o brings.0.0;
-        asks = λ o brings left. asks o;
-        holds = λ o brings. holds o;
         commits = λ specs client local said held brings own furthest left. commits specs local brings.1 own client said held furthest;
         keeps = keeps;
         gathers = λ place board put left. looks place board put;

@@ -1,5 +1,5 @@
 -- Each step of a replica is lawful, in every view and from one to the next, and it is ready for the next one.
-use Rattle.std.proofs.Common.{◌≡◌, ℕ, Bool, true, false, List, [], ◌∷◌, Option, None, Ok, Err, refl, subst}
+use Rattle.std.proofs.Common.{◌≡◌, ℕ, Bool, true, false, List, [], ◌∷◌, Option, None, Ok, Err, refl}
 use Rattle.std.specs.Prelude.{Result, nat_lt}
 use Rattle.zy_base.specs.Machine.{Rules}
 use Rattle.zy_base.specs.declared.cause.Cause.{Cause}
@@ -27,6 +27,7 @@ use Rattle.zy_law.specs.Steps.{AllMay, after_acts, after_saying, after_standing}
 use Rattle.zy_law.specs.World.{World}
 use Rattle.zy_law_normal.proofs.Own.{by_test}
 use Rattle.zy_law_normal.specs.Acts.{acts_of, history_after, world_after}
+use Rattle.zy_law_normal.specs.Tied.{IsNormal}
 use Rattle.zy_seal.specs.Screening.{screen}
 use Rattle.zy_table.specs.Deeds.{Outcome, refused}
 use Rattle.zy_table.specs.Hates.{hate}
@@ -34,8 +35,7 @@ use Rattle.zy_table.specs.Misbehaviour.{pom, tell_all}
 use Rattle.zy_table.specs.Orders.{position_of}
 use Rattle.zy_table.specs.Roles.{in_role, view_cause}
 use Rattle.zy_table.specs.State.{State, is_leaving, own_view}
-use Rattle.zy_table.specs.Step.{unless}
-use Rattle.zy_table.specs.Whole.{decoded_as, hear_plain, order, order_judged, plain_row, whole_step}
+use Rattle.zy_table.specs.Whole.{decoded_as, hear_plain, order, order_judged, plain_row, unless, whole_step}
 use Rattle.zy_vframes.specs.ViewFrames as views
 use Rattle.zy_law_views.specs.Texts.{Texts}
 use Rattle.zy_law_views.proofs.HeardRows.{order_attempt, pom_attempt}
@@ -50,7 +50,7 @@ use Rattle.zy_law_views.proofs.Timers.{timer_lawful}
 use Rattle.zy_law_views.specs.Frames.{IsHonestlyRead}
 use Rattle.zy_law_views.specs.Steps.{IsLawfulStep, IsWorldOf}
 use Rattle.zy_law_views.proofs.Admitted.{IsPlaced, placed}
-use Rattle.zy_law_steps.proofs.NormalSteps.{order_as_lawful, read_lawful, unless_case}
+use Rattle.zy_law_steps.proofs.NormalSteps.{order_as_lawful, row_lawful, unless_case}
 use Rattle.zy_law_steps.specs.Gains.{AreGainsKept}
 use Rattle.zy_law_steps.specs.Heard.{IsFrameHeld}
 use Rattle.zy_law_steps.specs.Whole.{IsEventHonest, history_decoded, history_of}
@@ -105,7 +105,7 @@ module _ {S : Type 0} (R : Rules S) (interval : ℕ) (texts : Texts) (w : World)
       let active = active_in s.views.mode stays in order_as_lawful R interval texts w r s h ready kept work active.0 active.1 o may.0 may.1 admits.Held is gains
   order_judged_fine o may stays (admits.Refused cause) is gains = refuses R interval texts w r s h ready kept cause
 
-  order_fine : (o : OrderFrame) → IsFrameHeld w (frames.Order o) → is_leaving s ≡ false → IsFine (order R s o)
+  pub order_fine : (o : OrderFrame) → IsFrameHeld w (frames.Order o) → is_leaving s ≡ false → IsFine (order R s o)
   order_fine o may stays = order_judged_fine o may stays (judge_in s.orders o.order.stmt o.ask (position_of R s o)) (placed o.order.stmt o.ask (position_of R s o) s.orders)
 
   -- ---- a frame of normal operation
@@ -115,14 +115,11 @@ module _ {S : Type 0} (R : Rules S) (interval : ℕ) (texts : Texts) (w : World)
       unless_case s IsFine refuses_it (screen s.keys (plain.parts_of frame)) (hear_plain R s frame)
       (λ verified. by_test IsFine (in_role s frame) (plain_row R s frame) (refused causes.WrongRole s) (λ role. fine verified role) (λ wrong. refuses_it causes.WrongRole))
 
-  same_frame : (P : Frame → Type 0) (frame other : Frame) → ◌≡◌ {A = Result Frame FrameFault} (Ok frame) (Ok other) → P frame → P other
-  same_frame P frame other is holds = let same : frame ≡ other = cc in subst P same holds
-
   abbrev IsHeldOnceVerified : Frame → Type 0
   IsHeldOnceVerified frame = screen s.keys (plain.parts_of frame) ≡ None → in_role s frame ≡ true → IsFrameHeld w frame
 
-  read_once : (frame : Frame) → IsHeldOnceVerified frame → (other : Frame) → ◌≡◌ {A = Result Frame FrameFault} (Ok frame) (Ok other) → IsHeldOnceVerified other
-  read_once frame held other is = same_frame IsHeldOnceVerified frame other is held
+  row_fine : (frame : Frame) → IsNormal frame → IsHeldOnceVerified frame → IsFine (unless (screen s.keys (plain.parts_of frame)) s (hear_plain R s frame))
+  row_fine frame normal held = verified_fine frame (λ verified role. row_lawful R interval texts w r s h ready kept work frame normal (held verified role))
 
   frame_fine : (frame : Frame) → IsHeldOnceVerified frame → IsFine (unless (screen s.keys (plain.parts_of frame)) s (hear_plain R s frame))
   frame_fine (frames.Order both) held =
@@ -131,14 +128,13 @@ module _ {S : Type 0} (R : Rules S) (interval : ℕ) (texts : Texts) (w : World)
   frame_fine (frames.Hate vote) held = verified_fine (frames.Hate vote) (λ verified role gains. finishes_leaving R interval texts w r s h ready kept (hate R s vote) (hate_attempt R interval w r s h ready vote))
   frame_fine (frames.Pom first second) held =
       verified_fine (frames.Pom first second) (λ verified role gains. finishes_leaving R interval texts w r s h ready kept (pom R s first second) (pom_attempt R interval w r s h ready first second))
-  frame_fine (frames.Request ask) held = λ gains. read_lawful R interval texts w r s h ready kept work (Ok (frames.Request ask)) (read_once (frames.Request ask) held) gains
-  frame_fine (frames.SpecResponse spec reply with_order) held =
-      λ gains. read_lawful R interval texts w r s h ready kept work (Ok (frames.SpecResponse spec reply with_order)) (read_once (frames.SpecResponse spec reply with_order) held) gains
-  frame_fine (frames.Commit specs) held = λ gains. read_lawful R interval texts w r s h ready kept work (Ok (frames.Commit specs)) (read_once (frames.Commit specs) held) gains
-  frame_fine (frames.LocalCommit local) held = λ gains. read_lawful R interval texts w r s h ready kept work (Ok (frames.LocalCommit local)) (read_once (frames.LocalCommit local) held) gains
-  frame_fine (frames.ConfirmReq confirmed ask) held = λ gains. read_lawful R interval texts w r s h ready kept work (Ok (frames.ConfirmReq confirmed ask)) (read_once (frames.ConfirmReq confirmed ask) held) gains
-  frame_fine (frames.FillHole hole) held = λ gains. read_lawful R interval texts w r s h ready kept work (Ok (frames.FillHole hole)) (read_once (frames.FillHole hole) held) gains
-  frame_fine (frames.Checkpoint check) held = λ gains. read_lawful R interval texts w r s h ready kept work (Ok (frames.Checkpoint check)) (read_once (frames.Checkpoint check) held) gains
+  frame_fine (frames.Request ask) held = row_fine (frames.Request ask) tt held
+  frame_fine (frames.SpecResponse spec reply with_order) held = row_fine (frames.SpecResponse spec reply with_order) tt held
+  frame_fine (frames.Commit specs) held = row_fine (frames.Commit specs) tt held
+  frame_fine (frames.LocalCommit local) held = row_fine (frames.LocalCommit local) tt held
+  frame_fine (frames.ConfirmReq confirmed ask) held = row_fine (frames.ConfirmReq confirmed ask) tt held
+  frame_fine (frames.FillHole hole) held = row_fine (frames.FillHole hole) tt held
+  frame_fine (frames.Checkpoint check) held = row_fine (frames.Checkpoint check) tt held
 
   -- ---- an event
 

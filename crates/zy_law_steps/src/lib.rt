@@ -12,7 +12,7 @@ mod ties;
 mod whole;
 
 pub use entries::working_rows;
-pub use frames::{leaving_refuses, working_steps};
+pub use frames::leaving_refuses;
 pub use said::said_back;
 pub use same::same_keys;
 pub use start::spelled_start;

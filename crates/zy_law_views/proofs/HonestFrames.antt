@@ -27,8 +27,7 @@ use Rattle.zy_table.specs.Confirming.{new_view, view_certificate}
 use Rattle.zy_table.specs.Deeds.{Outcome, refused}
 use Rattle.zy_table.specs.Leaving.{Attempt}
 use Rattle.zy_table.specs.State.{State}
-use Rattle.zy_table.specs.Step.{unless}
-use Rattle.zy_table.specs.Whole.{hear_view, is_view_frame_in_role, view_decoded, view_row}
+use Rattle.zy_table.specs.Whole.{hear_view, is_view_frame_in_role, unless, view_decoded, view_row}
 use Rattle.zy_vframes.specs.Parts.{parts_of, parts_of_new}
 use Rattle.zy_vframes.specs.declared.frame.ViewCert.{ViewCert}
 use Rattle.zy_vframes.specs.declared.frame.ViewFrame.{ViewFrame}

@@ -3,6 +3,7 @@ mod EnterLemmas
 mod HeardLemmas
 mod JudgedLemmas
 mod OwnHateLemmas
+mod RefusedLemmas
 mod StepsLemmas
 mod TimerLemmas
 mod MemberLemmas

@@ -1,12 +1,15 @@
 ghost use Rattle.std.specs.Prelude.{◌≡◌, ◌≤◌, ◌<◌, length, IfOk};
 ghost use Rattle.std.specs.List.{AllByRecursion};
 ghost use Rattle.sha2.specs.Sha256.{sha256};
+ghost use Rattle.zy_base.specs.declared.cause.Cause.{Cause};
 ghost use Rattle.zy_base.specs.declared.ids.Party.TheVariants as parties;
+ghost use Rattle.zy_base.specs.declared.step.Answer.TheVariants.{Refused};
 ghost use Rattle.zy_chain.specs.Entries.{IsEntryInRange};
 ghost use Rattle.zy_exec.specs.Kept.{now_of, last_place};
 ghost use Rattle.zy_exec.specs.Snapshot.{snapshot_of};
 ghost use Rattle.zy_table.specs.Whole.{whole_step as step_row};
 ghost use Rattle.zy_table.specs.Deeds.{outgoing_of, said_from, gains_in};
+ghost use Rattle.zy_replica.specs.Refusing.{IsUnchanged};
 
 use crate::outcome::finish;
 use crate::step::moves;
@@ -73,7 +76,8 @@ impl<M: Machine> Replica<M> {
         }
     }
 
-    /// What an event makes of the replica: the whole answer table, for every frame and timer.
+    /// What an event makes of the replica: the whole answer table, for every frame and timer. After a refusal all is as
+    /// before, and nothing is sent.
     pub fn step(self, event: Event) -> Result<Stepped<M>, Want>
         ensures answer { IfOk result (λ s. s.answer ≡ (step_row M.rules self event).answer) }
         ensures replica { IfOk result (λ s. s.replica ≡ (step_row M.rules self event).state) }
@@ -82,6 +86,7 @@ impl<M: Machine> Replica<M> {
         ensures said { IfOk result (λ s. s.said ≡ said_from (parties.Replica (step_row M.rules self event).state.me) 0 (step_row M.rules self event).deeds.acts) }
         ensures got { IfOk result (λ s. s.got ≡ gains_in (step_row M.rules self event).deeds.acts) }
         ensures range { IfOk result (λ s. AllByRecursion (λ got. IsEntryInRange got.entry) s.got) }
+        ensures refused { IfOk result (λ s. (cause : Cause) → s.answer ≡ Refused cause → IsUnchanged self s.replica s.timers s.out s.said s.got) }
     {
         let Replica { core } = self;
         finish(moves(core, event)?)

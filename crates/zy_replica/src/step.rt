@@ -18,7 +18,10 @@ use crate::timers::{on_change_timer, on_request_timer};
 use zy_base::{Answer, Bytes, Cause, Event, FrameFault, Machine, TimerKind, Want};
 use zy_frames::{DecodeFault, Frame, OrderFrame};
 use zy_parts::{Fetch, Order, Signed};
-use zy_replica_normal::row;
+use zy_replica_normal::{
+    checkpoint_in_view, commit_in_view, confirm_in_view, hear_request, hole_in_view,
+    response_in_view,
+};
 use zy_replica_state::{Core, Moved};
 use zy_replica_views::{confirmation, fetch, new_view, state_transfer, view_certificate};
 use zy_seal::screen_parts;
@@ -119,10 +122,16 @@ fn plain_row<M: Machine>(core: Core<M>, frame: Frame) -> Result<Moved<M>, Want>
     ensures { IfOk result (λ m. m ≡ plain_row_of M.rules core frame) }
 {
     match frame {
+        Frame::Request(ask) => hear_request(core, ask),
         Frame::Order(both) => order_in_view(core, both),
+        Frame::SpecResponse { spec, reply, order } => response_in_view(core, spec, (reply, order)),
+        Frame::Commit(specs) => commit_in_view(core, specs),
+        Frame::LocalCommit(local) => core.not_heard(local, Cause::WrongRole),
+        Frame::ConfirmReq { confirm, ask } => confirm_in_view(core, confirm, ask),
+        Frame::FillHole(hole) => hole_in_view(core, hole),
         Frame::Hate(vote) => hate(core, vote),
         Frame::Pom(first, second) => blames(core, first, second),
-        frame => row(core, frame),
+        Frame::Checkpoint(check) => checkpoint_in_view(core, check),
     }
 }
 

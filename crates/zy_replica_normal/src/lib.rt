@@ -13,5 +13,8 @@ mod rows;
 mod running;
 
 pub use orders::{judge, order_as};
-pub use rows::row;
+pub use requests::hear_request;
+pub use rows::{
+    checkpoint_in_view, commit_in_view, confirm_in_view, hole_in_view, response_in_view,
+};
 pub use running::keep_own_spec;

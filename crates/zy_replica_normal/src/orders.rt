@@ -8,7 +8,7 @@ ghost use Rattle.zy_table.specs.State.{is_leaving, leaves_of, window_of, spent};
 ghost use Rattle.zy_base.specs.declared.step.Answer.TheVariants as Answer;
 ghost use Rattle.zy_table.specs.Deeds.{ends, begin};
 ghost use Rattle.zy_table.specs.Running.{run, signs_of};
-ghost use Rattle.zy_table.specs.Orders.{position_of as position_for, take_order as taken, asked_from as asked_at, owes_hole as owes, hole_of as hole_for, ask_for_missing as asked, hold_order as held, order_as as answered_as, order as order_row};
+ghost use Rattle.zy_table.specs.Orders.{position_of as position_for, take_order as taken, asked_from as asked_at, owes_hole as owes, hole_of as hole_for, ask_for_missing as asked, hold_order as held, order_as as answered_as};
 ghost use Rattle.zy_parts.specs.Numbers as numbers;
 ghost use Rattle.zy_parts.specs.Signing.{IsSignedInRange};
 ghost use Rattle.zy_seal.specs.Sealing.{sealed_by};
@@ -170,15 +170,4 @@ pub fn order_as<M: Machine>(
         Admit::Refused(cause) => core.not_heard(frame, cause),
         Admit::Evidence => core.not_heard(frame, Cause::Unmatched),
     }
-}
-
-// The row.
-#[tactic(auto, unfolding(zy_table::specs::Orders::order))]
-pub(crate) fn hear_order<M: Machine>(core: Core<M>, frame: OrderFrame) -> Result<Moved<M>, Want>
-    requires active { is_leaving core ≡ false }
-    requires order { IsOrderReady frame }
-    ensures { IfOk result (λ m. m ≡ order_row M.rules core frame) }
-{
-    let admit = judge(&core, &frame);
-    order_as(core, frame, admit)
 }

@@ -440,8 +440,9 @@ fn is_behind<M: Machine>(core: &Core<M>, ask: &Signed<Ask>) -> bool
     }
 }
 
+/// A request, its signature verified.
 #[tactic(auto, unfolding(zy_table::specs::Requests::request))]
-pub(crate) fn hear_request<M: Machine>(core: Core<M>, ask: Signed<Ask>) -> Result<Moved<M>, Want>
+pub fn hear_request<M: Machine>(core: Core<M>, ask: Signed<Ask>) -> Result<Moved<M>, Want>
     requires ask { IsAskReady ask }
     ensures { IfOk result (λ m. m ≡ request_row M.rules core ask) }
 {

@@ -1,5 +1,8 @@
+pub mod AttemptAnswers
 pub mod BeginningLemmas
+pub mod ClientRefusals
 pub mod Owed
 pub mod RangeLemmas
+pub mod Refusals
 pub mod ReportLemmas
 pub mod SentLemmas

@@ -5,7 +5,7 @@ use Rattle.std.specs.Prelude.{if◌then◌else◌}
 use Rattle.std.proofs.Math.Nat.{zero-mod}
 use Rattle.std.proofs.Math.Seq.{take-add, take-append_seam}
 use Rattle.std.proofs.lemmas.Bool.{and_from, cases_eq, le-leb, leb-true, lt-ltb, ltb-false, or_parts}
-use Rattle.std.proofs.lemmas.List.{get_or-take, length-append, length-drop, length-take, length-take-le, take-append-le, take-take}
+use Rattle.std.proofs.lemmas.List.{get_or-take, length-append, length-drop, length-take, length-take-le, take-append-le}
 use Rattle.std.proofs.lemmas.List.Elements.{All-append, All-cons, All-drop, All-filter, All-nil, All-take, All-weaker, filter_passes}
 use Rattle.std.proofs.lemmas.List.Sums.{fold-append}
 use Rattle.std.proofs.lemmas.Option.{cond_some, IfSome_then, same_Some}
@@ -19,7 +19,7 @@ use Rattle.zy_base.specs.declared.ids.View.{View}
 use Rattle.zy_base.specs.declared.ids.Party.TheVariants.{Replica}
 use Rattle.zy_chain.specs.Entries.{IsEntryInRange}
 use Rattle.zy_chain.specs.Heads.{head_from}
-use Rattle.zy_chain.specs.Stretch.{Mark, Stretch, end_of, head_in, with_entry, up_to, from_place}
+use Rattle.zy_chain.specs.Stretch.{Mark, Stretch, end_of, head_in, with_entry, from_place}
 use Rattle.zy_chain.specs.declared.entry.Entry.{Entry}
 use Rattle.zy_wire.specs.Fields.{FitsList}
 use Rattle.zy_parts.specs.Reports.{IsToldInRange, IsBeganInRange}
@@ -36,7 +36,7 @@ use Rattle.zy_seal.specs.Keys.{Keys}
 use Rattle.zy_seal.specs.Sealing.{SealerState}
 use Rattle.zy_exec.proofs.ReplayLemmas.{head-along}
 use Rattle.zy_exec.proofs.SettleLemmas.{settled_place}
-use Rattle.zy_exec.specs.Kept.{Kept, last_place, longer, back_to, stretch_of}
+use Rattle.zy_exec.specs.Kept.{Kept, last_place, longer, stretch_of}
 use Rattle.zy_cert.proofs.CertificateLemmas.{certified-taken, certified-found}
 use Rattle.zy_cert.specs.Certificates.{IsCertificate, certified}
 use Rattle.zy_cert.specs.Equal.{same_spec, spec-equal, same_check, check-equal, view-equal}
@@ -62,8 +62,8 @@ use Rattle.zy_change.specs.Fit.{IsTrueReport}
 use Rattle.zy_change.specs.Views.{Views, told_of, is_further, with_hate, with_change, with_new, left, specs_in, begans_in}
 use Rattle.zy_change.specs.declared.kept.Accepted.{Accepted}
 use Rattle.zy_table.specs.Checkpoints.{with_board}
-use Rattle.zy_table.specs.Gathering.{first_of, with_certificate, keep_certificate, certificate_at, proof_at, settled_at, settle_with}
-use Rattle.zy_table.specs.Leaving.{report_of, left_with}
+use Rattle.zy_table.specs.Gathering.{first_of, with_certificate, certificate_at, proof_at, settled_at}
+use Rattle.zy_table.specs.Leaving.{report_of}
 use Rattle.zy_table.specs.State.{State, start_of, window_of}
 
 -- ---- what the lemmas are about
@@ -93,23 +93,6 @@ fits-longer s e m fits =
         above = above;
         below = omega (arith, many);
         head = ap (fold link s.base.head) (take-append-le (m.place - s.base.place) s.entries (e ∷ []) (omega arith)) ∙ (fits.shared above).head;
-      });
-    }
-
-within_part : {A : Type 0} (n k : ℕ) (xs : List A) → k ≤ n → k ≤ length xs → k ≤ length (take n xs)
-within_part n k xs first second = omega (arith, length-take n xs)
-
--- and its part up to a place that isn't below the mark
-fits-back : (s : Stretch) (place : ℕ) (m : Mark) → m.place ≤ place → Fits s m → Fits (up_to place s) m
-fits-back s place m below fits =
-    let within = fits.within in
-    let inside : m.place - s.base.place ≤ length (take (place - s.base.place) s.entries) = within_part (place - s.base.place) (m.place - s.base.place) s.entries (omega arith) (omega arith) in
-    record {
-      within = omega arith;
-      shared = λ above. (record {
-        above = above;
-        below = omega arith;
-        head = ap (fold link s.base.head) (take-take (m.place - s.base.place) (place - s.base.place) s.entries (omega arith)) ∙ (fits.shared above).head;
       });
     }
 
@@ -228,9 +211,6 @@ start-true R interval me counts keys sealer least =
       keeps_rules = rw (zero-mod interval, le-leb 0 (2 * interval) (omega arith)) refl;
     }
 
-pub start-joined : {S : Type 0} (R : Rules S) (interval : ℕ) (me : ReplicaId) (counts : Counts) (keys : Keys) (sealer : SealerState) → IsJoined (start_of R interval me counts keys sealer)
-start-joined R interval me counts keys sealer = record { counts = refl; interval = refl; place = refl; head = refl }
-
 -- ---- what doesn't touch it: what changes none of views, history and board leaves the very same report
 
 -- what a report is made of is the same
@@ -279,9 +259,6 @@ module _ {S : Type 0} (s : State S) (is : TellsTrue s) where
 
   pub left-true : (view : View) → TellsTrue (record s { views = left view s.views })
   left-true view = record { last = refl; in_range = is.in_range; keeps_rules = is.keeps_rules }
-
-  pub left_with-true : (view : View) (c : Signed Change) → TellsTrue (left_with view c s)
-  left_with-true view c = record { last = refl; in_range = is.in_range; keeps_rules = is.keeps_rules }
 
   pub with_new-true : (a : Accepted) (own : Signed Began) → TellsTrue (record s { views = with_new a own s.views })
   with_new-true a own = record { last = refl; in_range = is.in_range; keeps_rules = is.keeps_rules }
@@ -340,45 +317,6 @@ longer-one {S} k j e f same =
 -- The entry that was run last is taken out again: so the history before it is the one that went on, whose report was true.
 pub unrun-true : {S : Type 0} (s : State S) (e : Entry) → TellsTrue s → (k : Kept S) (f : Entry) → longer s.kept e ≡ longer k f → TellsTrue (record s { kept = k })
 unrun-true {S} s e is k f same = subst (λ (x : Kept S). TellsTrue (record s { kept = x })) (longer-one s.kept k e f same) is
-
--- back to a place that no mark of the report lies above
-module _ {S : Type 0} (s : State S) (is : TellsTrue s) where
-  pub back-true : (place : ℕ) → IsJoined s → s.kept.base.place ≤ place → s.views.began_place.0 ≤ place → IfSome (spec_of (specs_in s.views.specs)) (λ m. m.place ≤ place) → TellsTrue (record s { kept = back_to place s.kept })
-  back-true place joined above began specs =
-      let was = parts s.views (report_of s) is in
-      let itself = was.itself in
-      let spine : Stretch = reading.stretch_of (report_of s) in
-      let n : ℕ = place - s.kept.base.place in
-      let fewer : length (take n s.kept.entries) ≤ length s.kept.entries = omega (arith, length-take n s.kept.entries) in
-      let part : up_to place spine ≡ reading.stretch_of (report_of (record s { kept = back_to place s.kept })) = ap (λ (base : ℕ). record { base = spine.base; entries = take (place - base) s.kept.entries }) joined.place in
-      true_of s.views (report_of (record s { kept = back_to place s.kept })) refl
-      (record {
-        last_view = is.in_range.last_view;
-        began_place = is.in_range.began_place;
-        began = is.in_range.began;
-        specs = is.in_range.specs;
-        stable_view = is.in_range.stable_view;
-        stable_place = is.in_range.stable_place;
-        checks = is.in_range.checks;
-        entries = record { least = omega arith; most = omega (arith, fewer, is.in_range.entries.most); each = All-take IsEntryInRange n s.kept.entries is.in_range.entries.each };
-      })
-      (record {
-        proofs = was.proofs;
-        itself = record {
-          stable = record { view = itself.stable.view; multiple = itself.stable.multiple };
-          entries = record {
-            few = omega (arith, fewer, itself.entries.few);
-            clients = All-take (λ x. x.client.0 < 64) n s.kept.entries itself.entries.clients;
-            end = omega (arith, fewer, itself.entries.end);
-          };
-          began = subst (λ (x : Stretch). Fits x (began_of (report_of s))) part (fits-back spine place (began_of (report_of s)) began itself.began);
-          spec = subst (λ (x : Stretch). IfSome (spec_of (report_of s).specs) (Fits x)) part (spec_back (spec_of (report_of s).specs) itself.spec specs);
-        };
-      })
-    where
-      spec_back : (o : Option Mark) → IfSome o (Fits (reading.stretch_of (report_of s))) → IfSome o (λ m. m.place ≤ place) → IfSome o (Fits (up_to place (reading.stretch_of (report_of s))))
-      spec_back None fits below = tt
-      spec_back (Some m) fits below = fits-back (reading.stretch_of (report_of s)) place m below fits
 
 -- ---- so many of the first
 
@@ -503,26 +441,6 @@ module _ {S : Type 0} (s : State S) (own : Spec) (specs : List (Signed Spec)) (f
   pub certificate_at-all : (P : Signed Spec → Type 0) → All P (specs_at s.board own.place.0) → All P specs
   certificate_at-all P all = first-all same_spec spec-equal point_of_spec s.counts.cert own (specs_at s.board own.place.0) specs found P all
 
-pub keep_certificate-true : {S : Type 0} (s : State S) (own : Spec) → TellsTrue s → IsJoined s → IsBoard s.board → own.view ≡ s.views.last_view → head_in (stretch_of s.kept) own.place.0 ≡ Some own.head
-    → All (IsSignedInRange IsSpecInRange) (specs_at s.board own.place.0) → TellsTrue (keep_certificate own.place (certificate_at s own) s)
-keep_certificate-true {S} s own is joined board view here in_range = by (certificate_at s own) refl
-  where
-    by : (o : Option (List (Signed Spec))) → certificate_at s own ≡ o → TellsTrue (keep_certificate own.place o s)
-    by None none = is
-    by (Some specs) found =
-        let proves = certificate_at-certified s own specs found board in
-        certificate-true s is joined.counts own.place specs
-        (certificate-in_range s specs (point_of_spec own) proves (certificate_at-all s own specs found (IsSignedInRange IsSpecInRange) in_range))
-        (certificate-proven s specs (point_of_spec own) proves s.views.last_view view)
-        (certificate-fits s specs (point_of_spec own) proves joined.place joined.head here)
-
-pub certificate-joined : {S : Type 0} (s : State S) (place : Place) (specs : List (Signed Spec)) → IsJoined s → IsJoined (with_certificate s place specs)
-certificate-joined {S} s place specs joined = by (is_further place s.views.specs)
-  where
-    by : (b : Bool) → IsJoined (if b then record s { views = record s.views { specs = Some (record { place = place; specs = specs }) } } else s)
-    by true = record { counts = joined.counts; interval = joined.interval; place = joined.place; head = joined.head }
-    by false = joined
-
 -- ---- a stable place
 
 -- the kept checkpoints that make a proof say what the own one says, and certify its point
@@ -633,16 +551,6 @@ module _ {S : Type 0} (R : Rules S) (s : State S) (own : Check) (joined : IsJoin
         place = ap (λ (c : Check). c.place.0) stable-own ∙ sym (settled_place R s.kept place (omega (arith, here.above)) here.within);
         head = ap (λ (c : Check). c.head) stable-own ∙ sym head_here ∙ sym (head-along R s.kept.base (take above s.kept.entries));
       }
-
-pub settle_with-true : {S : Type 0} (R : Rules S) (s : State S) (own : Check) → IsJoined s → IsOwnCheck s own → TellsTrue s → IsBoard s.board → All (IsSignedInRange IsCheckInRange) (checks_at s.board own.place.0)
-    → TellsTrue (settle_with R own.place.0 (proof_at s own) s)
-settle_with-true {S} R s own joined here is board in_range = by (proof_at s own) refl
-  where
-    by : (o : Option (List (Signed Check))) → proof_at s own ≡ o → TellsTrue (settle_with R own.place.0 o s)
-    by None none = is
-    by (Some proof) found =
-        settle-true R s own joined here proof (proof_at-certified s own proof found board) (proof_at-equal s own proof found) is
-        (proof_at-all s own proof found (IsSignedInRange IsCheckInRange) in_range)
 
 -- ---- lists are short
 

@@ -1,10 +1,8 @@
--- What a replica answers to one that lacks orders, and when it asks again for those that it lacks itself.
-use Rattle.std.specs.Prelude.{nat_le, if◌then◌else◌, List, [], ◌∷◌, map, Option, Some, None}
+-- What a replica answers to one that lacks orders.
+use Rattle.std.specs.Prelude.{nat_le, if◌then◌else◌, List, [], ◌∷◌, map}
 use Rattle.zy_base.specs.declared.ids.Party.{Party}
 use Rattle.zy_base.specs.declared.cause.Cause.TheVariants as causes
 use Rattle.zy_base.specs.declared.step.Answer.TheVariants.{Taken}
-use Rattle.zy_base.specs.declared.step.Mode.{Mode}
-use Rattle.zy_base.specs.declared.step.Mode.TheVariants.{Active, Leaving}
 use Rattle.zy_parts.specs.declared.signed.Signed.{Signed}
 use Rattle.zy_parts.specs.declared.statements.Hole.{Hole}
 use Rattle.zy_frames.specs.declared.frame.OrderFrame.{OrderFrame}
@@ -12,10 +10,10 @@ use Rattle.zy_frames.specs.declared.frame.Frame.TheVariants as frames
 use Rattle.zy_exec.specs.Kept.{last_place}
 use Rattle.zy_admit.specs.Orders.{orders_from}
 use Rattle.zy_table.specs.declared.deeds.AnyFrame.TheVariants.{Plain}
-use Rattle.zy_table.specs.declared.deeds.To.TheVariants.{All, One}
+use Rattle.zy_table.specs.declared.deeds.To.TheVariants.{One}
 use Rattle.zy_table.specs.declared.deeds.Sent.{Sent}
 use Rattle.zy_table.specs.State.{State}
-use Rattle.zy_table.specs.Deeds.{Outcome, send, refused, ends, begin}
+use Rattle.zy_table.specs.Deeds.{Outcome, refused}
 
 abbrev pub order_to : Party → OrderFrame → Sent
 order_to by frame = record { to = One by; frame = Plain (frames.Order frame) }
@@ -28,10 +26,3 @@ fill_with s hole (o ∷ orders) =
 
 unfoldable pub fill_hole : {S : Type 0} → State S → Signed Hole → Outcome S
 fill_hole s hole = fill_with s hole (orders_from hole.stmt.from.0 hole.stmt.to.0 s.orders)
-
--- ---- the timer
-
-abbrev pub ask_again : {S : Type 0} → State S → Mode → Option (Signed Hole) → Outcome S
-ask_again s (Active view) (Some hole) = ends Taken (send All (frames.FillHole hole) (begin s))
-ask_again s (Active view) None = ends Taken (begin s)
-ask_again s (Leaving view) hole = ends Taken (begin s)

@@ -9,7 +9,6 @@ pub mod Commits
 pub mod Confirms
 pub mod Checkpoints
 pub mod Roles
-pub mod Step
 pub mod Leaving
 pub mod Hates
 pub mod Misbehaviour

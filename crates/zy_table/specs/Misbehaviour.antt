@@ -8,17 +8,12 @@ use Rattle.zy_parts.specs.declared.signed.Signed.{Signed}
 use Rattle.zy_parts.specs.declared.statements.Order.{Order}
 use Rattle.zy_frames.specs.declared.frame.Frame.TheVariants as frames
 use Rattle.zy_frames.specs.declared.frame.OrderFrame.{OrderFrame}
-use Rattle.zy_admit.specs.Orders.{stored_in}
-use Rattle.zy_admit.specs.Judging.{judge_in}
-use Rattle.zy_admit.specs.declared.judging.Admit.{Admit}
-use Rattle.zy_admit.specs.declared.judging.Admit.TheVariants as admits
 use Rattle.zy_cert.specs.Misbehaviour.{misbehaved}
 use Rattle.zy_change.specs.Owing.{next_view}
 use Rattle.zy_table.specs.declared.deeds.To.TheVariants.{All}
 use Rattle.zy_table.specs.State.{State, own_view}
-use Rattle.zy_table.specs.Deeds.{Outcome, send, begin}
-use Rattle.zy_table.specs.Leaving.{Attempt, concluded, leave}
-use Rattle.zy_table.specs.Orders.{position_of, order_as}
+use Rattle.zy_table.specs.Deeds.{send, begin}
+use Rattle.zy_table.specs.Leaving.{Attempt, leave}
 
 -- ---- told by another
 
@@ -38,14 +33,3 @@ pom R s first second =
 abbrev pub tell_all : {S : Type 0} → Rules S → State S → Signed Order → Option OrderFrame → Attempt S
 tell_all R s order None = Err causes.Unmatched
 tell_all R s order (Some kept) = leave R (next_view s.views) (send All (frames.Pom kept.order order) (begin s))
-
-abbrev pub order_judged : {S : Type 0} → Rules S → State S → OrderFrame → Admit → Outcome S
-order_judged R s frame admits.Evidence =
-    concluded s (tell_all R s frame.order (stored_in s.orders frame.order.stmt.place.0))
-order_judged R s frame admits.Next = order_as R s frame admits.Next
-order_judged R s frame admits.Held = order_as R s frame admits.Held
-order_judged R s frame (admits.Refused cause) = order_as R s frame (admits.Refused cause)
-
-unfoldable pub order_or_blame : {S : Type 0} → Rules S → State S → OrderFrame → Outcome S
-order_or_blame R s frame =
-    order_judged R s frame (judge_in s.orders frame.order.stmt frame.ask (position_of R s frame))

@@ -15,7 +15,7 @@ use Rattle.zy_admit.specs.declared.judging.Admit.{Admit}
 use Rattle.zy_admit.specs.declared.judging.Admit.TheVariants as admits
 use Rattle.zy_admit.specs.declared.judging.Position.{Position}
 use Rattle.zy_admit.specs.Orders.{stored_in, with_order, gap_above}
-use Rattle.zy_admit.specs.Judging.{entry_of, judge_in}
+use Rattle.zy_admit.specs.Judging.{entry_of}
 use Rattle.zy_table.specs.declared.deeds.To.TheVariants.{One}
 use Rattle.zy_table.specs.declared.deeds.Body.TheVariants as bodies
 use Rattle.zy_table.specs.declared.deeds.Act.TheVariants.{Says}
@@ -77,13 +77,10 @@ hold_order R s frame =
     else refused causes.KeySpent s)
     else ends Held (begin (record s { orders = with_order s.orders frame }))
 
--- ---- the row
+-- ---- an order as it was judged
 
 abbrev pub order_as : {S : Type 0} → Rules S → State S → OrderFrame → Admit → Outcome S
 order_as R s frame admits.Next = take_order R s frame
 order_as R s frame admits.Held = hold_order R s frame
 order_as R s frame (admits.Refused cause) = refused cause s
 order_as R s frame admits.Evidence = refused causes.Unmatched s
-
-unfoldable pub order : {S : Type 0} → Rules S → State S → OrderFrame → Outcome S
-order R s frame = order_as R s frame (judge_in s.orders frame.order.stmt frame.ask (position_of R s frame))

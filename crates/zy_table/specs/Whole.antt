@@ -1,10 +1,11 @@
--- What a replica makes of an event where it takes part in changes of view.
-use Rattle.std.specs.Prelude.{ℕ, ◌&&◌, Bool, true, if◌then◌else◌, List, Option, Some, None, Result, Ok, Err}
+-- What a replica makes of an event.
+use Rattle.std.specs.Prelude.{ℕ, ◌&&◌, Bool, true, if◌then◌else◌, List, [], ◌∷◌, Option, Some, None, Result, Ok, Err}
 use Rattle.std.specs.List.{list_all}
 use Rattle.zy_base.specs.Machine.{Rules}
 use Rattle.zy_base.specs.declared.counts.Counts.{Counts}
 use Rattle.zy_base.specs.declared.frame_fault.FrameFault.{FrameFault}
 use Rattle.zy_base.specs.declared.frame_fault.FrameFault.TheVariants as faults
+use Rattle.zy_base.specs.declared.cause.Cause.{Cause}
 use Rattle.zy_base.specs.declared.cause.Cause.TheVariants as causes
 use Rattle.zy_base.specs.declared.step.Answer.TheVariants.{Taken}
 use Rattle.zy_base.specs.declared.step.Event.{Event}
@@ -32,14 +33,18 @@ use Rattle.zy_admit.specs.declared.judging.Admit.TheVariants as admits
 use Rattle.zy_table.specs.State.{State}
 use Rattle.zy_table.specs.Deeds.{Outcome, refused, ends, begin}
 use Rattle.zy_table.specs.Roles.{in_role, is_replica, is_primary_of, view_cause}
+use Rattle.zy_table.specs.Requests.{request}
 use Rattle.zy_table.specs.Orders.{position_of, order_as}
+use Rattle.zy_table.specs.Holes.{fill_hole}
+use Rattle.zy_table.specs.Commits.{commit}
+use Rattle.zy_table.specs.Confirms.{confirm}
+use Rattle.zy_table.specs.Checkpoints.{response, checkpoint}
 use Rattle.zy_table.specs.Hates.{hate, on_request_timer, on_change_timer}
 use Rattle.zy_table.specs.Misbehaviour.{pom, tell_all}
 use Rattle.zy_table.specs.Changes.{change}
 use Rattle.zy_table.specs.Beginning.{finished}
 use Rattle.zy_table.specs.Confirming.{new_view, confirmation, view_certificate}
 use Rattle.zy_table.specs.Fetching.{fetch, state_transfer}
-use Rattle.zy_table.specs.Step.{unless, row}
 
 -- ---- roles
 
@@ -71,6 +76,16 @@ is_view_frame_in_role counts (view_frames.State place snapshot) = true
 
 -- ---- the rows
 
+-- an outcome, unless there is a cause against it
+abbrev pub unless : {S : Type 0} → Option Cause → State S → Outcome S → Outcome S
+unless None s outcome = outcome
+unless (Some cause) s outcome = refused cause s
+
+-- a commit certificate of the own view, by its first response
+abbrev pub commit_in_view : {S : Type 0} → Rules S → State S → List (Signed Spec) → Outcome S
+commit_in_view R s [] = refused (causes.TooFew 0) s
+commit_in_view R s (first ∷ others) = unless (view_cause s first.stmt.view.0) s (commit R s first.stmt (first ∷ others))
+
 -- an order that differs from the kept one of its place is told to all, and the view is left
 abbrev pub order_judged : {S : Type 0} → Rules S → State S → OrderFrame → Admit → Outcome S
 order_judged R s both admits.Evidence =
@@ -83,10 +98,16 @@ abbrev pub order : {S : Type 0} → Rules S → State S → OrderFrame → Outco
 order R s both = order_judged R s both (judge_in s.orders both.order.stmt both.ask (position_of R s both))
 
 abbrev pub plain_row : {S : Type 0} → Rules S → State S → Frame → Outcome S
+plain_row R s (frames.Request ask) = request R s ask
 plain_row R s (frames.Order both) = unless (view_cause s both.order.stmt.view.0) s (order R s both)
+plain_row R s (frames.SpecResponse spec reply with_order) = unless (view_cause s spec.stmt.view.0) s (response R s spec)
+plain_row R s (frames.Commit specs) = commit_in_view R s specs
+plain_row R s (frames.LocalCommit local) = refused causes.WrongRole s
+plain_row R s (frames.ConfirmReq confirmed ask) = unless (view_cause s confirmed.stmt.view.0) s (confirm R s confirmed ask)
+plain_row R s (frames.FillHole hole) = unless (view_cause s hole.stmt.view.0) s (fill_hole s hole)
 plain_row R s (frames.Hate vote) = finished R s (hate R s vote)
 plain_row R s (frames.Pom first second) = finished R s (pom R s first second)
-plain_row R s frame = row R s frame
+plain_row R s (frames.Checkpoint check) = unless (view_cause s check.stmt.view.0) s (checkpoint R s check)
 
 abbrev pub view_row : {S : Type 0} → Rules S → State S → ViewFrame → Outcome S
 view_row R s (view_frames.ViewChange vote) = finished R s (change R s vote)

@@ -1,7 +1,9 @@
-ghost use Rattle.std.specs.Prelude.{◌≡◌, ◌≤◌, true, false, [], ◌∷◌, slice_get, nat_lt, Some, None};
+ghost use Rattle.std.specs.Prelude.{◌≡◌, ◌≤◌, ℕ, List, true, false, [], ◌∷◌, slice_get, nat_lt, Some, None};
 ghost use Rattle.std.specs.List.{list_any};
+ghost use Rattle.zy_base.specs.declared.cause.Cause.{Cause};
 ghost use Rattle.zy_base.specs.declared.step.Answer.{Answer};
-ghost use Rattle.zy_base.specs.declared.step.Answer.TheVariants.{Taken};
+ghost use Rattle.zy_base.specs.declared.step.Answer.TheVariants.{Refused, Taken};
+ghost use Rattle.zy_base.specs.declared.step.Event.{Event};
 ghost use Rattle.zy_parts.specs.declared.signed.Signed.{Signed};
 ghost use Rattle.zy_parts.specs.declared.reports.Change.{Change};
 ghost use Rattle.zy_parts.specs.declared.reports.Told.{Told};
@@ -15,14 +17,25 @@ ghost use Rattle.zy_change.specs.Views.{certificate};
 ghost use Rattle.zy_table.specs.declared.deeds.Act.TheVariants.{Adopts};
 ghost use Rattle.zy_table.specs.declared.deeds.Verdict.TheVariants.{Take};
 ghost use Rattle.zy_table.specs.State.{State};
-ghost use Rattle.zy_table.specs.Deeds.{Going, begin};
+ghost use Rattle.zy_table.specs.ClientState.{ClientState, refused as refused_client};
+ghost use Rattle.zy_table.specs.ClientRows.{ask, client_step};
+ghost use Rattle.zy_table.specs.Deeds.{Going, begin, refused};
 ghost use Rattle.zy_table.specs.Adopting.{verdict_of, common_with, taken_over, gots_of, checkpoints_between};
 ghost use Rattle.zy_table.specs.Leaving.{concluded, goes};
 ghost use Rattle.zy_table.specs.Beginning.{active_by, adopt, begin_view, confirms, finished};
 ghost use Rattle.zy_table.specs.Fetching.{installed};
 ghost use Rattle.zy_table.specs.Standing.{IsOnePlace};
+ghost use Rattle.zy_table.specs.Whole.{whole_step};
 
 use zy_base::Machine;
+
+/// A refused step changes nothing and sends nothing: its state is the one before it, no frame is sent, nothing is said, and no entry is
+/// gained. So for each event of a replica and of a client, and for each ask.
+pub fn refused_steps<M: Machine>()
+    ensures replica { (s : State M.State) (event : Event) (cause : Cause) → (whole_step M.rules s event).answer ≡ Refused cause → whole_step M.rules s event ≡ refused cause s }
+    ensures client { (s : ClientState) (event : Event) (cause : Cause) → (client_step s event).answer ≡ Refused cause → client_step s event ≡ refused_client cause s }
+    ensures asks { (s : ClientState) (op : List ℕ) (cause : Cause) → (ask s op).answer ≡ Refused cause → ask s op ≡ refused_client cause s }
+{}
 
 /// No view begins at the end of a row that confirms no new view, nor where too few confirmations of it are kept.
 pub fn rests<M: Machine>()

@@ -11,5 +11,5 @@ mod sending;
 pub use client::{Commit, Done, Path, Response};
 pub use deeds::{Act, AnyFrame, Body, Deeds, Gains, Got, Remark, Sent, To, Verdict};
 pub use kept::{OwnCheckpoint, Pending};
-pub use laws::{one_place, rests, stays};
+pub use laws::{one_place, refused_steps, rests, stays};
 pub use sending::outgoing;

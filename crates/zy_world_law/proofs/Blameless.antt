@@ -1,5 +1,5 @@
 -- A step of a correct replica in a good world is refused for no cause that blames anyone, unless another snapshot is told.
-use Rattle.std.proofs.Common.{◌≡◌, inl, inr, ℕ, nat_lt, Bool, true, false, List, Option, Some, None, Err, refl, sym, subst, arith}
+use Rattle.std.proofs.Common.{◌≡◌, inl, inr, ℕ, nat_lt, Bool, true, false, List, Option, Some, None, Ok, Err, refl, sym, subst, arith}
 use Rattle.std.specs.Prelude.{All, map, if◌then◌else◌}
 use Rattle.zy_admit.specs.Judging.{judge_in, same_digest}
 use Rattle.zy_admit.specs.Orders.{stored_in}
@@ -22,17 +22,20 @@ use Rattle.zy_frames.specs.declared.frame.Frame.{Frame}
 use Rattle.zy_frames.specs.declared.frame.Frame.TheVariants as frames
 use Rattle.zy_frames.specs.declared.frame.OrderFrame.{OrderFrame}
 use Rattle.zy_law.specs.World as law
+use Rattle.zy_law_normal.proofs.Own.{by_test}
 use Rattle.zy_parts.specs.Numbers as numbers
 use Rattle.zy_parts.specs.Reports.{began_fields}
 use Rattle.zy_parts.specs.Signing.{part_of}
 use Rattle.zy_parts.specs.declared.reports.Fetch.{Fetch}
 use Rattle.zy_parts.specs.declared.signed.Signed.{Signed}
-use Rattle.zy_table.specs.Beginning.{begun}
+use Rattle.zy_table.proofs.AttemptAnswers.{Ends, begun_ends, certificate_ends, change_ends, change_timer_ends, confirmation_ends, fetch_ends, hate_ends, new_ends, order_ends, pom_ends, request_timer_ends, state_ends}
+use Rattle.zy_table.specs.Beginning.{begun, finished}
 use Rattle.zy_table.specs.Changes.{change}
 use Rattle.zy_table.specs.Confirming.{confirmation, new_view, view_certificate}
 use Rattle.zy_table.specs.Fetching.{fetch, fetch_judged, state_transfer}
 use Rattle.zy_table.specs.Hates.{hate, on_change_timer, on_request_timer}
-use Rattle.zy_table.specs.Leaving.{Attempt}
+use Rattle.zy_table.specs.Deeds.{Outcome}
+use Rattle.zy_table.specs.Leaving.{Attempt, concluded, is_overspent}
 use Rattle.zy_table.specs.Misbehaviour.{pom, tell_all}
 use Rattle.zy_table.specs.Orders.{position_of}
 use Rattle.zy_table.specs.State.{State}
@@ -49,10 +52,20 @@ use Rattle.zy_law_views.proofs.HeardRows.{change_attempt, order_attempt, pom_att
 use Rattle.zy_law_views.proofs.Leaves.{hate_attempt}
 use Rattle.zy_law_views.specs.Rows.{IsReady, blames}
 use Rattle.zy_world_law.specs.Blame.{state_told}
-use Rattle.zy_world_law.proofs.AttemptAnswers.{certificate_ends, change_ends, change_timer_ends, confirmation_ends, fetch_ends, finish_just, hate_ends, new_ends, order_ends, pom_ends, request_timer_ends, state_ends}
 use Rattle.zy_law_views.proofs.IdleFrames.{TellsOfClients}
-use Rattle.zy_world_law.proofs.RowCauses.{IsFree, IsFreeAdmit, Just, admit_free, checkpoint_just, commit_just, confirm_just, free, hole_just, order_as_just, request_just, response_just, taken_just, view_just}
+use Rattle.zy_world_law.proofs.RowCauses.{IsFree, IsFreeAdmit, Just, admit_free, checkpoint_just, commit_just, confirm_just, free, hole_just, order_as_just, refused_just, request_just, response_just, taken_just, view_just}
 use Rattle.zy_world_law.proofs.StepLaws.{StepLaws}
+
+-- ---- the end of a row that may fail on its way
+
+module _ {S : Type 0} (R : Rules S) (s : State S) where
+  finish_just : (told : Option Digest) (attempt : Attempt S) → Ends attempt → ((cause : Cause) → begun R attempt ≡ Err cause → IsFree told cause) → Just R s told (finished R s attempt)
+  finish_just told attempt is causes_free = by (begun R attempt) refl (begun_ends R attempt is)
+    where
+      by : (last : Attempt S) → begun R attempt ≡ last → Ends last → Just R s told (concluded s last)
+      by (Err cause) at ends = refused_just told cause (causes_free cause at)
+      by (Ok end) at ends =
+          by_test (λ (o : Outcome S). Just R s told o) (is_overspent end.1.state.sealer) _ _ (λ over. free R s told causes.KeySpent refl) (λ fits cause same. absurd (ends cause same))
 
 module _ {S : Type 0} (R : Rules S) (laws : StepLaws R) (interval : ℕ) (texts : Texts) (w : law.World) (r : ℕ) (s : State S) (h : List Entry) (ready : IsReady R interval w r s h) (kept : IsWorldOf R interval w texts) where
   -- ---- frames of normal operation

@@ -17,8 +17,7 @@ use Rattle.zy_law_steps.specs.Whole.{IsEventHonest}
 use Rattle.zy_seal.specs.Screening.{screen}
 use Rattle.zy_table.specs.Deeds.{Outcome, refused}
 use Rattle.zy_table.specs.State.{State}
-use Rattle.zy_table.specs.Step.{unless}
-use Rattle.zy_table.specs.Whole.{decoded_as, hear_view, is_view_frame_in_role, view_decoded, view_row, whole_step}
+use Rattle.zy_table.specs.Whole.{decoded_as, hear_view, is_view_frame_in_role, unless, view_decoded, view_row, whole_step}
 use Rattle.zy_table.specs.declared.deeds.AnyFrame.{AnyFrame}
 use Rattle.zy_table.specs.declared.deeds.AnyFrame.TheVariants.{View}
 use Rattle.zy_vframes.specs.Parts.{parts_of}

@@ -34,7 +34,6 @@ pub mod OwnStable
 pub mod SafeFromGood
 pub mod RunsSafe
 pub mod RowCauses
-pub mod AttemptAnswers
 pub mod Blameless
 pub mod NoConflict
 pub mod BlamelessEvents

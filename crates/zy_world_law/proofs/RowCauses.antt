@@ -54,7 +54,7 @@ use Rattle.zy_table.specs.Requests.{is_behind, new_request, request, request_aft
 use Rattle.zy_table.specs.Roles.{view_cause}
 use Rattle.zy_table.specs.Running.{signs_of, spec_of}
 use Rattle.zy_table.specs.State.{State, is_leaving, is_primary, leaves_of, own_view, pending_of, spec_to, window_of}
-use Rattle.zy_table.specs.Step.{commit_in_view, unless}
+use Rattle.zy_table.specs.Whole.{commit_in_view, unless}
 use Rattle.zy_table.specs.declared.kept.OwnCheckpoint.{OwnCheckpoint}
 use Rattle.zy_table.specs.declared.kept.Pending.{Pending}
 use Rattle.zy_law_views.specs.Rows.{blames}

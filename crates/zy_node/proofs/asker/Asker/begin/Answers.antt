@@ -7,4 +7,4 @@ pub returns-in-Refused-clause-begins : goal.returns-in-Refused-clause-begins
 returns-in-Refused-clause-begins g c =
     let stepped = c.in_ok-client.field-0 in
     let is : stepped.answer ≡ Refused c.in-Refused.cause = cc in
-    begin_refused c.args.client c.args.op stepped.answer c.in-Refused.cause stepped.client (g.L.Link.mail c.args.link.now) c.in_ok-client.ensures.answer c.in_ok-client.ensures.client is
+    begin_refused c.args.client c.args.op stepped.answer c.in-Refused.cause stepped.client (g.L.Link.mail c.args.link.now) c.in_ok-client.ensures.stepped.answer c.in_ok-client.ensures.stepped.client is

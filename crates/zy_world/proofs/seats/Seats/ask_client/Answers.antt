@@ -22,7 +22,7 @@ returns-in_ok-client_made-in-Some-clause-stepped g c s is =
     let found : c.in-Some.client ≡ s =
     same_Some c.in-Some.client s (sym c.in-Some.is ∙ c.take_from.ensures.taken ∙ ap (λ (v : Seated g.row.M-State.Denot). correct_in (slice_get v.clients c.args.id.0)) c.self.view_is ∙ is) in
     subst (λ (x : ClientState). IsClientStep x (ask_row x c.args.op) c.in_ok-client_made-in-Some.field-0) found
-    (c.in_ok-client_made-in-Some.ensures.stepped c.in-Some.client (ask_row c.in-Some.client c.args.op) (sym c.waits-waited.ensures) c.in_ok-stepped-in-Some.ensures)
+    (c.in_ok-client_made-in-Some.ensures.stepped c.in-Some.client (ask_row c.in-Some.client c.args.op) (sym c.waits-waited.ensures) c.in_ok-stepped-in-Some.ensures.stepped)
 
 pub returns-in_ok-client_made-in-Some-clause-state : goal.returns-in_ok-client_made-in-Some-clause-state
 returns-in_ok-client_made-in-Some-clause-state g c s is =
@@ -33,4 +33,4 @@ returns-in_ok-client_made-in-Some-clause-state g c s is =
     c.in_ok-client_made-in-Some.ensures.state
     ∙ ap (λ (xs : List (Option ClientState)). with_client (record seats { clients = xs }) c.args.id.0 (Some after)) c.take_from.ensures.left
     ∙ client_again seats c.args.id.0 None (Some after)
-    ∙ ap₂ (λ (v : Seated g.row.M-State.Denot) (x : ClientState). with_client v c.args.id.0 (Some x)) c.self.view_is (c.in_ok-stepped-in-Some.ensures.client ∙ ap (λ (x : ClientState). (ask_row x c.args.op).state) found)
+    ∙ ap₂ (λ (v : Seated g.row.M-State.Denot) (x : ClientState). with_client v c.args.id.0 (Some x)) c.self.view_is (c.in_ok-stepped-in-Some.ensures.stepped.client ∙ ap (λ (x : ClientState). (ask_row x c.args.op).state) found)

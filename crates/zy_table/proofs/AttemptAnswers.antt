@@ -1,5 +1,5 @@
 -- A row that may fail on its way comes to no refusal but by its causes: where it ends, it is taken or held.
-use Rattle.std.proofs.Common.{◌≡◌, ℕ, ◌^◌, nat_eq, nat_lt, Bool, ◌||◌, not, List, Option, Some, None, Ok, Err, refl}
+use Rattle.std.proofs.Common.{◌≡◌, ℕ, ◌^◌, nat_eq, nat_lt, Bool, true, false, ◌||◌, not, List, Option, Some, None, Ok, Err}
 use Rattle.std.specs.Prelude.{Result, if◌then◌else◌}
 use Rattle.std.specs.List.{list_any}
 use Rattle.zy_base.specs.Machine.{Rules}
@@ -32,7 +32,6 @@ use Rattle.zy_evidence.specs.declared.rule.Rule.{Rule}
 use Rattle.zy_exec.specs.Replay.{Point}
 use Rattle.zy_exec.specs.Showing.{point_in}
 use Rattle.zy_frames.specs.declared.frame.OrderFrame.{OrderFrame}
-use Rattle.zy_law_normal.proofs.Own.{by_test}
 use Rattle.zy_parts.specs.declared.reports.Began.{Began}
 use Rattle.zy_parts.specs.declared.reports.Change.{Change}
 use Rattle.zy_parts.specs.declared.reports.Fetch.{Fetch}
@@ -42,28 +41,27 @@ use Rattle.zy_parts.specs.declared.signed.Signed.{Signed}
 use Rattle.zy_parts.specs.declared.statements.Hate.{Hate}
 use Rattle.zy_parts.specs.declared.statements.Order.{Order}
 use Rattle.zy_table.specs.Adopting.{verdict_of}
-use Rattle.zy_table.specs.Beginning.{adopt, adopt_as, adopt_from, adopt_if, begun, certify_with, confirms, finished, wanted_of}
+use Rattle.zy_table.specs.Beginning.{adopt, adopt_as, adopt_from, adopt_if, begun, certify_with, confirms, wanted_of}
 use Rattle.zy_table.specs.Changes.{change, change_judged}
 use Rattle.zy_table.specs.Confirming.{certificate_compared, certificate_judged, confirmation, confirmation_beside, confirmation_judged, new_view, new_view_judged, view_certificate, with_confirmation}
-use Rattle.zy_table.specs.Deeds.{Going, Outcome, begin}
+use Rattle.zy_table.specs.Deeds.{Going, begin}
 use Rattle.zy_table.specs.Fetching.{fetch, fetch_judged, install, state_for, state_heard, state_judged, state_transfer}
 use Rattle.zy_table.specs.Hates.{count_own, has_pending, hate, hate_counted, hate_from, on_change_timer, on_request_timer, own_hate, say_hate, then_ask, with_hate_of}
-use Rattle.zy_table.specs.Leaving.{Attempt, collect, concluded, given, is_overspent, leave, leave_alone}
+use Rattle.zy_table.specs.Leaving.{Attempt, collect, given, leave, leave_alone}
 use Rattle.zy_table.specs.Misbehaviour.{blamed, pom, tell_all}
 use Rattle.zy_table.specs.State.{State, own_view}
 use Rattle.zy_table.specs.declared.deeds.Verdict.{Verdict}
 use Rattle.zy_table.specs.declared.deeds.Verdict.TheVariants as verdicts
 use Rattle.zy_vframes.specs.declared.frame.ViewCert.{ViewCert}
-use Rattle.zy_world_law.proofs.RowCauses.{IsFree, Just, free, refused_just}
 
--- no refusal
+-- it is no refusal
 abbrev pub IsTaking : Answer → Type 0
 IsTaking answer = (cause : Cause) → answer ≡ Refused cause → ⊥
 
-taking : IsTaking Taken
+pub taking : IsTaking Taken
 taking cause is = absurd cc
 
-holding : IsTaking Held
+pub holding : IsTaking Held
 holding cause is = absurd cc
 
 abbrev pub Ends : {S : Type 0} → Attempt S → Type 0
@@ -72,7 +70,8 @@ Ends (Ok end) = IsTaking end.0
 
 module _ {S : Type 0} (R : Rules S) where
   ends_tested : (b : Bool) (x y : Attempt S) → Ends x → Ends y → Ends (if b then x else y)
-  ends_tested b x y one other = by_test (λ (a : Attempt S). Ends a) b x y (λ is. one) (λ is. other)
+  ends_tested true x y one other = one
+  ends_tested false x y one other = other
 
   -- ---- a view begins
 
@@ -240,13 +239,3 @@ module _ {S : Type 0} (R : Rules S) where
     pub change_timer_ends : (mode : Mode) → Ends (on_change_timer R s mode)
     change_timer_ends (Active view) = taking
     change_timer_ends (Leaving view) = hates_from _
-
-    -- ---- the end of a row
-
-    pub finish_just : (told : Option Digest) (attempt : Attempt S) → Ends attempt → ((cause : Cause) → begun R attempt ≡ Err cause → IsFree told cause) → Just R s told (finished R s attempt)
-    finish_just told attempt is causes_free = by (begun R attempt) refl (begun_ends attempt is)
-      where
-        by : (last : Attempt S) → begun R attempt ≡ last → Ends last → Just R s told (concluded s last)
-        by (Err cause) at ends = refused_just told cause (causes_free cause at)
-        by (Ok end) at ends =
-            by_test (λ (o : Outcome S). Just R s told o) (is_overspent end.1.state.sealer) _ _ (λ over. free R s told causes.KeySpent refl) (λ fits cause same. absurd (ends cause same))
