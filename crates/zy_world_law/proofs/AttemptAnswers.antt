@@ -243,10 +243,10 @@ module _ {S : Type 0} (R : Rules S) where
 
     -- ---- the end of a row
 
-    pub finish_just : (told : Option Digest) (attempt : Attempt S) → Ends attempt → ((cause : Cause) → begun R attempt ≡ Err cause → IsFree told cause) → Just R s told (finished R s attempt)
-    finish_just told attempt is causes_free = by (begun R attempt) refl (begun_ends attempt is)
+    pub finish_just : (Excuse : Cause → Type 0) (attempt : Attempt S) → Ends attempt → ((cause : Cause) → begun R attempt ≡ Err cause → IsFree Excuse cause) → Just R s Excuse (finished R s attempt)
+    finish_just Excuse attempt is causes_free = by (begun R attempt) refl (begun_ends attempt is)
       where
-        by : (last : Attempt S) → begun R attempt ≡ last → Ends last → Just R s told (concluded s last)
-        by (Err cause) at ends = refused_just told cause (causes_free cause at)
+        by : (last : Attempt S) → begun R attempt ≡ last → Ends last → Just R s Excuse (concluded s last)
+        by (Err cause) at ends = refused_just Excuse cause (causes_free cause at)
         by (Ok end) at ends =
-            by_test (λ (o : Outcome S). Just R s told o) (is_overspent end.1.state.sealer) _ _ (λ over. free R s told causes.KeySpent refl) (λ fits cause same. absurd (ends cause same))
+            by_test (λ (o : Outcome S). Just R s Excuse o) (is_overspent end.1.state.sealer) _ _ (λ over. free R s Excuse causes.KeySpent refl) (λ fits cause same. absurd (ends cause same))
