@@ -108,7 +108,7 @@ module _ {S : Type 0} (R : Rules S) (interval : ℕ) (texts : Texts) (w : World)
       confirmation_lawful R interval texts w r s history ready kept vote (by_replica w _ vote.by held) held
   frame_lawful (frames.ViewCert cert) honest = cert_frame_lawful cert honest
   frame_lawful (frames.Fetch vote) honest = fetch_lawful R interval texts w r s history ready kept vote
-  frame_lawful (frames.State place snapshot) honest = (state_lawful R interval texts w r s history ready kept snapshot (reading snapshot) honest.brought place).step
+  frame_lawful (frames.State place snapshot) honest = (state_lawful R interval texts w r s history ready kept snapshot (reading snapshot) place honest.brought).step
 
   -- ---- a frame that is heard, and bytes that are read
 

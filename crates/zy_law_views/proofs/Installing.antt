@@ -2,7 +2,7 @@
 use Rattle.std.proofs.Common.{◌≡◌, ℕ, ◌-◌, ◌^◌, ◌<◌, ◌≤◌, nat_eq, nat_lt, Bool, true, false, cond, List, [], ◌++◌, length, map, take, drop, Option, Some, None, Ok, Err, refl, sym, ap, ◌∙◌, subst, arith}
 use Rattle.std.specs.Prelude.{All, IfSome, Result, if◌then◌else◌, option_map, slice_get, unwrap_or}
 use Rattle.std.proofs.Math.Seq.{drop-nil, take-nil}
-use Rattle.std.proofs.lemmas.Bool.{le-leb, le-ltb, ltb-true}
+use Rattle.std.proofs.lemmas.Bool.{eqb-true, le-leb, le-ltb, ltb-true}
 use Rattle.std.proofs.lemmas.List.{take_all}
 use Rattle.std.proofs.lemmas.Option.{same_Some}
 use Rattle.zy_base.specs.Machine.{Rules}
@@ -67,6 +67,7 @@ use Rattle.zy_law_views.specs.Adoptions.{IsDue}
 use Rattle.zy_law_views.specs.Cores.{core_of}
 use Rattle.zy_law_views.specs.Rows.{IsReady, blames}
 use Rattle.zy_law_views.proofs.Adopting.{ends_lawfully, rests}
+use Rattle.zy_law_views.specs.Wanted.{IsUnwanted}
 use Rattle.zy_law_views.specs.Work.{workplace_of}
 use Rattle.zy_law_views.proofs.AtWork.{work_begins}
 use Rattle.zy_law_views.proofs.Ending.{HasBegun, IsBefore, MayBegin, ends_begun}
@@ -188,11 +189,11 @@ reading_of {S} IsState R shows leads stands bytes place head point interval with
     )
 
 module _ {S : Type 0} (R : Rules S) (interval : ℕ) (texts : Texts) (w : World) (r : ℕ) (s : State S) (history : List Entry) (ready : IsReady R interval w r s history) (kept : IsWorldOf R interval w texts)
-    (bytes : List ℕ) (reading : IsReading R bytes) where
+    (bytes : List ℕ) (reading : IsReading R bytes) (heard_at : Place) where
   -- of what blames others there is only that the bytes that came aren't those that are wanted
   abbrev pub IsOfBytes : Attempt S → Type 0
   IsOfBytes (Ok end) = Unit {0}
-  IsOfBytes (Err cause) = blames cause ≡ true → (wanted : Digest) × (cause ≡ causes.WrongState wanted (digest_of bytes))
+  IsOfBytes (Err cause) = blames cause ≡ true → IsUnwanted s heard_at bytes cause
 
   -- what the row comes to is lawful, and what refuses it is of the bytes
   pub record IsGoodEnd (attempt : Attempt S) : Type 0 where
@@ -359,36 +360,46 @@ module _ {S : Type 0} (R : Rules S) (interval : ℕ) (texts : Texts) (w : World)
       by true false other is = absurd cc
       by false same same_is is = absurd cc
 
-  wrong_of : (wanted : Fetch) (place : Place) (cause : Cause) → state_cause wanted place bytes ≡ Some cause → blames cause ≡ true → (other : Digest) × (cause ≡ causes.WrongState other (digest_of bytes))
-  wrong_of wanted place cause = by (nat_eq place.0 wanted.place.0) (same_digest wanted.state (digest_of bytes))
+  wrong_of : (x : Waiting) → s.views.waiting ≡ Some x → (p : Signed Change) → slice_get x.cert.new.stmt.changes x.chosen.provider ≡ Some p
+      → (cause : Cause) → state_cause (wanted_of p.stmt.told) heard_at bytes ≡ Some cause → blames cause ≡ true → IsUnwanted s heard_at bytes cause
+  wrong_of x waits p there cause = by (nat_eq heard_at.0 p.stmt.told.stable_place.0) (same_digest p.stmt.told.state (digest_of bytes)) refl refl
     where
-      by : (there same : Bool) → cond there (cond same None (Some (causes.WrongState wanted.state (digest_of bytes)))) (Some causes.Unmatched) ≡ Some cause → blames cause ≡ true
-          → (other : Digest) × (cause ≡ causes.WrongState other (digest_of bytes))
-      by true true is blamed = absurd cc
-      by true false is blamed = (wanted.state, sym (same_Some (causes.WrongState wanted.state (digest_of bytes)) cause is))
-      by false same is blamed = let free = subst (λ (c : Cause). blames c ≡ true) (sym (same_Some causes.Unmatched cause is)) blamed in absurd cc
+      by : (here same : Bool) → nat_eq heard_at.0 p.stmt.told.stable_place.0 ≡ here → same_digest p.stmt.told.state (digest_of bytes) ≡ same
+          → cond here (cond same None (Some (causes.WrongState p.stmt.told.state (digest_of bytes)))) (Some causes.Unmatched) ≡ Some cause → blames cause ≡ true → IsUnwanted s heard_at bytes cause
+      by true true here_is same_is is blamed = absurd cc
+      by true false here_is same_is is blamed =
+          record {
+            waiting = x;
+            waits = waits;
+            report = p;
+            provides = there;
+            placed = eqb-true _ _ here_is;
+            other = λ equal. let both : false ≡ true = sym same_is ∙ (digest-equal p.stmt.told.state (digest_of bytes)).1 equal in absurd cc;
+            told = sym (same_Some (causes.WrongState p.stmt.told.state (digest_of bytes)) cause is);
+          }
+      by false same here_is same_is is blamed = let free = subst (λ (c : Cause). blames c ≡ true) (sym (same_Some causes.Unmatched cause is)) blamed in absurd cc
 
-  module _ (kept_bytes : IsKept texts bytes) (place : Place) where
+  module _ (kept_bytes : IsKept texts bytes) where
     shows : (x : Waiting) → s.views.waiting ≡ Some x → IsWaitingTied interval w s.views.mode x → (p : Signed Change) → slice_get x.cert.new.stmt.changes x.chosen.provider ≡ Some p → p.stmt.told.state ≡ digest_of bytes
         → (shown : Option (Point S)) → point_in R p.stmt.told.stable_place p.stmt.told.stable_head bytes ≡ shown → IsGoodEnd (install R s x p.stmt.told shown)
     shows x waits tied p there digest None shown = refuses_freely causes.NotState refl
     shows x waits tied p there digest (Some point) shown = installs x tied p there (ap texts digest ∙ kept_bytes) point shown waits
 
     judges : (x : Waiting) → s.views.waiting ≡ Some x → IsWaitingTied interval w s.views.mode x → (p : Signed Change) → slice_get x.cert.new.stmt.changes x.chosen.provider ≡ Some p
-        → (against : Option Cause) → state_cause (wanted_of p.stmt.told) place bytes ≡ against → IsGoodEnd (state_judged R s x p.stmt.told bytes against)
-    judges x waits tied p there (Some cause) is = record { step = refuses_it cause; of_bytes = λ blamed. wrong_of (wanted_of p.stmt.told) place cause is blamed }
+        → (against : Option Cause) → state_cause (wanted_of p.stmt.told) heard_at bytes ≡ against → IsGoodEnd (state_judged R s x p.stmt.told bytes against)
+    judges x waits tied p there (Some cause) is = record { step = refuses_it cause; of_bytes = λ blamed. wrong_of x waits p there cause is blamed }
     judges x waits tied p there None is =
-        shows x waits tied p there (wanted_is (wanted_of p.stmt.told) place is) (point_in R p.stmt.told.stable_place p.stmt.told.stable_head bytes) refl
+        shows x waits tied p there (wanted_is (wanted_of p.stmt.told) heard_at is) (point_in R p.stmt.told.stable_place p.stmt.told.stable_head bytes) refl
 
     is_for : (x : Waiting) → s.views.waiting ≡ Some x → IsWaitingTied interval w s.views.mode x → (p : Option (Signed Change)) → slice_get x.cert.new.stmt.changes x.chosen.provider ≡ p
-        → IsGoodEnd (state_for R s x place bytes p)
+        → IsGoodEnd (state_for R s x heard_at bytes p)
     is_for x waits tied None there = refuses_freely causes.Unmatched refl
-    is_for x waits tied (Some p) there = judges x waits tied p there (state_cause (wanted_of p.stmt.told) place bytes) refl
+    is_for x waits tied (Some p) there = judges x waits tied p there (state_cause (wanted_of p.stmt.told) heard_at bytes) refl
 
-    hears : (waiting : Option Waiting) → s.views.waiting ≡ waiting → IfSome waiting (IsWaitingTied interval w s.views.mode) → IsGoodEnd (state_heard R s place bytes waiting)
+    hears : (waiting : Option Waiting) → s.views.waiting ≡ waiting → IfSome waiting (IsWaitingTied interval w s.views.mode) → IsGoodEnd (state_heard R s heard_at bytes waiting)
     hears None waits tied = refuses_freely causes.Unmatched refl
     hears (Some x) waits tied = is_for x waits tied (slice_get x.cert.new.stmt.changes x.chosen.provider) refl
 
-    pub state_lawful : IsGoodEnd (state_transfer R s place bytes)
+    pub state_lawful : IsGoodEnd (state_transfer R s heard_at bytes)
     unfolding state_transfer
     state_lawful = hears s.views.waiting refl ready.tied.hearing.waiting

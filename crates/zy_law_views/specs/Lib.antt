@@ -7,6 +7,7 @@ pub mod Adoptions
 pub mod Cores
 pub mod Example
 pub mod Rows
+pub mod Wanted
 pub mod Work
 pub mod Steps
 pub mod Frames

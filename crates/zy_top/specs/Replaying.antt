@@ -12,6 +12,7 @@ use Rattle.zy_world_setup.specs.Starting.{IsStart}
 use Rattle.zy_space.specs.Service.{space_rules}
 use Rattle.zy_world.specs.Shown.{Shown}
 use Rattle.zy_world.specs.Shows.{Shows}
+use Rattle.zy_world_law.specs.Blame.{IsBlameless}
 use Rattle.zy_world_law.specs.Events as events
 use Rattle.zy_world_law.specs.Events.{happens}
 use Rattle.zy_world_law.specs.Runs.{End, Rest, Run, goes_on, run, worlds_of}
@@ -136,28 +137,42 @@ abbrev pub IsRunning : {A : Type 0} → Result A Exit → Type 0
 IsRunning (Ok x) = ⊤
 IsRunning (Err exit) = IsTrue (is_running exit)
 
+-- ---- the runs of commands
+
+-- what holds of the run that a group and a schedule tell of
+abbrev pub OfReplay : (Setup → List Line → Type 0) → List ℕ → List ℕ → Type 0
+OfReplay Holds group schedule =
+    (told : ReplayGroup) (lines : List Line) → group_of group ≡ Ok told → schedule_of schedule ≡ Ok lines → Holds (setup_of told) lines
+
+-- of the run of a made schedule
+abbrev pub OfMake : (Setup → List Line → Type 0) → ℕ → ℕ → Type 0
+OfMake Holds number asks = Holds (made_setup number) (made_lines number asks)
+
+-- and of the run of a command, if it makes one; of that of a replay over files that are told
+abbrev pub OfCommand : (Setup → List Line → Type 0) → Option Held → Result Command ℕ → Type 0
+OfCommand Holds told (Ok (Command.Replay group schedule)) = IfSome told (λ files. OfReplay Holds (content_of files group) (content_of files schedule))
+OfCommand Holds told (Ok (Command.Make number asks)) = OfMake Holds number asks
+OfCommand Holds told (Ok (Command.Space script)) = ⊤
+OfCommand Holds told (Ok (Command.Keys seed by height)) = ⊤
+OfCommand Holds told (Ok (Command.Node group secret id turns)) = ⊤
+OfCommand Holds told (Ok (Command.Ask group secret id turns op)) = ⊤
+OfCommand Holds told (Err word) = ⊤
+
 -- ---- the headline
 
--- every world of the run that a group and a schedule tell of is safe, and the agreed list before each event is a front of the
--- one after it
+-- every world of the run is safe, and the agreed list before each event is a front of the one after it
 pub record IsSafeRun (setup : Setup) (schedule : List Line) : Type 0 where
   pub safe : AllByRecursion (IsSafe space_rules) (worlds_of space_rules setup schedule)
   pub grows : AllGrow space_rules (start space_rules setup) (run space_rules schedule (start space_rules setup)).worlds
 
-abbrev pub IsSafeReplay : List ℕ → List ℕ → Type 0
-IsSafeReplay group schedule =
-    (told : ReplayGroup) (lines : List Line) → group_of group ≡ Ok told → schedule_of schedule ≡ Ok lines → IsSafeRun (setup_of told) lines
-
--- and so for the run of a made schedule
-abbrev pub IsSafeMake : ℕ → ℕ → Type 0
-IsSafeMake number asks = IsSafeRun (made_setup number) (made_lines number asks)
-
--- the run of a command, if it makes one; that of a replay over files that are told
 abbrev pub IsSafeCommand : Option Held → Result Command ℕ → Type 0
-IsSafeCommand told (Ok (Command.Replay group schedule)) = IfSome told (λ files. IsSafeReplay (content_of files group) (content_of files schedule))
-IsSafeCommand told (Ok (Command.Make number asks)) = IsSafeMake number asks
-IsSafeCommand told (Ok (Command.Space script)) = ⊤
-IsSafeCommand told (Ok (Command.Keys seed by height)) = ⊤
-IsSafeCommand told (Ok (Command.Node group secret id turns)) = ⊤
-IsSafeCommand told (Ok (Command.Ask group secret id turns op)) = ⊤
-IsSafeCommand told (Err word) = ⊤
+IsSafeCommand told asked = OfCommand IsSafeRun told asked
+
+-- ---- beside it
+
+-- in every world of the run no correct replica is blamed, whatever event is next
+abbrev pub IsBlamelessRun : Setup → List Line → Type 0
+IsBlamelessRun setup schedule = AllByRecursion (IsBlameless space_rules) (worlds_of space_rules setup schedule)
+
+abbrev pub IsBlamelessCommand : Option Held → Result Command ℕ → Type 0
+IsBlamelessCommand told asked = OfCommand IsBlamelessRun told asked

@@ -5,7 +5,7 @@ ghost use Rattle.zy_edge.specs.Files.{content_of};
 ghost use Rattle.zy_schedule.specs.Texts.{IsSaid};
 ghost use Rattle.zy_world_setup.specs.Starting.{IsStart};
 ghost use Rattle.zy_top_words.specs.Calls.{IsReading, exit_of, stops_reading};
-ghost use Rattle.zy_top.specs.Replaying.{IsGroupJudged, IsRunning, IsSafeReplay, IsScheduleJudged};
+ghost use Rattle.zy_top.specs.Replaying.{IsBlamelessRun, IsGroupJudged, IsRunning, IsSafeRun, IsScheduleJudged, OfReplay};
 ghost use Rattle.zy_top_words.specs.Ends.{IsAnswer, IsWritten, is_read_fault, is_foreign, is_refusal, is_write_fault, limit};
 ghost use Rattle.zy_top.specs.Verdict.{replay_verdict, run_verdict};
 ghost use Rattle.zy_space.specs.Service.{space_rules};
@@ -19,14 +19,16 @@ use zy_edge::{Files, Sink};
 use zy_schedule::{Line, read_schedule};
 use zy_space::Space;
 use zy_top_words::{Exit, read_file};
-use zy_world_law::runs_are_safe;
+use zy_world_law::{no_correct_replica_is_blamed, runs_are_safe};
 use zy_world_setup::Setup;
 
-/// Every world of a run that a group and a schedule tell of is safe, and the agreed list only grows.
+/// Every world of a run that a group and a schedule tell of is safe, the agreed list only grows, and no correct replica is blamed.
 pub(crate) fn replays_are_safe()
-    ensures { (group schedule : List ℕ) → IsSafeReplay group schedule }
+    ensures safe { (group schedule : List ℕ) → OfReplay IsSafeRun group schedule }
+    ensures blameless { (group schedule : List ℕ) → OfReplay IsBlamelessRun group schedule }
 {
     runs_are_safe::<Space>();
+    no_correct_replica_is_blamed::<Space>();
 }
 
 /// Runs the schedule in the world of the group.

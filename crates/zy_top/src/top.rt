@@ -6,7 +6,7 @@ ghost use Rattle.zy_top_words.specs.Ends.{IsAnswer, IsOwnAnswer, IsReport, IsWri
 ghost use Rattle.zy_top.specs.Hosting.{AreBound, AreSpent, EndsItself, IsHosted, is_hosted};
 ghost use Rattle.zy_top.specs.Verdict.{own_verdict, space_verdict, verdict};
 ghost use Rattle.zy_top.specs.Keys.{key_file};
-ghost use Rattle.zy_top.specs.Replaying.{IsSafeCommand};
+ghost use Rattle.zy_top.specs.Replaying.{IsBlamelessCommand, IsSafeCommand};
 ghost use Rattle.zy_top_words.specs.Words.{command_of, texts};
 
 use crate::keys::key_file;
@@ -85,6 +85,10 @@ pub fn zyzzyva<F: Files, S: Sink, L: Link, C: Clock>(
     // Whatever the answer is: in the run that a told group and a told schedule spell, and in the run that a number makes, every
     // world is safe, and the agreed list only grows.
     ensures headline { IsSafeCommand (F.held files.old) (command_of (texts words.now)) }
+
+    // Nor does any event in one of these worlds blame a correct replica, whatever it is: by two orders of its own, or by a refusal
+    // because two heads stand at one proven place, or because what is stable isn't on what a view begins with.
+    ensures blameless { IsBlamelessCommand (F.held files.old) (command_of (texts words.now)) }
 
     // Over any files, a refusal has not touched the sink.
     ensures refused { IsTrue (is_refusal result) → out.new ≡ out.old }

@@ -1,5 +1,5 @@
--- Why a frame of normal operation is refused: for what blames nobody, or because a checkpoint told another snapshot than the own.
-use Rattle.std.proofs.Common.{◌≡◌, ◌⊎◌, inl, inr, ℕ, ◌+◌, nat_eq, nat_lt, Bool, true, false, List, [], ◌∷◌, Option, Some, None, Ok, Err, refl, subst}
+-- Why a frame of normal operation is refused: for what blames nobody, or because a checkpoint tells another snapshot than the own.
+use Rattle.std.proofs.Common.{◌≡◌, ◌⊎◌, inl, inr, ℕ, ◌+◌, nat_eq, nat_lt, Bool, true, false, List, [], ◌∷◌, Option, Some, None, Ok, Err, refl, sym, ◌∙◌, subst}
 use Rattle.std.specs.Prelude.{◌%◌, Result, if◌then◌else◌, nat_le, option_map}
 use Rattle.zy_admit.specs.Judging.{entry_of, judge_beside, judge_fresh, newer, same_digest, same_order}
 use Rattle.zy_admit.specs.Orders.{orders_from, stored_in}
@@ -19,7 +19,7 @@ use Rattle.zy_base.specs.declared.step.Answer.TheVariants.{Held, Refused, Taken}
 use Rattle.zy_law_views.proofs.Judged.{uncertified}
 use Rattle.zy_cert.specs.Certificates.{certified}
 use Rattle.zy_cert.specs.Equal as certs
-use Rattle.zy_cert.specs.Equal.{same_spec}
+use Rattle.zy_cert.specs.Equal.{digest-equal, same_spec}
 use Rattle.zy_cert.specs.Points.{point_of_spec}
 use Rattle.zy_cert.specs.Signers.{has_signer}
 use Rattle.zy_chain.specs.Entries.{digest_of_entry}
@@ -58,92 +58,96 @@ use Rattle.zy_table.specs.Whole.{commit_in_view, unless}
 use Rattle.zy_table.specs.declared.kept.OwnCheckpoint.{OwnCheckpoint}
 use Rattle.zy_table.specs.declared.kept.Pending.{Pending}
 use Rattle.zy_law_views.specs.Rows.{blames}
-use Rattle.zy_world_law.specs.Blame.{IsOtherState}
+use Rattle.zy_world_law.specs.Blame.{IsOtherCheckpoint}
 
--- it blames nobody; or this is what is told of a snapshot, and the own one is another
-abbrev pub IsFree : Option Digest → Cause → Type 0
-IsFree told cause = (blames cause ≡ false) ⊎ IsOtherState told cause
+-- it blames nobody, or there is this excuse
+abbrev pub IsFree : (Cause → Type 0) → Cause → Type 0
+IsFree Excuse cause = (blames cause ≡ false) ⊎ Excuse cause
 
-abbrev pub IsJustAnswer : Option Digest → Answer → Type 0
-IsJustAnswer told answer = (cause : Cause) → answer ≡ Refused cause → IsFree told cause
+-- no frame is heard that excuses one
+abbrev pub NoExcuse : Cause → Type 0
+NoExcuse cause = ⊥
+
+abbrev pub IsJustAnswer : (Cause → Type 0) → Answer → Type 0
+IsJustAnswer Excuse answer = (cause : Cause) → answer ≡ Refused cause → IsFree Excuse cause
 
 -- no step that is taken is refused
-pub taken_just : (told : Option Digest) → IsJustAnswer told Taken
-taken_just told cause is = absurd cc
+pub taken_just : (Excuse : Cause → Type 0) → IsJustAnswer Excuse Taken
+taken_just Excuse cause is = absurd cc
 
-pub held_just : (told : Option Digest) → IsJustAnswer told Held
-held_just told cause is = absurd cc
+pub held_just : (Excuse : Cause → Type 0) → IsJustAnswer Excuse Held
+held_just Excuse cause is = absurd cc
 
-pub refused_just : (told : Option Digest) (cause : Cause) → IsFree told cause → IsJustAnswer told (Refused cause)
-refused_just told cause free other is = let same : cause ≡ other = cc in subst (IsFree told) same free
+pub refused_just : (Excuse : Cause → Type 0) (cause : Cause) → IsFree Excuse cause → IsJustAnswer Excuse (Refused cause)
+refused_just Excuse cause free other is = let same : cause ≡ other = cc in subst (IsFree Excuse) same free
 
 module _ {S : Type 0} (R : Rules S) (s : State S) where
-  abbrev pub Just : Option Digest → Outcome S → Type 0
-  Just told o = IsJustAnswer told o.answer
+  abbrev pub Just : (Cause → Type 0) → Outcome S → Type 0
+  Just Excuse o = IsJustAnswer Excuse o.answer
 
   -- a cause that blames nobody
   abbrev pub Free : Cause → Type 0
   Free cause = blames cause ≡ false
 
-  module _ (told : Option Digest) where
-    pub free : (cause : Cause) → Free cause → Just told (refused cause s)
-    free cause blameless = refused_just told cause (inl blameless)
+  module _ (Excuse : Cause → Type 0) where
+    pub free : (cause : Cause) → Free cause → Just Excuse (refused cause s)
+    free cause blameless = refused_just Excuse cause (inl blameless)
 
-    taken : IsJustAnswer told Taken
-    taken = taken_just told
+    taken : IsJustAnswer Excuse Taken
+    taken = taken_just Excuse
 
-    keeps_waiting : IsJustAnswer told Held
-    keeps_waiting = held_just told
+    keeps_waiting : IsJustAnswer Excuse Held
+    keeps_waiting = held_just Excuse
 
-    tested : (b : Bool) (x y : Outcome S) → Just told x → Just told y → Just told (if b then x else y)
-    tested b x y one other = by_test (Just told) b x y (λ is. one) (λ is. other)
+    tested : (b : Bool) (x y : Outcome S) → Just Excuse x → Just Excuse y → Just Excuse (if b then x else y)
+    tested b x y one other = by_test (Just Excuse) b x y (λ is. one) (λ is. other)
 
-    pub view_just : (view : ℕ) (o : Outcome S) → Just told o → Just told (unless (view_cause s view) s o)
+    pub view_just : (view : ℕ) (o : Outcome S) → Just Excuse o → Just Excuse (unless (view_cause s view) s o)
     view_just view o just =
-        by_test (λ (c : Option Cause). Just told (unless c s o)) (nat_lt view (own_view s)) _ _ (λ old. free causes.OldView refl)
-        (λ not_old. by_test (λ (c : Option Cause). Just told (unless c s o)) (nat_lt (own_view s) view) _ _ (λ newer. free causes.NewerView refl)
-        (λ not_newer. by_test (λ (c : Option Cause). Just told (unless c s o)) (is_leaving s) _ _ (λ leaves. free causes.NotActive refl) (λ stays. just)))
+        by_test (λ (c : Option Cause). Just Excuse (unless c s o)) (nat_lt view (own_view s)) _ _ (λ old. free causes.OldView refl)
+        (λ not_old. by_test (λ (c : Option Cause). Just Excuse (unless c s o)) (nat_lt (own_view s) view) _ _ (λ newer. free causes.NewerView refl)
+        (λ not_newer. by_test (λ (c : Option Cause). Just Excuse (unless c s o)) (is_leaving s) _ _ (λ leaves. free causes.NotActive refl) (λ stays. just)))
 
     -- ---- requests
 
-    waits : (ask : Signed Ask) (pending : Option Pending) → Just told (request_at_backup R s ask pending)
+    waits : (ask : Signed Ask) (pending : Option Pending) → Just Excuse (request_at_backup R s ask pending)
     waits ask None = tested (nat_le 1 (leaves_of s)) _ _ taken (free causes.KeySpent refl)
     waits ask (Some pending) = tested (nat_eq ask.stmt.stamp.0 pending.ask.stmt.stamp.0) _ _ taken (tested (nat_le 1 (leaves_of s)) _ _ taken (free causes.KeySpent refl))
 
-    new_just : (ask : Signed Ask) → Just told (new_request R s ask)
+    new_just : (ask : Signed Ask) → Just Excuse (new_request R s ask)
     new_just ask =
         tested (is_primary s) _ _
         (tested (nat_lt (last_place s.kept) (window_of s)) _ _ (tested (nat_le (signs_of R s ask + 1) (leaves_of s)) _ _ taken (free causes.KeySpent refl)) (free (causes.WindowFull (record { 0 = window_of s })) refl))
         (waits ask (pending_of s (entry_of ask).client))
 
-    responds : (said : Option (Signed Spec)) (spec : Spec) (known : Known) → Just told (respond_as R s said spec known)
+    responds : (said : Option (Signed Spec)) (spec : Spec) (known : Known) → Just Excuse (respond_as R s said spec known)
     responds None spec known = tested (nat_le 1 (leaves_of s)) _ _ taken (free causes.KeySpent refl)
     responds (Some signed) spec known = taken
 
-    after_known : (ask : Signed Ask) (known : Option Known) → Just told (request_after R s ask known)
+    after_known : (ask : Signed Ask) (known : Option Known) → Just Excuse (request_after R s ask known)
     after_known ask None = new_just ask
     after_known ask (Some known) =
         let spec = spec_of (own_view s) ask known in
         tested (nat_lt ask.stmt.stamp.0 known.stamp.0) _ _ (free causes.OldStamp refl)
         (tested (nat_eq ask.stmt.stamp.0 known.stamp.0) _ _ (responds (said_already (spec_to s spec.client) spec) spec known) (new_just ask))
 
-    pub request_just : (ask : Signed Ask) → Just told (request R s ask)
+    pub request_just : (ask : Signed Ask) → Just Excuse (request R s ask)
     unfolding request
     request_just ask =
         tested (is_leaving s) _ _ (free causes.NotActive refl)
         (tested (is_behind ask (pending_of s (entry_of ask).client)) _ _ (free causes.OldStamp refl) (after_known ask (known_in R s.kept (entry_of ask).client.0)))
 
-    again : (by : Party) (kept : Option OrderFrame) → Just told (order_again s by kept)
+    again : (by : Party) (kept : Option OrderFrame) → Just Excuse (order_again s by kept)
     again by None = free causes.OldPlace refl
     again by (Some kept) = taken
 
-    confirm_known : (by : Party) (ask : Signed Ask) (known : Option Known) → Just told (confirm_after R s by ask known)
+    confirm_known : (by : Party) (ask : Signed Ask) (known : Option Known) → Just Excuse (confirm_after R s by ask known)
     confirm_known by ask None = request_just ask
     confirm_known by ask (Some known) =
         tested (nat_lt ask.stmt.stamp.0 known.stamp.0) _ _ (free causes.OldStamp refl)
         (tested (nat_eq ask.stmt.stamp.0 known.stamp.0) _ _ (again by (stored_in s.orders known.place.0)) (request_just ask))
 
-    pub confirm_just : (confirmed : Signed Confirm) (ask : Signed Ask) → Just told (confirm R s confirmed ask)
+    pub confirm_just : (confirmed : Signed Confirm) (ask : Signed Ask) → Just Excuse (confirm R s confirmed ask)
     unfolding confirm
     confirm_just confirmed ask =
         tested (same_digest confirmed.stmt.request (digest_of_entry (entry_of ask))) _ _ (confirm_known confirmed.by ask (known_in R s.kept (entry_of ask).client.0)) (free causes.Unmatched refl)
@@ -171,7 +175,7 @@ module _ {S : Type 0} (R : Rules S) (s : State S) where
     admit_free None order ask now = fresh_free order ask now
     admit_free (Some kept) order ask now = admit_tested (same_order kept.order.stmt order) _ _ refl tt
 
-    pub order_as_just : (o : OrderFrame) (a : Admit) → IsFreeAdmit a → Just told (order_as R s o a)
+    pub order_as_just : (o : OrderFrame) (a : Admit) → IsFreeAdmit a → Just Excuse (order_as R s o a)
     order_as_just o admits.Next is = tested (nat_le (signs_of R s o.ask) (leaves_of s)) _ _ taken (free causes.KeySpent refl)
     order_as_just o admits.Held is = tested (owes_hole s) _ _ (tested (nat_le 1 (leaves_of s)) _ _ keeps_waiting (free causes.KeySpent refl)) keeps_waiting
     order_as_just o (admits.Refused cause) is = free cause is
@@ -179,39 +183,39 @@ module _ {S : Type 0} (R : Rules S) (s : State S) where
 
     -- ---- commit certificates and holes
 
-    committed : (specs : List (Signed Spec)) (client : ClientId) (local : Local) (own : Option Digest) → Just told (commit_beside R s specs client local own)
+    committed : (specs : List (Signed Spec)) (client : ClientId) (local : Local) (own : Option Digest) → Just Excuse (commit_beside R s specs client local own)
     committed specs client local None = free (causes.Behind local.place) refl
     committed specs client local (Some own) =
         tested (same_digest own local.head) _ _
         (tested (nat_le (locals_owed (local_said s local) + checks_owed (with_certificate s local.place specs) (own_at R s local.place.0) true) (leaves_of s)) _ _ taken (free causes.KeySpent refl))
         (free (causes.OtherHistory own local.head) refl)
 
-    commit_point : (specs : List (Signed Spec)) (client : ClientId) (point : Result (View × Place × Digest) Cause) → certified same_spec point_of_spec s.counts.cert specs ≡ point → Just told (commit_judged R s specs client point)
+    commit_point : (specs : List (Signed Spec)) (client : ClientId) (point : Result (View × Place × Digest) Cause) → certified same_spec point_of_spec s.counts.cert specs ≡ point → Just Excuse (commit_judged R s specs client point)
     commit_point specs client (Err cause) is = free cause (uncertified same_spec point_of_spec s.counts.cert specs cause is)
     commit_point specs client (Ok point) is = committed specs client (local_at point) (head_in (stretch_of s.kept) point.1.0)
 
-    commit_all : (first : Spec) (specs : List (Signed Spec)) → Just told (commit R s first specs)
+    commit_all : (first : Spec) (specs : List (Signed Spec)) → Just Excuse (commit R s first specs)
     unfolding commit
     commit_all first specs =
         tested (nat_lt first.place.0 s.orders.base) _ _ (free causes.OldPlace refl)
         (tested (nat_lt (last_place s.kept) first.place.0) _ _ (free (causes.Behind first.place) refl) (commit_point specs first.client (certified same_spec point_of_spec s.counts.cert specs) refl))
 
-    pub commit_just : (specs : List (Signed Spec)) → Just told (commit_in_view R s specs)
+    pub commit_just : (specs : List (Signed Spec)) → Just Excuse (commit_in_view R s specs)
     commit_just [] = free (causes.TooFew 0) refl
     commit_just (first ∷ others) = view_just first.stmt.view.0 _ (commit_all first.stmt (first ∷ others))
 
-    filled : (hole : Signed Hole) (orders : List OrderFrame) → Just told (fill_with s hole orders)
+    filled : (hole : Signed Hole) (orders : List OrderFrame) → Just Excuse (fill_with s hole orders)
     filled hole [] = tested (nat_le hole.stmt.to.0 (last_place s.kept)) _ _ (free causes.OldPlace refl) (free (causes.Behind hole.stmt.to) refl)
-    filled hole (o ∷ orders) = taken_just told
+    filled hole (o ∷ orders) = taken_just Excuse
 
-    pub hole_just : (hole : Signed Hole) → Just told (fill_hole s hole)
+    pub hole_just : (hole : Signed Hole) → Just Excuse (fill_hole s hole)
     unfolding fill_hole
     hole_just hole = filled hole (orders_from hole.stmt.from.0 hole.stmt.to.0 s.orders)
 
     -- ---- responses and checkpoints
 
     abbrev IsFreeKept : Kept → Type 0
-    IsFreeKept (answers.Refused cause) = IsFree told cause
+    IsFreeKept (answers.Refused cause) = IsFree Excuse cause
     IsFreeKept answers.Held = Unit {0}
     IsFreeKept (answers.Kept number) = Unit {0}
 
@@ -238,17 +242,17 @@ module _ {S : Type 0} (R : Rules S) (s : State S) where
     judged_free (Some cause) other is is_other = inl is
     judged_free None other is is_other = is_other
 
-    kept_just : (own : Option OwnCheckpoint) (answer : Kept) (board : Board) → IsFreeKept answer → Just told (kept_as R s own answer board)
+    kept_just : (own : Option OwnCheckpoint) (answer : Kept) (board : Board) → IsFreeKept answer → Just Excuse (kept_as R s own answer board)
     kept_just own answers.Held board is = keeps_waiting
     kept_just own (answers.Kept number) board is = tested (nat_le (checks_owed (with_board s board) own false) (leaves_of s)) _ _ taken (free causes.KeySpent refl)
-    kept_just own (answers.Refused cause) board is = refused_just told cause is
+    kept_just own (answers.Refused cause) board is = refused_just Excuse cause is
 
     spec_free : (list : List (Signed Spec)) (vote : Signed Spec) (own : Option Spec) → IsFreeKept (beside_spec list vote own)
     spec_free list vote None = tt
     spec_free list vote (Some own) =
         kept_tested (certs.same_digest vote.stmt.head own.head) _ _ (kept_tested (same_spec vote.stmt own) _ _ tt (inl refl)) (inl refl)
 
-    pub response_just : (vote : Signed Spec) → Just told (response R s vote)
+    pub response_just : (vote : Signed Spec) → Just Excuse (response R s vote)
     unfolding response judge_spec
     response_just vote =
         let own = own_at R s vote.stmt.place.0 in
@@ -257,17 +261,27 @@ module _ {S : Type 0} (R : Rules S) (s : State S) where
         (judged_free (first_cause (place_cause s.board vote.stmt.place.0) vote.by list) (beside_spec list vote (option_map (λ o. o.spec) own)) (first_free (place_cause s.board vote.stmt.place.0) vote.by list (place_free vote.stmt.place.0))
         (spec_free list vote (option_map (λ o. o.spec) own)))
 
-    check_free : (list : List (Signed Check)) (vote : Signed Check) → told ≡ Some vote.stmt.state → (own : Option Check) → IsFreeKept (beside_check list vote own)
-    check_free list vote is None = tt
-    check_free list vote is (Some own) =
-        kept_tested (certs.same_digest vote.stmt.head own.head) _ _
-        (kept_tested (certs.same_digest vote.stmt.state own.state) _ _ tt (inr (record { own = own.state; other = vote.stmt.state; told_is = is; cause_is = refl }))) (inl refl)
+    check_free : (list : List (Signed Check)) (vote : Signed Check) → ((cause : Cause) → IsOtherCheckpoint R s vote.stmt cause → Excuse cause)
+        → (own : Option OwnCheckpoint) → own_at R s vote.stmt.place.0 ≡ own → IsFreeKept (beside_check list vote (option_map (λ o. o.check) own))
+    check_free list vote excuses None here = tt
+    check_free list vote excuses (Some own) here =
+        by_test IsFreeKept (certs.same_digest vote.stmt.head own.check.head) _ _
+        (λ alike. by_test IsFreeKept (certs.same_digest vote.stmt.state own.check.state) _ _ (λ same. tt)
+        (λ differs. inr (excuses (causes.WrongState own.check.state vote.stmt.state)
+        (record {
+          own = own;
+          here = here;
+          head = (digest-equal vote.stmt.head own.check.head).0 alike;
+          other = λ equal. let both : false ≡ true = sym differs ∙ (digest-equal vote.stmt.state own.check.state).1 equal in absurd cc;
+          told = refl;
+        }))))
+        (λ other. inl refl)
 
-    pub checkpoint_just : (vote : Signed Check) → told ≡ Some vote.stmt.state → Just told (checkpoint R s vote)
+    pub checkpoint_just : (vote : Signed Check) → ((cause : Cause) → IsOtherCheckpoint R s vote.stmt cause → Excuse cause) → Just Excuse (checkpoint R s vote)
     unfolding checkpoint judge_check
-    checkpoint_just vote is =
+    checkpoint_just vote excuses =
         let own = own_at R s vote.stmt.place.0 in
         let list = checks_at s.board vote.stmt.place.0 in
         kept_just own (judge_check s.board vote (option_map (λ o. o.check) own)) (with_check s.board vote)
         (judged_free (first_cause (place_cause s.board vote.stmt.place.0) vote.by list) (beside_check list vote (option_map (λ o. o.check) own)) (first_free (place_cause s.board vote.stmt.place.0) vote.by list (place_free vote.stmt.place.0))
-        (check_free list vote is (option_map (λ o. o.check) own)))
+        (check_free list vote excuses own refl))

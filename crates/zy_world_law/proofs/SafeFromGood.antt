@@ -66,6 +66,10 @@ module _ {S : Type 0} (R : Rules S) (w : World S) (good : IsGood R w) where
   completed_each [] all = tt
   completed_each (c ∷ done) all = (all.0.completed, completed_each done all.1)
 
+  fixed_each : (done : List Completed) → AllByRecursion (IsDone R w) done → AllByRecursion (λ (c : Completed). IsCompleted v (completion_of c)) done
+  fixed_each [] all = tt
+  fixed_each (c ∷ done) all = (all.0.completed, fixed_each done all.1)
+
   all_completed : All (IsCompleted v) (completions_of w)
   all_completed = all_from (IsCompleted v) (completions_of w) (completed_each w.done good.done)
 
@@ -148,6 +152,7 @@ module _ {S : Type 0} (R : Rules S) (w : World S) (good : IsGood R w) where
         list = one.0;
         agreed = one.1;
         results = results one.0 one.1 w.done good.done (result_at one.0 one.1);
+        fixed = fixed_each w.done good.done;
         asked = asked_of one.0 one.1;
         once = once one.0 one.1;
         replays = replay;

@@ -4,8 +4,6 @@ use Rattle.std.specs.List.{AllByRecursion}
 use Rattle.zy_base.specs.Machine.{Rules}
 use Rattle.zy_base.specs.declared.counts.Counts.{Counts}
 use Rattle.zy_base.specs.declared.cause.Cause.{Cause}
-use Rattle.zy_base.specs.declared.cause.Cause.TheVariants.{WrongState}
-use Rattle.zy_base.specs.declared.ids.Digest.{Digest}
 use Rattle.zy_base.specs.declared.ids.Party.{Party}
 use Rattle.zy_base.specs.declared.ids.Party.TheVariants.{Replica}
 use Rattle.zy_base.specs.declared.ids.Place.{Place}
@@ -27,9 +25,10 @@ use Rattle.zy_table.specs.Fetching.{state_transfer}
 use Rattle.zy_table.specs.State.{State, start_of}
 use Rattle.zy_table.specs.Whole.{whole_step}
 use Rattle.zy_table.specs.declared.deeds.Body.{Body}
-use Rattle.zy_law_views.specs.Texts.{IsKept, Texts, digest_of}
+use Rattle.zy_law_views.specs.Texts.{IsKept, Texts}
 use Rattle.zy_law_views.specs.Told.{statement_in}
 use Rattle.zy_law_views.specs.Rows.{IsReady, blames}
+use Rattle.zy_law_views.specs.Wanted.{IsUnwanted}
 use Rattle.zy_law_views.specs.Work.{IsAtWork}
 
 -- each statement that can be spelled is read back out of its text
@@ -51,8 +50,8 @@ pub record StepLaws {S : Type 0} (R : Rules S) : Type 0 where
   pub spelled : (interval r : ℕ) (texts : Texts) (w : World) (s : State S) (history : List Entry) (event : Event) → MayStep R interval r texts w s history event → AreGainsKept w texts (whole_step R s event).deeds.acts
       → IsSpelled s → FitAll (whole_step R s event).deeds.acts × IsSpelled (whole_step R s event).state
   pub back : ReadsBack
-  -- where a snapshot that comes is refused, what blames others is only that these bytes aren't those that are wanted
+  -- where a snapshot that comes is refused, what blames others is only that these bytes aren't those for which a certificate waits
   pub state_blames : (interval r : ℕ) (texts : Texts) (w : World) (s : State S) (history : List Entry) (place : Place) (bytes : List ℕ) (cause : Cause) → IsReady R interval w r s history → IsWorldOf R interval w texts → IsKept texts bytes
-      → begun R (state_transfer R s place bytes) ≡ Err cause → blames cause ≡ true → (wanted : Digest) × (cause ≡ WrongState wanted (digest_of bytes))
+      → begun R (state_transfer R s place bytes) ≡ Err cause → blames cause ≡ true → IsUnwanted s place bytes cause
   pub same_keys : (s : State S) (event : Event) → (whole_step R s event).state.keys ≡ s.keys
   pub spelled_first : (interval : ℕ) (me : ReplicaId) (counts : Counts) (keys : Keys) (sealer : SealerState) → interval ≤ 32 → me.0 < 2 ^ 8 → sealer.me ≡ Replica me → IsSpelled (start_of R interval me counts keys sealer)

@@ -8,7 +8,7 @@ use Rattle.zy_chain.specs.declared.entry.Entry.{Entry}
 use Rattle.zy_exec.specs.Kept.{now_of}
 use Rattle.zy_exec.specs.Replay.{origin, along, answer_at}
 use Rattle.zy_law.specs.Completed as law
-use Rattle.zy_law.specs.Completed.{Completion, IsAgreedList}
+use Rattle.zy_law.specs.Completed.{Completion, IsAgreedList, IsCompleted}
 use Rattle.zy_law.specs.Histories.{Passes, IsEntryAt, IsFront}
 use Rattle.zy_law.specs.Said.{IsBacked}
 use Rattle.zy_law.specs.World as law_world
@@ -69,6 +69,8 @@ pub record IsSafe {S : Type 0} (R : Rules S) (w : World S) : Type 0 where
   pub list : List Entry
   pub agreed : IsAgreed R w list
   pub results : AllByRecursion (IsResult R w list) w.done
+  -- each completion is fixed: `fast` replicas responded so, or `cert` of them and `local` committed to it; each did, or it lies
+  pub fixed : AllByRecursion (λ c. IsCompleted (seen R w) (completion_of c)) w.done
   -- each entry of a correct client was asked for by it
   pub asked : (place : ℕ) (e : Entry) (x : Client) → IsEntryAt list place e → client_at w e.client.0 ≡ Some x → Contains (asked_by w e.client.0) e
   -- no client and stamp stand in it twice

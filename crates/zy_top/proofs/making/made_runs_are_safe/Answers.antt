@@ -4,7 +4,10 @@ use Rattle.zy_top.proofs.MadeRuns.{made_sets_up}
 use Rattle.zy_top.proofs.making.made_runs_are_safe.Goals as goal
 
 pub returns : goal.returns
-returns c number asks = record {
-  safe = c.runs_are_safe.ensures.safe (made_setup number) (made_lines number asks) (made_sets_up number);
-  grows = c.runs_are_safe.ensures.grows (made_setup number) (made_lines number asks) (made_sets_up number);
+returns c = record {
+  safe = λ number asks. record {
+    safe = c.runs_are_safe.ensures.safe (made_setup number) (made_lines number asks) (made_sets_up number);
+    grows = c.runs_are_safe.ensures.grows (made_setup number) (made_lines number asks) (made_sets_up number);
+  };
+  blameless = λ number asks. c.no_correct_replica_is_blamed.ensures.runs (made_setup number) (made_lines number asks) (made_sets_up number);
 }

@@ -8,7 +8,8 @@ use Rattle.zy_edge.specs.Files.{content_of}
 use Rattle.zy_top.specs.Keys.{key_file}
 use Rattle.zy_top.specs.Verdict.{make_verdict, replay_verdict, verdict}
 use Rattle.zy_top_words.proofs.Endings.{cut_short, told_finishes}
-use Rattle.zy_top.proofs.Headline.{commands_are_safe}
+use Rattle.zy_top.proofs.Headline.{of_commands}
+use Rattle.zy_top.specs.Replaying.{IsBlamelessRun, IsSafeRun}
 use Rattle.zy_top.proofs.HostLaws.{asked_in_vain, nothing_due, turns_end, unbound}
 use Rattle.zy_top.proofs.MadeRuns.{made_finishes, own_answer}
 use Rattle.zy_top.proofs.top.zyzzyva.Goals as goal
@@ -28,19 +29,35 @@ returns-in-Ok-run_keys-clause-own g c =
 
 pub returns-in-Ok-run_replay-clause-headline : goal.returns-in-Ok-run_replay-clause-headline
 returns-in-Ok-run_replay-clause-headline g c =
-    commands_are_safe c.replays_are_safe.ensures c.made_runs_are_safe.ensures (g.F.Files.held c.args.files.now) (command_of (texts c.args.words.now))
+    of_commands IsSafeRun c.replays_are_safe.ensures.safe c.made_runs_are_safe.ensures.safe (g.F.Files.held c.args.files.now) (command_of (texts c.args.words.now))
+
+pub returns-in-Ok-run_replay-clause-blameless : goal.returns-in-Ok-run_replay-clause-blameless
+returns-in-Ok-run_replay-clause-blameless g c =
+    of_commands IsBlamelessRun c.replays_are_safe.ensures.blameless c.made_runs_are_safe.ensures.blameless (g.F.Files.held c.args.files.now) (command_of (texts c.args.words.now))
 
 pub returns-in-Ok-run_make-clause-headline : goal.returns-in-Ok-run_make-clause-headline
 returns-in-Ok-run_make-clause-headline g c =
-    commands_are_safe c.replays_are_safe.ensures c.made_runs_are_safe.ensures (g.F.Files.held c.args.files.now) (command_of (texts c.args.words.now))
+    of_commands IsSafeRun c.replays_are_safe.ensures.safe c.made_runs_are_safe.ensures.safe (g.F.Files.held c.args.files.now) (command_of (texts c.args.words.now))
+
+pub returns-in-Ok-run_make-clause-blameless : goal.returns-in-Ok-run_make-clause-blameless
+returns-in-Ok-run_make-clause-blameless g c =
+    of_commands IsBlamelessRun c.replays_are_safe.ensures.blameless c.made_runs_are_safe.ensures.blameless (g.F.Files.held c.args.files.now) (command_of (texts c.args.words.now))
 
 pub returns-in-Err-run_replay-clause-headline : goal.returns-in-Err-run_replay-clause-headline
 returns-in-Err-run_replay-clause-headline g c =
-    commands_are_safe c.replays_are_safe.ensures c.made_runs_are_safe.ensures (g.F.Files.held c.args.files.now) (command_of (texts c.args.words.now))
+    of_commands IsSafeRun c.replays_are_safe.ensures.safe c.made_runs_are_safe.ensures.safe (g.F.Files.held c.args.files.now) (command_of (texts c.args.words.now))
+
+pub returns-in-Err-run_replay-clause-blameless : goal.returns-in-Err-run_replay-clause-blameless
+returns-in-Err-run_replay-clause-blameless g c =
+    of_commands IsBlamelessRun c.replays_are_safe.ensures.blameless c.made_runs_are_safe.ensures.blameless (g.F.Files.held c.args.files.now) (command_of (texts c.args.words.now))
 
 pub returns-in-Err-run_make-clause-headline : goal.returns-in-Err-run_make-clause-headline
 returns-in-Err-run_make-clause-headline g c =
-    commands_are_safe c.replays_are_safe.ensures c.made_runs_are_safe.ensures (g.F.Files.held c.args.files.now) (command_of (texts c.args.words.now))
+    of_commands IsSafeRun c.replays_are_safe.ensures.safe c.made_runs_are_safe.ensures.safe (g.F.Files.held c.args.files.now) (command_of (texts c.args.words.now))
+
+pub returns-in-Err-run_make-clause-blameless : goal.returns-in-Err-run_make-clause-blameless
+returns-in-Err-run_make-clause-blameless g c =
+    of_commands IsBlamelessRun c.replays_are_safe.ensures.blameless c.made_runs_are_safe.ensures.blameless (g.F.Files.held c.args.files.now) (command_of (texts c.args.words.now))
 
 pub returns-in-Ok-run_make-clause-own : goal.returns-in-Ok-run_make-clause-own
 returns-in-Ok-run_make-clause-own g c =
