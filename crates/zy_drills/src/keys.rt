@@ -72,13 +72,13 @@ impl Key {
         }
     }
 
-    /// The public keys of four replicas and one client.
+    /// The public keys of four replicas and two clients.
     pub(crate) fn directory(&self, alloc: Global) -> io::Result<Directory>
         ensures replicas { IfOk result (λ d. length d.replicas ≤ 4) }
         ensures clients { IfOk result (λ d. length d.clients ≤ 64) }
     {
         let public = self.public;
-        let clients = vec![in alloc; public]?;
+        let clients = vec![in alloc; public, public]?;
         let replicas = vec![in alloc; public, public, public, public]?;
         Ok(Directory::new(alloc, replicas, clients))
     }

@@ -40,6 +40,7 @@ const TABLES: &[&str] = &[
     "confirmations",
     "view-certificates",
     "snapshots",
+    "hostile-frames",
     "client-names",
     "client-asking",
     "client-responses",

@@ -1,4 +1,4 @@
-//! A replica of a group of four with one client, and what its steps come to.
+//! A replica of a group of four with two clients, and what its steps come to.
 
 ghost use Rattle.std.specs.Prelude.{◌≡◌, ◌≤◌, ◌<◌, length, IfOk};
 
