@@ -92,7 +92,7 @@ module _ {S : Type 0} (R : Rules S) (interval : ℕ) (texts : Texts) (w : World)
   frame_gain : (frame : Frame) → IsHeldOnceVerified frame → Gains (unless (screen s.keys (plain.parts_of frame)) s (hear_plain R s frame))
   frame_gain (frames.Order both) held =
       verified_gain (frames.Order both) (λ verified role. unless_case s Gains refused_gains (view_cause s both.order.stmt.view.0) (order R s both)
-      (λ current. judged_gain both (held verified role) (judge_in s.orders both.order.stmt both.ask (position_of R s both))))
+      (λ current. judged_gain both (held verified role).0 (judge_in s.orders both.order.stmt both.ask (position_of R s both))))
   frame_gain (frames.Hate vote) held = verified_gain (frames.Hate vote) (λ verified role. (finishes_leaving R interval texts w r s h ready kept_texts (hate R s vote) (hate_attempt R interval w r s h ready vote)).gained)
   frame_gain (frames.Pom first second) held =
       verified_gain (frames.Pom first second) (λ verified role. (finishes_leaving R interval texts w r s h ready kept_texts (pom R s first second) (pom_attempt R interval w r s h ready first second)).gained)
