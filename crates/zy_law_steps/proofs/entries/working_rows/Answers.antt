@@ -10,5 +10,5 @@ returns g c =
     record {
       request = λ interval r texts w s history view ask ready kept work active may gains. request_lawful R interval texts w r s history ready kept work view active ask may gains;
       passed_on = λ interval r texts w s history view confirmed ask ready kept work active may gains. confirm_lawful R interval texts w r s history ready kept work view active confirmed ask may gains;
-      order = λ interval r texts w s history view both ready kept work active may held gains. order_fine R interval texts w r s history ready kept work both (may , held) (ap is_leaving_mode active) gains;
+      order = λ interval r texts w s history view both ready kept work active may held gains. order_fine R interval texts w r s history ready kept work both (may, held) (ap is_leaving_mode active) gains;
     }
