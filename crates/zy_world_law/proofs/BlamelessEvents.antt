@@ -1,6 +1,6 @@
 -- Whatever event is next in a good world, no correct replica refuses it for a cause that blames anyone, unless another snapshot is told.
-use Rattle.std.proofs.Common.{◌≡◌, inl, inr, ℕ, Bool, true, false, ◌&&◌, ◌++◌, List, [], length, Option, Some, None, Ok, Err, refl, sym, ap, ◌∙◌, subst}
-use Rattle.std.specs.Prelude.{Result, if◌then◌else◌, nat_le, nat_lt, option_map, slice_get, unwrap_or}
+use Rattle.std.proofs.Common.{◌≡◌, inl, inr, ℕ, Bool, true, false, ◌&&◌, ◌++◌, List, [], Option, Some, None, Ok, Err, refl, sym, ap, ◌∙◌, subst}
+use Rattle.std.specs.Prelude.{Result, if◌then◌else◌, nat_lt, option_map, slice_get, unwrap_or}
 use Rattle.std.specs.List.{AllByRecursion}
 use Rattle.std.specs.Option.{option_and_then}
 use Rattle.zy_base.specs.Machine.{Rules}
@@ -40,11 +40,11 @@ use Rattle.zy_vframes.specs.Parts.{parts_of}
 use Rattle.zy_vframes.specs.ViewFrames as views
 use Rattle.zy_vframes.specs.declared.frame.ViewFrame.{ViewFrame}
 use Rattle.zy_world_law.specs.Blame.{IsBlameless, frame_brought, state_told}
-use Rattle.zy_world_law.specs.Events.{Broken, Happened, ask_in, bring, bring_to_client, bring_to_replica, client_goes, client_note, client_stepped, client_timer, client_timer_in, completed_by, deliver, forge, go_with, happens, history_of, leaves_in, lie, replica_goes, replica_note, replica_timer, replica_timer_in, sends_signed, stepped, timer_of, unless_forged, with_client, with_done, with_replica}
+use Rattle.zy_world_law.specs.Events.{Broken, Happened, ask_in, bring, bring_to_client, bring_to_replica, client_goes, client_note, client_stepped, client_timer, client_timer_in, completed_by, deliver, forge, go_with, happens, history_of, leaves_in, lie, replica_goes, replica_note, replica_timer, replica_timer_in, stepped, timer_of, unless_forged, with_client, with_done, with_replica}
 use Rattle.zy_world_law.specs.Events.Happened.{Breaks, Goes}
 use Rattle.zy_world_law.specs.Good.{IsGood, IsKept}
 use Rattle.zy_world_law.specs.Honest.{forger_in}
-use Rattle.zy_world_law.specs.Liars.{Telling, by_replica, order_told, requests_at, spec_told, statement_told}
+use Rattle.zy_world_law.specs.Liars.{Telling, by_replica, if_short, order_told, requests_at, spec_told, statement_told}
 use Rattle.zy_world_law.specs.Reading.{any_frame_in, either_read, view_read}
 use Rattle.zy_world_law.specs.Seen.{seen}
 use Rattle.zy_world_law.specs.Texts.{keep_all, step_texts, texts_in, texts_of}
@@ -259,17 +259,14 @@ module _ {S : Type 0} (R : Rules S) (laws : StepLaws R) where
     asks id op (Some None) = unnamed None w causes.NoSubject
     asks id op (Some (Some x)) = client_just None w id x [] (ask x.state op)
 
-    sent : (u : World S) (to : List Party) (bytes : List ℕ) → TellsJust None (sends_signed w u to bytes)
-    sent u to bytes = tested None (nat_le (length bytes) 4194304) _ _ (quiet None _) (unnamed None w causes.NoSubject)
-
     lies : (liar : Party) (to : List Party) (telling : Option Telling) → TellsJust None (lie w liar to telling)
     lies liar to None = unnamed None w causes.NoSubject
     lies liar to (Some telling) =
-        tested None (is_liar w liar && are_parties w to) _ _ (tested None (nat_lt (w.leaves liar) (leaves_in w)) _ _ (sent _ to _) (unnamed None w causes.KeySpent)) (unnamed None w causes.NoSubject)
+        tested None (is_liar w liar && are_parties w to) _ _ (tested None (nat_lt (w.leaves liar) (leaves_in w)) _ _ (quiet None _) (unnamed None w causes.KeySpent)) (unnamed None w causes.NoSubject)
 
     forges : (party : Party) (to : List Party) (telling : Option Telling) → TellsJust None (forge w party to telling)
     forges party to None = unnamed None w causes.NoSubject
-    forges party to (Some telling) = tested None (is_correct w party && are_parties w to) _ _ (sent w to _) (unnamed None w causes.NoSubject)
+    forges party to (Some telling) = tested None (is_correct w party && are_parties w to) _ _ (quiet None _) (unnamed None w causes.NoSubject)
 
     event_just : (event : WorldEvent) → TellsJust (option_and_then state_told (frame_brought w event)) (happens R w event)
     unfolding happens
@@ -278,9 +275,9 @@ module _ {S : Type 0} (R : Rules S) (laws : StepLaws R) where
     event_just (events.Timer party kind) = rings party kind
     event_just (events.Order liar view asks to) = lies liar to (by_replica liar (option_and_then (order_told view) (requests_at w asks)))
     event_just (events.Spec liar view asks to reply) = lies liar to (by_replica liar (option_and_then (spec_told view reply) (requests_at w asks)))
-    event_just (events.Statement liar bytes to) = lies liar to (statement_told bytes)
+    event_just (events.Statement liar bytes to) = lies liar to (if_short w.setup liar (statement_told bytes))
     event_just (events.Raw bytes to) = tested None (are_parties w to) _ _ (quiet None _) (unnamed None w causes.NoSubject)
-    event_just (events.Forge party bytes to) = forges party to (statement_told bytes)
+    event_just (events.Forge party bytes to) = forges party to (if_short w.setup party (statement_told bytes))
 
     pub blameless : IsBlameless R w
     blameless = record { orders = no_conflict R w good; refusals = event_just }
