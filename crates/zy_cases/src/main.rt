@@ -23,6 +23,7 @@ mod evidence;
 mod frames;
 mod group_files;
 mod groups;
+mod guard;
 mod history;
 mod journal;
 mod kept_texts;
@@ -62,11 +63,14 @@ use seal::Seals;
 use std::alloc::Global;
 use std::io::ErrorKind;
 use std::{env, io};
+use text::lacking;
 use words::Row;
-use zy_base::Digest;
+use zy_base::{Digest, Machine};
+use zy_guard::Guard;
+use zy_space::Space;
 
 /// The files of `data/`, in the order in which they run.
-const TABLES: [&str; 47] = [
+const TABLES: [&str; 50] = [
     "group-numbers",
     "lists",
     "fields",
@@ -114,6 +118,9 @@ const TABLES: [&str; 47] = [
     "frames-of-liars",
     "kept-texts",
     "journals",
+    "guard-lines",
+    "guard-replies",
+    "guarded-space",
 ];
 
 fn main(rt: HostRuntime) -> io::Result<()> {
@@ -147,7 +154,8 @@ fn run_table(rt: &HostRuntime, table: &'static str) -> io::Result<()> {
         "view-changes" | "view-beginnings" => run(rt, table, &mut Machines::new(rt.alloc())?),
         "adoptions" => run(rt, table, &mut Histories::new(rt.alloc())?),
         "links-in-memory" => run(rt, table, &mut links::Links::new(rt.alloc())?),
-        "space" => run(rt, table, &mut space::Spaces::new(rt.alloc())?),
+        "space" => run(rt, table, &mut Space::empty(rt.alloc()).map_err(lacking)?),
+        "guarded-space" => run(rt, table, &mut Guard::empty(rt.alloc()).map_err(lacking)?),
         "execution" => run(rt, table, &mut history::Executions::new(rt.alloc())?),
         "frames-of-liars" => run(rt, table, &mut liars::Group::new(rt.alloc())?),
         "kept-texts" => run(rt, table, &mut kept_texts::Texts::new(rt.alloc())?),
@@ -200,6 +208,8 @@ fn answer(alloc: Global, table: &str, row: &Row) -> io::Result<String> {
         "group-files" => group_files::groups(alloc, row),
         "secret-files" => group_files::secrets(alloc, row),
         "journals" => journal::journal(alloc, row),
+        "guard-lines" => guard::line(alloc, row),
+        "guard-replies" => guard::reply(alloc, row.bytes("bytes")?),
         _ => Err(io::Error::from(ErrorKind::NotFound)),
     }
 }
