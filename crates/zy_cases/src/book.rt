@@ -1,7 +1,7 @@
 //! The table `histories`: the book of histories, and of texts. Its rows are steps of one book.
 
 use crate::cases::Scene;
-use crate::text::{flag_text, lacking, ok_text};
+use crate::text::{lacking, ok_text, plain_text};
 use crate::values::{MaybeNumber, digest};
 use crate::words::{Row, not_a_line};
 use std::alloc::Global;
@@ -10,28 +10,14 @@ use zy_base::{Bytes, ClientId, Digest, Stamp, Want};
 use zy_book::{Book, BookFault, KeepFault, Node};
 use zy_chain::Entry;
 
-/// The book that the rows speak of.
-#[derive(Drop)]
-pub(crate) struct Books {
-    book: Book,
-}
-
-impl Books {
-    pub(crate) fn new(alloc: Global) -> io::Result<Books> {
-        let book = Book::new(alloc).map_err(lacking)?;
-        Ok(Books { book })
-    }
-}
-
-impl Scene for Books {
+impl Scene for Book {
     fn step(&mut self, alloc: Global, row: &Row) -> io::Result<String> {
-        let book = &mut self.book;
         match row.call()? {
-            "begin" => begin(alloc, book),
-            "add" => add(alloc, book, row),
-            "node" => node(alloc, book, &digest(row, "head")?),
-            "extends" => extends(alloc, book, row),
-            "keep" => keep(alloc, book, row),
+            "begin" => begin(alloc, self),
+            "add" => add(alloc, self, row),
+            "node" => node(alloc, self, &digest(row, "head")?),
+            "extends" => extends(alloc, self, row),
+            "keep" => keep(alloc, self, row),
             _ => Err(not_a_line()),
         }
     }
@@ -115,7 +101,7 @@ fn extends(alloc: Global, book: &Book, row: &Row) -> io::Result<String> {
     let longer = digest(row, "longer")?;
     let shorter = digest(row, "shorter")?;
     match (book.node_of(&longer), book.node_of(&shorter)) {
-        (Some(longer), Some(shorter)) => flag_text(alloc, book.extends(longer, shorter)),
+        (Some(longer), Some(shorter)) => plain_text(alloc, &book.extends(longer, shorter)),
         _ => Err(not_a_line()),
     }
 }
