@@ -30,3 +30,8 @@ poll_after same poll vote =
 pub record AreVotes {S : Type 0} (list : List (Signed S)) : Type 0 where
   pub different : AreDifferent list
   pub equal : AllPairs (λ a b. a.stmt ≡ b.stmt) list
+
+-- the votes that are counted, and how many they are
+pub record AreCounted {S : Type 0} (number : ℕ) (list : List (Signed S)) : Type 0 where
+  pub votes : AreVotes list
+  pub all : number ≡ length list

@@ -1,8 +1,9 @@
 ghost use Rattle.std.specs.Prelude.{◌≡◌, [], OnOk, OnErr, IfOk, IfErr};
+ghost use Rattle.zy_cert.specs.Signers.{has_other};
 ghost use Rattle.zy_cert.specs.Votes.{answer_to, poll_after, AreVotes};
 
 use crate::Matching;
-use crate::signers::{has_other, has_signer};
+use crate::signers::has_signer;
 use std::alloc::Global;
 use std::marker::Model;
 use zy_base::Want;
@@ -26,17 +27,19 @@ pub enum Vote {
 #[derive(Debug, Drop)]
 pub struct Votes<S> {
     count: u64,
+    // how many votes are counted
+    number: u64,
     votes: Vec<Signed<S>>,
 }
 
 impl<S> Model for Votes<S> {
-    ghost use Rattle.zy_cert.specs.Votes.{Poll, AreVotes};
+    ghost use Rattle.zy_cert.specs.Votes.{Poll, AreCounted};
 
     ghost Value = { Poll S };
 
     ghost view = { λ v. record { count = v.count; votes = v.votes.items } };
 
-    ghost invariant = { λ v. AreVotes v.votes.items };
+    ghost invariant = { λ v. AreCounted v.number v.votes.items };
 }
 
 impl<S: Matching> Votes<S> {
@@ -46,6 +49,7 @@ impl<S: Matching> Votes<S> {
     {
         Votes {
             count,
+            number: 0,
             votes: Vec::new(alloc),
         }
     }
@@ -61,14 +65,15 @@ impl<S: Matching> Votes<S> {
         if has_signer(&self.votes, vote.by) {
             return Ok(Vote::Repeat);
         }
-        if has_other(&self.votes, &vote.stmt) {
+        if is_for_other(&self.votes, &vote.stmt) {
             return Ok(Vote::Mixed);
         }
         match self.votes.push(vote) {
             Ok(()) => {}
             Err(failed) => return Err((failed.value, Want)),
         }
-        let number = self.votes.len() as u64;
+        self.number += 1;
+        let number = self.number;
         if number == self.count {
             Ok(Vote::Full)
         } else {
@@ -82,5 +87,16 @@ impl<S: Matching> Votes<S> {
         ensures equal { AreVotes result.now }
     {
         &self.votes
+    }
+}
+
+// These votes, which are equal, are for another statement: the first tells it of all.
+fn is_for_other<S: Matching>(votes: &[Signed<S>], stmt: &S) -> bool
+    requires { AreVotes votes.now }
+    ensures { result ≡ has_other S.eq stmt.now votes.now }
+{
+    match votes {
+        [] => false,
+        [first, ..] => first.stmt != *stmt,
     }
 }
