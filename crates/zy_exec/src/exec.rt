@@ -136,6 +136,21 @@ impl<M: Machine> Exec<M> {
         self.track.reply_at(place)
     }
 
+    /// How many replies are kept: as many as there are places from the base to the end.
+    pub fn replies(&self) -> u64
+        ensures { self.now.base.place + result ≡ last_place self.now }
+    {
+        self.track.replies()
+    }
+
+    /// How many records to go back by are kept, each with the machine's state before an entry: as many as there are places
+    /// from the base to the end.
+    pub fn records(&self) -> u64
+        ensures { self.now.base.place + result ≡ last_place self.now }
+    {
+        self.track.records()
+    }
+
     /// What is known of a client's last entry. `None` exactly where it has none.
     pub fn known(&self, client: ClientId) -> Option<&Known>
         ensures known { option_copied result ≡ known_in M.rules self.now client.0 }

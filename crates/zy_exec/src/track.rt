@@ -140,6 +140,20 @@ impl<M: Machine> Track<M> {
         reply_done(&self.done, index_above(self.spine.base(), place))
     }
 
+    /// How many replies are kept, each with its client's earlier place.
+    pub fn replies(&self) -> u64
+        ensures { self.now.base.place + result ≡ last_place self.now }
+    {
+        self.done.len() as u64
+    }
+
+    /// How many earlier states the machine can go back to.
+    pub fn records(&self) -> u64
+        ensures { self.now.base.place + result ≡ last_place self.now }
+    {
+        self.machine.trail_len()
+    }
+
     /// What is known of a client's last entry. `None` exactly where it has none.
     pub fn known(&self, client: ClientId) -> Option<&Known>
         ensures known { option_copied result ≡ known_in M.rules self.now client.0 }

@@ -1,0 +1,13 @@
+use Rattle.std.proofs.Common.{◌≡◌, ◌+◌, length, subst, ap, ◌∙◌}
+use Rattle.zy_exec.specs.Kept.{Kept, last_place}
+use Rattle.zy_exec.specs.Trail.{base_of}
+use Rattle.zy_exec.proofs.ReplayLemmas.{length-states}
+use Rattle.zy_exec.proofs.track.Track.records.Goals as goal
+
+pub returns : goal.returns
+returns g c =
+    let x = c.self.inside in
+    let M = g.M.Machine in
+    let base = base_of x.spine (M.trail x.machine) (M.state x.machine) x.base_known.items in
+    let many : c.trail_len.result ≡ length x.spine.entries = c.trail_len.ensures ∙ ap length c.self.invariant.trail_is ∙ length-states M.rules base x.spine.entries in
+    subst (λ (k : Kept _). k.base.place + c.trail_len.result ≡ last_place k) c.self.view_is (ap (λ n. x.spine.base.place + n) many)
