@@ -1,4 +1,5 @@
 pub mod VoteLemmas
+pub mod TallyLemmas
 pub mod BoardLemmas
 pub mod JudgingLemmas
 pub mod ChangeLemmas

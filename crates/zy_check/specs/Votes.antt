@@ -1,5 +1,5 @@
 -- Signed statements of one kind, each of another signer, by rising numbers of their signers.
-use Rattle.std.specs.Prelude.{◌≡◌, ℕ, Bool, true, false, nat_lt, List, AllPairs, insert, count_by, filter}
+use Rattle.std.specs.Prelude.{◌≡◌, ℕ, Bool, true, false, nat_lt, List, AllPairs, insert, count_by, filter, Option, unwrap_or}
 use Rattle.std.specs.List.{position_or_len}
 use Rattle.zy_base.specs.declared.ids.Party.{Party}
 use Rattle.zy_base.specs.declared.ids.Party.TheVariants.{Replica, Client}
@@ -31,3 +31,7 @@ only same stmt list = filter (λ s. same s.stmt stmt) list
 -- each signer comes before those behind it: so no two statements are one party's
 abbrev pub IsRising : {S : Type 0} → List (Signed S) → Type 0
 IsRising list = AllPairs (λ a b. comes_before a.by b.by ≡ true) list
+
+-- inner form: so many are equal to the statement that is counted, or to any where none is
+abbrev pub IsTallied : {S : Type 0} → (S → S → Bool) → List (Signed S) → Option S → ℕ → Type 0
+IsTallied {S} same list counted number = (stmt : S) → number ≡ equal_to same (unwrap_or counted stmt) list

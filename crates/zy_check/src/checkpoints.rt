@@ -1,12 +1,14 @@
 ghost use Rattle.std.specs.Prelude.{◌≡◌, ℕ, ◌+◌, ◌*◌, ◌%◌, ◌≤◌, nat_eq, if◌then◌else◌, false, All, option_copied, IfOk, OnOk, OnErr};
+ghost use Rattle.zy_cert.specs.Equal.{same_spec, same_check};
 ghost use Rattle.zy_cert.specs.Signers.{has_signer};
-ghost use Rattle.zy_check.specs.Votes.{IsRising};
+ghost use Rattle.zy_check.specs.Votes.{IsRising, put_vote, equal_to};
 ghost use Rattle.zy_check.specs.Board.{Board, IsBoard, IsProof, start_of, window_of, height, round_at, specs_at, checks_at, with_spec, with_check, without_other_specs, without_other_checks, without_others, with_stable, cleared, no_round};
 ghost use Rattle.zy_check.specs.Judging.{place_cause, judge_spec, judge_check, after_spec, after_check};
 
 use crate::Kept;
-use crate::judging::{beside_check, beside_spec, first_cause};
+use crate::judging::first_cause;
 use crate::round::Round;
+use crate::votes::first_with;
 use std::alloc::Global;
 use std::marker::Model;
 use std::mem;
@@ -132,6 +134,34 @@ impl Checkpoints {
         }
     }
 
+    // How many responses of its place are equal to the own one, with one more.
+    pub(crate) fn specs_with(&self, vote: &Signed<Spec>, own: &Spec) -> u64
+        ensures { result ≡ equal_to same_spec own.now (put_vote vote.now (specs_at self.now vote.now.stmt.place.0)) }
+    {
+        let height = self.height(vote.stmt.place);
+        if height == self.interval {
+            self.near.specs_with(vote, own)
+        } else if height == 2 * self.interval {
+            self.far.specs_with(vote, own)
+        } else {
+            first_with(vote, own)
+        }
+    }
+
+    // How many checkpoints of its place are equal to the own one, with one more.
+    pub(crate) fn checks_with(&self, vote: &Signed<Check>, own: &Check) -> u64
+        ensures { result ≡ equal_to same_check own.now (put_vote vote.now (checks_at self.now vote.now.stmt.place.0)) }
+    {
+        let height = self.height(vote.stmt.place);
+        if height == self.interval {
+            self.near.checks_with(vote, own)
+        } else if height == 2 * self.interval {
+            self.far.checks_with(vote, own)
+        } else {
+            first_with(vote, own)
+        }
+    }
+
     // Why nothing of a place is kept.
     fn place_cause(&self, place: Place) -> Option<Cause>
         ensures { result ≡ place_cause self.now place.0 }
@@ -158,7 +188,7 @@ impl Checkpoints {
         let list = self.specs(place);
         match first_cause(self.place_cause(place), list, vote.by) {
             Some(cause) => Kept::Refused(cause),
-            None => beside_spec(list, vote, own),
+            None => self.beside_spec(vote, own),
         }
     }
 
@@ -171,7 +201,7 @@ impl Checkpoints {
         let list = self.checks(place);
         match first_cause(self.place_cause(place), list, vote.by) {
             Some(cause) => Kept::Refused(cause),
-            None => beside_check(list, vote, own),
+            None => self.beside_check(vote, own),
         }
     }
 

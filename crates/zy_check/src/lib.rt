@@ -8,6 +8,7 @@ mod kept;
 mod laws;
 mod round;
 mod states;
+mod tally;
 mod votes;
 
 pub use checkpoints::Checkpoints;

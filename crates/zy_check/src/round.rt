@@ -1,7 +1,9 @@
 ghost use Rattle.std.specs.Prelude.{◌≡◌, OnOk, OnErr};
+ghost use Rattle.zy_cert.specs.Equal.{same_spec, same_check};
 ghost use Rattle.zy_check.specs.Board.{no_round, put_spec, put_check, only_spec, only_check};
+ghost use Rattle.zy_check.specs.Votes.{put_vote, equal_to};
 
-use crate::votes::{keep_equal, put_vote};
+use crate::tally::Tally;
 use std::alloc::Global;
 use std::marker::Model;
 use zy_base::Want;
@@ -10,8 +12,8 @@ use zy_parts::{Check, Signed, Spec};
 /// What is kept of one place, by rising numbers of the signers.
 #[derive(Debug, Drop)]
 pub(crate) struct Round {
-    specs: Vec<Signed<Spec>>,
-    checks: Vec<Signed<Check>>,
+    specs: Tally<Spec>,
+    checks: Tally<Check>,
 }
 
 impl Model for Round {
@@ -19,7 +21,7 @@ impl Model for Round {
 
     ghost Value = { board.Round };
 
-    ghost view = { λ r. record { specs = r.specs.items; checks = r.checks.items } };
+    ghost view = { λ r. record { specs = r.specs; checks = r.checks } };
 }
 
 impl Round {
@@ -27,47 +29,59 @@ impl Round {
         ensures { result ≡ no_round }
     {
         Round {
-            specs: Vec::new(alloc),
-            checks: Vec::new(alloc),
+            specs: Tally::new(alloc),
+            checks: Tally::new(alloc),
         }
     }
 
     pub(crate) fn specs(&self) -> &[Signed<Spec>]
         ensures { result.now ≡ self.now.specs }
     {
-        &self.specs
+        self.specs.list()
     }
 
     pub(crate) fn checks(&self) -> &[Signed<Check>]
         ensures { result.now ≡ self.now.checks }
     {
-        &self.checks
+        self.checks.list()
+    }
+
+    pub(crate) fn specs_with(&self, vote: &Signed<Spec>, own: &Spec) -> u64
+        ensures { result ≡ equal_to same_spec own.now (put_vote vote.now self.now.specs) }
+    {
+        self.specs.equal_with(vote, own)
+    }
+
+    pub(crate) fn checks_with(&self, vote: &Signed<Check>, own: &Check) -> u64
+        ensures { result ≡ equal_to same_check own.now (put_vote vote.now self.now.checks) }
+    {
+        self.checks.equal_with(vote, own)
     }
 
     pub(crate) fn put_spec(&mut self, vote: Signed<Spec>) -> Result<(), Want>
         ensures ok { OnOk result (self.new ≡ put_spec vote self.old) }
         ensures err { OnErr result (self.new ≡ self.old) }
     {
-        put_vote(&mut self.specs, vote)
+        self.specs.put(vote)
     }
 
     pub(crate) fn put_check(&mut self, vote: Signed<Check>) -> Result<(), Want>
         ensures ok { OnOk result (self.new ≡ put_check vote self.old) }
         ensures err { OnErr result (self.new ≡ self.old) }
     {
-        put_vote(&mut self.checks, vote)
+        self.checks.put(vote)
     }
 
     pub(crate) fn keep_spec(&mut self, spec: &Spec)
         ensures { self.new ≡ only_spec spec.now self.old }
     {
-        keep_equal(&mut self.specs, spec)
+        self.specs.keep_equal(spec)
     }
 
     pub(crate) fn keep_check(&mut self, check: &Check)
         ensures { self.new ≡ only_check check.now self.old }
     {
-        keep_equal(&mut self.checks, check)
+        self.checks.keep_equal(check)
     }
 
     pub(crate) fn clear(&mut self)

@@ -1,4 +1,4 @@
-ghost use Rattle.std.specs.Prelude.{◌≡◌, position, OnOk, OnErr};
+ghost use Rattle.std.specs.Prelude.{◌≡◌, [], position, OnOk, OnErr};
 ghost use Rattle.zy_cert.specs.Signers.{same_party, has_signer};
 ghost use Rattle.zy_check.specs.Votes.{comes_before, place_for, put_vote, equal_to, only};
 
@@ -70,10 +70,9 @@ pub(crate) fn keep_equal<S: Matching + Drop>(list: &mut Vec<Signed<S>>, stmt: &S
     list.retain(|signed| signed.stmt == *stmt);
 }
 
-// How many of the statements, with one more, are equal to one.
-pub(crate) fn equal_with<S: Matching>(list: &[Signed<S>], vote: &Signed<S>, own: &S) -> u64
-    ensures { result ≡ equal_to S.eq own.now (put_vote vote.now list.now) }
+// Whether a statement is the own one, as the number of equal ones where it is alone.
+pub(crate) fn first_with<S: Matching>(vote: &Signed<S>, own: &S) -> u64
+    ensures { result ≡ equal_to S.eq own.now (put_vote vote.now []) }
 {
-    let kept = equal_to(list, own);
-    if vote.stmt == *own { kept + 1 } else { kept }
+    if vote.stmt == *own { 1 } else { 0 }
 }
