@@ -44,17 +44,17 @@ fn kept_unless<M: Machine>(
     core: Core<M>,
     send: Option<ReplicaId>,
     vote: Signed<Change>,
-) -> Result<Core<M>, Want>
+) -> Core<M>
     requires member { number_of_party vote.by < core.counts.n }
     requires kept { send ≡ None → IsKeptChange core.views.counts core.views.interval (number_of_party vote.by) vote }
-    ensures { IfOk result (λ r. r ≡ kept_as send vote core) }
+    ensures { result ≡ kept_as send vote core }
 {
     let _view = core.view();
     match send {
         None => core.with_change(vote),
         Some(_) => {
             drop(vote);
-            Ok(core)
+            core
         }
     }
 }
@@ -72,13 +72,8 @@ fn carry_change<M: Machine>(
     requires in_range { IsOwedInRange owed }
     ensures { (s : State M.State) (more : ℕ) (attempt : Attempt M.State) → IsStep M.rules s more attempt owed (begin (kept_as owed.send vote core)) → ending_of M.rules s more owed ≡ Ok ending → IfOk result (λ m. m ≡ finished M.rules s attempt) }
 {
-    match kept_unless(core, owed.send, vote) {
-        Ok(core) => carry(core.begin(), owed, ending),
-        Err(want) => {
-            drop(owed);
-            Err(want)
-        }
-    }
+    let core = kept_unless(core, owed.send, vote);
+    carry(core.begin(), owed, ending)
 }
 
 fn change_owing<M: Machine>(

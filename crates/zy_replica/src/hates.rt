@@ -36,9 +36,9 @@ pub(crate) fn owed_by_hate<M: Machine>(core: &Core<M>, vote: &Signed<Hate>) -> R
 }
 
 // It is kept as counted.
-fn keep_vote<M: Machine>(core: Core<M>, vote: Signed<Hate>) -> Result<Core<M>, Want>
+fn keep_vote<M: Machine>(core: Core<M>, vote: Signed<Hate>) -> Core<M>
     requires { number_of_party vote.by < core.counts.n }
-    ensures { IfOk result (λ r. r ≡ record core { views = with_vote vote.by core.views }) }
+    ensures { result ≡ record core { views = with_vote vote.by core.views } }
 {
     // With its view comes what holds of every replica: its group is that of its votes.
     let _view = core.view();
@@ -46,20 +46,14 @@ fn keep_vote<M: Machine>(core: Core<M>, vote: Signed<Hate>) -> Result<Core<M>, W
 }
 
 // It is counted.
-pub(crate) fn count_hate<M: Machine>(
-    progress: Progress<M>,
-    vote: Signed<Hate>,
-) -> Result<Progress<M>, Want>
+pub(crate) fn count_hate<M: Machine>(progress: Progress<M>, vote: Signed<Hate>) -> Progress<M>
     requires { number_of_party vote.by < progress.state.counts.n }
-    ensures { IfOk result (λ g. g ≡ with_hate_of vote.by progress) }
+    ensures { result ≡ with_hate_of vote.by progress }
 {
     let Progress { core, deeds } = progress;
-    match keep_vote(core, vote) {
-        Ok(core) => Ok(Progress { core, deeds }),
-        Err(want) => {
-            drop(deeds);
-            Err(want)
-        }
+    Progress {
+        core: keep_vote(core, vote),
+        deeds,
     }
 }
 
@@ -75,13 +69,7 @@ fn carry_hate<M: Machine>(
     requires in_range { IsOwedInRange owed }
     ensures { (s : State M.State) (more : ℕ) (attempt : Attempt M.State) → IsStep M.rules s more attempt owed (with_hate_of vote.by (begin core)) → ending_of M.rules s more owed ≡ Ok ending → IfOk result (λ m. m ≡ finished M.rules s attempt) }
 {
-    match count_hate(core.begin(), vote) {
-        Ok(progress) => carry(progress, owed, ending),
-        Err(want) => {
-            drop(owed);
-            Err(want)
-        }
-    }
+    carry(count_hate(core.begin(), vote), owed, ending)
 }
 
 fn hate_owing<M: Machine>(core: Core<M>, vote: Signed<Hate>, owed: Owed) -> Result<Moved<M>, Want>

@@ -177,7 +177,7 @@ fn count_own<M: Machine>(
 {
     let own = unsigned(&progress.core);
     match say_hate(progress, said) {
-        Ok(progress) => count_hate(progress, own),
+        Ok(progress) => Ok(count_hate(progress, own)),
         Err(want) => {
             drop(own);
             Err(want)

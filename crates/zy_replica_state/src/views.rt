@@ -76,12 +76,12 @@ impl<M: Machine> Core<M> {
     }
 
     /// Another's hate of the own view is counted, or the own one.
-    pub fn with_hate(mut self, vote: Signed<Hate>) -> Result<Core<M>, Want>
+    pub fn with_hate(mut self, vote: Signed<Hate>) -> Core<M>
         requires { number_of_party vote.by < self.views.counts.n }
-        ensures { IfOk result (λ r. r ≡ record self { views = views.with_hate vote.by self.views }) }
+        ensures { result ≡ record self { views = views.with_hate vote.by self.views } }
     {
         self.views.keep_hate(vote);
-        Ok(self)
+        self
     }
 
     /// The own hate is kept for good.
@@ -94,13 +94,13 @@ impl<M: Machine> Core<M> {
     }
 
     /// A report that breaks no rule is kept in place of its signer's earlier one.
-    pub fn with_change(mut self, change: Signed<Change>) -> Result<Core<M>, Want>
+    pub fn with_change(mut self, change: Signed<Change>) -> Core<M>
         requires member { number_of_party change.by < self.views.counts.n }
         requires kept { IsKeptChange self.views.counts self.views.interval (number_of_party change.by) change }
-        ensures { IfOk result (λ r. r ≡ record self { views = views.with_change change self.views }) }
+        ensures { result ≡ record self { views = views.with_change change self.views } }
     {
         self.views.keep_change(change);
-        Ok(self)
+        self
     }
 
     /// A new view is kept with the choice out of its reports, and the own confirmation of it.
@@ -195,6 +195,6 @@ impl<M: Machine> Core<M> {
         requires kept { IsKeptChange self.views.counts self.views.interval (number_of_party change.by) change }
         ensures { IfOk result (λ r. r ≡ left_with view change self) }
     {
-        Ok(self.with_change(change)?.drop_waiting()?.leave(view))
+        Ok(self.with_change(change).drop_waiting()?.leave(view))
     }
 }

@@ -1,4 +1,4 @@
-use Rattle.std.proofs.Common.{◌≡◌, ◌<◌, IfOk, ◌∙◌, ap, sym, subst}
+use Rattle.std.proofs.Common.{◌≡◌, ◌<◌, ◌∙◌, ap, sym, subst}
 use Rattle.zy_base.specs.declared.counts.Counts.{Counts}
 use Rattle.zy_base.specs.declared.ids.Party.{Party}
 use Rattle.zy_base.specs.declared.ids.Party.TheVariants.{Replica}
@@ -17,7 +17,6 @@ count_hate-requires g c =
 pub returns-in-Ok : goal.returns-in-Ok
 returns-in-Ok g c =
     let by = c.unsigned-own.ensures.by ∙ ap (λ (x : Going g.row.M-State.Denot). Replica x.state.me) c.progress.view_is in
-    subst (λ (x : Going g.row.M-State.Denot). IfOk c.count_hate.result (λ (m : Going g.row.M-State.Denot). m ≡ x))
-    (ap (λ (by : Party). with_hate_of by c.in-Ok.progress) by
-    ∙ ap (λ (x : Going g.row.M-State.Denot). with_hate_of (Replica c.args.progress.state.me) x) c.in-Ok.ensures)
     c.count_hate.ensures
+    ∙ ap (λ (by : Party). with_hate_of by c.in-Ok.progress) by
+    ∙ ap (λ (x : Going g.row.M-State.Denot). with_hate_of (Replica c.args.progress.state.me) x) c.in-Ok.ensures
