@@ -1,3 +1,1 @@
-pub mod HistoryLemmas
-pub mod PairLemmas
-pub mod TreeLemmas
+mod PieceLemmas

@@ -4,13 +4,14 @@ ghost use Rattle.std.specs.Prelude.{IfOk};
 ghost use Rattle.std.specs.List.{AllByRecursion};
 ghost use Rattle.zy_chain.specs.Entries.{IsEntryInRange};
 
+use crate::book::found_text;
 use crate::cases::Scene;
 use crate::text::{Hex, lacking, ok_text};
 use crate::values::digest;
 use crate::words::{Row, not_a_line};
 use std::alloc::Global;
 use std::io;
-use zy_base::{Bytes, ClientId, Digest, Items, Place, Stamp};
+use zy_base::{Bytes, ClientId, Items, Place, Stamp};
 use zy_chain::Entry;
 use zy_table::{AnyFrame, Gains, Got};
 use zy_vframes::ViewFrame;
@@ -34,7 +35,7 @@ impl Scene for Texts {
         let kept = &mut self.kept;
         match row.call()? {
             "begin" => begin(alloc, kept),
-            "text" => text(alloc, kept, &digest(row, "digest")?),
+            "text" => found_text(alloc, kept.text(&digest(row, "digest")?)),
             "step" => step(alloc, kept, row),
             "frame" => frame(alloc, kept, row.bytes("bytes")?),
             "kind" => kind(alloc, row.bytes("bytes")?),
@@ -46,15 +47,6 @@ impl Scene for Texts {
 fn begin(alloc: Global, kept: &mut KeptTexts) -> io::Result<String> {
     *kept = KeptTexts::new(alloc).map_err(lacking)?;
     ok_text(alloc)
-}
-
-/// The text that is kept under a digest.
-fn text(alloc: Global, kept: &KeptTexts, digest: &Digest) -> io::Result<String> {
-    match kept.text(digest) {
-        Some([]) => Ok(String::from_str(alloc, "empty")?),
-        Some(text) => Ok(format!(in alloc; "{}", Hex(text))?),
-        None => Ok(String::from_str(alloc, "-")?),
-    }
 }
 
 /// Keeps what a step brings that executes one entry.

@@ -110,7 +110,7 @@ const TABLES: [&str; 47] = [
     "report-lines",
     "group-files",
     "secret-files",
-    "histories",
+    "texts",
     "frames-of-liars",
     "kept-texts",
     "journals",
@@ -151,7 +151,7 @@ fn run_table(rt: &HostRuntime, table: &'static str) -> io::Result<()> {
         "execution" => run(rt, table, &mut history::Executions::new(rt.alloc())?),
         "frames-of-liars" => run(rt, table, &mut liars::Group::new(rt.alloc())?),
         "kept-texts" => run(rt, table, &mut kept_texts::Texts::new(rt.alloc())?),
-        "histories" => run(rt, table, &mut book::Books::new(rt.alloc())?),
+        "texts" => run(rt, table, &mut book::Books::new(rt.alloc())),
         _ => run(rt, table, &mut Calls(table)),
     }
 }

@@ -1,21 +1,27 @@
 -- Texts kept one after another.
-use Rattle.std.proofs.Common.{◌≡◌, ℕ, zero, suc, ◌<◌, length, take, drop, get_or, Bool, false, cond, List, [], ◌∷◌, ◌++◌, Option, Some, None, Result, Ok, Err, refl, sym, ap, ◌∙◌, append_assoc, subst, arith}
+use Rattle.std.proofs.Common.{◌≡◌, ◌≢◌, ℕ, zero, suc, ◌<◌, length, take, drop, get_or, Bool, true, false, cond, List, [], ◌∷◌, ◌++◌, Option, Some, None, Result, Ok, Err, refl, sym, ap, ◌∙◌, append_assoc, subst, arith}
 use Rattle.std.specs.Cmp.Lexicographic.{nat_list_eq_equiv}
 use Rattle.std.specs.Int.{w16, w32, w64, to_be_bytes}
 use Rattle.std.specs.List.{flat_map}
+use Rattle.std.specs.Option.{option_map_or}
+use Rattle.std.specs.Prelude.{IfErr, IsOk}
 use Rattle.std.specs.Str.{bytes_eq}
+use Rattle.std.proofs.lemmas.Bool.{false≢true}
 use Rattle.std.proofs.lemmas.List.{append-nil}
 use Rattle.zy_base.specs.declared.ids.ClientId.{ClientId}
 use Rattle.zy_base.specs.declared.ids.Digest.{Digest}
 use Rattle.zy_base.specs.declared.ids.Stamp.{Stamp}
 use Rattle.zy_admit.specs.Judging.{same_digest}
+use Rattle.zy_book.specs.Texts.{text_under, with_text}
+use Rattle.zy_book.specs.declared.fault.KeepFault.{KeepFault}
+use Rattle.zy_book.specs.declared.fault.KeepFault.TheVariants.{Clash, Want}
 use Rattle.zy_chain.specs.Entries.{bytes_of_entry, bytes_of_request, digest_of_entry, digest_of_request}
 use Rattle.zy_chain.specs.Heads.{empty_head, head_after, head_from}
 use Rattle.zy_chain.specs.declared.entry.Entry.{Entry}
 use Rattle.zy_table.specs.declared.deeds.Got.{Got}
 use Rattle.zy_world_law.specs.Texts.{digest_of, entry_texts, got_texts, link_text, snapshot_texts, keep, keep_all, keep_beside, and_then}
 use Rattle.zy_world_law.specs.World.{Texts, first_texts}
-use Rattle.zy_world_law.proofs.Tests.{bytes_same}
+use Rattle.zy_world_law.proofs.Tests.{bytes_same, digest_is as alike, same_bytes}
 use Rattle.zy_world_setup.specs.Kept.{Pairs, IsShown, Keeps, Clashes, look_up}
 
 -- the texts that pairs show are their look-up
@@ -80,8 +86,84 @@ module _ (old : Pairs) (text : List ℕ) where
         ∙ sym (updates d),
   )
 
-pub first_shown : (pairs : Pairs) → ((q : Digest) → look_up pairs q ≡ cond (same_digest empty_head q) (Some []) None) → IsShown first_texts pairs
-first_shown pairs is d = ap (λ (b : Bool). cond b (Some []) None) (symm d empty_head) ∙ sym (is d)
+-- a text more, under a digest that had none
+two_heads : (p : Digest × List ℕ) (d q : Digest) (text : List ℕ) (found rest : Option (List ℕ)) → same_digest d p.0 ≡ false → found ≡ cond (same_digest d q) (Some text) rest
+    → cond (same_digest q p.0) (Some p.1) found ≡ cond (same_digest d q) (Some text) (cond (same_digest q p.0) (Some p.1) rest)
+two_heads p d q text found rest other is = ap (λ (o : Option (List ℕ)). cond (same_digest q p.0) (Some p.1) o) is ∙ by (same_digest d q) refl
+  where
+    by : (b : Bool) → same_digest d q ≡ b → cond (same_digest q p.0) (Some p.1) (cond b (Some text) rest) ≡ cond b (Some text) (cond (same_digest q p.0) (Some p.1) rest)
+    by true same = ap (λ (b : Bool). cond b (Some p.1) (Some text)) (sym (ap (λ (e : Digest). same_digest e p.0) (alike d q same)) ∙ other)
+    by false differs = refl
+
+abbrev LooksUp : Pairs → Digest → List ℕ → Digest → Type 0
+LooksUp old d text q = look_up (old ++ (d, text) ∷ []) q ≡ cond (same_digest d q) (Some text) (look_up old q)
+
+looks_up_next : (p : Digest × List ℕ) (ps : Pairs) (d : Digest) (text : List ℕ) (q : Digest) (c : Bool) → same_digest d p.0 ≡ c → look_up (p ∷ ps) d ≡ None
+    → (look_up ps d ≡ None → LooksUp ps d text q) → LooksUp (p ∷ ps) d text q
+looks_up_next p ps d text q true here free rest =
+    let taken : Some p.1 ≡ None = sym (ap (λ (b : Bool). cond b (Some p.1) (look_up ps d)) here) ∙ free in
+    absurd cc
+looks_up_next p ps d text q false other free rest =
+    two_heads p d q text (look_up (ps ++ (d, text) ∷ []) q) (look_up ps q) other (rest (sym (ap (λ (b : Bool). cond b (Some p.1) (look_up ps d)) other) ∙ free))
+
+looks_up_last : (old : Pairs) (d : Digest) (text : List ℕ) (q : Digest) → look_up old d ≡ None → LooksUp old d text q
+looks_up_last [] d text q free = ap (λ (b : Bool). cond b (Some text) None) (symm q d)
+looks_up_last (p ∷ ps) d text q free = looks_up_next p ps d text q (same_digest d p.0) refl free (looks_up_last ps d text q)
+
+-- what a book answers that is to keep a text under its own digest
+module _ {T : Type 0} (old new : Pairs) (text : List ℕ) (r : Result T KeepFault)
+    (known : text_under old (digest_of text) ≡ Some text → IsOk r)
+    (other : (kept : List ℕ) → text_under old (digest_of text) ≡ Some kept → kept ≢ text → r ≡ Err Clash)
+    (fresh : text_under old (digest_of text) ≡ None → IfErr r (λ fault. fault ≡ Want)) where
+  differs_from : (kept : List ℕ) → bytes_eq kept text ≡ false → kept ≢ text
+  differs_from kept differs same = false≢true (sym differs ∙ ap (λ (l : List ℕ). bytes_eq l text) same ∙ bytes_same text)
+
+  book_keeps : IsOk r → new ≡ with_text old (digest_of text) text → Keeps (text ∷ []) old new
+  book_keeps ok is = by (look_up old (digest_of text)) refl
+    where
+      there : (kept : List ℕ) (same : Bool) → look_up old (digest_of text) ≡ Some kept → bytes_eq kept text ≡ same → Keeps (text ∷ []) old new
+      there kept true found same =
+          let stays : new ≡ old = is ∙ ap (λ (o : Option (List ℕ)). option_map_or (λ _. old) o (old ++ (digest_of text, text) ∷ [])) found in
+          subst (λ (p : Pairs). Keeps (text ∷ []) old p) (sym stays) (keeps_same old text (found ∙ ap (λ (l : List ℕ). Some l) (same_bytes kept text same)))
+      there kept false found differs = absurd (false≢true (subst (λ (s : Result T KeepFault). IsOk s) (other kept found (differs_from kept differs)) ok))
+
+      by : (o : Option (List ℕ)) → look_up old (digest_of text) ≡ o → Keeps (text ∷ []) old new
+      by None free =
+          let put : new ≡ old ++ (digest_of text, text) ∷ [] = is ∙ ap (λ (o : Option (List ℕ)). option_map_or (λ _. old) o (old ++ (digest_of text, text) ∷ [])) free in
+          keeps_fresh old text new free (λ q. ap (λ (p : Pairs). look_up p q) put ∙ looks_up_last old (digest_of text) text q free)
+      by (Some kept) found = there kept (bytes_eq kept text) found refl
+
+  book_clashes : r ≡ Err Clash → Clashes (text ∷ []) old (digest_of text)
+  book_clashes err = by (look_up old (digest_of text)) refl
+    where
+      there : (kept : List ℕ) (same : Bool) → look_up old (digest_of text) ≡ Some kept → bytes_eq kept text ≡ same → Clashes (text ∷ []) old (digest_of text)
+      there kept true found same = absurd (false≢true (subst (λ (s : Result T KeepFault). IsOk s) err (known (found ∙ ap (λ (l : List ℕ). Some l) (same_bytes kept text same)))))
+      there kept false found differs = clashes_other old text kept found differs
+
+      by : (o : Option (List ℕ)) → look_up old (digest_of text) ≡ o → Clashes (text ∷ []) old (digest_of text)
+      by None free = let want : Clash ≡ Want = subst (λ (s : Result T KeepFault). IfErr s (λ fault. fault ≡ Want)) err (fresh free) in absurd cc
+      by (Some kept) found = there kept (bytes_eq kept text) found refl
+
+-- likewise under a digest that is the text's own
+module _ {T : Type 0} (old new : Pairs) (text : List ℕ) (r : Result T KeepFault) (d : Digest) (own : d ≡ digest_of text)
+    (known : text_under old d ≡ Some text → IsOk r)
+    (other : (kept : List ℕ) → text_under old d ≡ Some kept → kept ≢ text → r ≡ Err Clash)
+    (fresh : text_under old d ≡ None → IfErr r (λ fault. fault ≡ Want)) where
+  at_own : {o : Option (List ℕ)} → text_under old (digest_of text) ≡ o → text_under old d ≡ o
+  at_own found = ap (text_under old) own ∙ found
+
+  pub kept_by_book : IsOk r → new ≡ with_text old d text → Keeps (text ∷ []) old new
+  kept_by_book ok is =
+      book_keeps old new text r (λ found. known (at_own found)) (λ kept found differs. other kept (at_own found) differs) (λ free. fresh (at_own free))
+      ok (is ∙ ap (λ (e : Digest). with_text old e text) own)
+
+  pub clash_by_book : r ≡ Err Clash → Clashes (text ∷ []) old d
+  clash_by_book err =
+      subst (λ (e : Digest). Clashes (text ∷ []) old e) (sym own)
+      (book_clashes old new text r (λ found. known (at_own found)) (λ kept found differs. other kept (at_own found) differs) (λ free. fresh (at_own free)) err)
+
+pub first_shown : (pairs : Pairs) → pairs ≡ (empty_head, []) ∷ [] → IsShown first_texts pairs
+first_shown pairs is d = ap (λ (p : Pairs). look_up p d) (sym is)
 
 -- ---- entries
 

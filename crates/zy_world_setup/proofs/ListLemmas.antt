@@ -1,5 +1,5 @@
--- Bytes in two pieces, and what tests find in lists.
-use Rattle.std.proofs.Common.{◌≡◌, ℕ, length, take, drop, Bool, true, false, ◌&&◌, ◌||◌, List, [], ◌∷◌, ◌++◌, map, refl, sym, ap, ◌∙◌, append_assoc}
+-- What tests find in lists.
+use Rattle.std.proofs.Common.{◌≡◌, ℕ, Bool, true, false, ◌||◌, List, [], ◌∷◌, ◌++◌, map, refl, sym, ap, ◌∙◌, append_assoc}
 use Rattle.std.specs.Prelude.{nat_eq, not}
 use Rattle.std.specs.Bool.{MatchBool}
 use Rattle.std.specs.Cmp.{nat_eq_equiv}
@@ -8,18 +8,6 @@ use Rattle.std.specs.List.Sorted.{IsPermutation}
 use Rattle.std.specs.Str.{bytes_eq}
 use Rattle.std.proofs.lemmas.List.Folds.{list_any-append}
 use Rattle.std.proofs.lemmas.List.Sorted.{list_any-IsPermutation}
-
--- ---- two pieces
-
-and_assoc : (a b c : Bool) → (a && (b && c)) ≡ ((a && b) && c)
-and_assoc true b c = refl
-and_assoc false b c = refl
-
-pub eq_joined : (front rest text : List ℕ) → bytes_eq text (front ++ rest) ≡ (bytes_eq (take (length front) text) front && bytes_eq (drop (length front) text) rest)
-eq_joined [] rest text = refl
-eq_joined (x ∷ front) rest [] = refl
-eq_joined (x ∷ front) rest (y ∷ text) =
-    ap (λ (b : Bool). nat_eq y x && b) (eq_joined front rest text) ∙ and_assoc (nat_eq y x) _ _
 
 -- ---- a test through what it looks at
 

@@ -1,13 +1,11 @@
-//! Texts in two pieces, which are hashed and compared as they lie.
+//! Texts in two pieces, which are hashed as they lie.
 
-ghost use Rattle.std.specs.Prelude.{◌≡◌, ◌++◌, IfOk};
+ghost use Rattle.std.specs.Prelude.{◌≡◌, ◌++◌};
 ghost use Rattle.std.specs.Int.{w16, w32, w64, to_be_bytes};
-ghost use Rattle.std.specs.Str.{bytes_eq};
 ghost use Rattle.zy_world_law.specs.Texts.{digest_of};
 
 use sha2::{Digest as Hasher, Sha256};
-use std::alloc::Global;
-use zy_base::{Bytes, ClientId, Digest, Stamp, Want};
+use zy_base::{ClientId, Digest, Stamp};
 
 // What stands before an entry's operation of this length: the client, the stamp and the length, each high byte first.
 pub(crate) fn front_of(client: ClientId, stamp: Stamp, length: u16) -> [u8; 14]
@@ -28,23 +26,4 @@ pub(crate) fn digest_joined(front: &[u8], rest: &[u8]) -> Digest
     hasher.update(front);
     hasher.update(rest);
     Digest(hasher.finalize())
-}
-
-// Whether a text is both pieces in a row.
-pub(crate) fn is_joined(text: &[u8], front: &[u8], rest: &[u8]) -> bool
-    ensures { result ≡ bytes_eq text.now (front.now ++ rest.now) }
-{
-    match text.strip_prefix(front) {
-        Some(behind) => behind == rest,
-        None => false,
-    }
-}
-
-pub(crate) fn bytes_joined(alloc: Global, front: &[u8], rest: &[u8]) -> Result<Bytes, Want>
-    ensures { IfOk result (λ text. text ≡ front.now ++ rest.now) }
-{
-    let mut text = Vec::with_capacity(alloc, front.len() + rest.len())?;
-    text.extend_from_slice(front)?;
-    text.extend_from_slice(rest)?;
-    Ok(Bytes::from(text))
 }

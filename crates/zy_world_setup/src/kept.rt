@@ -1,6 +1,6 @@
-ghost use Rattle.std.specs.Prelude.{◌≡◌, ◌∷◌, ◌++◌, ◌≤◌, [], length, None, Some, option_copied, if◌then◌else◌, IfOk, OnOk, OnErr, Err};
-ghost use Rattle.std.specs.HashMap.{get};
+ghost use Rattle.std.specs.Prelude.{◌≡◌, ◌∷◌, ◌++◌, ◌≤◌, [], length, None, Some, option_copied, IfOk, IsErr, IsOk, OnOk, OnErr, Err};
 ghost use Rattle.zy_base.specs.declared.ids.Digest.{Digest as Sum};
+ghost use Rattle.zy_book.specs.declared.fault.KeepFault.TheVariants.{Clash as Other};
 ghost use Rattle.zy_chain.specs.Entries.{bytes_of_request};
 ghost use Rattle.zy_frames.specs.Frames.{IsFrameInRange};
 ghost use Rattle.zy_parts.specs.Statements.{IsAskInRange};
@@ -11,12 +11,11 @@ ghost use Rattle.zy_world_setup.specs.Reading.{IsInRange};
 ghost use Rattle.zy_world_setup.specs.declared.fault.TextFault.TheVariants.{Clash};
 
 use crate::fault::TextFault;
-use crate::joined::{bytes_joined, digest_joined, front_of, is_joined};
+use crate::joined::{digest_joined, front_of};
 use std::alloc::Global;
-use std::collections::HashMap;
-use std::hash::Hash;
 use std::marker::Model;
-use zy_base::{Bytes, ClientId, Digest, Party, Stamp, Want};
+use zy_base::{ClientId, Digest, Party, Stamp, Want};
+use zy_book::{Book, KeepFault};
 use zy_chain::EMPTY_HEAD;
 use zy_frames::Frame;
 use zy_parts::{Ask, Signed};
@@ -25,8 +24,7 @@ use zy_table::AnyFrame;
 /// Texts, one under each SHA-256 value (FIPS 180-4). Contracts see the digests with their texts, in any order.
 #[derive(Drop)]
 pub struct KeptTexts {
-    alloc: Global,
-    texts: HashMap<Digest, Bytes>,
+    book: Book,
 }
 
 impl Model for KeptTexts {
@@ -34,7 +32,7 @@ impl Model for KeptTexts {
 
     ghost Value = { Pairs };
 
-    ghost view = { λ kept. kept.texts.entries };
+    ghost view = { λ kept. kept.book };
 }
 
 impl KeptTexts {
@@ -42,19 +40,18 @@ impl KeptTexts {
     pub fn new(alloc: Global) -> Result<KeptTexts, Want>
         ensures { IfOk result (IsShown first_texts) }
     {
-        let mut texts = HashMap::new(alloc);
-        put(&mut texts, EMPTY_HEAD, Bytes::new(alloc))?;
-        Ok(KeptTexts { alloc, texts })
+        let mut book = Book::new(alloc);
+        match book.keep(EMPTY_HEAD, &[], &[]) {
+            Ok(()) => Ok(KeptTexts { book }),
+            Err(_) => Err(Want),
+        }
     }
 
     /// The text that is kept under a digest.
     pub fn text(&self, digest: &Digest) -> Option<&[u8]>
         ensures { option_copied result ≡ look_up self.now digest.now }
     {
-        match self.texts.get(digest) {
-            Some(text) => Some(text.as_slice()),
-            None => None,
-        }
+        self.book.text(digest)
     }
 
     /// Keeps a text, unless another is kept under its digest. A text that is kept already takes no memory.
@@ -75,20 +72,8 @@ impl KeptTexts {
         ensures err { OnErr result (self.new ≡ self.old) }
     {
         let digest = digest_joined(front, rest);
-        match self.texts.get(&digest) {
-            Some(kept) => {
-                if is_joined(kept.as_slice(), front, rest) {
-                    Ok(digest)
-                } else {
-                    Err(TextFault::Clash(digest))
-                }
-            }
-            None => {
-                let text = bytes_joined(self.alloc, front, rest)?;
-                put(&mut self.texts, digest, text)?;
-                Ok(digest)
-            }
-        }
+        let kept = self.book.keep(digest, front, rest);
+        answered(kept, digest)
     }
 
     /// Keeps what a frame brings: the entry of a client's request, a reply, of each entry that is reported its bytes and its
@@ -158,12 +143,16 @@ impl KeptTexts {
     }
 }
 
-// One pair more, whose key is new.
-fn put<K: Hash + Eq + Drop, V: Drop>(map: &mut HashMap<K, V>, key: K, value: V) -> Result<(), Want>
-    requires { get K.eq map.old key ≡ None }
-    ensures ok { OnOk result ((q : K) → get K.eq map.new q ≡ (if K.eq key q then Some value else get K.eq map.old q)) }
-    ensures err { OnErr result (map.new.entries ≡ map.old.entries) }
+// What a book answers, with the digest of the text that it was to keep.
+fn answered(kept: Result<(), KeepFault>, digest: Digest) -> Result<Digest, TextFault>
+    ensures digest { IfOk result (λ d. d ≡ digest) }
+    ensures kept { OnOk result (IsOk kept) }
+    ensures clash { (d : Sum) → result ≡ Err (Clash d) → (kept ≡ Err Other) × (d ≡ digest) }
+    ensures err { OnErr result (IsErr kept) }
 {
-    map.insert(key, value)?;
-    Ok(())
+    match kept {
+        Ok(()) => Ok(digest),
+        Err(KeepFault::Clash) => Err(TextFault::Clash(digest)),
+        Err(KeepFault::Want) => Err(TextFault::Want),
+    }
 }

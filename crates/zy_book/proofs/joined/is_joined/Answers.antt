@@ -1,7 +1,7 @@
 use Rattle.std.proofs.Common.{ℕ, ◌&&◌, Bool, List, length, drop, sym, ap, ◌∙◌}
 use Rattle.std.specs.Str.{bytes_eq}
-use Rattle.zy_world_setup.proofs.ListLemmas.{eq_joined}
-use Rattle.zy_world_setup.proofs.joined.is_joined.Goals as goal
+use Rattle.zy_book.proofs.PieceLemmas.{eq_joined}
+use Rattle.zy_book.proofs.joined.is_joined.Goals as goal
 
 pub returns-in-Some : goal.returns-in-Some
 returns-in-Some c =
