@@ -10,7 +10,7 @@ ghost use Rattle.zy_world_setup.specs.Reading.{IsInRange};
 ghost use Rattle.zy_world_setup.specs.Telling.{IsOrderable, IsTellable};
 
 use crate::cases::Scene;
-use crate::text::{Hex, PartyText, lacking};
+use crate::text::{Hex, PartyText, flag_text, lacking};
 use crate::values::MaybeHex;
 use crate::words::{Row, not_a_line};
 use std::alloc::Global;
@@ -52,6 +52,7 @@ impl Scene for Group {
         match row.call()? {
             "keys" => keys(alloc, &self.keys, row.text("parties")?),
             "statement" => statement(alloc, row.bytes("bytes")?),
+            "short" => short(alloc, row.bytes("bytes")?),
             "frame" => frame(alloc, directory, row),
             "request" => request(alloc, row),
             "request-in" => request_text(alloc, row.bytes("bytes")?),
@@ -115,6 +116,14 @@ fn tellable(alloc: Global, bytes: &[u8]) -> io::Result<Tellable>
         Ok(None) => Err(not_a_line()),
         Err(want) => Err(lacking(want)),
     }
+}
+
+/// Whether the frame of a statement is no longer than a frame may be.
+fn short(alloc: Global, bytes: &[u8]) -> io::Result<String> {
+    let setup = setup(alloc)?;
+    let statement = tellable(alloc, bytes)?;
+    let short = statement.is_short(alloc, &setup).map_err(lacking)?;
+    flag_text(alloc, short)
 }
 
 /// A party whose next leaf is this one, of 32.

@@ -13,7 +13,3 @@ key_again k (parties.Client id) a b = let put : List (Option SealerState) → Ke
 pub key_back : (k : Keyed) (liar : Party) (key : SealerState) → key_in k liar ≡ Some key → with_key (with_key k liar None) liar (Some key) ≡ k
 key_back k (parties.Replica id) key is = let put : List (Option SealerState) → Keyed = λ xs. record k { replicas = xs } in ap put (set_back k.replicas id.0 key is)
 key_back k (parties.Client id) key is = let put : List (Option SealerState) → Keyed = λ xs. record k { clients = xs } in ap put (set_back k.clients id.0 key is)
-
--- the key that stands there is put there
-pub key_put : (k : Keyed) (liar : Party) (key : SealerState) → key_in k liar ≡ Some key → with_key k liar (Some key) ≡ k
-key_put k liar key is = sym (key_again k liar None (Some key)) ∙ key_back k liar key is

@@ -1,9 +1,9 @@
 -- What liars and forgers sign.
-use Rattle.std.proofs.Common.{◌≡◌, ◌≢◌, ℕ, ◌+◌, ◌-◌, ◌^◌, ◌<◌, ◌≤◌, Bool, true, false, ◌&&◌, List, [], ◌∷◌, ◌++◌, length, Option, Some, None, refl, sym, ap, ap₂, ◌∙◌, subst, arith}
-use Rattle.std.specs.Prelude.{slice_get, slice_set, option_map, nat_eq, if◌then◌else◌}
+use Rattle.std.proofs.Common.{◌≡◌, ℕ, ◌+◌, ◌-◌, ◌^◌, ◌<◌, ◌≤◌, Bool, true, false, ◌&&◌, List, [], ◌∷◌, length, Option, Some, None, refl, sym, ap, ap₂, ◌∙◌, subst, arith}
+use Rattle.std.specs.Prelude.{slice_get, slice_set, option_map, nat_eq, nat_lt, if◌then◌else◌}
 use Rattle.std.specs.List.{list_all}
 use Rattle.std.specs.Option.{option_and_then}
-use Rattle.std.proofs.lemmas.Bool.{eqb-true, eqb-false, lt-ltb, le-ltb, le-leb, lt-leb}
+use Rattle.std.proofs.lemmas.Bool.{eqb-true, eqb-false, lt-ltb, le-ltb}
 use Rattle.std.proofs.lemmas.Option.{slice_get-get_or}
 use Rattle.zy_base.specs.declared.cause.Cause.TheVariants as causes
 use Rattle.zy_base.specs.declared.ids.Party.{Party}
@@ -13,13 +13,11 @@ use Rattle.zy_lms.specs.Height.{levels_of}
 use Rattle.zy_parts.specs.declared.signed.Signed.{Signed}
 use Rattle.zy_parts.specs.declared.statements.Ask.{Ask}
 use Rattle.zy_seal.specs.Sealing.{SealerState, spent_one}
-use Rattle.zy_world_setup.specs.Telling.{IsToldBy}
 use Rattle.zy_table.specs.Sending.{copies, spelling_of}
-use Rattle.zy_wire.specs.Kind.{frame_limit}
 use Rattle.zy_world.specs.Shown.{Shown, Seated, Keyed, seat_of, is_seated, is_liar_seat, is_correct_seat, key_in, with_key, requests_in}
 use Rattle.zy_world.specs.Shows.{Shows, ShowsKeys}
 use Rattle.zy_world.specs.Tale.{if_replica}
-use Rattle.zy_world_law.specs.Events.{Happened, no_subject, lie, forge, leaves_in, sends_signed, spent}
+use Rattle.zy_world_law.specs.Events.{Happened, no_subject, lie, forge, leaves_in, spent}
 use Rattle.zy_world_law.specs.Events.Happened.{Goes}
 use Rattle.zy_world_law.specs.Liars.{Telling, by_replica, last_of, request_read, requests_at}
 use Rattle.zy_world_law.specs.Setup.{Setup, sealer_of}
@@ -120,47 +118,28 @@ pub no_forge : {S : Type 0} (w : World S) (party : Party) (to : List Party) (tol
 no_forge w party to None is = refl
 no_forge w party to (Some telling) is = if_false (is_correct w party && are_parties w to) _ (no_subject w) is
 
--- bytes that were signed are sent where they are no more than a frame may have
-module _ {S : Type 0} (w signed : World S) (to : List Party) (bytes : List ℕ) where
-  short_sent : length bytes ≤ frame_limit → sends_signed w signed to bytes ≡ Goes (with_sent signed (copies bytes to)) notes.Quiet
-  short_sent short = ap (λ (b : Bool). if b then Goes (with_sent signed (copies bytes to)) notes.Quiet else no_subject w) (le-leb (length bytes) frame_limit short)
+module _ {S : Type 0} (w : World S) (liar : Party) (to : List Party) (told : Option Telling) (telling : Telling) (tells : told ≡ Some telling) (is : (is_liar w liar && are_parties w to) ≡ true) where
+  abbrev sent_by : List ℕ → Happened S
+  sent_by bytes = Goes (with_sent (spent w liar) (copies bytes to)) notes.Quiet
 
-  long_unsent : frame_limit < length bytes → sends_signed w signed to bytes ≡ no_subject w
-  long_unsent long = ap (λ (b : Bool). if b then Goes (with_sent signed (copies bytes to)) notes.Quiet else no_subject w) (lt-leb (length bytes) frame_limit long)
+  abbrev frame : List ℕ
+  frame = spelling_of (telling (sealer_of w.setup liar (w.leaves liar)))
 
-module _ {S : Type 0} (w : World S) (liar : Party) (to : List Party) (told : Option Telling) (is : (is_liar w liar && are_parties w to) ≡ true) where
-  lie_made : (telling : Telling) → told ≡ Some telling → w.leaves liar < leaves_in w
-      → lie w liar to told ≡ sends_signed w (spent w liar) to (spelling_of (telling (sealer_of w.setup liar (w.leaves liar))))
-  lie_made telling tells left =
-      ap (lie w liar to) tells
-      ∙ ap₂ (λ (b c : Bool). if b then (if c then sends_signed w (spent w liar) to (spelling_of (telling (sealer_of w.setup liar (w.leaves liar)))) else Goes w (notes.Refused None causes.KeySpent)) else no_subject w)
-      is (lt-ltb (w.leaves liar) (leaves_in w) left)
+  lie_tried : (left : Bool) → nat_lt (w.leaves liar) (leaves_in w) ≡ left → lie w liar to told ≡ (if left then sent_by frame else Goes w (notes.Refused None causes.KeySpent))
+  lie_tried left has =
+      ap (lie w liar to) tells ∙ ap₂ (λ (b c : Bool). if b then (if c then sent_by frame else Goes w (notes.Refused None causes.KeySpent)) else no_subject w) is has
 
-  pub lie_sent : (bytes : List ℕ) → w.leaves liar < leaves_in w → IsToldBy told (sealer_of w.setup liar (w.leaves liar)) (Some bytes)
-      → lie w liar to told ≡ Goes (with_sent (spent w liar) (copies bytes to)) notes.Quiet
-  lie_sent bytes left tells =
-      lie_made tells.0 tells.1 left ∙ ap (sends_signed w (spent w liar) to) (sym tells.2.0) ∙ short_sent w (spent w liar) to bytes tells.2.1
+  pub lie_sent : (bytes : List ℕ) → w.leaves liar < leaves_in w → bytes ≡ frame → lie w liar to told ≡ Goes (with_sent (spent w liar) (copies bytes to)) notes.Quiet
+  lie_sent bytes left spelled = lie_tried true (lt-ltb (w.leaves liar) (leaves_in w) left) ∙ ap sent_by (sym spelled)
 
-  pub lie_too_long : w.leaves liar < leaves_in w → IsToldBy told (sealer_of w.setup liar (w.leaves liar)) None → lie w liar to told ≡ no_subject w
-  lie_too_long left tells = lie_made tells.0 tells.1 left ∙ long_unsent w (spent w liar) to (spelling_of (tells.0 (sealer_of w.setup liar (w.leaves liar)))) tells.2
+  pub lie_unsent : leaves_in w ≤ w.leaves liar → lie w liar to told ≡ Goes w (notes.Refused None causes.KeySpent)
+  lie_unsent used = lie_tried false (le-ltb (w.leaves liar) (leaves_in w) used)
 
-  pub lie_unsent : (telling : Telling) → leaves_in w ≤ w.leaves liar → told ≡ Some telling → lie w liar to told ≡ Goes w (notes.Refused None causes.KeySpent)
-  lie_unsent telling used tells =
-      let sent : Happened S = sends_signed w (spent w liar) to (spelling_of (telling (sealer_of w.setup liar (w.leaves liar)))) in
-      ap (lie w liar to) tells
-      ∙ ap₂ (λ (b c : Bool). if b then (if c then sent else Goes w (notes.Refused None causes.KeySpent)) else no_subject w) is (le-ltb (w.leaves liar) (leaves_in w) used)
-
-module _ {S : Type 0} (w : World S) (party : Party) (to : List Party) (told : Option Telling) (is : (is_correct w party && are_parties w to) ≡ true) where
-  forge_made : (telling : Telling) → told ≡ Some telling → forge w party to told ≡ sends_signed w w to (spelling_of (telling (sealer_of w.setup party (leaves_in w - 1))))
-  forge_made telling tells =
-      ap (forge w party to) tells
-      ∙ ap (λ (b : Bool). if b then sends_signed w w to (spelling_of (telling (sealer_of w.setup party (leaves_in w - 1)))) else no_subject w) is
-
-  pub forge_sent : (bytes : List ℕ) → IsToldBy told (sealer_of w.setup party (leaves_in w - 1)) (Some bytes) → forge w party to told ≡ Goes (with_sent w (copies bytes to)) notes.Quiet
-  forge_sent bytes tells = forge_made tells.0 tells.1 ∙ ap (sends_signed w w to) (sym tells.2.0) ∙ short_sent w w to bytes tells.2.1
-
-  pub forge_too_long : IsToldBy told (sealer_of w.setup party (leaves_in w - 1)) None → forge w party to told ≡ no_subject w
-  forge_too_long tells = forge_made tells.0 tells.1 ∙ long_unsent w w to (spelling_of (tells.0 (sealer_of w.setup party (leaves_in w - 1)))) tells.2
+pub forge_sent : {S : Type 0} (w : World S) (party : Party) (to : List Party) (telling : Telling) (bytes : List ℕ) → (is_correct w party && are_parties w to) ≡ true
+    → bytes ≡ spelling_of (telling (sealer_of w.setup party (leaves_in w - 1))) → forge w party to (Some telling) ≡ Goes (with_sent w (copies bytes to)) notes.Quiet
+forge_sent w party to telling bytes is spelled =
+    ap (λ (b : Bool). if b then Goes (with_sent w (copies (spelling_of (telling (sealer_of w.setup party (leaves_in w - 1)))) to)) notes.Quiet else no_subject w) is
+    ∙ ap (λ (l : List ℕ). Goes (with_sent w (copies l to)) notes.Quiet) (sym spelled)
 
 -- ---- the requests of a history
 

@@ -1,14 +1,15 @@
 -- What a liar or a forger is told to sign.
-use Rattle.std.specs.Prelude.{ℕ, ◌≤◌, ◌&&◌, Bool, List, length, Option, Some, None}
+use Rattle.std.specs.Prelude.{◌≡◌, ◌≢◌, ℕ, ◌≤◌, ◌^◌, ◌&&◌, Bool, true, false, if◌then◌else◌, List, length, Option, Some, None}
 use Rattle.std.specs.List.{list_all}
 use Rattle.zy_base.specs.declared.ids.Party.{Party}
 use Rattle.zy_base.specs.declared.ids.Party.TheVariants as parties
-use Rattle.zy_seal.specs.Sealing.{SealerState, spent_one}
-use Rattle.zy_world_setup.specs.Telling.{IsOrderable, IsTellable, telling_of}
-use Rattle.zy_world.specs.Shown.{Seated, seat_of, is_seated, is_liar_seat, is_correct_seat}
+use Rattle.zy_lms.specs.Height.{levels_of}
+use Rattle.zy_seal.specs.Sealing.{spent_one}
+use Rattle.zy_world_setup.specs.Telling.{IsOrderable, IsTellable, IsToldBy, telling_of}
+use Rattle.zy_world.specs.Shown.{Seated, Keyed, seat_of, is_seated, is_liar_seat, is_correct_seat, with_key}
 use Rattle.zy_world.specs.declared.tale.Tale.{Tale}
 use Rattle.zy_world.specs.declared.tale.Tale.TheVariants.{Order, Spec, Statement}
-use Rattle.zy_world_law.specs.Liars.{Telling, order_told, spec_told}
+use Rattle.zy_world_law.specs.Liars.{Telling, order_told, spec_told, is_short}
 use Rattle.zy_world_law.specs.Setup.{Setup, sealer_of}
 
 abbrev pub told_in : Tale → Option Telling
@@ -22,10 +23,38 @@ IsTale (Order view asks) = IsOrderable view asks
 IsTale (Spec view asks reply) = IsOrderable view asks × (length reply ≤ 1100)
 IsTale (Statement statement) = IsTellable statement
 
--- The key of a liar behind its next frame; where that would be too long, it stands at its leaf as before.
-abbrev pub key_behind : Setup → Party → Option (List ℕ) → SealerState → SealerState
-key_behind setup liar (Some bytes) key = spent_one key
-key_behind setup liar None key = sealer_of setup liar key.key.next
+-- only the frame of a statement can be too long
+abbrev pub is_statement : Tale → Bool
+is_statement (Order view asks) = false
+is_statement (Spec view asks reply) = false
+is_statement (Statement statement) = true
+
+abbrev pub is_short_tale : Setup → Party → Tale → Bool
+is_short_tale setup party (Order view asks) = true
+is_short_tale setup party (Spec view asks reply) = true
+is_short_tale setup party (Statement statement) = is_short setup party (telling_of statement)
+
+-- what is told, if its frame isn't too long
+abbrev pub told_by : Setup → Party → Tale → Option Telling
+told_by setup party tale = if is_short_tale setup party tale then told_in tale else None
+
+-- A liar whose key stands at this leaf signed these bytes: they aren't too long, and the leaf was there and is spent.
+pub record IsSigned (setup : Setup) (liar : Party) (leaf : ℕ) (tale : Tale) (old new : Keyed) (bytes : List ℕ) : Type 0 where
+  pub short : is_short_tale setup liar tale ≡ true
+  pub told : IsToldBy (told_in tale) (sealer_of setup liar leaf) (Some bytes)
+  pub left : leaf ≢ 2 ^ levels_of setup.height
+  pub spent : new ≡ with_key old liar (Some (spent_one (sealer_of setup liar leaf)))
+
+-- or they would be too long, and no leaf is spent
+abbrev pub IsAnswered : Setup → Party → ℕ → Tale → Keyed → Keyed → Option (List ℕ) → Type 0
+IsAnswered setup liar leaf tale old new None = (is_short_tale setup liar tale ≡ false) × (new ≡ old)
+IsAnswered setup liar leaf tale old new (Some bytes) = IsSigned setup liar leaf tale old new bytes
+
+-- or they wouldn't, and no leaf is left
+pub record IsSpent (setup : Setup) (liar : Party) (leaf : ℕ) (tale : Tale) (old new : Keyed) : Type 0 where
+  pub short : is_short_tale setup liar tale ≡ true
+  pub spent : leaf ≡ 2 ^ levels_of setup.height
+  pub same : new ≡ old
 
 -- only replicas sign what is said of a history
 abbrev pub if_replica : {A : Type 0} → Party → Option A → Option A

@@ -1,9 +1,9 @@
-ghost use Rattle.std.specs.Prelude.{◌≡◌, ◌≢◌, ◌≤◌, ◌^◌, ◌↔◌, None, Some, Err, IfOk, OnOk, IsErrOf};
+ghost use Rattle.std.specs.Prelude.{◌≡◌, ◌≢◌, ◌^◌, ◌↔◌, ℕ, true, None, Some, Err, IfOk, IfNone, OnOk, IsErrOf};
 ghost use Rattle.zy_lms.specs.Height.{levels_of};
-ghost use Rattle.zy_seal.specs.Sealing.{SealerState};
+ghost use Rattle.zy_seal.specs.Sealing.{SealerState, spent_one};
 ghost use Rattle.zy_seal.specs.declared.sealer.SealFault.TheVariants.{KeySpent};
 ghost use Rattle.zy_world_setup.specs.Telling.{IsToldBy};
-ghost use Rattle.zy_world.specs.Tale.{IsTale, key_behind, told_in};
+ghost use Rattle.zy_world.specs.Tale.{IsAnswered, IsSpent, IsTale, is_statement, told_in};
 ghost use Rattle.zy_world.specs.Shown.{key_in, with_key};
 ghost use Rattle.zy_world_law.specs.Setup.{sealer_of};
 
@@ -11,9 +11,9 @@ use crate::seat::{put_in, take_from};
 use crate::tale::Tale;
 use std::alloc::Global;
 use std::marker::Model;
-use zy_base::{Bytes, ClientId, Party, ReplicaId, Want};
+use zy_base::{Bytes, ClientId, Party, ReplicaId};
 use zy_seal::{SealFault, Sealer};
-use zy_world_setup::{Setup, sealer_at};
+use zy_world_setup::Setup;
 
 /// The keys of the liars, each at its next leaf, none where a party doesn't lie.
 #[derive(Drop)]
@@ -52,8 +52,8 @@ impl Liars {
         }
     }
 
-    /// A liar signs by its next leaf. `None` where the frame is longer than a frame may be; no leaf is spent then. `KeySpent`
-    /// where no leaf is left.
+    /// A liar signs by its next leaf. `None` exactly where the frame would be too long, whether a leaf is left or not; none is
+    /// spent then. Else `KeySpent` where no leaf is left.
     pub(crate) fn sign(
         &mut self,
         alloc: Global,
@@ -62,15 +62,35 @@ impl Liars {
         tale: Tale,
     ) -> Result<Option<Bytes>, SealFault>
         requires { IsTale tale }
+        ensures told { (leaf : ℕ) → key_in self.old liar ≡ Some (sealer_of setup.now liar leaf) → IfOk result (IsAnswered setup.now liar leaf tale self.old self.new) }
+        ensures spent { (leaf : ℕ) → key_in self.old liar ≡ Some (sealer_of setup.now liar leaf) → result ≡ Err KeySpent → IsSpent setup.now liar leaf tale self.old self.new }
+    {
+        let short = tale.is_short(alloc, setup)?;
+        if short {
+            self.sign_next(alloc, liar, tale)
+        } else {
+            Ok(None)
+        }
+    }
+
+    // Signs by the next leaf, however long the frame is.
+    fn sign_next(
+        &mut self,
+        alloc: Global,
+        liar: Party,
+        tale: Tale,
+    ) -> Result<Option<Bytes>, SealFault>
+        requires { IsTale tale }
         ensures frame { (key : SealerState) → key_in self.old liar ≡ Some key → IfOk result (IsToldBy (told_in tale) key) }
-        ensures key { (key : SealerState) → key_in self.old liar ≡ Some key → key.key.next ≤ 2 ^ levels_of setup.now.height → IfOk result (λ bytes. self.new ≡ with_key self.old liar (Some (key_behind setup.now liar bytes key))) }
+        ensures long { IfOk result (λ bytes. IfNone bytes (is_statement tale ≡ true)) }
+        ensures spent_one { (key : SealerState) → key_in self.old liar ≡ Some key → OnOk result (self.new ≡ with_key self.old liar (Some (spent_one key))) }
         ensures left { (key : SealerState) → key_in self.old liar ≡ Some key → OnOk result (key.key.next ≢ 2 ^ levels_of key.key.height) }
         ensures spent { (key : SealerState) → key_in self.old liar ≡ Some key → result ≡ Err KeySpent → key.key.next ≡ 2 ^ levels_of key.key.height }
         ensures same { (key : SealerState) → key_in self.old liar ≡ Some key → result ≡ Err KeySpent → self.new ≡ self.old }
     {
         match self.take(liar) {
             None => Err(SealFault::KeySpent),
-            Some(key) => self.sign_with(alloc, setup, liar, key, tale),
+            Some(key) => self.sign_with(alloc, liar, key, tale),
         }
     }
 
@@ -78,34 +98,19 @@ impl Liars {
     fn sign_with(
         &mut self,
         alloc: Global,
-        setup: &Setup,
         liar: Party,
         mut key: Sealer,
         tale: Tale,
     ) -> Result<Option<Bytes>, SealFault>
         requires { IsTale tale }
         ensures frame { IfOk result (IsToldBy (told_in tale) key) }
-        ensures key { key.key.next ≤ 2 ^ levels_of setup.now.height → IfOk result (λ bytes. self.new ≡ with_key self.old liar (Some (key_behind setup.now liar bytes key))) }
+        ensures long { IfOk result (λ bytes. IfNone bytes (is_statement tale ≡ true)) }
+        ensures spent_one { OnOk result (self.new ≡ with_key self.old liar (Some (spent_one key))) }
         ensures spent { IsErrOf result SealFault.KeySpent ↔ (key.key.next ≡ 2 ^ levels_of key.key.height) }
         ensures unchanged { IsErrOf result SealFault.KeySpent → self.new ≡ with_key self.old liar (Some key) }
     {
-        let leaf = key.next_leaf();
-        match tale.frame(alloc, &mut key) {
-            Ok(None) => {
-                self.put(liar, key_again(alloc, setup, liar, leaf)?);
-                Ok(None)
-            }
-            told => {
-                self.put(liar, key);
-                told
-            }
-        }
+        let told = tale.frame(alloc, &mut key);
+        self.put(liar, key);
+        told
     }
-}
-
-// The liar's key at a leaf again by which it signed what isn't sent.
-fn key_again(alloc: Global, setup: &Setup, liar: Party, leaf: u32) -> Result<Sealer, Want>
-    ensures { leaf ≤ 2 ^ levels_of setup.now.height → IfOk result (λ key. key ≡ sealer_of setup.now liar leaf) }
-{
-    sealer_at(alloc, setup, liar, leaf.min(setup.height.leaf_count()))
 }

@@ -9,14 +9,14 @@ ghost use Rattle.zy_parts.specs.Statements.{IsAskInRange};
 ghost use Rattle.zy_world.specs.Answered.{GoesTo};
 ghost use Rattle.zy_world.specs.Event.{IsHistoryTold};
 ghost use Rattle.zy_world.specs.Shows.{Shows};
-ghost use Rattle.zy_world_setup.specs.Telling.{IsToldBy};
+ghost use Rattle.zy_world_setup.specs.Telling.{IsEncoded, IsTellable, telling_of};
 ghost use Rattle.zy_table.specs.Sending.{copies};
-ghost use Rattle.zy_world.specs.Tale.{IsTale, can_forge, can_lie, if_replica, told_in};
+ghost use Rattle.zy_world.specs.Tale.{IsTale, can_forge, can_lie, if_replica, told_by};
 ghost use Rattle.zy_world_law.specs.Events.{lie, forge, raw};
 ghost use Rattle.zy_world_law.specs.Events.Happened.{Goes};
 ghost use Rattle.zy_world_law.specs.Setup.{sealer_of};
 ghost use Rattle.zy_world_law.specs.declared.note.Note.TheVariants.{Quiet};
-ghost use Rattle.zy_world_law.specs.Liars.{by_replica, order_told, spec_told, requests_at, statement_told};
+ghost use Rattle.zy_world_law.specs.Liars.{by_replica, if_short, order_told, spec_told, requests_at, statement_told};
 ghost use Rattle.zy_world_law.specs.World.{World as Whole, are_parties, is_correct, is_liar, with_sent};
 
 use crate::tale::Tale;
@@ -25,7 +25,7 @@ use zy_base::{Bytes, Cause, Items, Machine, Party, View, Want};
 use zy_parts::{Ask, Signed};
 use zy_seal::SealFault;
 use zy_world_law::Note;
-use zy_world_setup::{read_statement, sealer_at};
+use zy_world_setup::{Tellable, read_statement, sealer_at};
 
 impl<M: Machine> World<M> {
     /// A liar orders the requests of these frames as one history.
@@ -71,7 +71,7 @@ impl<M: Machine> World<M> {
         bytes: &Bytes,
         to: &Items<Party>,
     ) -> Result<WorldStepped<M>, Want>
-        ensures { (g : Whole M.State) → Shows g self → IfOk result (λ r. GoesTo (lie g liar to.now (statement_told bytes.now)) r.note r.world) }
+        ensures { (g : Whole M.State) → Shows g self → IfOk result (λ r. GoesTo (lie g liar to.now (if_short g.setup liar (statement_told bytes.now))) r.note r.world) }
     {
         match read_statement(self.alloc, bytes.as_slice())? {
             Some(statement) => self.lie(liar, to, Tale::Statement(statement)),
@@ -86,10 +86,10 @@ impl<M: Machine> World<M> {
         bytes: &Bytes,
         to: &Items<Party>,
     ) -> Result<WorldStepped<M>, Want>
-        ensures { (g : Whole M.State) → Shows g self → IfOk result (λ r. GoesTo (forge g party to.now (statement_told bytes.now)) r.note r.world) }
+        ensures { (g : Whole M.State) → Shows g self → IfOk result (λ r. GoesTo (forge g party to.now (if_short g.setup party (statement_told bytes.now))) r.note r.world) }
     {
         match read_statement(self.alloc, bytes.as_slice())? {
-            Some(statement) => self.forge(party, to, Tale::Statement(statement)),
+            Some(statement) => self.forge(party, to, statement),
             None => Ok(self.no_subject()),
         }
     }
@@ -124,7 +124,7 @@ impl<M: Machine> World<M> {
     // A liar signs by its next leaf.
     fn lie(self, liar: Party, to: &Items<Party>, tale: Tale) -> Result<WorldStepped<M>, Want>
         requires { IsTale tale }
-        ensures { (g : Whole M.State) → Shows g self → IfOk result (λ r. GoesTo (lie g liar to.now (told_in tale)) r.note r.world) }
+        ensures { (g : Whole M.State) → Shows g self → IfOk result (λ r. GoesTo (lie g liar to.now (told_by g.setup liar tale)) r.note r.world) }
     {
         if self.can_lie(liar, to) {
             self.lies(liar, to, tale)
@@ -142,7 +142,7 @@ impl<M: Machine> World<M> {
     // Signs, and sends the frame, unless it is longer than a frame may be.
     fn lies(mut self, liar: Party, to: &Items<Party>, tale: Tale) -> Result<WorldStepped<M>, Want>
         requires { IsTale tale }
-        ensures { (g : Whole M.State) → Shows g self → (is_liar g liar && are_parties g to.now) ≡ true → IfOk result (λ r. GoesTo (lie g liar to.now (told_in tale)) r.note r.world) }
+        ensures { (g : Whole M.State) → Shows g self → (is_liar g liar && are_parties g to.now) ≡ true → IfOk result (λ r. GoesTo (lie g liar to.now (told_by g.setup liar tale)) r.note r.world) }
     {
         match self.liars.sign(self.alloc, &self.setup, liar, tale) {
             Ok(Some(bytes)) => self.sends(&bytes, to),
@@ -152,12 +152,17 @@ impl<M: Machine> World<M> {
         }
     }
 
-    fn forge(self, party: Party, to: &Items<Party>, tale: Tale) -> Result<WorldStepped<M>, Want>
-        requires { IsTale tale }
-        ensures { (g : Whole M.State) → Shows g self → IfOk result (λ r. GoesTo (forge g party to.now (told_in tale)) r.note r.world) }
+    fn forge(
+        self,
+        party: Party,
+        to: &Items<Party>,
+        statement: Tellable,
+    ) -> Result<WorldStepped<M>, Want>
+        requires { IsTellable statement }
+        ensures { (g : Whole M.State) → Shows g self → IfOk result (λ r. GoesTo (forge g party to.now (if_short g.setup party (Some (telling_of statement)))) r.note r.world) }
     {
         if self.can_forge(party, to) {
-            self.forges(party, to, tale)
+            self.forges(party, to, statement)
         } else {
             Ok(self.no_subject())
         }
@@ -170,11 +175,16 @@ impl<M: Machine> World<M> {
     }
 
     // Signs by the party's last leaf, and sends the frame, unless it is longer than a frame may be.
-    fn forges(self, party: Party, to: &Items<Party>, tale: Tale) -> Result<WorldStepped<M>, Want>
-        requires { IsTale tale }
-        ensures { (g : Whole M.State) → Shows g self → (is_correct g party && are_parties g to.now) ≡ true → IfOk result (λ r. GoesTo (forge g party to.now (told_in tale)) r.note r.world) }
+    fn forges(
+        self,
+        party: Party,
+        to: &Items<Party>,
+        statement: Tellable,
+    ) -> Result<WorldStepped<M>, Want>
+        requires { IsTellable statement }
+        ensures { (g : Whole M.State) → Shows g self → (is_correct g party && are_parties g to.now) ≡ true → IfOk result (λ r. GoesTo (forge g party to.now (if_short g.setup party (Some (telling_of statement)))) r.note r.world) }
     {
-        match self.forged(party, tale)? {
+        match self.forged(party, statement)? {
             Some(bytes) => self.sends(&bytes, to),
             None => Ok(self.no_subject()),
         }
@@ -182,13 +192,13 @@ impl<M: Machine> World<M> {
 
     // The frame under the party's key, made anew, by its last leaf.
     #[tactic(auto, using(crate::proofs::Lies::has_leaves))]
-    fn forged(&self, party: Party, tale: Tale) -> Result<Option<Bytes>, Want>
-        requires { IsTale tale }
-        ensures { IfOk result (IsToldBy (told_in tale) (sealer_of self.now.setup party (2 ^ levels_of self.now.setup.height - 1))) }
+    fn forged(&self, party: Party, statement: Tellable) -> Result<Option<Bytes>, Want>
+        requires { IsTellable statement }
+        ensures { IfOk result (IsEncoded (telling_of statement (sealer_of self.now.setup party (2 ^ levels_of self.now.setup.height - 1)))) }
     {
         let last = self.setup.height.leaf_count() - 1;
         let mut sealer = sealer_at(self.alloc, &self.setup, party, last)?;
-        match tale.frame(self.alloc, &mut sealer) {
+        match statement.frame(self.alloc, &mut sealer) {
             Ok(bytes) => Ok(bytes),
             Err(SealFault::KeySpent) => unreachable!(),
             Err(SealFault::Want) => Err(Want),

@@ -1,6 +1,6 @@
 -- Whatever event is next in a good world, no correct replica refuses it for a cause that blames anyone, but where a frame tells another snapshot.
-use Rattle.std.proofs.Common.{◌≡◌, inl, inr, ℕ, Bool, true, false, ◌&&◌, ◌++◌, List, [], length, Option, Some, None, Ok, Err, refl, sym, ap, ◌∙◌, subst}
-use Rattle.std.specs.Prelude.{Result, if◌then◌else◌, nat_le, nat_lt, option_map, slice_get, unwrap_or}
+use Rattle.std.proofs.Common.{◌≡◌, inl, inr, ℕ, Bool, true, false, ◌&&◌, ◌++◌, List, [], Option, Some, None, Ok, Err, refl, sym, ap, ◌∙◌, subst}
+use Rattle.std.specs.Prelude.{Result, if◌then◌else◌, nat_lt, option_map, slice_get, unwrap_or}
 use Rattle.std.specs.List.{AllByRecursion}
 use Rattle.std.specs.Option.{option_and_then}
 use Rattle.zy_base.specs.Machine.{Rules}
@@ -39,11 +39,11 @@ use Rattle.zy_vframes.specs.Parts.{parts_of}
 use Rattle.zy_vframes.specs.ViewFrames as views
 use Rattle.zy_vframes.specs.declared.frame.ViewFrame.{ViewFrame}
 use Rattle.zy_world_law.specs.Blame.{IsBlameless, IsOfFrame, IsOfSnapshot, frame_brought}
-use Rattle.zy_world_law.specs.Events.{Broken, Happened, ask_in, bring, bring_to_client, bring_to_replica, client_goes, client_note, client_stepped, client_timer, client_timer_in, completed_by, deliver, forge, go_with, happens, history_of, leaves_in, lie, replica_goes, replica_note, replica_timer, replica_timer_in, sends_signed, stepped, timer_of, unless_forged, with_client, with_done, with_replica}
+use Rattle.zy_world_law.specs.Events.{Broken, Happened, ask_in, bring, bring_to_client, bring_to_replica, client_goes, client_note, client_stepped, client_timer, client_timer_in, completed_by, deliver, forge, go_with, happens, history_of, leaves_in, lie, replica_goes, replica_note, replica_timer, replica_timer_in, stepped, timer_of, unless_forged, with_client, with_done, with_replica}
 use Rattle.zy_world_law.specs.Events.Happened.{Breaks, Goes}
 use Rattle.zy_world_law.specs.Good.{IsGood, IsKept}
 use Rattle.zy_world_law.specs.Honest.{forger_in}
-use Rattle.zy_world_law.specs.Liars.{Telling, by_replica, order_told, requests_at, spec_told, statement_told}
+use Rattle.zy_world_law.specs.Liars.{Telling, by_replica, if_short, order_told, requests_at, spec_told, statement_told}
 use Rattle.zy_world_law.specs.Reading.{any_frame_in, either_read, view_read}
 use Rattle.zy_world_law.specs.Seen.{seen}
 use Rattle.zy_world_law.specs.Texts.{keep_all, step_texts, texts_in, texts_of}
@@ -281,17 +281,14 @@ module _ {S : Type 0} (R : Rules S) (laws : StepLaws R) where
     asks id op (Some None) = unnamed NoFrame w causes.NoSubject
     asks id op (Some (Some x)) = client_just NoFrame w id x [] (ask x.state op)
 
-    sent : (u : World S) (to : List Party) (bytes : List ℕ) → TellsJust NoFrame (sends_signed w u to bytes)
-    sent u to bytes = tested NoFrame (nat_le (length bytes) 4194304) _ _ (quiet NoFrame _) (unnamed NoFrame w causes.NoSubject)
-
     lies : (liar : Party) (to : List Party) (telling : Option Telling) → TellsJust NoFrame (lie w liar to telling)
     lies liar to None = unnamed NoFrame w causes.NoSubject
     lies liar to (Some telling) =
-        tested NoFrame (is_liar w liar && are_parties w to) _ _ (tested NoFrame (nat_lt (w.leaves liar) (leaves_in w)) _ _ (sent _ to _) (unnamed NoFrame w causes.KeySpent)) (unnamed NoFrame w causes.NoSubject)
+        tested NoFrame (is_liar w liar && are_parties w to) _ _ (tested NoFrame (nat_lt (w.leaves liar) (leaves_in w)) _ _ (quiet NoFrame _) (unnamed NoFrame w causes.KeySpent)) (unnamed NoFrame w causes.NoSubject)
 
     forges : (party : Party) (to : List Party) (telling : Option Telling) → TellsJust NoFrame (forge w party to telling)
     forges party to None = unnamed NoFrame w causes.NoSubject
-    forges party to (Some telling) = tested NoFrame (is_correct w party && are_parties w to) _ _ (sent w to _) (unnamed NoFrame w causes.NoSubject)
+    forges party to (Some telling) = tested NoFrame (is_correct w party && are_parties w to) _ _ (quiet NoFrame _) (unnamed NoFrame w causes.NoSubject)
 
     event_just : (event : WorldEvent) → TellsJust (ByFrame (frame_brought w event)) (happens R w event)
     unfolding happens
@@ -300,9 +297,9 @@ module _ {S : Type 0} (R : Rules S) (laws : StepLaws R) where
     event_just (events.Timer party kind) = anyway (ByFrame None) _ (rings party kind)
     event_just (events.Order liar view asks to) = anyway (ByFrame None) _ (lies liar to (by_replica liar (option_and_then (order_told view) (requests_at w asks))))
     event_just (events.Spec liar view asks to reply) = anyway (ByFrame None) _ (lies liar to (by_replica liar (option_and_then (spec_told view reply) (requests_at w asks))))
-    event_just (events.Statement liar bytes to) = anyway (ByFrame None) _ (lies liar to (statement_told bytes))
+    event_just (events.Statement liar bytes to) = anyway (ByFrame None) _ (lies liar to (if_short w.setup liar (statement_told bytes)))
     event_just (events.Raw bytes to) = anyway (ByFrame None) _ (tested NoFrame (are_parties w to) _ _ (quiet NoFrame _) (unnamed NoFrame w causes.NoSubject))
-    event_just (events.Forge party bytes to) = anyway (ByFrame None) _ (forges party to (statement_told bytes))
+    event_just (events.Forge party bytes to) = anyway (ByFrame None) _ (forges party to (if_short w.setup party (statement_told bytes)))
 
     pub blameless : IsBlameless R w
     blameless = record { orders = no_conflict R w good; refusals = event_just }

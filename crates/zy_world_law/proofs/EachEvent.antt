@@ -1,7 +1,7 @@
 -- Each honest event keeps a good world good.
 use Rattle.zy_table.specs.Whole.{whole_step}
-use Rattle.std.proofs.Common.{append-nil, ◌≡◌, inl, ℕ, ◌-◌, ◌%◌, nat_eq, Bool, true, false, ◌&&◌, List, [], ◌∷◌, length, Option, Some, None, Result, Ok, refl, sym, ap, ◌∙◌, subst}
-use Rattle.std.specs.Prelude.{IfSome, if◌then◌else◌, slice_get, option_map, unwrap_or, nat_le, nat_lt}
+use Rattle.std.proofs.Common.{append-nil, ◌≡◌, inl, ℕ, ◌-◌, ◌%◌, nat_eq, Bool, true, false, ◌&&◌, List, [], ◌∷◌, Option, Some, None, Result, Ok, refl, sym, ap, ◌∙◌, subst}
+use Rattle.std.specs.Prelude.{IfSome, if◌then◌else◌, slice_get, option_map, unwrap_or, nat_lt}
 use Rattle.std.specs.List.{AllByRecursion}
 use Rattle.std.specs.Option.{option_and_then}
 use Rattle.std.proofs.lemmas.Bool.{eqb-true}
@@ -30,7 +30,6 @@ use Rattle.zy_seal.specs.declared.directory.SealAnswer.TheVariants as answers
 use Rattle.zy_table.specs.ClientRows.{ask, client_step, is_by_primary}
 use Rattle.zy_table.specs.ClientState.{ClientState}
 use Rattle.zy_table.specs.Roles.{is_primary_of}
-use Rattle.zy_table.specs.Sending.{spelling_of}
 use Rattle.zy_table.specs.declared.client.Response.{Response}
 use Rattle.zy_table.specs.declared.deeds.AnyFrame.{AnyFrame}
 use Rattle.zy_table.specs.declared.deeds.AnyFrame.TheVariants.{Plain}
@@ -38,8 +37,8 @@ use Rattle.zy_world_law.specs.Events.{Happened, Broken, unless_forged, ask_in, d
 use Rattle.zy_world_law.specs.Events.Happened.{Goes, Breaks}
 use Rattle.zy_world_law.specs.Good.{IsGood, IsBackedBy, IsKept, IsOrderBacked}
 use Rattle.zy_world_law.specs.Honest.{forger_in}
-use Rattle.zy_world_law.specs.Liars.{Telling, requests_at, order_told, spec_told, by_replica, statement_told}
-use Rattle.zy_world_law.specs.Setup.{keys_of, sealer_of}
+use Rattle.zy_world_law.specs.Liars.{Telling, requests_at, order_told, spec_told, by_replica, statement_told, if_short}
+use Rattle.zy_world_law.specs.Setup.{keys_of}
 use Rattle.zy_world_law.specs.Reading.{any_frame_in, either_read}
 use Rattle.zy_world_law.specs.Texts.{texts_in, texts_of}
 use Rattle.zy_world_law.specs.World.{World, Replica, Client, Mail, replica_at, client_at, correct_in, mail_at, delivered, texts_said, is_liar, is_correct, are_parties}
@@ -238,15 +237,13 @@ module _ {S : Type 0} (R : Rules S) (law : HeldLaw) (steps : StepLaws R) where
     lies liar to None = stays w _ good
     lies liar to (Some telling) =
         by_test w (is_liar w liar && are_parties w to) _ _
-        (by_test w (nat_lt (w.leaves liar) (leaves_in w)) _ _
-        (by_test w (nat_le (length (spelling_of (telling (sealer_of w.setup liar (w.leaves liar))))) 4194304) _ _ (sends _ _ notes.Quiet) (stays w _ good)) (stays w _ good))
+        (by_test w (nat_lt (w.leaves liar) (leaves_in w)) _ _ (sends _ _ notes.Quiet) (stays w _ good))
         (stays w _ good)
 
     forges : (party : Party) (to : List Party) (telling : Option Telling) → GoesGood w (forge w party to telling)
     forges party to None = stays w _ good
     forges party to (Some telling) =
-        by_test w (is_correct w party && are_parties w to) _ _
-        (by_test w (nat_le (length (spelling_of (telling (sealer_of w.setup party (leaves_in w - 1))))) 4194304) _ _ (sends w.leaves _ notes.Quiet) (stays w _ good)) (stays w _ good)
+        by_test w (is_correct w party && are_parties w to) _ _ (sends w.leaves _ notes.Quiet) (stays w _ good)
 
     pub event_good : (event : WorldEvent) → GoesGood w (happens R w event)
     unfolding happens
@@ -255,6 +252,6 @@ module _ {S : Type 0} (R : Rules S) (law : HeldLaw) (steps : StepLaws R) where
     event_good (events.Timer party kind) = rings party kind
     event_good (events.Order liar view asks to) = lies liar to (by_replica liar (option_and_then (order_told view) (requests_at w asks)))
     event_good (events.Spec liar view asks to reply) = lies liar to (by_replica liar (option_and_then (spec_told view reply) (requests_at w asks)))
-    event_good (events.Statement liar bytes to) = lies liar to (statement_told bytes)
+    event_good (events.Statement liar bytes to) = lies liar to (if_short w.setup liar (statement_told bytes))
     event_good (events.Raw bytes to) = by_test w (are_parties w to) _ _ (sends w.leaves _ notes.Quiet) (stays w _ good)
-    event_good (events.Forge party bytes to) = forges party to (statement_told bytes)
+    event_good (events.Forge party bytes to) = forges party to (if_short w.setup party (statement_told bytes))

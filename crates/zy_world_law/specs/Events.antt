@@ -1,5 +1,5 @@
 -- What an event makes of a world.
-use Rattle.std.specs.Prelude.{ℕ, ◌+◌, ◌-◌, ◌^◌, nat_lt, nat_le, ◌&&◌, if◌then◌else◌, List, [], ◌++◌, length, map, slice_get, slice_set, Option, Some, None, option_map, unwrap_or, option_to_list, Result, Ok, Err}
+use Rattle.std.specs.Prelude.{ℕ, ◌+◌, ◌-◌, ◌^◌, nat_lt, ◌&&◌, if◌then◌else◌, List, [], ◌++◌, length, map, slice_get, slice_set, Option, Some, None, option_map, unwrap_or, option_to_list, Result, Ok, Err}
 use Rattle.std.specs.Option.{option_and_then}
 use Rattle.zy_base.specs.Machine.{Rules}
 use Rattle.zy_base.specs.declared.cause.Cause.TheVariants as causes
@@ -28,7 +28,7 @@ use Rattle.zy_table.specs.State.{own_view}
 use Rattle.zy_table.specs.Whole.{whole_step}
 use Rattle.zy_table.specs.declared.client.Done.{Done}
 use Rattle.zy_world_law.specs.Honest.{forger_in}
-use Rattle.zy_world_law.specs.Liars.{Telling, requests_at, order_told, spec_told, by_replica, statement_told}
+use Rattle.zy_world_law.specs.Liars.{Telling, requests_at, order_told, spec_told, by_replica, statement_told, if_short}
 use Rattle.zy_world_law.specs.Setup.{sealer_of}
 use Rattle.zy_world_law.specs.Texts.{texts_in, step_texts, keep_all}
 use Rattle.zy_world_law.specs.World.{World, Replica, Client, Remark, Mail, Texts, same_party, is_correct, is_liar, are_parties, mail_at, with_sent, delivered}
@@ -194,17 +194,13 @@ leaves_in w = 2 ^ levels_of w.setup.height
 abbrev pub spent : {S : Type 0} → World S → Party → World S
 spent w liar = record w { leaves = λ other. if same_party other liar then w.leaves other + 1 else w.leaves other }
 
--- bytes that were signed go to some parties, if they are no longer than a frame may be
-abbrev pub sends_signed : {S : Type 0} → World S → World S → List Party → List ℕ → Happened S
-sends_signed w signed to bytes = if nat_le (length bytes) 4194304 then Goes (with_sent signed (copies bytes to)) notes.Quiet else no_subject w
-
 -- a liar signs a frame by its next leaf, for some parties
 abbrev pub lie : {S : Type 0} → World S → Party → List Party → Option Telling → Happened S
 lie w liar to None = no_subject w
 lie w liar to (Some telling) =
     if is_liar w liar && are_parties w to
     then (if nat_lt (w.leaves liar) (leaves_in w)
-    then sends_signed w (spent w liar) to (spelling_of (telling (sealer_of w.setup liar (w.leaves liar))))
+    then Goes (with_sent (spent w liar) (copies (spelling_of (telling (sealer_of w.setup liar (w.leaves liar)))) to)) notes.Quiet
     else Goes w (notes.Refused None causes.KeySpent))
     else no_subject w
 
@@ -213,7 +209,7 @@ abbrev pub forge : {S : Type 0} → World S → Party → List Party → Option 
 forge w party to None = no_subject w
 forge w party to (Some telling) =
     if is_correct w party && are_parties w to
-    then sends_signed w w to (spelling_of (telling (sealer_of w.setup party (leaves_in w - 1))))
+    then Goes (with_sent w (copies (spelling_of (telling (sealer_of w.setup party (leaves_in w - 1)))) to)) notes.Quiet
     else no_subject w
 
 abbrev pub raw : {S : Type 0} → World S → List ℕ → List Party → Happened S
@@ -227,6 +223,6 @@ happens R w (events.Deliver number to) = deliver R w number to (mail_at w number
 happens R w (events.Timer party kind) = timer_of R w party kind
 happens R w (events.Order liar view asks to) = lie w liar to (by_replica liar (option_and_then (order_told view) (requests_at w asks)))
 happens R w (events.Spec liar view asks to reply) = lie w liar to (by_replica liar (option_and_then (spec_told view reply) (requests_at w asks)))
-happens R w (events.Statement liar bytes to) = lie w liar to (statement_told bytes)
+happens R w (events.Statement liar bytes to) = lie w liar to (if_short w.setup liar (statement_told bytes))
 happens R w (events.Raw bytes to) = raw w bytes to
-happens R w (events.Forge party bytes to) = forge w party to (statement_told bytes)
+happens R w (events.Forge party bytes to) = forge w party to (if_short w.setup party (statement_told bytes))

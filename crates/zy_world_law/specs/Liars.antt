@@ -1,5 +1,5 @@
 -- What liars sign.
-use Rattle.std.specs.Prelude.{ℕ, ◌-◌, ◌==◌, if◌then◌else◌, List, [], ◌∷◌, length, map, slice_get, Option, Some, None, option_map, Result, Ok, Err}
+use Rattle.std.specs.Prelude.{ℕ, ◌-◌, ◌==◌, nat_le, Bool, if◌then◌else◌, List, [], ◌∷◌, length, map, slice_get, Option, Some, None, option_map, Result, Ok, Err}
 use Rattle.std.specs.Option.{option_and_then}
 use Rattle.sha2.specs.Sha256.{sha256}
 use Rattle.zy_base.specs.declared.frame_fault.FrameFault.{FrameFault}
@@ -21,11 +21,14 @@ use Rattle.zy_parts.specs.declared.statements.Order.{Order}
 use Rattle.zy_parts.specs.declared.statements.Spec.{Spec}
 use Rattle.zy_seal.specs.Sealing.{SealerState, sealed_by}
 use Rattle.zy_table.specs.Roles.{is_client}
+use Rattle.zy_table.specs.Sending.{spelling_of}
 use Rattle.zy_table.specs.declared.deeds.AnyFrame.{AnyFrame}
 use Rattle.zy_table.specs.declared.deeds.AnyFrame.TheVariants as any_frames
 use Rattle.zy_vframes.specs.declared.frame.ViewFrame.{ViewFrame}
 use Rattle.zy_vframes.specs.declared.frame.ViewFrame.TheVariants as views
+use Rattle.zy_wire.specs.Kind.{frame_limit}
 use Rattle.zy_wire.specs.Spelling.{Spelling, whole}
+use Rattle.zy_world_law.specs.Setup.{Setup, sealer_of}
 use Rattle.zy_world_law.specs.World.{World, mail_at}
 
 -- a frame as whoever signs it makes it
@@ -113,3 +116,15 @@ statement_numbered number bytes =
 unfoldable pub statement_told : List ℕ → Option Telling
 statement_told [] = None
 statement_told (number ∷ fields) = statement_numbered number fields
+
+-- ---- how long a frame may be
+
+-- A party's frame is no longer than a frame may be. All leaves sign at the same length, so this is judged by the first one, and is
+-- so whether a leaf is left or not.
+abbrev pub is_short : Setup → Party → Telling → Bool
+is_short setup party telling = nat_le (length (spelling_of (telling (sealer_of setup party 0)))) frame_limit
+
+-- what is told in such a frame
+abbrev pub if_short : Setup → Party → Option Telling → Option Telling
+if_short setup party None = None
+if_short setup party (Some telling) = if is_short setup party telling then Some telling else None

@@ -31,6 +31,18 @@ telling_of (tellables.New new) = λ sealer. any.View (views.NewView (sealed_by n
 telling_of (tellables.Began began) = λ sealer. any.View (views.ViewConfirm (sealed_by numbers.began began_fields sealer began))
 telling_of (tellables.Fetch fetch) = λ sealer. any.View (views.Fetch (sealed_by numbers.fetch fetch_fields sealer fetch))
 
+-- the bytes of its fields
+abbrev pub fields_told : Tellable → List ℕ
+fields_told (tellables.Ask ask) = ask_fields.spell ask
+fields_told (tellables.Local local) = local_fields.spell local
+fields_told (tellables.Hole hole) = hole_fields.spell hole
+fields_told (tellables.Hate hate) = hate_fields.spell hate
+fields_told (tellables.Check check) = check_fields.spell check
+fields_told (tellables.Change change) = change_fields.spell change
+fields_told (tellables.New new) = new_fields.spell new
+fields_told (tellables.Began began) = began_fields.spell began
+fields_told (tellables.Fetch fetch) = fetch_fields.spell fetch
+
 -- what its fields may hold, beside what their types say
 abbrev pub IsTellable : Tellable → Type 0
 IsTellable (tellables.Ask ask) = IsAskInRange ask

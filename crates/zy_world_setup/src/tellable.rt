@@ -1,24 +1,30 @@
-ghost use Rattle.std.specs.Prelude.{◌≡◌, ◌⊎◌, ◌↔◌, ◌^◌, IfOk, OnOk, IsErrOf, option_map};
+ghost use Rattle.std.specs.Prelude.{◌≡◌, ◌⊎◌, ◌↔◌, ◌^◌, ◌≤◌, ℕ, length, nat_le, IfOk, OnOk, IsErrOf, option_map};
 ghost use Rattle.std.specs.Option.{ForSome};
 ghost use Rattle.std.specs.Result.{result_ok};
+ghost use Rattle.zy_base.specs.declared.ids.Party.{Party as Speaker};
 ghost use Rattle.zy_lms.specs.Height.{levels_of};
+ghost use Rattle.zy_lms.specs.Lms.{signature_len_of};
 ghost use Rattle.zy_frames.specs.Frames.{IsFrameInRange};
 ghost use Rattle.zy_seal.specs.Sealing.{spent_one};
 ghost use Rattle.zy_seal.specs.declared.sealer.SealFault.{SealFault};
-ghost use Rattle.zy_world_setup.specs.Telling.{IsEncoded, IsTellable, telling_of};
+ghost use Rattle.zy_world_setup.specs.Telling.{IsEncoded, IsTellable, fields_told, telling_of};
+ghost use Rattle.zy_table.specs.Sending.{spelling_of};
 ghost use Rattle.zy_table.specs.declared.deeds.AnyFrame.TheVariants as any;
 ghost use Rattle.zy_wire.specs.Getting.{Decodes};
+ghost use Rattle.zy_wire.specs.Kind.{frame_limit};
 ghost use Rattle.zy_wire.specs.Spelling.{whole};
 ghost use Rattle.zy_world_law.specs.Liars.{statement_numbered, statement_told};
+ghost use Rattle.zy_world_law.specs.Setup.{sealer_of};
 
 use crate::frames::{encoded, encoded_view};
+use crate::setup::Setup;
 use std::alloc::Global;
 use zy_base::{Bytes, Want};
 use zy_frames::Frame;
 use zy_parts::{Ask, Began, Change, Check, Fetch, Hate, Hole, Local, New, Statement};
 use zy_seal::{SealFault, Sealer};
 use zy_vframes::ViewFrame;
-use zy_wire::{Cut, GetFault, Spelled};
+use zy_wire::{Cut, GetFault, MAX_FRAME, Put, Spelled};
 
 /// A statement that whoever has a key can be told to sign by its number and fields. Each goes in its own frame.
 #[derive(Debug, Drop)]
@@ -88,6 +94,35 @@ fn read_whole<S: Spelled>(alloc: Global, bytes: &[u8]) -> Result<S, GetFault>
 }
 
 impl Tellable {
+    /// Whether the frame with the statement, signed by any leaf of a key of this setup, is no longer than a frame may be.
+    pub fn is_short(&self, alloc: Global, setup: &Setup) -> Result<bool, Want>
+        requires { IsTellable self.now }
+        ensures { IfOk result (λ short. (party : Speaker) (leaf : ℕ) → short ≡ nat_le (length (spelling_of (telling_of self.now (sealer_of setup.now party leaf)))) frame_limit) }
+    {
+        // Beside the fields and the signature: the version, the kind, the signer, and the signature's length.
+        let others = 9 + signature_len(setup);
+        let fields = self.fields_len(alloc)?;
+        Ok(fields <= MAX_FRAME - others)
+    }
+
+    // How many bytes its fields have.
+    fn fields_len(&self, alloc: Global) -> Result<usize, Want>
+        requires { IsTellable self.now }
+        ensures { IfOk result (λ len. len ≡ length (fields_told self.now)) }
+    {
+        match self {
+            Tellable::Ask(ask) => spelled_len(alloc, ask),
+            Tellable::Local(local) => spelled_len(alloc, local),
+            Tellable::Hole(hole) => spelled_len(alloc, hole),
+            Tellable::Hate(hate) => spelled_len(alloc, hate),
+            Tellable::Check(check) => spelled_len(alloc, check),
+            Tellable::Change(change) => spelled_len(alloc, change),
+            Tellable::New(new) => spelled_len(alloc, new),
+            Tellable::Began(began) => spelled_len(alloc, began),
+            Tellable::Fetch(fetch) => spelled_len(alloc, fetch),
+        }
+    }
+
     /// The frame with the statement, signed by the next leaf. `None` where it is longer than a frame may be; the leaf is spent
     /// then too. `KeySpent` exactly where no leaf is left.
     pub fn frame(self, alloc: Global, sealer: &mut Sealer) -> Result<Option<Bytes>, SealFault>
@@ -118,6 +153,24 @@ impl Tellable {
             )?),
         }
     }
+}
+
+fn spelled_len<S: Spelled>(alloc: Global, value: &S) -> Result<usize, Want>
+    requires { S.in_range value.now }
+    ensures { IfOk result (λ len. len ≡ length (S.spelling.spell value.now)) }
+{
+    let mut out = Put::new(alloc);
+    value.put(&mut out)?;
+    Ok(out.len())
+}
+
+// The length of each signature under this setup's keys (RFC 8554, section 5.4).
+#[tactic(auto, using(crate::proofs::FrameLengths::few_bytes))]
+fn signature_len(setup: &Setup) -> usize
+    ensures len { result ≡ signature_len_of setup.now.height setup.now.ots }
+    ensures few { result ≤ 2508 }
+{
+    8 + setup.ots.signature_len() + 32 * setup.height.levels()
 }
 
 // No frame of normal operation is too long.

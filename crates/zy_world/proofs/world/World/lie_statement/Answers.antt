@@ -1,19 +1,19 @@
-use Rattle.std.proofs.Common.{◌≡◌, Some, None, sym, ap, ◌∙◌, subst}
+use Rattle.std.proofs.Common.{◌≡◌, Option, Some, None, sym, ap, ◌∙◌, subst}
 use Rattle.std.specs.Prelude.{IfOk, option_map}
 use Rattle.zy_world_setup.specs.Telling.{telling_of}
 use Rattle.zy_world.specs.Answered.{GoesTo}
 use Rattle.zy_world_law.specs.Events.{Happened, lie}
-use Rattle.zy_world_law.specs.Liars.{statement_told}
+use Rattle.zy_world_law.specs.Liars.{Telling, if_short, statement_told}
 use Rattle.zy_world.proofs.world.World.lie_statement.Goals as goal
 
 pub returns-in-Some : goal.returns-in-Some
 returns-in-Some g c w s =
     let told : Some (telling_of c.in-Some.statement) ≡ statement_told c.args.bytes.now =
     ap (option_map telling_of) (sym c.in-Some.is) ∙ c.in_ok-statement.ensures.value ∙ ap statement_told c.as_slice.ensures.value in
-    subst (λ (h : Happened g.row.M-State.Denot). IfOk c.lie.result (λ r. GoesTo h r.note r.world)) (ap (lie w c.args.liar c.args.to.now) told) (c.lie.ensures w s)
+    subst (λ (h : Happened g.row.M-State.Denot). IfOk c.lie.result (λ r. GoesTo h r.note r.world)) (ap (λ (t : Option Telling). lie w c.args.liar c.args.to.now (if_short w.setup c.args.liar t)) told) (c.lie.ensures w s)
 
 pub returns-in-None : goal.returns-in-None
 returns-in-None g c w s =
     let told : None ≡ statement_told c.args.bytes.now =
     ap (option_map telling_of) (sym c.in-None.is) ∙ c.in_ok-statement.ensures.value ∙ ap statement_told c.as_slice.ensures.value in
-    subst (λ (h : Happened g.row.M-State.Denot). GoesTo h c.no_subject.result.note c.no_subject.result.world) (ap (lie w c.args.liar c.args.to.now) told) (c.no_subject.ensures w s)
+    subst (λ (h : Happened g.row.M-State.Denot). GoesTo h c.no_subject.result.note c.no_subject.result.world) (ap (λ (t : Option Telling). lie w c.args.liar c.args.to.now (if_short w.setup c.args.liar t)) told) (c.no_subject.ensures w s)
