@@ -15,7 +15,8 @@ pub(crate) fn numbers(alloc: Global, row: &Row) -> io::Result<String> {
     }
 }
 
-fn counts_text(alloc: Global, counts: &Counts, view: View) -> io::Result<String> {
+/// The numbers of a group, and the primary of a view.
+pub(crate) fn counts_text(alloc: Global, counts: &Counts, view: View) -> io::Result<String> {
     Ok(format!(in alloc;
         "n {} f {} fast {} cert {} local {} change {} agree {} primary {}",
         counts.n,

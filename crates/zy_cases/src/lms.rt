@@ -38,7 +38,7 @@ fn made(
     LmsKey::make(alloc, seed, id, height, ots, leaf).map_err(lacking)
 }
 
-fn height(row: &Row) -> io::Result<Height> {
+pub(crate) fn height(row: &Row) -> io::Result<Height> {
     match row.text("height")? {
         "5" => Ok(Height::H5),
         "10" => Ok(Height::H10),

@@ -24,6 +24,7 @@ mod frames;
 mod group_files;
 mod groups;
 mod history;
+mod hss;
 mod journal;
 mod kept_texts;
 mod liars;
@@ -45,6 +46,7 @@ mod statements;
 mod text;
 mod tuple;
 mod values;
+mod wide;
 mod wire;
 mod words;
 
@@ -55,6 +57,7 @@ use changes::Machines;
 use checkpoints::Board;
 use choices::Reports;
 use frames::Kinds;
+use hss::HssKeys;
 use lms::Keys;
 use orders::Orders;
 use pieces::Gathers;
@@ -66,7 +69,7 @@ use words::Row;
 use zy_base::Digest;
 
 /// The files of `data/`, in the order in which they run.
-const TABLES: [&str; 47] = [
+const TABLES: [&str; 51] = [
     "group-numbers",
     "lists",
     "fields",
@@ -114,6 +117,10 @@ const TABLES: [&str; 47] = [
     "frames-of-liars",
     "kept-texts",
     "journals",
+    "two-level-keys",
+    "two-level-verification",
+    "wide-numbers",
+    "calm-schedules",
 ];
 
 fn main(rt: HostRuntime) -> io::Result<()> {
@@ -152,6 +159,7 @@ fn run_table(rt: &HostRuntime, table: &'static str) -> io::Result<()> {
         "frames-of-liars" => run(rt, table, &mut liars::Group::new(rt.alloc())?),
         "kept-texts" => run(rt, table, &mut kept_texts::Texts::new(rt.alloc())?),
         "texts" => run(rt, table, &mut book::Books::new(rt.alloc())),
+        "two-level-keys" => run(rt, table, &mut HssKeys::new()),
         _ => run(rt, table, &mut Calls(table)),
     }
 }
@@ -200,6 +208,9 @@ fn answer(alloc: Global, table: &str, row: &Row) -> io::Result<String> {
         "group-files" => group_files::groups(alloc, row),
         "secret-files" => group_files::secrets(alloc, row),
         "journals" => journal::journal(alloc, row),
+        "two-level-verification" => hss::verified(alloc, row),
+        "wide-numbers" => wide::numbers(alloc, row),
+        "calm-schedules" => wide::schedule(alloc, row),
         _ => Err(io::Error::from(ErrorKind::NotFound)),
     }
 }

@@ -98,7 +98,8 @@ pub(crate) fn made(alloc: Global, row: &Row) -> io::Result<String> {
     }
 }
 
-fn made_text(alloc: Global, lines: &[Line], behind: u64) -> io::Result<String>
+/// How many lines there are, and those behind so many.
+pub(crate) fn made_text(alloc: Global, lines: &[Line], behind: u64) -> io::Result<String>
     requires { All IsSaid lines.now }
 {
     let text = written(alloc, lines, behind)?;

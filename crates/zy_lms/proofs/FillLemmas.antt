@@ -26,3 +26,9 @@ pub room_for_id : (height ots zeros : List ℕ) → length height ≡ 4 → leng
 room_for_id height ots zeros four four' rest =
     let behind = drop_at (height ++ ots) (drop 4 zeros) 8 (omega (arith, length-append height ots)) in
     rw (filled 4 4 height zeros ots four, behind) (length-take-le 16 (drop 4 zeros) (omega (arith, length-drop 4 zeros)))
+
+-- two levels' public key: the number of levels, and the top key's public key
+pub two_filled : (levels public zeros : List ℕ) → length levels ≡ 4 → length zeros ≡ 56 → put_mid 4 56 (levels ++ zeros) public ≡ levels ++ public
+two_filled levels public zeros four rest =
+    let none : drop 56 zeros ≡ [] = drop_all 56 zeros (omega arith) in
+    filled 4 56 levels zeros public four ∙ ap (λ end. levels ++ public ++ end) none ∙ append-nil (levels ++ public)

@@ -3,3 +3,5 @@ pub mod NodesLemmas
 pub mod LmsLemmas
 pub mod FillLemmas
 pub mod VerifiedLemmas
+pub mod HssLemmas
+pub mod HssVerifiedLemmas

@@ -166,3 +166,7 @@ module _ (k : KeyState) (message : List ℕ) (sized : length k.id ≡ 16) (left 
     type = type_is;
     root = root_led_to;
   }
+
+-- four parts behind a front
+pub four_behind : (front a b c d : List ℕ) → front ++ a ++ b ++ c ++ d ≡ front ++ (a ++ b ++ c ++ d)
+four_behind front a b c d = simp append_assoc

@@ -14,11 +14,11 @@ use Rattle.zy_lms.specs.declared.height.Height.TheVariants.{H5, H10}
 use Rattle.zy_lms.specs.Height.{type_number_of, height_with, levels_of}
 use Rattle.zy_lms.specs.Lms.{Verifies, VerifiesAs, verified, verified_as, signature_len_of, leaf_of, ots_part, candidate_root}
 
-height_with-number : (n : ℕ) (height : Height) → n ≡ type_number_of height → height_with n ≡ Some height
+pub height_with-number : (n : ℕ) (height : Height) → n ≡ type_number_of height → height_with n ≡ Some height
 height_with-number n H5 e = rw e refl
 height_with-number n H10 e = rw e refl
 
-type_with-number : (n : ℕ) (ots : OtsType) → n ≡ OtsType.number_of ots → OtsType.type_with n ≡ Some ots
+pub type_with-number : (n : ℕ) (ots : OtsType) → n ≡ OtsType.number_of ots → OtsType.type_with n ≡ Some ots
 type_with-number n W4 e = rw e refl
 type_with-number n W8 e = rw e refl
 

@@ -1,5 +1,5 @@
 -- The LMS types over SHA-256 with m = 32 (RFC 8554, section 5.1, table 2), by their heights.
-use Rattle.std.specs.Prelude.{ℕ, ◌==◌, if◌then◌else◌, Option, Some, None}
+use Rattle.std.specs.Prelude.{ℕ, ◌*◌, ◌^◌, ◌==◌, if◌then◌else◌, Option, Some, None}
 use Rattle.zy_lms.specs.declared.height.Height.{Height}
 use Rattle.zy_lms.specs.declared.height.Height.TheVariants.{H5, H10}
 
@@ -16,3 +16,7 @@ height_with n = if n == 5 then Some H5 else (if n == 6 then Some H10 else None)
 abbrev pub levels_of : Height → ℕ
 levels_of H5 = 5
 levels_of H10 = 10
+
+-- how many signatures two levels of such trees give: 2^h lower keys of 2^h leaves each
+abbrev pub signatures_of : Height → ℕ
+signatures_of height = 2 ^ (2 * levels_of height)

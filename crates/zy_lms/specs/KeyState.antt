@@ -18,3 +18,7 @@ pub record KeyState : Type 0 where
 pub record IsKey (k : KeyState) : Type 0 where
   pub id_len : length k.id ≡ 16
   pub within : k.next ≤ 2 ^ levels_of k.height
+
+-- the same key at another leaf
+abbrev pub at_leaf : KeyState → ℕ → KeyState
+at_leaf k q = record k { next = q }

@@ -3,3 +3,4 @@ pub mod Tree
 pub mod Nodes
 pub mod KeyState
 pub mod Lms
+pub mod Hss

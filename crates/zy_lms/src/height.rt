@@ -1,4 +1,6 @@
-ghost use Rattle.std.specs.Prelude.{◌≡◌, ◌^◌};
+ghost use Rattle.std.specs.Prelude.{◌≡◌, ◌^◌, ◌≤◌};
+
+use zy_ots::OtsType;
 
 /// The height of an LMS tree over SHA-256 with m = 32.
 #[derive(Clone, Copy, Debug, PartialEq, Eq)]
@@ -10,7 +12,8 @@ pub enum Height {
 }
 
 impl Height {
-    ghost use Rattle.zy_lms.specs.Height.{type_number_of, height_with, levels_of};
+    ghost use Rattle.zy_lms.specs.Height.{type_number_of, height_with, levels_of, signatures_of};
+    ghost use Rattle.zy_lms.specs.Lms.{signature_len_of};
 
     /// The number of the LMS type of this height in the registry of RFC 8554.
     pub fn number(self) -> u32
@@ -51,5 +54,22 @@ impl Height {
             Height::H5 => 32,
             Height::H10 => 1024,
         }
+    }
+
+    /// How many signatures a key of two levels of such trees gives.
+    pub fn signature_count(self) -> u32
+        ensures { result ≡ signatures_of self }
+    {
+        match self {
+            Height::H5 => 1_024,
+            Height::H10 => 1_048_576,
+        }
+    }
+    /// The length in bytes of a signature by a tree of this height over one-time keys of this type.
+    pub(crate) fn signature_len(self, ots: OtsType) -> usize
+        ensures value { result ≡ signature_len_of self ots }
+        ensures short { result ≤ 2508 }
+    {
+        8 + ots.signature_len() + 32 * self.levels()
     }
 }

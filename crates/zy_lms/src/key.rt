@@ -1,14 +1,16 @@
 // LMS keys, which sign by one leaf after another (RFC 8554, sections 5.2 to 5.4).
 
-ghost use Rattle.std.specs.Prelude.{◌≡◌, ℕ, ◌+◌, ◌-◌, ◌*◌, ◌^◌, ◌<◌, ◌≤◌, ◌↔◌, ◌++◌, IfOk, OnOk, OnErr, IsErrOf, List, length};
+ghost use Rattle.std.specs.Prelude.{◌≡◌, ℕ, ◌+◌, ◌-◌, ◌*◌, ◌^◌, ◌<◌, ◌≤◌, ◌↔◌, ◌++◌, IfOk, OnOk, OnErr, IsErrOf, List, [], length};
 ghost use Rattle.std.specs.List.{concat};
 ghost use Rattle.zy_lms.specs.declared.key.SignFault.TheVariants.{Want as OutOfMemory};
 ghost use Rattle.zy_lms.specs.Height.{levels_of};
 ghost use Rattle.zy_lms.specs.Tree.{path_from};
 ghost use Rattle.zy_lms.specs.Nodes.{HoldsNodes};
-ghost use Rattle.zy_lms.specs.KeyState.{IsKey};
-ghost use Rattle.zy_lms.specs.Lms.{public_of, signature_of, leaf_of, Verifies};
+ghost use Rattle.zy_lms.specs.KeyState.{IsKey, at_leaf};
+ghost use Rattle.zy_lms.specs.Lms.{public_of, signature_of, signature_len_of, leaf_of, Verifies};
+ghost use Rattle.zy_lms.specs.Hss.{key_under};
 
+use crate::derived::{id_under, seed_under};
 use crate::height::Height;
 use crate::tree::make_nodes;
 use std::alloc::Global;
@@ -132,13 +134,64 @@ impl LmsKey {
         requires { self.now.next < 2 ^ levels_of self.now.height }
         ensures { IfOk result (λ s. s ≡ signature_of self.now message.now) }
     {
-        let len = 8 + self.ots.signature_len() + 32 * self.height.levels();
-        let mut out = Vec::with_capacity(*self.nodes.allocator(), len)?;
-        out.extend_from_slice(&self.next.to_be_bytes())?;
-        let mut out = ots_sign_onto(out, self.ots, &self.id, self.next, &self.seed, message)?;
+        let out = self.room_for(self.signature_len())?;
+        Ok(self.signature_onto(out, self.next, message)?.into())
+    }
+
+    /// The length of a signature in bytes.
+    pub(crate) fn signature_len(&self) -> usize
+        ensures value { result ≡ signature_len_of self.now.height self.now.ots }
+        ensures short { result ≤ 2508 }
+    {
+        self.height.signature_len(self.ots)
+    }
+
+    /// Nothing, with room for so many bytes.
+    pub(crate) fn room_for(&self, len: usize) -> Result<Vec<u8>, Want>
+        ensures { IfOk result (λ out. out.items ≡ []) }
+    {
+        Ok(Vec::with_capacity(*self.nodes.allocator(), len)?)
+    }
+
+    /// The signature of `message` by a leaf, behind the bytes that stand in `out` already. One leaf must not sign two messages.
+    pub(crate) fn signature_onto(
+        &self,
+        mut out: Vec<u8>,
+        leaf: u32,
+        message: &[u8],
+    ) -> Result<Vec<u8>, Want>
+        requires { leaf < 2 ^ levels_of self.now.height }
+        ensures { IfOk result (λ v. v.items ≡ out.items ++ signature_of (at_leaf self.now leaf) message.now) }
+    {
+        out.extend_from_slice(&leaf.to_be_bytes())?;
+        let mut out = ots_sign_onto(out, self.ots, &self.id, leaf, &self.seed, message)?;
         out.extend_from_slice(&self.height.number().to_be_bytes())?;
-        let leaf = self.height.leaf_count() + self.next;
-        Ok(path_onto(out, &self.nodes, self.height, leaf)?.into())
+        let node = self.height.leaf_count() + leaf;
+        path_onto(out, &self.nodes, self.height, node)
+    }
+
+    /// The height of the tree.
+    pub(crate) fn height(&self) -> Height
+        ensures value { result ≡ self.now.height }
+        ensures key { IsKey self.now }
+    {
+        self.height
+    }
+
+    /// The lower key under a leaf, where this is the top key of two levels.
+    pub(crate) fn key_under(&self, leaf: u32) -> Result<LmsKey, Want>
+        ensures { IfOk result (λ k. k ≡ key_under self.now leaf) }
+    {
+        let seed = seed_under(&self.seed, leaf);
+        let id = id_under(&self.seed, leaf);
+        LmsKey::make(
+            *self.nodes.allocator(),
+            &seed,
+            &id,
+            self.height,
+            self.ots,
+            0,
+        )
     }
 }
 
