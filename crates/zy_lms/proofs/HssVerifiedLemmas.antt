@@ -37,9 +37,9 @@ module _ (public message signature : List ℕ) where
 
   verified_then : (len : Option ℕ) → ((number_at public 0 == 2) && verified_below len (drop 4 public) message signature) ≡ true
       → HssVerifies public message signature
-  verified_then None yes = absurd (false≢true (and_parts (number_at public 0 == 2) false yes).1)
-  verified_then (Some len) yes =
-      let all = (Decides-parts len).0 yes in
+  verified_then None passes = absurd (false≢true (and_parts (number_at public 0 == 2) false passes).1)
+  verified_then (Some len) passes =
+      let all = (Decides-parts len).0 passes in
       record {
         top_signature = take len (drop 4 signature);
         lower_public = take 56 (drop len (drop 4 signature));

@@ -11,4 +11,4 @@ returns c =
     let top = c.copy_from_slice-2.ensures.after ∙ c.public.ensures in
     let four : length c.copy_from_slice.new.self ≡ 4 = rw levels refl in
     two_filled c.copy_from_slice.new.self c.copy_from_slice-2.new.self _ four refl
-    ∙ rw (levels, top, ← c.self.view_is, public-at_leaf) refl
+    ∙ rw (levels, top, ← c.self.view_is, public-at_leaf c.self.inside.top c.self.inside.next) refl
