@@ -23,3 +23,8 @@ mod Slots
 mod ViewRows
 mod SpelledWholeSteps
 mod SpelledWorking
+mod Passing
+mod PassingViews
+mod PassingRows
+mod PassingClient
+mod PassingParts

@@ -1,0 +1,285 @@
+-- What holds of each signed statement that a replica heard and kept, and of those that it signs, holds on its way through a step of those that it
+-- keeps and sends.
+use Rattle.std.proofs.Common.{◌≡◌, ℕ, zero, suc, ◌-◌, Bool, true, false, cond, List, [], ◌∷◌, ◌++◌, length, map, set, replicate, Option, Some, None, refl, sym, ap, ◌∙◌, subst, arith}
+use Rattle.std.specs.Prelude.{All, IfSome, Result, Ok, Err, filter, if◌then◌else◌, nat_eq, nat_le, nat_lt, slice_index_or}
+use Rattle.std.specs.List.{AllByRecursion, find}
+use Rattle.std.proofs.lemmas.List.Elements.{All-nil}
+use Rattle.zy_base.specs.Machine.{Rules}
+use Rattle.zy_base.specs.declared.counts.Counts.{Counts}
+use Rattle.zy_base.specs.declared.ids.Digest.{Digest}
+use Rattle.zy_base.specs.declared.ids.Party.{Party}
+use Rattle.zy_base.specs.declared.ids.Party.TheVariants.{Client}
+use Rattle.zy_base.specs.declared.ids.Place.{Place}
+use Rattle.zy_base.specs.declared.ids.ReplicaId.{ReplicaId}
+use Rattle.zy_base.specs.declared.ids.Stamp.{Stamp}
+use Rattle.zy_admit.specs.Judging.{entry_of}
+use Rattle.zy_admit.specs.Orders.{slots_above, with_slot, without_order}
+use Rattle.zy_cert.specs.Equal.{check-equal, same_check, same_spec, spec-equal}
+use Rattle.zy_change.specs.Views.{is_further}
+use Rattle.zy_check.proofs.JudgingLemmas.{after_check-stays, after_spec-stays, without_others-stays}
+use Rattle.zy_check.specs.Board.{Board, checks_at, specs_at, with_stable, without_others}
+use Rattle.zy_check.specs.Judging.{after_check, after_spec}
+use Rattle.zy_frames.specs.declared.frame.Frame.TheVariants as frames
+use Rattle.zy_frames.specs.declared.frame.OrderFrame.{OrderFrame}
+use Rattle.zy_law_normal.proofs.Goes.{all_of_both, all_of_front, all_of_rest}
+use Rattle.zy_law_normal.proofs.KeptVotes.{AreFirst, AreKeptOf, after_check_kept, after_spec_kept, are_first, at_place, none_kept, with_stable_kept, without_others_kept}
+use Rattle.zy_law_normal.proofs.Own.{all_drop, by_test}
+use Rattle.zy_exec.specs.Kept.{last_place}
+use Rattle.zy_parts.specs.Numbers as numbers
+use Rattle.zy_parts.specs.Statements.{check_fields}
+use Rattle.zy_parts.specs.declared.signed.Signed.{Signed}
+use Rattle.zy_seal.specs.Keys.{Keys}
+use Rattle.zy_seal.specs.Sealing.{SealerState, sealed_by}
+use Rattle.zy_parts.specs.declared.statements.Check.{Check}
+use Rattle.zy_parts.specs.declared.statements.Local.{Local}
+use Rattle.zy_parts.specs.declared.statements.Order.{Order}
+use Rattle.zy_parts.specs.declared.statements.Spec.{Spec}
+use Rattle.zy_table.specs.Deeds.{Going, act, send_any}
+use Rattle.zy_table.specs.Gathering.{certificate_at, gather, gather_at, keep_certificate, own_with, owes_check, proof_at, say_check, say_check_if, settle_with, settled_at, state_in, with_certificate, with_own_spec}
+use Rattle.zy_table.specs.Running.{executed, fits_end, next_known, respond, run, run_held, run_one, sealed_spec, share, signs_of, spec_of, still_pending}
+use Rattle.zy_table.specs.State.{State, leaves_of, own_view, spent, start_of, stood_of, with_spec}
+use Rattle.zy_table.specs.declared.deeds.Act.TheVariants.{Says, Gains}
+use Rattle.zy_table.specs.declared.deeds.AnyFrame.{AnyFrame}
+use Rattle.zy_table.specs.declared.deeds.AnyFrame.TheVariants.{Plain}
+use Rattle.zy_table.specs.declared.deeds.Body.TheVariants as bodies
+use Rattle.zy_table.specs.declared.deeds.Remark.{Remark}
+use Rattle.zy_table.specs.declared.deeds.To.{To}
+use Rattle.zy_table.specs.declared.deeds.To.TheVariants.{All as Everyone, One}
+use Rattle.zy_table.specs.declared.kept.OwnCheckpoint.{OwnCheckpoint}
+use Rattle.zy_table.specs.declared.kept.Pending.{Pending}
+use Rattle.zy_law_steps.proofs.Slots.{AreKept, filled}
+use Rattle.zy_law_steps.specs.Signs.{OfAct, OfActs, OfAnyFrame, OfBoard, OfBody, OfChange, OfOrder, OfPending, OfSent, OfState, Signs}
+
+-- ---- lists
+
+module _ {A : Type 0} (P : A → Type 0) where
+  pub all_filtered : (test : A → Bool) (xs : List A) → AllByRecursion P xs → AllByRecursion P (filter test xs)
+  all_filtered test [] all = tt
+  all_filtered test (x ∷ xs) all = by (test x) (all_filtered test xs all.1)
+    where
+      by : (b : Bool) → AllByRecursion P (filter test xs) → AllByRecursion P (if b then x ∷ filter test xs else filter test xs)
+      by true rest = (all.0, rest)
+      by false rest = rest
+
+  pub found : (test : A → Bool) (xs : List A) → AllByRecursion P xs → IfSome (find test xs) P
+  found test [] all = tt
+  found test (x ∷ xs) all = by (test x) (found test xs all.1)
+    where
+      by : (b : Bool) → IfSome (find test xs) P → IfSome (cond b (Some x) (find test xs)) P
+      by true rest = all.0
+      by false rest = rest
+
+  pub put : (slots : List (Option A)) (i : ℕ) (o : Option A) → AreKept P slots → IfSome o P → AreKept P (set slots i o)
+  put [] i o all one = tt
+  put (slot ∷ slots) zero o all one = (one, all.1)
+  put (slot ∷ slots) (suc i) o all one = (all.0, put slots i o all.1 one)
+
+  pub slot_at : (slots : List (Option A)) (i : ℕ) → AreKept P slots → IfSome (slice_index_or slots i None) P
+  slot_at [] i all = tt
+  slot_at (slot ∷ slots) zero all = all.0
+  slot_at (slot ∷ slots) (suc i) all = slot_at slots i all.1
+
+  pub empty_slots : (n : ℕ) → AreKept P (replicate n None)
+  empty_slots zero = tt
+  empty_slots (suc n) = (tt, empty_slots n)
+
+pub kept_filled : (P : OrderFrame → Type 0) (slots : List (Option OrderFrame)) (at : ℕ) (o : Option OrderFrame) → AreKept P slots → IfSome o P → AreKept P (with_slot slots at o)
+kept_filled P slots at o all one = put P (slots ++ replicate (at + 1 - length slots) None) at o (all_of_both (λ slot. IfSome slot P) slots (replicate (at + 1 - length slots) None) all (empty_slots P (at + 1 - length slots))) one
+
+-- ---- boards
+
+module _ (F : Signs) where
+  pub kept_of : (b : Board) → OfBoard F b → AreKeptOf F.spec F.check b
+  kept_of b is = record { near = is.0; far = is.1 }
+
+  pub spec_put : (b : Board) (own : OwnCheckpoint) (signed : Signed Spec) → OfBoard F b → F.spec signed → OfBoard F (after_spec (without_others b own.spec own.check) signed (Some own.spec))
+  spec_put b own signed is one =
+      let less : Board = without_others b own.spec own.check in
+      let kept = after_spec_kept F.spec F.check less signed (Some own.spec) (without_others_kept F.spec F.check b own.spec own.check (kept_of b is)) one in
+      let same = (after_spec-stays less signed (Some own.spec)).proof ∙ (without_others-stays b own.spec own.check).proof in
+      (kept.near, kept.far, subst (λ (l : List (Signed Check)). All F.check l) (sym same) is.2)
+
+  pub check_put : (b : Board) (own : Check) (signed : Signed Check) → OfBoard F b → F.check signed → OfBoard F (after_check b signed (Some own))
+  check_put b own signed is one =
+      let kept = after_check_kept F.spec F.check b signed (Some own) (kept_of b is) one in
+      (kept.near, kept.far, subst (λ (l : List (Signed Check)). All F.check l) (sym (after_check-stays b signed (Some own)).proof) is.2)
+
+  pub stable_put : (b : Board) (proof : List (Signed Check)) → OfBoard F b → All F.check proof → OfBoard F (with_stable b proof)
+  unfolding with_stable
+  stable_put b proof is all = let kept = with_stable_kept F.spec F.check b proof (kept_of b is) in (kept.near, kept.far, all)
+
+-- ---- a replica that begins keeps nothing
+
+pub starts : {S : Type 0} (R : Rules S) (F : Signs) (interval : ℕ) (me : ReplicaId) (counts : Counts) (keys : Keys) (sealer : SealerState) → OfState F (start_of R interval me counts keys sealer)
+starts R F interval me counts keys sealer = (
+  (tt, tt, empty_slots (OfChange F) counts.n, empty_slots F.began counts.n, tt, tt),
+  tt,
+  (none_kept F.spec F.check, none_kept F.spec F.check, All-nil F.check),
+  tt,
+  empty_slots F.spec 64,
+  empty_slots (OfPending F) 64,
+  tt,
+  tt,
+  tt,
+)
+
+-- ---- on its way
+
+module _ {S : Type 0} (R : Rules S) (F : Signs) (me : Party) where
+  -- where it holds of all that was signed so far, something else is known, and it holds of all that is kept and sent
+  abbrev pub Passes : Type 0 → Going S → Type 0
+  Passes X g = OfActs F me g.deeds.acts → X × (g.state.sealer.me ≡ me) × OfState F g.state × OfSent F g.deeds.sent
+
+  pub knows : (X Y : Type 0) (g : Going S) → (X → OfState F g.state → Y) → Passes X g → Passes Y g
+  knows X Y g tells is acts = let b = is acts in (tells b.0 b.2, b.1, b.2, b.3)
+
+  pub sends : (X : Type 0) (to : To) (frame : AnyFrame) (g : Going S) → (X → OfState F g.state → OfAnyFrame F frame) → Passes X g → Passes X (send_any to frame g)
+  sends X to frame g tells is acts =
+      let b = is acts in (b.0, b.1, b.2, all_of_both (λ one. OfAnyFrame F one.frame) g.deeds.sent (record { to = to; frame = frame } ∷ []) b.3 (tells b.0 b.2, tt))
+
+  -- another state
+  pub turns : (X Y : Type 0) (s : State S) (g : Going S) → (X → g.state.sealer.me ≡ me → OfState F g.state → Y × (s.sealer.me ≡ me) × OfState F s) → Passes X g → Passes Y (record g { state = s })
+  turns X Y s g next is acts = let b = is acts in let n = next b.0 b.1 b.2 in (n.0, n.1, n.2, b.3)
+
+  -- a statement is signed, and the state is another then
+  pub says : (X Y : Type 0) (remark : Remark) (s : State S) (g : Going S)
+      → (X → g.state.sealer.me ≡ me → OfState F g.state → OfBody F me remark.body → Y × (s.sealer.me ≡ me) × OfState F s) → Passes X g → Passes Y (act (Says remark) (record g { state = s }))
+  says X Y remark s g next is acts =
+      let b = is (all_of_front (OfAct F me) g.deeds.acts (Says remark ∷ []) acts) in
+      let n = next b.0 b.1 b.2 (all_of_rest (OfAct F me) g.deeds.acts (Says remark ∷ []) acts).0 in (n.0, n.1, n.2, b.3)
+
+  -- ---- an order is run
+
+  runs_entry : (X : Type 0) (o : OrderFrame) (g : Going S) → Passes X g → Passes X (executed R o.ask g)
+  runs_entry X o g is acts =
+      let b = is (all_of_front (OfAct F me) g.deeds.acts (Gains _ ∷ []) acts) in
+      let v = b.2 in
+      let client : ℕ = (entry_of o.ask).client.0 in
+      let waits = still (entry_of o.ask).stamp (slice_index_or g.state.pending client None) (slot_at (OfPending F) g.state.pending client v.5) in
+      (b.0, b.1, (v.0, v.1, v.2, v.3, v.4, put (OfPending F) g.state.pending client (still_pending (entry_of o.ask).stamp (slice_index_or g.state.pending client None)) v.5 waits, v.6, v.7, v.8), b.3)
+    where
+      still : (stamp : Stamp) (pending : Option Pending) → IfSome pending (OfPending F) → IfSome (still_pending stamp pending) (OfPending F)
+      still stamp None one = tt
+      still stamp (Some pending) one = by_test (λ (o : Option Pending). IfSome o (OfPending F)) (nat_lt stamp.0 pending.ask.stmt.stamp.0) _ _ (λ newer. one) (λ older. tt)
+
+  -- ---- what is kept at a place is looked through
+
+  certificate : (s : State S) (own : Spec) (specs : List (Signed Spec)) → OfState F s → certificate_at s own ≡ Some specs → All F.spec specs
+  certificate s own specs is got =
+      let there = at_place F.spec F.check s.board own.place.0 (kept_of F s.board is.2) in
+      (are_first same_spec spec-equal F.spec s.counts.cert own (specs_at s.board own.place.0) specs there.specs_rise there.specs got).vouched
+
+  proven : (s : State S) (own : Check) (checks : List (Signed Check)) → OfState F s → proof_at s own ≡ Some checks → All F.check checks
+  proven s own checks is got =
+      let there = at_place F.spec F.check s.board own.place.0 (kept_of F s.board is.2) in
+      (are_first same_check check-equal F.check s.counts.local own (checks_at s.board own.place.0) checks there.checks_rise there.checks got).vouched
+
+  pub certified : (s : State S) (place : Place) (specs : List (Signed Spec)) → OfState F s → All F.spec specs → OfState F (with_certificate s place specs)
+  certified s place specs is all =
+      by_test (λ (t : State S). OfState F t) (is_further place s.views.specs) _ _
+      (λ further. let v = is.0 in ((v.0, all, v.2, v.3, v.4, v.5), is.1, is.2, is.3, is.4, is.5, is.6, is.7, is.8)) (λ near. is)
+
+  with_certified : (s : State S) (place : Place) (specs : Option (List (Signed Spec))) → OfState F s → ((list : List (Signed Spec)) → specs ≡ Some list → All F.spec list)
+      → (s.sealer.me ≡ me) → ((keep_certificate place specs s).sealer.me ≡ me) × OfState F (keep_certificate place specs s)
+  with_certified s place None is all signer = (signer, is)
+  with_certified s place (Some specs) is all signer =
+      (by_test (λ (t : State S). t.sealer.me ≡ me) (is_further place s.views.specs) _ _ (λ further. signer) (λ near. signer), certified s place specs is (all specs refl))
+
+  says_check : (X : Type 0) (own : Check) (g : Going S) → Passes X g → Passes X (say_check R own g)
+  says_check X own g is =
+      let signed : Signed Check = sealed_by numbers.check check_fields g.state.sealer own in
+      let remark : Remark = record { body = bodies.Check own; stood = stood_of R g.state } in
+      let s : State S = record (spent g.state) { board = after_check g.state.board signed (Some own) } in
+      knows (X × F.check signed) X (say_check R own g) (λ x state. x.0)
+      (sends (X × F.check signed) Everyone (Plain (frames.Checkpoint signed)) (act (Says remark) (record g { state = s })) (λ x state. x.1)
+      (says X (X × F.check signed) remark s g (λ x signer v said.
+      let one : F.check signed = said g.state.sealer signer in
+      ((x, one), signer, (v.0, v.1, check_put F g.state.board own signed v.2 one, v.3, v.4, v.5, v.6, v.7, v.8))) is))
+
+  says_check_if : (X : Type 0) (owes : Bool) (own : Check) (g : Going S) → Passes X g → Passes X (say_check_if R owes own g)
+  says_check_if X false own g is = is
+  says_check_if X true own g is = says_check X own g is
+
+  pub settled_of : (s : State S) (place : ℕ) (checks : List (Signed Check)) → OfState F s → All F.check checks → OfState F (settled_at R place checks s)
+  settled_of s place checks v all =
+      (v.0, all_drop (λ slot. IfSome slot (OfOrder F)) (place - s.orders.base) s.orders.slots v.1, stable_put F s.board checks v.2 all, v.3, v.4, v.5, all_filtered F.local (λ said. nat_le place said.stmt.place.0) s.locals v.6, v.7, v.8)
+
+  settles : (X : Type 0) (own : Check) (g : Going S) → Passes X g → Passes X (record g { state = settle_with R own.place.0 (proof_at g.state own) g.state })
+  settles X own g is = turns X X (settle_with R own.place.0 (proof_at g.state own) g.state) g (λ x signer v. let n = by (proof_at g.state own) refl v signer in (x, n.0, n.1)) is
+    where
+      by : (proof' : Option (List (Signed Check))) → proof_at g.state own ≡ proof' → OfState F g.state → g.state.sealer.me ≡ me
+          → ((settle_with R own.place.0 proof' g.state).sealer.me ≡ me) × OfState F (settle_with R own.place.0 proof' g.state)
+      by None got v signer = (signer, v)
+      by (Some checks) got v signer = (signer, settled_of g.state own.place.0 checks v (proven g.state own checks v got))
+
+  gathers : (X : Type 0) (own : OwnCheckpoint) (brought : Bool) (g : Going S) → Passes X g → Passes X (gather R own brought g)
+  unfolding gather
+  gathers X own brought g is =
+      let held : Going S = record g { state = keep_certificate own.spec.place (certificate_at g.state own.spec) g.state } in
+      let told : Going S = say_check_if R (owes_check g.state own brought) own.check held in
+      settles X own.check told
+      (says_check_if X (owes_check g.state own brought) own.check held
+      (turns X X held.state g (λ x signer v.
+      let n = with_certified g.state own.spec.place (certificate_at g.state own.spec) v (λ list got. certificate g.state own.spec list v got) signer in (x, n.0, n.1)) is))
+
+  pub gathers_at : (X : Type 0) (own : Option OwnCheckpoint) (brought : Bool) (g : Going S) → Passes X g → Passes X (gather_at R own brought g)
+  gathers_at X None brought g is = is
+  gathers_at X (Some own) brought g is = gathers X own brought g is
+
+  -- ---- the answer
+
+  pub keeps_own : (X : Type 0) (own : OwnCheckpoint) (signed : Signed Spec) (g : Going S) → (X → F.spec signed) → Passes X g → Passes X (record g { state = with_own_spec g.state own signed })
+  keeps_own X own signed g tells is =
+      turns X X (with_own_spec g.state own signed) g (λ x signer v. (x, signer, (v.0, v.1, spec_put F g.state.board own signed v.2 (tells x), v.3, v.4, v.5, v.6, v.7, v.8))) is
+
+  responds : (X : Type 0) (order : Signed Order) (spec : Spec) (reply : List ℕ) (g : Going S) → (X → F.order order) → Passes X g
+      → Passes (X × F.spec (sealed_spec g.state spec)) (respond R order (sealed_spec g.state spec) reply g)
+  responds X order spec reply g tells is =
+      let signed : Signed Spec = sealed_spec g.state spec in
+      let remark : Remark = record { body = bodies.Spec spec; stood = stood_of R g.state } in
+      let s : State S = with_spec (spent g.state) signed in
+      sends (X × F.spec signed) (One (Client spec.client)) (Plain (frames.SpecResponse signed reply (Some order))) (act (Says remark) (record g { state = s })) (λ x state. (x.1, tells x.0))
+      (says X (X × F.spec signed) remark s g (λ x signer v said.
+      let one : F.spec signed = said g.state.sealer signer in
+      ((x, one), signer, (v.0, v.1, v.2, v.3, filled F.spec g.state.specs spec.client.0 signed v.4 one, v.5, v.6, v.7, v.8))) is)
+
+  shares : (X : Type 0) (order : Signed Order) (signed : Signed Spec) (reply : List ℕ) (state : Option Digest) (g : Going S) → (X → F.order order) → (X → F.spec signed) → Passes X g
+      → Passes X (share R order signed reply state g)
+  shares X order signed reply None g tells_order tells is = is
+  shares X order signed reply (Some state) g tells_order tells is =
+      let told : Going S = send_any Everyone (Plain (frames.SpecResponse signed reply (Some order))) g in
+      gathers X (own_with signed.stmt state) false (record told { state = with_own_spec told.state (own_with signed.stmt state) signed })
+      (keeps_own X (own_with signed.stmt state) signed told tells
+      (sends X Everyone (Plain (frames.SpecResponse signed reply (Some order))) g (λ x state. (tells x, tells_order x)) is))
+
+  runs_one : (X : Type 0) (o : OrderFrame) (g : Going S) → (X → F.order o.order) → Passes X g → Passes X (run_one R o g)
+  unfolding run_one
+  runs_one X o g tells is =
+      let done : Going S = executed R o.ask g in
+      let known = next_known R g.state o.ask in
+      let spec : Spec = spec_of (own_view g.state) o.ask known in
+      let signed : Signed Spec = sealed_spec done.state spec in
+      let Y : Type 0 = X × F.spec signed in
+      knows Y X (run_one R o g) (λ y state. y.0)
+      (shares Y o.order signed known.reply (state_in R done.state.kept spec.place.0) (respond R o.order signed known.reply done) (λ y. tells y.0) (λ y. y.1)
+      (responds X o.order spec known.reply done tells (runs_entry X o g is)))
+
+  runs_held : (slots : List (Option OrderFrame)) (X : Type 0) (g : Going S) → (X → AreKept (OfOrder F) slots) → Passes X g → Passes X (run_held R slots g)
+  unfolding run_held
+  runs_held [] X g tells is = is
+  runs_held (None ∷ slots) X g tells is = is
+  runs_held (Some o ∷ slots) X g tells is =
+      by_test (λ (h : Going S). Passes X h) (fits_end R g.state o) _ _
+      (λ fits. by_test (λ (h : Going S). Passes X h) (nat_le (signs_of R g.state o.ask) (leaves_of g.state)) _ _
+      (λ left. runs_held slots X (run_one R o g) (λ x. (tells x).1) (runs_one X o g (λ x. (tells x).0.0) is)) (λ none. is))
+      (λ differs. turns X X (record g.state { orders = without_order g.state.orders (last_place g.state.kept + 1) }) g (λ x signer v. (x, signer, (v.0, put (OfOrder F) g.state.orders.slots (last_place g.state.kept + 1 - g.state.orders.base - 1) None v.1 tt, v.2, v.3, v.4, v.5, v.6, v.7, v.8))) is)
+
+  pub runs : (X : Type 0) (o : OrderFrame) (g : Going S) → (X → F.order o.order) → Passes X g → Passes X (run R o g)
+  runs X o g tells is =
+      let done : Going S = run_one R o g in
+      let slots : List (Option OrderFrame) = slots_above (last_place g.state.kept + 1) g.state.orders in
+      let Y : Type 0 = X × AreKept (OfOrder F) slots in
+      knows Y X (run R o g) (λ y state. y.0)
+      (runs_held slots Y done (λ y. y.1)
+      (runs_one Y o g (λ y. tells y.0)
+      (knows X Y g (λ x state. (x, all_drop (λ slot. IfSome slot (OfOrder F)) (last_place g.state.kept + 1 - g.state.orders.base) g.state.orders.slots state.1)) is)))

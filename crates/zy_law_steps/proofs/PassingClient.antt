@@ -1,0 +1,202 @@
+-- What holds of each signed statement that a client heard and kept, and of the requests that it signs, holds of all that it sends and keeps.
+use Rattle.std.proofs.Common.{◌≡◌, ℕ, ◌^◌, Bool, true, false, List, [], ◌∷◌, take, zero, suc, Option, Some, None, Result, Ok, Err, refl, subst}
+use Rattle.std.specs.Prelude.{All, IfSome, if◌then◌else◌, nat_eq, nat_le, slice_index_or, unwrap_or, ◌&&◌}
+use Rattle.std.specs.List.{AllByRecursion, cons_option, filter_map, find}
+use Rattle.std.proofs.lemmas.List.Elements.{All-take, All-from_recursion}
+use Rattle.std.proofs.lemmas.Option.{same_Some}
+use Rattle.zy_base.specs.declared.cause.Cause.{Cause}
+use Rattle.zy_base.specs.declared.cause.Cause.TheVariants as causes
+use Rattle.zy_base.specs.declared.frame_fault.FrameFault.{FrameFault}
+use Rattle.zy_base.specs.declared.frame_fault.FrameFault.TheVariants as faults
+use Rattle.zy_base.specs.declared.ids.Party.{Party}
+use Rattle.zy_base.specs.declared.ids.Party.TheVariants.{Client, Replica}
+use Rattle.zy_base.specs.declared.step.Event.{Event}
+use Rattle.zy_base.specs.declared.step.Event.TheVariants.{Heard, Timer}
+use Rattle.zy_base.specs.declared.step.TimerKind.TheVariants as timers
+use Rattle.zy_cert.specs.Equal.{same_local, same_spec}
+use Rattle.zy_cert.specs.Misbehaviour.{conflict}
+use Rattle.zy_cert.specs.Votes.{answer_to}
+use Rattle.zy_cert.specs.declared.votes.Vote.{Vote}
+use Rattle.zy_cert.specs.declared.votes.Vote.TheVariants.{Counted, Full, Repeat, Mixed}
+use Rattle.zy_change.proofs.FitLemmas.{all_there}
+use Rattle.zy_frames.specs.Frames as plain
+use Rattle.zy_frames.specs.declared.frame.Frame.{Frame}
+use Rattle.zy_frames.specs.declared.frame.Frame.TheVariants as frames
+use Rattle.zy_law_normal.proofs.Own.{by_test}
+use Rattle.zy_parts.specs.declared.signed.Signed.{Signed}
+use Rattle.zy_parts.specs.declared.statements.Ask.{Ask}
+use Rattle.zy_parts.specs.declared.statements.Local.{Local}
+use Rattle.zy_parts.specs.declared.statements.Order.{Order}
+use Rattle.zy_parts.specs.declared.statements.Spec.{Spec}
+use Rattle.zy_seal.specs.Screening.{screen}
+use Rattle.zy_table.specs.ClientRows.{agreeing, ask, ask_or_commit, ask_while, certificate_of, certified_in, client_step, complete, completed_if, contradicted, count_local, decoded_as, equal_in, evidence_by, evidence_with, hear, hear_response, is_blamed, is_by_primary, is_certified, is_for, keep, keep_unless, local_beside, local_while, next_ask, order_in, respond, respond_while, response_cause, run_out, run_out_while, told, unless, view_decoded, vote_on}
+use Rattle.zy_table.specs.ClientState.{ClientOutcome, ClientState, leaves_of, no_responses, refused, taken}
+use Rattle.zy_table.specs.Roles.{is_replica}
+use Rattle.zy_table.specs.declared.client.Commit.{Commit}
+use Rattle.zy_table.specs.declared.client.Response.{Response}
+use Rattle.zy_vframes.specs.Parts as view_parts
+use Rattle.zy_vframes.specs.ViewFrames as views
+use Rattle.zy_vframes.specs.declared.frame.ViewFrame.{ViewFrame}
+use Rattle.zy_law_steps.proofs.Passing.{empty_slots, found, put}
+use Rattle.zy_law_steps.proofs.Slots.{AreKept}
+use Rattle.zy_law_steps.specs.Signs.{OfAsks, OfClient, OfFrame, OfHeard, OfResponse, OfSent, Signs}
+
+module _ (F : Signs) (s : ClientState) (v : OfClient F s) where
+  -- what a step comes to
+  abbrev Of : ClientOutcome → Type 0
+  Of o = OfAsks F s.sealer.me o.said → OfClient F o.state × OfSent F o.sent
+
+  refuses : (cause : Cause) → Of (refused cause s)
+  refuses cause said = (v, tt)
+
+  takes : (t : ClientState) → OfClient F t → Of (taken t)
+  takes t is said = (is, tt)
+
+  -- ---- asking
+
+  pub asks : (op : List ℕ) → Of (ask s op)
+  unfolding ask
+  asks op = by s.waiting
+    where
+      by : (waiting : Option (Signed Ask)) → Of (ask_while s waiting op)
+      by (Some waiting) = refuses (causes.Waiting waiting.stmt.stamp)
+      by None =
+          by_test Of (nat_le 1 (leaves_of s)) _ _ (λ left said. let one = said.0 s.sealer refl in ((one, empty_slots (OfResponse F) s.counts.n), (one, tt)))
+          (λ none. refuses causes.KeySpent)
+
+  -- ---- responses
+
+  orders_kept : (slots : List (Option Response)) → AreKept (OfResponse F) slots → AllByRecursion F.order (filter_map order_in slots)
+  orders_kept [] all = tt
+  orders_kept (None ∷ slots) all = orders_kept slots all.1
+  orders_kept (Some r ∷ slots) all = by r.order all.0.1 (orders_kept slots all.1)
+    where
+      by : (o : Option (Signed Order)) → IfSome o F.order → AllByRecursion F.order (filter_map order_in slots) → AllByRecursion F.order (cons_option o (filter_map order_in slots))
+      by None is rest = rest
+      by (Some order) is rest = (is, rest)
+
+  found_order : (test : Signed Order → Bool) (list : List (Signed Order)) → AllByRecursion F.order list → IfSome (find test list) F.order
+  found_order test list all = found F.order test list all
+
+  evidence : (t : ClientState) (order : Option (Signed Order)) → OfClient F t → IfSome order F.order → IfSome (evidence_by t order) (λ both. F.order both.0 × F.order both.1)
+  evidence t None w none = tt
+  evidence t (Some order) w one = by (contradicted t order) (found_order (λ kept. conflict kept order) (filter_map order_in t.responses) (orders_kept t.responses w.1))
+    where
+      by : (kept : Option (Signed Order)) → IfSome kept F.order → IfSome (evidence_with t order kept) (λ both. F.order both.0 × F.order both.1)
+      by None none = tt
+      by (Some kept) other = by_test (λ (o : Option (Signed Order × Signed Order)). IfSome o (λ both. F.order both.0 × F.order both.1)) (is_blamed t order.stmt.view) _ _ (λ told. tt) (λ new. (other, one))
+
+  tells : (both : Option (Signed Order × Signed Order)) (t : ClientState) → OfClient F t → IfSome both (λ both. F.order both.0 × F.order both.1) → Of (told both t)
+  tells None t w none said = (w, tt)
+  tells (Some both) t w two said = (w, ((two.0, two.1), tt))
+
+  responds : (waiting : Option (Signed Ask)) (id : ℕ) (r : Response) → OfResponse F r → Of (respond_while s waiting id r)
+  responds None id r heard = refuses causes.Finished
+  responds (Some waiting) id r heard = by (response_cause s waiting id r)
+    where
+      kept : ClientState
+      kept = keep s id r
+
+      kept_is : OfClient F kept
+      kept_is = (v.0, put (OfResponse F) s.responses id (Some r) v.1 heard)
+
+      done : OfClient F (completed_if kept r)
+      done = by_test (OfClient F) (nat_le kept.counts.fast (agreeing kept r.spec.stmt)) _ _ (λ enough. (tt, kept_is.1)) (λ few. kept_is)
+
+      by : (cause : Option Cause) → Of (keep_unless cause s id r)
+      by (Some cause) = refuses cause
+      by None = tells (evidence_by kept r.order) (completed_if kept r) done (evidence kept r.order kept_is heard.1)
+
+  response : (id : ℕ) (r : Response) → OfResponse F r → Of (respond s id r)
+  unfolding respond
+  response id r heard = responds s.waiting id r heard
+
+  hears_response : (r : Response) (by : Party) → OfResponse F r → Of (hear_response s r by)
+  hears_response r (Client id) heard = refuses causes.WrongRole
+  hears_response r (Replica id) heard = by_test Of (is_by_primary s r.order) _ _ (λ primary. response id.0 r heard) (λ other. refuses causes.WrongRole)
+
+  -- ---- local commits
+
+  votes : (commit : Commit) (vote : Signed Local) (answer : Vote) → Of (vote_on s commit vote answer)
+  votes commit vote Repeat = refuses causes.Repeat
+  votes commit vote Mixed = refuses causes.Unmatched
+  votes commit vote (Counted number) said = (v, tt)
+  votes commit vote Full said = ((tt, v.1), tt)
+
+  beside : (commit : Option Commit) (vote : Signed Local) → Of (local_beside s commit vote)
+  beside None vote = refuses causes.Unmatched
+  beside (Some commit) vote = by_test Of (is_for commit.spec vote.stmt) _ _ (λ same. votes commit vote (answer_to same_local commit.locals vote)) (λ other. refuses causes.Unmatched)
+
+  local : (vote : Signed Local) → Of (count_local s vote)
+  unfolding count_local
+  local vote = by s.waiting
+    where
+      by : (waiting : Option (Signed Ask)) → Of (local_while s waiting vote)
+      by None = refuses causes.Finished
+      by (Some waiting) = beside s.commit vote
+
+  -- ---- the timer
+
+  one_equal : (spec : Spec) (slot : Option Response) (x : Signed Spec) → IfSome slot (OfResponse F) → equal_in spec slot ≡ Some x → F.spec x
+  one_equal spec None x one is = absurd cc
+  one_equal spec (Some kept) x one =
+      by_test (λ (o : Option (Signed Spec)). o ≡ Some x → F.spec x) (same_spec kept.spec.stmt spec) _ _ (λ same is. subst F.spec (same_Some kept.spec x is) one.0) (λ other is. absurd cc)
+
+  equals : (spec : Spec) (slots : List (Option Response)) → AreKept (OfResponse F) slots → AllByRecursion F.spec (filter_map (equal_in spec) slots)
+  equals spec [] all = tt
+  equals spec (slot ∷ slots) all = by (equal_in spec slot) refl (equals spec slots all.1)
+    where
+      by : (o : Option (Signed Spec)) → equal_in spec slot ≡ o → AllByRecursion F.spec (filter_map (equal_in spec) slots) → AllByRecursion F.spec (cons_option o (filter_map (equal_in spec) slots))
+      by None is rest = rest
+      by (Some x) is rest = (one_equal spec slot x all.0 is, rest)
+
+  commits : (waiting : Signed Ask) (r : Option Response) → F.ask waiting → Of (ask_or_commit s waiting r)
+  commits waiting None own said = (v, (own, tt))
+  commits waiting (Some r) own said =
+      (v, (All-take F.spec s.counts.cert (filter_map (equal_in r.spec.stmt) s.responses) (All-from_recursion F.spec _ (equals r.spec.stmt s.responses v.1)), tt))
+
+  runs_out : Of (run_out s)
+  unfolding run_out
+  runs_out = by s.waiting v.0
+    where
+      by : (waiting : Option (Signed Ask)) → IfSome waiting F.ask → Of (run_out_while s waiting)
+      by None none = takes s v
+      by (Some waiting) own = commits waiting (certified_in s) own
+
+  -- ---- events
+
+  under : (against : Option Cause) (o : ClientOutcome) → Of o → Of (unless against s o)
+  under None o is = is
+  under (Some cause) o is = refuses cause
+
+  frame_of : (frame : Frame) → OfFrame F frame → Of (hear s frame)
+  frame_of (frames.SpecResponse spec reply order) heard = hears_response (record { spec = spec; reply = reply; order = order }) spec.by heard
+  frame_of (frames.LocalCommit vote) heard = by_test Of (is_replica vote.by) _ _ (λ replica. local vote) (λ other. refuses causes.WrongRole)
+  frame_of (frames.Request ask) heard = refuses causes.WrongRole
+  frame_of (frames.Order both) heard = refuses causes.WrongRole
+  frame_of (frames.Commit specs) heard = refuses causes.WrongRole
+  frame_of (frames.ConfirmReq confirm ask) heard = refuses causes.WrongRole
+  frame_of (frames.FillHole hole) heard = refuses causes.WrongRole
+  frame_of (frames.Hate hate) heard = refuses causes.WrongRole
+  frame_of (frames.Pom first second) heard = refuses causes.WrongRole
+  frame_of (frames.Checkpoint check) heard = refuses causes.WrongRole
+
+  view_read : (read : Result ViewFrame FrameFault) → Of (view_decoded s read)
+  view_read (Err fault) = refuses (causes.NotFrame fault)
+  view_read (Ok frame) = under (screen s.keys (view_parts.parts_of frame)) (refused causes.WrongRole s) (refuses causes.WrongRole)
+
+  read_as : (bytes : List ℕ) (read : Result Frame FrameFault) → plain.frame_in bytes ≡ read → OfHeard F (Heard bytes) → Of (decoded_as s bytes read)
+  read_as bytes (Ok frame) is heard = under (screen s.keys (plain.parts_of frame)) (hear s frame) (frame_of frame (heard.0 frame is))
+  read_as bytes (Err faults.Kind) is heard = view_read (views.frame_in bytes)
+  read_as bytes (Err faults.Short) is heard = refuses (causes.NotFrame faults.Short)
+  read_as bytes (Err faults.Version) is heard = refuses (causes.NotFrame faults.Version)
+  read_as bytes (Err faults.TooLong) is heard = refuses (causes.NotFrame faults.TooLong)
+  read_as bytes (Err faults.Trailing) is heard = refuses (causes.NotFrame faults.Trailing)
+  read_as bytes (Err faults.Range) is heard = refuses (causes.NotFrame faults.Range)
+
+  pub steps : (event : Event) → OfHeard F event → Of (client_step s event)
+  unfolding client_step
+  steps (Heard bytes) heard = read_as bytes (plain.frame_in bytes) refl heard
+  steps (Timer timers.Answer) heard = runs_out
+  steps (Timer timers.Request) heard = takes s v
+  steps (Timer timers.Change) heard = takes s v

@@ -1,0 +1,200 @@
+-- What holds of each signed statement that a replica hears, keeps, says or sends, where something is said of each kind of them.
+use Rattle.std.specs.Prelude.{◌≡◌, ℕ, Bool, true, List, All, IfSome, Ok, Err}
+use Rattle.std.specs.List.{AllByRecursion}
+use Rattle.zy_base.specs.declared.frame_fault.FrameFault.TheVariants as faults
+use Rattle.zy_base.specs.declared.ids.Party.{Party}
+use Rattle.zy_base.specs.declared.step.Event.{Event}
+use Rattle.zy_base.specs.declared.step.Event.TheVariants.{Heard, Timer}
+use Rattle.zy_admit.specs.Orders.{Orders}
+use Rattle.zy_change.specs.Views.{Views}
+use Rattle.zy_check.specs.Board.{Board}
+use Rattle.zy_frames.specs.Frames as plain
+use Rattle.zy_frames.specs.declared.frame.Frame.{Frame}
+use Rattle.zy_frames.specs.declared.frame.Frame.TheVariants as frames
+use Rattle.zy_frames.specs.declared.frame.OrderFrame.{OrderFrame}
+use Rattle.zy_law_normal.specs.Tied.{IsRoundOf}
+use Rattle.zy_parts.specs.Numbers as numbers
+use Rattle.zy_parts.specs.Reports.{began_fields, change_fields, fetch_fields, new_fields}
+use Rattle.zy_parts.specs.Signing.{text_of}
+use Rattle.zy_parts.specs.Statements.{ask_fields, check_fields, confirm_fields, hate_fields, hole_fields, local_fields, order_fields, spec_fields}
+use Rattle.zy_parts.specs.declared.reports.Began.{Began}
+use Rattle.zy_parts.specs.declared.reports.Change.{Change}
+use Rattle.zy_parts.specs.declared.reports.Fetch.{Fetch}
+use Rattle.zy_parts.specs.declared.reports.New.{New}
+use Rattle.zy_parts.specs.declared.reports.Told.{Told}
+use Rattle.zy_parts.specs.declared.signed.Signed.{Signed}
+use Rattle.zy_parts.specs.declared.statements.Ask.{Ask}
+use Rattle.zy_parts.specs.declared.statements.Check.{Check}
+use Rattle.zy_parts.specs.declared.statements.Confirm.{Confirm}
+use Rattle.zy_parts.specs.declared.statements.Hate.{Hate}
+use Rattle.zy_parts.specs.declared.statements.Hole.{Hole}
+use Rattle.zy_parts.specs.declared.statements.Local.{Local}
+use Rattle.zy_parts.specs.declared.statements.Order.{Order}
+use Rattle.zy_parts.specs.declared.statements.Spec.{Spec}
+use Rattle.zy_seal.specs.Sealing.{SealerState, sealed_by}
+use Rattle.zy_table.specs.ClientState.{ClientState}
+use Rattle.zy_table.specs.State.{State}
+use Rattle.zy_table.specs.declared.client.Response.{Response}
+use Rattle.zy_table.specs.declared.deeds.Act.{Act}
+use Rattle.zy_table.specs.declared.deeds.Act.TheVariants.{Says, Gains, Adopts}
+use Rattle.zy_table.specs.declared.deeds.AnyFrame.{AnyFrame}
+use Rattle.zy_table.specs.declared.deeds.AnyFrame.TheVariants.{Plain, View}
+use Rattle.zy_table.specs.declared.deeds.Body.{Body}
+use Rattle.zy_table.specs.declared.deeds.Body.TheVariants as bodies
+use Rattle.zy_table.specs.declared.deeds.Sent.{Sent}
+use Rattle.zy_table.specs.declared.kept.Pending.{Pending}
+use Rattle.zy_vframes.specs.ViewFrames as view_frames
+use Rattle.zy_vframes.specs.declared.frame.ViewCert.{ViewCert}
+use Rattle.zy_vframes.specs.declared.frame.ViewFrame.{ViewFrame}
+use Rattle.zy_vframes.specs.declared.frame.ViewFrame.TheVariants as views
+
+-- what is to hold of each kind, of a report and of a new view without what is inside
+pub record Signs : Type 1 where
+  pub ask : Signed Ask → Type 0
+  pub order : Signed Order → Type 0
+  pub spec : Signed Spec → Type 0
+  pub local : Signed Local → Type 0
+  pub confirm : Signed Confirm → Type 0
+  pub hole : Signed Hole → Type 0
+  pub hate : Signed Hate → Type 0
+  pub check : Signed Check → Type 0
+  pub change : Signed Change → Type 0
+  pub new : Signed New → Type 0
+  pub began : Signed Began → Type 0
+  pub fetch : Signed Fetch → Type 0
+
+-- ---- what is inside others
+
+abbrev pub OfOrder : Signs → OrderFrame → Type 0
+OfOrder F o = F.order o.order × F.ask o.ask
+
+abbrev pub OfPending : Signs → Pending → Type 0
+OfPending F p = F.confirm p.confirm × F.ask p.ask
+
+abbrev pub OfTold : Signs → Told → Type 0
+OfTold F t = AllByRecursion F.began t.began × IfSome t.specs (All F.spec) × All F.check t.checks
+
+abbrev pub OfChange : Signs → Signed Change → Type 0
+OfChange F c = F.change c × OfTold F c.stmt.told
+
+abbrev pub OfNew : Signs → Signed New → Type 0
+OfNew F n = F.new n × AllByRecursion (OfChange F) n.stmt.changes
+
+abbrev pub OfCert : Signs → ViewCert → Type 0
+OfCert F cert = OfNew F cert.new × AllByRecursion F.began cert.begans
+
+-- ---- frames
+
+abbrev pub OfFrame : Signs → Frame → Type 0
+OfFrame F (frames.Request ask) = F.ask ask
+OfFrame F (frames.Order both) = OfOrder F both
+OfFrame F (frames.SpecResponse spec reply with_order) = F.spec spec × IfSome with_order F.order
+OfFrame F (frames.Commit specs) = All F.spec specs
+OfFrame F (frames.LocalCommit local) = F.local local
+OfFrame F (frames.ConfirmReq confirm ask) = F.confirm confirm × F.ask ask
+OfFrame F (frames.FillHole hole) = F.hole hole
+OfFrame F (frames.Hate hate) = F.hate hate
+OfFrame F (frames.Pom first second) = F.order first × F.order second
+OfFrame F (frames.Checkpoint check) = F.check check
+
+abbrev pub OfViewFrame : Signs → ViewFrame → Type 0
+OfViewFrame F (views.ViewChange change) = OfChange F change
+OfViewFrame F (views.NewView new) = OfNew F new
+OfViewFrame F (views.ViewConfirm began) = F.began began
+OfViewFrame F (views.ViewCert cert) = OfCert F cert
+OfViewFrame F (views.Fetch fetch) = F.fetch fetch
+OfViewFrame F (views.State place snapshot) = Unit {0}
+
+abbrev pub OfAnyFrame : Signs → AnyFrame → Type 0
+OfAnyFrame F (Plain frame) = OfFrame F frame
+OfAnyFrame F (View frame) = OfViewFrame F frame
+
+abbrev pub OfSent : Signs → List Sent → Type 0
+OfSent F sent = AllByRecursion (λ one. OfAnyFrame F one.frame) sent
+
+-- ---- what a replica keeps
+
+abbrev pub OfViews : Signs → Views → Type 0
+OfViews F v =
+    IfSome v.view_cert (OfCert F) × IfSome v.specs (λ c. All F.spec c.specs)
+    × AllByRecursion (λ slot. IfSome slot (OfChange F)) v.changes × AllByRecursion (λ slot. IfSome slot F.began) v.begans
+    × IfSome v.accepted (λ a. OfNew F a.new) × IfSome v.waiting (λ x. OfCert F x.cert)
+
+abbrev pub OfOrders : Signs → Orders → Type 0
+OfOrders F o = AllByRecursion (λ slot. IfSome slot (OfOrder F)) o.slots
+
+-- of each signer one response and one checkpoint of a place, and what proves the stable one
+abbrev pub OfBoard : Signs → Board → Type 0
+OfBoard F b = IsRoundOf F.spec F.check b.near × IsRoundOf F.spec F.check b.far × All F.check b.proof
+
+abbrev pub OfState : {S : Type 0} → Signs → State S → Type 0
+OfState F s =
+    OfViews F s.views × OfOrders F s.orders × OfBoard F s.board × IfSome s.hole F.hole
+    × AllByRecursion (λ slot. IfSome slot F.spec) s.specs × AllByRecursion (λ slot. IfSome slot (OfPending F)) s.pending
+    × AllByRecursion F.local s.locals × IfSome s.hate F.hate × AllByRecursion F.fetch s.fetches
+
+-- ---- what it signs
+
+-- it holds of the statement, whichever leaf of the party's key signs it
+abbrev pub OfBody : Signs → Party → Body → Type 0
+OfBody F me (bodies.Order order) = (sealer : SealerState) → sealer.me ≡ me → F.order (sealed_by numbers.order order_fields sealer order)
+OfBody F me (bodies.Spec spec) = (sealer : SealerState) → sealer.me ≡ me → F.spec (sealed_by numbers.spec spec_fields sealer spec)
+OfBody F me (bodies.Local local) = (sealer : SealerState) → sealer.me ≡ me → F.local (sealed_by numbers.local local_fields sealer local)
+OfBody F me (bodies.Confirm confirm) = (sealer : SealerState) → sealer.me ≡ me → F.confirm (sealed_by numbers.confirm confirm_fields sealer confirm)
+OfBody F me (bodies.Hole hole) = (sealer : SealerState) → sealer.me ≡ me → F.hole (sealed_by numbers.hole hole_fields sealer hole)
+OfBody F me (bodies.Hate hate) = (sealer : SealerState) → sealer.me ≡ me → F.hate (sealed_by numbers.hate hate_fields sealer hate)
+OfBody F me (bodies.Check check) = (sealer : SealerState) → sealer.me ≡ me → F.check (sealed_by numbers.check check_fields sealer check)
+OfBody F me (bodies.Change change) = (sealer : SealerState) → sealer.me ≡ me → F.change (sealed_by numbers.change change_fields sealer change)
+OfBody F me (bodies.New new) = (sealer : SealerState) → sealer.me ≡ me → F.new (sealed_by numbers.new new_fields sealer new)
+OfBody F me (bodies.Began began) = (sealer : SealerState) → sealer.me ≡ me → F.began (sealed_by numbers.began began_fields sealer began)
+OfBody F me (bodies.Fetch fetch) = (sealer : SealerState) → sealer.me ≡ me → F.fetch (sealed_by numbers.fetch fetch_fields sealer fetch)
+
+abbrev pub OfAct : Signs → Party → Act → Type 0
+OfAct F me (Says remark) = OfBody F me remark.body
+OfAct F me (Gains got) = Unit {0}
+OfAct F me (Adopts view common gots) = Unit {0}
+
+abbrev pub OfActs : Signs → Party → List Act → Type 0
+OfActs F me acts = AllByRecursion (OfAct F me) acts
+
+-- ---- what it hears
+
+-- the frame that the bytes are read as
+abbrev pub OfHeard : Signs → Event → Type 0
+OfHeard F (Heard bytes) =
+    ((frame : Frame) → plain.frame_in bytes ≡ Ok frame → OfFrame F frame)
+    × ((frame : ViewFrame) → plain.frame_in bytes ≡ Err faults.Kind → view_frames.frame_in bytes ≡ Ok frame → OfViewFrame F frame)
+OfHeard F (Timer kind) = Unit {0}
+
+-- ---- a client
+
+-- a response that it keeps, and the order beside it
+abbrev pub OfResponse : Signs → Response → Type 0
+OfResponse F r = F.spec r.spec × IfSome r.order F.order
+
+abbrev pub OfClient : Signs → ClientState → Type 0
+OfClient F s = IfSome s.waiting F.ask × AllByRecursion (λ slot. IfSome slot (OfResponse F)) s.responses
+
+-- the requests that it signs, whichever leaf of its key signs them
+abbrev pub OfAsks : Signs → Party → List Ask → Type 0
+OfAsks F me asks = AllByRecursion (λ ask. (sealer : SealerState) → sealer.me ≡ me → F.ask (sealed_by numbers.ask ask_fields sealer ask)) asks
+
+-- ---- of the texts that are signed
+
+-- this is to hold of each signer and the text that it signs
+abbrev pub OfTexts : (Party → List ℕ → Bool) → Signs
+OfTexts p =
+    record {
+      ask = λ x. p x.by (text_of numbers.ask ask_fields x.by x.stmt) ≡ true;
+      order = λ x. p x.by (text_of numbers.order order_fields x.by x.stmt) ≡ true;
+      spec = λ x. p x.by (text_of numbers.spec spec_fields x.by x.stmt) ≡ true;
+      local = λ x. p x.by (text_of numbers.local local_fields x.by x.stmt) ≡ true;
+      confirm = λ x. p x.by (text_of numbers.confirm confirm_fields x.by x.stmt) ≡ true;
+      hole = λ x. p x.by (text_of numbers.hole hole_fields x.by x.stmt) ≡ true;
+      hate = λ x. p x.by (text_of numbers.hate hate_fields x.by x.stmt) ≡ true;
+      check = λ x. p x.by (text_of numbers.check check_fields x.by x.stmt) ≡ true;
+      change = λ x. p x.by (text_of numbers.change change_fields x.by x.stmt) ≡ true;
+      new = λ x. p x.by (text_of numbers.new new_fields x.by x.stmt) ≡ true;
+      began = λ x. p x.by (text_of numbers.began began_fields x.by x.stmt) ≡ true;
+      fetch = λ x. p x.by (text_of numbers.fetch fetch_fields x.by x.stmt) ≡ true;
+    }
