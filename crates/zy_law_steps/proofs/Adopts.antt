@@ -1,5 +1,5 @@
 -- What a replica says and keeps can be spelled as a view begins with the history that was chosen, or waits for its snapshot.
-use Rattle.std.proofs.Common.{◌≡◌, ℕ, ◌-◌, ◌<◌, ◌^◌, Bool, true, false, List, [], ◌∷◌, length, take, drop, Option, Some, None, Ok, Err, ◌⊎◌, inl, inr, refl, sym, ap, ◌∙◌, subst, arith}
+use Rattle.std.proofs.Common.{◌≡◌, ℕ, ◌-◌, ◌<◌, ◌≤◌, ◌^◌, Bool, true, false, List, [], ◌∷◌, length, take, drop, Option, Some, None, Ok, Err, ◌⊎◌, inl, inr, refl, sym, ap, ◌∙◌, subst, arith}
 use Rattle.std.specs.Prelude.{IfSome, cond, nat_le, nat_lt, option_map, slice_get}
 use Rattle.std.proofs.lemmas.Bool.{leb-true}
 use Rattle.std.proofs.lemmas.List.{length-take-le}
@@ -20,7 +20,7 @@ use Rattle.zy_law_normal.proofs.Backing.{all_listed}
 use Rattle.zy_law_normal.proofs.Goes.{all_of_both}
 use Rattle.zy_law_normal.proofs.KeptVotes.{none_kept}
 use Rattle.zy_law_normal.proofs.Own.{all_drop, by_test}
-use Rattle.zy_parts.specs.Reports.{began_fields}
+use Rattle.zy_parts.specs.Reports.{began_fields, fetch_fields}
 use Rattle.zy_parts.specs.Statements.{IsU62}
 use Rattle.zy_parts.specs.declared.reports.Began.{Began}
 use Rattle.zy_parts.specs.declared.reports.Change.{Change}
@@ -39,6 +39,7 @@ use Rattle.zy_table.specs.declared.deeds.Verdict.TheVariants.{Take, Wait, Refuse
 use Rattle.zy_table.specs.declared.kept.OwnCheckpoint.{OwnCheckpoint}
 use Rattle.zy_exec.specs.Kept.{reply_in}
 use Rattle.zy_vframes.specs.declared.frame.ViewCert.{ViewCert}
+use Rattle.zy_law_views.proofs.Waiting.{waits_further}
 use Rattle.zy_wire.specs.Fields.{FitsList}
 use Rattle.zy_law_steps.specs.Spelled.{AreViewsSpelled, IsAcceptedSpelled, IsBeganSpelled, IsChangeSpelled, IsCheckSpelled, IsChoiceSpelled, IsSpecSpelled, IsSpelled}
 use Rattle.zy_law_steps.proofs.SpelledGathers.{IsGoing, IsOwnSpelled, fit-append, fit_said, own_spelled, settled_spelled}
@@ -213,24 +214,29 @@ module _ {S : Type 0} (R : Rules S) where
         few = is.few;
       }
 
-  asks : (wanted : Fetch) (said : Option (Signed Fetch)) (parties : List Party) (g : Going S) → IsEarly g → IsEarly (ask_each R wanted said parties g)
-  asks wanted (Some said) parties g is = record { going = record { acts = is.going.acts; spelled = is.going.spelled }; few = is.few }
-  asks wanted None parties g is =
+  asks : (wanted : Fetch) (said : Option (Signed Fetch)) (parties : List Party) (g : Going S) → fetch_fields.Fits wanted → IsEarly g → IsEarly (ask_each R wanted said parties g)
+  asks wanted (Some said) parties g fits is = record { going = record { acts = is.going.acts; spelled = is.going.spelled }; few = is.few }
+  asks wanted None parties g fits is =
       let spelled = is.going.spelled in
       record {
         going = record {
-          acts = fit_said g.deeds.acts _ is.going.acts tt;
+          acts = fit_said g.deeds.acts _ is.going.acts fits;
           spelled = record { signer = spelled.signer; views = spelled.views; history = spelled.history; board = spelled.board };
         };
         few = is.few;
       }
 
-  waits_for : (cert : ViewCert) (chosen : Chosen) (told : Told) (g : Going S) → IsEarly g → IsChoiceSpelled cert.new.stmt chosen → FitsList IsBeganSpelled 0 16 cert.begans → IsEarly (wait_for R cert chosen told g)
+  wanted_fits : (told : Told) → IsToldSpelled told → 1 ≤ told.stable_place.0 → fetch_fields.Fits (wanted_of told)
+  unfolding fetch_fields
+  wanted_fits told fits some = ((some, fits.place.1), fits.state)
+
+  waits_for : (cert : ViewCert) (chosen : Chosen) (told : Told) (g : Going S) → fetch_fields.Fits (wanted_of told) → IsEarly g → IsChoiceSpelled cert.new.stmt chosen → FitsList IsBeganSpelled 0 16 cert.begans
+      → IsEarly (wait_for R cert chosen told g)
   unfolding wait_for
-  waits_for cert chosen told g is choice begans =
+  waits_for cert chosen told g fits is choice begans =
       let there = arrives R cert.new.stmt.view g is (new_view_in_range cert.new.stmt choice.reports) in
       let next = kept_waiting cert chosen (arrive R cert.new.stmt.view g) in
-      asks (wanted_of told) (fetch_said next.state (wanted_of told)) (asked_of next.state told.checks) next (waits cert chosen (arrive R cert.new.stmt.view g) there choice begans)
+      asks (wanted_of told) (fetch_said next.state (wanted_of told)) (asked_of next.state told.checks) next fits (waits cert chosen (arrive R cert.new.stmt.view g) there choice begans)
 
 -- ---- a choice is adopted
 
@@ -241,15 +247,15 @@ IsAdopted (Err cause) = Unit {0}
 
 module _ {S : Type 0} (R : Rules S) where
   module _ (cert : ViewCert) (chosen : Chosen) (g : Going S) (is : IsEarly g) (choice : IsChoiceSpelled cert.new.stmt chosen) (begans : FitsList IsBeganSpelled 0 16 cert.begans) where
-    adopts_as : (told : Told) → IsToldSpelled told → (v : Verdict) → IsAdopted (adopt_as R cert chosen told v g)
-    adopts_as told fits Take = inr (takes_up R cert chosen told g is.going choice begans fits)
-    adopts_as told fits Wait = inl (waits_for R cert chosen told g is choice begans)
-    adopts_as told fits (Refuse cause) = tt
+    adopts_as : (told : Told) → IsToldSpelled told → (v : Verdict) → verdict_of R g.state.kept g.state.board.stable told chosen.place chosen.head ≡ v → IsAdopted (adopt_as R cert chosen told v g)
+    adopts_as told fits Take judged = inr (takes_up R cert chosen told g is.going choice begans fits)
+    adopts_as told fits Wait judged = inl (waits_for R cert chosen told g (wanted_fits R told fits (let further = waits_further R g.state.kept g.state.board.stable told chosen.place chosen.head judged in omega arith)) is choice begans)
+    adopts_as told fits (Refuse cause) judged = tt
 
     adopts_from : (p : Option (Signed Change)) → slice_get cert.new.stmt.changes chosen.provider ≡ p → IsAdopted (adopt_from R cert chosen p g)
     adopts_from None there = inl is
     adopts_from (Some p) there =
-        adopts_as p.stmt.told (told_spelled_in p (change_there cert.new.stmt choice.reports chosen.provider p there)) (verdict_of R g.state.kept g.state.board.stable p.stmt.told chosen.place chosen.head)
+        adopts_as p.stmt.told (told_spelled_in p (change_there cert.new.stmt choice.reports chosen.provider p there)) (verdict_of R g.state.kept g.state.board.stable p.stmt.told chosen.place chosen.head) refl
 
     pub adopts : IsAdopted (adopt R cert chosen g)
     unfolding adopt

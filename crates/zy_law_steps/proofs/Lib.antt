@@ -24,7 +24,9 @@ mod ViewRows
 mod SpelledWholeSteps
 mod SpelledWorking
 mod Passing
+mod PassingStates
 mod PassingViews
 mod PassingRows
 mod PassingClient
-mod PassingParts
+pub mod PassingParts
+mod PassingTexts

@@ -1,7 +1,7 @@
 -- What holds of each signed statement that a replica heard and kept, and of those that it signs, holds on its way through a step of those that it
 -- keeps and sends.
 use Rattle.std.proofs.Common.{◌≡◌, ℕ, zero, suc, ◌-◌, Bool, true, false, cond, List, [], ◌∷◌, ◌++◌, length, map, set, replicate, Option, Some, None, refl, sym, ap, ◌∙◌, subst, arith}
-use Rattle.std.specs.Prelude.{All, IfSome, Result, Ok, Err, filter, if◌then◌else◌, nat_eq, nat_le, nat_lt, slice_index_or}
+use Rattle.std.specs.Prelude.{◌≤◌, All, IfSome, Result, Ok, Err, option_map, take, filter, if◌then◌else◌, nat_eq, nat_le, nat_lt, slice_index_or}
 use Rattle.std.specs.List.{AllByRecursion, find}
 use Rattle.std.proofs.lemmas.List.Elements.{All-nil}
 use Rattle.zy_base.specs.Machine.{Rules}
@@ -24,7 +24,12 @@ use Rattle.zy_frames.specs.declared.frame.OrderFrame.{OrderFrame}
 use Rattle.zy_law_normal.proofs.Goes.{all_of_both, all_of_front, all_of_rest}
 use Rattle.zy_law_normal.proofs.KeptVotes.{AreFirst, AreKeptOf, after_check_kept, after_spec_kept, are_first, at_place, none_kept, with_stable_kept, without_others_kept}
 use Rattle.zy_law_normal.proofs.Own.{all_drop, by_test}
-use Rattle.zy_exec.specs.Kept.{last_place}
+use Rattle.zy_base.specs.declared.ids.ClientId.{ClientId}
+use Rattle.zy_chain.specs.Stretch.{entry_in}
+use Rattle.zy_chain.specs.declared.entry.Entry.{Entry}
+use Rattle.zy_exec.specs.Kept.{Kept, known_in, last_place, now_of, point_before, reply_in, stretch_of}
+use Rattle.zy_exec.specs.Replay.{Point, along, known_of, step}
+use Rattle.zy_exec.specs.declared.known.Known.{Known}
 use Rattle.zy_parts.specs.Numbers as numbers
 use Rattle.zy_parts.specs.Statements.{check_fields}
 use Rattle.zy_parts.specs.declared.signed.Signed.{Signed}
@@ -48,7 +53,8 @@ use Rattle.zy_table.specs.declared.deeds.To.TheVariants.{All as Everyone, One}
 use Rattle.zy_table.specs.declared.kept.OwnCheckpoint.{OwnCheckpoint}
 use Rattle.zy_table.specs.declared.kept.Pending.{Pending}
 use Rattle.zy_law_steps.proofs.Slots.{AreKept, filled}
-use Rattle.zy_law_steps.specs.Signs.{OfAct, OfActs, OfAnyFrame, OfBoard, OfBody, OfChange, OfOrder, OfPending, OfSent, OfState, Signs}
+use Rattle.zy_parts.specs.declared.statements.Ask.{Ask}
+use Rattle.zy_law_steps.specs.Signs.{IsShort, OfAct, OfActs, OfAnyFrame, OfBoard, OfBody, OfChange, OfOrder, OfPending, OfSent, OfState, Signs}
 
 -- ---- lists
 
@@ -108,10 +114,45 @@ module _ (F : Signs) where
   unfolding with_stable
   stable_put b proof is all = let kept = with_stable_kept F.spec F.check b proof (kept_of b is) in (kept.near, kept.far, all)
 
+-- ---- replies
+
+-- what a machine promises of its states
+pub record Laws {S : Type 0} (ok : S → Type 0) (R : Rules S) : Type 0 where
+  pub starts : ok R.initial
+  pub stays : (s : S) (client : ClientId) (op : List ℕ) → ok s → ok (R.next s client op)
+  pub short : (s : S) (client : ClientId) (op : List ℕ) → ok s → length (R.reply s client op) ≤ 1100
+  pub reads : (bytes : List ℕ) (s : S) → R.read bytes ≡ Some s → ok s
+
+abbrev pub IsShortKnown : Known → Type 0
+IsShortKnown known = length known.reply ≤ 1100
+
+module _ {S : Type 0} (R : Rules S) (ok : S → Type 0) (law : Laws ok R) where
+  pub along_short : (p : Point S) (es : List Entry) → IsShort ok p → IsShort ok (along R p es)
+  unfolding along
+  along_short p [] is = is
+  along_short p (e ∷ es) is =
+      along_short (step R p e) es (record { state = law.stays p.state e.client e.op is.state; known = filled IsShortKnown p.known e.client.0 (known_of R p e) is.known (law.short p.state e.client e.op is.state) })
+
+  pub now_short : (k : Kept S) → IsShort ok k.base → IsShort ok (now_of R k)
+  now_short k is = along_short k.base k.entries is
+
+  pub next_short : (s : State S) (ask : Signed Ask) → IsShort ok s.kept.base → IsShortKnown (next_known R s ask)
+  next_short s ask is = law.short (now_of R s.kept).state (entry_of ask).client (entry_of ask).op (now_short s.kept is).state
+
+  pub known_short : (k : Kept S) (client : ℕ) → IsShort ok k.base → IfSome (known_in R k client) IsShortKnown
+  known_short k client is = slot_at IsShortKnown (now_of R k).known client (now_short k is).known
+
+  pub reply_short : (k : Kept S) (place : ℕ) → IsShort ok k.base → IfSome (reply_in R k place) (λ reply. length reply ≤ 1100)
+  reply_short k place is = by (entry_in (stretch_of k) place)
+    where
+      by : (o : Option Entry) → IfSome (option_map (λ (e : Entry). R.reply (point_before R k place).state e.client e.op) o) (λ reply. length reply ≤ 1100)
+      by None = tt
+      by (Some e) = law.short (point_before R k place).state e.client e.op (along_short k.base (take (place - k.base.place - 1) k.entries) is).state
+
 -- ---- a replica that begins keeps nothing
 
-pub starts : {S : Type 0} (R : Rules S) (F : Signs) (interval : ℕ) (me : ReplicaId) (counts : Counts) (keys : Keys) (sealer : SealerState) → OfState F (start_of R interval me counts keys sealer)
-starts R F interval me counts keys sealer = (
+pub starts : {S : Type 0} (R : Rules S) (ok : S → Type 0) (law : Laws ok R) (F : Signs) (interval : ℕ) (me : ReplicaId) (counts : Counts) (keys : Keys) (sealer : SealerState) → OfState ok F (start_of R interval me counts keys sealer)
+starts R ok law F interval me counts keys sealer = (
   (tt, tt, empty_slots (OfChange F) counts.n, empty_slots F.began counts.n, tt, tt),
   tt,
   (none_kept F.spec F.check, none_kept F.spec F.check, All-nil F.check),
@@ -120,30 +161,30 @@ starts R F interval me counts keys sealer = (
   empty_slots (OfPending F) 64,
   tt,
   tt,
-  tt,
+  (tt, record { state = law.starts; known = empty_slots IsShortKnown 64 }),
 )
 
 -- ---- on its way
 
-module _ {S : Type 0} (R : Rules S) (F : Signs) (me : Party) where
+module _ {S : Type 0} (R : Rules S) (ok : S → Type 0) (law : Laws ok R) (F : Signs) (me : Party) where
   -- where it holds of all that was signed so far, something else is known, and it holds of all that is kept and sent
   abbrev pub Passes : Type 0 → Going S → Type 0
-  Passes X g = OfActs F me g.deeds.acts → X × (g.state.sealer.me ≡ me) × OfState F g.state × OfSent F g.deeds.sent
+  Passes X g = OfActs F me g.deeds.acts → X × (g.state.sealer.me ≡ me) × OfState ok F g.state × OfSent F g.deeds.sent
 
-  pub knows : (X Y : Type 0) (g : Going S) → (X → OfState F g.state → Y) → Passes X g → Passes Y g
+  pub knows : (X Y : Type 0) (g : Going S) → (X → OfState ok F g.state → Y) → Passes X g → Passes Y g
   knows X Y g tells is acts = let b = is acts in (tells b.0 b.2, b.1, b.2, b.3)
 
-  pub sends : (X : Type 0) (to : To) (frame : AnyFrame) (g : Going S) → (X → OfState F g.state → OfAnyFrame F frame) → Passes X g → Passes X (send_any to frame g)
+  pub sends : (X : Type 0) (to : To) (frame : AnyFrame) (g : Going S) → (X → OfState ok F g.state → OfAnyFrame F frame) → Passes X g → Passes X (send_any to frame g)
   sends X to frame g tells is acts =
       let b = is acts in (b.0, b.1, b.2, all_of_both (λ one. OfAnyFrame F one.frame) g.deeds.sent (record { to = to; frame = frame } ∷ []) b.3 (tells b.0 b.2, tt))
 
   -- another state
-  pub turns : (X Y : Type 0) (s : State S) (g : Going S) → (X → g.state.sealer.me ≡ me → OfState F g.state → Y × (s.sealer.me ≡ me) × OfState F s) → Passes X g → Passes Y (record g { state = s })
+  pub turns : (X Y : Type 0) (s : State S) (g : Going S) → (X → g.state.sealer.me ≡ me → OfState ok F g.state → Y × (s.sealer.me ≡ me) × OfState ok F s) → Passes X g → Passes Y (record g { state = s })
   turns X Y s g next is acts = let b = is acts in let n = next b.0 b.1 b.2 in (n.0, n.1, n.2, b.3)
 
   -- a statement is signed, and the state is another then
   pub says : (X Y : Type 0) (remark : Remark) (s : State S) (g : Going S)
-      → (X → g.state.sealer.me ≡ me → OfState F g.state → OfBody F me remark.body → Y × (s.sealer.me ≡ me) × OfState F s) → Passes X g → Passes Y (act (Says remark) (record g { state = s }))
+      → (X → g.state.sealer.me ≡ me → OfState ok F g.state → OfBody F me remark.body → Y × (s.sealer.me ≡ me) × OfState ok F s) → Passes X g → Passes Y (act (Says remark) (record g { state = s }))
   says X Y remark s g next is acts =
       let b = is (all_of_front (OfAct F me) g.deeds.acts (Says remark ∷ []) acts) in
       let n = next b.0 b.1 b.2 (all_of_rest (OfAct F me) g.deeds.acts (Says remark ∷ []) acts).0 in (n.0, n.1, n.2, b.3)
@@ -164,23 +205,23 @@ module _ {S : Type 0} (R : Rules S) (F : Signs) (me : Party) where
 
   -- ---- what is kept at a place is looked through
 
-  certificate : (s : State S) (own : Spec) (specs : List (Signed Spec)) → OfState F s → certificate_at s own ≡ Some specs → All F.spec specs
+  certificate : (s : State S) (own : Spec) (specs : List (Signed Spec)) → OfState ok F s → certificate_at s own ≡ Some specs → All F.spec specs
   certificate s own specs is got =
       let there = at_place F.spec F.check s.board own.place.0 (kept_of F s.board is.2) in
       (are_first same_spec spec-equal F.spec s.counts.cert own (specs_at s.board own.place.0) specs there.specs_rise there.specs got).vouched
 
-  proven : (s : State S) (own : Check) (checks : List (Signed Check)) → OfState F s → proof_at s own ≡ Some checks → All F.check checks
+  proven : (s : State S) (own : Check) (checks : List (Signed Check)) → OfState ok F s → proof_at s own ≡ Some checks → All F.check checks
   proven s own checks is got =
       let there = at_place F.spec F.check s.board own.place.0 (kept_of F s.board is.2) in
       (are_first same_check check-equal F.check s.counts.local own (checks_at s.board own.place.0) checks there.checks_rise there.checks got).vouched
 
-  pub certified : (s : State S) (place : Place) (specs : List (Signed Spec)) → OfState F s → All F.spec specs → OfState F (with_certificate s place specs)
+  pub certified : (s : State S) (place : Place) (specs : List (Signed Spec)) → OfState ok F s → All F.spec specs → OfState ok F (with_certificate s place specs)
   certified s place specs is all =
-      by_test (λ (t : State S). OfState F t) (is_further place s.views.specs) _ _
+      by_test (λ (t : State S). OfState ok F t) (is_further place s.views.specs) _ _
       (λ further. let v = is.0 in ((v.0, all, v.2, v.3, v.4, v.5), is.1, is.2, is.3, is.4, is.5, is.6, is.7, is.8)) (λ near. is)
 
-  with_certified : (s : State S) (place : Place) (specs : Option (List (Signed Spec))) → OfState F s → ((list : List (Signed Spec)) → specs ≡ Some list → All F.spec list)
-      → (s.sealer.me ≡ me) → ((keep_certificate place specs s).sealer.me ≡ me) × OfState F (keep_certificate place specs s)
+  with_certified : (s : State S) (place : Place) (specs : Option (List (Signed Spec))) → OfState ok F s → ((list : List (Signed Spec)) → specs ≡ Some list → All F.spec list)
+      → (s.sealer.me ≡ me) → ((keep_certificate place specs s).sealer.me ≡ me) × OfState ok F (keep_certificate place specs s)
   with_certified s place None is all signer = (signer, is)
   with_certified s place (Some specs) is all signer =
       (by_test (λ (t : State S). t.sealer.me ≡ me) (is_further place s.views.specs) _ _ (λ further. signer) (λ near. signer), certified s place specs is (all specs refl))
@@ -200,15 +241,16 @@ module _ {S : Type 0} (R : Rules S) (F : Signs) (me : Party) where
   says_check_if X false own g is = is
   says_check_if X true own g is = says_check X own g is
 
-  pub settled_of : (s : State S) (place : ℕ) (checks : List (Signed Check)) → OfState F s → All F.check checks → OfState F (settled_at R place checks s)
+  pub settled_of : (s : State S) (place : ℕ) (checks : List (Signed Check)) → OfState ok F s → All F.check checks → OfState ok F (settled_at R place checks s)
   settled_of s place checks v all =
-      (v.0, all_drop (λ slot. IfSome slot (OfOrder F)) (place - s.orders.base) s.orders.slots v.1, stable_put F s.board checks v.2 all, v.3, v.4, v.5, all_filtered F.local (λ said. nat_le place said.stmt.place.0) s.locals v.6, v.7, v.8)
+      (v.0, all_drop (λ slot. IfSome slot (OfOrder F)) (place - s.orders.base) s.orders.slots v.1, stable_put F s.board checks v.2 all, v.3, v.4, v.5, all_filtered F.local (λ said. nat_le place said.stmt.place.0) s.locals v.6, v.7,
+       (v.8.0, along_short R ok law s.kept.base (take (place - s.kept.base.place) s.kept.entries) v.8.1))
 
   settles : (X : Type 0) (own : Check) (g : Going S) → Passes X g → Passes X (record g { state = settle_with R own.place.0 (proof_at g.state own) g.state })
   settles X own g is = turns X X (settle_with R own.place.0 (proof_at g.state own) g.state) g (λ x signer v. let n = by (proof_at g.state own) refl v signer in (x, n.0, n.1)) is
     where
-      by : (proof' : Option (List (Signed Check))) → proof_at g.state own ≡ proof' → OfState F g.state → g.state.sealer.me ≡ me
-          → ((settle_with R own.place.0 proof' g.state).sealer.me ≡ me) × OfState F (settle_with R own.place.0 proof' g.state)
+      by : (proof' : Option (List (Signed Check))) → proof_at g.state own ≡ proof' → OfState ok F g.state → g.state.sealer.me ≡ me
+          → ((settle_with R own.place.0 proof' g.state).sealer.me ≡ me) × OfState ok F (settle_with R own.place.0 proof' g.state)
       by None got v signer = (signer, v)
       by (Some checks) got v signer = (signer, settled_of g.state own.place.0 checks v (proven g.state own checks v got))
 
@@ -232,25 +274,25 @@ module _ {S : Type 0} (R : Rules S) (F : Signs) (me : Party) where
   keeps_own X own signed g tells is =
       turns X X (with_own_spec g.state own signed) g (λ x signer v. (x, signer, (v.0, v.1, spec_put F g.state.board own signed v.2 (tells x), v.3, v.4, v.5, v.6, v.7, v.8))) is
 
-  responds : (X : Type 0) (order : Signed Order) (spec : Spec) (reply : List ℕ) (g : Going S) → (X → F.order order) → Passes X g
+  responds : (X : Type 0) (order : Signed Order) (spec : Spec) (reply : List ℕ) (g : Going S) → (X → F.order order) → (X → length reply ≤ 1100) → Passes X g
       → Passes (X × F.spec (sealed_spec g.state spec)) (respond R order (sealed_spec g.state spec) reply g)
-  responds X order spec reply g tells is =
+  responds X order spec reply g tells short is =
       let signed : Signed Spec = sealed_spec g.state spec in
       let remark : Remark = record { body = bodies.Spec spec; stood = stood_of R g.state } in
       let s : State S = with_spec (spent g.state) signed in
-      sends (X × F.spec signed) (One (Client spec.client)) (Plain (frames.SpecResponse signed reply (Some order))) (act (Says remark) (record g { state = s })) (λ x state. (x.1, tells x.0))
+      sends (X × F.spec signed) (One (Client spec.client)) (Plain (frames.SpecResponse signed reply (Some order))) (act (Says remark) (record g { state = s })) (λ x state. (x.1, short x.0, tells x.0))
       (says X (X × F.spec signed) remark s g (λ x signer v said.
       let one : F.spec signed = said g.state.sealer signer in
       ((x, one), signer, (v.0, v.1, v.2, v.3, filled F.spec g.state.specs spec.client.0 signed v.4 one, v.5, v.6, v.7, v.8))) is)
 
-  shares : (X : Type 0) (order : Signed Order) (signed : Signed Spec) (reply : List ℕ) (state : Option Digest) (g : Going S) → (X → F.order order) → (X → F.spec signed) → Passes X g
+  shares : (X : Type 0) (order : Signed Order) (signed : Signed Spec) (reply : List ℕ) (state : Option Digest) (g : Going S) → (X → F.order order) → (X → F.spec signed) → (X → length reply ≤ 1100) → Passes X g
       → Passes X (share R order signed reply state g)
-  shares X order signed reply None g tells_order tells is = is
-  shares X order signed reply (Some state) g tells_order tells is =
+  shares X order signed reply None g tells_order tells short is = is
+  shares X order signed reply (Some state) g tells_order tells short is =
       let told : Going S = send_any Everyone (Plain (frames.SpecResponse signed reply (Some order))) g in
       gathers X (own_with signed.stmt state) false (record told { state = with_own_spec told.state (own_with signed.stmt state) signed })
       (keeps_own X (own_with signed.stmt state) signed told tells
-      (sends X Everyone (Plain (frames.SpecResponse signed reply (Some order))) g (λ x state. (tells x, tells_order x)) is))
+      (sends X Everyone (Plain (frames.SpecResponse signed reply (Some order))) g (λ x state. (tells x, short x, tells_order x)) is))
 
   runs_one : (X : Type 0) (o : OrderFrame) (g : Going S) → (X → F.order o.order) → Passes X g → Passes X (run_one R o g)
   unfolding run_one
@@ -259,10 +301,11 @@ module _ {S : Type 0} (R : Rules S) (F : Signs) (me : Party) where
       let known = next_known R g.state o.ask in
       let spec : Spec = spec_of (own_view g.state) o.ask known in
       let signed : Signed Spec = sealed_spec done.state spec in
-      let Y : Type 0 = X × F.spec signed in
-      knows Y X (run_one R o g) (λ y state. y.0)
-      (shares Y o.order signed known.reply (state_in R done.state.kept spec.place.0) (respond R o.order signed known.reply done) (λ y. tells y.0) (λ y. y.1)
-      (responds X o.order spec known.reply done tells (runs_entry X o g is)))
+      let Z : Type 0 = X × IsShortKnown known in
+      let Y : Type 0 = Z × F.spec signed in
+      knows Y X (run_one R o g) (λ y state. y.0.0)
+      (shares Y o.order signed known.reply (state_in R done.state.kept spec.place.0) (respond R o.order signed known.reply done) (λ y. tells y.0.0) (λ y. y.1) (λ y. y.0.1)
+      (responds Z o.order spec known.reply done (λ z. tells z.0) (λ z. z.1) (runs_entry Z o g (knows X Z g (λ x state. (x, next_short R ok law g.state o.ask state.8.1)) is))))
 
   runs_held : (slots : List (Option OrderFrame)) (X : Type 0) (g : Going S) → (X → AreKept (OfOrder F) slots) → Passes X g → Passes X (run_held R slots g)
   unfolding run_held

@@ -1,7 +1,9 @@
 -- What holds of each signed statement that a client heard and kept, and of the requests that it signs, holds of all that it sends and keeps.
-use Rattle.std.proofs.Common.{◌≡◌, ℕ, ◌^◌, Bool, true, false, List, [], ◌∷◌, take, zero, suc, Option, Some, None, Result, Ok, Err, refl, subst}
-use Rattle.std.specs.Prelude.{All, IfSome, if◌then◌else◌, nat_eq, nat_le, slice_index_or, unwrap_or, ◌&&◌}
+use Rattle.std.proofs.Common.{◌≡◌, ℕ, ◌+◌, ◌≤◌, ◌^◌, Bool, true, false, cond, List, [], ◌∷◌, length, take, zero, suc, Option, Some, None, Result, Ok, Err, refl, ap, subst, arith}
+use Rattle.std.specs.Prelude.{All, IfSome, count_by, if◌then◌else◌, nat_eq, nat_le, slice_index_or, unwrap_or, ◌&&◌}
 use Rattle.std.specs.List.{AllByRecursion, cons_option, filter_map, find}
+use Rattle.std.proofs.lemmas.Bool.{leb-true}
+use Rattle.std.proofs.lemmas.List.{length-take-le}
 use Rattle.std.proofs.lemmas.List.Elements.{All-take, All-from_recursion}
 use Rattle.std.proofs.lemmas.Option.{same_Some}
 use Rattle.zy_base.specs.declared.cause.Cause.{Cause}
@@ -29,7 +31,7 @@ use Rattle.zy_parts.specs.declared.statements.Local.{Local}
 use Rattle.zy_parts.specs.declared.statements.Order.{Order}
 use Rattle.zy_parts.specs.declared.statements.Spec.{Spec}
 use Rattle.zy_seal.specs.Screening.{screen}
-use Rattle.zy_table.specs.ClientRows.{agreeing, ask, ask_or_commit, ask_while, certificate_of, certified_in, client_step, complete, completed_if, contradicted, count_local, decoded_as, equal_in, evidence_by, evidence_with, hear, hear_response, is_blamed, is_by_primary, is_certified, is_for, keep, keep_unless, local_beside, local_while, next_ask, order_in, respond, respond_while, response_cause, run_out, run_out_while, told, unless, view_decoded, vote_on}
+use Rattle.zy_table.specs.ClientRows.{agreeing, agrees, ask, ask_or_commit, ask_while, certificate_of, certified_in, client_step, complete, completed_if, contradicted, count_local, decoded_as, equal_in, evidence_by, evidence_with, hear, hear_response, is_blamed, is_by_primary, is_certified, is_for, keep, keep_unless, local_beside, local_while, next_ask, order_in, respond, respond_while, response_cause, run_out, run_out_while, told, unless, view_decoded, vote_on}
 use Rattle.zy_table.specs.ClientState.{ClientOutcome, ClientState, leaves_of, no_responses, refused, taken}
 use Rattle.zy_table.specs.Roles.{is_replica}
 use Rattle.zy_table.specs.declared.client.Commit.{Commit}
@@ -41,28 +43,54 @@ use Rattle.zy_law_steps.proofs.Passing.{empty_slots, found, put}
 use Rattle.zy_law_steps.proofs.Slots.{AreKept}
 use Rattle.zy_law_steps.specs.Signs.{OfAsks, OfClient, OfFrame, OfHeard, OfResponse, OfSent, Signs}
 
+-- there are as many equal responses as agree
+as_many : (spec : Spec) (slots : List (Option Response)) → length (filter_map (equal_in spec) slots) ≡ count_by (agrees spec) slots
+as_many spec [] = refl
+as_many spec (None ∷ slots) = as_many spec slots
+as_many spec (Some kept ∷ slots) = by (same_spec kept.spec.stmt spec)
+  where
+    by : (b : Bool) → length (cons_option (if b then Some kept.spec else None) (filter_map (equal_in spec) slots)) ≡ cond b 1 0 + count_by (agrees spec) slots
+    by true = ap suc (as_many spec slots)
+    by false = as_many spec slots
+
+-- a response that is found has enough equals
+enough_in : (s : ClientState) (r : Response) → certified_in s ≡ Some r → s.counts.cert ≤ agreeing s r.spec.stmt
+enough_in s r = by s.responses
+  where
+    holds : (slot : Option Response) → slot ≡ Some r → is_certified s slot ≡ true → s.counts.cert ≤ agreeing s r.spec.stmt
+    holds None is passes = absurd cc
+    holds (Some kept) is passes = subst (λ (k : Response). s.counts.cert ≤ agreeing s k.spec.stmt) (same_Some kept r is) (leb-true _ _ passes)
+
+    by : (slots : List (Option Response)) → unwrap_or (find (is_certified s) slots) None ≡ Some r → s.counts.cert ≤ agreeing s r.spec.stmt
+    by [] is = absurd cc
+    by (slot ∷ slots) = on (is_certified s slot) refl
+      where
+        on : (b : Bool) → is_certified s slot ≡ b → unwrap_or (cond b (Some slot) (find (is_certified s) slots)) None ≡ Some r → s.counts.cert ≤ agreeing s r.spec.stmt
+        on true passes is = holds slot is passes
+        on false fails is = by slots is
+
 module _ (F : Signs) (s : ClientState) (v : OfClient F s) where
   -- what a step comes to
   abbrev Of : ClientOutcome → Type 0
-  Of o = OfAsks F s.sealer.me o.said → OfClient F o.state × OfSent F o.sent
+  Of o = OfClient F o.state × OfSent F o.sent
 
   refuses : (cause : Cause) → Of (refused cause s)
-  refuses cause said = (v, tt)
+  refuses cause = (v, tt)
 
   takes : (t : ClientState) → OfClient F t → Of (taken t)
-  takes t is said = (is, tt)
+  takes t is = (is, tt)
 
   -- ---- asking
 
-  pub asks : (op : List ℕ) → Of (ask s op)
+  pub asks : (op : List ℕ) → OfAsks F s.sealer.me (ask s op).said → Of (ask s op)
   unfolding ask
   asks op = by s.waiting
     where
-      by : (waiting : Option (Signed Ask)) → Of (ask_while s waiting op)
-      by (Some waiting) = refuses (causes.Waiting waiting.stmt.stamp)
+      by : (waiting : Option (Signed Ask)) → OfAsks F s.sealer.me (ask_while s waiting op).said → Of (ask_while s waiting op)
+      by (Some waiting) said = refuses (causes.Waiting waiting.stmt.stamp)
       by None =
-          by_test Of (nat_le 1 (leaves_of s)) _ _ (λ left said. let one = said.0 s.sealer refl in ((one, empty_slots (OfResponse F) s.counts.n), (one, tt)))
-          (λ none. refuses causes.KeySpent)
+          by_test (λ (o : ClientOutcome). OfAsks F s.sealer.me o.said → Of o) (nat_le 1 (leaves_of s)) _ _
+          (λ left said. let one = said.0 s.sealer refl in let low = v.2 in ((one, empty_slots (OfResponse F) s.counts.n, omega arith), (one, tt))) (λ none said. refuses causes.KeySpent)
 
   -- ---- responses
 
@@ -87,8 +115,8 @@ module _ (F : Signs) (s : ClientState) (v : OfClient F s) where
       by (Some kept) other = by_test (λ (o : Option (Signed Order × Signed Order)). IfSome o (λ both. F.order both.0 × F.order both.1)) (is_blamed t order.stmt.view) _ _ (λ told. tt) (λ new. (other, one))
 
   tells : (both : Option (Signed Order × Signed Order)) (t : ClientState) → OfClient F t → IfSome both (λ both. F.order both.0 × F.order both.1) → Of (told both t)
-  tells None t w none said = (w, tt)
-  tells (Some both) t w two said = (w, ((two.0, two.1), tt))
+  tells None t w none = (w, tt)
+  tells (Some both) t w two = (w, ((two.0, two.1), tt))
 
   responds : (waiting : Option (Signed Ask)) (id : ℕ) (r : Response) → OfResponse F r → Of (respond_while s waiting id r)
   responds None id r heard = refuses causes.Finished
@@ -98,10 +126,10 @@ module _ (F : Signs) (s : ClientState) (v : OfClient F s) where
       kept = keep s id r
 
       kept_is : OfClient F kept
-      kept_is = (v.0, put (OfResponse F) s.responses id (Some r) v.1 heard)
+      kept_is = (v.0, put (OfResponse F) s.responses id (Some r) v.1 heard, v.2)
 
       done : OfClient F (completed_if kept r)
-      done = by_test (OfClient F) (nat_le kept.counts.fast (agreeing kept r.spec.stmt)) _ _ (λ enough. (tt, kept_is.1)) (λ few. kept_is)
+      done = by_test (OfClient F) (nat_le kept.counts.fast (agreeing kept r.spec.stmt)) _ _ (λ enough. (tt, kept_is.1, kept_is.2)) (λ few. kept_is)
 
       by : (cause : Option Cause) → Of (keep_unless cause s id r)
       by (Some cause) = refuses cause
@@ -120,8 +148,8 @@ module _ (F : Signs) (s : ClientState) (v : OfClient F s) where
   votes : (commit : Commit) (vote : Signed Local) (answer : Vote) → Of (vote_on s commit vote answer)
   votes commit vote Repeat = refuses causes.Repeat
   votes commit vote Mixed = refuses causes.Unmatched
-  votes commit vote (Counted number) said = (v, tt)
-  votes commit vote Full said = ((tt, v.1), tt)
+  votes commit vote (Counted number) = (v, tt)
+  votes commit vote Full = ((tt, v.1, v.2), tt)
 
   beside : (commit : Option Commit) (vote : Signed Local) → Of (local_beside s commit vote)
   beside None vote = refuses causes.Unmatched
@@ -150,10 +178,14 @@ module _ (F : Signs) (s : ClientState) (v : OfClient F s) where
       by None is rest = rest
       by (Some x) is rest = (one_equal spec slot x all.0 is, rest)
 
-  commits : (waiting : Signed Ask) (r : Option Response) → F.ask waiting → Of (ask_or_commit s waiting r)
-  commits waiting None own said = (v, (own, tt))
-  commits waiting (Some r) own said =
-      (v, (All-take F.spec s.counts.cert (filter_map (equal_in r.spec.stmt) s.responses) (All-from_recursion F.spec _ (equals r.spec.stmt s.responses v.1)), tt))
+  commits : (waiting : Signed Ask) (r : Option Response) → certified_in s ≡ r → F.ask waiting → Of (ask_or_commit s waiting r)
+  commits waiting None is own = (v, (own, tt))
+  commits waiting (Some r) is own =
+      let sound = s.counts.sound in
+      let list = filter_map (equal_in r.spec.stmt) s.responses in
+      let many : length (take s.counts.cert list) ≡ s.counts.cert = length-take-le s.counts.cert list (omega (arith, enough_in s r is, as_many r.spec.stmt s.responses)) in
+      let each = All-take F.spec s.counts.cert list (All-from_recursion F.spec _ (equals r.spec.stmt s.responses v.1)) in
+      (v, (record { least = omega (arith, many, sound.two_certificates); most = omega (arith, many, sound.short_certificate); each = each }, tt))
 
   runs_out : Of (run_out s)
   unfolding run_out
@@ -161,7 +193,7 @@ module _ (F : Signs) (s : ClientState) (v : OfClient F s) where
     where
       by : (waiting : Option (Signed Ask)) → IfSome waiting F.ask → Of (run_out_while s waiting)
       by None none = takes s v
-      by (Some waiting) own = commits waiting (certified_in s) own
+      by (Some waiting) own = commits waiting (certified_in s) refl own
 
   -- ---- events
 
@@ -170,7 +202,7 @@ module _ (F : Signs) (s : ClientState) (v : OfClient F s) where
   under (Some cause) o is = refuses cause
 
   frame_of : (frame : Frame) → OfFrame F frame → Of (hear s frame)
-  frame_of (frames.SpecResponse spec reply order) heard = hears_response (record { spec = spec; reply = reply; order = order }) spec.by heard
+  frame_of (frames.SpecResponse spec reply order) heard = hears_response (record { spec = spec; reply = reply; order = order }) spec.by (heard.0, heard.2)
   frame_of (frames.LocalCommit vote) heard = by_test Of (is_replica vote.by) _ _ (λ replica. local vote) (λ other. refuses causes.WrongRole)
   frame_of (frames.Request ask) heard = refuses causes.WrongRole
   frame_of (frames.Order both) heard = refuses causes.WrongRole

@@ -97,8 +97,7 @@ use Rattle.zy_table.specs.Requests.{is_behind, new_request, ordered, request, re
 use Rattle.zy_table.specs.Roles.{in_role, view_cause}
 use Rattle.zy_table.specs.Running.{run, sealed_spec, signs_of, spec_of}
 use Rattle.zy_table.specs.State.{State, is_leaving, is_primary, leaves_of, own_view, pending_of, primary_of, spec_to, spent, stood_of, window_of, with_pending, with_spec as with_own}
-use Rattle.zy_table.specs.Step.{commit_in_view, unless}
-use Rattle.zy_table.specs.Whole.{decoded_as, hear_plain, hear_view, is_view_frame_in_role, order_judged, plain_row, view_decoded, view_row, whole_step}
+use Rattle.zy_table.specs.Whole.{commit_in_view, unless, decoded_as, hear_plain, hear_view, is_view_frame_in_role, order_judged, plain_row, view_decoded, view_row, whole_step}
 use Rattle.zy_table.specs.declared.deeds.Act.TheVariants.{Says}
 use Rattle.zy_table.specs.declared.deeds.AnyFrame.TheVariants.{Plain, View as Framed}
 use Rattle.zy_table.specs.declared.deeds.Body.TheVariants as bodies
@@ -112,7 +111,8 @@ use Rattle.zy_vframes.specs.ViewFrames as views
 use Rattle.zy_vframes.specs.declared.frame.ViewCert.{ViewCert}
 use Rattle.zy_vframes.specs.declared.frame.ViewFrame.{ViewFrame}
 use Rattle.zy_vframes.specs.declared.frame.ViewFrame.TheVariants as view_frames
-use Rattle.zy_law_steps.proofs.Passing.{Passes, certified, found, gathers_at, kept_filled, kept_of, put, runs, says, sends, settled_of, slot_at, turns, knows}
+use Rattle.zy_law_steps.proofs.PassingStates.{shown_short}
+use Rattle.zy_law_steps.proofs.Passing.{IsShortKnown, Laws, Passes, known_short, certified, found, gathers_at, kept_filled, kept_of, put, runs, says, sends, settled_of, slot_at, turns, knows}
 use Rattle.zy_law_steps.proofs.PassingViews.{Ends, IsOf, accepts, adopts, arrives, begun_on, certifies_with, collects, ended, leaves}
 use Rattle.zy_law_steps.proofs.Slots.{AreKept, filled}
 use Rattle.zy_law_steps.specs.Signs.{OfAct, OfActs, OfAnyFrame, OfBoard, OfCert, OfChange, OfFrame, OfHeard, OfNew, OfOrder, OfOrders, OfPending, OfSent, OfState, OfViewFrame, Signs}
@@ -146,54 +146,54 @@ module _ (F : Signs) where
       let same : after_check b vote own ≡ with_check b vote = ap (λ (r : Bool). if r then b else with_check b vote) (ap is_refused is ∙ kept) in
       subst (OfBoard F) same (after.near, after.far, subst (λ (l : List (Signed Check)). All F.check l) (sym (after_check-stays b vote own).proof) v.2)
 
-module _ {S : Type 0} (R : Rules S) (F : Signs) (me : Party) (s : State S) (signer : s.sealer.me ≡ me) (v : OfState F s) where
+module _ {S : Type 0} (R : Rules S) (ok : S → Type 0) (law : Laws ok R) (F : Signs) (me : Party) (s : State S) (signer : s.sealer.me ≡ me) (v : OfState ok F s) where
   abbrev On : Going S → Type 0
-  On g = Passes R F me (Unit {0}) g
+  On g = Passes R ok law F me (Unit {0}) g
 
   abbrev Of : Outcome S → Type 0
-  Of o = IsOf R F me o
+  Of o = IsOf R ok law F me o
 
   abbrev End : Attempt S → Type 0
-  End attempt = Ends R F me (Unit {0}) attempt
+  End attempt = Ends R ok law F me (Unit {0}) attempt
 
   start : On (begin s)
   start acts = (tt, signer, v, tt)
 
   -- from another state
-  begins_at : (t : State S) → t.sealer.me ≡ me → OfState F t → On (begin t)
+  begins_at : (t : State S) → t.sealer.me ≡ me → OfState ok F t → On (begin t)
   begins_at t is kept acts = (tt, is, kept, tt)
 
   refuses : (cause : Cause) → Of (refused cause s)
   refuses cause acts = (signer, v, tt)
 
   comes : (g : Going S) → On g → Of (ends Taken g)
-  comes g is = ended R F me (Unit {0}) Taken g is
+  comes g is = ended R ok law F me (Unit {0}) Taken g is
 
   holds : (g : Going S) → On g → Of (ends Held g)
-  holds g is = ended R F me (Unit {0}) Held g is
+  holds g is = ended R ok law F me (Unit {0}) Held g is
 
   -- ---- REQUEST
 
-  again : (signed : Signed Spec) (known : Known) (g : Going S) → F.spec signed → On g → On (response_of s signed known g)
-  again signed known g one is =
-      sends R F me (Unit {0}) (One (Client signed.stmt.client)) (Plain (frames.SpecResponse signed known.reply (option_map (λ (o : OrderFrame). o.order) (stored_in s.orders known.place.0)))) g
-      (λ x state. (one, order_alone F (stored_in s.orders known.place.0) (stored F s.orders known.place.0 v.1))) is
+  again : (signed : Signed Spec) (known : Known) (g : Going S) → IsShortKnown known → F.spec signed → On g → On (response_of s signed known g)
+  again signed known g short one is =
+      sends R ok law F me (Unit {0}) (One (Client signed.stmt.client)) (Plain (frames.SpecResponse signed known.reply (option_map (λ (o : OrderFrame). o.order) (stored_in s.orders known.place.0)))) g
+      (λ x state. (one, short, order_alone F (stored_in s.orders known.place.0) (stored F s.orders known.place.0 v.1))) is
 
-  responds_as : (said : Option (Signed Spec)) (spec : Spec) (known : Known) → IfSome said F.spec → Of (respond_as R s said spec known)
-  responds_as (Some signed) spec known one = comes (response_of s signed known (begin s)) (again signed known (begin s) one start)
-  responds_as None spec known none =
+  responds_as : (said : Option (Signed Spec)) (spec : Spec) (known : Known) → IsShortKnown known → IfSome said F.spec → Of (respond_as R s said spec known)
+  responds_as (Some signed) spec known short one = comes (response_of s signed known (begin s)) (again signed known (begin s) short one start)
+  responds_as None spec known short none =
       by_test Of (nat_le 1 (leaves_of s)) _ _
       (λ left.
       let signed : Signed Spec = sealed_spec s spec in
       let remark : Remark = record { body = bodies.Spec spec; stood = stood_of R s } in
       let t : State S = with_own (spent s) signed in
       let g : Going S = act (Says remark) (begin t) in
-      let said : Passes R F me (F.spec signed) g =
-      says R F me (Unit {0}) (F.spec signed) remark t (begin s) (λ x by w to_say.
+      let said : Passes R ok law F me (F.spec signed) g =
+      says R ok law F me (Unit {0}) (F.spec signed) remark t (begin s) (λ x by w to_say.
       let one : F.spec signed = to_say s.sealer by in (one, by, (w.0, w.1, w.2, w.3, filled F.spec s.specs spec.client.0 signed w.4 one, w.5, w.6, w.7, w.8))) start in
-      ended R F me (F.spec signed) Taken (response_of s signed known g)
-      (sends R F me (F.spec signed) (One (Client spec.client)) (Plain (frames.SpecResponse signed known.reply (option_map (λ (o : OrderFrame). o.order) (stored_in s.orders known.place.0)))) g
-      (λ one state. (one, order_alone F (stored_in s.orders known.place.0) (stored F s.orders known.place.0 v.1))) said))
+      ended R ok law F me (F.spec signed) Taken (response_of s signed known g)
+      (sends R ok law F me (F.spec signed) (One (Client spec.client)) (Plain (frames.SpecResponse signed known.reply (option_map (λ (o : OrderFrame). o.order) (stored_in s.orders known.place.0)))) g
+      (λ one state. (one, short, order_alone F (stored_in s.orders known.place.0) (stored F s.orders known.place.0 v.1))) said))
       (λ none. refuses causes.KeySpent)
 
   already : (o : Option (Signed Spec)) (spec : Spec) → IfSome o F.spec → IfSome (said_already o spec) F.spec
@@ -206,15 +206,15 @@ module _ {S : Type 0} (R : Rules S) (F : Signs) (me : Party) (s : State S) (sign
       let remark : Remark = record { body = bodies.Order o.order.stmt; stood = stood_of R s } in
       let t : State S = record (spent s) { orders = with_order s.orders o } in
       let Y : Type 0 = F.order o.order in
-      knows R F me Y (Unit {0}) (run R o (ordered R s ask)) (λ y state. tt)
-      (runs R F me Y o (ordered R s ask) (λ y. y)
-      (sends R F me Y Everyone (Plain (frames.Order o)) (act (Says remark) (begin t)) (λ y state. (y, heard))
-      (says R F me (Unit {0}) Y remark t (begin s) (λ x by w to_say.
+      knows R ok law F me Y (Unit {0}) (run R o (ordered R s ask)) (λ y state. tt)
+      (runs R ok law F me Y o (ordered R s ask) (λ y. y)
+      (sends R ok law F me Y Everyone (Plain (frames.Order o)) (act (Says remark) (begin t)) (λ y state. (y, heard))
+      (says R ok law F me (Unit {0}) Y remark t (begin s) (λ x by w to_say.
       let one : F.order o.order = to_say s.sealer by in
       (one, by, (w.0, kept_filled (OfOrder F) s.orders.slots (o.order.stmt.place.0 - s.orders.base - 1) (Some o) w.1 (one, heard), w.2, w.3, w.4, w.5, w.6, w.7, w.8))) start)))
 
-  tells_primary : (X : Type 0) (pending : Pending) (g : Going S) → (X → OfPending F pending) → Passes R F me X g → Passes R F me X (tell_primary s pending g)
-  tells_primary X pending g tells is = sends R F me X (One (primary_of s.counts (own_view s))) (Plain (frames.ConfirmReq pending.confirm pending.ask)) g (λ x state. tells x) is
+  tells_primary : (X : Type 0) (pending : Pending) (g : Going S) → (X → OfPending F pending) → Passes R ok law F me X g → Passes R ok law F me X (tell_primary s pending g)
+  tells_primary X pending g tells is = sends R ok law F me X (One (primary_of s.counts (own_view s))) (Plain (frames.ConfirmReq pending.confirm pending.ask)) g (λ x state. tells x) is
 
   waits : (ask : Signed Ask) → F.ask ask → On (request_waits R s ask)
   waits ask heard =
@@ -223,9 +223,9 @@ module _ {S : Type 0} (R : Rules S) (F : Signs) (me : Party) (s : State S) (sign
       let client : ClientId = (entry_of ask).client in
       let t : State S = with_pending (spent s) client (Some pending) in
       let Y : Type 0 = OfPending F pending in
-      knows R F me Y (Unit {0}) (request_waits R s ask) (λ y state. tt)
+      knows R ok law F me Y (Unit {0}) (request_waits R s ask) (λ y state. tt)
       (tells_primary Y pending (act (Says remark) (begin t)) (λ y. y)
-      (says R F me (Unit {0}) Y remark t (begin s) (λ x by w to_say.
+      (says R ok law F me (Unit {0}) Y remark t (begin s) (λ x by w to_say.
       let one : OfPending F pending = (to_say s.sealer by, heard) in
       (one, by, (w.0, w.1, w.2, w.3, w.4, filled (OfPending F) s.pending client.0 pending w.5 one, w.6, w.7, w.8))) start))
 
@@ -246,24 +246,24 @@ module _ {S : Type 0} (R : Rules S) (F : Signs) (me : Party) (s : State S) (sign
       (λ full. refuses (causes.WindowFull (record { 0 = window_of s }))))
       (λ backup. at_backup ask (pending_of s (entry_of ask).client) heard (slot_at (OfPending F) s.pending (entry_of ask).client.0 v.5))
 
-  after : (ask : Signed Ask) (known : Option Known) → F.ask ask → Of (request_after R s ask known)
-  after ask None heard = new_one ask heard
-  after ask (Some known) heard =
+  after : (ask : Signed Ask) (known : Option Known) → IfSome known IsShortKnown → F.ask ask → Of (request_after R s ask known)
+  after ask None short heard = new_one ask heard
+  after ask (Some known) short heard =
       let spec : Spec = spec_of (own_view s) ask known in
       by_test Of (nat_lt ask.stmt.stamp.0 known.stamp.0) _ _ (λ old. refuses causes.OldStamp)
       (λ from_it. by_test Of (nat_eq ask.stmt.stamp.0 known.stamp.0) _ _
-      (λ same. responds_as (said_already (spec_to s spec.client) spec) spec known (already (spec_to s spec.client) spec (slot_at F.spec s.specs spec.client.0 v.4)))
+      (λ same. responds_as (said_already (spec_to s spec.client) spec) spec known short (already (spec_to s spec.client) spec (slot_at F.spec s.specs spec.client.0 v.4)))
       (λ newer. new_one ask heard))
 
   requests : (ask : Signed Ask) → F.ask ask → Of (request R s ask)
   unfolding request
   requests ask heard =
       by_test Of (is_leaving s) _ _ (λ leaves. refuses causes.NotActive)
-      (λ stays. by_test Of (is_behind ask (pending_of s (entry_of ask).client)) _ _ (λ old. refuses causes.OldStamp) (λ newer. after ask (known_in R s.kept (entry_of ask).client.0) heard))
+      (λ stays. by_test Of (is_behind ask (pending_of s (entry_of ask).client)) _ _ (λ old. refuses causes.OldStamp) (λ newer. after ask (known_in R s.kept (entry_of ask).client.0) (known_short R ok law s.kept (entry_of ask).client.0 v.8.1) heard))
 
   by_again : (by : Party) (kept : Option OrderFrame) → IfSome kept (OfOrder F) → Of (order_again s by kept)
   by_again by None none = refuses causes.OldPlace
-  by_again by (Some o) one = comes (send_any (One by) (Plain (frames.Order o)) (begin s)) (sends R F me (Unit {0}) (One by) (Plain (frames.Order o)) (begin s) (λ x state. one) start)
+  by_again by (Some o) one = comes (send_any (One by) (Plain (frames.Order o)) (begin s)) (sends R ok law F me (Unit {0}) (One by) (Plain (frames.Order o)) (begin s) (λ x state. one) start)
 
   confirm_known : (by : Party) (ask : Signed Ask) (known : Option Known) → F.ask ask → Of (confirm_after R s by ask known)
   confirm_known by ask None heard = requests ask heard
@@ -279,18 +279,18 @@ module _ {S : Type 0} (R : Rules S) (F : Signs) (me : Party) (s : State S) (sign
 
   -- ---- ORDER
 
-  with_held : (o : OrderFrame) → OfOrder F o → OfState F (record s { orders = with_order s.orders o })
+  with_held : (o : OrderFrame) → OfOrder F o → OfState ok F (record s { orders = with_order s.orders o })
   with_held o heard = (v.0, kept_filled (OfOrder F) s.orders.slots (o.order.stmt.place.0 - s.orders.base - 1) (Some o) v.1 heard, v.2, v.3, v.4, v.5, v.6, v.7, v.8)
 
-  misses : (t : State S) → t.sealer.me ≡ me → OfState F t → On (ask_for_missing R t)
+  misses : (t : State S) → t.sealer.me ≡ me → OfState ok F t → On (ask_for_missing R t)
   misses t by w =
       let signed : Signed Hole = sealed_by numbers.hole hole_fields t.sealer (hole_of t) in
       let remark : Remark = record { body = bodies.Hole (hole_of t); stood = stood_of R t } in
       let u : State S = record (spent t) { hole = Some signed } in
       let Y : Type 0 = F.hole signed in
-      knows R F me Y (Unit {0}) (ask_for_missing R t) (λ y state. tt)
-      (sends R F me Y (One (primary_of t.counts (own_view t))) (Plain (frames.FillHole signed)) (act (Says remark) (begin u)) (λ y state. y)
-      (says R F me (Unit {0}) Y remark u (begin t) (λ x by' w' to_say.
+      knows R ok law F me Y (Unit {0}) (ask_for_missing R t) (λ y state. tt)
+      (sends R ok law F me Y (One (primary_of t.counts (own_view t))) (Plain (frames.FillHole signed)) (act (Says remark) (begin u)) (λ y state. y)
+      (says R ok law F me (Unit {0}) Y remark u (begin t) (λ x by' w' to_say.
       let one : F.hole signed = to_say t.sealer by' in (one, by', (w'.0, w'.1, w'.2, one, w'.4, w'.5, w'.6, w'.7, w'.8))) (begins_at t by w)))
 
   orders_as : (o : OrderFrame) (a : Admit) → OfOrder F o → Of (order_as R s o a)
@@ -298,7 +298,7 @@ module _ {S : Type 0} (R : Rules S) (F : Signs) (me : Party) (s : State S) (sign
       let t : State S = record s { orders = with_order s.orders o; hole = None } in
       let w = with_held o heard in
       by_test Of (nat_le (signs_of R s o.ask) (leaves_of s)) _ _
-      (λ left. comes (run R o (begin t)) (runs R F me (Unit {0}) o (begin t) (λ x. heard.0) (begins_at t signer (w.0, w.1, w.2, tt, w.4, w.5, w.6, w.7, w.8)))) (λ none. refuses causes.KeySpent)
+      (λ left. comes (run R o (begin t)) (runs R ok law F me (Unit {0}) o (begin t) (λ x. heard.0) (begins_at t signer (w.0, w.1, w.2, tt, w.4, w.5, w.6, w.7, w.8)))) (λ none. refuses causes.KeySpent)
   orders_as o admits.Held heard =
       let t : State S = record s { orders = with_order s.orders o } in
       by_test Of (owes_hole s) _ _
@@ -309,16 +309,16 @@ module _ {S : Type 0} (R : Rules S) (F : Signs) (me : Party) (s : State S) (sign
 
   -- ---- COMMIT, FILL-HOLE
 
-  gives_local : (client : ClientId) (local : Local) (said : Option (Signed Local)) (t : State S) → t.sealer.me ≡ me → OfState F t → IfSome said F.local → On (give_local R client local said t)
-  gives_local client local (Some said) t by w one = sends R F me (Unit {0}) (One (Client client)) (Plain (frames.LocalCommit said)) (begin t) (λ x state. one) (begins_at t by w)
+  gives_local : (client : ClientId) (local : Local) (said : Option (Signed Local)) (t : State S) → t.sealer.me ≡ me → OfState ok F t → IfSome said F.local → On (give_local R client local said t)
+  gives_local client local (Some said) t by w one = sends R ok law F me (Unit {0}) (One (Client client)) (Plain (frames.LocalCommit said)) (begin t) (λ x state. one) (begins_at t by w)
   gives_local client local None t by w none =
       let signed : Signed Local = sealed_by numbers.local local_fields t.sealer local in
       let remark : Remark = record { body = bodies.Local local; stood = stood_of R t } in
       let u : State S = record (spent t) { locals = t.locals ++ signed ∷ [] } in
       let Y : Type 0 = F.local signed in
-      knows R F me Y (Unit {0}) (give_local R client local None t) (λ y state. tt)
-      (sends R F me Y (One (Client client)) (Plain (frames.LocalCommit signed)) (act (Says remark) (begin u)) (λ y state. y)
-      (says R F me (Unit {0}) Y remark u (begin t) (λ x by' w' to_say.
+      knows R ok law F me Y (Unit {0}) (give_local R client local None t) (λ y state. tt)
+      (sends R ok law F me Y (One (Client client)) (Plain (frames.LocalCommit signed)) (act (Says remark) (begin u)) (λ y state. y)
+      (says R ok law F me (Unit {0}) Y remark u (begin t) (λ x by' w' to_say.
       let one : F.local signed = to_say t.sealer by' in (one, by', (w'.0, w'.1, w'.2, w'.3, w'.4, w'.5, all_of_both F.local t.locals (signed ∷ []) w'.6 (one, tt), w'.7, w'.8))) (begins_at t by w)))
 
   commits_beside : (specs : List (Signed Spec)) (client : ClientId) (local : Local) (own : Option Digest) → All F.spec specs → Of (commit_beside R s specs client local own)
@@ -330,8 +330,8 @@ module _ {S : Type 0} (R : Rules S) (F : Signs) (me : Party) (s : State S) (sign
       by_test Of (same_digest own local.head) _ _
       (λ same. by_test Of (nat_le (locals_owed said + checks_owed t (own_at R s local.place.0) true) (leaves_of s)) _ _
       (λ left. comes (gather_at R (own_at R s local.place.0) true (give_local R client local said t))
-      (gathers_at R F me (Unit {0}) (own_at R s local.place.0) true (give_local R client local said t)
-      (gives_local client local said t by (certified R F me s local.place specs v heard) (found F.local (λ one. same_local one.stmt local) s.locals v.6))))
+      (gathers_at R ok law F me (Unit {0}) (own_at R s local.place.0) true (give_local R client local said t)
+      (gives_local client local said t by (certified R ok law F me s local.place specs v heard) (found F.local (λ one. same_local one.stmt local) s.locals v.6))))
       (λ none. refuses causes.KeySpent))
       (λ other. refuses (causes.OtherHistory own local.head))
 
@@ -369,7 +369,7 @@ module _ {S : Type 0} (R : Rules S) (F : Signs) (me : Party) (s : State S) (sign
   keeps_as own (answers.Kept number) board tells =
       by_test Of (nat_le (checks_owed (with_board s board) own false) (leaves_of s)) _ _
       (λ left. comes (gather_at R own false (begin (with_board s board)))
-      (gathers_at R F me (Unit {0}) own false (begin (with_board s board)) (begins_at (with_board s board) signer (v.0, v.1, tells refl, v.3, v.4, v.5, v.6, v.7, v.8)))) (λ none. refuses causes.KeySpent)
+      (gathers_at R ok law F me (Unit {0}) own false (begin (with_board s board)) (begins_at (with_board s board) signer (v.0, v.1, tells refl, v.3, v.4, v.5, v.6, v.7, v.8)))) (λ none. refuses causes.KeySpent)
   keeps_as own (answers.Refused cause) board tells = refuses cause
 
   response_kept : (vote : Signed Spec) → F.spec vote → Of (response R s vote)
@@ -390,18 +390,18 @@ module _ {S : Type 0} (R : Rules S) (F : Signs) (me : Party) (s : State S) (sign
 
   concludes : (attempt : Attempt S) → End attempt → Of (concluded s attempt)
   concludes (Err cause) is = refuses cause
-  concludes (Ok end) is = by_test Of (is_overspent end.1.state.sealer) _ _ (λ over. refuses causes.KeySpent) (λ fits. ended R F me (Unit {0}) end.0 end.1 is)
+  concludes (Ok end) is = by_test Of (is_overspent end.1.state.sealer) _ _ (λ over. refuses causes.KeySpent) (λ fits. ended R ok law F me (Unit {0}) end.0 end.1 is)
 
   finishes : (attempt : Attempt S) → End attempt → Of (finished R s attempt)
-  finishes attempt is = concludes (begun R attempt) (begun_on R F me (Unit {0}) attempt is)
+  finishes attempt is = concludes (begun R attempt) (begun_on R ok law F me (Unit {0}) attempt is)
 
   -- ---- hates, and two orders of a primary
 
   hated : (g : Going S) → On g → End (hate_counted R g)
-  hated g is = by_test End (hated_by_many g.state.views) _ _ (λ many. leaves R F me (Unit {0}) (next_view g.state.views) g is) (λ few. is)
+  hated g is = by_test End (hated_by_many g.state.views) _ _ (λ many. leaves R ok law F me (Unit {0}) (next_view g.state.views) g is) (λ few. is)
 
   with_hate : (by : Party) (g : Going S) → On g → On (with_hate_of by g)
-  with_hate by g is = turns R F me (Unit {0}) (Unit {0}) (with_hate_of by g).state g (λ x by' w. (tt, by', w)) is
+  with_hate by g is = turns R ok law F me (Unit {0}) (Unit {0}) (with_hate_of by g).state g (λ x by' w. (tt, by', w)) is
 
   hates : (vote : Signed Hate) → End (hate R s vote)
   unfolding hate
@@ -410,17 +410,17 @@ module _ {S : Type 0} (R : Rules S) (F : Signs) (me : Party) (s : State S) (sign
       (λ from_it. by_test End (nat_lt (own_view s) vote.stmt.view.0) _ _ (λ newer. tt)
       (λ own. by_test End (is_hated_by s.views vote.by) _ _ (λ repeated. tt) (λ first. hated (with_hate_of vote.by (begin s)) (with_hate vote.by (begin s) start))))
 
-  says_hate : (said : Option (Signed Hate)) (g : Going S) → On g → Passes R F me (IfSome said F.hate) g → On (say_hate R said g)
+  says_hate : (said : Option (Signed Hate)) (g : Going S) → On g → Passes R ok law F me (IfSome said F.hate) g → On (say_hate R said g)
   says_hate (Some said) g is known =
-      knows R F me (F.hate said) (Unit {0}) (say_hate R (Some said) g) (λ x state. tt) (sends R F me (F.hate said) Everyone (Plain (frames.Hate said)) g (λ x state. x) known)
+      knows R ok law F me (F.hate said) (Unit {0}) (say_hate R (Some said) g) (λ x state. tt) (sends R ok law F me (F.hate said) Everyone (Plain (frames.Hate said)) g (λ x state. x) known)
   says_hate None g is known =
       let said : Signed Hate = sealed_by numbers.hate hate_fields g.state.sealer (hate_now g.state) in
       let remark : Remark = record { body = bodies.Hate said.stmt; stood = stood_of R g.state } in
       let t : State S = record (spent g.state) { hate = Some said } in
       let Y : Type 0 = F.hate said in
-      knows R F me Y (Unit {0}) (say_hate R None g) (λ y state. tt)
-      (sends R F me Y Everyone (Plain (frames.Hate said)) (act (Says remark) (record g { state = t })) (λ y state. y)
-      (says R F me (Unit {0}) Y remark t g (λ x by w to_say.
+      knows R ok law F me Y (Unit {0}) (say_hate R None g) (λ y state. tt)
+      (sends R ok law F me Y Everyone (Plain (frames.Hate said)) (act (Says remark) (record g { state = t })) (λ y state. y)
+      (says R ok law F me (Unit {0}) Y remark t g (λ x by w to_say.
       let one : F.hate said = to_say g.state.sealer by in (one, by, (w.0, w.1, w.2, w.3, w.4, w.5, w.6, one, w.8))) is))
 
   own_one : (view : ℕ) (o : Option (Signed Hate)) → IfSome o F.hate → IfSome (hate_for view o) F.hate
@@ -434,17 +434,17 @@ module _ {S : Type 0} (R : Rules S) (F : Signs) (me : Party) (s : State S) (sign
   unfolding hate_from
   hates_from g is =
       counts_own (say_hate R (own_hate g.state) g) (says_hate (own_hate g.state) g is
-      (knows R F me (Unit {0}) (IfSome (own_hate g.state) F.hate) g (λ x w. own_one (own_view g.state) g.state.hate w.7) is))
+      (knows R ok law F me (Unit {0}) (IfSome (own_hate g.state) F.hate) g (λ x w. own_one (own_view g.state) g.state.hate w.7) is))
 
-  asks_hole : (mode : Mode) (hole : Option (Signed Hole)) (g : Going S) → Passes R F me (IfSome hole F.hole) g → On (ask_for_hole mode hole g)
+  asks_hole : (mode : Mode) (hole : Option (Signed Hole)) (g : Going S) → Passes R ok law F me (IfSome hole F.hole) g → On (ask_for_hole mode hole g)
   asks_hole (Active view) (Some hole) g is =
-      knows R F me (F.hole hole) (Unit {0}) (ask_for_hole (Active view) (Some hole) g) (λ x state. tt) (sends R F me (F.hole hole) Everyone (Plain (frames.FillHole hole)) g (λ x state. x) is)
-  asks_hole (Active view) None g is = knows R F me (Unit {0}) (Unit {0}) g (λ x state. tt) is
-  asks_hole (Leaving view) hole g is = knows R F me (IfSome hole F.hole) (Unit {0}) g (λ x state. tt) is
+      knows R ok law F me (F.hole hole) (Unit {0}) (ask_for_hole (Active view) (Some hole) g) (λ x state. tt) (sends R ok law F me (F.hole hole) Everyone (Plain (frames.FillHole hole)) g (λ x state. x) is)
+  asks_hole (Active view) None g is = knows R ok law F me (Unit {0}) (Unit {0}) g (λ x state. tt) is
+  asks_hole (Leaving view) hole g is = knows R ok law F me (IfSome hole F.hole) (Unit {0}) g (λ x state. tt) is
 
   asks_then : (attempt : Attempt S) → End attempt → End (then_ask attempt)
   asks_then (Err cause) is = tt
-  asks_then (Ok end) is = asks_hole end.1.state.views.mode end.1.state.hole end.1 (knows R F me (Unit {0}) (IfSome end.1.state.hole F.hole) end.1 (λ x w. w.3) is)
+  asks_then (Ok end) is = asks_hole end.1.state.views.mode end.1.state.hole end.1 (knows R ok law F me (Unit {0}) (IfSome end.1.state.hole F.hole) end.1 (λ x w. w.3) is)
 
   request_timer : (mode : Mode) → End (on_request_timer R s mode)
   request_timer (Active view) = asks_then _ (by_test End (has_pending s) _ _ (λ waits. hates_from (begin s) start) (λ none. start))
@@ -456,7 +456,7 @@ module _ {S : Type 0} (R : Rules S) (F : Signs) (me : Party) (s : State S) (sign
 
   sends_change : (o : Option (Signed Change)) → IfSome o (OfChange F) → On (change_again o (begin s))
   sends_change None is = start
-  sends_change (Some c) is = sends R F me (Unit {0}) Everyone (Framed (view_frames.ViewChange c)) (begin s) (λ x state. is) start
+  sends_change (Some c) is = sends R ok law F me (Unit {0}) Everyone (Framed (view_frames.ViewChange c)) (begin s) (λ x state. is) start
 
   change_timer : (mode : Mode) → End (on_change_timer R s mode)
   change_timer (Active view) = start
@@ -466,7 +466,7 @@ module _ {S : Type 0} (R : Rules S) (F : Signs) (me : Party) (s : State S) (sign
 
   blames : (view : Result View Cause) → End (blamed R s view)
   blames (Err cause) = tt
-  blames (Ok view) = leaves R F me (Unit {0}) (next_view s.views) (begin s) start
+  blames (Ok view) = leaves R ok law F me (Unit {0}) (next_view s.views) (begin s) start
 
   misbehaves : (first second : Signed Order) → End (pom R s first second)
   unfolding pom
@@ -476,14 +476,14 @@ module _ {S : Type 0} (R : Rules S) (F : Signs) (me : Party) (s : State S) (sign
   tells_all : (order : Signed Order) (kept : Option OrderFrame) → F.order order → IfSome kept (OfOrder F) → End (tell_all R s order kept)
   tells_all order None heard none = tt
   tells_all order (Some kept) heard one =
-      leaves R F me (Unit {0}) (next_view s.views) (send_any Everyone (Plain (frames.Pom kept.order order)) (begin s))
-      (sends R F me (Unit {0}) Everyone (Plain (frames.Pom kept.order order)) (begin s) (λ x state. (one.0, heard)) start)
+      leaves R ok law F me (Unit {0}) (next_view s.views) (send_any Everyone (Plain (frames.Pom kept.order order)) (begin s))
+      (sends R ok law F me (Unit {0}) Everyone (Plain (frames.Pom kept.order order)) (begin s) (λ x state. (one.0, heard)) start)
 
   -- ---- changes of view
 
   sends_cert : (by : Party) (cert : Option ViewCert) → IfSome cert (OfCert F) → On (send_cert by cert (begin s))
   sends_cert by None none = start
-  sends_cert by (Some cert) one = sends R F me (Unit {0}) (One by) (Framed (view_frames.ViewCert cert)) (begin s) (λ x state. one) start
+  sends_cert by (Some cert) one = sends R ok law F me (Unit {0}) (One by) (Framed (view_frames.ViewCert cert)) (begin s) (λ x state. one) start
 
   with_report : (vote : Signed Change) → OfChange F vote → On (begin (record s { views = with_change vote s.views }))
   with_report vote heard =
@@ -494,8 +494,8 @@ module _ {S : Type 0} (R : Rules S) (F : Signs) (me : Party) (s : State S) (sign
   change_by vote (Some rule) heard = tt
   change_by vote None heard =
       let g : Going S = begin (record s { views = with_change vote s.views }) in
-      by_test End (is_left_behind g.state.views) _ _ (λ behind. leaves R F me (Unit {0}) (least_above g.state.views) g (with_report vote heard))
-      (λ level. by_test End (nat_eq vote.stmt.view.0 (own_view g.state)) _ _ (λ own. collects R F me (Unit {0}) vote.stmt.view g (with_report vote heard)) (λ other. with_report vote heard))
+      by_test End (is_left_behind g.state.views) _ _ (λ behind. leaves R ok law F me (Unit {0}) (least_above g.state.views) g (with_report vote heard))
+      (λ level. by_test End (nat_eq vote.stmt.view.0 (own_view g.state)) _ _ (λ own. collects R ok law F me (Unit {0}) vote.stmt.view g (with_report vote heard)) (λ other. with_report vote heard))
 
   changes : (vote : Signed Change) → OfChange F vote → End (change R s vote)
   unfolding change
@@ -507,7 +507,7 @@ module _ {S : Type 0} (R : Rules S) (F : Signs) (me : Party) (s : State S) (sign
   new_by : (new : Signed New) (chosen : Result Chosen Cause) → OfNew F new → End (new_view_judged R s new chosen)
   new_by new (Err cause) heard = tt
   new_by new (Ok chosen) heard =
-      accepts R F me (Unit {0}) (record { new = new; chosen = chosen }) (arrive R new.stmt.view (begin s)) (λ x. heard) (arrives R F me (Unit {0}) new.stmt.view (begin s) start)
+      accepts R ok law F me (Unit {0}) (record { new = new; chosen = chosen }) (arrive R new.stmt.view (begin s)) (λ x. heard) (arrives R ok law F me (Unit {0}) new.stmt.view (begin s) start)
 
   news : (new : Signed New) → OfNew F new → End (new_view R s new)
   unfolding new_view
@@ -524,7 +524,7 @@ module _ {S : Type 0} (R : Rules S) (F : Signs) (me : Party) (s : State S) (sign
   beside vote own heard =
       let g : Going S = begin (with_confirmation vote s) in
       by_test End (not (digests_alike own.head vote.stmt.head)) _ _ (λ other. tt)
-      (λ alike. by_test End (same_began vote.stmt own) _ _ (λ same. certifies_with R F me (Unit {0}) g.state.views.accepted Taken g refl (with_vote vote heard)) (λ differs. tt))
+      (λ alike. by_test End (same_began vote.stmt own) _ _ (λ same. certifies_with R ok law F me (Unit {0}) g.state.views.accepted Taken g refl (with_vote vote heard)) (λ differs. tt))
 
   confirmation_by : (vote : Signed Began) (accepted : Option Accepted) → F.began vote → End (confirmation_judged R s vote accepted)
   confirmation_by vote None heard = with_vote vote heard
@@ -539,7 +539,7 @@ module _ {S : Type 0} (R : Rules S) (F : Signs) (me : Party) (s : State S) (sign
   compares : (cert : ViewCert) (chosen : Chosen) (point : Result (View × Place × Digest) Cause) → OfCert F cert → End (certificate_compared R s cert chosen point)
   compares cert chosen (Err cause) heard = tt
   compares cert chosen (Ok point) heard =
-      by_test End (is_certified_at (cert.new.stmt.view, chosen.place, chosen.head) (Ok point)) _ _ (λ same. adopts R F me (Unit {0}) cert chosen (begin s) (λ x. heard) start) (λ other. tt)
+      by_test End (is_certified_at (cert.new.stmt.view, chosen.place, chosen.head) (Ok point)) _ _ (λ same. adopts R ok law F me (Unit {0}) cert chosen (begin s) (λ x. heard) start) (λ other. tt)
 
   certificate_by : (cert : ViewCert) (chosen : Result Chosen Cause) → OfCert F cert → End (certificate_judged R s cert chosen)
   certificate_by cert (Err cause) heard = tt
@@ -552,21 +552,21 @@ module _ {S : Type 0} (R : Rules S) (F : Signs) (me : Party) (s : State S) (sign
 
   fetched : (vote : Signed Fetch) (against : Option Cause) → End (fetch_judged R s vote against)
   fetched vote (Some cause) = tt
-  fetched vote None = sends R F me (Unit {0}) (One vote.by) (Framed (view_frames.State vote.stmt.place (snapshot_of R s.kept.base))) (begin s) (λ x state. tt) start
+  fetched vote None = sends R ok law F me (Unit {0}) (One vote.by) (Framed (view_frames.State vote.stmt.place (snapshot_of R s.kept.base))) (begin s) (λ x state. tt) start
 
   fetches : (vote : Signed Fetch) → End (fetch R s vote)
   unfolding fetch
   fetches vote = fetched vote (fetch_cause s.board.stable vote.stmt)
 
-  installs : (x : Waiting) (t : Told) (point : Option (Point S)) → OfCert F x.cert → All F.check t.checks → End (install R s x t point)
-  installs x t None cert checks = tt
-  installs x t (Some point) cert checks =
+  installs : (x : Waiting) (t : Told) (bytes : List ℕ) (point : Option (Point S)) → point_in R t.stable_place t.stable_head bytes ≡ point → OfCert F x.cert → All F.check t.checks → End (install R s x t point)
+  installs x t bytes None shows cert checks = tt
+  installs x t bytes (Some point) shows cert checks =
       let u : State S = record s { kept = record { interval = s.kept.interval; base = point; entries = [] } } in
-      adopts R F me (Unit {0}) x.cert x.chosen (begin (installed R point t s)) (λ y. cert) (begins_at (installed R point t s) signer (settled_of R F me u point.place t.checks v checks))
+      adopts R ok law F me (Unit {0}) x.cert x.chosen (begin (installed R point t s)) (λ y. cert) (begins_at (installed R point t s) signer (settled_of R ok law F me u point.place t.checks (v.0, v.1, v.2, v.3, v.4, v.5, v.6, v.7, (v.8.0, shown_short R ok law t.stable_place t.stable_head bytes point shows)) checks))
 
   state_by : (x : Waiting) (t : Told) (bytes : List ℕ) (against : Option Cause) → OfCert F x.cert → All F.check t.checks → End (state_judged R s x t bytes against)
   state_by x t bytes (Some cause) cert checks = tt
-  state_by x t bytes None cert checks = installs x t (point_in R t.stable_place t.stable_head bytes) cert checks
+  state_by x t bytes None cert checks = installs x t bytes (point_in R t.stable_place t.stable_head bytes) refl cert checks
 
   state_of : (x : Waiting) (place : Place) (bytes : List ℕ) (p : Option (Signed Change)) → slice_get x.cert.new.stmt.changes x.chosen.provider ≡ p → OfCert F x.cert → End (state_for R s x place bytes p)
   state_of x place bytes None at cert = tt
@@ -602,7 +602,7 @@ module _ {S : Type 0} (R : Rules S) (F : Signs) (me : Party) (s : State S) (sign
   plain_of (frames.Request ask) heard = requests ask heard
   plain_of (frames.Order both) heard = under (view_cause s both.order.stmt.view.0) _ (order_by both (judge_in s.orders both.order.stmt both.ask (position_of R s both)) heard)
   plain_of (frames.SpecResponse spec reply with_order) heard = under (view_cause s spec.stmt.view.0) _ (response_kept spec heard.0)
-  plain_of (frames.Commit specs) heard = in_view specs heard
+  plain_of (frames.Commit specs) heard = in_view specs heard.each
   plain_of (frames.LocalCommit local) heard = refuses causes.WrongRole
   plain_of (frames.ConfirmReq confirmed ask) heard = under (view_cause s confirmed.stmt.view.0) _ (confirms_one confirmed ask heard.1)
   plain_of (frames.FillHole hole) heard = under (view_cause s hole.stmt.view.0) _ (fills hole)

@@ -1,5 +1,5 @@
 -- So it does where a replica leaves its view and begins the next.
-use Rattle.std.proofs.Common.{◌≡◌, ℕ, ◌+◌, ◌-◌, ◌^◌, Bool, true, false, List, [], ◌∷◌, ◌++◌, length, map, take, Option, Some, None, refl, subst}
+use Rattle.std.proofs.Common.{◌≡◌, ℕ, ◌+◌, ◌-◌, ◌≤◌, ◌^◌, Bool, true, false, List, [], ◌∷◌, ◌++◌, length, map, take, Option, Some, None, refl, subst, arith}
 use Rattle.std.specs.Prelude.{All, IfSome, Ok, Err, if◌then◌else◌, nat_le, nat_lt, option_map, slice_get}
 use Rattle.std.specs.List.{AllByRecursion, find, list_any}
 use Rattle.zy_base.specs.Machine.{Rules}
@@ -60,29 +60,35 @@ use Rattle.zy_table.specs.declared.deeds.Verdict.TheVariants as verdicts
 use Rattle.zy_table.specs.declared.kept.OwnCheckpoint.{OwnCheckpoint}
 use Rattle.zy_vframes.specs.declared.frame.ViewCert.{ViewCert}
 use Rattle.zy_vframes.specs.declared.frame.ViewFrame.TheVariants as views
-use Rattle.zy_law_steps.proofs.Passing.{Passes, empty_slots, found, keeps_own, knows, says, sends, settled_of, spec_put, turns}
+use Rattle.std.proofs.lemmas.Bool.{leb-true}
+use Rattle.std.proofs.lemmas.List.{length-take-le}
+use Rattle.std.proofs.lemmas.List.Elements.{All-from_recursion}
+use Rattle.zy_chain.specs.Stretch.{Stretch}
+use Rattle.zy_exec.specs.Kept.{Kept}
+use Rattle.zy_law_normal.proofs.Backing.{all_listed}
+use Rattle.zy_law_steps.proofs.Passing.{Laws, Passes, reply_short, empty_slots, found, keeps_own, knows, says, sends, settled_of, spec_put, turns}
 use Rattle.zy_law_steps.proofs.Slots.{AreKept, begans_later, changes_later, equal_kept, filled, gathered_kept, others_dropped}
-use Rattle.zy_law_steps.specs.Signs.{OfActs, OfAct, OfAnyFrame, OfCert, OfChange, OfNew, OfOrder, OfPending, OfSent, OfState, OfTold, Signs}
+use Rattle.zy_law_steps.specs.Signs.{IsShort, OfActs, OfAct, OfAnyFrame, OfCert, OfChange, OfNew, OfOrder, OfPending, OfSent, OfState, OfTold, Signs}
 
-module _ {S : Type 0} (R : Rules S) (F : Signs) (me : Party) where
+module _ {S : Type 0} (R : Rules S) (ok : S → Type 0) (law : Laws ok R) (F : Signs) (me : Party) where
   abbrev On : Type 0 → Going S → Type 0
-  On X g = Passes R F me X g
+  On X g = Passes R ok law F me X g
 
   abbrev pub Ends : Type 0 → Attempt S → Type 0
-  Ends X (Ok end) = Passes R F me X end.1
+  Ends X (Ok end) = Passes R ok law F me X end.1
   Ends X (Err cause) = Unit {0}
 
   -- ---- it leaves
 
   began_in : (cert : Option ViewCert) → IfSome cert (OfCert F) → AllByRecursion F.began (begans_in cert)
   began_in None is = tt
-  began_in (Some cert) is = is.1
+  began_in (Some cert) is = all_listed F.began cert.begans is.1.each
 
   specs_of : (c : Option Certificate) → IfSome c (λ c. All F.spec c.specs) → IfSome (specs_in c) (All F.spec)
   specs_of None is = tt
   specs_of (Some c) is = is
 
-  told : (s : State S) → OfState F s → OfTold F (report_of s)
+  told : (s : State S) → OfState ok F s → OfTold F (report_of s)
   told s v = (began_in s.views.view_cert v.0.0, specs_of s.views.specs v.0.1, v.2.2)
 
   pub leaves_alone : (X : Type 0) (view : View) (g : Going S) → On X g → On X (leave_alone R view g)
@@ -92,11 +98,11 @@ module _ {S : Type 0} (R : Rules S) (F : Signs) (me : Party) where
       let after : State S = left_with view change g.state in
       let remark : Remark = record { body = bodies.Change change.stmt; stood = stood_of R after } in
       let Y : Type 0 = X × OfChange F change in
-      knows R F me Y X (send_view Everyone (views.ViewChange change) (act (Says remark) (record g { state = spent after }))) (λ y state. y.0)
-      (sends R F me Y Everyone (Framed (views.ViewChange change)) (act (Says remark) (record g { state = spent after })) (λ y state. y.1)
-      (says R F me X Y remark (spent after) g
+      knows R ok law F me Y X (send_view Everyone (views.ViewChange change) (act (Says remark) (record g { state = spent after }))) (λ y state. y.0)
+      (sends R ok law F me Y Everyone (Framed (views.ViewChange change)) (act (Says remark) (record g { state = spent after })) (λ y state. y.1)
+      (says R ok law F me X Y remark (spent after) g
       (λ x signer v said.
-      let one : OfChange F change = (said g.state.sealer signer, told g.state v) in
+      let one : OfChange F change = (said (told g.state v) g.state.sealer signer, told g.state v) in
       let w = v.0 in (
         (x, one),
         signer,
@@ -120,9 +126,9 @@ module _ {S : Type 0} (R : Rules S) (F : Signs) (me : Party) where
       let remark : Remark = record { body = bodies.Began began.stmt; stood = stood_of R g.state } in
       let s : State S = record (spent g.state) { views = with_new a began g.state.views } in
       let Y : Type 0 = X × F.began began in
-      knows R F me Y X (send_view Everyone (views.ViewConfirm began) (act (Says remark) (record g { state = s }))) (λ y state. y.0)
-      (sends R F me Y Everyone (Framed (views.ViewConfirm began)) (act (Says remark) (record g { state = s })) (λ y state. y.1)
-      (says R F me X Y remark s g
+      knows R ok law F me Y X (send_view Everyone (views.ViewConfirm began) (act (Says remark) (record g { state = s }))) (λ y state. y.0)
+      (sends R ok law F me Y Everyone (Framed (views.ViewConfirm began)) (act (Says remark) (record g { state = s })) (λ y state. y.1)
+      (says R ok law F me X Y remark s g
       (λ x signer v said.
       let one : F.began began = said g.state.sealer signer in
       let w = v.0 in
@@ -135,10 +141,11 @@ module _ {S : Type 0} (R : Rules S) (F : Signs) (me : Party) where
       let new : Signed New = sealed_new g.state view in
       let remark : Remark = record { body = bodies.New new.stmt; stood = stood_of R g.state } in
       let Y : Type 0 = X × OfNew F new in
-      sends R F me Y Everyone (Framed (views.NewView new)) (act (Says remark) (record g { state = spent g.state })) (λ y state. y.1)
-      (says R F me X Y remark (spent g.state) g
+      sends R ok law F me Y Everyone (Framed (views.NewView new)) (act (Says remark) (record g { state = spent g.state })) (λ y state. y.1)
+      (says R ok law F me X Y remark (spent g.state) g
       (λ x signer v said.
-      ((x, (said g.state.sealer signer, gathered_kept (OfChange F) view.0 g.state.views.counts.change g.state.views.changes v.0.2)), signer, v)) is)
+      let all = gathered_kept (OfChange F) view.0 g.state.views.counts.change g.state.views.changes v.0.2 in
+      ((x, (said all g.state.sealer signer, all)), signer, v)) is)
 
   given_on : (X : Type 0) (view : View) (choice : Choice) (g : Going S) → On X g → Ends X (given R view choice g)
   given_on X view (choices.AnchorClash first second) g is = tt
@@ -146,7 +153,7 @@ module _ {S : Type 0} (R : Rules S) (F : Signs) (me : Party) where
       let new : Signed New = sealed_new g.state view in
       let a : Accepted = record { new = new; chosen = record { provider = provider; place = place; head = head } } in
       let Y : Type 0 = X × OfNew F new in
-      knows R F me Y X (accept R a (give_new R new g)) (λ y state. y.0) (accepts Y a (give_new R new g) (λ y. y.1) (gives X view g is))
+      knows R ok law F me Y X (accept R a (give_new R new g)) (λ y state. y.0) (accepts Y a (give_new R new g) (λ y. y.1) (gives X view g is))
 
   pub collects : (X : Type 0) (view : View) (g : Going S) → On X g → Ends X (collect R view g)
   collects X view g is = by_test (Ends X) (is_gathering g.state.views view.0) _ _ (λ gathers. given_on X view (choice_in g.state.views view.0) g is) (λ few. is)
@@ -160,11 +167,11 @@ module _ {S : Type 0} (R : Rules S) (F : Signs) (me : Party) where
 
   -- ---- a view begins
 
-  settled : (t : Told) (s : State S) → OfState F s → All F.check t.checks → (s.sealer.me ≡ me) → ((settled_as R t s).sealer.me ≡ me) × OfState F (settled_as R t s)
+  settled : (t : Told) (s : State S) → OfState ok F s → All F.check t.checks → (s.sealer.me ≡ me) → ((settled_as R t s).sealer.me ≡ me) × OfState ok F (settled_as R t s)
   settled t s v all signer =
-      by_test (λ (q : State S). (q.sealer.me ≡ me) × OfState F q) (nat_lt s.board.stable.place.0 t.stable_place.0) _ _ (λ past. (signer, settled_of R F me s t.stable_place.0 t.checks v all)) (λ low. (signer, v))
+      by_test (λ (q : State S). (q.sealer.me ≡ me) × OfState ok F q) (nat_lt s.board.stable.place.0 t.stable_place.0) _ _ (λ past. (signer, settled_of R ok law F me s t.stable_place.0 t.checks v all)) (λ low. (signer, v))
 
-  active : (cert : ViewCert) (chosen : Chosen) (s : State S) → OfState F s → OfCert F cert → OfState F (active_by cert chosen s)
+  active : (cert : ViewCert) (chosen : Chosen) (s : State S) → OfState ok F s → OfCert F cert → OfState ok F (active_by cert chosen s)
   active cert chosen s v is =
       let w = v.0 in
       let view : ℕ = cert.new.stmt.view.0 in (
@@ -179,37 +186,48 @@ module _ {S : Type 0} (R : Rules S) (F : Signs) (me : Party) where
         v.8,
       )
 
+  over_short : (t : Stretch) (place : ℕ) (k : Kept S) → IsShort ok k.base → IsShort ok (taken_over t place k).base
+  unfolding taken_over
+  over_short t place k is = is
+
   begins : (X : Type 0) (cert : ViewCert) (chosen : Chosen) (t : Told) (g : Going S) → (X → OfCert F cert) → (X → All F.check t.checks) → On X g → On X (begin_view R cert chosen t g)
   begins X cert chosen t g tells checks is acts =
       let b = is (all_of_front (OfAct F me) g.deeds.acts (adoption_of R cert.new.stmt.view t chosen.place g.state.kept ∷ []) acts) in
       let s : State S = record g.state { kept = taken_over (stretch_of t) chosen.place.0 g.state.kept } in
-      let n = settled t s b.2 (checks b.0) b.1 in
+      let v = b.2 in
+      let n = settled t s (v.0, v.1, v.2, v.3, v.4, v.5, v.6, v.7, (v.8.0, over_short (stretch_of t) chosen.place.0 g.state.kept v.8.1)) (checks b.0) b.1 in
       (b.0, n.0, active cert chosen (settled_as R t s) n.1 (tells b.0), b.3)
 
-  alone : (X : Type 0) (own : OwnCheckpoint) (reply : List ℕ) (g : Going S) → On X g → On X (respond_alone R own reply g)
-  alone X own reply g is =
+  alone : (X : Type 0) (own : OwnCheckpoint) (reply : List ℕ) (g : Going S) → (X → length reply ≤ 1100) → On X g → On X (respond_alone R own reply g)
+  alone X own reply g short is =
       let signed : Signed Spec = sealed_spec g.state own.spec in
       let remark : Remark = record { body = bodies.Spec own.spec; stood = stood_of R g.state } in
       let responded : State S = with_spec (spent g.state) signed in
       let Y : Type 0 = X × F.spec signed in
       let said : Going S = act (Says remark) (record g { state = with_own_spec responded own signed }) in
       let told : Going S = send_any (One (Client own.spec.client)) (Plain (frames.SpecResponse signed reply None)) said in
-      knows R F me Y X (send_any Everyone (Plain (frames.SpecResponse signed reply None)) told) (λ y state. y.0)
-      (sends R F me Y Everyone (Plain (frames.SpecResponse signed reply None)) told (λ y state. (y.1, tt))
-      (sends R F me Y (One (Client own.spec.client)) (Plain (frames.SpecResponse signed reply None)) said (λ y state. (y.1, tt))
-      (says R F me X Y remark (with_own_spec responded own signed) g
+      knows R ok law F me Y X (send_any Everyone (Plain (frames.SpecResponse signed reply None)) told) (λ y state. y.0)
+      (sends R ok law F me Y Everyone (Plain (frames.SpecResponse signed reply None)) told (λ y state. (y.1, short y.0, tt))
+      (sends R ok law F me Y (One (Client own.spec.client)) (Plain (frames.SpecResponse signed reply None)) said (λ y state. (y.1, short y.0, tt))
+      (says R ok law F me X Y remark (with_own_spec responded own signed) g
       (λ x signer v to_say.
       let one : F.spec signed = to_say g.state.sealer signer in
       ((x, one), signer, (v.0, v.1, spec_put F g.state.board own signed v.2 one, v.3, filled F.spec g.state.specs own.spec.client.0 signed v.4 one, v.5, v.6, v.7, v.8))) is)))
 
-  responds_to : (X : Type 0) (own : Option OwnCheckpoint) (reply : Option (List ℕ)) (g : Going S) → On X g → On X (respond_to R own reply g)
-  responds_to X None reply g is = is
-  responds_to X (Some own) None g is = is
-  responds_to X (Some own) (Some reply) g is = alone X own reply g is
+  responds_to : (X : Type 0) (own : Option OwnCheckpoint) (reply : Option (List ℕ)) (g : Going S) → (X → IfSome reply (λ reply. length reply ≤ 1100)) → On X g → On X (respond_to R own reply g)
+  responds_to X None reply g short is = is
+  responds_to X (Some own) None g short is = is
+  responds_to X (Some own) (Some reply) g short is = alone X own reply g short is
 
   responds_at : (X : Type 0) (places : List ℕ) (g : Going S) → On X g → On X (respond_at R places g)
   responds_at X [] g is = is
-  responds_at X (place ∷ places) g is = responds_at X places _ (responds_to X (own_at R g.state place) (reply_in R g.state.kept place) g is)
+  responds_at X (place ∷ places) g is =
+      let reply : Option (List ℕ) = reply_in R g.state.kept place in
+      let h : Going S = respond_to R (own_at R g.state place) reply g in
+      let Y : Type 0 = X × IfSome reply (λ reply. length reply ≤ 1100) in
+      responds_at X places h
+      (knows R ok law F me Y X h (λ y state. y.0)
+      (responds_to Y (own_at R g.state place) reply g (λ y. y.1) (knows R ok law F me X Y g (λ x state. (x, reply_short R ok law g.state.kept place state.8.1)) is)))
 
   takes_up : (X : Type 0) (cert : ViewCert) (chosen : Chosen) (t : Told) (g : Going S) → (X → OfCert F cert) → (X → All F.check t.checks) → On X g → On X (take_up R cert chosen t g)
   unfolding take_up
@@ -234,12 +252,12 @@ module _ {S : Type 0} (R : Rules S) (F : Signs) (me : Party) where
       let remark : Remark = record { body = bodies.Fetch wanted; stood = stood_of R g.state } in
       let s : State S = record (spent g.state) { fetches = g.state.fetches ++ said ∷ [] } in
       let Y : Type 0 = X × F.fetch said in
-      knows R F me Y X (send_to_each said parties (act (Says remark) (record g { state = s }))) (λ y state. y.0)
+      knows R ok law F me Y X (send_to_each said parties (act (Says remark) (record g { state = s }))) (λ y state. y.0)
       (to_each Y said parties (act (Says remark) (record g { state = s })) (λ y. y.1)
-      (says R F me X Y remark s g
+      (says R ok law F me X Y remark s g
       (λ x signer v to_say.
       let one : F.fetch said = to_say g.state.sealer signer in
-      ((x, one), signer, (v.0, v.1, v.2, v.3, v.4, v.5, v.6, v.7, all_of_both F.fetch g.state.fetches (said ∷ []) v.8 (one, tt)))) is))
+      ((x, one), signer, (v.0, v.1, v.2, v.3, v.4, v.5, v.6, v.7, (all_of_both F.fetch g.state.fetches (said ∷ []) v.8.0 (one, tt), v.8.1)))) is))
 
   waits : (X : Type 0) (cert : ViewCert) (chosen : Chosen) (t : Told) (g : Going S) → (X → OfCert F cert) → On X g → On X (wait_for R cert chosen t g)
   unfolding wait_for
@@ -248,10 +266,10 @@ module _ {S : Type 0} (R : Rules S) (F : Signs) (me : Party) where
       let k : Going S = kept_waiting cert chosen h in
       let wanted : Fetch = wanted_of t in
       let Y : Type 0 = X × IfSome (fetch_said k.state wanted) F.fetch in
-      knows R F me Y X (ask_for R t k) (λ y state. y.0)
+      knows R ok law F me Y X (ask_for R t k) (λ y state. y.0)
       (asks_each Y wanted (fetch_said k.state wanted) (asked_of k.state t.checks) k (λ y. y.1)
-      (knows R F me X Y k (λ x v. (x, found F.fetch _ k.state.fetches v.8))
-      (turns R F me X X k.state h (λ x signer v. let w = v.0 in (x, signer, ((w.0, w.1, w.2, w.3, w.4, tells x), v.1, v.2, v.3, v.4, v.5, v.6, v.7, v.8)))
+      (knows R ok law F me X Y k (λ x v. (x, found F.fetch _ k.state.fetches v.8.0))
+      (turns R ok law F me X X k.state h (λ x signer v. let w = v.0 in (x, signer, ((w.0, w.1, w.2, w.3, w.4, tells x), v.1, v.2, v.3, v.4, v.5, v.6, v.7, v.8)))
       (arrives X cert.new.stmt.view g is))))
 
   -- ---- adopt, and certify
@@ -276,10 +294,15 @@ module _ {S : Type 0} (R : Rules S) (F : Signs) (me : Party) where
   adopts_if X None chosen answer g tells is = is
   adopts_if X (Some cert) chosen answer g tells is = adopts X cert chosen g tells is
 
-  certificate_from : (a : Accepted) (enough : Bool) (list : List (Signed Began)) → OfNew F a.new → AllByRecursion F.began list
-      → IfSome (option_map (λ begans. let cert : ViewCert = record { new = a.new; begans = begans } in cert) (if enough then Some list else None)) (OfCert F)
-  certificate_from a true list new all = (new, all)
-  certificate_from a false list new all = tt
+  certificate_from : (v : Views) (a : Accepted) (enough : Bool) → nat_le v.counts.cert (length (begans_equal (began_for a.new.stmt.view a.chosen) v.begans)) ≡ enough → OfNew F a.new → AllByRecursion (λ slot. IfSome slot F.began) v.begans
+      → IfSome (option_map (λ begans. let cert : ViewCert = record { new = a.new; begans = begans } in cert) (if enough then Some (take v.counts.cert (begans_equal (began_for a.new.stmt.view a.chosen) v.begans)) else None)) (OfCert F)
+  certificate_from v a false few new all = tt
+  certificate_from v a true enough new all =
+      let own : Began = began_for a.new.stmt.view a.chosen in
+      let sound = v.counts.sound in
+      let list = begans_equal own v.begans in
+      let many : length (take v.counts.cert list) ≡ v.counts.cert = length-take-le v.counts.cert list (leb-true _ _ enough) in
+      (new, record { least = omega (arith, many, sound.two_certificates); most = omega (arith, many, sound.short_certificate); each = All-from_recursion F.began (take v.counts.cert list) (equal_kept F.began own v.counts.cert v.begans all) })
 
   pub certifies_with : (X : Type 0) (accepted : Option Accepted) (answer : Answer) (g : Going S) → g.state.views.accepted ≡ accepted → On X g → Ends X (certify_with R accepted answer g)
   certifies_with X None answer g at is = is
@@ -288,16 +311,15 @@ module _ {S : Type 0} (R : Rules S) (F : Signs) (me : Party) where
       let Y : Type 0 = X × IfSome (certificate_of v a) (OfCert F) in
       forget X (IfSome (certificate_of v a) (OfCert F)) (adopt_if R (certificate_of v a) a.chosen answer g)
       (adopts_if Y (certificate_of v a) a.chosen answer g (λ y. y.1)
-      (knows R F me X Y g
+      (knows R ok law F me X Y g
       (λ x w.
       let new : OfNew F a.new = subst (λ (o : Option Accepted). IfSome o (λ a. OfNew F a.new)) at w.0.4 in (
         x,
-        certificate_from a (nat_le v.counts.cert (length (begans_equal (began_for a.new.stmt.view a.chosen) v.begans))) (take v.counts.cert (begans_equal (began_for a.new.stmt.view a.chosen) v.begans)) new
-            (equal_kept F.began (began_for a.new.stmt.view a.chosen) v.counts.cert v.begans w.0.3),
+        certificate_from v a (nat_le v.counts.cert (length (begans_equal (began_for a.new.stmt.view a.chosen) v.begans))) refl new w.0.3,
       )) is))
     where
       forget : (X Z : Type 0) (attempt : Attempt S) → Ends (X × Z) attempt → Ends X attempt
-      forget X Z (Ok end) is = knows R F me (X × Z) X end.1 (λ y state. y.0) is
+      forget X Z (Ok end) is = knows R ok law F me (X × Z) X end.1 (λ y state. y.0) is
       forget X Z (Err cause) is = tt
 
   pub begun_on : (X : Type 0) (attempt : Attempt S) → Ends X attempt → Ends X (begun R attempt)
@@ -307,7 +329,7 @@ module _ {S : Type 0} (R : Rules S) (F : Signs) (me : Party) where
   -- ---- what a step comes to
 
   abbrev pub IsOf : Outcome S → Type 0
-  IsOf o = OfActs F me o.deeds.acts → (o.state.sealer.me ≡ me) × OfState F o.state × OfSent F o.deeds.sent
+  IsOf o = OfActs F me o.deeds.acts → (o.state.sealer.me ≡ me) × OfState ok F o.state × OfSent F o.deeds.sent
 
   pub ended : (X : Type 0) (answer : Answer) (g : Going S) → On X g → IsOf (ends answer g)
   ended X answer g is acts = let b = is acts in (b.1, b.2, b.3)

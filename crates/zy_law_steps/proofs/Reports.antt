@@ -60,6 +60,7 @@ change_fits view told in_range fits = (in_range, fits)
 pub record IsToldSpelled (t : Told) : Type 0 where
   pub place : IsU62 0 t.stable_place.0
   pub head : length t.stable_head.0 ≡ 32
+  pub state : length t.state.0 ≡ 32
   pub checks : FitsList IsCheckSpelled 0 16 t.checks
   pub entries : All entry_fields.Fits t.entries
 
@@ -73,6 +74,7 @@ told_is t fits =
     record {
       place = fits.1.1.1.1.1.1.0;
       head = fits.1.1.1.1.1.1.1.0;
+      state = fits.1.1.1.1.1.1.1.1.0;
       checks = fits.1.1.1.1.1.1.1.1.1.0;
       entries = fits.1.1.1.1.1.1.1.1.1.1.each;
     }

@@ -104,7 +104,7 @@ check_stays b vote = stays_with b vote.stmt.place.0 (put_check vote)
 
 -- ---- an order is put to its place
 
-slots_long : (orders : Orders) (o : OrderFrame) → length (with_order orders o).slots ≡ length orders.slots + (o.order.stmt.place.0 - orders.base - 1 + 1 - length orders.slots)
+pub slots_long : (orders : Orders) (o : OrderFrame) → length (with_order orders o).slots ≡ length orders.slots + (o.order.stmt.place.0 - orders.base - 1 + 1 - length orders.slots)
 slots_long orders o =
     let at = o.order.stmt.place.0 - orders.base - 1 in
     let none : List (Option OrderFrame) = replicate (at + 1 - length orders.slots) None in

@@ -80,7 +80,7 @@ module _ {S : Type 0} (R : Rules S) (interval : ℕ) (texts : Texts) (w : World)
     where
       as_it_is : (a : Admit) → IsPlaced o.order.stmt o.ask (position_of R s o) a → IsDone (order_as R s o a)
       as_it_is a place =
-          order_admitted R s IsDone (run_cases R interval texts w r s h ready kept work is) o (λ new room. takes R interval texts w r s h ready kept work is o may) (λ room. asks R interval texts w r s h ready kept work is o)
+          order_admitted R s IsDone (run_cases R interval texts w r s h ready kept work is) o (λ new room. takes R interval texts w r s h ready kept work is o may) (λ room. asks R interval texts w r s h ready kept work is o room)
           (λ room. holds R interval texts w r s h ready kept work is o) a place
 
       by : (a : Admit) → IsPlaced o.order.stmt o.ask (position_of R s o) a → IsDone (order_judged R s o a)

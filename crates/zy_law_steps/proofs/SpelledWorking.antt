@@ -1,7 +1,9 @@
 -- What a replica says and keeps can be spelled after each frame of normal operation, where its history stays in range.
-use Rattle.std.proofs.Common.{◌≡◌, ℕ, ◌-◌, ◌<◌, ◌≤◌, ◌^◌, Bool, true, false, List, [], ◌∷◌, length, take, Option, Some, None, refl, sym, ap, ◌∙◌, subst, arith}
+use Rattle.std.proofs.Common.{◌≡◌, ℕ, ◌+◌, ◌-◌, ◌<◌, ◌≤◌, ◌^◌, Bool, true, false, List, [], ◌∷◌, length, take, Option, Some, None, refl, sym, ap, ◌∙◌, subst, arith, leb-false}
 use Rattle.std.specs.List.{AllByRecursion}
-use Rattle.std.specs.Prelude.{All}
+use Rattle.std.specs.Prelude.{All, is_some, nat_le, position, unwrap_or}
+use Rattle.std.proofs.lemmas.List.{length-drop}
+use Rattle.std.proofs.lemmas.Option.{same_Some}
 use Rattle.sha2.proofs.Facts256.{length-sha256}
 use Rattle.zy_base.specs.Machine.{Rules}
 use Rattle.zy_base.specs.declared.ids.ClientId.{ClientId}
@@ -11,6 +13,7 @@ use Rattle.zy_base.specs.declared.ids.Stamp.{Stamp}
 use Rattle.zy_base.specs.declared.ids.View.{View}
 use Rattle.zy_base.specs.declared.step.Answer.TheVariants.{Taken, Held}
 use Rattle.zy_admit.specs.Judging.{entry_of}
+use Rattle.zy_admit.specs.Orders.{gap_above, gap_in, slots_above, with_order}
 use Rattle.zy_cert.proofs.CertificateLemmas.{certified-taken}
 use Rattle.zy_cert.specs.Certificates.{IsCertificate}
 use Rattle.zy_cert.specs.Equal.{same_spec, spec-equal}
@@ -37,11 +40,11 @@ use Rattle.zy_law_normal.proofs.Committed.{IsFurthest, holding}
 use Rattle.zy_law_normal.proofs.Follow.{gather_at_keeps}
 use Rattle.zy_law_normal.proofs.Going.{slots_put}
 use Rattle.zy_law_normal.proofs.KeptVotes.{with_check_kept, with_spec_kept}
-use Rattle.zy_law_normal.proofs.Own.{at_of}
+use Rattle.zy_law_normal.proofs.Own.{at_of, by_test}
 use Rattle.zy_law_normal.proofs.Records.{IsLastOf}
 use Rattle.zy_law_normal.specs.Tied.{MayRun}
 use Rattle.zy_parts.specs.Signing.{signed}
-use Rattle.zy_parts.specs.Statements.{IsU62, local_fields, order_fields, spec_fields}
+use Rattle.zy_parts.specs.Statements.{IsU62, confirm_fields, hole_fields, local_fields, order_fields, spec_fields}
 use Rattle.zy_parts.specs.declared.signed.Signed.{Signed}
 use Rattle.zy_parts.specs.declared.statements.Ask.{Ask}
 use Rattle.zy_parts.specs.declared.statements.Local.{Local}
@@ -59,9 +62,10 @@ use Rattle.zy_law_views.specs.Texts.{Texts}
 use Rattle.zy_law_views.specs.Rows.{IsReady}
 use Rattle.zy_law_views.specs.Work.{IsAtWork}
 use Rattle.zy_law_views.proofs.Backups.{record_is}
-use Rattle.zy_law_views.proofs.Requested.{RunCases}
+use Rattle.zy_law_views.proofs.Requested.{HasRoomFor, RunCases}
 use Rattle.zy_law_views.specs.Steps.{IsWorldOf}
-use Rattle.zy_law_steps.proofs.Rows.{check_stays, spec_stays}
+use Rattle.zy_law_steps.proofs.Rows.{check_stays, slots_long, spec_stays}
+use Rattle.zy_law_steps.proofs.Slots.{position_within}
 use Rattle.zy_law_steps.specs.Heard.{IsFrameHeld}
 use Rattle.zy_wire.specs.Fields.{FitsList}
 use Rattle.zy_law_steps.specs.Spelled.{IsCheckSpelled, IsSpecSpelled, IsSpelled}
@@ -69,6 +73,13 @@ use Rattle.zy_law_steps.proofs.DecodedFrames.{IsFrameSpelled}
 use Rattle.zy_law_steps.proofs.SpelledGathers.{IsDone, IsGoing, board_like, gathers, holding_spelled, own_spelled, rounds_of}
 use Rattle.zy_law_steps.proofs.SpelledRuns.{ends_there, next_place, run_further, runs}
 use Rattle.zy_law_steps.proofs.Sizes.{digest_long, head_long, next_long}
+
+-- how many places lie between is where the first order stands
+gap_at : (found : Option ℕ) (n : ℕ) → gap_in found ≡ Some n → (1 ≤ n) × (found ≡ Some n)
+gap_at None n is = absurd cc
+gap_at (Some m) n =
+    by_test (λ (o : Option ℕ). o ≡ Some n → (1 ≤ n) × (Some m ≡ Some n)) (nat_le m 0) _ _ (λ none is. absurd cc)
+    (λ some is. let same : m ≡ n = same_Some m n is in (let more = leb-false m 0 some in omega arith, is))
 
 -- another certificate, or another board, is kept
 furthest_spelled : {S : Type 0} (s : State S) (place : Place) (specs : List (Signed Spec)) (held : Option Certificate) → IsFurthest place specs s.views.specs held → IsSpelled s → FitsList IsSpecSpelled 1 16 specs
@@ -140,8 +151,31 @@ module _ {S : Type 0} (R : Rules S) (interval : ℕ) (texts : Texts) (w : World)
       let g : Going S = begin (record (with_held s o) { hole = None }) in
       runs R w o g (slots_put w s.orders o work.runs may) may (record { acts = tt; spelled = same_spelled g.state refl refl refl refl }) low
 
-  pub asks : (o : OrderFrame) → IsDone (ends Held (ask_for_missing R (with_held s o)))
-  asks o low = record { acts = (tt, tt); spelled = same_spelled _ refl refl refl refl }
+  -- the place before the least order that is held is in range, since that is kept
+  gap_low : (o : OrderFrame) → HasRoomFor s o → (n : ℕ) → gap_above (last_place s.kept) (with_order s.orders o) ≡ Some n → (1 ≤ n) × (last_place s.kept + n < 2 ^ 62)
+  gap_low o room n is =
+      let above = room.above in
+      let below = room.below in
+      let based = work.based in
+      let end = work.end in
+      let slots = slots_above (last_place s.kept) (with_order s.orders o) in
+      let p = gap_at (position is_some slots) n is in
+      let within = position_within is_some slots n p.1 in
+      (p.0, omega (arith, within, slots_long s.orders o, length-drop (last_place s.kept - s.orders.base) (with_order s.orders o).slots))
+
+  -- what is asked for ends before it, or at the next place
+  hole_in_range : (o : OrderFrame) → HasRoomFor s o → (gap : Option ℕ) → gap_above (last_place s.kept) (with_order s.orders o) ≡ gap → (1 ≤ unwrap_or gap 1) × (last_place s.kept + unwrap_or gap 1 < 2 ^ 62)
+  hole_in_range o room None is = let above = room.above in let below = room.below in (omega arith, omega arith)
+  hole_in_range o room (Some n) is = gap_low o room n is
+
+  pub asks : (o : OrderFrame) → HasRoomFor s o → IsDone (ends Held (ask_for_missing R (with_held s o)))
+  unfolding hole_fields
+  asks o room low =
+      let to = hole_in_range o room (gap_above (last_place s.kept) (with_order s.orders o)) refl in
+      record {
+        acts = (((omega arith, is.views.own), (omega arith, omega (arith, to.0, to.1)), (omega (arith, to.0), to.1), omega (arith, to.0)), tt);
+        spelled = same_spelled _ refl refl refl refl;
+      }
 
   pub holds : (o : OrderFrame) → IsDone (ends Held (begin (with_held s o)))
   holds o low = record { acts = tt; spelled = same_spelled (with_held s o) refl refl refl refl }
@@ -200,7 +234,8 @@ module _ {S : Type 0} (R : Rules S) (interval : ℕ) (texts : Texts) (w : World)
   -- ---- each row
 
   pub waits : (ask : Signed Ask) → IsDone (ends Taken (request_waits R s ask))
-  waits ask low = record { acts = (tt, tt); spelled = same_spelled _ refl refl refl refl }
+  unfolding confirm_fields
+  waits ask low = record { acts = (((omega arith, is.views.own), digest_long (entry_of ask)), tt); spelled = same_spelled _ refl refl refl refl }
 
   pub run_cases : RunCases R s IsDone
   run_cases =

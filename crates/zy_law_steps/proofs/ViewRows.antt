@@ -24,7 +24,7 @@ use Rattle.zy_frames.specs.declared.frame.OrderFrame.{OrderFrame}
 use Rattle.zy_law.specs.World.{World}
 use Rattle.zy_parts.specs.Reports.{change_fields}
 use Rattle.zy_parts.specs.Signing.{signed}
-use Rattle.zy_parts.specs.Statements.{IsU62}
+use Rattle.zy_parts.specs.Statements.{IsU62, hate_fields}
 use Rattle.zy_parts.specs.declared.reports.Change.{Change}
 use Rattle.zy_parts.specs.declared.signed.Signed.{Signed}
 use Rattle.zy_parts.specs.declared.statements.Hate.{Hate}
@@ -198,12 +198,13 @@ module _ {S : Type 0} (R : Rules S) (interval : ℕ) (w : World) (r : ℕ) (s : 
       by false = counts (with_hate_of (Replica g.state.me) g) (hated_more R interval w r s history ready g way (Replica g.state.me)) (hated_spelled (Replica g.state.me) g is)
 
   says_hate : (said : Option (Signed Hate)) (g : Going S) → IsEarly g → IsEarly (say_hate R said g)
+  unfolding hate_fields
   says_hate (Some said) g is = record { going = record { acts = is.going.acts; spelled = is.going.spelled }; few = is.few }
   says_hate None g is =
       let spelled = is.going.spelled in
       record {
         going = record {
-          acts = fit_said g.deeds.acts _ is.going.acts tt;
+          acts = fit_said g.deeds.acts _ is.going.acts (omega arith, spelled.views.own);
           spelled = record { signer = spelled.signer; views = spelled.views; history = spelled.history; board = spelled.board };
         };
         few = is.few;

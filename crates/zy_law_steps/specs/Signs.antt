@@ -1,13 +1,16 @@
 -- What holds of each signed statement that a replica hears, keeps, says or sends, where something is said of each kind of them.
-use Rattle.std.specs.Prelude.{◌≡◌, ℕ, Bool, true, List, All, IfSome, Ok, Err}
+use Rattle.std.specs.Prelude.{◌≡◌, ℕ, ◌≤◌, Bool, true, List, All, IfSome, Ok, Err, length}
 use Rattle.std.specs.List.{AllByRecursion}
 use Rattle.zy_base.specs.declared.frame_fault.FrameFault.TheVariants as faults
 use Rattle.zy_base.specs.declared.ids.Party.{Party}
 use Rattle.zy_base.specs.declared.step.Event.{Event}
 use Rattle.zy_base.specs.declared.step.Event.TheVariants.{Heard, Timer}
+use Rattle.zy_base.specs.declared.step.Spoken.{Spoken}
 use Rattle.zy_admit.specs.Orders.{Orders}
 use Rattle.zy_change.specs.Views.{Views}
 use Rattle.zy_check.specs.Board.{Board}
+use Rattle.zy_exec.specs.Replay.{Point}
+use Rattle.zy_exec.specs.declared.known.Known.{Known}
 use Rattle.zy_frames.specs.Frames as plain
 use Rattle.zy_frames.specs.declared.frame.Frame.{Frame}
 use Rattle.zy_frames.specs.declared.frame.Frame.TheVariants as frames
@@ -15,7 +18,7 @@ use Rattle.zy_frames.specs.declared.frame.OrderFrame.{OrderFrame}
 use Rattle.zy_law_normal.specs.Tied.{IsRoundOf}
 use Rattle.zy_parts.specs.Numbers as numbers
 use Rattle.zy_parts.specs.Reports.{began_fields, change_fields, fetch_fields, new_fields}
-use Rattle.zy_parts.specs.Signing.{text_of}
+use Rattle.zy_parts.specs.Signing.{signed, text_of}
 use Rattle.zy_parts.specs.Statements.{ask_fields, check_fields, confirm_fields, hate_fields, hole_fields, local_fields, order_fields, spec_fields}
 use Rattle.zy_parts.specs.declared.reports.Began.{Began}
 use Rattle.zy_parts.specs.declared.reports.Change.{Change}
@@ -47,6 +50,8 @@ use Rattle.zy_vframes.specs.ViewFrames as view_frames
 use Rattle.zy_vframes.specs.declared.frame.ViewCert.{ViewCert}
 use Rattle.zy_vframes.specs.declared.frame.ViewFrame.{ViewFrame}
 use Rattle.zy_vframes.specs.declared.frame.ViewFrame.TheVariants as views
+use Rattle.zy_wire.specs.Fields.{FitsList}
+use Rattle.zy_wire.specs.Spelling.{Spelling}
 
 -- what is to hold of each kind, of a report and of a new view without what is inside
 pub record Signs : Type 1 where
@@ -81,15 +86,15 @@ abbrev pub OfNew : Signs → Signed New → Type 0
 OfNew F n = F.new n × AllByRecursion (OfChange F) n.stmt.changes
 
 abbrev pub OfCert : Signs → ViewCert → Type 0
-OfCert F cert = OfNew F cert.new × AllByRecursion F.began cert.begans
+OfCert F cert = OfNew F cert.new × FitsList F.began 1 16 cert.begans
 
 -- ---- frames
 
 abbrev pub OfFrame : Signs → Frame → Type 0
 OfFrame F (frames.Request ask) = F.ask ask
 OfFrame F (frames.Order both) = OfOrder F both
-OfFrame F (frames.SpecResponse spec reply with_order) = F.spec spec × IfSome with_order F.order
-OfFrame F (frames.Commit specs) = All F.spec specs
+OfFrame F (frames.SpecResponse spec reply with_order) = F.spec spec × (length reply ≤ 1100) × IfSome with_order F.order
+OfFrame F (frames.Commit specs) = FitsList F.spec 1 16 specs
 OfFrame F (frames.LocalCommit local) = F.local local
 OfFrame F (frames.ConfirmReq confirm ask) = F.confirm confirm × F.ask ask
 OfFrame F (frames.FillHole hole) = F.hole hole
@@ -127,15 +132,24 @@ OfOrders F o = AllByRecursion (λ slot. IfSome slot (OfOrder F)) o.slots
 abbrev pub OfBoard : Signs → Board → Type 0
 OfBoard F b = IsRoundOf F.spec F.check b.near × IsRoundOf F.spec F.check b.far × All F.check b.proof
 
-abbrev pub OfState : {S : Type 0} → Signs → State S → Type 0
-OfState F s =
+-- No reply that it kept is longer than a frame may hold, and its state is one that a machine may have.
+pub record IsShort {S : Type 0} (is_state : S → Type 0) (p : Point S) : Type 0 where
+  pub state : is_state p.state
+  pub known : AllByRecursion (λ slot. IfSome slot (λ (known : Known). length known.reply ≤ 1100)) p.known
+
+-- the snapshots that it fetched, and where what it keeps of its history begins
+abbrev pub OfBase : {S : Type 0} → (S → Type 0) → Signs → State S → Type 0
+OfBase is_state F s = AllByRecursion F.fetch s.fetches × IsShort is_state s.kept.base
+
+abbrev pub OfState : {S : Type 0} → (S → Type 0) → Signs → State S → Type 0
+OfState is_state F s =
     OfViews F s.views × OfOrders F s.orders × OfBoard F s.board × IfSome s.hole F.hole
     × AllByRecursion (λ slot. IfSome slot F.spec) s.specs × AllByRecursion (λ slot. IfSome slot (OfPending F)) s.pending
-    × AllByRecursion F.local s.locals × IfSome s.hate F.hate × AllByRecursion F.fetch s.fetches
+    × AllByRecursion F.local s.locals × IfSome s.hate F.hate × OfBase is_state F s
 
 -- ---- what it signs
 
--- it holds of the statement, whichever leaf of the party's key signs it
+-- It holds of the statement, whichever leaf of the party's key signs it; of a report and a new view where it holds of all inside.
 abbrev pub OfBody : Signs → Party → Body → Type 0
 OfBody F me (bodies.Order order) = (sealer : SealerState) → sealer.me ≡ me → F.order (sealed_by numbers.order order_fields sealer order)
 OfBody F me (bodies.Spec spec) = (sealer : SealerState) → sealer.me ≡ me → F.spec (sealed_by numbers.spec spec_fields sealer spec)
@@ -144,8 +158,8 @@ OfBody F me (bodies.Confirm confirm) = (sealer : SealerState) → sealer.me ≡ 
 OfBody F me (bodies.Hole hole) = (sealer : SealerState) → sealer.me ≡ me → F.hole (sealed_by numbers.hole hole_fields sealer hole)
 OfBody F me (bodies.Hate hate) = (sealer : SealerState) → sealer.me ≡ me → F.hate (sealed_by numbers.hate hate_fields sealer hate)
 OfBody F me (bodies.Check check) = (sealer : SealerState) → sealer.me ≡ me → F.check (sealed_by numbers.check check_fields sealer check)
-OfBody F me (bodies.Change change) = (sealer : SealerState) → sealer.me ≡ me → F.change (sealed_by numbers.change change_fields sealer change)
-OfBody F me (bodies.New new) = (sealer : SealerState) → sealer.me ≡ me → F.new (sealed_by numbers.new new_fields sealer new)
+OfBody F me (bodies.Change change) = OfTold F change.told → (sealer : SealerState) → sealer.me ≡ me → F.change (sealed_by numbers.change change_fields sealer change)
+OfBody F me (bodies.New new) = AllByRecursion (OfChange F) new.changes → (sealer : SealerState) → sealer.me ≡ me → F.new (sealed_by numbers.new new_fields sealer new)
 OfBody F me (bodies.Began began) = (sealer : SealerState) → sealer.me ≡ me → F.began (sealed_by numbers.began began_fields sealer began)
 OfBody F me (bodies.Fetch fetch) = (sealer : SealerState) → sealer.me ≡ me → F.fetch (sealed_by numbers.fetch fetch_fields sealer fetch)
 
@@ -172,8 +186,9 @@ OfHeard F (Timer kind) = Unit {0}
 abbrev pub OfResponse : Signs → Response → Type 0
 OfResponse F r = F.spec r.spec × IfSome r.order F.order
 
+-- its last stamp isn't above the number of leaves that it spent
 abbrev pub OfClient : Signs → ClientState → Type 0
-OfClient F s = IfSome s.waiting F.ask × AllByRecursion (λ slot. IfSome slot (OfResponse F)) s.responses
+OfClient F s = IfSome s.waiting F.ask × AllByRecursion (λ slot. IfSome slot (OfResponse F)) s.responses × (s.stamp.0 ≤ s.sealer.key.next)
 
 -- the requests that it signs, whichever leaf of its key signs them
 abbrev pub OfAsks : Signs → Party → List Ask → Type 0
@@ -181,20 +196,31 @@ OfAsks F me asks = AllByRecursion (λ ask. (sealer : SealerState) → sealer.me 
 
 -- ---- of the texts that are signed
 
--- this is to hold of each signer and the text that it signs
+-- A signed statement can be spelled, and this holds of its signer and the text that is signed.
+abbrev pub OfText : {A : Type 0} → (Party → List ℕ → Bool) → ℕ → Spelling A → Signed A → Type 0
+OfText p number fields x = (signed fields).Fits x × (p x.by (text_of number fields x.by x.stmt) ≡ true)
+
 abbrev pub OfTexts : (Party → List ℕ → Bool) → Signs
 OfTexts p =
     record {
-      ask = λ x. p x.by (text_of numbers.ask ask_fields x.by x.stmt) ≡ true;
-      order = λ x. p x.by (text_of numbers.order order_fields x.by x.stmt) ≡ true;
-      spec = λ x. p x.by (text_of numbers.spec spec_fields x.by x.stmt) ≡ true;
-      local = λ x. p x.by (text_of numbers.local local_fields x.by x.stmt) ≡ true;
-      confirm = λ x. p x.by (text_of numbers.confirm confirm_fields x.by x.stmt) ≡ true;
-      hole = λ x. p x.by (text_of numbers.hole hole_fields x.by x.stmt) ≡ true;
-      hate = λ x. p x.by (text_of numbers.hate hate_fields x.by x.stmt) ≡ true;
-      check = λ x. p x.by (text_of numbers.check check_fields x.by x.stmt) ≡ true;
-      change = λ x. p x.by (text_of numbers.change change_fields x.by x.stmt) ≡ true;
-      new = λ x. p x.by (text_of numbers.new new_fields x.by x.stmt) ≡ true;
-      began = λ x. p x.by (text_of numbers.began began_fields x.by x.stmt) ≡ true;
-      fetch = λ x. p x.by (text_of numbers.fetch fetch_fields x.by x.stmt) ≡ true;
+      ask = OfText p numbers.ask ask_fields;
+      order = OfText p numbers.order order_fields;
+      spec = OfText p numbers.spec spec_fields;
+      local = OfText p numbers.local local_fields;
+      confirm = OfText p numbers.confirm confirm_fields;
+      hole = OfText p numbers.hole hole_fields;
+      hate = OfText p numbers.hate hate_fields;
+      check = OfText p numbers.check check_fields;
+      change = OfText p numbers.change change_fields;
+      new = OfText p numbers.new new_fields;
+      began = OfText p numbers.began began_fields;
+      fetch = OfText p numbers.fetch fetch_fields;
     }
+
+-- each statement that is said passes
+abbrev pub ArePassed : (Party → List ℕ → Bool) → Party → List Spoken → Type 0
+ArePassed p me said = AllByRecursion (λ spoken. p me spoken.text ≡ true) said
+
+-- what is sent is of that kind, as bytes
+abbrev pub AreOfTexts : (Party → List ℕ → Bool) → List (Party × List ℕ) → Type 0
+AreOfTexts p sent = AllByRecursion (λ one. OfHeard (OfTexts p) (Heard one.1)) sent

@@ -9,9 +9,9 @@ use Rattle.zy_change.specs.declared.kept.Waiting.{Waiting}
 use Rattle.zy_check.specs.Board.{Board}
 use Rattle.zy_exec.specs.Kept.{Kept}
 use Rattle.zy_law_normal.specs.Tied.{IsRoundOf}
-use Rattle.zy_parts.specs.Reports.{began_fields, change_fields, new_fields}
+use Rattle.zy_parts.specs.Reports.{began_fields, change_fields, fetch_fields, new_fields}
 use Rattle.zy_parts.specs.Signing.{signed}
-use Rattle.zy_parts.specs.Statements.{IsU62, check_fields, local_fields, order_fields, spec_fields}
+use Rattle.zy_parts.specs.Statements.{IsU62, check_fields, confirm_fields, hate_fields, hole_fields, local_fields, order_fields, spec_fields}
 use Rattle.zy_parts.specs.declared.reports.Began.{Began}
 use Rattle.zy_parts.specs.declared.reports.Change.{Change}
 use Rattle.zy_parts.specs.declared.reports.New.{New}
@@ -28,20 +28,19 @@ use Rattle.zy_wire.specs.Fields.{FitsList, FitsOptional, IsParty}
 
 -- ---- what is said
 
--- What can be spelled, of a report with the clients' numbers as they are spelled; of a statement that only asks for something
--- nothing is read.
+-- What can be spelled, of a report with the clients' numbers as they are spelled.
 abbrev pub FitsBody : Body → Type 0
 FitsBody (bodies.Order order) = order_fields.Fits order
 FitsBody (bodies.Spec spec) = spec_fields.Fits spec
 FitsBody (bodies.Local local) = local_fields.Fits local
-FitsBody (bodies.Confirm confirm) = Unit {0}
-FitsBody (bodies.Hole hole) = Unit {0}
-FitsBody (bodies.Hate hate) = Unit {0}
+FitsBody (bodies.Confirm confirm) = confirm_fields.Fits confirm
+FitsBody (bodies.Hole hole) = hole_fields.Fits hole
+FitsBody (bodies.Hate hate) = hate_fields.Fits hate
 FitsBody (bodies.Check check) = check_fields.Fits check
 FitsBody (bodies.Change change) = change_fields.Fits (change_spelled change)
 FitsBody (bodies.New new) = new_fields.Fits (new_spelled new)
 FitsBody (bodies.Began began) = began_fields.Fits began
-FitsBody (bodies.Fetch fetch) = Unit {0}
+FitsBody (bodies.Fetch fetch) = fetch_fields.Fits fetch
 
 -- so of each statement that a step makes
 abbrev pub FitAll : List Act → Type 0

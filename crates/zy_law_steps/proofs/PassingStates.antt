@@ -1,0 +1,63 @@
+-- What a snapshot shows has short replies, and a state that a machine may have.
+use Rattle.std.proofs.Common.{◌≡◌, ℕ, ◌≤◌, ◌^◌, Bool, true, false, List, [], ◌∷◌, length, replicate, Option, Some, None, Result, Ok, Err, refl, sym, ap, ◌∙◌, subst, arith}
+use Rattle.std.specs.Int.{w16, w32}
+use Rattle.std.specs.List.{AllByRecursion}
+use Rattle.std.specs.Prelude.{IfSome, if◌then◌else◌, option_map, slice_set}
+use Rattle.std.proofs.lemmas.Option.{same_Some}
+use Rattle.zy_base.specs.Machine.{Rules}
+use Rattle.zy_base.specs.declared.frame_fault.FrameFault.{FrameFault}
+use Rattle.zy_base.specs.declared.ids.Digest.{Digest}
+use Rattle.zy_base.specs.declared.ids.Place.{Place}
+use Rattle.zy_exec.specs.Reading.{is_rising}
+use Rattle.zy_exec.specs.Replay.{Point}
+use Rattle.zy_exec.specs.Showing.{point_in, point_of, slots_of, with_rows}
+use Rattle.zy_exec.specs.Snapshot.{row_fields, snapshot_fields}
+use Rattle.zy_exec.specs.declared.known.Known.{Known}
+use Rattle.zy_exec.specs.declared.row.Row.{Row}
+use Rattle.zy_wire.proofs.Parts.{bind_ok, ended_ok}
+use Rattle.zy_wire.specs.Fields.{bytes16, bytes32, digest, list, u62}
+use Rattle.zy_wire.specs.Spelling.{ended, pair, whole, word}
+use Rattle.zy_law_steps.proofs.Decoded.{Gives, all_give, list_gives, made_gives, pair_gives, sized_gives}
+use Rattle.zy_law_steps.proofs.Passing.{IsShortKnown, Laws, empty_slots}
+use Rattle.zy_law_steps.proofs.Slots.{AreKept, filled}
+use Rattle.zy_law_steps.specs.Signs.{IsShort}
+
+row_gives : Gives row_fields.at (λ r. IsShortKnown r.known)
+unfolding row_fields
+row_gives =
+    made_gives _ (pair (word w32) (pair (u62 0) (pair (u62 1) (pair digest (bytes16 1100))))) _ (λ r. IsShortKnown r.known)
+    (pair_gives (word w32) (pair (u62 0) (pair (u62 1) (pair digest (bytes16 1100)))) _ _ (all_give (word w32).at)
+    (pair_gives (u62 0) (pair (u62 1) (pair digest (bytes16 1100))) _ _ (all_give (u62 0).at)
+    (pair_gives (u62 1) (pair digest (bytes16 1100)) _ _ (all_give (u62 1).at)
+    (pair_gives digest (bytes16 1100) _ _ (all_give digest.at) (sized_gives w16 1100)))))
+    (λ x short. short.1.1.1.1)
+
+snapshot_gives : Gives snapshot_fields.at (λ parts. AllByRecursion (λ r. IsShortKnown r.known) parts.0)
+unfolding snapshot_fields
+snapshot_gives bytes x rest e =
+    (pair_gives (list 0 64 row_fields) (bytes32 2300000) (AllByRecursion (λ r. IsShortKnown r.known)) (λ x. Unit {0}) (list_gives row_fields _ row_gives 0 64) (all_give (bytes32 2300000).at) bytes x rest e).0
+
+rows_short : (known : List (Option Known)) (rows : List Row) → AreKept IsShortKnown known → AllByRecursion (λ r. IsShortKnown r.known) rows → AreKept IsShortKnown (with_rows known rows)
+rows_short known [] all each = all
+rows_short known (r ∷ rows) all each = rows_short (slice_set known r.client.0 (Some r.known)) rows (filled IsShortKnown known r.client.0 r.known all each.0) each.1
+
+module _ {S : Type 0} (R : Rules S) (ok : S → Type 0) (law : Laws ok R) where
+  pub shown_short : (place : Place) (head : Digest) (bytes : List ℕ) (point : Point S) → point_in R place head bytes ≡ Some point → IsShort ok point
+  unfolding point_in
+  shown_short place head bytes point = of (whole snapshot_fields bytes) refl
+    where
+      by : (rises : Bool) (read : Option S) (rows : List Row) → ((s : S) → read ≡ Some s → ok s) → AllByRecursion (λ r. IsShortKnown r.known) rows
+          → (if rises then option_map (λ state. record { place = place.0; head = head; state = state; known = slots_of rows }) read else None) ≡ Some point → IsShort ok point
+      by false read rows fine each is = absurd cc
+      by true None rows fine each is = absurd cc
+      by true (Some state) rows fine each is =
+          subst (λ (p : Point S). IsShort ok p) (same_Some _ point is)
+          (record { state = fine state refl; known = rows_short (replicate 64 None) rows (empty_slots IsShortKnown 64) each })
+
+      of : (read : Result (List Row × List ℕ) FrameFault) → whole snapshot_fields bytes ≡ read → point_of R place head read ≡ Some point → IsShort ok point
+      of (Err fault) reads is = absurd cc
+      of (Ok parts) reads is =
+          let a = bind_ok (snapshot_fields.at bytes) (λ x. ended x.0 x.1) parts reads in
+          let b = ended_ok a.0.0 a.0.1 parts a.2 in
+          let each = subst (λ (x : List Row × List ℕ). AllByRecursion (λ r. IsShortKnown r.known) x.0) b.0 (snapshot_gives bytes a.0.0 a.0.1 a.1) in
+          by (is_rising 0 parts.0) (R.read parts.1) parts.0 (λ s read. law.reads parts.1 s read) each is

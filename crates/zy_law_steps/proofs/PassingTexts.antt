@@ -1,0 +1,118 @@
+-- What a replica and a client say can be spelled and passes a test, so it is of those texts, whichever leaf signs it.
+use Rattle.std.proofs.Common.{◌≡◌, ℕ, ◌+◌, ◌<◌, ◌≤◌, ◌^◌, Bool, true, List, [], ◌∷◌, length, map, Option, Some, None, refl, sym, ap, ◌∙◌, subst, arith}
+use Rattle.std.specs.Prelude.{All, IfSome, nat_le, option_map}
+use Rattle.std.proofs.lemmas.Bool.{leb-true}
+use Rattle.std.specs.List.{AllByRecursion}
+use Rattle.zy_base.specs.declared.ids.ClientId.{ClientId}
+use Rattle.zy_base.specs.declared.ids.Party.{Party}
+use Rattle.zy_base.specs.declared.ids.Party.TheVariants.{Client}
+use Rattle.zy_law_normal.proofs.Backing.{all_listed}
+use Rattle.zy_parts.specs.Numbers as numbers
+use Rattle.zy_parts.specs.Reports.{began_fields, change_fields, fetch_fields, new_fields}
+use Rattle.zy_parts.specs.Signing.{signed, text_of}
+use Rattle.zy_parts.specs.Statements.{ask_fields, check_fields, confirm_fields, hate_fields, hole_fields, local_fields, order_fields, spec_fields}
+use Rattle.zy_parts.specs.declared.reports.Change.{Change}
+use Rattle.zy_parts.specs.declared.reports.New.{New}
+use Rattle.zy_parts.specs.declared.reports.Told.{Told}
+use Rattle.zy_parts.specs.declared.signed.Signed.{Signed}
+use Rattle.zy_parts.specs.declared.statements.Ask.{Ask}
+use Rattle.zy_parts.specs.declared.statements.Spec.{Spec}
+use Rattle.zy_seal.specs.Sealing.{SealerState, sealed_by}
+use Rattle.zy_lms.specs.Height.{levels_of}
+use Rattle.zy_lms.specs.declared.height.Height.{Height}
+use Rattle.zy_lms.specs.declared.height.Height.TheVariants.{H5, H10}
+use Rattle.zy_law_normal.proofs.Own.{by_test}
+use Rattle.zy_table.specs.ClientRows.{ask, ask_while}
+use Rattle.zy_table.specs.ClientState.{ClientOutcome, ClientState, leaves_of, spoken_of}
+use Rattle.zy_table.specs.Deeds.{said_from, text_by}
+use Rattle.zy_table.specs.declared.deeds.Act.{Act}
+use Rattle.zy_table.specs.declared.deeds.Act.TheVariants.{Says, Gains, Adopts}
+use Rattle.zy_table.specs.declared.deeds.Body.{Body}
+use Rattle.zy_table.specs.declared.deeds.Body.TheVariants as bodies
+use Rattle.zy_law_views.specs.Told.{change_spelled, new_spelled, spec_spelled, told_spelled, with_stmt}
+use Rattle.zy_wire.specs.Fields.{IsParty}
+use Rattle.zy_wire.specs.Spelling.{Spelling}
+use Rattle.zy_law_steps.proofs.SaidBack.{same_spelled}
+use Rattle.zy_law_steps.proofs.Sizes.{sealed_fits}
+use Rattle.zy_law_steps.specs.Signs.{ArePassed, OfActs, OfAsks, OfBody, OfChange, OfText, OfTexts, OfTold, Signs}
+use Rattle.zy_law_steps.specs.Spelled.{FitAll, FitsBody}
+
+-- ---- a report whose responses are spelled as they are is spelled as it is
+
+few_leaves : (height : Height) → 2 ^ levels_of height ≤ 1024
+few_leaves H5 = omega arith
+few_leaves H10 = omega arith
+
+module _ {A : Type 0} (P : Signed A → Type 0) (f : A → A) (same : (x : Signed A) → P x → with_stmt f x ≡ x) where
+  map_same : (xs : List (Signed A)) → AllByRecursion P xs → map (with_stmt f) xs ≡ xs
+  map_same [] all = refl
+  map_same (x ∷ xs) all = ap (λ (y : Signed A). y ∷ map (with_stmt f) xs) (same x all.0) ∙ ap (λ (l : List (Signed A)). x ∷ l) (map_same xs all.1)
+
+module _ (p : Party → List ℕ → Bool) where
+  abbrev F : Signs
+  F = OfTexts p
+
+  response_same : (x : Signed Spec) → F.spec x → with_stmt spec_spelled x ≡ x
+  unfolding signed
+  response_same x is = ap (λ (s : Spec). record x { stmt = s }) (same_spelled x.stmt is.0.1.0)
+
+  responses_same : (o : Option (List (Signed Spec))) → IfSome o (All F.spec) → option_map (map (with_stmt spec_spelled)) o ≡ o
+  responses_same None is = refl
+  responses_same (Some specs) is = ap (λ (l : List (Signed Spec)). Some l) (map_same F.spec spec_spelled response_same specs (all_listed F.spec specs is))
+
+  report_same : (c : Change) → OfTold F c.told → change_spelled c ≡ c
+  report_same c is = ap (λ (o : Option (List (Signed Spec))). record c { told = record c.told { specs = o } }) (responses_same c.told.specs is.1)
+
+  change_same : (x : Signed Change) → OfChange F x → with_stmt change_spelled x ≡ x
+  change_same x is = ap (λ (c : Change). record x { stmt = c }) (report_same x.stmt is.1)
+
+  new_same : (n : New) → AllByRecursion (OfChange F) n.changes → new_spelled n ≡ n
+  new_same n all = ap (λ (l : List (Signed Change)). record n { changes = l }) (map_same (OfChange F) change_spelled change_same n.changes all)
+
+  -- ---- a statement
+
+  module _ (me : Party) (party : IsParty me) where
+    seals : {A : Type 0} (number : ℕ) (fields : Spelling A) (stmt : A) → fields.Fits stmt → p me (text_of number fields me stmt) ≡ true → (sealer : SealerState) → sealer.me ≡ me → OfText p number fields (sealed_by number fields sealer stmt)
+    seals number fields stmt fits passes sealer is = (
+      sealed_fits number fields sealer stmt stmt (subst IsParty (sym is) party) fits,
+      subst (λ (by : Party). p by (text_of number fields by stmt) ≡ true) (sym is) passes,
+    )
+
+    body_passes : (body : Body) → FitsBody body → p me (text_by me body) ≡ true → OfBody F me body
+    body_passes (bodies.Order order) fits passes = seals numbers.order order_fields order fits passes
+    body_passes (bodies.Spec spec) fits passes = seals numbers.spec spec_fields spec fits passes
+    body_passes (bodies.Local local) fits passes = seals numbers.local local_fields local fits passes
+    body_passes (bodies.Confirm confirm) fits passes = seals numbers.confirm confirm_fields confirm fits passes
+    body_passes (bodies.Hole hole) fits passes = seals numbers.hole hole_fields hole fits passes
+    body_passes (bodies.Hate hate) fits passes = seals numbers.hate hate_fields hate fits passes
+    body_passes (bodies.Check check) fits passes = seals numbers.check check_fields check fits passes
+    body_passes (bodies.Change change) fits passes = λ told. seals numbers.change change_fields change (subst change_fields.Fits (report_same change told) fits) passes
+    body_passes (bodies.New new) fits passes = λ changes. seals numbers.new new_fields new (subst new_fields.Fits (new_same new changes) fits) passes
+    body_passes (bodies.Began began) fits passes = seals numbers.began began_fields began fits passes
+    body_passes (bodies.Fetch fetch) fits passes = seals numbers.fetch fetch_fields fetch fits passes
+
+    pub acts_pass : (pairs : ℕ) (acts : List Act) → FitAll acts → ArePassed p me (said_from me pairs acts) → OfActs F me acts
+    acts_pass pairs [] fit passed = tt
+    acts_pass pairs (Says remark ∷ acts) fit passed = (body_passes remark.body fit.0 passed.0, acts_pass pairs acts fit.1 passed.1)
+    acts_pass pairs (Gains got ∷ acts) fit passed = (tt, acts_pass (pairs + 1) acts fit passed)
+    acts_pass pairs (Adopts view common gots ∷ acts) fit passed = (tt, acts_pass (pairs + 1) acts fit passed)
+
+  -- ---- requests
+
+  abbrev pub FitAsks : List Ask → Type 0
+  FitAsks asks = AllByRecursion (λ ask. ask_fields.Fits ask) asks
+
+  pub asks_pass : (me : ClientId) → me.0 < 2 ^ 32 → (asks : List Ask) → FitAsks asks → ArePassed p (Client me) (map (spoken_of me) asks) → OfAsks F (Client me) asks
+  asks_pass me small [] fit passed = tt
+  asks_pass me small (ask ∷ asks) fit passed = (seals (Client me) small numbers.ask ask_fields ask fit.0 passed.0, asks_pass me small asks fit.1 passed.1)
+
+-- what a client asks for can be spelled: its stamps are as few as its leaves
+pub ask_fits : (s : ClientState) (op : List ℕ) → s.stamp.0 ≤ s.sealer.key.next → length op ≤ 1100 → AllByRecursion (λ ask. ask_fields.Fits ask) (ask s op).said
+unfolding ask ask_fields
+ask_fits s op low short = by s.waiting
+  where
+    by : (waiting : Option (Signed Ask)) → AllByRecursion (λ ask. ask_fields.Fits ask) (ask_while s waiting op).said
+    by (Some waiting) = tt
+    by None =
+        by_test (λ (o : ClientOutcome). AllByRecursion (λ ask. ask_fields.Fits ask) o.said) (nat_le 1 (leaves_of s)) _ _
+        (λ left. let some = leb-true 1 (leaves_of s) left in let most = few_leaves s.sealer.key.height in (((omega arith, omega arith), short), tt)) (λ none. tt)
