@@ -90,7 +90,7 @@ module _ (F : Signs) (s : ClientState) (v : OfClient F s) where
       by (Some waiting) said = refuses (causes.Waiting waiting.stmt.stamp)
       by None =
           by_test (λ (o : ClientOutcome). OfAsks F s.sealer.me o.said → Of o) (nat_le 1 (leaves_of s)) _ _
-          (λ left said. let one = said.0 s.sealer refl in let low = v.2 in ((one, empty_slots (OfResponse F) s.counts.n, omega arith), (one, tt))) (λ none said. refuses causes.KeySpent)
+          (λ left said. let one = said.0 s.sealer refl in let low = v.2.1 in ((one, empty_slots (OfResponse F) s.counts.n, (v.2.0, omega arith)), (one, tt))) (λ none said. refuses causes.KeySpent)
 
   -- ---- responses
 

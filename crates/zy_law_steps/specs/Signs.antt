@@ -3,6 +3,7 @@ use Rattle.std.specs.Prelude.{◌≡◌, ℕ, ◌≤◌, Bool, true, List, All, 
 use Rattle.std.specs.List.{AllByRecursion}
 use Rattle.zy_base.specs.declared.frame_fault.FrameFault.TheVariants as faults
 use Rattle.zy_base.specs.declared.ids.Party.{Party}
+use Rattle.zy_base.specs.declared.ids.Party.TheVariants.{Client}
 use Rattle.zy_base.specs.declared.step.Event.{Event}
 use Rattle.zy_base.specs.declared.step.Event.TheVariants.{Heard, Timer}
 use Rattle.zy_base.specs.declared.step.Spoken.{Spoken}
@@ -186,9 +187,12 @@ OfHeard F (Timer kind) = Unit {0}
 abbrev pub OfResponse : Signs → Response → Type 0
 OfResponse F r = F.spec r.spec × IfSome r.order F.order
 
--- its last stamp isn't above the number of leaves that it spent
+-- it signs as itself, and its last stamp isn't above the number of leaves that it spent
+abbrev pub SignsAsItself : ClientState → Type 0
+SignsAsItself s = (s.sealer.me ≡ Client s.me) × (s.stamp.0 ≤ s.sealer.key.next)
+
 abbrev pub OfClient : Signs → ClientState → Type 0
-OfClient F s = IfSome s.waiting F.ask × AllByRecursion (λ slot. IfSome slot (OfResponse F)) s.responses × (s.stamp.0 ≤ s.sealer.key.next)
+OfClient F s = IfSome s.waiting F.ask × AllByRecursion (λ slot. IfSome slot (OfResponse F)) s.responses × SignsAsItself s
 
 -- the requests that it signs, whichever leaf of its key signs them
 abbrev pub OfAsks : Signs → Party → List Ask → Type 0

@@ -36,9 +36,9 @@ pub fn replicas_pass_on<M: Machine>()
 
 /// So does a client, whose requests are of at most 1,100 bytes.
 pub fn clients_pass_on()
-    ensures start { (p : Party → List ℕ → Bool) (me : ClientId) (counts : Counts) (keys : Keys) (sealer : SealerState) (stamp : Stamp) → stamp.0 ≤ sealer.key.next → OfClient (OfTexts p) (client_start me counts keys sealer stamp) }
-    ensures keeps_asked { (p : Party → List ℕ → Bool) (s : ClientState) (op : List ℕ) → s.sealer.me ≡ Client s.me → s.me.0 < 2 ^ 32 → length op ≤ 1100 → OfClient (OfTexts p) s → ArePassed p (Client s.me) (map (spoken_of s.me) (ask s op).said) → OfClient (OfTexts p) (ask s op).state }
-    ensures sends_asked { (p : Party → List ℕ → Bool) (s : ClientState) (op : List ℕ) → s.sealer.me ≡ Client s.me → s.me.0 < 2 ^ 32 → length op ≤ 1100 → OfClient (OfTexts p) s → ArePassed p (Client s.me) (map (spoken_of s.me) (ask s op).said) → (to : List Party) → AreOfTexts p (outgoing_to to (ask s op).sent) }
+    ensures start { (p : Party → List ℕ → Bool) (me : ClientId) (counts : Counts) (keys : Keys) (sealer : SealerState) (stamp : Stamp) → sealer.me ≡ Client me → stamp.0 ≤ sealer.key.next → OfClient (OfTexts p) (client_start me counts keys sealer stamp) }
+    ensures keeps_asked { (p : Party → List ℕ → Bool) (s : ClientState) (op : List ℕ) → s.me.0 < 2 ^ 32 → length op ≤ 1100 → OfClient (OfTexts p) s → ArePassed p (Client s.me) (map (spoken_of s.me) (ask s op).said) → OfClient (OfTexts p) (ask s op).state }
+    ensures sends_asked { (p : Party → List ℕ → Bool) (s : ClientState) (op : List ℕ) → s.me.0 < 2 ^ 32 → length op ≤ 1100 → OfClient (OfTexts p) s → ArePassed p (Client s.me) (map (spoken_of s.me) (ask s op).said) → (to : List Party) → AreOfTexts p (outgoing_to to (ask s op).sent) }
     ensures keeps { (p : Party → List ℕ → Bool) (s : ClientState) (event : Event) → OfClient (OfTexts p) s → OfHeard (OfTexts p) event → OfClient (OfTexts p) (client_step s event).state }
     ensures sends { (p : Party → List ℕ → Bool) (s : ClientState) (event : Event) → OfClient (OfTexts p) s → OfHeard (OfTexts p) event → (to : List Party) → AreOfTexts p (outgoing_to to (client_step s event).sent) }
 {}

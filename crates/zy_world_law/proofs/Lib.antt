@@ -39,3 +39,7 @@ pub mod NoConflict
 pub mod BlamelessEvents
 pub mod StartGood
 pub mod SmallRun
+pub mod PassLaws
+mod WorldSaid
+mod FaithfulSteps
+mod FaithfulRuns

@@ -10,4 +10,5 @@ pub mod Seen
 pub mod Safe
 pub mod Blame
 pub mod Good
+pub mod Faithful
 pub mod Example

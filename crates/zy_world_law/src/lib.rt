@@ -6,6 +6,7 @@
 mod blame;
 mod event;
 mod example;
+mod faithful;
 mod honest;
 mod note;
 mod runs;
@@ -13,6 +14,7 @@ mod runs;
 pub use blame::no_correct_replica_is_blamed;
 pub use event::WorldEvent;
 pub use example::a_small_run;
+pub use faithful::no_run_is_forged;
 pub use honest::honest_keeps;
 pub use note::Note;
 pub use runs::runs_are_safe;
