@@ -242,9 +242,17 @@ module _ {S : Type 0} (R : Rules S) (ok : S → Type 0) (law : Laws ok R) (F : S
   says_check_if X true own g is = says_check X own g is
 
   pub settled_of : (s : State S) (place : ℕ) (checks : List (Signed Check)) → OfState ok F s → All F.check checks → OfState ok F (settled_at R place checks s)
-  settled_of s place checks v all =
-      (v.0, all_drop (λ slot. IfSome slot (OfOrder F)) (place - s.orders.base) s.orders.slots v.1, stable_put F s.board checks v.2 all, v.3, v.4, v.5, all_filtered F.local (λ said. nat_le place said.stmt.place.0) s.locals v.6, v.7,
-       (v.8.0, along_short R ok law s.kept.base (take (place - s.kept.base.place) s.kept.entries) v.8.1))
+  settled_of s place checks v all = (
+    v.0,
+    all_drop (λ slot. IfSome slot (OfOrder F)) (place - s.orders.base) s.orders.slots v.1,
+    stable_put F s.board checks v.2 all,
+    v.3,
+    v.4,
+    v.5,
+    all_filtered F.local (λ said. nat_le place said.stmt.place.0) s.locals v.6,
+    v.7,
+    (v.8.0, along_short R ok law s.kept.base (take (place - s.kept.base.place) s.kept.entries) v.8.1),
+  )
 
   settles : (X : Type 0) (own : Check) (g : Going S) → Passes X g → Passes X (record g { state = settle_with R own.place.0 (proof_at g.state own) g.state })
   settles X own g is = turns X X (settle_with R own.place.0 (proof_at g.state own) g.state) g (λ x signer v. let n = by (proof_at g.state own) refl v signer in (x, n.0, n.1)) is

@@ -4,6 +4,7 @@ use Rattle.std.specs.Prelude.{All, IfSome, count_by, if◌then◌else◌, nat_eq
 use Rattle.std.specs.List.{AllByRecursion, cons_option, filter_map, find}
 use Rattle.std.proofs.lemmas.Bool.{leb-true}
 use Rattle.std.proofs.lemmas.List.{length-take-le}
+use Rattle.std.proofs.lemmas.List.Sums.{sum_by-cons}
 use Rattle.std.proofs.lemmas.List.Elements.{All-take, All-from_recursion}
 use Rattle.std.proofs.lemmas.Option.{same_Some}
 use Rattle.zy_base.specs.declared.cause.Cause.{Cause}
@@ -46,12 +47,16 @@ use Rattle.zy_law_steps.specs.Signs.{OfAsks, OfClient, OfFrame, OfHeard, OfRespo
 -- there are as many equal responses as agree
 as_many : (spec : Spec) (slots : List (Option Response)) → length (filter_map (equal_in spec) slots) ≡ count_by (agrees spec) slots
 as_many spec [] = refl
-as_many spec (None ∷ slots) = as_many spec slots
-as_many spec (Some kept ∷ slots) = by (same_spec kept.spec.stmt spec)
+as_many spec (None ∷ slots) =
+    let step : count_by (agrees spec) (None ∷ slots) ≡ 0 + count_by (agrees spec) slots = sum_by-cons (λ (o : Option Response). cond (agrees spec o) 1 0) None slots in omega (arith, step, as_many spec slots)
+as_many spec (Some kept ∷ slots) = by (same_spec kept.spec.stmt spec) refl
   where
-    by : (b : Bool) → length (cons_option (if b then Some kept.spec else None) (filter_map (equal_in spec) slots)) ≡ cond b 1 0 + count_by (agrees spec) slots
-    by true = ap suc (as_many spec slots)
-    by false = as_many spec slots
+    step : (b : Bool) → same_spec kept.spec.stmt spec ≡ b → count_by (agrees spec) (Some kept ∷ slots) ≡ cond b 1 0 + count_by (agrees spec) slots
+    step b is = sum_by-cons (λ (o : Option Response). cond (agrees spec o) 1 0) (Some kept) slots ∙ ap (λ (b : Bool). cond b 1 0 + count_by (agrees spec) slots) is
+
+    by : (b : Bool) → same_spec kept.spec.stmt spec ≡ b → length (cons_option (if b then Some kept.spec else None) (filter_map (equal_in spec) slots)) ≡ count_by (agrees spec) (Some kept ∷ slots)
+    by true is = omega (arith, step true is, as_many spec slots)
+    by false is = omega (arith, step false is, as_many spec slots)
 
 -- a response that is found has enough equals
 enough_in : (s : ClientState) (r : Response) → certified_in s ≡ Some r → s.counts.cert ≤ agreeing s r.spec.stmt

@@ -52,7 +52,7 @@ module _ {A B : Type 0} (kind : A → ℕ) (fields : A → List ℕ) (at : ℕ �
       let c = ended_ok b.0.0 b.0.1 y b.2 in
       let front : frame_version ∷ kind x ∷ fields x ≡ frame_version ∷ a.0 ∷ drop 2 bytes = kind_takes bytes a.0 a.1 in
       let same : kind x ≡ a.0 = cc in
-      (b.0.1, ap (λ (k : ℕ). at k (fields x)) same ∙ b.1 ∙ ap (λ (y : B). Ok (y, b.0.1)) c.0)
+      (b.0.1, subst (λ (z : B). at (kind x) (fields x) ≡ Ok (z, b.0.1)) c.0 (ap (λ (k : ℕ). at k (fields x)) same ∙ b.1))
 
 module _ {A : Type 0} (kind : A → ℕ) (fields : A → List ℕ) (Fits InRange : A → Type 0) (at : ℕ → List ℕ → Result (A × List ℕ) FrameFault) (laws : IsFraming kind fields Fits InRange at) where
   spelled_back : (x y : A) → Fits x → framed_in at (frame_bytes kind fields x) ≡ Ok y → y ≡ x
@@ -156,7 +156,7 @@ module _ (p : Party → List ℕ → Bool) where
   state_is : (bytes : List ℕ) (frame : ViewFrame) (rest : List ℕ) → view_frames.frame_at 16 bytes ≡ Ok (frame, rest) → OfViewFrame F frame
   unfolding view_frames.frame_at
   state_is bytes frame rest read =
-      let a = bind_ok (view_frames.state.at bytes) (λ x. Ok (views.State (record { 0 = x.0 }) x.1, x.2)) (frame, rest) read in
+      let a = bind_ok (view_frames.state.at bytes) (λ x. Ok (views.State (record { 0 = x.0.0 }) x.0.1, x.1)) (frame, rest) read in
       subst (λ (x : ViewFrame × List ℕ). OfViewFrame F x.0) (ok_is _ _ a.2) tt
 
   pub view_read : (frame other : ViewFrame) → OfViewFrame F frame → view_frames.frame_in (view_frames.spelling frame) ≡ Ok other → OfViewFrame F other

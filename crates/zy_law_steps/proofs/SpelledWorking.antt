@@ -56,7 +56,7 @@ use Rattle.zy_table.specs.Gathering.{gather_at, own_at}
 use Rattle.zy_table.specs.Orders.{ask_for_missing}
 use Rattle.zy_table.specs.Requests.{ordered, request_waits, sealed_order}
 use Rattle.zy_table.specs.Running.{run, spec_of}
-use Rattle.zy_table.specs.State.{State, own_view}
+use Rattle.zy_table.specs.State.{State, own_view, window_of}
 use Rattle.zy_law_views.proofs.ReadLists.{all_runnable}
 use Rattle.zy_law_views.specs.Texts.{Texts}
 use Rattle.zy_law_views.specs.Rows.{IsReady}
@@ -154,10 +154,10 @@ module _ {S : Type 0} (R : Rules S) (interval : ℕ) (texts : Texts) (w : World)
   -- the place before the least order that is held is in range, since that is kept
   gap_low : (o : OrderFrame) → HasRoomFor s o → (n : ℕ) → gap_above (last_place s.kept) (with_order s.orders o) ≡ Some n → (1 ≤ n) × (last_place s.kept + n < 2 ^ 62)
   gap_low o room n is =
-      let above = room.above in
-      let below = room.below in
-      let based = work.based in
-      let end = work.end in
+      let above : last_place s.kept < o.order.stmt.place.0 = room.above in
+      let below : o.order.stmt.place.0 ≤ window_of s = room.below in
+      let based : s.orders.base ≡ s.kept.base.place = work.based in
+      let end : s.orders.base + length s.orders.slots < 2 ^ 62 = work.end in
       let slots = slots_above (last_place s.kept) (with_order s.orders o) in
       let p = gap_at (position is_some slots) n is in
       let within = position_within is_some slots n p.1 in
@@ -165,7 +165,10 @@ module _ {S : Type 0} (R : Rules S) (interval : ℕ) (texts : Texts) (w : World)
 
   -- what is asked for ends before it, or at the next place
   hole_in_range : (o : OrderFrame) → HasRoomFor s o → (gap : Option ℕ) → gap_above (last_place s.kept) (with_order s.orders o) ≡ gap → (1 ≤ unwrap_or gap 1) × (last_place s.kept + unwrap_or gap 1 < 2 ^ 62)
-  hole_in_range o room None is = let above = room.above in let below = room.below in (omega arith, omega arith)
+  hole_in_range o room None is =
+      let above : last_place s.kept < o.order.stmt.place.0 = room.above in
+      let below : o.order.stmt.place.0 ≤ window_of s = room.below in
+      (omega arith, omega arith)
   hole_in_range o room (Some n) is = gap_low o room n is
 
   pub asks : (o : OrderFrame) → HasRoomFor s o → IsDone (ends Held (ask_for_missing R (with_held s o)))

@@ -9,8 +9,8 @@ ghost use Rattle.zy_world_law.specs.World.{start};
 use zy_base::Machine;
 use zy_client::held_responses;
 use zy_law_steps::{
-    clients_pass_on, gained_entries, replicas_pass_on, said_back, same_keys, spelled_start, spelled_steps, statements_are_parts,
-    whole_steps,
+    clients_pass_on, gained_entries, replicas_pass_on, said_back, same_keys, spelled_start,
+    spelled_steps, statements_are_parts, whole_steps,
 };
 use zy_law_views::transfer_rows;
 
