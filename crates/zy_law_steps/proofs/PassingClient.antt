@@ -1,5 +1,5 @@
 -- What holds of each signed statement that a client heard and kept, and of the requests that it signs, holds of all that it sends and keeps.
-use Rattle.std.proofs.Common.{◌≡◌, ℕ, ◌+◌, ◌≤◌, ◌^◌, Bool, true, false, cond, List, [], ◌∷◌, length, take, zero, suc, Option, Some, None, Result, Ok, Err, refl, ap, subst, arith}
+use Rattle.std.proofs.Common.{◌≡◌, ℕ, ◌+◌, ◌≤◌, ◌^◌, Bool, true, false, cond, List, [], ◌∷◌, length, take, zero, suc, Option, Some, None, Result, Ok, Err, refl, ap, ◌∙◌, subst, arith}
 use Rattle.std.specs.Prelude.{All, IfSome, count_by, if◌then◌else◌, nat_eq, nat_le, slice_index_or, unwrap_or, ◌&&◌}
 use Rattle.std.specs.List.{AllByRecursion, cons_option, filter_map, find}
 use Rattle.std.proofs.lemmas.Bool.{leb-true}
@@ -49,30 +49,33 @@ as_many : (spec : Spec) (slots : List (Option Response)) → length (filter_map 
 as_many spec [] = refl
 as_many spec (None ∷ slots) =
     let step : count_by (agrees spec) (None ∷ slots) ≡ 0 + count_by (agrees spec) slots = sum_by-cons (λ (o : Option Response). cond (agrees spec o) 1 0) None slots in omega (arith, step, as_many spec slots)
-as_many spec (Some kept ∷ slots) = by (same_spec kept.spec.stmt spec) refl
+as_many spec (Some kept ∷ slots) = by (same_spec kept.spec.stmt spec) refl (as_many spec slots)
   where
     step : (b : Bool) → same_spec kept.spec.stmt spec ≡ b → count_by (agrees spec) (Some kept ∷ slots) ≡ cond b 1 0 + count_by (agrees spec) slots
     step b is = sum_by-cons (λ (o : Option Response). cond (agrees spec o) 1 0) (Some kept) slots ∙ ap (λ (b : Bool). cond b 1 0 + count_by (agrees spec) slots) is
 
-    by : (b : Bool) → same_spec kept.spec.stmt spec ≡ b → length (cons_option (if b then Some kept.spec else None) (filter_map (equal_in spec) slots)) ≡ count_by (agrees spec) (Some kept ∷ slots)
-    by true is = omega (arith, step true is, as_many spec slots)
-    by false is = omega (arith, step false is, as_many spec slots)
+    by : (b : Bool) → same_spec kept.spec.stmt spec ≡ b → length (filter_map (equal_in spec) slots) ≡ count_by (agrees spec) slots
+        → length (cons_option (if b then Some kept.spec else None) (filter_map (equal_in spec) slots)) ≡ count_by (agrees spec) (Some kept ∷ slots)
+    by true is rest = omega (arith, step true is, rest)
+    by false is rest = omega (arith, step false is, rest)
 
 -- a response that is found has enough equals
-enough_in : (s : ClientState) (r : Response) → certified_in s ≡ Some r → s.counts.cert ≤ agreeing s r.spec.stmt
-enough_in s r = by s.responses
-  where
-    holds : (slot : Option Response) → slot ≡ Some r → is_certified s slot ≡ true → s.counts.cert ≤ agreeing s r.spec.stmt
-    holds None is passes = absurd cc
-    holds (Some kept) is passes = subst (λ (k : Response). s.counts.cert ≤ agreeing s k.spec.stmt) (same_Some kept r is) (leb-true _ _ passes)
+module _ (s : ClientState) (r : Response) where
+  enough_by : (slot : Option Response) → slot ≡ Some r → is_certified s slot ≡ true → s.counts.cert ≤ agreeing s r.spec.stmt
+  enough_by None is passes = absurd cc
+  enough_by (Some kept) is passes = subst (λ (k : Response). s.counts.cert ≤ agreeing s k.spec.stmt) (same_Some kept r is) (leb-true _ _ passes)
 
-    by : (slots : List (Option Response)) → unwrap_or (find (is_certified s) slots) None ≡ Some r → s.counts.cert ≤ agreeing s r.spec.stmt
-    by [] is = absurd cc
-    by (slot ∷ slots) = on (is_certified s slot) refl
-      where
-        on : (b : Bool) → is_certified s slot ≡ b → unwrap_or (cond b (Some slot) (find (is_certified s) slots)) None ≡ Some r → s.counts.cert ≤ agreeing s r.spec.stmt
-        on true passes is = holds slot is passes
-        on false fails is = by slots is
+  enough_among : (slots : List (Option Response)) → unwrap_or (find (is_certified s) slots) None ≡ Some r → s.counts.cert ≤ agreeing s r.spec.stmt
+  enough_among [] is = absurd cc
+  enough_among (slot ∷ slots) is = by (is_certified s slot) refl is (enough_among slots)
+    where
+      by : (b : Bool) → is_certified s slot ≡ b → unwrap_or (cond b (Some slot) (find (is_certified s) slots)) None ≡ Some r
+          → (unwrap_or (find (is_certified s) slots) None ≡ Some r → s.counts.cert ≤ agreeing s r.spec.stmt) → s.counts.cert ≤ agreeing s r.spec.stmt
+      by true passes is rest = enough_by slot is passes
+      by false fails is rest = rest is
+
+  enough_in : certified_in s ≡ Some r → s.counts.cert ≤ agreeing s r.spec.stmt
+  enough_in is = enough_among s.responses is
 
 module _ (F : Signs) (s : ClientState) (v : OfClient F s) where
   -- what a step comes to
@@ -92,7 +95,7 @@ module _ (F : Signs) (s : ClientState) (v : OfClient F s) where
   asks op = by s.waiting
     where
       by : (waiting : Option (Signed Ask)) → OfAsks F s.sealer.me (ask_while s waiting op).said → Of (ask_while s waiting op)
-      by (Some waiting) said = refuses (causes.Waiting waiting.stmt.stamp)
+      by (Some waiting) = λ said. refuses (causes.Waiting waiting.stmt.stamp)
       by None =
           by_test (λ (o : ClientOutcome). OfAsks F s.sealer.me o.said → Of o) (nat_le 1 (leaves_of s)) _ _
           (λ left said. let one = said.0 s.sealer refl in let low = v.2.1 in ((one, empty_slots (OfResponse F) s.counts.n, (v.2.0, omega arith)), (one, tt))) (λ none said. refuses causes.KeySpent)
@@ -171,7 +174,7 @@ module _ (F : Signs) (s : ClientState) (v : OfClient F s) where
   -- ---- the timer
 
   one_equal : (spec : Spec) (slot : Option Response) (x : Signed Spec) → IfSome slot (OfResponse F) → equal_in spec slot ≡ Some x → F.spec x
-  one_equal spec None x one is = absurd cc
+  one_equal spec None x one = λ is. absurd cc
   one_equal spec (Some kept) x one =
       by_test (λ (o : Option (Signed Spec)). o ≡ Some x → F.spec x) (same_spec kept.spec.stmt spec) _ _ (λ same is. subst F.spec (same_Some kept.spec x is) one.0) (λ other is. absurd cc)
 

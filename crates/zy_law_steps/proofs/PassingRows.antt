@@ -348,7 +348,7 @@ module _ {S : Type 0} (R : Rules S) (ok : S → Type 0) (law : Laws ok R) (F : S
 
   fills_with : (hole : Signed Hole) (list : List OrderFrame) → AllByRecursion (OfOrder F) list → Of (fill_with s hole list)
   fills_with hole [] all = by_test Of (nat_le hole.stmt.to.0 (last_place s.kept)) _ _ (λ old. refuses causes.OldPlace) (λ behind. refuses (causes.Behind hole.stmt.to))
-  fills_with hole (o ∷ list) all acts = (signer, v, each (o ∷ list) all)
+  fills_with hole (o ∷ list) all = λ acts. (signer, v, each (o ∷ list) all)
     where
       each : (list : List OrderFrame) → AllByRecursion (OfOrder F) list → OfSent F (map (order_to hole.by) list)
       each [] all = tt

@@ -76,7 +76,7 @@ use Rattle.zy_law_steps.proofs.Sizes.{digest_long, head_long, next_long}
 
 -- how many places lie between is where the first order stands
 gap_at : (found : Option ℕ) (n : ℕ) → gap_in found ≡ Some n → (1 ≤ n) × (found ≡ Some n)
-gap_at None n is = absurd cc
+gap_at None n = λ is. absurd cc
 gap_at (Some m) n =
     by_test (λ (o : Option ℕ). o ≡ Some n → (1 ≤ n) × (Some m ≡ Some n)) (nat_le m 0) _ _ (λ none is. absurd cc)
     (λ some is. let same : m ≡ n = same_Some m n is in (let more = leb-false m 0 some in omega arith, is))

@@ -4,7 +4,7 @@
 
 mod entries;
 mod frames;
-mod passing;
+mod passed_on;
 mod said;
 mod same;
 mod start;
@@ -14,7 +14,7 @@ mod whole;
 
 pub use entries::working_rows;
 pub use frames::leaving_refuses;
-pub use passing::{clients_pass_on, replicas_pass_on, statements_are_parts};
+pub use passed_on::{clients_pass_on, replicas_pass_on, statements_are_parts};
 pub use said::said_back;
 pub use same::same_keys;
 pub use start::spelled_start;

@@ -3,14 +3,15 @@ use Rattle.zy_law_steps.proofs.Passing.{Laws, starts}
 use Rattle.zy_law_steps.proofs.PassingParts.{sent_as}
 use Rattle.zy_law_steps.proofs.PassingRows.{passes}
 use Rattle.zy_law_steps.proofs.PassingTexts.{acts_pass}
-use Rattle.zy_law_steps.proofs.passing.replicas_pass_on.Goals as goal
+use Rattle.zy_law_steps.proofs.passed_on.replicas_pass_on.Goals as goal
 use Rattle.zy_law_steps.specs.Signs.{OfTexts}
 
 pub returns : goal.returns
 returns g c =
     let M = g.M.Machine in
+    let met = g.met.M.Machine in
     let R = M.rules in
-    let law : Laws M.IsState R = record { starts = M.starts; stays = M.stays; short = M.short_reply; reads = M.reads_state } in
+    let law : Laws M.IsState R = record { starts = met.starts; stays = met.stays; short = met.short_reply; reads = met.reads_state } in
     record {
       start = λ p interval me counts keys sealer. starts R M.IsState law (OfTexts p) interval me counts keys sealer;
       keeps = λ p s event party kept heard fit said. (passes R M.IsState law (OfTexts p) s.sealer.me s refl kept event heard (acts_pass p s.sealer.me party 0 _ fit said)).1;

@@ -4,7 +4,7 @@ use Rattle.zy_law_steps.proofs.Passing.{empty_slots}
 use Rattle.zy_law_steps.proofs.PassingClient.{asks, steps}
 use Rattle.zy_law_steps.proofs.PassingParts.{sent_as}
 use Rattle.zy_law_steps.proofs.PassingTexts.{ask_fits, asks_pass}
-use Rattle.zy_law_steps.proofs.passing.clients_pass_on.Goals as goal
+use Rattle.zy_law_steps.proofs.passed_on.clients_pass_on.Goals as goal
 use Rattle.zy_law_steps.specs.Signs.{OfAsks, OfResponse, OfTexts}
 use Rattle.zy_table.specs.ClientRows.{ask}
 
