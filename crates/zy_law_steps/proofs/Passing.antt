@@ -1,7 +1,7 @@
 -- What holds of each signed statement that a replica heard and kept, and of those that it signs, holds on its way through a step of those that it
 -- keeps and sends.
-use Rattle.std.proofs.Common.{◌≡◌, ℕ, zero, suc, ◌+◌, ◌-◌, Bool, true, false, cond, List, [], ◌∷◌, ◌++◌, length, map, set, replicate, Option, Some, None, refl, sym, ap, ◌∙◌, subst, arith}
-use Rattle.std.specs.Prelude.{◌≤◌, All, IfSome, Result, Ok, Err, option_map, take, filter, if◌then◌else◌, nat_eq, nat_le, nat_lt, slice_index_or}
+use Rattle.std.proofs.Common.{◌≡◌, ℕ, zero, suc, ◌+◌, ◌-◌, Bool, true, false, cond, List, [], ◌∷◌, ◌++◌, length, set, replicate, Option, Some, None, refl, sym, ◌∙◌, subst}
+use Rattle.std.specs.Prelude.{◌≤◌, All, IfSome, option_map, take, filter, if◌then◌else◌, nat_le, nat_lt, slice_index_or}
 use Rattle.std.specs.List.{AllByRecursion, find}
 use Rattle.std.proofs.lemmas.List.Elements.{All-nil}
 use Rattle.zy_base.specs.Machine.{Rules}
@@ -22,7 +22,7 @@ use Rattle.zy_check.specs.Judging.{after_check, after_spec}
 use Rattle.zy_frames.specs.declared.frame.Frame.TheVariants as frames
 use Rattle.zy_frames.specs.declared.frame.OrderFrame.{OrderFrame}
 use Rattle.zy_law_normal.proofs.Goes.{all_of_both, all_of_front, all_of_rest}
-use Rattle.zy_law_normal.proofs.KeptVotes.{AreFirst, AreKeptOf, after_check_kept, after_spec_kept, are_first, at_place, none_kept, with_stable_kept, without_others_kept}
+use Rattle.zy_law_normal.proofs.KeptVotes.{AreKeptOf, after_check_kept, after_spec_kept, are_first, at_place, none_kept, with_stable_kept, without_others_kept}
 use Rattle.zy_law_normal.proofs.Own.{all_drop, by_test}
 use Rattle.zy_base.specs.declared.ids.ClientId.{ClientId}
 use Rattle.zy_chain.specs.Stretch.{entry_in}
@@ -36,7 +36,6 @@ use Rattle.zy_parts.specs.declared.signed.Signed.{Signed}
 use Rattle.zy_seal.specs.Keys.{Keys}
 use Rattle.zy_seal.specs.Sealing.{SealerState, sealed_by}
 use Rattle.zy_parts.specs.declared.statements.Check.{Check}
-use Rattle.zy_parts.specs.declared.statements.Local.{Local}
 use Rattle.zy_parts.specs.declared.statements.Order.{Order}
 use Rattle.zy_parts.specs.declared.statements.Spec.{Spec}
 use Rattle.zy_table.specs.Deeds.{Going, act, send_any}

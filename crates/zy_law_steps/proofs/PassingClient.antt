@@ -1,6 +1,6 @@
 -- What holds of each signed statement that a client heard and kept, and of the requests that it signs, holds of all that it sends and keeps.
-use Rattle.std.proofs.Common.{◌≡◌, ℕ, ◌+◌, ◌≤◌, ◌^◌, Bool, true, false, cond, List, [], ◌∷◌, length, take, zero, suc, Option, Some, None, Result, Ok, Err, refl, ap, ◌∙◌, subst, arith}
-use Rattle.std.specs.Prelude.{All, IfSome, count_by, if◌then◌else◌, nat_eq, nat_le, slice_index_or, unwrap_or, ◌&&◌}
+use Rattle.std.proofs.Common.{◌≡◌, ℕ, ◌+◌, ◌≤◌, Bool, true, false, cond, List, [], ◌∷◌, length, take, Option, Some, None, Result, Ok, Err, refl, ap, ◌∙◌, subst, arith}
+use Rattle.std.specs.Prelude.{IfSome, count_by, if◌then◌else◌, nat_le, unwrap_or}
 use Rattle.std.specs.List.{AllByRecursion, cons_option, filter_map, find}
 use Rattle.std.proofs.lemmas.Bool.{leb-true}
 use Rattle.std.proofs.lemmas.List.{length-take-le}
@@ -21,7 +21,6 @@ use Rattle.zy_cert.specs.Misbehaviour.{conflict}
 use Rattle.zy_cert.specs.Votes.{answer_to}
 use Rattle.zy_cert.specs.declared.votes.Vote.{Vote}
 use Rattle.zy_cert.specs.declared.votes.Vote.TheVariants.{Counted, Full, Repeat, Mixed}
-use Rattle.zy_change.proofs.FitLemmas.{all_there}
 use Rattle.zy_frames.specs.Frames as plain
 use Rattle.zy_frames.specs.declared.frame.Frame.{Frame}
 use Rattle.zy_frames.specs.declared.frame.Frame.TheVariants as frames
@@ -32,8 +31,8 @@ use Rattle.zy_parts.specs.declared.statements.Local.{Local}
 use Rattle.zy_parts.specs.declared.statements.Order.{Order}
 use Rattle.zy_parts.specs.declared.statements.Spec.{Spec}
 use Rattle.zy_seal.specs.Screening.{screen}
-use Rattle.zy_table.specs.ClientRows.{agreeing, agrees, ask, ask_or_commit, ask_while, certificate_of, certified_in, client_step, complete, completed_if, contradicted, count_local, decoded_as, equal_in, evidence_by, evidence_with, hear, hear_response, is_blamed, is_by_primary, is_certified, is_for, keep, keep_unless, local_beside, local_while, next_ask, order_in, respond, respond_while, response_cause, run_out, run_out_while, told, unless, view_decoded, vote_on}
-use Rattle.zy_table.specs.ClientState.{ClientOutcome, ClientState, leaves_of, no_responses, refused, taken}
+use Rattle.zy_table.specs.ClientRows.{agreeing, agrees, ask, ask_or_commit, ask_while, certified_in, client_step, completed_if, contradicted, count_local, decoded_as, equal_in, evidence_by, evidence_with, hear, hear_response, is_blamed, is_by_primary, is_certified, is_for, keep, keep_unless, local_beside, local_while, order_in, respond, respond_while, response_cause, run_out, run_out_while, told, unless, view_decoded, vote_on}
+use Rattle.zy_table.specs.ClientState.{ClientOutcome, ClientState, leaves_of, refused, taken}
 use Rattle.zy_table.specs.Roles.{is_replica}
 use Rattle.zy_table.specs.declared.client.Commit.{Commit}
 use Rattle.zy_table.specs.declared.client.Response.{Response}

@@ -1,5 +1,5 @@
 -- What holds of each signed statement of a frame, as its signer's text, holds of each part of it; and the frame is read back as itself.
-use Rattle.std.proofs.Common.{◌≡◌, ℕ, Bool, true, List, [], ◌∷◌, ◌++◌, map, drop, Option, Some, None, Result, Ok, refl, sym, ap, ◌∙◌, subst, append-nil}
+use Rattle.std.proofs.Common.{◌≡◌, ℕ, Bool, true, List, [], ◌∷◌, map, drop, Option, Some, None, Result, Ok, sym, ap, ◌∙◌, subst, append-nil}
 use Rattle.std.specs.Prelude.{All, IfSome}
 use Rattle.std.specs.List.{AllByRecursion, flat_map}
 use Rattle.zy_base.specs.declared.frame_fault.FrameFault.{FrameFault}

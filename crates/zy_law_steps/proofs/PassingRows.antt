@@ -18,7 +18,6 @@ use Rattle.zy_base.specs.declared.step.Event.{Event}
 use Rattle.zy_base.specs.declared.step.Event.TheVariants.{Heard, Timer}
 use Rattle.zy_base.specs.declared.step.Mode.{Mode}
 use Rattle.zy_base.specs.declared.step.Mode.TheVariants.{Active, Leaving}
-use Rattle.zy_base.specs.declared.step.TimerKind.{TimerKind}
 use Rattle.zy_base.specs.declared.step.TimerKind.TheVariants as timers
 use Rattle.zy_admit.specs.Judging.{entry_of, judge_in, same_digest}
 use Rattle.zy_admit.specs.Orders.{Orders, orders_from, slots_above, stored_in, with_order}
@@ -32,7 +31,7 @@ use Rattle.zy_cert.specs.Points.{point_of_began, point_of_spec}
 use Rattle.zy_change.proofs.FitLemmas.{taken_there}
 use Rattle.zy_change.specs.Confirming.{accepted_for, is_began_from, is_over}
 use Rattle.zy_change.specs.Judging.{chosen_in}
-use Rattle.zy_change.specs.Owing.{hated_by_many, is_left_behind, least_above, next_view, provider_in}
+use Rattle.zy_change.specs.Owing.{hated_by_many, is_left_behind, least_above, next_view}
 use Rattle.zy_change.specs.Views.{began_for, change_for, has_begun, is_accepted, is_further, is_from, is_hated_by, leads, own_change, slot_of, with_change}
 use Rattle.zy_change.specs.declared.kept.Accepted.{Accepted}
 use Rattle.zy_change.specs.declared.kept.Chosen.{Chosen}
@@ -40,7 +39,6 @@ use Rattle.zy_change.specs.declared.kept.Waiting.{Waiting}
 use Rattle.zy_chain.specs.Entries.{digest_of_entry}
 use Rattle.zy_chain.specs.Stretch.{head_in}
 use Rattle.zy_check.proofs.JudgingLemmas.{after_check-stays, after_spec-stays}
-use Rattle.zy_check.specs.Board as boards
 use Rattle.zy_check.specs.Board.{Board, with_check, with_spec}
 use Rattle.zy_check.specs.Judging.{after_check, after_spec, is_refused, judge_check, judge_spec}
 use Rattle.zy_check.specs.States.{fetch_cause, state_cause}
@@ -62,7 +60,7 @@ use Rattle.zy_law_normal.proofs.Goes.{all_of_both}
 use Rattle.zy_law_normal.proofs.KeptVotes.{after_check_kept, after_spec_kept}
 use Rattle.zy_law_normal.proofs.Own.{all_drop, at_of, by_test}
 use Rattle.zy_parts.specs.Numbers as numbers
-use Rattle.zy_parts.specs.Statements.{confirm_fields, hate_fields, hole_fields, local_fields, order_fields}
+use Rattle.zy_parts.specs.Statements.{hate_fields, hole_fields, local_fields}
 use Rattle.zy_parts.specs.declared.reports.Began.{Began}
 use Rattle.zy_parts.specs.declared.reports.Change.{Change}
 use Rattle.zy_parts.specs.declared.reports.Fetch.{Fetch}
@@ -79,21 +77,21 @@ use Rattle.zy_parts.specs.declared.statements.Order.{Order}
 use Rattle.zy_parts.specs.declared.statements.Spec.{Spec}
 use Rattle.zy_seal.specs.Screening.{screen}
 use Rattle.zy_seal.specs.Sealing.{sealed_by}
-use Rattle.zy_table.specs.Beginning.{adopt, arrive, begun, certify_with, finished, wanted_of}
-use Rattle.zy_table.specs.Changes.{change, change_judged, change_kept, send_cert}
+use Rattle.zy_table.specs.Beginning.{arrive, begun, finished, wanted_of}
+use Rattle.zy_table.specs.Changes.{change, change_judged, send_cert}
 use Rattle.zy_table.specs.Checkpoints.{checkpoint, kept_as, response, with_board}
-use Rattle.zy_table.specs.Commits.{commit, commit_as, commit_beside, commit_judged, give_local, local_at, local_said, locals_owed}
+use Rattle.zy_table.specs.Commits.{commit, commit_beside, commit_judged, give_local, local_at, local_said, locals_owed}
 use Rattle.zy_table.specs.Confirming.{certificate_compared, certificate_judged, confirmation, confirmation_beside, confirmation_judged, new_view, new_view_judged, view_certificate, with_confirmation}
 use Rattle.zy_table.specs.Confirms.{confirm, confirm_after, order_again}
-use Rattle.zy_table.specs.Deeds.{Going, Outcome, act, begin, ends, refused, send_any, send_view}
+use Rattle.zy_table.specs.Deeds.{Going, Outcome, act, begin, ends, refused, send_any}
 use Rattle.zy_table.specs.Fetching.{fetch, fetch_judged, install, installed, state_for, state_heard, state_judged, state_transfer}
 use Rattle.zy_table.specs.Gathering.{checks_owed, gather_at, own_at, with_certificate}
 use Rattle.zy_table.specs.Hates.{ask_for_hole, change_again, count_own, has_pending, hate, hate_counted, hate_for, hate_from, hate_now, on_change_timer, on_request_timer, own_hate, say_hate, then_ask, with_hate_of}
 use Rattle.zy_table.specs.Holes.{fill_hole, fill_with, order_to}
-use Rattle.zy_table.specs.Leaving.{Attempt, concluded, goes, is_overspent, leave}
+use Rattle.zy_table.specs.Leaving.{Attempt, concluded, is_overspent}
 use Rattle.zy_table.specs.Misbehaviour.{blamed, pom, tell_all}
 use Rattle.zy_table.specs.Orders.{ask_for_missing, hole_of, order_as, owes_hole, position_of}
-use Rattle.zy_table.specs.Requests.{is_behind, new_request, ordered, request, request_after, request_at_backup, request_waits, respond_as, response_of, said_already, sealed_confirm, sealed_order, tell_primary, confirm_of}
+use Rattle.zy_table.specs.Requests.{is_behind, new_request, ordered, request, request_after, request_at_backup, request_waits, respond_as, response_of, said_already, sealed_confirm, sealed_order, tell_primary}
 use Rattle.zy_table.specs.Roles.{in_role, view_cause}
 use Rattle.zy_table.specs.Running.{run, sealed_spec, signs_of, spec_of}
 use Rattle.zy_table.specs.State.{State, is_leaving, is_primary, leaves_of, own_view, pending_of, primary_of, spec_to, spent, stood_of, window_of, with_pending, with_spec as with_own}
@@ -102,7 +100,6 @@ use Rattle.zy_table.specs.declared.deeds.Act.TheVariants.{Says}
 use Rattle.zy_table.specs.declared.deeds.AnyFrame.TheVariants.{Plain, View as Framed}
 use Rattle.zy_table.specs.declared.deeds.Body.TheVariants as bodies
 use Rattle.zy_table.specs.declared.deeds.Remark.{Remark}
-use Rattle.zy_table.specs.declared.deeds.Sent.{Sent}
 use Rattle.zy_table.specs.declared.deeds.To.TheVariants.{All as Everyone, One}
 use Rattle.zy_table.specs.declared.kept.OwnCheckpoint.{OwnCheckpoint}
 use Rattle.zy_table.specs.declared.kept.Pending.{Pending}
@@ -112,10 +109,10 @@ use Rattle.zy_vframes.specs.declared.frame.ViewCert.{ViewCert}
 use Rattle.zy_vframes.specs.declared.frame.ViewFrame.{ViewFrame}
 use Rattle.zy_vframes.specs.declared.frame.ViewFrame.TheVariants as view_frames
 use Rattle.zy_law_steps.proofs.PassingStates.{shown_short}
-use Rattle.zy_law_steps.proofs.Passing.{IsShortKnown, Laws, Passes, known_short, certified, found, gathers_at, kept_filled, kept_of, put, runs, says, sends, settled_of, slot_at, turns, knows}
+use Rattle.zy_law_steps.proofs.Passing.{IsShortKnown, Laws, Passes, known_short, certified, found, gathers_at, kept_filled, kept_of, runs, says, sends, settled_of, slot_at, turns, knows}
 use Rattle.zy_law_steps.proofs.PassingViews.{Ends, IsOf, accepts, adopts, arrives, begun_on, certifies_with, collects, ended, leaves}
 use Rattle.zy_law_steps.proofs.Slots.{AreKept, filled}
-use Rattle.zy_law_steps.specs.Signs.{OfAct, OfActs, OfAnyFrame, OfBoard, OfCert, OfChange, OfFrame, OfHeard, OfNew, OfOrder, OfOrders, OfPending, OfSent, OfState, OfViewFrame, Signs}
+use Rattle.zy_law_steps.specs.Signs.{OfBoard, OfCert, OfChange, OfFrame, OfHeard, OfNew, OfOrder, OfOrders, OfPending, OfSent, OfState, OfViewFrame, Signs}
 
 -- ---- kept orders
 

@@ -13,7 +13,6 @@ use Rattle.zy_parts.specs.Signing.{signed, text_of}
 use Rattle.zy_parts.specs.Statements.{ask_fields, check_fields, confirm_fields, hate_fields, hole_fields, local_fields, order_fields, spec_fields}
 use Rattle.zy_parts.specs.declared.reports.Change.{Change}
 use Rattle.zy_parts.specs.declared.reports.New.{New}
-use Rattle.zy_parts.specs.declared.reports.Told.{Told}
 use Rattle.zy_parts.specs.declared.signed.Signed.{Signed}
 use Rattle.zy_parts.specs.declared.statements.Ask.{Ask}
 use Rattle.zy_parts.specs.declared.statements.Spec.{Spec}
@@ -29,7 +28,7 @@ use Rattle.zy_table.specs.declared.deeds.Act.{Act}
 use Rattle.zy_table.specs.declared.deeds.Act.TheVariants.{Says, Gains, Adopts}
 use Rattle.zy_table.specs.declared.deeds.Body.{Body}
 use Rattle.zy_table.specs.declared.deeds.Body.TheVariants as bodies
-use Rattle.zy_law_views.specs.Told.{change_spelled, new_spelled, spec_spelled, told_spelled, with_stmt}
+use Rattle.zy_law_views.specs.Told.{change_spelled, new_spelled, spec_spelled, with_stmt}
 use Rattle.zy_wire.specs.Fields.{IsParty}
 use Rattle.zy_wire.specs.Spelling.{Spelling}
 use Rattle.zy_law_steps.proofs.SaidBack.{same_spelled}

@@ -1,18 +1,14 @@
 -- So it does where a replica leaves its view and begins the next.
-use Rattle.std.proofs.Common.{◌≡◌, ℕ, ◌+◌, ◌-◌, ◌≤◌, ◌^◌, Bool, true, false, List, [], ◌∷◌, ◌++◌, length, map, take, Option, Some, None, refl, subst, arith}
+use Rattle.std.proofs.Common.{◌≡◌, ℕ, ◌-◌, ◌≤◌, ◌^◌, Bool, true, false, List, [], ◌∷◌, ◌++◌, length, map, take, Option, Some, None, refl, subst, arith}
 use Rattle.std.specs.Prelude.{All, IfSome, Ok, Err, if◌then◌else◌, nat_le, nat_lt, option_map, slice_get}
-use Rattle.std.specs.List.{AllByRecursion, find, list_any}
+use Rattle.std.specs.List.{AllByRecursion, list_any}
 use Rattle.zy_base.specs.Machine.{Rules}
 use Rattle.zy_base.specs.declared.ids.Party.{Party}
-use Rattle.zy_base.specs.declared.ids.Party.TheVariants.{Client, Replica}
-use Rattle.zy_base.specs.declared.ids.Place.{Place}
+use Rattle.zy_base.specs.declared.ids.Party.TheVariants.{Client}
 use Rattle.zy_base.specs.declared.ids.View.{View}
 use Rattle.zy_base.specs.declared.step.Answer.{Answer}
-use Rattle.zy_base.specs.declared.step.Answer.TheVariants.{Held, Taken}
-use Rattle.zy_base.specs.declared.step.Mode.{Mode}
-use Rattle.zy_base.specs.declared.step.Mode.TheVariants.{Active, Leaving}
 use Rattle.zy_change.proofs.FitLemmas.{taken_there}
-use Rattle.zy_change.specs.Owing.{change_to, choice_in, hated_by_many, is_gathering, next_view, provider_in}
+use Rattle.zy_change.specs.Owing.{choice_in, is_gathering}
 use Rattle.zy_change.specs.Views.{Views, began_for, begans_equal, begans_in, certificate_of, specs_in, with_new, without_others}
 use Rattle.zy_change.specs.declared.kept.Accepted.{Accepted}
 use Rattle.zy_change.specs.declared.kept.Certificate.{Certificate}
@@ -26,34 +22,26 @@ use Rattle.zy_law_normal.proofs.Goes.{all_of_both, all_of_front}
 use Rattle.zy_law_normal.proofs.KeptVotes.{none_kept}
 use Rattle.zy_law_normal.proofs.Own.{at_of, by_test}
 use Rattle.zy_parts.specs.Numbers as numbers
-use Rattle.zy_parts.specs.Reports.{began_fields, change_fields, fetch_fields, new_fields}
-use Rattle.zy_parts.specs.Statements.{hate_fields}
+use Rattle.zy_parts.specs.Reports.{began_fields, fetch_fields}
 use Rattle.zy_parts.specs.declared.reports.Began.{Began}
 use Rattle.zy_parts.specs.declared.reports.Change.{Change}
 use Rattle.zy_parts.specs.declared.reports.Fetch.{Fetch}
 use Rattle.zy_parts.specs.declared.reports.New.{New}
 use Rattle.zy_parts.specs.declared.reports.Told.{Told}
 use Rattle.zy_parts.specs.declared.signed.Signed.{Signed}
-use Rattle.zy_parts.specs.declared.statements.Check.{Check}
-use Rattle.zy_parts.specs.declared.statements.Hate.{Hate}
-use Rattle.zy_parts.specs.declared.statements.Hole.{Hole}
-use Rattle.zy_parts.specs.declared.statements.Order.{Order}
 use Rattle.zy_parts.specs.declared.statements.Spec.{Spec}
-use Rattle.zy_frames.specs.declared.frame.OrderFrame.{OrderFrame}
 use Rattle.zy_seal.specs.Sealing.{sealed_by}
 use Rattle.zy_table.specs.Adopting.{checkpoints_between, taken_over, verdict_of}
-use Rattle.zy_table.specs.Beginning.{active_by, adopt, adopt_as, adopt_from, adopt_if, adoption_of, arrive, ask_each, ask_for, asked_of, begin_view, begun, certify_with, confirms, fetch_said, fetch_to, finished, kept_waiting, respond_alone, respond_at, respond_to, send_to_each, settled_as, take_up, wait_for, wanted_of, with_history}
-use Rattle.zy_table.specs.Deeds.{Going, Outcome, act, begin, ends, refused, send_any, send_view}
-use Rattle.zy_table.specs.Gathering.{own_at, settled_at, with_own_spec}
-use Rattle.zy_table.specs.Hates.{ask_for_hole, change_again, count_own, hate_counted, hate_from, hate_now, own_hate, say_hate, then_ask, with_hate_of}
-use Rattle.zy_table.specs.Leaving.{Attempt, accept, collect, concluded, give_new, given, goes, is_overspent, leave, leave_alone, left_with, report_of, sealed_change, sealed_new}
+use Rattle.zy_table.specs.Beginning.{active_by, adopt, adopt_as, adopt_from, adopt_if, adoption_of, arrive, ask_each, ask_for, asked_of, begin_view, begun, certify_with, confirms, fetch_said, fetch_to, kept_waiting, respond_alone, respond_at, respond_to, send_to_each, settled_as, take_up, wait_for, wanted_of}
+use Rattle.zy_table.specs.Deeds.{Going, Outcome, act, ends, send_any, send_view}
+use Rattle.zy_table.specs.Gathering.{own_at, with_own_spec}
+use Rattle.zy_table.specs.Leaving.{Attempt, accept, collect, give_new, given, leave, leave_alone, left_with, report_of, sealed_change, sealed_new}
 use Rattle.zy_table.specs.Running.{sealed_spec}
 use Rattle.zy_table.specs.State.{State, own_view, spent, stood_of, with_spec}
-use Rattle.zy_table.specs.declared.deeds.Act.TheVariants.{Adopts, Says}
+use Rattle.zy_table.specs.declared.deeds.Act.TheVariants.{Says}
 use Rattle.zy_table.specs.declared.deeds.AnyFrame.TheVariants.{Plain, View as Framed}
 use Rattle.zy_table.specs.declared.deeds.Body.TheVariants as bodies
 use Rattle.zy_table.specs.declared.deeds.Remark.{Remark}
-use Rattle.zy_table.specs.declared.deeds.Sent.{Sent}
 use Rattle.zy_table.specs.declared.deeds.To.TheVariants.{All as Everyone, One}
 use Rattle.zy_table.specs.declared.deeds.Verdict.{Verdict}
 use Rattle.zy_table.specs.declared.deeds.Verdict.TheVariants as verdicts
@@ -66,8 +54,8 @@ use Rattle.std.proofs.lemmas.List.Elements.{All-from_recursion}
 use Rattle.zy_chain.specs.Stretch.{Stretch}
 use Rattle.zy_exec.specs.Kept.{Kept}
 use Rattle.zy_law_normal.proofs.Backing.{all_listed}
-use Rattle.zy_law_steps.proofs.Passing.{Laws, Passes, reply_short, empty_slots, found, keeps_own, knows, says, sends, settled_of, spec_put, turns}
-use Rattle.zy_law_steps.proofs.Slots.{AreKept, begans_later, changes_later, equal_kept, filled, gathered_kept, others_dropped}
+use Rattle.zy_law_steps.proofs.Passing.{Laws, Passes, reply_short, empty_slots, found, knows, says, sends, settled_of, spec_put, turns}
+use Rattle.zy_law_steps.proofs.Slots.{begans_later, changes_later, equal_kept, filled, gathered_kept, others_dropped}
 use Rattle.zy_law_steps.specs.Signs.{IsShort, OfActs, OfAct, OfAnyFrame, OfCert, OfChange, OfNew, OfOrder, OfPending, OfSent, OfState, OfTold, Signs}
 
 module _ {S : Type 0} (R : Rules S) (ok : S → Type 0) (law : Laws ok R) (F : Signs) (me : Party) where

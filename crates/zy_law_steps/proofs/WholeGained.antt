@@ -26,13 +26,11 @@ use Rattle.zy_seal.specs.Screening.{screen}
 use Rattle.zy_table.specs.Deeds.{Outcome, gains_in, refused}
 use Rattle.zy_table.specs.Hates.{hate}
 use Rattle.zy_table.specs.Misbehaviour.{pom, tell_all}
-use Rattle.zy_table.specs.Orders as kept
 use Rattle.zy_table.specs.Orders.{position_of}
 use Rattle.zy_table.specs.Roles.{in_role, view_cause}
 use Rattle.zy_table.specs.State.{State}
 use Rattle.zy_table.specs.Whole.{decoded_as, hear_plain, order, order_judged, plain_row, unless, whole_step}
 use Rattle.zy_vframes.specs.ViewFrames as views
-use Rattle.zy_law_views.specs.Held as held
 use Rattle.zy_law_views.specs.Texts.{Texts}
 use Rattle.zy_law_views.proofs.HeardRows.{order_attempt, pom_attempt}
 use Rattle.zy_law_views.proofs.Leaves.{hate_attempt}

@@ -1,4 +1,4 @@
-use Rattle.std.proofs.Common.{refl, sym, subst}
+use Rattle.std.proofs.Common.{sym, subst}
 use Rattle.zy_base.specs.declared.ids.Party.{Party}
 use Rattle.zy_law_steps.proofs.Passing.{empty_slots}
 use Rattle.zy_law_steps.proofs.PassingClient.{asks, steps}
