@@ -199,10 +199,10 @@ module _ {S : Type 0} (R : Rules S) (ok : S → Type 0) (held : HeldLaw) (steps 
     abbrev marked : World S
     marked = delivered w number mail
 
-    abbrev bytes : List ℕ
-    bytes = mail.bytes
+    abbrev carried : List ℕ
+    carried = mail.bytes
 
-    heard : (test : Test) → PassesSaid w test → OfHeard (OfTexts test) (Heard bytes)
+    heard : (test : Test) → PassesSaid w test → OfHeard (OfTexts test) (Heard carried)
     heard = mail_heard w is number mail there
 
     marked_good : IsGood R marked
@@ -211,29 +211,29 @@ module _ {S : Type 0} (R : Rules S) (ok : S → Type 0) (held : HeldLaw) (steps 
     marked_fair : IsFaithful ok marked
     marked_fair = with_mail w is number (record mail { delivered = true }) heard
 
-    none : forger_in w bytes ≡ None
-    none = none_forged w is bytes heard
+    none : forger_in w carried ≡ None
+    none = none_forged w is carried heard
 
-    unless_fair : (h : Happened S) → Fair ok h → Fair ok (unless_forged (forger_in w bytes) h)
+    unless_fair : (h : Happened S) → Fair ok h → Fair ok (unless_forged (forger_in w carried) h)
     unless_fair h fair = subst (λ (o : Option Party). Fair ok (unless_forged o h)) (sym none) fair
 
-    to_replica : (id : ReplicaId) (o : Option (Option (Replica S))) → slice_get w.replicas id.0 ≡ o → Fair ok (bring_to_replica R w marked id bytes o)
+    to_replica : (id : ReplicaId) (o : Option (Option (Replica S))) → slice_get w.replicas id.0 ≡ o → Fair ok (bring_to_replica R w marked id carried o)
     to_replica id None at = is
     to_replica id (Some None) at = marked_fair
     to_replica id (Some (Some x)) at =
         let seat : replica_at w id.0 ≡ Some x = ap (λ (o : Option (Option (Replica S))). correct_in o) at in
-        unless_fair (replica_goes marked id x (texts_in bytes) (Heard bytes) (whole_step R x.state (Heard bytes)))
-        (replica_fair R ok steps pass marked marked_good marked_fair id x seat (texts_in bytes) (Heard bytes)
-        (λ more kept good1. honest_or_idle R (record marked { texts = more }) good1 x.state (good.tied id.0 x seat).keys bytes none kept) heard)
+        unless_fair (replica_goes marked id x (texts_in carried) (Heard carried) (whole_step R x.state (Heard carried)))
+        (replica_fair R ok steps pass marked marked_good marked_fair id x seat (texts_in carried) (Heard carried)
+        (λ more kept good1. honest_or_idle R (record marked { texts = more }) good1 x.state (good.tied id.0 x seat).keys carried none kept) heard)
 
-    to_client : (id : ClientId) (o : Option (Option Client)) → slice_get w.clients id.0 ≡ o → Fair ok (bring_to_client w marked id bytes o)
+    to_client : (id : ClientId) (o : Option (Option Client)) → slice_get w.clients id.0 ≡ o → Fair ok (bring_to_client w marked id carried o)
     to_client id None at = is
     to_client id (Some None) at = marked_fair
     to_client id (Some (Some x)) at =
-        unless_fair (client_goes marked id x (texts_in bytes) (client_step x.state (Heard bytes)))
-        (heard_by_client marked marked_good marked_fair id x (ap (λ (o : Option (Option Client)). correct_in o) at) (texts_in bytes) (Heard bytes) heard)
+        unless_fair (client_goes marked id x (texts_in carried) (client_step x.state (Heard carried)))
+        (heard_by_client marked marked_good marked_fair id x (ap (λ (o : Option (Option Client)). correct_in o) at) (texts_in carried) (Heard carried) heard)
 
-    brought : (to : Party) → Fair ok (bring R w marked to bytes)
+    brought : (to : Party) → Fair ok (bring R w marked to carried)
     brought (parties.Replica id) = to_replica id (slice_get w.replicas id.0) refl
     brought (parties.Client id) = to_client id (slice_get w.clients id.0) refl
 

@@ -113,10 +113,10 @@ module _ {S : Type 0} (R : Rules S) (held : HeldLaw) (steps : StepLaws R) (setup
   abbrev v : law.World
   v = seen R w
 
-  replica_is : (q : ℕ) (x : Replica S) → replica_at w q ≡ Some x → (q < setup.counts.n) × (x ≡ starting_replica R setup q)
+  pub replica_is : (q : ℕ) (x : Replica S) → replica_at w q ≡ Some x → (q < setup.counts.n) × (x ≡ starting_replica R setup q)
   replica_is q x at = seated setup.counts.n setup.liars (starting_replica R setup) q x at
 
-  client_is : (q : ℕ) (x : Client) → client_at w q ≡ Some x → (q < setup.clients) × (x ≡ starting_client setup q)
+  pub client_is : (q : ℕ) (x : Client) → client_at w q ≡ Some x → (q < setup.clients) × (x ≡ starting_client setup q)
   client_is q x at = seated setup.clients setup.lying_clients (starting_client setup) q x at
 
   few : count_below setup.counts.n v.liar ≤ setup.counts.f

@@ -22,20 +22,20 @@ use Rattle.zy_world_law.proofs.ToldSteps.{map_append}
 -- ---- lists of texts
 
 has_more : (text : List ℕ) (texts more : List (List ℕ)) → list_any (bytes_eq text) texts ≡ true → list_any (bytes_eq text) (texts ++ more) ≡ true
-has_more text [] more is = absurd cc
-has_more text (first ∷ texts) more = by (bytes_eq text first)
+has_more text [] more = λ is. absurd cc
+has_more text (first ∷ texts) more = by (bytes_eq text first) (has_more text texts more)
   where
-    by : (b : Bool) → (b || list_any (bytes_eq text) texts) ≡ true → (b || list_any (bytes_eq text) (texts ++ more)) ≡ true
-    by true is = refl
-    by false is = has_more text texts more is
+    by : (b : Bool) → (list_any (bytes_eq text) texts ≡ true → list_any (bytes_eq text) (texts ++ more) ≡ true) → (b || list_any (bytes_eq text) texts) ≡ true → (b || list_any (bytes_eq text) (texts ++ more)) ≡ true
+    by true rest is = refl
+    by false rest is = rest is
 
 has_front : (text : List ℕ) (before texts : List (List ℕ)) → list_any (bytes_eq text) texts ≡ true → list_any (bytes_eq text) (before ++ texts) ≡ true
 has_front text [] texts is = is
-has_front text (first ∷ before) texts is = by (bytes_eq text first)
+has_front text (first ∷ before) texts is = by (bytes_eq text first) (has_front text before texts is)
   where
-    by : (b : Bool) → (b || list_any (bytes_eq text) (before ++ texts)) ≡ true
-    by true = refl
-    by false = has_front text before texts is
+    by : (b : Bool) → list_any (bytes_eq text) (before ++ texts) ≡ true → (b || list_any (bytes_eq text) (before ++ texts)) ≡ true
+    by true rest = refl
+    by false rest = rest
 
 not_false : (b : Bool) → not b ≡ false → b ≡ true
 not_false true is = refl
