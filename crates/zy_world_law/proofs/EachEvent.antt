@@ -1,6 +1,6 @@
 -- Each honest event keeps a good world good.
 use Rattle.zy_table.specs.Whole.{whole_step}
-use Rattle.std.proofs.Common.{append-nil, ◌≡◌, inl, ℕ, ◌-◌, ◌%◌, nat_eq, Bool, true, false, ◌&&◌, List, [], ◌∷◌, Option, Some, None, Result, Ok, refl, sym, ap, ◌∙◌, subst}
+use Rattle.std.proofs.Common.{append-nil, ◌≡◌, inl, ℕ, ◌%◌, nat_eq, Bool, true, false, ◌&&◌, List, [], ◌∷◌, Option, Some, None, Result, Ok, refl, sym, ap, ◌∙◌, subst}
 use Rattle.std.specs.Prelude.{IfSome, if◌then◌else◌, slice_get, option_map, unwrap_or, nat_lt}
 use Rattle.std.specs.List.{AllByRecursion}
 use Rattle.std.specs.Option.{option_and_then}

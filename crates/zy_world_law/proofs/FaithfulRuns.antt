@@ -1,5 +1,5 @@
 -- Where nobody lies, no event is forged, and each world of a run is faithful.
-use Rattle.std.proofs.Common.{◌≡◌, ℕ, ◌-◌, ◌<◌, ◌≤◌, ◌^◌, inl, inr, zero, suc, Bool, true, false, not, ◌&&◌, List, [], ◌∷◌, ◌++◌, length, map, set, Option, Some, None, Result, Ok, Err, refl, sym, ap, ◌∙◌, subst, arith}
+use Rattle.std.proofs.Common.{◌≡◌, ℕ, ◌-◌, ◌<◌, ◌≤◌, ◌^◌, inl, zero, suc, Bool, true, false, not, ◌&&◌, List, [], ◌∷◌, ◌++◌, length, map, set, Option, Some, None, Result, Ok, Err, refl, sym, ap, ◌∙◌, subst, arith}
 use Rattle.std.specs.Prelude.{cond, if◌then◌else◌, option_map, slice_get, unwrap_or}
 use Rattle.std.specs.List.{AllByRecursion, find}
 use Rattle.zy_base.specs.Machine.{Rules}
@@ -17,13 +17,13 @@ use Rattle.zy_base.specs.declared.step.TimerKind.TheVariants as timers
 use Rattle.zy_frames.specs.Frames as plain
 use Rattle.zy_frames.specs.declared.frame.Frame.{Frame}
 use Rattle.zy_law_normal.proofs.Own.{at_of}
-use Rattle.zy_law_steps.specs.Signs.{AreOfTexts, ArePassed, OfClient, OfHeard, OfState, OfTexts}
+use Rattle.zy_law_steps.specs.Signs.{ArePassed, OfClient, OfHeard, OfState, OfTexts}
 use Rattle.zy_parts.specs.declared.signed.Part.{Part}
 use Rattle.zy_schedule.specs.declared.line.Line.{Line}
 use Rattle.zy_schedule.specs.declared.line.Line.TheVariants as lines
 use Rattle.zy_seal.specs.Screening.{answer_to}
 use Rattle.zy_table.specs.ClientRows.{ask, client_step}
-use Rattle.zy_table.specs.ClientState.{all_replicas, client_outgoing, spoken_of}
+use Rattle.zy_table.specs.ClientState.{all_replicas, spoken_of}
 use Rattle.zy_table.specs.Whole.{whole_step}
 use Rattle.zy_tuple.specs.Bytes.{op_bytes}
 use Rattle.zy_vframes.specs.ViewFrames as views
@@ -34,11 +34,11 @@ use Rattle.zy_world_law.specs.Events.Happened.{Goes, Breaks}
 use Rattle.zy_world_law.specs.Faithful.{IsFaithful, IsQuiet, IsUnforged, PassesSaid}
 use Rattle.zy_world_law.specs.Good.{IsGood}
 use Rattle.zy_world_law.specs.Honest.{forger_in, is_forged, is_unsaid, is_yes}
-use Rattle.zy_world_law.specs.Reading.{any_frame_in, either_read, parts_in, parts_of, view_read}
+use Rattle.zy_world_law.specs.Reading.{either_read, parts_of, view_read}
 use Rattle.zy_world_law.specs.Runs.{Rest, comes_to, flow, flow_on, goes_on, run, run_line}
 use Rattle.zy_world_law.specs.Setup.{IsSetup, Setup, keys_of, sealer_of}
 use Rattle.zy_world_law.specs.Texts.{texts_in}
-use Rattle.zy_world_law.specs.World.{World, Client, Mail, Replica, client_at, correct_in, delivered, drop_frame, dropped_if, is_party, mail_at, next_undelivered, replica_at, same_party, set_muted, start, starting_client, starting_replica, texts_said, with_mail_at}
+use Rattle.zy_world_law.specs.World.{World, Client, Mail, Replica, client_at, correct_in, delivered, dropped_if, is_party, mail_at, next_undelivered, replica_at, same_party, start, texts_said, with_mail_at}
 use Rattle.zy_world_law.specs.declared.event.WorldEvent.{WorldEvent}
 use Rattle.zy_world_law.specs.declared.event.WorldEvent.TheVariants as events
 use Rattle.zy_world_law.specs.declared.note.Note.{Note}
@@ -51,7 +51,7 @@ use Rattle.zy_world_law.proofs.KeptOrHeard.{ask_comes}
 use Rattle.zy_world_law.proofs.PassLaws.{PassLaws, Test}
 use Rattle.zy_world_law.proofs.StartGood.{client_is, replica_is}
 use Rattle.zy_world_law.proofs.StepLaws.{StepLaws}
-use Rattle.zy_world_law.proofs.WorldSaid.{all_among, all_passed, client_says_more, own_client}
+use Rattle.zy_world_law.proofs.WorldSaid.{all_among, all_passed, own_client}
 
 -- ---- lists
 

@@ -1,5 +1,5 @@
 -- What was said stays said as a replica or a client makes a step, and what it says then is said.
-use Rattle.std.proofs.Common.{◌≡◌, ◌≢◌, ℕ, ◌+◌, ◌-◌, inl, inr, Bool, true, false, not, ◌&&◌, ◌||◌, cond, List, [], ◌∷◌, ◌++◌, length, map, Option, Some, None, refl, sym, ap, ◌∙◌, subst}
+use Rattle.std.proofs.Common.{◌≡◌, ◌≢◌, ℕ, inl, inr, Bool, true, false, not, ◌||◌, List, [], ◌∷◌, ◌++◌, map, Option, Some, refl, sym, ap, ◌∙◌, subst}
 use Rattle.std.specs.Prelude.{option_map, slice_get}
 use Rattle.std.specs.List.{AllByRecursion, list_any}
 use Rattle.std.specs.Str.{bytes_eq}
@@ -9,9 +9,8 @@ use Rattle.zy_base.specs.declared.ids.Party.{Party}
 use Rattle.zy_base.specs.declared.ids.Party.TheVariants as parties
 use Rattle.zy_base.specs.declared.ids.ReplicaId.{ReplicaId}
 use Rattle.zy_base.specs.declared.step.Spoken.{Spoken}
-use Rattle.zy_law.specs.World.{Stand}
 use Rattle.zy_law_steps.specs.Signs.{ArePassed}
-use Rattle.zy_world_law.specs.Events.{remark_after, with_client, with_replica}
+use Rattle.zy_world_law.specs.Events.{with_client, with_replica}
 use Rattle.zy_world_law.specs.Faithful.{PassesSaid}
 use Rattle.zy_world_law.specs.Honest.{is_unsaid}
 use Rattle.zy_world_law.specs.World.{World, Client, Remark, Replica, client_at, correct_in, replica_at, texts_said}

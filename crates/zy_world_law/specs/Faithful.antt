@@ -1,7 +1,6 @@
 -- Worlds in which nobody lied: all that is kept and was sent is made of statements that their signers said.
 use Rattle.std.specs.Prelude.{◌≡◌, ℕ, ◌≤◌, Bool, true, false, List, Some, length}
 use Rattle.std.specs.List.{AllByRecursion}
-use Rattle.zy_base.specs.Machine.{Rules}
 use Rattle.zy_base.specs.declared.ids.Party.{Party}
 use Rattle.zy_base.specs.declared.step.Event.TheVariants.{Heard}
 use Rattle.zy_law_steps.specs.Signs.{OfClient, OfHeard, OfState, OfTexts}
