@@ -1,5 +1,5 @@
 -- What is told of a run that isn't forged isn't a forged signature.
-use Rattle.std.proofs.Common.{◌≡◌, ℕ, ◌+◌, ◌≤◌, Bool, true, false, List, [], ◌∷◌, ◌++◌, length, Option, Some, None, IfSome, Result, Ok, Err, refl, ap, ◌∙◌, subst, lit≤}
+use Rattle.std.proofs.Common.{◌≡◌, ℕ, ◌+◌, ◌≤◌, Bool, true, false, List, [], ◌∷◌, length, Option, Some, None, IfSome, Result, Ok, Err, refl, ap, ◌∙◌, subst, lit≤}
 use Rattle.std.specs.Prelude.{if◌then◌else◌, ◌/◌, ◌%◌, ◌==◌, nat_lt}
 use Rattle.std.specs.List.{AllByRecursion, flat_map, range_with_len}
 use Rattle.zy_base.specs.Machine.{Rules}
@@ -19,7 +19,6 @@ use Rattle.zy_top_words.specs.declared.exit.Broken.TheVariants as broken
 use Rattle.zy_top_words.specs.declared.exit.Exit.{Exit}
 use Rattle.zy_top_words.specs.declared.exit.Exit.TheVariants as exits
 use Rattle.zy_tuple.specs.Bytes.{few_bytes, op_bytes}
-use Rattle.zy_tuple.specs.declared.values.Op.{Op}
 use Rattle.zy_wire.specs.Spelling.{bytes_of}
 use Rattle.zy_world_law.specs.Events.Broken.{Forged, Clash}
 use Rattle.zy_world_law.specs.Faithful.{IsQuiet, IsUnforged}
