@@ -7,4 +7,3 @@ pub mod ReplayLaws
 pub mod Report
 pub mod RunParts
 pub mod SaidLaws
-mod TruthfulRuns

@@ -4,4 +4,3 @@ pub mod Telling
 pub mod Verdict
 pub mod Replaying
 pub mod Hosting
-pub mod Truthful
