@@ -23,6 +23,7 @@ mod evidence;
 mod frames;
 mod group_files;
 mod groups;
+mod guard;
 mod history;
 mod hss;
 mod journal;
@@ -65,11 +66,14 @@ use seal::Seals;
 use std::alloc::Global;
 use std::io::ErrorKind;
 use std::{env, io};
+use text::lacking;
 use words::Row;
-use zy_base::Digest;
+use zy_base::{Digest, Machine};
+use zy_guard::Guard;
+use zy_space::Space;
 
 /// The files of `data/`, in the order in which they run.
-const TABLES: [&str; 51] = [
+const TABLES: [&str; 54] = [
     "group-numbers",
     "lists",
     "fields",
@@ -121,6 +125,9 @@ const TABLES: [&str; 51] = [
     "two-level-verification",
     "wide-numbers",
     "calm-schedules",
+    "guard-lines",
+    "guard-replies",
+    "guarded-space",
 ];
 
 fn main(rt: HostRuntime) -> io::Result<()> {
@@ -154,7 +161,8 @@ fn run_table(rt: &HostRuntime, table: &'static str) -> io::Result<()> {
         "view-changes" | "view-beginnings" => run(rt, table, &mut Machines::new(rt.alloc())?),
         "adoptions" => run(rt, table, &mut Histories::new(rt.alloc())?),
         "links-in-memory" => run(rt, table, &mut links::Links::new(rt.alloc())?),
-        "space" => run(rt, table, &mut space::Spaces::new(rt.alloc())?),
+        "space" => run(rt, table, &mut Space::empty(rt.alloc()).map_err(lacking)?),
+        "guarded-space" => run(rt, table, &mut Guard::empty(rt.alloc()).map_err(lacking)?),
         "execution" => run(rt, table, &mut history::Executions::new(rt.alloc())?),
         "frames-of-liars" => run(rt, table, &mut liars::Group::new(rt.alloc())?),
         "kept-texts" => run(rt, table, &mut kept_texts::Texts::new(rt.alloc())?),
@@ -211,6 +219,8 @@ fn answer(alloc: Global, table: &str, row: &Row) -> io::Result<String> {
         "two-level-verification" => hss::verified(alloc, row),
         "wide-numbers" => wide::numbers(alloc, row),
         "calm-schedules" => wide::schedule(alloc, row),
+        "guard-lines" => guard::line(alloc, row),
+        "guard-replies" => guard::reply(alloc, row.bytes("bytes")?),
         _ => Err(io::Error::from(ErrorKind::NotFound)),
     }
 }
