@@ -30,6 +30,7 @@ impl Scene for Exec<Space> {
             "settle" => settle(alloc, self, Place(row.number("place")?)),
             "install" => install(alloc, self, row),
             "range" => range(alloc, self),
+            "kept" => kept(alloc, self),
             "at" => at(alloc, self, Place(row.number("place")?)),
             "known" => known(alloc, self, row),
             "snapshot" => snapshot(alloc, self),
@@ -149,6 +150,12 @@ pub(crate) fn range(alloc: Global, exec: &Exec<Space>) -> io::Result<String> {
         exec.end().0,
         Hex(&head.0)
     )?)
+}
+
+/// How many replies are kept, and records to go back by.
+fn kept(alloc: Global, exec: &Exec<Space>) -> io::Result<String> {
+    let (replies, records) = (exec.replies(), exec.records());
+    Ok(format!(in alloc; "replies {replies} records {records}")?)
 }
 
 /// The head at a place, and the entry that leads there with its reply.
