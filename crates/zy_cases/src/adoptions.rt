@@ -1,5 +1,5 @@
-//! The table `adoptions`: how a replica takes up the history with which a view begins. Both histories are run in a tuple space,
-//! and the interval between checkpoints is 4 here.
+//! The table `adoptions`: how a replica takes up the history with which a view begins. The own history is an execution as in the
+//! table `execution`, and the other one is run in a tuple space too.
 
 ghost use Rattle.std.specs.Prelude.{◌≡◌, ◌<◌, Some, All, IfOk, IsTrue};
 ghost use Rattle.zy_chain.specs.Entries.{IsEntryInRange};
@@ -8,13 +8,15 @@ ghost use Rattle.zy_evidence.specs.Reading.{stretch_of};
 ghost use Rattle.zy_parts.specs.Reports.{IsToldInRange};
 
 use crate::cases::Scene;
+use crate::history::{begun, range};
 use crate::statements::{next, spelled};
 use crate::text::{Hex, cause_text, lacking};
+use crate::values::MaybeHex;
 use crate::words::{Row, not_a_line};
 use sha2::{Digest as Hasher, Sha256};
 use std::alloc::Global;
-use std::{fmt, io};
-use zy_base::{Bytes, Digest, Items, Machine, Place, ReplicaId, View};
+use std::io;
+use zy_base::{Bytes, Digest, Items, Place, ReplicaId, View};
 use zy_chain::{EMPTY_HEAD, Entry};
 use zy_evidence::read;
 use zy_exec::Exec;
@@ -23,8 +25,6 @@ use zy_replica_adopt::{judge, take_over, verdicts};
 use zy_space::Space;
 use zy_table::{Gains, Got, Verdict};
 use zy_wire::Cut;
-
-const INTERVAL: u64 = 4;
 
 /// The own history, and what was gained last.
 #[derive(Drop)]
@@ -40,47 +40,24 @@ enum Taking {
     Not(Verdict),
 }
 
-/// The digest of a snapshot where there is one.
-#[derive(Clone, Copy)]
-struct Shot(Option<Digest>);
-
-impl fmt::Display for Shot {
-    fn fmt<W: fmt::Write>(&self, f: &mut fmt::Formatter<W>) -> fmt::Result {
-        match &self.0 {
-            Some(digest) => write!(f, "{}", Hex(&digest.0)),
-            None => write!(f, "none"),
-        }
-    }
-}
-
 impl Histories {
     pub(crate) fn new(alloc: Global) -> io::Result<Histories> {
         Ok(Histories {
             gains: Items::new(alloc),
-            exec: empty(alloc)?,
+            exec: begun(alloc)?,
         })
     }
 
     /// Begins anew: runs some entries, and settles a place.
     fn begin(&mut self, alloc: Global, row: &Row) -> io::Result<String> {
         let settled = Place(row.number("settled")?);
-        self.exec = empty(alloc)?;
+        self.exec = begun(alloc)?;
         run_all(alloc, &mut self.exec, row.bytes("entries")?)?;
         if settled < self.exec.base() || settled > self.exec.end() {
             return Err(not_a_line());
         }
         self.exec.settle(settled);
-        self.stands(alloc)
-    }
-
-    fn stands(&self, alloc: Global) -> io::Result<String> {
-        let exec = &self.exec;
-        Ok(format!(in alloc;
-            "base {} end {} head {}",
-            exec.base().0,
-            exec.end().0,
-            Hex(&exec.head().0)
-        )?)
+        range(alloc, &self.exec)
     }
 
     /// Takes up what a report gives up to a place, where it can be taken up.
@@ -116,15 +93,10 @@ impl Scene for Histories {
             "begin" => self.begin(alloc, row),
             "adopt" => self.adopt(alloc, row),
             "gained" => self.gained(alloc, row.number("number")?),
-            "stands" => self.stands(alloc),
+            "stands" => range(alloc, &self.exec),
             _ => Err(not_a_line()),
         }
     }
-}
-
-fn empty(alloc: Global) -> io::Result<Exec<Space>> {
-    let space = Space::empty(alloc).map_err(lacking)?;
-    Exec::start(alloc, space, INTERVAL).map_err(lacking)
 }
 
 fn run_all(alloc: Global, exec: &mut Exec<Space>, bytes: &[u8]) -> io::Result<()> {
@@ -219,6 +191,8 @@ fn verdict_text(alloc: Global, verdict: &Verdict) -> io::Result<String> {
 
 /// An entry that was executed: its place, the heads before and after it, its reply, and the digest of the snapshot there.
 fn got_text(alloc: Global, got: &Got) -> io::Result<String> {
+    let snapshot = got.snapshot.as_ref().map(digest_of);
+    let snapshot = MaybeHex(snapshot.as_ref().map(|digest| digest.as_slice()));
     Ok(format!(in alloc;
         "place {} before {} client {} stamp {} op {} head {} reply {} snapshot {}",
         got.place.0,
@@ -228,10 +202,10 @@ fn got_text(alloc: Global, got: &Got) -> io::Result<String> {
         Hex(got.entry.op.as_slice()),
         Hex(&got.head.0),
         Hex(got.reply.as_slice()),
-        Shot(got.snapshot.as_ref().map(digest_of))
+        snapshot
     )?)
 }
 
-fn digest_of(bytes: &Bytes) -> Digest {
-    Digest(Sha256::digest(bytes.as_slice()))
+fn digest_of(bytes: &Bytes) -> [u8; 32] {
+    Sha256::digest(bytes.as_slice())
 }

@@ -9,27 +9,12 @@ use std::io;
 use zy_base::Want;
 use zy_book::{Book, KeepFault};
 
-/// The book that the rows speak of.
-#[derive(Drop)]
-pub(crate) struct Books {
-    book: Book,
-}
-
-impl Books {
-    pub(crate) fn new(alloc: Global) -> Books {
-        Books {
-            book: Book::new(alloc),
-        }
-    }
-}
-
-impl Scene for Books {
+impl Scene for Book {
     fn step(&mut self, alloc: Global, row: &Row) -> io::Result<String> {
-        let book = &mut self.book;
         match row.call()? {
-            "begin" => begin(alloc, book),
-            "keep" => keep(alloc, book, row),
-            "text" => found_text(alloc, book.text(&digest(row, "digest")?)),
+            "begin" => begin(alloc, self),
+            "keep" => keep(alloc, self, row),
+            "text" => found_text(alloc, self.text(&digest(row, "digest")?)),
             _ => Err(not_a_line()),
         }
     }

@@ -12,36 +12,23 @@ use zy_cert::{Located, Vote, Votes, check_cert, pom};
 use zy_parts::{Began, Check, Local, Order, Signed, Spec};
 
 /// The local commits that are counted.
-#[derive(Drop)]
-pub(crate) struct Poll {
-    votes: Votes<Local>,
-}
-
-impl Poll {
-    pub(crate) fn new(alloc: Global) -> Poll {
-        Poll {
-            votes: Votes::new(alloc, 0),
-        }
-    }
-
-    fn add(&mut self, alloc: Global, vote: Signed<Local>) -> io::Result<String> {
-        match self.votes.add(vote) {
-            Ok(vote) => vote_text(alloc, vote, self.votes.votes().len()),
-            Err((_, want)) => Err(lacking(want)),
-        }
-    }
-}
-
-impl Scene for Poll {
+impl Scene for Votes<Local> {
     fn step(&mut self, alloc: Global, row: &Row) -> io::Result<String> {
         match row.call()? {
             "begin" => {
-                self.votes = Votes::new(alloc, row.number("wanted")?);
+                *self = Votes::new(alloc, row.number("wanted")?);
                 ok_text(alloc)
             }
-            "add" => self.add(alloc, spelled(alloc, row.bytes("vote")?)?),
+            "add" => add(alloc, self, spelled(alloc, row.bytes("vote")?)?),
             _ => Err(not_a_line()),
         }
+    }
+}
+
+fn add(alloc: Global, votes: &mut Votes<Local>, vote: Signed<Local>) -> io::Result<String> {
+    match votes.add(vote) {
+        Ok(vote) => vote_text(alloc, vote, votes.votes().len()),
+        Err((_, want)) => Err(lacking(want)),
     }
 }
 

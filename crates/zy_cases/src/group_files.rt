@@ -203,7 +203,8 @@ fn members_text(alloc: Global, group: &AskGroup, row: &Row) -> io::Result<String
     Ok(text)
 }
 
-fn put_keys(text: &mut String, keys: &Directory, parties: &str) -> io::Result<()> {
+/// The public keys of some parties.
+pub(crate) fn put_keys(text: &mut String, keys: &Directory, parties: &str) -> io::Result<()> {
     for party in parties.split(' ') {
         put_public(text, keys, party)?;
     }

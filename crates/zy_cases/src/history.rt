@@ -20,44 +20,32 @@ use zy_exec::Exec;
 use zy_space::Space;
 use zy_tuple::{op_bytes, op_text_read};
 
-/// The execution that the rows speak of.
-#[derive(Drop)]
-pub(crate) struct Executions {
-    exec: Exec<Space>,
-}
-
-impl Executions {
-    pub(crate) fn new(alloc: Global) -> io::Result<Executions> {
-        let exec = begun(alloc)?;
-        Ok(Executions { exec })
-    }
-}
-
-impl Scene for Executions {
+impl Scene for Exec<Space> {
     fn step(&mut self, alloc: Global, row: &Row) -> io::Result<String> {
-        let exec = &mut self.exec;
         match row.call()? {
-            "begin" => begin(alloc, exec),
-            "run" => run(alloc, exec, row),
-            "unrun" => unrun(alloc, exec),
-            "back" => back(alloc, exec, Place(row.number("place")?)),
-            "settle" => settle(alloc, exec, Place(row.number("place")?)),
-            "install" => install(alloc, exec, row),
-            "range" => range(alloc, exec),
-            "at" => at(alloc, exec, Place(row.number("place")?)),
-            "known" => known(alloc, exec, row),
-            "snapshot" => snapshot(alloc, exec),
-            "snapshot-at" => snapshot_at(alloc, exec, Place(row.number("place")?)),
-            "snapshots-at" => snapshots_at(alloc, exec, row),
-            "shorter" => places(alloc, exec, Change::Shorter, row.bytes("snapshot")?),
-            "longer" => places(alloc, exec, Change::Longer, row.bytes("snapshot")?),
-            "turned" => places(alloc, exec, Change::Turned, row.bytes("snapshot")?),
+            "begin" => begin(alloc, self),
+            "run" => run(alloc, self, row),
+            "unrun" => unrun(alloc, self),
+            "back" => back(alloc, self, Place(row.number("place")?)),
+            "settle" => settle(alloc, self, Place(row.number("place")?)),
+            "install" => install(alloc, self, row),
+            "range" => range(alloc, self),
+            "kept" => kept(alloc, self),
+            "at" => at(alloc, self, Place(row.number("place")?)),
+            "known" => known(alloc, self, row),
+            "snapshot" => snapshot(alloc, self),
+            "snapshot-at" => snapshot_at(alloc, self, Place(row.number("place")?)),
+            "snapshots-at" => snapshots_at(alloc, self, row),
+            "shorter" => places(alloc, self, Change::Shorter, row.bytes("snapshot")?),
+            "longer" => places(alloc, self, Change::Longer, row.bytes("snapshot")?),
+            "turned" => places(alloc, self, Change::Turned, row.bytes("snapshot")?),
             _ => Err(not_a_line()),
         }
     }
 }
 
-fn begun(alloc: Global) -> io::Result<Exec<Space>> {
+/// The execution of nothing.
+pub(crate) fn begun(alloc: Global) -> io::Result<Exec<Space>> {
     match Space::empty(alloc) {
         Ok(space) => Exec::start(alloc, space, 4).map_err(lacking),
         Err(want) => Err(lacking(want)),
@@ -154,7 +142,7 @@ fn install(alloc: Global, exec: &mut Exec<Space>, row: &Row) -> io::Result<Strin
 }
 
 /// From where to where entries are kept, and the head at the end.
-fn range(alloc: Global, exec: &Exec<Space>) -> io::Result<String> {
+pub(crate) fn range(alloc: Global, exec: &Exec<Space>) -> io::Result<String> {
     let head = exec.head();
     Ok(format!(in alloc;
         "base {} end {} head {}",
@@ -162,6 +150,12 @@ fn range(alloc: Global, exec: &Exec<Space>) -> io::Result<String> {
         exec.end().0,
         Hex(&head.0)
     )?)
+}
+
+/// How many replies are kept, and records to go back by.
+fn kept(alloc: Global, exec: &Exec<Space>) -> io::Result<String> {
+    let (replies, records) = (exec.replies(), exec.records());
+    Ok(format!(in alloc; "replies {replies} records {records}")?)
 }
 
 /// The head at a place, and the entry that leads there with its reply.

@@ -3,7 +3,7 @@
 use crate::cases::Scene;
 use crate::lms::{height, key_of};
 use crate::ots::ots_type;
-use crate::text::{Hex, fault_text, flag_text, lacking, sha_text};
+use crate::text::{Hex, fault_text, lacking, plain_text, sha_text};
 use crate::words::{Row, not_a_line};
 use std::alloc::Global;
 use std::io;
@@ -14,7 +14,10 @@ use zy_lms::{HssKey, hss_verify};
 pub(crate) fn verified(alloc: Global, row: &Row) -> io::Result<String> {
     let public = row.array("public")?;
     let message = row.bytes("message")?;
-    flag_text(alloc, hss_verify(&public, message, row.bytes("signature")?))
+    plain_text(
+        alloc,
+        &hss_verify(&public, message, row.bytes("signature")?),
+    )
 }
 
 /// The key that signs.

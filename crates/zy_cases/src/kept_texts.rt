@@ -17,27 +17,13 @@ use zy_table::{AnyFrame, Gains, Got};
 use zy_vframes::ViewFrame;
 use zy_world_setup::{KeptTexts, TextFault, read_frame};
 
-/// The texts that the rows speak of.
-#[derive(Drop)]
-pub(crate) struct Texts {
-    kept: KeptTexts,
-}
-
-impl Texts {
-    pub(crate) fn new(alloc: Global) -> io::Result<Texts> {
-        let kept = KeptTexts::new(alloc).map_err(lacking)?;
-        Ok(Texts { kept })
-    }
-}
-
-impl Scene for Texts {
+impl Scene for KeptTexts {
     fn step(&mut self, alloc: Global, row: &Row) -> io::Result<String> {
-        let kept = &mut self.kept;
         match row.call()? {
-            "begin" => begin(alloc, kept),
-            "text" => found_text(alloc, kept.text(&digest(row, "digest")?)),
-            "step" => step(alloc, kept, row),
-            "frame" => frame(alloc, kept, row.bytes("bytes")?),
+            "begin" => begin(alloc, self),
+            "text" => found_text(alloc, self.text(&digest(row, "digest")?)),
+            "step" => step(alloc, self, row),
+            "frame" => frame(alloc, self, row.bytes("bytes")?),
             "kind" => kind(alloc, row.bytes("bytes")?),
             _ => Err(not_a_line()),
         }

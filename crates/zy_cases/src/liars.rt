@@ -10,7 +10,8 @@ ghost use Rattle.zy_world_setup.specs.Reading.{IsInRange};
 ghost use Rattle.zy_world_setup.specs.Telling.{IsOrderable, IsTellable};
 
 use crate::cases::Scene;
-use crate::text::{Hex, PartyText, flag_text, lacking};
+use crate::group_files::put_keys;
+use crate::text::{Hex, PartyText, lacking, plain_text};
 use crate::values::MaybeHex;
 use crate::words::{Row, not_a_line};
 use std::alloc::Global;
@@ -22,7 +23,6 @@ use zy_ots::OtsType;
 use zy_parts::{Ask, Signed};
 use zy_seal::{Directory, SealFault, Sealer, screen_parts};
 use zy_table::AnyFrame;
-use zy_tuple::party_text_read;
 use zy_world_setup::{
     Keyring, SaidTexts, Setup, Tellable, order_frame, read_frame, read_statement, request_in,
     sealer_at, spec_frame,
@@ -33,24 +33,16 @@ const PRIMARY: Party = Party::Replica(ReplicaId(0));
 const CLIENT: Party = Party::Client(ClientId(0));
 
 /// The keys of the group.
-#[derive(Drop)]
-pub(crate) struct Group {
-    keys: Keyring,
+pub(crate) fn keyring(alloc: Global) -> io::Result<Keyring> {
+    let setup = setup(alloc)?;
+    Keyring::of(alloc, &setup).map_err(lacking)
 }
 
-impl Group {
-    pub(crate) fn new(alloc: Global) -> io::Result<Group> {
-        let setup = setup(alloc)?;
-        let keys = Keyring::of(alloc, &setup).map_err(lacking)?;
-        Ok(Group { keys })
-    }
-}
-
-impl Scene for Group {
+impl Scene for Keyring {
     fn step(&mut self, alloc: Global, row: &Row) -> io::Result<String> {
-        let directory = &self.keys.directory;
+        let directory = &self.directory;
         match row.call()? {
-            "keys" => keys(alloc, &self.keys, row.text("parties")?),
+            "keys" => keys(alloc, self, row.text("parties")?),
             "statement" => statement(alloc, row.bytes("bytes")?),
             "short" => short(alloc, row.bytes("bytes")?),
             "frame" => frame(alloc, directory, row),
@@ -87,16 +79,8 @@ fn keys(alloc: Global, keys: &Keyring, parties: &str) -> io::Result<String> {
         keys.replicas.len(),
         keys.clients.len()
     )?;
-    for party in parties.split(' ') {
-        put_key(&mut text, &keys.directory, party)?;
-    }
+    put_keys(&mut text, &keys.directory, parties)?;
     Ok(text)
-}
-
-fn put_key(text: &mut String, keys: &Directory, name: &str) -> io::Result<()> {
-    let party = party_text_read(name.as_bytes()).ok_or_else(not_a_line)?;
-    let key = MaybeHex(keys.key(party).map(|key| key.as_slice()));
-    Ok(write!(text, " {name} {key}")?)
 }
 
 /// Whether bytes spell a statement that can be told.
@@ -123,7 +107,7 @@ fn short(alloc: Global, bytes: &[u8]) -> io::Result<String> {
     let setup = setup(alloc)?;
     let statement = tellable(alloc, bytes)?;
     let short = statement.is_short(alloc, &setup).map_err(lacking)?;
-    flag_text(alloc, short)
+    plain_text(alloc, &short)
 }
 
 /// A party whose next leaf is this one, of 32.

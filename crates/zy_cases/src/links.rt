@@ -1,7 +1,7 @@
 //! The table `links-in-memory`: datagrams in memory, with the calls that are to fail. Its rows are calls on one link.
 
 use crate::cases::Scene;
-use crate::text::{Hex, PartyText, lacking, ok_text};
+use crate::text::{Hex, PartyText, lacking, ok_text, plain_text};
 use crate::values::numbers;
 use crate::words::{Row, not_a_line};
 use std::alloc::Global;
@@ -9,30 +9,21 @@ use std::io;
 use zy_base::Bytes;
 use zy_edge::{Binding, Bound, Heard, Link, MemLink, Sent};
 
-/// The link that the rows speak of.
-#[derive(Drop)]
-pub(crate) struct Links {
-    link: MemLink,
+/// A link to which nothing is to come.
+pub(crate) fn silent(alloc: Global) -> io::Result<MemLink> {
+    MemLink::new(alloc, Vec::new(alloc), Vec::new(alloc), 0).map_err(lacking)
 }
 
-impl Links {
-    pub(crate) fn new(alloc: Global) -> io::Result<Links> {
-        let link = MemLink::new(alloc, Vec::new(alloc), Vec::new(alloc), 0).map_err(lacking)?;
-        Ok(Links { link })
-    }
-}
-
-impl Scene for Links {
+impl Scene for MemLink {
     fn step(&mut self, alloc: Global, row: &Row) -> io::Result<String> {
-        let link = &mut self.link;
         match row.call()? {
-            "begin" => begin(alloc, link, row),
-            "bind" => bind(alloc, link, row),
-            "binding" => binding_text(alloc, link.binding()),
-            "receive" => receive(alloc, link, row),
-            "send" => send(alloc, link, row),
-            "parcels" => Ok(format!(in alloc; "{}", link.parcels())?),
-            "parcel" => parcel(alloc, link, row),
+            "begin" => begin(alloc, self, row),
+            "bind" => bind(alloc, self, row),
+            "binding" => binding_text(alloc, self.binding()),
+            "receive" => receive(alloc, self, row),
+            "send" => send(alloc, self, row),
+            "parcels" => plain_text(alloc, &self.parcels()),
+            "parcel" => parcel(alloc, self, row),
             _ => Err(not_a_line()),
         }
     }

@@ -2,7 +2,7 @@
 
 use crate::cases::Scene;
 use crate::ots::ots_type;
-use crate::text::{Hex, fault_text, flag_text, lacking, sha_text};
+use crate::text::{Hex, fault_text, lacking, plain_text, sha_text};
 use crate::words::{Row, not_a_line};
 use std::alloc::Global;
 use std::io;
@@ -13,7 +13,7 @@ use zy_ots::OtsType;
 pub(crate) fn verified(alloc: Global, row: &Row) -> io::Result<String> {
     let public = row.array("public")?;
     let message = row.bytes("message")?;
-    flag_text(alloc, verify(&public, message, row.bytes("signature")?))
+    plain_text(alloc, &verify(&public, message, row.bytes("signature")?))
 }
 
 /// The key that the words `seed`, `id`, `height`, `type` and `leaf` make.

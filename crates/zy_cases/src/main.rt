@@ -23,6 +23,7 @@ mod evidence;
 mod frames;
 mod group_files;
 mod groups;
+mod guard;
 mod history;
 mod hss;
 mod journal;
@@ -52,7 +53,6 @@ mod words;
 
 use adoptions::Histories;
 use cases::{Scene, run};
-use certs::Poll;
 use changes::Machines;
 use checkpoints::Board;
 use choices::Reports;
@@ -60,16 +60,23 @@ use frames::Kinds;
 use hss::HssKeys;
 use lms::Keys;
 use orders::Orders;
-use pieces::Gathers;
 use seal::Seals;
 use std::alloc::Global;
 use std::io::ErrorKind;
 use std::{env, io};
+use text::lacking;
 use words::Row;
-use zy_base::Digest;
+use zy_base::{Digest, Machine};
+use zy_book::Book;
+use zy_cert::Votes;
+use zy_guard::Guard;
+use zy_parts::Local;
+use zy_pieces::Gather;
+use zy_space::Space;
+use zy_world_setup::KeptTexts;
 
 /// The files of `data/`, in the order in which they run.
-const TABLES: [&str; 51] = [
+const TABLES: [&str; 54] = [
     "group-numbers",
     "lists",
     "fields",
@@ -121,6 +128,9 @@ const TABLES: [&str; 51] = [
     "two-level-verification",
     "wide-numbers",
     "calm-schedules",
+    "guard-lines",
+    "guard-replies",
+    "guarded-space",
 ];
 
 fn main(rt: HostRuntime) -> io::Result<()> {
@@ -144,21 +154,22 @@ fn is_wanted(only: &Option<String>, table: &str) -> bool {
 /// Runs a table with what its rows share.
 fn run_table(rt: &HostRuntime, table: &'static str) -> io::Result<()> {
     match table {
-        "gathered-frames" => run(rt, table, &mut Gathers::new(rt.alloc())),
+        "gathered-frames" => run(rt, table, &mut Gather::new(rt.alloc())),
         "keys" => run(rt, table, &mut Keys::new()),
         "seals" => run(rt, table, &mut Seals::new()),
-        "votes" => run(rt, table, &mut Poll::new(rt.alloc())),
+        "votes" => run(rt, table, &mut Votes::<Local>::new(rt.alloc(), 0)),
         "checkpoints" => run(rt, table, &mut Board::new(rt.alloc(), Digest([0; 32]))),
         "choices" => run(rt, table, &mut Reports::new(rt.alloc())?),
         "orders" => run(rt, table, &mut Orders::new(rt.alloc())),
         "view-changes" | "view-beginnings" => run(rt, table, &mut Machines::new(rt.alloc())?),
         "adoptions" => run(rt, table, &mut Histories::new(rt.alloc())?),
-        "links-in-memory" => run(rt, table, &mut links::Links::new(rt.alloc())?),
-        "space" => run(rt, table, &mut space::Spaces::new(rt.alloc())?),
-        "execution" => run(rt, table, &mut history::Executions::new(rt.alloc())?),
-        "frames-of-liars" => run(rt, table, &mut liars::Group::new(rt.alloc())?),
-        "kept-texts" => run(rt, table, &mut kept_texts::Texts::new(rt.alloc())?),
-        "texts" => run(rt, table, &mut book::Books::new(rt.alloc())),
+        "links-in-memory" => run(rt, table, &mut links::silent(rt.alloc())?),
+        "space" => run(rt, table, &mut Space::empty(rt.alloc()).map_err(lacking)?),
+        "guarded-space" => run(rt, table, &mut Guard::empty(rt.alloc()).map_err(lacking)?),
+        "execution" => run(rt, table, &mut history::begun(rt.alloc())?),
+        "frames-of-liars" => run(rt, table, &mut liars::keyring(rt.alloc())?),
+        "kept-texts" => run(rt, table, &mut KeptTexts::new(rt.alloc()).map_err(lacking)?),
+        "texts" => run(rt, table, &mut Book::new(rt.alloc())),
         "two-level-keys" => run(rt, table, &mut HssKeys::new()),
         _ => run(rt, table, &mut Calls(table)),
     }
@@ -211,6 +222,8 @@ fn answer(alloc: Global, table: &str, row: &Row) -> io::Result<String> {
         "two-level-verification" => hss::verified(alloc, row),
         "wide-numbers" => wide::numbers(alloc, row),
         "calm-schedules" => wide::schedule(alloc, row),
+        "guard-lines" => guard::line(alloc, row),
+        "guard-replies" => guard::reply(alloc, row.bytes("bytes")?),
         _ => Err(io::Error::from(ErrorKind::NotFound)),
     }
 }

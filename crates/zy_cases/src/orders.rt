@@ -7,6 +7,7 @@ ghost use Rattle.zy_frames.specs.declared.frame.Frame.TheVariants as frames;
 use crate::cases::Scene;
 use crate::statements::mark;
 use crate::text::{cause_text, lacking, ok_text};
+use crate::values::maybe_number;
 use crate::words::{Row, not_a_line};
 use std::alloc::Global;
 use std::io;
@@ -134,16 +135,8 @@ fn position(row: &Row) -> io::Result<Position> {
         end,
         head,
         window: Place(row.number("window")?),
-        last: last_stamp(row)?,
+        last: maybe_number(row, "last")?.map(Stamp),
     })
-}
-
-fn last_stamp(row: &Row) -> io::Result<Option<Stamp>> {
-    if row.has("last") {
-        Ok(Some(Stamp(row.number("last")?)))
-    } else {
-        Ok(None)
-    }
 }
 
 fn admit_text(alloc: Global, admit: Admit) -> io::Result<String> {

@@ -36,25 +36,15 @@ fn datagram_text(alloc: Global, datagrams: &[Bytes], index: usize) -> io::Result
     )?)
 }
 
-/// The frames of which some pieces have come.
-#[derive(Drop)]
-pub(crate) struct Gathers(Gather);
-
-impl Gathers {
-    pub(crate) fn new(alloc: Global) -> Gathers {
-        Gathers(Gather::new(alloc))
-    }
-}
-
-impl Scene for Gathers {
+impl Scene for Gather {
     fn step(&mut self, alloc: Global, row: &Row) -> io::Result<String> {
         match row.call()? {
             "begin" => {
-                self.0 = Gather::new(alloc);
+                *self = Gather::new(alloc);
                 ok_text(alloc)
             }
             "add" => {
-                let gathered = self.0.add(row.bytes("datagram")?).map_err(lacking)?;
+                let gathered = self.add(row.bytes("datagram")?).map_err(lacking)?;
                 gathered_text(alloc, &gathered)
             }
             _ => Err(not_a_line()),

@@ -4,6 +4,7 @@ ghost use Rattle.std.specs.Prelude.{◌≡◌, ◌<◌, ◌∷◌, ◌++◌, [],
 ghost use Rattle.zy_slots.specs.Cells.{with_live};
 
 use crate::text::{lacking, text_of};
+use crate::values::byte;
 use crate::words::{Row, not_a_line};
 use std::alloc::Global;
 use std::io;
@@ -34,9 +35,9 @@ struct Seen {
 
 /// What is seen of three values in these buckets at the step that the row names.
 pub(crate) fn steps(alloc: Global, row: &Row) -> io::Result<String> {
-    let first = bucket(row, "first")?;
-    let second = bucket(row, "second")?;
-    let third = bucket(row, "third")?;
+    let first = byte(row, "first")?;
+    let second = byte(row, "second")?;
+    let third = byte(row, "third")?;
     let step = row.text("seen")?;
     if first >= 64 || second >= 64 || third >= 64 {
         return Err(not_a_line());
@@ -45,10 +46,6 @@ pub(crate) fn steps(alloc: Global, row: &Row) -> io::Result<String> {
         Ok(seen) => seen_text(alloc, &seen, step),
         Err(want) => Err(lacking(want)),
     }
-}
-
-fn bucket(row: &Row, name: &str) -> io::Result<u8> {
-    u8::try_from(row.number(name)?).map_err(|_| not_a_line())
 }
 
 fn seen_text(alloc: Global, seen: &Seen, step: &str) -> io::Result<String> {

@@ -17,32 +17,24 @@ use zy_tuple::{Op, Reply, op_text_read, reply_text};
 /// Who asks.
 const CLIENT: ClientId = ClientId(0);
 
-/// The space that the rows speak of.
-#[derive(Drop)]
-pub(crate) struct Spaces {
-    space: Space,
-}
-
-impl Spaces {
-    pub(crate) fn new(alloc: Global) -> io::Result<Spaces> {
-        let space = Space::empty(alloc).map_err(lacking)?;
-        Ok(Spaces { space })
-    }
-}
-
-impl Scene for Spaces {
+impl Scene for Space {
     fn step(&mut self, alloc: Global, row: &Row) -> io::Result<String> {
-        let space = &mut self.space;
         match row.call()? {
-            "begin" => begin(alloc, space),
-            "restore" => restore(alloc, space, row.bytes("bytes")?),
-            "apply" => apply(alloc, space, row.bytes("op")?),
-            "run" => run(alloc, space, row.bytes("op")?),
-            "run-in-turn" => run_in_turn(alloc, space, row),
-            "undo" => undo(alloc, space, row.number("times")?),
-            "forget" => forget(alloc, space, row.number("times")?),
-            "now" => now(alloc, space),
-            "counts" => counts(alloc, space),
+            "begin" => begin(alloc, self),
+            "restore" => restore(alloc, self, row.bytes("bytes")?),
+            "apply" => apply(alloc, self, row.bytes("op")?),
+            "run" => run(alloc, self, row.bytes("op")?),
+            "run-in-turn" => run_in_turn(alloc, self, row),
+            "undo" => {
+                go_back(self, row.number("times")?);
+                now(alloc, self)
+            }
+            "forget" => {
+                forget(self, row.number("times")?);
+                now(alloc, self)
+            }
+            "now" => now(alloc, self),
+            "counts" => counts(alloc, self),
             _ => Err(not_a_line()),
         }
     }
@@ -145,30 +137,28 @@ fn is_turn(alloc: Global, space: &mut Space, row: &Row, reply: &str) -> io::Resu
 }
 
 /// Goes back so many times, or as often as it can.
-fn undo(alloc: Global, space: &mut Space, times: u64) -> io::Result<String> {
-    undo_in::<Brand>(space, times, Blank::new(1));
-    now(alloc, space)
+pub(crate) fn go_back<M: Machine>(machine: &mut M, times: u64) {
+    undo_in::<M, Brand>(machine, times, Blank::new(1));
 }
 
-fn undo_in<L: Ledger>(space: &mut Space, times: u64, blank: Blank)
+fn undo_in<M: Machine, L: Ledger>(machine: &mut M, times: u64, blank: Blank)
     requires name { blank.name ≡ L.name }
     requires parts { blank.parts ≡ L.parts }
     requires some { 0 < blank.parts }
 {
     let mut steps = Steps::<L>::start(blank);
     for _ in 0..times {
-        if space.trail_len() > 0 {
-            space.undo(&mut steps);
+        if machine.trail_len() > 0 {
+            machine.undo(&mut steps);
         }
     }
 }
 
 /// Gives up so many ways back, or as many as there are.
-fn forget(alloc: Global, space: &mut Space, times: u64) -> io::Result<String> {
+pub(crate) fn forget<M: Machine>(machine: &mut M, times: u64) {
     for _ in 0..times {
-        if space.trail_len() > 0 {
-            space.forget();
+        if machine.trail_len() > 0 {
+            machine.forget();
         }
     }
-    now(alloc, space)
 }

@@ -39,12 +39,7 @@ pub(crate) fn hex_text(alloc: Global, bytes: &[u8]) -> io::Result<String> {
     Ok(hex::encode(alloc, bytes)?)
 }
 
-/// `true` or `false`.
-pub(crate) fn flag_text(alloc: Global, flag: bool) -> io::Result<String> {
-    plain_text(alloc, &flag)
-}
-
-/// A number or another value that prints.
+/// A number, `true` or `false`, or another value that prints.
 pub(crate) fn plain_text<T: fmt::Display>(alloc: Global, value: &T) -> io::Result<String> {
     Ok(format!(in alloc; "{value}")?)
 }

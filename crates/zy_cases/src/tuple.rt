@@ -2,7 +2,7 @@
 
 ghost use Rattle.zy_tuple.specs.Values.{IsOp, IsReply};
 
-use crate::text::{fault_text, flag_text, hex_text, lacking, text_of};
+use crate::text::{fault_text, hex_text, lacking, plain_text, text_of};
 use crate::words::{Row, not_a_line};
 use std::alloc::Global;
 use std::io;
@@ -105,7 +105,7 @@ fn reply_spelled(alloc: Global, bytes: &[u8]) -> io::Result<String> {
 pub(crate) fn template(alloc: Global, row: &Row) -> io::Result<String> {
     let template = op_text_read(alloc, row.bytes("template")?);
     match (template, op_text_read(alloc, row.bytes("tuple")?)) {
-        (Ok(Op::Rdp(slots)), Ok(Op::Out(fields))) => flag_text(alloc, matches(&slots, &fields)),
+        (Ok(Op::Rdp(slots)), Ok(Op::Out(fields))) => plain_text(alloc, &matches(&slots, &fields)),
         _ => Err(not_a_line()),
     }
 }

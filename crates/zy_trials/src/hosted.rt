@@ -12,7 +12,7 @@ use zy_top_hosting::{run_ask, run_node};
 use zy_top_words::Exit;
 use zy_tuple::op_text_read;
 
-fn node_exit(alloc: Global, id: ReplicaId, turns: u32, outside: &mut Outside) -> Exit {
+pub(crate) fn node_exit(alloc: Global, id: ReplicaId, turns: u32, outside: &mut Outside) -> Exit {
     run_node(
         alloc,
         "group",
@@ -26,7 +26,7 @@ fn node_exit(alloc: Global, id: ReplicaId, turns: u32, outside: &mut Outside) ->
     )
 }
 
-fn ask_exit(alloc: Global, id: ClientId, turns: u32, outside: &mut Outside) -> Exit {
+pub(crate) fn ask_exit(alloc: Global, id: ClientId, turns: u32, outside: &mut Outside) -> Exit {
     match op_text_read(alloc, b"out (1)") {
         Ok(op) => run_ask(
             alloc,

@@ -10,6 +10,8 @@ mod cluster;
 #[cfg(test)]
 mod command_line;
 #[cfg(test)]
+mod each_call;
+#[cfg(test)]
 mod group;
 #[cfg(test)]
 mod host_faults;

@@ -84,44 +84,6 @@ fn a_script_ends_with_the_first_fault(rt: HostRuntime) -> Result<(), Fail> {
     Ok(())
 }
 
-/// A group of four replicas and a client, and a schedule whose first line is none.
-fn bad_schedule(alloc: Global) -> Result<Vec<(Bytes, Bytes)>, Want> {
-    let group = text_bytes(alloc, REPLAYED_GROUP)?;
-    let schedule = text_bytes(alloc, "asks")?;
-    two_files(alloc, ("group", group), ("schedule", schedule))
-}
-
-const REPLAYED_GROUP: &str = "f = 1\nk = 8\nclients = 1\n\
-    seed = \"0000000000000000000000000000000000000000000000000000000000000000\"\nheight = 5\n";
-
-/// How a replay ends whose call of a file fails, and how many bytes the sink has taken.
-fn replay_ends(alloc: Global, failing: u64) -> Result<(Exit, usize), Want> {
-    let faults = Faults {
-        files: &[failing],
-        ..NO_FAULTS
-    };
-    let mut outside = outside_of(alloc, bad_schedule(alloc)?, faults)?;
-    let exit = exit_of(alloc, &["replay", "group", "schedule"], &mut outside)?;
-    Ok((exit, outside.out.taken().len()))
-}
-
-// Each of the two files is chosen, read, and at its end.
-#[test]
-fn a_replay_ends_with_the_first_fault_of_its_files(rt: HostRuntime) -> Result<(), Fail> {
-    for call in 1..=6 {
-        let end = replay_ends(rt.alloc(), call)?;
-        assert_eq!(rt; end, (Exit::ReadFault, 0), "call {call}");
-    }
-    Ok(())
-}
-
-#[test]
-fn a_replay_asks_no_more_of_its_files(rt: HostRuntime) -> Result<(), Fail> {
-    let end = replay_ends(rt.alloc(), 7)?;
-    assert_eq!(rt; end, (Exit::Text { line: 1, rule: 1 }, 0));
-    Ok(())
-}
-
 const ZEROS: &str = "0000000000000000000000000000000000000000000000000000000000000000";
 
 fn keys_exit(alloc: Global) -> Result<Exit, Want> {

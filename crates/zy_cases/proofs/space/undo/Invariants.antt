@@ -1,4 +1,0 @@
-use Rattle.zy_cases.proofs.space.undo.Given as goal
-
-abbrev pub ghosts-undo_in : goal.ghosts-undo_in
-ghosts-undo_in a = record { name = a.blank.name; parts = a.blank.parts }
