@@ -12,13 +12,13 @@ use crate::changes::{is_member, mode_text};
 use crate::evidence::is_replica;
 use crate::owed::{owed_in, owed_text};
 use crate::statements::{mark, spelled};
-use crate::text::lacking;
-use crate::words::{Row, not_a_line};
+use crate::words::Row;
 use std::alloc::Global;
 use std::io;
 use zy_base::{Answer, Bytes, Party, View};
 use zy_change::{Accepted, Chosen, ViewMachine, began, new_view, view_cert};
 use zy_parts::{Began, Change, New, Signed};
+use zy_rows::{lacking, not_a_line};
 use zy_vframes::{ViewCert, ViewFrame, decode};
 
 /// What the call of a row answers.

@@ -1,13 +1,14 @@
 //! The table `texts`: a book of texts. Its rows are steps of one book.
 
 use crate::cases::Scene;
-use crate::text::{Hex, lacking, ok_text};
+use crate::text::ok_text;
 use crate::values::digest;
-use crate::words::{Row, not_a_line};
+use crate::words::Row;
 use std::alloc::Global;
 use std::io;
 use zy_base::Want;
 use zy_book::{Book, KeepFault};
+use zy_rows::{Hex, lacking, not_a_line};
 
 impl Scene for Book {
     fn step(&mut self, alloc: Global, row: &Row) -> io::Result<String> {

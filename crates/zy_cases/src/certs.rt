@@ -3,13 +3,14 @@
 
 use crate::cases::Scene;
 use crate::statements::{spelled, spelled_list};
-use crate::text::{Hex, cause_text, lacking, ok_text};
-use crate::words::{Row, not_a_line};
+use crate::text::{cause_text, ok_text};
+use crate::words::Row;
 use std::alloc::Global;
 use std::io;
 use zy_base::{Cause, Digest, Place, View};
 use zy_cert::{Located, Vote, Votes, check_cert, pom};
 use zy_parts::{Began, Check, Local, Order, Signed, Spec};
+use zy_rows::{Hex, lacking, not_a_line};
 
 /// The local commits that are counted.
 impl Scene for Votes<Local> {

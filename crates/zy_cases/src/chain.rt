@@ -4,12 +4,13 @@ ghost use Rattle.std.specs.Prelude.{◌≤◌, IfOk};
 ghost use Rattle.zy_chain.specs.Entries.{IsEntryInRange};
 ghost use Rattle.zy_chain.specs.Stretch.{end_of};
 
-use crate::text::{Hex, hex_text, lacking, plain_text};
-use crate::words::{Row, not_a_line};
+use crate::text::{hex_text, plain_text};
+use crate::words::Row;
 use std::alloc::Global;
 use std::io;
 use zy_base::{ClientId, Digest, Place, Stamp};
 use zy_chain::{EMPTY_HEAD, Entry, Spine, entry_bytes, entry_digest, next_head, request_digest};
+use zy_rows::{Hex, lacking, not_a_line};
 use zy_wire::{Cut, Spelled};
 
 /// An entry's bytes and digest, and the head behind a head.

@@ -15,8 +15,8 @@ use crate::choices::spine;
 use crate::evidence::is_replica;
 use crate::owed::owed_in;
 use crate::statements::spelled;
-use crate::text::{hex_text, lacking, ok_text};
-use crate::words::{Row, not_a_line};
+use crate::text::{hex_text, ok_text};
+use crate::words::Row;
 use std::alloc::Global;
 use std::io;
 use zy_base::{Bytes, Counts, Digest, Mode, Party, Place, ReplicaId, View};
@@ -24,6 +24,7 @@ use zy_chain::EMPTY_HEAD;
 use zy_change::ViewMachine;
 use zy_evidence::report_in;
 use zy_parts::{Change, Hate, Signed, Told};
+use zy_rows::{lacking, not_a_line};
 use zy_wire::{Put, Spelled};
 
 const INTERVAL: u64 = 8;

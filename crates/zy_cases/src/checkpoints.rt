@@ -6,13 +6,14 @@ ghost use Rattle.zy_check.specs.Board.{IsProof};
 
 use crate::cases::Scene;
 use crate::statements::digests;
-use crate::text::{Hex, PartyText, cause_text, lacking, ok_text};
-use crate::words::{Row, not_a_line};
+use crate::text::{PartyText, cause_text, ok_text};
+use crate::words::Row;
 use std::alloc::Global;
 use std::io;
 use zy_base::{Bytes, ClientId, Digest, Party, Place, Stamp, View, Want};
 use zy_check::{Checkpoints, Kept, stays};
 use zy_parts::{Check, Signed, Spec};
+use zy_rows::{Hex, lacking, not_a_line};
 
 const INTERVAL: u64 = 4;
 

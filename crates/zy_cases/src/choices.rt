@@ -6,13 +6,14 @@ ghost use Rattle.zy_choose.specs.Rules.{IsWellFormed};
 
 use crate::cases::Scene;
 use crate::statements::mark;
-use crate::text::{Hex, lacking, ok_text};
-use crate::words::{Row, not_a_line};
+use crate::text::ok_text;
+use crate::words::Row;
 use std::alloc::Global;
 use std::io;
 use zy_base::{Bytes, ClientId, Counts, Digest, Place, ReplicaId, Stamp, View};
 use zy_chain::{Entry, Spine};
 use zy_choose::{Choice, Report, ReportRule, choose, well_formed};
+use zy_rows::{Hex, lacking, not_a_line};
 
 const INTERVAL: u64 = 4;
 

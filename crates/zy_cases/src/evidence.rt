@@ -4,14 +4,15 @@ ghost use Rattle.std.specs.Prelude.{◌↔◌, IsTrue};
 ghost use Rattle.zy_evidence.specs.Reading.{IsReplica};
 
 use crate::statements::{At, spelled};
-use crate::text::{Hex, PartyText, lacking};
-use crate::words::{Row, not_a_line};
+use crate::text::PartyText;
+use crate::words::Row;
 use std::alloc::Global;
 use std::{fmt, io};
 use zy_base::{Counts, Digest, Party, Place, Want};
 use zy_choose::Report;
 use zy_evidence::{ReportFault, report_in};
 use zy_parts::{Change, Signed};
+use zy_rows::{Hex, lacking, not_a_line};
 
 /// Where a commit certificate stands, if there is one.
 #[derive(Clone, Copy)]

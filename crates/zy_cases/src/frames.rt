@@ -3,13 +3,14 @@
 ghost use Rattle.zy_frames.specs.Frames as plain;
 ghost use Rattle.zy_vframes.specs.ViewFrames as views;
 
-use crate::text::{Hex, PartyText, fault_text, lacking};
-use crate::words::{Row, not_a_line};
+use crate::text::{PartyText, fault_text};
+use crate::words::Row;
 use std::alloc::Global;
 use std::{fmt, io};
 use zy_base::{Bytes, FrameFault, Want};
 use zy_frames::Frame;
 use zy_parts::Part;
+use zy_rows::{Hex, lacking, not_a_line};
 use zy_vframes::ViewFrame;
 use zy_wire::GetFault;
 

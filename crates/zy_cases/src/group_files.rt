@@ -1,8 +1,7 @@
 //! The tables `group-files` and `secret-files`: what a command is told of its group and of its own key.
 
-use crate::text::{Hex, lacking};
 use crate::values::MaybeHex;
-use crate::words::{Row, not_a_line};
+use crate::words::Row;
 use std::alloc::Global;
 use std::io;
 use zy_base::Want;
@@ -10,6 +9,7 @@ use zy_group::{
     AskGroup, GroupFault, NodeGroup, ReplayGroup, Secret, read_ask_group, read_node_group,
     read_replay_group, read_secret,
 };
+use zy_rows::{Hex, lacking, not_a_line};
 use zy_seal::Directory;
 use zy_tuple::party_text_read;
 

@@ -1,10 +1,11 @@
 //! The tables of the numbers of a group, and of the lists that an event leaves.
 
-use crate::text::{lacking, plain_text};
-use crate::words::{Row, not_a_line};
+use crate::text::plain_text;
+use crate::words::Row;
 use std::alloc::Global;
 use std::io;
 use zy_base::{Bytes, ClientId, Counts, Items, Outgoing, Party, Said, Spoken, View};
+use zy_rows::{lacking, not_a_line};
 
 /// The numbers of the group with `f` liars, and the primary of `view`.
 pub(crate) fn numbers(alloc: Global, row: &Row) -> io::Result<String> {

@@ -3,12 +3,13 @@
 
 use crate::cases::Scene;
 use crate::space::{forget, go_back};
-use crate::text::{Hex, fault_text, hex_text, lacking, text_of};
-use crate::words::{Row, not_a_line};
+use crate::text::{fault_text, hex_text, text_of};
+use crate::words::Row;
 use std::alloc::Global;
 use std::io;
 use zy_base::{ClientId, Machine, RestoreFault};
 use zy_guard::{Guard, gop_text_read, greply_text};
+use zy_rows::{Hex, lacking, not_a_line};
 
 /// The client and the operation's bytes that a line spells.
 pub(crate) fn line(alloc: Global, row: &Row) -> io::Result<String> {

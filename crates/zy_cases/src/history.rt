@@ -7,9 +7,9 @@ ghost use Rattle.zy_tuple.specs.Values.{IsOp};
 
 use crate::cases::Scene;
 use crate::snapshots::{Change, places};
-use crate::text::{Hex, fault_text, hex_text, lacking, ok_text};
+use crate::text::{fault_text, hex_text, ok_text};
 use crate::values::{MaybeHex, MaybeNumber, digest, numbers};
-use crate::words::{Row, not_a_line};
+use crate::words::Row;
 use std::alloc::Global;
 use std::marker::Brand;
 use std::sync::ledger::{Blank, Ledger};
@@ -17,6 +17,7 @@ use std::{fmt, io};
 use zy_base::{Bytes, ClientId, Machine, Place, Stamp, Steps};
 use zy_chain::Entry;
 use zy_exec::Exec;
+use zy_rows::{Hex, lacking, not_a_line};
 use zy_space::Space;
 use zy_tuple::{op_bytes, op_text_read};
 

@@ -6,13 +6,14 @@ ghost use Rattle.zy_chain.specs.Entries.{IsEntryInRange};
 
 use crate::book::found_text;
 use crate::cases::Scene;
-use crate::text::{Hex, lacking, ok_text};
+use crate::text::ok_text;
 use crate::values::digest;
-use crate::words::{Row, not_a_line};
+use crate::words::Row;
 use std::alloc::Global;
 use std::io;
 use zy_base::{Bytes, ClientId, Items, Place, Stamp};
 use zy_chain::Entry;
+use zy_rows::{Hex, lacking, not_a_line};
 use zy_table::{AnyFrame, Gains, Got};
 use zy_vframes::ViewFrame;
 use zy_world_setup::{KeptTexts, TextFault, read_frame};

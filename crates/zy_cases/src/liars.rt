@@ -11,9 +11,9 @@ ghost use Rattle.zy_world_setup.specs.Telling.{IsOrderable, IsTellable};
 
 use crate::cases::Scene;
 use crate::group_files::put_keys;
-use crate::text::{Hex, PartyText, lacking, plain_text};
+use crate::text::{PartyText, plain_text};
 use crate::values::MaybeHex;
-use crate::words::{Row, not_a_line};
+use crate::words::Row;
 use std::alloc::Global;
 use std::io;
 use zy_base::{Bytes, ClientId, Counts, Items, Party, ReplicaId, Spoken, View};
@@ -21,6 +21,7 @@ use zy_frames::{Frame, decode, parts};
 use zy_lms::Height;
 use zy_ots::OtsType;
 use zy_parts::{Ask, Signed};
+use zy_rows::{Hex, lacking, not_a_line};
 use zy_seal::{Directory, SealFault, Sealer, screen_parts};
 use zy_table::AnyFrame;
 use zy_world_setup::{

@@ -1,13 +1,14 @@
 //! The table `links-in-memory`: datagrams in memory, with the calls that are to fail. Its rows are calls on one link.
 
 use crate::cases::Scene;
-use crate::text::{Hex, PartyText, lacking, ok_text, plain_text};
+use crate::text::{PartyText, ok_text, plain_text};
 use crate::values::numbers;
-use crate::words::{Row, not_a_line};
+use crate::words::Row;
 use std::alloc::Global;
 use std::io;
 use zy_base::Bytes;
 use zy_edge::{Binding, Bound, Heard, Link, MemLink, Sent};
+use zy_rows::{Hex, lacking, not_a_line};
 
 /// A link to which nothing is to come.
 pub(crate) fn silent(alloc: Global) -> io::Result<MemLink> {

@@ -2,12 +2,13 @@
 
 use crate::cases::Scene;
 use crate::ots::ots_type;
-use crate::text::{Hex, fault_text, lacking, plain_text, sha_text};
-use crate::words::{Row, not_a_line};
+use crate::text::{fault_text, plain_text, sha_text};
+use crate::words::Row;
 use std::alloc::Global;
 use std::io;
 use zy_lms::{Height, LmsKey, verify};
 use zy_ots::OtsType;
+use zy_rows::{Hex, lacking, not_a_line};
 
 /// Whether a signature verifies.
 pub(crate) fn verified(alloc: Global, row: &Row) -> io::Result<String> {

@@ -64,7 +64,6 @@ use seal::Seals;
 use std::alloc::Global;
 use std::io::ErrorKind;
 use std::{env, io};
-use text::lacking;
 use words::Row;
 use zy_base::{Digest, Machine};
 use zy_book::Book;
@@ -72,6 +71,7 @@ use zy_cert::Votes;
 use zy_guard::Guard;
 use zy_parts::Local;
 use zy_pieces::Gather;
+use zy_rows::lacking;
 use zy_space::Space;
 use zy_world_setup::KeptTexts;
 
@@ -154,24 +154,24 @@ fn is_wanted(only: &Option<String>, table: &str) -> bool {
 /// Runs a table with what its rows share.
 fn run_table(rt: &HostRuntime, table: &'static str) -> io::Result<()> {
     match table {
-        "gathered-frames" => run(rt, table, &mut Gather::new(rt.alloc())),
-        "keys" => run(rt, table, &mut Keys::new()),
-        "seals" => run(rt, table, &mut Seals::new()),
-        "votes" => run(rt, table, &mut Votes::<Local>::new(rt.alloc(), 0)),
-        "checkpoints" => run(rt, table, &mut Board::new(rt.alloc(), Digest([0; 32]))),
-        "choices" => run(rt, table, &mut Reports::new(rt.alloc())?),
-        "orders" => run(rt, table, &mut Orders::new(rt.alloc())),
-        "view-changes" | "view-beginnings" => run(rt, table, &mut Machines::new(rt.alloc())?),
-        "adoptions" => run(rt, table, &mut Histories::new(rt.alloc())?),
-        "links-in-memory" => run(rt, table, &mut links::silent(rt.alloc())?),
-        "space" => run(rt, table, &mut Space::empty(rt.alloc()).map_err(lacking)?),
-        "guarded-space" => run(rt, table, &mut Guard::empty(rt.alloc()).map_err(lacking)?),
-        "execution" => run(rt, table, &mut history::begun(rt.alloc())?),
-        "frames-of-liars" => run(rt, table, &mut liars::keyring(rt.alloc())?),
-        "kept-texts" => run(rt, table, &mut KeptTexts::new(rt.alloc()).map_err(lacking)?),
-        "texts" => run(rt, table, &mut Book::new(rt.alloc())),
-        "two-level-keys" => run(rt, table, &mut HssKeys::new()),
-        _ => run(rt, table, &mut Calls(table)),
+        "gathered-frames" => run(rt, table, Gather::new(rt.alloc())),
+        "keys" => run(rt, table, Keys::new()),
+        "seals" => run(rt, table, Seals::new()),
+        "votes" => run(rt, table, Votes::<Local>::new(rt.alloc(), 0)),
+        "checkpoints" => run(rt, table, Board::new(rt.alloc(), Digest([0; 32]))),
+        "choices" => run(rt, table, Reports::new(rt.alloc())?),
+        "orders" => run(rt, table, Orders::new(rt.alloc())),
+        "view-changes" | "view-beginnings" => run(rt, table, Machines::new(rt.alloc())?),
+        "adoptions" => run(rt, table, Histories::new(rt.alloc())?),
+        "links-in-memory" => run(rt, table, links::silent(rt.alloc())?),
+        "space" => run(rt, table, Space::empty(rt.alloc()).map_err(lacking)?),
+        "guarded-space" => run(rt, table, Guard::empty(rt.alloc()).map_err(lacking)?),
+        "execution" => run(rt, table, history::begun(rt.alloc())?),
+        "frames-of-liars" => run(rt, table, liars::keyring(rt.alloc())?),
+        "kept-texts" => run(rt, table, KeptTexts::new(rt.alloc()).map_err(lacking)?),
+        "texts" => run(rt, table, Book::new(rt.alloc())),
+        "two-level-keys" => run(rt, table, HssKeys::new()),
+        _ => run(rt, table, Calls(table)),
     }
 }
 

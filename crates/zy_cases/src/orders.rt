@@ -6,14 +6,15 @@ ghost use Rattle.zy_frames.specs.declared.frame.Frame.TheVariants as frames;
 
 use crate::cases::Scene;
 use crate::statements::mark;
-use crate::text::{cause_text, lacking, ok_text};
+use crate::text::{cause_text, ok_text};
 use crate::values::maybe_number;
-use crate::words::{Row, not_a_line};
+use crate::words::Row;
 use std::alloc::Global;
 use std::io;
 use zy_admit::{Admission, Admit, Position};
 use zy_base::{Digest, Place, Stamp};
 use zy_frames::{Frame, OrderFrame, decode};
+use zy_rows::{lacking, not_a_line};
 
 /// The orders that are kept, above this place.
 #[derive(Drop)]

@@ -1,11 +1,12 @@
 //! What a step of the machine of view changes owes, as a text: the answer, and then each thing that is owed.
 
 use crate::statements::At;
-use crate::text::{cause_text, lacking};
+use crate::text::cause_text;
 use std::alloc::Global;
 use std::{fmt, io};
 use zy_base::{Answer, Want};
 use zy_change::{Adoption, Chosen, Owed};
+use zy_rows::lacking;
 
 /// What is owed beside the answer.
 #[derive(Clone, Copy)]

@@ -1,7 +1,7 @@
 //! The table of the texts that are signed.
 
-use crate::text::{fault_text, hex_text, lacking};
-use crate::words::{Row, not_a_line};
+use crate::text::{fault_text, hex_text};
+use crate::words::Row;
 use std::alloc::Global;
 use std::io;
 use zy_base::Party;
@@ -9,6 +9,7 @@ use zy_parts::{
     Ask, Began, Change, Check, Confirm, Fetch, Hate, Hole, Local, New, Order, Spec, Statement,
     signed_text,
 };
+use zy_rows::{lacking, not_a_line};
 use zy_wire::Cut;
 
 /// The text that a party signs of the statement with these fields.

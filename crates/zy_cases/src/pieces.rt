@@ -1,12 +1,13 @@
 //! The tables of frames that are cut into datagrams, and of those that are gathered from them.
 
 use crate::cases::Scene;
-use crate::text::{Hex, lacking, ok_text, sha_text};
-use crate::words::{Row, not_a_line};
+use crate::text::{ok_text, sha_text};
+use crate::words::Row;
 use std::alloc::Global;
 use std::io;
 use zy_base::Bytes;
 use zy_pieces::{Gather, Gathered, cut};
+use zy_rows::{Hex, lacking, not_a_line};
 
 /// The bytes before the payload of a datagram.
 const HEADER_LEN: usize = 37;

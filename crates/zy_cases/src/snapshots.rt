@@ -1,10 +1,11 @@
 //! Bytes that differ from a snapshot at one place, and which of them are a snapshot.
 
-use crate::words::{Row, not_a_line};
+use crate::words::Row;
 use std::alloc::Global;
 use std::io;
 use zy_base::{Digest, Place};
 use zy_exec::{Exec, InstallFault};
+use zy_rows::not_a_line;
 use zy_space::Space;
 
 /// How bytes differ from a snapshot.

@@ -4,13 +4,14 @@ ghost use Rattle.std.specs.Prelude.{◌≡◌, ◌<◌};
 ghost use Rattle.zy_tuple.specs.Values.{IsOp, IsReply};
 
 use crate::cases::Scene;
-use crate::text::{Hex, lacking, ok_text, text_of};
-use crate::words::{Row, not_a_line};
+use crate::text::{ok_text, text_of};
+use crate::words::Row;
 use std::alloc::Global;
 use std::io;
 use std::marker::Brand;
 use std::sync::ledger::{Blank, Ledger};
 use zy_base::{ClientId, Machine, RestoreFault, Steps};
+use zy_rows::{Hex, lacking, not_a_line};
 use zy_space::Space;
 use zy_tuple::{Op, Reply, op_text_read, reply_text};
 

@@ -2,11 +2,10 @@
 
 ghost use Rattle.std.specs.Prelude.{IfOk};
 
-use crate::text::Hex;
-use crate::words::not_a_line;
 use std::alloc::Global;
 use std::{fmt, io};
 use zy_base::{Digest, Place};
+use zy_rows::{Hex, not_a_line};
 use zy_wire::{Cut, Spelled};
 
 /// A place and the head there, which print as a number and hex digits.

@@ -6,20 +6,8 @@ use sha2::{Digest as _, Sha256};
 use std::alloc::Global;
 use std::io::ErrorKind;
 use std::{fmt, io};
-use zy_base::{Cause, ClientId, Digest, Party, ReplicaId, Want};
-
-/// Bytes, which print as hex digits.
-#[derive(Clone, Copy)]
-pub(crate) struct Hex<'a>(pub(crate) &'a [u8]);
-
-impl<'a> fmt::Display for Hex<'a> {
-    fn fmt<W: fmt::Write>(&self, f: &mut fmt::Formatter<W>) -> fmt::Result {
-        for byte in self.0 {
-            write!(f, "{byte:02x}")?;
-        }
-        Ok(())
-    }
-}
+use zy_base::{Cause, ClientId, Party, ReplicaId};
+use zy_rows::put_cause;
 
 /// A party, which prints as `r` or `c` and its number.
 #[derive(Clone, Copy)]
@@ -69,30 +57,7 @@ pub(crate) fn fault_text<F: fmt::Debug>(alloc: Global, fault: &F) -> io::Result<
 
 /// A cause by its name, with its values.
 pub(crate) fn cause_text(alloc: Global, cause: &Cause) -> io::Result<String> {
-    let name = cause.name();
-    match cause {
-        Cause::NotFrame(fault) => Ok(format!(in alloc; "{name} {fault:?}")?),
-        Cause::WindowFull(place) | Cause::Behind(place) => number_text(alloc, name, place.0),
-        Cause::TooFew(number) => number_text(alloc, name, *number),
-        Cause::BadReport(rule) => number_text(alloc, name, u64::from(*rule)),
-        Cause::Waiting(stamp) => number_text(alloc, name, stamp.0),
-        Cause::AnchorClash(own, other) => digests_text(alloc, name, own, other),
-        Cause::OtherHistory(own, other) => digests_text(alloc, name, own, other),
-        Cause::BelowStable(own, other) => digests_text(alloc, name, own, other),
-        Cause::WrongState(own, other) => digests_text(alloc, name, own, other),
-        _ => Ok(String::from_str(alloc, name)?),
-    }
-}
-
-fn number_text(alloc: Global, name: &str, number: u64) -> io::Result<String> {
-    Ok(format!(in alloc; "{name} {number}")?)
-}
-
-fn digests_text(alloc: Global, name: &str, own: &Digest, other: &Digest) -> io::Result<String> {
-    Ok(format!(in alloc; "{name} {} {}", Hex(&own.0), Hex(&other.0))?)
-}
-
-/// The fault of a call that wants memory.
-pub(crate) fn lacking(_: Want) -> io::Error {
-    io::Error::from(ErrorKind::OutOfMemory)
+    let mut text = String::new(alloc);
+    put_cause(&mut text, cause)?;
+    Ok(text)
 }

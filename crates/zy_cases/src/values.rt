@@ -1,10 +1,10 @@
 //! Words that are bytes, lists of numbers or digests, and answers that may be missing.
 
-use crate::text::Hex;
-use crate::words::{Row, not_a_line, number};
+use crate::words::Row;
 use std::alloc::Global;
 use std::{fmt, io};
 use zy_base::Digest;
+use zy_rows::{Hex, not_a_line, number};
 
 /// The number that is the word with this name, of 8 bits.
 pub(crate) fn byte(row: &Row, name: &str) -> io::Result<u8> {
