@@ -23,6 +23,7 @@ mod Slots
 mod ViewRows
 mod SpelledWholeSteps
 mod SpelledWorking
+mod PartsBack
 mod Passing
 mod PassingStates
 mod PassingViews

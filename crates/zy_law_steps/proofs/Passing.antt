@@ -8,7 +8,7 @@ use Rattle.zy_base.specs.Machine.{Rules}
 use Rattle.zy_base.specs.declared.counts.Counts.{Counts}
 use Rattle.zy_base.specs.declared.ids.Digest.{Digest}
 use Rattle.zy_base.specs.declared.ids.Party.{Party}
-use Rattle.zy_base.specs.declared.ids.Party.TheVariants.{Client}
+use Rattle.zy_base.specs.declared.ids.Party.TheVariants.{Replica, Client}
 use Rattle.zy_base.specs.declared.ids.Place.{Place}
 use Rattle.zy_base.specs.declared.ids.ReplicaId.{ReplicaId}
 use Rattle.zy_base.specs.declared.ids.Stamp.{Stamp}
@@ -51,7 +51,7 @@ use Rattle.zy_table.specs.declared.deeds.To.{To}
 use Rattle.zy_table.specs.declared.deeds.To.TheVariants.{All as Everyone, One}
 use Rattle.zy_table.specs.declared.kept.OwnCheckpoint.{OwnCheckpoint}
 use Rattle.zy_table.specs.declared.kept.Pending.{Pending}
-use Rattle.zy_law_steps.proofs.Slots.{AreKept, filled}
+use Rattle.zy_law_steps.proofs.Slots.{AreKept, filled, never_flagged}
 use Rattle.zy_parts.specs.declared.statements.Ask.{Ask}
 use Rattle.zy_law_steps.specs.Signs.{IsShort, OfAct, OfActs, OfAnyFrame, OfBoard, OfBody, OfChange, OfOrder, OfPending, OfSent, OfState, Signs}
 
@@ -150,9 +150,9 @@ module _ {S : Type 0} (R : Rules S) (ok : S → Type 0) (law : Laws ok R) where
 
 -- ---- a replica that begins keeps nothing
 
-pub starts : {S : Type 0} (R : Rules S) (ok : S → Type 0) (law : Laws ok R) (F : Signs) (interval : ℕ) (me : ReplicaId) (counts : Counts) (keys : Keys) (sealer : SealerState) → OfState ok F (start_of R interval me counts keys sealer)
-starts R ok law F interval me counts keys sealer = (
-  (tt, tt, empty_slots (OfChange F) counts.n, empty_slots F.began counts.n, tt, tt),
+pub starts : {S : Type 0} (R : Rules S) (ok : S → Type 0) (law : Laws ok R) (F : Signs) (interval : ℕ) (me : ReplicaId) (counts : Counts) (keys : Keys) (sealer : SealerState) → sealer.me ≡ Replica me → OfState ok F (start_of R interval me counts keys sealer)
+starts R ok law F interval me counts keys sealer itself = (
+  (tt, tt, empty_slots (OfChange F) counts.n, empty_slots F.began counts.n, tt, tt, λ id is. absurd (never_flagged counts.n id.0 is)),
   tt,
   (none_kept F.spec F.check, none_kept F.spec F.check, All-nil F.check),
   tt,
@@ -160,7 +160,7 @@ starts R ok law F interval me counts keys sealer = (
   empty_slots (OfPending F) 64,
   tt,
   tt,
-  (tt, record { state = law.starts; known = empty_slots IsShortKnown 64 }),
+  (tt, record { state = law.starts; known = empty_slots IsShortKnown 64 }, itself),
 )
 
 -- ---- on its way
@@ -217,7 +217,7 @@ module _ {S : Type 0} (R : Rules S) (ok : S → Type 0) (law : Laws ok R) (F : S
   pub certified : (s : State S) (place : Place) (specs : List (Signed Spec)) → OfState ok F s → All F.spec specs → OfState ok F (with_certificate s place specs)
   certified s place specs is all =
       by_test (λ (t : State S). OfState ok F t) (is_further place s.views.specs) _ _
-      (λ further. let v = is.0 in ((v.0, all, v.2, v.3, v.4, v.5), is.1, is.2, is.3, is.4, is.5, is.6, is.7, is.8)) (λ near. is)
+      (λ further. let v = is.0 in ((v.0, all, v.2, v.3, v.4, v.5, v.6), is.1, is.2, is.3, is.4, is.5, is.6, is.7, is.8)) (λ near. is)
 
   with_certified : (s : State S) (place : Place) (specs : Option (List (Signed Spec))) → OfState ok F s → ((list : List (Signed Spec)) → specs ≡ Some list → All F.spec list)
       → (s.sealer.me ≡ me) → ((keep_certificate place specs s).sealer.me ≡ me) × OfState ok F (keep_certificate place specs s)
@@ -250,7 +250,7 @@ module _ {S : Type 0} (R : Rules S) (ok : S → Type 0) (law : Laws ok R) (F : S
     v.5,
     all_filtered F.local (λ said. nat_le place said.stmt.place.0) s.locals v.6,
     v.7,
-    (v.8.0, along_short R ok law s.kept.base (take (place - s.kept.base.place) s.kept.entries) v.8.1),
+    (v.8.0, along_short R ok law s.kept.base (take (place - s.kept.base.place) s.kept.entries) v.8.1, v.8.2),
   )
 
   settles : (X : Type 0) (own : Check) (g : Going S) → Passes X g → Passes X (record g { state = settle_with R own.place.0 (proof_at g.state own) g.state })

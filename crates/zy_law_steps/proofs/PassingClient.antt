@@ -41,7 +41,7 @@ use Rattle.zy_vframes.specs.ViewFrames as views
 use Rattle.zy_vframes.specs.declared.frame.ViewFrame.{ViewFrame}
 use Rattle.zy_law_steps.proofs.Passing.{empty_slots, found, put}
 use Rattle.zy_law_steps.proofs.Slots.{AreKept}
-use Rattle.zy_law_steps.specs.Signs.{OfAsks, OfClient, OfFrame, OfHeard, OfResponse, OfSent, Signs}
+use Rattle.zy_law_steps.specs.Signs.{OfAsks, OfClient, OfFrame, OfVerified, OfResponse, OfSent, Signs}
 
 -- there are as many equal responses as agree
 as_many : (spec : Spec) (slots : List (Option Response)) → length (filter_map (equal_in spec) slots) ≡ count_by (agrees spec) slots
@@ -204,8 +204,8 @@ module _ (F : Signs) (s : ClientState) (v : OfClient F s) where
 
   -- ---- events
 
-  under : (against : Option Cause) (o : ClientOutcome) → Of o → Of (unless against s o)
-  under None o is = is
+  under : (against : Option Cause) (o : ClientOutcome) → (against ≡ None → Of o) → Of (unless against s o)
+  under None o is = is refl
   under (Some cause) o is = refuses cause
 
   frame_of : (frame : Frame) → OfFrame F frame → Of (hear s frame)
@@ -222,10 +222,10 @@ module _ (F : Signs) (s : ClientState) (v : OfClient F s) where
 
   view_read : (read : Result ViewFrame FrameFault) → Of (view_decoded s read)
   view_read (Err fault) = refuses (causes.NotFrame fault)
-  view_read (Ok frame) = under (screen s.keys (view_parts.parts_of frame)) (refused causes.WrongRole s) (refuses causes.WrongRole)
+  view_read (Ok frame) = under (screen s.keys (view_parts.parts_of frame)) (refused causes.WrongRole s) (λ clear. refuses causes.WrongRole)
 
-  read_as : (bytes : List ℕ) (read : Result Frame FrameFault) → plain.frame_in bytes ≡ read → OfHeard F (Heard bytes) → Of (decoded_as s bytes read)
-  read_as bytes (Ok frame) is heard = under (screen s.keys (plain.parts_of frame)) (hear s frame) (frame_of frame (heard.0 frame is))
+  read_as : (bytes : List ℕ) (read : Result Frame FrameFault) → plain.frame_in bytes ≡ read → OfVerified F s.keys (Heard bytes) → Of (decoded_as s bytes read)
+  read_as bytes (Ok frame) is heard = under (screen s.keys (plain.parts_of frame)) (hear s frame) (λ clear. frame_of frame (heard.0 frame is clear))
   read_as bytes (Err faults.Kind) is heard = view_read (views.frame_in bytes)
   read_as bytes (Err faults.Short) is heard = refuses (causes.NotFrame faults.Short)
   read_as bytes (Err faults.Version) is heard = refuses (causes.NotFrame faults.Version)
@@ -233,7 +233,7 @@ module _ (F : Signs) (s : ClientState) (v : OfClient F s) where
   read_as bytes (Err faults.Trailing) is heard = refuses (causes.NotFrame faults.Trailing)
   read_as bytes (Err faults.Range) is heard = refuses (causes.NotFrame faults.Range)
 
-  pub steps : (event : Event) → OfHeard F event → Of (client_step s event)
+  pub steps : (event : Event) → OfVerified F s.keys event → Of (client_step s event)
   unfolding client_step
   steps (Heard bytes) heard = read_as bytes (plain.frame_in bytes) refl heard
   steps (Timer timers.Answer) heard = runs_out

@@ -1,5 +1,5 @@
 -- So it does in each row: what holds of all that was heard and kept, and is signed, holds of all that is kept and sent then.
-use Rattle.std.proofs.Common.{◌≡◌, ℕ, ◌+◌, ◌-◌, Bool, true, false, not, List, [], ◌∷◌, ◌++◌, map, take, Option, Some, None, refl, sym, ap, ◌∙◌, subst}
+use Rattle.std.proofs.Common.{◌≡◌, inl, inr, ℕ, ◌+◌, ◌-◌, ◌≤◌, Bool, true, false, not, List, [], ◌∷◌, ◌++◌, map, take, Option, Some, None, refl, sym, ap, ◌∙◌, subst, arith, eqb-true, ltb-false}
 use Rattle.std.specs.Prelude.{All, IfSome, Result, Ok, Err, if◌then◌else◌, max, nat_eq, nat_le, nat_lt, option_map, slice_get, ◌||◌}
 use Rattle.std.specs.List.{AllByRecursion}
 use Rattle.zy_base.specs.Machine.{Rules}
@@ -12,6 +12,7 @@ use Rattle.zy_base.specs.declared.ids.Digest.{Digest}
 use Rattle.zy_base.specs.declared.ids.Party.{Party}
 use Rattle.zy_base.specs.declared.ids.Party.TheVariants.{Client, Replica}
 use Rattle.zy_base.specs.declared.ids.Place.{Place}
+use Rattle.zy_base.specs.declared.ids.ReplicaId.{ReplicaId}
 use Rattle.zy_base.specs.declared.ids.View.{View}
 use Rattle.zy_base.specs.declared.step.Answer.TheVariants.{Held, Taken}
 use Rattle.zy_base.specs.declared.step.Event.{Event}
@@ -32,7 +33,7 @@ use Rattle.zy_change.proofs.FitLemmas.{taken_there}
 use Rattle.zy_change.specs.Confirming.{accepted_for, is_began_from, is_over}
 use Rattle.zy_change.specs.Judging.{chosen_in}
 use Rattle.zy_change.specs.Owing.{hated_by_many, is_left_behind, least_above, next_view}
-use Rattle.zy_change.specs.Views.{began_for, change_for, has_begun, is_accepted, is_further, is_from, is_hated_by, leads, own_change, slot_of, with_change}
+use Rattle.zy_change.specs.Views.{Views, own_view as view_in, began_for, change_for, has_begun, is_accepted, is_further, is_from, is_hated_by, leads, own_change, slot_of, with_change, with_hate}
 use Rattle.zy_change.specs.declared.kept.Accepted.{Accepted}
 use Rattle.zy_change.specs.declared.kept.Chosen.{Chosen}
 use Rattle.zy_change.specs.declared.kept.Waiting.{Waiting}
@@ -86,13 +87,13 @@ use Rattle.zy_table.specs.Confirms.{confirm, confirm_after, order_again}
 use Rattle.zy_table.specs.Deeds.{Going, Outcome, act, begin, ends, refused, send_any}
 use Rattle.zy_table.specs.Fetching.{fetch, fetch_judged, install, installed, state_for, state_heard, state_judged, state_transfer}
 use Rattle.zy_table.specs.Gathering.{checks_owed, gather_at, own_at, with_certificate}
-use Rattle.zy_table.specs.Hates.{ask_for_hole, change_again, count_own, has_pending, hate, hate_counted, hate_for, hate_from, hate_now, on_change_timer, on_request_timer, own_hate, say_hate, then_ask, with_hate_of}
+use Rattle.zy_table.specs.Hates.{ask_for_hole, change_again, count_own, has_pending, hate, hate_counted, hate_for, hate_from, hate_now, hate_of, on_change_timer, on_request_timer, own_hate, say_hate, then_ask, with_hate_of}
 use Rattle.zy_table.specs.Holes.{fill_hole, fill_with, order_to}
 use Rattle.zy_table.specs.Leaving.{Attempt, concluded, is_overspent}
 use Rattle.zy_table.specs.Misbehaviour.{blamed, pom, tell_all}
 use Rattle.zy_table.specs.Orders.{ask_for_missing, hole_of, order_as, owes_hole, position_of}
 use Rattle.zy_table.specs.Requests.{is_behind, new_request, ordered, request, request_after, request_at_backup, request_waits, respond_as, response_of, said_already, sealed_confirm, sealed_order, tell_primary}
-use Rattle.zy_table.specs.Roles.{in_role, view_cause}
+use Rattle.zy_table.specs.Roles.{in_role, is_replica, view_cause}
 use Rattle.zy_table.specs.Running.{run, sealed_spec, signs_of, spec_of}
 use Rattle.zy_table.specs.State.{State, is_leaving, is_primary, leaves_of, own_view, pending_of, primary_of, spec_to, spent, stood_of, window_of, with_pending, with_spec as with_own}
 use Rattle.zy_table.specs.Whole.{commit_in_view, unless, decoded_as, hear_plain, hear_view, is_view_frame_in_role, order_judged, plain_row, view_decoded, view_row, whole_step}
@@ -111,8 +112,8 @@ use Rattle.zy_vframes.specs.declared.frame.ViewFrame.TheVariants as view_frames
 use Rattle.zy_law_steps.proofs.PassingStates.{shown_short}
 use Rattle.zy_law_steps.proofs.Passing.{IsShortKnown, Laws, Passes, known_short, certified, found, gathers_at, kept_filled, kept_of, runs, says, sends, settled_of, slot_at, turns, knows}
 use Rattle.zy_law_steps.proofs.PassingViews.{Ends, IsOf, accepts, adopts, arrives, begun_on, certifies_with, collects, ended, leaves}
-use Rattle.zy_law_steps.proofs.Slots.{AreKept, filled}
-use Rattle.zy_law_steps.specs.Signs.{OfBoard, OfCert, OfChange, OfFrame, OfHeard, OfNew, OfOrder, OfOrders, OfPending, OfSent, OfState, OfViewFrame, Signs}
+use Rattle.zy_law_steps.proofs.Slots.{AreKept, filled, flagged_now}
+use Rattle.zy_law_steps.specs.Signs.{OfBoard, OfCert, OfChange, OfFrame, OfHated, OfHateBy, OfNew, OfOrder, OfOrders, OfPending, OfSent, OfState, OfVerified, OfViewFrame, Signs}
 
 -- ---- kept orders
 
@@ -128,6 +129,23 @@ module _ (F : Signs) where
   in_slots [] all = tt
   in_slots (None ∷ slots) all = in_slots slots all.1
   in_slots (Some o ∷ slots) all = (all.0, in_slots slots all.1)
+
+  -- ---- hates
+
+  -- a hate of this replica, of the view that another is in
+  abbrev pub HateOf : ReplicaId → Views → Type 0
+  HateOf id v = (hate : Signed Hate) × OfHateBy F (Replica id) hate × (hate.stmt.view.0 ≡ view_in v)
+
+  counted : (v : Views) (id : ReplicaId) → HateOf id v → OfHated F v → OfHated F (with_hate (Replica id) v)
+  counted v id one all other is = elim (flagged_now v.hated id.0 other.0 is) [
+    | inl same ↦ subst (λ (n : ℕ). HateOf (record { 0 = n }) v) (sym same) one
+    | inr before ↦ all other before
+  ]
+
+  hate_of_view : (me : Party) (view : ℕ) (o : Option (Signed Hate)) → IfSome o (OfHateBy F me) → IfSome (hate_for view o) (λ hate. OfHateBy F me hate × (hate.stmt.view.0 ≡ view))
+  hate_of_view me view None is = tt
+  hate_of_view me view (Some said) is =
+      by_test (λ (o : Option (Signed Hate)). IfSome o (λ hate. OfHateBy F me hate × (hate.stmt.view.0 ≡ view))) (nat_eq said.stmt.view.0 view) _ _ (λ same. (is, eqb-true said.stmt.view.0 view same)) (λ other. tt)
 
   -- ---- boards
 
@@ -397,41 +415,55 @@ module _ {S : Type 0} (R : Rules S) (ok : S → Type 0) (law : Laws ok R) (F : S
   hated : (g : Going S) → On g → End (hate_counted R g)
   hated g is = by_test End (hated_by_many g.state.views) _ _ (λ many. leaves R ok law F me (Unit {0}) (next_view g.state.views) g is) (λ few. is)
 
-  with_hate : (by : Party) (g : Going S) → On g → On (with_hate_of by g)
-  with_hate by g is = turns R ok law F me (Unit {0}) (Unit {0}) (with_hate_of by g).state g (λ x by' w. (tt, by', w)) is
+  with_hate_by : (id : ReplicaId) (g : Going S) → Passes R ok law F me (HateOf F id g.state.views) g → On (with_hate_of (Replica id) g)
+  with_hate_by id g is =
+      turns R ok law F me (HateOf F id g.state.views) (Unit {0}) (with_hate_of (Replica id) g).state g
+      (λ one by w. let x = w.0 in (tt, by, ((x.0, x.1, x.2, x.3, x.4, x.5, counted F g.state.views id one x.6), w.1, w.2, w.3, w.4, w.5, w.6, w.7, w.8))) is
 
-  hates : (vote : Signed Hate) → End (hate R s vote)
-  unfolding hate
-  hates vote =
+  hates_by : (by : Party) (vote : Signed Hate) → is_replica by ≡ true → vote.by ≡ by → F.hate vote → End (hate_of R s by vote.stmt.view)
+  hates_by (Client id) vote role is heard = absurd cc
+  hates_by (Replica id) vote role is heard =
       by_test End (nat_lt vote.stmt.view.0 (own_view s)) _ _ (λ old. tt)
       (λ from_it. by_test End (nat_lt (own_view s) vote.stmt.view.0) _ _ (λ newer. tt)
-      (λ own. by_test End (is_hated_by s.views vote.by) _ _ (λ repeated. tt) (λ first. hated (with_hate_of vote.by (begin s)) (with_hate vote.by (begin s) start))))
+      (λ own. by_test End (is_hated_by s.views (Replica id)) _ _ (λ repeated. tt)
+      (λ first.
+      let at : own_view s ≤ vote.stmt.view.0 = ltb-false _ _ from_it in
+      let most : vote.stmt.view.0 ≤ own_view s = ltb-false _ _ own in
+      let same : vote.stmt.view.0 ≡ own_view s = omega (arith, at, most) in
+      hated (with_hate_of (Replica id) (begin s)) (with_hate_by id (begin s) (λ acts. ((vote, (is, heard), same), signer, v, tt))))))
 
-  says_hate : (said : Option (Signed Hate)) (g : Going S) → On g → Passes R ok law F me (IfSome said F.hate) g → On (say_hate R said g)
-  says_hate (Some said) g is known =
-      knows R ok law F me (F.hate said) (Unit {0}) (say_hate R (Some said) g) (λ x state. tt) (sends R ok law F me (F.hate said) Everyone (Plain (frames.Hate said)) g (λ x state. x) known)
-  says_hate None g is known =
+  hates : (vote : Signed Hate) → is_replica vote.by ≡ true → F.hate vote → End (hate R s vote)
+  unfolding hate
+  hates vote role heard = hates_by vote.by vote role refl heard
+
+  -- its own hate of its view, which it said or says now
+  abbrev IsOwn : Going S → Signed Hate → Type 0
+  IsOwn g hate = OfHateBy F (Replica g.state.me) hate × (hate.stmt.view.0 ≡ own_view g.state)
+
+  says_hate : (said : Option (Signed Hate)) (g : Going S) → Passes R ok law F me (IfSome said (IsOwn g)) g → Passes R ok law F me (HateOf F (say_hate R said g).state.me (say_hate R said g).state.views) (say_hate R said g)
+  says_hate (Some said) g known =
+      let sent : Going S = say_hate R (Some said) g in
+      knows R ok law F me (IsOwn g said) (HateOf F g.state.me g.state.views) sent (λ own state. (said, own.0, own.1)) (sends R ok law F me (IsOwn g said) Everyone (Plain (frames.Hate said)) g (λ own state. own.0.1) known)
+  says_hate None g known =
       let said : Signed Hate = sealed_by numbers.hate hate_fields g.state.sealer (hate_now g.state) in
       let remark : Remark = record { body = bodies.Hate said.stmt; stood = stood_of R g.state } in
       let t : State S = record (spent g.state) { hate = Some said } in
-      let Y : Type 0 = F.hate said in
-      knows R ok law F me Y (Unit {0}) (say_hate R None g) (λ y state. tt)
-      (sends R ok law F me Y Everyone (Plain (frames.Hate said)) (act (Says remark) (record g { state = t })) (λ y state. y)
-      (says R ok law F me (Unit {0}) Y remark t g (λ x by w to_say.
-      let one : F.hate said = to_say g.state.sealer by in (one, by, (w.0, w.1, w.2, w.3, w.4, w.5, w.6, one, w.8))) is))
+      let Y : Type 0 = IsOwn g said in
+      knows R ok law F me Y (HateOf F g.state.me g.state.views) (say_hate R None g) (λ own state. (said, own.0, own.1))
+      (sends R ok law F me Y Everyone (Plain (frames.Hate said)) (act (Says remark) (record g { state = t })) (λ own state. own.0.1)
+      (says R ok law F me (IfSome None (IsOwn g)) Y remark t g (λ x by w to_say.
+      let one : OfHateBy F (Replica g.state.me) said = (w.8.2, to_say g.state.sealer by) in ((one, refl), by, (w.0, w.1, w.2, w.3, w.4, w.5, w.6, one, w.8))) known))
 
-  own_one : (view : ℕ) (o : Option (Signed Hate)) → IfSome o F.hate → IfSome (hate_for view o) F.hate
-  own_one view None is = tt
-  own_one view (Some said) is = by_test (λ (o : Option (Signed Hate)). IfSome o F.hate) (nat_eq said.stmt.view.0 view) _ _ (λ same. is) (λ other. tt)
-
-  counts_own : (g : Going S) → On g → End (count_own R g)
-  counts_own g is = by_test End (is_hated_by g.state.views (Replica g.state.me)) _ _ (λ counted. is) (λ new. hated (with_hate_of (Replica g.state.me) g) (with_hate (Replica g.state.me) g is))
+  counts_own : (g : Going S) → Passes R ok law F me (HateOf F g.state.me g.state.views) g → End (count_own R g)
+  counts_own g is =
+      by_test End (is_hated_by g.state.views (Replica g.state.me)) _ _ (λ already. knows R ok law F me (HateOf F g.state.me g.state.views) (Unit {0}) g (λ own state. tt) is)
+      (λ new. hated (with_hate_of (Replica g.state.me) g) (with_hate_by g.state.me g is))
 
   hates_from : (g : Going S) → On g → End (hate_from R g)
   unfolding hate_from
   hates_from g is =
-      counts_own (say_hate R (own_hate g.state) g) (says_hate (own_hate g.state) g is
-      (knows R ok law F me (Unit {0}) (IfSome (own_hate g.state) F.hate) g (λ x w. own_one (own_view g.state) g.state.hate w.7) is))
+      counts_own (say_hate R (own_hate g.state) g) (says_hate (own_hate g.state) g
+      (knows R ok law F me (Unit {0}) (IfSome (own_hate g.state) (IsOwn g)) g (λ x w. hate_of_view F (Replica g.state.me) (own_view g.state) g.state.hate w.7) is))
 
   asks_hole : (mode : Mode) (hole : Option (Signed Hole)) (g : Going S) → Passes R ok law F me (IfSome hole F.hole) g → On (ask_for_hole mode hole g)
   asks_hole (Active view) (Some hole) g is =
@@ -485,7 +517,7 @@ module _ {S : Type 0} (R : Rules S) (ok : S → Type 0) (law : Laws ok R) (F : S
   with_report : (vote : Signed Change) → OfChange F vote → On (begin (record s { views = with_change vote s.views }))
   with_report vote heard =
       let w = v.0 in
-      begins_at (record s { views = with_change vote s.views }) signer ((w.0, w.1, filled (OfChange F) s.views.changes (number_of_party vote.by) vote w.2 heard, w.3, w.4, w.5), v.1, v.2, v.3, v.4, v.5, v.6, v.7, v.8)
+      begins_at (record s { views = with_change vote s.views }) signer ((w.0, w.1, filled (OfChange F) s.views.changes (number_of_party vote.by) vote w.2 heard, w.3, w.4, w.5, w.6), v.1, v.2, v.3, v.4, v.5, v.6, v.7, v.8)
 
   change_by : (vote : Signed Change) (rule : Option Rule) → OfChange F vote → End (change_judged R s vote rule)
   change_by vote (Some rule) heard = tt
@@ -515,7 +547,7 @@ module _ {S : Type 0} (R : Rules S) (ok : S → Type 0) (law : Laws ok R) (F : S
   with_vote : (vote : Signed Began) → F.began vote → On (begin (with_confirmation vote s))
   with_vote vote heard =
       let w = v.0 in
-      begins_at (with_confirmation vote s) signer ((w.0, w.1, w.2, filled F.began s.views.begans (number_of_party vote.by) vote w.3 heard, w.4, w.5), v.1, v.2, v.3, v.4, v.5, v.6, v.7, v.8)
+      begins_at (with_confirmation vote s) signer ((w.0, w.1, w.2, filled F.began s.views.begans (number_of_party vote.by) vote w.3 heard, w.4, w.5, w.6), v.1, v.2, v.3, v.4, v.5, v.6, v.7, v.8)
 
   beside : (vote : Signed Began) (own : Began) → F.began vote → End (confirmation_beside R s vote own)
   beside vote own heard =
@@ -559,7 +591,7 @@ module _ {S : Type 0} (R : Rules S) (ok : S → Type 0) (law : Laws ok R) (F : S
   installs x t bytes None shows cert checks = tt
   installs x t bytes (Some point) shows cert checks =
       let u : State S = record s { kept = record { interval = s.kept.interval; base = point; entries = [] } } in
-      adopts R ok law F me (Unit {0}) x.cert x.chosen (begin (installed R point t s)) (λ y. cert) (begins_at (installed R point t s) signer (settled_of R ok law F me u point.place t.checks (v.0, v.1, v.2, v.3, v.4, v.5, v.6, v.7, (v.8.0, shown_short R ok law t.stable_place t.stable_head bytes point shows)) checks))
+      adopts R ok law F me (Unit {0}) x.cert x.chosen (begin (installed R point t s)) (λ y. cert) (begins_at (installed R point t s) signer (settled_of R ok law F me u point.place t.checks (v.0, v.1, v.2, v.3, v.4, v.5, v.6, v.7, (v.8.0, shown_short R ok law t.stable_place t.stable_head bytes point shows, v.8.2)) checks))
 
   state_by : (x : Waiting) (t : Told) (bytes : List ℕ) (against : Option Cause) → OfCert F x.cert → All F.check t.checks → End (state_judged R s x t bytes against)
   state_by x t bytes (Some cause) cert checks = tt
@@ -580,8 +612,8 @@ module _ {S : Type 0} (R : Rules S) (ok : S → Type 0) (law : Laws ok R) (F : S
 
   -- ---- frames
 
-  under : (against : Option Cause) (o : Outcome S) → Of o → Of (unless against s o)
-  under None o is = is
+  under : (against : Option Cause) (o : Outcome S) → (against ≡ None → Of o) → Of (unless against s o)
+  under None o is = is refl
   under (Some cause) o is = refuses cause
 
   order_by : (o : OrderFrame) (a : Admit) → OfOrder F o → Of (order_judged R s o a)
@@ -593,19 +625,19 @@ module _ {S : Type 0} (R : Rules S) (ok : S → Type 0) (law : Laws ok R) (F : S
 
   in_view : (specs : List (Signed Spec)) → All F.spec specs → Of (commit_in_view R s specs)
   in_view [] heard = refuses (causes.TooFew 0)
-  in_view (first ∷ others) heard = under (view_cause s first.stmt.view.0) _ (commits first.stmt (first ∷ others) heard)
+  in_view (first ∷ others) heard = under (view_cause s first.stmt.view.0) _ (λ own. commits first.stmt (first ∷ others) heard)
 
-  plain_of : (frame : Frame) → OfFrame F frame → Of (plain_row R s frame)
-  plain_of (frames.Request ask) heard = requests ask heard
-  plain_of (frames.Order both) heard = under (view_cause s both.order.stmt.view.0) _ (order_by both (judge_in s.orders both.order.stmt both.ask (position_of R s both)) heard)
-  plain_of (frames.SpecResponse spec reply with_order) heard = under (view_cause s spec.stmt.view.0) _ (response_kept spec heard.0)
-  plain_of (frames.Commit specs) heard = in_view specs heard.each
-  plain_of (frames.LocalCommit local) heard = refuses causes.WrongRole
-  plain_of (frames.ConfirmReq confirmed ask) heard = under (view_cause s confirmed.stmt.view.0) _ (confirms_one confirmed ask heard.1)
-  plain_of (frames.FillHole hole) heard = under (view_cause s hole.stmt.view.0) _ (fills hole)
-  plain_of (frames.Hate vote) heard = finishes (hate R s vote) (hates vote)
-  plain_of (frames.Pom first second) heard = finishes (pom R s first second) (misbehaves first second)
-  plain_of (frames.Checkpoint check) heard = under (view_cause s check.stmt.view.0) _ (checkpoint_kept check heard)
+  plain_of : (frame : Frame) → in_role s frame ≡ true → OfFrame F frame → Of (plain_row R s frame)
+  plain_of (frames.Request ask) role heard = requests ask heard
+  plain_of (frames.Order both) role heard = under (view_cause s both.order.stmt.view.0) _ (λ own. order_by both (judge_in s.orders both.order.stmt both.ask (position_of R s both)) heard)
+  plain_of (frames.SpecResponse spec reply with_order) role heard = under (view_cause s spec.stmt.view.0) _ (λ own. response_kept spec heard.0)
+  plain_of (frames.Commit specs) role heard = in_view specs heard.each
+  plain_of (frames.LocalCommit local) role heard = refuses causes.WrongRole
+  plain_of (frames.ConfirmReq confirmed ask) role heard = under (view_cause s confirmed.stmt.view.0) _ (λ own. confirms_one confirmed ask heard.1)
+  plain_of (frames.FillHole hole) role heard = under (view_cause s hole.stmt.view.0) _ (λ own. fills hole)
+  plain_of (frames.Hate vote) role heard = finishes (hate R s vote) (hates vote role heard)
+  plain_of (frames.Pom first second) role heard = finishes (pom R s first second) (misbehaves first second)
+  plain_of (frames.Checkpoint check) role heard = under (view_cause s check.stmt.view.0) _ (λ own. checkpoint_kept check heard)
 
   view_of : (frame : ViewFrame) → OfViewFrame F frame → Of (view_row R s frame)
   view_of (view_frames.ViewChange vote) heard = finishes (change R s vote) (changes vote heard)
@@ -617,23 +649,23 @@ module _ {S : Type 0} (R : Rules S) (ok : S → Type 0) (law : Laws ok R) (F : S
 
   -- ---- events
 
-  view_read : (read : Result ViewFrame FrameFault) → ((frame : ViewFrame) → read ≡ Ok frame → OfViewFrame F frame) → Of (view_decoded R s read)
+  view_read : (read : Result ViewFrame FrameFault) → ((frame : ViewFrame) → read ≡ Ok frame → screen s.keys (view_parts.parts_of frame) ≡ None → OfViewFrame F frame) → Of (view_decoded R s read)
   view_read (Err fault) heard = refuses (causes.NotFrame fault)
   view_read (Ok frame) heard =
       under (screen s.keys (view_parts.parts_of frame)) (hear_view R s frame)
-      (by_test Of (is_view_frame_in_role s.counts frame) _ _ (λ role. view_of frame (heard frame refl)) (λ wrong. refuses causes.WrongRole))
+      (λ clear. by_test Of (is_view_frame_in_role s.counts frame) _ _ (λ role. view_of frame (heard frame refl clear)) (λ wrong. refuses causes.WrongRole))
 
-  read_as : (bytes : List ℕ) (read : Result Frame FrameFault) → plain.frame_in bytes ≡ read → OfHeard F (Heard bytes) → Of (decoded_as R s bytes read)
+  read_as : (bytes : List ℕ) (read : Result Frame FrameFault) → plain.frame_in bytes ≡ read → OfVerified F s.keys (Heard bytes) → Of (decoded_as R s bytes read)
   read_as bytes (Ok frame) is heard =
-      under (screen s.keys (plain.parts_of frame)) (hear_plain R s frame) (by_test Of (in_role s frame) _ _ (λ role. plain_of frame (heard.0 frame is)) (λ wrong. refuses causes.WrongRole))
-  read_as bytes (Err faults.Kind) is heard = view_read (views.frame_in bytes) (λ frame read. heard.1 frame is read)
+      under (screen s.keys (plain.parts_of frame)) (hear_plain R s frame) (λ clear. by_test Of (in_role s frame) _ _ (λ role. plain_of frame role (heard.0 frame is clear)) (λ wrong. refuses causes.WrongRole))
+  read_as bytes (Err faults.Kind) is heard = view_read (views.frame_in bytes) (λ frame read clear. heard.1 frame is read clear)
   read_as bytes (Err faults.Short) is heard = refuses (causes.NotFrame faults.Short)
   read_as bytes (Err faults.Version) is heard = refuses (causes.NotFrame faults.Version)
   read_as bytes (Err faults.TooLong) is heard = refuses (causes.NotFrame faults.TooLong)
   read_as bytes (Err faults.Trailing) is heard = refuses (causes.NotFrame faults.Trailing)
   read_as bytes (Err faults.Range) is heard = refuses (causes.NotFrame faults.Range)
 
-  pub passes : (event : Event) → OfHeard F event → Of (whole_step R s event)
+  pub passes : (event : Event) → OfVerified F s.keys event → Of (whole_step R s event)
   unfolding whole_step
   passes (Heard bytes) heard = read_as bytes (plain.frame_in bytes) refl heard
   passes (Timer timers.Request) heard = finishes (on_request_timer R s s.views.mode) (request_timer s.views.mode)

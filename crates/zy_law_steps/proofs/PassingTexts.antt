@@ -33,7 +33,7 @@ use Rattle.zy_wire.specs.Fields.{IsParty}
 use Rattle.zy_wire.specs.Spelling.{Spelling}
 use Rattle.zy_law_steps.proofs.SaidBack.{same_spelled}
 use Rattle.zy_law_steps.proofs.Sizes.{sealed_fits}
-use Rattle.zy_law_steps.specs.Signs.{ArePassed, OfActs, OfAsks, OfBody, OfChange, OfText, OfTexts, OfTold, Signs}
+use Rattle.zy_law_steps.specs.Signs.{ArePassed, OfActs, OfAsks, OfBody, OfChange, OfText, OfTextAlone, OfTexts, OfTextsAlone, OfTold, Signs}
 use Rattle.zy_law_steps.specs.Spelled.{FitAll, FitsBody}
 
 -- ---- a report whose responses are spelled as they are is spelled as it is
@@ -115,3 +115,32 @@ ask_fits s op low short = by s.waiting
     by None =
         by_test (λ (o : ClientOutcome). AllByRecursion (λ ask. ask_fields.Fits ask) o.said) (nat_le 1 (leaves_of s)) _ _
         (λ left. let some = leb-true 1 (leaves_of s) left in let most = few_leaves s.sealer.key.height in (((omega arith, omega arith), short), tt)) (λ none. tt)
+
+-- ---- whether it can be spelled or not
+
+module _ (p : Party → List ℕ → Bool) (me : Party) where
+  says_alone : {A : Type 0} (number : ℕ) (fields : Spelling A) (stmt : A) → p me (text_of number fields me stmt) ≡ true → (sealer : SealerState) → sealer.me ≡ me → OfTextAlone p number fields (sealed_by number fields sealer stmt)
+  says_alone number fields stmt passes sealer is = subst (λ (by : Party). p by (text_of number fields by stmt) ≡ true) (sym is) passes
+
+  body_alone : (body : Body) → p me (text_by me body) ≡ true → OfBody (OfTextsAlone p) me body
+  body_alone (bodies.Order order) passes = says_alone numbers.order order_fields order passes
+  body_alone (bodies.Spec spec) passes = says_alone numbers.spec spec_fields spec passes
+  body_alone (bodies.Local local) passes = says_alone numbers.local local_fields local passes
+  body_alone (bodies.Confirm confirm) passes = says_alone numbers.confirm confirm_fields confirm passes
+  body_alone (bodies.Hole hole) passes = says_alone numbers.hole hole_fields hole passes
+  body_alone (bodies.Hate hate) passes = says_alone numbers.hate hate_fields hate passes
+  body_alone (bodies.Check check) passes = says_alone numbers.check check_fields check passes
+  body_alone (bodies.Change change) passes = λ told. says_alone numbers.change change_fields change passes
+  body_alone (bodies.New new) passes = λ changes. says_alone numbers.new new_fields new passes
+  body_alone (bodies.Began began) passes = says_alone numbers.began began_fields began passes
+  body_alone (bodies.Fetch fetch) passes = says_alone numbers.fetch fetch_fields fetch passes
+
+  pub acts_alone : (pairs : ℕ) (acts : List Act) → ArePassed p me (said_from me pairs acts) → OfActs (OfTextsAlone p) me acts
+  acts_alone pairs [] passed = tt
+  acts_alone pairs (Says remark ∷ acts) passed = (body_alone remark.body passed.0, acts_alone pairs acts passed.1)
+  acts_alone pairs (Gains got ∷ acts) passed = (tt, acts_alone (pairs + 1) acts passed)
+  acts_alone pairs (Adopts view common gots ∷ acts) passed = (tt, acts_alone (pairs + 1) acts passed)
+
+pub asks_alone : (p : Party → List ℕ → Bool) (me : ClientId) (asks : List Ask) → ArePassed p (Client me) (map (spoken_of me) asks) → OfAsks (OfTextsAlone p) (Client me) asks
+asks_alone p me [] passed = tt
+asks_alone p me (ask ∷ asks) passed = (says_alone p (Client me) numbers.ask ask_fields ask passed.0, asks_alone p me asks passed.1)

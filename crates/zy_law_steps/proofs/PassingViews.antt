@@ -55,7 +55,7 @@ use Rattle.zy_chain.specs.Stretch.{Stretch}
 use Rattle.zy_exec.specs.Kept.{Kept}
 use Rattle.zy_law_normal.proofs.Backing.{all_listed}
 use Rattle.zy_law_steps.proofs.Passing.{Laws, Passes, reply_short, empty_slots, found, knows, says, sends, settled_of, spec_put, turns}
-use Rattle.zy_law_steps.proofs.Slots.{begans_later, changes_later, equal_kept, filled, gathered_kept, others_dropped}
+use Rattle.zy_law_steps.proofs.Slots.{begans_later, changes_later, equal_kept, filled, gathered_kept, never_flagged, others_dropped}
 use Rattle.zy_law_steps.specs.Signs.{IsShort, OfActs, OfAct, OfAnyFrame, OfCert, OfChange, OfNew, OfOrder, OfPending, OfSent, OfState, OfTold, Signs}
 
 module _ {S : Type 0} (R : Rules S) (ok : S → Type 0) (law : Laws ok R) (F : Signs) (me : Party) where
@@ -95,7 +95,7 @@ module _ {S : Type 0} (R : Rules S) (ok : S → Type 0) (law : Laws ok R) (F : S
         (x, one),
         signer,
         (
-          (w.0, w.1, filled (OfChange F) g.state.views.changes (number_of_party change.by) change w.2 one, w.3, tt, tt),
+          (w.0, w.1, filled (OfChange F) g.state.views.changes (number_of_party change.by) change w.2 one, w.3, tt, tt, λ id is. absurd (never_flagged g.state.views.counts.n id.0 is)),
           taken_there (λ slot. IfSome slot (OfOrder F)) (last_place g.state.kept - g.state.orders.base) g.state.orders.slots v.1,
           v.2,
           tt,
@@ -121,7 +121,7 @@ module _ {S : Type 0} (R : Rules S) (ok : S → Type 0) (law : Laws ok R) (F : S
       let one : F.began began = said g.state.sealer signer in
       let w = v.0 in
       let begans = filled F.began (without_others began.stmt g.state.views.begans) (number_of_party began.by) began (others_dropped F.began began.stmt g.state.views.begans w.3) one in
-      ((x, one), signer, ((w.0, w.1, w.2, begans, tells x, w.5), v.1, v.2, v.3, v.4, v.5, v.6, v.7, v.8))) is))
+      ((x, one), signer, ((w.0, w.1, w.2, begans, tells x, w.5, w.6), v.1, v.2, v.3, v.4, v.5, v.6, v.7, v.8))) is))
 
   gives : (X : Type 0) (view : View) (g : Going S) → On X g → On (X × OfNew F (sealed_new g.state view)) (give_new R (sealed_new g.state view) g)
   unfolding give_new
@@ -163,7 +163,7 @@ module _ {S : Type 0} (R : Rules S) (ok : S → Type 0) (law : Laws ok R) (F : S
   active cert chosen s v is =
       let w = v.0 in
       let view : ℕ = cert.new.stmt.view.0 in (
-        (is, tt, changes_later (OfChange F) view s.views.changes w.2, begans_later F.began view s.views.begans w.3, tt, tt),
+        (is, tt, changes_later (OfChange F) view s.views.changes w.2, begans_later F.began view s.views.begans w.3, tt, tt, λ id is. absurd (never_flagged s.views.counts.n id.0 is)),
         tt,
         (none_kept F.spec F.check, none_kept F.spec F.check, v.2.2),
         v.3,
@@ -183,7 +183,7 @@ module _ {S : Type 0} (R : Rules S) (ok : S → Type 0) (law : Laws ok R) (F : S
       let b = is (all_of_front (OfAct F me) g.deeds.acts (adoption_of R cert.new.stmt.view t chosen.place g.state.kept ∷ []) acts) in
       let s : State S = record g.state { kept = taken_over (stretch_of t) chosen.place.0 g.state.kept } in
       let v = b.2 in
-      let n = settled t s (v.0, v.1, v.2, v.3, v.4, v.5, v.6, v.7, (v.8.0, over_short (stretch_of t) chosen.place.0 g.state.kept v.8.1)) (checks b.0) b.1 in
+      let n = settled t s (v.0, v.1, v.2, v.3, v.4, v.5, v.6, v.7, (v.8.0, over_short (stretch_of t) chosen.place.0 g.state.kept v.8.1, v.8.2)) (checks b.0) b.1 in
       (b.0, n.0, active cert chosen (settled_as R t s) n.1 (tells b.0), b.3)
 
   alone : (X : Type 0) (own : OwnCheckpoint) (reply : List ℕ) (g : Going S) → (X → length reply ≤ 1100) → On X g → On X (respond_alone R own reply g)
@@ -245,7 +245,7 @@ module _ {S : Type 0} (R : Rules S) (ok : S → Type 0) (law : Laws ok R) (F : S
       (says R ok law F me X Y remark s g
       (λ x signer v to_say.
       let one : F.fetch said = to_say g.state.sealer signer in
-      ((x, one), signer, (v.0, v.1, v.2, v.3, v.4, v.5, v.6, v.7, (all_of_both F.fetch g.state.fetches (said ∷ []) v.8.0 (one, tt), v.8.1)))) is))
+      ((x, one), signer, (v.0, v.1, v.2, v.3, v.4, v.5, v.6, v.7, (all_of_both F.fetch g.state.fetches (said ∷ []) v.8.0 (one, tt), v.8.1, v.8.2)))) is))
 
   waits : (X : Type 0) (cert : ViewCert) (chosen : Chosen) (t : Told) (g : Going S) → (X → OfCert F cert) → On X g → On X (wait_for R cert chosen t g)
   unfolding wait_for
@@ -257,7 +257,7 @@ module _ {S : Type 0} (R : Rules S) (ok : S → Type 0) (law : Laws ok R) (F : S
       knows R ok law F me Y X (ask_for R t k) (λ y state. y.0)
       (asks_each Y wanted (fetch_said k.state wanted) (asked_of k.state t.checks) k (λ y. y.1)
       (knows R ok law F me X Y k (λ x v. (x, found F.fetch _ k.state.fetches v.8.0))
-      (turns R ok law F me X X k.state h (λ x signer v. let w = v.0 in (x, signer, ((w.0, w.1, w.2, w.3, w.4, tells x), v.1, v.2, v.3, v.4, v.5, v.6, v.7, v.8)))
+      (turns R ok law F me X X k.state h (λ x signer v. let w = v.0 in (x, signer, ((w.0, w.1, w.2, w.3, w.4, tells x, w.6), v.1, v.2, v.3, v.4, v.5, v.6, v.7, v.8)))
       (arrives X cert.new.stmt.view g is))))
 
   -- ---- adopt, and certify

@@ -1,7 +1,7 @@
 -- What holds of all that slots keep, as one is filled, others are dropped, and some are picked.
-use Rattle.std.proofs.Common.{◌≡◌, ℕ, zero, suc, ◌<◌, Bool, List, [], ◌∷◌, length, map, take, set, Option, Some, None, refl, subst, arith}
+use Rattle.std.proofs.Common.{◌≡◌, ◌⊎◌, inl, inr, ℕ, zero, suc, ◌<◌, Bool, true, false, List, [], ◌∷◌, length, map, take, set, replicate, Option, Some, None, refl, ap, subst, arith}
 use Rattle.std.specs.List.{AllByRecursion, cons_option, filter_map, position}
-use Rattle.std.specs.Prelude.{IfSome, not, nat_eq, nat_le, slice_get, ◌&&◌}
+use Rattle.std.specs.Prelude.{IfSome, not, nat_eq, nat_le, slice_get, slice_index_or, ◌&&◌}
 use Rattle.std.proofs.lemmas.List.{length-map}
 use Rattle.std.proofs.lemmas.List.Elements.{All-map}
 use Rattle.std.proofs.lemmas.List.Quantifiers.{position-Some}
@@ -37,6 +37,23 @@ module _ {A : Type 0} (P : A → Type 0) where
       by : (o : Option A) → pick slot ≡ o → AllByRecursion P (filter_map pick slots) → AllByRecursion P (cons_option o (filter_map pick slots))
       by None is rest = rest
       by (Some x) is rest = (subst (λ (o : Option A). IfSome o P) (same slot x is) all.0, rest)
+
+-- ---- flags
+
+pub never_flagged : (n i : ℕ) → slice_index_or (replicate n false) i false ≡ true → ⊥
+never_flagged zero i is = absurd cc
+never_flagged (suc n) zero is = absurd cc
+never_flagged (suc n) (suc i) is = never_flagged n i is
+
+pub flagged_now : (flags : List Bool) (i j : ℕ) → slice_index_or (set flags i true) j false ≡ true → (j ≡ i) ⊎ (slice_index_or flags j false ≡ true)
+flagged_now [] i j is = inr is
+flagged_now (flag ∷ flags) zero zero is = inl refl
+flagged_now (flag ∷ flags) zero (suc j) is = inr is
+flagged_now (flag ∷ flags) (suc i) zero is = inr is
+flagged_now (flag ∷ flags) (suc i) (suc j) is = elim (flagged_now flags i j is) [
+  | inl same ↦ inl (ap suc same)
+  | inr before ↦ inr before
+]
 
 -- ---- reports and confirmations
 

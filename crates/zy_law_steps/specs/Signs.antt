@@ -1,14 +1,15 @@
 -- What holds of each signed statement that a replica hears, keeps, says or sends, where something is said of each kind of them.
-use Rattle.std.specs.Prelude.{◌≡◌, ℕ, ◌≤◌, Bool, true, List, All, IfSome, Ok, Err, length}
+use Rattle.std.specs.Prelude.{◌≡◌, ℕ, ◌≤◌, Bool, true, List, All, IfSome, None, Ok, Err, length}
 use Rattle.std.specs.List.{AllByRecursion}
 use Rattle.zy_base.specs.declared.frame_fault.FrameFault.TheVariants as faults
 use Rattle.zy_base.specs.declared.ids.Party.{Party}
-use Rattle.zy_base.specs.declared.ids.Party.TheVariants.{Client}
+use Rattle.zy_base.specs.declared.ids.Party.TheVariants.{Replica, Client}
+use Rattle.zy_base.specs.declared.ids.ReplicaId.{ReplicaId}
 use Rattle.zy_base.specs.declared.step.Event.{Event}
 use Rattle.zy_base.specs.declared.step.Event.TheVariants.{Heard, Timer}
 use Rattle.zy_base.specs.declared.step.Spoken.{Spoken}
 use Rattle.zy_admit.specs.Orders.{Orders}
-use Rattle.zy_change.specs.Views.{Views}
+use Rattle.zy_change.specs.Views.{Views, is_hated_by, own_view}
 use Rattle.zy_check.specs.Board.{Board}
 use Rattle.zy_exec.specs.Replay.{Point}
 use Rattle.zy_exec.specs.declared.known.Known.{Known}
@@ -26,6 +27,7 @@ use Rattle.zy_parts.specs.declared.reports.Change.{Change}
 use Rattle.zy_parts.specs.declared.reports.Fetch.{Fetch}
 use Rattle.zy_parts.specs.declared.reports.New.{New}
 use Rattle.zy_parts.specs.declared.reports.Told.{Told}
+use Rattle.zy_parts.specs.declared.signed.Part.{Part}
 use Rattle.zy_parts.specs.declared.signed.Signed.{Signed}
 use Rattle.zy_parts.specs.declared.statements.Ask.{Ask}
 use Rattle.zy_parts.specs.declared.statements.Check.{Check}
@@ -35,6 +37,8 @@ use Rattle.zy_parts.specs.declared.statements.Hole.{Hole}
 use Rattle.zy_parts.specs.declared.statements.Local.{Local}
 use Rattle.zy_parts.specs.declared.statements.Order.{Order}
 use Rattle.zy_parts.specs.declared.statements.Spec.{Spec}
+use Rattle.zy_seal.specs.Keys.{Keys}
+use Rattle.zy_seal.specs.Screening.{screen}
 use Rattle.zy_seal.specs.Sealing.{SealerState, sealed_by}
 use Rattle.zy_table.specs.ClientState.{ClientState}
 use Rattle.zy_table.specs.State.{State}
@@ -47,6 +51,7 @@ use Rattle.zy_table.specs.declared.deeds.Body.{Body}
 use Rattle.zy_table.specs.declared.deeds.Body.TheVariants as bodies
 use Rattle.zy_table.specs.declared.deeds.Sent.{Sent}
 use Rattle.zy_table.specs.declared.kept.Pending.{Pending}
+use Rattle.zy_vframes.specs.Parts as view_parts
 use Rattle.zy_vframes.specs.ViewFrames as view_frames
 use Rattle.zy_vframes.specs.declared.frame.ViewCert.{ViewCert}
 use Rattle.zy_vframes.specs.declared.frame.ViewFrame.{ViewFrame}
@@ -120,11 +125,19 @@ OfSent F sent = AllByRecursion (λ one. OfAnyFrame F one.frame) sent
 
 -- ---- what a replica keeps
 
+-- a hate of this party
+abbrev pub OfHateBy : Signs → Party → Signed Hate → Type 0
+OfHateBy F by hate = (hate.by ≡ by) × F.hate hate
+
+-- Each hate that is counted is of the replica for which it is counted, and of the own view.
+abbrev pub OfHated : Signs → Views → Type 0
+OfHated F v = (id : ReplicaId) → is_hated_by v (Replica id) ≡ true → (hate : Signed Hate) × OfHateBy F (Replica id) hate × (hate.stmt.view.0 ≡ own_view v)
+
 abbrev pub OfViews : Signs → Views → Type 0
 OfViews F v =
     IfSome v.view_cert (OfCert F) × IfSome v.specs (λ c. All F.spec c.specs)
     × AllByRecursion (λ slot. IfSome slot (OfChange F)) v.changes × AllByRecursion (λ slot. IfSome slot F.began) v.begans
-    × IfSome v.accepted (λ a. OfNew F a.new) × IfSome v.waiting (λ x. OfCert F x.cert)
+    × IfSome v.accepted (λ a. OfNew F a.new) × IfSome v.waiting (λ x. OfCert F x.cert) × OfHated F v
 
 abbrev pub OfOrders : Signs → Orders → Type 0
 OfOrders F o = AllByRecursion (λ slot. IfSome slot (OfOrder F)) o.slots
@@ -138,15 +151,15 @@ pub record IsShort {S : Type 0} (is_state : S → Type 0) (p : Point S) : Type 0
   pub state : is_state p.state
   pub known : AllByRecursion (λ slot. IfSome slot (λ (known : Known). length known.reply ≤ 1100)) p.known
 
--- the snapshots that it fetched, and where what it keeps of its history begins
+-- the snapshots that it fetched, and where what it keeps of its history begins; and it signs as itself
 abbrev pub OfBase : {S : Type 0} → (S → Type 0) → Signs → State S → Type 0
-OfBase is_state F s = AllByRecursion F.fetch s.fetches × IsShort is_state s.kept.base
+OfBase is_state F s = AllByRecursion F.fetch s.fetches × IsShort is_state s.kept.base × (s.sealer.me ≡ Replica s.me)
 
 abbrev pub OfState : {S : Type 0} → (S → Type 0) → Signs → State S → Type 0
 OfState is_state F s =
     OfViews F s.views × OfOrders F s.orders × OfBoard F s.board × IfSome s.hole F.hole
     × AllByRecursion (λ slot. IfSome slot F.spec) s.specs × AllByRecursion (λ slot. IfSome slot (OfPending F)) s.pending
-    × AllByRecursion F.local s.locals × IfSome s.hate F.hate × OfBase is_state F s
+    × AllByRecursion F.local s.locals × IfSome s.hate (OfHateBy F (Replica s.me)) × OfBase is_state F s
 
 -- ---- what it signs
 
@@ -180,6 +193,13 @@ OfHeard F (Heard bytes) =
     ((frame : Frame) → plain.frame_in bytes ≡ Ok frame → OfFrame F frame)
     × ((frame : ViewFrame) → plain.frame_in bytes ≡ Err faults.Kind → view_frames.frame_in bytes ≡ Ok frame → OfViewFrame F frame)
 OfHeard F (Timer kind) = Unit {0}
+
+-- the same, where each part of the frame verifies under these keys
+abbrev pub OfVerified : Signs → Keys → Event → Type 0
+OfVerified F keys (Heard bytes) =
+    ((frame : Frame) → plain.frame_in bytes ≡ Ok frame → screen keys (plain.parts_of frame) ≡ None → OfFrame F frame)
+    × ((frame : ViewFrame) → plain.frame_in bytes ≡ Err faults.Kind → view_frames.frame_in bytes ≡ Ok frame → screen keys (view_parts.parts_of frame) ≡ None → OfViewFrame F frame)
+OfVerified F keys (Timer kind) = Unit {0}
 
 -- ---- a client
 
@@ -221,6 +241,27 @@ OfTexts p =
       fetch = OfText p numbers.fetch fetch_fields;
     }
 
+-- This holds of the signer and the text that is signed, whether it can be spelled or not.
+abbrev pub OfTextAlone : {A : Type 0} → (Party → List ℕ → Bool) → ℕ → Spelling A → Signed A → Type 0
+OfTextAlone p number fields x = p x.by (text_of number fields x.by x.stmt) ≡ true
+
+abbrev pub OfTextsAlone : (Party → List ℕ → Bool) → Signs
+OfTextsAlone p =
+    record {
+      ask = OfTextAlone p numbers.ask ask_fields;
+      order = OfTextAlone p numbers.order order_fields;
+      spec = OfTextAlone p numbers.spec spec_fields;
+      local = OfTextAlone p numbers.local local_fields;
+      confirm = OfTextAlone p numbers.confirm confirm_fields;
+      hole = OfTextAlone p numbers.hole hole_fields;
+      hate = OfTextAlone p numbers.hate hate_fields;
+      check = OfTextAlone p numbers.check check_fields;
+      change = OfTextAlone p numbers.change change_fields;
+      new = OfTextAlone p numbers.new new_fields;
+      began = OfTextAlone p numbers.began began_fields;
+      fetch = OfTextAlone p numbers.fetch fetch_fields;
+    }
+
 -- each statement that is said passes
 abbrev pub ArePassed : (Party → List ℕ → Bool) → Party → List Spoken → Type 0
 ArePassed p me said = AllByRecursion (λ spoken. p me spoken.text ≡ true) said
@@ -228,3 +269,14 @@ ArePassed p me said = AllByRecursion (λ spoken. p me spoken.text ≡ true) said
 -- what is sent is of that kind, as bytes
 abbrev pub AreOfTexts : (Party → List ℕ → Bool) → List (Party × List ℕ) → Type 0
 AreOfTexts p sent = AllByRecursion (λ one. OfHeard (OfTexts p) (Heard one.1)) sent
+
+-- so does each part of a frame
+abbrev pub DoPass : (Party → List ℕ → Bool) → List Part → Type 0
+DoPass p parts = AllByRecursion (λ part. p part.by part.text ≡ true) parts
+
+-- and of the frame that the bytes are read as, where each part of it verifies under these keys
+abbrev pub DoVerifiedPass : (Party → List ℕ → Bool) → Keys → Event → Type 0
+DoVerifiedPass p keys (Heard bytes) =
+    ((frame : Frame) → plain.frame_in bytes ≡ Ok frame → screen keys (plain.parts_of frame) ≡ None → DoPass p (plain.parts_of frame))
+    × ((frame : ViewFrame) → plain.frame_in bytes ≡ Err faults.Kind → view_frames.frame_in bytes ≡ Ok frame → screen keys (view_parts.parts_of frame) ≡ None → DoPass p (view_parts.parts_of frame))
+DoVerifiedPass p keys (Timer kind) = Unit {0}

@@ -14,7 +14,10 @@ mod whole;
 
 pub use entries::working_rows;
 pub use frames::leaving_refuses;
-pub use passed_on::{clients_pass_on, replicas_pass_on, statements_are_parts};
+pub use passed_on::{
+    clients_keep_what_was_said, clients_pass_on, replicas_keep_what_was_said, replicas_pass_on,
+    statements_are_parts,
+};
 pub use said::said_back;
 pub use same::same_keys;
 pub use start::spelled_start;

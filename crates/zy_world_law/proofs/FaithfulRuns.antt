@@ -1,5 +1,5 @@
 -- Where nobody lies, no event is forged, and each world of a run is faithful.
-use Rattle.std.proofs.Common.{◌≡◌, ℕ, ◌-◌, ◌<◌, ◌≤◌, ◌^◌, inl, zero, suc, Bool, true, false, not, ◌&&◌, List, [], ◌∷◌, ◌++◌, length, map, set, Option, Some, None, Result, Ok, Err, refl, sym, ap, ◌∙◌, subst, arith}
+use Rattle.std.proofs.Common.{◌≡◌, ℕ, ◌-◌, ◌<◌, ◌≤◌, ◌^◌, inl, zero, suc, Bool, true, false, not, ◌&&◌, List, [], ◌∷◌, length, set, Option, Some, None, Result, Ok, Err, refl, sym, ap, ◌∙◌, subst, arith}
 use Rattle.std.specs.Prelude.{cond, if◌then◌else◌, option_map, slice_get, unwrap_or}
 use Rattle.std.specs.List.{AllByRecursion, find}
 use Rattle.zy_base.specs.Machine.{Rules}
@@ -11,24 +11,23 @@ use Rattle.zy_base.specs.declared.ids.Party.TheVariants as parties
 use Rattle.zy_base.specs.declared.ids.ReplicaId.{ReplicaId}
 use Rattle.zy_base.specs.declared.step.Event.{Event}
 use Rattle.zy_base.specs.declared.step.Event.TheVariants.{Heard, Timer}
-use Rattle.zy_base.specs.declared.step.Spoken.{Spoken}
 use Rattle.zy_base.specs.declared.step.TimerKind.{TimerKind}
 use Rattle.zy_base.specs.declared.step.TimerKind.TheVariants as timers
 use Rattle.zy_frames.specs.Frames as plain
 use Rattle.zy_frames.specs.declared.frame.Frame.{Frame}
 use Rattle.zy_law_normal.proofs.Own.{at_of}
-use Rattle.zy_law_steps.specs.Signs.{ArePassed, OfClient, OfHeard, OfState, OfTexts}
+use Rattle.zy_law_steps.specs.Signs.{OfClient, OfHeard, OfState, OfTexts}
 use Rattle.zy_parts.specs.declared.signed.Part.{Part}
 use Rattle.zy_schedule.specs.declared.line.Line.{Line}
 use Rattle.zy_schedule.specs.declared.line.Line.TheVariants as lines
 use Rattle.zy_seal.specs.Screening.{answer_to}
 use Rattle.zy_table.specs.ClientRows.{ask, client_step}
-use Rattle.zy_table.specs.ClientState.{all_replicas, spoken_of}
+use Rattle.zy_table.specs.ClientState.{all_replicas}
 use Rattle.zy_table.specs.Whole.{whole_step}
 use Rattle.zy_tuple.specs.Bytes.{op_bytes}
 use Rattle.zy_vframes.specs.ViewFrames as views
 use Rattle.zy_vframes.specs.declared.frame.ViewFrame.{ViewFrame}
-use Rattle.zy_world_law.specs.Events.{Happened, ask_in, bring, bring_to_client, bring_to_replica, client_goes, client_stepped, client_timer, client_timer_in, deliver, happens, replica_goes, replica_timer, replica_timer_in, timer_of, unless_forged, with_client}
+use Rattle.zy_world_law.specs.Events.{Happened, ask_in, bring, bring_to_client, bring_to_replica, client_goes, client_timer, client_timer_in, deliver, happens, replica_goes, replica_timer, replica_timer_in, timer_of, unless_forged}
 use Rattle.zy_world_law.specs.Events.Broken.{Forged, Clash}
 use Rattle.zy_world_law.specs.Events.Happened.{Goes, Breaks}
 use Rattle.zy_world_law.specs.Faithful.{IsFaithful, IsQuiet, IsUnforged, PassesSaid}
@@ -47,11 +46,10 @@ use Rattle.zy_world_law.proofs.EachEvent.{event_good}
 use Rattle.zy_world_law.proofs.FaithfulSteps.{Fair, OfMail, client_fair, replica_fair, seat_within}
 use Rattle.zy_world_law.proofs.HeldLaw.{HeldLaw}
 use Rattle.zy_world_law.proofs.HonestEvents.{honest_or_idle, timer_honest}
-use Rattle.zy_world_law.proofs.KeptOrHeard.{ask_comes}
+use Rattle.zy_world_law.proofs.OwnSaid.{asked_passes}
 use Rattle.zy_world_law.proofs.PassLaws.{PassLaws, Test}
 use Rattle.zy_world_law.proofs.StartGood.{client_is, replica_is}
 use Rattle.zy_world_law.proofs.StepLaws.{StepLaws}
-use Rattle.zy_world_law.proofs.WorldSaid.{all_among, all_passed, own_client}
 
 -- ---- lists
 
@@ -63,10 +61,10 @@ set_all P (first ∷ xs) (suc i) x all one = (all.0, set_all P xs i x all.1 one)
 -- ---- what is said passes as said
 
 module _ {S : Type 0} (w : World S) where
-  abbrev was_said : Test
+  abbrev pub was_said : Test
   was_said by text = not (is_unsaid (texts_said w by) text)
 
-  passes_said : PassesSaid w was_said
+  pub passes_said : PassesSaid w was_said
   passes_said by text said = ap not said
 
   not_forged : (yes unsaid : Bool) → not unsaid ≡ true → (yes && unsaid) ≡ false
@@ -136,9 +134,6 @@ module _ {S : Type 0} (R : Rules S) (ok : S → Type 0) (held : HeldLaw) (steps 
             pass.client_sends test x.state event (is.clients test before id.0 x at) (heard test before) (all_replicas (client_step x.state event).state.counts.n),
           ))
 
-      me_is : x.state.me ≡ id
-      me_is = let number = (good.client_tied id.0 x at).me in ap (λ (n : ℕ). record { 0 = n }) number
-
       small : x.state.me.0 < 2 ^ 32
       small = let within = seat_within w.clients id.0 (Some x) (seat_is (slice_get w.clients id.0) at) in omega (arith, within, good.clients, good.setup.clients, (good.client_tied id.0 x at).me)
         where
@@ -147,26 +142,12 @@ module _ {S : Type 0} (R : Rules S) (ok : S → Type 0) (held : HeldLaw) (steps 
           seat_is (Some seat) is = ap (λ (s : Option Client). Some s) is
 
       module _ (op : List ℕ) (short : length op ≤ 1100) where
-        abbrev asked : World S
-        asked = with_client w id (client_stepped x (ask x.state op))
-
-        same : (ask x.state op).state.me ≡ x.state.me
-        same = (ask_comes x.state op).same.me
-
-        said_passes : (test : Test) → PassesSaid asked test → ArePassed test (parties.Client x.state.me) (map (spoken_of x.state.me) (ask x.state op).said)
-        said_passes test passes =
-            let said : List Spoken = map (spoken_of (ask x.state op).state.me) (ask x.state op).said in
-            let texts : texts_said asked (parties.Client x.state.me) ≡ Some (x.said ++ map (λ (spoken : Spoken). spoken.text) said) =
-            ap (option_map (λ (y : Client). y.said)) (ap (λ (m : ClientId). client_at asked m.0) me_is ∙ own_client w id x at (client_stepped x (ask x.state op))) in
-            subst (λ (m : ClientId). ArePassed test (parties.Client x.state.me) (map (spoken_of m) (ask x.state op).said)) same
-            (all_passed asked test (parties.Client x.state.me) (x.said ++ map (λ (spoken : Spoken). spoken.text) said) passes texts said (all_among (λ (spoken : Spoken). spoken.text) x.said said))
-
         asks_fair : Fair ok (client_goes w id x [] (ask x.state op))
         asks_fair =
             client_fair R ok steps pass w good is id x at [] (ask x.state op)
             (λ test after before. (
-              pass.keeps_asked test x.state op small short (is.clients test before id.0 x at) (said_passes test after),
-              pass.sends_asked test x.state op small short (is.clients test before id.0 x at) (said_passes test after) (all_replicas (ask x.state op).state.counts.n),
+              pass.keeps_asked test x.state op small short (is.clients test before id.0 x at) (asked_passes R w good id x at op test after),
+              pass.sends_asked test x.state op small short (is.clients test before id.0 x at) (asked_passes R w good id x at op test after) (all_replicas (ask x.state op).state.counts.n),
             ))
 
       rings_client : (kind : TimerKind) → Fair ok (client_timer w id x kind)
@@ -322,7 +303,7 @@ module _ {S : Type 0} (R : Rules S) (ok : S → Type 0) (held : HeldLaw) (steps 
       record {
         replicas = λ test passes q x at.
             subst (λ (y : Replica S). OfState ok (OfTexts test) y.state) (sym (replica_is R held steps setup fine q x at).1)
-            (pass.start test setup.interval (record { 0 = q }) setup.counts (keys_of setup) (sealer_of setup (parties.Replica (record { 0 = q })) 0));
+            (pass.start test setup.interval (record { 0 = q }) setup.counts (keys_of setup) (sealer_of setup (parties.Replica (record { 0 = q })) 0) refl);
         clients = λ test passes q x at.
             subst (λ (y : Client). OfClient (OfTexts test) y.state) (sym (client_is R held steps setup fine q x at).1)
             (pass.client_start test (record { 0 = q }) setup.counts (keys_of setup) (sealer_of setup (parties.Client (record { 0 = q })) 0) (record { 0 = 0 }) refl (omega arith));

@@ -1,6 +1,6 @@
 -- Where nobody lies, a step of a correct party keeps a faithful world faithful.
-use Rattle.std.proofs.Common.{◌≡◌, ◌⊎◌, inl, inr, ℕ, ◌<◌, zero, suc, List, [], ◌∷◌, ◌++◌, length, map, Some, Result, Ok, Err, refl, sym, ap, ◌∙◌, subst, arith}
-use Rattle.std.specs.Prelude.{option_map, slice_get}
+use Rattle.std.proofs.Common.{◌≡◌, ◌⊎◌, inl, inr, ℕ, ◌+◌, ◌-◌, ◌<◌, zero, suc, List, [], ◌∷◌, ◌++◌, length, map, Some, Result, Ok, Err, refl, sym, ap, ◌∙◌, subst, arith}
+use Rattle.std.specs.Prelude.{slice_get}
 use Rattle.std.specs.List.{AllByRecursion}
 use Rattle.std.proofs.lemmas.Bool.{cases_eq}
 use Rattle.std.proofs.lemmas.Option.{same_Some}
@@ -8,12 +8,10 @@ use Rattle.zy_base.specs.Machine.{Rules}
 use Rattle.zy_base.specs.declared.ids.ClientId.{ClientId}
 use Rattle.zy_base.specs.declared.ids.Digest.{Digest}
 use Rattle.zy_base.specs.declared.ids.Party.{Party}
-use Rattle.zy_base.specs.declared.ids.Party.TheVariants as parties
 use Rattle.zy_base.specs.declared.ids.ReplicaId.{ReplicaId}
 use Rattle.zy_base.specs.declared.step.Event.{Event}
 use Rattle.zy_base.specs.declared.step.Event.TheVariants.{Heard}
 use Rattle.zy_base.specs.declared.step.Spoken.{Spoken}
-use Rattle.zy_law.specs.World.{Stand}
 use Rattle.zy_law_normal.proofs.Goes.{all_of_both, all_of_front, all_of_rest}
 use Rattle.zy_law_steps.specs.Signs.{AreOfTexts, ArePassed, OfClient, OfHeard, OfState, OfTexts}
 use Rattle.zy_law_steps.specs.Whole.{IsEventHonest}
@@ -21,21 +19,21 @@ use Rattle.zy_law_views.proofs.IdleFrames.{IsIdle}
 use Rattle.zy_table.specs.ClientState.{ClientOutcome, client_outgoing, spoken_of}
 use Rattle.zy_table.specs.Deeds.{Outcome, others, outgoing_of, said_from}
 use Rattle.zy_table.specs.Whole.{whole_step}
-use Rattle.zy_world_law.specs.Events.{Happened, client_goes, client_note, client_stepped, completed_by, go_with, remark_after, replica_goes, replica_note, stepped, with_client, with_done, with_replica}
+use Rattle.zy_world_law.specs.Events.{Happened, client_goes, client_note, client_stepped, completed_by, go_with, replica_goes, replica_note, stepped, with_client, with_done, with_replica}
 use Rattle.zy_world_law.specs.Events.Broken.{Forged, Clash}
 use Rattle.zy_world_law.specs.Events.Happened.{Goes, Breaks}
 use Rattle.zy_world_law.specs.Faithful.{IsFaithful, PassesSaid}
 use Rattle.zy_world_law.specs.Good.{IsGood, IsKept, IsTied}
 use Rattle.zy_world_law.specs.Seen.{seen}
 use Rattle.zy_world_law.specs.Texts.{keep_all, step_texts}
-use Rattle.zy_world_law.specs.World.{World, Client, Mail, Remark, Replica, Texts, client_at, mail_to, replica_at, texts_said, with_sent}
+use Rattle.zy_world_law.specs.World.{World, Client, Mail, Replica, Texts, client_at, mail_to, replica_at, with_sent}
 use Rattle.zy_world_law.proofs.FineSteps.{IsFine, step_fine}
 use Rattle.zy_world_law.proofs.KeptTexts.{IsKeeping, all_kept}
+use Rattle.zy_world_law.proofs.OwnSaid.{replica_more, replica_passes}
 use Rattle.zy_world_law.proofs.PassLaws.{PassLaws, Test}
 use Rattle.zy_world_law.proofs.StepLaws.{StepLaws}
 use Rattle.zy_world_law.proofs.TextsStay.{texts_good}
-use Rattle.zy_world_law.proofs.ToldSteps.{map_append}
-use Rattle.zy_world_law.proofs.WorldSaid.{SaysMore, all_among, all_passed, client_says_more, other_client, other_replica, own_client, own_replica, passes_before, replica_says_more}
+use Rattle.zy_world_law.proofs.WorldSaid.{SaysMore, client_says_more, other_client, other_replica, own_client, own_replica, passes_before}
 
 -- a mail is as the bytes that it carries
 abbrev pub OfMail : Test → Mail → Type 0
@@ -44,10 +42,6 @@ OfMail test mail = OfHeard (OfTexts test) (Heard mail.bytes)
 mailed : (test : Test) (out : List (Party × List ℕ)) → AreOfTexts test out → AllByRecursion (OfMail test) (map mail_to out)
 mailed test [] all = tt
 mailed test (one ∷ out) all = (all.0, mailed test out all.1)
-
-remark_texts : (past : List Stand) (said : List Spoken) → map (λ (remark : Remark). remark.text) (map (remark_after past) said) ≡ map (λ (spoken : Spoken). spoken.text) said
-remark_texts past [] = refl
-remark_texts past (spoken ∷ said) = ap (λ (l : List (List ℕ)). spoken.text ∷ l) (remark_texts past said)
 
 pub seat_within : {A : Type 0} (xs : List A) (i : ℕ) (x : A) → slice_get xs i ≡ Some x → i < length xs
 seat_within [] i x is = absurd cc
@@ -73,13 +67,6 @@ module _ {S : Type 0} (R : Rules S) (ok : S → Type 0) (steps : StepLaws R) (pa
     tie : IsTied R w id.0 x
     tie = good.tied id.0 x at
 
-    -- it is itself, and signs so
-    me_is : o.state.me.0 ≡ id.0
-    me_is = ap (λ (m : ReplicaId). m.0) (pass.me x.state event) ∙ tie.works.me
-
-    signer : x.state.sealer.me ≡ parties.Replica o.state.me
-    signer = tie.ready.signer ∙ ap (λ (n : ℕ). parties.Replica (record { 0 = n })) (tie.ready.tied.standing.me ∙ sym me_is)
-
     module _ (more : Texts) (keeping : IsKeeping w.texts (texts ++ step_texts o.deeds.acts) more) where
       abbrev w1 : World S
       w1 = record w { texts = more }
@@ -104,26 +91,12 @@ module _ {S : Type 0} (R : Rules S) (ok : S → Type 0) (steps : StepLaws R) (pa
       abbrev v : World S
       v = with_sent w2 out
 
-      abbrev said : List Spoken
-      said = said_from (parties.Replica o.state.me) 0 o.deeds.acts
-
-      more_said : SaysMore w v
-      more_said = replica_says_more w1 id x at x' (map (remark_after x.past) said) refl
-
       module _ (test : Test) (passes : PassesSaid v test) where
         before : PassesSaid w test
-        before = passes_before w v test more_said passes
-
-        own_texts : texts_said v (parties.Replica o.state.me) ≡ Some (map (λ (remark : Remark). remark.text) x.said ++ map (λ (spoken : Spoken). spoken.text) said)
-        own_texts =
-            ap (option_map (λ (y : Replica S). map (λ (remark : Remark). remark.text) y.said)) (ap (replica_at v) me_is ∙ own_replica w1 id x at x')
-            ∙ ap (λ (l : List (List ℕ)). Some l)
-            (map_append (λ (remark : Remark). remark.text) x.said (map (remark_after x.past) said) ∙ ap (λ (l : List (List ℕ)). map (λ (remark : Remark). remark.text) x.said ++ l) (remark_texts x.past said))
+        before = passes_before w v test (replica_more R w good id x at event (pass.me x.state event) more) passes
 
         said_passes : ArePassed test x.state.sealer.me (said_from x.state.sealer.me 0 o.deeds.acts)
-        said_passes =
-            subst (λ (by : Party). ArePassed test by (said_from by 0 o.deeds.acts)) (sym signer)
-            (all_passed v test (parties.Replica o.state.me) _ passes own_texts said (all_among (λ (spoken : Spoken). spoken.text) (map (λ (remark : Remark). remark.text) x.said) said))
+        said_passes = replica_passes R w good id x at event (pass.me x.state event) more test passes
 
         own : OfState ok (OfTexts test) o.state
         own = pass.keeps test x.state event tie.spelled.signer (is.replicas test before id.0 x at) (heard test before) fine.step.fit said_passes

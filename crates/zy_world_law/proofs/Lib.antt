@@ -41,5 +41,7 @@ pub mod StartGood
 pub mod SmallRun
 pub mod PassLaws
 mod WorldSaid
+mod OwnSaid
 mod FaithfulSteps
 mod FaithfulRuns
+mod BackedRuns

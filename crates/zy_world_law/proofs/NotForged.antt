@@ -55,8 +55,11 @@ module _ {S : Type 0} (w : World S) where
   all_said (part ∷ parts) all = (was_said part all.0, all_said parts all.1)
 
   -- of the frame that the bytes spell
-  pub parts_said : (bytes : List ℕ) (frame : AnyFrame) → forger_in w bytes ≡ None → any_frame_in bytes ≡ Some frame → AllByRecursion WasSaid (parts_of frame)
-  parts_said bytes frame none is =
+  pub none_forged_in : (bytes : List ℕ) (frame : AnyFrame) → forger_in w bytes ≡ None → any_frame_in bytes ≡ Some frame → AllByRecursion (λ (part : Part). is_forged w part ≡ false) (parts_of frame)
+  none_forged_in bytes frame none is =
       let clear : find (is_forged w) (parts_in bytes) ≡ None = none_mapped (λ (part : Part). part.by) _ none in
       let parts : find (is_forged w) (parts_of frame) ≡ None = ap (λ (o : Option AnyFrame). find (is_forged w) (unwrap_or (option_map parts_of o) [])) (sym is) ∙ clear in
-      all_said (parts_of frame) (each_fails (is_forged w) (parts_of frame) parts)
+      each_fails (is_forged w) (parts_of frame) parts
+
+  pub parts_said : (bytes : List ℕ) (frame : AnyFrame) → forger_in w bytes ≡ None → any_frame_in bytes ≡ Some frame → AllByRecursion WasSaid (parts_of frame)
+  parts_said bytes frame none is = all_said (parts_of frame) (none_forged_in bytes frame none is)

@@ -11,4 +11,5 @@ pub mod Safe
 pub mod Blame
 pub mod Good
 pub mod Faithful
+pub mod Backed
 pub mod Example

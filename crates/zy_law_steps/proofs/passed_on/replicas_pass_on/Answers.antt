@@ -1,5 +1,6 @@
 use Rattle.std.proofs.Common.{refl}
 use Rattle.zy_law_steps.proofs.Passing.{Laws, starts}
+use Rattle.zy_law_steps.proofs.PartsBack.{heard_verified}
 use Rattle.zy_law_steps.proofs.PassingParts.{sent_as}
 use Rattle.zy_law_steps.proofs.PassingRows.{passes}
 use Rattle.zy_law_steps.proofs.PassingTexts.{acts_pass}
@@ -13,7 +14,7 @@ returns g c =
     let R = M.rules in
     let law : Laws M.IsState R = record { starts = met.starts; stays = met.stays; short = met.short_reply; reads = met.reads_state } in
     record {
-      start = λ p interval me counts keys sealer. starts R M.IsState law (OfTexts p) interval me counts keys sealer;
-      keeps = λ p s event party kept heard fit said. (passes R M.IsState law (OfTexts p) s.sealer.me s refl kept event heard (acts_pass p s.sealer.me party 0 _ fit said)).1;
-      sends = λ p s event party kept heard fit said to. sent_as p to _ (passes R M.IsState law (OfTexts p) s.sealer.me s refl kept event heard (acts_pass p s.sealer.me party 0 _ fit said)).2;
+      start = λ p interval me counts keys sealer itself. starts R M.IsState law (OfTexts p) interval me counts keys sealer itself;
+      keeps = λ p s event party kept heard fit said. (passes R M.IsState law (OfTexts p) s.sealer.me s refl kept event (heard_verified (OfTexts p) s.keys event heard) (acts_pass p s.sealer.me party 0 _ fit said)).1;
+      sends = λ p s event party kept heard fit said to. sent_as p to _ (passes R M.IsState law (OfTexts p) s.sealer.me s refl kept event (heard_verified (OfTexts p) s.keys event heard) (acts_pass p s.sealer.me party 0 _ fit said)).2;
     }
