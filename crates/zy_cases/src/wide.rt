@@ -26,6 +26,8 @@ pub(crate) fn schedule(alloc: Global, row: &Row) -> io::Result<String> {
     if silent > counts.f || asks < 1 || asks > 31 {
         return Err(not_a_line());
     }
-    let lines = calm(alloc, &counts, silent, asks).map_err(lacking)?;
-    made_text(alloc, &lines, 0)
+    match calm(alloc, &counts, silent, asks) {
+        Ok(lines) => made_text(alloc, &lines, 0),
+        Err(want) => Err(lacking(want)),
+    }
 }
