@@ -8,6 +8,7 @@ ghost use Rattle.zy_node.specs.Turn.{host_of};
 
 use crate::fault::NodeFault;
 use crate::host::Host;
+use crate::cores::is_refused;
 use crate::{Core, Moved};
 use std::alloc::Global;
 use std::marker::Model;
@@ -92,13 +93,17 @@ impl<M: Machine> Core for Replica<M> {
     fn handle(self, event: Event) -> Result<Moved<Replica<M>>, Want> {
         let Stepped {
             replica,
-            answer: _,
+            answer,
             out,
             timers: _,
             said: _,
             got: _,
         } = self.step(event)?;
-        Ok(Moved { core: replica, out })
+        Ok(Moved {
+            core: replica,
+            out,
+            refused: is_refused(answer),
+        })
     }
 
     fn running_timers(&self) -> Timers {
