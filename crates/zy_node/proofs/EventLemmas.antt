@@ -64,7 +64,7 @@ module _ {S : Type 0} (R : Rules S) where
   does_both es fs host r next one two = (
     two.0 ∙ ap (after R fs) one.0 ∙ sym (after-append es fs host.core),
     ap (λ (l : List Parcel). l ++ (next r.host).sent) one.1 ∙ ap (λ (l : List Parcel). all_parcels (sent_by R es host.core) ++ l) (two.1 ∙ ap (λ (s : S). all_parcels (sent_by R fs s)) one.0)
-    ∙ sym (flat_map-append parcels_of (sent_by R es host.core) (sent_by R fs (after R es host.core))) ∙ ap all_parcels (sym (sent-append es fs host.core)),
+        ∙ sym (flat_map-append parcels_of (sent_by R es host.core) (sent_by R fs (after R es host.core))) ∙ ap all_parcels (sym (sent-append es fs host.core)),
   )
 
   does_frame : (answer : Gathered) (host : HostState S) → Does (events_in answer) host (gathers R answer host)

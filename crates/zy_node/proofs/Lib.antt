@@ -10,3 +10,4 @@ pub mod TakeLemmas
 pub mod RecoverLemmas
 pub mod ReplicaLemmas
 pub mod ServeLemmas
+pub mod WordLemmas

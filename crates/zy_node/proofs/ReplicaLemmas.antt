@@ -30,9 +30,9 @@ module _ {S : Type 0} (R : machine.Rules S) where
   still event s refused = by (whole_step R s event).answer refl refused
     where
       by : (answer : Answer) → (whole_step R s event).answer ≡ answer → is_refused answer ≡ true → ((whole_step R s event).state ≡ s) × (outgoing_of (whole_step R s event).state.me.0 (whole_step R s event).state.counts.n (whole_step R s event).deeds.sent ≡ [])
-      by answers.Taken is yes = absurd cc
-      by answers.Held is yes = absurd cc
-      by (answers.Refused cause) is yes =
+      by answers.Taken is so = absurd cc
+      by answers.Held is so = absurd cc
+      by (answers.Refused cause) is so =
           let stays = step_stays R s event cause is in
           (ap (λ (o : Outcome S). o.state) stays, ap (λ (o : Outcome S). outgoing_of o.state.me.0 o.state.counts.n o.deeds.sent) stays)
 

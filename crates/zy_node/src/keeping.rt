@@ -54,7 +54,11 @@ impl<C: Core> Keeping<C> {
         ensures { result ≡ record { host = host; gate = journal; owed = [] } }
     {
         let owed = Items::new(host.allocator());
-        Keeping { host, journal, owed }
+        Keeping {
+            host,
+            journal,
+            owed,
+        }
     }
 
     /// One turn of `Host`: what it would send is owed. The clock is read before the first step. Only what isn't refused is
@@ -80,9 +84,7 @@ impl<C: Core> Keeping<C> {
         match link.receive(&mut room, WAIT_MS) {
             Heard::Datagram(len) => {
                 let now = clock.now_ms();
-                self.hear(&room[..len], disk)?
-                    .read(now)
-                    .fire_due(now, disk)
+                self.hear(&room[..len], disk)?.read(now).fire_due(now, disk)
             }
             Heard::Quiet => {
                 let now = clock.now_ms();
@@ -150,16 +152,12 @@ impl<C: Core> Keeping<C> {
         ensures keeps { KeepsAs D.contents D.may_leave D.moment D.left_since (fires_to C.rules kinds.Change now self.host) (records C.rules (events_due C.rules kinds.Change now self.host) self.host.core) self result disk.old disk.new }
         ensures count { IsCounted (is_disk_fault result) (D.faults disk.old) (D.faults disk.new) }
     {
-        self.fire(TimerKind::Request, now, disk)?.fire(TimerKind::Change, now, disk)
+        self.fire(TimerKind::Request, now, disk)?
+            .fire(TimerKind::Change, now, disk)
     }
 
     // A timer, where its moment has come.
-    fn fire<D: Disk>(
-        self,
-        kind: TimerKind,
-        now: u64,
-        disk: &mut D,
-    ) -> Result<Keeping<C>, TakeFault>
+    fn fire<D: Disk>(self, kind: TimerKind, now: u64, disk: &mut D) -> Result<Keeping<C>, TakeFault>
         requires now { now < 2 ^ 62 }
         requires stored { 1 ≤ length (timer_bytes kind) }
         requires end { IsAtEnd (D.contents disk.old) (D.may_leave disk.old) self.gate }

@@ -24,5 +24,5 @@ pub use due::Due;
 pub use fault::{AskFault, GiveFault, NodeFault, RecoverFault, TakeFault};
 pub use host::Host;
 pub use kept::{KeptNode, Unsent};
-pub use laws::stored_events;
+pub use laws::{stored_before_sent, stored_events};
 pub use node::Node;

@@ -6,9 +6,9 @@ ghost use Rattle.zy_node.specs.Replicas.{replica_rules};
 ghost use Rattle.zy_node.specs.Told.{ServesTo, TurnsTo, is_link_fault};
 ghost use Rattle.zy_node.specs.Turn.{host_of};
 
+use crate::cores::is_refused;
 use crate::fault::NodeFault;
 use crate::host::Host;
-use crate::cores::is_refused;
 use crate::{Core, Moved};
 use std::alloc::Global;
 use std::marker::Model;

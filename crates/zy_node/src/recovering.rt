@@ -61,12 +61,7 @@ pub(crate) fn recover<C: Core, D: Disk>(
 }
 
 // The core after the event that the record behind a gate spells.
-fn stepped<C: Core>(
-    alloc: Global,
-    core: C,
-    gate: u64,
-    piece: &[u8],
-) -> Result<C, RecoverFault>
+fn stepped<C: Core>(alloc: Global, core: C, gate: u64, piece: &[u8]) -> Result<C, RecoverFault>
     ensures { IsStepped C.rules core gate piece.now result }
 {
     match event_of(alloc, piece)? {

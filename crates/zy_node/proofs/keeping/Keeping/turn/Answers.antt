@@ -29,4 +29,3 @@ pub returns-in-Quiet-clause-silent : goal.returns-in-Quiet-clause-silent
 returns-in-Quiet-clause-silent g c =
     let keeps = quiet_then_due g.D.Disk.contents g.D.Disk.may_leave g.D.Disk.moment g.D.Disk.left_since g.C.Core.rules c.now_ms-now-in-Quiet.result c.args.self c.read-in-Quiet.result c.fire_due-in-Quiet.result c.args.disk.now c.fire_due-in-Quiet.new.disk c.requires.suits c.requires.silent (g.met.D.Disk.only_now c.args.disk.now) c.requires.end c.read-in-Quiet.ensures c.fire_due-in-Quiet.ensures.keeps in
     stays_silent g.D.Disk.contents g.D.Disk.may_leave g.D.Disk.moment g.D.Disk.left_since g.C.Core.rules (record { heard = None; now = c.now_ms-now-in-Quiet.result }) c.args.self c.fire_due-in-Quiet.result c.args.disk.now c.fire_due-in-Quiet.new.disk c.requires.suits c.requires.silent keeps
-

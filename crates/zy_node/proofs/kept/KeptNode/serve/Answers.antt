@@ -1,4 +1,4 @@
-use Rattle.std.proofs.Common.{◌∙◌, refl, subst, arith}
+use Rattle.std.proofs.Common.{ℕ, ◌∙◌, refl, subst, arith}
 use Rattle.std.proofs.lemmas.Result.{err_from_is_err_and}
 use Rattle.zy_node.specs.Replicas.{replica_rules}
 use Rattle.zy_node.specs.Serving.{IsKeptRun}
@@ -27,4 +27,7 @@ loop-preserved g c = record {
 }
 
 pub returns-clause-run : goal.returns-clause-run
-returns-clause-run g c = ?
+returns-clause-run g c =
+    subst (λ (many : ℕ). IsKeptRun g.D.Disk.contents g.D.Disk.may_leave g.D.Disk.moment g.D.Disk.left_since (replica_rules g.M.Machine.rules) many c.args.self c.loop.node
+    (record { mail = g.L.Link.mail c.args.link.now; receives = g.L.Link.receives c.args.link.now; moments = g.T.Clock.moments c.args.clock.now })
+    (record { mail = g.L.Link.mail c.loop.link; receives = g.L.Link.receives c.loop.link; moments = g.T.Clock.moments c.loop.clock }) c.args.disk.now c.loop.disk) (omega arith) c.loop.invariant.run
