@@ -1,22 +1,29 @@
 -- Turns that are stored and given, one after another.
-use Rattle.std.proofs.Common.{◌≡◌, inl, inr, ℕ, ◌+◌, ◌<◌, false, List, [], ◌∷◌, ◌++◌, Option, Result, Ok, Err, refl, sym, ap, subst, ◌∙◌, append_assoc}
+use Rattle.std.proofs.Common.{◌≡◌, inl, inr, ℕ, ◌+◌, ◌<◌, true, false, List, [], ◌∷◌, ◌++◌, Option, Result, Ok, Err, refl, sym, ap, subst, ◌∙◌, append_assoc}
 use Rattle.std.proofs.lemmas.List.{append-nil}
 use Rattle.zy_base.specs.declared.step.Event.{Event}
 use Rattle.zy_edge.specs.Clock.{IsReading}
+use Rattle.zy_edge.specs.Faults.{IsCounted}
 use Rattle.zy_edge.specs.Link.{Mail, Parcel}
 use Rattle.zy_journal.specs.Journal.{IsAtEnd}
 use Rattle.zy_node.specs.Events.{events_of, events_of_all, records}
-use Rattle.zy_node.specs.Keeping.{GivesTo, IsTaken, KeptState, Stores, TakesTo, UnsentState, given, turn_records}
+use Rattle.zy_node.specs.Keeping.{GivesTo, IsTaken, KeptState, Stores, TakesTo, UnsentState, given, is_give_fault, turn_records}
 use Rattle.zy_node.specs.Rules.{Rules}
 use Rattle.zy_node.specs.Serving.{IsCutKeptRun, IsCutOff, IsKeptRun, IsKeptTurn, KeepsRun, KeepsTurn}
 use Rattle.zy_node.specs.Told.{Moves, Outside, Sends, SendsFront}
 use Rattle.zy_node.specs.Turn.{HostState, Turn, run, turned}
+use Rattle.zy_node.specs.declared.fault.GiveFault.{GiveFault}
+use Rattle.zy_node.specs.declared.fault.GiveFault.TheVariants as give_faults
 use Rattle.zy_node.specs.declared.fault.TakeFault.{TakeFault}
 use Rattle.zy_node.specs.declared.fault.TakeFault.TheVariants as take_faults
 use Rattle.zy_node.proofs.EventLemmas.{does_run, records-append}
 use Rattle.zy_node.proofs.RunLemmas.{no_turns, one_turn_more}
 use Rattle.zy_node.proofs.StoreLemmas.{nothing_to_store, stored_after}
 use Rattle.zy_node.proofs.TurnLemmas.{Moves-append, MovesFront-append}
+
+-- a link that fails is counted
+pub link_failed : {A N : Type 0} (fault : GiveFault N) (before later : ℕ) → IsCounted (is_give_fault {A = A} {N = N} (Err fault)) before later → IsCounted true before later
+link_failed (give_faults.Link node) before later counted = counted
 
 module _ {S : Type 0} (R : Rules S) where
   events-last : (turns : List Turn) (t : Turn) (host : HostState S) → events_of_all R (turns ++ t ∷ []) host ≡ events_of_all R turns host ++ events_of R t (run R turns host).host
@@ -48,11 +55,11 @@ module _ {S D : Type 0} (contents : D → Option (List ℕ)) (may_leave : D → 
     stored = is.stored;
   }
 
-  pub half_given : (before : KeptState S) (taken : UnsentState S) (from between to : Outside) (old new : D) → IsTaken contents may_leave moment left_since R before taken from between old new
-      → SendsFront taken.owed between.mail to.mail → to.receives ≡ between.receives → to.moments ≡ between.moments → IsCutOff contents may_leave moment left_since R before take_faults.Link from to old new
-  half_given before taken from between to old new is sends received read = inr (record {
+  pub half_given : (before : KeptState S) (taken : UnsentState S) (from between to : Outside) (old new : D) (fault : GiveFault (KeptState S)) → IsTaken contents may_leave moment left_since R before taken from between old new
+      → GivesTo taken (Err fault) between.mail to.mail → to.receives ≡ between.receives → to.moments ≡ between.moments → IsCutOff contents may_leave moment left_since R before take_faults.Link from to old new
+  half_given before taken from between to old new (give_faults.Link node) is sends received read = inr (record {
     turn = is.turn;
-    mail = MovesFront-append is.turn.heard [] (turned R is.turn before.host).sent from.mail between.mail to.mail is.outside.mail (subst (λ (owed : List Parcel). SendsFront owed between.mail to.mail) is.owed sends);
+    mail = MovesFront-append is.turn.heard [] (turned R is.turn before.host).sent from.mail between.mail to.mail is.outside.mail (subst (λ (owed : List Parcel). SendsFront owed between.mail to.mail) is.owed sends.1);
     receives = received ∙ is.outside.receives;
     moments = subst (λ (m : Option (List ℕ)). IsReading is.turn.now from.moments m) (sym read) is.outside.moments;
     next = taken.gate;

@@ -1,4 +1,4 @@
-use Rattle.std.proofs.Common.{List, ℕ, IfSome, ◌∙◌, refl, subst, arith}
+use Rattle.std.proofs.Common.{List, ℕ, IfSome, ◌∙◌, refl, subst}
 use Rattle.zy_journal.specs.Journal.{HasRecord}
 use Rattle.zy_journal.proofs.Moments.{rests_on, rests_still}
 use Rattle.zy_node.specs.Recovering.{IsAfter}

@@ -1,7 +1,6 @@
-use Rattle.std.proofs.Common.{◌≡◌, ◌∷◌, [], true, false, Ok, refl, sym, ap, subst}
+use Rattle.std.proofs.Common.{◌≡◌, ◌∷◌, [], true, false, Ok, refl, sym, subst}
 use Rattle.std.proofs.lemmas.List.{append-nil}
-use Rattle.zy_journal.specs.Journal.{IsFull}
-use Rattle.zy_node.specs.Keeping.{HasRoom, KeepsAs, UnsentState, all_owed}
+use Rattle.zy_node.specs.Keeping.{HasRoom, KeepsAs, all_owed}
 use Rattle.zy_node.specs.Turn.{stays}
 use Rattle.zy_node.proofs.StoreLemmas.{is_too_full, one_not_stored, one_stored}
 use Rattle.zy_node.proofs.keeping.Keeping.append.Goals as goal

@@ -1,9 +1,7 @@
-use Rattle.std.proofs.Common.{◌∷◌, [], ◌∙◌, refl, sym, subst}
+use Rattle.std.proofs.Common.{◌∷◌, [], ◌∙◌, sym, subst}
 use Rattle.std.proofs.lemmas.Result.{err_from_is_err_and}
 use Rattle.zy_journal.specs.Journal.{IsAtEnd, IsPiece}
 use Rattle.zy_node.specs.Events.{records}
-use Rattle.zy_node.specs.Keeping.{KeepsAs}
-use Rattle.zy_node.specs.Turn.{stays}
 use Rattle.zy_node.proofs.StoreLemmas.{nothing_stored}
 use Rattle.zy_node.proofs.TakeLemmas.{refused_keeps, taken_keeps}
 use Rattle.zy_node.proofs.keeping.Keeping.store.Goals as goal

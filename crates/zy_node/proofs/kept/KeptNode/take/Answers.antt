@@ -1,7 +1,6 @@
 use Rattle.std.proofs.Common.{sym, subst}
 use Rattle.zy_journal.specs.Journal.{IsAtEnd}
 use Rattle.zy_node.specs.Keeping.{KeptState}
-use Rattle.zy_node.specs.Replicas.{replica_rules}
 use Rattle.zy_node.proofs.ReplicaLemmas.{replica_suits}
 use Rattle.zy_node.proofs.kept.KeptNode.take.Goals as goal
 
