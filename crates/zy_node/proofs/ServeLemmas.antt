@@ -22,8 +22,8 @@ use Rattle.zy_node.proofs.StoreLemmas.{nothing_to_store, stored_after}
 use Rattle.zy_node.proofs.TurnLemmas.{Moves-append, MovesFront-append}
 
 -- a link that fails is counted
-pub link_failed : {A N : Type 0} (fault : GiveFault N) (before later : ℕ) → IsCounted (is_give_fault {A = A} {N = N} (Err fault)) before later → IsCounted true before later
-link_failed (give_faults.Link node) before later counted = counted
+pub link_failed : (A N : Type 0) (fault : GiveFault N) (before later : ℕ) → IsCounted (is_give_fault {A = A} {N = N} (Err fault)) before later → IsCounted true before later
+link_failed A N (give_faults.Link node) before later counted = counted
 
 module _ {S : Type 0} (R : Rules S) where
   events-last : (turns : List Turn) (t : Turn) (host : HostState S) → events_of_all R (turns ++ t ∷ []) host ≡ events_of_all R turns host ++ events_of R t (run R turns host).host

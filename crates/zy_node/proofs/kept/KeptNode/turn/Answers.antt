@@ -2,6 +2,7 @@ use Rattle.std.proofs.Common.{ℕ, true, refl, sym, subst}
 use Rattle.std.proofs.lemmas.Result.{err_from_is_err_and}
 use Rattle.zy_edge.specs.Faults.{IsCounted}
 use Rattle.zy_node.specs.Keeping.{KeptState}
+use Rattle.zy_table.specs.State.{State}
 use Rattle.zy_node.specs.Replicas.{replica_rules}
 use Rattle.zy_node.specs.Serving.{IsKeptTurn}
 use Rattle.zy_node.specs.Told.{Outside}
@@ -30,4 +31,4 @@ returns-clause-kept g c =
 
 pub returns-clause-link_count : goal.returns-clause-link_count
 returns-clause-link_count g c =
-    subst (λ (n : ℕ). IsCounted true n (g.L.Link.faults c.give.new.link)) c.in_ok-take.ensures.link_count (link_failed c.in-Err-Link.field-0 (g.L.Link.faults c.take.new.link) (g.L.Link.faults c.give.new.link) c.in-Err-Link.ensures.count)
+    subst (λ (n : ℕ). IsCounted true n (g.L.Link.faults c.give.new.link)) c.in_ok-take.ensures.link_count (link_failed (KeptState (State g.row.M-State.Denot)) (KeptState (State g.row.M-State.Denot)) c.in-Err-Link.field-0 (g.L.Link.faults c.take.new.link) (g.L.Link.faults c.give.new.link) c.in-Err-Link.ensures.count)
