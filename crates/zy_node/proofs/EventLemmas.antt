@@ -1,5 +1,5 @@
 -- A turn is what its events do, and what isn't refused does the same.
-use Rattle.std.proofs.Common.{◌≡◌, ◌⊎◌, inl, inr, ℕ, ◌+◌, ◌<◌, ◌≤◌, Bool, true, false, List, [], ◌∷◌, ◌++◌, length, map, Option, Some, None, refl, sym, ap, subst, ◌∙◌, append_assoc, arith}
+use Rattle.std.proofs.Common.{◌≡◌, inl, inr, ℕ, ◌+◌, ◌≤◌, Bool, true, false, List, [], ◌∷◌, ◌++◌, length, map, Option, Some, None, refl, sym, ap, subst, ◌∙◌, append_assoc, arith}
 use Rattle.std.proofs.lemmas.Bool.{cases_lt, cond-true, cond-false}
 use Rattle.std.proofs.lemmas.Grind.{flat_map-append}
 use Rattle.std.proofs.lemmas.List.{append-nil, map-append}
@@ -8,18 +8,16 @@ use Rattle.zy_base.specs.declared.step.Event.{Event}
 use Rattle.zy_base.specs.declared.step.Event.TheVariants as events
 use Rattle.zy_base.specs.declared.step.TimerKind.{TimerKind}
 use Rattle.zy_base.specs.declared.step.TimerKind.TheVariants as kinds
-use Rattle.zy_base.specs.declared.step.Timers.{Timers}
 use Rattle.zy_edge.specs.Link.{Parcel}
 use Rattle.zy_journal.specs.Journal.{IsPiece}
 use Rattle.zy_pieces.specs.Gathering.{added}
 use Rattle.zy_pieces.specs.declared.gather.Gathered.{Gathered}
 use Rattle.zy_pieces.specs.declared.gather.Gathered.TheVariants.{Whole, Part, Refused}
 use Rattle.zy_node.specs.Events.{IsSameAsKept, SuitsJournal, after, event_bytes, event_due, events_due, events_heard, events_in, events_of, events_of_all, kept, records, sent_by, unless_refused}
-use Rattle.zy_node.specs.Rules.{Deed, Rules}
+use Rattle.zy_node.specs.Rules.{Rules}
 use Rattle.zy_node.specs.Timing as timing
 use Rattle.zy_node.specs.Timing.{begun_at, is_reached, kept_for, moment_of}
 use Rattle.zy_node.specs.Turn.{HostState, Reached, Turn, all_parcels, fires, fires_to, gathers, hears, onward, parcels_of, reads, run, stays, steps, turned}
-use Rattle.zy_node.specs.declared.due.Due.{Due}
 use Rattle.zy_node.proofs.SendLemmas.{reached_with}
 use Rattle.zy_node.proofs.StepLemmas.{fires-later, fires-now}
 

@@ -1,17 +1,16 @@
 -- Records that are read one after another, and the steps of their events.
-use Rattle.std.proofs.Common.{◌≡◌, inl, inr, ℕ, ◌+◌, ◌<◌, ◌≤◌, false, List, [], ◌∷◌, ◌++◌, length, map, drop, Option, Some, None, IfSome, Result, Ok, Err, refl, sym, ap, subst, ◌∙◌, arith}
-use Rattle.std.specs.List.{AllByRecursion}
+use Rattle.std.proofs.Common.{◌≡◌, inl, inr, ℕ, ◌+◌, ◌≤◌, false, List, [], ◌∷◌, ◌++◌, length, map, drop, Option, Some, None, IfSome, Result, Ok, Err, refl, sym, ap, subst, ◌∙◌, arith}
 use Rattle.std.proofs.lemmas.List.{append-nil, map-append}
 use Rattle.zy_base.specs.declared.step.Event.{Event}
 use Rattle.zy_journal.specs.Disk.{StandsAt}
-use Rattle.zy_journal.specs.Journal.{HasRecord, IsAtGate, IsDamaged, IsNext, IsPiece, IsPlaced, IsShut, block_of, blocks}
+use Rattle.zy_journal.specs.Journal.{HasRecord, IsAtGate, IsDamaged, IsNext, IsPlaced, IsShut, block_of, blocks}
 use Rattle.zy_journal.specs.declared.reading.NextFault.{NextFault}
 use Rattle.zy_journal.specs.declared.reading.NextFault.TheVariants as next_faults
 use Rattle.zy_journal.proofs.Files.{stands_then}
 use Rattle.zy_journal.proofs.Lists.{blocks_push, length-blocks_push, listed_push}
 use Rattle.zy_node.specs.Events.{after, event_bytes}
 use Rattle.zy_node.specs.Keeping.{KeptState}
-use Rattle.zy_node.specs.Recovering.{AreListed, AreRead, IsAfter, IsBroken, IsBrokenAt, IsNoEvent, IsRecovered, IsStepped, RecoversTo, is_recover_fault, recover_fault_of}
+use Rattle.zy_node.specs.Recovering.{AreListed, AreRead, IsAfter, IsBroken, IsBrokenAt, IsRecovered, IsStepped, RecoversTo, is_recover_fault, recover_fault_of}
 use Rattle.zy_node.specs.Rules.{Rules}
 use Rattle.zy_node.specs.Turn.{host_of}
 use Rattle.zy_node.specs.declared.fault.RecoverFault.{RecoverFault}

@@ -1,9 +1,8 @@
 -- A replica's steps suit a journal.
-use Rattle.std.proofs.Common.{◌≡◌, ℕ, ◌<◌, ◌≤◌, nat_lt, Bool, true, false, List, [], length, drop, Err, refl, sym, ap, subst, ◌∙◌, arith}
+use Rattle.std.proofs.Common.{◌≡◌, ℕ, ◌<◌, nat_lt, Bool, true, false, List, [], length, drop, Err, refl, ap, arith}
 use Rattle.std.specs.Prelude.{Result}
 use Rattle.std.proofs.lemmas.Bool.{cond-true, lt-ltb}
 use Rattle.zy_base.specs.Machine as machine
-use Rattle.zy_base.specs.declared.cause.Cause.TheVariants as causes
 use Rattle.zy_base.specs.declared.frame_fault.FrameFault.{FrameFault}
 use Rattle.zy_base.specs.declared.frame_fault.FrameFault.TheVariants as faults
 use Rattle.zy_base.specs.declared.step.Answer.{Answer}
@@ -15,14 +14,14 @@ use Rattle.zy_base.specs.declared.step.Mode.TheVariants.{Active, Leaving}
 use Rattle.zy_frames.specs.Frames.{frame_at, frame_in}
 use Rattle.zy_frames.specs.declared.frame.Frame.{Frame}
 use Rattle.zy_table.specs.Deeds.{Outcome, outgoing_of}
-use Rattle.zy_table.specs.State.{State, timers_in, timers_of, waits}
+use Rattle.zy_table.specs.State.{State, timers_in, waits}
 use Rattle.zy_table.specs.Whole.{decoded_as, whole_step}
 use Rattle.zy_table.proofs.Refusals.{step_stays}
 use Rattle.zy_wire.specs.Framing.{framed_in}
 use Rattle.zy_wire.specs.Kind.{kind_of_parts}
 use Rattle.zy_wire.specs.Spelling.{◌>>=◌, ended}
 use Rattle.zy_node.specs.Events.{SuitsJournal}
-use Rattle.zy_node.specs.Replicas.{deed_of, replica_rules}
+use Rattle.zy_node.specs.Replicas.{replica_rules}
 use Rattle.zy_node.specs.Rules.{is_refused}
 
 module _ {S : Type 0} (R : machine.Rules S) where

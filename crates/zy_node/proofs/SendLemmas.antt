@@ -6,7 +6,7 @@ use Rattle.std.proofs.lemmas.List.{append-nil, map-append, map_more, take_more, 
 use Rattle.zy_base.specs.declared.ids.Party.{Party}
 use Rattle.zy_edge.specs.Link.{Mail, Parcel, StaysAsTold}
 use Rattle.zy_node.specs.Told.{ComesTo, Sends, SendsFront}
-use Rattle.zy_node.specs.Turn.{HostState, Reached, onward, parcels_to, parcels_of, all_parcels}
+use Rattle.zy_node.specs.Turn.{HostState, Reached, onward, parcels_to}
 use Rattle.zy_node.specs.declared.fault.NodeFault.{NodeFault}
 use Rattle.zy_node.specs.declared.fault.NodeFault.TheVariants.{Link, Want}
 

@@ -1,16 +1,16 @@
 -- Turns that are stored and given, one after another.
-use Rattle.std.proofs.Common.{◌≡◌, inl, inr, ℕ, ◌+◌, ◌<◌, true, false, List, [], ◌∷◌, ◌++◌, Option, Result, Ok, Err, refl, sym, ap, subst, ◌∙◌, append_assoc}
+use Rattle.std.proofs.Common.{◌≡◌, inl, inr, ℕ, ◌+◌, ◌<◌, true, false, List, [], ◌∷◌, ◌++◌, Option, Err, sym, ap, subst, ◌∙◌, append_assoc}
 use Rattle.std.proofs.lemmas.List.{append-nil}
 use Rattle.zy_base.specs.declared.step.Event.{Event}
 use Rattle.zy_edge.specs.Clock.{IsReading}
 use Rattle.zy_edge.specs.Faults.{IsCounted}
-use Rattle.zy_edge.specs.Link.{Mail, Parcel}
+use Rattle.zy_edge.specs.Link.{Parcel}
 use Rattle.zy_journal.specs.Journal.{IsAtEnd}
 use Rattle.zy_node.specs.Events.{events_of, events_of_all, records}
 use Rattle.zy_node.specs.Keeping.{GivesTo, IsTaken, KeptState, Stores, TakesTo, UnsentState, given, is_give_fault, turn_records}
 use Rattle.zy_node.specs.Rules.{Rules}
-use Rattle.zy_node.specs.Serving.{IsCutKeptRun, IsCutOff, IsKeptRun, IsKeptTurn, KeepsRun, KeepsTurn}
-use Rattle.zy_node.specs.Told.{Moves, Outside, Sends, SendsFront}
+use Rattle.zy_node.specs.Serving.{IsCutOff, IsKeptRun, IsKeptTurn, KeepsRun}
+use Rattle.zy_node.specs.Told.{Outside, Sends, SendsFront}
 use Rattle.zy_node.specs.Turn.{HostState, Turn, run, turned}
 use Rattle.zy_node.specs.declared.fault.GiveFault.{GiveFault}
 use Rattle.zy_node.specs.declared.fault.GiveFault.TheVariants as give_faults

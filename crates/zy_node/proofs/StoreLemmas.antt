@@ -1,12 +1,11 @@
 -- Records that are stored one after another, over any disk.
-use Rattle.std.proofs.Common.{◌≡◌, ◌⊎◌, inl, inr, ℕ, ◌+◌, ◌^◌, ◌<◌, ◌≤◌, Bool, true, false, List, [], ◌∷◌, ◌++◌, length, take, Option, Some, None, IfSome, is_some, Result, Ok, Err, refl, sym, ap, subst, ◌∙◌, append_assoc, length-append, arith}
+use Rattle.std.proofs.Common.{◌≡◌, inl, inr, ℕ, ◌+◌, ◌^◌, List, [], ◌∷◌, ◌++◌, length, take, Option, Some, None, IfSome, is_some, Result, Ok, Err, refl, sym, ap, subst, ◌∙◌, append_assoc, length-append, arith}
 use Rattle.std.proofs.lemmas.Bool.{cases_lt}
 use Rattle.std.proofs.lemmas.List.{append-nil, take-append-le}
 use Rattle.std.proofs.Math.Seq.{take-append-add}
-use Rattle.zy_base.specs.declared.ids.Digest.{Digest}
 use Rattle.zy_edge.specs.Link.{Parcel}
-use Rattle.zy_journal.specs.Disk.{LeavesOnly, Only}
-use Rattle.zy_journal.specs.Journal.{Has, HasOrNot, IsAtEnd, IsFull, IsEnd, StandsFor, block_of, blocks}
+use Rattle.zy_journal.specs.Disk.{LeavesOnly}
+use Rattle.zy_journal.specs.Journal.{Has, HasOrNot, IsAtEnd, IsFull, StandsFor, block_of, blocks}
 use Rattle.zy_journal.proofs.Lists.{length-block}
 use Rattle.zy_journal.proofs.Moments.{then_on, weaker}
 use Rattle.zy_node.specs.Keeping.{HasAll, HasFront, HasRoom, KeepsAs, Stores, StoresFront, StoresNot, UnsentState}

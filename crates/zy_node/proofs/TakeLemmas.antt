@@ -12,8 +12,8 @@ use Rattle.zy_pieces.specs.Gathering.{added}
 use Rattle.zy_pieces.specs.declared.gather.Gathered.{Gathered}
 use Rattle.zy_pieces.specs.declared.gather.Gathered.TheVariants.{Whole, Part, Refused}
 use Rattle.zy_pieces.specs.declared.piece.PieceFault.{PieceFault}
-use Rattle.zy_node.specs.Events.{SuitsJournal, event_bytes, event_due, events_due, events_heard, events_in, events_of, records}
-use Rattle.zy_node.specs.Keeping.{IsUnsent, KeepsAs, KeptState, TakesTo, UnsentState, turn_records}
+use Rattle.zy_node.specs.Events.{SuitsJournal, event_bytes, event_due, events_due, events_heard, events_in, records}
+use Rattle.zy_node.specs.Keeping.{IsUnsent, KeepsAs, TakesTo, UnsentState, turn_records}
 use Rattle.zy_node.specs.Rules.{Rules}
 use Rattle.zy_node.specs.Timing.{again_at, is_reached, moment_of}
 use Rattle.zy_node.specs.Told.{Outside}

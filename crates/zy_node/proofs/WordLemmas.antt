@@ -3,21 +3,19 @@ use Rattle.std.proofs.Common.{◌≡◌, inl, inr, ℕ, ◌+◌, ◌≤◌, List
 use Rattle.std.proofs.lemmas.Grind.{flat_map-append}
 use Rattle.std.proofs.lemmas.List.{append-nil, length-map, map-append, take_all}
 use Rattle.std.proofs.Math.Seq.{take-append_seam, take-append-add}
-use Rattle.zy_base.specs.declared.ids.Digest.{Digest}
-use Rattle.zy_base.specs.declared.ids.Party.{Party}
 use Rattle.zy_base.specs.declared.step.Event.{Event}
 use Rattle.zy_edge.specs.Link.{Mail, Parcel, StaysAsTold}
 use Rattle.zy_journal.specs.Disk.{LeavesOnly}
 use Rattle.zy_journal.specs.Journal.{IsAtEnd, StandsFor}
-use Rattle.zy_node.specs.Events.{SuitsJournal, after, event_bytes, events_of, events_of_all, kept, records, sent_by}
-use Rattle.zy_node.specs.Keeping.{HasAll, HasFront, KeptState, Stores, StoresFront, StoresNot}
+use Rattle.zy_node.specs.Events.{SuitsJournal, after, event_bytes, events_of, events_of_all, kept, sent_by}
+use Rattle.zy_node.specs.Keeping.{HasAll, HasFront, KeptState, StoresFront}
 use Rattle.zy_node.specs.Rules.{Rules}
-use Rattle.zy_node.specs.Serving.{FrontSent, HasLeast, IsCutKeptRun, IsCutOff, IsHalfGiven, IsKeptRun, KeepsRun, KeepsWord}
+use Rattle.zy_node.specs.Serving.{FrontSent, HasLeast, IsCutOff, IsHalfGiven, IsKeptRun, KeepsRun, KeepsWord}
 use Rattle.zy_node.specs.Told.{Moves, MovesAll, MovesFront, Outside}
 use Rattle.zy_node.specs.Turn.{HostState, Turn, all_parcels, parcels_of, run, turned}
 use Rattle.zy_node.specs.declared.fault.TakeFault.{TakeFault}
 use Rattle.zy_node.specs.declared.fault.TakeFault.TheVariants as take_faults
-use Rattle.zy_node.proofs.EventLemmas.{does_run, does_turn, kept_after, kept_sent, same_as_kept, sent-append}
+use Rattle.zy_node.proofs.EventLemmas.{does_turn, kept_sent, same_as_kept, sent-append}
 use Rattle.zy_node.proofs.StoreLemmas.{stored_after}
 
 -- ---- what is sent

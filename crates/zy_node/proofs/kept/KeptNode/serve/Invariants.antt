@@ -1,5 +1,4 @@
 use Rattle.std.proofs.Common.{◌≡◌}
-use Rattle.zy_journal.specs.Journal.{IsAtEnd}
 use Rattle.zy_node.specs.Replicas.{replica_rules}
 use Rattle.zy_node.specs.Serving.{IsKeptRun}
 use Rattle.zy_node.proofs.kept.KeptNode.serve.Given as goal
