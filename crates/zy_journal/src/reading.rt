@@ -88,6 +88,13 @@ impl Reading {
         }
     }
 
+    /// The place of the gate at which it stands.
+    pub fn gate(&self) -> u64
+        ensures { result ≡ self.now }
+    {
+        self.gate
+    }
+
     /// Reads what stands at the gate. It writes nothing.
     pub fn next<D: Disk>(self, alloc: Global, disk: &mut D) -> Result<Next, NextFault>
         requires { IsAtGate (D.contents disk.old) (D.may_leave disk.old) self }

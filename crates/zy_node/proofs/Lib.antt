@@ -4,3 +4,10 @@ pub mod RunLemmas
 pub mod HearLemmas
 pub mod StepLemmas
 pub mod AskLemmas
+pub mod EventLemmas
+pub mod StoreLemmas
+pub mod TakeLemmas
+pub mod RecoverLemmas
+pub mod ReplicaLemmas
+pub mod ServeLemmas
+pub mod WordLemmas

@@ -14,7 +14,7 @@ use Rattle.zy_node.proofs.SendLemmas.{reached_with, told}
 
 -- ---- the definition
 
-run-last : {S : Type 0} (R : Rules S) (turns : List Turn) (t : Turn) (host : HostState S) → run R (turns ++ t ∷ []) host ≡ onward (run R turns host) (turned R t)
+pub run-last : {S : Type 0} (R : Rules S) (turns : List Turn) (t : Turn) (host : HostState S) → run R (turns ++ t ∷ []) host ≡ onward (run R turns host) (turned R t)
 run-last {S} R [] t host = ap (reached_with (turned R t host).host) (append-nil (turned R t host).sent)
 run-last {S} R (first ∷ turns) t host =
     let one = turned R first host in
@@ -22,7 +22,7 @@ run-last {S} R (first ∷ turns) t host =
     ap (λ (r : Reached S). reached_with r.host (one.sent ++ r.sent)) more
     ∙ ap (reached_with (turned R t (run R turns one.host).host).host) (sym (append_assoc one.sent (run R turns one.host).sent (turned R t (run R turns one.host).host).sent))
 
-needed-last : {S : Type 0} (R : Rules S) (turns : List Turn) (t : Turn) (host : HostState S) → AreNeeded R turns host → R.is_done (run R turns host).host.core ≡ false → AreNeeded R (turns ++ t ∷ []) host
+pub needed-last : {S : Type 0} (R : Rules S) (turns : List Turn) (t : Turn) (host : HostState S) → AreNeeded R turns host → R.is_done (run R turns host).host.core ≡ false → AreNeeded R (turns ++ t ∷ []) host
 needed-last R [] t host before last = (last, tt)
 needed-last R (first ∷ turns) t host before last = (before.0, needed-last R turns t (turned R first host).host before.1 last)
 
@@ -35,7 +35,7 @@ heard-last (first ∷ turns) t coming before last =
     let left : drop (length turns) (drop 1 coming) ≡ drop (length (first ∷ turns)) coming = drop-drop (length turns) 1 coming ∙ ap (λ (n : ℕ). drop n coming) count in
     (before.0, heard-last turns t (drop 1 coming) before.1 (last ∙ ap next_of (sym left)))
 
-MovesAll-last : (turns : List Turn) (t : Turn) (first second : List Parcel) (before between after : Option Mail) → MovesAll turns first before between → Moves t.heard second between after → MovesAll (turns ++ t ∷ []) (first ++ second) before after
+pub MovesAll-last : (turns : List Turn) (t : Turn) (first second : List Parcel) (before between after : Option Mail) → MovesAll turns first before between → Moves t.heard second between after → MovesAll (turns ++ t ∷ []) (first ++ second) before after
 MovesAll-last turns t first second None between after one two = tt
 MovesAll-last turns t first second (Some mail) between after one two =
     let there = subst (λ (m : Option Mail). Moves t.heard second m after) one.1 two in
@@ -46,13 +46,13 @@ MovesAll-last turns t first second (Some mail) between after one two =
           ∙ ap (told (drop (length (turns ++ t ∷ [])) mail.coming)) (append_assoc mail.sent first second),
     )
 
-AreReadings-last : (moments : List ℕ) (now : ℕ) (before between after : Option (List ℕ)) → AreReadings moments before between → IsReading now between after → AreReadings (moments ++ now ∷ []) before after
+pub AreReadings-last : (moments : List ℕ) (now : ℕ) (before between after : Option (List ℕ)) → AreReadings moments before between → IsReading now between after → AreReadings (moments ++ now ∷ []) before after
 AreReadings-last moments now before between None one two = tt
 AreReadings-last moments now before between (Some later) one two =
     let here = subst (λ (m : Option (List ℕ)). AreReadings moments before m) two.1 one in
     (here.0, here.1, two.2 ∙ ap (λ (l : List ℕ). l ++ now ∷ []) here.2 ∙ append_assoc here.0 moments (now ∷ []))
 
-rose-once : (many before between after : ℕ) → RoseBy many before between → after ≡ raised between → RoseBy (many + 1) before after
+pub rose-once : (many before between after : ℕ) → RoseBy many before between → after ≡ raised between → RoseBy (many + 1) before after
 rose-once many before between after rose once = elim rose [
   | inl by ↦ elim (cases_lt (2 ^ 64 - 1) (before + many + 1)) [ inl large ↦ inr (omega arith) | inr small ↦ inl (omega arith) ]
   | inr last ↦ inr (omega arith)
@@ -60,7 +60,15 @@ rose-once many before between after rose once = elim rose [
 
 -- ---- a run
 
-pub no_turns : {S : Type 0} (R : Rules S) (host : HostState S) (outside : Outside) → IsRun R 0 host host outside outside
+pub unmoved : (mail : Option Mail) → MovesAll [] [] mail mail
+unmoved None = tt
+unmoved (Some mail) = (tt, ap (told mail.coming) (sym (append-nil mail.sent)))
+
+pub unread : (moments : Option (List ℕ)) → AreReadings [] moments moments
+unread None = tt
+unread (Some moments) = (moments, refl, sym (append-nil moments))
+
+unfoldable pub no_turns : {S : Type 0} (R : Rules S) (host : HostState S) (outside : Outside) → IsRun R 0 host host outside outside
 no_turns R host outside = record {
   turns = [];
   number = refl;
@@ -70,16 +78,8 @@ no_turns R host outside = record {
   receives = inl (omega arith);
   moments = unread outside.moments;
 }
-  where
-    unmoved : (mail : Option Mail) → MovesAll [] [] mail mail
-    unmoved None = tt
-    unmoved (Some mail) = (tt, ap (told mail.coming) (sym (append-nil mail.sent)))
 
-    unread : (moments : Option (List ℕ)) → AreReadings [] moments moments
-    unread None = tt
-    unread (Some moments) = (moments, refl, sym (append-nil moments))
-
-pub one_turn_more : {S : Type 0} (R : Rules S) (many : ℕ) (first middle last : HostState S) (from between to : Outside) → IsRun R many first middle from between → R.is_done middle.core ≡ false → IsTurn R middle last between to
+unfoldable pub one_turn_more : {S : Type 0} (R : Rules S) (many : ℕ) (first middle last : HostState S) (from between to : Outside) → IsRun R many first middle from between → R.is_done middle.core ≡ false → IsTurn R middle last between to
     → IsRun R (many + 1) first last from to
 one_turn_more {S} R many first middle last from between to run_so_far unfinished next =
     let turns = run_so_far.turns in

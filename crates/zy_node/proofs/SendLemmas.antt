@@ -1,11 +1,12 @@
 -- Datagrams that are sent one after another, and what is sent where a call fails among them.
 use Rattle.std.proofs.Common.{◌≡◌, ℕ, ◌+◌, ◌<◌, List, [], ◌∷◌, ◌++◌, length, map, take, drop, get_or, Option, Some, None, Result, Ok, Err, OnErr, refl, sym, ap, subst, ◌∙◌, append_assoc}
+use Rattle.std.specs.List.{flat_map}
 use Rattle.std.proofs.lemmas.Grind.{flat_map-append}
 use Rattle.std.proofs.lemmas.List.{append-nil, map-append, map_more, take_more, take-append-drop}
 use Rattle.zy_base.specs.declared.ids.Party.{Party}
 use Rattle.zy_edge.specs.Link.{Mail, Parcel, StaysAsTold}
 use Rattle.zy_node.specs.Told.{ComesTo, Sends, SendsFront}
-use Rattle.zy_node.specs.Turn.{HostState, Reached, onward, parcels_to, parcels_of, all_parcels}
+use Rattle.zy_node.specs.Turn.{HostState, Reached, onward, parcels_to}
 use Rattle.zy_node.specs.declared.fault.NodeFault.{NodeFault}
 use Rattle.zy_node.specs.declared.fault.NodeFault.TheVariants.{Link, Want}
 
@@ -78,26 +79,37 @@ datagrams_before to datagrams i before between after earlier same =
     let parts : map f (take i datagrams) ++ map f (drop i datagrams) ≡ map f datagrams = sym (map-append f (take i datagrams) (drop i datagrams)) ∙ ap (map f) (take-append-drop i datagrams) in
     subst (λ (all : List Parcel). SendsFront all before after) parts (front_after (map f (take i datagrams)) (map f (drop i datagrams)) before between after earlier (stays_unsent (map f (drop i datagrams)) between after same))
 
-frames_more : (out : List (Party × List ℕ)) (i : ℕ) (one : Party × List ℕ) → i < length out → one ≡ get_or out i one → all_parcels (take (i + 1) out) ≡ all_parcels (take i out) ++ parcels_of one
-frames_more out i one within is =
-    ap all_parcels (take_more out i one within) ∙ flat_map-append parcels_of (take i out) (get_or out i one ∷ [])
-    ∙ ap (λ (l : List Parcel). all_parcels (take i out) ++ l) (append-nil (parcels_of (get_or out i one))) ∙ ap (λ (o : Party × List ℕ). all_parcels (take i out) ++ parcels_of o) (sym is)
+-- ---- what each of a list sends
 
--- one frame more
-pub one_frame_more : (out : List (Party × List ℕ)) (i : ℕ) (one : Party × List ℕ) (before between after : Option Mail) → i < length out → one ≡ get_or out i one
-    → Sends (all_parcels (take i out)) before between → Sends (parcels_of one) between after → Sends (all_parcels (take (i + 1) out)) before after
-one_frame_more out i one before between after within is earlier sent =
-    subst (λ (all : List Parcel). Sends all before after) (sym (frames_more out i one within is)) (Sends-append (all_parcels (take i out)) (parcels_of one) before between after earlier sent)
+module _ {A : Type 0} (f : A → List Parcel) where
+  one_sends_more : (xs : List A) (i : ℕ) (one : A) → i < length xs → one ≡ get_or xs i one → flat_map f (take (i + 1) xs) ≡ flat_map f (take i xs) ++ f one
+  one_sends_more xs i one within is =
+      ap (flat_map f) (take_more xs i one within) ∙ flat_map-append f (take i xs) (get_or xs i one ∷ [])
+      ∙ ap (λ (l : List Parcel). flat_map f (take i xs) ++ l) (append-nil (f (get_or xs i one))) ∙ ap (λ (o : A). flat_map f (take i xs) ++ f o) (sym is)
 
--- those before a frame of which a front was sent
-pub frames_before : (out : List (Party × List ℕ)) (i : ℕ) (one : Party × List ℕ) (before between after : Option Mail) → i < length out → one ≡ get_or out i one
-    → Sends (all_parcels (take i out)) before between → SendsFront (parcels_of one) between after → SendsFront (all_parcels out) before after
-frames_before out i one before between after within is earlier front =
-    let rest = drop (i + 1) out in
-    let upto = front_before (all_parcels (take i out) ++ parcels_of one) (all_parcels rest) before after (front_after (all_parcels (take i out)) (parcels_of one) before between after earlier front) in
-    let parts : (all_parcels (take i out) ++ parcels_of one) ++ all_parcels rest ≡ all_parcels out =
-    ap (λ (all : List Parcel). all ++ all_parcels rest) (sym (frames_more out i one within is)) ∙ sym (flat_map-append parcels_of (take (i + 1) out) rest) ∙ ap all_parcels (take-append-drop (i + 1) out) in
-    subst (λ (all : List Parcel). SendsFront all before after) parts upto
+  -- one more
+  pub one_more : (xs : List A) (i : ℕ) (one : A) (before between after : Option Mail) → i < length xs → one ≡ get_or xs i one
+      → Sends (flat_map f (take i xs)) before between → Sends (f one) between after → Sends (flat_map f (take (i + 1) xs)) before after
+  one_more xs i one before between after within is earlier sent =
+      subst (λ (all : List Parcel). Sends all before after) (sym (one_sends_more xs i one within is)) (Sends-append (flat_map f (take i xs)) (f one) before between after earlier sent)
+
+  -- those before one of which a front was sent
+  pub those_before : (xs : List A) (i : ℕ) (one : A) (before between after : Option Mail) → i < length xs → one ≡ get_or xs i one
+      → Sends (flat_map f (take i xs)) before between → SendsFront (f one) between after → SendsFront (flat_map f xs) before after
+  those_before xs i one before between after within is earlier front =
+      let rest = drop (i + 1) xs in
+      let upto = front_before (flat_map f (take i xs) ++ f one) (flat_map f rest) before after (front_after (flat_map f (take i xs)) (f one) before between after earlier front) in
+      let parts : (flat_map f (take i xs) ++ f one) ++ flat_map f rest ≡ flat_map f xs =
+      ap (λ (all : List Parcel). all ++ flat_map f rest) (sym (one_sends_more xs i one within is)) ∙ sym (flat_map-append f (take (i + 1) xs) rest) ∙ ap (flat_map f) (take-append-drop (i + 1) xs) in
+      subst (λ (all : List Parcel). SendsFront all before after) parts upto
+
+  -- one more that is owed
+  pub one_owed_more : {B : Type 0} (g : B → List Parcel) (before owed : List B) (xs : List A) (i : ℕ) (one : A) (last : B) → i < length xs → one ≡ get_or xs i one → g last ≡ f one
+      → flat_map g owed ≡ flat_map g before ++ flat_map f (take i xs) → flat_map g (owed ++ last ∷ []) ≡ flat_map g before ++ flat_map f (take (i + 1) xs)
+  one_owed_more g before owed xs i one last within is same so_far =
+      flat_map-append g owed (last ∷ []) ∙ ap (λ (l : List Parcel). flat_map g owed ++ l) (append-nil (g last)) ∙ ap (λ (l : List Parcel). l ++ g last) so_far
+      ∙ append_assoc (flat_map g before) (flat_map f (take i xs)) (g last)
+      ∙ ap (λ (l : List Parcel). flat_map g before ++ (flat_map f (take i xs) ++ l)) same ∙ ap (λ (l : List Parcel). flat_map g before ++ l) (sym (one_sends_more xs i one within is))
 
 -- ---- a call that comes to something, after another one
 

@@ -4,10 +4,10 @@ use Rattle.zy_base.specs.declared.ids.Stamp.{Stamp}
 use Rattle.zy_table.specs.ClientRows.{client_step}
 use Rattle.zy_table.specs.ClientState.{ClientState, ClientOutcome, client_outgoing, timers_of}
 use Rattle.zy_table.specs.declared.client.Done.{Done}
-use Rattle.zy_node.specs.Rules.{Deed, Rules}
+use Rattle.zy_node.specs.Rules.{Deed, Rules, is_refused}
 
 abbrev pub deed_of : ClientOutcome → Deed ClientState
-deed_of o = record { state = o.state; sent = client_outgoing o.state.counts.n o.sent }
+deed_of o = record { state = o.state; sent = client_outgoing o.state.counts.n o.sent; refused = is_refused o.answer }
 
 -- a completion is that of the last request
 abbrev pub is_of : Stamp → Option Done → Bool

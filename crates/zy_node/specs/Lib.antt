@@ -2,6 +2,10 @@ pub mod Rules
 pub mod Timing
 pub mod Turn
 pub mod Told
+pub mod Events
+pub mod Keeping
+pub mod Recovering
+pub mod Serving
 pub mod Replicas
 pub mod Clients
 pub mod AskFaults

@@ -3,6 +3,7 @@ use Rattle.std.specs.Prelude.{◌≡◌, ◌⊎◌, ℕ, ◌+◌, ◌-◌, ◌^�
 use Rattle.zy_edge.specs.Clock.{IsReading}
 use Rattle.zy_edge.specs.Faults.{raised}
 use Rattle.zy_edge.specs.Link.{Mail, Parcel, StaysAsTold}
+use Rattle.zy_edge.specs.declared.link.Sent as sent
 use Rattle.zy_node.specs.Rules.{Rules}
 use Rattle.zy_base.specs.declared.step.TimerKind.{TimerKind}
 use Rattle.zy_base.specs.declared.step.TimerKind.TheVariants as kinds
@@ -24,6 +25,11 @@ pub record SendsFront (all : List Parcel) (before after : Option Mail) : Type 0 
   pub rest : List Parcel
   pub parts : all ≡ front ++ rest
   pub sent : Sends front before after
+
+-- all of them, or where a call of the link failed, a front
+abbrev pub SendsAs : sent.Sent → List Parcel → Option Mail → Option Mail → Type 0
+SendsAs sent.TheVariants.Sent all before after = Sends all before after
+SendsAs sent.TheVariants.Failed all before after = SendsFront all before after
 
 abbrev pub is_send_fault : {A : Type 0} → Result A SendFault → Bool
 is_send_fault (Ok value) = false

@@ -6,6 +6,7 @@ ghost use Rattle.zy_node.specs.Asking.{AskerRunsTo, AskerTurnsTo, AsksAs, Begins
 ghost use Rattle.zy_node.specs.Clients.{client_rules};
 
 use crate::asker::{Asked, Asker, Begun};
+use crate::cores::is_refused;
 use crate::fault::{AskFault, NodeFault};
 use crate::host::Host;
 use crate::sending::send_all;
@@ -138,12 +139,16 @@ impl Core for Client {
     fn handle(self, event: Event) -> Result<Moved<Client>, Want> {
         let ClientStepped {
             client,
-            answer: _,
+            answer,
             out,
             timers: _,
             said: _,
         } = self.step(event)?;
-        Ok(Moved { core: client, out })
+        Ok(Moved {
+            core: client,
+            out,
+            refused: is_refused(answer),
+        })
     }
 
     fn running_timers(&self) -> Timers {

@@ -16,7 +16,15 @@ use zy_edge::{Clock, Heard, Link};
 use zy_pieces::{Gather, Gathered, MAX_DATAGRAM};
 
 /// How long a turn waits for a datagram, in milliseconds.
-const WAIT_MS: u64 = 20;
+pub(crate) const WAIT_MS: u64 = 20;
+
+/// What a step made of a host: the host after it, the frames to send, and whether the event was refused.
+#[derive(Drop)]
+pub(crate) struct Handled<C: Core> {
+    pub(crate) host: Host<C>,
+    pub(crate) out: Outgoing,
+    pub(crate) refused: bool,
+}
 
 /// A core with the frames of which some pieces have come, and the moments at which its timers run out.
 #[derive(Drop)]
@@ -52,6 +60,10 @@ impl<C: Core> Host<C> {
         ensures { result.now ≡ self.now.core }
     {
         &self.core
+    }
+
+    pub(crate) fn allocator(&self) -> Global {
+        self.alloc
     }
 
     pub fn into_core(self) -> C
@@ -138,7 +150,7 @@ impl<C: Core> Host<C> {
         }
     }
 
-    fn gather(&mut self, datagram: &[u8]) -> Result<Gathered, Want>
+    pub(crate) fn gather(&mut self, datagram: &[u8]) -> Result<Gathered, Want>
         ensures answer { IfOk result (λ answer. answer ≡ (added self.old.frames datagram.now).answer) }
         ensures host { IfOk result (λ _. self.new ≡ record self.old { frames = (added self.old.frames datagram.now).frames }) }
     {
@@ -152,13 +164,18 @@ impl<C: Core> Host<C> {
         ensures binding { L.binding link.new ≡ L.binding link.old }
         ensures count { IsCounted (is_link_fault result) (L.faults link.old) (L.faults link.new) }
     {
-        let (host, out) = self.handle(event)?;
+        let Handled {
+            host,
+            out,
+            refused: _,
+        } = self.handle(event)?;
         host.send(out.as_slice(), link)
     }
 
-    // The core after an event, and the frames to send. Timers that are no longer to run have no moment.
-    fn handle(self, event: Event) -> Result<(Host<C>, Outgoing), Want>
-        ensures { IfOk result (λ r. steps C.rules event self ≡ record { host = r.0; sent = all_parcels r.1 }) }
+    /// The core after an event, and the frames to send. Timers that are no longer to run have no moment.
+    pub(crate) fn handle(self, event: Event) -> Result<Handled<C>, Want>
+        ensures steps { IfOk result (λ h. steps C.rules event self ≡ record { host = h.host; sent = all_parcels h.out }) }
+        ensures refused { IfOk result (λ h. h.refused ≡ (C.rules.step event self.core).refused) }
     {
         let Host {
             alloc,
@@ -166,7 +183,7 @@ impl<C: Core> Host<C> {
             gather,
             due,
         } = self;
-        let Moved { core, out } = core.handle(event)?;
+        let Moved { core, out, refused } = core.handle(event)?;
         let due = due.kept_for(core.running_timers());
         let host = Host {
             alloc,
@@ -174,7 +191,7 @@ impl<C: Core> Host<C> {
             gather,
             due,
         };
-        Ok((host, out))
+        Ok(Handled { host, out, refused })
     }
 
     fn send<L: Link>(
@@ -194,9 +211,9 @@ impl<C: Core> Host<C> {
         }
     }
 
-    // The clock was read.
+    /// The clock was read.
     #[tactic(auto, unfolding(crate::specs::Turn::reads))]
-    fn read(mut self, now: u64) -> Host<C>
+    pub(crate) fn read(mut self, now: u64) -> Host<C>
         requires { now < 2 ^ 62 }
         ensures { result ≡ reads C.rules now self }
     {
@@ -237,13 +254,13 @@ impl<C: Core> Host<C> {
         }
     }
 
-    fn is_due(&self, kind: TimerKind, now: u64) -> bool
+    pub(crate) fn is_due(&self, kind: TimerKind, now: u64) -> bool
         ensures { result ≡ is_reached now (moment_of kind self.now.due) }
     {
         is_reached(now, self.due.moment(kind))
     }
 
-    fn run_again(mut self, kind: TimerKind, now: u64) -> Host<C>
+    pub(crate) fn run_again(mut self, kind: TimerKind, now: u64) -> Host<C>
         requires { now < 2 ^ 62 }
         ensures { result ≡ record self { due = again_at now kind self.due } }
     {

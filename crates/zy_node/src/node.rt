@@ -6,6 +6,7 @@ ghost use Rattle.zy_node.specs.Replicas.{replica_rules};
 ghost use Rattle.zy_node.specs.Told.{ServesTo, TurnsTo, is_link_fault};
 ghost use Rattle.zy_node.specs.Turn.{host_of};
 
+use crate::cores::is_refused;
 use crate::fault::NodeFault;
 use crate::host::Host;
 use crate::{Core, Moved};
@@ -92,13 +93,17 @@ impl<M: Machine> Core for Replica<M> {
     fn handle(self, event: Event) -> Result<Moved<Replica<M>>, Want> {
         let Stepped {
             replica,
-            answer: _,
+            answer,
             out,
             timers: _,
             said: _,
             got: _,
         } = self.step(event)?;
-        Ok(Moved { core: replica, out })
+        Ok(Moved {
+            core: replica,
+            out,
+            refused: is_refused(answer),
+        })
     }
 
     fn running_timers(&self) -> Timers {

@@ -2,7 +2,8 @@
 
 ghost use Rattle.std.specs.Prelude.{◌≡◌, IfOk, OnOk, OnErr};
 ghost use Rattle.zy_edge.specs.Faults.{IsCounted};
-ghost use Rattle.zy_node.specs.Told.{Sends, SendsFront, is_send_fault};
+ghost use Rattle.zy_edge.specs.Link.{send_failed};
+ghost use Rattle.zy_node.specs.Told.{Sends, SendsAs, SendsFront, is_send_fault};
 ghost use Rattle.zy_node.specs.Turn.{all_parcels, parcels_of, parcels_to, pieces_of};
 
 use crate::fault::SendFault;
@@ -45,11 +46,14 @@ fn send_frame<L: Link>(
     ensures count { IsCounted (is_send_fault result) (L.faults link.old) (L.faults link.new) }
 {
     let datagrams = pieces(alloc, frame)?;
-    send_pieces(link, to, &datagrams)
+    match send_pieces(link, to, &datagrams) {
+        Sent::Sent => Ok(()),
+        Sent::Failed => Err(SendFault::Link),
+    }
 }
 
-// The pieces of a frame as datagrams.
-fn pieces(alloc: Global, frame: &[u8]) -> Result<Vec<Bytes>, Want>
+/// The pieces of a frame as datagrams.
+pub(crate) fn pieces(alloc: Global, frame: &[u8]) -> Result<Vec<Bytes>, Want>
     ensures { IfOk result (λ datagrams. datagrams.items ≡ pieces_of frame.now) }
 {
     // No core sends such a frame, since all that they send was encoded; but what they promise doesn't say so.
@@ -59,18 +63,18 @@ fn pieces(alloc: Global, frame: &[u8]) -> Result<Vec<Bytes>, Want>
     cut(alloc, frame)
 }
 
-fn send_pieces<L: Link>(link: &mut L, to: Party, datagrams: &[Bytes]) -> Result<(), SendFault>
-    ensures ok { OnOk result (Sends (parcels_to to datagrams.now) (L.mail link.old) (L.mail link.new)) }
-    ensures err { OnErr result (SendsFront (parcels_to to datagrams.now) (L.mail link.old) (L.mail link.new)) }
+/// Sends datagrams to a party. The first call of the link that fails is the last one.
+pub(crate) fn send_pieces<L: Link>(link: &mut L, to: Party, datagrams: &[Bytes]) -> Sent
+    ensures sent { SendsAs result (parcels_to to datagrams.now) (L.mail link.old) (L.mail link.new) }
     ensures receives { L.receives link.new ≡ L.receives link.old }
     ensures binding { L.binding link.new ≡ L.binding link.old }
-    ensures count { IsCounted (is_send_fault result) (L.faults link.old) (L.faults link.new) }
+    ensures count { IsCounted (send_failed result) (L.faults link.old) (L.faults link.new) }
 {
     for datagram in datagrams {
         match link.send(to, datagram.as_slice()) {
             Sent::Sent => {}
-            Sent::Failed => return Err(SendFault::Link),
+            Sent::Failed => return Sent::Failed,
         }
     }
-    Ok(())
+    Sent::Sent
 }

@@ -104,11 +104,11 @@ impl Core for Probe {
 
     ghost rules = { record {
       step = λ event s. elim event as (λ _. Deed Probe) [
-        | Heard bytes ↦ record { state = s; sent = (Client (record { 0 = 7 }), bytes) ∷ [] }
+        | Heard bytes ↦ record { state = s; sent = (Client (record { 0 = 7 }), bytes) ∷ []; refused = false }
         | Timer kind ↦ elim kind as (λ _. Deed Probe) [
-          | Request ↦ record { state = record s { change = true }; sent = (Client (record { 0 = 7 }), 1 ∷ []) ∷ [] }
-          | Change ↦ record { state = record s { request = false }; sent = (Client (record { 0 = 7 }), 2 ∷ []) ∷ [] }
-          | Answer ↦ record { state = s; sent = (Client (record { 0 = 7 }), 3 ∷ []) ∷ [] }
+          | Request ↦ record { state = record s { change = true }; sent = (Client (record { 0 = 7 }), 1 ∷ []) ∷ []; refused = false }
+          | Change ↦ record { state = record s { request = false }; sent = (Client (record { 0 = 7 }), 2 ∷ []) ∷ []; refused = false }
+          | Answer ↦ record { state = s; sent = (Client (record { 0 = 7 }), 3 ∷ []) ∷ []; refused = false }
         ]
       ];
       timers = λ s. record { request = s.request; change = s.change; answer = s.answer };
@@ -134,7 +134,11 @@ impl Core for Probe {
             change,
             answer,
         };
-        Ok(Moved { core, out })
+        Ok(Moved {
+            core,
+            out,
+            refused: false,
+        })
     }
 
     fn running_timers(&self) -> Timers {

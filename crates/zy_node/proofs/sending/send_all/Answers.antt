@@ -3,7 +3,7 @@ use Rattle.std.proofs.lemmas.List.{take_all}
 use Rattle.zy_base.specs.declared.ids.Party.{Party}
 use Rattle.zy_node.specs.Told.{Sends, SendsFront}
 use Rattle.zy_node.specs.Turn.{all_parcels, parcels_of}
-use Rattle.zy_node.proofs.SendLemmas.{Sends-nil, frames_before, on_err, one_frame_more}
+use Rattle.zy_node.proofs.SendLemmas.{Sends-nil, on_err, one_more, those_before}
 use Rattle.zy_node.proofs.sending.send_all.Goals as goal
 
 pub loop-to-init : goal.loop-to-init
@@ -17,7 +17,7 @@ returns-in_err-send_frame-clause-err g c =
     let after = g.L.Link.mail c.send_frame.new.link in
     let front = subst (λ (bytes : List ℕ). SendsFront (parcels_of (one.0, bytes)) before after) c.as_slice.ensures.value c.in_err-send_frame.ensures.err in
     on_err c.from_residual.result (SendsFront (all_parcels c.args.out.now) first after)
-    (frames_before c.args.out.now c.loop-to.to-index one first before after (omega arith) c.loop-to-item.is c.loop-to.invariant.sent front)
+    (those_before parcels_of c.args.out.now c.loop-to.to-index one first before after (omega arith) c.loop-to-item.is c.loop-to.invariant.sent front)
 
 pub loop-to-preserved : goal.loop-to-preserved
 loop-to-preserved g c =
@@ -27,7 +27,7 @@ loop-to-preserved g c =
     let after = g.L.Link.mail c.send_frame.new.link in
     let sent = subst (λ (bytes : List ℕ). Sends (parcels_of (one.0, bytes)) before after) c.as_slice.ensures.value c.in_ok-send_frame.ensures.ok in
     record {
-      sent = one_frame_more c.args.out.now c.loop-to.to-index one first before after (omega arith) c.loop-to-item.is c.loop-to.invariant.sent sent;
+      sent = one_more parcels_of c.args.out.now c.loop-to.to-index one first before after (omega arith) c.loop-to-item.is c.loop-to.invariant.sent sent;
       receives = c.in_ok-send_frame.ensures.receives ∙ c.loop-to.invariant.receives;
       binding = c.in_ok-send_frame.ensures.binding ∙ c.loop-to.invariant.binding;
       faults = c.in_ok-send_frame.ensures.count ∙ c.loop-to.invariant.faults;

@@ -1,4 +1,4 @@
-use Rattle.std.proofs.Common.{ℕ, List, OnOk, OnErr, subst, ◌∙◌}
+use Rattle.std.proofs.Common.{ℕ, List, subst, ◌∙◌}
 use Rattle.zy_node.specs.Told.{Sends, SendsFront}
 use Rattle.zy_node.specs.Turn.{parcels_of, parcels_to}
 use Rattle.zy_node.proofs.SendLemmas.{nothing_sent, on_err}
@@ -9,12 +9,12 @@ returns-in_err-datagrams-clause-err g c =
     let mail = g.L.Link.mail c.args.link.now in
     on_err c.from_residual.result (SendsFront (parcels_of (c.args.to, c.args.frame.now)) mail mail) (nothing_sent (parcels_of (c.args.to, c.args.frame.now)) mail)
 
-pub returns-clause-ok : goal.returns-clause-ok
-returns-clause-ok g c =
-    subst (λ (datagrams : List (List ℕ)). OnOk c.send_pieces.result (Sends (parcels_to c.args.to datagrams) (g.L.Link.mail c.args.link.now) (g.L.Link.mail c.send_pieces.new.link)))
-    (c.deref.ensures.value ∙ c.in_ok-datagrams.ensures) c.send_pieces.ensures.ok
+pub returns-in-Sent-clause-ok : goal.returns-in-Sent-clause-ok
+returns-in-Sent-clause-ok g c =
+    subst (λ (datagrams : List (List ℕ)). Sends (parcels_to c.args.to datagrams) (g.L.Link.mail c.args.link.now) (g.L.Link.mail c.send_pieces.new.link))
+    (c.deref.ensures.value ∙ c.in_ok-datagrams.ensures) c.in-Sent.ensures.sent
 
 pub returns-clause-err : goal.returns-clause-err
 returns-clause-err g c =
-    subst (λ (datagrams : List (List ℕ)). OnErr c.send_pieces.result (SendsFront (parcels_to c.args.to datagrams) (g.L.Link.mail c.args.link.now) (g.L.Link.mail c.send_pieces.new.link)))
-    (c.deref.ensures.value ∙ c.in_ok-datagrams.ensures) c.send_pieces.ensures.err
+    subst (λ (datagrams : List (List ℕ)). SendsFront (parcels_to c.args.to datagrams) (g.L.Link.mail c.args.link.now) (g.L.Link.mail c.send_pieces.new.link))
+    (c.deref.ensures.value ∙ c.in_ok-datagrams.ensures) c.in-Failed.ensures.sent

@@ -8,8 +8,8 @@ use Rattle.zy_node.proofs.sending.send_pieces.Goals as goal
 pub loop-datagram-init : goal.loop-datagram-init
 loop-datagram-init g c = record { sent = Sends-nil (g.L.Link.mail c.args.link.now); receives = refl; binding = refl; faults = refl }
 
-pub returns-in-Failed-clause-err : goal.returns-in-Failed-clause-err
-returns-in-Failed-clause-err g c =
+pub returns-in-Failed-clause-sent : goal.returns-in-Failed-clause-sent
+returns-in-Failed-clause-sent g c =
     datagrams_before c.args.to c.args.datagrams.now c.loop-datagram.datagram-index
     (g.L.Link.mail c.args.link.now) (g.L.Link.mail c.loop-datagram.link) (g.L.Link.mail c.send.new.self)
     c.loop-datagram.invariant.sent c.in-Failed.ensures.mail
@@ -27,7 +27,7 @@ loop-datagram-preserved g c =
       faults = c.in-Sent.ensures.count ∙ c.loop-datagram.invariant.faults;
     }
 
-pub returns-clause-ok : goal.returns-clause-ok
-returns-clause-ok g c =
+pub returns-clause-sent : goal.returns-clause-sent
+returns-clause-sent g c =
     subst (λ (datagrams : List (List ℕ)). Sends (parcels_to c.args.to datagrams) (g.L.Link.mail c.args.link.now) (g.L.Link.mail c.loop-datagram.link))
     (take_all c.loop-datagram.datagram-index c.args.datagrams.now (omega arith)) c.loop-datagram.invariant.sent

@@ -6,8 +6,8 @@ use Rattle.zy_node.proofs.SendLemmas.{reached_with}
 use Rattle.zy_node.proofs.StepLemmas.{host_with, stepped}
 use Rattle.zy_node.proofs.host.Host.handle.Goals as goal
 
-pub returns : goal.returns
-returns g c =
+pub returns-clause-steps : goal.returns-clause-steps
+returns-clause-steps g c =
     let R = g.C.Core.rules in
     let moved = c.in_ok-core.field-0 in
     let before = host_with c.self.inside.gather c.self.inside.core c.self.inside.due in

@@ -15,5 +15,5 @@ pub returns-clause-comes : goal.returns-clause-comes
 returns-clause-comes g c =
     let before = g.L.Link.mail c.args.link.now in
     let after = g.L.Link.mail c.send.new.link in
-    let sent = subst (λ (out : List (Party × List ℕ)). ComesTo (reached_with c.in_ok-host.host (all_parcels out)) c.send.result before after) c.as_slice.ensures.value c.send.ensures.comes in
-    subst (λ r. ComesTo r c.send.result before after) (sym c.in_ok-host.ensures) sent
+    let sent = subst (λ (out : List (Party × List ℕ)). ComesTo (reached_with c.in_ok-host.field-0.host (all_parcels out)) c.send.result before after) c.as_slice.ensures.value c.send.ensures.comes in
+    subst (λ r. ComesTo r c.send.result before after) (sym c.in_ok-host.ensures.steps) sent
