@@ -7,3 +7,4 @@ pub mod ReplayLaws
 pub mod Report
 pub mod RunParts
 pub mod SaidLaws
+mod TruthfulRuns

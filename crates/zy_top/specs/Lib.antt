@@ -4,3 +4,4 @@ pub mod Telling
 pub mod Verdict
 pub mod Replaying
 pub mod Hosting
+pub mod Truthful

@@ -7,6 +7,7 @@ ghost use Rattle.zy_top_words.specs.Calls.{exit_of};
 ghost use Rattle.zy_top.specs.Group as groups;
 ghost use Rattle.zy_top.specs.Replaying.{IsBlamelessRun, IsRunning, IsSafeRun, IsSummedUp, OfMake};
 ghost use Rattle.zy_top_words.specs.Ends.{IsAnswer, IsWritten, is_write_fault, limit};
+ghost use Rattle.zy_top.specs.Truthful.{IsUnforgedRun};
 ghost use Rattle.zy_top.specs.Verdict.{make_verdict, sum_verdict};
 ghost use Rattle.zy_world_law.specs.Runs.{run};
 ghost use Rattle.zy_world_law.specs.World.{start};
@@ -23,16 +24,18 @@ use zy_schedule::{Line, make};
 use zy_space::Space;
 use zy_top_words::{Asks, Exit, write_all};
 use zy_world::World;
-use zy_world_law::{no_correct_replica_is_blamed, runs_are_safe};
+use zy_world_law::{no_correct_replica_is_blamed, no_run_is_forged, runs_are_safe};
 use zy_world_setup::Setup;
 
-/// Every world of a run that is made is safe, the agreed list only grows, and no correct replica is blamed.
+/// Every world of a run that is made is safe, the agreed list only grows, no correct replica is blamed, and no signature is forged.
 pub(crate) fn made_runs_are_safe()
     ensures safe { (number asks : ℕ) → OfMake IsSafeRun number asks }
     ensures blameless { (number asks : ℕ) → OfMake IsBlamelessRun number asks }
+    ensures unforged { (number asks : ℕ) → OfMake IsUnforgedRun number asks }
 {
     runs_are_safe::<Space>();
     no_correct_replica_is_blamed::<Space>();
+    no_run_is_forged::<Space>();
 }
 
 /// Runs the schedule of so many asks that the number makes, and writes what it came to and the agreed list.

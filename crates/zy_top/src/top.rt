@@ -7,6 +7,7 @@ ghost use Rattle.zy_top.specs.Hosting.{AreBound, AreSpent, EndsItself, IsHosted,
 ghost use Rattle.zy_top.specs.Verdict.{own_verdict, space_verdict, verdict};
 ghost use Rattle.zy_top.specs.Keys.{key_file};
 ghost use Rattle.zy_top.specs.Replaying.{IsBlamelessCommand, IsSafeCommand};
+ghost use Rattle.zy_top.specs.Truthful.{IsTruthful};
 ghost use Rattle.zy_top_words.specs.Words.{command_of, texts};
 
 use crate::keys::key_file;
@@ -89,6 +90,10 @@ pub fn zyzzyva<F: Files, S: Sink, L: Link, C: Clock>(
     // Nor does any event in one of these worlds blame a correct replica, whatever it is: by two orders of its own, or by a refusal
     // because two heads stand at one proven place, or because what is stable isn't on what a view begins with.
     ensures blameless { IsBlamelessCommand (F.held files.old) (command_of (texts words.now)) }
+
+    // A forged signature is told of a replay alone, and of none in whose schedule nobody lies: no liar signs a frame there, no bytes
+    // are sent as they are, and no key is made anew. So `make` stops before its end at two texts of one digest alone.
+    ensures truthful { IsTruthful (F.held files.old) (command_of (texts words.now)) result }
 
     // Over any files, a refusal has not touched the sink.
     ensures refused { IsTrue (is_refusal result) → out.new ≡ out.old }

@@ -12,6 +12,7 @@ use Rattle.zy_top.proofs.Headline.{of_commands}
 use Rattle.zy_top.specs.Replaying.{IsBlamelessRun, IsSafeRun}
 use Rattle.zy_top.proofs.HostLaws.{asked_in_vain, nothing_due, turns_end, unbound}
 use Rattle.zy_top.proofs.MadeRuns.{made_finishes, own_answer}
+use Rattle.zy_top.proofs.TruthfulRuns.{make_truthful, replay_truthful}
 use Rattle.zy_top.proofs.top.zyzzyva.Goals as goal
 
 pub returns-in-Ok-run_keys-clause-own : goal.returns-in-Ok-run_keys-clause-own
@@ -142,3 +143,27 @@ pub returns-in-Err-Want-clause-bound : goal.returns-in-Err-Want-clause-bound
 returns-in-Err-Want-clause-bound g c =
     let words : command_of (texts c.args.words.now) ≡ asked c.in-Ok-Ask.group.now c.in-Ok-Ask.secret.now c.in-Ok-Ask.id c.in-Ok-Ask.turns (op_alone (op_read c.in-Ok-Ask.op.now) (texts c.in-Ok-Ask.others.now)) = rw c.in-Ok-Ask.field-0-is at c.in-Ok-Ask.ensures in
     rw words (unbound c.in-Ok-Ask.group.now c.in-Ok-Ask.secret.now c.in-Ok-Ask.id c.in-Ok-Ask.turns (op_alone (op_read c.in-Ok-Ask.op.now) (texts c.in-Ok-Ask.others.now)) (record { receives = g.L.Link.receives c.args.link.now; mail = g.L.Link.mail c.args.link.now }) (g.L.Link.binding c.args.link.now))
+
+pub returns-in-Ok-run_replay-clause-truthful : goal.returns-in-Ok-run_replay-clause-truthful
+returns-in-Ok-run_replay-clause-truthful g c =
+    let read : command_of (texts c.args.words.now) ≡ Ok (Command.Replay c.in-Ok-Replay.group.now c.in-Ok-Replay.schedule.now) = rw c.in-Ok-Replay.field-0-is at c.in-Ok-Replay.ensures in
+    rw read
+    (replay_truthful (g.F.Files.held c.args.files.now) c.in-Ok-Replay.group.now c.in-Ok-Replay.schedule.now _ (λ files. c.replays_are_safe.ensures.unforged (content_of files c.in-Ok-Replay.group.now) (content_of files c.in-Ok-Replay.schedule.now))
+    c.in-Ok-run_replay.ensures.answer)
+
+pub returns-in-Ok-run_make-clause-truthful : goal.returns-in-Ok-run_make-clause-truthful
+returns-in-Ok-run_make-clause-truthful g c =
+    let read : command_of (texts c.args.words.now) ≡ Ok (Command.Make c.in-Ok-Make.number c.in-Ok-Make.asks.count) = rw c.in-Ok-Make.field-0-is at c.in-Ok-Make.ensures in
+    rw read (make_truthful c.in-Ok-Make.number c.in-Ok-Make.asks.count _ (c.made_runs_are_safe.ensures.unforged c.in-Ok-Make.number c.in-Ok-Make.asks.count) c.in-Ok-run_make.ensures.answer)
+
+pub returns-in-Err-run_replay-clause-truthful : goal.returns-in-Err-run_replay-clause-truthful
+returns-in-Err-run_replay-clause-truthful g c =
+    let read : command_of (texts c.args.words.now) ≡ Ok (Command.Replay c.in-Ok-Replay.group.now c.in-Ok-Replay.schedule.now) = rw c.in-Ok-Replay.field-0-is at c.in-Ok-Replay.ensures in
+    rw read
+    (replay_truthful (g.F.Files.held c.args.files.now) c.in-Ok-Replay.group.now c.in-Ok-Replay.schedule.now _ (λ files. c.replays_are_safe.ensures.unforged (content_of files c.in-Ok-Replay.group.now) (content_of files c.in-Ok-Replay.schedule.now))
+    c.in-Err-run_replay.ensures.answer)
+
+pub returns-in-Err-run_make-clause-truthful : goal.returns-in-Err-run_make-clause-truthful
+returns-in-Err-run_make-clause-truthful g c =
+    let read : command_of (texts c.args.words.now) ≡ Ok (Command.Make c.in-Ok-Make.number c.in-Ok-Make.asks.count) = rw c.in-Ok-Make.field-0-is at c.in-Ok-Make.ensures in
+    rw read (make_truthful c.in-Ok-Make.number c.in-Ok-Make.asks.count _ (c.made_runs_are_safe.ensures.unforged c.in-Ok-Make.number c.in-Ok-Make.asks.count) c.in-Err-run_make.ensures.answer)

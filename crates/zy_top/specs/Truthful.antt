@@ -1,0 +1,34 @@
+-- When a forged signature may be told.
+use Rattle.std.specs.Prelude.{◌≡◌, ℕ, Bool, true, false, List, Option, IfSome, Result, Ok, Err, ⊤}
+use Rattle.std.specs.List.{AllByRecursion}
+use Rattle.zy_edge.specs.Files.{Held, content_of}
+use Rattle.zy_schedule.specs.Reading.{schedule_of}
+use Rattle.zy_schedule.specs.declared.line.Line.{Line}
+use Rattle.zy_space.specs.Service.{space_rules}
+use Rattle.zy_top_words.specs.Words.{Command}
+use Rattle.zy_top_words.specs.declared.exit.Broken.TheVariants as broken
+use Rattle.zy_top_words.specs.declared.exit.Exit.{Exit}
+use Rattle.zy_top_words.specs.declared.exit.Exit.TheVariants as exits
+use Rattle.zy_world_law.specs.Faithful.{IsQuiet, IsUnforged}
+use Rattle.zy_world_law.specs.Runs.{run}
+use Rattle.zy_world_law.specs.Setup.{Setup}
+use Rattle.zy_world_law.specs.World.{start}
+
+-- where nobody lies by a line of its schedule, a run shows no forged signature
+abbrev pub IsUnforgedRun : Setup → List Line → Type 0
+IsUnforgedRun setup schedule = AllByRecursion IsQuiet schedule → IsUnforged (run space_rules schedule (start space_rules setup)).end
+
+abbrev pub tells_forged : Exit → Bool
+tells_forged (exits.Premise event broken.Forged) = true
+tells_forged exit = false
+
+-- A forged signature is never told of a schedule that a number makes, nor of one in which nobody lies.
+abbrev pub IsTruthful : Option Held → Result Command ℕ → Exit → Type 0
+IsTruthful told (Ok (Command.Replay group schedule)) exit =
+    IfSome told (λ files. (lines : List Line) → schedule_of (content_of files schedule) ≡ Ok lines → AllByRecursion IsQuiet lines → tells_forged exit ≡ false)
+IsTruthful told (Ok (Command.Make number asks)) exit = tells_forged exit ≡ false
+IsTruthful told (Ok (Command.Space script)) exit = ⊤
+IsTruthful told (Ok (Command.Keys seed by height)) exit = ⊤
+IsTruthful told (Ok (Command.Node group secret id turns)) exit = ⊤
+IsTruthful told (Ok (Command.Ask group secret id turns op)) exit = ⊤
+IsTruthful told (Err word) exit = ⊤
