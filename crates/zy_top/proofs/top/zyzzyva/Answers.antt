@@ -148,13 +148,13 @@ pub returns-in-Ok-run_replay-clause-truthful : goal.returns-in-Ok-run_replay-cla
 returns-in-Ok-run_replay-clause-truthful g c =
     let read : command_of (texts c.args.words.now) ≡ Ok (Command.Replay c.in-Ok-Replay.group.now c.in-Ok-Replay.schedule.now) = rw c.in-Ok-Replay.field-0-is at c.in-Ok-Replay.ensures in
     rw read
-    (replay_truthful (g.F.Files.held c.args.files.now) c.in-Ok-Replay.group.now c.in-Ok-Replay.schedule.now _ (λ files. c.replays_are_safe.ensures.unforged (content_of files c.in-Ok-Replay.group.now) (content_of files c.in-Ok-Replay.schedule.now))
+    (replay_truthful (g.F.Files.held c.args.files.now) c.in-Ok-Replay.group.now c.in-Ok-Replay.schedule.now exits.Done (λ files. c.replays_are_safe.ensures.unforged (content_of files c.in-Ok-Replay.group.now) (content_of files c.in-Ok-Replay.schedule.now))
     c.in-Ok-run_replay.ensures.answer)
 
 pub returns-in-Ok-run_make-clause-truthful : goal.returns-in-Ok-run_make-clause-truthful
 returns-in-Ok-run_make-clause-truthful g c =
     let read : command_of (texts c.args.words.now) ≡ Ok (Command.Make c.in-Ok-Make.number c.in-Ok-Make.asks.count) = rw c.in-Ok-Make.field-0-is at c.in-Ok-Make.ensures in
-    rw read (make_truthful c.in-Ok-Make.number c.in-Ok-Make.asks.count _ (c.made_runs_are_safe.ensures.unforged c.in-Ok-Make.number c.in-Ok-Make.asks.count) c.in-Ok-run_make.ensures.answer)
+    rw read (make_truthful c.in-Ok-Make.number c.in-Ok-Make.asks.count exits.Done (c.made_runs_are_safe.ensures.unforged c.in-Ok-Make.number c.in-Ok-Make.asks.count) c.in-Ok-run_make.ensures.answer)
 
 pub returns-in-Err-run_replay-clause-truthful : goal.returns-in-Err-run_replay-clause-truthful
 returns-in-Err-run_replay-clause-truthful g c =
