@@ -53,7 +53,7 @@ pub(crate) fn replay<M: Machine>(
             Ok(Replayed::Whole(text))
         }
         Err(Stop::Broke(what)) => {
-            let Tale { tally, text } = tale;
+            let Tale { tally, text, .. } = tale;
             Ok(Replayed::Broke {
                 text,
                 event: tally.events + 1,

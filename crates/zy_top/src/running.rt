@@ -13,7 +13,7 @@ ghost use Rattle.zy_world_law.specs.declared.event.WorldEvent.TheVariants as eve
 
 use crate::tale::Tale;
 use std::alloc::Global;
-use zy_base::{ClientId, Items, Machine, Party, View, Want};
+use zy_base::{Answer, ClientId, Items, Machine, Party, View, Want};
 use zy_schedule::Line;
 use zy_top_words::Broken;
 use zy_tuple::{Op, Reply, op_bytes, reply_bytes};
@@ -22,7 +22,7 @@ use zy_world_law::{Note, WorldEvent};
 
 /// Why a run stopped.
 #[derive(Clone, Copy, Debug, PartialEq, Eq)]
-pub(crate) enum Stop {
+pub enum Stop {
     /// The next event isn't honest.
     Broke(Broken),
     Want,
@@ -55,7 +55,8 @@ pub(crate) fn run_lines<M: Machine>(
     Ok(world)
 }
 
-fn run_line<M: Machine>(
+/// Runs one line, and tells of its events: none, one, or those of a flow.
+pub fn run_line<M: Machine>(
     alloc: Global,
     mut world: World<M>,
     line: Line,
@@ -195,7 +196,7 @@ fn run_flow<M: Machine>(
 }
 
 /// Runs one event, and tells of it.
-fn run_event<M: Machine>(
+pub fn run_event<M: Machine>(
     alloc: Global,
     world: World<M>,
     event: WorldEvent,
@@ -207,7 +208,13 @@ fn run_event<M: Machine>(
     ensures count { tale.new.tally.events ≤ tale.old.tally.events + 1 }
 {
     match world.step(event) {
-        Ok(WorldStepped { world, note }) => told(alloc, world, &note, tale),
+        Ok(
+            WorldStepped {
+                world,
+                note,
+                answer,
+            },
+        ) => told(alloc, world, &note, answer, tale),
         Err(WorldFault::Forged(_)) => Err(Stop::Broke(Broken::Forged)),
         Err(WorldFault::Clash(_)) => Err(Stop::Broke(Broken::Clash)),
         Err(WorldFault::Want) => Err(Stop::Want),
@@ -218,12 +225,13 @@ fn told<M: Machine>(
     alloc: Global,
     world: World<M>,
     note: &Note,
+    answer: Option<Answer>,
     tale: &mut Tale,
 ) -> Result<World<M>, Stop>
     requires { tale.old.tally.events + 1 < 2 ^ 64 }
     ensures told { IsTold world note.now tale.old tale.new result }
     ensures count { tale.new.tally.events ≤ tale.old.tally.events + 1 }
 {
-    tale.add(alloc, note)?;
+    tale.add(alloc, note, answer)?;
     Ok(world)
 }

@@ -6,3 +6,4 @@ pub mod Shown
 pub mod Shows
 pub mod Event
 pub mod Answered
+pub mod Answers

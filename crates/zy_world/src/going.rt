@@ -4,6 +4,8 @@ ghost use Rattle.std.specs.Prelude.{◌≡◌, ◌≤◌, ℕ, List, [], length,
 ghost use Rattle.std.specs.List.{AllByRecursion};
 ghost use Rattle.zy_base.specs.declared.step.Event.{Event as Happening};
 ghost use Rattle.zy_chain.specs.Entries.{IsEntryInRange};
+ghost use Rattle.zy_base.specs.declared.ids.Party.TheVariants as parties;
+ghost use Rattle.zy_world.specs.Answers.{ask_answer, party_answer};
 ghost use Rattle.zy_world.specs.Answered.{GoesTo, IsBrokenBy, HeardTo, IsUnheardBy, replica_steps, client_steps};
 ghost use Rattle.zy_world.specs.Shows.{Shows};
 ghost use Rattle.zy_table.specs.ClientState.{ClientOutcome};
@@ -21,16 +23,38 @@ use zy_table::{AnyFrame, Done};
 use zy_world_law::Note;
 use zy_world_setup::read_frame;
 
+/// The world behind an event, and what is told of it.
+#[derive(Drop)]
+pub(crate) struct Noted<M: Machine> {
+    pub(crate) world: World<M>,
+    pub(crate) note: Note,
+}
+
+impl<M: Machine> Noted<M> {
+    /// This is what a party answered to the event, or none that none did.
+    pub(crate) fn answered(self, answer: Option<Answer>) -> WorldStepped<M>
+        ensures world { result.world ≡ self.world }
+        ensures note { result.note ≡ self.note }
+        ensures answer { result.answer ≡ answer }
+    {
+        WorldStepped {
+            world: self.world,
+            note: self.note,
+            answer,
+        }
+    }
+}
+
 impl<M: Machine> World<M> {
-    pub(crate) fn noted(self, note: Note) -> WorldStepped<M>
+    pub(crate) fn noted(self, note: Note) -> Noted<M>
         ensures world { result.world ≡ self }
         ensures note { result.note ≡ note }
     {
-        WorldStepped { world: self, note }
+        Noted { world: self, note }
     }
 
     /// The event has no subject, and changes nothing.
-    pub(crate) fn no_subject(self) -> WorldStepped<M>
+    pub(crate) fn no_subject(self) -> Noted<M>
         ensures { (g : Whole M.State) → Shows g self → GoesTo (no_subject g) result.note result.world }
     {
         self.noted(Note::Refused(None, Cause::NoSubject))
@@ -40,6 +64,7 @@ impl<M: Machine> World<M> {
     pub(crate) fn hears(self, bytes: &Bytes) -> Result<World<M>, WorldFault>
         ensures heard { (g : Whole M.State) → Shows g self → IfOk result (HeardTo g bytes.now) }
         ensures unheard { (g : Whole M.State) → Shows g self → IfErr result (IsUnheardBy g bytes.now) }
+        ensures seats { IfOk result (λ world. world.seats ≡ self.seats) }
     {
         match read_frame(self.alloc, bytes.as_slice())? {
             Some(frame) => self.hears_frame(&frame),
@@ -51,6 +76,7 @@ impl<M: Machine> World<M> {
         requires { IsInRange frame.now }
         ensures heard { (g : Whole M.State) (bytes : List ℕ) → Shows g self → any_frame_in bytes ≡ Some frame.now → IfOk result (HeardTo g bytes) }
         ensures unheard { (g : Whole M.State) (bytes : List ℕ) → Shows g self → any_frame_in bytes ≡ Some frame.now → IfErr result (IsUnheardBy g bytes) }
+        ensures seats { IfOk result (λ world. world.seats ≡ self.seats) }
     {
         match self.said.forger(&self.directory, frame)? {
             Some(by) => Err(WorldFault::Forged(by)),
@@ -69,9 +95,10 @@ impl<M: Machine> World<M> {
     ) -> Result<WorldStepped<M>, WorldFault>
         ensures goes { (g : Whole M.State) → Shows g self → IfOk result (λ r. GoesTo (replica_steps M.rules g id event (slice_get g.replicas id.0)) r.note r.world) }
         ensures broken { (g : Whole M.State) → Shows g self → IfErr result (IsBrokenBy (replica_steps M.rules g id event (slice_get g.replicas id.0))) }
+        ensures answer { IfOk result (λ r. r.answer ≡ party_answer M.rules self.seats (parties.Replica id) event) }
     {
         match self.seats.step_replica(id, event)? {
-            None => Ok(self.no_subject()),
+            None => Ok(self.no_subject().answered(None)),
             Some(step) => self.replica_stepped(id, step),
         }
     }
@@ -85,12 +112,14 @@ impl<M: Machine> World<M> {
         requires { AllByRecursion (λ got. IsEntryInRange got.entry) step.got }
         ensures goes { (g : Whole M.State) (x : AReplica M.State) (event : Happening) (o : Outcome M.State) → HasReplicaStepped g id x o step self → IfOk result (λ r. GoesTo (replica_goes g id x [] event o) r.note r.world) }
         ensures broken { (g : Whole M.State) (x : AReplica M.State) (event : Happening) (o : Outcome M.State) → HasReplicaStepped g id x o step self → IfErr result (IsBrokenBy (replica_goes g id x [] event o)) }
+        ensures answer { IfOk result (λ r. r.answer ≡ Some step.answer) }
     {
-        let note = replica_note(id, step.answer);
+        let answer = step.answer;
+        let note = replica_note(id, answer);
         self.texts.keep_step(&step.got)?;
         self.said.add(Party::Replica(id), step.said)?;
         self.bag.send(step.out)?;
-        Ok(self.noted(note))
+        Ok(self.noted(note).answered(Some(answer)))
     }
 
     /// The client of this number makes a step.
@@ -101,9 +130,10 @@ impl<M: Machine> World<M> {
     ) -> Result<WorldStepped<M>, WorldFault>
         ensures goes { (g : Whole M.State) → Shows g self → IfOk result (λ r. GoesTo (client_steps g id event (slice_get g.clients id.0)) r.note r.world) }
         ensures broken { (g : Whole M.State) → Shows g self → IfErr result (IsBrokenBy (client_steps g id event (slice_get g.clients id.0))) }
+        ensures answer { IfOk result (λ r. r.answer ≡ party_answer M.rules self.seats (parties.Client id) event) }
     {
         match self.seats.step_client(id, event)? {
-            None => Ok(self.no_subject()),
+            None => Ok(self.no_subject().answered(None)),
             Some(step) => Ok(self.client_stepped(id, step)?),
         }
     }
@@ -117,21 +147,27 @@ impl<M: Machine> World<M> {
         requires { length op ≤ 1100 }
         ensures goes { (g : Whole M.State) → Shows g self → IfOk result (λ r. GoesTo (ask_in g id op (slice_get g.clients id.0)) r.note r.world) }
         ensures broken { (g : Whole M.State) → Shows g self → IfErr result (IsBrokenBy (ask_in g id op (slice_get g.clients id.0))) }
+        ensures answer { IfOk result (λ r. r.answer ≡ ask_answer self.seats id op) }
     {
         match self.seats.ask_client(id, op)? {
-            None => Ok(self.no_subject()),
+            None => Ok(self.no_subject().answered(None)),
             Some(step) => Ok(self.client_stepped(id, step)?),
         }
     }
 
     // A client has made its step, and nothing else was done yet.
     fn client_stepped(mut self, id: ClientId, step: ClientStep) -> Result<WorldStepped<M>, Want>
-        ensures { (g : Whole M.State) (x : AClient) (o : ClientOutcome) → HasClientStepped g id x o step self → IfOk result (λ r. GoesTo (client_goes g id x [] o) r.note r.world) }
+        ensures goes { (g : Whole M.State) (x : AClient) (o : ClientOutcome) → HasClientStepped g id x o step self → IfOk result (λ r. GoesTo (client_goes g id x [] o) r.note r.world) }
+        ensures answer { IfOk result (λ r. r.answer ≡ Some step.answer) }
     {
+        let answer = step.answer;
         self.said.add(Party::Client(id), step.said)?;
         self.bag.send(step.out)?;
         self.agreed.complete(&step.done);
-        Ok(self.noted(client_note(id, step.done, step.answer)))
+        Ok(
+            self.noted(client_note(id, step.done, answer))
+                .answered(Some(answer)),
+        )
     }
 }
 

@@ -11,6 +11,7 @@ mod liars;
 mod lying;
 mod marks;
 mod mutes;
+mod readers;
 mod seat;
 mod seats;
 mod start;
@@ -18,6 +19,7 @@ mod step;
 mod tale;
 mod world;
 
+pub use bag::Mail;
 pub use events::WorldStepped;
 pub use fault::WorldFault;
 pub use world::World;
