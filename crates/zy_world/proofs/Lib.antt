@@ -14,3 +14,4 @@ pub mod KeyLemmas
 pub mod Returning
 pub mod Seating
 pub mod Posting
+pub mod Answering

@@ -9,3 +9,6 @@ pub returns-in-Flow-clause-run : goal.returns-in-Flow-clause-run
 returns-in-Flow-clause-run g c whole shows =
     rw c.in-Flow.is
     (part_like (flow g.M.Machine.rules c.in-Flow.events) (run_line g.M.Machine.rules (lines.Flow c.in-Flow.events)) whole _ _ _ (λ rest. refl) (c.run_flow.ensures.run whole shows))
+
+pub run_flow-requires-clause-few : goal.run_flow-requires-clause-few
+run_flow-requires-clause-few g c = said_flow c.in-Flow.events (rw c.in-Flow.is at c.requires.said)
