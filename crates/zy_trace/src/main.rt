@@ -6,17 +6,17 @@ mod frames;
 mod names;
 mod run;
 mod telling;
-mod trace;
+mod tracing;
 mod words;
 
 use std::process::ExitCode;
-use trace::trace;
+use tracing::run_trace;
 use zy_edge::{RealFiles, StdSink};
 use zy_top_words::{Exit, ending, line_words};
 
 fn main(rt: HostRuntime) -> ExitCode {
     let exit = match line_words(&rt, rt.alloc()) {
-        Ok(words) => trace(
+        Ok(words) => run_trace(
             rt.alloc(),
             &words,
             &mut RealFiles::new(&rt),

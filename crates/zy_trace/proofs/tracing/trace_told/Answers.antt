@@ -4,7 +4,7 @@ use Rattle.zy_top.proofs.ReplayLaws.{sent_runs}
 use Rattle.zy_world_law.specs.Runs.{run}
 use Rattle.zy_world_law.specs.World.{start}
 use Rattle.zy_trace.proofs.Ends.{broken_answers, broken_runs, broken_writes, unsent_answers, whole_answers}
-use Rattle.zy_trace.proofs.trace.trace_told.Goals as goal
+use Rattle.zy_trace.proofs.tracing.trace_told.Goals as goal
 
 pub returns-in-None-clause-answer : goal.returns-in-None-clause-answer
 returns-in-None-clause-answer g c = whole_answers space_rules (run space_rules c.args.lines.items (start space_rules c.args.setup)) _ c.in-None.is c.in_ok-traced.ensures

@@ -31,7 +31,7 @@ use zy_world_setup::Setup;
 /// Runs the schedule in the world of the group, whose files the words name, and writes what happened: the lines that docs/REPLAY.md
 /// describes. It ends as `zyzzyva replay` ends over these files, and what is wrong is named as there; words are counted from 1
 /// behind the program's name.
-pub(crate) fn trace<F: Files, S: Sink>(
+pub(crate) fn run_trace<F: Files, S: Sink>(
     alloc: Global,
     words: &[String],
     files: &mut F,
@@ -92,7 +92,7 @@ fn trace_told<S: Sink>(
     ensures exit { IsRunning result }
     ensures count { IsCounted (is_write_fault (exit_of result)) (S.faults out.old) (S.faults out.new) }
 {
-    let traced = traced(alloc, setup, lines)?;
+    let traced = traced_run(alloc, setup, lines)?;
     write_all(out, &traced.text)?;
     match traced.stop {
         None => Ok(()),
@@ -107,7 +107,7 @@ struct Traced {
     stop: Option<Exit>,
 }
 
-fn traced(alloc: Global, setup: Setup, lines: Vec<Line>) -> Result<Traced, Want>
+fn traced_run(alloc: Global, setup: Setup, lines: Vec<Line>) -> Result<Traced, Want>
     requires start { IsStart setup }
     requires said { All IsSaid lines.items }
     requires few { length lines.items ≤ limit }

@@ -3,7 +3,7 @@ use Rattle.std.proofs.lemmas.Result.{err_from_is_err_and}
 use Rattle.zy_edge.specs.Files.{Held, content_of}
 use Rattle.zy_top.proofs.JudgeLaws.{group_answers, schedule_answers}
 use Rattle.zy_top_words.proofs.Told.{both, each}
-use Rattle.zy_trace.proofs.trace.trace_files.Goals as goal
+use Rattle.zy_trace.proofs.tracing.trace_files.Goals as goal
 
 pub returns-in_err-setup-clause-answer : goal.returns-in_err-setup-clause-answer
 returns-in_err-setup-clause-answer g c =

@@ -3,7 +3,7 @@ use Rattle.zy_space.specs.Service.{space_rules}
 use Rattle.zy_world_law.specs.Runs.{run}
 use Rattle.zy_world_law.specs.World.{start}
 use Rattle.zy_trace.proofs.Ends.{stop_at_break, stop_at_end}
-use Rattle.zy_trace.proofs.trace.traced.Goals as goal
+use Rattle.zy_trace.proofs.tracing.traced_run.Goals as goal
 
 pub returns-in-Ok : goal.returns-in-Ok
 returns-in-Ok g c =
