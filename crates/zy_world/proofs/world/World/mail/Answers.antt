@@ -2,7 +2,7 @@ use Rattle.std.proofs.Common.{◌≡◌, sym, subst}
 use Rattle.zy_world.specs.Shown.{Shown}
 use Rattle.zy_world.specs.Shows.{Shows}
 use Rattle.zy_world.proofs.Changes.{mail_there}
-use Rattle.zy_world.proofs.readers.World.mail.Goals as goal
+use Rattle.zy_world.proofs.world.World.mail.Goals as goal
 
 pub returns : goal.returns
 returns g c w s =
