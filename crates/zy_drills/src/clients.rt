@@ -3,13 +3,13 @@
 ghost use Rattle.std.specs.Prelude.{◌≡◌, ◌≤◌, ◌<◌, length, IfOk};
 
 use crate::keys::{Key, leaf_of};
-use crate::text::{Hex, is_refused, put_answer, put_count, put_sent, put_timers};
-use crate::words::{lacking, not_a_line};
+use crate::text::{is_refused, put_answer, put_count, put_sent, put_timers};
 use std::alloc::Global;
 use std::fmt::Write;
 use std::io;
 use zy_base::{Bytes, ClientId, Counts, Event, Party, Stamp, Timers};
 use zy_client::{Client, ClientStepped, Done, Path};
+use zy_rows::{Hex, lacking, not_a_line};
 
 /// Reads the words of a `begin` behind the client's number.
 pub(crate) fn begin(alloc: Global, key: &Key, me: ClientId, words: &str) -> io::Result<Client> {

@@ -3,12 +3,13 @@
 
 ghost use Rattle.std.specs.Prelude.{◌≡◌, ◌≤◌, ◌<◌, length, IfOk};
 
-use crate::words::{Names, labelled, lacking, not_a_line, number_of, party, value, word_of};
+use crate::words::{labelled, party, word_of};
 use std::alloc::Global;
 use std::io;
 use zy_base::Party;
 use zy_lms::{Height, LmsKey};
 use zy_ots::{OtsType, ots_sign_onto};
+use zy_rows::{Names, lacking, not_a_line, number_of, value_bytes};
 use zy_seal::{Directory, Sealer, party_id, party_seed};
 
 /// The kinds of statements, whose numbers begin with 1.
@@ -38,12 +39,12 @@ pub(crate) fn read_key(alloc: Global, names: &Names, words: &str) -> io::Result<
         owner,
         leaf,
         public,
-        path: value(alloc, names, path)?,
+        path: value_bytes(alloc, names, path)?,
     })
 }
 
 fn public_key(alloc: Global, names: &Names, word: &str) -> io::Result<[u8; 56]> {
-    let bytes = value(alloc, names, word)?;
+    let bytes = value_bytes(alloc, names, word)?;
     <[u8; 56]>::try_from(bytes.as_slice()).map_err(|_| not_a_line())
 }
 
@@ -131,7 +132,7 @@ pub(crate) fn said(alloc: Global, names: &Names, key: &Key, words: &str) -> io::
         Some((fields, signer)) => (fields, other_signer(signer)?),
         None => (rest, by),
     };
-    let fields = value(alloc, names, fields)?;
+    let fields = value_bytes(alloc, names, fields)?;
     signed(alloc, key, (by, signer), number, &fields)
 }
 

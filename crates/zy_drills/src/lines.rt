@@ -3,13 +3,14 @@
 ghost use Rattle.std.specs.Prelude.{◌≤◌, length};
 
 use crate::keys::{Key, read_key, said};
-use crate::words::{Names, labelled, lacking, not_a_line, party, value, wanted, word_of};
+use crate::words::{labelled, party, word_of};
 use crate::{clients, replicas};
 use std::alloc::Global;
 use std::{io, mem};
 use zy_base::{Bytes, Event, Party, TimerKind};
 use zy_client::Client;
 use zy_replica::Replica;
+use zy_rows::{Answered, Names, Table, lacking, not_a_line, value_bytes, wanted};
 use zy_space::Space;
 
 /// Who hears what comes.
@@ -28,13 +29,6 @@ pub(crate) struct Stage {
     subject: Subject,
 }
 
-/// What a row came to, and what it has to.
-#[derive(Drop)]
-pub(crate) struct Row {
-    pub(crate) got: String,
-    pub(crate) want: String,
-}
-
 impl Stage {
     pub(crate) fn new(alloc: Global) -> Stage {
         Stage {
@@ -45,56 +39,55 @@ impl Stage {
     }
 }
 
-/// Does what a line says, and answers what it came to if it is a row.
-pub(crate) fn run_line(alloc: Global, stage: &mut Stage, line: &str) -> io::Result<Option<Row>> {
-    if line.is_empty() || line.starts_with('#') {
-        return Ok(None);
-    }
-    let (word, rest) = word_of(line)?;
-    match word {
-        "key" => take_key(alloc, stage, rest),
-        "let" => name_bytes(alloc, stage, rest),
-        "say" => name_statement(alloc, stage, rest),
-        "sent" => name_sent(alloc, stage, rest),
-        "begin" => begin(alloc, stage, rest),
-        _ => run_row(alloc, stage, word, rest),
+impl Table for Stage {
+    fn line(&mut self, alloc: Global, line: &str) -> io::Result<Option<Answered>> {
+        if line.is_empty() || line.starts_with('#') {
+            return Ok(None);
+        }
+        let (word, rest) = word_of(line)?;
+        match word {
+            "key" => take_key(alloc, self, rest)?,
+            "let" => name_bytes(alloc, self, rest)?,
+            "say" => name_statement(alloc, self, rest)?,
+            "sent" => name_sent(alloc, self, rest)?,
+            "begin" => begin(alloc, self, rest)?,
+            _ => return Ok(Some(run_row(alloc, self, word, rest)?)),
+        }
+        Ok(None)
     }
 }
 
-fn take_key(alloc: Global, stage: &mut Stage, words: &str) -> io::Result<Option<Row>> {
+fn take_key(alloc: Global, stage: &mut Stage, words: &str) -> io::Result<()> {
     let key = read_key(alloc, &stage.names, words)?;
     stage.key = Some(key);
-    Ok(None)
+    Ok(())
 }
 
-fn name_bytes(alloc: Global, stage: &mut Stage, words: &str) -> io::Result<Option<Row>> {
+fn name_bytes(alloc: Global, stage: &mut Stage, words: &str) -> io::Result<()> {
     let (name, text) = word_of(words)?;
-    let bytes = value(alloc, &stage.names, text)?;
-    stage.names.keep_bytes(alloc, name, bytes)?;
-    Ok(None)
+    let bytes = value_bytes(alloc, &stage.names, text)?;
+    stage.names.keep_bytes(name, bytes)
 }
 
-fn name_statement(alloc: Global, stage: &mut Stage, words: &str) -> io::Result<Option<Row>> {
+fn name_statement(alloc: Global, stage: &mut Stage, words: &str) -> io::Result<()> {
     let (name, rest) = word_of(words)?;
     let bytes = match &stage.key {
         Some(key) => said(alloc, &stage.names, key, rest)?,
         None => return Err(not_a_line()),
     };
-    stage.names.keep_bytes(alloc, name, bytes)?;
-    Ok(None)
+    stage.names.keep_bytes(name, bytes)
 }
 
 /// A length and a digest, as `text.rt` writes them of a frame that is sent.
-fn name_sent(alloc: Global, stage: &mut Stage, words: &str) -> io::Result<Option<Row>> {
+fn name_sent(alloc: Global, stage: &mut Stage, words: &str) -> io::Result<()> {
     let (name, rest) = word_of(words)?;
     let (length, digest) = word_of(rest)?;
     let length = labelled(length, "length")?;
     let text = format!(in alloc; "{length} bytes {digest}")?;
-    stage.names.keep_text(alloc, name, text)?;
-    Ok(None)
+    stage.names.keep_text(name, text)
 }
 
-fn begin(alloc: Global, stage: &mut Stage, words: &str) -> io::Result<Option<Row>> {
+fn begin(alloc: Global, stage: &mut Stage, words: &str) -> io::Result<()> {
     let (word, rest) = word_of(words)?;
     let who = party(word)?;
     let subject = match &stage.key {
@@ -102,7 +95,7 @@ fn begin(alloc: Global, stage: &mut Stage, words: &str) -> io::Result<Option<Row
         None => return Err(not_a_line()),
     };
     stage.subject = subject;
-    Ok(None)
+    Ok(())
 }
 
 fn begun(alloc: Global, key: &Key, who: Party, words: &str) -> io::Result<Subject> {
@@ -113,11 +106,11 @@ fn begun(alloc: Global, key: &Key, who: Party, words: &str) -> io::Result<Subjec
 }
 
 /// Runs a row, whose last word is the wanted answer.
-fn run_row(alloc: Global, stage: &mut Stage, word: &str, rest: &str) -> io::Result<Option<Row>> {
+fn run_row(alloc: Global, stage: &mut Stage, word: &str, rest: &str) -> io::Result<Answered> {
     let (input, want) = word_of(rest)?;
     let want = wanted(alloc, &stage.names, want)?;
     let got = answer(alloc, stage, word, input)?;
-    Ok(Some(Row { got, want }))
+    Ok(Answered { got, want })
 }
 
 fn answer(alloc: Global, stage: &mut Stage, word: &str, input: &str) -> io::Result<String> {
@@ -131,7 +124,7 @@ fn answer(alloc: Global, stage: &mut Stage, word: &str, input: &str) -> io::Resu
 }
 
 fn hear(alloc: Global, stage: &mut Stage, input: &str) -> io::Result<String> {
-    let bytes = value(alloc, &stage.names, input)?;
+    let bytes = value_bytes(alloc, &stage.names, input)?;
     step(alloc, &mut stage.subject, Event::Heard(Bytes::from(bytes)))
 }
 
@@ -146,7 +139,7 @@ fn time_out(alloc: Global, stage: &mut Stage, input: &str) -> io::Result<String>
 }
 
 fn ask(alloc: Global, stage: &mut Stage, input: &str) -> io::Result<String> {
-    let op = value(alloc, &stage.names, input)?;
+    let op = value_bytes(alloc, &stage.names, input)?;
     if op.len() > 1100 {
         return Err(not_a_line());
     }
@@ -194,7 +187,7 @@ fn stepped(alloc: Global, subject: Subject, event: Event) -> io::Result<(Subject
 
 /// The answers to all shorter bytes, which is one where all are the same.
 fn hear_cuts(alloc: Global, stage: &mut Stage, input: &str) -> io::Result<String> {
-    let bytes = value(alloc, &stage.names, input)?;
+    let bytes = value_bytes(alloc, &stage.names, input)?;
     let mut all = String::new(alloc);
     for len in 0..bytes.len() {
         let cut = Bytes::from_slice(alloc, &bytes[..len]).map_err(lacking)?;

@@ -10,13 +10,12 @@ mod clients;
 mod keys;
 mod lines;
 mod replicas;
-mod tables;
 mod text;
 mod words;
 
 use lines::Stage;
 use std::io;
-use tables::run_table;
+use zy_rows::run_table;
 
 /// The files of `data/`, in the order in which they run. What one of them names, those after it may speak of.
 const TABLES: &[&str] = &[

@@ -3,13 +3,14 @@
 ghost use Rattle.std.specs.Prelude.{◌≡◌, ◌≤◌, ◌<◌, length, IfOk};
 
 use crate::keys::{Key, leaf_of};
-use crate::text::{Hex, is_refused, put_answer, put_count, put_sent, put_timers, sha256};
-use crate::words::{labelled, lacking, not_a_line, word_of};
+use crate::text::{is_refused, put_answer, put_count, put_sent, put_timers, sha256};
+use crate::words::{labelled, word_of};
 use std::alloc::Global;
 use std::fmt::Write;
 use std::io;
 use zy_base::{Counts, Digest, Event, Mode, Party, Place, ReplicaId, Stood, Timers, View};
 use zy_replica::{Got, Replica, Stepped};
+use zy_rows::{Hex, lacking, not_a_line};
 use zy_space::Space;
 
 /// Reads the words of a `begin` behind the replica's number.

@@ -21,21 +21,9 @@
 
 use sha2::{Digest as Hasher, Sha256};
 use std::fmt::Write;
-use std::{fmt, io};
-use zy_base::{Answer, Bytes, Cause, Digest, Outgoing, Party, Timers};
-
-/// Bytes, which print as hex digits.
-#[derive(Clone, Copy)]
-pub(crate) struct Hex<'a>(pub(crate) &'a [u8]);
-
-impl<'a> fmt::Display for Hex<'a> {
-    fn fmt<W: fmt::Write>(&self, f: &mut fmt::Formatter<W>) -> fmt::Result {
-        for byte in self.0 {
-            write!(f, "{byte:02x}")?;
-        }
-        Ok(())
-    }
-}
+use std::io;
+use zy_base::{Answer, Bytes, Cause, Outgoing, Party, Timers};
+use zy_rows::{Hex, put_cause};
 
 /// SHA-256 (FIPS 180-4).
 pub(crate) fn sha256(bytes: &Bytes) -> [u8; 32] {
@@ -60,32 +48,8 @@ pub(crate) fn put_answer(text: &mut String, answer: Answer) -> io::Result<()> {
 }
 
 fn put_refused(text: &mut String, cause: &Cause) -> io::Result<()> {
-    write!(text, "Refused {}", cause.name())?;
-    put_values(text, cause)
-}
-
-/// The values of a cause, each with a space before it.
-fn put_values(text: &mut String, cause: &Cause) -> io::Result<()> {
-    match cause {
-        Cause::NotFrame(fault) => Ok(write!(text, " {fault:?}")?),
-        Cause::WindowFull(place) | Cause::Behind(place) => put_number(text, place.0),
-        Cause::TooFew(number) => put_number(text, *number),
-        Cause::BadReport(rule) => put_number(text, u64::from(*rule)),
-        Cause::Waiting(stamp) => put_number(text, stamp.0),
-        Cause::AnchorClash(own, other) => put_digests(text, own, other),
-        Cause::OtherHistory(own, other) => put_digests(text, own, other),
-        Cause::BelowStable(own, other) => put_digests(text, own, other),
-        Cause::WrongState(own, other) => put_digests(text, own, other),
-        _ => Ok(()),
-    }
-}
-
-fn put_number(text: &mut String, number: u64) -> io::Result<()> {
-    Ok(write!(text, " {number}")?)
-}
-
-fn put_digests(text: &mut String, own: &Digest, other: &Digest) -> io::Result<()> {
-    Ok(write!(text, " {} {}", Hex(&own.0), Hex(&other.0))?)
+    text.push_str("Refused ")?;
+    put_cause(text, cause)
 }
 
 /// The timers that run, and that this isn't what the party itself says, if it isn't.
