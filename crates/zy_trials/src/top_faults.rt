@@ -5,14 +5,21 @@ use crate::secrets::{GROUP, KEYS, SECRET_OF_CLIENT, SECRET_OF_REPLICA};
 use crate::texts::{lines_and, repeated, strings, text_bytes};
 use std::alloc::Global;
 use std::test::Fail;
+use std::thread::Threads;
 use zy_base::{Bytes, Want};
 use zy_top::zyzzyva;
 use zy_top_words::{Exit, ending};
 
 /// How a command line of these words ends.
-fn exit_of(alloc: Global, words: &[&str], outside: &mut Outside) -> Result<Exit, Want> {
+fn exit_of<R: Threads + Sync>(
+    rt: &R,
+    alloc: Global,
+    words: &[&str],
+    outside: &mut Outside,
+) -> Result<Exit, Want> {
     let words = strings(alloc, words)?;
     Ok(zyzzyva(
+        rt,
         alloc,
         &words,
         &mut outside.files,
@@ -56,7 +63,11 @@ fn are_nones(taken: &[u8]) -> bool {
 }
 
 /// How the script ends, how many bytes were taken, and whether they are a front of the report.
-fn script_ends(alloc: Global, row: &ScriptRow) -> Result<(Exit, usize, bool), Want> {
+fn script_ends<R: Threads + Sync>(
+    rt: &R,
+    alloc: Global,
+    row: &ScriptRow,
+) -> Result<(Exit, usize, bool), Want> {
     let (files, sink, room, _, _) = *row;
     let faults = Faults {
         files,
@@ -65,7 +76,7 @@ fn script_ends(alloc: Global, row: &ScriptRow) -> Result<(Exit, usize, bool), Wa
         room,
     };
     let mut outside = outside_of(alloc, long_script(alloc)?, faults)?;
-    let exit = exit_of(alloc, &["space", "script"], &mut outside)?;
+    let exit = exit_of(rt, alloc, &["space", "script"], &mut outside)?;
     let taken = outside.out.taken();
     Ok((exit, taken.len(), are_nones(taken)))
 }
@@ -74,7 +85,7 @@ fn script_ends(alloc: Global, row: &ScriptRow) -> Result<(Exit, usize, bool), Wa
 fn a_script_ends_with_the_first_fault(rt: HostRuntime) -> Result<(), Fail> {
     for row in &SCRIPTS {
         let (files, sink, room, exit, taken) = *row;
-        let end = script_ends(rt.alloc(), row)?;
+        let end = script_ends(&rt, rt.alloc(), row)?;
         assert_eq!(rt;
             end,
             (exit, taken, true),
@@ -95,13 +106,17 @@ const REPLAYED_GROUP: &str = "f = 1\nk = 8\nclients = 1\n\
     seed = \"0000000000000000000000000000000000000000000000000000000000000000\"\nheight = 5\n";
 
 /// How a replay ends whose call of a file fails, and how many bytes the sink has taken.
-fn replay_ends(alloc: Global, failing: u64) -> Result<(Exit, usize), Want> {
+fn replay_ends<R: Threads + Sync>(
+    rt: &R,
+    alloc: Global,
+    failing: u64,
+) -> Result<(Exit, usize), Want> {
     let faults = Faults {
         files: &[failing],
         ..NO_FAULTS
     };
     let mut outside = outside_of(alloc, bad_schedule(alloc)?, faults)?;
-    let exit = exit_of(alloc, &["replay", "group", "schedule"], &mut outside)?;
+    let exit = exit_of(rt, alloc, &["replay", "group", "schedule"], &mut outside)?;
     Ok((exit, outside.out.taken().len()))
 }
 
@@ -109,7 +124,7 @@ fn replay_ends(alloc: Global, failing: u64) -> Result<(Exit, usize), Want> {
 #[test]
 fn a_replay_ends_with_the_first_fault_of_its_files(rt: HostRuntime) -> Result<(), Fail> {
     for call in 1..=6 {
-        let end = replay_ends(rt.alloc(), call)?;
+        let end = replay_ends(&rt, rt.alloc(), call)?;
         assert_eq!(rt; end, (Exit::ReadFault, 0), "call {call}");
     }
     Ok(())
@@ -117,25 +132,25 @@ fn a_replay_ends_with_the_first_fault_of_its_files(rt: HostRuntime) -> Result<()
 
 #[test]
 fn a_replay_asks_no_more_of_its_files(rt: HostRuntime) -> Result<(), Fail> {
-    let end = replay_ends(rt.alloc(), 7)?;
+    let end = replay_ends(&rt, rt.alloc(), 7)?;
     assert_eq!(rt; end, (Exit::Text { line: 1, rule: 1 }, 0));
     Ok(())
 }
 
 const ZEROS: &str = "0000000000000000000000000000000000000000000000000000000000000000";
 
-fn keys_exit(alloc: Global) -> Result<Exit, Want> {
+fn keys_exit<R: Threads + Sync>(rt: &R, alloc: Global) -> Result<Exit, Want> {
     let faults = Faults {
         sink: &[1],
         ..NO_FAULTS
     };
     let mut outside = outside_of(alloc, Vec::new(alloc), faults)?;
-    exit_of(alloc, &["keys", ZEROS, "r0", "5"], &mut outside)
+    exit_of(rt, alloc, &["keys", ZEROS, "r0", "5"], &mut outside)
 }
 
 #[test]
 fn a_secret_that_is_not_written_is_a_fault(rt: HostRuntime) -> Result<(), Fail> {
-    let exit = keys_exit(rt.alloc())?;
+    let exit = keys_exit(&rt, rt.alloc())?;
     assert_eq!(rt; exit, Exit::WriteFault);
     Ok(())
 }
@@ -201,20 +216,20 @@ fn left_by(alloc: Global, written: &[u8], exit: Exit) -> Result<Vec<u8>, Fail> {
     Ok(left)
 }
 
-fn host_leaves(alloc: Global, row: &HostRow) -> Result<Vec<u8>, Fail> {
+fn host_leaves<R: Threads + Sync>(rt: &R, alloc: Global, row: &HostRow) -> Result<Vec<u8>, Fail> {
     let faults = Faults {
         link: &[row.failing],
         ..NO_FAULTS
     };
     let mut outside = outside_of(alloc, host_files(alloc)?, faults)?;
-    let exit = exit_of(alloc, row.words, &mut outside)?;
+    let exit = exit_of(rt, alloc, row.words, &mut outside)?;
     left_by(alloc, outside.out.taken(), exit)
 }
 
 #[test]
 fn a_node_or_an_ask_leaves_what_it_wrote_and_why_it_ended(rt: HostRuntime) -> Result<(), Fail> {
     for row in &HOSTS {
-        let left = host_leaves(rt.alloc(), row)?;
+        let left = host_leaves(&rt, rt.alloc(), row)?;
         assert_eq!(rt; left.as_slice(), row.left.as_bytes(), "{:?}", row.words);
     }
     Ok(())

@@ -1,0 +1,114 @@
+-- Frames are brought in their turns, while replicas are out of their seats.
+use Rattle.std.proofs.Common.{◌≡◌, ℕ, ◌+◌, List, [], ◌∷◌, Option, Some, None, Result, Ok, Err, refl, sym, ap, ◌∙◌, subst}
+use Rattle.std.specs.Prelude.{slice_get, slice_set, option_map, IfOk, IfErr}
+use Rattle.zy_base.specs.Machine.{Rules}
+use Rattle.zy_base.specs.declared.ids.ClientId.{ClientId}
+use Rattle.zy_base.specs.declared.ids.Party.{Party}
+use Rattle.zy_base.specs.declared.ids.Party.TheVariants as parties
+use Rattle.zy_base.specs.declared.ids.ReplicaId.{ReplicaId}
+use Rattle.zy_base.specs.declared.want.Want.{Want}
+use Rattle.zy_table.specs.State.{State}
+use Rattle.zy_world.specs.Ahead.{AreOut, GoesAhead, IsGone, IsResult, IsTurn, ShowsAhead, out_for}
+use Rattle.zy_world.specs.Answered.{GoesTo}
+use Rattle.zy_world.specs.Shown.{Shown, Seated, seat_in, with_replicas}
+use Rattle.zy_world.specs.Shows.{Shows}
+use Rattle.zy_world.specs.declared.due.Due.{Due}
+use Rattle.zy_world.specs.declared.hands.Gone.{Gone}
+use Rattle.zy_world.specs.declared.seat.Seat.TheVariants as sat
+use Rattle.zy_world_law.proofs.Seats.{get_set}
+use Rattle.zy_world_law.specs.Events.{Happened, bring, happens}
+use Rattle.zy_world_law.specs.World.{World, Replica, correct_in, delivered}
+use Rattle.zy_world_law.specs.declared.event.WorldEvent.TheVariants.{Deliver}
+use Rattle.zy_world_law.specs.declared.note.Note.{Note}
+use Rattle.zy_world.proofs.NextFrames.{goes_to_correct, is_brought, later, mail, mail_there, next_later, whole_of}
+use Rattle.zy_world.proofs.OutOfSeats.{comes_back}
+use Rattle.zy_world.proofs.SeatLemmas.{set_set}
+use Rattle.zy_world.proofs.ShownSeats.{replica_shown, whole_seat}
+
+-- two facts of what is answered where it is Ok
+pub both_ok : {X F : Type 0} (P Q T : X → Type 0) (r : Result X F) → IfOk r P → IfOk r Q → ((x : X) → P x → Q x → T x) → IfOk r T
+both_ok P Q T (Ok x) p q so = so x p q
+both_ok P Q T (Err fault) p q so = tt
+
+module _ {M S : Type 0} (R : Rules S) (g : World S) (due : Due) (more : List Due) (old : List (Result (Gone M S) Want)) (v : Shown S) (is : ShowsAhead R g (due ∷ more) old v) where
+  abbrev here : World S
+  here = delivered g due.number (mail R g due more is.next)
+
+  pub event_is : (party : Party) → due.to ≡ party → happens R g (Deliver due.number None) ≡ bring R g here party due.bytes
+  event_is party to = is_brought R g due more is.next ∙ ap (λ (p : Party). bring R g here p due.bytes) to
+
+  correct_there : (party : Party) → due.to ≡ party → whole_seat g party ≡ sat.Correct
+  correct_there party to = subst (λ (p : Party). whole_seat g p ≡ sat.Correct) to (goes_to_correct R g due more is.next)
+
+  -- ---- a replica
+
+  module _ (id : ReplicaId) (to : due.to ≡ parties.Replica id) where
+    out : out_for (IsResult R) (parties.Replica id) due.bytes (AreOut (IsResult R) v.seats.replicas more) is.before old
+    out = subst (λ (p : Party). out_for (IsResult R) p due.bytes (AreOut (IsResult R) v.seats.replicas more) is.before old) to is.out
+
+    pub some_out : old ≡ [] → ⊥
+    some_out none =
+        subst (λ (l : List (Result (Gone M S) Want)). out_for (IsResult R) (parties.Replica id) due.bytes (AreOut (IsResult R) v.seats.replicas more) is.before l) none out
+
+    module _ (new : List (Result (Gone M S) Want)) (gone : Gone M S) (taken : old ≡ Ok gone ∷ new) where
+      one : out_for (IsResult R) (parties.Replica id) due.bytes (AreOut (IsResult R) v.seats.replicas more) is.before (Ok gone ∷ new)
+      one = subst (λ (l : List (Result (Gone M S) Want)). out_for (IsResult R) (parties.Replica id) due.bytes (AreOut (IsResult R) v.seats.replicas more) is.before l) taken out
+
+      who : (x : Replica S) × (slice_get g.replicas id.0 ≡ Some (Some x)) × (one.0 ≡ x.state)
+      who =
+          whole_of (slice_get g.replicas id.0) one.0
+          (ap (λ (o : Option (Option (State S))). correct_in o) (sym one.1) ∙ replica_shown g (record v.seats { replicas = is.before }) is.shows.seats id.0)
+
+      pub its_turn : IsTurn R g due.number (mail R g due more is.next) id due.bytes who.0 is.before gone v
+      its_turn = record {
+        shows = is.shows;
+        there = mail_there R g due more is.next;
+        sits = who.1;
+        gone = subst (λ (s : State S). IsGone R s due.bytes gone) who.2 one.2;
+      }
+
+      left : AreOut (IsResult R) (slice_set v.seats.replicas id.0 (Some gone.replica)) more (slice_set is.before id.0 (Some gone.replica)) new
+      left =
+          subst (λ (l : List (Option (State S))). AreOut (IsResult R) (slice_set v.seats.replicas id.0 (Some gone.replica)) more l new)
+          (set_set is.before id.0 None (Some gone.replica))
+          (comes_back (IsResult R) id.0 gone.replica v.seats.replicas more (slice_set is.before id.0 None) new (get_set is.before id.0 None (Some one.0) one.1) one.3)
+
+      pub replica_goes_on : (note : Note) (w : Shown S)
+          → GoesTo (bring R g here (parties.Replica id) due.bytes) note (with_replicas (λ xs. slice_set is.before id.0 (Some gone.replica)) w)
+          → w.seats.replicas ≡ slice_set v.seats.replicas id.0 (Some gone.replica) → GoesAhead R (happens R g (Deliver due.number None)) more new note w
+      replica_goes_on note w goes replicas = record {
+        world = goes.world;
+        goes = event_is (parties.Replica id) to ∙ goes.goes;
+        shows = record {
+          before = slice_set is.before id.0 (Some gone.replica);
+          shows = goes.shows;
+          next = next_later g goes.world due more is.next
+              (later g goes.world due.number (mail R g due more is.next) due.bytes note R (parties.Replica id) (correct_there (parties.Replica id) to) goes.goes);
+          out = subst (λ (l : List (Option (State S))). AreOut (IsResult R) l more (slice_set is.before id.0 (Some gone.replica)) new) (sym replicas) left;
+        };
+      }
+
+  -- ---- a client
+
+  module _ (id : ClientId) (to : due.to ≡ parties.Client id) where
+    pub client_there : whole_seat g (parties.Client id) ≡ sat.Correct
+    client_there = correct_there (parties.Client id) to
+
+    pub client_goes_on : (note : Note) (w : Shown S) → GoesTo (bring R g here (parties.Client id) due.bytes) note (with_replicas (λ xs. is.before) w)
+        → w.seats.replicas ≡ v.seats.replicas → GoesAhead R (happens R g (Deliver due.number None)) more old note w
+    client_goes_on note w goes replicas = record {
+      world = goes.world;
+      goes = event_is (parties.Client id) to ∙ goes.goes;
+      shows = record {
+        before = is.before;
+        shows = goes.shows;
+        next = next_later g goes.world due more is.next
+            (later g goes.world due.number (mail R g due more is.next) due.bytes note R (parties.Client id) (correct_there (parties.Client id) to) goes.goes);
+        out = subst (λ (l : List (Option (State S))). AreOut (IsResult R) l more is.before old) (sym replicas)
+            (subst (λ (p : Party). out_for (IsResult R) p due.bytes (AreOut (IsResult R) v.seats.replicas more) is.before old) to is.out);
+      };
+    }
+
+-- all have come back
+pub none_is_out : {M S : Type 0} (R : Rules S) (g : World S) (made : List (Result (Gone M S) Want)) (v : Shown S) → ShowsAhead R g [] made v → Shows g v
+none_is_out {S = S} R g made v is = subst (λ (l : List (Option (State S))). Shows g (with_replicas (λ xs. l) v)) is.out.0 is.shows
