@@ -54,7 +54,7 @@ due_correct false true correct muted is = absurd cc
 due_correct false false false muted is = absurd cc
 due_correct false false true muted is = refl
 
-whole_of : {S : Type 0} (o : Option (Option (Replica S))) (s : State S) → Some s ≡ option_map (λ x. x.state) (correct_in o) → (x : Replica S) × (o ≡ Some (Some x)) × (s ≡ x.state)
+pub whole_of : {S : Type 0} (o : Option (Option (Replica S))) (s : State S) → Some s ≡ option_map (λ x. x.state) (correct_in o) → (x : Replica S) × (o ≡ Some (Some x)) × (s ≡ x.state)
 whole_of None s is = absurd cc
 whole_of (Some None) s is = absurd cc
 whole_of (Some (Some x)) s is = (x, refl, cc)

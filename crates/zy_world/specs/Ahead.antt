@@ -58,9 +58,9 @@ pub record IsBatch {S : Type 0} (g : World S) (dues : List Due) (v : Shown S) : 
 
 -- ---- replicas that are out of their seats
 
-pub record IsJob {M S : Type 0} (s : State S) (bytes : List ℕ) (job : Job M S) : Type 0 where
+pub record IsJob {M S : Type 0} (s : State S) (frame : List ℕ) (job : Job M S) : Type 0 where
   pub replica : job.replica ≡ s
-  pub bytes : job.bytes ≡ bytes
+  pub bytes : job.bytes ≡ frame
 
 -- a replica of this state heard this frame
 pub record IsGone {M S : Type 0} (R : Rules S) (s : State S) (bytes : List ℕ) (gone : Gone M S) : Type 0 where

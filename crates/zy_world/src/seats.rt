@@ -14,7 +14,7 @@ ghost use Rattle.zy_world_law.specs.World.{correct_in, is_told};
 
 use crate::due::Due;
 use crate::hands::Job;
-use crate::seat::{Seat, put_in, seat_at, sitting, take_from};
+use crate::seat::{Seat, is_there, put_in, seat_at, sitting, take_from};
 use crate::step::{ClientStep, ReplicaStep};
 use std::alloc::Global;
 use std::marker::Model;
@@ -103,7 +103,7 @@ impl<M: Machine> Seats<M> {
     {
         let mut sits = Vec::new(alloc);
         for seat in &self.replicas {
-            sits.push(seat.is_some())?;
+            sits.push(is_there(seat))?;
         }
         Ok(sits)
     }
