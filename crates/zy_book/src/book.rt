@@ -75,11 +75,7 @@ impl Book {
 }
 
 // One pair more, whose key is new.
-fn put<K: Hash + Eq + Drop, V: Drop>(
-    map: &mut IndexMap<K, V>,
-    key: K,
-    value: V,
-) -> Result<(), Want>
+fn put<K: Hash + Eq + Drop, V: Drop>(map: &mut IndexMap<K, V>, key: K, value: V) -> Result<(), Want>
     requires { get K.eq map.old key ≡ None }
     ensures ok { OnOk result (map.new.entries ≡ map.old.entries ++ (key, value) ∷ []) }
     ensures err { OnErr result (map.new.entries ≡ map.old.entries) }

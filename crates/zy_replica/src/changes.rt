@@ -40,11 +40,7 @@ fn owed_by_change<M: Machine>(core: &Core<M>, vote: &Signed<Change>) -> Result<O
 }
 
 // A report is kept, unless its signer is only told that the view began.
-fn kept_unless<M: Machine>(
-    core: Core<M>,
-    send: Option<ReplicaId>,
-    vote: Signed<Change>,
-) -> Core<M>
+fn kept_unless<M: Machine>(core: Core<M>, send: Option<ReplicaId>, vote: Signed<Change>) -> Core<M>
     requires member { number_of_party vote.by < core.counts.n }
     requires kept { send ≡ None → IsKeptChange core.views.counts core.views.interval (number_of_party vote.by) vote }
     ensures { result ≡ kept_as send vote core }

@@ -120,7 +120,7 @@ module _ (statement : Tellable) (setup : Setup) (party : Party) (leaf : ℕ) whe
   never_long short told =
       let fits = short_by_each short in
       let long : frame_limit < length (spelling_of (telling_of statement (sealer_of setup party leaf))) =
-          subst (λ (t : Telling). frame_limit < length (spelling_of (t (sealer_of setup party leaf)))) (sym (same_Some (telling_of statement) told.0 told.1)) told.2 in
+      subst (λ (t : Telling). frame_limit < length (spelling_of (t (sealer_of setup party leaf)))) (sym (same_Some (telling_of statement) told.0 told.1)) told.2 in
       omega (arith, fits, long)
 
 module _ (setup : Setup) (liar : Party) (leaf : ℕ) (old new : Keyed) where

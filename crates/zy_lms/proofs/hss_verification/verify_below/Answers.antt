@@ -10,6 +10,6 @@ returns-then-sig-len c =
     let message = c.args.message.now in
     let sig = c.args.sig.now in
     elim c.then-sig-len.branch [
-      then-sig-len-via-then-sig-len w ↦ sym (too_short len top message sig (omega (arith, w.if-sig-len.true)))
-    | then-sig-len-via-else-sig-len+then-u32_at-ne-SIGNED_KEYS w ↦ sym (other_count len top message sig (rw w.u32_at.ensures at w.if-u32_at-ne-SIGNED_KEYS.true))
+      | then-sig-len-via-then-sig-len w ↦ sym (too_short len top message sig (omega (arith, w.if-sig-len.true)))
+      | then-sig-len-via-else-sig-len+then-u32_at-ne-SIGNED_KEYS w ↦ sym (other_count len top message sig (rw w.u32_at.ensures at w.if-u32_at-ne-SIGNED_KEYS.true))
     ]
