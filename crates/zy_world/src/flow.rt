@@ -181,7 +181,10 @@ impl<M: Machine> World<M> {
     {
         match due.to {
             Party::Replica(id) => match out.next() {
-                Some(gone) => self.comes_back(due.number, id, &due.bytes, gone?),
+                Some(made) => {
+                    let gone = made?;
+                    self.comes_back(due.number, id, &due.bytes, gone)
+                }
                 None => Ok(self.no_subject()),
             },
             Party::Client(id) => self.client_hears(due.number, id, due.bytes),
