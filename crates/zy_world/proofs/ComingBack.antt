@@ -8,10 +8,11 @@ use Rattle.zy_base.specs.declared.ids.Party.TheVariants as parties
 use Rattle.zy_base.specs.declared.ids.ReplicaId.{ReplicaId}
 use Rattle.zy_base.specs.declared.step.Event.TheVariants.{Heard}
 use Rattle.zy_base.specs.declared.want.Want.{Want}
+use Rattle.zy_table.specs.ClientState.{ClientState}
 use Rattle.zy_table.specs.Deeds.{Outcome}
 use Rattle.zy_table.specs.State.{State}
 use Rattle.zy_table.specs.Whole.{whole_step}
-use Rattle.zy_world.specs.Ahead.{AreOut, GoesAhead, IsGone, IsResult, IsTurn, ShowsAhead, out_for}
+use Rattle.zy_world.specs.Ahead.{AreOut, GoesAhead, IsGone, IsJob, IsResult, IsTurn, ShowsAhead, out_for}
 use Rattle.zy_world.specs.Answered.{GoesTo, HeardTo, IsBrokenBy, client_steps, replica_steps, steps}
 use Rattle.zy_world.specs.Flowing.{ComesTo, IsCutOff}
 use Rattle.zy_world.specs.Shown.{Shown, Seated, seat_in, with_replicas}
@@ -21,6 +22,7 @@ use Rattle.zy_world.specs.declared.due.Due.{Due}
 use Rattle.zy_world.specs.declared.fault.WorldFault.{WorldFault}
 use Rattle.zy_world.specs.declared.fault.WorldFault.TheVariants as faults
 use Rattle.zy_world.specs.declared.hands.Gone.{Gone}
+use Rattle.zy_world.specs.declared.hands.Job.{Job}
 use Rattle.zy_world.specs.declared.seat.Seat.TheVariants as sat
 use Rattle.zy_world.specs.declared.step.ReplicaStep.{ReplicaStep}
 use Rattle.zy_world_law.proofs.Seats.{get_set}
@@ -178,3 +180,14 @@ module _ {M S : Type 0} (R : Rules S) (g : World S) (due : Due) (more : List Due
   turn_cut (faults.Clash digest) broken =
       record { told = []; stops = breaks_off R left g due.number (Clash digest) (is_next R g due more is.next) broken; notes = sym (append-nil notes) }
   turn_cut faults.Want broken = tt
+
+-- ---- all that are next are out
+
+-- those that sit in the seats of replicas are others
+pub shows_out : {S : Type 0} (g : World S) (v : Shown S) (seats : Seated S) → Shows g v → seats.clients ≡ v.seats.clients → Shows g (with_replicas (λ xs. v.seats.replicas) (record v { seats = seats }))
+shows_out g v seats s same =
+    subst (λ (clients : List (Option ClientState)). Shows g (record v { seats = record { replicas = v.seats.replicas; clients = clients } })) (sym same) s
+
+pub job_made : {M S : Type 0} (R : Rules S) (s : State S) (bytes : List ℕ) (job : Job M S) (one : Result (Gone M S) Want) → IsJob s bytes job → IsResult R job.replica job.bytes one → IsResult R s bytes one
+job_made {S = S} R s bytes job one is made =
+    subst (λ (t : State S). IsResult R t bytes one) is.replica (subst (λ (b : List ℕ). IsResult R job.replica b one) is.bytes made)
