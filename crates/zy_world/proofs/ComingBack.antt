@@ -18,11 +18,11 @@ use Rattle.zy_world.specs.Flowing.{ComesTo, IsCutOff}
 use Rattle.zy_world.specs.Shown.{Shown, Seated, seat_in, with_replicas}
 use Rattle.zy_world.specs.Shows.{Shows}
 use Rattle.zy_world.specs.Stepping.{HasReplicaStepped, IsReplicaStep}
-use Rattle.zy_world.specs.declared.due.Due.{Due}
+use Rattle.zy_world.specs.declared.batch.Due.{Due}
 use Rattle.zy_world.specs.declared.fault.WorldFault.{WorldFault}
 use Rattle.zy_world.specs.declared.fault.WorldFault.TheVariants as faults
-use Rattle.zy_world.specs.declared.hands.Gone.{Gone}
-use Rattle.zy_world.specs.declared.hands.Job.{Job}
+use Rattle.zy_world.specs.declared.step.Gone.{Gone}
+use Rattle.zy_world.specs.declared.step.Job.{Job}
 use Rattle.zy_world.specs.declared.seat.Seat.TheVariants as sat
 use Rattle.zy_world.specs.declared.step.ReplicaStep.{ReplicaStep}
 use Rattle.zy_world_law.proofs.Seats.{get_set}

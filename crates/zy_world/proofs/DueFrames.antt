@@ -3,7 +3,7 @@ use Rattle.std.proofs.Common.{◌≡◌, ℕ, zero, suc, ◌+◌, ◌<◌, ◌�
 use Rattle.std.specs.Prelude.{slice_get, slice_set, if◌then◌else◌}
 use Rattle.std.specs.List.{position_or_len}
 use Rattle.zy_world.specs.Ahead.{due_of, due_from}
-use Rattle.zy_world.specs.declared.due.Due.{Due}
+use Rattle.zy_world.specs.declared.batch.Due.{Due}
 use Rattle.zy_world_law.specs.World.{Mail}
 
 one_more : (b : Bool) (d : Due) (all xs ys : List Due) → all ≡ xs ++ ys → (if b then d ∷ all else all) ≡ (if b then d ∷ xs else xs) ++ ys

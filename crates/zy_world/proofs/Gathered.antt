@@ -12,8 +12,8 @@ use Rattle.zy_world.specs.Gathering.{AreGathered, GoesIn, GoesOn, IsGathered, Is
 use Rattle.zy_world.specs.Passed.{is_due_in, is_past}
 use Rattle.zy_world.specs.Shown.{Shown, is_correct_seat, seat_in, seat_of, muted_in}
 use Rattle.zy_world.specs.Shows.{Shows}
-use Rattle.zy_world.specs.declared.due.Batch.{Batch}
-use Rattle.zy_world.specs.declared.due.Due.{Due}
+use Rattle.zy_world.specs.declared.batch.Batch.{Batch}
+use Rattle.zy_world.specs.declared.batch.Due.{Due}
 use Rattle.zy_world_law.specs.World.{World, Mail, is_due, is_told, next_undelivered}
 use Rattle.zy_world.proofs.Due.{due_is, past_due}
 use Rattle.zy_world.proofs.DueFrames.{due_past, none_of}

@@ -18,8 +18,8 @@ use Rattle.zy_world.specs.Ahead.{AreNext, AreOut, GoesAhead, IsGone, IsResult, I
 use Rattle.zy_world.specs.Answered.{GoesTo}
 use Rattle.zy_world.specs.Shown.{Shown, is_correct_seat, seat_in, with_replicas}
 use Rattle.zy_world.specs.Shows.{Shows}
-use Rattle.zy_world.specs.declared.due.Due.{Due}
-use Rattle.zy_world.specs.declared.hands.Gone.{Gone}
+use Rattle.zy_world.specs.declared.batch.Due.{Due}
+use Rattle.zy_world.specs.declared.step.Gone.{Gone}
 use Rattle.zy_world.specs.declared.seat.Seat.{Seat}
 use Rattle.zy_world.specs.declared.seat.Seat.TheVariants as sat
 use Rattle.zy_world_law.proofs.Goings.{kept_goes}

@@ -9,7 +9,7 @@ use Rattle.std.proofs.lemmas.Option.{slice_get-map, unwrap_or-slice_get}
 use Rattle.zy_base.specs.declared.ids.Party.{Party}
 use Rattle.zy_base.specs.declared.ids.Party.TheVariants as parties
 use Rattle.zy_world.specs.Ahead.{is_free, with_taken, AreApart, out_for, AreOut, takes_for}
-use Rattle.zy_world.specs.declared.due.Due.{Due}
+use Rattle.zy_world.specs.declared.batch.Due.{Due}
 use Rattle.zy_world_law.proofs.Seats.{get_set_other}
 use Rattle.zy_world_law.specs.World.{is_told}
 

@@ -11,9 +11,9 @@ use Rattle.zy_table.specs.Whole.{whole_step}
 use Rattle.zy_world.specs.Shown.{Shown, with_replicas}
 use Rattle.zy_world.specs.Shows.{Shows}
 use Rattle.zy_world.specs.Stepping.{IsReplicaStep}
-use Rattle.zy_world.specs.declared.due.Due.{Due}
-use Rattle.zy_world.specs.declared.hands.Gone.{Gone}
-use Rattle.zy_world.specs.declared.hands.Job.{Job}
+use Rattle.zy_world.specs.declared.batch.Due.{Due}
+use Rattle.zy_world.specs.declared.step.Gone.{Gone}
+use Rattle.zy_world.specs.declared.step.Job.{Job}
 use Rattle.zy_world_law.specs.Events.{Happened}
 use Rattle.zy_world_law.specs.Events.Happened.{Goes}
 use Rattle.zy_world_law.specs.World.{World, Replica, Mail, is_due, is_told, mail_at}
@@ -106,8 +106,8 @@ pub record GoesAhead {M S : Type 0} (R : Rules S) (happened : Happened S) (dues 
   pub shows : ShowsAhead R world dues made v
 
 -- The replica of this number is out, and went on to this one by the frame of this number.
-pub record IsTurn {M S : Type 0} (R : Rules S) (g : World S) (number : ℕ) (mail : Mail) (id : ReplicaId) (bytes : List ℕ) (x : Replica S) (before : List (Option (State S))) (gone : Gone M S) (v : Shown S) : Type 0 where
+pub record IsTurn {M S : Type 0} (R : Rules S) (g : World S) (number : ℕ) (mail : Mail) (id : ReplicaId) (bytes : List ℕ) (x : Replica S) (before : List (Option (State S))) (back : Gone M S) (v : Shown S) : Type 0 where
   pub shows : Shows g (with_replicas (λ xs. before) v)
   pub there : mail_at g number ≡ Some mail
   pub sits : slice_get g.replicas id.0 ≡ Some (Some x)
-  pub gone : IsGone R x.state bytes gone
+  pub gone : IsGone R x.state bytes back

@@ -3,8 +3,8 @@ use Rattle.std.specs.Prelude.{◌≡◌, ℕ, ◌+◌, ◌≤◌, ◌⊎◌, Boo
 use Rattle.zy_world.specs.Ahead.{AreApart, due_from, is_free}
 use Rattle.zy_world.specs.Passed.{is_due_in}
 use Rattle.zy_world.specs.Shown.{Shown}
-use Rattle.zy_world.specs.declared.due.Batch.{Batch}
-use Rattle.zy_world.specs.declared.due.Due.{Due}
+use Rattle.zy_world.specs.declared.batch.Batch.{Batch}
+use Rattle.zy_world.specs.declared.batch.Due.{Due}
 use Rattle.zy_world_law.specs.World.{Mail}
 
 -- all frames that flows have left are the gathered ones and those from this index on

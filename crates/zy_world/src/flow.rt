@@ -1,6 +1,6 @@
 //! Flows: replicas hear the next frames at once, and what they did is taken over in the order of the events.
 
-ghost use Rattle.std.specs.Prelude.{◌≡◌, ◌≤◌, ◌+◌, ◌∷◌, List, Option, Some, Err, length, slice_get, slice_set, map, IfOk, IfErr};
+ghost use Rattle.std.specs.Prelude.{◌≡◌, ◌≤◌, ◌+◌, ◌∷◌, ℕ, None, List, Option, Some, Err, length, slice_get, slice_set, map, IfOk, IfErr};
 ghost use Rattle.std.specs.Vec.Iter.{into_iter_items};
 ghost use Rattle.zy_base.specs.declared.ids.Digest.{Digest as Sum};
 ghost use Rattle.zy_base.specs.declared.ids.Party.{Party as Somebody};
@@ -11,7 +11,7 @@ ghost use Rattle.zy_world.specs.Answered.{GoesTo, IsBrokenBy};
 ghost use Rattle.zy_world.specs.Flowing.{ComesTo, IsCutOff, Passes, Stops, all_done, notes_of};
 ghost use Rattle.zy_world.specs.Shown.{seat_in, with_replicas};
 ghost use Rattle.zy_world.specs.Shows.{Shows};
-ghost use Rattle.zy_world.specs.declared.due.Due.{Due as ADue};
+ghost use Rattle.zy_world.specs.declared.batch.Due.{Due as ADue};
 ghost use Rattle.zy_world.specs.declared.flow.FlowFault.TheVariants.{Forged, Clash};
 ghost use Rattle.zy_world.specs.declared.seat.Seat.TheVariants.{Correct};
 ghost use Rattle.zy_world_law.specs.Events.{bring, happens};
@@ -21,10 +21,11 @@ ghost use Rattle.zy_world_law.specs.World.{World as Whole, Mail as Post, Replica
 ghost use Rattle.zy_world_law.specs.declared.event.WorldEvent.TheVariants as events;
 ghost use Rattle.zy_world_law.specs.declared.note.Note.{Note as Told};
 
-use crate::due::Due;
-use crate::hands::{Gone, Hands, step_all};
+use crate::batch::Due;
+use crate::hands::{Hands, step_all};
 use crate::marks::pass;
 use crate::seat::put_in;
+use crate::step::Gone;
 use crate::{World, WorldFault, WorldStepped};
 use std::alloc::Global;
 use std::thread::Threads;

@@ -1,9 +1,7 @@
 //! A correct party hears a frame and makes a step.
 
 ghost use Rattle.std.specs.Prelude.{◌≡◌, ◌≤◌, ℕ, List, Option, [], length, slice_get, None, Some, IfOk, IfErr};
-ghost use Rattle.std.specs.List.{AllByRecursion};
 ghost use Rattle.zy_base.specs.declared.step.Event.{Event as Happening};
-ghost use Rattle.zy_chain.specs.Entries.{IsEntryInRange};
 ghost use Rattle.zy_world.specs.Answered.{GoesTo, IsBrokenBy, HeardTo, IsUnheardBy, replica_steps, client_steps};
 ghost use Rattle.zy_world.specs.Shown.{with_replicas};
 ghost use Rattle.zy_world.specs.Shows.{Shows};
@@ -87,7 +85,6 @@ impl<M: Machine> World<M> {
         id: ReplicaId,
         step: ReplicaStep,
     ) -> Result<WorldStepped<M>, WorldFault>
-        requires { AllByRecursion (λ got. IsEntryInRange got.entry) step.got }
         ensures goes { (g : Whole M.State) (x : AReplica M.State) (event : Happening) (o : Outcome M.State) (others : List (Option (State M.State)) → List (Option (State M.State))) → HasReplicaStepped g id x o step (with_replicas others self)
             → IfOk result (λ r. GoesTo (replica_goes g id x [] event o) r.note (with_replicas others r.world)) }
         ensures broken { (g : Whole M.State) (x : AReplica M.State) (event : Happening) (o : Outcome M.State) (others : List (Option (State M.State)) → List (Option (State M.State))) → HasReplicaStepped g id x o step (with_replicas others self)

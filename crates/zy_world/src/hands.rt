@@ -12,10 +12,10 @@ ghost use Rattle.zy_table.specs.State.{timers_of};
 ghost use Rattle.zy_table.specs.Whole.{whole_step};
 ghost use Rattle.zy_world.specs.Ahead.{IsResult};
 
-use crate::step::ReplicaStep;
+use crate::step::{Gone, Job, ReplicaStep};
 use std::thread;
 use std::thread::Threads;
-use zy_base::{Bytes, Event, Machine, Want};
+use zy_base::{Event, Machine, Want};
 use zy_replica::{Replica, Stepped};
 
 /// Who makes the steps of the replicas that hear frames at once.
@@ -39,21 +39,6 @@ impl Hands for PlainHands {
     fn step<M: Machine>(&self, replica: Replica<M>, event: Event) -> Result<Stepped<M>, Want> {
         replica.step(event)
     }
-}
-
-/// A replica that is out of its seat, and the frame that it is to hear.
-#[derive(Drop)]
-pub(crate) struct Job<M: Machine> {
-    pub(crate) replica: Replica<M>,
-    pub(crate) bytes: Bytes,
-}
-
-/// The replica behind its step, and what the step did beside.
-#[derive(Drop)]
-pub(crate) struct Gone<M: Machine> {
-    pub(crate) replica: Replica<M>,
-    pub(crate) step: ReplicaStep,
-    ghost entries: { AllByRecursion (λ got. IsEntryInRange got.entry) step.got },
 }
 
 fn step_one<M: Machine, H: Hands>(hands: &H, job: Job<M>) -> Result<Gone<M>, Want>

@@ -4,7 +4,7 @@
 
 mod agreed;
 mod bag;
-mod due;
+mod batch;
 mod events;
 mod fault;
 mod flow;

@@ -1,7 +1,5 @@
 ghost use Rattle.std.specs.Prelude.{◌≡◌, ◌≤◌, Bool, List, length, map, slice_get, slice_set, None, Some, option_copied, if◌then◌else◌, IfOk, IsSomeAnd, OnOk};
-ghost use Rattle.std.specs.List.{AllByRecursion, list_all};
-ghost use Rattle.std.specs.Option.{ForSome};
-ghost use Rattle.zy_chain.specs.Entries.{IsEntryInRange};
+ghost use Rattle.std.specs.List.{list_all};
 ghost use Rattle.zy_table.specs.ClientRows.{ask as ask_row, client_step};
 ghost use Rattle.zy_table.specs.ClientState.{ClientState as AClient, ClientOutcome, is_waiting};
 ghost use Rattle.zy_table.specs.State.{State};
@@ -12,10 +10,9 @@ ghost use Rattle.zy_world.specs.Shown.{is_correct_seat, is_liar_seat, is_seated,
 ghost use Rattle.zy_world.specs.Stepping.{IsReplicaStep, IsClientStep, done_if};
 ghost use Rattle.zy_world_law.specs.World.{correct_in, is_told};
 
-use crate::due::Due;
-use crate::hands::Job;
+use crate::batch::Due;
 use crate::seat::{Seat, is_there, put_in, seat_at, sitting, take_from};
-use crate::step::{ClientStep, ReplicaStep};
+use crate::step::{ClientStep, Job, ReplicaStep};
 use std::alloc::Global;
 use std::marker::Model;
 use zy_base::{Bytes, ClientId, Event, Machine, Party, ReplicaId, Want};
@@ -142,7 +139,6 @@ impl<M: Machine> Seats<M> {
     ) -> Result<Option<ReplicaStep>, Want>
         ensures missing { correct_in (slice_get self.old.replicas id.0) ≡ None → IfOk result (λ step. (step ≡ None) × (self.new ≡ self.old)) }
         ensures stepped { (s : State M.State) → correct_in (slice_get self.old.replicas id.0) ≡ Some s → IfOk result (λ step. IsSomeAnd step (IsReplicaStep (whole_step M.rules s event))) }
-        ensures entries { IfOk result (λ step. ForSome step (λ r. AllByRecursion (λ got. IsEntryInRange got.entry) r.got)) }
         ensures state { (s : State M.State) → correct_in (slice_get self.old.replicas id.0) ≡ Some s → OnOk result (self.new ≡ with_replica self.old id.0 (Some (whole_step M.rules s event).state)) }
     {
         match take_from(&mut self.replicas, id.0 as usize) {
@@ -159,7 +155,6 @@ impl<M: Machine> Seats<M> {
         event: Event,
     ) -> Result<ReplicaStep, Want>
         ensures stepped { IfOk result (IsReplicaStep (whole_step M.rules replica event)) }
-        ensures entries { IfOk result (λ r. AllByRecursion (λ got. IsEntryInRange got.entry) r.got) }
         ensures state { OnOk result (self.new ≡ with_replica self.old id.0 (Some (whole_step M.rules replica event).state)) }
     {
         let stepped = replica.step(event)?;

@@ -2,7 +2,7 @@ use Rattle.std.proofs.Common.{◌≡◌, ◌∷◌, [], List, ℕ, suc, ◌+◌,
 use Rattle.std.proofs.lemmas.List.{drop_all}
 use Rattle.zy_world.proofs.OutOfSeats.{IsTaking, taking_all, taking_more, taking_none}
 use Rattle.zy_world.specs.Ahead.{IsJob}
-use Rattle.zy_world.specs.declared.due.Due.{Due}
+use Rattle.zy_world.specs.declared.batch.Due.{Due}
 use Rattle.zy_world.proofs.seats.Seats.take_out.Goals as goal
 
 pub loop-due-init : goal.loop-due-init

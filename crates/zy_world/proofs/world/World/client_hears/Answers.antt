@@ -29,7 +29,7 @@ returns-in_ok-hears-clause-broken g c w mail before s there correct =
 pub returns-in_ok-hears-clause-replicas : goal.returns-in_ok-hears-clause-replicas
 returns-in_ok-hears-clause-replicas g c =
     ok_so _ _ c.client_steps.result c.client_steps.ensures.replicas (λ r is.
-        is ∙ ap (λ (s : Seated g.row.M-State.Denot). s.replicas) (c.in_ok-hears.ensures.seats ∙ c.marked.ensures.seats))
+    is ∙ ap (λ (s : Seated g.row.M-State.Denot). s.replicas) (c.in_ok-hears.ensures.seats ∙ c.marked.ensures.seats))
 
 pub returns-in_err-hears-clause-broken : goal.returns-in_err-hears-clause-broken
 returns-in_err-hears-clause-broken g c w mail before s there correct =

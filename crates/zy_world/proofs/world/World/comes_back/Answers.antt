@@ -37,8 +37,8 @@ returns-in_ok-hears-clause-broken g c w mail x before t =
 pub returns-in_ok-hears-clause-replicas : goal.returns-in_ok-hears-clause-replicas
 returns-in_ok-hears-clause-replicas g c =
     ok_so _ _ c.replica_stepped.result c.replica_stepped.ensures.seats (λ r is.
-        ap (λ (s : Seated g.row.M-State.Denot). s.replicas) (is ∙ ap (λ (v : Shown g.row.M-State.Denot). v.seats) c.seated.ensures)
-        ∙ ap (λ (s : Seated g.row.M-State.Denot). slice_set s.replicas c.args.id.0 (Some c.args.gone.replica)) (c.in_ok-hears.ensures.seats ∙ c.marked.ensures.seats))
+    ap (λ (s : Seated g.row.M-State.Denot). s.replicas) (is ∙ ap (λ (v : Shown g.row.M-State.Denot). v.seats) c.seated.ensures)
+    ∙ ap (λ (s : Seated g.row.M-State.Denot). slice_set s.replicas c.args.id.0 (Some c.args.gone.replica)) (c.in_ok-hears.ensures.seats ∙ c.marked.ensures.seats))
 
 pub returns-in_err-hears-clause-broken : goal.returns-in_err-hears-clause-broken
 returns-in_err-hears-clause-broken g c w mail x before t =
