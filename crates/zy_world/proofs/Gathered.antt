@@ -1,12 +1,12 @@
 -- The next frames, gathered one by one.
-use Rattle.std.proofs.Common.{◌≡◌, ℕ, suc, ◌+◌, ◌<◌, ◌≤◌, ◌⊎◌, inl, inr, Bool, true, false, not, cond, ◌&&◌, ◌||◌, List, [], ◌∷◌, ◌++◌, length, map, drop, drop-cons, get_or, Option, Some, None, refl, sym, ap, ap₂, ◌∙◌, subst, append_assoc, append-nil, length-append, arith}
-use Rattle.std.specs.Prelude.{slice_get, slice_index_or, option_map, unwrap_or, nat_lt, position, if◌then◌else◌}
-use Rattle.std.specs.List.{position_or_len}
+use Rattle.std.proofs.Common.{◌≡◌, ℕ, suc, ◌+◌, ◌<◌, ◌≤◌, ◌⊎◌, inl, inr, Bool, true, false, not, cond, ◌&&◌, ◌||◌, List, [], ◌∷◌, ◌++◌, length, map, drop, drop-cons, get_or, Option, Some, None, Result, Ok, Err, refl, sym, ap, ap₂, ◌∙◌, subst, append_assoc, append-nil, length-append, arith}
+use Rattle.std.specs.Prelude.{slice_get, slice_index_or, option_map, unwrap_or, nat_lt, if◌then◌else◌, IfOk, OnOk}
 use Rattle.std.proofs.lemmas.Bool.{le-ltb}
 use Rattle.std.proofs.lemmas.List.{drop_all}
 use Rattle.std.proofs.lemmas.Option.{slice_get-map, unwrap_or-slice_get}
 use Rattle.zy_base.specs.declared.ids.Party.{Party}
 use Rattle.zy_base.specs.declared.ids.Party.TheVariants as parties
+use Rattle.zy_base.specs.declared.want.Want.{Want}
 use Rattle.zy_world.specs.Ahead.{AreApart, AreNext, IsBatch, due_from, due_of, is_free, with_taken}
 use Rattle.zy_world.specs.Gathering.{AreGathered, GoesIn, GoesOn, IsGathered, IsSecond}
 use Rattle.zy_world.specs.Passed.{is_due_in, is_past}
@@ -48,11 +48,36 @@ module _ {S : Type 0} (v : Shown S) (at : ℕ) (mail : Mail) (there : slice_get 
         (apart_more old.sits.items old.dues.items (due_of (at + 1) mail) sits is.apart free));
   }
 
-pub same_batch : {S : Type 0} (v : Shown S) (at : ℕ) (old new : Batch) → new.dues.items ≡ old.dues.items → new.sits.items ≡ old.sits.items → GoesOn v at old at new
+same_batch : {S : Type 0} (v : Shown S) (at : ℕ) (old new : Batch) → new.dues.items ≡ old.dues.items → new.sits.items ≡ old.sits.items → GoesOn v at old at new
 same_batch v at old new dues sits all s is = record {
   due = is.due ∙ ap (λ (l : List Due). l ++ due_from (is_due_in v) (at + 1) (drop at v.bag.mails)) (sym dues);
   apart = subst (λ (l : List Due). AreApart new.sits.items l s) (sym dues) (subst (λ (l : List Bool). AreApart l old.dues.items s) (sym sits) is.apart);
 }
+
+module _ {S : Type 0} (v : Shown S) (at : ℕ) (mail : Mail) (there : slice_get v.bag.mails at ≡ Some mail) (rest : drop at v.bag.mails ≡ mail ∷ drop (at + 1) v.bag.mails) (due : is_due_in v mail ≡ true)
+    (old new : Batch) where
+  -- what it is to the gathered ones, by whether its replica sits in its seat
+  abbrev pub dues_if : Bool → List Due
+  dues_if free = if free then old.dues.items ++ due_of (at + 1) mail ∷ [] else old.dues.items
+
+  abbrev pub sits_if : Bool → List Bool
+  sits_if free = if free then with_taken mail.to old.sits.items else old.sits.items
+
+  added_by : (free is : Bool) → is_free mail.to old.sits.items ≡ is → free ≡ is → new.dues.items ≡ dues_if is → new.sits.items ≡ sits_if is → GoesIn v at old new free
+  added_by true true free same dues sits =
+      (one_more v at mail there rest old new due free dues sits, omega (arith, ap length dues, length-append old.dues.items (due_of (at + 1) mail ∷ [])))
+  added_by true false free same dues sits = absurd cc
+  added_by false true free same dues sits = absurd cc
+  added_by false false free same dues sits = (
+    same_batch v at old new dues sits,
+    omega (arith, ap length dues),
+    record { mail = mail; there = there; due = due; stands = ap (is_free mail.to) sits ∙ free },
+  )
+
+  pub added : (r : Result Bool Want) → OnOk r (new.dues.items ≡ dues_if (is_free mail.to old.sits.items)) → OnOk r (new.sits.items ≡ sits_if (is_free mail.to old.sits.items))
+      → IfOk r (λ free. free ≡ is_free mail.to old.sits.items) → IfOk r (GoesIn v at old new)
+  added (Ok free) dues sits same = added_by free (is_free mail.to old.sits.items) refl same dues sits
+  added (Err want) dues sits same = tt
 
 -- ---- all of them
 
