@@ -2,5 +2,35 @@ use Rattle.std.proofs.Common.{◌≡◌, Err, refl, ap, ◌∙◌, arith}
 use Rattle.zy_world_law.specs.Events as events
 use Rattle.zy_top.proofs.running.run_flow.Goals as goal
 
-pub returns-clause-run : goal.returns-clause-run
-returns-clause-run g c whole shows = ?
+pub returns-in-Ok-clause-run : goal.returns-in-Ok-clause-run
+returns-in-Ok-clause-run g c whole shows =
+    let f = c.in-Ok.ensures.flows whole shows in
+    (f.0, (c.in-Ok.field-0.notes, f.2, f.1, c.in_ok-add_all-in-Ok.ensures.told))
+
+pub returns-in-Err-Forged-clause-run : goal.returns-in-Err-Forged-clause-run
+returns-in-Err-Forged-clause-run g c whole shows =
+    let notes = c.in-Err-Forged.field-0-0 in
+    let by = c.in-Err-Forged.field-0-1 in
+    (
+      notes,
+      (
+        events.Broken.Forged by,
+        refl,
+        c.flow.ensures.forged whole notes by shows (c.in-Err-Forged.is ∙ ap Err c.in-Err-Forged.field-0-is),
+        c.in_ok-add_all-in-Err-Forged.ensures.told,
+      ),
+    )
+
+pub returns-in-Err-Clash-clause-run : goal.returns-in-Err-Clash-clause-run
+returns-in-Err-Clash-clause-run g c whole shows =
+    let notes = c.in-Err-Clash.field-0-0 in
+    let digest = c.in-Err-Clash.field-0-1 in
+    (
+      notes,
+      (
+        events.Broken.Clash digest,
+        refl,
+        c.flow.ensures.clash whole notes digest shows (c.in-Err-Clash.is ∙ ap Err c.in-Err-Clash.field-0-is),
+        c.in_ok-add_all-in-Err-Clash.ensures.told,
+      ),
+    )
