@@ -1,0 +1,10 @@
+use Rattle.std.proofs.Common.{◌≡◌, ℕ, ◌≤◌, length}
+use Rattle.zy_world.specs.Gathering.{GoesOn}
+use Rattle.zy_world.proofs.world.World.gather.Given as goal
+
+-- the frames before this index were gathered
+abbrev pub invariant-loop : goal.invariant-loop
+invariant-loop g l = record {
+  on : GoesOn l.self l.self.bag.passed l.initial.batch l.at l.batch;
+  few : length l.initial.batch.dues.items ≤ l.most → length l.batch.dues.items ≤ l.most;
+}
