@@ -1,6 +1,7 @@
 -- How the parts of a run follow one another.
-use Rattle.std.proofs.Common.{◌≡◌, ℕ, ◌+◌, Bool, cond, List, [], ◌∷◌, ◌++◌, length, Result, Ok, Err, refl, sym, ap, ◌∙◌, subst, append_assoc, append-nil, length-append, arith}
+use Rattle.std.proofs.Common.{◌≡◌, ℕ, ◌+◌, ◌<◌, ◌≤◌, Bool, cond, take, get_or, List, [], ◌∷◌, ◌++◌, length, Result, Ok, Err, refl, sym, ap, ◌∙◌, subst, append_assoc, append-nil, length-append, arith}
 use Rattle.std.specs.Prelude.{count_by}
+use Rattle.std.proofs.lemmas.List.{take_all, take_more}
 use Rattle.std.proofs.lemmas.List.Sums.{sum_by-append}
 use Rattle.zy_base.specs.Machine.{Rules}
 use Rattle.zy_schedule.specs.declared.line.Line.{Line}
@@ -57,6 +58,17 @@ Adds-then a b c first second before after =
           ∙ ap (λ l. a.text.items ++ l)
           (ap (λ n. note_lines (a.tally.events + 1) first ++ note_lines n second) number ∙ sym (note_lines_append (a.tally.events + 1) first second));
     }
+
+-- one event more
+pub Adds-more : (a b c : Tale) (all slice : List Note) (i : ℕ) (note : Note) → slice ≡ all → i < length slice → note ≡ get_or slice i note → Adds a b (take i all) → Adds b c (note ∷ [])
+    → Adds a c (take (i + 1) all)
+Adds-more a b c all slice i note same below is before one =
+    let told : take (i + 1) all ≡ take i all ++ note ∷ [] =
+    take_more all i note (omega (arith, below, ap length same)) ∙ ap (λ (n : Note). take i all ++ n ∷ []) (sym (is ∙ ap (λ (l : List Note). get_or l i note) same)) in
+    subst (λ (l : List Note). Adds a c l) (sym told) (Adds-then a b c (take i all) (note ∷ []) before one)
+
+pub Adds-whole : (a b : Tale) (all slice : List Note) (i : ℕ) → slice ≡ all → length slice ≤ i → Adds a b (take i all) → Adds a b all
+Adds-whole a b all slice i same past adds = subst (λ (l : List Note). Adds a b l) (take_all i all (omega (arith, past, ap length same))) adds
 
 -- ---- parts of a run
 

@@ -1,5 +1,5 @@
 -- Frames are brought in their turns, while replicas are out of their seats.
-use Rattle.std.proofs.Common.{◌≡◌, ℕ, ◌+◌, List, [], ◌∷◌, ◌++◌, Option, Some, None, Result, Ok, Err, refl, sym, ap, ◌∙◌, subst, append-nil}
+use Rattle.std.proofs.Common.{◌≡◌, ℕ, ◌+◌, List, [], ◌∷◌, ◌++◌, Option, Some, None, Result, Ok, Err, refl, sym, ap, ◌∙◌, length, subst, append-nil, arith}
 use Rattle.std.specs.Prelude.{slice_get, slice_set, option_map, IfOk, IfErr}
 use Rattle.zy_base.specs.Machine.{Rules}
 use Rattle.zy_base.specs.declared.ids.ClientId.{ClientId}
@@ -28,11 +28,11 @@ use Rattle.zy_world.specs.declared.step.ReplicaStep.{ReplicaStep}
 use Rattle.zy_world_law.proofs.Seats.{get_set}
 use Rattle.zy_world_law.specs.Events.{Happened, bring, happens, replica_goes}
 use Rattle.zy_world_law.specs.Events.Broken.{Forged, Clash}
-use Rattle.zy_world_law.specs.Runs.{flow}
+use Rattle.zy_world_law.specs.Runs.{Rest, flow}
 use Rattle.zy_world_law.specs.World.{World, Replica, Mail, correct_in, delivered}
 use Rattle.zy_world_law.specs.declared.event.WorldEvent.TheVariants.{Deliver}
 use Rattle.zy_world_law.specs.declared.note.Note.{Note}
-use Rattle.zy_world.proofs.Flows.{breaks_off, delivers}
+use Rattle.zy_world.proofs.Flows.{breaks_off, comes_so, delivers}
 use Rattle.zy_world.proofs.Heard.{brought_heard}
 use Rattle.zy_world.proofs.NextFrames.{goes_to_correct, is_brought, is_next, later, mail, mail_there, next_later, whole_of}
 use Rattle.zy_world.proofs.OutOfSeats.{comes_back}
@@ -180,6 +180,30 @@ module _ {M S : Type 0} (R : Rules S) (g : World S) (due : Due) (more : List Due
   turn_cut (faults.Clash digest) broken =
       record { told = []; stops = breaks_off R left g due.number (Clash digest) (is_next R g due more is.next) broken; notes = sym (append-nil notes) }
   turn_cut faults.Want broken = tt
+
+-- ---- turn after turn
+
+module _ {M S : Type 0} (R : Rules S) (dues : List Due) (due : Due) (rest : List Due) (left : ℕ) (v : World S) (old : List (Result (Gone M S) Want)) (u : Shown S) (is : dues ≡ due ∷ rest)
+    (s : ShowsAhead R v dues old u) where
+  one_left : length rest + left + 1 ≡ length dues + left
+  one_left = omega (arith, ap length is)
+
+  first_ahead : ShowsAhead R v (due ∷ rest) old u
+  first_ahead = subst (λ (l : List Due). ShowsAhead R v l old u) is s
+
+  pub turns_on : (next : Rest S → Rest S) (b c : List Note) (Q : World S → Type 0) → (ShowsAhead R v (due ∷ rest) old u → ComesTo (flow R (length rest + left + 1)) v next b c Q)
+      → ComesTo (flow R (length dues + left)) v next b c Q
+  turns_on next b c Q comes = subst (λ (n : ℕ). ComesTo (flow R n) v next b c Q) one_left (comes first_ahead)
+
+  pub turns_cut : (b c : List Note) (fault : WorldFault) → (ShowsAhead R v (due ∷ rest) old u → IsCutOff (flow R (length rest + left + 1)) v b c fault) → IsCutOff (flow R (length dues + left)) v b c fault
+  turns_cut b c fault cut = subst (λ (n : ℕ). IsCutOff (flow R n) v b c fault) one_left (cut first_ahead)
+
+-- where none is left
+pub turns_end : {S : Type 0} (R : Rules S) (part : Rest S → Rest S) (dues : List Due) (left : ℕ) (g : World S) (a b : List Note) (P Q : World S → Type 0) → dues ≡ []
+    → ComesTo part g (flow R (length dues + left)) a b P → ((v : World S) → P v → Q v) → ComesTo part g (flow R left) a b Q
+turns_end R part dues left g a b P Q none far so =
+    let same : length dues + left ≡ left = omega (arith, ap length none) in
+    comes_so part (flow R left) g a b P Q (subst (λ (n : ℕ). ComesTo part g (flow R n) a b P) same far) so
 
 -- ---- all that are next are out
 

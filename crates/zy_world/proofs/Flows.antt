@@ -1,5 +1,5 @@
 -- How the parts of a flow follow one another.
-use Rattle.std.proofs.Common.{◌≡◌, ℕ, zero, suc, ◌+◌, List, [], ◌∷◌, ◌++◌, Some, None, Result, Ok, Err, refl, sym, ap, ◌∙◌, append_assoc, append-nil, arith}
+use Rattle.std.proofs.Common.{◌≡◌, ℕ, zero, suc, ◌+◌, List, [], ◌∷◌, ◌++◌, Some, None, Result, Ok, Err, refl, sym, ap, ◌∙◌, subst, append_assoc, append-nil, arith}
 use Rattle.zy_base.specs.Machine.{Rules}
 use Rattle.zy_world.specs.Flowing.{ComesTo, IsCutBy, IsCutOff, Passes, Stops, all_done}
 use Rattle.zy_world.specs.declared.fault.WorldFault.{WorldFault}
@@ -113,3 +113,19 @@ module _ {S : Type 0} where
   pub flow_done : (R : Rules S) (left : ℕ) (v : World S) → left ≡ 0 → (rest : Rest S) → flow R left rest v ≡ rest v
   unfolding flow
   flow_done R left v done rest = ap (λ n. flow R n rest v) done
+
+  -- ---- the whole of it
+
+  pub passes_all : (part : Rest S → Rest S) (g : World S) (old new : List Note) (P : World S → Type 0) → old ≡ [] → ComesTo part g all_done old new P
+      → (v : World S) × Passes part g all_done v new × P v
+  passes_all part g old new P none far =
+      let told : new ≡ far.told = far.notes ∙ ap (λ (l : List Note). l ++ far.told) none in (
+        far.world,
+        subst (λ (l : List Note). Passes part g all_done far.world l) (sym told) far.passes,
+        far.is,
+      )
+
+  pub stops_at : (part : Rest S → Rest S) (g : World S) (old new all : List Note) (broken other : Broken) → old ≡ [] → IsCutBy part g old new broken → new ≡ all → broken ≡ other → Stops part g all other
+  stops_at part g old new all broken other none cut noted same =
+      let told : cut.told ≡ all = sym (cut.notes ∙ ap (λ (l : List Note). l ++ cut.told) none) ∙ noted in
+      subst (λ (b : Broken). Stops part g all b) same (subst (λ (l : List Note). Stops part g l broken) told cut.stops)
