@@ -1,5 +1,6 @@
 -- Frames are brought in their turns, while replicas are out of their seats.
-use Rattle.std.proofs.Common.{◌≡◌, ℕ, ◌+◌, List, [], ◌∷◌, ◌++◌, Option, Some, None, Result, Ok, Err, refl, sym, ap, ◌∙◌, length, subst, append-nil, arith}
+use Rattle.std.proofs.Common.{◌≡◌, ℕ, ◌+◌, List, [], ◌∷◌, ◌++◌, Option, Some, None, Result, Ok, Err, refl, sym, ap, ◌∙◌, length, map, Bool, subst, append-nil, arith}
+use Rattle.std.specs.List.{AllZip}
 use Rattle.std.specs.Prelude.{slice_get, slice_set, option_map, IfOk, IfErr}
 use Rattle.zy_base.specs.Machine.{Rules}
 use Rattle.zy_base.specs.declared.ids.ClientId.{ClientId}
@@ -12,7 +13,7 @@ use Rattle.zy_table.specs.ClientState.{ClientState}
 use Rattle.zy_table.specs.Deeds.{Outcome}
 use Rattle.zy_table.specs.State.{State}
 use Rattle.zy_table.specs.Whole.{whole_step}
-use Rattle.zy_world.specs.Ahead.{AreOut, GoesAhead, IsGone, IsJob, IsResult, IsTurn, ShowsAhead, out_for}
+use Rattle.zy_world.specs.Ahead.{AreApart, AreOut, GoesAhead, IsBatch, IsGone, IsJob, IsResult, IsTurn, ShowsAhead, out_for}
 use Rattle.zy_world.specs.Answered.{GoesTo, HeardTo, IsBrokenBy, client_steps, replica_steps, steps}
 use Rattle.zy_world.specs.Flowing.{ComesTo, IsCutOff}
 use Rattle.zy_world.specs.Shown.{Shown, Seated, seat_in, with_replicas}
@@ -29,13 +30,13 @@ use Rattle.zy_world_law.proofs.Seats.{get_set}
 use Rattle.zy_world_law.specs.Events.{Happened, bring, happens, replica_goes}
 use Rattle.zy_world_law.specs.Events.Broken.{Forged, Clash}
 use Rattle.zy_world_law.specs.Runs.{Rest, flow}
-use Rattle.zy_world_law.specs.World.{World, Replica, Mail, correct_in, delivered}
+use Rattle.zy_world_law.specs.World.{World, Replica, Mail, correct_in, delivered, is_told}
 use Rattle.zy_world_law.specs.declared.event.WorldEvent.TheVariants.{Deliver}
 use Rattle.zy_world_law.specs.declared.note.Note.{Note}
 use Rattle.zy_world.proofs.Flows.{breaks_off, comes_so, delivers}
 use Rattle.zy_world.proofs.Heard.{brought_heard}
 use Rattle.zy_world.proofs.NextFrames.{goes_to_correct, is_brought, is_next, later, mail, mail_there, next_later, whole_of}
-use Rattle.zy_world.proofs.OutOfSeats.{comes_back}
+use Rattle.zy_world.proofs.OutOfSeats.{all_made, comes_back}
 use Rattle.zy_world.proofs.SeatLemmas.{set_set}
 use Rattle.zy_world.proofs.ShownSeats.{replica_shown, whole_seat}
 
@@ -215,3 +216,20 @@ shows_out g v seats s same =
 pub job_made : {M S : Type 0} (R : Rules S) (s : State S) (bytes : List ℕ) (job : Job M S) (one : Result (Gone M S) Want) → IsJob s bytes job → IsResult R job.replica job.bytes one → IsResult R s bytes one
 job_made {S = S} R s bytes job one is made =
     subst (λ (t : State S). IsResult R t bytes one) is.replica (subst (λ (b : List ℕ). IsResult R job.replica b one) is.bytes made)
+
+-- the next ones are out, and each made its step: `v` is what is held before, once it is opened
+pub all_ahead : {M S : Type 0} (R : Rules S) (g : World S) (whole v : Shown S) (dues read : List Due) (seats : Seated S) (jobs : List (Job M S)) (made : List (Result (Gone M S) Want))
+    → Shows g whole → (batch : IsBatch g dues whole) → v ≡ whole → read ≡ dues → seats.clients ≡ v.seats.clients
+    → (AreApart batch.left read (map is_told v.seats.replicas) → AreOut IsJob seats.replicas read v.seats.replicas jobs)
+    → AllZip (λ (job : Job M S) (one : Result (Gone M S) Want). IsResult R job.replica job.bytes one) jobs made → ShowsAhead R g dues made (record v { seats = seats })
+all_ahead {M = M} {S = S} R g whole v dues read seats jobs made s batch opened same clients out steps =
+    let apart : AreApart batch.left read (map is_told v.seats.replicas) =
+    subst (λ (l : List Due). AreApart batch.left l (map is_told v.seats.replicas)) (sym same)
+    (subst (λ (u : Shown S). AreApart batch.left dues (map is_told u.seats.replicas)) (sym opened) batch.apart) in
+    record {
+      before = v.seats.replicas;
+      shows = shows_out g v seats (subst (λ (u : Shown S). Shows g u) (sym opened) s) clients;
+      next = batch.next;
+      out = all_made IsJob (IsResult R) (λ (job : Job M S) (one : Result (Gone M S) Want). IsResult R job.replica job.bytes one) (job_made R) seats.replicas dues v.seats.replicas jobs made
+          (subst (λ (l : List Due). AreOut IsJob seats.replicas l v.seats.replicas jobs) same (out apart)) steps;
+    }

@@ -114,6 +114,15 @@ module _ {S : Type 0} where
   unfolding flow
   flow_done R left v done rest = ap (λ n. flow R n rest v) done
 
+  -- ---- some deliveries, and those behind them
+
+  pub batch_on : (R : Rules S) (count after left : ℕ) (v : World S) (next : Rest S → Rest S) (b c : List Note) (Q : World S → Type 0) → count + after ≡ left
+      → ComesTo (flow R (count + after)) v next b c Q → ComesTo (flow R left) v next b c Q
+  batch_on R count after left v next b c Q same comes = subst (λ (n : ℕ). ComesTo (flow R n) v next b c Q) same comes
+
+  pub batch_cut : (R : Rules S) (count after left : ℕ) (v : World S) (b c : List Note) (fault : WorldFault) → count + after ≡ left → IsCutOff (flow R (count + after)) v b c fault → IsCutOff (flow R left) v b c fault
+  batch_cut R count after left v b c fault same cut = subst (λ (n : ℕ). IsCutOff (flow R n) v b c fault) same cut
+
   -- ---- the whole of it
 
   pub passes_all : (part : Rest S → Rest S) (g : World S) (old new : List Note) (P : World S → Type 0) → old ≡ [] → ComesTo part g all_done old new P

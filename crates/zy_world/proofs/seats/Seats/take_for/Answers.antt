@@ -16,5 +16,5 @@ returns-in_ok-push-clause-taken g c =
     (sym c.in-Some.is ∙ c.take_from.ensures.taken ∙ ap (λ (v : Seated g.row.M-State.Denot). correct_in (slice_get v.replicas c.in-Replica.id.0)) c.self.view_is
     ∙ ap (λ (o : Option (Option (State g.row.M-State.Denot))). correct_in o) there) in (
       c.take_from.ensures.left ∙ ap (λ (v : Seated g.row.M-State.Denot). slice_set v.replicas c.in-Replica.id.0 None) c.self.view_is,
-      (_, record { replica = found; bytes = ? }, c.in_ok-push.ensures.items),
+      (_, record { replica = found; bytes = c.in_ok-bytes.ensures.cases }, c.in_ok-push.ensures.items),
     ))

@@ -1,11 +1,18 @@
-use Rattle.std.proofs.Common.{◌≡◌, ℕ, suc, ◌+◌, ◌∷◌, List, drop, drop-cons, get_or, length, sym, ap, ◌∙◌, arith, Some}
-use Rattle.std.specs.Prelude.{slice_get}
-use Rattle.std.proofs.lemmas.Option.{slice_get_read}
-use Rattle.zy_world.proofs.Gathered.{added, passes_over}
+use Rattle.std.proofs.Common.{◌≡◌, sym, ap, arith}
+use Rattle.zy_world.specs.Shown.{Shown}
+use Rattle.zy_world.proofs.Gathered.{added, passes_over, read_there}
 use Rattle.zy_world.proofs.world.World.goes_in.Goals as goal
 
 pub returns-then-is_due : goal.returns-then-is_due
-returns-then-is_due g c = ?
+returns-then-is_due g c =
+    let v = c.args.self.now in
+    let mail = c.index-mails-at.result in
+    let t = read_there v c.args.at _ mail ? c.requires c.index-mails-at.is in
+    added v c.args.at mail t.0 t.1 (sym c.if-is_due.ensures) c.args.batch.now c.add.new.self c.add.result c.add.ensures.added c.add.ensures.taken c.add.ensures.free
 
 pub returns-else-is_due : goal.returns-else-is_due
-returns-else-is_due g c = ?
+returns-else-is_due g c =
+    let v = c.args.self.now in
+    let mail = c.index-mails-at.result in
+    let t = read_there v c.args.at _ mail ? c.requires c.index-mails-at.is in
+    (passes_over v c.args.at mail t.0 t.1 c.args.batch.now (sym c.if-is_due.ensures), omega arith)

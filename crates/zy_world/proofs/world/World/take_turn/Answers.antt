@@ -5,7 +5,9 @@ use Rattle.zy_world.proofs.ComingBack.{turn_comes, turn_cut}
 use Rattle.zy_world.proofs.world.World.take_turn.Goals as goal
 
 pub returns-clause-comes : goal.returns-clause-comes
-returns-clause-comes g c w more left is = ?
+returns-clause-comes g c w more left is =
+    turn_comes g.M.Machine.rules w c.args.due more (into_iter_items c.args.out.now) c.args.self is left c.args.notes.now (into_iter_items c.turn.new.out) _ _ _ (c.in_ok-turn.ensures.goes w more is)
+    c.in_ok-push.ensures.ok
 
 pub returns-in_err-turn-clause-cut : goal.returns-in_err-turn-clause-cut
 returns-in_err-turn-clause-cut g c w more left is =

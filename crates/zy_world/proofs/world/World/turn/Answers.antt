@@ -14,12 +14,31 @@ use Rattle.zy_world.proofs.world.World.turn.Goals as goal
 
 pub returns-in_ok-gone-in-Some-clause-goes : goal.returns-in_ok-gone-in-Some-clause-goes
 returns-in_ok-gone-in-Some-clause-goes g c w more is =
-    let arm = c.in_ok-gone-in-Some in
-    let before = c.in-Some in
-    let replica = c.in-Replica in ?
+    let R = g.M.Machine.rules in
+    let due = c.args.due in
+    let old = into_iter_items c.args.out.now in
+    let new = into_iter_items c.next.new.self in
+    let gone = c.in_ok-gone-in-Some.gone in
+    let id = c.in-Replica.id in
+    let to = c.in-Replica.is in
+    let taken : old ≡ Ok gone ∷ new = c.in-Some.ensures.cases.0 ∙ ap (λ (made : Result (Gone g.row.M.Denot g.row.M-State.Denot) Want). made ∷ new) c.in_ok-gone-in-Some.was in
+    let turn = its_turn R w due more old c.args.self is id to new gone taken in
+    both_ok _ _ _ c.comes_back.result (c.comes_back.ensures.goes w (mail R w due more is.next) _ is.before turn) c.comes_back.ensures.replicas
+    (λ r goes seats. replica_goes_on R w due more old c.args.self is id to new gone taken r.note r.world goes seats)
 
 pub returns-in_ok-gone-in-Some-clause-broken : goal.returns-in_ok-gone-in-Some-clause-broken
-returns-in_ok-gone-in-Some-clause-broken g c w more is = ?
+returns-in_ok-gone-in-Some-clause-broken g c w more is =
+    let R = g.M.Machine.rules in
+    let due = c.args.due in
+    let old = into_iter_items c.args.out.now in
+    let new = into_iter_items c.next.new.self in
+    let gone = c.in_ok-gone-in-Some.gone in
+    let id = c.in-Replica.id in
+    let to = c.in-Replica.is in
+    let taken : old ≡ Ok gone ∷ new = c.in-Some.ensures.cases.0 ∙ ap (λ (made : Result (Gone g.row.M.Denot g.row.M-State.Denot) Want). made ∷ new) c.in_ok-gone-in-Some.was in
+    let turn = its_turn R w due more old c.args.self is id to new gone taken in
+    subst (λ (h : Happened g.row.M-State.Denot). IfErr c.comes_back.result (IsBrokenBy h)) (sym (event_is R w due more old c.args.self is (parties.Replica id) to))
+    (c.comes_back.ensures.broken w (mail R w due more is.next) _ is.before turn)
 
 pub returns-in_err-gone-in-Some-clause-broken : goal.returns-in_err-gone-in-Some-clause-broken
 returns-in_err-gone-in-Some-clause-broken g c w more is =
@@ -28,7 +47,7 @@ returns-in_err-gone-in-Some-clause-broken g c w more is =
 
 pub returns-in-None-clause-goes : goal.returns-in-None-clause-goes
 returns-in-None-clause-goes g c w more is =
-    absurd (some_out g.M.Machine.rules w c.args.due more (into_iter_items c.args.out.now) c.args.self is c.in-Replica.id c.in-Replica.is ?)
+    absurd (some_out g.M.Machine.rules w c.args.due more (into_iter_items c.args.out.now) c.args.self is c.in-Replica.id c.in-Replica.is (nil_from_length _ (sym c.args.out.now.rest.ok.0 ∙ c.in-None.ensures.cases.0)))
 
 pub returns-in-Client-clause-goes : goal.returns-in-Client-clause-goes
 returns-in-Client-clause-goes g c w more is =
