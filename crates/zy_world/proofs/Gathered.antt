@@ -95,7 +95,7 @@ module _ {S : Type 0} (v : Shown S) (at : ℕ) (mail : Mail) (there : slice_get 
 
 module _ {S : Type 0} (v : Shown S) (most from at : ℕ) (old batch new : Batch) (on : GoesOn v from old at batch) (few : length old.dues.items ≤ most → length batch.dues.items ≤ most) where
   pub gathers_on : length batch.dues.items < most → GoesIn v at batch new true → GoesOn v from old (at + 1) new × (length old.dues.items ≤ most → length new.dues.items ≤ most)
-  gathers_on room goes = (λ all sits is. goes.0 all sits (on all sits is), λ within. omega (arith, goes.1, room))
+  gathers_on room goes = ((λ all sits is. goes.0 all sits (on all sits is)), (λ within. omega (arith, goes.1, room)))
 
 module _ {S : Type 0} (v : Shown S) (most at : ℕ) (old batch new : Batch) (on : GoesOn v v.bag.passed old at batch) (few : length old.dues.items ≤ most → length batch.dues.items ≤ most) where
   pub gathered_to_second : GoesIn v at batch new false → AreGathered v most old new
