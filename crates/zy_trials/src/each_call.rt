@@ -31,10 +31,12 @@ impl Sink for Sips {
     }
 }
 
-fn sips(alloc: Global, failing: u64) -> Result<Sips, Want> {
-    let failing = Vec::from_slice(alloc, &[failing])?;
-    let sink = MemSink::new(alloc, failing, 1_000)?;
-    Ok(Sips { sink })
+impl Sips {
+    fn new(alloc: Global, failing: u64) -> Result<Sips, Want> {
+        let failing = Vec::from_slice(alloc, &[failing])?;
+        let sink = MemSink::new(alloc, failing, 1_000)?;
+        Ok(Sips { sink })
+    }
 }
 
 /// The stored run in which a replica that followed a lying primary goes back: its group, its schedule and its report.
@@ -84,7 +86,7 @@ fn replayed(alloc: Global, of_files: u64, of_output: u64) -> Result<(Exit, usize
         ..NO_FAULTS
     };
     let mut outside = outside_of(alloc, replayed_files(alloc)?, faults)?;
-    let mut out = sips(alloc, of_output)?;
+    let mut out = Sips::new(alloc, of_output)?;
     let exit = replay_exit(alloc, &mut outside, &mut out)?;
     let taken = out.sink.taken();
     Ok((exit, taken.len(), REPORT.as_bytes().starts_with(taken)))
