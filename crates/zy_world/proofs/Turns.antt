@@ -89,6 +89,14 @@ module _ {S : Type 0} (R : Rules S) (w : World S) (v : Shown S) (s : Shows w v) 
 
 -- ---- a client
 
+-- seats in which other replicas sit
+abbrev pub seats_with : {S : Type 0} → (List (Option (State S)) → List (Option (State S))) → Seated S → Seated S
+seats_with others s = record s { replicas = others s.replicas }
+
+pub missing_ahead : {S : Type 0} (others : List (Option (State S)) → List (Option (State S))) {seat : Option ClientState} {step : Option ClientStep} {new old : Seated S}
+    → (seat ≡ None → (step ≡ None) × (new ≡ old)) → seat ≡ None → (step ≡ None) × (seats_with others new ≡ seats_with others old)
+missing_ahead others missing none = ((missing none).0, ap (seats_with others) (missing none).1)
+
 -- the client in a seat makes a step, or asks
 abbrev pub client_turns : {S : Type 0} → World S → ClientId → (ClientState → ClientOutcome) → Option (Option Client) → Happened S
 client_turns w id row (Some (Some x)) = client_goes w id x [] (row x.state)
