@@ -10,8 +10,7 @@ returns-in-Ok-clause-run g c whole shows =
 pub returns-in-Err-Forged-clause-run : goal.returns-in-Err-Forged-clause-run
 returns-in-Err-Forged-clause-run g c whole shows =
     let notes = c.in-Err-Forged.field-0-0 in
-    let by = c.in-Err-Forged.field-0-1 in
-    (
+    let by = c.in-Err-Forged.field-0-1 in (
       notes,
       (
         events.Broken.Forged by,
@@ -24,8 +23,7 @@ returns-in-Err-Forged-clause-run g c whole shows =
 pub returns-in-Err-Clash-clause-run : goal.returns-in-Err-Clash-clause-run
 returns-in-Err-Clash-clause-run g c whole shows =
     let notes = c.in-Err-Clash.field-0-0 in
-    let digest = c.in-Err-Clash.field-0-1 in
-    (
+    let digest = c.in-Err-Clash.field-0-1 in (
       notes,
       (
         events.Broken.Clash digest,
