@@ -13,7 +13,7 @@ use Rattle.zy_table.specs.ClientState.{ClientState}
 use Rattle.zy_table.specs.Deeds.{Outcome}
 use Rattle.zy_table.specs.State.{State}
 use Rattle.zy_table.specs.Whole.{whole_step}
-use Rattle.zy_world.specs.Ahead.{AreApart, AreOut, GoesAhead, IsBatch, IsGone, IsJob, IsResult, IsTurn, ShowsAhead, out_for}
+use Rattle.zy_world.specs.Ahead.{AreApart, AreOut, GoesAhead, IsBatch, IsGone, IsJob, MayBeGone, IsTurn, ShowsAhead, out_for}
 use Rattle.zy_world.specs.Answered.{GoesTo, HeardTo, IsBrokenBy, client_steps, replica_steps, steps}
 use Rattle.zy_world.specs.Flowing.{ComesTo, IsCutOff}
 use Rattle.zy_world.specs.Shown.{Shown, Seated, seat_in, with_replicas}
@@ -58,16 +58,16 @@ module _ {M S : Type 0} (R : Rules S) (g : World S) (due : Due) (more : List Due
   -- ---- a replica
 
   module _ (id : ReplicaId) (to : due.to ≡ parties.Replica id) where
-    out : out_for (IsResult R) (parties.Replica id) due.bytes (AreOut (IsResult R) v.seats.replicas more) is.before old
-    out = subst (λ (p : Party). out_for (IsResult R) p due.bytes (AreOut (IsResult R) v.seats.replicas more) is.before old) to is.out
+    out : out_for (MayBeGone R) (parties.Replica id) due.bytes (AreOut (MayBeGone R) v.seats.replicas more) is.before old
+    out = subst (λ (p : Party). out_for (MayBeGone R) p due.bytes (AreOut (MayBeGone R) v.seats.replicas more) is.before old) to is.out
 
     pub some_out : old ≡ [] → ⊥
     some_out none =
-        subst (λ (l : List (Result (Gone M S) Want)). out_for (IsResult R) (parties.Replica id) due.bytes (AreOut (IsResult R) v.seats.replicas more) is.before l) none out
+        subst (λ (l : List (Result (Gone M S) Want)). out_for (MayBeGone R) (parties.Replica id) due.bytes (AreOut (MayBeGone R) v.seats.replicas more) is.before l) none out
 
     module _ (new : List (Result (Gone M S) Want)) (gone : Gone M S) (taken : old ≡ Ok gone ∷ new) where
-      one : out_for (IsResult R) (parties.Replica id) due.bytes (AreOut (IsResult R) v.seats.replicas more) is.before (Ok gone ∷ new)
-      one = subst (λ (l : List (Result (Gone M S) Want)). out_for (IsResult R) (parties.Replica id) due.bytes (AreOut (IsResult R) v.seats.replicas more) is.before l) taken out
+      one : out_for (MayBeGone R) (parties.Replica id) due.bytes (AreOut (MayBeGone R) v.seats.replicas more) is.before (Ok gone ∷ new)
+      one = subst (λ (l : List (Result (Gone M S) Want)). out_for (MayBeGone R) (parties.Replica id) due.bytes (AreOut (MayBeGone R) v.seats.replicas more) is.before l) taken out
 
       who : (x : Replica S) × (slice_get g.replicas id.0 ≡ Some (Some x)) × (one.0 ≡ x.state)
       who =
@@ -82,11 +82,11 @@ module _ {M S : Type 0} (R : Rules S) (g : World S) (due : Due) (more : List Due
         gone = subst (λ (s : State S). IsGone R s due.bytes gone) who.2 one.2;
       }
 
-      left : AreOut (IsResult R) (slice_set v.seats.replicas id.0 (Some gone.replica)) more (slice_set is.before id.0 (Some gone.replica)) new
+      left : AreOut (MayBeGone R) (slice_set v.seats.replicas id.0 (Some gone.replica)) more (slice_set is.before id.0 (Some gone.replica)) new
       left =
-          subst (λ (l : List (Option (State S))). AreOut (IsResult R) (slice_set v.seats.replicas id.0 (Some gone.replica)) more l new)
+          subst (λ (l : List (Option (State S))). AreOut (MayBeGone R) (slice_set v.seats.replicas id.0 (Some gone.replica)) more l new)
           (set_set is.before id.0 None (Some gone.replica))
-          (comes_back (IsResult R) id.0 gone.replica v.seats.replicas more (slice_set is.before id.0 None) new (get_set is.before id.0 None (Some one.0) one.1) one.3)
+          (comes_back (MayBeGone R) id.0 gone.replica v.seats.replicas more (slice_set is.before id.0 None) new (get_set is.before id.0 None (Some one.0) one.1) one.3)
 
       pub replica_goes_on : (note : Note) (w : Shown S)
           → GoesTo (bring R g here (parties.Replica id) due.bytes) note (with_replicas (λ xs. slice_set is.before id.0 (Some gone.replica)) w)
@@ -99,7 +99,7 @@ module _ {M S : Type 0} (R : Rules S) (g : World S) (due : Due) (more : List Due
           shows = goes.shows;
           next = next_later g goes.world due more is.next
               (later g goes.world due.number (mail R g due more is.next) due.bytes note R (parties.Replica id) (correct_there (parties.Replica id) to) goes.goes);
-          out = subst (λ (l : List (Option (State S))). AreOut (IsResult R) l more (slice_set is.before id.0 (Some gone.replica)) new) (sym replicas) left;
+          out = subst (λ (l : List (Option (State S))). AreOut (MayBeGone R) l more (slice_set is.before id.0 (Some gone.replica)) new) (sym replicas) left;
         };
       }
 
@@ -119,8 +119,8 @@ module _ {M S : Type 0} (R : Rules S) (g : World S) (due : Due) (more : List Due
         shows = goes.shows;
         next = next_later g goes.world due more is.next
             (later g goes.world due.number (mail R g due more is.next) due.bytes note R (parties.Client id) (correct_there (parties.Client id) to) goes.goes);
-        out = subst (λ (l : List (Option (State S))). AreOut (IsResult R) l more is.before old) (sym replicas)
-            (subst (λ (p : Party). out_for (IsResult R) p due.bytes (AreOut (IsResult R) v.seats.replicas more) is.before old) to is.out);
+        out = subst (λ (l : List (Option (State S))). AreOut (MayBeGone R) l more is.before old) (sym replicas)
+            (subst (λ (p : Party). out_for (MayBeGone R) p due.bytes (AreOut (MayBeGone R) v.seats.replicas more) is.before old) to is.out);
       };
     }
 
@@ -213,15 +213,15 @@ pub shows_out : {S : Type 0} (g : World S) (v : Shown S) (seats : Seated S) → 
 shows_out g v seats s same =
     subst (λ (clients : List (Option ClientState)). Shows g (record v { seats = record { replicas = v.seats.replicas; clients = clients } })) (sym same) s
 
-pub job_made : {M S : Type 0} (R : Rules S) (s : State S) (bytes : List ℕ) (job : Job M S) (one : Result (Gone M S) Want) → IsJob s bytes job → IsResult R job.replica job.bytes one → IsResult R s bytes one
+pub job_made : {M S : Type 0} (R : Rules S) (s : State S) (bytes : List ℕ) (job : Job M S) (one : Result (Gone M S) Want) → IsJob s bytes job → MayBeGone R job.replica job.bytes one → MayBeGone R s bytes one
 job_made {S = S} R s bytes job one is made =
-    subst (λ (t : State S). IsResult R t bytes one) is.replica (subst (λ (b : List ℕ). IsResult R job.replica b one) is.bytes made)
+    subst (λ (t : State S). MayBeGone R t bytes one) is.replica (subst (λ (b : List ℕ). MayBeGone R job.replica b one) is.bytes made)
 
 -- the next ones are out, and each made its step: `v` is what is held before, once it is opened
 pub all_ahead : {M S : Type 0} (R : Rules S) (g : World S) (whole v : Shown S) (dues read : List Due) (seats : Seated S) (jobs : List (Job M S)) (made : List (Result (Gone M S) Want))
     → Shows g whole → (batch : IsBatch g dues whole) → v ≡ whole → read ≡ dues → seats.clients ≡ v.seats.clients
     → (AreApart batch.left read (map is_told v.seats.replicas) → AreOut IsJob seats.replicas read v.seats.replicas jobs)
-    → AllZip (λ (job : Job M S) (one : Result (Gone M S) Want). IsResult R job.replica job.bytes one) jobs made → ShowsAhead R g dues made (record v { seats = seats })
+    → AllZip (λ (job : Job M S) (one : Result (Gone M S) Want). MayBeGone R job.replica job.bytes one) jobs made → ShowsAhead R g dues made (record v { seats = seats })
 all_ahead {M = M} {S = S} R g whole v dues read seats jobs made s batch opened same clients out steps =
     let apart : AreApart batch.left read (map is_told v.seats.replicas) =
     subst (λ (l : List Due). AreApart batch.left l (map is_told v.seats.replicas)) (sym same)
@@ -230,6 +230,6 @@ all_ahead {M = M} {S = S} R g whole v dues read seats jobs made s batch opened s
       before = v.seats.replicas;
       shows = shows_out g v seats (subst (λ (u : Shown S). Shows g u) (sym opened) s) clients;
       next = batch.next;
-      out = all_made IsJob (IsResult R) (λ (job : Job M S) (one : Result (Gone M S) Want). IsResult R job.replica job.bytes one) (job_made R) seats.replicas dues v.seats.replicas jobs made
+      out = all_made IsJob (MayBeGone R) (λ (job : Job M S) (one : Result (Gone M S) Want). MayBeGone R job.replica job.bytes one) (job_made R) seats.replicas dues v.seats.replicas jobs made
           (subst (λ (l : List Due). AreOut IsJob seats.replicas l v.seats.replicas jobs) same (out apart)) steps;
     }

@@ -14,7 +14,7 @@ use Rattle.zy_table.specs.ClientState.{ClientState, client_outgoing}
 use Rattle.zy_table.specs.Deeds.{outgoing_of}
 use Rattle.zy_table.specs.State.{State}
 use Rattle.zy_table.specs.Whole.{whole_step}
-use Rattle.zy_world.specs.Ahead.{AreNext, AreOut, GoesAhead, IsGone, IsResult, IsTurn, ShowsAhead, due_from, out_for}
+use Rattle.zy_world.specs.Ahead.{AreNext, AreOut, GoesAhead, IsGone, MayBeGone, IsTurn, ShowsAhead, due_from, out_for}
 use Rattle.zy_world.specs.Answered.{GoesTo}
 use Rattle.zy_world.specs.Shown.{Shown, is_correct_seat, seat_in, with_replicas}
 use Rattle.zy_world.specs.Shows.{Shows}

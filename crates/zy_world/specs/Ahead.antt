@@ -68,8 +68,8 @@ pub record IsGone {M S : Type 0} (R : Rules S) (s : State S) (bytes : List ℕ) 
   pub step : IsReplicaStep (whole_step R s (Heard bytes)) gone.step
 
 -- or memory is wanted
-abbrev pub IsResult : {M S : Type 0} → Rules S → State S → List ℕ → Result (Gone M S) Want → Type 0
-IsResult R s bytes result = IfOk result (IsGone R s bytes)
+abbrev pub MayBeGone : {M S : Type 0} → Rules S → State S → List ℕ → Result (Gone M S) Want → Type 0
+MayBeGone R s bytes result = IfOk result (IsGone R s bytes)
 
 -- The replica to which a frame goes is taken out of its seat, if it sits there, and there is an item for it.
 abbrev pub takes_for : {S X : Type 0} → (S → List ℕ → X → Type 0) → Party → List ℕ → List (Option S) → List (Option S) → List X → List X → Type 0
@@ -97,7 +97,7 @@ pub record ShowsAhead {M S : Type 0} (R : Rules S) (g : World S) (dues : List Du
   pub before : List (Option (State S))
   pub shows : Shows g (with_replicas (λ xs. before) v)
   pub next : AreNext g dues
-  pub out : AreOut (IsResult R) v.seats.replicas dues before made
+  pub out : AreOut (MayBeGone R) v.seats.replicas dues before made
 
 -- it goes on with this note to a world that is shown so
 pub record GoesAhead {M S : Type 0} (R : Rules S) (happened : Happened S) (dues : List Due) (made : List (Result (Gone M S) Want)) (note : Note) (v : Shown S) : Type 0 where

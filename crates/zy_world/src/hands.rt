@@ -10,7 +10,7 @@ ghost use Rattle.zy_replica.specs.Refusing.{IsUnchanged};
 ghost use Rattle.zy_table.specs.Deeds.{outgoing_of, said_from, gains_in};
 ghost use Rattle.zy_table.specs.State.{timers_of};
 ghost use Rattle.zy_table.specs.Whole.{whole_step};
-ghost use Rattle.zy_world.specs.Ahead.{IsResult};
+ghost use Rattle.zy_world.specs.Ahead.{MayBeGone};
 
 use crate::step::{Gone, Job, ReplicaStep};
 use std::thread;
@@ -42,7 +42,7 @@ impl Hands for PlainHands {
 }
 
 fn step_one<M: Machine, H: Hands>(hands: &H, job: Job<M>) -> Result<Gone<M>, Want>
-    ensures { IsResult M.rules job.replica job.bytes result }
+    ensures { MayBeGone M.rules job.replica job.bytes result }
 {
     let Job { replica, bytes } = job;
     let stepped = hands.step(replica, Event::Heard(bytes))?;
@@ -64,10 +64,10 @@ pub(crate) fn step_all<R: Threads + Sync, M: Machine + Send, H: Hands>(
     hands: &H,
     jobs: Vec<Job<M>>,
 ) -> Result<Vec<Result<Gone<M>, Want>>, Want>
-    ensures { IfOk result (λ made. AllZip (λ job one. IsResult M.rules job.replica job.bytes one) jobs.items made.items) }
+    ensures { IfOk result (λ made. AllZip (λ job one. MayBeGone M.rules job.replica job.bytes one) jobs.items made.items) }
 {
     let step = |job: Job<M>| -> Result<Gone<M>, Want>
-        ensures { IsResult M.rules job.replica job.bytes result }
+        ensures { MayBeGone M.rules job.replica job.bytes result }
     { step_one(hands, job) };
     Ok(thread::map_vec(rt, jobs, &step)?)
 }

@@ -2,7 +2,7 @@ use Rattle.std.proofs.Common.{◌≡◌, List, Bool, Result, Option, map, sym, a
 use Rattle.std.specs.List.{AllZip}
 use Rattle.zy_base.specs.declared.want.Want.{Want}
 use Rattle.zy_table.specs.State.{State}
-use Rattle.zy_world.specs.Ahead.{AreApart, AreOut, IsBatch, IsJob, IsResult, ShowsAhead}
+use Rattle.zy_world.specs.Ahead.{AreApart, AreOut, IsBatch, IsJob, MayBeGone, ShowsAhead}
 use Rattle.zy_world.specs.Shown.{Shown, Seated}
 use Rattle.zy_world.specs.Shows.{Shows}
 use Rattle.zy_world.specs.declared.batch.Due.{Due}
