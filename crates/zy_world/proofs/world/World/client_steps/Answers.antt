@@ -4,10 +4,10 @@ use Rattle.std.specs.Prelude.{slice_get}
 use Rattle.zy_table.specs.ClientRows.{client_step}
 use Rattle.zy_table.specs.ClientState.{ClientState, ClientOutcome}
 use Rattle.zy_world.specs.Answered.{GoesTo}
-use Rattle.zy_world.specs.Shown.{Shown, with_replicas}
+use Rattle.zy_world.specs.Shown.{Seated, Shown, with_replicas}
 use Rattle.zy_world.specs.Shows.{Shows}
 use Rattle.zy_world_law.specs.Events.{Happened}
-use Rattle.zy_world.proofs.Turns.{steps_is, no_client_turns, client_turn, seats_with, missing_ahead}
+use Rattle.zy_world.proofs.Turns.{steps_is, no_client_turns, client_turn, seats_with, missing_ahead, replicas_stay}
 use Rattle.zy_world.proofs.world.World.client_steps.Goals as goal
 
 pub returns-in-None-clause-goes : goal.returns-in-None-clause-goes
@@ -34,3 +34,15 @@ pub returns-in_err-client_stepped-in-Some-clause-broken : goal.returns-in_err-cl
 returns-in_err-client_stepped-in-Some-clause-broken g c w others s =
     let p = err_from_is_err_and c.from_residual-in_err-client_stepped-in-Some.result c.from_residual-in_err-client_stepped-in-Some.ensures.1 in
     rw (p.1, p.2) tt
+
+pub returns-in-None-clause-replicas : goal.returns-in-None-clause-replicas
+returns-in-None-clause-replicas g c =
+    ap (λ (s : Seated g.row.M-State.Denot). s.replicas) c.no_subject.ensures.seats
+    ∙ replicas_stay _ _ c.step_client.new.self c.self.inside.seats c.args.id.0 (λ x. client_step x c.args.event) c.in_ok-step_client.ensures.missing c.in_ok-step_client.ensures.state
+    ∙ ap (λ (v : Shown g.row.M-State.Denot). v.seats.replicas) c.self.view_is
+
+pub returns-in_ok-client_stepped-in-Some-clause-replicas : goal.returns-in_ok-client_stepped-in-Some-clause-replicas
+returns-in_ok-client_stepped-in-Some-clause-replicas g c =
+    ap (λ (s : Seated g.row.M-State.Denot). s.replicas) c.in_ok-client_stepped-in-Some.ensures.seats
+    ∙ replicas_stay _ _ c.step_client.new.self c.self.inside.seats c.args.id.0 (λ x. client_step x c.args.event) c.in_ok-step_client.ensures.missing c.in_ok-step_client.ensures.state
+    ∙ ap (λ (v : Shown g.row.M-State.Denot). v.seats.replicas) c.self.view_is
