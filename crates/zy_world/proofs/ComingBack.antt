@@ -66,7 +66,7 @@ module _ {M S : Type 0} (R : Rules S) (g : World S) (due : Due) (more : List Due
         subst (λ (l : List (Result (Gone M S) Want)). out_for (MayBeGone R) (parties.Replica id) due.bytes (AreOut (MayBeGone R) v.seats.replicas more) is.before l) none out
 
     module _ (new : List (Result (Gone M S) Want)) (gone : Gone M S) (taken : old ≡ Ok gone ∷ new) where
-      one : out_for (MayBeGone R) (parties.Replica id) due.bytes (AreOut (MayBeGone R) v.seats.replicas more) is.before (Ok gone ∷ new)
+      pub one : out_for (MayBeGone R) (parties.Replica id) due.bytes (AreOut (MayBeGone R) v.seats.replicas more) is.before (Ok gone ∷ new)
       one = subst (λ (l : List (Result (Gone M S) Want)). out_for (MayBeGone R) (parties.Replica id) due.bytes (AreOut (MayBeGone R) v.seats.replicas more) is.before l) taken out
 
       pub who : (x : Replica S) × (slice_get g.replicas id.0 ≡ Some (Some x)) × (one.0 ≡ x.state)
