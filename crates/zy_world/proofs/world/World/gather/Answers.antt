@@ -29,7 +29,7 @@ returns-else-len-most-clause-gathered g c =
 pub returns-after-loop-at-clause-gathered : goal.returns-after-loop-at-clause-gathered
 returns-after-loop-at-clause-gathered g c =
     let loop = c.loop-at in
-    let mails = c.self-inside.inside.1.1.1.1.1.0.mails in
+    let mails = c.self-inside.inside.0.1.1.1.1.1.0.mails in
     let same : length mails.items ≡ length c.args.self.now.bag.mails =
     ap (λ (v : Inside g.row.M.Denot g.row.M-State.Denot). length v.bag.mails) c.self-inside.view_is ∙ ap (λ (s : Shown g.row.M-State.Denot). length s.bag.mails) c.self.view_is in
     gathered_to_end c.args.self.now c.args.most loop.at c.args.batch.now loop.batch loop.invariant.on loop.invariant.few (omega (arith, c.loop-at-test.false, c.len.ensures, mails.ok.0, same))
