@@ -1,20 +1,22 @@
 -- How the parts of a run follow one another.
-use Rattle.std.proofs.Common.{◌≡◌, ℕ, zero, suc, ◌+◌, ◌-◌, ◌<◌, Bool, cond, List, [], ◌∷◌, ◌++◌, length, Some, None, Result, Ok, Err, refl, sym, ap, ◌∙◌, subst, append_assoc, append-nil, length-append, arith}
+use Rattle.std.proofs.Common.{◌≡◌, ℕ, ◌+◌, ◌<◌, ◌≤◌, Bool, cond, take, get_or, List, [], ◌∷◌, ◌++◌, length, Result, Ok, Err, refl, sym, ap, ◌∙◌, subst, append_assoc, append-nil, length-append, arith}
 use Rattle.std.specs.Prelude.{count_by}
+use Rattle.std.proofs.lemmas.List.{take_all, take_more}
 use Rattle.std.proofs.lemmas.List.Sums.{sum_by-append}
 use Rattle.zy_base.specs.Machine.{Rules}
 use Rattle.zy_schedule.specs.declared.line.Line.{Line}
+use Rattle.zy_world.proofs.Flows.{passes_none}
+use Rattle.zy_world.specs.Flowing.{Passes, Stops, all_done}
 use Rattle.zy_world.specs.Shown.{Shown}
 use Rattle.zy_world.specs.Shows.{Shows}
 use Rattle.zy_world_law.specs.Events as events
 use Rattle.zy_world_law.specs.Events.{happens}
 use Rattle.zy_world_law.specs.Events.Happened.{Goes, Breaks}
-use Rattle.zy_world_law.specs.Runs.{Rest, comes_to, ends, flow, flow_on, goes_on, run, run_line}
-use Rattle.zy_world_law.specs.World.{World, next_undelivered}
+use Rattle.zy_world_law.specs.Runs.{Rest, comes_to, ends, goes_on, run, run_line}
+use Rattle.zy_world_law.specs.World.{World}
 use Rattle.zy_world_law.specs.declared.event.WorldEvent.{WorldEvent}
-use Rattle.zy_world_law.specs.declared.event.WorldEvent.TheVariants as world_events
 use Rattle.zy_world_law.specs.declared.note.Note.{Note}
-use Rattle.zy_top.specs.Replaying.{Adds, IsFar, IsPartRun, IsRun, IsTold, Passes, Stops, all_done, event_part}
+use Rattle.zy_top.specs.Replaying.{Adds, IsFar, IsPartRun, IsRun, IsTold, event_part}
 use Rattle.zy_top.specs.Telling.{is_done_fast, is_done_slow, is_refused, note_line, note_lines}
 use Rattle.zy_top.specs.Verdict.{what_broke}
 use Rattle.zy_top_words.specs.declared.exit.Broken.{Broken}
@@ -57,12 +59,20 @@ Adds-then a b c first second before after =
           (ap (λ n. note_lines (a.tally.events + 1) first ++ note_lines n second) number ∙ sym (note_lines_append (a.tally.events + 1) first second));
     }
 
+-- one event more
+pub Adds-more : (a b c : Tale) (all slice : List Note) (i : ℕ) (note : Note) → slice ≡ all → i < length slice → note ≡ get_or slice i note → Adds a b (take i all) → Adds b c (note ∷ [])
+    → Adds a c (take (i + 1) all)
+Adds-more a b c all slice i note same below is before one =
+    let told : take (i + 1) all ≡ take i all ++ note ∷ [] =
+    take_more all i note (omega (arith, below, ap length same)) ∙ ap (λ (n : Note). take i all ++ n ∷ []) (sym (is ∙ ap (λ (l : List Note). get_or l i note) same)) in
+    subst (λ (l : List Note). Adds a c l) (sym told) (Adds-then a b c (take i all) (note ∷ []) before one)
+
+pub Adds-whole : (a b : Tale) (all slice : List Note) (i : ℕ) → slice ≡ all → length slice ≤ i → Adds a b (take i all) → Adds a b all
+Adds-whole a b all slice i same past adds = subst (λ (l : List Note). Adds a b l) (take_all i all (omega (arith, past, ap length same))) adds
+
 -- ---- parts of a run
 
 module _ {S : Type 0} where
-  pub Passes-none : (part : Rest S → Rest S) (g : World S) → Passes part g part g []
-  Passes-none part g = record { notes = λ rest. refl; end = λ rest. refl }
-
   -- one part more, where what was left begins with it
   pub Passes-then : (part left step next : Rest S → Rest S) (g v w : World S) (a b : List Note) → Passes part g left v a → Passes step v all_done w b
       → ((rest : Rest S) → left rest v ≡ step (next rest) v) → Passes part g next w (a ++ b)
@@ -77,13 +87,6 @@ module _ {S : Type 0} where
   Stops-then part left step next g v a b broken before after begins = record {
     notes = λ rest. before.notes rest ∙ ap (λ l. a ++ l) (ap (λ r. r.notes) (begins rest) ∙ after.notes (next rest));
     end = λ rest. before.end rest ∙ ap (λ r. r.end) (begins rest) ∙ after.end (next rest);
-  }
-
-  -- nothing is left
-  pub Passes-all : (part left : Rest S → Rest S) (g v : World S) (a : List Note) → Passes part g left v a → ((rest : Rest S) → left rest v ≡ rest v) → Passes part g all_done v a
-  Passes-all part left g v a before begins = record {
-    notes = λ rest. before.notes rest ∙ ap (λ r. a ++ r.notes) (begins rest);
-    end = λ rest. before.end rest ∙ ap (λ r. r.end) (begins rest);
   }
 
   -- ---- one event
@@ -147,14 +150,8 @@ module _ {S : Type 0} where
   ends_then part left step next g a b c x (stops.TheVariants.Broke what) far more begins = stops_then part left step next g a b c x what far more begins
   ends_then part left step next g a b c x stops.TheVariants.Want far more begins = tt
 
-  -- nothing is left
-  pub far_all : (part left : Rest S → Rest S) (g : World S) (a b : Tale) (x : Shown S) → IsFar part g left a b x
-      → ((v : World S) → Shows v x → (rest : Rest S) → left rest v ≡ rest v) → IsFar part g all_done a b x
-  far_all part left g a b x far begins =
-      (far.0, (far.1.0, far.1.1, Passes-all part left g far.0 far.1.0 far.1.2 (begins far.0 far.1.1), far.1.3))
-
   pub far_none : (part : Rest S → Rest S) (g : World S) (a : Tale) (x : Shown S) → Shows g x → IsFar part g part a a x
-  far_none part g a x shows = (g, ([], shows, Passes-none part g, Adds-none a))
+  far_none part g a x shows = (g, ([], shows, passes_none part g, Adds-none a))
 
   pub event_told : (R : Rules S) (event : WorldEvent) (g v : World S) (note : Note) (shown : Shown S) (a b : Tale) (r : Result (Shown S) stops.Stop) → happens R g event ≡ Goes v note
       → Shows v shown → IsTold shown note a b r → IsPartRun (event_part R event) g a b r
@@ -202,29 +199,6 @@ module _ {S : Type 0} where
     w,
     ([], shows, record { notes = λ rest. ap (λ r. r.notes) (comes rest); end = λ rest. ap (λ r. r.end) (comes rest) }, Adds-none t),
   )
-
-  -- ---- flows
-
-  flow_next : (R : Rules S) (m : ℕ) (v : World S) (frame : ℕ) → next_undelivered v ≡ Some frame → (rest : Rest S)
-      → flow R (suc m) rest v ≡ event_part R (world_events.Deliver frame None) (flow R m rest) v
-  unfolding flow
-  flow_next R m v frame next rest = ap (flow_on R v rest (flow R m rest)) next
-
-  -- a flow that isn't done begins with the next frame
-  pub flow_begins : (R : Rules S) (n i : ℕ) (v : World S) (frame : ℕ) → i < n → next_undelivered v ≡ Some frame → (rest : Rest S)
-      → flow R (n - i) rest v ≡ event_part R (world_events.Deliver frame None) (flow R (n - (i + 1)) rest) v
-  flow_begins R n i v frame below next rest =
-      let left : n - i ≡ suc (n - (i + 1)) = omega (arith, below) in ap (λ k. flow R k rest v) left ∙ flow_next R (n - (i + 1)) v frame next rest
-
-  -- where no frame is left, it does nothing
-  pub flow_ends : (R : Rules S) (m : ℕ) (v : World S) → next_undelivered v ≡ None → (rest : Rest S) → flow R m rest v ≡ rest v
-  unfolding flow
-  flow_ends R zero v next rest = refl
-  flow_ends R (suc m) v next rest = ap (flow_on R v rest (flow R m rest)) next
-
-  pub flow_done : (R : Rules S) (m : ℕ) (v : World S) → m ≡ 0 → (rest : Rest S) → flow R m rest v ≡ rest v
-  unfolding flow
-  flow_done R m v done rest = ap (λ k. flow R k rest v) done
 
   -- ---- schedules
 

@@ -10,6 +10,7 @@ use Rattle.zy_schedule.specs.Reading.{schedule_of}
 use Rattle.zy_schedule.specs.declared.line.Line.{Line}
 use Rattle.zy_world_setup.specs.Starting.{IsStart}
 use Rattle.zy_space.specs.Service.{IsSpaceState, space_rules}
+use Rattle.zy_world.specs.Flowing.{Passes, Stops, all_done}
 use Rattle.zy_world.specs.Shown.{Shown}
 use Rattle.zy_world.specs.Shows.{Shows}
 use Rattle.zy_world_law.specs.Backed.{IsKeptBacked}
@@ -53,20 +54,6 @@ pub record Adds (old new : Tale) (notes : List Note) : Type 0 where
   pub text : new.text.items ≡ old.text.items ++ note_lines (old.tally.events + 1) notes
 
 -- ---- runs
-
--- a part of a run led from a world to another, behind what is told of its events; this is left of it
-pub record Passes {S : Type 0} (part : Rest S → Rest S) (g : World S) (left : Rest S → Rest S) (v : World S) (told : List Note) : Type 0 where
-  pub notes : (rest : Rest S) → (part rest g).notes ≡ told ++ (left rest v).notes
-  pub end : (rest : Rest S) → (part rest g).end ≡ (left rest v).end
-
--- or it ended at an event that isn't honest
-pub record Stops {S : Type 0} (part : Rest S → Rest S) (g : World S) (told : List Note) (broken : events.Broken) : Type 0 where
-  pub notes : (rest : Rest S) → (part rest g).notes ≡ told
-  pub end : (rest : Rest S) → (part rest g).end ≡ End.Stopped broken
-
--- nothing is left
-abbrev pub all_done : {S : Type 0} → Rest S → Rest S
-all_done rest = rest
 
 -- one event
 abbrev pub event_part : {S : Type 0} → Rules S → WorldEvent → Rest S → Rest S

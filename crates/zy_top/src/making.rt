@@ -15,6 +15,7 @@ ghost use Rattle.zy_world_law.specs.World.{start};
 use crate::running::{Stop, run_lines};
 use crate::tale::{Tale, sum_up};
 use std::alloc::Global;
+use std::thread::Threads;
 use zy_base::Machine;
 use zy_edge::Sink;
 use zy_group::plain_counts;
@@ -44,7 +45,8 @@ pub(crate) fn made_runs_are_safe()
 }
 
 /// Runs the schedule of so many asks that the number makes, and writes what it came to and the agreed list.
-pub(crate) fn run_make<S: Sink>(
+pub(crate) fn run_make<R: Threads + Sync, S: Sink>(
+    rt: &R,
     alloc: Global,
     number: u32,
     asks: Asks,
@@ -56,12 +58,13 @@ pub(crate) fn run_make<S: Sink>(
     ensures count { IsCounted (is_write_fault (exit_of result)) (S.faults out.old) (S.faults out.new) }
 {
     let lines = make(alloc, number, asks.count)?;
-    let text = run_made::<Space>(alloc, made_setup(alloc, number), lines, asks.count)?;
+    let text = run_made::<R, Space>(rt, alloc, made_setup(alloc, number), lines, asks.count)?;
     write_all(out, &text)
 }
 
 /// What the run of these lines came to, of which so many are asks, and the agreed list.
-fn run_made<M: Machine>(
+fn run_made<R: Threads + Sync, M: Machine + Send>(
+    rt: &R,
     alloc: Global,
     setup: Setup,
     lines: Vec<Line>,
@@ -74,7 +77,7 @@ fn run_made<M: Machine>(
 {
     let world = World::<M>::start(alloc, setup)?;
     let mut tale = Tale::new(alloc);
-    match run_lines(alloc, world, lines, &mut tale) {
+    match run_lines(rt, alloc, world, lines, &mut tale) {
         Ok(world) => Ok(sum_up(alloc, asks, tale.tally, &world)?),
         Err(Stop::Broke(what)) => Err(Exit::Premise {
             event: tale.tally.events + 1,

@@ -13,6 +13,7 @@ ghost use Rattle.zy_world_law.specs.World.{start};
 use crate::running::{Stop, run_lines};
 use crate::tale::{Tale, put_end};
 use std::alloc::Global;
+use std::thread::Threads;
 use zy_base::{Machine, Want};
 use zy_edge::Sink;
 use zy_schedule::Line;
@@ -34,7 +35,8 @@ pub(crate) enum Replayed {
 }
 
 /// Runs a schedule from the start of its world.
-pub(crate) fn replay<M: Machine>(
+pub(crate) fn replay<R: Threads + Sync, M: Machine + Send>(
+    rt: &R,
     alloc: Global,
     setup: Setup,
     lines: Vec<Line>,
@@ -46,7 +48,7 @@ pub(crate) fn replay<M: Machine>(
 {
     let world = World::<M>::start(alloc, setup)?;
     let mut tale = Tale::new(alloc);
-    match run_lines(alloc, world, lines, &mut tale) {
+    match run_lines(rt, alloc, world, lines, &mut tale) {
         Ok(world) => {
             let Tale { mut text, .. } = tale;
             put_end(alloc, &world, &mut text)?;

@@ -16,6 +16,7 @@ ghost use Rattle.zy_world_law.specs.World.{start};
 use crate::group::read_setup;
 use crate::replayed::{replay, write_replayed};
 use std::alloc::Global;
+use std::thread::Threads;
 use zy_edge::{Files, Sink};
 use zy_schedule::{Line, read_schedule};
 use zy_space::Space;
@@ -40,7 +41,8 @@ pub(crate) fn replays_are_safe()
 }
 
 /// Runs the schedule in the world of the group.
-pub(crate) fn run_replay<F: Files, S: Sink>(
+pub(crate) fn run_replay<R: Threads + Sync, F: Files, S: Sink>(
+    rt: &R,
     alloc: Global,
     group: &str,
     schedule: &str,
@@ -58,7 +60,7 @@ pub(crate) fn run_replay<F: Files, S: Sink>(
 {
     let setup = read_group(alloc, group, files)?;
     let lines = read_lines(alloc, schedule, files)?;
-    run_told(alloc, setup, lines, out)
+    run_told(rt, alloc, setup, lines, out)
 }
 
 /// The group in the file with this name.
@@ -87,7 +89,13 @@ fn read_lines<F: Files>(alloc: Global, schedule: &str, files: &mut F) -> Result<
 }
 
 /// Runs what was read, and writes what is told of it.
-fn run_told<S: Sink>(alloc: Global, setup: Setup, lines: Vec<Line>, out: &mut S) -> Result<(), Exit>
+fn run_told<R: Threads + Sync, S: Sink>(
+    rt: &R,
+    alloc: Global,
+    setup: Setup,
+    lines: Vec<Line>,
+    out: &mut S,
+) -> Result<(), Exit>
     requires start { IsStart setup }
     requires said { All IsSaid lines.items }
     requires few { length lines.items ≤ limit }
@@ -96,6 +104,6 @@ fn run_told<S: Sink>(alloc: Global, setup: Setup, lines: Vec<Line>, out: &mut S)
     ensures exit { IsRunning result }
     ensures count { IsCounted (is_write_fault (exit_of result)) (S.faults out.old) (S.faults out.new) }
 {
-    let replayed = replay::<Space>(alloc, setup, lines)?;
+    let replayed = replay::<R, Space>(rt, alloc, setup, lines)?;
     write_replayed(replayed, out)
 }

@@ -13,11 +13,12 @@ ghost use Rattle.zy_world_law.specs.declared.event.WorldEvent.TheVariants as eve
 
 use crate::tale::Tale;
 use std::alloc::Global;
+use std::thread::Threads;
 use zy_base::{ClientId, Items, Machine, Party, View, Want};
 use zy_schedule::Line;
 use zy_top_words::Broken;
 use zy_tuple::{Op, Reply, op_bytes, reply_bytes};
-use zy_world::{World, WorldFault, WorldStepped};
+use zy_world::{FlowFault, Flowed, PlainHands, World, WorldFault, WorldStepped};
 use zy_world_law::{Note, WorldEvent};
 
 /// Why a run stopped.
@@ -37,7 +38,8 @@ impl From<Want> for Stop {
 }
 
 /// Runs all lines.
-pub(crate) fn run_lines<M: Machine>(
+pub(crate) fn run_lines<R: Threads + Sync, M: Machine + Send>(
+    rt: &R,
     alloc: Global,
     world: World<M>,
     lines: Vec<Line>,
@@ -50,12 +52,13 @@ pub(crate) fn run_lines<M: Machine>(
 {
     let mut world = world;
     for line in lines {
-        world = run_line(alloc, world, line, tale)?;
+        world = run_line(rt, alloc, world, line, tale)?;
     }
     Ok(world)
 }
 
-fn run_line<M: Machine>(
+fn run_line<R: Threads + Sync, M: Machine + Send>(
+    rt: &R,
     alloc: Global,
     mut world: World<M>,
     line: Line,
@@ -109,7 +112,7 @@ fn run_line<M: Machine>(
         Line::Forge { party, bytes, to } => {
             run_event(alloc, world, WorldEvent::Forge { party, bytes, to }, tale)
         }
-        Line::Flow(events) => run_flow(alloc, world, events, tale),
+        Line::Flow(events) => run_flow(rt, alloc, world, events, tale),
         Line::Drop(frame) => {
             world.drop_frame(frame);
             Ok(world)
@@ -173,7 +176,8 @@ fn run_spec<M: Machine>(
 }
 
 /// Delivers the least frame that a flow has left, up to so many times.
-fn run_flow<M: Machine>(
+fn run_flow<R: Threads + Sync, M: Machine + Send>(
+    rt: &R,
     alloc: Global,
     world: World<M>,
     events: u64,
@@ -184,14 +188,21 @@ fn run_flow<M: Machine>(
     ensures run { (g : Whole M.State) → Shows g world → IsPartRun (runs.flow M.rules events) g tale.old tale.new result }
     ensures count { tale.new.tally.events ≤ tale.old.tally.events + 100000 }
 {
-    let mut world = world;
-    for _ in 0..events {
-        let Some(frame) = world.next_undelivered() else {
-            return Ok(world);
-        };
-        world = run_event(alloc, world, WorldEvent::Deliver { frame, to: None }, tale)?;
+    match world.flow(rt, &PlainHands, events) {
+        Ok(Flowed { world, notes }) => {
+            tale.add_all(alloc, &notes)?;
+            Ok(world)
+        }
+        Err(FlowFault::Forged(notes, _)) => {
+            tale.add_all(alloc, &notes)?;
+            Err(Stop::Broke(Broken::Forged))
+        }
+        Err(FlowFault::Clash(notes, _)) => {
+            tale.add_all(alloc, &notes)?;
+            Err(Stop::Broke(Broken::Clash))
+        }
+        Err(FlowFault::Want) => Err(Stop::Want),
     }
-    Ok(world)
 }
 
 /// Runs one event, and tells of it.

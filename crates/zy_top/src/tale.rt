@@ -1,5 +1,5 @@
 // What is told of a run.
-ghost use Rattle.std.specs.Prelude.{◌≡◌, ◌++◌, ◌∷◌, [], ◌<◌, ◌≤◌, ◌+◌, ◌^◌, IfOk, OnOk, option_copied};
+ghost use Rattle.std.specs.Prelude.{◌≡◌, ◌++◌, ◌∷◌, [], ◌<◌, ◌≤◌, ◌+◌, ◌^◌, length, IfOk, OnOk, option_copied};
 ghost use Rattle.zy_report.specs.Lines.{summary_line};
 ghost use Rattle.zy_top.specs.Replaying.{Adds};
 ghost use Rattle.zy_top.specs.Telling as telling;
@@ -8,7 +8,7 @@ ghost use Rattle.zy_world_law.specs.World.{World as Whole};
 
 use crate::tally::Tally;
 use std::alloc::Global;
-use zy_base::{Bytes, Digest, Machine, ReplicaId, Want};
+use zy_base::{Bytes, Digest, Items, Machine, ReplicaId, Want};
 use zy_replica::Replica;
 use zy_report::{agreed_line, refused_line, replica_line, summary_line};
 use zy_top_hosting::completion_line;
@@ -46,6 +46,18 @@ impl Tale {
         let line = note_line(alloc, self.tally.events + 1, note)?;
         self.text.extend_from_slice(line.as_slice())?;
         self.tally = self.tally.with(note);
+        Ok(())
+    }
+
+    /// These events more.
+    pub(crate) fn add_all(&mut self, alloc: Global, notes: &Items<Note>) -> Result<(), Want>
+        requires { self.old.tally.events + length notes.now < 2 ^ 64 }
+        ensures told { OnOk result (Adds self.old self.new notes.now) }
+        ensures count { self.new.tally.events ≤ self.old.tally.events + length notes.now }
+    {
+        for note in notes.as_slice() {
+            self.add(alloc, note)?;
+        }
         Ok(())
     }
 }

@@ -15,6 +15,7 @@ use crate::making::{made_runs_are_safe, run_make};
 use crate::replays::{replays_are_safe, run_replay};
 use crate::space::run_script;
 use std::alloc::Global;
+use std::thread::Threads;
 use zy_base::Party;
 use zy_edge::{Clock, Files, Link, Sink};
 use zy_lms::Height;
@@ -35,7 +36,8 @@ use zy_top_words::{Command, Exit, OpFault, command_of, op_read_alone, read_file,
 /// stands then and the next leaf of its key. `ask GROUP SECRET PARTY TURNS OP` asks for an operation as a client of a group by its
 /// secret file, takes turns until the request is complete, at most so many, and writes the completion, if it came, and where the
 /// client's key and stamps go on.
-pub fn zyzzyva<F: Files, S: Sink, L: Link, C: Clock>(
+pub fn zyzzyva<R: Threads + Sync, F: Files, S: Sink, L: Link, C: Clock>(
+    rt: &R,
     alloc: Global,
     words: &[String],
     files: &mut F,
@@ -116,7 +118,7 @@ pub fn zyzzyva<F: Files, S: Sink, L: Link, C: Clock>(
             Err(exit) => exit,
         },
         Ok(Command::Replay { group, schedule }) => {
-            match run_replay(alloc, group, schedule, files, out) {
+            match run_replay(rt, alloc, group, schedule, files, out) {
                 Ok(()) => Exit::Done,
                 Err(exit) => exit,
             }
@@ -125,7 +127,7 @@ pub fn zyzzyva<F: Files, S: Sink, L: Link, C: Clock>(
             Ok(()) => Exit::Done,
             Err(exit) => exit,
         },
-        Ok(Command::Make { number, asks }) => match run_make(alloc, number, asks, out) {
+        Ok(Command::Make { number, asks }) => match run_make(rt, alloc, number, asks, out) {
             Ok(()) => Exit::Done,
             Err(exit) => exit,
         },

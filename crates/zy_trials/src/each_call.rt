@@ -8,6 +8,7 @@ use crate::secrets::{GROUP, KEYS, SECRET_OF_CLIENT, SECRET_OF_REPLICA};
 use crate::texts::{lines_and, strings, text_bytes};
 use std::alloc::Global;
 use std::test::Fail;
+use std::thread::Threads;
 use zy_base::{Bytes, ClientId, ReplicaId, Want};
 use zy_edge::{MemLink, MemSink, Sink, Wrote};
 use zy_top::zyzzyva;
@@ -66,9 +67,15 @@ fn replayed_files(alloc: Global) -> Result<Vec<(Bytes, Bytes)>, Want> {
     two_files(alloc, ("group", group), ("schedule", schedule))
 }
 
-fn replay_exit(alloc: Global, outside: &mut Outside, out: &mut Sips) -> Result<Exit, Want> {
+fn replay_exit<R: Threads + Sync>(
+    rt: &R,
+    alloc: Global,
+    outside: &mut Outside,
+    out: &mut Sips,
+) -> Result<Exit, Want> {
     let words = strings(alloc, &["replay", "group", "schedule"])?;
     Ok(zyzzyva(
+        rt,
         alloc,
         &words,
         &mut outside.files,
@@ -80,14 +87,19 @@ fn replay_exit(alloc: Global, outside: &mut Outside, out: &mut Sips) -> Result<E
 
 /// How the replay ends of whose files this call fails, and of whose output this one, how many bytes were taken, and whether
 /// they are a front of the report.
-fn replayed(alloc: Global, of_files: u64, of_output: u64) -> Result<(Exit, usize, bool), Want> {
+fn replayed<R: Threads + Sync>(
+    rt: &R,
+    alloc: Global,
+    of_files: u64,
+    of_output: u64,
+) -> Result<(Exit, usize, bool), Want> {
     let faults = Faults {
         files: &[of_files],
         ..NO_FAULTS
     };
     let mut outside = outside_of(alloc, replayed_files(alloc)?, faults)?;
     let mut out = Sips::new(alloc, of_output)?;
-    let exit = replay_exit(alloc, &mut outside, &mut out)?;
+    let exit = replay_exit(rt, alloc, &mut outside, &mut out)?;
     let taken = out.sink.taken();
     Ok((exit, taken.len(), REPORT.as_bytes().starts_with(taken)))
 }
@@ -96,7 +108,7 @@ fn replayed(alloc: Global, of_files: u64, of_output: u64) -> Result<(Exit, usize
 #[test]
 fn each_call_of_its_files_ends_a_replay(rt: HostRuntime) -> Result<(), Fail> {
     for call in 1..=6 {
-        let end = replayed(rt.alloc(), call, 0)?;
+        let end = replayed(&rt, rt.alloc(), call, 0)?;
         assert_eq!(rt; end, (Exit::ReadFault, 0, true), "call {call}");
     }
     Ok(())
@@ -108,7 +120,7 @@ const OUTPUT: [(u64, usize); 3] = [(1, 0), (2, 256), (3, 512)];
 #[test]
 fn each_call_of_its_output_ends_a_replay(rt: HostRuntime) -> Result<(), Fail> {
     for (call, taken) in OUTPUT {
-        let end = replayed(rt.alloc(), 0, call)?;
+        let end = replayed(&rt, rt.alloc(), 0, call)?;
         assert_eq!(rt; end, (Exit::WriteFault, taken, true), "call {call}");
     }
     Ok(())
@@ -116,7 +128,7 @@ fn each_call_of_its_output_ends_a_replay(rt: HostRuntime) -> Result<(), Fail> {
 
 #[test]
 fn a_replay_that_meets_no_failure_is_told_whole(rt: HostRuntime) -> Result<(), Fail> {
-    let end = replayed(rt.alloc(), 7, 4)?;
+    let end = replayed(&rt, rt.alloc(), 7, 4)?;
     assert_eq!(rt; end, (Exit::Done, REPORT.len(), true));
     Ok(())
 }

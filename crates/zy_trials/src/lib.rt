@@ -24,6 +24,8 @@ mod hosted;
 #[cfg(test)]
 mod loopback;
 #[cfg(test)]
+mod meeting;
+#[cfg(test)]
 mod output;
 #[cfg(test)]
 mod outside;

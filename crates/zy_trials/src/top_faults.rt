@@ -5,14 +5,21 @@ use crate::secrets::{GROUP, KEYS, SECRET_OF_CLIENT, SECRET_OF_REPLICA};
 use crate::texts::{lines_and, repeated, strings, text_bytes};
 use std::alloc::Global;
 use std::test::Fail;
+use std::thread::Threads;
 use zy_base::{Bytes, Want};
 use zy_top::zyzzyva;
 use zy_top_words::{Exit, ending};
 
 /// How a command line of these words ends.
-fn exit_of(alloc: Global, words: &[&str], outside: &mut Outside) -> Result<Exit, Want> {
+fn exit_of<R: Threads + Sync>(
+    rt: &R,
+    alloc: Global,
+    words: &[&str],
+    outside: &mut Outside,
+) -> Result<Exit, Want> {
     let words = strings(alloc, words)?;
     Ok(zyzzyva(
+        rt,
         alloc,
         &words,
         &mut outside.files,
@@ -56,7 +63,11 @@ fn are_nones(taken: &[u8]) -> bool {
 }
 
 /// How the script ends, how many bytes were taken, and whether they are a front of the report.
-fn script_ends(alloc: Global, row: &ScriptRow) -> Result<(Exit, usize, bool), Want> {
+fn script_ends<R: Threads + Sync>(
+    rt: &R,
+    alloc: Global,
+    row: &ScriptRow,
+) -> Result<(Exit, usize, bool), Want> {
     let (files, sink, room, _, _) = *row;
     let faults = Faults {
         files,
@@ -65,7 +76,7 @@ fn script_ends(alloc: Global, row: &ScriptRow) -> Result<(Exit, usize, bool), Wa
         room,
     };
     let mut outside = outside_of(alloc, long_script(alloc)?, faults)?;
-    let exit = exit_of(alloc, &["space", "script"], &mut outside)?;
+    let exit = exit_of(rt, alloc, &["space", "script"], &mut outside)?;
     let taken = outside.out.taken();
     Ok((exit, taken.len(), are_nones(taken)))
 }
@@ -74,7 +85,7 @@ fn script_ends(alloc: Global, row: &ScriptRow) -> Result<(Exit, usize, bool), Wa
 fn a_script_ends_with_the_first_fault(rt: HostRuntime) -> Result<(), Fail> {
     for row in &SCRIPTS {
         let (files, sink, room, exit, taken) = *row;
-        let end = script_ends(rt.alloc(), row)?;
+        let end = script_ends(&rt, rt.alloc(), row)?;
         assert_eq!(rt;
             end,
             (exit, taken, true),
@@ -86,18 +97,18 @@ fn a_script_ends_with_the_first_fault(rt: HostRuntime) -> Result<(), Fail> {
 
 const ZEROS: &str = "0000000000000000000000000000000000000000000000000000000000000000";
 
-fn keys_exit(alloc: Global) -> Result<Exit, Want> {
+fn keys_exit<R: Threads + Sync>(rt: &R, alloc: Global) -> Result<Exit, Want> {
     let faults = Faults {
         sink: &[1],
         ..NO_FAULTS
     };
     let mut outside = outside_of(alloc, Vec::new(alloc), faults)?;
-    exit_of(alloc, &["keys", ZEROS, "r0", "5"], &mut outside)
+    exit_of(rt, alloc, &["keys", ZEROS, "r0", "5"], &mut outside)
 }
 
 #[test]
 fn a_secret_that_is_not_written_is_a_fault(rt: HostRuntime) -> Result<(), Fail> {
-    let exit = keys_exit(rt.alloc())?;
+    let exit = keys_exit(&rt, rt.alloc())?;
     assert_eq!(rt; exit, Exit::WriteFault);
     Ok(())
 }
@@ -163,20 +174,20 @@ fn left_by(alloc: Global, written: &[u8], exit: Exit) -> Result<Vec<u8>, Fail> {
     Ok(left)
 }
 
-fn host_leaves(alloc: Global, row: &HostRow) -> Result<Vec<u8>, Fail> {
+fn host_leaves<R: Threads + Sync>(rt: &R, alloc: Global, row: &HostRow) -> Result<Vec<u8>, Fail> {
     let faults = Faults {
         link: &[row.failing],
         ..NO_FAULTS
     };
     let mut outside = outside_of(alloc, host_files(alloc)?, faults)?;
-    let exit = exit_of(alloc, row.words, &mut outside)?;
+    let exit = exit_of(rt, alloc, row.words, &mut outside)?;
     left_by(alloc, outside.out.taken(), exit)
 }
 
 #[test]
 fn a_node_or_an_ask_leaves_what_it_wrote_and_why_it_ended(rt: HostRuntime) -> Result<(), Fail> {
     for row in &HOSTS {
-        let left = host_leaves(rt.alloc(), row)?;
+        let left = host_leaves(&rt, rt.alloc(), row)?;
         assert_eq!(rt; left.as_slice(), row.left.as_bytes(), "{:?}", row.words);
     }
     Ok(())

@@ -39,6 +39,22 @@ with_bag g v bag s past =
       said = s.said;
     }
 
+-- flows have nothing left of more frames in front
+pub shows_passed : {S : Type 0} (g : World S) (v : Shown S) (bag : Posted) → Shows g v → bag.mails ≡ v.bag.mails → ArePast v.seats bag → Shows g (record v { bag = bag })
+shows_passed g v bag s same past =
+    record {
+      setup = s.setup;
+      keys = s.keys;
+      seats = s.seats;
+      liars = s.liars;
+      mails = s.mails ∙ sym same;
+      past = past;
+      mutes = s.mutes;
+      agreed = s.agreed;
+      texts = s.texts;
+      said = s.said;
+    }
+
 get_front : {A : Type 0} (xs ys : List A) (i : ℕ) (x : A) → i < length xs → slice_get (xs ++ ys) i ≡ Some x → slice_get xs i ≡ Some x
 get_front [] ys i x within is = absurd (omega arith)
 get_front (y ∷ xs) ys zero x within is = is

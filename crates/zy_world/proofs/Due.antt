@@ -43,7 +43,7 @@ due_by false true correct muted = refl
 due_by false false true muted = refl
 due_by false false false muted = refl
 
-past_due : (past muted : Bool) → past ≡ true → (not past && not muted) ≡ false
+pub past_due : (past muted : Bool) → past ≡ true → (not past && not muted) ≡ false
 past_due past muted is = ap (λ (b : Bool). not b && not muted) is
 
 module _ {S : Type 0} (g : World S) (v : Shown S) (s : Shows g v) where

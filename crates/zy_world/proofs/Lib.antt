@@ -14,3 +14,9 @@ pub mod KeyLemmas
 pub mod Returning
 pub mod Seating
 pub mod Posting
+pub mod DueFrames
+pub mod OutOfSeats
+pub mod Gathered
+pub mod NextFrames
+pub mod ComingBack
+pub mod Flows

@@ -6,3 +6,6 @@ pub mod Shown
 pub mod Shows
 pub mod Event
 pub mod Answered
+pub mod Ahead
+pub mod Gathering
+pub mod Flowing

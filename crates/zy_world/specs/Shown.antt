@@ -83,6 +83,10 @@ with_replica s id x = record s { replicas = slice_set s.replicas id x }
 abbrev pub with_client : {S : Type 0} → Seated S → ℕ → Option ClientState → Seated S
 with_client s id x = record s { clients = slice_set s.clients id x }
 
+-- as it would be held with other replicas in the seats
+abbrev pub with_replicas : {S : Type 0} → (List (Option (State S)) → List (Option (State S))) → Shown S → Shown S
+with_replicas others v = record v { seats = record v.seats { replicas = others v.seats.replicas } }
+
 -- ---- keys of liars
 
 abbrev pub key_in : Keyed → Party → Option SealerState

@@ -1,13 +1,13 @@
 //! A correct party hears a frame and makes a step.
 
-ghost use Rattle.std.specs.Prelude.{◌≡◌, ◌≤◌, ℕ, List, [], length, slice_get, None, Some, IfOk, IfErr};
-ghost use Rattle.std.specs.List.{AllByRecursion};
+ghost use Rattle.std.specs.Prelude.{◌≡◌, ◌≤◌, ℕ, List, Option, [], length, slice_get, None, Some, IfOk, IfErr};
 ghost use Rattle.zy_base.specs.declared.step.Event.{Event as Happening};
-ghost use Rattle.zy_chain.specs.Entries.{IsEntryInRange};
 ghost use Rattle.zy_world.specs.Answered.{GoesTo, IsBrokenBy, HeardTo, IsUnheardBy, replica_steps, client_steps};
+ghost use Rattle.zy_world.specs.Shown.{with_replicas};
 ghost use Rattle.zy_world.specs.Shows.{Shows};
 ghost use Rattle.zy_table.specs.ClientState.{ClientOutcome};
 ghost use Rattle.zy_table.specs.Deeds.{Outcome};
+ghost use Rattle.zy_table.specs.State.{State};
 ghost use Rattle.zy_world.specs.Stepping.{HasReplicaStepped, HasClientStepped};
 ghost use Rattle.zy_world_law.specs.Events.{ask_in, no_subject, replica_goes, client_goes, replica_note, client_note as noted_client, client_answer};
 ghost use Rattle.zy_world_setup.specs.Reading.{IsInRange};
@@ -31,15 +31,17 @@ impl<M: Machine> World<M> {
 
     /// The event has no subject, and changes nothing.
     pub(crate) fn no_subject(self) -> WorldStepped<M>
-        ensures { (g : Whole M.State) → Shows g self → GoesTo (no_subject g) result.note result.world }
+        ensures goes { (g : Whole M.State) (others : List (Option (State M.State)) → List (Option (State M.State))) → Shows g (with_replicas others self) → GoesTo (no_subject g) result.note (with_replicas others result.world) }
+        ensures seats { result.world.seats ≡ self.seats }
     {
         self.noted(Note::Refused(None, Cause::NoSubject))
     }
 
     /// No part of the bytes' frame is forged, and what it brings is kept.
     pub(crate) fn hears(self, bytes: &Bytes) -> Result<World<M>, WorldFault>
-        ensures heard { (g : Whole M.State) → Shows g self → IfOk result (HeardTo g bytes.now) }
-        ensures unheard { (g : Whole M.State) → Shows g self → IfErr result (IsUnheardBy g bytes.now) }
+        ensures heard { (g : Whole M.State) (others : List (Option (State M.State)) → List (Option (State M.State))) → Shows g (with_replicas others self) → IfOk result (λ w. HeardTo g bytes.now (with_replicas others w)) }
+        ensures unheard { (g : Whole M.State) (others : List (Option (State M.State)) → List (Option (State M.State))) → Shows g (with_replicas others self) → IfErr result (IsUnheardBy g bytes.now) }
+        ensures seats { IfOk result (λ w. w.seats ≡ self.seats) }
     {
         match read_frame(self.alloc, bytes.as_slice())? {
             Some(frame) => self.hears_frame(&frame),
@@ -49,8 +51,9 @@ impl<M: Machine> World<M> {
 
     fn hears_frame(mut self, frame: &AnyFrame) -> Result<World<M>, WorldFault>
         requires { IsInRange frame.now }
-        ensures heard { (g : Whole M.State) (bytes : List ℕ) → Shows g self → any_frame_in bytes ≡ Some frame.now → IfOk result (HeardTo g bytes) }
-        ensures unheard { (g : Whole M.State) (bytes : List ℕ) → Shows g self → any_frame_in bytes ≡ Some frame.now → IfErr result (IsUnheardBy g bytes) }
+        ensures heard { (g : Whole M.State) (bytes : List ℕ) (others : List (Option (State M.State)) → List (Option (State M.State))) → Shows g (with_replicas others self) → any_frame_in bytes ≡ Some frame.now → IfOk result (λ w. HeardTo g bytes (with_replicas others w)) }
+        ensures unheard { (g : Whole M.State) (bytes : List ℕ) (others : List (Option (State M.State)) → List (Option (State M.State))) → Shows g (with_replicas others self) → any_frame_in bytes ≡ Some frame.now → IfErr result (IsUnheardBy g bytes) }
+        ensures seats { IfOk result (λ w. w.seats ≡ self.seats) }
     {
         match self.said.forger(&self.directory, frame)? {
             Some(by) => Err(WorldFault::Forged(by)),
@@ -76,15 +79,17 @@ impl<M: Machine> World<M> {
         }
     }
 
-    // A replica has made its step, and nothing else was done yet.
-    fn replica_stepped(
+    /// A replica has made its step, and nothing else was done yet.
+    pub(crate) fn replica_stepped(
         mut self,
         id: ReplicaId,
         step: ReplicaStep,
     ) -> Result<WorldStepped<M>, WorldFault>
-        requires { AllByRecursion (λ got. IsEntryInRange got.entry) step.got }
-        ensures goes { (g : Whole M.State) (x : AReplica M.State) (event : Happening) (o : Outcome M.State) → HasReplicaStepped g id x o step self → IfOk result (λ r. GoesTo (replica_goes g id x [] event o) r.note r.world) }
-        ensures broken { (g : Whole M.State) (x : AReplica M.State) (event : Happening) (o : Outcome M.State) → HasReplicaStepped g id x o step self → IfErr result (IsBrokenBy (replica_goes g id x [] event o)) }
+        ensures goes { (g : Whole M.State) (x : AReplica M.State) (event : Happening) (o : Outcome M.State) (others : List (Option (State M.State)) → List (Option (State M.State))) → HasReplicaStepped g id x o step (with_replicas others self)
+            → IfOk result (λ r. GoesTo (replica_goes g id x [] event o) r.note (with_replicas others r.world)) }
+        ensures broken { (g : Whole M.State) (x : AReplica M.State) (event : Happening) (o : Outcome M.State) (others : List (Option (State M.State)) → List (Option (State M.State))) → HasReplicaStepped g id x o step (with_replicas others self)
+            → IfErr result (IsBrokenBy (replica_goes g id x [] event o)) }
+        ensures seats { IfOk result (λ r. r.world.seats ≡ self.seats) }
     {
         let note = replica_note(id, step.answer);
         self.texts.keep_step(&step.got)?;
@@ -99,8 +104,11 @@ impl<M: Machine> World<M> {
         id: ClientId,
         event: Event,
     ) -> Result<WorldStepped<M>, WorldFault>
-        ensures goes { (g : Whole M.State) → Shows g self → IfOk result (λ r. GoesTo (client_steps g id event (slice_get g.clients id.0)) r.note r.world) }
-        ensures broken { (g : Whole M.State) → Shows g self → IfErr result (IsBrokenBy (client_steps g id event (slice_get g.clients id.0))) }
+        ensures goes { (g : Whole M.State) (others : List (Option (State M.State)) → List (Option (State M.State))) → Shows g (with_replicas others self)
+            → IfOk result (λ r. GoesTo (client_steps g id event (slice_get g.clients id.0)) r.note (with_replicas others r.world)) }
+        ensures broken { (g : Whole M.State) (others : List (Option (State M.State)) → List (Option (State M.State))) → Shows g (with_replicas others self)
+            → IfErr result (IsBrokenBy (client_steps g id event (slice_get g.clients id.0))) }
+        ensures replicas { IfOk result (λ r. r.world.seats.replicas ≡ self.seats.replicas) }
     {
         match self.seats.step_client(id, event)? {
             None => Ok(self.no_subject()),
@@ -126,7 +134,9 @@ impl<M: Machine> World<M> {
 
     // A client has made its step, and nothing else was done yet.
     fn client_stepped(mut self, id: ClientId, step: ClientStep) -> Result<WorldStepped<M>, Want>
-        ensures { (g : Whole M.State) (x : AClient) (o : ClientOutcome) → HasClientStepped g id x o step self → IfOk result (λ r. GoesTo (client_goes g id x [] o) r.note r.world) }
+        ensures goes { (g : Whole M.State) (x : AClient) (o : ClientOutcome) (others : List (Option (State M.State)) → List (Option (State M.State))) → HasClientStepped g id x o step (with_replicas others self)
+            → IfOk result (λ r. GoesTo (client_goes g id x [] o) r.note (with_replicas others r.world)) }
+        ensures seats { IfOk result (λ r. r.world.seats ≡ self.seats) }
     {
         self.said.add(Party::Client(id), step.said)?;
         self.bag.send(step.out)?;

@@ -4,9 +4,12 @@
 
 mod agreed;
 mod bag;
+mod batch;
 mod events;
 mod fault;
+mod flow;
 mod going;
+mod hands;
 mod liars;
 mod lying;
 mod marks;
@@ -20,4 +23,6 @@ mod world;
 
 pub use events::WorldStepped;
 pub use fault::WorldFault;
+pub use flow::{FlowFault, Flowed};
+pub use hands::{Hands, PlainHands};
 pub use world::World;

@@ -36,7 +36,7 @@ impl<M: Machine> World<M> {
         mails.iter().position(|mail| self.is_due(mail))
     }
 
-    fn is_due(&self, mail: &Mail) -> bool
+    pub(crate) fn is_due(&self, mail: &Mail) -> bool
         ensures { result ≡ is_due_in self.now mail.now }
     {
         !is_past(&self.seats, mail) && !self.muted.is_muted(mail.to)

@@ -51,7 +51,8 @@ impl Muted {
     }
 }
 
-fn is_set(marks: &[bool], at: usize) -> bool
+/// Whether this mark is there and set.
+pub(crate) fn is_set(marks: &[bool], at: usize) -> bool
     ensures { result ≡ slice_index_or marks.now at false }
 {
     match marks.get(at) {
@@ -60,7 +61,8 @@ fn is_set(marks: &[bool], at: usize) -> bool
     }
 }
 
-fn put(marks: &mut Vec<bool>, at: usize, on: bool)
+/// Changes nothing where there is no such mark.
+pub(crate) fn put(marks: &mut Vec<bool>, at: usize, on: bool)
     ensures { marks.new.items ≡ slice_set marks.old.items at on }
 {
     if at < marks.len() {

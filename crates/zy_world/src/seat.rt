@@ -1,6 +1,6 @@
 ghost use Rattle.std.specs.Prelude.{◌≡◌, slice_get, slice_set, None, Some, option_copied};
 ghost use Rattle.zy_world.specs.Shown.{seat_in};
-ghost use Rattle.zy_world_law.specs.World.{correct_in};
+ghost use Rattle.zy_world_law.specs.World.{correct_in, is_told};
 
 /// Who sits in a seat.
 #[derive(Clone, Copy, Debug, PartialEq, Eq)]
@@ -17,6 +17,16 @@ pub(crate) fn seat_at<T>(seats: &[Option<T>], at: usize) -> Seat
         None => Seat::Nobody,
         Some(None) => Seat::Liar,
         Some(Some(_)) => Seat::Correct,
+    }
+}
+
+/// Whether somebody sits in this seat.
+pub(crate) fn is_there<T>(seat: &Option<T>) -> bool
+    ensures { result ≡ is_told seat.now }
+{
+    match seat {
+        Some(_) => true,
+        None => false,
     }
 }
 

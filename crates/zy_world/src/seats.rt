@@ -1,18 +1,19 @@
-ghost use Rattle.std.specs.Prelude.{◌≡◌, ◌≤◌, length, slice_get, slice_set, None, Some, option_copied, if◌then◌else◌, IfOk, IsSomeAnd, OnOk};
-ghost use Rattle.std.specs.List.{AllByRecursion, list_all};
-ghost use Rattle.std.specs.Option.{ForSome};
-ghost use Rattle.zy_chain.specs.Entries.{IsEntryInRange};
+ghost use Rattle.std.specs.Prelude.{◌≡◌, ◌≤◌, Bool, List, length, map, slice_get, slice_set, None, Some, option_copied, if◌then◌else◌, IfOk, IsSomeAnd, OnOk};
+ghost use Rattle.std.specs.List.{list_all};
 ghost use Rattle.zy_table.specs.ClientRows.{ask as ask_row, client_step};
 ghost use Rattle.zy_table.specs.ClientState.{ClientState as AClient, ClientOutcome, is_waiting};
 ghost use Rattle.zy_table.specs.State.{State};
 ghost use Rattle.zy_table.specs.Whole.{whole_step};
 ghost use Rattle.zy_client.specs.Stepped.{IsStepped};
+ghost use Rattle.zy_world.specs.Ahead.{AreApart, AreOut, IsJob, takes_for};
 ghost use Rattle.zy_world.specs.Shown.{is_correct_seat, is_liar_seat, is_seated, seat_of, with_replica, with_client};
 ghost use Rattle.zy_world.specs.Stepping.{IsReplicaStep, IsClientStep, done_if};
-ghost use Rattle.zy_world_law.specs.World.{correct_in};
+ghost use Rattle.zy_world_law.specs.World.{correct_in, is_told};
 
-use crate::seat::{Seat, put_in, seat_at, sitting, take_from};
-use crate::step::{ClientStep, ReplicaStep};
+use crate::batch::Due;
+use crate::seat::{Seat, is_there, put_in, seat_at, sitting, take_from};
+use crate::step::{ClientStep, Job, ReplicaStep};
+use std::alloc::Global;
 use std::marker::Model;
 use zy_base::{Bytes, ClientId, Event, Machine, Party, ReplicaId, Want};
 use zy_client::{Client, ClientStepped};
@@ -93,6 +94,43 @@ impl<M: Machine> Seats<M> {
         sitting(&self.clients, id.0 as usize)
     }
 
+    /// Of each replica whether it sits in its seat.
+    pub(crate) fn who_sits(&self, alloc: Global) -> Result<Vec<bool>, Want>
+        ensures { IfOk result (λ sits. sits.items ≡ map is_told self.now.replicas) }
+    {
+        let mut sits = Vec::new(alloc);
+        for seat in &self.replicas {
+            sits.push(is_there(seat))?;
+        }
+        Ok(sits)
+    }
+
+    /// Takes the replicas out of their seats to which these frames go, each with the bytes that it is to hear.
+    pub(crate) fn take_out(&mut self, alloc: Global, dues: &[Due]) -> Result<Vec<Job<M>>, Want>
+        ensures out { (left : List Bool) → AreApart left dues.now (map is_told self.old.replicas) → IfOk result (λ jobs. AreOut IsJob self.new.replicas dues.now self.old.replicas jobs.items) }
+        ensures clients { self.new.clients ≡ self.old.clients }
+    {
+        let mut jobs = Vec::new(alloc);
+        for due in dues {
+            self.take_for(due, &mut jobs)?;
+        }
+        Ok(jobs)
+    }
+
+    // The replica to which this frame goes.
+    fn take_for(&mut self, due: &Due, jobs: &mut Vec<Job<M>>) -> Result<(), Want>
+        ensures taken { OnOk result (takes_for IsJob due.now.to due.now.bytes self.old.replicas self.new.replicas jobs.old.items jobs.new.items) }
+        ensures clients { self.new.clients ≡ self.old.clients }
+    {
+        if let Party::Replica(id) = due.to {
+            if let Some(replica) = take_from(&mut self.replicas, id.0 as usize) {
+                let bytes = due.bytes.clone()?;
+                jobs.push(Job { replica, bytes })?;
+            }
+        }
+        Ok(())
+    }
+
     /// The replica of this number makes a step, if there is such a correct one.
     pub(crate) fn step_replica(
         &mut self,
@@ -101,7 +139,6 @@ impl<M: Machine> Seats<M> {
     ) -> Result<Option<ReplicaStep>, Want>
         ensures missing { correct_in (slice_get self.old.replicas id.0) ≡ None → IfOk result (λ step. (step ≡ None) × (self.new ≡ self.old)) }
         ensures stepped { (s : State M.State) → correct_in (slice_get self.old.replicas id.0) ≡ Some s → IfOk result (λ step. IsSomeAnd step (IsReplicaStep (whole_step M.rules s event))) }
-        ensures entries { IfOk result (λ step. ForSome step (λ r. AllByRecursion (λ got. IsEntryInRange got.entry) r.got)) }
         ensures state { (s : State M.State) → correct_in (slice_get self.old.replicas id.0) ≡ Some s → OnOk result (self.new ≡ with_replica self.old id.0 (Some (whole_step M.rules s event).state)) }
     {
         match take_from(&mut self.replicas, id.0 as usize) {
@@ -118,7 +155,6 @@ impl<M: Machine> Seats<M> {
         event: Event,
     ) -> Result<ReplicaStep, Want>
         ensures stepped { IfOk result (IsReplicaStep (whole_step M.rules replica event)) }
-        ensures entries { IfOk result (λ r. AllByRecursion (λ got. IsEntryInRange got.entry) r.got) }
         ensures state { OnOk result (self.new ≡ with_replica self.old id.0 (Some (whole_step M.rules replica event).state)) }
     {
         let stepped = replica.step(event)?;

@@ -1,4 +1,9 @@
-use zy_base::{Answer, Outgoing, Said};
+ghost use Rattle.std.proofs.Props.{props};
+ghost use Rattle.std.specs.List.{AllByRecursion};
+ghost use Rattle.zy_chain.specs.Entries.{IsEntryInRange};
+
+use zy_base::{Answer, Bytes, Machine, Outgoing, Said};
+use zy_replica::Replica;
 use zy_table::{Done, Gains};
 
 /// What a replica's step did beside changing it.
@@ -8,6 +13,7 @@ pub(crate) struct ReplicaStep {
     pub(crate) out: Outgoing,
     pub(crate) said: Said,
     pub(crate) got: Gains,
+    ghost entries: { AllByRecursion (λ got. IsEntryInRange got.entry) got } by { Prim.hlevel props },
 }
 
 /// What a client's step did beside changing it; by a completion the request that waited became complete.
@@ -17,4 +23,18 @@ pub(crate) struct ClientStep {
     pub(crate) out: Outgoing,
     pub(crate) said: Said,
     pub(crate) done: Option<Done>,
+}
+
+/// A replica that is out of its seat, and the frame that it is to hear.
+#[derive(Drop)]
+pub(crate) struct Job<M: Machine> {
+    pub(crate) replica: Replica<M>,
+    pub(crate) bytes: Bytes,
+}
+
+/// The replica behind its step, and what the step did beside.
+#[derive(Drop)]
+pub(crate) struct Gone<M: Machine> {
+    pub(crate) replica: Replica<M>,
+    pub(crate) step: ReplicaStep,
 }

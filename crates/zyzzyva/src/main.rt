@@ -9,6 +9,7 @@ use zy_top_words::{Exit, ending, line_words};
 fn main(rt: HostRuntime) -> ExitCode {
     let exit = match line_words(&rt, rt.alloc()) {
         Ok(words) => zyzzyva(
+            &rt,
             rt.alloc(),
             &words,
             &mut RealFiles::new(&rt),

@@ -1,50 +1,34 @@
-use Rattle.std.proofs.Common.{◌≡◌, ◌+◌, ◌-◌, None, ◌∙◌, sym, arith}
-use Rattle.std.proofs.lemmas.Result.{err_from_is_err_and}
-use Rattle.zy_world_law.specs.Runs.{flow}
-use Rattle.zy_world_law.specs.declared.event.WorldEvent.TheVariants.{Deliver}
-use Rattle.zy_top.specs.Replaying.{event_part}
-use Rattle.zy_top.proofs.RunParts.{ends_then, far_all, far_none, far_then, flow_begins, flow_done, flow_ends}
+use Rattle.std.proofs.Common.{◌≡◌, Err, refl, ap, ◌∙◌, arith}
+use Rattle.zy_world_law.specs.Events as events
 use Rattle.zy_top.proofs.running.run_flow.Goals as goal
 
-pub loop-init : goal.loop-init
-loop-init g c =
-    let all : c.args.events - 0 ≡ c.args.events = omega arith in
-    record {
-      count = omega arith;
-      far = λ whole shows. rw all (far_none (flow g.M.Machine.rules c.args.events) whole c.args.tale.now c.args.world shows);
-    }
+pub returns-in-Ok-clause-run : goal.returns-in-Ok-clause-run
+returns-in-Ok-clause-run g c whole shows =
+    let f = c.in-Ok.ensures.flows whole shows in
+    (f.0, (c.in-Ok.field-0.notes, f.2, f.1, c.in_ok-add_all-in-Ok.ensures.told))
 
-pub returns-in_default-clause-run : goal.returns-in_default-clause-run
-returns-in_default-clause-run g c whole shows =
-    let R = g.M.Machine.rules in
-    far_all (flow R c.args.events) (flow R (c.args.events - c.loop.counter)) whole _ _ _ (c.loop.invariant.far whole shows)
-    (λ v shown. flow_ends R (c.args.events - c.loop.counter) v (sym (c.next_undelivered.ensures v shown) ∙ c.in_default.is))
+pub returns-in-Err-Forged-clause-run : goal.returns-in-Err-Forged-clause-run
+returns-in-Err-Forged-clause-run g c whole shows =
+    let notes = c.in-Err-Forged.field-0-0 in
+    let by = c.in-Err-Forged.field-0-1 in (
+      notes,
+      (
+        events.Broken.Forged by,
+        refl,
+        c.flow.ensures.forged whole notes by shows (c.in-Err-Forged.is ∙ ap Err c.in-Err-Forged.field-0-is),
+        c.in_ok-add_all-in-Err-Forged.ensures.told,
+      ),
+    )
 
-pub returns-in_err-world-clause-run : goal.returns-in_err-world-clause-run
-returns-in_err-world-clause-run g c whole shows =
-    let R = g.M.Machine.rules in
-    let i = c.loop.counter in
-    let p = err_from_is_err_and c.from_residual.result c.from_residual.ensures.1 in
-    rw (p.1, p.2)
-    (ends_then (flow R c.args.events) (flow R (c.args.events - i)) (event_part R (Deliver c.in-Some.frame None)) (flow R (c.args.events - (i + 1))) whole _ _ _ _ _
-    (c.loop.invariant.far whole shows) c.in_err-world.ensures.run
-    (λ v shown. flow_begins R c.args.events i v c.in-Some.frame c.loop-test.true (sym (c.next_undelivered.ensures v shown) ∙ c.in-Some.is)))
-
-pub loop-preserved : goal.loop-preserved
-loop-preserved g c =
-    let R = g.M.Machine.rules in
-    let i = c.loop.counter in
-    record {
-      count = omega (arith, c.loop.invariant.count, c.run_event.ensures.count);
-      far = λ whole shows.
-          far_then (flow R c.args.events) (flow R (c.args.events - i)) (event_part R (Deliver c.in-Some.frame None)) (flow R (c.args.events - (i + 1))) whole _ _ _ _ _
-          (c.loop.invariant.far whole shows) c.in_ok-world.ensures.run
-          (λ v shown. flow_begins R c.args.events i v c.in-Some.frame c.loop-test.true (sym (c.next_undelivered.ensures v shown) ∙ c.in-Some.is));
-    }
-
-pub returns-clause-run : goal.returns-clause-run
-returns-clause-run g c whole shows =
-    let R = g.M.Machine.rules in
-    let left : c.args.events - c.loop.counter ≡ 0 = omega (arith, c.loop-test.false) in
-    far_all (flow R c.args.events) (flow R (c.args.events - c.loop.counter)) whole _ _ _ (c.loop.invariant.far whole shows)
-    (λ v shown. flow_done R (c.args.events - c.loop.counter) v left)
+pub returns-in-Err-Clash-clause-run : goal.returns-in-Err-Clash-clause-run
+returns-in-Err-Clash-clause-run g c whole shows =
+    let notes = c.in-Err-Clash.field-0-0 in
+    let digest = c.in-Err-Clash.field-0-1 in (
+      notes,
+      (
+        events.Broken.Clash digest,
+        refl,
+        c.flow.ensures.clash whole notes digest shows (c.in-Err-Clash.is ∙ ap Err c.in-Err-Clash.field-0-is),
+        c.in_ok-add_all-in-Err-Clash.ensures.told,
+      ),
+    )

@@ -15,7 +15,7 @@ returns-in-Nobody-clause-goes g c w mail s there =
     let i = subst (λ (v : Shown g.row.M-State.Denot). Shows w v) (sym c.self.view_is) s in
     subst (λ (h : Happened g.row.M-State.Denot). GoesTo h c.no_subject.result.note c.no_subject.result.world)
     (sym (brought_nobody g.M.Machine.rules w (delivered w c.args.number mail) c.args.to c.args.bytes (sym (seat_shown w _ i.seats c.args.to) ∙ sym c.seat.ensures ∙ c.in-Nobody.is)))
-    (c.no_subject.ensures w s)
+    (c.no_subject.ensures.goes w (λ xs. xs) s)
 
 pub returns-in-Liar-clause-goes : goal.returns-in-Liar-clause-goes
 returns-in-Liar-clause-goes g c w mail s there =
@@ -31,7 +31,7 @@ pub returns-in_ok-hears-in-Correct-clause-goes : goal.returns-in_ok-hears-in-Cor
 returns-in_ok-hears-in-Correct-clause-goes g c w mail s there =
     let i = subst (λ (v : Shown g.row.M-State.Denot). Shows w v) (sym c.self.view_is) s in
     let marked : World g.row.M-State.Denot = delivered w c.args.number mail in
-    let h = c.in_ok-hears-in-Correct.ensures.heard marked (c.delivered-in-Correct.ensures w mail s there) in
+    let h = c.in_ok-hears-in-Correct.ensures.heard marked (λ xs. xs) (c.delivered-in-Correct.ensures w mail s there) in
     subst (λ (h : Happened g.row.M-State.Denot). IfOk c.steps.result (λ r. GoesTo h r.note r.world))
     (sym (brought_heard g.M.Machine.rules w c.args.number mail c.args.to c.args.bytes (sym (seat_shown w _ i.seats c.args.to) ∙ sym c.seat.ensures ∙ c.in-Correct.is) _ h))
     (c.steps.ensures.goes (record marked { texts = h.texts }) h.shows)
@@ -40,7 +40,7 @@ pub returns-in_ok-hears-in-Correct-clause-broken : goal.returns-in_ok-hears-in-C
 returns-in_ok-hears-in-Correct-clause-broken g c w mail s there =
     let i = subst (λ (v : Shown g.row.M-State.Denot). Shows w v) (sym c.self.view_is) s in
     let marked : World g.row.M-State.Denot = delivered w c.args.number mail in
-    let h = c.in_ok-hears-in-Correct.ensures.heard marked (c.delivered-in-Correct.ensures w mail s there) in
+    let h = c.in_ok-hears-in-Correct.ensures.heard marked (λ xs. xs) (c.delivered-in-Correct.ensures w mail s there) in
     subst (λ (h : Happened g.row.M-State.Denot). IfErr c.steps.result (IsBrokenBy h))
     (sym (brought_heard g.M.Machine.rules w c.args.number mail c.args.to c.args.bytes (sym (seat_shown w _ i.seats c.args.to) ∙ sym c.seat.ensures ∙ c.in-Correct.is) _ h))
     (c.steps.ensures.broken (record marked { texts = h.texts }) h.shows)
@@ -50,4 +50,4 @@ returns-in_err-hears-in-Correct-clause-broken g c w mail s there =
     let i = subst (λ (v : Shown g.row.M-State.Denot). Shows w v) (sym c.self.view_is) s in
     let p = err_from_is_err_and c.from_residual.result c.from_residual.ensures.1 in
     rw (p.1, p.2) (brought_unheard g.M.Machine.rules w c.args.number mail c.args.to c.args.bytes (sym (seat_shown w _ i.seats c.args.to) ∙ sym c.seat.ensures ∙ c.in-Correct.is) c.in_err-hears-in-Correct.field-0.0
-    (c.in_err-hears-in-Correct.ensures.unheard (delivered w c.args.number mail) (c.delivered-in-Correct.ensures w mail s there)))
+    (c.in_err-hears-in-Correct.ensures.unheard (delivered w c.args.number mail) (λ xs. xs) (c.delivered-in-Correct.ensures w mail s there)))

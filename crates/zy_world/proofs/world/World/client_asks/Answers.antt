@@ -14,7 +14,7 @@ pub returns-in-None-clause-goes : goal.returns-in-None-clause-goes
 returns-in-None-clause-goes g c w s =
     let i = subst (λ (v : Shown g.row.M-State.Denot). Shows w v) (sym c.self.view_is) s in
     subst (λ (h : Happened g.row.M-State.Denot). GoesTo h c.no_subject.result.note c.no_subject.result.world) (sym (asks_is w c.args.id c.args.op (slice_get w.clients c.args.id.0)))
-    (no_client_turns w _ i c.args.id (λ x. ask x c.args.op) _ _ c.in-None.is c.in_ok-ask_client.ensures.missing c.in_ok-ask_client.ensures.stepped _ _ c.no_subject.ensures)
+    (no_client_turns w _ i c.args.id (λ x. ask x c.args.op) _ _ c.in-None.is c.in_ok-ask_client.ensures.missing c.in_ok-ask_client.ensures.stepped _ _ (λ u. c.no_subject.ensures.goes u (λ xs. xs)))
 
 pub returns-in_ok-client_stepped-in-Some-clause-goes : goal.returns-in_ok-client_stepped-in-Some-clause-goes
 returns-in_ok-client_stepped-in-Some-clause-goes g c w s =
@@ -23,7 +23,7 @@ returns-in_ok-client_stepped-in-Some-clause-goes g c w s =
     let t = client_turn w _ i c.args.id row _ _ _ c.in-Some.is c.in_ok-ask_client.ensures.missing c.in_ok-ask_client.ensures.stepped c.in_ok-ask_client.ensures.state in
     subst (λ (h : Happened g.row.M-State.Denot). GoesTo h c.in_ok-client_stepped-in-Some.field-0.note c.in_ok-client_stepped-in-Some.field-0.world)
     (sym (asks_is w c.args.id c.args.op (slice_get w.clients c.args.id.0) ∙ t.is))
-    (c.in_ok-client_stepped-in-Some.ensures w t.who (row t.who.state) t.has)
+    (c.in_ok-client_stepped-in-Some.ensures.goes w t.who (row t.who.state) (λ xs. xs) t.has)
 
 pub returns-in_err-ask_client-clause-broken : goal.returns-in_err-ask_client-clause-broken
 returns-in_err-ask_client-clause-broken g c w s =

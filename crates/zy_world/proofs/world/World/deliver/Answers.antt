@@ -14,7 +14,7 @@ returns-in-None-clause-goes g c w s =
     let i = subst (λ (v : Shown g.row.M-State.Denot). Shows w v) (sym c.self.view_is) s in
     subst (λ (h : Happened g.row.M-State.Denot). GoesTo h c.no_subject.result.note c.no_subject.result.world)
     (sym (ap (deliver g.M.Machine.rules w c.args.number c.args.to) (mail_there w _ c.args.number None i (ap option_copied (sym c.in-None.is) ∙ c.frame.ensures))))
-    (c.no_subject.ensures w s)
+    (c.no_subject.ensures.goes w (λ xs. xs) s)
 
 pub returns-in_ok-bytes-in-Some-clause-goes : goal.returns-in_ok-bytes-in-Some-clause-goes
 returns-in_ok-bytes-in-Some-clause-goes g c w s =

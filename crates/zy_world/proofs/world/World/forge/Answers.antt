@@ -14,4 +14,4 @@ pub returns-else-can_forge : goal.returns-else-can_forge
 returns-else-can_forge g c w s =
     subst (λ (h : Happened g.row.M-State.Denot). GoesTo h c.no_subject.result.note c.no_subject.result.world)
     (sym (no_forge w c.args.party c.args.to.now (if_short w.setup c.args.party (Some (telling_of c.args.statement))) (can_forge_is w _ s c.args.party c.args.to.now ∙ sym c.can_forge.ensures ∙ c.if-can_forge.false)))
-    (c.no_subject.ensures w s)
+    (c.no_subject.ensures.goes w (λ xs. xs) s)

@@ -16,4 +16,4 @@ pub returns-in-None : goal.returns-in-None
 returns-in-None g c w s =
     let told : None ≡ statement_told c.args.bytes.now =
     ap (option_map telling_of) (sym c.in-None.is) ∙ c.in_ok-statement.ensures.value ∙ ap statement_told c.as_slice.ensures.value in
-    subst (λ (h : Happened g.row.M-State.Denot). GoesTo h c.no_subject.result.note c.no_subject.result.world) (ap (λ (t : Option Telling). forge w c.args.party c.args.to.now (if_short w.setup c.args.party t)) told) (c.no_subject.ensures w s)
+    subst (λ (h : Happened g.row.M-State.Denot). GoesTo h c.no_subject.result.note c.no_subject.result.world) (ap (λ (t : Option Telling). forge w c.args.party c.args.to.now (if_short w.setup c.args.party t)) told) (c.no_subject.ensures.goes w (λ xs. xs) s)

@@ -15,4 +15,4 @@ pub returns-in-None : goal.returns-in-None
 returns-in-None g c w s can =
     subst (λ (h : Happened g.row.M-State.Denot). GoesTo h c.no_subject.result.note c.no_subject.result.world)
     (sym (forged_too_long w _ s c.args.party c.args.to.now c.args.statement can (rw c.in-None.is at c.in_ok-bytes.ensures)))
-    (c.no_subject.ensures w s)
+    (c.no_subject.ensures.goes w (λ xs. xs) s)

@@ -13,4 +13,4 @@ pub returns-else-can_lie : goal.returns-else-can_lie
 returns-else-can_lie g c w s =
     subst (λ (h : Happened g.row.M-State.Denot). GoesTo h c.no_subject.result.note c.no_subject.result.world)
     (sym (no_lie w c.args.liar c.args.to.now (told_by w.setup c.args.liar c.args.tale) (can_lie_is w _ s c.args.liar c.args.to.now ∙ sym c.can_lie.ensures ∙ c.if-can_lie.false)))
-    (c.no_subject.ensures w s)
+    (c.no_subject.ensures.goes w (λ xs. xs) s)

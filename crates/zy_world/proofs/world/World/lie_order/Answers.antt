@@ -19,4 +19,4 @@ returns-in-None g c w s =
     let found : None ≡ if_replica c.args.liar (requests_at w c.args.asks.now) = sym c.in-None.is ∙ c.in_ok-asks.ensures.value w s in
     subst (λ (h : Happened g.row.M-State.Denot). GoesTo h c.no_subject.result.note c.no_subject.result.world)
     (sym (lie_told w c.args.liar c.args.to.now (order_told c.args.view) (requests_at w c.args.asks.now) None found))
-    (c.no_subject.ensures w s)
+    (c.no_subject.ensures.goes w (λ xs. xs) s)

@@ -22,7 +22,7 @@ returns-in-Ok-None g c w s can =
     let long = rw c.in-Ok-None.field-0-is at (c.in-Ok-None.ensures.told _ (shown_key w _ i c.args.liar c.args.to.now can)) in
     subst (λ (h : Happened g.row.M-State.Denot). GoesTo h c.no_subject.result.note c.no_subject.result.world)
     (sym (lied_too_long w _ i c.args.liar c.args.to.now can c.args.tale c.sign.new.self long.0))
-    (c.no_subject.ensures w (same_keys w _ i c.sign.new.self long.1))
+    (c.no_subject.ensures.goes w (λ xs. xs) (same_keys w _ i c.sign.new.self long.1))
 
 pub returns-in-Err-KeySpent : goal.returns-in-Err-KeySpent
 returns-in-Err-KeySpent g c w s can =

@@ -1,5 +1,5 @@
 use Rattle.std.proofs.Common.{refl}
 use Rattle.zy_world.proofs.world.World.no_subject.Goals as goal
 
-pub returns : goal.returns
-returns g c w s = rw (c.noted.ensures.world, c.noted.ensures.note) (record { world = w; goes = refl; shows = s })
+pub returns-clause-goes : goal.returns-clause-goes
+returns-clause-goes g c w others s = rw (c.noted.ensures.world, c.noted.ensures.note) (record { world = w; goes = refl; shows = s })

@@ -18,4 +18,4 @@ pub returns-else-are_parties : goal.returns-else-are_parties
 returns-else-are_parties g c w s =
     subst (λ (h : Happened g.row.M-State.Denot). GoesTo h c.no_subject.result.note c.no_subject.result.world)
     (sym (ap (λ (b : Bool). if b then Goes (with_sent w (copies c.args.bytes.now c.args.to.now)) Quiet else no_subject w) (sym (c.are_parties.ensures w s) ∙ c.if-are_parties.false)))
-    (c.no_subject.ensures w s)
+    (c.no_subject.ensures.goes w (λ xs. xs) s)

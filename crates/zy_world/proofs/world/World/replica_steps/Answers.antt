@@ -12,21 +12,21 @@ use Rattle.zy_world.proofs.world.World.replica_steps.Goals as goal
 pub returns-in-None-clause-goes : goal.returns-in-None-clause-goes
 returns-in-None-clause-goes g c w s =
     let i = subst (λ (v : Shown g.row.M-State.Denot). Shows w v) (sym c.self.view_is) s in
-    nobody_steps g.M.Machine.rules w _ i c.args.id c.args.event _ _ c.in-None.is c.in_ok-step_replica.ensures.missing c.in_ok-step_replica.ensures.stepped _ _ c.no_subject.ensures
+    nobody_steps g.M.Machine.rules w _ i c.args.id c.args.event _ _ c.in-None.is c.in_ok-step_replica.ensures.missing c.in_ok-step_replica.ensures.stepped _ _ (λ u. c.no_subject.ensures.goes u (λ xs. xs))
 
 pub returns-in-Some-clause-goes : goal.returns-in-Some-clause-goes
 returns-in-Some-clause-goes g c w s =
     let i = subst (λ (v : Shown g.row.M-State.Denot). Shows w v) (sym c.self.view_is) s in
     let t = replica_turn g.M.Machine.rules w _ i c.args.id c.args.event _ _ _ c.in-Some.is c.in_ok-step_replica.ensures.missing c.in_ok-step_replica.ensures.stepped c.in_ok-step_replica.ensures.state in
     subst (λ (h : Happened g.row.M-State.Denot). IfOk c.replica_stepped.result (λ r. GoesTo h r.note r.world)) (sym t.is)
-    (c.replica_stepped.ensures.goes w t.who c.args.event (whole_step g.M.Machine.rules t.who.state c.args.event) t.has)
+    (c.replica_stepped.ensures.goes w t.who c.args.event (whole_step g.M.Machine.rules t.who.state c.args.event) (λ xs. xs) t.has)
 
 pub returns-in-Some-clause-broken : goal.returns-in-Some-clause-broken
 returns-in-Some-clause-broken g c w s =
     let i = subst (λ (v : Shown g.row.M-State.Denot). Shows w v) (sym c.self.view_is) s in
     let t = replica_turn g.M.Machine.rules w _ i c.args.id c.args.event _ _ _ c.in-Some.is c.in_ok-step_replica.ensures.missing c.in_ok-step_replica.ensures.stepped c.in_ok-step_replica.ensures.state in
     subst (λ (h : Happened g.row.M-State.Denot). IfErr c.replica_stepped.result (IsBrokenBy h)) (sym t.is)
-    (c.replica_stepped.ensures.broken w t.who c.args.event (whole_step g.M.Machine.rules t.who.state c.args.event) t.has)
+    (c.replica_stepped.ensures.broken w t.who c.args.event (whole_step g.M.Machine.rules t.who.state c.args.event) (λ xs. xs) t.has)
 
 pub returns-in_err-step_replica-clause-broken : goal.returns-in_err-step_replica-clause-broken
 returns-in_err-step_replica-clause-broken g c w s =

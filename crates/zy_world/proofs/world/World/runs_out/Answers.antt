@@ -18,4 +18,4 @@ returns-then-has_timer-clause-broken g c w s =
 pub returns-else-has_timer-clause-goes : goal.returns-else-has_timer-clause-goes
 returns-else-has_timer-clause-goes g c w s =
     subst (λ (h : Happened g.row.M-State.Denot). GoesTo h c.no_subject.result.note c.no_subject.result.world)
-    (sym (untimed g.M.Machine.rules w c.args.party c.args.kind (sym c.has_timer.ensures ∙ c.if-has_timer.false))) (c.no_subject.ensures w s)
+    (sym (untimed g.M.Machine.rules w c.args.party c.args.kind (sym c.has_timer.ensures ∙ c.if-has_timer.false))) (c.no_subject.ensures.goes w (λ xs. xs) s)

@@ -12,8 +12,8 @@ returns-in-Replica-clause-broken g c w s = rw c.in-Replica.is (c.replica_steps.e
 
 pub returns-in-Client-clause-goes : goal.returns-in-Client-clause-goes
 unfolding steps
-returns-in-Client-clause-goes g c w s = rw c.in-Client.is (c.client_steps.ensures.goes w s)
+returns-in-Client-clause-goes g c w s = rw c.in-Client.is (c.client_steps.ensures.goes w (λ xs. xs) s)
 
 pub returns-in-Client-clause-broken : goal.returns-in-Client-clause-broken
 unfolding steps
-returns-in-Client-clause-broken g c w s = rw c.in-Client.is (c.client_steps.ensures.broken w s)
+returns-in-Client-clause-broken g c w s = rw c.in-Client.is (c.client_steps.ensures.broken w (λ xs. xs) s)
