@@ -10,7 +10,7 @@ returns-in_ok-add_all-in-Ok-clause-run g c whole shows =
 
 pub returns-in_ok-add_all-in-Err-Forged-clause-run : goal.returns-in_ok-add_all-in-Err-Forged-clause-run
 returns-in_ok-add_all-in-Err-Forged-clause-run g c whole shows =
-    let notes = c.in-Err-Forged.field-0-0 in
+    let notes = c.in-Err-Forged.notes in
     let by = c.in-Err-Forged.field-0-1 in (
       notes,
       (
@@ -23,7 +23,7 @@ returns-in_ok-add_all-in-Err-Forged-clause-run g c whole shows =
 
 pub returns-in_ok-add_all-in-Err-Clash-clause-run : goal.returns-in_ok-add_all-in-Err-Clash-clause-run
 returns-in_ok-add_all-in-Err-Clash-clause-run g c whole shows =
-    let notes = c.in-Err-Clash.field-0-0 in
+    let notes = c.in-Err-Clash.notes in
     let digest = c.in-Err-Clash.field-0-1 in (
       notes,
       (
