@@ -6,7 +6,7 @@ use std::alloc::Global;
 use std::sync::atomic::{AtomicU64, Ordering};
 use std::test::Fail;
 use std::thread::Threads;
-use zy_base::{ClientId, Event, Machine, Stamp, Want};
+use zy_base::{ClientId, Event, Machine, Place, Stamp, View, Want};
 use zy_group::plain_counts;
 use zy_lms::Height;
 use zy_ots::OtsType;
@@ -98,9 +98,13 @@ fn told<R: Threads + Sync>(
     }
 }
 
-/// Seven events of which nothing is told, and then the first completion of the client, on a fast path.
-fn are_eight(notes: &[Note]) -> bool {
-    notes.len() == 8 && notes[..7].iter().all(|note| is_quiet(note)) && is_first_done(&notes[7])
+/// Nothing is told of seven events, then the client's request completes, and no frame is left.
+fn is_whole(flowed: &Flowed<Space>) -> bool {
+    let notes = flowed.notes.as_slice();
+    notes.len() == 8
+        && notes[..7].iter().all(|note| is_quiet(note))
+        && is_first_done(&notes[7])
+        && flowed.world.next_undelivered().is_none()
 }
 
 fn is_quiet(note: &Note) -> bool {
@@ -115,7 +119,9 @@ fn is_first_done(note: &Note) -> bool {
     match note {
         Note::Quiet => false,
         Note::Done(client, done) => {
-            *client == ClientId(0) && done.stamp == Stamp(1) && done.path == Path::Fast
+            *client == ClientId(0)
+                && (done.stamp, done.view, done.place) == (Stamp(1), View(0), Place(1))
+                && done.path == Path::Fast
         }
         Note::Refused(..) => false,
     }
@@ -129,6 +135,6 @@ fn four_replicas_meet(rt: HostRuntime) -> Result<(), Fail> {
     };
     let flowed = told(&rt, rt.alloc(), &meeting)?;
     let met = meeting.alone.load(Ordering::SeqCst) == 0;
-    assert!(rt; met && are_eight(flowed.notes.as_slice()));
+    assert!(rt; met && is_whole(&flowed));
     Ok(())
 }
