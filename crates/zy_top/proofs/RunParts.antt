@@ -89,13 +89,6 @@ module _ {S : Type 0} where
     end = λ rest. before.end rest ∙ ap (λ r. r.end) (begins rest) ∙ after.end (next rest);
   }
 
-  -- nothing is left
-  pub Passes-all : (part left : Rest S → Rest S) (g v : World S) (a : List Note) → Passes part g left v a → ((rest : Rest S) → left rest v ≡ rest v) → Passes part g all_done v a
-  Passes-all part left g v a before begins = record {
-    notes = λ rest. before.notes rest ∙ ap (λ r. a ++ r.notes) (begins rest);
-    end = λ rest. before.end rest ∙ ap (λ r. r.end) (begins rest);
-  }
-
   -- ---- one event
 
   pub event_passes : (R : Rules S) (event : WorldEvent) (g v : World S) (note : Note) → happens R g event ≡ Goes v note → Passes (event_part R event) g all_done v (note ∷ [])
@@ -156,12 +149,6 @@ module _ {S : Type 0} where
       → IsPartRun {S = S} part g a c (Err stop)
   ends_then part left step next g a b c x (stops.TheVariants.Broke what) far more begins = stops_then part left step next g a b c x what far more begins
   ends_then part left step next g a b c x stops.TheVariants.Want far more begins = tt
-
-  -- nothing is left
-  pub far_all : (part left : Rest S → Rest S) (g : World S) (a b : Tale) (x : Shown S) → IsFar part g left a b x
-      → ((v : World S) → Shows v x → (rest : Rest S) → left rest v ≡ rest v) → IsFar part g all_done a b x
-  far_all part left g a b x far begins =
-      (far.0, (far.1.0, far.1.1, Passes-all part left g far.0 far.1.0 far.1.2 (begins far.0 far.1.1), far.1.3))
 
   pub far_none : (part : Rest S → Rest S) (g : World S) (a : Tale) (x : Shown S) → Shows g x → IsFar part g part a a x
   far_none part g a x shows = (g, ([], shows, passes_none part g, Adds-none a))
