@@ -3,9 +3,9 @@ use Rattle.std.proofs.lemmas.Result.{err_from_is_err_and}
 use Rattle.zy_world_law.specs.Runs.{flow}
 use Rattle.zy_world_law.specs.declared.event.WorldEvent.TheVariants.{Deliver}
 use Rattle.zy_top.specs.Replaying.{event_part}
-use Rattle.zy_top.proofs.RunParts.{ends_then, far_all, far_none, far_then}
+use Rattle.zy_top.proofs.RunParts.{ends_then, far_none, far_then}
 use Rattle.zy_world.proofs.Flows.{flow_done, flow_ends}
-use Rattle.zy_trace.proofs.Deliveries.{flow_begins}
+use Rattle.zy_trace.proofs.Deliveries.{far_all, flow_begins}
 use Rattle.zy_trace.proofs.run.run_flow.Goals as goal
 
 pub loop-init : goal.loop-init
