@@ -66,10 +66,10 @@ module _ {M S : Type 0} (R : Rules S) (g : World S) (due : Due) (more : List Due
         subst (λ (l : List (Result (Gone M S) Want)). out_for (MayBeGone R) (parties.Replica id) due.bytes (AreOut (MayBeGone R) v.seats.replicas more) is.before l) none out
 
     module _ (new : List (Result (Gone M S) Want)) (gone : Gone M S) (taken : old ≡ Ok gone ∷ new) where
-      one : out_for (MayBeGone R) (parties.Replica id) due.bytes (AreOut (MayBeGone R) v.seats.replicas more) is.before (Ok gone ∷ new)
+      pub one : out_for (MayBeGone R) (parties.Replica id) due.bytes (AreOut (MayBeGone R) v.seats.replicas more) is.before (Ok gone ∷ new)
       one = subst (λ (l : List (Result (Gone M S) Want)). out_for (MayBeGone R) (parties.Replica id) due.bytes (AreOut (MayBeGone R) v.seats.replicas more) is.before l) taken out
 
-      who : (x : Replica S) × (slice_get g.replicas id.0 ≡ Some (Some x)) × (one.0 ≡ x.state)
+      pub who : (x : Replica S) × (slice_get g.replicas id.0 ≡ Some (Some x)) × (one.0 ≡ x.state)
       who =
           whole_of (slice_get g.replicas id.0) one.0
           (ap (λ (o : Option (Option (State S))). correct_in o) (sym one.1) ∙ replica_shown g (record v.seats { replicas = is.before }) is.shows.seats id.0)
@@ -97,7 +97,7 @@ module _ {M S : Type 0} (R : Rules S) (g : World S) (due : Due) (more : List Due
         shows = record {
           before = slice_set is.before id.0 (Some gone.replica);
           shows = goes.shows;
-          next = next_later g goes.world due more is.next
+          next = next_later R g goes.world due more is.next
               (later g goes.world due.number (mail R g due more is.next) due.bytes note R (parties.Replica id) (correct_there (parties.Replica id) to) goes.goes);
           out = subst (λ (l : List (Option (State S))). AreOut (MayBeGone R) l more (slice_set is.before id.0 (Some gone.replica)) new) (sym replicas) left;
         };
@@ -117,7 +117,7 @@ module _ {M S : Type 0} (R : Rules S) (g : World S) (due : Due) (more : List Due
       shows = record {
         before = is.before;
         shows = goes.shows;
-        next = next_later g goes.world due more is.next
+        next = next_later R g goes.world due more is.next
             (later g goes.world due.number (mail R g due more is.next) due.bytes note R (parties.Client id) (correct_there (parties.Client id) to) goes.goes);
         out = subst (λ (l : List (Option (State S))). AreOut (MayBeGone R) l more is.before old) (sym replicas)
             (subst (λ (p : Party). out_for (MayBeGone R) p due.bytes (AreOut (MayBeGone R) v.seats.replicas more) is.before old) to is.out);

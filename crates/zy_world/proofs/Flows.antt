@@ -12,6 +12,9 @@ use Rattle.zy_world_law.specs.World.{World, next_undelivered}
 use Rattle.zy_world_law.specs.declared.event.WorldEvent.TheVariants.{Deliver}
 use Rattle.zy_world_law.specs.declared.note.Note.{Note}
 
+notes_on : (a b c x y : List Note) → b ≡ a ++ x → c ≡ b ++ y → c ≡ a ++ (x ++ y)
+notes_on a b c x y first second = second ∙ ap (λ (l : List Note). l ++ y) first ∙ append_assoc a x y
+
 module _ {S : Type 0} where
   pub passes_none : (part : Rest S → Rest S) (g : World S) → Passes part g part g []
   passes_none part g = record { notes = λ rest. refl; end = λ rest. refl }
@@ -28,9 +31,6 @@ module _ {S : Type 0} where
     notes = λ rest. before.notes rest ∙ ap (λ l. a ++ l) (after.notes rest);
     end = λ rest. before.end rest ∙ after.end rest;
   }
-
-  notes_on : (a b c x y : List Note) → b ≡ a ++ x → c ≡ b ++ y → c ≡ a ++ (x ++ y)
-  notes_on a b c x y first second = second ∙ ap (λ l. l ++ y) first ∙ append_assoc a x y
 
   pub comes_none : (part : Rest S → Rest S) (g : World S) (a : List Note) (P : World S → Type 0) → P g → ComesTo part g part a a P
   comes_none part g a P is = record { world = g; told = []; is = is; passes = passes_none part g; notes = sym (append-nil a) }

@@ -22,15 +22,14 @@ use Rattle.zy_world.proofs.OutOfSeats.{apart_more}
 -- ---- one frame
 
 -- the frame at an index, as it is read there
-pub read_there : {S : Type 0} (v : Shown S) (at : ℕ) (mails : List Mail) (mail : Mail) → mails ≡ v.bag.mails → at < length mails → mail ≡ get_or mails at mail
+pub read_there : {S : Type 0} (v : Shown S) (at : ℕ) (mails : List Mail) (mail : Mail) → mails ≡ v.bag.mails → at < length v.bag.mails → mail ≡ get_or mails at mail
     → (slice_get v.bag.mails at ≡ Some mail) × (drop at v.bag.mails ≡ mail ∷ drop (at + 1) v.bag.mails)
 read_there v at mails mail same below is =
     let all = v.bag.mails in
-    let within : at < length all = omega (arith, below, ap length same) in
     let here : mail ≡ get_or all at mail = is ∙ ap (λ (l : List Mail). get_or l at mail) same in
     let next : suc at ≡ at + 1 = omega arith in (
-      slice_get-get_or all at mail within ∙ ap (λ (m : Mail). Some m) (sym here),
-      drop-cons all at mail within ∙ ap (λ (m : Mail). m ∷ drop (suc at) all) (sym here) ∙ ap (λ (n : ℕ). mail ∷ drop n all) next,
+      slice_get-get_or all at mail below ∙ ap (λ (m : Mail). Some m) (sym here),
+      drop-cons all at mail below ∙ ap (λ (m : Mail). m ∷ drop (suc at) all) (sym here) ∙ ap (λ (n : ℕ). mail ∷ drop n all) next,
     )
 
 module _ {S : Type 0} (v : Shown S) (at : ℕ) (mail : Mail) (there : slice_get v.bag.mails at ≡ Some mail) (rest : drop at v.bag.mails ≡ mail ∷ drop (at + 1) v.bag.mails) where
@@ -97,9 +96,9 @@ module _ {S : Type 0} (v : Shown S) (most from at : ℕ) (old batch new : Batch)
   pub gathers_on : length batch.dues.items < most → GoesIn v at batch new true → GoesOn v from old (at + 1) new × (length old.dues.items ≤ most → length new.dues.items ≤ most)
   gathers_on room goes = ((λ all sits is. goes.0 all sits (on all sits is)), (λ within. omega (arith, goes.1, room)))
 
-module _ {S : Type 0} (v : Shown S) (most at : ℕ) (old batch new : Batch) (on : GoesOn v v.bag.passed old at batch) (few : length old.dues.items ≤ most → length batch.dues.items ≤ most) where
-  pub gathered_to_second : GoesIn v at batch new false → AreGathered v most old new
-  gathered_to_second goes = record {
+module _ {S : Type 0} (v : Shown S) (most at : ℕ) (old batch : Batch) (on : GoesOn v v.bag.passed old at batch) (few : length old.dues.items ≤ most → length batch.dues.items ≤ most) where
+  pub gathered_to_second : (new : Batch) → GoesIn v at batch new false → AreGathered v most old new
+  gathered_to_second new goes = record {
     at = at;
     on = λ all sits is. goes.0 all sits (on all sits is);
     few = λ within. let before = few within in omega (arith, goes.1, before);

@@ -164,9 +164,9 @@ module _ {S : Type 0} (g w : World S) (number : ℕ) (mail : Mail) (bytes : List
   later R (parties.Client id) correct is = later_client id (slice_get g.clients id.0) refl correct is
 
 -- the others are next then
-pub next_later : {S : Type 0} (g w : World S) (due : Due) (more : List Due) (next : AreNext g (due ∷ more)) → IsLater g w due.number (first_of (is_due g) 1 g.bag due (more ++ next.more) next.all).mail → AreNext w more
-next_later {S = S} g w due more next is =
-    let f = first_of (is_due g) 1 g.bag due (more ++ next.more) next.all in
+pub next_later : {S : Type 0} (R : Rules S) (g w : World S) (due : Due) (more : List Due) (next : AreNext g (due ∷ more)) → IsLater g w due.number (mail R g due more next) → AreNext w more
+next_later {S = S} R g w due more next is =
+    let f = first R g due more next in
     let marked : Mail = record f.mail { delivered = true } in
     let bag : List Mail = slice_set g.bag f.before marked in
     let at : due.number - 1 ≡ f.before = omega (arith, f.number) in

@@ -97,6 +97,12 @@ pub missing_ahead : {S : Type 0} (others : List (Option (State S)) → List (Opt
     → (seat ≡ None → (step ≡ None) × (new ≡ old)) → seat ≡ None → (step ≡ None) × (seats_with others new ≡ seats_with others old)
 missing_ahead others missing none = ((missing none).0, ap (seats_with others) (missing none).1)
 
+-- the replicas stay in their seats, whoever made a step
+pub replicas_stay : {S : Type 0} (seat : Option ClientState) (step : Option ClientStep) (new old : Seated S) (id : ℕ) (row : ClientState → ClientOutcome) → (seat ≡ None → (step ≡ None) × (new ≡ old))
+    → ((x : ClientState) → seat ≡ Some x → new ≡ with_client old id (Some (row x).state)) → new.replicas ≡ old.replicas
+replicas_stay {S = S} None step new old id row missing state = ap (λ (s : Seated S). s.replicas) (missing refl).1
+replicas_stay {S = S} (Some x) step new old id row missing state = ap (λ (s : Seated S). s.replicas) (state x refl)
+
 -- the client in a seat makes a step, or asks
 abbrev pub client_turns : {S : Type 0} → World S → ClientId → (ClientState → ClientOutcome) → Option (Option Client) → Happened S
 client_turns w id row (Some (Some x)) = client_goes w id x [] (row x.state)

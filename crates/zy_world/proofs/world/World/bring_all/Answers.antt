@@ -1,4 +1,5 @@
 use Rattle.std.proofs.Common.{◌≡◌, List, Bool, Result, Option, map, sym, ap, ◌∙◌, subst}
+use Rattle.std.proofs.lemmas.Result.{err_from_is_err_and}
 use Rattle.std.specs.List.{AllZip}
 use Rattle.zy_base.specs.declared.want.Want.{Want}
 use Rattle.zy_table.specs.State.{State}
@@ -23,3 +24,13 @@ returns-clause-cut g c w left s batch =
     let R = g.M.Machine.rules in
     c.take_turns.ensures.cut w left
     (all_ahead R w c.args.self _ c.args.dues.items _ c.take_out.new.self _ _ s batch c.self.view_is c.deref.ensures.value c.take_out.ensures.clients (c.in_ok-jobs.ensures.out batch.left) c.in_ok-made.ensures)
+
+pub returns-in_err-jobs-clause-cut : goal.returns-in_err-jobs-clause-cut
+returns-in_err-jobs-clause-cut g c w left s batch =
+    let p = err_from_is_err_and c.from_residual.result c.from_residual.ensures.1 in
+    rw (p.1, p.2) tt
+
+pub returns-in_err-made-clause-cut : goal.returns-in_err-made-clause-cut
+returns-in_err-made-clause-cut g c w left s batch =
+    let p = err_from_is_err_and c.from_residual-in_err-made.result c.from_residual-in_err-made.ensures.1 in
+    rw (p.1, p.2) tt

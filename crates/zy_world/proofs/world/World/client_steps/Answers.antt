@@ -4,14 +4,14 @@ use Rattle.std.specs.Prelude.{slice_get, option_map}
 use Rattle.zy_table.specs.ClientRows.{client_step}
 use Rattle.zy_table.specs.ClientState.{ClientState, ClientOutcome}
 use Rattle.zy_world.specs.Answered.{GoesTo}
-use Rattle.zy_world.specs.Shown.{Shown, with_replicas}
+use Rattle.zy_world.specs.Shown.{Seated, Shown, with_replicas}
 use Rattle.zy_world.specs.Shows.{Shows}
 use Rattle.zy_world_law.specs.Events.{Happened}
 use Rattle.zy_base.specs.declared.ids.Party.TheVariants as parties
 use Rattle.zy_world.specs.Answers.{party_answer}
 use Rattle.zy_world.specs.declared.step.ClientStep.{ClientStep}
 use Rattle.zy_world.proofs.Answering.{client_answered}
-use Rattle.zy_world.proofs.Turns.{steps_is, no_client_turns, client_turn, seats_with, missing_ahead}
+use Rattle.zy_world.proofs.Turns.{steps_is, no_client_turns, client_turn, seats_with, missing_ahead, replicas_stay}
 use Rattle.zy_world.proofs.world.World.client_steps.Goals as goal
 
 pub returns-in-None-clause-goes : goal.returns-in-None-clause-goes
@@ -51,3 +51,16 @@ returns-in_ok-client_stepped-in-Some-clause-answer g c =
     c.in_ok-client_stepped-in-Some.ensures.answer ∙ subst (λ (v : Shown g.row.M-State.Denot). Some c.in-Some.step.answer ≡ party_answer g.M.Machine.rules v.seats (parties.Client c.args.id) c.args.event) c.self.view_is
     (ap (option_map (λ (r : ClientStep). r.answer)) (sym c.in-Some.is)
     ∙ client_answered g.M.Machine.rules c.self.inside.seats _ c.args.id c.args.event _ c.in_ok-step_client.ensures.missing c.in_ok-step_client.ensures.stepped)
+
+pub returns-in-None-clause-replicas : goal.returns-in-None-clause-replicas
+returns-in-None-clause-replicas g c =
+    ap (λ (v : Shown g.row.M-State.Denot). v.seats.replicas) c.answered.ensures.world
+    ∙ ap (λ (s : Seated g.row.M-State.Denot). s.replicas) c.no_subject.ensures.seats
+    ∙ replicas_stay _ _ c.step_client.new.self c.self.inside.seats c.args.id.0 (λ x. client_step x c.args.event) c.in_ok-step_client.ensures.missing c.in_ok-step_client.ensures.state
+    ∙ ap (λ (v : Shown g.row.M-State.Denot). v.seats.replicas) c.self.view_is
+
+pub returns-in_ok-client_stepped-in-Some-clause-replicas : goal.returns-in_ok-client_stepped-in-Some-clause-replicas
+returns-in_ok-client_stepped-in-Some-clause-replicas g c =
+    ap (λ (s : Seated g.row.M-State.Denot). s.replicas) c.in_ok-client_stepped-in-Some.ensures.seats
+    ∙ replicas_stay _ _ c.step_client.new.self c.self.inside.seats c.args.id.0 (λ x. client_step x c.args.event) c.in_ok-step_client.ensures.missing c.in_ok-step_client.ensures.state
+    ∙ ap (λ (v : Shown g.row.M-State.Denot). v.seats.replicas) c.self.view_is

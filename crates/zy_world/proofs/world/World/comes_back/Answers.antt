@@ -12,8 +12,8 @@ use Rattle.zy_world.proofs.ComingBack.{back_has, brought_to_replica, ok_so}
 use Rattle.zy_world.proofs.Heard.{brought_unheard}
 use Rattle.zy_world.proofs.world.World.comes_back.Goals as goal
 
-pub returns-in_ok-hears-clause-goes : goal.returns-in_ok-hears-clause-goes
-returns-in_ok-hears-clause-goes g c w mail x before t =
+pub returns-clause-goes : goal.returns-clause-goes
+returns-clause-goes g c w mail x before t =
     let R = g.M.Machine.rules in
     let marked : World g.row.M-State.Denot = delivered w c.args.number mail in
     let o = whole_step R x.state (Heard c.args.bytes.now) in
@@ -23,8 +23,8 @@ returns-in_ok-hears-clause-goes g c w mail x before t =
     (sym (brought_to_replica R w c.args.number mail c.args.bytes.now c.args.id x t.sits _ h))
     (c.replica_stepped.ensures.goes (record marked { texts = h.texts }) x (Heard c.args.bytes.now) o (λ xs. slice_set before c.args.id.0 (Some c.args.gone.replica)) has)
 
-pub returns-in_ok-hears-clause-broken : goal.returns-in_ok-hears-clause-broken
-returns-in_ok-hears-clause-broken g c w mail x before t =
+pub returns-clause-broken : goal.returns-clause-broken
+returns-clause-broken g c w mail x before t =
     let R = g.M.Machine.rules in
     let marked : World g.row.M-State.Denot = delivered w c.args.number mail in
     let o = whole_step R x.state (Heard c.args.bytes.now) in
@@ -34,8 +34,8 @@ returns-in_ok-hears-clause-broken g c w mail x before t =
     (sym (brought_to_replica R w c.args.number mail c.args.bytes.now c.args.id x t.sits _ h))
     (c.replica_stepped.ensures.broken (record marked { texts = h.texts }) x (Heard c.args.bytes.now) o (λ xs. slice_set before c.args.id.0 (Some c.args.gone.replica)) has)
 
-pub returns-in_ok-hears-clause-replicas : goal.returns-in_ok-hears-clause-replicas
-returns-in_ok-hears-clause-replicas g c =
+pub returns-clause-replicas : goal.returns-clause-replicas
+returns-clause-replicas g c =
     ok_so _ _ c.replica_stepped.result c.replica_stepped.ensures.seats (λ r is.
     ap (λ (s : Seated g.row.M-State.Denot). s.replicas) (is ∙ ap (λ (v : Shown g.row.M-State.Denot). v.seats) c.seated.ensures)
     ∙ ap (λ (s : Seated g.row.M-State.Denot). slice_set s.replicas c.args.id.0 (Some c.args.gone.replica)) (c.in_ok-hears.ensures.seats ∙ c.marked.ensures.seats))

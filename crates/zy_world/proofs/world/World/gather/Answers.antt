@@ -1,6 +1,7 @@
 use Rattle.std.proofs.Common.{◌≡◌, ◌<◌, ◌≤◌, Bool, length, ap, ◌∙◌, subst, arith}
 use Rattle.zy_world.specs.Gathering.{GoesIn}
-use Rattle.zy_world.specs.Shown.{Posted, Shown}
+use Rattle.zy_world.specs.Shown.{Shown}
+use Rattle.zy_world.specs.declared.world.World.TheInside.{Inside}
 use Rattle.zy_world.proofs.Gathered.{gathered_so_many, gathered_to_end, gathered_to_second, gathers_on}
 use Rattle.zy_world.proofs.world.World.gather.Goals as goal
 
@@ -17,7 +18,7 @@ pub returns-then-not-branch-clause-gathered : goal.returns-then-not-branch-claus
 returns-then-not-branch-clause-gathered g c =
     let v = c.args.self.now in
     let loop = c.loop-at in
-    gathered_to_second v c.args.most loop.at c.args.batch.now loop.batch c.goes_in.new.batch loop.invariant.on loop.invariant.few
+    gathered_to_second v c.args.most loop.at c.args.batch.now loop.batch loop.invariant.on loop.invariant.few c.goes_in.new.batch
     (subst (λ (b : Bool). GoesIn v loop.at loop.batch c.goes_in.new.batch b) c.if-not-branch.true c.in_ok-goes_in.ensures)
 
 pub returns-else-len-most-clause-gathered : goal.returns-else-len-most-clause-gathered
@@ -28,6 +29,7 @@ returns-else-len-most-clause-gathered g c =
 pub returns-after-loop-at-clause-gathered : goal.returns-after-loop-at-clause-gathered
 returns-after-loop-at-clause-gathered g c =
     let loop = c.loop-at in
-    let mails = c.self-inside.inside.mails in
-    let same : length mails.items ≡ length c.args.self.now.bag.mails = ap (λ (b : Posted). length b.mails) c.self-inside.view_is ∙ ap (λ (s : Shown g.row.M-State.Denot). length s.bag.mails) c.self.view_is in
+    let mails = c.self-inside.inside.0.1.1.1.1.1.0.mails in
+    let same : length mails.items ≡ length c.args.self.now.bag.mails =
+    ap (λ (v : Inside g.row.M.Denot g.row.M-State.Denot). length v.bag.mails) c.self-inside.view_is ∙ ap (λ (s : Shown g.row.M-State.Denot). length s.bag.mails) c.self.view_is in
     gathered_to_end c.args.self.now c.args.most loop.at c.args.batch.now loop.batch loop.invariant.on loop.invariant.few (omega (arith, c.loop-at-test.false, c.len.ensures, mails.ok.0, same))

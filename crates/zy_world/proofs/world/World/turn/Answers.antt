@@ -1,4 +1,4 @@
-use Rattle.std.proofs.Common.{◌≡◌, ◌∷◌, List, Result, Ok, sym, ap, ◌∙◌, absurd, subst}
+use Rattle.std.proofs.Common.{◌≡◌, ◌∷◌, List, Result, Ok, sym, ap, ◌∙◌, subst}
 use Rattle.std.proofs.lemmas.List.{nil_from_length}
 use Rattle.std.proofs.lemmas.Result.{err_from_is_err_and}
 use Rattle.std.specs.Prelude.{IfErr}
@@ -12,8 +12,8 @@ use Rattle.zy_world.proofs.ComingBack.{both_ok, client_goes_on, client_there, ev
 use Rattle.zy_world.proofs.NextFrames.{mail, mail_there}
 use Rattle.zy_world.proofs.world.World.turn.Goals as goal
 
-pub returns-in_ok-gone-in-Some-clause-goes : goal.returns-in_ok-gone-in-Some-clause-goes
-returns-in_ok-gone-in-Some-clause-goes g c w more is =
+pub returns-in-Some-clause-goes : goal.returns-in-Some-clause-goes
+returns-in-Some-clause-goes g c w more is =
     let R = g.M.Machine.rules in
     let due = c.args.due in
     let old = into_iter_items c.args.out.now in
@@ -26,8 +26,8 @@ returns-in_ok-gone-in-Some-clause-goes g c w more is =
     both_ok _ _ _ c.comes_back.result (c.comes_back.ensures.goes w (mail R w due more is.next) _ is.before turn) c.comes_back.ensures.replicas
     (λ r goes seats. replica_goes_on R w due more old c.args.self is id to new gone taken r.note r.world goes seats)
 
-pub returns-in_ok-gone-in-Some-clause-broken : goal.returns-in_ok-gone-in-Some-clause-broken
-returns-in_ok-gone-in-Some-clause-broken g c w more is =
+pub returns-in-Some-clause-broken : goal.returns-in-Some-clause-broken
+returns-in-Some-clause-broken g c w more is =
     let R = g.M.Machine.rules in
     let due = c.args.due in
     let old = into_iter_items c.args.out.now in
@@ -45,12 +45,12 @@ returns-in_err-gone-in-Some-clause-broken g c w more is =
     let p = err_from_is_err_and c.from_residual.result c.from_residual.ensures.1 in
     rw (p.1, p.2) tt
 
-pub returns-in-None-clause-goes : goal.returns-in-None-clause-goes
-returns-in-None-clause-goes g c w more is =
+pub returns-in-Replica-clause-goes : goal.returns-in-Replica-clause-goes
+returns-in-Replica-clause-goes g c w more is =
     absurd (some_out g.M.Machine.rules w c.args.due more (into_iter_items c.args.out.now) c.args.self is c.in-Replica.id c.in-Replica.is (nil_from_length _ (sym c.args.out.now.rest.ok.0 ∙ c.in-None.ensures.cases.0)))
 
-pub returns-in-Client-clause-goes : goal.returns-in-Client-clause-goes
-returns-in-Client-clause-goes g c w more is =
+pub returns-clause-goes : goal.returns-clause-goes
+returns-clause-goes g c w more is =
     let R = g.M.Machine.rules in
     let old = into_iter_items c.args.out.now in
     let id = c.in-Client.id in
@@ -60,8 +60,8 @@ returns-in-Client-clause-goes g c w more is =
     c.client_hears.ensures.replicas
     (λ r goes seats. client_goes_on R w c.args.due more old c.args.self is id to r.note r.world goes seats)
 
-pub returns-in-Client-clause-broken : goal.returns-in-Client-clause-broken
-returns-in-Client-clause-broken g c w more is =
+pub returns-clause-broken : goal.returns-clause-broken
+returns-clause-broken g c w more is =
     let R = g.M.Machine.rules in
     let old = into_iter_items c.args.out.now in
     let id = c.in-Client.id in
