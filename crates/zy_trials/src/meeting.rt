@@ -22,6 +22,7 @@ use zy_world_setup::Setup;
 const READINGS: u64 = 200_000_000;
 
 /// Makes the step of an order when two replicas are in theirs.
+#[derive(Drop)]
 struct Meeting {
     inside: AtomicU64,
     alone: AtomicU64,
