@@ -1,4 +1,4 @@
-use Rattle.std.proofs.Common.{◌≡◌, sym, subst}
+use Rattle.std.proofs.Common.{sym, subst}
 use Rattle.zy_world.specs.Shown.{Shown, with_replicas}
 use Rattle.zy_world.specs.Stepping.{HasClientStepped}
 use Rattle.zy_world.proofs.Gone.{client_gone}

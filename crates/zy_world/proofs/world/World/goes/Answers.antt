@@ -1,4 +1,3 @@
-use Rattle.std.proofs.Common.{◌≡◌}
 use Rattle.std.proofs.lemmas.Result.{err_from_is_err_and}
 use Rattle.zy_world_law.specs.Events.{happens}
 use Rattle.zy_world.proofs.world.World.goes.Goals as goal

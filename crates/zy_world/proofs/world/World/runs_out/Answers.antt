@@ -1,4 +1,4 @@
-use Rattle.std.proofs.Common.{◌≡◌, sym, ◌∙◌, subst}
+use Rattle.std.proofs.Common.{sym, ◌∙◌, subst}
 use Rattle.std.specs.Prelude.{IfOk, IfErr}
 use Rattle.zy_world.specs.Answered.{GoesTo, IsBrokenBy}
 use Rattle.zy_world_law.specs.Events.{Happened}
