@@ -9,10 +9,11 @@ use Rattle.zy_schedule.specs.Making.{made_lines}
 use Rattle.zy_schedule.specs.Reading.{schedule_of}
 use Rattle.zy_schedule.specs.declared.line.Line.{Line}
 use Rattle.zy_world_setup.specs.Starting.{IsStart}
-use Rattle.zy_space.specs.Service.{space_rules}
+use Rattle.zy_space.specs.Service.{IsSpaceState, space_rules}
 use Rattle.zy_world.specs.Flowing.{Passes, Stops, all_done}
 use Rattle.zy_world.specs.Shown.{Shown}
 use Rattle.zy_world.specs.Shows.{Shows}
+use Rattle.zy_world_law.specs.Backed.{IsKeptBacked}
 use Rattle.zy_world_law.specs.Blame.{IsBlameless}
 use Rattle.zy_world_law.specs.Events as events
 use Rattle.zy_world_law.specs.Events.{happens}
@@ -163,3 +164,10 @@ IsBlamelessRun setup schedule = AllByRecursion (IsBlameless space_rules) (worlds
 
 abbrev pub IsBlamelessCommand : Option Held → Result Command ℕ → Type 0
 IsBlamelessCommand told asked = OfCommand IsBlamelessRun told asked
+
+-- in every world of the run what a correct party keeps is backed: its signers said it, or they lie
+abbrev pub IsBackedRun : Setup → List Line → Type 0
+IsBackedRun setup schedule = AllByRecursion (IsKeptBacked IsSpaceState) (worlds_of space_rules setup schedule)
+
+abbrev pub IsBackedCommand : Option Held → Result Command ℕ → Type 0
+IsBackedCommand told asked = OfCommand IsBackedRun told asked

@@ -5,7 +5,7 @@ ghost use Rattle.zy_schedule.specs.Texts.{IsSaid};
 ghost use Rattle.zy_world_setup.specs.Starting.{IsStart};
 ghost use Rattle.zy_top_words.specs.Calls.{exit_of};
 ghost use Rattle.zy_top.specs.Group as groups;
-ghost use Rattle.zy_top.specs.Replaying.{IsBlamelessRun, IsRunning, IsSafeRun, IsSummedUp, OfMake};
+ghost use Rattle.zy_top.specs.Replaying.{IsBackedRun, IsBlamelessRun, IsRunning, IsSafeRun, IsSummedUp, OfMake};
 ghost use Rattle.zy_top_words.specs.Ends.{IsAnswer, IsWritten, is_write_fault, limit};
 ghost use Rattle.zy_top.specs.Truthful.{IsUnforgedRun};
 ghost use Rattle.zy_top.specs.Verdict.{make_verdict, sum_verdict};
@@ -25,17 +25,22 @@ use zy_schedule::{Line, make};
 use zy_space::Space;
 use zy_top_words::{Asks, Exit, write_all};
 use zy_world::World;
-use zy_world_law::{no_correct_replica_is_blamed, no_run_is_forged, runs_are_safe};
+use zy_world_law::{
+    no_correct_replica_is_blamed, no_run_is_forged, runs_are_safe, what_is_kept_is_backed,
+};
 use zy_world_setup::Setup;
 
-/// Every world of a run that is made is safe, the agreed list only grows, no correct replica is blamed, and no signature is forged.
+/// Every world of a run that is made is safe, the agreed list only grows, no correct replica is blamed, what is kept is backed, and no
+/// signature is forged.
 pub(crate) fn made_runs_are_safe()
     ensures safe { (number asks : ℕ) → OfMake IsSafeRun number asks }
     ensures blameless { (number asks : ℕ) → OfMake IsBlamelessRun number asks }
+    ensures backed { (number asks : ℕ) → OfMake IsBackedRun number asks }
     ensures unforged { (number asks : ℕ) → OfMake IsUnforgedRun number asks }
 {
     runs_are_safe::<Space>();
     no_correct_replica_is_blamed::<Space>();
+    what_is_kept_is_backed::<Space>();
     no_run_is_forged::<Space>();
 }
 

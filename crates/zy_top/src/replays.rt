@@ -5,7 +5,7 @@ ghost use Rattle.zy_edge.specs.Files.{content_of};
 ghost use Rattle.zy_schedule.specs.Texts.{IsSaid};
 ghost use Rattle.zy_world_setup.specs.Starting.{IsStart};
 ghost use Rattle.zy_top_words.specs.Calls.{IsReading, exit_of, stops_reading};
-ghost use Rattle.zy_top.specs.Replaying.{IsBlamelessRun, IsGroupJudged, IsRunning, IsSafeRun, IsScheduleJudged, OfReplay};
+ghost use Rattle.zy_top.specs.Replaying.{IsBackedRun, IsBlamelessRun, IsGroupJudged, IsRunning, IsSafeRun, IsScheduleJudged, OfReplay};
 ghost use Rattle.zy_top_words.specs.Ends.{IsAnswer, IsWritten, is_read_fault, is_foreign, is_refusal, is_write_fault, limit};
 ghost use Rattle.zy_top.specs.Truthful.{IsUnforgedRun};
 ghost use Rattle.zy_top.specs.Verdict.{replay_verdict, run_verdict};
@@ -21,18 +21,22 @@ use zy_edge::{Files, Sink};
 use zy_schedule::{Line, read_schedule};
 use zy_space::Space;
 use zy_top_words::{Exit, read_file};
-use zy_world_law::{no_correct_replica_is_blamed, no_run_is_forged, runs_are_safe};
+use zy_world_law::{
+    no_correct_replica_is_blamed, no_run_is_forged, runs_are_safe, what_is_kept_is_backed,
+};
 use zy_world_setup::Setup;
 
-/// Every world of a run that a group and a schedule tell of is safe, the agreed list only grows, no correct replica is blamed, and where
-/// nobody lies no signature is forged.
+/// Every world of a run that a group and a schedule tell of is safe, the agreed list only grows, no correct replica is blamed, what is
+/// kept is backed, and where nobody lies no signature is forged.
 pub(crate) fn replays_are_safe()
     ensures safe { (group schedule : List ℕ) → OfReplay IsSafeRun group schedule }
     ensures blameless { (group schedule : List ℕ) → OfReplay IsBlamelessRun group schedule }
+    ensures backed { (group schedule : List ℕ) → OfReplay IsBackedRun group schedule }
     ensures unforged { (group schedule : List ℕ) → OfReplay IsUnforgedRun group schedule }
 {
     runs_are_safe::<Space>();
     no_correct_replica_is_blamed::<Space>();
+    what_is_kept_is_backed::<Space>();
     no_run_is_forged::<Space>();
 }
 

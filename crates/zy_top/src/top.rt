@@ -6,7 +6,7 @@ ghost use Rattle.zy_top_words.specs.Ends.{IsAnswer, IsOwnAnswer, IsReport, IsWri
 ghost use Rattle.zy_top.specs.Hosting.{AreBound, AreSpent, EndsItself, IsHosted, is_hosted};
 ghost use Rattle.zy_top.specs.Verdict.{own_verdict, space_verdict, verdict};
 ghost use Rattle.zy_top.specs.Keys.{key_file};
-ghost use Rattle.zy_top.specs.Replaying.{IsBlamelessCommand, IsSafeCommand};
+ghost use Rattle.zy_top.specs.Replaying.{IsBackedCommand, IsBlamelessCommand, IsSafeCommand};
 ghost use Rattle.zy_top.specs.Truthful.{IsTruthful};
 ghost use Rattle.zy_top_words.specs.Words.{command_of, texts};
 
@@ -92,6 +92,10 @@ pub fn zyzzyva<R: Threads + Sync, F: Files, S: Sink, L: Link, C: Clock>(
     // Nor does any event in one of these worlds blame a correct replica, whatever it is: by two orders of its own, or by a refusal
     // because two heads stand at one proven place, or because what is stable isn't on what a view begins with.
     ensures blameless { IsBlamelessCommand (F.held files.old) (command_of (texts words.now)) }
+
+    // In each of these worlds every signed statement that a correct party keeps, and every hate that it counts, was said by its signer,
+    // or that lies.
+    ensures backed { IsBackedCommand (F.held files.old) (command_of (texts words.now)) }
 
     // A forged signature is told of a replay alone, and of none in whose schedule nobody lies: no liar signs a frame there, no bytes
     // are sent as they are, and no key is made anew. So `make` stops before its end at two texts of one digest alone.

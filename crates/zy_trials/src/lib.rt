@@ -1,6 +1,5 @@
-//! The one crate with tests, and nothing else. What a table of rows or a stored run can show stands there: here are the
-//! system's files, output, sockets and clock, doubles of traits, and calls that fail while a node, an ask or the whole
-//! program runs.
+//! Tests of what no table of rows can show, up to nodes: the system's files, output, sockets and clock, and doubles of traits, as a
+//! core that counts its calls or a link that fails.
 #![tactic(auto)]
 
 #[cfg(test)]
@@ -10,8 +9,6 @@ mod cluster;
 #[cfg(test)]
 mod command_line;
 #[cfg(test)]
-mod each_call;
-#[cfg(test)]
 mod group;
 #[cfg(test)]
 mod host_faults;
@@ -20,15 +17,9 @@ mod host_frames;
 #[cfg(test)]
 mod host_timers;
 #[cfg(test)]
-mod hosted;
-#[cfg(test)]
 mod loopback;
 #[cfg(test)]
-mod meeting;
-#[cfg(test)]
 mod output;
-#[cfg(test)]
-mod outside;
 #[cfg(test)]
 mod probe;
 #[cfg(test)]
@@ -38,12 +29,4 @@ mod real_disk;
 #[cfg(test)]
 mod real_files;
 #[cfg(test)]
-mod secrets;
-#[cfg(test)]
 mod sockets;
-#[cfg(test)]
-mod texts;
-#[cfg(test)]
-mod top_faults;
-#[cfg(test)]
-mod top_files;

@@ -15,5 +15,6 @@ returns c = record {
     grows = c.runs_are_safe.ensures.grows (setup_of told) lines (sets_up group told read);
   };
   blameless = λ group schedule told lines read spelled. c.no_correct_replica_is_blamed.ensures.runs (setup_of told) lines (sets_up group told read);
+  backed = λ group schedule told lines read spelled. c.what_is_kept_is_backed.ensures (setup_of told) lines (sets_up group told read);
   unforged = λ group schedule told lines read spelled quiet. c.no_run_is_forged.ensures.unforged (setup_of told) lines (sets_up group told read) quiet;
 }

@@ -18,7 +18,7 @@ loop-line-init g c =
     }
 
 pub run_line-requires-clause-said : goal.run_line-requires-clause-said
-run_line-requires-clause-said g c κs lives = All-head IsSaid c.in-Some.line c.next.new.self.rest.items (rw c.in-Some.ensures.steps.0 at c.loop-line.invariant.said)
+run_line-requires-clause-said g c lifetimes lives = All-head IsSaid c.in-Some.line c.next.new.self.rest.items (rw c.in-Some.ensures.steps.0 at c.loop-line.invariant.said)
 
 pub run_line-requires-clause-room : goal.run_line-requires-clause-room
 run_line-requires-clause-room g c = omega (arith, c.loop-line.invariant.count, ap length c.in-Some.ensures.steps.0, c.requires.room)

@@ -9,7 +9,7 @@ use Rattle.zy_top.specs.Keys.{key_file}
 use Rattle.zy_top.specs.Verdict.{make_verdict, replay_verdict, verdict}
 use Rattle.zy_top_words.proofs.Endings.{cut_short, told_finishes}
 use Rattle.zy_top.proofs.Headline.{of_commands}
-use Rattle.zy_top.specs.Replaying.{IsBlamelessRun, IsSafeRun}
+use Rattle.zy_top.specs.Replaying.{IsBackedRun, IsBlamelessRun, IsSafeRun}
 use Rattle.zy_top.proofs.HostLaws.{asked_in_vain, nothing_due, turns_end, unbound}
 use Rattle.zy_top.proofs.MadeRuns.{made_finishes, own_answer}
 use Rattle.zy_top.proofs.TruthfulRuns.{make_truthful, replay_truthful}
@@ -36,6 +36,10 @@ pub returns-in-Ok-run_replay-clause-blameless : goal.returns-in-Ok-run_replay-cl
 returns-in-Ok-run_replay-clause-blameless g c =
     of_commands IsBlamelessRun c.replays_are_safe.ensures.blameless c.made_runs_are_safe.ensures.blameless (g.F.Files.held c.args.files.now) (command_of (texts c.args.words.now))
 
+pub returns-in-Ok-run_replay-clause-backed : goal.returns-in-Ok-run_replay-clause-backed
+returns-in-Ok-run_replay-clause-backed g c =
+    of_commands IsBackedRun c.replays_are_safe.ensures.backed c.made_runs_are_safe.ensures.backed (g.F.Files.held c.args.files.now) (command_of (texts c.args.words.now))
+
 pub returns-in-Ok-run_make-clause-headline : goal.returns-in-Ok-run_make-clause-headline
 returns-in-Ok-run_make-clause-headline g c =
     of_commands IsSafeRun c.replays_are_safe.ensures.safe c.made_runs_are_safe.ensures.safe (g.F.Files.held c.args.files.now) (command_of (texts c.args.words.now))
@@ -43,6 +47,10 @@ returns-in-Ok-run_make-clause-headline g c =
 pub returns-in-Ok-run_make-clause-blameless : goal.returns-in-Ok-run_make-clause-blameless
 returns-in-Ok-run_make-clause-blameless g c =
     of_commands IsBlamelessRun c.replays_are_safe.ensures.blameless c.made_runs_are_safe.ensures.blameless (g.F.Files.held c.args.files.now) (command_of (texts c.args.words.now))
+
+pub returns-in-Ok-run_make-clause-backed : goal.returns-in-Ok-run_make-clause-backed
+returns-in-Ok-run_make-clause-backed g c =
+    of_commands IsBackedRun c.replays_are_safe.ensures.backed c.made_runs_are_safe.ensures.backed (g.F.Files.held c.args.files.now) (command_of (texts c.args.words.now))
 
 pub returns-in-Err-run_replay-clause-headline : goal.returns-in-Err-run_replay-clause-headline
 returns-in-Err-run_replay-clause-headline g c =
@@ -52,6 +60,10 @@ pub returns-in-Err-run_replay-clause-blameless : goal.returns-in-Err-run_replay-
 returns-in-Err-run_replay-clause-blameless g c =
     of_commands IsBlamelessRun c.replays_are_safe.ensures.blameless c.made_runs_are_safe.ensures.blameless (g.F.Files.held c.args.files.now) (command_of (texts c.args.words.now))
 
+pub returns-in-Err-run_replay-clause-backed : goal.returns-in-Err-run_replay-clause-backed
+returns-in-Err-run_replay-clause-backed g c =
+    of_commands IsBackedRun c.replays_are_safe.ensures.backed c.made_runs_are_safe.ensures.backed (g.F.Files.held c.args.files.now) (command_of (texts c.args.words.now))
+
 pub returns-in-Err-run_make-clause-headline : goal.returns-in-Err-run_make-clause-headline
 returns-in-Err-run_make-clause-headline g c =
     of_commands IsSafeRun c.replays_are_safe.ensures.safe c.made_runs_are_safe.ensures.safe (g.F.Files.held c.args.files.now) (command_of (texts c.args.words.now))
@@ -59,6 +71,10 @@ returns-in-Err-run_make-clause-headline g c =
 pub returns-in-Err-run_make-clause-blameless : goal.returns-in-Err-run_make-clause-blameless
 returns-in-Err-run_make-clause-blameless g c =
     of_commands IsBlamelessRun c.replays_are_safe.ensures.blameless c.made_runs_are_safe.ensures.blameless (g.F.Files.held c.args.files.now) (command_of (texts c.args.words.now))
+
+pub returns-in-Err-run_make-clause-backed : goal.returns-in-Err-run_make-clause-backed
+returns-in-Err-run_make-clause-backed g c =
+    of_commands IsBackedRun c.replays_are_safe.ensures.backed c.made_runs_are_safe.ensures.backed (g.F.Files.held c.args.files.now) (command_of (texts c.args.words.now))
 
 pub returns-in-Ok-run_make-clause-own : goal.returns-in-Ok-run_make-clause-own
 returns-in-Ok-run_make-clause-own g c =
