@@ -78,6 +78,9 @@ fn asked(alloc: Global) -> Result<World<Space>, Want> {
         return Err(Want);
     };
     let op = op_bytes(alloc, &op)?;
+    if op.len() > 1100 {
+        return Err(Want);
+    }
     match world.step(WorldEvent::Ask {
         client: ClientId(0),
         op,
