@@ -9,11 +9,11 @@ use Rattle.zy_trace.proofs.tracing.trace_told.Goals as goal
 pub returns-in-None-clause-answer : goal.returns-in-None-clause-answer
 returns-in-None-clause-answer g c = whole_answers space_rules (run space_rules c.args.lines.items (start space_rules c.args.setup)) _ c.in-None.is c.in_ok-traced.ensures
 
-pub returns-in-Some-clause-answer : goal.returns-in-Some-clause-answer
-returns-in-Some-clause-answer g c = broken_answers space_rules (run space_rules c.args.lines.items (start space_rules c.args.setup)) _ c.in-Some.exit c.in-Some.is c.in_ok-traced.ensures
+pub returns-clause-answer : goal.returns-clause-answer
+returns-clause-answer g c = broken_answers space_rules (run space_rules c.args.lines.items (start space_rules c.args.setup)) _ c.in-Some.exit c.in-Some.is c.in_ok-traced.ensures
 
-pub returns-in-Some-clause-exit : goal.returns-in-Some-clause-exit
-returns-in-Some-clause-exit g c = broken_runs space_rules (run space_rules c.args.lines.items (start space_rules c.args.setup)) _ c.in-Some.exit c.in-Some.is c.in_ok-traced.ensures
+pub returns-clause-exit : goal.returns-clause-exit
+returns-clause-exit g c = broken_runs space_rules (run space_rules c.args.lines.items (start space_rules c.args.setup)) _ c.in-Some.exit c.in-Some.is c.in_ok-traced.ensures
 
 pub returns-in_err-write_all-clause-answer : goal.returns-in_err-write_all-clause-answer
 returns-in_err-write_all-clause-answer g c =

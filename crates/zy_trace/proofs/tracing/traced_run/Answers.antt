@@ -11,8 +11,8 @@ returns-in-Ok g c =
     let ran = c.in-Ok.ensures.run first c.in_ok-world.ensures in
     stop_at_end space_rules (run space_rules c.args.lines.items first) ran.0 ran.1
 
-pub returns-in_ok-broke-in-Err-Broke : goal.returns-in_ok-broke-in-Err-Broke
-returns-in_ok-broke-in-Err-Broke g c =
+pub returns-in-Err-Broke : goal.returns-in-Err-Broke
+returns-in-Err-Broke g c =
     let first = start space_rules c.args.setup in
     let ran = rw c.in-Err-Broke.field-0-is at (c.in-Err-Broke.ensures.run first c.in_ok-world.ensures) in
     let number : c.run_lines.new.tale.tally.events + 1 ≡ length (run space_rules c.args.lines.items first).notes + 1 = omega (arith, ran.3.events, c.new-tale.ensures.events) in
