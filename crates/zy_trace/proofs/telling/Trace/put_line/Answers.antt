@@ -2,4 +2,4 @@ use Rattle.zy_top.proofs.SaidLaws.{said_op}
 use Rattle.zy_trace.proofs.telling.Trace.put_line.Goals as goal
 
 pub put_ask-requires : goal.put_ask-requires
-put_ask-requires g c = said_op c.in-Ask.client.now c.in-Ask.op.now (rw c.in-Ask.is at c.requires.said)
+put_ask-requires g c = said_op _ _ (rw c.in-Ask.is at c.requires.said)
