@@ -45,7 +45,7 @@ use Rattle.zy_cert.specs.declared.votes.Vote.TheVariants.{Counted, Full, Repeat,
 use Rattle.zy_table.specs.Roles.{is_replica}
 use Rattle.zy_table.specs.declared.client.Commit.{Commit}
 use Rattle.zy_table.specs.declared.client.Response.{Response}
-use Rattle.zy_table.specs.ClientState.{ClientState, client_start, leaves_of, refused}
+use Rattle.zy_table.specs.ClientState.{ClientState, client_start, signs_left, refused}
 use Rattle.zy_table.specs.ClientRows.{ask, ask_while, asked, next_ask, kept_of, response_cause, is_own_order_if, is_repeated, keep, agreeing, completed_if, evidence_by, told, keep_unless, complete, respond, respond_while, is_for, complete_by, vote_on, local_beside, local_while, count_local, is_certified, certified_in, locals_for, send_commit, ask_or_commit, run_out, run_out_while, is_by_primary, hear_response, hear, unless, decoded, decoded_as, view_decoded, client_step}
 use Rattle.zy_vframes.specs.Parts as view_parts
 use Rattle.zy_vframes.specs.ViewFrames as views
@@ -355,11 +355,11 @@ starts me counts keys sealer stamp = record { responses = λ waiting is. absurd 
 
 asks_while : (s : ClientState) (wait : Option (Signed Ask)) (op : List ℕ) → Holds s → Holds (ask_while s wait op).state
 asks_while s (Some waiting) op holds = holds
-asks_while s None op holds = with_leaf (nat_le 1 (leaves_of s))
+asks_while s None op holds = with_left (nat_le 1 (signs_left s))
   where
-    with_leaf : (leaf : Bool) → Holds (if leaf then asked s (next_ask s op) else refused causes.KeySpent s).state
-    with_leaf true = record { responses = λ waiting is id r kept. absurd (none_filled s.counts.n id r kept); commit = λ waiting commit is held. absurd cc }
-    with_leaf false = holds
+    with_left : (left : Bool) → Holds (if left then asked s (next_ask s op) else refused causes.KeySpent s).state
+    with_left true = record { responses = λ waiting is id r kept. absurd (none_filled s.counts.n id r kept); commit = λ waiting commit is held. absurd cc }
+    with_left false = holds
 
 pub asks_hold : (s : ClientState) (op : List ℕ) → Holds s → Holds (ask s op).state
 unfolding ask

@@ -51,7 +51,7 @@ use Rattle.zy_table.specs.Holes.{fill_with, fill_hole}
 use Rattle.zy_table.specs.Requests.{said_already, respond_as, sealed_order, ordered, request_at_primary, request_waits, forward, request_at_backup, tell_primary, new_request, request_after, is_behind, request, response_of}
 use Rattle.zy_table.specs.Roles.{view_cause}
 use Rattle.zy_table.specs.Running.{run, signs_of, spec_of}
-use Rattle.zy_table.specs.State.{State, own_view, is_leaving, is_primary, window_of, stood_of, leaves_of, spent, with_spec, spec_to, pending_of}
+use Rattle.zy_table.specs.State.{State, own_view, is_leaving, is_primary, window_of, stood_of, signs_left, spent, with_spec, spec_to, pending_of}
 use Rattle.zy_table.specs.Whole.{unless, commit_in_view, plain_row}
 use Rattle.zy_table.specs.declared.deeds.Act.TheVariants.{Says}
 use Rattle.zy_table.specs.declared.deeds.Body.TheVariants as bodies
@@ -87,8 +87,8 @@ abbrev pub IsNew : {S : Type 0} → Rules S → State S → Signed Ask → Type 
 IsNew R s ask = newer ask.stmt.stamp (option_map (λ (known : Known). known.stamp) (known_in R s.kept (entry_of ask).client.0)) ≡ true
 
 -- so many statements can still be signed
-abbrev pub HasLeaves : {S : Type 0} → State S → ℕ → Type 0
-HasLeaves s n = nat_le n (leaves_of s) ≡ true
+abbrev pub CanSign : {S : Type 0} → State S → ℕ → Type 0
+CanSign s n = nat_le n (signs_left s) ≡ true
 
 -- a local commit in the own view, of a place that the responses certify and of the own head there
 pub record IsOwnCommit {S : Type 0} (s : State S) (specs : List (Signed Spec)) (local : Local) : Type 0 where
@@ -106,14 +106,14 @@ pub data IsPut {S : Type 0} (s : State S) (Heard : Frame → Type 0) (board : Bo
 pub record Cases {S : Type 0} (R : Rules S) (s : State S) (Heard : Frame → Type 0) (P : Outcome S → Type 0) : Type 0 where
   pub refuses : (cause : Cause) → P (refused cause s)
   pub stays : (sent : List Sent) → P (record { answer = Taken; state = s; deeds = record { sent = sent; acts = [] } })
-  pub responds : (ask : Signed Ask) (known : Known) → known_in R s.kept (entry_of ask).client.0 ≡ Some known → HasLeaves s 1 → P (responded R s (spec_of (own_view s) ask known) known)
-  pub orders : (ask : Signed Ask) → Heard (frames.Request ask) → is_primary s ≡ true → IsNew R s ask → HasLeaves s (signs_of R s ask + 1) → P (ends Taken (run R (sealed_order R s ask) (ordered R s ask)))
-  pub waits : (ask : Signed Ask) → HasLeaves s 1 → P (ends Taken (request_waits R s ask))
+  pub responds : (ask : Signed Ask) (known : Known) → known_in R s.kept (entry_of ask).client.0 ≡ Some known → CanSign s 1 → P (responded R s (spec_of (own_view s) ask known) known)
+  pub orders : (ask : Signed Ask) → Heard (frames.Request ask) → is_primary s ≡ true → IsNew R s ask → CanSign s (signs_of R s ask + 1) → P (ends Taken (run R (sealed_order R s ask) (ordered R s ask)))
+  pub waits : (ask : Signed Ask) → CanSign s 1 → P (ends Taken (request_waits R s ask))
   pub commits : (specs : List (Signed Spec)) (client : ClientId) (local : Local) (said : Option (Signed Local)) (held : Option Certificate) → Heard (frames.Commit specs) → IsOwnCommit s specs local
-      → IsFurthest local.place specs s.views.specs held → HasLeaves s (locals_owed said + checks_owed (holding s held) (own_at R s local.place.0) true)
+      → IsFurthest local.place specs s.views.specs held → CanSign s (locals_owed said + checks_owed (holding s held) (own_at R s local.place.0) true)
       → P (ends Taken (gather_at R (own_at R s local.place.0) true (give_local R client local said (holding s held))))
   pub keeps : (board : Board) → IsPut s Heard board → P (ends Held (begin (with_board s board)))
-  pub gathers : (place : ℕ) (board : Board) → IsPut s Heard board → HasLeaves s (checks_owed (with_board s board) (own_at R s place) false)
+  pub gathers : (place : ℕ) (board : Board) → IsPut s Heard board → CanSign s (checks_owed (with_board s board) (own_at R s place) false)
       → P (ends Taken (gather_at R (own_at R s place) false (begin (with_board s board))))
   -- a request that a backup passes on may do what one of its client may
   pub confirms : (confirm : Signed Confirm) (ask : Signed Ask) → Heard (frames.ConfirmReq confirm ask) → Heard (frames.Request ask)
@@ -122,17 +122,17 @@ module _ {S : Type 0} (R : Rules S) (s : State S) (Heard : Frame → Type 0) (P 
   -- ---- REQUEST
 
   respond_as_case : (ask : Signed Ask) (known : Known) (signed : Option (Signed Spec)) → known_in R s.kept (entry_of ask).client.0 ≡ Some known → P (respond_as R s signed (spec_of (own_view s) ask known) known)
-  respond_as_case ask known None is = by_test P (nat_le 1 (leaves_of s)) _ _ (of.responds ask known is) (λ none. of.refuses causes.KeySpent)
+  respond_as_case ask known None is = by_test P (nat_le 1 (signs_left s)) _ _ (of.responds ask known is) (λ none. of.refuses causes.KeySpent)
   respond_as_case ask known (Some signed) is = of.stays (response_of s signed known (begin s)).deeds.sent
 
   primary_case : (ask : Signed Ask) → Heard (frames.Request ask) → is_primary s ≡ true → IsNew R s ask → P (request_at_primary R s ask)
   primary_case ask heard primary new =
       by_test P (nat_lt (last_place s.kept) (window_of s)) _ _
-      (λ room. by_test P (nat_le (signs_of R s ask + 1) (leaves_of s)) _ _ (of.orders ask heard primary new) (λ none. of.refuses causes.KeySpent))
+      (λ room. by_test P (nat_le (signs_of R s ask + 1) (signs_left s)) _ _ (of.orders ask heard primary new) (λ none. of.refuses causes.KeySpent))
       (λ full. of.refuses (causes.WindowFull (record { 0 = window_of s })))
 
   forward_case : (ask : Signed Ask) → P (forward R s ask)
-  forward_case ask = by_test P (nat_le 1 (leaves_of s)) _ _ (of.waits ask) (λ none. of.refuses causes.KeySpent)
+  forward_case ask = by_test P (nat_le 1 (signs_left s)) _ _ (of.waits ask) (λ none. of.refuses causes.KeySpent)
 
   backup_case : (ask : Signed Ask) (pending : Option Pending) → P (request_at_backup R s ask pending)
   backup_case ask None = forward_case ask
@@ -192,10 +192,10 @@ module _ {S : Type 0} (R : Rules S) (s : State S) (Heard : Frame → Type 0) (P 
   commit_as_case specs client local said heard own =
       let mine : Option OwnCheckpoint = own_at R s local.place.0 in
       by_certificate s
-      (λ (s' : State S). P (if nat_le (locals_owed said + checks_owed s' mine true) (leaves_of s) then ends Taken (gather_at R mine true (give_local R client local said s')) else refused causes.KeySpent s))
+      (λ (s' : State S). P (if nat_le (locals_owed said + checks_owed s' mine true) (signs_left s) then ends Taken (gather_at R mine true (give_local R client local said s')) else refused causes.KeySpent s))
       local.place specs
       (λ held furthest.
-      by_test P (nat_le (locals_owed said + checks_owed (holding s held) mine true) (leaves_of s)) _ _
+      by_test P (nat_le (locals_owed said + checks_owed (holding s held) mine true) (signs_left s)) _ _
       (λ left. of.commits specs client local said held heard own furthest left)
       (λ none. of.refuses causes.KeySpent))
 
@@ -237,7 +237,7 @@ module _ {S : Type 0} (R : Rules S) (s : State S) (Heard : Frame → Type 0) (P 
   kept_case : (place : ℕ) (answer : Kept) (board : Board) → (is_refused answer ≡ false → IsPut s Heard board) → P (kept_as R s (own_at R s place) answer board)
   kept_case place answers.Held board put = of.keeps board (put refl)
   kept_case place (answers.Kept number) board put =
-      by_test P (nat_le (checks_owed (with_board s board) (own_at R s place) false) (leaves_of s)) _ _ (λ left. of.gathers place board (put refl) left) (λ none. of.refuses causes.KeySpent)
+      by_test P (nat_le (checks_owed (with_board s board) (own_at R s place) false) (signs_left s)) _ _ (λ left. of.gathers place board (put refl) left) (λ none. of.refuses causes.KeySpent)
   kept_case place (answers.Refused cause) board put = of.refuses cause
 
   response_case : (vote : Signed Spec) (reply : List ℕ) (with_order : Option (Signed OrderStatement)) → Heard (frames.SpecResponse vote reply with_order) → P (response R s vote)

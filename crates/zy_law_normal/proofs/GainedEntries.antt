@@ -28,7 +28,7 @@ use Rattle.zy_table.specs.Deeds.{Going, Outcome, begin, gains_in}
 use Rattle.zy_table.specs.Requests.{ordered, sealed_order}
 use Rattle.zy_table.specs.Gathering.{own_at}
 use Rattle.zy_table.specs.Running.{got_of, run_one, run_held, run, fits_end, signs_of}
-use Rattle.zy_table.specs.State.{State, leaves_of}
+use Rattle.zy_table.specs.State.{State, signs_left}
 use Rattle.zy_table.specs.Orders.{order_as, owes_hole}
 use Rattle.zy_table.specs.Whole.{plain_row}
 use Rattle.zy_table.specs.declared.deeds.Act.{Act}
@@ -70,7 +70,7 @@ module _ {S : Type 0} (R : Rules S) (w : World) where
   held_gained (None ∷ slots) g may all = all
   held_gained (Some o ∷ slots) g may all =
       by_test (λ (g' : Going S). AreGained g'.deeds.acts) (fits_end R g.state o) _ _
-      (λ fits. by_test (λ (g' : Going S). AreGained g'.deeds.acts) (nat_le (signs_of R g.state o.ask) (leaves_of g.state)) _ _
+      (λ fits. by_test (λ (g' : Going S). AreGained g'.deeds.acts) (nat_le (signs_of R g.state o.ask) (signs_left g.state)) _ _
       (λ left. held_gained slots (run_one R o g) may.1 (one_gained o g may.0 all))
       (λ none. all))
       (λ differs. all)
@@ -107,7 +107,7 @@ module _ {S : Type 0} (R : Rules S) (w : World) where
 
     pub order_gained : (o : OrderFrame) → MayRun w (entry_of o.ask) → (a : Admit) → Gained (order_as R s o a)
     order_gained o may admits.Next =
-        by_test Gained (nat_le (signs_of R s o.ask) (leaves_of s)) _ _ (λ left. run_gained o (begin (record (with_held s o) { hole = None })) (slots_put w s.orders o slots may) may tt) (λ none. tt)
-    order_gained o may admits.Held = by_test Gained (owes_hole s) _ _ (λ owes. by_test Gained (nat_le 1 (leaves_of s)) _ _ (λ left. tt) (λ none. tt)) (λ asked. tt)
+        by_test Gained (nat_le (signs_of R s o.ask) (signs_left s)) _ _ (λ left. run_gained o (begin (record (with_held s o) { hole = None })) (slots_put w s.orders o slots may) may tt) (λ none. tt)
+    order_gained o may admits.Held = by_test Gained (owes_hole s) _ _ (λ owes. by_test Gained (nat_le 1 (signs_left s)) _ _ (λ left. tt) (λ none. tt)) (λ asked. tt)
     order_gained o may (admits.Refused cause) = tt
     order_gained o may admits.Evidence = tt

@@ -21,7 +21,7 @@ use Rattle.zy_law_normal.proofs.Records.{answer_longer, answer_pushed}
 use Rattle.zy_law.specs.World.{World}
 use Rattle.zy_table.specs.Deeds.{Going, gains_in}
 use Rattle.zy_table.specs.Running.{fits_end, got_of, run_held, run_one, signs_of}
-use Rattle.zy_table.specs.State.{leaves_of}
+use Rattle.zy_table.specs.State.{signs_left}
 use Rattle.zy_table.specs.declared.deeds.Act.{Act}
 use Rattle.zy_table.specs.declared.deeds.Act.TheVariants.{Gains}
 use Rattle.zy_table.specs.declared.deeds.Got.{Got}
@@ -134,7 +134,7 @@ module _ (w : World) (texts : Texts) where
     held_gains (None ∷ slots) g = λ gains. gains
     held_gains (Some o ∷ slots) g =
         by_test (λ (g' : Going S). AreGainsKept w texts g'.deeds.acts → AreGainsKept w texts g.deeds.acts) (fits_end R g.state o) _ _
-        (λ fits. by_test (λ (g' : Going S). AreGainsKept w texts g'.deeds.acts → AreGainsKept w texts g.deeds.acts) (nat_le (signs_of R g.state o.ask) (leaves_of g.state)) _ _
+        (λ fits. by_test (λ (g' : Going S). AreGainsKept w texts g'.deeds.acts → AreGainsKept w texts g.deeds.acts) (nat_le (signs_of R g.state o.ask) (signs_left g.state)) _ _
         (λ left gains. (one_gains o g (held_gains slots (run_one R o g) gains)).0)
         (λ none gains. gains))
         (λ differs gains. gains)

@@ -41,7 +41,7 @@ use Rattle.zy_parts.specs.declared.statements.Spec.{Spec}
 use Rattle.zy_table.specs.Deeds.{Going, act, send_any}
 use Rattle.zy_table.specs.Gathering.{certificate_at, gather, gather_at, keep_certificate, own_with, owes_check, proof_at, say_check, say_check_if, settle_with, settled_at, state_in, with_certificate, with_own_spec}
 use Rattle.zy_table.specs.Running.{executed, fits_end, next_known, respond, run, run_held, run_one, sealed_spec, share, signs_of, spec_of, still_pending}
-use Rattle.zy_table.specs.State.{State, leaves_of, own_view, spent, start_of, stood_of, with_spec}
+use Rattle.zy_table.specs.State.{State, signs_left, own_view, spent, start_of, stood_of, with_spec}
 use Rattle.zy_table.specs.declared.deeds.Act.TheVariants.{Says, Gains}
 use Rattle.zy_table.specs.declared.deeds.AnyFrame.{AnyFrame}
 use Rattle.zy_table.specs.declared.deeds.AnyFrame.TheVariants.{Plain}
@@ -320,7 +320,7 @@ module _ {S : Type 0} (R : Rules S) (ok : S → Type 0) (law : Laws ok R) (F : S
   runs_held (None ∷ slots) X g tells is = is
   runs_held (Some o ∷ slots) X g tells is =
       by_test (λ (h : Going S). Passes X h) (fits_end R g.state o) _ _
-      (λ fits. by_test (λ (h : Going S). Passes X h) (nat_le (signs_of R g.state o.ask) (leaves_of g.state)) _ _
+      (λ fits. by_test (λ (h : Going S). Passes X h) (nat_le (signs_of R g.state o.ask) (signs_left g.state)) _ _
       (λ left. runs_held slots X (run_one R o g) (λ x. (tells x).1) (runs_one X o g (λ x. (tells x).0.0) is)) (λ none. is))
       (λ differs. turns X X (record g.state { orders = without_order g.state.orders (last_place g.state.kept + 1) }) g (λ x signer v. (x, signer, (v.0, put (OfOrder F) g.state.orders.slots (last_place g.state.kept + 1 - g.state.orders.base - 1) None v.1 tt, v.2, v.3, v.4, v.5, v.6, v.7, v.8))) is)
 

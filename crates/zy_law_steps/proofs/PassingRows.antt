@@ -95,7 +95,7 @@ use Rattle.zy_table.specs.Orders.{ask_for_missing, hole_of, order_as, owes_hole,
 use Rattle.zy_table.specs.Requests.{is_behind, new_request, ordered, request, request_after, request_at_backup, request_waits, respond_as, response_of, said_already, sealed_confirm, sealed_order, tell_primary}
 use Rattle.zy_table.specs.Roles.{in_role, is_replica, view_cause}
 use Rattle.zy_table.specs.Running.{run, sealed_spec, signs_of, spec_of}
-use Rattle.zy_table.specs.State.{State, is_leaving, is_primary, leaves_of, own_view, pending_of, primary_of, spec_to, spent, stood_of, window_of, with_pending, with_spec as with_own}
+use Rattle.zy_table.specs.State.{State, is_leaving, is_primary, signs_left, own_view, pending_of, primary_of, spec_to, spent, stood_of, window_of, with_pending, with_spec as with_own}
 use Rattle.zy_table.specs.Whole.{commit_in_view, unless, decoded_as, hear_plain, hear_view, is_view_frame_in_role, order_judged, plain_row, view_decoded, view_row, whole_step}
 use Rattle.zy_table.specs.declared.deeds.Act.TheVariants.{Says}
 use Rattle.zy_table.specs.declared.deeds.AnyFrame.TheVariants.{Plain, View as Framed}
@@ -197,7 +197,7 @@ module _ {S : Type 0} (R : Rules S) (ok : S → Type 0) (law : Laws ok R) (F : S
   responds_as : (said : Option (Signed Spec)) (spec : Spec) (known : Known) → IsShortKnown known → IfSome said F.spec → Of (respond_as R s said spec known)
   responds_as (Some signed) spec known short one = comes (response_of s signed known (begin s)) (again signed known (begin s) short one start)
   responds_as None spec known short none =
-      by_test Of (nat_le 1 (leaves_of s)) _ _
+      by_test Of (nat_le 1 (signs_left s)) _ _
       (λ left.
       let signed : Signed Spec = sealed_spec s spec in
       let remark : Remark = record { body = bodies.Spec spec; stood = stood_of R s } in
@@ -244,8 +244,8 @@ module _ {S : Type 0} (R : Rules S) (ok : S → Type 0) (law : Laws ok R) (F : S
       let one : OfPending F pending = (to_say s.sealer by, heard) in
       (one, by, (w.0, w.1, w.2, w.3, w.4, filled (OfPending F) s.pending client.0 pending w.5 one, w.6, w.7, w.8))) start))
 
-  forwards : (ask : Signed Ask) → F.ask ask → Of (if nat_le 1 (leaves_of s) then ends Taken (request_waits R s ask) else refused causes.KeySpent s)
-  forwards ask heard = by_test Of (nat_le 1 (leaves_of s)) _ _ (λ left. comes (request_waits R s ask) (waits ask heard)) (λ none. refuses causes.KeySpent)
+  forwards : (ask : Signed Ask) → F.ask ask → Of (if nat_le 1 (signs_left s) then ends Taken (request_waits R s ask) else refused causes.KeySpent s)
+  forwards ask heard = by_test Of (nat_le 1 (signs_left s)) _ _ (λ left. comes (request_waits R s ask) (waits ask heard)) (λ none. refuses causes.KeySpent)
 
   at_backup : (ask : Signed Ask) (pending : Option Pending) → F.ask ask → IfSome pending (OfPending F) → Of (request_at_backup R s ask pending)
   at_backup ask None heard none = forwards ask heard
@@ -257,7 +257,7 @@ module _ {S : Type 0} (R : Rules S) (ok : S → Type 0) (law : Laws ok R) (F : S
   new_one ask heard =
       by_test Of (is_primary s) _ _
       (λ primary. by_test Of (nat_lt (last_place s.kept) (window_of s)) _ _
-      (λ room. by_test Of (nat_le (signs_of R s ask + 1) (leaves_of s)) _ _ (λ left. comes (run R (sealed_order R s ask) (ordered R s ask)) (takes_request ask heard)) (λ none. refuses causes.KeySpent))
+      (λ room. by_test Of (nat_le (signs_of R s ask + 1) (signs_left s)) _ _ (λ left. comes (run R (sealed_order R s ask) (ordered R s ask)) (takes_request ask heard)) (λ none. refuses causes.KeySpent))
       (λ full. refuses (causes.WindowFull (record { 0 = window_of s }))))
       (λ backup. at_backup ask (pending_of s (entry_of ask).client) heard (slot_at (OfPending F) s.pending (entry_of ask).client.0 v.5))
 
@@ -312,12 +312,12 @@ module _ {S : Type 0} (R : Rules S) (ok : S → Type 0) (law : Laws ok R) (F : S
   orders_as o admits.Next heard =
       let t : State S = record s { orders = with_order s.orders o; hole = None } in
       let w = with_held o heard in
-      by_test Of (nat_le (signs_of R s o.ask) (leaves_of s)) _ _
+      by_test Of (nat_le (signs_of R s o.ask) (signs_left s)) _ _
       (λ left. comes (run R o (begin t)) (runs R ok law F me (Unit {0}) o (begin t) (λ x. heard.0) (begins_at t signer (w.0, w.1, w.2, tt, w.4, w.5, w.6, w.7, w.8)))) (λ none. refuses causes.KeySpent)
   orders_as o admits.Held heard =
       let t : State S = record s { orders = with_order s.orders o } in
       by_test Of (owes_hole s) _ _
-      (λ owes. by_test Of (nat_le 1 (leaves_of s)) _ _ (λ left. holds (ask_for_missing R t) (misses t signer (with_held o heard))) (λ none. refuses causes.KeySpent))
+      (λ owes. by_test Of (nat_le 1 (signs_left s)) _ _ (λ left. holds (ask_for_missing R t) (misses t signer (with_held o heard))) (λ none. refuses causes.KeySpent))
       (λ asked. holds (begin t) (begins_at t signer (with_held o heard)))
   orders_as o (admits.Refused cause) heard = refuses cause
   orders_as o admits.Evidence heard = refuses causes.Unmatched
@@ -343,7 +343,7 @@ module _ {S : Type 0} (R : Rules S) (ok : S → Type 0) (law : Laws ok R) (F : S
       let said : Option (Signed Local) = local_said s local in
       let by : t.sealer.me ≡ me = by_test (λ (q : State S). q.sealer.me ≡ me) (is_further local.place s.views.specs) _ _ (λ further. signer) (λ near. signer) in
       by_test Of (same_digest own local.head) _ _
-      (λ same. by_test Of (nat_le (locals_owed said + checks_owed t (own_at R s local.place.0) true) (leaves_of s)) _ _
+      (λ same. by_test Of (nat_le (locals_owed said + checks_owed t (own_at R s local.place.0) true) (signs_left s)) _ _
       (λ left. comes (gather_at R (own_at R s local.place.0) true (give_local R client local said t))
       (gathers_at R ok law F me (Unit {0}) (own_at R s local.place.0) true (give_local R client local said t)
       (gives_local client local said t by (certified R ok law F me s local.place specs v heard) (found F.local (λ one. same_local one.stmt local) s.locals v.6))))
@@ -382,7 +382,7 @@ module _ {S : Type 0} (R : Rules S) (ok : S → Type 0) (law : Laws ok R) (F : S
   keeps_as : (own : Option OwnCheckpoint) (answer : Kept) (board : Board) → (is_refused answer ≡ false → OfBoard F board) → Of (kept_as R s own answer board)
   keeps_as own answers.Held board tells = holds (begin (with_board s board)) (begins_at (with_board s board) signer (v.0, v.1, tells refl, v.3, v.4, v.5, v.6, v.7, v.8))
   keeps_as own (answers.Kept number) board tells =
-      by_test Of (nat_le (checks_owed (with_board s board) own false) (leaves_of s)) _ _
+      by_test Of (nat_le (checks_owed (with_board s board) own false) (signs_left s)) _ _
       (λ left. comes (gather_at R own false (begin (with_board s board)))
       (gathers_at R ok law F me (Unit {0}) own false (begin (with_board s board)) (begins_at (with_board s board) signer (v.0, v.1, tells refl, v.3, v.4, v.5, v.6, v.7, v.8)))) (λ none. refuses causes.KeySpent)
   keeps_as own (answers.Refused cause) board tells = refuses cause

@@ -40,7 +40,7 @@ use Rattle.zy_table.specs.Deeds.{Going, send}
 use Rattle.zy_table.specs.Gathering.{check_with, own_with, state_in, with_own_spec}
 use Rattle.zy_table.specs.Running.{executed, fits_end, got_of, next_known, respond, run, run_held, run_one, sealed_spec, share, signs_of, spec_of}
 use Rattle.zy_table.specs.State as table
-use Rattle.zy_table.specs.State.{State, leaves_of, stood_of}
+use Rattle.zy_table.specs.State.{State, signs_left, stood_of}
 use Rattle.zy_table.specs.declared.deeds.Body.TheVariants as bodies
 use Rattle.zy_table.specs.declared.deeds.Remark.{Remark}
 use Rattle.zy_table.specs.declared.deeds.To.TheVariants.{All}
@@ -191,7 +191,7 @@ module _ {S : Type 0} (R : Rules S) (interval : ℕ) (texts : Texts) (w : World)
   held_goes (Some o ∷ slots) g all is =
       by_test (λ (g' : Going S). AreGainsKept w texts g'.deeds.acts → (top : ℕ) → last_place g.state.kept + length (Some o ∷ slots) ≤ top → top ≤ g.state.kept.base.place + 2 * interval → top < 2 ^ 62 → Works g') (fits_end R g.state o) _ _
       (λ fits. by_test (λ (g' : Going S). AreGainsKept w texts g'.deeds.acts → (top : ℕ) → last_place g.state.kept + length (Some o ∷ slots) ≤ top → top ≤ g.state.kept.base.place + 2 * interval → top < 2 ^ 62 → Works g')
-      (nat_le (signs_of R g.state o.ask) (leaves_of g.state)) _ _
+      (nat_le (signs_of R g.state o.ask) (signs_left g.state)) _ _
       (λ left gains top low near in_range.
       let new = (and_parts (same_digest o.order.stmt.head (head_after (now_of R g.state.kept).head (digest_of_entry (entry_of o.ask)))) (newer o.ask.stmt.stamp (option_map (λ (known : Known). known.stamp) (known_in R g.state.kept (entry_of o.ask).client.0))) fits).1 in
       let gain = (one_gains w texts R o g (held_gains w texts R slots (run_one R o g) gains)).1 in

@@ -81,7 +81,7 @@ use Rattle.zy_table.specs.Orders.{order_as, position_of}
 use Rattle.zy_table.specs.Requests.{ordered, sealed_order}
 use Rattle.zy_table.specs.Roles.{in_role, view_cause}
 use Rattle.zy_table.specs.Running.{fits_end, run, run_held, run_one, signs_of}
-use Rattle.zy_table.specs.State.{State, leaves_of}
+use Rattle.zy_table.specs.State.{State, signs_left}
 use Rattle.zy_table.specs.State as table
 use Rattle.zy_table.specs.Whole.{decoded_as, hear_plain, hear_view, is_view_frame_in_role, order, order_judged, plain_row, timer, unless, view_decoded, view_row, whole_step}
 use Rattle.zy_table.specs.declared.deeds.Verdict.{Verdict}
@@ -137,7 +137,7 @@ module _ {S : Type 0} (R : Rules S) (s : State S) where
   held_same (None ∷ slots) g is = is
   held_same (Some o ∷ slots) g is =
       by_test Same (fits_end R g.state o) _ _
-      (λ fits. by_test Same (nat_le (signs_of R g.state o.ask) (leaves_of g.state)) _ _ (λ left. held_same slots (run_one R o g) (one_same o g is)) (λ none. is))
+      (λ fits. by_test Same (nat_le (signs_of R g.state o.ask) (signs_left g.state)) _ _ (λ left. held_same slots (run_one R o g) (one_same o g is)) (λ none. is))
       (λ differs. record { keys = is.keys; me = is.me; counts = is.counts; interval = is.interval })
 
   run_same : (o : OrderFrame) (g : Going S) → Same g → Same (run R o g)

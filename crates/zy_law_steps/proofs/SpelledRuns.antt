@@ -34,7 +34,7 @@ use Rattle.zy_parts.specs.declared.statements.Spec.{Spec}
 use Rattle.zy_table.specs.Deeds.{Going, send}
 use Rattle.zy_table.specs.Gathering.{own_with, state_in, with_own_spec}
 use Rattle.zy_table.specs.Running.{executed, fits_end, got_of, next_known, respond, run, run_held, run_one, sealed_spec, share, signs_of, spec_of}
-use Rattle.zy_table.specs.State.{State, leaves_of, own_view}
+use Rattle.zy_table.specs.State.{State, signs_left, own_view}
 use Rattle.zy_table.specs.declared.deeds.Act.TheVariants.{Gains}
 use Rattle.zy_table.specs.declared.kept.OwnCheckpoint.{OwnCheckpoint}
 use Rattle.zy_law_views.specs.Told.{spec_spelled}
@@ -67,7 +67,7 @@ module _ {S : Type 0} (R : Rules S) where
   held_further (None ∷ slots) g = omega arith
   held_further (Some o ∷ slots) g =
       by_test (λ (g' : Going S). last_place g.state.kept ≤ last_place g'.state.kept) (fits_end R g.state o) _ _
-      (λ fits. by_test (λ (g' : Going S). last_place g.state.kept ≤ last_place g'.state.kept) (nat_le (signs_of R g.state o.ask) (leaves_of g.state)) _ _
+      (λ fits. by_test (λ (g' : Going S). last_place g.state.kept ≤ last_place g'.state.kept) (nat_le (signs_of R g.state o.ask) (signs_left g.state)) _ _
       (λ left. omega (arith, one_further o g, held_further slots (run_one R o g)))
       (λ none. omega arith))
       (λ differs. omega arith)
@@ -158,7 +158,7 @@ module _ {S : Type 0} (R : Rules S) (w : World) where
   held_goes (None ∷ slots) g may is = λ low. is
   held_goes (Some o ∷ slots) g may is =
       by_test (λ (g' : Going S). last_place g'.state.kept < 2 ^ 62 → IsGoing g') (fits_end R g.state o) _ _
-      (λ fits. by_test (λ (g' : Going S). last_place g'.state.kept < 2 ^ 62 → IsGoing g') (nat_le (signs_of R g.state o.ask) (leaves_of g.state)) _ _
+      (λ fits. by_test (λ (g' : Going S). last_place g'.state.kept < 2 ^ 62 → IsGoing g') (nat_le (signs_of R g.state o.ask) (signs_left g.state)) _ _
       (λ left low. held_goes slots (run_one R o g) may.1 (one_goes o g may.0 (omega (arith, one_further R o g, held_further R slots (run_one R o g))) is) low)
       (λ none low. is))
       (λ differs low. record { acts = is.acts; spelled = record { signer = is.spelled.signer; views = is.spelled.views; history = is.spelled.history; board = is.spelled.board } })

@@ -163,7 +163,7 @@ OfState is_state F s =
 
 -- ---- what it signs
 
--- It holds of the statement, whichever leaf of the party's key signs it; of a report and a new view where it holds of all inside.
+-- It holds of the statement, whichever signature of the party it has; of a report and a new view where it holds of all inside.
 abbrev pub OfBody : Signs → Party → Body → Type 0
 OfBody F me (bodies.Order order) = (sealer : SealerState) → sealer.me ≡ me → F.order (sealed_by numbers.order order_fields sealer order)
 OfBody F me (bodies.Spec spec) = (sealer : SealerState) → sealer.me ≡ me → F.spec (sealed_by numbers.spec spec_fields sealer spec)
@@ -207,14 +207,14 @@ OfVerified F keys (Timer kind) = Unit {0}
 abbrev pub OfResponse : Signs → Response → Type 0
 OfResponse F r = F.spec r.spec × IfSome r.order F.order
 
--- it signs as itself, and its last stamp isn't above the number of leaves that it spent
+-- it signs as itself, and its last stamp isn't above the number of signatures that it spent
 abbrev pub SignsAsItself : ClientState → Type 0
 SignsAsItself s = (s.sealer.me ≡ Client s.me) × (s.stamp.0 ≤ s.sealer.key.next)
 
 abbrev pub OfClient : Signs → ClientState → Type 0
 OfClient F s = IfSome s.waiting F.ask × AllByRecursion (λ slot. IfSome slot (OfResponse F)) s.responses × SignsAsItself s
 
--- the requests that it signs, whichever leaf of its key signs them
+-- the requests that it signs, whichever signatures they have
 abbrev pub OfAsks : Signs → Party → List Ask → Type 0
 OfAsks F me asks = AllByRecursion (λ ask. (sealer : SealerState) → sealer.me ≡ me → F.ask (sealed_by numbers.ask ask_fields sealer ask)) asks
 

@@ -26,7 +26,7 @@ use Rattle.zy_table.specs.Deeds.{Outcome, begin, ends, refused}
 use Rattle.zy_table.specs.Orders.{ask_for_missing, order_as, owes_hole, position_of}
 use Rattle.zy_table.specs.Requests.{forward, is_behind, new_request, ordered, request, request_after, request_at_backup, request_at_primary, request_waits, respond_as, response_of, said_already, sealed_order, tell_primary}
 use Rattle.zy_table.specs.Running.{run, signs_of, spec_of}
-use Rattle.zy_table.specs.State.{State, is_leaving, is_primary, leaves_of, own_view, pending_of, spec_to, window_of}
+use Rattle.zy_table.specs.State.{State, is_leaving, is_primary, signs_left, own_view, pending_of, spec_to, window_of}
 use Rattle.zy_table.specs.declared.deeds.Sent.{Sent}
 use Rattle.zy_table.specs.declared.kept.Pending.{Pending}
 use Rattle.zy_law_views.proofs.Admitted.{IsFresh, IsPlaced}
@@ -57,11 +57,11 @@ module _ {S : Type 0} (R : Rules S) (s : State S) (P : Outcome S → Type 0) (of
     at_primary : is_primary s ≡ true → IsNew R s ask → P (request_at_primary R s ask)
     at_primary primary new =
         by_test P (nat_lt (last_place s.kept) (window_of s)) _ _
-        (λ inside. by_test P (nat_le (signs_of R s ask + 1) (leaves_of s)) _ _ (λ left. room.orders primary new (ltb-true _ _ inside)) (λ none. of.refuses causes.KeySpent))
+        (λ inside. by_test P (nat_le (signs_of R s ask + 1) (signs_left s)) _ _ (λ left. room.orders primary new (ltb-true _ _ inside)) (λ none. of.refuses causes.KeySpent))
         (λ full. of.refuses (causes.WindowFull (record { 0 = window_of s })))
 
     forwards : P (forward R s ask)
-    forwards = by_test P (nat_le 1 (leaves_of s)) _ _ (λ left. of.waits ask) (λ none. of.refuses causes.KeySpent)
+    forwards = by_test P (nat_le 1 (signs_left s)) _ _ (λ left. of.waits ask) (λ none. of.refuses causes.KeySpent)
 
     at_backup : (pending : Option Pending) → P (request_at_backup R s ask pending)
     at_backup None = forwards
@@ -72,7 +72,7 @@ module _ {S : Type 0} (R : Rules S) (s : State S) (P : Outcome S → Type 0) (of
     new_one new = by_test P (is_primary s) _ _ (λ primary. at_primary primary new) (λ backup. at_backup (pending_of s (entry_of ask).client))
 
     answers : (known : Known) (said : Option (Signed Spec)) → known_in R s.kept (entry_of ask).client.0 ≡ Some known → P (respond_as R s said (spec_of (own_view s) ask known) known)
-    answers known None is = by_test P (nat_le 1 (leaves_of s)) _ _ (λ left. of.responds ask known is) (λ none. of.refuses causes.KeySpent)
+    answers known None is = by_test P (nat_le 1 (signs_left s)) _ _ (λ left. of.responds ask known is) (λ none. of.refuses causes.KeySpent)
     answers known (Some said) is = of.stays (response_of s said known (begin s)).deeds.sent
 
     after_known : (known : Option Known) → known_in R s.kept (entry_of ask).client.0 ≡ known → P (request_after R s ask known)
@@ -116,8 +116,8 @@ module _ {S : Type 0} (R : Rules S) (s : State S) (P : Outcome S → Type 0) (of
 
     pub order_admitted : (a : Admit) → IsPlaced o.order.stmt o.ask (position_of R s o) a → P (order_as R s o a)
     order_admitted admits.Next is =
-        by_test P (nat_le (signs_of R s o.ask) (leaves_of s)) _ _ (λ left. takes is.new (has_room is.fresh)) (λ none. of.refuses causes.KeySpent)
+        by_test P (nat_le (signs_of R s o.ask) (signs_left s)) _ _ (λ left. takes is.new (has_room is.fresh)) (λ none. of.refuses causes.KeySpent)
     order_admitted admits.Held is =
-        by_test P (owes_hole s) _ _ (λ owes. by_test P (nat_le 1 (leaves_of s)) _ _ (λ left. asks (has_room is)) (λ none. of.refuses causes.KeySpent)) (λ asked. holds (has_room is))
+        by_test P (owes_hole s) _ _ (λ owes. by_test P (nat_le 1 (signs_left s)) _ _ (λ left. asks (has_room is)) (λ none. of.refuses causes.KeySpent)) (λ asked. holds (has_room is))
     order_admitted (admits.Refused cause) is = of.refuses cause
     order_admitted admits.Evidence is = of.refuses causes.Unmatched

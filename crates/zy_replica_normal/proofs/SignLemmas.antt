@@ -45,7 +45,7 @@ signs_counted {S} R s ran ask view known spec state same kept_is view_is known_i
 pub some_signs : {S : Type 0} (R : Rules S) (s : State S) (ask : Signed Ask) → (1 ≤ signs_of R s ask) × (signs_of R s ask ≤ 2)
 some_signs R s ask = signs_few s (spec_of (own_view s) ask (next_known R s ask)) (state_in R (longer s.kept (entry_of ask)) (next_known R s ask).place.0)
 
--- where one leaf decides
+-- where one signature decides
 pub decided : (signs more left : ℕ) → 1 ≤ signs → signs ≤ 2 → (left ≡ more + 1 → ⊥) → nat_lt more left ≡ nat_le (signs + more) left
 decided signs more left some few not_one = grind (arith, nat_tests)
 

@@ -15,7 +15,7 @@ ghost use Rattle.zy_seal.specs.Sealing.{sealed_by};
 ghost use Rattle.zy_table.specs.declared.deeds.To.TheVariants as tos;
 ghost use Rattle.zy_table.specs.declared.deeds.Act.TheVariants as acts;
 ghost use Rattle.zy_table.specs.declared.deeds.Body.TheVariants as bodies;
-ghost use Rattle.zy_table.specs.State.{is_leaving, leaves_of, window_of, spent, stood_of, with_spec, with_pending, pending_of, spec_to as last_spec};
+ghost use Rattle.zy_table.specs.State.{is_leaving, signs_left, window_of, spent, stood_of, with_spec, with_pending, pending_of, spec_to as last_spec};
 ghost use Rattle.zy_table.specs.Deeds.{ends, begin, act as acting, send as sending};
 ghost use Rattle.zy_table.specs.Running.{spec_of as spec_for, run, signs_of};
 ghost use Rattle.zy_table.specs.Requests.{response_of, respond_anew as anew, respond_with as answered_with, respond_again as answered_again, said_already as already, order_of as order_for, sealed_order as sealed, ordered as ordered_by, take_request as taken, request_at_primary as at_primary, confirm_of as confirm_for, sealed_confirm as confirmed, tell_primary as told_of, request_waits as waiting, forward as forwarded, request_at_backup as at_backup, new_request as fresh, request_after as after, is_behind as behind, request as request_row};
@@ -65,7 +65,7 @@ fn send_response<M: Machine>(
 }
 
 fn sign_response<M: Machine>(core: Core<M>, spec: Spec, known: Known) -> Result<Progress<M>, Want>
-    requires leaf { 1 ≤ leaves_of core }
+    requires left { 1 ≤ signs_left core }
     requires spec { IsSpecInRange spec }
     requires client { spec.client.0 < 64 }
     requires known { IsKnownInRange known }
@@ -87,7 +87,7 @@ fn respond_anew<M: Machine>(core: Core<M>, spec: Spec, known: Known) -> Result<M
     requires known { IsKnownInRange known }
     ensures { IfOk result (λ m. m ≡ anew M.rules core spec known) }
 {
-    if core.leaves() == 0 {
+    if core.signs_left() == 0 {
         return core.not_heard(known, Cause::KeySpent);
     }
     Ok(sign_response(core, spec, known)?.ends(Answer::Taken))
@@ -152,7 +152,7 @@ fn order_of<M: Machine>(core: &Core<M>, ask: &Signed<Ask>) -> Order
 }
 
 fn seal_order<M: Machine>(core: Core<M>, ask: Signed<Ask>) -> Result<(Core<M>, OrderFrame), Want>
-    requires leaf { 1 ≤ leaves_of core }
+    requires left { 1 ≤ signs_left core }
     requires ask { IsAskReady ask }
     requires room { last_place core.kept < window_of core }
     ensures core { IfOk result (λ r. r.0 ≡ spent core) }
@@ -172,7 +172,7 @@ fn seal_order<M: Machine>(core: Core<M>, ask: Signed<Ask>) -> Result<(Core<M>, O
 
 // The order is signed, kept and sent to all.
 fn order<M: Machine>(core: Core<M>, ask: Signed<Ask>) -> Result<(Progress<M>, OrderFrame), Want>
-    requires leaf { 1 ≤ leaves_of core }
+    requires left { 1 ≤ signs_left core }
     requires ask { IsAskReady ask }
     requires room { last_place core.kept < window_of core }
     ensures progress { IfOk result (λ r. r.0 ≡ ordered_by M.rules core ask) }
@@ -208,7 +208,7 @@ fn say_order<M: Machine>(
         .send_order(frame)
 }
 
-// The order wants a leaf beside all that running it signs.
+// The order wants a signature beside all that running it signs.
 fn take_request<M: Machine>(core: Core<M>, ask: Signed<Ask>) -> Result<Moved<M>, Want>
     requires active { is_leaving core ≡ false }
     requires ask { IsAskReady ask }
@@ -227,7 +227,7 @@ fn take_request<M: Machine>(core: Core<M>, ask: Signed<Ask>) -> Result<Moved<M>,
 
 fn order_and_run<M: Machine>(core: Core<M>, ask: Signed<Ask>) -> Result<Moved<M>, Want>
     requires active { is_leaving core ≡ false }
-    requires leaves { signs_of M.rules core ask + 1 ≤ leaves_of core }
+    requires left { signs_of M.rules core ask + 1 ≤ signs_left core }
     requires ask { IsAskReady ask }
     requires room { last_place core.kept < window_of core }
     ensures { IfOk result (λ m. m ≡ ends Answer.Taken (run M.rules (sealed M.rules core ask) (ordered_by M.rules core ask))) }
@@ -265,7 +265,7 @@ fn confirm_of<M: Machine>(core: &Core<M>, ask: &Signed<Ask>) -> Confirm
 }
 
 fn seal_confirm<M: Machine>(core: Core<M>, ask: Signed<Ask>) -> Result<(Core<M>, Pending), Want>
-    requires leaf { 1 ≤ leaves_of core }
+    requires left { 1 ≤ signs_left core }
     requires ask { IsAskReady ask }
     ensures core { IfOk result (λ r. r.0 ≡ spent core) }
     ensures pending { IfOk result (λ r. r.1 ≡ confirmed core ask) }
@@ -301,7 +301,7 @@ fn say_confirm<M: Machine>(
 
 // The request waits for its order from now on, in place of its client's earlier one, and the primary is told.
 fn request_waits<M: Machine>(core: Core<M>, ask: Signed<Ask>) -> Result<Progress<M>, Want>
-    requires leaf { 1 ≤ leaves_of core }
+    requires left { 1 ≤ signs_left core }
     requires ask { IsAskReady ask }
     ensures { IfOk result (λ g. g ≡ waiting M.rules core ask) }
 {
@@ -320,7 +320,7 @@ fn forward<M: Machine>(core: Core<M>, ask: Signed<Ask>) -> Result<Moved<M>, Want
     requires ask { IsAskReady ask }
     ensures { IfOk result (λ m. m ≡ forwarded M.rules core ask) }
 {
-    if core.leaves() == 0 {
+    if core.signs_left() == 0 {
         return core.not_heard(ask, Cause::KeySpent);
     }
     Ok(request_waits(core, ask)?.ends(Answer::Taken))

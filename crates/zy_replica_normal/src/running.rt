@@ -18,7 +18,7 @@ ghost use Rattle.zy_frames.specs.declared.frame.Frame.TheVariants as frames;
 ghost use Rattle.zy_check.specs.Board.{IsBoard};
 ghost use Rattle.zy_table.specs.declared.deeds.To.TheVariants as tos;
 ghost use Rattle.zy_table.specs.declared.deeds.Act.TheVariants as acts;
-ghost use Rattle.zy_table.specs.State.{own_view, is_leaving, window_of, leaves_of};
+ghost use Rattle.zy_table.specs.State.{own_view, is_leaving, window_of, signs_left};
 ghost use Rattle.zy_table.specs.Deeds.{ends, send, act as acting};
 ghost use Rattle.zy_table.specs.Gathering.{own_with as own_by, with_own_spec, owes_check, state_in, signs_with as signs_by};
 ghost use Rattle.zy_table.specs.Running.{executed, without_pending, next_known, got_from, spec_of as spec_for, respond as respond_with, share as shared, answered, signs_of as signs_for, run_one as one_run, run_held as held_run, fits_end as fits, run as whole_run};
@@ -172,7 +172,7 @@ fn count_signs<M: Machine>(core: Core<M>, ask: &Signed<Ask>) -> Result<(Core<M>,
     Ok((core.unrun(), signs))
 }
 
-/// Whether enough leaves are left for all that running a request's entry signs, and for some statements more. Running
+/// Whether enough signatures are left for all that running a request's entry signs, and for some statements more. Running
 /// signs one statement or two: only where that decides is the entry executed for it, and taken out again.
 pub fn can_run<M: Machine>(
     core: Core<M>,
@@ -183,9 +183,9 @@ pub fn can_run<M: Machine>(
     requires ask { IsAskReady ask.now }
     requires more { more ≤ 1 }
     ensures core { IfOk result (λ r. r.0 ≡ core) }
-    ensures fits { IfOk result (λ r. r.1 ≡ nat_le (signs_for M.rules core ask.now + more) (leaves_of core)) }
+    ensures fits { IfOk result (λ r. r.1 ≡ nat_le (signs_for M.rules core ask.now + more) (signs_left core)) }
 {
-    let left = core.leaves();
+    let left = core.signs_left();
     if left != more + 1 {
         return Ok((core, left > more));
     }
@@ -202,7 +202,7 @@ fn respond<M: Machine>(
     spec: Spec,
     reply: Bytes,
 ) -> Result<Progress<M>, Want>
-    requires leaf { 1 ≤ leaves_of progress.state }
+    requires left { 1 ≤ signs_left progress.state }
     requires order { IsSignedInRange IsOrderInRange order }
     requires spec { IsSpecInRange spec }
     requires client { spec.client.0 < 64 }
@@ -225,7 +225,7 @@ fn respond_by_copy<M: Machine>(
     spec: Spec,
     reply: &Bytes,
 ) -> Result<(Progress<M>, Signed<Spec>), Want>
-    requires leaf { 1 ≤ leaves_of progress.state }
+    requires left { 1 ≤ signs_left progress.state }
     requires order { IsSignedInRange IsOrderInRange order.now }
     requires spec { IsSpecInRange spec }
     requires client { spec.client.0 < 64 }
@@ -300,7 +300,7 @@ fn share<M: Machine>(
     requires spec { IsSignedInRange IsSpecInRange signed }
     requires reply { length reply ≤ 1100 }
     requires own { IsOwnReady progress.state.kept progress.state.views.last_view (own_by signed.stmt state) }
-    requires leaf { (if owes_check (with_own_spec progress.state (own_by signed.stmt state) signed) (own_by signed.stmt state) false then 1 else 0) ≤ leaves_of progress.state }
+    requires left { (if owes_check (with_own_spec progress.state (own_by signed.stmt state) signed) (own_by signed.stmt state) false then 1 else 0) ≤ signs_left progress.state }
     ensures { IfOk result (λ g. g ≡ shared M.rules order signed reply (Some state) progress) }
 {
     let own = own_with(signed.stmt, state);
@@ -333,7 +333,7 @@ fn answer<M: Machine>(
     requires head { head_in (stretch_of progress.state.kept) spec.place.0 ≡ Some spec.head }
     requires above { progress.state.kept.base.place < spec.place.0 }
     requires within { spec.place.0 ≤ last_place progress.state.kept }
-    requires leaf { signs_by progress.state spec (state_in M.rules progress.state.kept spec.place.0) ≤ leaves_of progress.state }
+    requires left { signs_by progress.state spec (state_in M.rules progress.state.kept spec.place.0) ≤ signs_left progress.state }
     ensures { IfOk result (λ g. g ≡ answered M.rules order spec reply progress) }
 {
     match state_at(&progress, spec.place) {
@@ -360,7 +360,7 @@ fn answer_all<M: Machine>(
     requires above { progress.state.kept.base.place < spec.place.0 }
     requires within { spec.place.0 ≤ last_place progress.state.kept }
     requires state { state_in M.rules progress.state.kept spec.place.0 ≡ Some state }
-    requires leaf { signs_by progress.state spec (Some state) ≤ leaves_of progress.state }
+    requires left { signs_by progress.state spec (Some state) ≤ signs_left progress.state }
     ensures { IfOk result (λ g. g ≡ answered M.rules order spec reply progress) }
 {
     let (told, signed) = respond_by_copy(progress, &order, spec, &reply)?;
@@ -373,7 +373,7 @@ fn answer_all<M: Machine>(
 #[tactic(auto, unfolding(zy_table::specs::Running::run_one))]
 fn run_one<M: Machine>(progress: Progress<M>, frame: &OrderFrame) -> Result<Progress<M>, Want>
     requires active { is_leaving progress.state ≡ false }
-    requires leaf { signs_for M.rules progress.state frame.now.ask ≤ leaves_of progress.state }
+    requires left { signs_for M.rules progress.state frame.now.ask ≤ signs_left progress.state }
     requires room { last_place progress.state.kept < window_of progress.state }
     requires order { IsOrderReady frame.now }
     ensures progress { IfOk result (λ g. g ≡ one_run M.rules frame.now progress) }
@@ -400,7 +400,7 @@ fn fits_end<M: Machine>(core: &Core<M>, frame: &OrderFrame) -> bool
         )
 }
 
-// The orders that are held in the next slots, as long as leaves are left; one that doesn't fit is dropped.
+// The orders that are held in the next slots, as long as signatures are left; one that doesn't fit is dropped.
 fn run_held<M: Machine>(progress: Progress<M>) -> Result<Progress<M>, Want>
     requires { is_leaving progress.state ≡ false }
     ensures { IfOk result (λ g. g ≡ held_run M.rules (slots_above (last_place progress.state.kept) progress.state.orders) progress) }
@@ -462,7 +462,7 @@ fn can_run_in<M: Machine>(
     requires room { last_place progress.state.kept < window_of progress.state }
     requires ask { IsAskReady ask.now }
     ensures progress { IfOk result (λ r. r.0 ≡ progress) }
-    ensures fits { IfOk result (λ r. r.1 ≡ nat_le (signs_for M.rules progress.state ask.now) (leaves_of progress.state)) }
+    ensures fits { IfOk result (λ r. r.1 ≡ nat_le (signs_for M.rules progress.state ask.now) (signs_left progress.state)) }
 {
     let Progress { core, deeds } = progress;
     match can_run(core, ask, 0) {
@@ -488,7 +488,7 @@ fn drop_next<M: Machine>(progress: Progress<M>) -> Progress<M>
 // An order that is next, and those that were held for it.
 fn run<M: Machine>(progress: Progress<M>, frame: &OrderFrame) -> Result<Progress<M>, Want>
     requires active { is_leaving progress.state ≡ false }
-    requires leaf { signs_for M.rules progress.state frame.now.ask ≤ leaves_of progress.state }
+    requires left { signs_for M.rules progress.state frame.now.ask ≤ signs_left progress.state }
     requires room { last_place progress.state.kept < window_of progress.state }
     requires order { IsOrderReady frame.now }
     ensures { IfOk result (λ g. g ≡ whole_run M.rules frame.now progress) }
@@ -499,7 +499,7 @@ fn run<M: Machine>(progress: Progress<M>, frame: &OrderFrame) -> Result<Progress
 /// An order that is next, and those that were held for it; with that the step ends.
 pub fn run_all<M: Machine>(progress: Progress<M>, frame: &OrderFrame) -> Result<Moved<M>, Want>
     requires active { is_leaving progress.state ≡ false }
-    requires leaf { signs_for M.rules progress.state frame.now.ask ≤ leaves_of progress.state }
+    requires left { signs_for M.rules progress.state frame.now.ask ≤ signs_left progress.state }
     requires room { last_place progress.state.kept < window_of progress.state }
     requires order { IsOrderReady frame.now }
     ensures { IfOk result (λ m. m ≡ ends Answer.Taken (whole_run M.rules frame.now progress)) }

@@ -11,7 +11,7 @@ ghost use Rattle.zy_chain.specs.declared.entry.Entry.{Entry};
 ghost use Rattle.zy_exec.specs.Kept.{Kept, longer, last_place, now_of};
 ghost use Rattle.zy_seal.specs.Sealing.{sealed_by};
 ghost use Rattle.zy_admit.specs.Orders.{with_order, without_order};
-ghost use Rattle.zy_table.specs.State.{window_of, leaves_of, spent, with_spec as with_spec_of, pending_of as waiting_of, with_pending};
+ghost use Rattle.zy_table.specs.State.{window_of, signs_left, spent, with_spec as with_spec_of, pending_of as waiting_of, with_pending};
 ghost use Rattle.zy_table.specs.Running.{still_pending as still_waiting};
 ghost use Rattle.zy_table.specs.declared.kept.OwnCheckpoint.{OwnCheckpoint};
 ghost use Rattle.zy_table.specs.Gathering.{with_certificate, checks_owed};
@@ -29,9 +29,9 @@ use zy_seal::SealFault;
 use zy_table::Pending;
 
 impl<M: Machine> Core<M> {
-    /// A statement signed by the next leaf, of which there is one.
+    /// A statement with the next signature, of which one is left.
     pub fn seal<S: Statement>(mut self, stmt: S) -> Result<(Core<M>, Signed<S>), Want>
-        requires leaf { 1 ≤ leaves_of self }
+        requires left { 1 ≤ signs_left self }
         requires range { S.in_range stmt }
         ensures core { IfOk result (λ r. r.0 ≡ spent self) }
         ensures value { IfOk result (λ r. r.1 ≡ sealed_by S.its_number S.spelling self.sealer stmt) }
@@ -46,7 +46,7 @@ impl<M: Machine> Core<M> {
 
     /// The response, signed and kept.
     pub fn seal_spec(self, spec: Spec) -> Result<(Core<M>, Signed<Spec>), Want>
-        requires leaf { 1 ≤ leaves_of self }
+        requires left { 1 ≤ signs_left self }
         requires spec { IsSpecInRange spec }
         requires client { spec.client.0 < 64 }
         ensures core { IfOk result (λ r. r.0 ≡ with_spec_of (spent self) (sealed_by numbers.spec spec_fields self.sealer spec)) }

@@ -13,7 +13,7 @@ ghost use Rattle.zy_table.specs.declared.deeds.To.TheVariants as tos;
 ghost use Rattle.zy_table.specs.declared.deeds.Act.TheVariants as acts;
 ghost use Rattle.zy_table.specs.declared.deeds.Body.TheVariants as bodies;
 ghost use Rattle.zy_seal.specs.Sealing.{sealed_by};
-ghost use Rattle.zy_table.specs.State.{leaves_of, spent, stood_of, with_spec};
+ghost use Rattle.zy_table.specs.State.{signs_left, spent, stood_of, with_spec};
 ghost use Rattle.zy_table.specs.Commits.{send_local};
 ghost use Rattle.zy_table.specs.Adopting.{IsGotInRange};
 ghost use Rattle.zy_replica_state.specs.Ready.{IsActInRange, IsBodyInRange, IsOrderReady, IsPendingReady};
@@ -149,7 +149,7 @@ impl<M: Machine> Progress<M> {
 
     /// The response is signed and kept.
     pub fn sign_spec(self, spec: Spec) -> Result<(Progress<M>, Signed<Spec>), Want>
-        requires leaf { 1 ≤ leaves_of self.state }
+        requires left { 1 ≤ signs_left self.state }
         requires spec { IsSpecInRange spec }
         requires client { spec.client.0 < 64 }
         ensures progress { IfOk result (λ r. r.0 ≡ acting (acts.Says (record { body = bodies.Spec spec; stood = stood_of M.rules self.state })) (record self { state = with_spec (spent self.state) (sealed_by numbers.spec spec_fields self.state.sealer spec) })) }
@@ -167,9 +167,9 @@ impl<M: Machine> Progress<M> {
         }
     }
 
-    /// A statement signed by the next leaf, of which there is one.
+    /// A statement with the next signature, of which one is left.
     pub fn seal<S: Statement>(self, stmt: S) -> Result<(Progress<M>, Signed<S>), Want>
-        requires leaf { 1 ≤ leaves_of self.state }
+        requires left { 1 ≤ signs_left self.state }
         requires range { S.in_range stmt }
         ensures progress { IfOk result (λ r. r.0 ≡ record self { state = spent self.state }) }
         ensures value { IfOk result (λ r. r.1 ≡ sealed_by S.its_number S.spelling self.state.sealer stmt) }
@@ -186,7 +186,7 @@ impl<M: Machine> Progress<M> {
     }
 
     fn seal_spec(self, spec: Spec) -> Result<(Progress<M>, Signed<Spec>), Want>
-        requires leaf { 1 ≤ leaves_of self.state }
+        requires left { 1 ≤ signs_left self.state }
         requires spec { IsSpecInRange spec }
         requires client { spec.client.0 < 64 }
         ensures progress { IfOk result (λ r. r.0 ≡ record self { state = with_spec (spent self.state) (sealed_by numbers.spec spec_fields self.state.sealer spec) }) }

@@ -7,15 +7,15 @@ ghost use Rattle.zy_parts.specs.Signing.{IsSignedInRange};
 ghost use Rattle.zy_parts.specs.Statements.{IsHoleInRange, IsLocalInRange, IsOrderInRange};
 ghost use Rattle.zy_exec.specs.Kept.{last_place, known_in};
 ghost use Rattle.zy_exec.specs.Known.{IsKnownInRange};
-ghost use Rattle.zy_lms.specs.Height.{levels_of};
 ghost use Rattle.zy_admit.specs.Orders.{stored_in, orders_from};
 ghost use Rattle.zy_cert.specs.Equal.{same_local};
-ghost use Rattle.zy_table.specs.State.{own_view, is_leaving, is_primary, primary_of, window_of, leaves_of, spec_to, pending_of};
+ghost use Rattle.zy_table.specs.State.{own_view, is_leaving, is_primary, primary_of, window_of, signs_left, spec_to, pending_of};
 ghost use Rattle.zy_table.specs.Roles.{is_primary_of, view_cause};
 ghost use Rattle.zy_table.specs.Running.{still_pending};
 ghost use Rattle.zy_table.specs.Orders.{hole_of};
 ghost use Rattle.zy_table.specs.Commits.{local_said};
 ghost use Rattle.zy_replica_state.specs.Ready.{IsKeptPending, IsKeptSpec, IsOrderReady, IsReady};
+ghost use Rattle.zy_seal.specs.Sealing.{signatures_by};
 
 use crate::Core;
 use crate::copies::{frame_copy, known_copy, signed_copy};
@@ -162,16 +162,16 @@ impl<M: Machine> Core<M> {
     }
 
     /// How many statements it can still sign.
-    pub fn leaves(&self) -> u32
-        ensures { result ≡ leaves_of self.now }
+    pub fn signs_left(&self) -> u32
+        ensures { result ≡ signs_left self.now }
     {
         self.sealer.left()
     }
 
     /// Whether it can sign so many statements.
-    pub fn has_leaves(&self, count: u64) -> bool
-        ensures enough { result ≡ nat_le count (leaves_of self.now) }
-        ensures within { self.now.sealer.key.next ≤ 2 ^ levels_of self.now.sealer.key.height }
+    pub fn can_sign(&self, count: u64) -> bool
+        ensures enough { result ≡ nat_le count (signs_left self.now) }
+        ensures within { self.now.sealer.key.next ≤ signatures_by self.now.sealer.key.height }
         ensures ready { IsReady self.now }
     {
         count <= self.sealer.left() as u64

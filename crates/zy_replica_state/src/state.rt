@@ -240,7 +240,7 @@ impl<M: Machine> Core<M> {
         self.exec.head()
     }
 
-    /// The number of the leaf that signs next.
+    /// The number of its next signature.
     pub fn key_next(&self) -> u32
         ensures { result ≡ self.now.sealer.key.next }
     {

@@ -7,7 +7,7 @@ ghost use Rattle.zy_parts.specs.Statements.{IsSpecInRange};
 ghost use Rattle.zy_frames.specs.declared.frame.Frame.TheVariants as frames;
 ghost use Rattle.zy_exec.specs.Kept.{reply_in};
 ghost use Rattle.zy_table.specs.declared.deeds.To.TheVariants as tos;
-ghost use Rattle.zy_table.specs.State.{is_leaving, leaves_of};
+ghost use Rattle.zy_table.specs.State.{is_leaving, signs_left};
 ghost use Rattle.zy_table.specs.Deeds.{send};
 ghost use Rattle.zy_table.specs.Gathering.{own_at};
 ghost use Rattle.zy_table.specs.Adopting.{checkpoints_between};
@@ -25,7 +25,7 @@ fn respond_alone<M: Machine>(
     own: &OwnCheckpoint,
     reply: Bytes,
 ) -> Result<Progress<M>, Want>
-    requires leaf { 1 ≤ leaves_of progress.state }
+    requires left { 1 ≤ signs_left progress.state }
     requires spec { IsSpecInRange own.now.spec }
     requires client { own.now.spec.client.0 < 64 }
     requires reply { length reply ≤ 1100 }
@@ -67,7 +67,7 @@ fn respond_own<M: Machine>(
     own: &OwnCheckpoint,
     place: Place,
 ) -> Result<Progress<M>, Want>
-    requires leaf { 1 ≤ leaves_of progress.state }
+    requires left { 1 ≤ signs_left progress.state }
     requires spec { IsSpecInRange own.now.spec }
     requires client { own.now.spec.client.0 < 64 }
     ensures { IfOk result (λ g. g ≡ responding_to M.rules (Some own.now) (reply_in M.rules progress.state.kept place.0) progress) }
@@ -80,7 +80,7 @@ fn respond_own<M: Machine>(
 
 // What the own history has at a place, if it has come so far.
 fn respond_at<M: Machine>(progress: Progress<M>, place: Place) -> Result<Progress<M>, Want>
-    requires leaf { 1 ≤ leaves_of progress.state }
+    requires left { 1 ≤ signs_left progress.state }
     requires active { is_leaving progress.state ≡ false }
     ensures { IfOk result (λ g. g ≡ responding_to M.rules (own_at M.rules progress.state place.0) (reply_in M.rules progress.state.kept place.0) progress) }
 {
@@ -96,7 +96,7 @@ fn respond_at<M: Machine>(progress: Progress<M>, place: Place) -> Result<Progres
 pub fn respond_up_to<M: Machine>(progress: Progress<M>, place: Place) -> Result<Progress<M>, Want>
     requires place { place.0 < 2 ^ 62 }
     requires active { is_leaving progress.state ≡ false }
-    requires leaves { length (checkpoints_between progress.state.kept.interval progress.state.board.stable.place.0 place.0) ≤ leaves_of progress.state }
+    requires left { length (checkpoints_between progress.state.kept.interval progress.state.board.stable.place.0 place.0) ≤ signs_left progress.state }
     ensures { IfOk result (λ g. g ≡ responding_up_to M.rules place.0 progress) }
 {
     // With its view comes what holds of every replica: its stable place isn't past its history.
@@ -115,7 +115,7 @@ fn respond_if<M: Machine>(
     is_checkpoint: bool,
     place: Place,
 ) -> Result<Progress<M>, Want>
-    requires leaf { (if is_checkpoint then 1 else 0) ≤ leaves_of progress.state }
+    requires left { (if is_checkpoint then 1 else 0) ≤ signs_left progress.state }
     requires active { is_leaving progress.state ≡ false }
     ensures { IfOk result (λ g. g ≡ (if is_checkpoint then responding_to M.rules (own_at M.rules progress.state place.0) (reply_in M.rules progress.state.kept place.0) progress else progress)) }
 {

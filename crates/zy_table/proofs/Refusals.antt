@@ -61,7 +61,7 @@ use Rattle.zy_table.specs.Orders.{owes_hole, position_of}
 use Rattle.zy_table.specs.Requests.{forward, is_behind, new_request, request, request_after, request_at_backup, respond_as, said_already}
 use Rattle.zy_table.specs.Roles.{in_role, view_cause}
 use Rattle.zy_table.specs.Running.{signs_of, spec_of}
-use Rattle.zy_table.specs.State.{State, is_leaving, is_primary, leaves_of, own_view, pending_of, spec_to, window_of}
+use Rattle.zy_table.specs.State.{State, is_leaving, is_primary, signs_left, own_view, pending_of, spec_to, window_of}
 use Rattle.zy_table.specs.Whole.{commit_in_view, decoded_as, hear_plain, hear_view, is_view_frame_in_role, order_judged, plain_row, timer, unless, view_decoded, view_row, whole_step}
 use Rattle.zy_table.specs.declared.kept.OwnCheckpoint.{OwnCheckpoint}
 use Rattle.zy_table.specs.declared.kept.Pending.{Pending}
@@ -86,18 +86,18 @@ module _ {S : Type 0} (R : Rules S) (s : State S) where
   unless_stays None o stays = stays
   unless_stays (Some cause) o stays = refuses cause
 
-  -- what is signed takes leaves
-  with_leaves : (b : Bool) (x : Outcome S) → Stays x → Stays (if b then x else refused causes.KeySpent s)
-  with_leaves b x stays = tested b x (refused causes.KeySpent s) stays (refuses causes.KeySpent)
+  -- what is signed takes signatures
+  with_left : (b : Bool) (x : Outcome S) → Stays x → Stays (if b then x else refused causes.KeySpent s)
+  with_left b x stays = tested b x (refused causes.KeySpent s) stays (refuses causes.KeySpent)
 
   -- ---- requests
 
   respond_stays : (said : Option (Signed Spec)) (spec : Spec) (known : Known) → Stays (respond_as R s said spec known)
-  respond_stays None spec known = with_leaves (nat_le 1 (leaves_of s)) _ (λ cause is. absurd cc)
+  respond_stays None spec known = with_left (nat_le 1 (signs_left s)) _ (λ cause is. absurd cc)
   respond_stays (Some signed) spec known = λ cause is. absurd cc
 
   forward_stays : (ask : Signed Ask) → Stays (forward R s ask)
-  forward_stays ask = with_leaves (nat_le 1 (leaves_of s)) _ (λ cause is. absurd cc)
+  forward_stays ask = with_left (nat_le 1 (signs_left s)) _ (λ cause is. absurd cc)
 
   backup_stays : (ask : Signed Ask) (pending : Option Pending) → Stays (request_at_backup R s ask pending)
   backup_stays ask None = forward_stays ask
@@ -106,7 +106,7 @@ module _ {S : Type 0} (R : Rules S) (s : State S) where
   new_stays : (ask : Signed Ask) → Stays (new_request R s ask)
   new_stays ask =
       tested (is_primary s) _ _
-      (tested (nat_lt (last_place s.kept) (window_of s)) _ _ (with_leaves (nat_le (signs_of R s ask + 1) (leaves_of s)) _ (λ cause is. absurd cc)) (refuses (causes.WindowFull (record { 0 = window_of s }))))
+      (tested (nat_lt (last_place s.kept) (window_of s)) _ _ (with_left (nat_le (signs_of R s ask + 1) (signs_left s)) _ (λ cause is. absurd cc)) (refuses (causes.WindowFull (record { 0 = window_of s }))))
       (backup_stays ask (pending_of s (entry_of ask).client))
 
   after_known : (ask : Signed Ask) (known : Option Known) → Stays (request_after R s ask known)
@@ -140,7 +140,7 @@ module _ {S : Type 0} (R : Rules S) (s : State S) where
   -- ---- commit certificates
 
   commit_own : (specs : List (Signed Spec)) (client : ClientId) (local : Local) (said : Option (Signed Local)) (own : Option OwnCheckpoint) → Stays (commit_as R s specs client local said own)
-  commit_own specs client local said own = with_leaves (nat_le (locals_owed said + checks_owed (with_certificate s local.place specs) own true) (leaves_of s)) _ (λ cause is. absurd cc)
+  commit_own specs client local said own = with_left (nat_le (locals_owed said + checks_owed (with_certificate s local.place specs) own true) (signs_left s)) _ (λ cause is. absurd cc)
 
   commit_with : (specs : List (Signed Spec)) (client : ClientId) (local : Local) (own : Option Digest) → Stays (commit_beside R s specs client local own)
   commit_with specs client local None = refuses (causes.Behind local.place)
@@ -165,7 +165,7 @@ module _ {S : Type 0} (R : Rules S) (s : State S) where
 
   kept_stays : (own : Option OwnCheckpoint) (answer : Kept) (board : Board) → Stays (kept_as R s own answer board)
   kept_stays own answers.Held board = λ cause is. absurd cc
-  kept_stays own (answers.Kept number) board = with_leaves (nat_le (checks_owed (with_board s board) own false) (leaves_of s)) _ (λ cause is. absurd cc)
+  kept_stays own (answers.Kept number) board = with_left (nat_le (checks_owed (with_board s board) own false) (signs_left s)) _ (λ cause is. absurd cc)
   kept_stays own (answers.Refused cause) board = refuses cause
 
   response_stays : (vote : Signed Spec) → Stays (response R s vote)
@@ -205,8 +205,8 @@ module _ {S : Type 0} (R : Rules S) (s : State S) where
   judged_stays both admits.Evidence =
       let stored = stored_in s.orders both.order.stmt.place.0 in
       finished_stays (tell_all R s both.order stored) (order_ends R s both.order stored)
-  judged_stays both admits.Next = with_leaves (nat_le (signs_of R s both.ask) (leaves_of s)) _ (λ cause is. absurd cc)
-  judged_stays both admits.Held = tested (owes_hole s) _ _ (with_leaves (nat_le 1 (leaves_of s)) _ (λ cause is. absurd cc)) (λ cause is. absurd cc)
+  judged_stays both admits.Next = with_left (nat_le (signs_of R s both.ask) (signs_left s)) _ (λ cause is. absurd cc)
+  judged_stays both admits.Held = tested (owes_hole s) _ _ (with_left (nat_le 1 (signs_left s)) _ (λ cause is. absurd cc)) (λ cause is. absurd cc)
   judged_stays both (admits.Refused cause) = refuses cause
 
   -- ---- frames

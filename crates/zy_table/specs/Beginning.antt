@@ -198,6 +198,6 @@ abbrev pub begun : {S : Type 0} → Rules S → Attempt S → Attempt S
 begun R (Err cause) = Err cause
 begun R (Ok end) = if list_any confirms end.1.deeds.acts then certify R end.0 end.1 else Ok end
 
--- Then the leaves are judged.
+-- Then the signatures left are judged.
 abbrev pub finished : {S : Type 0} → Rules S → State S → Attempt S → Outcome S
 finished R s attempt = concluded s (begun R attempt)

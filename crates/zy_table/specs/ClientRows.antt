@@ -43,7 +43,7 @@ use Rattle.zy_table.specs.declared.client.Commit.{Commit}
 use Rattle.zy_table.specs.declared.client.Done.{Done}
 use Rattle.zy_table.specs.declared.client.Path.TheVariants.{Fast, Slow}
 use Rattle.zy_table.specs.declared.client.Response.{Response}
-use Rattle.zy_table.specs.ClientState.{ClientState, ClientOutcome, no_responses, leaves_of, refused, taken}
+use Rattle.zy_table.specs.ClientState.{ClientState, ClientOutcome, no_responses, signs_left, refused, taken}
 
 -- ---- asking
 
@@ -63,7 +63,7 @@ asked s ask =
 
 abbrev pub ask_while : ClientState → Option (Signed Ask) → List ℕ → ClientOutcome
 ask_while s (Some waiting) op = refused (causes.Waiting waiting.stmt.stamp) s
-ask_while s None op = if nat_le 1 (leaves_of s) then asked s (next_ask s op) else refused causes.KeySpent s
+ask_while s None op = if nat_le 1 (signs_left s) then asked s (next_ask s op) else refused causes.KeySpent s
 
 -- a new request
 unfoldable pub ask : ClientState → List ℕ → ClientOutcome

@@ -24,7 +24,7 @@ use Rattle.zy_table.specs.declared.deeds.To.TheVariants.{All, One}
 use Rattle.zy_table.specs.declared.deeds.Body.TheVariants as bodies
 use Rattle.zy_table.specs.declared.deeds.Act.TheVariants.{Says}
 use Rattle.zy_table.specs.declared.kept.Pending.{Pending}
-use Rattle.zy_table.specs.State.{State, own_view, is_leaving, is_primary, primary_of, window_of, stood_of, leaves_of, spent, spec_to, with_spec, pending_of, with_pending}
+use Rattle.zy_table.specs.State.{State, own_view, is_leaving, is_primary, primary_of, window_of, stood_of, signs_left, spent, spec_to, with_spec, pending_of, with_pending}
 use Rattle.zy_table.specs.Deeds.{Going, Outcome, send, act, refused, ends, begin}
 use Rattle.zy_table.specs.Running.{spec_of, next_known, sealed_spec, run, signs_of}
 
@@ -39,7 +39,7 @@ response_of s signed known g =
 -- the response is signed anew where it isn't the one that was signed last
 abbrev pub respond_anew : {S : Type 0} → Rules S → State S → Spec → Known → Outcome S
 respond_anew R s spec known =
-    if nat_le 1 (leaves_of s)
+    if nat_le 1 (signs_left s)
     then (let signed = sealed_spec s spec in
     ends Taken (response_of s signed known
     (act (Says (record { body = bodies.Spec spec; stood = stood_of R s })) (begin (with_spec (spent s) signed)))))
@@ -83,10 +83,10 @@ ordered R s ask =
     (act (Says (record { body = bodies.Order o.order.stmt; stood = stood_of R s }))
     (begin (record (spent s) { orders = with_order s.orders o })))
 
--- and then run; the order wants a leaf too
+-- and then run; the order wants a signature too
 abbrev pub take_request : {S : Type 0} → Rules S → State S → Signed Ask → Outcome S
 take_request R s ask =
-    if nat_le (signs_of R s ask + 1) (leaves_of s) then ends Taken (run R (sealed_order R s ask) (ordered R s ask)) else refused causes.KeySpent s
+    if nat_le (signs_of R s ask + 1) (signs_left s) then ends Taken (run R (sealed_order R s ask) (ordered R s ask)) else refused causes.KeySpent s
 
 abbrev pub request_at_primary : {S : Type 0} → Rules S → State S → Signed Ask → Outcome S
 request_at_primary R s ask =
@@ -116,7 +116,7 @@ request_waits R s ask =
     (begin (with_pending (spent s) (entry_of ask).client (Some pending))))
 
 abbrev pub forward : {S : Type 0} → Rules S → State S → Signed Ask → Outcome S
-forward R s ask = if nat_le 1 (leaves_of s) then ends Taken (request_waits R s ask) else refused causes.KeySpent s
+forward R s ask = if nat_le 1 (signs_left s) then ends Taken (request_waits R s ask) else refused causes.KeySpent s
 
 -- what was said of a request that waits already is sent again
 abbrev pub request_at_backup : {S : Type 0} → Rules S → State S → Signed Ask → Option Pending → Outcome S

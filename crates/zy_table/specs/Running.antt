@@ -28,7 +28,7 @@ use Rattle.zy_table.specs.declared.deeds.Body.TheVariants as bodies
 use Rattle.zy_table.specs.declared.deeds.Got.{Got}
 use Rattle.zy_table.specs.declared.deeds.Act.TheVariants.{Says, Gains}
 use Rattle.zy_table.specs.declared.kept.Pending.{Pending}
-use Rattle.zy_table.specs.State.{State, own_view, stood_of, leaves_of, spent, with_spec, pending_of, with_pending}
+use Rattle.zy_table.specs.State.{State, own_view, stood_of, signs_left, spent, with_spec, pending_of, with_pending}
 use Rattle.zy_table.specs.Deeds.{Going, send, act}
 use Rattle.zy_table.specs.Gathering.{state_in, own_with, with_own_spec, gather, signs_with}
 
@@ -123,13 +123,13 @@ fits_end R s o =
     same_digest o.order.stmt.head (head_after (now_of R s.kept).head (digest_of_entry (entry_of o.ask)))
     && newer o.ask.stmt.stamp (option_map (λ known. known.stamp) (known_in R s.kept (entry_of o.ask).client.0))
 
--- the orders that are held in the next slots, as long as leaves are left; one that doesn't fit is dropped
+-- the orders that are held in the next slots, as long as signatures are left; one that doesn't fit is dropped
 unfoldable pub run_held : {S : Type 0} → Rules S → List (Option OrderFrame) → Going S → Going S
 run_held R [] g = g
 run_held R (None ∷ slots) g = g
 run_held R (Some o ∷ slots) g =
     if fits_end R g.state o
-    then (if nat_le (signs_of R g.state o.ask) (leaves_of g.state) then run_held R slots (run_one R o g) else g)
+    then (if nat_le (signs_of R g.state o.ask) (signs_left g.state) then run_held R slots (run_one R o g) else g)
     else record g { state = record g.state { orders = without_order g.state.orders (last_place g.state.kept + 1) } }
 
 -- an order that is next, and those that were held for it

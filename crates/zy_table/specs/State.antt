@@ -11,9 +11,8 @@ use Rattle.zy_base.specs.declared.step.Mode.{Mode}
 use Rattle.zy_base.specs.declared.step.Mode.TheVariants.{Active, Leaving}
 use Rattle.zy_base.specs.declared.step.Stood.{Stood}
 use Rattle.zy_base.specs.declared.step.Timers.{Timers}
-use Rattle.zy_lms.specs.Height.{levels_of}
 use Rattle.zy_seal.specs.Keys.{Keys}
-use Rattle.zy_seal.specs.Sealing.{SealerState, spent_one}
+use Rattle.zy_seal.specs.Sealing.{SealerState, spent_one, left_of}
 use Rattle.zy_parts.specs.declared.signed.Signed.{Signed}
 use Rattle.zy_parts.specs.declared.statements.Spec.{Spec}
 use Rattle.zy_parts.specs.declared.statements.Hate.{Hate}
@@ -105,10 +104,10 @@ abbrev pub stood_of : {S : Type 0} → Rules S → State S → Stood
 stood_of R s = record { mode = s.views.mode; length = record { 0 = last_place s.kept }; head = (now_of R s.kept).head }
 
 -- how many statements it can still sign
-abbrev pub leaves_of : {S : Type 0} → State S → ℕ
-leaves_of s = 2 ^ levels_of s.sealer.key.height - s.sealer.key.next
+abbrev pub signs_left : {S : Type 0} → State S → ℕ
+signs_left s = left_of s.sealer
 
--- with one leaf spent
+-- with one signature spent
 abbrev pub spent : {S : Type 0} → State S → State S
 spent s = record s { sealer = spent_one s.sealer }
 
