@@ -1,14 +1,13 @@
 -- How an order is judged where a replica stands.
-use Rattle.std.specs.Prelude.{ℕ, ◌+◌, ◌&&◌, nat_lt, nat_le, nat_eq, Bool, true, if◌then◌else◌, Option, Some, None}
+use Rattle.std.specs.Prelude.{ℕ, ◌+◌, ◌&&◌, nat_lt, nat_le, nat_eq, Bool, if◌then◌else◌, Option, Some, None}
 use Rattle.std.specs.Cmp.Lexicographic.{pointwise}
 use Rattle.zy_base.specs.declared.ids.Digest.{Digest}
 use Rattle.zy_base.specs.declared.ids.Party.{Party}
 use Rattle.zy_base.specs.declared.ids.Party.TheVariants.{Replica, Client}
 use Rattle.zy_base.specs.declared.ids.ClientId.{ClientId}
-use Rattle.zy_base.specs.declared.ids.Stamp.{Stamp}
 use Rattle.zy_base.specs.declared.cause.Cause.TheVariants as causes
 use Rattle.zy_chain.specs.declared.entry.Entry.{Entry}
-use Rattle.zy_chain.specs.Entries.{digest_of_entry}
+use Rattle.zy_chain.specs.Entries.{digest_of_entry, newer}
 use Rattle.zy_chain.specs.Heads.{head_after}
 use Rattle.zy_parts.specs.declared.signed.Signed.{Signed}
 use Rattle.zy_parts.specs.declared.statements.Ask.{Ask}
@@ -34,11 +33,6 @@ asking (Replica id) = record { 0 = id.0 }
 -- the entry that a request asks for
 abbrev pub entry_of : Signed Ask → Entry
 entry_of ask = record { client = asking ask.by; stamp = ask.stmt.stamp; op = ask.stmt.op }
-
--- the stamp is above the last one that was executed
-abbrev pub newer : Stamp → Option Stamp → Bool
-newer stamp None = true
-newer stamp (Some last) = nat_lt last.0 stamp.0
 
 -- the order that is next, if it has the head and the stamp that it has to have
 abbrev pub judge_at_end : Order → Signed Ask → Position → Admit

@@ -1,8 +1,8 @@
 ghost use Rattle.std.specs.Prelude.{◌≡◌};
-ghost use Rattle.zy_chain.specs.Entries.{digest_of_entry};
+ghost use Rattle.zy_chain.specs.Entries.{digest_of_entry, newer};
 ghost use Rattle.zy_parts.specs.Signing.{IsSignedInRange};
 ghost use Rattle.zy_parts.specs.Statements.{IsAskInRange};
-ghost use Rattle.zy_admit.specs.Judging.{asking, entry_of, newer, judge_fresh, judge_at_end};
+ghost use Rattle.zy_admit.specs.Judging.{asking, entry_of, judge_fresh, judge_at_end};
 
 use zy_base::{Cause, ClientId, Digest, Party, Place, Stamp};
 use zy_chain::{next_head, request_digest};

@@ -9,7 +9,7 @@ use Rattle.zy_base.specs.declared.ids.Digest.{Digest}
 use Rattle.zy_base.specs.declared.ids.Party.{Party}
 use Rattle.zy_base.specs.declared.ids.Place.{Place}
 use Rattle.zy_base.specs.declared.ids.View.{View}
-use Rattle.zy_chain.specs.Entries.{digest_of_entry}
+use Rattle.zy_chain.specs.Entries.{digest_of_entry, newer}
 use Rattle.zy_chain.specs.Stretch.{head_in}
 use Rattle.zy_cert.proofs.CertificateLemmas.{certified-taken}
 use Rattle.zy_cert.specs.Certificates.{IsCertificate, certified}
@@ -23,7 +23,7 @@ use Rattle.zy_check.specs.Board.{Board, specs_at, checks_at}
 use Rattle.zy_check.specs.Judging.{is_refused, judge_spec, judge_check}
 use Rattle.zy_check.specs.declared.kept.Kept.{Kept}
 use Rattle.zy_check.specs.declared.kept.Kept.TheVariants as answers
-use Rattle.zy_admit.specs.Judging.{newer, entry_of, same_digest}
+use Rattle.zy_admit.specs.Judging.{entry_of, same_digest}
 use Rattle.zy_admit.specs.Orders.{with_order, stored_in}
 use Rattle.zy_frames.specs.declared.frame.Frame.{Frame}
 use Rattle.zy_frames.specs.declared.frame.Frame.TheVariants as frames

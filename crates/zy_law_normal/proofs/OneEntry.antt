@@ -9,10 +9,10 @@ use Rattle.zy_base.specs.declared.ids.Digest.{Digest}
 use Rattle.zy_base.specs.declared.ids.ClientId.{ClientId}
 use Rattle.zy_base.specs.declared.ids.Stamp.{Stamp}
 use Rattle.zy_chain.specs.declared.entry.Entry.{Entry}
-use Rattle.zy_chain.specs.Entries.{digest_of_entry}
+use Rattle.zy_chain.specs.Entries.{digest_of_entry, newer}
 use Rattle.zy_chain.specs.Heads.{empty_head, head_of}
 use Rattle.zy_chain.specs.Stretch.{Mark}
-use Rattle.zy_admit.specs.Judging.{newer, entry_of}
+use Rattle.zy_admit.specs.Judging.{entry_of}
 use Rattle.zy_frames.specs.declared.frame.OrderFrame.{OrderFrame}
 use Rattle.zy_exec.specs.declared.known.Known.{Known}
 use Rattle.zy_exec.specs.Replay.{Point, origin, known_of}

@@ -12,7 +12,7 @@ use Rattle.zy_chain.specs.declared.entry.Entry.{Entry}
 use Rattle.zy_chain.specs.Entries.{digest_of_entry}
 use Rattle.zy_chain.specs.Heads.{head_after, head_of, empty_head}
 use Rattle.zy_exec.specs.declared.known.Known.{Known}
-use Rattle.zy_exec.specs.Replay.{Point, origin, known_of, along, answer_at}
+use Rattle.zy_exec.specs.Replay.{Point, origin, known_of, along, answer_at, answers_of}
 use Rattle.zy_exec.proofs.ReplayLemmas.{by_last, along-append, along-nil, place-along, head-along, length-known-along, clients_pop}
 use Rattle.zy_law.specs.Histories.{IsEntryAt}
 use Rattle.zy_law.proofs.EntriesAskedFor.{entry_within, entry_longer, entry_shorter}
@@ -32,13 +32,13 @@ entry_pushed (y ∷ xs) x = entry_pushed xs x
 pub answer_longer : {S : Type 0} (R : Rules S) (xs ys : List Entry) (place : ℕ) → place ≤ length xs → answer_at R (xs ++ ys) place ≡ answer_at R xs place
 answer_longer R xs ys zero within = refl
 answer_longer {S} R xs ys (suc before) within =
-    ap (λ (es : List Entry). option_map (λ (e : Entry). R.reply (along R (origin R) es).state e.client e.op) (slice_get (xs ++ ys) before)) (take-append-le before xs ys (omega arith))
-    ∙ ap (λ (o : Option Entry). option_map (λ (e : Entry). R.reply (along R (origin R) (take before xs)).state e.client e.op) o) (entry_of_front xs ys before (omega arith))
+    ap (λ (es : List Entry). option_map (λ (e : Entry). answers_of R (along R (origin R) es).state e) (slice_get (xs ++ ys) before)) (take-append-le before xs ys (omega arith))
+    ∙ ap (λ (o : Option Entry). option_map (λ (e : Entry). answers_of R (along R (origin R) (take before xs)).state e) o) (entry_of_front xs ys before (omega arith))
 
-pub answer_pushed : {S : Type 0} (R : Rules S) (xs : List Entry) (e : Entry) → answer_at R (xs ++ e ∷ []) (suc (length xs)) ≡ Some (R.reply (along R (origin R) xs).state e.client e.op)
+pub answer_pushed : {S : Type 0} (R : Rules S) (xs : List Entry) (e : Entry) → answer_at R (xs ++ e ∷ []) (suc (length xs)) ≡ Some (answers_of R (along R (origin R) xs).state e)
 answer_pushed {S} R xs e =
-    ap (λ (o : Option Entry). option_map (λ (d : Entry). R.reply (along R (origin R) (take (length xs) (xs ++ e ∷ []))).state d.client d.op) o) (entry_pushed xs e)
-    ∙ ap (λ (es : List Entry). Some (R.reply (along R (origin R) es).state e.client e.op)) (take-append-le (length xs) xs (e ∷ []) (omega arith) ∙ take_all (length xs) xs (omega arith))
+    ap (λ (o : Option Entry). option_map (λ (d : Entry). answers_of R (along R (origin R) (take (length xs) (xs ++ e ∷ []))).state d) o) (entry_pushed xs e)
+    ∙ ap (λ (es : List Entry). Some (answers_of R (along R (origin R) es).state e)) (take-append-le (length xs) xs (e ∷ []) (omega arith) ∙ take_all (length xs) xs (omega arith))
 
 -- ---- the entry at a place of a longer history
 

@@ -10,6 +10,7 @@ use Rattle.zy_law.specs.Steps as law
 use Rattle.zy_law.specs.Steps.Act.{Say, Move}
 use Rattle.zy_law.specs.World.Statement.{Order, Spec}
 use Rattle.zy_law.specs.World.{Answer}
+use Rattle.zy_exec.specs.Replay.{answers_of}
 
 -- the history of one entry
 abbrev pub first_mark : Entry → Mark
@@ -20,7 +21,7 @@ first_answer R e =
     record {
       client = e.client.0;
       stamp = e.stamp.0;
-      reply = record { 0 = sha256 (R.reply R.initial e.client e.op) };
+      reply = record { 0 = sha256 (answers_of R R.initial e) };
     }
 
 -- the order, at the stand with the empty history; the stand with the entry; the response, there

@@ -11,7 +11,7 @@ use Rattle.zy_exec.proofs.HistoryLemmas.{stands_leads, stands_run}
 use Rattle.zy_exec.proofs.ReplayLemmas.{place-along}
 use Rattle.zy_exec.proofs.SettleLemmas.{stands_snapshot}
 use Rattle.zy_exec.specs.Kept.{Kept, StandsFor, longer, now_of}
-use Rattle.zy_exec.specs.Replay.{Point, along, answer_at, known_of, origin}
+use Rattle.zy_exec.specs.Replay.{Point, along, answer_at, known_of, origin, answers_of}
 use Rattle.zy_exec.specs.Shots.{snapshot_at, snapshot_due, snapshot_in}
 use Rattle.zy_frames.specs.declared.frame.OrderFrame.{OrderFrame}
 use Rattle.zy_law_normal.proofs.Follow.{Keeps, one_keeps}
@@ -43,7 +43,7 @@ module _ {S : Type 0} (R : Rules S) (texts : Texts) (k : Kept S) (history : List
   past_end zero text is = absurd cc
   past_end (suc before) text is = by (slice_get far before) refl is
     where
-      by : (o : Option Entry) → slice_get far before ≡ o → option_map (λ (d : Entry). R.reply (along R (origin R) (take before far)).state d.client d.op) o ≡ Some text → suc before ≤ length far
+      by : (o : Option Entry) → slice_get far before ≡ o → option_map (λ (d : Entry). answers_of R (along R (origin R) (take before far)).state d) o ≡ Some text → suc before ≤ length far
       by None there told = absurd cc
       by (Some d) there told = let inside = slice_get_within far before d there in omega arith
 
@@ -51,8 +51,8 @@ module _ {S : Type 0} (R : Rules S) (texts : Texts) (k : Kept S) (history : List
   last_reply place text at is =
       let end : place ≡ suc (length history) = omega arith in
       let told : answer_at R far (suc (length history)) ≡ Some text = ap (answer_at R far) (sym end) ∙ is in
-      ap (λ (p : Point S). R.reply p.state e.client e.op) (stands_leads R k history stands)
-      ∙ same_Some (R.reply (along R (origin R) history).state e.client e.op) text (sym (answer_pushed R history e) ∙ told)
+      ap (λ (p : Point S). answers_of R p.state e) (stands_leads R k history stands)
+      ∙ same_Some (answers_of R (along R (origin R) history).state e) text (sym (answer_pushed R history e) ∙ told)
 
   -- the snapshot of an earlier place
   snapshot_before : (interval place : ℕ) → place ≤ length history → snapshot_at R interval far place ≡ snapshot_at R interval history place

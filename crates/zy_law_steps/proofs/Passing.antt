@@ -28,7 +28,7 @@ use Rattle.zy_base.specs.declared.ids.ClientId.{ClientId}
 use Rattle.zy_chain.specs.Stretch.{entry_in}
 use Rattle.zy_chain.specs.declared.entry.Entry.{Entry}
 use Rattle.zy_exec.specs.Kept.{Kept, known_in, last_place, now_of, point_before, reply_in, stretch_of}
-use Rattle.zy_exec.specs.Replay.{Point, along, known_of, step}
+use Rattle.zy_exec.specs.Replay.{Point, along, known_of, step, answers_of}
 use Rattle.zy_exec.specs.declared.known.Known.{Known}
 use Rattle.zy_parts.specs.Numbers as numbers
 use Rattle.zy_parts.specs.Statements.{check_fields}
@@ -144,7 +144,7 @@ module _ {S : Type 0} (R : Rules S) (ok : S → Type 0) (law : Laws ok R) where
   pub reply_short : (k : Kept S) (place : ℕ) → IsShort ok k.base → IfSome (reply_in R k place) (λ reply. length reply ≤ 1100)
   reply_short k place is = by (entry_in (stretch_of k) place)
     where
-      by : (o : Option Entry) → IfSome (option_map (λ (e : Entry). R.reply (point_before R k place).state e.client e.op) o) (λ reply. length reply ≤ 1100)
+      by : (o : Option Entry) → IfSome (option_map (λ (e : Entry). answers_of R (point_before R k place).state e) o) (λ reply. length reply ≤ 1100)
       by None = tt
       by (Some e) = law.short (point_before R k place).state e.client e.op (along_short k.base (take (place - k.base.place - 1) k.entries) is).state
 

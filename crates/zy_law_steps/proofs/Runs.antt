@@ -8,11 +8,11 @@ use Rattle.zy_base.specs.Machine.{Rules}
 use Rattle.zy_base.specs.declared.ids.Digest.{Digest}
 use Rattle.zy_base.specs.declared.ids.Stamp.{Stamp}
 use Rattle.zy_base.specs.declared.ids.View.{View}
-use Rattle.zy_chain.specs.Entries.{digest_of_entry}
+use Rattle.zy_chain.specs.Entries.{digest_of_entry, newer}
 use Rattle.zy_chain.specs.Heads.{head_after}
 use Rattle.zy_chain.specs.Stretch.{Mark}
 use Rattle.zy_chain.specs.declared.entry.Entry.{Entry}
-use Rattle.zy_admit.specs.Judging.{entry_of, newer, same_digest}
+use Rattle.zy_admit.specs.Judging.{entry_of, same_digest}
 use Rattle.zy_admit.specs.Orders.{slots_above, without_order}
 use Rattle.zy_check.proofs.JudgingLemmas.{after_spec-stays, without_others-stays}
 use Rattle.zy_check.specs.Board.{Board, without_others}

@@ -12,7 +12,7 @@ use Rattle.zy_base.specs.declared.ids.ReplicaId.{ReplicaId}
 use Rattle.zy_base.specs.declared.ids.View.{View}
 use Rattle.zy_base.specs.declared.step.Mode.{Mode}
 use Rattle.zy_base.specs.declared.step.Mode.TheVariants.{Active}
-use Rattle.zy_admit.specs.Judging.{entry_of, newer}
+use Rattle.zy_admit.specs.Judging.{entry_of}
 use Rattle.zy_chain.specs.Heads.{empty_head}
 use Rattle.zy_chain.specs.declared.entry.Entry.{Entry}
 use Rattle.zy_exec.proofs.HistoryLemmas.{stands_leads}
@@ -55,6 +55,7 @@ use Rattle.zy_law_views.specs.Steps.{IsWorldOf}
 use Rattle.zy_law_steps.proofs.Gained.{longer_kept}
 use Rattle.zy_law_views.specs.Work.{IsAtWork, IsWorkTied, last_long, workplace_of}
 use Rattle.zy_law_steps.specs.Gains.{IsGainKept}
+use Rattle.zy_chain.specs.Entries.{newer}
 
 -- an entry that is gained
 leads_gaining : (w : World) (r view number : ℕ) (h : List Entry) (got : Got) → MayStand w r (stand_with view h got)

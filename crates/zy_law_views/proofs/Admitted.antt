@@ -1,12 +1,12 @@
 -- An order that is judged next or held lies past the end of the history and in the window.
 use Rattle.std.proofs.Common.{◌≡◌, ◌+◌, ◌<◌, ◌≤◌, true, Option, Some, None, ltb-false, leb-false}
 use Rattle.std.specs.Prelude.{nat_le, nat_lt}
-use Rattle.zy_admit.specs.Judging.{entry_of, judge_at_end, judge_beside, judge_fresh, judge_in, newer, same_digest, same_order}
+use Rattle.zy_admit.specs.Judging.{entry_of, judge_at_end, judge_beside, judge_fresh, judge_in, same_digest, same_order}
 use Rattle.zy_admit.specs.Orders.{Orders, stored_in}
 use Rattle.zy_admit.specs.declared.judging.Admit.{Admit}
 use Rattle.zy_admit.specs.declared.judging.Admit.TheVariants as admits
 use Rattle.zy_admit.specs.declared.judging.Position.{Position}
-use Rattle.zy_chain.specs.Entries.{digest_of_entry}
+use Rattle.zy_chain.specs.Entries.{digest_of_entry, newer}
 use Rattle.zy_chain.specs.Heads.{head_after}
 use Rattle.zy_frames.specs.declared.frame.OrderFrame.{OrderFrame}
 use Rattle.zy_law_normal.proofs.Own.{by_test}

@@ -6,7 +6,7 @@ ghost use Rattle.zy_chain.specs.Entries.{IsEntryInRange};
 ghost use Rattle.zy_parts.specs.Signing.{IsSignedInRange};
 ghost use Rattle.zy_parts.specs.Statements.{IsHoleInRange, IsLocalInRange, IsSpecInRange, spec_fields};
 ghost use Rattle.zy_parts.specs.Numbers as numbers;
-ghost use Rattle.zy_exec.specs.Replay.{step as one_entry};
+ghost use Rattle.zy_exec.specs.Replay.{step as one_entry, answers_of};
 ghost use Rattle.zy_chain.specs.declared.entry.Entry.{Entry};
 ghost use Rattle.zy_exec.specs.Kept.{Kept, longer, last_place, now_of};
 ghost use Rattle.zy_seal.specs.Sealing.{sealed_by};
@@ -65,7 +65,7 @@ impl<M: Machine> Core<M> {
         requires range { IsEntryInRange entry }
         ensures core { IfOk result (λ r. r.0 ≡ record self { kept = longer self.kept entry }) }
         ensures now { IfOk result (λ r. now_of M.rules r.0.kept ≡ one_entry M.rules (now_of M.rules self.kept) entry) }
-        ensures reply { IfOk result (λ r. r.1 ≡ M.rules.reply (now_of M.rules self.kept).state entry.client entry.op) }
+        ensures reply { IfOk result (λ r. r.1 ≡ answers_of M.rules (now_of M.rules self.kept).state entry) }
         ensures short { IfOk result (λ r. length r.1 ≤ 1100) }
     {
         match self.exec.run(entry) {

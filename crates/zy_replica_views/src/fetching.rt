@@ -5,7 +5,7 @@ ghost use Rattle.zy_base.specs.declared.ids.Place.{Place as PlaceThere};
 ghost use Rattle.zy_parts.specs.Reports.{IsFetchInRange};
 ghost use Rattle.zy_parts.specs.declared.reports.Change.{Change};
 ghost use Rattle.zy_parts.specs.declared.signed.Signed.{Signed as IsSigned};
-ghost use Rattle.zy_vframes.specs.ViewFrames.{greatest_snapshot};
+ghost use Rattle.zy_chain.specs.Sizes.{greatest_snapshot};
 ghost use Rattle.zy_vframes.specs.declared.frame.ViewFrame.TheVariants as frames;
 ghost use Rattle.zy_check.specs.States.{IsFaultOf, fetch_cause, frame_cause};
 ghost use Rattle.zy_exec.specs.Showing.{point_in};

@@ -5,7 +5,7 @@ use Rattle.zy_base.specs.Machine.{Rules}
 use Rattle.zy_base.specs.declared.ids.Digest.{Digest}
 use Rattle.zy_base.specs.declared.ids.Stamp.{Stamp}
 use Rattle.zy_base.specs.declared.ids.Party.TheVariants.{Client}
-use Rattle.zy_chain.specs.Entries.{digest_of_entry}
+use Rattle.zy_chain.specs.Entries.{digest_of_entry, newer}
 use Rattle.zy_chain.specs.declared.entry.Entry.{Entry}
 use Rattle.zy_chain.specs.Heads.{head_after}
 use Rattle.zy_parts.specs.Numbers as numbers
@@ -22,7 +22,7 @@ use Rattle.zy_exec.specs.Replay.{known_of}
 use Rattle.zy_exec.specs.Kept.{longer, last_place, now_of, known_in}
 use Rattle.zy_exec.specs.Shots.{snapshot_in}
 use Rattle.zy_admit.specs.Orders.{without_order, slots_above}
-use Rattle.zy_admit.specs.Judging.{same_digest, entry_of, newer}
+use Rattle.zy_admit.specs.Judging.{same_digest, entry_of}
 use Rattle.zy_table.specs.declared.deeds.To.TheVariants.{All, One}
 use Rattle.zy_table.specs.declared.deeds.Body.TheVariants as bodies
 use Rattle.zy_table.specs.declared.deeds.Got.{Got}

@@ -1,7 +1,7 @@
 -- Why a frame of normal operation is refused: for what blames nobody, or because a checkpoint tells another snapshot than the own.
 use Rattle.std.proofs.Common.{◌≡◌, ◌⊎◌, inl, inr, ℕ, ◌+◌, nat_eq, nat_lt, Bool, true, false, List, [], ◌∷◌, Option, Some, None, Ok, Err, refl, sym, ◌∙◌, subst}
 use Rattle.std.specs.Prelude.{◌%◌, Result, if◌then◌else◌, nat_le, option_map}
-use Rattle.zy_admit.specs.Judging.{entry_of, judge_beside, judge_fresh, newer, same_digest, same_order}
+use Rattle.zy_admit.specs.Judging.{entry_of, judge_beside, judge_fresh, same_digest, same_order}
 use Rattle.zy_admit.specs.Orders.{orders_from, stored_in}
 use Rattle.zy_admit.specs.declared.judging.Admit.{Admit}
 use Rattle.zy_admit.specs.declared.judging.Admit.TheVariants as admits
@@ -22,7 +22,7 @@ use Rattle.zy_cert.specs.Equal as certs
 use Rattle.zy_cert.specs.Equal.{digest-equal, same_spec}
 use Rattle.zy_cert.specs.Points.{point_of_spec}
 use Rattle.zy_cert.specs.Signers.{has_signer}
-use Rattle.zy_chain.specs.Entries.{digest_of_entry}
+use Rattle.zy_chain.specs.Entries.{digest_of_entry, newer}
 use Rattle.zy_chain.specs.Heads.{head_after}
 use Rattle.zy_chain.specs.Stretch.{head_in}
 use Rattle.zy_check.specs.Board as boards

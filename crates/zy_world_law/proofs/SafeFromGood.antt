@@ -13,7 +13,7 @@ use Rattle.zy_base.specs.declared.ids.Stamp.{Stamp}
 use Rattle.zy_chain.specs.Heads.{empty_head}
 use Rattle.zy_chain.specs.declared.entry.Entry.{Entry}
 use Rattle.zy_exec.proofs.HistoryLemmas.{stands_leads}
-use Rattle.zy_exec.specs.Replay.{origin, along, answer_at}
+use Rattle.zy_exec.specs.Replay.{origin, along, answer_at, answers_of}
 use Rattle.zy_law.proofs.CompletedLemmas.{completed_fixed, agreed_list, agreed_asked, agreed_grows, completed_result}
 use Rattle.zy_law.proofs.GrownLemmas.{AreKept-more}
 use Rattle.zy_law.proofs.HistoryLemmas.{AreKept-take}
@@ -50,8 +50,8 @@ replied R list zero e at = absurd (omega (arith, at.first))
 replied {S} R list (suc before) e at =
     let here : before ≡ suc before - 1 = omega arith in
     let there : slice_get list before ≡ Some e = ap (λ (n : ℕ). slice_get list n) here ∙ at.there in (
-      R.reply (along R (origin R) (take before list)).state e.client e.op,
-      ap (λ (o : Option Entry). option_map (λ (d : Entry). R.reply (along R (origin R) (take before list)).state d.client d.op) o) there,
+      answers_of R (along R (origin R) (take before list)).state e,
+      ap (λ (o : Option Entry). option_map (λ (d : Entry). answers_of R (along R (origin R) (take before list)).state d) o) there,
     )
 
 answer_front : {S : Type 0} (R : Rules S) (list : List Entry) (place : ℕ) → place ≤ length list → answer_at R (take place list) place ≡ answer_at R list place
