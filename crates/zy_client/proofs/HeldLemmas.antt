@@ -5,7 +5,6 @@ use Rattle.std.proofs.lemmas.Option.{same_Some}
 use Rattle.std.specs.Prelude.{slice_set, slice_index_or, unwrap_or}
 use Rattle.std.specs.List.{AllByRecursion, find}
 use Rattle.std.specs.Cmp.Lexicographic.{same_text}
-use Rattle.sha2.specs.Sha256.{sha256}
 use Rattle.zy_base.specs.declared.counts.Counts.{Counts}
 use Rattle.zy_base.specs.declared.cause.Cause.{Cause}
 use Rattle.zy_base.specs.declared.cause.Cause.TheVariants as causes
@@ -54,6 +53,7 @@ use Rattle.zy_client.specs.Held.{IsHeldBy, AreHeld, IsCounted, IsCommitHeld, Hol
 use Rattle.zy_client.specs.Held.CommitComes.{stays as from_before, counts as from_vote, certifies as from_responses}
 use Rattle.zy_client.specs.Held.IsComplete.{fast, slow}
 use Rattle.zy_client.proofs.PollLemmas.{pushed, counts as counts_vote, fills as fills_votes, votes_pushed}
+use Rattle.zy_chain.specs.Answers.{digest_of_answers}
 
 -- ---- slots
 
@@ -155,13 +155,13 @@ cause_free : (s : ClientState) (waiting : Signed Ask) (id : ℕ) (r : Response) 
 cause_free s waiting id r by signed is =
     let spec = r.spec.stmt in
     let by_order : Option Cause = if is_own_order_if s waiting spec r.order then (if is_repeated (kept_of s id) spec then Some causes.Repeat else None) else Some causes.Unmatched in
-    let by_reply : Option Cause = if same_digest (record { 0 = sha256 r.reply }) spec.reply then by_order else Some causes.Unmatched in
+    let by_reply : Option Cause = if same_digest (digest_of_answers r.reply) spec.reply then by_order else Some causes.Unmatched in
     let by_late : Option Cause = if nat_lt waiting.stmt.stamp.0 spec.stamp.0 then Some causes.Unmatched else by_reply in
     let by_stamp : Option Cause = if nat_lt spec.stamp.0 waiting.stmt.stamp.0 then Some causes.OldStamp else by_late in
     let own = taken_if (nat_eq spec.client.0 s.me.0) by_stamp causes.Unmatched is in
     let early = taken_unless (nat_lt spec.stamp.0 waiting.stmt.stamp.0) causes.OldStamp by_late own.1 in
     let late = taken_unless (nat_lt waiting.stmt.stamp.0 spec.stamp.0) causes.Unmatched by_reply early.1 in
-    let told = taken_if (same_digest (record { 0 = sha256 r.reply }) spec.reply) by_order causes.Unmatched late.1 in
+    let told = taken_if (same_digest (digest_of_answers r.reply) spec.reply) by_order causes.Unmatched late.1 in
     let least = ltb-false _ _ early.0 in
     let most = ltb-false _ _ late.0 in
     record {
@@ -169,7 +169,7 @@ cause_free s waiting id r by signed is =
       signed = signed;
       client = eqb-true _ _ own.0;
       stamp = omega (arith, least, most);
-      reply = ap (λ (bytes : List ℕ). let digest : Digest = record { 0 = bytes } in digest) (same_text (sha256 r.reply) r.spec.stmt.reply.0 (sym told.0));
+      reply = ap (λ (bytes : List ℕ). let digest : Digest = record { 0 = bytes } in digest) (same_text (digest_of_answers r.reply).0 r.spec.stmt.reply.0 (sym told.0));
     }
 
 module _ (s : ClientState) (event : Event) where

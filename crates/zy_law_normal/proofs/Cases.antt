@@ -23,7 +23,7 @@ use Rattle.zy_check.specs.Board.{Board, specs_at, checks_at}
 use Rattle.zy_check.specs.Judging.{is_refused, judge_spec, judge_check}
 use Rattle.zy_check.specs.declared.kept.Kept.{Kept}
 use Rattle.zy_check.specs.declared.kept.Kept.TheVariants as answers
-use Rattle.zy_admit.specs.Judging.{entry_of, same_digest}
+use Rattle.zy_admit.specs.Judging.{entry_of, same_digest, asking}
 use Rattle.zy_admit.specs.Orders.{with_order, stored_in}
 use Rattle.zy_frames.specs.declared.frame.Frame.{Frame}
 use Rattle.zy_frames.specs.declared.frame.Frame.TheVariants as frames
@@ -84,7 +84,7 @@ with_held s o = record s { orders = with_order s.orders o }
 
 -- the order of a request, and an order, come with a stamp above the one that is known
 abbrev pub IsNew : {S : Type 0} → Rules S → State S → Signed Ask → Type 0
-IsNew R s ask = newer ask.stmt.stamp (option_map (λ (known : Known). known.stamp) (known_in R s.kept (entry_of ask).client.0)) ≡ true
+IsNew R s ask = newer ask.stmt.stamp (option_map (λ (known : Known). known.stamp) (known_in R s.kept (asking ask.by).0)) ≡ true
 
 -- so many statements can still be signed
 abbrev pub CanSign : {S : Type 0} → State S → ℕ → Type 0
@@ -106,8 +106,8 @@ pub data IsPut {S : Type 0} (s : State S) (Heard : Frame → Type 0) (board : Bo
 pub record Cases {S : Type 0} (R : Rules S) (s : State S) (Heard : Frame → Type 0) (P : Outcome S → Type 0) : Type 0 where
   pub refuses : (cause : Cause) → P (refused cause s)
   pub stays : (sent : List Sent) → P (record { answer = Taken; state = s; deeds = record { sent = sent; acts = [] } })
-  pub responds : (ask : Signed Ask) (known : Known) → known_in R s.kept (entry_of ask).client.0 ≡ Some known → CanSign s 1 → P (responded R s (spec_of (own_view s) ask known) known)
-  pub orders : (ask : Signed Ask) → Heard (frames.Request ask) → is_primary s ≡ true → IsNew R s ask → CanSign s (signs_of R s ask + 1) → P (ends Taken (run R (sealed_order R s ask) (ordered R s ask)))
+  pub responds : (ask : Signed Ask) (known : Known) → known_in R s.kept (asking ask.by).0 ≡ Some known → CanSign s 1 → P (responded R s (spec_of (own_view s) (entry_of ask) known) known)
+  pub orders : (ask : Signed Ask) → Heard (frames.Request ask) → is_primary s ≡ true → IsNew R s ask → CanSign s (signs_of R s (entry_of ask) + 1) → P (ends Taken (run R (sealed_order R s ask) (ordered R s ask)))
   pub waits : (ask : Signed Ask) → CanSign s 1 → P (ends Taken (request_waits R s ask))
   pub commits : (specs : List (Signed Spec)) (client : ClientId) (local : Local) (said : Option (Signed Local)) (held : Option Certificate) → Heard (frames.Commit specs) → IsOwnCommit s specs local
       → IsFurthest local.place specs s.views.specs held → CanSign s (locals_owed said + checks_owed (holding s held) (own_at R s local.place.0) true)
@@ -121,14 +121,14 @@ pub record Cases {S : Type 0} (R : Rules S) (s : State S) (Heard : Frame → Typ
 module _ {S : Type 0} (R : Rules S) (s : State S) (Heard : Frame → Type 0) (P : Outcome S → Type 0) (of : Cases R s Heard P) where
   -- ---- REQUEST
 
-  respond_as_case : (ask : Signed Ask) (known : Known) (signed : Option (Signed Spec)) → known_in R s.kept (entry_of ask).client.0 ≡ Some known → P (respond_as R s signed (spec_of (own_view s) ask known) known)
+  respond_as_case : (ask : Signed Ask) (known : Known) (signed : Option (Signed Spec)) → known_in R s.kept (asking ask.by).0 ≡ Some known → P (respond_as R s signed (spec_of (own_view s) (entry_of ask) known) known)
   respond_as_case ask known None is = by_test P (nat_le 1 (signs_left s)) _ _ (of.responds ask known is) (λ none. of.refuses causes.KeySpent)
   respond_as_case ask known (Some signed) is = of.stays (response_of s signed known (begin s)).deeds.sent
 
   primary_case : (ask : Signed Ask) → Heard (frames.Request ask) → is_primary s ≡ true → IsNew R s ask → P (request_at_primary R s ask)
   primary_case ask heard primary new =
       by_test P (nat_lt (last_place s.kept) (window_of s)) _ _
-      (λ room. by_test P (nat_le (signs_of R s ask + 1) (signs_left s)) _ _ (of.orders ask heard primary new) (λ none. of.refuses causes.KeySpent))
+      (λ room. by_test P (nat_le (signs_of R s (entry_of ask) + 1) (signs_left s)) _ _ (of.orders ask heard primary new) (λ none. of.refuses causes.KeySpent))
       (λ full. of.refuses (causes.WindowFull (record { 0 = window_of s })))
 
   forward_case : (ask : Signed Ask) → P (forward R s ask)
@@ -143,16 +143,16 @@ module _ {S : Type 0} (R : Rules S) (s : State S) (Heard : Frame → Type 0) (P 
 
   new_request_case : (ask : Signed Ask) → Heard (frames.Request ask) → IsNew R s ask → P (new_request R s ask)
   new_request_case ask heard new =
-      by_test P (is_primary s) _ _ (λ primary. primary_case ask heard primary new) (λ backup. backup_case ask (pending_of s (entry_of ask).client))
+      by_test P (is_primary s) _ _ (λ primary. primary_case ask heard primary new) (λ backup. backup_case ask (pending_of s (asking ask.by)))
 
-  request_after_case : (ask : Signed Ask) (known : Option Known) → known_in R s.kept (entry_of ask).client.0 ≡ known → Heard (frames.Request ask) → P (request_after R s ask known)
+  request_after_case : (ask : Signed Ask) (known : Option Known) → known_in R s.kept (asking ask.by).0 ≡ known → Heard (frames.Request ask) → P (request_after R s ask known)
   request_after_case ask None is heard =
       new_request_case ask heard (ap (λ (o : Option Known). newer ask.stmt.stamp (option_map (λ (known : Known). known.stamp) o)) is)
   request_after_case ask (Some known) is heard =
       by_test P (nat_lt ask.stmt.stamp.0 known.stamp.0) _ _
       (λ old. of.refuses causes.OldStamp)
       (λ from. by_test P (nat_eq ask.stmt.stamp.0 known.stamp.0) _ _
-      (λ same. respond_as_case ask known (said_already (spec_to s (entry_of ask).client) (spec_of (own_view s) ask known)) is)
+      (λ same. respond_as_case ask known (said_already (spec_to s (asking ask.by)) (spec_of (own_view s) (entry_of ask) known)) is)
       (λ other. new_request_case ask heard
       (ap (λ (o : Option Known). newer ask.stmt.stamp (option_map (λ (k : Known). k.stamp) o)) is ∙ stamp_above known.stamp.0 ask.stmt.stamp.0 from other)))
 
@@ -160,8 +160,8 @@ module _ {S : Type 0} (R : Rules S) (s : State S) (Heard : Frame → Type 0) (P 
   unfolding request
   request_case ask heard =
       by_test P (is_leaving s) _ _ (λ leaving. of.refuses causes.NotActive)
-      (λ active. by_test P (is_behind ask (pending_of s (entry_of ask).client)) _ _ (λ behind. of.refuses causes.OldStamp)
-      (λ newest. request_after_case ask (known_in R s.kept (entry_of ask).client.0) refl heard))
+      (λ active. by_test P (is_behind ask (pending_of s (asking ask.by))) _ _ (λ behind. of.refuses causes.OldStamp)
+      (λ newest. request_after_case ask (known_in R s.kept (asking ask.by).0) refl heard))
 
   -- ---- CONFIRM-REQ
 
@@ -182,7 +182,7 @@ module _ {S : Type 0} (R : Rules S) (s : State S) (Heard : Frame → Type 0) (P 
   unfolding confirm
   confirm_case confirmed ask heard =
       by_test P (same_digest confirmed.stmt.request (digest_of_entry (entry_of ask))) _ _
-      (λ same. confirm_after_case confirmed.by ask (known_in R s.kept (entry_of ask).client.0) heard)
+      (λ same. confirm_after_case confirmed.by ask (known_in R s.kept (asking ask.by).0) heard)
       (λ other. of.refuses causes.Unmatched)
 
   -- ---- COMMIT

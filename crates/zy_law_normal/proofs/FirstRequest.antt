@@ -2,7 +2,7 @@
 use Rattle.std.proofs.Common.{◌≡◌, ℕ, ◌%◌, ◌<◌, ◌≤◌, Bool, true, false, List, [], Option, None, refl, ap, ◌∙◌, arith, lt-ltb, le-leb}
 use Rattle.std.proofs.Math.Nat.{mod-eq_of_lt}
 use Rattle.std.specs.Prelude.{nat_eq, nat_lt, if◌then◌else◌}
-use Rattle.zy_admit.specs.Judging.{entry_of}
+use Rattle.zy_admit.specs.Judging.{entry_of, asking}
 use Rattle.zy_base.specs.Machine.{Rules}
 use Rattle.zy_base.specs.declared.cause.Cause.TheVariants as causes
 use Rattle.zy_base.specs.declared.counts.Counts.{Counts}
@@ -53,16 +53,16 @@ module _ {S : Type 0} (R : Rules S) (interval : ℕ) (me : ReplicaId) (counts : 
 
   new : is_primary begins ≡ true → 1 < interval → 2 ≤ signs_left begins → acts (new_request R begins ask) ≡ first_acts R (entry_of ask)
   new primary some left =
-      ap (λ (b : Bool). acts (if b then request_at_primary R begins ask else request_at_backup R begins ask (pending_of begins (entry_of ask).client))) primary
+      ap (λ (b : Bool). acts (if b then request_at_primary R begins ask else request_at_backup R begins ask (pending_of begins (asking ask.by)))) primary
       ∙ ordered some left
 
-  after : is_primary begins ≡ true → 1 < interval → 2 ≤ signs_left begins → acts (request_after R begins ask (known_in R begins.kept (entry_of ask).client.0)) ≡ first_acts R (entry_of ask)
+  after : is_primary begins ≡ true → 1 < interval → 2 ≤ signs_left begins → acts (request_after R begins ask (known_in R begins.kept (asking ask.by).0)) ≡ first_acts R (entry_of ask)
   after primary some left =
-      ap (λ (o : Option Known). acts (request_after R begins ask o)) (nobody (entry_of ask).client.0) ∙ new primary some left
+      ap (λ (o : Option Known). acts (request_after R begins ask o)) (nobody (asking ask.by).0) ∙ new primary some left
 
   pub first_request : is_primary begins ≡ true → 1 < interval → 2 ≤ signs_left begins → acts (request R begins ask) ≡ first_acts R (entry_of ask)
   unfolding request
   first_request primary some left =
-      ap (λ (o : Option Pending). acts (if is_behind ask o then refused causes.OldStamp begins else request_after R begins ask (known_in R begins.kept (entry_of ask).client.0)))
-      (none_of 64 (entry_of ask).client.0)
+      ap (λ (o : Option Pending). acts (if is_behind ask o then refused causes.OldStamp begins else request_after R begins ask (known_in R begins.kept (asking ask.by).0)))
+      (none_of 64 (asking ask.by).0)
       ∙ after primary some left

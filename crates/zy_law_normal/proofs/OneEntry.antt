@@ -12,7 +12,7 @@ use Rattle.zy_chain.specs.declared.entry.Entry.{Entry}
 use Rattle.zy_chain.specs.Entries.{digest_of_entry, newer}
 use Rattle.zy_chain.specs.Heads.{empty_head, head_of}
 use Rattle.zy_chain.specs.Stretch.{Mark}
-use Rattle.zy_admit.specs.Judging.{entry_of}
+use Rattle.zy_admit.specs.Judging.{ordered_entry}
 use Rattle.zy_frames.specs.declared.frame.OrderFrame.{OrderFrame}
 use Rattle.zy_exec.specs.declared.known.Known.{Known}
 use Rattle.zy_exec.specs.Replay.{Point, origin, known_of}
@@ -41,7 +41,7 @@ kept_pushed kept next head (d ∷ es) e all link = (all.0, kept_pushed kept next
 
 slot_more : (w v : World) → ((e : Entry) → MayRun w e → MayRun v e) → (o : Option OrderFrame) → MaySlotRun w o → MaySlotRun v o
 slot_more w v more None may = tt
-slot_more w v more (Some o) may = more (entry_of o.ask) may
+slot_more w v more (Some o) may = more (ordered_entry o) may
 
 pub slots_more : (w v : World) → ((e : Entry) → MayRun w e → MayRun v e) → (slots : List (Option OrderFrame)) → AllByRecursion (MaySlotRun w) slots → AllByRecursion (MaySlotRun v) slots
 slots_more w v more [] all = tt

@@ -1,6 +1,5 @@
 -- What the first request makes a primary say and where it makes it stand.
 use Rattle.std.specs.Prelude.{List, [], ◌∷◌}
-use Rattle.sha2.specs.Sha256.{sha256}
 use Rattle.zy_base.specs.Machine.{Rules}
 use Rattle.zy_chain.specs.Entries.{digest_of_entry}
 use Rattle.zy_chain.specs.Heads.{head_of}
@@ -11,6 +10,7 @@ use Rattle.zy_law.specs.Steps.Act.{Say, Move}
 use Rattle.zy_law.specs.World.Statement.{Order, Spec}
 use Rattle.zy_law.specs.World.{Answer}
 use Rattle.zy_exec.specs.Replay.{answers_of}
+use Rattle.zy_chain.specs.Answers.{digest_of_answers}
 
 -- the history of one entry
 abbrev pub first_mark : Entry → Mark
@@ -21,7 +21,7 @@ first_answer R e =
     record {
       client = e.client.0;
       stamp = e.stamp.0;
-      reply = record { 0 = sha256 (answers_of R R.initial e) };
+      reply = digest_of_answers (answers_of R R.initial e);
     }
 
 -- the order, at the stand with the empty history; the stand with the entry; the response, there

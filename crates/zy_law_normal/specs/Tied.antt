@@ -1,7 +1,6 @@
 -- How a replica's state is tied to what it said and where it stood.
 use Rattle.std.specs.Prelude.{◌≡◌, ◌⊎◌, ℕ, ◌+◌, ◌<◌, ◌≤◌, true, false, List, [], length, take, All, Option, Some, None, unwrap_or, Contains}
 use Rattle.std.specs.List.{AllByRecursion}
-use Rattle.sha2.specs.Sha256.{sha256}
 use Rattle.zy_base.specs.Machine.{Rules}
 use Rattle.zy_base.specs.declared.ids.Digest.{Digest}
 use Rattle.zy_base.specs.declared.ids.Party.{Party}
@@ -10,7 +9,7 @@ use Rattle.zy_chain.specs.Entries.{IsEntryInRange, digest_of_entry}
 use Rattle.zy_chain.specs.Heads.{head_after, head_of}
 use Rattle.zy_chain.specs.Stretch.{Mark}
 use Rattle.zy_chain.specs.declared.entry.Entry.{Entry}
-use Rattle.zy_admit.specs.Judging.{entry_of}
+use Rattle.zy_admit.specs.Judging.{entry_of, ordered_entry}
 use Rattle.zy_change.specs.declared.kept.Certificate.{Certificate}
 use Rattle.zy_check.specs.Board.{Round}
 use Rattle.zy_check.specs.Votes.{IsRising}
@@ -30,6 +29,7 @@ use Rattle.zy_parts.specs.declared.statements.Check.{Check}
 use Rattle.zy_parts.specs.declared.statements.Spec.{Spec}
 use Rattle.zy_table.specs.State.{State, own_view, is_leaving}
 use Rattle.zy_table.specs.declared.deeds.Got.{Got}
+use Rattle.zy_chain.specs.Answers.{digest_of_answers}
 
 -- ---- heads, digests and replies of the law
 
@@ -38,7 +38,7 @@ next_head head e = head_after head (digest_of_entry e)
 
 -- the digest of the reply to a history's last entry
 abbrev pub last_reply : {S : Type 0} → Rules S → List Entry → Digest
-last_reply R history = record { 0 = sha256 (unwrap_or (answer_at R history (length history)) []) }
+last_reply R history = digest_of_answers (unwrap_or (answer_at R history (length history)) [])
 
 -- the digest of the snapshot where a history leads
 abbrev pub state_of : {S : Type 0} → Rules S → List Entry → Digest
@@ -65,7 +65,7 @@ pub record MayRun (w : World) (e : Entry) : Type 0 where
 
 abbrev pub MaySlotRun : World → Option OrderFrame → Type 0
 MaySlotRun w None = Unit {0}
-MaySlotRun w (Some o) = MayRun w (entry_of o.ask)
+MaySlotRun w (Some o) = MayRun w (ordered_entry o)
 
 -- ---- what may be counted
 
@@ -132,7 +132,7 @@ IsNormal _ = Unit {0}
 -- the request of a frame may be run
 abbrev pub MayFrameRun : World → Frame → Type 0
 MayFrameRun w (frames.Request ask) = MayRun w (entry_of ask)
-MayFrameRun w (frames.Order both) = MayRun w (entry_of both.ask)
+MayFrameRun w (frames.Order both) = MayRun w (ordered_entry both)
 MayFrameRun w (frames.ConfirmReq confirm ask) = MayRun w (entry_of ask)
 MayFrameRun w _ = Unit {0}
 

@@ -28,6 +28,7 @@ use Rattle.zy_table.specs.declared.deeds.Got.{Got}
 use Rattle.zy_law_views.specs.Adopted.{IsHistoryKept}
 use Rattle.zy_law_views.specs.Texts.{IsKept, Texts}
 use Rattle.zy_law_steps.specs.Gains.{AreGainsKept, IsGainKept}
+use Rattle.zy_admit.specs.Judging.{ordered_entry}
 
 -- ---- one entry more
 
@@ -121,9 +122,9 @@ module _ (w : World) (texts : Texts) where
           settles = λ g place proof front gains. front gains;
         }
 
-    pub one_gains : (o : OrderFrame) (g : Going S) → AreGainsKept w texts (run_one R o g).deeds.acts → AreGainsKept w texts g.deeds.acts × IsGainKept w texts (got_of R g.state o.ask)
+    pub one_gains : (o : OrderFrame) (g : Going S) → AreGainsKept w texts (run_one R o g).deeds.acts → AreGainsKept w texts g.deeds.acts × IsGainKept w texts (got_of R g.state (ordered_entry o))
     one_gains o g gains =
-        let got : Got = got_of R g.state o.ask in
+        let got : Got = got_of R g.state (ordered_entry o) in
         let gained : List Act = g.deeds.acts ++ Gains got ∷ [] in
         let moved : AreGainsKept w texts gained = one_keeps R (λ g'. AreGainsKept w texts g'.deeds.acts → AreGainsKept w texts gained) (gains_before gained) o g (λ gains. gains) gains in
         (gains_of_front g.deeds.acts (Gains got ∷ []) moved, gain_of_last g.deeds.acts got moved)
@@ -134,7 +135,7 @@ module _ (w : World) (texts : Texts) where
     held_gains (None ∷ slots) g = λ gains. gains
     held_gains (Some o ∷ slots) g =
         by_test (λ (g' : Going S). AreGainsKept w texts g'.deeds.acts → AreGainsKept w texts g.deeds.acts) (fits_end R g.state o) _ _
-        (λ fits. by_test (λ (g' : Going S). AreGainsKept w texts g'.deeds.acts → AreGainsKept w texts g.deeds.acts) (nat_le (signs_of R g.state o.ask) (signs_left g.state)) _ _
+        (λ fits. by_test (λ (g' : Going S). AreGainsKept w texts g'.deeds.acts → AreGainsKept w texts g.deeds.acts) (nat_le (signs_of R g.state (ordered_entry o)) (signs_left g.state)) _ _
         (λ left gains. (one_gains o g (held_gains slots (run_one R o g) gains)).0)
         (λ none gains. gains))
         (λ differs gains. gains)

@@ -31,11 +31,12 @@ use Rattle.zy_wire.specs.Spelling.{Spelling, pair}
 use Rattle.zy_law_steps.proofs.Decoded.{Gives, all_give, counted_gives, made_gives, pair_gives, sized_gives}
 use Rattle.zy_law_steps.proofs.DecodedFrames.{fault_gives, framed_gives, or_gives, other_gives}
 use Rattle.zy_law_steps.specs.Signs.{DoPass, DoVerifiedPass, OfChange, OfFrame, OfHeard, OfNew, OfTextAlone, OfTextsAlone, OfTold, OfVerified, OfViewFrame, Signs}
+use Rattle.zy_chain.specs.Answers.{FitsAnswers}
 
 -- ---- what is read has as many statements, and a reply as long, as a frame may have
 
 abbrev HasFew : Frame → Type 0
-HasFew (frames.SpecResponse spec reply with_order) = length reply ≤ 1100
+HasFew (frames.SpecResponse spec reply with_order) = FitsAnswers reply
 HasFew (frames.Commit specs) = FitsList (λ spec. Unit {0}) 1 16 specs
 HasFew _ = Unit {0}
 

@@ -20,7 +20,7 @@ use Rattle.zy_base.specs.declared.step.Event.TheVariants.{Heard, Timer}
 use Rattle.zy_base.specs.declared.step.Mode.{Mode}
 use Rattle.zy_base.specs.declared.step.Mode.TheVariants.{Active, Leaving}
 use Rattle.zy_base.specs.declared.step.TimerKind.TheVariants as timers
-use Rattle.zy_admit.specs.Judging.{entry_of, judge_in, same_digest}
+use Rattle.zy_admit.specs.Judging.{entry_of, judge_in, same_digest, ordered_entry, asking}
 use Rattle.zy_admit.specs.Orders.{Orders, orders_from, slots_above, stored_in, with_order}
 use Rattle.zy_admit.specs.Orders as orders
 use Rattle.zy_admit.specs.declared.judging.Admit.{Admit}
@@ -84,7 +84,7 @@ use Rattle.zy_table.specs.Checkpoints.{checkpoint, kept_as, response, with_board
 use Rattle.zy_table.specs.Commits.{commit, commit_beside, commit_judged, give_local, local_at, local_said, locals_owed}
 use Rattle.zy_table.specs.Confirming.{certificate_compared, certificate_judged, confirmation, confirmation_beside, confirmation_judged, new_view, new_view_judged, view_certificate, with_confirmation}
 use Rattle.zy_table.specs.Confirms.{confirm, confirm_after, order_again}
-use Rattle.zy_table.specs.Deeds.{Going, Outcome, act, begin, ends, refused, send_any}
+use Rattle.zy_table.specs.Deeds.{Going, Outcome, act, begin, ends, refused, send_any, to_clients}
 use Rattle.zy_table.specs.Fetching.{fetch, fetch_judged, install, installed, state_for, state_heard, state_judged, state_transfer}
 use Rattle.zy_table.specs.Gathering.{checks_owed, gather_at, own_at, with_certificate}
 use Rattle.zy_table.specs.Hates.{ask_for_hole, change_again, count_own, has_pending, hate, hate_counted, hate_for, hate_from, hate_now, hate_of, on_change_timer, on_request_timer, own_hate, say_hate, then_ask, with_hate_of}
@@ -191,7 +191,7 @@ module _ {S : Type 0} (R : Rules S) (ok : S → Type 0) (law : Laws ok R) (F : S
 
   again : (signed : Signed Spec) (known : Known) (g : Going S) → IsShortKnown known → F.spec signed → On g → On (response_of s signed known g)
   again signed known g short one is =
-      sends R ok law F me (Unit {0}) (One (Client signed.stmt.client)) (Plain (frames.SpecResponse signed known.reply (option_map (λ (o : OrderFrame). o.order) (stored_in s.orders known.place.0)))) g
+      sends R ok law F me (Unit {0}) (to_clients signed.stmt) (Plain (frames.SpecResponse signed known.reply (option_map (λ (o : OrderFrame). o.order) (stored_in s.orders known.place.0)))) g
       (λ x state. (one, short, order_alone F (stored_in s.orders known.place.0) (stored F s.orders known.place.0 v.1))) is
 
   responds_as : (said : Option (Signed Spec)) (spec : Spec) (known : Known) → IsShortKnown known → IfSome said F.spec → Of (respond_as R s said spec known)
@@ -207,7 +207,7 @@ module _ {S : Type 0} (R : Rules S) (ok : S → Type 0) (law : Laws ok R) (F : S
       says R ok law F me (Unit {0}) (F.spec signed) remark t (begin s) (λ x by w to_say.
       let one : F.spec signed = to_say s.sealer by in (one, by, (w.0, w.1, w.2, w.3, filled F.spec s.specs spec.client.0 signed w.4 one, w.5, w.6, w.7, w.8))) start in
       ended R ok law F me (F.spec signed) Taken (response_of s signed known g)
-      (sends R ok law F me (F.spec signed) (One (Client spec.client)) (Plain (frames.SpecResponse signed known.reply (option_map (λ (o : OrderFrame). o.order) (stored_in s.orders known.place.0)))) g
+      (sends R ok law F me (F.spec signed) (to_clients spec) (Plain (frames.SpecResponse signed known.reply (option_map (λ (o : OrderFrame). o.order) (stored_in s.orders known.place.0)))) g
       (λ one state. (one, short, order_alone F (stored_in s.orders known.place.0) (stored F s.orders known.place.0 v.1))) said))
       (λ none. refuses causes.KeySpent)
 
@@ -235,7 +235,7 @@ module _ {S : Type 0} (R : Rules S) (ok : S → Type 0) (law : Laws ok R) (F : S
   waits ask heard =
       let pending : Pending = sealed_confirm s ask in
       let remark : Remark = record { body = bodies.Confirm pending.confirm.stmt; stood = stood_of R s } in
-      let client : ClientId = (entry_of ask).client in
+      let client : ClientId = (asking ask.by) in
       let t : State S = with_pending (spent s) client (Some pending) in
       let Y : Type 0 = OfPending F pending in
       knows R ok law F me Y (Unit {0}) (request_waits R s ask) (λ y state. tt)
@@ -257,14 +257,14 @@ module _ {S : Type 0} (R : Rules S) (ok : S → Type 0) (law : Laws ok R) (F : S
   new_one ask heard =
       by_test Of (is_primary s) _ _
       (λ primary. by_test Of (nat_lt (last_place s.kept) (window_of s)) _ _
-      (λ room. by_test Of (nat_le (signs_of R s ask + 1) (signs_left s)) _ _ (λ left. comes (run R (sealed_order R s ask) (ordered R s ask)) (takes_request ask heard)) (λ none. refuses causes.KeySpent))
+      (λ room. by_test Of (nat_le (signs_of R s (entry_of ask) + 1) (signs_left s)) _ _ (λ left. comes (run R (sealed_order R s ask) (ordered R s ask)) (takes_request ask heard)) (λ none. refuses causes.KeySpent))
       (λ full. refuses (causes.WindowFull (record { 0 = window_of s }))))
-      (λ backup. at_backup ask (pending_of s (entry_of ask).client) heard (slot_at (OfPending F) s.pending (entry_of ask).client.0 v.5))
+      (λ backup. at_backup ask (pending_of s (asking ask.by)) heard (slot_at (OfPending F) s.pending (asking ask.by).0 v.5))
 
   after : (ask : Signed Ask) (known : Option Known) → IfSome known IsShortKnown → F.ask ask → Of (request_after R s ask known)
   after ask None short heard = new_one ask heard
   after ask (Some known) short heard =
-      let spec : Spec = spec_of (own_view s) ask known in
+      let spec : Spec = spec_of (own_view s) (entry_of ask) known in
       by_test Of (nat_lt ask.stmt.stamp.0 known.stamp.0) _ _ (λ old. refuses causes.OldStamp)
       (λ from_it. by_test Of (nat_eq ask.stmt.stamp.0 known.stamp.0) _ _
       (λ same. responds_as (said_already (spec_to s spec.client) spec) spec known short (already (spec_to s spec.client) spec (slot_at F.spec s.specs spec.client.0 v.4)))
@@ -274,7 +274,7 @@ module _ {S : Type 0} (R : Rules S) (ok : S → Type 0) (law : Laws ok R) (F : S
   unfolding request
   requests ask heard =
       by_test Of (is_leaving s) _ _ (λ leaves. refuses causes.NotActive)
-      (λ stays. by_test Of (is_behind ask (pending_of s (entry_of ask).client)) _ _ (λ old. refuses causes.OldStamp) (λ newer. after ask (known_in R s.kept (entry_of ask).client.0) (known_short R ok law s.kept (entry_of ask).client.0 v.8.1) heard))
+      (λ stays. by_test Of (is_behind ask (pending_of s (asking ask.by))) _ _ (λ old. refuses causes.OldStamp) (λ newer. after ask (known_in R s.kept (asking ask.by).0) (known_short R ok law s.kept (asking ask.by).0 v.8.1) heard))
 
   by_again : (by : Party) (kept : Option OrderFrame) → IfSome kept (OfOrder F) → Of (order_again s by kept)
   by_again by None none = refuses causes.OldPlace
@@ -290,7 +290,7 @@ module _ {S : Type 0} (R : Rules S) (ok : S → Type 0) (law : Laws ok R) (F : S
   unfolding confirm
   confirms_one confirmed ask heard =
       by_test Of (same_digest confirmed.stmt.request (digest_of_entry (entry_of ask))) _ _
-      (λ same. confirm_known confirmed.by ask (known_in R s.kept (entry_of ask).client.0) heard) (λ other. refuses causes.Unmatched)
+      (λ same. confirm_known confirmed.by ask (known_in R s.kept (asking ask.by).0) heard) (λ other. refuses causes.Unmatched)
 
   -- ---- ORDER
 
@@ -312,7 +312,7 @@ module _ {S : Type 0} (R : Rules S) (ok : S → Type 0) (law : Laws ok R) (F : S
   orders_as o admits.Next heard =
       let t : State S = record s { orders = with_order s.orders o; hole = None } in
       let w = with_held o heard in
-      by_test Of (nat_le (signs_of R s o.ask) (signs_left s)) _ _
+      by_test Of (nat_le (signs_of R s (ordered_entry o)) (signs_left s)) _ _
       (λ left. comes (run R o (begin t)) (runs R ok law F me (Unit {0}) o (begin t) (λ x. heard.0) (begins_at t signer (w.0, w.1, w.2, tt, w.4, w.5, w.6, w.7, w.8)))) (λ none. refuses causes.KeySpent)
   orders_as o admits.Held heard =
       let t : State S = record s { orders = with_order s.orders o } in
@@ -629,7 +629,7 @@ module _ {S : Type 0} (R : Rules S) (ok : S → Type 0) (law : Laws ok R) (F : S
 
   plain_of : (frame : Frame) → in_role s frame ≡ true → OfFrame F frame → Of (plain_row R s frame)
   plain_of (frames.Request ask) role heard = requests ask heard
-  plain_of (frames.Order both) role heard = under (view_cause s both.order.stmt.view.0) _ (λ own. order_by both (judge_in s.orders both.order.stmt both.ask (position_of R s both)) heard)
+  plain_of (frames.Order both) role heard = under (view_cause s both.order.stmt.view.0) _ (λ own. order_by both (judge_in s.orders both.order.stmt (ordered_entry both) (position_of R s both)) heard)
   plain_of (frames.SpecResponse spec reply with_order) role heard = under (view_cause s spec.stmt.view.0) _ (λ own. response_kept spec heard.0)
   plain_of (frames.Commit specs) role heard = in_view specs heard.each
   plain_of (frames.LocalCommit local) role heard = refuses causes.WrongRole

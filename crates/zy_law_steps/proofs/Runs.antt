@@ -12,7 +12,7 @@ use Rattle.zy_chain.specs.Entries.{digest_of_entry, newer}
 use Rattle.zy_chain.specs.Heads.{head_after}
 use Rattle.zy_chain.specs.Stretch.{Mark}
 use Rattle.zy_chain.specs.declared.entry.Entry.{Entry}
-use Rattle.zy_admit.specs.Judging.{entry_of, same_digest}
+use Rattle.zy_admit.specs.Judging.{same_digest, ordered_entry}
 use Rattle.zy_admit.specs.Orders.{slots_above, without_order}
 use Rattle.zy_check.proofs.JudgingLemmas.{after_spec-stays, without_others-stays}
 use Rattle.zy_check.specs.Board.{Board, without_others}
@@ -84,7 +84,7 @@ module _ {S : Type 0} (R : Rules S) where
   one_further : (o : OrderFrame) (g : Going S) → IsBetween g.state.kept.base.place (last_place g.state.kept + 1) (run_one R o g)
   one_further o g =
       one_keeps R (IsBetween g.state.kept.base.place (last_place g.state.kept + 1)) (between g.state.kept.base.place (last_place g.state.kept + 1)) o g
-      (record { above = omega arith; ends = omega (arith, length-append g.state.kept.entries (entry_of o.ask ∷ [])) })
+      (record { above = omega arith; ends = omega (arith, length-append g.state.kept.entries (ordered_entry o ∷ [])) })
 
 module _ {S : Type 0} (R : Rules S) (interval : ℕ) (texts : Texts) (w : World) (r : ℕ) (s : State S) (h : List Entry) (view : View) where
   abbrev Works : Going S → Type 0
@@ -119,19 +119,19 @@ module _ {S : Type 0} (R : Rules S) (interval : ℕ) (texts : Texts) (w : World)
 
   -- ---- one order
 
-  module _ (more : ℕ) (g : Going S) (is : IsWorking R interval texts w r s h view more g) (o : OrderFrame) (may : MayRun w (entry_of o.ask))
-      (new : newer o.ask.stmt.stamp (option_map (λ (known : Known). known.stamp) (known_in R g.state.kept (entry_of o.ask).client.0)) ≡ true)
-      (gain : IsGainKept w texts (got_of R g.state o.ask)) (of : AreOrdersOf is.world r (table.own_view g.state) (is.now ++ entry_of o.ask ∷ []))
+  module _ (more : ℕ) (g : Going S) (is : IsWorking R interval texts w r s h view more g) (o : OrderFrame) (may : MayRun w (ordered_entry o))
+      (new : newer o.ask.stmt.stamp (option_map (λ (known : Known). known.stamp) (known_in R g.state.kept (ordered_entry o).client.0)) ≡ true)
+      (gain : IsGainKept w texts (got_of R g.state (ordered_entry o))) (of : AreOrdersOf is.world r (table.own_view g.state) (is.now ++ ordered_entry o ∷ []))
       (top : ℕ) (low : last_place g.state.kept < top) (near : top ≤ g.state.kept.base.place + 2 * interval) (in_range : top < 2 ^ 62) where
     pub one_goes : more ≤ 1 → Works (run_one R o g)
     unfolding run_one gains says
     one_goes few =
-        let e : Entry = entry_of o.ask in
-        let done : Going S = executed R o.ask g in
+        let e : Entry = ordered_entry o in
+        let done : Going S = executed R (ordered_entry o) g in
         let moved : Works done = gains R interval texts w r s h view more g is o.ask may new gain of top low near in_range few in
         let far : List Entry = is.now ++ e ∷ [] in
-        let known : Known = next_known R g.state o.ask in
-        let spec : Spec = spec_of (table.own_view g.state) o.ask known in
+        let known : Known = next_known R g.state (ordered_entry o) in
+        let spec : Spec = spec_of (table.own_view g.state) (ordered_entry o) known in
         let m : Mark = mark_at known.place known.head in
         let a : Answer = record { client = e.client.0; stamp = known.stamp.0; reply = spec.reply } in
         let remark : Remark = record { body = bodies.Spec spec; stood = stood_of R done.state } in
@@ -169,8 +169,8 @@ module _ {S : Type 0} (R : Rules S) (interval : ℕ) (texts : Texts) (w : World)
         held
 
   -- where its orders are of places of its history
-  pub next_goes : (o : OrderFrame) (g : Going S) → Works g → MayRun w (entry_of o.ask)
-      → newer o.ask.stmt.stamp (option_map (λ (known : Known). known.stamp) (known_in R g.state.kept (entry_of o.ask).client.0)) ≡ true → IsGainKept w texts (got_of R g.state o.ask)
+  pub next_goes : (o : OrderFrame) (g : Going S) → Works g → MayRun w (ordered_entry o)
+      → newer o.ask.stmt.stamp (option_map (λ (known : Known). known.stamp) (known_in R g.state.kept (ordered_entry o).client.0)) ≡ true → IsGainKept w texts (got_of R g.state (ordered_entry o))
       → (top : ℕ) → last_place g.state.kept < top → top ≤ g.state.kept.base.place + 2 * interval → top < 2 ^ 62 → Works (run_one R o g)
   next_goes o g is may new gain top low near in_range =
       let views : g.state.views.last_view.0 ≡ table.own_view g.state = sym (last_view_is R interval texts w r s h view 0 g is) ∙ sym (own_view_is R interval texts w r s h view 0 g is) in
@@ -178,7 +178,7 @@ module _ {S : Type 0} (R : Rules S) (interval : ℕ) (texts : Texts) (w : World)
       let up_to : AreOrdersUpTo is.world r (table.own_view g.state) (length is.now) =
       subst (λ (n : ℕ). AreOrdersUpTo is.world r (table.own_view g.state) n) all (subst (λ (v : ℕ). AreOrdersUpTo is.world r v (length is.now + 0)) views is.work.ordered) in
       one_goes 0 g is o may new gain
-      (orders_of_longer R is.world r g.state is.now is.lawful is.kept.agrees is.correct (standing R interval texts w r s h view 0 g is) (entry_of o.ask) up_to)
+      (orders_of_longer R is.world r g.state is.now is.lawful is.kept.agrees is.correct (standing R interval texts w r s h view 0 g is) (ordered_entry o) up_to)
       top low near in_range (omega arith)
 
   -- ---- the orders that are held
@@ -191,9 +191,9 @@ module _ {S : Type 0} (R : Rules S) (interval : ℕ) (texts : Texts) (w : World)
   held_goes (Some o ∷ slots) g all is =
       by_test (λ (g' : Going S). AreGainsKept w texts g'.deeds.acts → (top : ℕ) → last_place g.state.kept + length (Some o ∷ slots) ≤ top → top ≤ g.state.kept.base.place + 2 * interval → top < 2 ^ 62 → Works g') (fits_end R g.state o) _ _
       (λ fits. by_test (λ (g' : Going S). AreGainsKept w texts g'.deeds.acts → (top : ℕ) → last_place g.state.kept + length (Some o ∷ slots) ≤ top → top ≤ g.state.kept.base.place + 2 * interval → top < 2 ^ 62 → Works g')
-      (nat_le (signs_of R g.state o.ask) (signs_left g.state)) _ _
+      (nat_le (signs_of R g.state (ordered_entry o)) (signs_left g.state)) _ _
       (λ left gains top low near in_range.
-      let new = (and_parts (same_digest o.order.stmt.head (head_after (now_of R g.state.kept).head (digest_of_entry (entry_of o.ask)))) (newer o.ask.stmt.stamp (option_map (λ (known : Known). known.stamp) (known_in R g.state.kept (entry_of o.ask).client.0))) fits).1 in
+      let new = (and_parts (same_digest o.order.stmt.head (head_after (now_of R g.state.kept).head (digest_of_entry (ordered_entry o)))) (newer o.ask.stmt.stamp (option_map (λ (known : Known). known.stamp) (known_in R g.state.kept (ordered_entry o).client.0))) fits).1 in
       let gain = (one_gains w texts R o g (held_gains w texts R slots (run_one R o g) gains)).1 in
       held_goes slots (run_one R o g) all.1 (next_goes o g is all.0 new gain top (omega arith) near in_range) gains top
       (omega (arith, (one_further R o g).ends)) (omega (arith, (one_further R o g).above)) in_range)

@@ -30,13 +30,13 @@ IsPlaced order ask now (admits.Refused cause) = Unit {0}
 IsPlaced order ask now admits.Evidence = Unit {0}
 
 module _ (order : Order) (ask : Signed Ask) (now : Position) where
-  at_end : IsFresh order now → IsPlaced order ask now (judge_at_end order ask now)
+  at_end : IsFresh order now → IsPlaced order ask now (judge_at_end order (entry_of ask) now)
   at_end fresh =
       by_test (IsPlaced order ask now) (same_digest order.head (head_after now.head (digest_of_entry (entry_of ask)))) _ _
       (λ head. by_test (IsPlaced order ask now) (newer ask.stmt.stamp now.last) _ _ (λ new. record { fresh = fresh; new = new }) (λ old. tt))
       (λ other. tt)
 
-  when_fresh : IsPlaced order ask now (judge_fresh order ask now)
+  when_fresh : IsPlaced order ask now (judge_fresh order (entry_of ask) now)
   when_fresh =
       by_test (IsPlaced order ask now) (nat_le order.place.0 now.end.0) _ _ (λ old. tt)
       (λ fresh. by_test (IsPlaced order ask now) (nat_lt now.window.0 order.place.0) _ _ (λ past. tt)
@@ -46,9 +46,9 @@ module _ (order : Order) (ask : Signed Ask) (now : Position) where
       (λ same. by_test (IsPlaced order ask now) (nat_lt (now.end.0 + 1) order.place.0) _ _ (λ later. here) (λ next. at_end here))
       (λ other. tt)))
 
-  beside : (kept : Option OrderFrame) → IsPlaced order ask now (judge_beside kept order ask now)
+  beside : (kept : Option OrderFrame) → IsPlaced order ask now (judge_beside kept order (entry_of ask) now)
   beside None = when_fresh
   beside (Some kept) = by_test (IsPlaced order ask now) (same_order kept.order.stmt order) _ _ (λ same. tt) (λ other. tt)
 
-  pub placed : (orders : Orders) → IsPlaced order ask now (judge_in orders order ask now)
+  pub placed : (orders : Orders) → IsPlaced order ask now (judge_in orders order (entry_of ask) now)
   placed orders = beside (stored_in orders order.place.0)

@@ -10,7 +10,7 @@ use Rattle.zy_base.specs.declared.ids.View.{View}
 use Rattle.zy_base.specs.declared.step.Answer.TheVariants.{Taken}
 use Rattle.zy_base.specs.declared.step.Mode.{Mode}
 use Rattle.zy_base.specs.declared.step.Mode.TheVariants.{Active, Leaving}
-use Rattle.zy_admit.specs.Judging.{entry_of}
+use Rattle.zy_admit.specs.Judging.{entry_of, asking}
 use Rattle.zy_admit.specs.Orders.{orders_from}
 use Rattle.zy_chain.specs.Heads.{empty_head}
 use Rattle.zy_chain.specs.declared.entry.Entry.{Entry}
@@ -83,9 +83,9 @@ module _ {S : Type 0} (R : Rules S) (interval : ℕ) (texts : Texts) (w : World)
 
   -- ---- a request that was executed last is answered again
 
-  module _ (ask : Signed Ask) (known : Known) (is : known_in R s.kept (entry_of ask).client.0 ≡ Some known) (view : View) (active : s.views.mode ≡ Active view) where
+  module _ (ask : Signed Ask) (known : Known) (is : known_in R s.kept (asking ask.by).0 ≡ Some known) (view : View) (active : s.views.mode ≡ Active view) where
     abbrev pub spec : Spec
-    spec = spec_of (table.own_view s) ask known
+    spec = spec_of (table.own_view s) (entry_of ask) known
 
     abbrev pub signed : Signed Spec
     signed = sealed_spec s spec
@@ -95,7 +95,7 @@ module _ {S : Type 0} (R : Rules S) (interval : ℕ) (texts : Texts) (w : World)
 
     pub answered_on : IsOnWay R interval w r s history ready answered
     answered_on =
-        let last = record_is (entry_of ask).client.0 known is in
+        let last = record_is (asking ask.by).0 known is in
         let within : known.place.0 ≤ length history = entry_within history known.place.0 last.entry last.there in
         let in_view : IsInView R interval w r s history ready kept.agrees view (begin s) = record { way = start; active = active } in
         (speaks R interval w r s history ready kept.agrees view (begin s) in_view spec answered refl

@@ -4,7 +4,6 @@ use Rattle.std.specs.Prelude.{All, slice_get, unwrap_or}
 use Rattle.std.proofs.lemmas.Bool.{leb-false}
 use Rattle.std.proofs.lemmas.List.{length-take-le, take-append-drop}
 use Rattle.std.proofs.lemmas.Option.{slice_get_within}
-use Rattle.sha2.specs.Sha256.{sha256}
 use Rattle.zy_base.specs.Machine.{Rules}
 use Rattle.zy_base.specs.Step.{view_of}
 use Rattle.zy_base.specs.declared.ids.Digest.{Digest}
@@ -50,6 +49,7 @@ use Rattle.zy_law_views.proofs.Leaves.{IsOnWay, said_more}
 use Rattle.zy_law_views.specs.Cores.{core_of}
 use Rattle.zy_law_views.specs.Rows.{IsReady}
 use Rattle.zy_law_views.specs.Work.{IsAtWork, workplace_of}
+use Rattle.zy_chain.specs.Answers.{digest_of_answers}
 
 -- the entry of a place lies above the base
 pub above_base : {S : Type 0} (k : Kept S) (place : ℕ) (e : Entry) → entry_in (stretch_of k) place ≡ Some e → k.base.place < place
@@ -74,16 +74,16 @@ entry_is history (suc before) e is =
     record { first = omega arith; there = ap (slice_get history) low ∙ is }
 
 abbrev answer_to : Entry → List ℕ → Answer
-answer_to e reply = record { client = e.client.0; stamp = e.stamp.0; reply = record { 0 = sha256 reply } }
+answer_to e reply = record { client = e.client.0; stamp = e.stamp.0; reply = digest_of_answers reply }
 
 -- a history's reply at a place is that of its first entries
 pub true_reply : {S : Type 0} (R : Rules S) (w : World) → Agrees R w → (history : List Entry) (place : ℕ) (reply : List ℕ) → place ≤ length history → answer_at R history place ≡ Some reply
-    → w.reply (take place history) ≡ record { 0 = sha256 reply }
+    → w.reply (take place history) ≡ digest_of_answers reply
 true_reply R w agrees history place reply within is =
     let long : length (take place history) ≡ place = length-take-le place history within in
     let front : answer_at R (take place history) place ≡ answer_at R history place =
     sym (ap (λ (es : List Entry). answer_at R es place) (sym (take-append-drop place history)) ∙ answer_longer R (take place history) _ place (omega arith)) in
-    let digest : Option (List ℕ) → Digest = λ o. record { 0 = sha256 (unwrap_or o []) } in
+    let digest : Option (List ℕ) → Digest = λ o. digest_of_answers (unwrap_or o []) in
     ap (λ (f : List Entry → Digest). f (take place history)) agrees.reply ∙ ap (λ (n : ℕ). digest (answer_at R (take place history) n)) long ∙ ap digest (front ∙ is)
 
 true_answer : {S : Type 0} (R : Rules S) (w : World) → Agrees R w → (k : Kept S) (history : List Entry) → StandsFor R k history → (place : ℕ) (e : Entry) (head : Digest) (reply : List ℕ)

@@ -9,6 +9,7 @@ ghost use Rattle.zy_evidence.specs.Reading.{stretch_of};
 ghost use Rattle.zy_table.specs.Adopting.{same_head, common_with, with_entries, taken_over, got_next, gots_along, gots_of, IsGotInRange};
 ghost use Rattle.zy_exec.specs.Installed.{IsRunnable};
 ghost use Rattle.zy_exec.specs.Replay.{answers_of};
+ghost use Rattle.zy_chain.specs.Answers.{FitsAnswers};
 
 use std::alloc::Global;
 use std::marker::Brand;
@@ -157,7 +158,7 @@ fn run_copy<M: Machine>(exec: &mut Exec<M>, entry: &Entry) -> Result<Bytes, Want
     requires runnable { IsRunnable entry.now }
     ensures exec { OnOk result (exec.new ≡ longer exec.old entry.now) }
     ensures reply { IfOk result (λ reply. reply ≡ answers_of M.rules (now_of M.rules exec.old).state entry.now) }
-    ensures short { IfOk result (λ reply. length reply ≤ 1100) }
+    ensures short { IfOk result (λ reply. FitsAnswers reply) }
 {
     match exec.run(entry_copy(entry)?) {
         Ok(reply) => Ok(reply),

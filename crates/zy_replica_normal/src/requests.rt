@@ -2,7 +2,7 @@
 
 ghost use Rattle.std.specs.Prelude.{◌≡◌, ◌≤◌, ◌<◌, ◌+◌, nat_eq, nat_lt, if◌then◌else◌, false, Some, IfOk};
 ghost use Rattle.std.specs.Option.{ForSome};
-ghost use Rattle.zy_admit.specs.Judging.{entry_of};
+ghost use Rattle.zy_admit.specs.Judging.{entry_of, asking};
 ghost use Rattle.zy_admit.specs.Orders.{with_order};
 ghost use Rattle.zy_parts.specs.Signing.{IsSignedInRange};
 ghost use Rattle.zy_parts.specs.Statements.{IsConfirmInRange, IsOrderInRange, IsSpecInRange, spec_fields};
@@ -227,7 +227,7 @@ fn take_request<M: Machine>(core: Core<M>, ask: Signed<Ask>) -> Result<Moved<M>,
 
 fn order_and_run<M: Machine>(core: Core<M>, ask: Signed<Ask>) -> Result<Moved<M>, Want>
     requires active { is_leaving core ≡ false }
-    requires left { signs_of M.rules core ask + 1 ≤ signs_left core }
+    requires left { signs_of M.rules core (entry_of ask) + 1 ≤ signs_left core }
     requires ask { IsAskReady ask }
     requires room { last_place core.kept < window_of core }
     ensures { IfOk result (λ m. m ≡ ends Answer.Taken (run M.rules (sealed M.rules core ask) (ordered_by M.rules core ask))) }
@@ -432,7 +432,7 @@ fn repeat_or_take<M: Machine>(
 
 // A newer request of the client waits.
 fn is_behind<M: Machine>(core: &Core<M>, ask: &Signed<Ask>) -> bool
-    ensures { result ≡ behind ask.now (pending_of core.now (entry_of ask.now).client) }
+    ensures { result ≡ behind ask.now (pending_of core.now (asking ask.now.by)) }
 {
     match core.pending_of(client_of(ask.by)) {
         Some(pending) => ask.stmt.stamp < pending.ask.stmt.stamp,

@@ -12,18 +12,18 @@ ghost use Rattle.zy_exec.specs.Kept.{last_place, longer, stretch_of};
 ghost use Rattle.zy_chain.specs.Stretch.{head_in};
 ghost use Rattle.zy_exec.specs.Known.{IsKnownInRange};
 ghost use Rattle.zy_exec.specs.Shots.{snapshot_in};
-ghost use Rattle.zy_admit.specs.Judging.{entry_of as entry_asked};
+ghost use Rattle.zy_admit.specs.Judging.{entry_of as entry_asked, entry_of, ordered_entry};
 ghost use Rattle.zy_admit.specs.Orders.{slots_above, without_order, stored_in};
 ghost use Rattle.zy_frames.specs.declared.frame.Frame.TheVariants as frames;
 ghost use Rattle.zy_check.specs.Board.{IsBoard};
-ghost use Rattle.zy_table.specs.declared.deeds.To.TheVariants as tos;
 ghost use Rattle.zy_table.specs.declared.deeds.Act.TheVariants as acts;
 ghost use Rattle.zy_table.specs.State.{own_view, is_leaving, window_of, signs_left};
-ghost use Rattle.zy_table.specs.Deeds.{ends, send, act as acting};
+ghost use Rattle.zy_table.specs.Deeds.{ends, send, act as acting, to_clients};
 ghost use Rattle.zy_table.specs.Gathering.{own_with as own_by, with_own_spec, owes_check, state_in, signs_with as signs_by};
 ghost use Rattle.zy_table.specs.Running.{executed, without_pending, next_known, got_from, spec_of as spec_for, respond as respond_with, share as shared, answered, signs_of as signs_for, run_one as one_run, run_held as held_run, fits_end as fits, run as whole_run};
 ghost use Rattle.zy_replica_state.specs.Ready.{IsAskReady, IsOrderReady, IsOwnReady};
 ghost use Rattle.zy_table.specs.Adopting.{IsGotInRange};
+ghost use Rattle.zy_chain.specs.Answers.{FitsAnswers};
 
 use crate::gathering::gather;
 use zy_admit::{client_of, is_newer, request_digest_of};
@@ -47,7 +47,7 @@ fn got_of(
 ) -> Result<Got, Want>
     requires ask { IsAskReady ask.now }
     requires known { IsKnownInRange known.now }
-    ensures got { IfOk result (λ got. got ≡ got_from before ask.now known.now snapshot) }
+    ensures got { IfOk result (λ got. got ≡ got_from before (entry_of ask.now) known.now snapshot) }
     ensures range { IfOk result IsGotInRange }
 {
     let entry = entry_of(ask)?;
@@ -67,7 +67,7 @@ fn run_entry<M: Machine>(core: Core<M>, ask: &Signed<Ask>) -> Result<(Core<M>, K
     requires room { last_place core.kept < window_of core }
     requires ask { IsAskReady ask.now }
     ensures core { IfOk result (λ r. r.0 ≡ record core { kept = longer core.kept (entry_asked ask.now) }) }
-    ensures known { IfOk result (λ r. r.1 ≡ next_known M.rules core ask.now) }
+    ensures known { IfOk result (λ r. r.1 ≡ next_known M.rules core (entry_of ask.now)) }
     ensures place { IfOk result (λ r. r.1.place.0 ≡ last_place core.kept + 1) }
     ensures range { IfOk result (λ r. IsKnownInRange r.1) }
 {
@@ -86,7 +86,7 @@ fn run_ask<M: Machine>(core: Core<M>, ask: &Signed<Ask>) -> Result<(Core<M>, Kno
     requires room { last_place core.kept < window_of core }
     requires ask { IsAskReady ask.now }
     ensures core { IfOk result (λ r. r.0 ≡ without_pending (record core { kept = longer core.kept (entry_asked ask.now) }) (entry_asked ask.now)) }
-    ensures known { IfOk result (λ r. r.1 ≡ next_known M.rules core ask.now) }
+    ensures known { IfOk result (λ r. r.1 ≡ next_known M.rules core (entry_of ask.now)) }
     ensures place { IfOk result (λ r. r.1.place.0 ≡ last_place core.kept + 1) }
     ensures range { IfOk result (λ r. IsKnownInRange r.1) }
 {
@@ -102,7 +102,7 @@ fn run_in<M: Machine>(
     requires room { last_place progress.state.kept < window_of progress.state }
     requires ask { IsAskReady ask.now }
     ensures progress { IfOk result (λ r. r.0 ≡ record progress { state = without_pending (record progress.state { kept = longer progress.state.kept (entry_asked ask.now) }) (entry_asked ask.now) }) }
-    ensures known { IfOk result (λ r. r.1 ≡ next_known M.rules progress.state ask.now) }
+    ensures known { IfOk result (λ r. r.1 ≡ next_known M.rules progress.state (entry_of ask.now)) }
     ensures place { IfOk result (λ r. r.1.place.0 ≡ last_place progress.state.kept + 1) }
     ensures range { IfOk result (λ r. IsKnownInRange r.1) }
 {
@@ -124,7 +124,7 @@ fn gains<M: Machine>(
 ) -> Result<Progress<M>, Want>
     requires ask { IsAskReady ask.now }
     requires known { IsKnownInRange known.now }
-    ensures { IfOk result (λ g. g ≡ acting (acts.Gains (got_from before ask.now known.now (snapshot_in M.rules progress.state.kept known.now.place.0))) progress) }
+    ensures { IfOk result (λ g. g ≡ acting (acts.Gains (got_from before (entry_of ask.now) known.now (snapshot_in M.rules progress.state.kept known.now.place.0))) progress) }
 {
     let snapshot = progress.core.snapshot_at(known.place)?;
     let got = got_of(before, ask, known, snapshot)?;
@@ -138,8 +138,8 @@ fn execute<M: Machine>(
 ) -> Result<(Progress<M>, Known), Want>
     requires room { last_place progress.state.kept < window_of progress.state }
     requires ask { IsAskReady ask.now }
-    ensures progress { IfOk result (λ r. r.0 ≡ executed M.rules ask.now progress) }
-    ensures known { IfOk result (λ r. r.1 ≡ next_known M.rules progress.state ask.now) }
+    ensures progress { IfOk result (λ r. r.0 ≡ executed M.rules (entry_of ask.now) progress) }
+    ensures known { IfOk result (λ r. r.1 ≡ next_known M.rules progress.state (entry_of ask.now)) }
     ensures place { IfOk result (λ r. r.1.place.0 ≡ last_place progress.state.kept + 1) }
     ensures range { IfOk result (λ r. IsKnownInRange r.1) }
 {
@@ -161,7 +161,7 @@ fn count_signs<M: Machine>(core: Core<M>, ask: &Signed<Ask>) -> Result<(Core<M>,
     requires room { last_place core.kept < window_of core }
     requires ask { IsAskReady ask.now }
     ensures core { IfOk result (λ r. r.0 ≡ core) }
-    ensures signs { IfOk result (λ r. r.1 ≡ signs_for M.rules core ask.now) }
+    ensures signs { IfOk result (λ r. r.1 ≡ signs_for M.rules core (entry_of ask.now)) }
 {
     let own_view = core.view();
     let (core, known) = run_entry(core, ask)?;
@@ -183,7 +183,7 @@ pub fn can_run<M: Machine>(
     requires ask { IsAskReady ask.now }
     requires more { more ≤ 1 }
     ensures core { IfOk result (λ r. r.0 ≡ core) }
-    ensures fits { IfOk result (λ r. r.1 ≡ nat_le (signs_for M.rules core ask.now + more) (signs_left core)) }
+    ensures fits { IfOk result (λ r. r.1 ≡ nat_le (signs_for M.rules core (entry_of ask.now) + more) (signs_left core)) }
 {
     let left = core.signs_left();
     if left != more + 1 {
@@ -206,7 +206,7 @@ fn respond<M: Machine>(
     requires order { IsSignedInRange IsOrderInRange order }
     requires spec { IsSpecInRange spec }
     requires client { spec.client.0 < 64 }
-    requires reply { length reply ≤ 1100 }
+    requires reply { FitsAnswers reply }
     ensures { IfOk result (λ g. g ≡ respond_with M.rules order (sealed_by numbers.spec spec_fields progress.state.sealer spec) reply progress) }
 {
     match progress.sign_spec(spec) {
@@ -229,7 +229,7 @@ fn respond_by_copy<M: Machine>(
     requires order { IsSignedInRange IsOrderInRange order.now }
     requires spec { IsSpecInRange spec }
     requires client { spec.client.0 < 64 }
-    requires reply { length reply.now ≤ 1100 }
+    requires reply { FitsAnswers reply.now }
     ensures progress { IfOk result (λ r. r.0 ≡ respond_with M.rules order.now (sealed_by numbers.spec spec_fields progress.state.sealer spec) reply.now progress) }
     ensures spec { IfOk result (λ r. r.1 ≡ sealed_by numbers.spec spec_fields progress.state.sealer spec) }
     ensures range { IfOk result (λ r. IsSignedInRange IsSpecInRange r.1) }
@@ -252,8 +252,8 @@ fn send_copy<M: Machine>(
 ) -> Result<Progress<M>, Want>
     requires order { IsSignedInRange IsOrderInRange order.now }
     requires spec { IsSignedInRange IsSpecInRange signed.now }
-    requires reply { length reply.now ≤ 1100 }
-    ensures { IfOk result (λ g. g ≡ send (tos.One (parties.Client signed.now.stmt.client)) (frames.SpecResponse signed.now reply.now (Some order.now)) progress) }
+    requires reply { FitsAnswers reply.now }
+    ensures { IfOk result (λ g. g ≡ send (to_clients signed.now.stmt) (frames.SpecResponse signed.now reply.now (Some order.now)) progress) }
 {
     let order = signed_copy(order)?;
     let signed = signed_copy(signed)?;
@@ -298,7 +298,7 @@ fn share<M: Machine>(
 ) -> Result<Progress<M>, Want>
     requires order { IsSignedInRange IsOrderInRange order }
     requires spec { IsSignedInRange IsSpecInRange signed }
-    requires reply { length reply ≤ 1100 }
+    requires reply { FitsAnswers reply }
     requires own { IsOwnReady progress.state.kept progress.state.views.last_view (own_by signed.stmt state) }
     requires left { (if owes_check (with_own_spec progress.state (own_by signed.stmt state) signed) (own_by signed.stmt state) false then 1 else 0) ≤ signs_left progress.state }
     ensures { IfOk result (λ g. g ≡ shared M.rules order signed reply (Some state) progress) }
@@ -328,7 +328,7 @@ fn answer<M: Machine>(
     requires order { IsSignedInRange IsOrderInRange order }
     requires spec { IsSpecInRange spec }
     requires client { spec.client.0 < 64 }
-    requires reply { length reply ≤ 1100 }
+    requires reply { FitsAnswers reply }
     requires view { spec.view ≡ progress.state.views.last_view }
     requires head { head_in (stretch_of progress.state.kept) spec.place.0 ≡ Some spec.head }
     requires above { progress.state.kept.base.place < spec.place.0 }
@@ -354,7 +354,7 @@ fn answer_all<M: Machine>(
     requires order { IsSignedInRange IsOrderInRange order }
     requires spec { IsSpecInRange spec }
     requires client { spec.client.0 < 64 }
-    requires reply { length reply ≤ 1100 }
+    requires reply { FitsAnswers reply }
     requires view { spec.view ≡ progress.state.views.last_view }
     requires head { head_in (stretch_of progress.state.kept) spec.place.0 ≡ Some spec.head }
     requires above { progress.state.kept.base.place < spec.place.0 }
@@ -373,7 +373,7 @@ fn answer_all<M: Machine>(
 #[tactic(auto, unfolding(zy_table::specs::Running::run_one))]
 fn run_one<M: Machine>(progress: Progress<M>, frame: &OrderFrame) -> Result<Progress<M>, Want>
     requires active { is_leaving progress.state ≡ false }
-    requires left { signs_for M.rules progress.state frame.now.ask ≤ signs_left progress.state }
+    requires left { signs_for M.rules progress.state (ordered_entry frame.now) ≤ signs_left progress.state }
     requires room { last_place progress.state.kept < window_of progress.state }
     requires order { IsOrderReady frame.now }
     ensures progress { IfOk result (λ g. g ≡ one_run M.rules frame.now progress) }
@@ -462,7 +462,7 @@ fn can_run_in<M: Machine>(
     requires room { last_place progress.state.kept < window_of progress.state }
     requires ask { IsAskReady ask.now }
     ensures progress { IfOk result (λ r. r.0 ≡ progress) }
-    ensures fits { IfOk result (λ r. r.1 ≡ nat_le (signs_for M.rules progress.state ask.now) (signs_left progress.state)) }
+    ensures fits { IfOk result (λ r. r.1 ≡ nat_le (signs_for M.rules progress.state (entry_of ask.now)) (signs_left progress.state)) }
 {
     let Progress { core, deeds } = progress;
     match can_run(core, ask, 0) {
@@ -488,7 +488,7 @@ fn drop_next<M: Machine>(progress: Progress<M>) -> Progress<M>
 // An order that is next, and those that were held for it.
 fn run<M: Machine>(progress: Progress<M>, frame: &OrderFrame) -> Result<Progress<M>, Want>
     requires active { is_leaving progress.state ≡ false }
-    requires left { signs_for M.rules progress.state frame.now.ask ≤ signs_left progress.state }
+    requires left { signs_for M.rules progress.state (ordered_entry frame.now) ≤ signs_left progress.state }
     requires room { last_place progress.state.kept < window_of progress.state }
     requires order { IsOrderReady frame.now }
     ensures { IfOk result (λ g. g ≡ whole_run M.rules frame.now progress) }
@@ -499,7 +499,7 @@ fn run<M: Machine>(progress: Progress<M>, frame: &OrderFrame) -> Result<Progress
 /// An order that is next, and those that were held for it; with that the step ends.
 pub fn run_all<M: Machine>(progress: Progress<M>, frame: &OrderFrame) -> Result<Moved<M>, Want>
     requires active { is_leaving progress.state ≡ false }
-    requires left { signs_for M.rules progress.state frame.now.ask ≤ signs_left progress.state }
+    requires left { signs_for M.rules progress.state (ordered_entry frame.now) ≤ signs_left progress.state }
     requires room { last_place progress.state.kept < window_of progress.state }
     requires order { IsOrderReady frame.now }
     ensures { IfOk result (λ m. m ≡ ends Answer.Taken (whole_run M.rules frame.now progress)) }

@@ -1,7 +1,6 @@
 ghost use Rattle.std.specs.Prelude.{◌≡◌, ◌≤◌, ◌<◌, length, IfOk};
 ghost use Rattle.std.specs.List.{AllByRecursion};
 ghost use Rattle.std.specs.Option.{ForSome};
-ghost use Rattle.zy_base.specs.declared.ids.Party.TheVariants as parties;
 ghost use Rattle.zy_parts.specs.Numbers as numbers;
 ghost use Rattle.zy_parts.specs.Signing.{IsSignedInRange};
 ghost use Rattle.zy_parts.specs.Statements.{IsOrderInRange, IsSpecInRange, IsLocalInRange, IsHoleInRange, IsCheckInRange, spec_fields};
@@ -17,6 +16,7 @@ ghost use Rattle.zy_table.specs.State.{signs_left, spent, stood_of, with_spec};
 ghost use Rattle.zy_table.specs.Commits.{send_local};
 ghost use Rattle.zy_table.specs.Adopting.{IsGotInRange};
 ghost use Rattle.zy_replica_state.specs.Ready.{IsActInRange, IsBodyInRange, IsOrderReady, IsPendingReady};
+ghost use Rattle.zy_chain.specs.Answers.{FitsAnswers};
 
 use crate::Core;
 use crate::copies::frame_copy;
@@ -95,7 +95,7 @@ impl<M: Machine> Core<M> {
 }
 
 impl<M: Machine> Progress<M> {
-    ghost use Rattle.zy_table.specs.Deeds.{send as sending, send_any as sending_any, send_view as sending_view, act as acting, ends as ending};
+    ghost use Rattle.zy_table.specs.Deeds.{send as sending, send_any as sending_any, send_view as sending_view, act as acting, ends as ending, to_clients};
 
     // One more frame of either kind is sent.
     fn send_any(mut self, to: To, frame: AnyFrame) -> Result<Progress<M>, Want>
@@ -230,9 +230,9 @@ impl<M: Machine> Progress<M> {
         order: Option<Signed<Order>>,
     ) -> Result<Progress<M>, Want>
         requires spec { IsSignedInRange IsSpecInRange spec }
-        requires reply { length reply ≤ 1100 }
+        requires reply { FitsAnswers reply }
         requires order { ForSome order (IsSignedInRange IsOrderInRange) }
-        ensures { IfOk result (λ g. g ≡ sending (tos.One (parties.Client spec.stmt.client)) (frames.SpecResponse spec reply order) self) }
+        ensures { IfOk result (λ g. g ≡ sending (to_clients spec.stmt) (frames.SpecResponse spec reply order) self) }
     {
         let to = To::One(Party::Client(spec.stmt.client));
         self.send(to, Frame::SpecResponse { spec, reply, order })
@@ -246,7 +246,7 @@ impl<M: Machine> Progress<M> {
         order: Option<Signed<Order>>,
     ) -> Result<Progress<M>, Want>
         requires spec { IsSignedInRange IsSpecInRange spec }
-        requires reply { length reply ≤ 1100 }
+        requires reply { FitsAnswers reply }
         requires order { ForSome order (IsSignedInRange IsOrderInRange) }
         ensures { IfOk result (λ g. g ≡ sending tos.All (frames.SpecResponse spec reply order) self) }
     {

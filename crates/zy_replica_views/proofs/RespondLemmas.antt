@@ -4,15 +4,14 @@ use Rattle.std.specs.List.{range_with_len}
 use Rattle.zy_base.specs.Machine.{Rules}
 use Rattle.zy_exec.specs.Kept.{reply_in}
 use Rattle.zy_table.specs.declared.kept.OwnCheckpoint.{OwnCheckpoint}
-use Rattle.zy_base.specs.declared.ids.Party.TheVariants.{Client}
 use Rattle.zy_parts.specs.declared.signed.Signed.{Signed}
 use Rattle.zy_parts.specs.declared.statements.Spec.{Spec}
 use Rattle.zy_frames.specs.declared.frame.Frame.TheVariants as frames
-use Rattle.zy_table.specs.declared.deeds.To.TheVariants.{All as ToAll, One}
+use Rattle.zy_table.specs.declared.deeds.To.TheVariants.{All as ToAll}
 use Rattle.zy_table.specs.declared.deeds.Body.TheVariants as bodies
 use Rattle.zy_table.specs.declared.deeds.Act.TheVariants.{Says}
 use Rattle.zy_table.specs.State.{is_leaving, signs_left, spent, stood_of, with_spec}
-use Rattle.zy_table.specs.Deeds.{Going, act, send}
+use Rattle.zy_table.specs.Deeds.{Going, act, send, to_clients}
 use Rattle.zy_table.specs.Gathering.{own_at, with_own_spec}
 use Rattle.zy_table.specs.Running.{sealed_spec}
 use Rattle.zy_table.specs.Adopting.{checkpoints_between}
@@ -79,6 +78,6 @@ left_at R interval at count rest g end one left =
 -- one answer after the other
 pub alone_is : {S : Type 0} (R : Rules S) (own : OwnCheckpoint) (reply : List ℕ) (g said kept told : Going S) (signed : Signed Spec) → signed ≡ sealed_spec g.state own.spec
     → said ≡ act (Says (record { body = bodies.Spec own.spec; stood = stood_of R g.state })) (record g { state = with_spec (spent g.state) (sealed_spec g.state own.spec) })
-    → kept ≡ record said { state = with_own_spec said.state own signed } → told ≡ send (One (Client signed.stmt.client)) (frames.SpecResponse signed reply None) kept
+    → kept ≡ record said { state = with_own_spec said.state own signed } → told ≡ send (to_clients signed.stmt) (frames.SpecResponse signed reply None) kept
     → send ToAll (frames.SpecResponse signed reply None) told ≡ respond_alone R own reply g
 alone_is R own reply g said kept told signed sealed says keeps tells = rw (tells, keeps, says, sealed) refl

@@ -1,17 +1,16 @@
 //! The checkpoints of a history that was taken up are answered anew.
 
 ghost use Rattle.std.specs.Prelude.{◌≡◌, ◌≤◌, ◌<◌, ◌+◌, ◌%◌, ◌^◌, nat_eq, if◌then◌else◌, length, false, Some, None, IfOk, IfSome};
-ghost use Rattle.zy_base.specs.declared.ids.Party.TheVariants as parties;
 ghost use Rattle.zy_parts.specs.Signing.{IsSignedInRange};
 ghost use Rattle.zy_parts.specs.Statements.{IsSpecInRange};
 ghost use Rattle.zy_frames.specs.declared.frame.Frame.TheVariants as frames;
 ghost use Rattle.zy_exec.specs.Kept.{reply_in};
-ghost use Rattle.zy_table.specs.declared.deeds.To.TheVariants as tos;
 ghost use Rattle.zy_table.specs.State.{is_leaving, signs_left};
-ghost use Rattle.zy_table.specs.Deeds.{send};
+ghost use Rattle.zy_table.specs.Deeds.{send, to_clients};
 ghost use Rattle.zy_table.specs.Gathering.{own_at};
 ghost use Rattle.zy_table.specs.Adopting.{checkpoints_between};
 ghost use Rattle.zy_table.specs.Beginning.{respond_alone as responding, respond_to as responding_to, respond_up_to as responding_up_to};
+ghost use Rattle.zy_chain.specs.Answers.{FitsAnswers};
 
 use zy_base::{Bytes, Machine, Place, Want};
 use zy_parts::{Signed, Spec};
@@ -28,7 +27,7 @@ fn respond_alone<M: Machine>(
     requires left { 1 ≤ signs_left progress.state }
     requires spec { IsSpecInRange own.now.spec }
     requires client { own.now.spec.client.0 < 64 }
-    requires reply { length reply ≤ 1100 }
+    requires reply { FitsAnswers reply }
     ensures { IfOk result (λ g. g ≡ responding M.rules own.now reply progress) }
 {
     let (said, signed) = progress.sign_spec(own.spec)?;
@@ -43,8 +42,8 @@ fn send_alone<M: Machine>(
     reply: &Bytes,
 ) -> Result<Progress<M>, Want>
     requires spec { IsSignedInRange IsSpecInRange signed.now }
-    requires reply { length reply.now ≤ 1100 }
-    ensures { IfOk result (λ g. g ≡ send (tos.One (parties.Client signed.now.stmt.client)) (frames.SpecResponse signed.now reply.now None) progress) }
+    requires reply { FitsAnswers reply.now }
+    ensures { IfOk result (λ g. g ≡ send (to_clients signed.now.stmt) (frames.SpecResponse signed.now reply.now None) progress) }
 {
     let signed = signed_copy(signed)?;
     let reply = bytes_copy(reply)?;

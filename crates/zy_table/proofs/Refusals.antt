@@ -16,7 +16,7 @@ use Rattle.zy_base.specs.declared.step.Event.{Event}
 use Rattle.zy_base.specs.declared.step.Event.TheVariants.{Heard, Timer}
 use Rattle.zy_base.specs.declared.step.TimerKind.{TimerKind}
 use Rattle.zy_base.specs.declared.step.TimerKind.TheVariants as timers
-use Rattle.zy_admit.specs.Judging.{entry_of, judge_in, same_digest}
+use Rattle.zy_admit.specs.Judging.{entry_of, judge_in, same_digest, ordered_entry, asking}
 use Rattle.zy_admit.specs.Orders.{orders_from, stored_in}
 use Rattle.zy_admit.specs.declared.judging.Admit.{Admit}
 use Rattle.zy_admit.specs.declared.judging.Admit.TheVariants as admits
@@ -106,13 +106,13 @@ module _ {S : Type 0} (R : Rules S) (s : State S) where
   new_stays : (ask : Signed Ask) → Stays (new_request R s ask)
   new_stays ask =
       tested (is_primary s) _ _
-      (tested (nat_lt (last_place s.kept) (window_of s)) _ _ (with_left (nat_le (signs_of R s ask + 1) (signs_left s)) _ (λ cause is. absurd cc)) (refuses (causes.WindowFull (record { 0 = window_of s }))))
-      (backup_stays ask (pending_of s (entry_of ask).client))
+      (tested (nat_lt (last_place s.kept) (window_of s)) _ _ (with_left (nat_le (signs_of R s (entry_of ask) + 1) (signs_left s)) _ (λ cause is. absurd cc)) (refuses (causes.WindowFull (record { 0 = window_of s }))))
+      (backup_stays ask (pending_of s (asking ask.by)))
 
   after_known : (ask : Signed Ask) (known : Option Known) → Stays (request_after R s ask known)
   after_known ask None = new_stays ask
   after_known ask (Some known) =
-      let spec = spec_of (own_view s) ask known in
+      let spec = spec_of (own_view s) (entry_of ask) known in
       tested (nat_lt ask.stmt.stamp.0 known.stamp.0) _ _ (refuses causes.OldStamp)
       (tested (nat_eq ask.stmt.stamp.0 known.stamp.0) _ _ (respond_stays (said_already (spec_to s spec.client) spec) spec known) (new_stays ask))
 
@@ -120,7 +120,7 @@ module _ {S : Type 0} (R : Rules S) (s : State S) where
   unfolding request
   request_stays ask =
       tested (is_leaving s) _ _ (refuses causes.NotActive)
-      (tested (is_behind ask (pending_of s (entry_of ask).client)) _ _ (refuses causes.OldStamp) (after_known ask (known_in R s.kept (entry_of ask).client.0)))
+      (tested (is_behind ask (pending_of s (asking ask.by))) _ _ (refuses causes.OldStamp) (after_known ask (known_in R s.kept (asking ask.by).0)))
 
   again_stays : (by : Party) (kept : Option OrderFrame) → Stays (order_again s by kept)
   again_stays by None = refuses causes.OldPlace
@@ -135,7 +135,7 @@ module _ {S : Type 0} (R : Rules S) (s : State S) where
   confirm_stays : (confirmed : Signed Confirm) (ask : Signed Ask) → Stays (confirm R s confirmed ask)
   unfolding confirm
   confirm_stays confirmed ask =
-      tested (same_digest confirmed.stmt.request (digest_of_entry (entry_of ask))) _ _ (confirm_known confirmed.by ask (known_in R s.kept (entry_of ask).client.0)) (refuses causes.Unmatched)
+      tested (same_digest confirmed.stmt.request (digest_of_entry (entry_of ask))) _ _ (confirm_known confirmed.by ask (known_in R s.kept (asking ask.by).0)) (refuses causes.Unmatched)
 
   -- ---- commit certificates
 
@@ -205,7 +205,7 @@ module _ {S : Type 0} (R : Rules S) (s : State S) where
   judged_stays both admits.Evidence =
       let stored = stored_in s.orders both.order.stmt.place.0 in
       finished_stays (tell_all R s both.order stored) (order_ends R s both.order stored)
-  judged_stays both admits.Next = with_left (nat_le (signs_of R s both.ask) (signs_left s)) _ (λ cause is. absurd cc)
+  judged_stays both admits.Next = with_left (nat_le (signs_of R s (ordered_entry both)) (signs_left s)) _ (λ cause is. absurd cc)
   judged_stays both admits.Held = tested (owes_hole s) _ _ (with_left (nat_le 1 (signs_left s)) _ (λ cause is. absurd cc)) (λ cause is. absurd cc)
   judged_stays both (admits.Refused cause) = refuses cause
 
@@ -213,7 +213,7 @@ module _ {S : Type 0} (R : Rules S) (s : State S) where
 
   plain_stays : (frame : Frame) → Stays (plain_row R s frame)
   plain_stays (frames.Request ask) = request_stays ask
-  plain_stays (frames.Order both) = unless_stays (view_cause s both.order.stmt.view.0) _ (judged_stays both (judge_in s.orders both.order.stmt both.ask (position_of R s both)))
+  plain_stays (frames.Order both) = unless_stays (view_cause s both.order.stmt.view.0) _ (judged_stays both (judge_in s.orders both.order.stmt (ordered_entry both) (position_of R s both)))
   plain_stays (frames.SpecResponse spec reply with_order) = unless_stays (view_cause s spec.stmt.view.0) _ (response_stays spec)
   plain_stays (frames.Commit specs) = certificate_stays specs
   plain_stays (frames.LocalCommit local) = refuses causes.WrongRole

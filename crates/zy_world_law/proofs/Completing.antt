@@ -49,6 +49,7 @@ use Rattle.zy_world_law.proofs.KeptOrHeard.{IsSame}
 use Rattle.zy_world_law.proofs.Seats.{seat_of}
 use Rattle.zy_law_normal.proofs.Goes.{all_of_both}
 use Rattle.zy_world_law.proofs.Vouched.{text_vouched}
+use Rattle.zy_chain.specs.Answers.{digest_of_answers}
 
 -- ---- what a response to a client that there may be says
 
@@ -108,7 +109,7 @@ module _ {S : Type 0} (R : Rules S) (w : World S) (good : IsGood R w) (id : Clie
   -- ---- completions
 
   -- what the law reads of a response to this client, with a reply that has its digest
-  told_is : (spec : Spec) (reply : List ℕ) (d : Done) → spec.client.0 ≡ id.0 → record { 0 = sha256 reply } ≡ spec.reply → d.view ≡ spec.view → d.place ≡ spec.place → d.head ≡ spec.head → d.stamp ≡ spec.stamp → d.reply ≡ reply
+  told_is : (spec : Spec) (reply : List ℕ) (d : Done) → spec.client.0 ≡ id.0 → digest_of_answers reply ≡ spec.reply → d.view ≡ spec.view → d.place ≡ spec.place → d.head ≡ spec.head → d.stamp ≡ spec.stamp → d.reply ≡ reply
       → spec_statement spec ≡ Statement.Spec (completion_of (record { client = id; done = d })).view (completion_of (record { client = id; done = d })).mark (completion_of (record { client = id; done = d })).answer
   told_is spec reply d client digest view place head stamp told =
       λ i. Statement.Spec (sym view i).0 (record { place = (sym place i).0; head = sym head i })
