@@ -29,6 +29,7 @@ use Rattle.zy_law.specs.Steps.{IsStart, MaySay, MayStand, AllMay, after_acts}
 use Rattle.zy_law.specs.Example.{next_text, text_of, first_entry, second_entry, first_mark, second_mark, first_answer, second_answer, before_all, primary_acts, backup_acts, answered, leave_acts, left, reports, report_of, says, begin_acts, confirmed, move_acts, example}
 use Rattle.zy_law.proofs.CountLemmas.{bit}
 use Rattle.zy_law.proofs.ConductLemmas.{acts_conduct, start_conduct}
+use Rattle.zy_chain.specs.Entries.{IsOfClients}
 
 -- ---- tests of what was said
 
@@ -382,7 +383,7 @@ in_order {next} {interval} r is apart =
     (record {
       multiple = omega arith;
       few = lit≤ tt;
-      clients = All-cons (λ (e : Entry). e.client.0 < 64) first_entry (second_entry ∷ []) (lit< tt) (All-cons (λ (e : Entry). e.client.0 < 64) second_entry [] (lit< tt) (All-nil (λ (e : Entry). e.client.0 < 64)));
+      clients = All-cons IsOfClients first_entry (second_entry ∷ []) (lit< tt) (All-cons IsOfClients second_entry [] (lit< tt) (All-nil IsOfClients));
       end = omega arith;
       began = record { within = lit≤ tt; shared = λ above. record { above = lit≤ tt; below = lit≤ tt; head = refl } };
       spec = record { within = lit≤ tt; shared = λ above. record { above = lit≤ tt; below = lit≤ tt; head = refl } };

@@ -1,11 +1,11 @@
 -- How a replica's state is tied to what it said and where it stood.
-use Rattle.std.specs.Prelude.{◌≡◌, ◌⊎◌, ℕ, ◌+◌, ◌<◌, ◌≤◌, true, false, List, [], length, take, All, Option, Some, None, unwrap_or, Contains}
+use Rattle.std.specs.Prelude.{◌≡◌, ◌⊎◌, ℕ, ◌+◌, ◌≤◌, true, false, List, [], length, take, All, Option, Some, None, unwrap_or, Contains}
 use Rattle.std.specs.List.{AllByRecursion}
 use Rattle.zy_base.specs.Machine.{Rules}
 use Rattle.zy_base.specs.declared.ids.Digest.{Digest}
 use Rattle.zy_base.specs.declared.ids.Party.{Party}
 use Rattle.zy_base.specs.declared.ids.Party.TheVariants.{Replica, Client}
-use Rattle.zy_chain.specs.Entries.{IsEntryInRange, digest_of_entry}
+use Rattle.zy_chain.specs.Entries.{IsEntryInRange, digest_of_entry, IsOfClients}
 use Rattle.zy_chain.specs.Heads.{head_after, head_of}
 use Rattle.zy_chain.specs.Stretch.{Mark}
 use Rattle.zy_chain.specs.declared.entry.Entry.{Entry}
@@ -53,13 +53,9 @@ pub record Agrees {S : Type 0} (R : Rules S) (w : World) : Type 0 where
 
 -- ---- what may run
 
--- the clients have numbers below 64
-abbrev pub IsOfClient : Entry → Type 0
-IsOfClient e = e.client.0 < 64
-
 -- an entry in its ranges, whose client asked for it or lies
 pub record MayRun (w : World) (e : Entry) : Type 0 where
-  pub client : IsOfClient e
+  pub client : IsOfClients e
   pub range : IsEntryInRange e
   pub asked : (w.lying e.client.0 ≡ true) ⊎ Contains (w.asked e.client.0) e
 
@@ -88,7 +84,7 @@ pub record IsStanding {S : Type 0} (R : Rules S) (w : World) (r : ℕ) (s : Stat
   pub stood : Stood w r number (record { view = own_view s; history = history })
   pub last : number + 1 ≡ length (w.past r)
   pub stands : StandsFor R s.kept history
-  pub clients : AllByRecursion IsOfClient history
+  pub clients : AllByRecursion IsOfClients history
   -- it left for no greater view
   pub left : (said : ℕ) (x : Spoken) (view : ℕ) (report : PlainReport) → Says w r said x → x.what ≡ Change view report → view ≤ own_view s
   -- what is kept to be run may be run

@@ -55,7 +55,7 @@ use Rattle.zy_law_views.specs.Steps.{IsWorldOf}
 use Rattle.zy_law_steps.proofs.Gained.{longer_kept}
 use Rattle.zy_law_views.specs.Work.{IsAtWork, IsWorkTied, last_long, workplace_of}
 use Rattle.zy_law_steps.specs.Gains.{IsGainKept}
-use Rattle.zy_chain.specs.Entries.{newer}
+use Rattle.zy_chain.specs.Entries.{newer, IsOfClients}
 
 -- an entry that is gained
 leads_gaining : (w : World) (r view number : ℕ) (h : List Entry) (got : Got) → MayStand w r (stand_with view h got)
@@ -204,7 +204,7 @@ module _ {S : Type 0} (R : Rules S) (interval : ℕ) (texts : Texts) (w : World)
           stood = is.tied.standing.stood;
         }
 
-    pub clients_now : AllByRecursion lawful.IsOfClient is.now
+    pub clients_now : AllByRecursion IsOfClients is.now
     clients_now = clients_of is.world texts is.kept.kept.links empty_head is.now (is.lawful.texts here)
 
     stood_now : Stood is.world r is.at (record { view = table.own_view g.state; history = is.now })

@@ -25,7 +25,6 @@ use Rattle.zy_law.specs.Said.{Moment}
 use Rattle.zy_law.specs.World.{World}
 use Rattle.zy_law_normal.proofs.Own.{by_test}
 use Rattle.zy_law_normal.proofs.Records.{IsLastOf, IsRecord, records}
-use Rattle.zy_law_normal.specs.Tied.{IsOfClient}
 use Rattle.zy_parts.specs.declared.signed.Signed.{Signed}
 use Rattle.zy_parts.specs.declared.statements.Ask.{Ask}
 use Rattle.zy_parts.specs.declared.statements.Hole.{Hole}
@@ -50,9 +49,10 @@ use Rattle.zy_law_views.proofs.Requested.{RoomCases, RunCases, request_row}
 use Rattle.zy_law_views.proofs.Responding.{IsInView, speaks, true_reply, world_agrees}
 use Rattle.zy_law_views.proofs.Taking.{ended}
 use Rattle.zy_law_views.specs.Steps.{IsLawfulStep, IsWorldOf}
+use Rattle.zy_chain.specs.Entries.{IsOfClients}
 
 -- the clients of a history whose links are kept
-pub clients_of : (w : World) (texts : Texts) → AreLinks w texts → (head : Digest) (list : List Entry) → AreKept w.kept w.next head list → AllByRecursion IsOfClient list
+pub clients_of : (w : World) (texts : Texts) → AreLinks w texts → (head : Digest) (list : List Entry) → AreKept w.kept w.next head list → AllByRecursion IsOfClients list
 clients_of w texts links head [] kept = tt
 clients_of w texts links head (e ∷ list) kept = ((links head e kept.0).runnable.client, clients_of w texts links (w.next head e) list kept.1)
 

@@ -50,6 +50,7 @@ use Rattle.zy_law_views.specs.Cores.{core_of}
 use Rattle.zy_law_views.specs.Rows.{IsReady}
 use Rattle.zy_law_views.specs.Work.{IsAtWork, workplace_of}
 use Rattle.zy_chain.specs.Answers.{digest_of_answers}
+use Rattle.zy_chain.specs.Entries.{IsOfClients}
 
 -- the entry of a place lies above the base
 pub above_base : {S : Type 0} (k : Kept S) (place : ℕ) (e : Entry) → entry_in (stretch_of k) place ≡ Some e → k.base.place < place
@@ -60,12 +61,12 @@ above_base k place e = by (nat_le place k.base.place) refl
     by false above is = let past = leb-false _ _ above in omega arith
 
 -- and its client is one that there may be
-client_small : {S : Type 0} (k : Kept S) (place : ℕ) (e : Entry) → entry_in (stretch_of k) place ≡ Some e → All (λ x. x.client.0 < 64) k.entries → e.client.0 < 64
+client_small : {S : Type 0} (k : Kept S) (place : ℕ) (e : Entry) → entry_in (stretch_of k) place ≡ Some e → All IsOfClients k.entries → IsOfClients e
 client_small k place e there small = by (nat_le place k.base.place) there
   where
-    by : (low : Bool) → (if low then None else slice_get k.entries (place - k.base.place - 1)) ≡ Some e → e.client.0 < 64
+    by : (low : Bool) → (if low then None else slice_get k.entries (place - k.base.place - 1)) ≡ Some e → IsOfClients e
     by true is = absurd cc
-    by false is = All_at (λ x. x.client.0 < 64) k.entries (place - k.base.place - 1) e is small
+    by false is = All_at IsOfClients k.entries (place - k.base.place - 1) e is small
 
 entry_is : (history : List Entry) (place : ℕ) (e : Entry) → entry_at history place ≡ Some e → IsEntryAt history place e
 entry_is history zero e is = absurd cc

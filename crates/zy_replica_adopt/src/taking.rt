@@ -1,6 +1,6 @@
 ghost use Rattle.std.specs.Prelude.{◌≡◌, ◌+◌, ◌-◌, ◌<◌, ◌≤◌, ◌^◌, List, Bool, Some, All, length, if◌then◌else◌, IfOk, OnOk};
 ghost use Rattle.std.specs.List.{AllByRecursion, slice_range};
-ghost use Rattle.zy_chain.specs.Entries.{IsEntryInRange};
+ghost use Rattle.zy_chain.specs.Entries.{IsEntryInRange, IsOfClients};
 ghost use Rattle.zy_chain.specs.Stretch.{end_of, head_in};
 ghost use Rattle.zy_parts.specs.Reports.{IsToldInRange};
 ghost use Rattle.zy_exec.specs.Kept.{last_place, now_of, longer, back_to, stretch_of as own_stretch};
@@ -30,7 +30,7 @@ pub fn take_over<M: Machine>(
     place: Place,
 ) -> Result<(Place, Gains), Want>
     requires range { IsToldInRange told.now }
-    requires clients { All (λ e. e.client.0 < 64) told.now.entries }
+    requires clients { All IsOfClients told.now.entries }
     requires end { place.0 ≤ end_of (stretch_of told.now) }
     requires place { place.0 < 2 ^ 62 }
     requires base { exec.old.base.place ≤ common_with (stretch_of told.now) place.0 exec.old }

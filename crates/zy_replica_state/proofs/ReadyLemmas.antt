@@ -31,7 +31,7 @@ use Rattle.zy_chain.specs.declared.entry.Entry.{Entry}
 use Rattle.zy_parts.specs.Signing.{IsSignedInRange}
 use Rattle.zy_parts.specs.Statements.{IsSpecInRange, IsLocalInRange, IsHoleInRange, IsHateInRange, IsCheckInRange}
 use Rattle.zy_parts.specs.Reports.{IsFetchInRange}
-use Rattle.zy_chain.specs.Entries.{IsEntryInRange}
+use Rattle.zy_chain.specs.Entries.{IsEntryInRange, IsOfClients}
 use Rattle.zy_wire.specs.Fields.{FitsList}
 use Rattle.zy_parts.specs.declared.reports.Change.{Change}
 use Rattle.zy_parts.specs.declared.statements.Hate.{Hate}
@@ -461,7 +461,7 @@ module _ {S : Type 0} (s : State S) (r : IsReady s) where
         locals = r.locals;
       }
 
-  pub ready_longer : (e : Entry) → last_place s.kept < window_of s → e.client.0 < 64 → IsEntryInRange e → IsReady (record s { kept = longer s.kept e })
+  pub ready_longer : (e : Entry) → last_place s.kept < window_of s → IsOfClients e → IsEntryInRange e → IsReady (record s { kept = longer s.kept e })
   ready_longer e room client range =
       ready_kept (longer s.kept e) refl refl (omega (arith, length-append s.kept.entries (e ∷ []), room)) (longer-true s r.report e (joined s r) r.stable r.most room client range)
 

@@ -2,7 +2,7 @@
 
 ghost use Rattle.std.specs.Prelude.{◌≡◌, ◌≤◌, ◌<◌, ◌+◌, ◌++◌, ◌∷◌, [], length, Some, None, Option, Bool, IfOk};
 ghost use Rattle.std.specs.Option.{ForSome};
-ghost use Rattle.zy_chain.specs.Entries.{IsEntryInRange};
+ghost use Rattle.zy_chain.specs.Entries.{IsEntryInRange, IsOfClients};
 ghost use Rattle.zy_parts.specs.Signing.{IsSignedInRange};
 ghost use Rattle.zy_parts.specs.Statements.{IsHoleInRange, IsLocalInRange, IsSpecInRange, spec_fields};
 ghost use Rattle.zy_parts.specs.Numbers as numbers;
@@ -61,7 +61,7 @@ impl<M: Machine> Core<M> {
     /// One entry more, with its reply.
     pub fn run_entry(mut self, entry: Entry) -> Result<(Core<M>, Bytes), Want>
         requires room { last_place self.kept < window_of self }
-        requires client { entry.client.0 < 64 }
+        requires client { IsOfClients entry }
         requires range { IsEntryInRange entry }
         ensures core { IfOk result (λ r. r.0 ≡ record self { kept = longer self.kept entry }) }
         ensures now { IfOk result (λ r. now_of M.rules r.0.kept ≡ one_entry M.rules (now_of M.rules self.kept) entry) }
