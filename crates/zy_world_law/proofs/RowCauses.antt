@@ -53,7 +53,7 @@ use Rattle.zy_table.specs.Orders.{order_as, owes_hole}
 use Rattle.zy_table.specs.Requests.{is_behind, new_request, request, request_after, request_at_backup, respond_as, said_already}
 use Rattle.zy_table.specs.Roles.{view_cause}
 use Rattle.zy_table.specs.Running.{signs_of, spec_of}
-use Rattle.zy_table.specs.State.{State, is_leaving, is_primary, leaves_of, own_view, pending_of, spec_to, window_of}
+use Rattle.zy_table.specs.State.{State, is_leaving, is_primary, signs_left, own_view, pending_of, spec_to, window_of}
 use Rattle.zy_table.specs.Whole.{commit_in_view, unless}
 use Rattle.zy_table.specs.declared.kept.OwnCheckpoint.{OwnCheckpoint}
 use Rattle.zy_table.specs.declared.kept.Pending.{Pending}
@@ -111,17 +111,17 @@ module _ {S : Type 0} (R : Rules S) (s : State S) where
     -- ---- requests
 
     waits : (ask : Signed Ask) (pending : Option Pending) → Just Excuse (request_at_backup R s ask pending)
-    waits ask None = tested (nat_le 1 (leaves_of s)) _ _ taken (free causes.KeySpent refl)
-    waits ask (Some pending) = tested (nat_eq ask.stmt.stamp.0 pending.ask.stmt.stamp.0) _ _ taken (tested (nat_le 1 (leaves_of s)) _ _ taken (free causes.KeySpent refl))
+    waits ask None = tested (nat_le 1 (signs_left s)) _ _ taken (free causes.KeySpent refl)
+    waits ask (Some pending) = tested (nat_eq ask.stmt.stamp.0 pending.ask.stmt.stamp.0) _ _ taken (tested (nat_le 1 (signs_left s)) _ _ taken (free causes.KeySpent refl))
 
     new_just : (ask : Signed Ask) → Just Excuse (new_request R s ask)
     new_just ask =
         tested (is_primary s) _ _
-        (tested (nat_lt (last_place s.kept) (window_of s)) _ _ (tested (nat_le (signs_of R s (entry_of ask) + 1) (leaves_of s)) _ _ taken (free causes.KeySpent refl)) (free (causes.WindowFull (record { 0 = window_of s })) refl))
+        (tested (nat_lt (last_place s.kept) (window_of s)) _ _ (tested (nat_le (signs_of R s (entry_of ask) + 1) (signs_left s)) _ _ taken (free causes.KeySpent refl)) (free (causes.WindowFull (record { 0 = window_of s })) refl))
         (waits ask (pending_of s (asking ask.by)))
 
     responds : (said : Option (Signed Spec)) (spec : Spec) (known : Known) → Just Excuse (respond_as R s said spec known)
-    responds None spec known = tested (nat_le 1 (leaves_of s)) _ _ taken (free causes.KeySpent refl)
+    responds None spec known = tested (nat_le 1 (signs_left s)) _ _ taken (free causes.KeySpent refl)
     responds (Some signed) spec known = taken
 
     after_known : (ask : Signed Ask) (known : Option Known) → Just Excuse (request_after R s ask known)
@@ -176,8 +176,8 @@ module _ {S : Type 0} (R : Rules S) (s : State S) where
     admit_free (Some kept) order ask now = admit_tested (same_order kept.order.stmt order) _ _ refl tt
 
     pub order_as_just : (o : OrderFrame) (a : Admit) → IsFreeAdmit a → Just Excuse (order_as R s o a)
-    order_as_just o admits.Next is = tested (nat_le (signs_of R s (ordered_entry o)) (leaves_of s)) _ _ taken (free causes.KeySpent refl)
-    order_as_just o admits.Held is = tested (owes_hole s) _ _ (tested (nat_le 1 (leaves_of s)) _ _ keeps_waiting (free causes.KeySpent refl)) keeps_waiting
+    order_as_just o admits.Next is = tested (nat_le (signs_of R s (ordered_entry o)) (signs_left s)) _ _ taken (free causes.KeySpent refl)
+    order_as_just o admits.Held is = tested (owes_hole s) _ _ (tested (nat_le 1 (signs_left s)) _ _ keeps_waiting (free causes.KeySpent refl)) keeps_waiting
     order_as_just o (admits.Refused cause) is = free cause is
     order_as_just o admits.Evidence is = free causes.Unmatched refl
 
@@ -187,7 +187,7 @@ module _ {S : Type 0} (R : Rules S) (s : State S) where
     committed specs client local None = free (causes.Behind local.place) refl
     committed specs client local (Some own) =
         tested (same_digest own local.head) _ _
-        (tested (nat_le (locals_owed (local_said s local) + checks_owed (with_certificate s local.place specs) (own_at R s local.place.0) true) (leaves_of s)) _ _ taken (free causes.KeySpent refl))
+        (tested (nat_le (locals_owed (local_said s local) + checks_owed (with_certificate s local.place specs) (own_at R s local.place.0) true) (signs_left s)) _ _ taken (free causes.KeySpent refl))
         (free (causes.OtherHistory own local.head) refl)
 
     commit_point : (specs : List (Signed Spec)) (client : ClientId) (point : Result (View × Place × Digest) Cause) → certified same_spec point_of_spec s.counts.cert specs ≡ point → Just Excuse (commit_judged R s specs client point)
@@ -244,7 +244,7 @@ module _ {S : Type 0} (R : Rules S) (s : State S) where
 
     kept_just : (own : Option OwnCheckpoint) (answer : Kept) (board : Board) → IsFreeKept answer → Just Excuse (kept_as R s own answer board)
     kept_just own answers.Held board is = keeps_waiting
-    kept_just own (answers.Kept number) board is = tested (nat_le (checks_owed (with_board s board) own false) (leaves_of s)) _ _ taken (free causes.KeySpent refl)
+    kept_just own (answers.Kept number) board is = tested (nat_le (checks_owed (with_board s board) own false) (signs_left s)) _ _ taken (free causes.KeySpent refl)
     kept_just own (answers.Refused cause) board is = refused_just Excuse cause is
 
     spec_free : (list : List (Signed Spec)) (vote : Signed Spec) (own : Option Spec) → IsFreeKept (beside_spec list vote own)
