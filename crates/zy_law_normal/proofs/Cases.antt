@@ -48,10 +48,10 @@ use Rattle.zy_table.specs.Deeds.{Outcome, begin, refused, ends, act}
 use Rattle.zy_admit.specs.Orders.{orders_from}
 use Rattle.zy_table.specs.Gathering.{checks_owed, gather_at, own_at}
 use Rattle.zy_table.specs.Holes.{fill_with, fill_hole}
-use Rattle.zy_table.specs.Requests.{said_already, respond_as, sealed_order, ordered, request_at_primary, request_waits, forward, request_at_backup, tell_primary, new_request, request_after, is_behind, request, response_of}
+use Rattle.zy_table.specs.Requests.{respond_as, sealed_order, ordered, request_at_primary, request_waits, forward, request_at_backup, tell_primary, new_request, request_after, is_behind, request, response_of}
 use Rattle.zy_table.specs.Roles.{view_cause}
 use Rattle.zy_table.specs.Running.{run, signs_of, spec_of}
-use Rattle.zy_table.specs.State.{State, own_view, is_leaving, is_primary, window_of, stood_of, signs_left, spent, with_spec, spec_to, pending_of}
+use Rattle.zy_table.specs.State.{State, own_view, is_leaving, is_primary, window_of, stood_of, signs_left, spent, with_spec, pending_of, spec_said}
 use Rattle.zy_table.specs.Whole.{unless, commit_in_view, plain_row}
 use Rattle.zy_table.specs.declared.deeds.Act.TheVariants.{Says}
 use Rattle.zy_table.specs.declared.deeds.Body.TheVariants as bodies
@@ -152,7 +152,7 @@ module _ {S : Type 0} (R : Rules S) (s : State S) (Heard : Frame → Type 0) (P 
       by_test P (nat_lt ask.stmt.stamp.0 known.stamp.0) _ _
       (λ old. of.refuses causes.OldStamp)
       (λ from. by_test P (nat_eq ask.stmt.stamp.0 known.stamp.0) _ _
-      (λ same. respond_as_case ask known (said_already (spec_to s (asking ask.by)) (spec_of (own_view s) (entry_of ask) known)) is)
+      (λ same. respond_as_case ask known (spec_said s (spec_of (own_view s) (entry_of ask) known)) is)
       (λ other. new_request_case ask heard
       (ap (λ (o : Option Known). newer ask.stmt.stamp (option_map (λ (k : Known). k.stamp) o)) is ∙ stamp_above known.stamp.0 ask.stmt.stamp.0 from other)))
 

@@ -41,7 +41,7 @@ use Rattle.zy_parts.specs.declared.statements.Spec.{Spec}
 use Rattle.zy_table.specs.Deeds.{Going, act, send_any, to_clients}
 use Rattle.zy_table.specs.Gathering.{certificate_at, gather, gather_at, keep_certificate, own_with, owes_check, proof_at, say_check, say_check_if, settle_with, settled_at, state_in, with_certificate, with_own_spec}
 use Rattle.zy_table.specs.Running.{executed, fits_end, next_known, respond, run, run_held, run_one, sealed_spec, share, signs_of, spec_of, still_pending}
-use Rattle.zy_table.specs.State.{State, signs_left, own_view, spent, start_of, stood_of, with_spec}
+use Rattle.zy_table.specs.State.{State, signs_left, own_view, spent, start_of, stood_of, with_spec, is_beside}
 use Rattle.zy_table.specs.declared.deeds.Act.TheVariants.{Says, Gains}
 use Rattle.zy_table.specs.declared.deeds.AnyFrame.{AnyFrame}
 use Rattle.zy_table.specs.declared.deeds.AnyFrame.TheVariants.{Plain}
@@ -66,6 +66,10 @@ module _ {A : Type 0} (P : A → Type 0) where
       by : (b : Bool) → AllByRecursion P (filter test xs) → AllByRecursion P (if b then x ∷ filter test xs else filter test xs)
       by true rest = (all.0, rest)
       by false rest = rest
+
+  -- one more, in place of those that don't stay
+  pub one_more : (stays : A → Bool) (xs : List A) (x : A) → AllByRecursion P xs → P x → AllByRecursion P (filter stays xs ++ x ∷ [])
+  one_more stays xs x all one = all_of_both P (filter stays xs) (x ∷ []) (all_filtered stays xs all) (one, tt)
 
   pub found : (test : A → Bool) (xs : List A) → AllByRecursion P xs → IfSome (find test xs) P
   found test [] all = tt
@@ -157,7 +161,7 @@ starts R ok law F interval me counts keys sealer itself = (
   tt,
   (none_kept F.spec F.check, none_kept F.spec F.check, All-nil F.check),
   tt,
-  empty_slots F.spec 64,
+  tt,
   empty_slots (OfPending F) 64,
   tt,
   tt,
@@ -291,7 +295,7 @@ module _ {S : Type 0} (R : Rules S) (ok : S → Type 0) (law : Laws ok R) (F : S
       sends (X × F.spec signed) (to_clients spec) (Plain (frames.SpecResponse signed reply (Some order))) (act (Says remark) (record g { state = s })) (λ x state. (x.1, short x.0, tells x.0))
       (says X (X × F.spec signed) remark s g (λ x signer v said.
       let one : F.spec signed = said g.state.sealer signer in
-      ((x, one), signer, (v.0, v.1, v.2, v.3, filled F.spec g.state.specs spec.client.0 signed v.4 one, v.5, v.6, v.7, v.8))) is)
+      ((x, one), signer, (v.0, v.1, v.2, v.3, one_more F.spec (is_beside spec) g.state.specs signed v.4 one, v.5, v.6, v.7, v.8))) is)
 
   shares : (X : Type 0) (order : Signed Order) (signed : Signed Spec) (reply : List ℕ) (state : Option Digest) (g : Going S) → (X → F.order order) → (X → F.spec signed) → (X → FitsAnswers reply) → Passes X g
       → Passes X (share R order signed reply state g)

@@ -92,10 +92,10 @@ use Rattle.zy_table.specs.Holes.{fill_hole, fill_with, order_to}
 use Rattle.zy_table.specs.Leaving.{Attempt, concluded, is_overspent}
 use Rattle.zy_table.specs.Misbehaviour.{blamed, pom, tell_all}
 use Rattle.zy_table.specs.Orders.{ask_for_missing, hole_of, order_as, owes_hole, position_of}
-use Rattle.zy_table.specs.Requests.{is_behind, new_request, ordered, request, request_after, request_at_backup, request_waits, respond_as, response_of, said_already, sealed_confirm, sealed_order, tell_primary}
+use Rattle.zy_table.specs.Requests.{is_behind, new_request, ordered, request, request_after, request_at_backup, request_waits, respond_as, response_of, sealed_confirm, sealed_order, tell_primary}
 use Rattle.zy_table.specs.Roles.{in_role, is_replica, view_cause}
 use Rattle.zy_table.specs.Running.{run, sealed_spec, signs_of, spec_of}
-use Rattle.zy_table.specs.State.{State, is_leaving, is_primary, signs_left, own_view, pending_of, primary_of, spec_to, spent, stood_of, window_of, with_pending, with_spec as with_own}
+use Rattle.zy_table.specs.State.{State, is_leaving, is_primary, signs_left, own_view, pending_of, primary_of, spent, stood_of, window_of, with_pending, with_spec as with_own, is_beside, spec_said}
 use Rattle.zy_table.specs.Whole.{commit_in_view, unless, decoded_as, hear_plain, hear_view, is_view_frame_in_role, order_judged, plain_row, view_decoded, view_row, whole_step}
 use Rattle.zy_table.specs.declared.deeds.Act.TheVariants.{Says}
 use Rattle.zy_table.specs.declared.deeds.AnyFrame.TheVariants.{Plain, View as Framed}
@@ -110,7 +110,7 @@ use Rattle.zy_vframes.specs.declared.frame.ViewCert.{ViewCert}
 use Rattle.zy_vframes.specs.declared.frame.ViewFrame.{ViewFrame}
 use Rattle.zy_vframes.specs.declared.frame.ViewFrame.TheVariants as view_frames
 use Rattle.zy_law_steps.proofs.PassingStates.{shown_short}
-use Rattle.zy_law_steps.proofs.Passing.{IsShortKnown, Laws, Passes, known_short, certified, found, gathers_at, kept_filled, kept_of, runs, says, sends, settled_of, slot_at, turns, knows}
+use Rattle.zy_law_steps.proofs.Passing.{IsShortKnown, Laws, Passes, known_short, certified, found, gathers_at, kept_filled, kept_of, runs, says, sends, settled_of, slot_at, turns, knows, one_more}
 use Rattle.zy_law_steps.proofs.PassingViews.{Ends, IsOf, accepts, adopts, arrives, begun_on, certifies_with, collects, ended, leaves}
 use Rattle.zy_law_steps.proofs.Slots.{AreKept, filled, flagged_now}
 use Rattle.zy_law_steps.specs.Signs.{OfBoard, OfCert, OfChange, OfFrame, OfHated, OfHateBy, OfNew, OfOrder, OfOrders, OfPending, OfSent, OfState, OfVerified, OfViewFrame, Signs}
@@ -205,15 +205,11 @@ module _ {S : Type 0} (R : Rules S) (ok : S → Type 0) (law : Laws ok R) (F : S
       let g : Going S = act (Says remark) (begin t) in
       let said : Passes R ok law F me (F.spec signed) g =
       says R ok law F me (Unit {0}) (F.spec signed) remark t (begin s) (λ x by w to_say.
-      let one : F.spec signed = to_say s.sealer by in (one, by, (w.0, w.1, w.2, w.3, filled F.spec s.specs spec.client.0 signed w.4 one, w.5, w.6, w.7, w.8))) start in
+      let one : F.spec signed = to_say s.sealer by in (one, by, (w.0, w.1, w.2, w.3, one_more F.spec (is_beside spec) s.specs signed w.4 one, w.5, w.6, w.7, w.8))) start in
       ended R ok law F me (F.spec signed) Taken (response_of s signed known g)
       (sends R ok law F me (F.spec signed) (to_clients spec) (Plain (frames.SpecResponse signed known.reply (option_map (λ (o : OrderFrame). o.order) (stored_in s.orders known.place.0)))) g
       (λ one state. (one, short, order_alone F (stored_in s.orders known.place.0) (stored F s.orders known.place.0 v.1))) said))
       (λ none. refuses causes.KeySpent)
-
-  already : (o : Option (Signed Spec)) (spec : Spec) → IfSome o F.spec → IfSome (said_already o spec) F.spec
-  already None spec is = tt
-  already (Some signed) spec is = by_test (λ (o : Option (Signed Spec)). IfSome o F.spec) (same_spec signed.stmt spec) _ _ (λ same. is) (λ other. tt)
 
   takes_request : (ask : Signed Ask) → F.ask ask → On (run R (sealed_order R s ask) (ordered R s ask))
   takes_request ask heard =
@@ -267,7 +263,7 @@ module _ {S : Type 0} (R : Rules S) (ok : S → Type 0) (law : Laws ok R) (F : S
       let spec : Spec = spec_of (own_view s) (entry_of ask) known in
       by_test Of (nat_lt ask.stmt.stamp.0 known.stamp.0) _ _ (λ old. refuses causes.OldStamp)
       (λ from_it. by_test Of (nat_eq ask.stmt.stamp.0 known.stamp.0) _ _
-      (λ same. responds_as (said_already (spec_to s spec.client) spec) spec known short (already (spec_to s spec.client) spec (slot_at F.spec s.specs spec.client.0 v.4)))
+      (λ same. responds_as (spec_said s spec) spec known short (found F.spec (λ one. same_spec one.stmt spec) s.specs v.4))
       (λ newer. new_one ask heard))
 
   requests : (ask : Signed Ask) → F.ask ask → Of (request R s ask)

@@ -36,7 +36,7 @@ use Rattle.zy_table.specs.Deeds.{Going, Outcome, act, ends, send_any, send_view,
 use Rattle.zy_table.specs.Gathering.{own_at, with_own_spec}
 use Rattle.zy_table.specs.Leaving.{Attempt, accept, collect, give_new, given, leave, leave_alone, left_with, report_of, sealed_change, sealed_new}
 use Rattle.zy_table.specs.Running.{sealed_spec}
-use Rattle.zy_table.specs.State.{State, own_view, spent, stood_of, with_spec}
+use Rattle.zy_table.specs.State.{State, own_view, spent, stood_of, with_spec, is_beside}
 use Rattle.zy_table.specs.declared.deeds.Act.TheVariants.{Says}
 use Rattle.zy_table.specs.declared.deeds.AnyFrame.TheVariants.{Plain, View as Framed}
 use Rattle.zy_table.specs.declared.deeds.Body.TheVariants as bodies
@@ -53,7 +53,7 @@ use Rattle.std.proofs.lemmas.List.Elements.{All-from_recursion}
 use Rattle.zy_chain.specs.Stretch.{Stretch}
 use Rattle.zy_exec.specs.Kept.{Kept}
 use Rattle.zy_law_normal.proofs.Backing.{all_listed}
-use Rattle.zy_law_steps.proofs.Passing.{Laws, Passes, reply_short, empty_slots, found, knows, says, sends, settled_of, spec_put, turns}
+use Rattle.zy_law_steps.proofs.Passing.{Laws, Passes, reply_short, empty_slots, found, knows, says, sends, settled_of, spec_put, turns, one_more}
 use Rattle.zy_law_steps.proofs.Slots.{begans_later, changes_later, equal_kept, filled, gathered_kept, never_flagged, others_dropped}
 use Rattle.zy_law_steps.specs.Signs.{IsShort, OfActs, OfAct, OfAnyFrame, OfCert, OfChange, OfNew, OfOrder, OfPending, OfSent, OfState, OfTold, Signs}
 use Rattle.zy_chain.specs.Answers.{FitsAnswers}
@@ -200,7 +200,7 @@ module _ {S : Type 0} (R : Rules S) (ok : S → Type 0) (law : Laws ok R) (F : S
       (says R ok law F me X Y remark (with_own_spec responded own signed) g
       (λ x signer v to_say.
       let one : F.spec signed = to_say g.state.sealer signer in
-      ((x, one), signer, (v.0, v.1, spec_put F g.state.board own signed v.2 one, v.3, filled F.spec g.state.specs own.spec.client.0 signed v.4 one, v.5, v.6, v.7, v.8))) is)))
+      ((x, one), signer, (v.0, v.1, spec_put F g.state.board own signed v.2 one, v.3, one_more F.spec (is_beside own.spec) g.state.specs signed v.4 one, v.5, v.6, v.7, v.8))) is)))
 
   responds_to : (X : Type 0) (own : Option OwnCheckpoint) (reply : Option (List ℕ)) (g : Going S) → (X → IfSome reply (λ reply. FitsAnswers reply)) → On X g → On X (respond_to R own reply g)
   responds_to X None reply g short is = is

@@ -159,7 +159,7 @@ OfBase is_state F s = AllByRecursion F.fetch s.fetches × IsShort is_state s.kep
 abbrev pub OfState : {S : Type 0} → (S → Type 0) → Signs → State S → Type 0
 OfState is_state F s =
     OfViews F s.views × OfOrders F s.orders × OfBoard F s.board × IfSome s.hole F.hole
-    × AllByRecursion (λ slot. IfSome slot F.spec) s.specs × AllByRecursion (λ slot. IfSome slot (OfPending F)) s.pending
+    × AllByRecursion F.spec s.specs × AllByRecursion (λ slot. IfSome slot (OfPending F)) s.pending
     × AllByRecursion F.local s.locals × IfSome s.hate (OfHateBy F (Replica s.me)) × OfBase is_state F s
 
 -- ---- what it signs

@@ -24,9 +24,9 @@ use Rattle.zy_parts.specs.declared.statements.Spec.{Spec}
 use Rattle.zy_table.specs.Confirms.{confirm, confirm_after, order_again}
 use Rattle.zy_table.specs.Deeds.{Outcome, begin, ends, refused}
 use Rattle.zy_table.specs.Orders.{ask_for_missing, order_as, owes_hole, position_of}
-use Rattle.zy_table.specs.Requests.{forward, is_behind, new_request, ordered, request, request_after, request_at_backup, request_at_primary, request_waits, respond_as, response_of, said_already, sealed_order, tell_primary}
+use Rattle.zy_table.specs.Requests.{forward, is_behind, new_request, ordered, request, request_after, request_at_backup, request_at_primary, request_waits, respond_as, response_of, sealed_order, tell_primary}
 use Rattle.zy_table.specs.Running.{run, signs_of, spec_of}
-use Rattle.zy_table.specs.State.{State, is_leaving, is_primary, signs_left, own_view, pending_of, spec_to, window_of}
+use Rattle.zy_table.specs.State.{State, is_leaving, is_primary, signs_left, own_view, pending_of, window_of, spec_said}
 use Rattle.zy_table.specs.declared.deeds.Sent.{Sent}
 use Rattle.zy_table.specs.declared.kept.Pending.{Pending}
 use Rattle.zy_law_views.proofs.Admitted.{IsFresh, IsPlaced}
@@ -80,7 +80,7 @@ module _ {S : Type 0} (R : Rules S) (s : State S) (P : Outcome S → Type 0) (of
     after_known (Some known) is =
         by_test P (nat_lt ask.stmt.stamp.0 known.stamp.0) _ _ (λ old. of.refuses causes.OldStamp)
         (λ from. by_test P (nat_eq ask.stmt.stamp.0 known.stamp.0) _ _
-        (λ same. answers known (said_already (spec_to s (asking ask.by)) (spec_of (own_view s) (entry_of ask) known)) is)
+        (λ same. answers known (spec_said s (spec_of (own_view s) (entry_of ask) known)) is)
         (λ other. new_one (ap (λ (o : Option Known). newer ask.stmt.stamp (option_map (λ (k : Known). k.stamp) o)) is ∙ stamp_above known.stamp.0 ask.stmt.stamp.0 from other)))
 
     pub request_row : P (request R s ask)

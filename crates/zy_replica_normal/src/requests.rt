@@ -15,10 +15,10 @@ ghost use Rattle.zy_seal.specs.Sealing.{sealed_by};
 ghost use Rattle.zy_table.specs.declared.deeds.To.TheVariants as tos;
 ghost use Rattle.zy_table.specs.declared.deeds.Act.TheVariants as acts;
 ghost use Rattle.zy_table.specs.declared.deeds.Body.TheVariants as bodies;
-ghost use Rattle.zy_table.specs.State.{is_leaving, signs_left, window_of, spent, stood_of, with_spec, with_pending, pending_of, spec_to as last_spec};
+ghost use Rattle.zy_table.specs.State.{is_leaving, signs_left, window_of, spent, stood_of, with_spec, with_pending, pending_of};
 ghost use Rattle.zy_table.specs.Deeds.{ends, begin, act as acting, send as sending};
 ghost use Rattle.zy_table.specs.Running.{spec_of as spec_for, run, signs_of};
-ghost use Rattle.zy_table.specs.Requests.{response_of, respond_anew as anew, respond_with as answered_with, respond_again as answered_again, said_already as already, order_of as order_for, sealed_order as sealed, ordered as ordered_by, take_request as taken, request_at_primary as at_primary, confirm_of as confirm_for, sealed_confirm as confirmed, tell_primary as told_of, request_waits as waiting, forward as forwarded, request_at_backup as at_backup, new_request as fresh, request_after as after, is_behind as behind, request as request_row};
+ghost use Rattle.zy_table.specs.Requests.{response_of, respond_anew as anew, respond_with as answered_with, respond_again as answered_again, order_of as order_for, sealed_order as sealed, ordered as ordered_by, take_request as taken, request_at_primary as at_primary, confirm_of as confirm_for, sealed_confirm as confirmed, tell_primary as told_of, request_waits as waiting, forward as forwarded, request_at_backup as at_backup, new_request as fresh, request_after as after, is_behind as behind, request as request_row};
 ghost use Rattle.zy_replica_state.specs.Ready.{IsAskReady, IsKeptPending, IsOrderReady, IsPendingReady};
 
 use crate::running::{can_run, run_all};
@@ -28,7 +28,7 @@ use zy_chain::next_head;
 use zy_exec::Known;
 use zy_frames::OrderFrame;
 use zy_parts::{Ask, Confirm, Order, Signed, Spec};
-use zy_replica_state::{Core, Moved, Progress, pending_copy, signed_copy, spec_of};
+use zy_replica_state::{Core, Moved, Progress, pending_copy, spec_of};
 use zy_table::{Body, Pending};
 
 pub(crate) fn is_older(stamp: Stamp, last: Stamp) -> bool
@@ -67,7 +67,6 @@ fn send_response<M: Machine>(
 fn sign_response<M: Machine>(core: Core<M>, spec: Spec, known: Known) -> Result<Progress<M>, Want>
     requires left { 1 ≤ signs_left core }
     requires spec { IsSpecInRange spec }
-    requires client { spec.client.0 < 64 }
     requires known { IsKnownInRange known }
     ensures { IfOk result (λ g. g ≡ response_of core (sealed_by numbers.spec spec_fields core.sealer spec) known (acting (acts.Says (record { body = bodies.Spec spec; stood = stood_of M.rules core })) (begin (with_spec (spent core) (sealed_by numbers.spec spec_fields core.sealer spec))))) }
 {
@@ -83,7 +82,6 @@ fn sign_response<M: Machine>(core: Core<M>, spec: Spec, known: Known) -> Result<
 // The response is signed anew.
 fn respond_anew<M: Machine>(core: Core<M>, spec: Spec, known: Known) -> Result<Moved<M>, Want>
     requires spec { IsSpecInRange spec }
-    requires client { spec.client.0 < 64 }
     requires known { IsKnownInRange known }
     ensures { IfOk result (λ m. m ≡ anew M.rules core spec known) }
 {
@@ -93,24 +91,12 @@ fn respond_anew<M: Machine>(core: Core<M>, spec: Spec, known: Known) -> Result<M
     Ok(sign_response(core, spec, known)?.ends(Answer::Taken))
 }
 
-// A copy of the response that was signed last, where it is this one.
-fn said_already<M: Machine>(core: &Core<M>, spec: &Spec) -> Result<Option<Signed<Spec>>, Want>
-    ensures said { IfOk result (λ said. said ≡ already (last_spec core.now spec.now.client) spec.now) }
-    ensures range { IfOk result (λ said. ForSome said (IsSignedInRange IsSpecInRange)) }
-{
-    match core.spec_to(spec.client) {
-        Some(last) if last.stmt == *spec => Ok(Some(signed_copy(last)?)),
-        _ => Ok(None),
-    }
-}
-
 fn respond_with<M: Machine>(core: Core<M>, spec: Spec, known: Known) -> Result<Moved<M>, Want>
     requires spec { IsSpecInRange spec }
-    requires client { spec.client.0 < 64 }
     requires known { IsKnownInRange known }
     ensures { IfOk result (λ m. m ≡ answered_with M.rules core spec known) }
 {
-    match said_already(&core, &spec) {
+    match core.spec_said(&spec) {
         Ok(None) => respond_anew(core, spec, known),
         Ok(Some(said)) => Ok(send_response(core.begin(), said, known)?.ends(Answer::Taken)),
         Err(want) => {
@@ -138,7 +124,7 @@ fn respond_again<M: Machine>(
 fn order_of<M: Machine>(core: &Core<M>, ask: &Signed<Ask>) -> Order
     requires ask { IsAskReady ask.now }
     requires room { last_place core.now.kept < window_of core.now }
-    ensures order { result ≡ order_for M.rules core.now ask.now }
+    ensures order { result ≡ order_for M.rules core.now (entry_of ask.now) }
     ensures range { IsOrderInRange result }
     ensures next { result.place.0 ≡ last_place core.now.kept + 1 }
 {

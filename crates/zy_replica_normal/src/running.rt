@@ -12,7 +12,7 @@ ghost use Rattle.zy_exec.specs.Kept.{last_place, longer, stretch_of};
 ghost use Rattle.zy_chain.specs.Stretch.{head_in};
 ghost use Rattle.zy_exec.specs.Known.{IsKnownInRange};
 ghost use Rattle.zy_exec.specs.Shots.{snapshot_in};
-ghost use Rattle.zy_admit.specs.Judging.{entry_of as entry_asked, entry_of, ordered_entry};
+ghost use Rattle.zy_admit.specs.Judging.{entry_of as entry_asked, ordered_entry};
 ghost use Rattle.zy_admit.specs.Orders.{slots_above, without_order, stored_in};
 ghost use Rattle.zy_frames.specs.declared.frame.Frame.TheVariants as frames;
 ghost use Rattle.zy_check.specs.Board.{IsBoard};
@@ -47,7 +47,7 @@ fn got_of(
 ) -> Result<Got, Want>
     requires ask { IsAskReady ask.now }
     requires known { IsKnownInRange known.now }
-    ensures got { IfOk result (λ got. got ≡ got_from before (entry_of ask.now) known.now snapshot) }
+    ensures got { IfOk result (λ got. got ≡ got_from before (entry_asked ask.now) known.now snapshot) }
     ensures range { IfOk result IsGotInRange }
 {
     let entry = entry_of(ask)?;
@@ -67,7 +67,7 @@ fn run_entry<M: Machine>(core: Core<M>, ask: &Signed<Ask>) -> Result<(Core<M>, K
     requires room { last_place core.kept < window_of core }
     requires ask { IsAskReady ask.now }
     ensures core { IfOk result (λ r. r.0 ≡ record core { kept = longer core.kept (entry_asked ask.now) }) }
-    ensures known { IfOk result (λ r. r.1 ≡ next_known M.rules core (entry_of ask.now)) }
+    ensures known { IfOk result (λ r. r.1 ≡ next_known M.rules core (entry_asked ask.now)) }
     ensures place { IfOk result (λ r. r.1.place.0 ≡ last_place core.kept + 1) }
     ensures range { IfOk result (λ r. IsKnownInRange r.1) }
 {
@@ -86,7 +86,7 @@ fn run_ask<M: Machine>(core: Core<M>, ask: &Signed<Ask>) -> Result<(Core<M>, Kno
     requires room { last_place core.kept < window_of core }
     requires ask { IsAskReady ask.now }
     ensures core { IfOk result (λ r. r.0 ≡ without_pending (record core { kept = longer core.kept (entry_asked ask.now) }) (entry_asked ask.now)) }
-    ensures known { IfOk result (λ r. r.1 ≡ next_known M.rules core (entry_of ask.now)) }
+    ensures known { IfOk result (λ r. r.1 ≡ next_known M.rules core (entry_asked ask.now)) }
     ensures place { IfOk result (λ r. r.1.place.0 ≡ last_place core.kept + 1) }
     ensures range { IfOk result (λ r. IsKnownInRange r.1) }
 {
@@ -102,7 +102,7 @@ fn run_in<M: Machine>(
     requires room { last_place progress.state.kept < window_of progress.state }
     requires ask { IsAskReady ask.now }
     ensures progress { IfOk result (λ r. r.0 ≡ record progress { state = without_pending (record progress.state { kept = longer progress.state.kept (entry_asked ask.now) }) (entry_asked ask.now) }) }
-    ensures known { IfOk result (λ r. r.1 ≡ next_known M.rules progress.state (entry_of ask.now)) }
+    ensures known { IfOk result (λ r. r.1 ≡ next_known M.rules progress.state (entry_asked ask.now)) }
     ensures place { IfOk result (λ r. r.1.place.0 ≡ last_place progress.state.kept + 1) }
     ensures range { IfOk result (λ r. IsKnownInRange r.1) }
 {
@@ -124,7 +124,7 @@ fn gains<M: Machine>(
 ) -> Result<Progress<M>, Want>
     requires ask { IsAskReady ask.now }
     requires known { IsKnownInRange known.now }
-    ensures { IfOk result (λ g. g ≡ acting (acts.Gains (got_from before (entry_of ask.now) known.now (snapshot_in M.rules progress.state.kept known.now.place.0))) progress) }
+    ensures { IfOk result (λ g. g ≡ acting (acts.Gains (got_from before (entry_asked ask.now) known.now (snapshot_in M.rules progress.state.kept known.now.place.0))) progress) }
 {
     let snapshot = progress.core.snapshot_at(known.place)?;
     let got = got_of(before, ask, known, snapshot)?;
@@ -138,8 +138,8 @@ fn execute<M: Machine>(
 ) -> Result<(Progress<M>, Known), Want>
     requires room { last_place progress.state.kept < window_of progress.state }
     requires ask { IsAskReady ask.now }
-    ensures progress { IfOk result (λ r. r.0 ≡ executed M.rules (entry_of ask.now) progress) }
-    ensures known { IfOk result (λ r. r.1 ≡ next_known M.rules progress.state (entry_of ask.now)) }
+    ensures progress { IfOk result (λ r. r.0 ≡ executed M.rules (entry_asked ask.now) progress) }
+    ensures known { IfOk result (λ r. r.1 ≡ next_known M.rules progress.state (entry_asked ask.now)) }
     ensures place { IfOk result (λ r. r.1.place.0 ≡ last_place progress.state.kept + 1) }
     ensures range { IfOk result (λ r. IsKnownInRange r.1) }
 {
@@ -161,7 +161,7 @@ fn count_signs<M: Machine>(core: Core<M>, ask: &Signed<Ask>) -> Result<(Core<M>,
     requires room { last_place core.kept < window_of core }
     requires ask { IsAskReady ask.now }
     ensures core { IfOk result (λ r. r.0 ≡ core) }
-    ensures signs { IfOk result (λ r. r.1 ≡ signs_for M.rules core (entry_of ask.now)) }
+    ensures signs { IfOk result (λ r. r.1 ≡ signs_for M.rules core (entry_asked ask.now)) }
 {
     let own_view = core.view();
     let (core, known) = run_entry(core, ask)?;
@@ -183,7 +183,7 @@ pub fn can_run<M: Machine>(
     requires ask { IsAskReady ask.now }
     requires more { more ≤ 1 }
     ensures core { IfOk result (λ r. r.0 ≡ core) }
-    ensures fits { IfOk result (λ r. r.1 ≡ nat_le (signs_for M.rules core (entry_of ask.now) + more) (signs_left core)) }
+    ensures fits { IfOk result (λ r. r.1 ≡ nat_le (signs_for M.rules core (entry_asked ask.now) + more) (signs_left core)) }
 {
     let left = core.signs_left();
     if left != more + 1 {
@@ -205,7 +205,6 @@ fn respond<M: Machine>(
     requires left { 1 ≤ signs_left progress.state }
     requires order { IsSignedInRange IsOrderInRange order }
     requires spec { IsSpecInRange spec }
-    requires client { spec.client.0 < 64 }
     requires reply { FitsAnswers reply }
     ensures { IfOk result (λ g. g ≡ respond_with M.rules order (sealed_by numbers.spec spec_fields progress.state.sealer spec) reply progress) }
 {
@@ -228,7 +227,6 @@ fn respond_by_copy<M: Machine>(
     requires left { 1 ≤ signs_left progress.state }
     requires order { IsSignedInRange IsOrderInRange order.now }
     requires spec { IsSpecInRange spec }
-    requires client { spec.client.0 < 64 }
     requires reply { FitsAnswers reply.now }
     ensures progress { IfOk result (λ r. r.0 ≡ respond_with M.rules order.now (sealed_by numbers.spec spec_fields progress.state.sealer spec) reply.now progress) }
     ensures spec { IfOk result (λ r. r.1 ≡ sealed_by numbers.spec spec_fields progress.state.sealer spec) }
@@ -327,7 +325,6 @@ fn answer<M: Machine>(
     requires signer { progress.state.sealer.me ≡ parties.Replica progress.state.me }
     requires order { IsSignedInRange IsOrderInRange order }
     requires spec { IsSpecInRange spec }
-    requires client { spec.client.0 < 64 }
     requires reply { FitsAnswers reply }
     requires view { spec.view ≡ progress.state.views.last_view }
     requires head { head_in (stretch_of progress.state.kept) spec.place.0 ≡ Some spec.head }
@@ -353,7 +350,6 @@ fn answer_all<M: Machine>(
     requires signer { progress.state.sealer.me ≡ parties.Replica progress.state.me }
     requires order { IsSignedInRange IsOrderInRange order }
     requires spec { IsSpecInRange spec }
-    requires client { spec.client.0 < 64 }
     requires reply { FitsAnswers reply }
     requires view { spec.view ≡ progress.state.views.last_view }
     requires head { head_in (stretch_of progress.state.kept) spec.place.0 ≡ Some spec.head }
@@ -462,7 +458,7 @@ fn can_run_in<M: Machine>(
     requires room { last_place progress.state.kept < window_of progress.state }
     requires ask { IsAskReady ask.now }
     ensures progress { IfOk result (λ r. r.0 ≡ progress) }
-    ensures fits { IfOk result (λ r. r.1 ≡ nat_le (signs_for M.rules progress.state (entry_of ask.now)) (signs_left progress.state)) }
+    ensures fits { IfOk result (λ r. r.1 ≡ nat_le (signs_for M.rules progress.state (entry_asked ask.now)) (signs_left progress.state)) }
 {
     let Progress { core, deeds } = progress;
     match can_run(core, ask, 0) {

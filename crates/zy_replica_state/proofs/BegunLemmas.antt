@@ -140,7 +140,6 @@ module _ {S : Type 0} (s : State S) (r : IsReady s) (fit : IsFit s.views) (cert 
         slots = let fits = place_below in omega arith;
         orders = tt;
         hole = r.hole;
-        all_specs = r.all_specs;
         specs = r.specs;
         all_pending = r.all_pending;
         pending = r.pending;

@@ -151,7 +151,6 @@ impl<M: Machine> Progress<M> {
     pub fn sign_spec(self, spec: Spec) -> Result<(Progress<M>, Signed<Spec>), Want>
         requires left { 1 ≤ signs_left self.state }
         requires spec { IsSpecInRange spec }
-        requires client { spec.client.0 < 64 }
         ensures progress { IfOk result (λ r. r.0 ≡ acting (acts.Says (record { body = bodies.Spec spec; stood = stood_of M.rules self.state })) (record self { state = with_spec (spent self.state) (sealed_by numbers.spec spec_fields self.state.sealer spec) })) }
         ensures spec { IfOk result (λ r. r.1 ≡ sealed_by numbers.spec spec_fields self.state.sealer spec) }
         ensures range { IfOk result (λ r. IsSignedInRange IsSpecInRange r.1) }
@@ -188,7 +187,6 @@ impl<M: Machine> Progress<M> {
     fn seal_spec(self, spec: Spec) -> Result<(Progress<M>, Signed<Spec>), Want>
         requires left { 1 ≤ signs_left self.state }
         requires spec { IsSpecInRange spec }
-        requires client { spec.client.0 < 64 }
         ensures progress { IfOk result (λ r. r.0 ≡ record self { state = with_spec (spent self.state) (sealed_by numbers.spec spec_fields self.state.sealer spec) }) }
         ensures spec { IfOk result (λ r. r.1 ≡ sealed_by numbers.spec spec_fields self.state.sealer spec) }
         ensures range { IfOk result (λ r. IsSignedInRange IsSpecInRange r.1) }

@@ -9,12 +9,12 @@ ghost use Rattle.zy_exec.specs.Kept.{last_place, known_in};
 ghost use Rattle.zy_exec.specs.Known.{IsKnownInRange};
 ghost use Rattle.zy_admit.specs.Orders.{stored_in, orders_from};
 ghost use Rattle.zy_cert.specs.Equal.{same_local};
-ghost use Rattle.zy_table.specs.State.{own_view, is_leaving, is_primary, primary_of, window_of, signs_left, spec_to, pending_of};
+ghost use Rattle.zy_table.specs.State.{own_view, is_leaving, is_primary, primary_of, window_of, signs_left, spec_said, pending_of};
 ghost use Rattle.zy_table.specs.Roles.{is_primary_of, view_cause};
 ghost use Rattle.zy_table.specs.Running.{still_pending};
 ghost use Rattle.zy_table.specs.Orders.{hole_of};
 ghost use Rattle.zy_table.specs.Commits.{local_said};
-ghost use Rattle.zy_replica_state.specs.Ready.{IsKeptPending, IsKeptSpec, IsOrderReady, IsReady};
+ghost use Rattle.zy_replica_state.specs.Ready.{IsKeptPending, IsOrderReady, IsReady};
 ghost use Rattle.zy_seal.specs.Sealing.{signatures_by};
 
 use crate::Core;
@@ -30,6 +30,12 @@ use zy_seal::Directory;
 use zy_table::Pending;
 
 // The first of some local commits that says this.
+fn spec_among<'a>(said: &'a [Signed<Spec>], spec: &Spec) -> Option<&'a Signed<Spec>>
+    ensures { option_copied result ≡ find (λ one. same_spec one.stmt spec.now) said.now }
+{
+    said.iter().find(|one| one.stmt == *spec)
+}
+
 fn local_among<'a>(said: &'a [Signed<Local>], local: &Local) -> Option<&'a Signed<Local>>
     ensures { option_copied result ≡ find (λ one. same_local one.stmt local.now) said.now }
 {
@@ -265,14 +271,14 @@ impl<M: Machine> Core<M> {
 
     // ---- what it has said, and the requests that wait
 
-    /// The own last response to a client.
-    pub fn spec_to(&self, client: ClientId) -> Option<&Signed<Spec>>
-        ensures spec { option_copied result ≡ spec_to self.now client }
-        ensures range { IsKeptSpec (option_copied result) }
+    /// A copy of the own response that says this, where it is kept.
+    pub fn spec_said(&self, spec: &Spec) -> Result<Option<Signed<Spec>>, Want>
+        ensures said { IfOk result (λ said. said ≡ spec_said self.now spec.now) }
+        ensures range { IfOk result (λ said. ForSome said (IsSignedInRange IsSpecInRange)) }
     {
-        match self.specs.get(client.0 as usize) {
-            Some(Some(spec)) => Some(spec),
-            _ => None,
+        match spec_among(self.specs.as_slice(), spec) {
+            Some(said) => Ok(Some(signed_copy(said)?)),
+            None => Ok(None),
         }
     }
 

@@ -26,7 +26,6 @@ fn respond_alone<M: Machine>(
 ) -> Result<Progress<M>, Want>
     requires left { 1 ≤ signs_left progress.state }
     requires spec { IsSpecInRange own.now.spec }
-    requires client { own.now.spec.client.0 < 64 }
     requires reply { FitsAnswers reply }
     ensures { IfOk result (λ g. g ≡ responding M.rules own.now reply progress) }
 {
@@ -68,7 +67,6 @@ fn respond_own<M: Machine>(
 ) -> Result<Progress<M>, Want>
     requires left { 1 ≤ signs_left progress.state }
     requires spec { IsSpecInRange own.now.spec }
-    requires client { own.now.spec.client.0 < 64 }
     ensures { IfOk result (λ g. g ≡ responding_to M.rules (Some own.now) (reply_in M.rules progress.state.kept place.0) progress) }
 {
     match reply_copy(&progress.core, place)? {

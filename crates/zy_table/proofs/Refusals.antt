@@ -58,10 +58,10 @@ use Rattle.zy_table.specs.Holes.{fill_hole, fill_with}
 use Rattle.zy_table.specs.Leaving.{Attempt, concluded, is_overspent}
 use Rattle.zy_table.specs.Misbehaviour.{pom, tell_all}
 use Rattle.zy_table.specs.Orders.{owes_hole, position_of}
-use Rattle.zy_table.specs.Requests.{forward, is_behind, new_request, request, request_after, request_at_backup, respond_as, said_already}
+use Rattle.zy_table.specs.Requests.{forward, is_behind, new_request, request, request_after, request_at_backup, respond_as}
 use Rattle.zy_table.specs.Roles.{in_role, view_cause}
 use Rattle.zy_table.specs.Running.{signs_of, spec_of}
-use Rattle.zy_table.specs.State.{State, is_leaving, is_primary, signs_left, own_view, pending_of, spec_to, window_of}
+use Rattle.zy_table.specs.State.{State, is_leaving, is_primary, signs_left, own_view, pending_of, window_of, spec_said}
 use Rattle.zy_table.specs.Whole.{commit_in_view, decoded_as, hear_plain, hear_view, is_view_frame_in_role, order_judged, plain_row, timer, unless, view_decoded, view_row, whole_step}
 use Rattle.zy_table.specs.declared.kept.OwnCheckpoint.{OwnCheckpoint}
 use Rattle.zy_table.specs.declared.kept.Pending.{Pending}
@@ -114,7 +114,7 @@ module _ {S : Type 0} (R : Rules S) (s : State S) where
   after_known ask (Some known) =
       let spec = spec_of (own_view s) (entry_of ask) known in
       tested (nat_lt ask.stmt.stamp.0 known.stamp.0) _ _ (refuses causes.OldStamp)
-      (tested (nat_eq ask.stmt.stamp.0 known.stamp.0) _ _ (respond_stays (said_already (spec_to s spec.client) spec) spec known) (new_stays ask))
+      (tested (nat_eq ask.stmt.stamp.0 known.stamp.0) _ _ (respond_stays (spec_said s spec) spec known) (new_stays ask))
 
   request_stays : (ask : Signed Ask) → Stays (request R s ask)
   unfolding request

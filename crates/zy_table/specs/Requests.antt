@@ -18,12 +18,11 @@ use Rattle.zy_exec.specs.declared.known.Known.{Known}
 use Rattle.zy_exec.specs.Kept.{last_place, known_in}
 use Rattle.zy_admit.specs.Orders.{stored_in, with_order}
 use Rattle.zy_admit.specs.Judging.{entry_of, asking}
-use Rattle.zy_cert.specs.Equal.{same_spec}
 use Rattle.zy_table.specs.declared.deeds.To.TheVariants.{All, One}
 use Rattle.zy_table.specs.declared.deeds.Body.TheVariants as bodies
 use Rattle.zy_table.specs.declared.deeds.Act.TheVariants.{Says}
 use Rattle.zy_table.specs.declared.kept.Pending.{Pending}
-use Rattle.zy_table.specs.State.{State, own_view, is_leaving, is_primary, primary_of, window_of, stood_of, signs_left, spent, spec_to, with_spec, pending_of, with_pending}
+use Rattle.zy_table.specs.State.{State, own_view, is_leaving, is_primary, primary_of, window_of, stood_of, signs_left, spent, with_spec, pending_of, with_pending, spec_said}
 use Rattle.zy_table.specs.Deeds.{Going, Outcome, send, act, refused, ends, begin, to_clients}
 use Rattle.zy_table.specs.Running.{spec_of, next_known, sealed_spec, run, signs_of}
 use Rattle.zy_chain.specs.declared.entry.Entry.{Entry}
@@ -36,7 +35,7 @@ response_of s signed known g =
     send (to_clients signed.stmt)
     (frames.SpecResponse signed known.reply (option_map (λ o. o.order) (stored_in s.orders known.place.0))) g
 
--- the response is signed anew where it isn't the one that was signed last
+-- the response is signed anew where it isn't kept
 abbrev pub respond_anew : {S : Type 0} → Rules S → State S → Spec → Known → Outcome S
 respond_anew R s spec known =
     if nat_le 1 (signs_left s)
@@ -45,17 +44,12 @@ respond_anew R s spec known =
     (act (Says (record { body = bodies.Spec spec; stood = stood_of R s })) (begin (with_spec (spent s) signed)))))
     else refused causes.KeySpent s
 
--- the response that was signed last, where it is this one
-abbrev pub said_already : Option (Signed Spec) → Spec → Option (Signed Spec)
-said_already None spec = None
-said_already (Some signed) spec = if same_spec signed.stmt spec then Some signed else None
-
 abbrev pub respond_as : {S : Type 0} → Rules S → State S → Option (Signed Spec) → Spec → Known → Outcome S
 respond_as R s None spec known = respond_anew R s spec known
 respond_as R s (Some signed) spec known = ends Taken (response_of s signed known (begin s))
 
 abbrev pub respond_with : {S : Type 0} → Rules S → State S → Spec → Known → Outcome S
-respond_with R s spec known = respond_as R s (said_already (spec_to s spec.client) spec) spec known
+respond_with R s spec known = respond_as R s (spec_said s spec) spec known
 
 abbrev pub respond_again : {S : Type 0} → Rules S → State S → Signed Ask → Known → Outcome S
 respond_again R s ask known = respond_with R s (spec_of (own_view s) (entry_of ask) known) known

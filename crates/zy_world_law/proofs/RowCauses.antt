@@ -50,10 +50,10 @@ use Rattle.zy_table.specs.Deeds.{Outcome, refused}
 use Rattle.zy_table.specs.Gathering.{checks_owed, own_at, with_certificate}
 use Rattle.zy_table.specs.Holes.{fill_hole, fill_with}
 use Rattle.zy_table.specs.Orders.{order_as, owes_hole}
-use Rattle.zy_table.specs.Requests.{is_behind, new_request, request, request_after, request_at_backup, respond_as, said_already}
+use Rattle.zy_table.specs.Requests.{is_behind, new_request, request, request_after, request_at_backup, respond_as}
 use Rattle.zy_table.specs.Roles.{view_cause}
 use Rattle.zy_table.specs.Running.{signs_of, spec_of}
-use Rattle.zy_table.specs.State.{State, is_leaving, is_primary, signs_left, own_view, pending_of, spec_to, window_of}
+use Rattle.zy_table.specs.State.{State, is_leaving, is_primary, signs_left, own_view, pending_of, window_of, spec_said}
 use Rattle.zy_table.specs.Whole.{commit_in_view, unless}
 use Rattle.zy_table.specs.declared.kept.OwnCheckpoint.{OwnCheckpoint}
 use Rattle.zy_table.specs.declared.kept.Pending.{Pending}
@@ -129,7 +129,7 @@ module _ {S : Type 0} (R : Rules S) (s : State S) where
     after_known ask (Some known) =
         let spec = spec_of (own_view s) (entry_of ask) known in
         tested (nat_lt ask.stmt.stamp.0 known.stamp.0) _ _ (free causes.OldStamp refl)
-        (tested (nat_eq ask.stmt.stamp.0 known.stamp.0) _ _ (responds (said_already (spec_to s spec.client) spec) spec known) (new_just ask))
+        (tested (nat_eq ask.stmt.stamp.0 known.stamp.0) _ _ (responds (spec_said s spec) spec known) (new_just ask))
 
     pub request_just : (ask : Signed Ask) → Just Excuse (request R s ask)
     unfolding request
