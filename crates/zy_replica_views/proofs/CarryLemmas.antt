@@ -124,5 +124,5 @@ left_signs R g None gather few = few
 left_signs R g (Some view) None few = omega arith
 left_signs R g (Some view) (Some other) few = omega arith
 
-pub signs_left : {S : Type 0} (R : Rules S) (g left : Going S) (leave gather : Option View) → left ≡ leave_if R leave g → signs_for leave gather ≤ signs_left g.state → signs_for None gather ≤ signs_left left.state
-signs_left {S = S} R g left leave gather is few = subst (λ (x : Going S). signs_for None gather ≤ signs_left x.state) (sym is) (left_signs R g leave gather few)
+pub rest_left : {S : Type 0} (R : Rules S) (g left : Going S) (leave gather : Option View) → left ≡ leave_if R leave g → signs_for leave gather ≤ signs_left g.state → signs_for None gather ≤ signs_left left.state
+rest_left {S = S} R g left leave gather is few = subst (λ (x : Going S). signs_for None gather ≤ signs_left x.state) (sym is) (left_signs R g leave gather few)
