@@ -40,7 +40,7 @@ use Rattle.zy_parts.specs.declared.statements.Order.{Order as OrderStatement}
 use Rattle.zy_parts.specs.declared.statements.Spec.{Spec}
 use Rattle.zy_seal.specs.Sealing.{sealed_by}
 use Rattle.zy_exec.specs.declared.known.Known.{Known}
-use Rattle.zy_exec.specs.Kept.{known_in, last_place, stretch_of}
+use Rattle.zy_exec.specs.Kept.{known_in, last_place, stretch_of, now_of}
 use Rattle.zy_table.specs.Checkpoints.{checkpoint, kept_as, response, with_board}
 use Rattle.zy_table.specs.Commits.{local_at, local_said, locals_owed, give_local, commit_as, commit_beside, commit_judged, commit}
 use Rattle.zy_table.specs.Confirms.{order_again, confirm_after, confirm}
@@ -63,6 +63,7 @@ use Rattle.zy_table.specs.declared.kept.OwnCheckpoint.{OwnCheckpoint}
 use Rattle.zy_table.specs.declared.kept.Pending.{Pending}
 use Rattle.zy_base.specs.declared.cause.Cause.TheVariants as causes
 use Rattle.zy_base.specs.declared.step.Answer.TheVariants.{Taken, Held}
+use Rattle.zy_exec.specs.Replay.{is_new_to}
 
 stamp_above : (a b : ℕ) → nat_lt b a ≡ false → nat_eq b a ≡ false → nat_lt a b ≡ true
 stamp_above a b from other =
@@ -84,7 +85,7 @@ with_held s o = record s { orders = with_order s.orders o }
 
 -- the order of a request, and an order, come with a stamp above the one that is known
 abbrev pub IsNew : {S : Type 0} → Rules S → State S → Signed Ask → Type 0
-IsNew R s ask = newer ask.stmt.stamp (option_map (λ (known : Known). known.stamp) (known_in R s.kept (asking ask.by).0)) ≡ true
+IsNew R s ask = is_new_to (now_of R s.kept).known (entry_of ask) ≡ true
 
 -- so many statements can still be signed
 abbrev pub CanSign : {S : Type 0} → State S → ℕ → Type 0

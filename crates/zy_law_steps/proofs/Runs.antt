@@ -1,14 +1,13 @@
 -- An order is run: its entry is executed and answered, and then the orders that were held for it.
 use Rattle.std.proofs.Common.{◌≡◌, ℕ, ◌+◌, ◌-◌, ◌*◌, ◌^◌, ◌<◌, ◌≤◌, nat_le, true, false, List, [], ◌∷◌, ◌++◌, length, take, Option, Some, None, refl, sym, ap, ◌∙◌, subst, arith}
 use Rattle.std.specs.List.{AllByRecursion}
-use Rattle.std.specs.Prelude.{option_map}
 use Rattle.std.proofs.lemmas.Bool.{and_parts}
 use Rattle.std.proofs.lemmas.List.{length-append, length-drop, length-set}
 use Rattle.zy_base.specs.Machine.{Rules}
 use Rattle.zy_base.specs.declared.ids.Digest.{Digest}
 use Rattle.zy_base.specs.declared.ids.Stamp.{Stamp}
 use Rattle.zy_base.specs.declared.ids.View.{View}
-use Rattle.zy_chain.specs.Entries.{digest_of_entry, newer}
+use Rattle.zy_chain.specs.Entries.{digest_of_entry}
 use Rattle.zy_chain.specs.Heads.{head_after}
 use Rattle.zy_chain.specs.Stretch.{Mark}
 use Rattle.zy_chain.specs.declared.entry.Entry.{Entry}
@@ -18,7 +17,7 @@ use Rattle.zy_check.proofs.JudgingLemmas.{after_spec-stays, without_others-stays
 use Rattle.zy_check.specs.Board.{Board, without_others}
 use Rattle.zy_check.specs.Judging.{after_spec}
 use Rattle.zy_exec.proofs.ReplayLemmas.{place-along}
-use Rattle.zy_exec.specs.Kept.{known_in, last_place, longer, now_of}
+use Rattle.zy_exec.specs.Kept.{last_place, longer, now_of}
 use Rattle.zy_exec.specs.declared.known.Known.{Known}
 use Rattle.zy_frames.specs.declared.frame.OrderFrame.{OrderFrame}
 use Rattle.zy_law.proofs.EntriesAskedFor.{entry_within}
@@ -58,6 +57,7 @@ use Rattle.zy_law_steps.proofs.Working.{IsWorking, gains, goes_as, last_view_is,
 use Rattle.zy_law_views.proofs.SignedSlots.{signed_with}
 use Rattle.zy_law_views.specs.Work.{workplace_of}
 use Rattle.zy_law_steps.specs.Gains.{AreGainsKept, IsGainKept}
+use Rattle.zy_exec.specs.Replay.{is_new_to}
 
 -- ---- where what is kept begins and ends
 
@@ -120,7 +120,7 @@ module _ {S : Type 0} (R : Rules S) (interval : ℕ) (texts : Texts) (w : World)
   -- ---- one order
 
   module _ (more : ℕ) (g : Going S) (is : IsWorking R interval texts w r s h view more g) (o : OrderFrame) (may : MayRun w (ordered_entry o))
-      (new : newer o.ask.stmt.stamp (option_map (λ (known : Known). known.stamp) (known_in R g.state.kept (ordered_entry o).client.0)) ≡ true)
+      (new : is_new_to (now_of R g.state.kept).known (ordered_entry o) ≡ true)
       (gain : IsGainKept w texts (got_of R g.state (ordered_entry o))) (of : AreOrdersOf is.world r (table.own_view g.state) (is.now ++ ordered_entry o ∷ []))
       (top : ℕ) (low : last_place g.state.kept < top) (near : top ≤ g.state.kept.base.place + 2 * interval) (in_range : top < 2 ^ 62) where
     pub one_goes : more ≤ 1 → Works (run_one R o g)
@@ -170,7 +170,7 @@ module _ {S : Type 0} (R : Rules S) (interval : ℕ) (texts : Texts) (w : World)
 
   -- where its orders are of places of its history
   pub next_goes : (o : OrderFrame) (g : Going S) → Works g → MayRun w (ordered_entry o)
-      → newer o.ask.stmt.stamp (option_map (λ (known : Known). known.stamp) (known_in R g.state.kept (ordered_entry o).client.0)) ≡ true → IsGainKept w texts (got_of R g.state (ordered_entry o))
+      → is_new_to (now_of R g.state.kept).known (ordered_entry o) ≡ true → IsGainKept w texts (got_of R g.state (ordered_entry o))
       → (top : ℕ) → last_place g.state.kept < top → top ≤ g.state.kept.base.place + 2 * interval → top < 2 ^ 62 → Works (run_one R o g)
   next_goes o g is may new gain top low near in_range =
       let views : g.state.views.last_view.0 ≡ table.own_view g.state = sym (last_view_is R interval texts w r s h view 0 g is) ∙ sym (own_view_is R interval texts w r s h view 0 g is) in
@@ -193,7 +193,7 @@ module _ {S : Type 0} (R : Rules S) (interval : ℕ) (texts : Texts) (w : World)
       (λ fits. by_test (λ (g' : Going S). AreGainsKept w texts g'.deeds.acts → (top : ℕ) → last_place g.state.kept + length (Some o ∷ slots) ≤ top → top ≤ g.state.kept.base.place + 2 * interval → top < 2 ^ 62 → Works g')
       (nat_le (signs_of R g.state (ordered_entry o)) (signs_left g.state)) _ _
       (λ left gains top low near in_range.
-      let new = (and_parts (same_digest o.order.stmt.head (head_after (now_of R g.state.kept).head (digest_of_entry (ordered_entry o)))) (newer o.ask.stmt.stamp (option_map (λ (known : Known). known.stamp) (known_in R g.state.kept (ordered_entry o).client.0))) fits).1 in
+      let new = (and_parts (same_digest o.order.stmt.head (head_after (now_of R g.state.kept).head (digest_of_entry (ordered_entry o)))) (is_new_to (now_of R g.state.kept).known (ordered_entry o)) fits).1 in
       let gain = (one_gains w texts R o g (held_gains w texts R slots (run_one R o g) gains)).1 in
       held_goes slots (run_one R o g) all.1 (next_goes o g is all.0 new gain top (omega arith) near in_range) gains top
       (omega (arith, (one_further R o g).ends)) (omega (arith, (one_further R o g).above)) in_range)

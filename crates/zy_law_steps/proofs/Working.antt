@@ -1,7 +1,6 @@
 -- A replica on its way through a step of normal operation: what it did so far is allowed, and it is tied in the world after it.
 use Rattle.std.proofs.Common.{◌≡◌, ℕ, ◌+◌, ◌-◌, ◌*◌, ◌^◌, ◌<◌, ◌≤◌, true, List, [], ◌∷◌, ◌++◌, length, fold, refl, sym, ap, ◌∙◌, subst, arith}
 use Rattle.std.specs.List.{AllByRecursion}
-use Rattle.std.specs.Prelude.{option_map}
 use Rattle.std.proofs.lemmas.List.{length-append}
 use Rattle.std.proofs.lemmas.Option.{same_Some}
 use Rattle.zy_base.specs.Machine.{Rules}
@@ -17,8 +16,8 @@ use Rattle.zy_chain.specs.Heads.{empty_head}
 use Rattle.zy_chain.specs.declared.entry.Entry.{Entry}
 use Rattle.zy_exec.proofs.HistoryLemmas.{stands_leads}
 use Rattle.zy_exec.proofs.ReplayLemmas.{head-along}
-use Rattle.zy_exec.specs.Kept.{known_in, last_place, now_of}
-use Rattle.zy_exec.specs.Replay.{Point, origin}
+use Rattle.zy_exec.specs.Kept.{last_place, now_of}
+use Rattle.zy_exec.specs.Replay.{Point, origin, is_new_to}
 use Rattle.zy_exec.specs.declared.known.Known.{Known}
 use Rattle.zy_law.proofs.StepsLawful.{saying_lawful, standing_lawful}
 use Rattle.zy_law.specs.Lawful.{AreAskedFor, IsLawful}
@@ -55,7 +54,7 @@ use Rattle.zy_law_views.specs.Steps.{IsWorldOf}
 use Rattle.zy_law_steps.proofs.Gained.{longer_kept}
 use Rattle.zy_law_views.specs.Work.{IsAtWork, IsWorkTied, last_long, workplace_of}
 use Rattle.zy_law_steps.specs.Gains.{IsGainKept}
-use Rattle.zy_chain.specs.Entries.{newer, IsOfClients}
+use Rattle.zy_chain.specs.Entries.{IsOfClients}
 
 -- an entry that is gained
 leads_gaining : (w : World) (r view number : ℕ) (h : List Entry) (got : Got) → MayStand w r (stand_with view h got)
@@ -234,7 +233,7 @@ module _ {S : Type 0} (R : Rules S) (interval : ℕ) (texts : Texts) (w : World)
 
     -- ---- an entry more
 
-    module _ (ask : Signed Ask) (run : MayRun w (entry_of ask)) (new : newer ask.stmt.stamp (option_map (λ (known : Known). known.stamp) (known_in R g.state.kept (asking ask.by).0)) ≡ true)
+    module _ (ask : Signed Ask) (run : MayRun w (entry_of ask)) (new : is_new_to (now_of R g.state.kept).known (entry_of ask) ≡ true)
         (gain : IsGainKept w texts (got_of R g.state (entry_of ask))) (of : AreOrdersOf is.world r (table.own_view g.state) (is.now ++ entry_of ask ∷ []))
         (top : ℕ) (low : last_place g.state.kept < top) (near : top ≤ g.state.kept.base.place + 2 * interval) (in_range : top < 2 ^ 62) where
       abbrev pub e : Entry
