@@ -242,10 +242,10 @@ may_execute {w} {r} number last e stood now is_in view asked texts orders =
     }
 
 true_first : {w : World} → w.reply (first_entry ∷ []) ≡ first_answer.reply → IsTrueAnswer w (first_entry ∷ []) first_mark first_answer
-true_first reply = record { entry = first_entry; last = at_first; client = refl; stamp = refl; reply = reply }
+true_first reply = record { entry = first_entry; last = at_first; reply = reply }
 
 true_second : {w : World} → w.reply (first_entry ∷ second_entry ∷ []) ≡ second_answer.reply → IsTrueAnswer w (first_entry ∷ second_entry ∷ []) second_mark second_answer
-true_second reply = record { entry = second_entry; last = record { first = lit< tt; there = refl }; client = refl; stamp = refl; reply = reply }
+true_second reply = record { entry = second_entry; last = record { first = lit< tt; there = refl }; reply = reply }
 
 first_ordered : {w : World} {history : List Entry} → Passes w.next history first_mark → IsEntryAt history 1 first_entry → w.digest first_entry ≡ record { 0 = text_of first_entry }
     → IsOrdered w history first_mark (record { 0 = text_of first_entry })

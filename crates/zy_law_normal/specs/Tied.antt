@@ -1,5 +1,5 @@
 -- How a replica's state is tied to what it said and where it stood.
-use Rattle.std.specs.Prelude.{◌≡◌, ◌⊎◌, ℕ, ◌+◌, ◌≤◌, true, false, List, [], length, take, All, Option, Some, None, unwrap_or, Contains}
+use Rattle.std.specs.Prelude.{◌≡◌, ◌⊎◌, ℕ, ◌+◌, ◌≤◌, true, false, List, [], length, take, All, Option, Some, None, Contains}
 use Rattle.std.specs.List.{AllByRecursion}
 use Rattle.zy_base.specs.Machine.{Rules}
 use Rattle.zy_base.specs.declared.ids.Digest.{Digest}
@@ -29,16 +29,23 @@ use Rattle.zy_parts.specs.declared.statements.Check.{Check}
 use Rattle.zy_parts.specs.declared.statements.Spec.{Spec}
 use Rattle.zy_table.specs.State.{State, own_view, is_leaving}
 use Rattle.zy_table.specs.declared.deeds.Got.{Got}
-use Rattle.zy_chain.specs.Answers.{digest_of_answers}
+use Rattle.zy_chain.specs.Answers.{digest_of_answers, Answers}
+use Rattle.zy_chain.specs.Places.{entry_at}
+use Rattle.zy_law_normal.specs.Acts.{answer_told}
 
 -- ---- heads, digests and replies of the law
 
 abbrev pub next_head : Digest → Entry → Digest
 next_head head e = head_after head (digest_of_entry e)
 
--- the digest of the reply to a history's last entry
+-- what a response says of a history's last entry
+abbrev pub reply_told : Option Entry → Option Answers → Digest
+reply_told None answers = record { 0 = [] }
+reply_told (Some e) None = record { 0 = [] }
+reply_told (Some e) (Some answers) = (answer_told e.client.0 e.stamp.0 (digest_of_answers answers)).reply
+
 abbrev pub last_reply : {S : Type 0} → Rules S → List Entry → Digest
-last_reply R history = digest_of_answers (unwrap_or (answer_at R history (length history)) [])
+last_reply R history = reply_told (entry_at history (length history)) (answer_at R history (length history))
 
 -- the digest of the snapshot where a history leads
 abbrev pub state_of : {S : Type 0} → Rules S → List Entry → Digest

@@ -5,7 +5,6 @@ use Rattle.std.proofs.lemmas.Bool.{and_parts}
 use Rattle.std.proofs.lemmas.List.{length-append, length-drop, length-set}
 use Rattle.zy_base.specs.Machine.{Rules}
 use Rattle.zy_base.specs.declared.ids.Digest.{Digest}
-use Rattle.zy_base.specs.declared.ids.Stamp.{Stamp}
 use Rattle.zy_base.specs.declared.ids.View.{View}
 use Rattle.zy_chain.specs.Entries.{digest_of_entry}
 use Rattle.zy_chain.specs.Heads.{head_after}
@@ -29,7 +28,7 @@ use Rattle.zy_law_normal.proofs.KeptVotes.{AreKeptOf, after_spec_kept, without_o
 use Rattle.zy_law_normal.proofs.OneEntry.{AreOrdersOf, fold_is, known_next, orders_of_longer}
 use Rattle.zy_law_normal.proofs.Own.{by_test, state_told}
 use Rattle.zy_law_normal.proofs.Records.{IsLastOf}
-use Rattle.zy_law_normal.specs.Acts.{statement_by}
+use Rattle.zy_law_normal.specs.Acts.{statement_by, answer_told}
 use Rattle.zy_law_normal.specs.Tied.{MayRun, MaySlotRun}
 use Rattle.zy_parts.specs.declared.signed.Signed.{Signed}
 use Rattle.zy_parts.specs.declared.statements.Check.{Check}
@@ -58,6 +57,7 @@ use Rattle.zy_law_views.proofs.SignedSlots.{signed_with}
 use Rattle.zy_law_views.specs.Work.{workplace_of}
 use Rattle.zy_law_steps.specs.Gains.{AreGainsKept, IsGainKept}
 use Rattle.zy_exec.specs.Replay.{is_new_to}
+use Rattle.zy_chain.specs.Answers.{digest_of_answers}
 
 -- ---- where what is kept begins and ends
 
@@ -133,7 +133,7 @@ module _ {S : Type 0} (R : Rules S) (interval : ℕ) (texts : Texts) (w : World)
         let known : Known = next_known R g.state (ordered_entry o) in
         let spec : Spec = spec_of (table.own_view g.state) (ordered_entry o) known in
         let m : Mark = mark_at known.place known.head in
-        let a : Answer = record { client = e.client.0; stamp = known.stamp.0; reply = spec.reply } in
+        let a : Answer = answer_told e.client.0 known.stamp.0 spec.reply in
         let remark : Remark = record { body = bodies.Spec spec; stood = stood_of R done.state } in
         let y : Spoken = said_now moved.world r (statement_by r remark.body) in
         let last : IsLastOf R far e.client.0 known =
@@ -146,9 +146,8 @@ module _ {S : Type 0} (R : Rules S) (interval : ℕ) (texts : Texts) (w : World)
         (record {
           entry = last.entry;
           last = last.there;
-          client = last.client_is;
-          stamp = ap (λ (t : Stamp). t.0) last.stamp;
-          reply = true_reply R moved.world moved.kept.agrees far known.place.0 known.reply within last.reply;
+          reply = true_reply R moved.world moved.kept.agrees far known.place.0 last.entry known.reply within last.there last.reply
+              ∙ (λ i. (answer_told (last.client_is i) (last.stamp i).0 (digest_of_answers known.reply)).reply);
         }) in
         let views : view.0 ≡ table.own_view g.state = sym (own_view_is R interval texts w r s h view more g is) in
         let says_it : SaysLawfully R interval moved.world r (core_of done.state) far (statement_by r remark.body) =

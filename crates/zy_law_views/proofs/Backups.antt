@@ -5,7 +5,6 @@ use Rattle.std.specs.Prelude.{slice_index_or}
 use Rattle.zy_base.specs.Machine.{Rules}
 use Rattle.zy_base.specs.declared.cause.Cause.TheVariants as causes
 use Rattle.zy_base.specs.declared.ids.Digest.{Digest}
-use Rattle.zy_base.specs.declared.ids.Stamp.{Stamp}
 use Rattle.zy_base.specs.declared.ids.View.{View}
 use Rattle.zy_base.specs.declared.step.Answer.TheVariants.{Taken}
 use Rattle.zy_base.specs.declared.step.Mode.{Mode}
@@ -50,6 +49,8 @@ use Rattle.zy_law_views.proofs.Responding.{IsInView, speaks, true_reply, world_a
 use Rattle.zy_law_views.proofs.Taking.{ended}
 use Rattle.zy_law_views.specs.Steps.{IsLawfulStep, IsWorldOf}
 use Rattle.zy_chain.specs.Entries.{IsOfClients}
+use Rattle.zy_law_normal.specs.Acts.{answer_told}
+use Rattle.zy_chain.specs.Answers.{digest_of_answers}
 
 -- the clients of a history whose links are kept
 pub clients_of : (w : World) (texts : Texts) → AreLinks w texts → (head : Digest) (list : List Entry) → AreKept w.kept w.next head list → AllByRecursion IsOfClients list
@@ -104,9 +105,8 @@ module _ {S : Type 0} (R : Rules S) (interval : ℕ) (texts : Texts) (w : World)
         (record {
           entry = last.entry;
           last = last.there;
-          client = last.client_is;
-          stamp = ap (λ (t : Stamp). t.0) last.stamp;
-          reply = true_reply R start.world (world_agrees R interval w r s history ready kept.agrees view (begin s) start) history known.place.0 known.reply within last.reply;
+          reply = true_reply R start.world (world_agrees R interval w r s history ready kept.agrees view (begin s) start) history known.place.0 last.entry known.reply within last.there last.reply
+              ∙ (λ i. (answer_told (last.client_is i) (last.stamp i).0 (digest_of_answers known.reply)).reply);
         })
         (works_said interval start.world r _ s (λ v m request told. absurd cc))).way
 

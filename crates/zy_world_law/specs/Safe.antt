@@ -11,7 +11,7 @@ use Rattle.zy_law.specs.Completed.{Completion, IsAgreedList, IsCompleted}
 use Rattle.zy_law.specs.Histories.{Passes, IsEntryAt, IsFront}
 use Rattle.zy_law.specs.Said.{IsBacked}
 use Rattle.zy_law.specs.World as law_world
-use Rattle.zy_law_normal.specs.Acts.{check_statement}
+use Rattle.zy_law_normal.specs.Acts.{check_statement, answer_told}
 use Rattle.zy_law_normal.specs.Tied.{next_head, IsCheckpointOf}
 use Rattle.zy_parts.specs.declared.statements.Check.{Check}
 use Rattle.zy_world_law.specs.Events.{history_of}
@@ -28,7 +28,7 @@ completion_of c =
     record {
       view = c.done.view.0;
       mark = mark_of c;
-      answer = record { client = c.client.0; stamp = c.done.stamp.0; reply = digest_of_answers c.done.reply };
+      answer = answer_told c.client.0 c.done.stamp.0 (digest_of_answers c.done.reply);
     }
 
 abbrev pub completions_of : {S : Type 0} → World S → List Completion
