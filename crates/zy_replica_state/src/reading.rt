@@ -8,7 +8,7 @@ ghost use Rattle.zy_parts.specs.Statements.{IsHoleInRange, IsLocalInRange, IsOrd
 ghost use Rattle.zy_exec.specs.Kept.{last_place, known_in};
 ghost use Rattle.zy_exec.specs.Known.{IsKnownInRange};
 ghost use Rattle.zy_admit.specs.Orders.{stored_in, orders_from};
-ghost use Rattle.zy_cert.specs.Equal.{same_local};
+ghost use Rattle.zy_cert.specs.Equal.{same_local, same_spec};
 ghost use Rattle.zy_table.specs.State.{own_view, is_leaving, is_primary, primary_of, window_of, signs_left, spec_said, pending_of};
 ghost use Rattle.zy_table.specs.Roles.{is_primary_of, view_cause};
 ghost use Rattle.zy_table.specs.Running.{still_pending};
