@@ -4,7 +4,7 @@ ghost use Rattle.std.specs.Prelude.{◌≡◌, ◌≤◌, ◌<◌, ◌+◌, ◌^
 ghost use Rattle.std.specs.List.{AllByRecursion, find};
 ghost use Rattle.std.specs.Option.{ForSome};
 ghost use Rattle.zy_parts.specs.Signing.{IsSignedInRange};
-ghost use Rattle.zy_parts.specs.Statements.{IsHoleInRange, IsLocalInRange, IsOrderInRange};
+ghost use Rattle.zy_parts.specs.Statements.{IsHoleInRange, IsLocalInRange, IsOrderInRange, IsSpecInRange};
 ghost use Rattle.zy_exec.specs.Kept.{last_place, known_in};
 ghost use Rattle.zy_exec.specs.Known.{IsKnownInRange};
 ghost use Rattle.zy_admit.specs.Orders.{stored_in, orders_from};
@@ -29,13 +29,14 @@ use zy_parts::{Hole, Local, Order, Signed, Spec};
 use zy_seal::Directory;
 use zy_table::Pending;
 
-// The first of some local commits that says this.
+// The first of some responses that says this.
 fn spec_among<'a>(said: &'a [Signed<Spec>], spec: &Spec) -> Option<&'a Signed<Spec>>
     ensures { option_copied result ≡ find (λ one. same_spec one.stmt spec.now) said.now }
 {
     said.iter().find(|one| one.stmt == *spec)
 }
 
+// The first of some local commits that says this.
 fn local_among<'a>(said: &'a [Signed<Local>], local: &Local) -> Option<&'a Signed<Local>>
     ensures { option_copied result ≡ find (λ one. same_local one.stmt local.now) said.now }
 {

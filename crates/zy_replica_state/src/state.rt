@@ -1,4 +1,4 @@
-ghost use Rattle.std.specs.Prelude.{◌≡◌, ◌≤◌, ◌<◌, ◌^◌, length, [], replicate, None, is_some, IfOk};
+ghost use Rattle.std.specs.Prelude.{◌≡◌, ◌≤◌, ◌<◌, ◌^◌, length, [], None, is_some, IfOk};
 ghost use Rattle.std.specs.List.{list_any};
 ghost use Rattle.sha2.specs.Sha256.{sha256};
 ghost use Rattle.zy_base.specs.declared.ids.Party.TheVariants as parties;
@@ -158,13 +158,6 @@ fn empty_history<M: Machine>(alloc: Global, k: u64) -> Result<(Exec<M>, Checkpoi
     Ok((exec, board))
 }
 
-// Room for the request of each client that waits.
-fn empty_room(alloc: Global) -> Result<Vec<Option<Pending>>, Want>
-    ensures { IfOk result (λ room. room.items ≡ replicate 64 None) }
-{
-    Ok(nothing(alloc)?)
-}
-
 impl<M: Machine> Core<M> {
     ghost use Rattle.zy_table.specs.State.{start_of, stood_of, timers_of, waits};
 
@@ -185,7 +178,7 @@ impl<M: Machine> Core<M> {
         requires most { k ≤ 32 }
         ensures { IfOk result (λ r. r ≡ start_of M.rules k me counts directory sealer) }
     {
-        let pending = empty_room(alloc)?;
+        let pending = nothing(alloc)?;
         let (exec, board) = empty_history(alloc, k)?;
         let views = ViewMachine::start(alloc, counts, me, k)?;
         Ok(Core {
