@@ -13,6 +13,7 @@ use toml::{Table, Value};
 use zy_base::Want;
 use zy_lms::Height;
 use zy_ots::{OtsType, u32_at};
+use zy_seal::signature_count;
 
 /// The integer, if it is from `low` to `high`.
 fn long_of(value: &Value, low: u64, high: u64) -> Option<u64>
@@ -237,7 +238,7 @@ pub(crate) fn next_at(table: &Table, height: Height, left: u32) -> Option<u32>
     ensures is { result ≡ next_at height left (table_view table.now) }
     ensures most { IfSome result (λ next. next + left ≤ signatures_by height) }
 {
-    let last = height.leaf_count() - left;
+    let last = signature_count(height) - left;
     let next = long_at(table, "next", 0, u64::from(last))?;
     Some(next as u32)
 }
