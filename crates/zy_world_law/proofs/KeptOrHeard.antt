@@ -288,7 +288,7 @@ waits_incomplete : (s t : ClientState) (b : Bool) → (if b then (if true then N
 waits_incomplete s t true = refl
 waits_incomplete s t false = refl
 
-with_left : (s : ClientState) (op : List ℕ) (leaf : Bool) → IsAsked s (if leaf then asked s (next_ask s op) else refused causes.KeySpent s)
+with_left : (s : ClientState) (op : List ℕ) (number : Bool) → IsAsked s (if number then asked s (next_ask s op) else refused causes.KeySpent s)
 with_left s op true =
     record {
       same = record { me = refl; counts = refl; keys = refl };

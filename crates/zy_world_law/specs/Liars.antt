@@ -119,8 +119,8 @@ statement_told (number ∷ fields) = statement_numbered number fields
 
 -- ---- how long a frame may be
 
--- A party's frame is no longer than a frame may be. All leaves sign at the same length, so this is judged by the first one, and is
--- so whether a leaf is left or not.
+-- A party's frame is no longer than a frame may be. All signatures are of one length, so this is judged by the first one, and is
+-- so whether a signature is left or not.
 abbrev pub is_short : Setup → Party → Telling → Bool
 is_short setup party telling = nat_le (length (spelling_of (telling (sealer_of setup party 0)))) frame_limit
 
