@@ -1,5 +1,5 @@
 -- What a liar or a forger is told to sign.
-use Rattle.std.specs.Prelude.{◌≡◌, ◌≢◌, ℕ, ◌≤◌, ◌&&◌, Bool, true, false, if◌then◌else◌, List, length, Option, Some, None}
+use Rattle.std.specs.Prelude.{◌≡◌, ◌≢◌, ℕ, ◌&&◌, Bool, true, false, if◌then◌else◌, List, Option, Some, None}
 use Rattle.std.specs.List.{list_all}
 use Rattle.zy_base.specs.declared.ids.Party.{Party}
 use Rattle.zy_base.specs.declared.ids.Party.TheVariants as parties
@@ -10,6 +10,7 @@ use Rattle.zy_world.specs.declared.tale.Tale.{Tale}
 use Rattle.zy_world.specs.declared.tale.Tale.TheVariants.{Order, Spec, Statement}
 use Rattle.zy_world_law.specs.Liars.{Telling, order_told, spec_told, is_short}
 use Rattle.zy_world_law.specs.Setup.{Setup, sealer_of}
+use Rattle.zy_chain.specs.Answers.{FitsAnswers}
 
 abbrev pub told_in : Tale → Option Telling
 told_in (Order view asks) = order_told view asks
@@ -19,7 +20,7 @@ told_in (Statement statement) = Some (telling_of statement)
 -- it can be spelled
 abbrev pub IsTale : Tale → Type 0
 IsTale (Order view asks) = IsOrderable view asks
-IsTale (Spec view asks reply) = IsOrderable view asks × (length reply ≤ 1100)
+IsTale (Spec view asks reply) = IsOrderable view asks × FitsAnswers reply
 IsTale (Statement statement) = IsTellable statement
 
 -- only the frame of a statement can be too long

@@ -1,6 +1,6 @@
 //! What liars and forgers sign, and bytes that are sent as they are.
 
-ghost use Rattle.std.specs.Prelude.{◌≡◌, ◌≤◌, ◌-◌, ◌&&◌, true, length, Some, None, IfOk, IfSome};
+ghost use Rattle.std.specs.Prelude.{◌≡◌, ◌-◌, ◌&&◌, true, length, Some, None, IfOk, IfSome};
 ghost use Rattle.std.specs.Option.{option_and_then};
 ghost use Rattle.std.specs.List.{AllByRecursion};
 ghost use Rattle.zy_parts.specs.Signing.{IsSignedInRange};
@@ -18,6 +18,7 @@ ghost use Rattle.zy_world_law.specs.declared.note.Note.TheVariants.{Quiet};
 ghost use Rattle.zy_world_law.specs.Liars.{by_replica, if_short, order_told, spec_told, requests_at, statement_told};
 ghost use Rattle.zy_world_law.specs.World.{World as Whole, are_parties, is_correct, is_liar, with_sent};
 ghost use Rattle.zy_seal.specs.Sealing.{signatures_by};
+ghost use Rattle.zy_chain.specs.Answers.{FitsAnswers};
 
 use crate::tale::Tale;
 use crate::{World, WorldStepped};
@@ -55,7 +56,7 @@ impl<M: Machine> World<M> {
         reply: Bytes,
     ) -> Result<WorldStepped<M>, Want>
         requires history { IsHistoryTold view asks.now }
-        requires reply { length reply ≤ 1100 }
+        requires reply { FitsAnswers reply }
         ensures { (g : Whole M.State) → Shows g self → IfOk result (λ r. GoesTo (lie g liar to.now (by_replica liar (option_and_then (spec_told view reply) (requests_at g asks.now)))) r.note r.world) }
     {
         match self.requests_of(liar, asks)? {

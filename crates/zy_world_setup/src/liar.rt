@@ -8,6 +8,7 @@ ghost use Rattle.zy_seal.specs.Sealing.{spent_one, signatures_by};
 ghost use Rattle.zy_seal.specs.declared.sealer.SealFault.{SealFault};
 ghost use Rattle.zy_world_setup.specs.Telling.{IsOrderable, IsToldBy};
 ghost use Rattle.zy_world_law.specs.Liars.{last_of, order_of, order_told, spec_of, spec_told};
+ghost use Rattle.zy_chain.specs.Answers.{FitsAnswers};
 
 use crate::frames::encoded;
 use std::alloc::Global;
@@ -50,7 +51,7 @@ pub fn spec_frame(
     reply: Bytes,
 ) -> Result<Bytes, SealFault>
     requires asks { IsOrderable view asks.now }
-    requires reply { length reply ≤ 1100 }
+    requires reply { FitsAnswers reply }
     ensures frame { IfOk result (λ bytes. IsToldBy (spec_told view reply asks.now) sealer.old (Some bytes)) }
     ensures spent_one { OnOk result (sealer.new ≡ spent_one sealer.old) }
     ensures spent { IsErrOf result SealFault.KeySpent ↔ (sealer.old.key.next ≡ signatures_by sealer.old.key.height) }
