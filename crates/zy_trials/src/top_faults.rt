@@ -19,6 +19,7 @@ fn exit_of(alloc: Global, words: &[&str], outside: &mut Outside) -> Result<Exit,
         &mut outside.out,
         &mut outside.link,
         &mut outside.clock,
+        &mut outside.disk,
     ))
 }
 
@@ -62,6 +63,7 @@ fn script_ends(alloc: Global, row: &ScriptRow) -> Result<(Exit, usize, bool), Wa
         files,
         sink,
         link: &[],
+        disk: &[],
         room,
     };
     let mut outside = outside_of(alloc, long_script(alloc)?, faults)?;

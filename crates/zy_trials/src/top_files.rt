@@ -1,5 +1,6 @@
 // The whole program over files that never fail, and a sink that takes all.
 
+use crate::outside::disk_of;
 use crate::texts::{repeated, strings, text_bytes};
 use std::alloc::Global;
 use std::test::Fail;
@@ -25,7 +26,10 @@ fn script_exit(alloc: Global, mut files: CalmFiles, name: &str) -> Result<Exit, 
     let mut link = MemLink::new(alloc, Vec::new(alloc), Vec::new(alloc), 0)?;
     let mut clock = MemClock::new(alloc, Vec::from_slice(alloc, &[0])?);
     let mut out = CalmSink::new();
-    Ok(zyzzyva(alloc, &words, &mut files, &mut out, &mut link, &mut clock))
+    let mut disk = disk_of(alloc, &[])?;
+    Ok(zyzzyva(
+        alloc, &words, &mut files, &mut out, &mut link, &mut clock, &mut disk,
+    ))
 }
 
 #[test]
