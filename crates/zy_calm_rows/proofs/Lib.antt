@@ -4,4 +4,4 @@ pub mod ReplicaRows
 pub mod ClientSlots
 pub mod ClientRows
 pub mod CommitRow
-pub mod Heard
+pub mod ReadAgain

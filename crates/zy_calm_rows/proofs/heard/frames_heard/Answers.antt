@@ -1,4 +1,4 @@
-use Rattle.zy_calm_rows.proofs.Heard.{client_heard, heard}
+use Rattle.zy_calm_rows.proofs.ReadAgain.{client_heard, heard}
 use Rattle.zy_calm_rows.proofs.heard.frames_heard.Goals as goal
 
 pub returns : goal.returns
