@@ -1,6 +1,10 @@
 pub mod Leads
 pub mod Queue
+pub mod Numbers
 pub mod Genuine
 pub mod Happens
 pub mod Round
+pub mod Asking
 pub mod Ordering
+pub mod Answering
+pub mod JustAsked

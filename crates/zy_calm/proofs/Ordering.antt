@@ -2,7 +2,7 @@
 use Rattle.std.proofs.Common.{◌≡◌, ◌⊎◌, inl, inr, ℕ, zero, suc, ◌+◌, ◌<◌, ◌≤◌, ◌^◌, Bool, true, false, ◌||◌, List, [], ◌∷◌, ◌++◌, length, map, replicate, cond, Option, Some, None, refl, sym, ap, ◌∙◌, subst, arith, append_assoc}
 use Rattle.std.proofs.lemmas.Bool.{cases_eq, eq-eqb, ne_eqb, or_parts}
 use Rattle.std.proofs.lemmas.List.{append-nil, length-append, map-append}
-use Rattle.std.specs.List.{AllByRecursion, filter, list_any}
+use Rattle.std.specs.List.{AllByRecursion, filter}
 use Rattle.std.specs.Prelude.{nat_eq, slice_get, if◌then◌else◌}
 use Rattle.zy_base.specs.Machine.{Rules}
 use Rattle.zy_base.specs.declared.ids.Party.{Party}
@@ -30,21 +30,9 @@ use Rattle.zy_world_law.specs.declared.note.Note.{Note}
 use Rattle.zy_world_law.specs.declared.note.Note.TheVariants.{Quiet}
 use Rattle.zy_calm.proofs.Happens.{DoHear, IsDelivery, IsReplicaNext, Left, replica_hears, still_hear}
 use Rattle.zy_calm.proofs.Leads.{Leads, already, flow_step, joined, one_event, same_run, weaken}
+use Rattle.zy_calm.proofs.Numbers.{AreDifferent, different_behind, is_in}
 use Rattle.zy_calm.proofs.Queue.{Frames, Hears}
 use Rattle.zy_calm.proofs.Round.{IsAt, IsReady, IsRound, Stand, answer, frame_of, order_after, order_frame, order_sent, order_taken, response, response_ready, weaker}
-
--- ---- numbers of replicas, no two the same
-
-abbrev pub is_in : List ℕ → ℕ → Bool
-is_in ids id = list_any (nat_eq id) ids
-
-abbrev pub AreDifferent : List ℕ → Type 0
-AreDifferent [] = Unit {0}
-AreDifferent (id ∷ ids) = (is_in ids id ≡ false) × AreDifferent ids
-
-pub different_behind : (front back : List ℕ) → AreDifferent (front ++ back) → AreDifferent back
-different_behind [] back are = are
-different_behind (id ∷ front) back are = different_behind front back are.1
 
 -- ---- seats
 

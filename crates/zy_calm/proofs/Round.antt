@@ -105,14 +105,14 @@ module _ {S : Type 0} (R : Rules S) (s : Setup) (p : Point S) (client : ℕ) (as
     pub accepted : AreAccepted (keys_of s) (parts_of (frame_of r))
 
   module _ (round : IsRound R s p client ask order) where
-    first_leads : (n : ℕ) → 1 ≤ n → nat_eq (0 % n) 0 ≡ true
-    first_leads n some = let first : 0 % n ≡ 0 = mod-eq_of_lt {a = 0} {b = n} some in eq-eqb (0 % n) 0 first
+    pub first_leads : (n : ℕ) → 1 ≤ n → nat_eq (0 % n) 0 ≡ true
+    first_leads n some = let first : 0 % n ≡ 0 = mod-eq_of_lt some in eq-eqb (0 % n) 0 first
 
     order_spelled : FitsFrame (frames.Order order_frame)
     unfolding FitsFrame
     order_spelled = (round.order_fits, round.ask_fits)
 
-    spec_spelled : spec_fields.Fits (calm_spec R p ask)
+    pub spec_spelled : spec_fields.Fits (calm_spec R p ask)
     unfolding spec_fields
     spec_spelled =
         let inside = round.next.inside in
@@ -123,7 +123,7 @@ module _ {S : Type 0} (R : Rules S) (s : Setup) (p : Point S) (client : ℕ) (as
           ((omega arith, omega arith), (next_long p.head (digest_of_entry (entry_of ask)), (length-sha256 (known_of R p (entry_of ask)).reply, (omega (arith, client_is, round.client_few), (omega arith, omega (arith, round.stamp_low)))))),
         )
 
-    leaves_are : (leaf : ℕ) (state : State S) (me : Party) → state.sealer ≡ sealer_of s me leaf → leaves_of state ≡ 2 ^ levels_of s.height - leaf
+    pub leaves_are : (leaf : ℕ) (state : State S) (me : Party) → state.sealer ≡ sealer_of s me leaf → leaves_of state ≡ 2 ^ levels_of s.height - leaf
     leaves_are leaf state me is = ap (λ (x : SealerState). 2 ^ levels_of x.key.height - x.key.next) is
 
     -- ---- an order at a live replica

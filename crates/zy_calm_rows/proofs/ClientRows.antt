@@ -60,7 +60,7 @@ late_local c vote idle = ap (λ (w : Option (Signed Ask)). local_while c w vote)
 -- the primary of the first view
 pub by_first : (c : ClientState) (o : Signed Order) → 1 ≤ c.counts.n → o.by ≡ Replica (record { 0 = 0 }) → o.stmt.view ≡ record { 0 = 0 } → is_by_primary c (Some o) ≡ true
 by_first c o some by view =
-    let first : 0 % c.counts.n ≡ 0 = mod-eq_of_lt {a = 0} {b = c.counts.n} some in
+    let first : 0 % c.counts.n ≡ 0 = mod-eq_of_lt some in
     ap (λ (v : View). is_primary_of c.counts v.0 o.by) view ∙ ap (λ (p : Party). is_primary_of c.counts 0 p) by ∙ eq-eqb (0 % c.counts.n) 0 first
 
 -- ---- a response

@@ -2,7 +2,7 @@
 use Rattle.std.proofs.Common.{◌≡◌, ℕ, zero, suc, ◌+◌, ◌<◌, ◌≤◌, Bool, true, false, List, [], ◌∷◌, length, get_or, set, take, cond, Option, Some, None, Ok, refl, sym, ap, ◌∙◌, subst, arith}
 use Rattle.std.proofs.lemmas.Bool.{cond-true, cond-false, le-ltb, ne_eqb, or_from}
 use Rattle.std.specs.List.{cons_option, filter_map, find}
-use Rattle.std.specs.Prelude.{is_some, count_by, nat_eq, nat_lt, not, ◌&&◌, Err, if◌then◌else◌}
+use Rattle.std.specs.Prelude.{is_some, count_by, nat_eq, nat_lt, not, ◌&&◌, Result, Err, if◌then◌else◌}
 use Rattle.zy_base.specs.declared.cause.Cause.{Cause}
 use Rattle.zy_base.specs.declared.cause.Cause.TheVariants as causes
 use Rattle.zy_base.specs.declared.ids.Digest.{Digest}
@@ -34,12 +34,19 @@ kept_more a id zero (Some x ∷ slots) r kept of = (subst (λ (n : ℕ). IsOf a 
 kept_more a id (suc i) (None ∷ slots) r kept of = kept_more a (suc id) i slots r kept (subst (λ (n : ℕ). IsOf a n r) (let e : id + suc i ≡ suc id + i = omega arith in e) of)
 kept_more a id (suc i) (Some x ∷ slots) r kept of = (kept.0, kept_more a (suc id) i slots r kept.1 (subst (λ (n : ℕ). IsOf a n r) (let e : id + suc i ≡ suc id + i = omega arith in e) of))
 
+pub counts : {A : Type 0} (p : A → Bool) (x : A) (xs : List A) → count_by p (x ∷ xs) ≡ cond (p x) 1 0 + count_by p xs
+counts p x xs = refl
+
 pub count_more : {A : Type 0} (slots : List (Option A)) (i : ℕ) (x : A) → i < length slots → get_or slots i None ≡ None → count_by is_some (set slots i (Some x)) ≡ count_by is_some slots + 1
 count_more [] i x inside free = absurd (omega arith)
-count_more (None ∷ slots) zero x inside free = omega arith
+count_more (None ∷ slots) zero x inside free = let e : 1 + count_by is_some slots ≡ 0 + count_by is_some slots + 1 = omega arith in e
 count_more (Some y ∷ slots) zero x inside free = absurd cc
-count_more (None ∷ slots) (suc i) x inside free = let rest = count_more slots i x (omega arith) free in omega (arith, rest)
-count_more (Some y ∷ slots) (suc i) x inside free = let rest = count_more slots i x (omega arith) free in omega (arith, rest)
+count_more (None ∷ slots) (suc i) x inside free =
+    let rest = count_more slots i x (omega arith) free in
+    let e : 0 + count_by is_some (set slots i (Some x)) ≡ 0 + count_by is_some slots + 1 = omega (arith, rest) in e
+count_more (Some y ∷ slots) (suc i) x inside free =
+    let rest = count_more slots i x (omega arith) free in
+    let e : 1 + count_by is_some (set slots i (Some x)) ≡ 1 + count_by is_some slots + 1 = omega (arith, rest) in e
 
 -- ---- all agree
 
@@ -49,11 +56,9 @@ module _ (a : Answered) where
 
   pub all_agree : (id : ℕ) (slots : List (Option Response)) → AreOf a id slots → count_by (agrees a.spec) slots ≡ count_by is_some slots
   all_agree id [] kept = refl
-  all_agree id (None ∷ slots) kept = let rest = all_agree (suc id) slots kept in omega (arith, rest)
+  all_agree id (None ∷ slots) kept = ap (λ (n : ℕ). 0 + n) (all_agree (suc id) slots kept)
   all_agree id (Some r ∷ slots) kept =
-      let rest = all_agree (suc id) slots kept.1 in
-      let one : cond (agrees a.spec (Some r)) 1 0 ≡ 1 = ap (λ (b : Bool). cond b 1 0) (agrees_one id r kept.0) in
-      omega (arith, rest, one)
+      ap (λ (b : Bool). cond b 1 0 + count_by (agrees a.spec) slots) (agrees_one id r kept.0) ∙ ap (λ (n : ℕ). 1 + n) (all_agree (suc id) slots kept.1)
 
   -- ---- no kept order contradicts the one order
 
@@ -99,12 +104,13 @@ module _ (a : Answered) where
 
   pub as_many : (id : ℕ) (slots : List (Option Response)) → AreOf a id slots → length (filter_map (equal_in a.spec) slots) ≡ count_by is_some slots
   as_many id [] kept = refl
-  as_many id (None ∷ slots) kept = let rest = as_many (suc id) slots kept in omega (arith, rest)
+  as_many id (None ∷ slots) kept =
+      let rest = as_many (suc id) slots kept in
+      let e : length (filter_map (equal_in a.spec) slots) ≡ 0 + count_by is_some slots = omega (arith, rest) in e
   as_many id (Some r ∷ slots) kept =
       let rest = as_many (suc id) slots kept.1 in
-      let one : length (cons_option (equal_in a.spec (Some r)) (filter_map (equal_in a.spec) slots)) ≡ suc (length (filter_map (equal_in a.spec) slots)) =
-      ap (λ (o : Option (Signed Spec)). length (cons_option o (filter_map (equal_in a.spec) slots))) (equal_one id r kept.0) in
-      omega (arith, rest, one)
+      ap (λ (o : Option (Signed Spec)). length (cons_option o (filter_map (equal_in a.spec) slots))) (equal_one id r kept.0)
+      ∙ (let e : suc (length (filter_map (equal_in a.spec) slots)) ≡ 1 + count_by is_some slots = omega (arith, rest) in e)
 
   pub rise_taken : (n id : ℕ) (list : List (Signed Spec)) → Rise id list → Rise id (take n list)
   rise_taken zero id list rise = tt
@@ -138,7 +144,7 @@ module _ (a : Answered) where
       let list = s ∷ more in
       let few : nat_lt (length list) count ≡ false = le-ltb (length list) count (omega arith) in
       let many : nat_lt count (length list) ≡ false = le-ltb count (length list) (omega arith) in
-      let fault = λ (x : Cause). Err {A = View × Place × Digest} x in
+      let fault : Cause → Result (View × Place × Digest) Cause = λ x. Err x in
       record {
         first = s;
         others = more;
@@ -163,8 +169,9 @@ module _ (a : Answered) where
 
   pub first_found : (test : Option Response → Bool) (id : ℕ) (slots : List (Option Response)) → AreOf a id slots → test None ≡ false
       → ((n : ℕ) (r : Response) → IsOf a n r → test (Some r) ≡ true) → 1 ≤ count_by is_some slots → IsFound (find test slots)
-  first_found test id [] kept none some enough = absurd (omega arith)
+  first_found test id [] kept none some enough = let e : 1 ≤ 0 = enough in absurd (omega arith)
   first_found test id (None ∷ slots) kept none some enough =
+      let e : 1 ≤ 0 + count_by is_some slots = enough in
       let more : 1 ≤ count_by is_some slots = omega arith in
       let rest = first_found test (suc id) slots kept none some more in
       record { response = rest.response; is = ap (λ (b : Bool). cond b (Some None) (find test slots)) none ∙ rest.is; stmt = rest.stmt; reply = rest.reply }

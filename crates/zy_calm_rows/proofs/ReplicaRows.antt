@@ -97,7 +97,7 @@ module _ {S : Type 0} (R : Rules S) (p : Point S) (s : State S) (calm : IsCalm R
         ap (λ (b : Bool). if b then refused causes.OldStamp s else (if nat_eq ask.stmt.stamp.0 known.stamp.0 then respond_again R s ask known else new_request R s ask)) tests.0
         ∙ ap (λ (b : Bool). if b then respond_again R s ask known else new_request R s ask) tests.1
 
-    order_is : order_of R s ask ≡ calm_order R p ask
+    pub order_is : order_of R s ask ≡ calm_order R p ask
     order_is =
         ap (λ (v : ℕ). ordering v (now_of R s.kept)) in_first_view ∙ ap (ordering 0) calm.now
       where

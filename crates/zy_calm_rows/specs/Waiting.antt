@@ -46,12 +46,12 @@ AreOf a id (None ∷ slots) = AreOf a (suc id) slots
 AreOf a id (Some r ∷ slots) = IsOf a id r × AreOf a (suc id) slots
 
 -- It waits for this request, and keeps so many responses, each of them the answer.
-pub record Awaits (c : ClientState) (ask : Signed Ask) (a : Answered) (count : ℕ) : Type 0 where
+pub record Awaits (c : ClientState) (ask : Signed Ask) (a : Answered) (number : ℕ) : Type 0 where
   pub waiting : c.waiting ≡ Some ask
   pub answer : IsAnswer c ask a
   pub slots : length c.responses ≡ c.counts.n
   pub kept : AreOf a 0 c.responses
-  pub count : count_by is_some c.responses ≡ count
+  pub count : count_by is_some c.responses ≡ number
   pub commit : c.commit ≡ None
 
 -- responses that make a certificate of the answer, the first of them first
