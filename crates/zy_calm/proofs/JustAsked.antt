@@ -44,7 +44,7 @@ none_kept a (suc n) id = none_kept a n (suc id)
 
 none_counted : {A : Type 0} (n : ℕ) → count_by is_some (replicate n (None {A = A})) ≡ 0
 none_counted zero = refl
-none_counted (suc n) = let rest = none_counted n in omega (arith, rest)
+none_counted (suc n) = none_counted n
 
 module _ {S : Type 0} (R : Rules S) (s : Setup) (p : Point S) (client stamp leaf : ℕ) (op : List ℕ) (may : MayRun R s p client stamp leaf op) (c : ClientState) (of : IsClientOf s client stamp c) (idle : c.waiting ≡ None) where
   abbrev pub ask : Signed Ask

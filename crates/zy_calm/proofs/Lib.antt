@@ -8,3 +8,4 @@ pub mod Asking
 pub mod Ordering
 pub mod Answering
 pub mod JustAsked
+pub mod Between

@@ -1,6 +1,6 @@
 -- The numbers of live replicas, no two the same.
-use Rattle.std.proofs.Common.{◌≡◌, ℕ, zero, suc, ◌+◌, ◌<◌, ◌≤◌, Bool, true, false, ◌||◌, List, [], ◌∷◌, ◌++◌, length, map, cond, refl, sym, ap, ◌∙◌, subst, arith}
-use Rattle.std.proofs.lemmas.Bool.{ne_eqb, or_from, or_parts}
+use Rattle.std.proofs.Common.{◌≡◌, ◌⊎◌, inl, inr, ℕ, zero, suc, ◌+◌, ◌<◌, ◌≤◌, Bool, true, false, List, [], ◌∷◌, ◌++◌, cond, refl, sym, ap, ◌∙◌, subst, arith}
+use Rattle.std.proofs.lemmas.Bool.{cases_eq, eq-eqb, eqb-true, ne_eqb, or_cases, or_from, or_left, or_right, true≢false}
 use Rattle.std.specs.List.{AllByRecursion, filter, list_any, range_with_len}
 use Rattle.std.specs.Prelude.{nat_eq, if◌then◌else◌}
 
@@ -97,3 +97,28 @@ pub backups_live : (is_live : ℕ → Bool) (n : ℕ) → AllByRecursion (λ id.
 backups_live is_live n =
     filter_all (λ id. id < n) is_live (filter not_first (range_with_len 0 n))
     (all_second (λ id. not_first id ≡ true) (λ id. id < n) (filter not_first (range_with_len 0 n)) (filter_all (λ id. id < n) not_first (range_with_len 0 n) (range_below 0 n n (omega arith))))
+
+-- ---- who is among them
+
+filter_has : (p : ℕ → Bool) (id : ℕ) (ids : List ℕ) → p id ≡ true → is_in ids id ≡ true → is_in (filter p ids) id ≡ true
+filter_has p id [] passes there = there
+filter_has p id (j ∷ ids) passes there = go (p j) refl (or_cases (nat_eq id j) (is_in ids id) there)
+  where
+    go : (b : Bool) → p j ≡ b → (nat_eq id j ≡ true) ⊎ (is_in ids id ≡ true) → is_in (cond b (j ∷ filter p ids) (filter p ids)) id ≡ true
+    go true is (inl first) = or_left (nat_eq id j) (is_in (filter p ids) id) first
+    go true is (inr later) = or_right (nat_eq id j) (is_in (filter p ids) id) (filter_has p id ids passes later)
+    go false is (inl first) = absurd (let same : p id ≡ p j = ap p (eqb-true id j first) in let wrong : true ≡ false = sym passes ∙ same ∙ is in true≢false wrong)
+    go false is (inr later) = filter_has p id ids passes later
+
+range_has : (id a n : ℕ) → a ≤ id → id < a + n → is_in (range_with_len a n) id ≡ true
+range_has id a zero above below = absurd (omega arith)
+range_has id a (suc n) above below = go (cases_eq id a)
+  where
+    go : (id ≡ a) ⊎ (id ≡ a → ⊥) → is_in (range_with_len a (suc n)) id ≡ true
+    go (inl same) = or_left (nat_eq id a) (is_in (range_with_len (a + 1) n) id) (eq-eqb id a same)
+    go (inr other) = or_right (nat_eq id a) (is_in (range_with_len (a + 1) n) id) (range_has id (a + 1) n (omega (arith, other)) (omega arith))
+
+pub among_backups : (is_live : ℕ → Bool) (n id : ℕ) → is_live id ≡ true → id < n → (id ≡ 0 → ⊥) → is_in (backups is_live n) id ≡ true
+among_backups is_live n id live inside other =
+    filter_has is_live id (filter not_first (range_with_len 0 n)) live
+    (filter_has not_first id (range_with_len 0 n) (ap (λ (b : Bool). if b then false else true) (ne_eqb id 0 other)) (range_has id 0 n (omega arith) (omega (arith, inside))))

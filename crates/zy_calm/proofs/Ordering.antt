@@ -32,7 +32,7 @@ use Rattle.zy_calm.proofs.Happens.{DoHear, IsDelivery, IsReplicaNext, Left, repl
 use Rattle.zy_calm.proofs.Leads.{Leads, already, flow_step, joined, one_event, same_run, weaken}
 use Rattle.zy_calm.proofs.Numbers.{AreDifferent, different_behind, is_in}
 use Rattle.zy_calm.proofs.Queue.{Frames, Hears}
-use Rattle.zy_calm.proofs.Round.{IsAt, IsReady, IsRound, Stand, answer, frame_of, order_after, order_frame, order_sent, order_taken, response, response_ready, weaker}
+use Rattle.zy_calm.proofs.Round.{IsAt, IsReady, IsRound, Stand, answer, frame_of, order_after, order_frame, order_sent, order_taken, moved, response, response_ready}
 
 -- ---- seats
 
@@ -162,7 +162,7 @@ module _ {S : Type 0} (R : Rules S) (s : Setup) where
         goes_on_so v next left =
             record {
               hear = still_hear hears w v id _ here.replica is.hear here.there next;
-              stand = all_step is_live before after w v id todo _ here.replica gone here.there next (weaker (order_after R s p client ask order round before refl id inside here.replica.state here.is left_leaves) (omega arith)) is.stand;
+              stand = all_step is_live before after w v id todo _ here.replica gone here.there next (moved _ after (order_after R s p client ask order round before refl id inside here.replica.state here.is left_leaves) refl (omega arith) (omega arith)) is.stand;
               live = is.live.1;
               different = subst AreDifferent (numbers_more todo answers (id, gets)) is.different;
               left = left ∙ ap (map world.mail_to) (sends_more todo answers (id, gets));

@@ -32,6 +32,7 @@ use Rattle.zy_parts.specs.Statements.{ask_fields, order_fields, spec_fields}
 use Rattle.zy_parts.specs.declared.signed.Part.{Part}
 use Rattle.zy_parts.specs.declared.signed.Signed.{Signed}
 use Rattle.zy_parts.specs.declared.statements.Ask.{Ask}
+use Rattle.zy_parts.specs.declared.statements.Local.{Local}
 use Rattle.zy_parts.specs.declared.statements.Order.{Order}
 use Rattle.zy_parts.specs.declared.statements.Spec.{Spec}
 use Rattle.zy_seal.specs.Keys.{Keys}
@@ -65,10 +66,24 @@ pub record IsAt {S : Type 0} (R : Rules S) (s : Setup) (at : Stand S) (id : ℕ)
   pub spent : leaf ≤ at.leaves
   pub locals : AllByRecursion (λ said. said.stmt.place.0 ≤ at.told) state.locals
 
--- more leaves may be spent
-pub weaker : {S : Type 0} {R : Rules S} {s : Setup} {p : Point S} {few more told id : ℕ} {state : State S} → IsAt R s (record { point = p; leaves = few; told = told }) id state → few ≤ more → IsAt R s (record { point = p; leaves = more; told = told }) id state
-weaker is less =
-    record { calm = is.calm; me = is.me; counts = is.counts; keys = is.keys; interval = is.interval; leaf = is.leaf; sealer = is.sealer; spent = (let e : is.leaf ≤ more = omega (arith, is.spent, less) in e); locals = is.locals }
+all_up_to : (few more : ℕ) (locals : List (Signed Local)) → few ≤ more → AllByRecursion (λ said. said.stmt.place.0 ≤ few) locals → AllByRecursion (λ said. said.stmt.place.0 ≤ more) locals
+all_up_to few more [] less all = tt
+all_up_to few more (said ∷ locals) less all = ((let e : said.stmt.place.0 ≤ more = omega (arith, less, all.0) in e), all_up_to few more locals less all.1)
+
+-- more leaves may be spent, and more local commits said
+pub moved : {S : Type 0} {R : Rules S} {s : Setup} {id : ℕ} {state : State S} (at to : Stand S) → IsAt R s at id state → at.point ≡ to.point → at.leaves ≤ to.leaves → at.told ≤ to.told → IsAt R s to id state
+moved {state = state} at to is same leaves told =
+    record {
+      calm = subst (λ (q : Point _). rows.IsCalm _ q state) same is.calm;
+      me = is.me;
+      counts = is.counts;
+      keys = is.keys;
+      interval = is.interval;
+      leaf = is.leaf;
+      sealer = is.sealer;
+      spent = (let e : is.leaf ≤ to.leaves = omega (arith, is.spent, leaves) in e);
+      locals = all_up_to at.told to.told state.locals told is.locals;
+    }
 
 -- a request of a client and its order, where the replicas stand at this point
 pub record IsRound {S : Type 0} (R : Rules S) (s : Setup) (p : Point S) (client : ℕ) (ask : Signed Ask) (order : Signed Order) : Type 0 where

@@ -1,7 +1,8 @@
 -- The responses that a waiting client keeps in a calm run.
 use Rattle.std.proofs.Common.{◌≡◌, ℕ, zero, suc, ◌+◌, ◌<◌, ◌≤◌, Bool, true, false, List, [], ◌∷◌, length, get_or, set, take, cond, Option, Some, None, Ok, refl, sym, ap, ◌∙◌, subst, arith}
 use Rattle.std.proofs.lemmas.Bool.{cond-true, cond-false, le-ltb, ne_eqb, or_from}
-use Rattle.std.specs.List.{cons_option, filter_map, find}
+use Rattle.std.proofs.lemmas.List.Sums.{sum_by-cons, sum_by-set}
+use Rattle.std.specs.List.{cons_option, filter_map, find, sum_by}
 use Rattle.std.specs.Prelude.{is_some, count_by, nat_eq, nat_lt, not, ◌&&◌, Result, Err, if◌then◌else◌}
 use Rattle.zy_base.specs.declared.cause.Cause.{Cause}
 use Rattle.zy_base.specs.declared.cause.Cause.TheVariants as causes
@@ -35,18 +36,14 @@ kept_more a id (suc i) (None ∷ slots) r kept of = kept_more a (suc id) i slots
 kept_more a id (suc i) (Some x ∷ slots) r kept of = (kept.0, kept_more a (suc id) i slots r kept.1 (subst (λ (n : ℕ). IsOf a n r) (let e : id + suc i ≡ suc id + i = omega arith in e) of))
 
 pub counts : {A : Type 0} (p : A → Bool) (x : A) (xs : List A) → count_by p (x ∷ xs) ≡ cond (p x) 1 0 + count_by p xs
-counts p x xs = refl
+counts p x xs = sum_by-cons (λ y. cond (p y) 1 0) x xs
 
 pub count_more : {A : Type 0} (slots : List (Option A)) (i : ℕ) (x : A) → i < length slots → get_or slots i None ≡ None → count_by is_some (set slots i (Some x)) ≡ count_by is_some slots + 1
-count_more [] i x inside free = absurd (omega arith)
-count_more (None ∷ slots) zero x inside free = let e : 1 + count_by is_some slots ≡ 0 + count_by is_some slots + 1 = omega arith in e
-count_more (Some y ∷ slots) zero x inside free = absurd cc
-count_more (None ∷ slots) (suc i) x inside free =
-    let rest = count_more slots i x (omega arith) free in
-    let e : 0 + count_by is_some (set slots i (Some x)) ≡ 0 + count_by is_some slots + 1 = omega (arith, rest) in e
-count_more (Some y ∷ slots) (suc i) x inside free =
-    let rest = count_more slots i x (omega arith) free in
-    let e : 1 + count_by is_some (set slots i (Some x)) ≡ 1 + count_by is_some slots + 1 = omega (arith, rest) in e
+count_more {A} slots i x inside free =
+    let f : Option A → ℕ = λ o. cond (is_some o) 1 0 in
+    let set_is : sum_by f (set slots i (Some x)) + f (get_or slots i None) ≡ sum_by f slots + 1 = sum_by-set f slots i (Some x) None inside in
+    let was : f (get_or slots i None) ≡ f None = ap f free in
+    omega (arith, set_is, was)
 
 -- ---- all agree
 
@@ -56,9 +53,12 @@ module _ (a : Answered) where
 
   pub all_agree : (id : ℕ) (slots : List (Option Response)) → AreOf a id slots → count_by (agrees a.spec) slots ≡ count_by is_some slots
   all_agree id [] kept = refl
-  all_agree id (None ∷ slots) kept = ap (λ (n : ℕ). 0 + n) (all_agree (suc id) slots kept)
+  all_agree id (None ∷ slots) kept = all_agree (suc id) slots kept
   all_agree id (Some r ∷ slots) kept =
-      ap (λ (b : Bool). cond b 1 0 + count_by (agrees a.spec) slots) (agrees_one id r kept.0) ∙ ap (λ (n : ℕ). 1 + n) (all_agree (suc id) slots kept.1)
+      counts (agrees a.spec) (Some r) slots
+      ∙ ap (λ (b : Bool). cond b 1 0 + count_by (agrees a.spec) slots) (agrees_one id r kept.0)
+      ∙ ap (λ (n : ℕ). 1 + n) (all_agree (suc id) slots kept.1)
+      ∙ sym (counts is_some (Some r) slots)
 
   -- ---- no kept order contradicts the one order
 
@@ -104,13 +104,12 @@ module _ (a : Answered) where
 
   pub as_many : (id : ℕ) (slots : List (Option Response)) → AreOf a id slots → length (filter_map (equal_in a.spec) slots) ≡ count_by is_some slots
   as_many id [] kept = refl
-  as_many id (None ∷ slots) kept =
-      let rest = as_many (suc id) slots kept in
-      let e : length (filter_map (equal_in a.spec) slots) ≡ 0 + count_by is_some slots = omega (arith, rest) in e
+  as_many id (None ∷ slots) kept = as_many (suc id) slots kept
   as_many id (Some r ∷ slots) kept =
       let rest = as_many (suc id) slots kept.1 in
       ap (λ (o : Option (Signed Spec)). length (cons_option o (filter_map (equal_in a.spec) slots))) (equal_one id r kept.0)
       ∙ (let e : suc (length (filter_map (equal_in a.spec) slots)) ≡ 1 + count_by is_some slots = omega (arith, rest) in e)
+      ∙ sym (counts is_some (Some r) slots)
 
   pub rise_taken : (n id : ℕ) (list : List (Signed Spec)) → Rise id list → Rise id (take n list)
   rise_taken zero id list rise = tt
@@ -171,9 +170,7 @@ module _ (a : Answered) where
       → ((n : ℕ) (r : Response) → IsOf a n r → test (Some r) ≡ true) → 1 ≤ count_by is_some slots → IsFound (find test slots)
   first_found test id [] kept none some enough = let e : 1 ≤ 0 = enough in absurd (omega arith)
   first_found test id (None ∷ slots) kept none some enough =
-      let e : 1 ≤ 0 + count_by is_some slots = enough in
-      let more : 1 ≤ count_by is_some slots = omega arith in
-      let rest = first_found test (suc id) slots kept none some more in
+      let rest = first_found test (suc id) slots kept none some enough in
       record { response = rest.response; is = ap (λ (b : Bool). cond b (Some None) (find test slots)) none ∙ rest.is; stmt = rest.stmt; reply = rest.reply }
   first_found test id (Some r ∷ slots) kept none some enough =
       record { response = r; is = ap (λ (b : Bool). cond b (Some (Some r)) (find test slots)) (some id r kept.0); stmt = kept.0.stmt; reply = kept.0.reply }

@@ -1,0 +1,200 @@
+-- One request is served on the fast path.
+use Rattle.std.proofs.Common.{◌≡◌, ◌⊎◌, inl, inr, ℕ, zero, suc, ◌+◌, ◌-◌, ◌*◌, ◌<◌, ◌≤◌, ◌^◌, Bool, true, false, not, ◌&&◌, List, [], ◌∷◌, ◌++◌, length, map, replicate, cond, get_or, Option, Some, None, refl, sym, ap, ◌∙◌, subst, arith, append-nil, append_assoc}
+use Rattle.std.proofs.lemmas.Bool.{cases_eq}
+use Rattle.std.proofs.lemmas.List.{length-append, replicate-append-replicate}
+use Rattle.std.proofs.lemmas.List.Elements.{filter-append}
+use Rattle.std.proofs.lemmas.List.Sums.{count_by-le-length}
+use Rattle.std.specs.List.{AllByRecursion, filter, range_with_len}
+use Rattle.std.specs.Prelude.{is_some, count_by, nat_eq, slice_get, if◌then◌else◌}
+use Rattle.zy_admit.specs.Judging.{entry_of}
+use Rattle.zy_base.specs.Machine.{Rules}
+use Rattle.zy_base.specs.declared.cause.Cause.TheVariants as causes
+use Rattle.zy_base.specs.declared.ids.ClientId.{ClientId}
+use Rattle.zy_base.specs.declared.ids.Party.{Party}
+use Rattle.zy_base.specs.declared.ids.Party.TheVariants.{Client, Replica}
+use Rattle.zy_base.specs.declared.step.Answer.TheVariants.{Taken}
+use Rattle.zy_calm_rows.proofs.ClientSlots.{counts}
+use Rattle.zy_calm_rows.specs.Calm as rows
+use Rattle.zy_calm_rows.specs.Outcomes.{ordered_calmly}
+use Rattle.zy_calm_rows.specs.Waiting.{Awaits}
+use Rattle.zy_chain.specs.declared.entry.Entry.{Entry}
+use Rattle.zy_exec.specs.Replay.{Point, known_of, origin, step}
+use Rattle.zy_exec.specs.declared.known.Known.{Known}
+use Rattle.zy_frames.specs.Frames.{spelling}
+use Rattle.zy_frames.specs.declared.frame.Frame.TheVariants as frames
+use Rattle.zy_lms.specs.Height.{levels_of}
+use Rattle.zy_parts.specs.declared.signed.Signed.{Signed}
+use Rattle.zy_parts.specs.declared.statements.Ask.{Ask}
+use Rattle.zy_parts.specs.declared.statements.Order.{Order}
+use Rattle.zy_schedule.specs.declared.line.Line.{Line}
+use Rattle.zy_table.specs.ClientRows.{asked, kept_of, next_ask}
+use Rattle.zy_table.specs.ClientState.{ClientState, client_outgoing, is_waiting}
+use Rattle.zy_table.specs.Deeds.{others, outgoing_of}
+use Rattle.zy_table.specs.Sending.{copies}
+use Rattle.zy_table.specs.State.{State}
+use Rattle.zy_table.specs.declared.client.Path.TheVariants.{Fast}
+use Rattle.zy_table.specs.declared.client.Response.{Response}
+use Rattle.zy_tuple.specs.Bytes.{op_bytes}
+use Rattle.zy_world_law.specs.Events.{client_note, happens}
+use Rattle.zy_world_law.specs.Runs.{Rest, Run, flow, goes_on, run}
+use Rattle.zy_world_law.specs.Setup.{Setup}
+use Rattle.zy_world_law.specs.World as world
+use Rattle.zy_world_law.specs.World.{World, client_at, correct_in, replica_at}
+use Rattle.zy_world_law.specs.declared.event.WorldEvent.TheVariants as events
+use Rattle.zy_world_law.specs.declared.note.Note.{Note}
+use Rattle.zy_world_law.specs.declared.note.Note.TheVariants as notes
+use Rattle.zy_world_law.specs.declared.note.Note.TheVariants.{Quiet}
+use Rattle.zy_calm.proofs.Answering as answering
+use Rattle.zy_calm.proofs.Answering.{IsClientOf, all_answered, new_client, same_client}
+use Rattle.zy_calm.proofs.Asking.{MayRun, asked_for, given, heard_copies, is_round, own_ready, own_response, request_after, request_sent, request_taken}
+use Rattle.zy_calm.proofs.Between.{AreUpTo, IsAsker, IsBetween, IsIdle, asked_as_before, asked_once_more, is_live, newer_than, place_after, point_after, point_next, stand_at, state_along}
+use Rattle.zy_calm.proofs.Happens.{DoHear, IsClientNext, IsDelivery, IsReplicaNext, Left, client_asks, replica_hears, still_hear, still_hear_client}
+use Rattle.zy_calm.proofs.JustAsked.{after_ask, ask_sent, asks_so, awaits_first, of_after_ask}
+use Rattle.zy_calm.proofs.Leads.{Leads, MayCome, already, flow_ends, flow_step, joined, one_event, same_run, weaken}
+use Rattle.zy_calm.proofs.Numbers.{AreDifferent, all_different, among_backups, backups, backups_behind, backups_live, is_in, live}
+use Rattle.zy_calm.proofs.Ordering.{AllStand, IsOrdered, IsOrdering, Stands, all_ordered, new_replica, stand_of, stands_anew, stands_still}
+use Rattle.zy_calm.proofs.Queue.{Frames, Hears, none_next}
+use Rattle.zy_calm.proofs.Round.{IsAt, IsReady, IsRound, Stand, answer, frame_of, moved, order_frame}
+use Rattle.zy_calm.specs.Asks.{CalmAsk}
+use Rattle.zy_calm.specs.Calm.{IsCalmAsk}
+use Rattle.zy_calm.specs.Entries.{asked_in, done_at, entry_after}
+use Rattle.zy_calm.specs.Notes.{notes_of}
+
+-- where nothing is counted nothing is kept
+none_at : {A : Type 0} (slots : List (Option A)) (i : ℕ) → count_by is_some slots ≡ 0 → get_or slots i None ≡ None
+none_at [] i none = refl
+none_at (None ∷ slots) zero none = refl
+none_at (None ∷ slots) (suc i) none = none_at slots i none
+none_at (Some x ∷ slots) i none = absurd (let e : 1 + count_by is_some slots ≡ 0 = sym (counts is_some (Some x) slots) ∙ none in omega (arith, e))
+
+all_free : (c : ClientState) (answers : List (ℕ × Response)) → count_by is_some c.responses ≡ 0 → AllByRecursion (λ x. kept_of c x.0 ≡ None) answers
+all_free c [] none = tt
+all_free c (x ∷ answers) none = (none_at c.responses x.0 none, all_free c answers none)
+
+-- what a machine has to be
+pub record IsMachine {S : Type 0} (R : Rules S) (is_state : S → Type 0) : Type 0 where
+  pub starts : is_state R.initial
+  pub stays : (q : S) (client : ClientId) (op : List ℕ) → is_state q → is_state (R.next q client op)
+  pub short : (q : S) (client : ClientId) (op : List ℕ) → is_state q → length (R.reply q client op) ≤ 1100
+
+-- what a setup has to be, and who hears
+pub record IsFit (s : Setup) (hears : Hears) : Type 0 where
+  pub some : 1 ≤ s.counts.n
+  pub few : s.counts.n ≤ 16
+  pub clients : s.clients ≤ 64
+  pub small : s.interval ≤ 32
+  pub first : hears (Replica (record { 0 = 0 })) ≡ true
+  pub fast : 1 ≤ s.counts.fast
+
+module _ {S : Type 0} (R : Rules S) (s : Setup) (hears : Hears) (fit : IsFit s hears) (is_state : S → Type 0) (machine : IsMachine R is_state) where
+  abbrev count : ℕ
+  count = length (live (is_live R s hears) s.counts.n)
+
+  module _ (a : CalmAsk) (before : List Entry) (calm : IsCalmAsk s a) (asker : IsAsker R s hears a.client.0) (inside : length before + 1 < s.interval)
+      (leaves : 3 * (length before + 1) ≤ 2 ^ levels_of s.height) (up_to : AreUpTo R before) where
+    abbrev client : ℕ
+    client = a.client.0
+
+    abbrev stamp : ℕ
+    stamp = asked_in a.client before
+
+    abbrev p : Point S
+    p = point_after R before
+
+    abbrev op : List ℕ
+    op = op_bytes a.op
+
+    abbrev ask : Signed Ask
+    ask = asked_for R s p client stamp 0 op
+
+    few_asked : stamp ≤ length before
+    few_asked = count_by-le-length (λ e. nat_eq e.client.0 a.client.0) before
+
+    may_run : (leaf : ℕ) → leaf ≤ 3 * length before → MayRun R s p client stamp leaf op
+    may_run leaf low =
+        record {
+          some = fit.some;
+          few = fit.few;
+          clients = fit.clients;
+          client = calm.client;
+          stamp_low = omega (arith, few_asked, inside, fit.small);
+          stamp_left = omega (arith, few_asked, leaves);
+          leaf_left = omega (arith, low, leaves);
+          op_short = calm.op;
+          next = record {
+            inside = (let e : p.place + 1 < s.interval = omega (arith, place_after R before, inside) in e);
+            small = fit.small;
+            newer = newer_than stamp _ (up_to a.client);
+          };
+          reply = machine.short p.state a.client op (state_along R is_state machine.stays (origin R) before machine.starts);
+        }
+
+    -- ---- the request is on its way
+
+    pub record IsAsked (w : World S) : Type 0 where
+      pub hear : DoHear hears w
+      pub stand : (id : ℕ) → is_live R s hears id ≡ true → id < s.counts.n → Stands R s w (stand_at R s hears before) id
+      pub primary : Stands R s w (stand_at R s hears before) 0
+      pub asking : world.Client
+      pub there : client_at w client ≡ Some asking
+      pub of : IsClientOf s client (stamp + 1) asking.state
+      pub awaits : Awaits asking.state ask (answer R s p client ask (given R s p client stamp primary.is.leaf op)) 0
+      pub others : (id : ℕ) → IsAsker R s hears id → (id ≡ client → ⊥) → IsIdle R s hears (client_at w id) id (asked_in (record { 0 = id }) before)
+      pub left : Left hears w ((Replica (record { 0 = 0 }), spelling (frames.Request ask)) ∷ [])
+
+    same_stand : (w v : World S) (at : Stand S) (id : ℕ) → v.replicas ≡ w.replicas → Stands R s w at id → Stands R s v at id
+    same_stand w v at id same stands = record { replica = stands.replica; there = ap (λ (l : List (Option (world.Replica S))). correct_in (slice_get l id)) same ∙ stands.there; is = stands.is }
+
+    asked_next : (w : World S) → IsBetween R s hears w before → MayCome (happens R w (events.Ask a.client op)) Quiet IsAsked
+    asked_next w between =
+        let idle = between.clients client asker in
+        let c = idle.client.state in
+        let first = between.stand 0 fit.first fit.some in
+        let may = may_run first.is.leaf first.is.spent in
+        let o = asked c (next_ask c op) in
+        let note : client_note a.client (if is_waiting c.waiting then (if is_waiting o.state.waiting then None else o.state.done) else None) Taken ≡ Quiet =
+          ap (λ (waits : Option (Signed Ask)). client_note a.client (if is_waiting waits then (if is_waiting o.state.waiting then None else o.state.done) else None) Taken) idle.waits in
+        subst (λ (n : Note). MayCome (happens R w (events.Ask a.client op)) n IsAsked) note
+        (weaken (client_asks R hears w client op [] idle.client o between.left idle.there (asks_so R s p client stamp first.is.leaf op may c idle.of idle.waits))
+        (λ v both.
+          let next = both.0 in
+          record {
+            hear = still_hear_client hears w v client o.state idle.client between.hear idle.there next;
+            stand = λ id live inside_n. same_stand w v (stand_at R s hears before) id next.replicas (between.stand id live inside_n);
+            primary = same_stand w v (stand_at R s hears before) 0 next.replicas first;
+            asking = next.client;
+            there = new_client w v client o.state idle.client idle.there next;
+            of = subst (IsClientOf s client (stamp + 1)) (sym next.state) (of_after_ask R s p client stamp first.is.leaf op may c idle.of idle.waits);
+            awaits = subst (λ (d : ClientState). Awaits d ask (answer R s p client ask (given R s p client stamp first.is.leaf op)) 0) (sym next.state) (awaits_first R s p client stamp first.is.leaf op may c idle.of idle.waits);
+            others = λ id is_asker other. subst (λ (x : Option world.Client). IsIdle R s hears x id (asked_in (record { 0 = id }) before)) (sym (same_client w v client id o.state next other)) (between.clients id is_asker);
+            left = both.1 ∙ ap (map world.mail_to) (ask_sent R s p client stamp first.is.leaf op may c idle.of idle.waits hears fit.first);
+          }))
+
+    -- ---- the primary orders it
+
+    module _ (leaf : ℕ) (low : leaf ≤ 3 * length before) where
+      abbrev order : Signed Order
+      order = given R s p client stamp leaf op
+
+      round : IsRound R s p client ask order
+      round = is_round R s p client stamp leaf op (may_run leaf low)
+
+      room : 3 * length before + 2 ≤ 2 ^ levels_of s.height
+      room = omega (arith, leaves)
+
+      -- the clients, as they are until an answer comes
+      pub record IsWaitedFor (clients : List (Option world.Client)) : Type 0 where
+        pub asking : world.Client
+        pub there : correct_in (slice_get clients client) ≡ Some asking
+        pub of : IsClientOf s client (stamp + 1) asking.state
+        pub awaits : Awaits asking.state ask (answer R s p client ask order) 0
+        pub others : (id : ℕ) → IsAsker R s hears id → (id ≡ client → ⊥) → IsIdle R s hears (correct_in (slice_get clients id)) id (asked_in (record { 0 = id }) before)
+
+      abbrev the_backups : List ℕ
+      the_backups = backups (is_live R s hears) s.counts.n
+
+      abbrev own : Response
+      own = own_response R s p client stamp leaf op (may_run leaf low) (stand_at R s hears before) refl
+
+      abbrev Ordering : World S → List ℕ → List (ℕ × Response) → Type 0
+      Ordering = IsOrdering R s hears (is_live R s hears) client p ask order round (3 * length before) (length before) room (λ id is inside_n. is) asker.1 IsWaitedFor
