@@ -43,13 +43,13 @@ use Rattle.zy_calm.proofs.Queue.{Frames, Hears}
 use Rattle.zy_calm.proofs.Round.{IsReady, IsRound, answer, frame_of}
 
 -- a client of the setup in the first view, with so many requests asked for
-pub record IsClientOf (s : Setup) (id stamp : ℕ) (c : ClientState) : Type 0 where
+pub record IsClientOf (s : Setup) (id number : ℕ) (c : ClientState) : Type 0 where
   pub me : c.me ≡ record { 0 = id }
   pub counts : c.counts ≡ s.counts
   pub keys : c.keys ≡ keys_of s
   pub view : c.known_view ≡ record { 0 = 0 }
-  pub stamp : c.stamp ≡ record { 0 = stamp }
-  pub sealer : c.sealer ≡ sealer_of s (Client (record { 0 = id })) stamp
+  pub stamp : c.stamp ≡ record { 0 = number }
+  pub sealer : c.sealer ≡ sealer_of s (Client (record { 0 = id })) number
 
 pub same_client : {S : Type 0} (w v : World S) (id j : ℕ) (state : ClientState) → IsClientNext w v id state → (j ≡ id → ⊥) → client_at v j ≡ client_at w j
 same_client w v id j state next other =
@@ -135,10 +135,10 @@ module _ {S : Type 0} (R : Rules S) (s : Setup) (hears : Hears) (client stamp : 
           number = d.number;
           next = d.next;
           comes =
-            subst (λ (n : Note). MayCome _ n Holds) told
-            (weaken d.comes (λ v both. leads v both.0 (both.1
-            ∙ ap (λ (l : Frames). map world.mail_to (map answer_from answers ++ filter (λ z. hears z.0) l)) nothing
-            ∙ ap (map world.mail_to) (append-nil (map answer_from answers)))));
+              subst (λ (n : Note). MayCome _ n Holds) told
+              (weaken d.comes (λ v both. leads v both.0 (both.1
+              ∙ ap (λ (l : Frames). map world.mail_to (map answer_from answers ++ filter (λ z. hears z.0) l)) nothing
+              ∙ ap (map world.mail_to) (append-nil (map answer_from answers)))));
         }
 
   -- ---- while it waits
@@ -210,7 +210,7 @@ module _ {S : Type 0} (R : Rules S) (s : Setup) (hears : Hears) (client stamp : 
         client' = next.client;
         there = new_client w v client after is.client' is.there next;
         of = subst (IsClientOf s client stamp) (sym next.state)
-          (record { me = is.of.me; counts = is.of.counts; keys = is.of.keys; view = ap (λ (x : Spec). x.view) got.of.stmt; stamp = is.of.stamp; sealer = is.of.sealer });
+            (record { me = is.of.me; counts = is.of.counts; keys = is.of.keys; view = ap (λ (x : Spec). x.view) got.of.stmt; stamp = is.of.stamp; sealer = is.of.sealer });
         idle = ap (λ (d : ClientState). d.waiting) next.state;
       })
 

@@ -23,7 +23,6 @@ use Rattle.zy_chain.specs.Entries.{digest_of_entry}
 use Rattle.zy_exec.specs.Replay.{Point, known_of, step}
 use Rattle.zy_frames.specs.Frames.{FitsFrame, parts_of, spelling}
 use Rattle.zy_frames.specs.declared.frame.Frame.TheVariants as frames
-use Rattle.zy_law_steps.proofs.Sizes.{digest_long, next_long}
 use Rattle.zy_lms.specs.Height.{levels_of}
 use Rattle.zy_parts.specs.Numbers as numbers
 use Rattle.zy_parts.specs.Signing.{part_of, signed}
@@ -43,7 +42,7 @@ use Rattle.zy_table.specs.State.{State, is_primary, leaves_of, own_view}
 use Rattle.zy_table.specs.Whole.{whole_step}
 use Rattle.zy_table.specs.declared.client.Response.{Response}
 use Rattle.zy_world_law.specs.Setup.{Setup, keys_of, sealer_of}
-use Rattle.zy_calm.proofs.Genuine.{accepted, is_accepted, is_spelled}
+use Rattle.zy_calm.proofs.Genuine.{accepted, digest_long, is_accepted, is_spelled, next_long}
 use Rattle.zy_calm.proofs.Queue.{Frames}
 use Rattle.zy_calm.proofs.Round.{IsAt, IsReady, IsRound, Stand, answer, frame_of, leaves_are, order_frame, spec_spelled}
 
@@ -61,12 +60,21 @@ module _ {S : Type 0} (R : Rules S) (s : Setup) (p : Point S) (client stamp leaf
   abbrev pub given : Signed Order
   given = sealed_by numbers.order order_fields (sealer_of s (Replica (record { 0 = 0 })) leaf) (calm_order R p asked_for)
 
+  -- the primary's own response
+  abbrev pub own_response : Response
+  own_response =
+      record {
+        spec = sealed_by numbers.spec spec_fields (sealer_of s (Replica (record { 0 = 0 })) (leaf + 1)) (calm_spec R p asked_for);
+        reply = (known_of R p (entry_of asked_for)).reply;
+        order = Some given;
+      }
+
   -- what has to hold so that it runs
   pub record MayRun : Type 0 where
     pub some : 1 ≤ s.counts.n
     pub few : s.counts.n ≤ 16
     pub clients : s.clients ≤ 64
-    pub client : client < s.clients
+    pub member : client < s.clients
     pub stamp_low : stamp + 1 ≤ 64
     pub stamp_left : stamp < 2 ^ levels_of s.height
     pub leaf_left : leaf < 2 ^ levels_of s.height
@@ -93,17 +101,28 @@ module _ {S : Type 0} (R : Rules S) (s : Setup) (p : Point S) (client stamp leaf
         record {
           some = may.some;
           few = may.few;
-          client_few = omega (arith, may.client, may.clients);
+          client_few = omega (arith, may.member, may.clients);
           stamp_low = may.stamp_low;
           next = may.next;
           reply = may.reply;
           asked_by = refl;
-          ask_fits = is_spelled s by_client stamp may.stamp_left numbers.ask ask_fields new_ask may.client (omega (arith, may.client, may.clients)) ask_spelled;
-          ask_accepted = is_accepted s by_client stamp may.stamp_left numbers.ask ask_fields new_ask may.client;
+          ask_fits = is_spelled s by_client stamp may.stamp_left numbers.ask ask_fields new_ask may.member (omega (arith, may.member, may.clients)) ask_spelled;
+          ask_accepted = is_accepted s by_client stamp may.stamp_left numbers.ask ask_fields new_ask may.member;
           ordered_by = refl;
           ordered = refl;
           order_fits = is_spelled s by_first leaf may.leaf_left numbers.order order_fields (calm_order R p asked_for) may.some (omega arith) order_spelled;
           order_accepted = is_accepted s by_first leaf may.leaf_left numbers.order order_fields (calm_order R p asked_for) may.some;
+        }
+
+    pub own_ready : leaf + 1 < 2 ^ levels_of s.height → IsReady R s p client asked_for given 0 own_response
+    unfolding FitsFrame
+    own_ready low =
+        let party = Replica (record { 0 = 0 }) in
+        record {
+          inside = may.some;
+          of = record { by = refl; stmt = refl; reply = refl; order = refl };
+          fits = (is_spelled s party (leaf + 1) low numbers.spec spec_fields (calm_spec R p asked_for) may.some (omega arith) (spec_spelled R s p client asked_for given is_round), (may.reply, is_round.order_fits));
+          accepted = (is_accepted s party (leaf + 1) low numbers.spec spec_fields (calm_spec R p asked_for) may.some, (is_round.order_accepted, tt));
         }
 
     -- ---- the request at the primary
@@ -158,34 +177,14 @@ module _ {S : Type 0} (R : Rules S) (s : Setup) (p : Point S) (client stamp leaf
           ap (λ (x : Order). sealed_by numbers.order order_fields state.sealer x) (order_is R p state calm_here asked_for next_here)
           ∙ ap (λ (x : SealerState). sealed_by numbers.order order_fields x (calm_order R p asked_for)) (is.sealer ∙ ap (sealer_of s (Replica (record { 0 = 0 }))) its)
 
-      -- its own response
-      abbrev pub own_response : Response
-      own_response =
-          record {
-            spec = sealed_by numbers.spec spec_fields (sealer_of s (Replica (record { 0 = 0 })) (leaf + 1)) (calm_spec R p asked_for);
-            reply = (known_of R p (entry_of asked_for)).reply;
-            order = Some given;
-          }
-
-      pub own_ready : leaf + 1 < 2 ^ levels_of s.height → IsReady R s p client asked_for given 0 own_response
-      unfolding FitsFrame
-      own_ready low =
-          let party = Replica (record { 0 = 0 }) in
-          record {
-            inside = may.some;
-            of = record { by = refl; stmt = refl; reply = refl; order = refl };
-            fits = (is_spelled s party (leaf + 1) low numbers.spec spec_fields (calm_spec R p asked_for) may.some (omega arith) (spec_spelled R s p client asked_for given is_round), (may.reply, is_round.order_fits));
-            accepted = (is_accepted s party (leaf + 1) low numbers.spec spec_fields (calm_spec R p asked_for) may.some, (is_round.order_accepted, tt));
-          }
-
       -- what it sends: the order to all others, and its response
       pub request_sent : (m n : ℕ) → outgoing_of m n (ordered_calmly R p state asked_for).deeds.sent
           ≡ copies (spelling (frames.Order (order_frame R s p client asked_for given))) (others m n) ++ (Client (record { 0 = client }), spelling (frame_of R s p client asked_for given own_response)) ∷ []
       request_sent m n =
           ap (λ (o : Signed Order). copies (spelling (frames.Order (record { order = o; ask = asked_for }))) (others m n)
-            ++ (Client (record { 0 = client }), spelling (frames.SpecResponse (sealed_by numbers.spec spec_fields (spent_one state.sealer) (calm_spec R p asked_for)) (known_of R p (entry_of asked_for)).reply (Some o))) ∷ []) order_given
+          ++ (Client (record { 0 = client }), spelling (frames.SpecResponse (sealed_by numbers.spec spec_fields (spent_one state.sealer) (calm_spec R p asked_for)) (known_of R p (entry_of asked_for)).reply (Some o))) ∷ []) order_given
           ∙ ap (λ (x : SealerState). copies (spelling (frames.Order (order_frame R s p client asked_for given))) (others m n)
-            ++ (Client (record { 0 = client }), spelling (frames.SpecResponse (sealed_by numbers.spec spec_fields (spent_one x) (calm_spec R p asked_for)) (known_of R p (entry_of asked_for)).reply (Some given))) ∷ [])
+          ++ (Client (record { 0 = client }), spelling (frames.SpecResponse (sealed_by numbers.spec spec_fields (spent_one x) (calm_spec R p asked_for)) (known_of R p (entry_of asked_for)).reply (Some given))) ∷ [])
           (is.sealer ∙ ap (sealer_of s (Replica (record { 0 = 0 }))) its)
 
 -- ---- who of all gets a frame
@@ -194,11 +193,11 @@ module _ (hears : Party → Bool) (bytes : List ℕ) where
   abbrev pub to_replica : ℕ → Party × List ℕ
   to_replica id = (Replica (record { 0 = id }), bytes)
 
+  heard_one : (id : ℕ) (frames : Frames) (ids : List ℕ) (b : Bool) → frames ≡ map to_replica ids → cond b (to_replica id ∷ frames) frames ≡ map to_replica (cond b (id ∷ ids) ids)
+  heard_one id frames ids true same = ap (λ (l : Frames). to_replica id ∷ l) same
+  heard_one id frames ids false same = same
+
   pub heard_copies : (ids : List ℕ) → filter (λ z. hears z.0) (copies bytes (map (λ id. Replica (record { 0 = id })) ids)) ≡ map to_replica (filter (λ id. hears (Replica (record { 0 = id }))) ids)
   heard_copies [] = refl
-  heard_copies (id ∷ ids) = go (hears (Replica (record { 0 = id })))
-    where
-      go : (b : Bool) → cond b (to_replica id ∷ filter (λ z. hears z.0) (copies bytes (map (λ j. Replica (record { 0 = j })) ids))) (filter (λ z. hears z.0) (copies bytes (map (λ j. Replica (record { 0 = j })) ids)))
-          ≡ map to_replica (cond b (id ∷ filter (λ j. hears (Replica (record { 0 = j }))) ids) (filter (λ j. hears (Replica (record { 0 = j }))) ids))
-      go true = ap (λ (l : Frames). to_replica id ∷ l) (heard_copies ids)
-      go false = heard_copies ids
+  heard_copies (id ∷ ids) =
+      heard_one id (filter (λ z. hears z.0) (copies bytes (map (λ j. Replica (record { 0 = j })) ids))) (filter (λ j. hears (Replica (record { 0 = j }))) ids) (hears (Replica (record { 0 = id }))) (heard_copies ids)

@@ -7,16 +7,22 @@ use Rattle.std.specs.List.{AllByRecursion, list_any, range_with_len}
 use Rattle.std.specs.Prelude.{slice_get, if◌then◌else◌}
 use Rattle.zy_base.specs.declared.cause.Cause.{Cause}
 use Rattle.zy_base.specs.declared.cause.Cause.TheVariants as causes
+use Rattle.zy_base.specs.declared.ids.Digest.{Digest}
 use Rattle.zy_base.specs.declared.ids.Party.{Party}
 use Rattle.zy_base.specs.declared.ids.Party.TheVariants.{Client, Replica}
-use Rattle.zy_law_steps.proofs.Sizes.{sealed_fits}
+use Rattle.sha2.specs.Sha256.{sha256}
+use Rattle.zy_chain.specs.Entries.{digest_of_entry, digest_of_request}
+use Rattle.zy_chain.specs.Heads.{head_after}
+use Rattle.zy_chain.specs.declared.entry.Entry.{Entry}
 use Rattle.zy_lms.proofs.LmsLemmas.{VerifiesAs-signature}
 use Rattle.zy_lms.proofs.VerifiedLemmas.{Decides-verified}
 use Rattle.zy_lms.specs.Height.{levels_of}
+use Rattle.zy_lms.specs.KeyState.{IsKey}
 use Rattle.zy_lms.specs.Lms.{public_of, signature_of, verified}
 use Rattle.zy_parts.specs.Signing.{part_of, signed, text_of}
 use Rattle.zy_parts.specs.declared.signed.Part.{Part}
 use Rattle.zy_parts.specs.declared.signed.Signed.{Signed}
+use Rattle.zy_seal.proofs.SealedLemmas.{IsSealed-sealed_by}
 use Rattle.zy_seal.specs.Checking.{answer_under}
 use Rattle.zy_seal.specs.Keys.{Keys, key_of}
 use Rattle.zy_seal.specs.Screening.{answer_to, is_bad, is_unknown, screen}
@@ -42,6 +48,16 @@ accepted keys parts all =
     ap (λ (b : Bool). if b then Some causes.UnknownParty else (if list_any (λ part. is_bad (answer_to keys part)) parts then Some causes.BadSignature else None)) (none_such keys is_unknown refl parts all)
     ∙ ap (λ (b : Bool). if b then Some causes.BadSignature else None) (none_such keys is_bad refl parts all)
 
+-- ---- heads and digests
+
+pub next_long : (head digest : Digest) → length (head_after head digest).0 ≡ 32
+unfolding head_after
+next_long head digest = length-sha256 _
+
+pub digest_long : (e : Entry) → length (digest_of_entry e).0 ≡ 32
+unfolding digest_of_request
+digest_long e = length-sha256 _
+
 -- ---- what a party signs
 
 get_map : {A : Type 0} (f : ℕ → A) (from n i : ℕ) → i < n → slice_get (map f (range_with_len from n)) i ≡ Some (f (from + i))
@@ -65,11 +81,14 @@ module _ (s : Setup) where
     unfolding public_of
     same_key = refl
 
+    id_long : length (key_of_party s party leaf).id ≡ 16
+    id_long = length-take-le 16 (sha256 (2 ∷ s.seed ++ party_bytes party)) (omega (arith, length-sha256 (2 ∷ s.seed ++ party_bytes party)))
+
     verifies : (text : List ℕ) → verified (public_key_of s party) text (signature_of (key_of_party s party leaf) text) ≡ true
     verifies text =
         let key = key_of_party s party leaf in
         ap (λ (public : List ℕ). verified public text (signature_of key text)) same_key
-        ∙ (Decides-verified (public_of key) text (signature_of key text)).1 (s.height, s.ots, VerifiesAs-signature key text (length-take-le 16 _ (omega (arith, length-sha256 (2 ∷ s.seed ++ party_bytes party)))) left)
+        ∙ (Decides-verified (public_of key) text (signature_of key text)).1 (s.height, s.ots, VerifiesAs-signature key text id_long left)
 
     module _ {A : Type 0} (number : ℕ) (fields : Spelling A) (stmt : A) (member : IsMember party) where
       pub is_accepted : answer_to (keys_of s) (part_of number fields (sealed_by number fields (sealer_of s party leaf) stmt)) ≡ Yes
@@ -80,4 +99,8 @@ module _ (s : Setup) where
           ∙ ap (λ (b : Bool). if b then Yes else BadSignature) (verifies text)
 
       pub is_spelled : IsParty party → fields.Fits stmt → (signed fields).Fits (sealed_by number fields (sealer_of s party leaf) stmt)
-      is_spelled by fits = sealed_fits number fields (sealer_of s party leaf) stmt stmt by fits
+      unfolding signed
+      is_spelled by fits =
+          let key = key_of_party s party leaf in
+          let is_key : IsKey key = record { id_len = id_long; within = (let e : leaf ≤ 2 ^ levels_of s.height = omega (arith, left) in e) } in
+          (by, (fits, (IsSealed-sealed_by number fields (sealer_of s party leaf) stmt is_key left).short))

@@ -8,6 +8,7 @@ use Rattle.zy_base.specs.declared.ids.ClientId.{ClientId}
 use Rattle.zy_base.specs.declared.ids.Digest.{Digest}
 use Rattle.zy_base.specs.declared.ids.Party.{Party}
 use Rattle.zy_base.specs.declared.ids.Party.TheVariants.{Client, Replica}
+use Rattle.zy_base.specs.declared.ids.ReplicaId.{ReplicaId}
 use Rattle.zy_base.specs.declared.step.Event.{Event}
 use Rattle.zy_base.specs.declared.step.Event.TheVariants.{Heard, Timer}
 use Rattle.zy_base.specs.declared.step.TimerKind.TheVariants as timers
@@ -19,12 +20,12 @@ use Rattle.zy_table.specs.Whole.{whole_step}
 use Rattle.zy_world_law.proofs.Seats.{get_set, get_set_other, seat_of}
 use Rattle.zy_world_law.specs.Events.Broken.{Clash, Forged}
 use Rattle.zy_world_law.specs.Events.Happened.{Breaks, Goes}
-use Rattle.zy_world_law.specs.Events.{Happened, ask_in, bring_to_client, bring_to_replica, client_goes, client_note, client_timer_in, completed_by, deliver, go_with, happens, replica_goes, replica_note, unless_forged}
+use Rattle.zy_world_law.specs.Events.{Happened, ask_in, bring_to_client, bring_to_replica, client_goes, client_note, client_stepped, client_timer_in, completed_by, deliver, go_with, happens, replica_goes, replica_note, stepped, unless_forged, with_client, with_done, with_replica}
 use Rattle.zy_world_law.specs.Honest.{forger_in}
 use Rattle.zy_world_law.specs.Setup.{Setup}
-use Rattle.zy_world_law.specs.Texts.{texts_in}
+use Rattle.zy_world_law.specs.Texts.{keep_all, step_texts, texts_in}
 use Rattle.zy_world_law.specs.World as world
-use Rattle.zy_world_law.specs.World.{Mail, Texts, World, client_at, correct_in, delivered, is_correct, is_told, mail_at, mail_to, next_undelivered, replica_at, texts_said}
+use Rattle.zy_world_law.specs.World.{Mail, Texts, World, client_at, correct_in, delivered, is_correct, is_told, mail_at, mail_to, next_undelivered, replica_at, texts_said, with_sent}
 use Rattle.zy_world_law.specs.declared.event.WorldEvent.TheVariants as events
 use Rattle.zy_world_law.specs.declared.note.Note.{Note}
 use Rattle.zy_calm.proofs.Leads.{Comes, MayCome}
@@ -45,6 +46,7 @@ sits_still seats i j x y there = go (cases_eq j i)
   where
     seat : slice_get seats i ≡ Some (Some y)
     seat = seat_of (slice_get seats i) y there
+
     go : (j ≡ i) ⊎ (j ≡ i → ⊥) → sits (slice_get (slice_set seats i (Some x)) j) ≡ sits (slice_get seats j)
     go (inl same) =
         ap (λ (k : ℕ). sits (slice_get (slice_set seats i (Some x)) k)) same
@@ -68,19 +70,19 @@ module _ {S : Type 0} where
   correct_client w id = told_map _ (client_at w id)
 
   -- what a step of a replica leaves of a world
-  pub record IsReplicaNext (w v : World S) (id : ℕ) (state : State S) : Type 0 where
+  pub record IsReplicaNext (w v : World S) (id : ℕ) (after : State S) : Type 0 where
     pub replica : world.Replica S
     pub replicas : v.replicas ≡ slice_set w.replicas id (Some replica)
-    pub state : replica.state ≡ state
+    pub state : replica.state ≡ after
     pub clients : v.clients ≡ w.clients
     pub muted : v.muted ≡ w.muted
     pub setup : v.setup ≡ w.setup
 
   -- and one of a client
-  pub record IsClientNext (w v : World S) (id : ℕ) (state : ClientState) : Type 0 where
+  pub record IsClientNext (w v : World S) (id : ℕ) (after : ClientState) : Type 0 where
     pub client : world.Client
     pub clients : v.clients ≡ slice_set w.clients id (Some client)
-    pub state : client.state ≡ state
+    pub state : client.state ≡ after
     pub replicas : v.replicas ≡ w.replicas
     pub muted : v.muted ≡ w.muted
     pub setup : v.setup ≡ w.setup
@@ -119,6 +121,13 @@ module _ {S : Type 0} where
   same_happened h g note Holds same (inl broken) = inl (broken.0, same ∙ broken.1)
   same_happened h g note Holds same (inr comes) = inr (record { world = comes.world; goes = same ∙ comes.goes; holds = comes.holds })
 
+  -- how a world changes by the step of a replica, and by that of a client
+  abbrev replica_change : ReplicaId → world.Replica S → Event → Outcome S → World S → World S
+  replica_change id x event o v = with_sent (with_replica v id (stepped v.texts event x o)) (outgoing_of o.state.me.0 o.state.counts.n o.deeds.sent)
+
+  abbrev client_change : ClientId → world.Client → ClientOutcome → World S → World S
+  client_change id x o v = with_done (with_sent (with_client v id (client_stepped x o)) (client_outgoing o.state.counts.n o.sent)) id (completed_by x.state o.state)
+
   module _ (R : Rules S) (hears : Hears) (w : World S) where
     -- ---- the next frame reaches its party
 
@@ -149,7 +158,7 @@ module _ {S : Type 0} where
         → replica_at w id ≡ Some x → whole_step R x.state (Heard bytes) ≡ o
         → IsDelivery (replica_note (record { 0 = id }) o.answer) (λ v. IsReplicaNext w v id o.state × Left hears v (others ++ filter (λ z. hears z.0) (outgoing_of o.state.me.0 o.state.counts.n o.deeds.sent)))
     replica_hears id bytes others x o hear left there step =
-        let y = (Replica (record { 0 = id }), bytes) in
+        let y : Party × List ℕ = (Replica (record { 0 = id }), bytes) in
         let next = next_left hears y others w.bag left in
         let note = replica_note (record { 0 = id }) o.answer in
         let sent = outgoing_of o.state.me.0 o.state.counts.n o.deeds.sent in
@@ -160,22 +169,22 @@ module _ {S : Type 0} where
           number = next.before + 1;
           next = next_is hears w hear y others next;
           comes =
-            same_happened _ _ note Holds
-            (delivered_is y others next
-            ∙ ap (bring_to_replica R w at (record { 0 = id }) bytes) seat
-            ∙ ap (λ (made : Outcome S). unless_forged (forger_in w bytes) (replica_goes at (record { 0 = id }) x (texts_in bytes) (Heard bytes) made)) step)
-            (unforged (forger_in w bytes) _ note Holds
-            (kept at _ note Holds _ (λ t. (
-              record { replica = _; replicas = refl; state = refl; clients = refl; muted = refl; setup = refl },
-              more_left hears at.bag others sent (left_marked y others next),
-            ))));
+              same_happened _ _ note Holds
+              (delivered_is y others next
+              ∙ ap (bring_to_replica R w at (record { 0 = id }) bytes) seat
+              ∙ ap (λ (made : Outcome S). unless_forged (forger_in w bytes) (replica_goes at (record { 0 = id }) x (texts_in bytes) (Heard bytes) made)) step)
+              (unforged (forger_in w bytes) _ note Holds
+              (kept at (replica_change (record { 0 = id }) x (Heard bytes) o) note Holds (keep_all (texts_in bytes ++ step_texts o.deeds.acts) at.texts) (λ t. (
+                record { replica = stepped t (Heard bytes) x o; replicas = refl; state = refl; clients = refl; muted = refl; setup = refl },
+                more_left hears at.bag others sent (left_marked y others next),
+              ))));
         }
 
     pub client_hears : (id : ℕ) (bytes : List ℕ) (others : Frames) (x : world.Client) (o : ClientOutcome) → DoHear hears w → Left hears w ((Client (record { 0 = id }), bytes) ∷ others)
         → client_at w id ≡ Some x → client_step x.state (Heard bytes) ≡ o
         → IsDelivery (client_note (record { 0 = id }) (completed_by x.state o.state) o.answer) (λ v. IsClientNext w v id o.state × Left hears v (others ++ filter (λ z. hears z.0) (client_outgoing o.state.counts.n o.sent)))
     client_hears id bytes others x o hear left there step =
-        let y = (Client (record { 0 = id }), bytes) in
+        let y : Party × List ℕ = (Client (record { 0 = id }), bytes) in
         let next = next_left hears y others w.bag left in
         let note = client_note (record { 0 = id }) (completed_by x.state o.state) o.answer in
         let sent = client_outgoing o.state.counts.n o.sent in
@@ -186,15 +195,15 @@ module _ {S : Type 0} where
           number = next.before + 1;
           next = next_is hears w hear y others next;
           comes =
-            same_happened _ _ note Holds
-            (delivered_is y others next
-            ∙ ap (bring_to_client w at (record { 0 = id }) bytes) seat
-            ∙ ap (λ (made : ClientOutcome). unless_forged (forger_in w bytes) (client_goes at (record { 0 = id }) x (texts_in bytes) made)) step)
-            (unforged (forger_in w bytes) _ note Holds
-            (kept at _ note Holds _ (λ t. (
-              record { client = _; clients = refl; state = refl; replicas = refl; muted = refl; setup = refl },
-              more_left hears at.bag others sent (left_marked y others next),
-            ))));
+              same_happened _ _ note Holds
+              (delivered_is y others next
+              ∙ ap (bring_to_client w at (record { 0 = id }) bytes) seat
+              ∙ ap (λ (made : ClientOutcome). unless_forged (forger_in w bytes) (client_goes at (record { 0 = id }) x (texts_in bytes) made)) step)
+              (unforged (forger_in w bytes) _ note Holds
+              (kept at (client_change (record { 0 = id }) x o) note Holds (keep_all (texts_in bytes) at.texts) (λ t. (
+                record { client = client_stepped x o; clients = refl; state = refl; replicas = refl; muted = refl; setup = refl },
+                more_left hears at.bag others sent (left_marked y others next),
+              ))));
         }
 
     -- ---- a client asks, or its timer runs out
@@ -210,7 +219,7 @@ module _ {S : Type 0} where
         let seat : slice_get w.clients id ≡ Some (Some x) = seat_of (slice_get w.clients id) x there in
         same_happened _ _ note Holds
         (ap (ask_in w (record { 0 = id }) op) seat ∙ ap (client_goes w (record { 0 = id }) x []) step)
-        (kept w _ note Holds _ (λ t. (record { client = _; clients = refl; state = refl; replicas = refl; muted = refl; setup = refl }, more_left hears w.bag others sent left)))
+        (kept w (client_change (record { 0 = id }) x o) note Holds (keep_all [] w.texts) (λ t. (record { client = client_stepped x o; clients = refl; state = refl; replicas = refl; muted = refl; setup = refl }, more_left hears w.bag others sent left)))
 
     pub client_timer_runs_out : (id : ℕ) (others : Frames) (x : world.Client) (o : ClientOutcome) → Left hears w others → client_at w id ≡ Some x → client_step x.state (Timer timers.Answer) ≡ o
         → MayCome (happens R w (events.Timer (Client (record { 0 = id })) timers.Answer)) (client_note (record { 0 = id }) (completed_by x.state o.state) o.answer)
@@ -223,4 +232,4 @@ module _ {S : Type 0} where
         let seat : slice_get w.clients id ≡ Some (Some x) = seat_of (slice_get w.clients id) x there in
         same_happened _ _ note Holds
         (ap (client_timer_in w (record { 0 = id }) timers.Answer) seat ∙ ap (client_goes w (record { 0 = id }) x []) step)
-        (kept w _ note Holds _ (λ t. (record { client = _; clients = refl; state = refl; replicas = refl; muted = refl; setup = refl }, more_left hears w.bag others sent left)))
+        (kept w (client_change (record { 0 = id }) x o) note Holds (keep_all [] w.texts) (λ t. (record { client = client_stepped x o; clients = refl; state = refl; replicas = refl; muted = refl; setup = refl }, more_left hears w.bag others sent left)))

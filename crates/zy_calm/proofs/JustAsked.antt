@@ -42,7 +42,10 @@ none_kept : (a : Answered) (n id : ℕ) → AreOf a id (replicate n None)
 none_kept a zero id = tt
 none_kept a (suc n) id = none_kept a n (suc id)
 
-none_counted : {A : Type 0} (n : ℕ) → count_by is_some (replicate n (None {A = A})) ≡ 0
+abbrev no_slots : ℕ → List (Option Response)
+no_slots n = replicate n None
+
+none_counted : (n : ℕ) → count_by is_some (no_slots n) ≡ 0
 none_counted zero = refl
 none_counted (suc n) = none_counted n
 

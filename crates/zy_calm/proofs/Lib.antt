@@ -9,3 +9,4 @@ pub mod Ordering
 pub mod Answering
 pub mod JustAsked
 pub mod Between
+pub mod Serving

@@ -29,13 +29,13 @@ range_rises : (a n : ℕ) → Rise a (range_with_len a n)
 range_rises a zero = tt
 range_rises a (suc n) = ((let e : a ≤ a = omega arith in e), lower (suc a) (a + 1) (range_with_len (a + 1) n) (omega arith) (range_rises (a + 1) n))
 
+filter_rise : (low id : ℕ) (ids : List ℕ) (b : Bool) → low ≤ id → Rise (suc id) ids → Rise low (cond b (id ∷ ids) ids)
+filter_rise low id ids true above rise = (above, rise)
+filter_rise low id ids false above rise = lower low (suc id) ids (omega arith) rise
+
 filter_rises : (p : ℕ → Bool) (low : ℕ) (ids : List ℕ) → Rise low ids → Rise low (filter p ids)
 filter_rises p low [] rise = tt
-filter_rises p low (id ∷ ids) rise = go (p id)
-  where
-    go : (b : Bool) → Rise low (cond b (id ∷ filter p ids) (filter p ids))
-    go true = (rise.0, filter_rises p (suc id) ids rise.1)
-    go false = lower low (suc id) (filter p ids) (omega (arith, rise.0)) (filter_rises p (suc id) ids rise.1)
+filter_rises p low (id ∷ ids) rise = filter_rise low id (filter p ids) (p id) rise.0 (filter_rises p (suc id) ids rise.1)
 
 below_none : (j low : ℕ) (ids : List ℕ) → j < low → Rise low ids → is_in ids j ≡ false
 below_none j low [] less rise = refl
@@ -77,13 +77,13 @@ module _ (is_live : ℕ → Bool) (first : is_live 0 ≡ true) where
 
 -- ---- each of them passes, and is a replica's
 
+filter_one : (P : ℕ → Type 0) (p : ℕ → Bool) (id : ℕ) (ids : List ℕ) (b : Bool) → p id ≡ b → P id → AllByRecursion (λ j. (p j ≡ true) × P j) ids → AllByRecursion (λ j. (p j ≡ true) × P j) (cond b (id ∷ ids) ids)
+filter_one P p id ids true is one all = ((is, one), all)
+filter_one P p id ids false is one all = all
+
 pub filter_all : (P : ℕ → Type 0) (p : ℕ → Bool) (ids : List ℕ) → AllByRecursion P ids → AllByRecursion (λ id. (p id ≡ true) × P id) (filter p ids)
 filter_all P p [] all = tt
-filter_all P p (id ∷ ids) all = go (p id) refl
-  where
-    go : (b : Bool) → p id ≡ b → AllByRecursion (λ j. (p j ≡ true) × P j) (cond b (id ∷ filter p ids) (filter p ids))
-    go true is = ((is, all.0), filter_all P p ids all.1)
-    go false is = filter_all P p ids all.1
+filter_all P p (id ∷ ids) all = filter_one P p id (filter p ids) (p id) refl all.0 (filter_all P p ids all.1)
 
 pub range_below : (a n m : ℕ) → a + n ≤ m → AllByRecursion (λ id. id < m) (range_with_len a n)
 range_below a zero m within = tt
@@ -100,23 +100,28 @@ backups_live is_live n =
 
 -- ---- who is among them
 
+filter_has_one : (p : ℕ → Bool) (id j : ℕ) (ids : List ℕ) (b : Bool) → p j ≡ b → p id ≡ true → (nat_eq id j ≡ true) ⊎ (is_in ids id ≡ true) → is_in (cond b (j ∷ ids) ids) id ≡ true
+filter_has_one p id j ids true is passes (inl first) = or_left (nat_eq id j) (is_in ids id) first
+filter_has_one p id j ids true is passes (inr later) = or_right (nat_eq id j) (is_in ids id) later
+filter_has_one p id j ids false is passes (inl first) = absurd (let same : p id ≡ p j = ap p (eqb-true id j first) in let wrong : true ≡ false = sym passes ∙ same ∙ is in true≢false wrong)
+filter_has_one p id j ids false is passes (inr later) = later
+
+kept_in : (p : ℕ → Bool) (id j : ℕ) (ids : List ℕ) → (is_in ids id ≡ true → is_in (filter p ids) id ≡ true) → (nat_eq id j ≡ true) ⊎ (is_in ids id ≡ true) → (nat_eq id j ≡ true) ⊎ (is_in (filter p ids) id ≡ true)
+kept_in p id j ids later (inl first) = inl first
+kept_in p id j ids later (inr there) = inr (later there)
+
 filter_has : (p : ℕ → Bool) (id : ℕ) (ids : List ℕ) → p id ≡ true → is_in ids id ≡ true → is_in (filter p ids) id ≡ true
 filter_has p id [] passes there = there
-filter_has p id (j ∷ ids) passes there = go (p j) refl (or_cases (nat_eq id j) (is_in ids id) there)
-  where
-    go : (b : Bool) → p j ≡ b → (nat_eq id j ≡ true) ⊎ (is_in ids id ≡ true) → is_in (cond b (j ∷ filter p ids) (filter p ids)) id ≡ true
-    go true is (inl first) = or_left (nat_eq id j) (is_in (filter p ids) id) first
-    go true is (inr later) = or_right (nat_eq id j) (is_in (filter p ids) id) (filter_has p id ids passes later)
-    go false is (inl first) = absurd (let same : p id ≡ p j = ap p (eqb-true id j first) in let wrong : true ≡ false = sym passes ∙ same ∙ is in true≢false wrong)
-    go false is (inr later) = filter_has p id ids passes later
+filter_has p id (j ∷ ids) passes there =
+    filter_has_one p id j (filter p ids) (p j) refl passes (kept_in p id j ids (filter_has p id ids passes) (or_cases (nat_eq id j) (is_in ids id) there))
+
+range_has_one : (id a n : ℕ) → (id ≡ a) ⊎ (id ≡ a → ⊥) → ((id ≡ a → ⊥) → is_in (range_with_len (a + 1) n) id ≡ true) → is_in (range_with_len a (suc n)) id ≡ true
+range_has_one id a n (inl same) later = or_left (nat_eq id a) (is_in (range_with_len (a + 1) n) id) (eq-eqb id a same)
+range_has_one id a n (inr other) later = or_right (nat_eq id a) (is_in (range_with_len (a + 1) n) id) (later other)
 
 range_has : (id a n : ℕ) → a ≤ id → id < a + n → is_in (range_with_len a n) id ≡ true
 range_has id a zero above below = absurd (omega arith)
-range_has id a (suc n) above below = go (cases_eq id a)
-  where
-    go : (id ≡ a) ⊎ (id ≡ a → ⊥) → is_in (range_with_len a (suc n)) id ≡ true
-    go (inl same) = or_left (nat_eq id a) (is_in (range_with_len (a + 1) n) id) (eq-eqb id a same)
-    go (inr other) = or_right (nat_eq id a) (is_in (range_with_len (a + 1) n) id) (range_has id (a + 1) n (omega (arith, other)) (omega arith))
+range_has id a (suc n) above below = range_has_one id a n (cases_eq id a) (λ other. range_has id (a + 1) n (omega (arith, other)) (omega arith))
 
 pub among_backups : (is_live : ℕ → Bool) (n id : ℕ) → is_live id ≡ true → id < n → (id ≡ 0 → ⊥) → is_in (backups is_live n) id ≡ true
 among_backups is_live n id live inside other =

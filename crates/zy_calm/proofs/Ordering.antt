@@ -172,8 +172,8 @@ module _ {S : Type 0} (R : Rules S) (s : Setup) where
 
         delivery : IsDelivery R hears w Quiet Next
         delivery = done_by (replica_hears R hears w id (spelling (frames.Order (order_frame R s p client ask order))) (map order_to todo ++ map answer_from answers) here.replica
-          (taken_calmly R p here.replica.state (order_frame R s p client ask order)) is.hear is.left here.there
-          (order_taken R s p client ask order round before refl id inside here.replica.state here.is left_leaves))
+            (taken_calmly R p here.replica.state (order_frame R s p client ask order)) is.hear is.left here.there
+            (order_taken R s p client ask order round before refl id inside here.replica.state here.is left_leaves))
           where
             done_by : IsDelivery R hears w Quiet (λ v. IsReplicaNext w v id (taken_calmly R p here.replica.state (order_frame R s p client ask order)).state × Left hears v ((map order_to todo ++ map answer_from answers) ++ filter (λ z. hears z.0) (outgoing_of (taken_calmly R p here.replica.state (order_frame R s p client ask order)).state.me.0 (taken_calmly R p here.replica.state (order_frame R s p client ask order)).state.counts.n (taken_calmly R p here.replica.state (order_frame R s p client ask order)).deeds.sent)))
                 → IsDelivery R hears w Quiet Next

@@ -31,33 +31,45 @@ pub record IsNext (hears : Hears) (bag : List Mail) (x : Party × List ℕ) (oth
   pub left : filter (is_left hears) (slice_set bag before (brought x)) ≡ map mail_to others
 
 module _ (hears : Hears) (x : Party × List ℕ) (others : Frames) where
+  at_first : (m : Mail) (bag : List Mail) → is_left hears m ≡ true → m ∷ filter (is_left hears) bag ≡ map mail_to (x ∷ others) → IsNext hears (m ∷ bag) x others
+  at_first m bag is same =
+      let first : m ≡ mail_to x = cc in
+      let rest : filter (is_left hears) bag ≡ map mail_to others = cc in
+      record {
+        before = 0;
+        at = ap (λ (b : Bool). cond (not b) (1 + position_or_len (is_left hears) bag) 0) is;
+        inside = (let e : 0 < length (m ∷ bag) = omega arith in e);
+        is = ap Some first;
+        left = rest;
+      }
+
+  later_on : (m : Mail) (bag : List Mail) → is_left hears m ≡ false → IsNext hears bag x others → IsNext hears (m ∷ bag) x others
+  later_on m bag is rest =
+      record {
+        before = suc rest.before;
+        at = ap (λ (b : Bool). cond (not b) (1 + position_or_len (is_left hears) bag) 0) is ∙ (let e : 1 + position_or_len (is_left hears) bag ≡ suc rest.before = omega (arith, rest.at) in e);
+        inside = (let e : suc rest.before < length (m ∷ bag) = omega (arith, rest.inside) in e);
+        is = rest.is;
+        left = ap (λ (b : Bool). cond b (m ∷ filter (is_left hears) (slice_set bag rest.before (brought x))) (filter (is_left hears) (slice_set bag rest.before (brought x)))) is ∙ rest.left;
+      }
+
+  first_or_later : (m : Mail) (bag : List Mail) (b : Bool) → is_left hears m ≡ b → (filter (is_left hears) bag ≡ map mail_to (x ∷ others) → IsNext hears bag x others)
+      → cond b (m ∷ filter (is_left hears) bag) (filter (is_left hears) bag) ≡ map mail_to (x ∷ others) → IsNext hears (m ∷ bag) x others
+  first_or_later m bag true is later same = at_first m bag is same
+  first_or_later m bag false is later same = later_on m bag is (later same)
+
   pub next_left : (bag : List Mail) → filter (is_left hears) bag ≡ map mail_to (x ∷ others) → IsNext hears bag x others
   next_left [] e = absurd cc
-  next_left (m ∷ bag) e = go (is_left hears m) refl e
-    where
-      go : (b : Bool) → is_left hears m ≡ b → cond b (m ∷ filter (is_left hears) bag) (filter (is_left hears) bag) ≡ map mail_to (x ∷ others) → IsNext hears (m ∷ bag) x others
-      go true is same =
-          let first : m ≡ mail_to x = cc in
-          let rest : filter (is_left hears) bag ≡ map mail_to others = cc in
-          record { before = 0; at = ap (λ (b : Bool). cond (not b) (1 + position_or_len (is_left hears) bag) 0) is; inside = omega arith; is = ap Some first; left = rest }
-      go false is same =
-          let rest = next_left bag same in
-          record {
-            before = suc rest.before;
-            at = ap (λ (b : Bool). cond (not b) (1 + position_or_len (is_left hears) bag) 0) is ∙ (let e : 1 + position_or_len (is_left hears) bag ≡ suc rest.before = omega (arith, rest.at) in e);
-            inside = (let e : suc rest.before < length (m ∷ bag) = omega (arith, rest.inside) in e);
-            is = rest.is;
-            left = ap (λ (b : Bool). cond b (m ∷ filter (is_left hears) (slice_set bag rest.before (brought x))) (filter (is_left hears) (slice_set bag rest.before (brought x)))) is ∙ rest.left;
-          }
+  next_left (m ∷ bag) e = first_or_later m bag (is_left hears m) refl (next_left bag) e
 
 -- what is sent is left where it is for those that get frames
+sent_one : (hears : Hears) (x : Party × List ℕ) (mails : List Mail) (sent : Frames) (b : Bool) → mails ≡ map mail_to sent → cond b (mail_to x ∷ mails) mails ≡ map mail_to (cond b (x ∷ sent) sent)
+sent_one hears x mails sent true same = ap (λ (l : List Mail). mail_to x ∷ l) same
+sent_one hears x mails sent false same = same
+
 pub sent_left : (hears : Hears) (sent : Frames) → filter (is_left hears) (map mail_to sent) ≡ map mail_to (filter (λ x. hears x.0) sent)
 sent_left hears [] = refl
-sent_left hears (x ∷ sent) = go (hears x.0)
-  where
-    go : (b : Bool) → cond b (mail_to x ∷ filter (is_left hears) (map mail_to sent)) (filter (is_left hears) (map mail_to sent)) ≡ map mail_to (cond b (x ∷ filter (λ y. hears y.0) sent) (filter (λ y. hears y.0) sent))
-    go true = ap (λ (l : List Mail). mail_to x ∷ l) (sent_left hears sent)
-    go false = sent_left hears sent
+sent_left hears (x ∷ sent) = sent_one hears x (filter (is_left hears) (map mail_to sent)) (filter (λ y. hears y.0) sent) (hears x.0) (sent_left hears sent)
 
 pub more_left : (hears : Hears) (bag : List Mail) (left sent : Frames) → filter (is_left hears) bag ≡ map mail_to left
     → filter (is_left hears) (bag ++ map mail_to sent) ≡ map mail_to (left ++ filter (λ x. hears x.0) sent)
@@ -79,16 +91,17 @@ module _ {S : Type 0} (hears : Hears) (w : World S) (by : (party : Party) → is
       ∙ ap (λ (n : ℕ). option_map (λ before. before + 1) (cond (nat_lt n (length w.bag)) (Some n) None)) next.at
       ∙ ap (λ (b : Bool). option_map (λ before. before + 1) (cond b (Some next.before) None)) (lt-ltb next.before (length w.bag) next.inside)
 
+  none_of_one : (m : Mail) (bag : List Mail) (b : Bool) → is_left hears m ≡ b → (filter (is_left hears) bag ≡ [] → length bag ≡ position_or_len (is_left hears) bag)
+      → cond b (m ∷ filter (is_left hears) bag) (filter (is_left hears) bag) ≡ [] → length (m ∷ bag) ≡ position_or_len (is_left hears) (m ∷ bag)
+  none_of_one m bag true is later same = absurd cc
+  none_of_one m bag false is later same =
+      let rest = later same in
+      (let e : length (m ∷ bag) ≡ 1 + position_or_len (is_left hears) bag = omega (arith, rest) in e)
+      ∙ sym (ap (λ (b : Bool). cond (not b) (1 + position_or_len (is_left hears) bag) 0) is)
+
   none_left : (bag : List Mail) → filter (is_left hears) bag ≡ [] → length bag ≡ position_or_len (is_left hears) bag
   none_left [] e = refl
-  none_left (m ∷ bag) e = go (is_left hears m) refl e
-    where
-      go : (b : Bool) → is_left hears m ≡ b → cond b (m ∷ filter (is_left hears) bag) (filter (is_left hears) bag) ≡ [] → length (m ∷ bag) ≡ position_or_len (is_left hears) (m ∷ bag)
-      go true is same = absurd cc
-      go false is same =
-          let rest = none_left bag same in
-          (let e : length (m ∷ bag) ≡ 1 + position_or_len (is_left hears) bag = omega (arith, rest) in e)
-          ∙ sym (ap (λ (b : Bool). cond (not b) (1 + position_or_len (is_left hears) bag) 0) is)
+  none_left (m ∷ bag) e = none_of_one m bag (is_left hears m) refl (none_left bag) e
 
   pub none_next : filter (is_left hears) w.bag ≡ [] → next_undelivered w ≡ None
   none_next none =

@@ -24,7 +24,6 @@ use Rattle.zy_frames.specs.Frames.{FitsFrame, parts_of, spelling}
 use Rattle.zy_frames.specs.declared.frame.Frame.{Frame}
 use Rattle.zy_frames.specs.declared.frame.Frame.TheVariants as frames
 use Rattle.zy_frames.specs.declared.frame.OrderFrame.{OrderFrame}
-use Rattle.zy_law_steps.proofs.Sizes.{next_long}
 use Rattle.zy_lms.specs.Height.{levels_of}
 use Rattle.zy_parts.specs.Numbers as numbers
 use Rattle.zy_parts.specs.Signing.{part_of, signed}
@@ -46,7 +45,7 @@ use Rattle.zy_table.specs.State.{State, leaves_of}
 use Rattle.zy_table.specs.Whole.{whole_step}
 use Rattle.zy_table.specs.declared.client.Response.{Response}
 use Rattle.zy_world_law.specs.Setup.{Setup, keys_of, sealer_of}
-use Rattle.zy_calm.proofs.Genuine.{AreAccepted, accepted, is_accepted, is_spelled}
+use Rattle.zy_calm.proofs.Genuine.{AreAccepted, accepted, is_accepted, is_spelled, next_long}
 
 -- where a live replica stands: the point, how many leaves it has spent at most, and the last place of which it may have said a local
 -- commit
@@ -72,9 +71,9 @@ all_up_to few more (said ∷ locals) less all = ((let e : said.stmt.place.0 ≤ 
 
 -- more leaves may be spent, and more local commits said
 pub moved : {S : Type 0} {R : Rules S} {s : Setup} {id : ℕ} {state : State S} (at to : Stand S) → IsAt R s at id state → at.point ≡ to.point → at.leaves ≤ to.leaves → at.told ≤ to.told → IsAt R s to id state
-moved {state = state} at to is same leaves told =
+moved {S = S} {R = R} {state = state} at to is same leaves told =
     record {
-      calm = subst (λ (q : Point _). rows.IsCalm _ q state) same is.calm;
+      calm = subst (λ (q : Point S). rows.IsCalm R q state) same is.calm;
       me = is.me;
       counts = is.counts;
       keys = is.keys;
@@ -132,8 +131,7 @@ module _ {S : Type 0} (R : Rules S) (s : Setup) (p : Point S) (client : ℕ) (as
     spec_spelled =
         let inside = round.next.inside in
         let small = round.next.small in
-        let client_is : (entry_of ask).client.0 ≡ client = ap (λ (by : Party). (asking by).0) round.asked_by in
-        (
+        let client_is : (entry_of ask).client.0 ≡ client = ap (λ (by : Party). (asking by).0) round.asked_by in (
           (omega arith, omega arith),
           ((omega arith, omega arith), (next_long p.head (digest_of_entry (entry_of ask)), (length-sha256 (known_of R p (entry_of ask)).reply, (omega (arith, client_is, round.client_few), (omega arith, omega (arith, round.stamp_low)))))),
         )

@@ -12,6 +12,7 @@ use Rattle.zy_base.specs.declared.cause.Cause.TheVariants as causes
 use Rattle.zy_base.specs.declared.ids.ClientId.{ClientId}
 use Rattle.zy_base.specs.declared.ids.Party.{Party}
 use Rattle.zy_base.specs.declared.ids.Party.TheVariants.{Client, Replica}
+use Rattle.zy_base.specs.declared.ids.ReplicaId.{ReplicaId}
 use Rattle.zy_base.specs.declared.step.Answer.TheVariants.{Taken}
 use Rattle.zy_calm_rows.proofs.ClientSlots.{counts}
 use Rattle.zy_calm_rows.specs.Calm as rows
@@ -46,7 +47,7 @@ use Rattle.zy_world_law.specs.declared.note.Note.TheVariants as notes
 use Rattle.zy_world_law.specs.declared.note.Note.TheVariants.{Quiet}
 use Rattle.zy_calm.proofs.Answering as answering
 use Rattle.zy_calm.proofs.Answering.{IsClientOf, all_answered, new_client, same_client}
-use Rattle.zy_calm.proofs.Asking.{MayRun, asked_for, given, heard_copies, is_round, own_ready, own_response, request_after, request_sent, request_taken}
+use Rattle.zy_calm.proofs.Asking.{MayRun, asked_for, given, heard_copies, is_round, own_ready, own_response, request_after, request_sent, request_taken, to_replica}
 use Rattle.zy_calm.proofs.Between.{AreUpTo, IsAsker, IsBetween, IsIdle, asked_as_before, asked_once_more, is_live, newer_than, place_after, point_after, point_next, stand_at, state_along}
 use Rattle.zy_calm.proofs.Happens.{DoHear, IsClientNext, IsDelivery, IsReplicaNext, Left, client_asks, replica_hears, still_hear, still_hear_client}
 use Rattle.zy_calm.proofs.JustAsked.{after_ask, ask_sent, asks_so, awaits_first, of_after_ask}
@@ -116,7 +117,7 @@ module _ {S : Type 0} (R : Rules S) (s : Setup) (hears : Hears) (fit : IsFit s h
           some = fit.some;
           few = fit.few;
           clients = fit.clients;
-          client = calm.client;
+          member = calm.client;
           stamp_low = omega (arith, few_asked, inside, fit.small);
           stamp_left = omega (arith, few_asked, leaves);
           leaf_left = omega (arith, low, leaves);
@@ -153,22 +154,22 @@ module _ {S : Type 0} (R : Rules S) (s : Setup) (hears : Hears) (fit : IsFit s h
         let may = may_run first.is.leaf first.is.spent in
         let o = asked c (next_ask c op) in
         let note : client_note a.client (if is_waiting c.waiting then (if is_waiting o.state.waiting then None else o.state.done) else None) Taken ≡ Quiet =
-          ap (λ (waits : Option (Signed Ask)). client_note a.client (if is_waiting waits then (if is_waiting o.state.waiting then None else o.state.done) else None) Taken) idle.waits in
+        ap (λ (waits : Option (Signed Ask)). client_note a.client (if is_waiting waits then (if is_waiting o.state.waiting then None else o.state.done) else None) Taken) idle.waits in
         subst (λ (n : Note). MayCome (happens R w (events.Ask a.client op)) n IsAsked) note
         (weaken (client_asks R hears w client op [] idle.client o between.left idle.there (asks_so R s p client stamp first.is.leaf op may c idle.of idle.waits))
         (λ v both.
-          let next = both.0 in
-          record {
-            hear = still_hear_client hears w v client o.state idle.client between.hear idle.there next;
-            stand = λ id live inside_n. same_stand w v (stand_at R s hears before) id next.replicas (between.stand id live inside_n);
-            primary = same_stand w v (stand_at R s hears before) 0 next.replicas first;
-            asking = next.client;
-            there = new_client w v client o.state idle.client idle.there next;
-            of = subst (IsClientOf s client (stamp + 1)) (sym next.state) (of_after_ask R s p client stamp first.is.leaf op may c idle.of idle.waits);
-            awaits = subst (λ (d : ClientState). Awaits d ask (answer R s p client ask (given R s p client stamp first.is.leaf op)) 0) (sym next.state) (awaits_first R s p client stamp first.is.leaf op may c idle.of idle.waits);
-            others = λ id is_asker other. subst (λ (x : Option world.Client). IsIdle R s hears x id (asked_in (record { 0 = id }) before)) (sym (same_client w v client id o.state next other)) (between.clients id is_asker);
-            left = both.1 ∙ ap (map world.mail_to) (ask_sent R s p client stamp first.is.leaf op may c idle.of idle.waits hears fit.first);
-          }))
+        let next = both.0 in
+        record {
+          hear = still_hear_client hears w v client o.state idle.client between.hear idle.there next;
+          stand = λ id live inside_n. same_stand w v (stand_at R s hears before) id next.replicas (between.stand id live inside_n);
+          primary = same_stand w v (stand_at R s hears before) 0 next.replicas first;
+          asking = next.client;
+          there = new_client w v client o.state idle.client idle.there next;
+          of = subst (IsClientOf s client (stamp + 1)) (sym next.state) (of_after_ask R s p client stamp first.is.leaf op may c idle.of idle.waits);
+          awaits = subst (λ (d : ClientState). Awaits d ask (answer R s p client ask (given R s p client stamp first.is.leaf op)) 0) (sym next.state) (awaits_first R s p client stamp first.is.leaf op may c idle.of idle.waits);
+          others = λ id is_asker other. subst (λ (x : Option world.Client). IsIdle R s hears x id (asked_in (record { 0 = id }) before)) (sym (same_client w v client id o.state next other)) (between.clients id is_asker);
+          left = both.1 ∙ ap (map world.mail_to) (ask_sent R s p client stamp first.is.leaf op may c idle.of idle.waits hears fit.first);
+        }))
 
     -- ---- the primary orders it
 
@@ -194,7 +195,59 @@ module _ {S : Type 0} (R : Rules S) (s : Setup) (hears : Hears) (fit : IsFit s h
       the_backups = backups (is_live R s hears) s.counts.n
 
       abbrev own : Response
-      own = own_response R s p client stamp leaf op (may_run leaf low) (stand_at R s hears before) refl
+      own = own_response R s p client stamp leaf op
 
       abbrev Ordering : World S → List ℕ → List (ℕ × Response) → Type 0
-      Ordering = IsOrdering R s hears (is_live R s hears) client p ask order round (3 * length before) (length before) room (λ id is inside_n. is) asker.1 IsWaitedFor
+      Ordering w todo answers = IsOrdering R s hears (is_live R s hears) client p ask order round (3 * length before) (length before) room (λ id is inside_n. is) asker.1 IsWaitedFor w todo answers
+
+      abbrev stand_before : Stand S
+      stand_before = record { point = p; leaves = 3 * length before + 1; told = length before }
+
+      abbrev stand_after : Stand S
+      stand_after = record { point = step R p (entry_of ask); leaves = 3 * length before + 2; told = length before }
+
+      order_goes : (w : World S) (asked : IsAsked w) → asked.primary.is.leaf ≡ leaf → IsDelivery R hears w Quiet (λ v. Ordering v the_backups ((0, own) ∷ []))
+      order_goes w asked its =
+          let x = asked.primary.replica in
+          let is = asked.primary.is in
+          let at = stand_at R s hears before in
+          let may = may_run leaf low in
+          let o = ordered_calmly R p x.state ask in
+          let d = replica_hears R hears w 0 (spelling (frames.Request ask)) [] x o asked.hear asked.left asked.primary.there (request_taken R s p client stamp leaf op may at refl x.state is its room) in
+          let sent : filter (λ z. hears z.0) (outgoing_of o.state.me.0 o.state.counts.n o.deeds.sent) ≡ map (to_replica hears (spelling (frames.Order (order_frame R s p client ask order)))) (filter (is_live R s hears) (filter (λ id. if nat_eq id o.state.me.0 then false else true) (range_with_len 0 o.state.counts.n))) ++ (Client (record { 0 = client }), spelling (frame_of R s p client ask order own)) ∷ [] =
+          ap (filter (λ z. hears z.0)) (request_sent R s p client stamp leaf op may at refl x.state is its room o.state.me.0 o.state.counts.n)
+          ∙ filter-append (λ z. hears z.0) (copies (spelling (frames.Order (order_frame R s p client ask order))) (others o.state.me.0 o.state.counts.n)) ((Client (record { 0 = client }), spelling (frame_of R s p client ask order own)) ∷ [])
+          ∙ ap (λ (l : Frames). l ++ filter (λ z. hears z.0) ((Client (record { 0 = client }), spelling (frame_of R s p client ask order own)) ∷ []))
+          (heard_copies hears (spelling (frames.Order (order_frame R s p client ask order))) (filter (λ id. if nat_eq id o.state.me.0 then false else true) (range_with_len 0 o.state.counts.n)))
+          ∙ ap (λ (b : Bool). map (to_replica hears (spelling (frames.Order (order_frame R s p client ask order)))) (filter (is_live R s hears) (filter (λ id. if nat_eq id o.state.me.0 then false else true) (range_with_len 0 o.state.counts.n))) ++ cond b ((Client (record { 0 = client }), spelling (frame_of R s p client ask order own)) ∷ []) []) asker.1 in
+          record {
+            number = d.number;
+            next = d.next;
+            comes = weaken d.comes (λ v both.
+                let next = both.0 in
+                record {
+                  hear = still_hear hears w v 0 o.state x asked.hear asked.primary.there next;
+                  stand = λ id is_id inside_n. ordered_stand w v asked its next id is_id inside_n (cases_eq id 0);
+                  live = backups_live (is_live R s hears) s.counts.n;
+                  different = all_different (is_live R s hears) fit.first s.counts.n fit.some;
+                  left = both.1 ∙ ap (map world.mail_to) (sent
+                      ∙ ap (λ (me : ReplicaId). map (to_replica hears (spelling (frames.Order (order_frame R s p client ask order)))) (filter (is_live R s hears) (filter (λ id. if nat_eq id me.0 then false else true) (range_with_len 0 o.state.counts.n))) ++ (Client (record { 0 = client }), spelling (frame_of R s p client ask order own)) ∷ []) is.me
+                      ∙ ap (λ counts. map (to_replica hears (spelling (frames.Order (order_frame R s p client ask order)))) (filter (is_live R s hears) (filter (λ id. if nat_eq id 0 then false else true) (range_with_len 0 counts.n))) ++ (Client (record { 0 = client }), spelling (frame_of R s p client ask order own)) ∷ []) is.counts);
+                  ready = (own_ready R s p client stamp leaf op may (let e : leaf + 1 < 2 ^ levels_of s.height = omega (arith, low, leaves) in e), tt);
+                  keeps = subst IsWaitedFor (sym next.clients) (record { asking = asked.asking; there = asked.there; of = asked.of; awaits = subst (λ (n : ℕ). Awaits asked.asking.state ask (answer R s p client ask (given R s p client stamp n op)) 0) its asked.awaits; others = asked.others });
+                });
+          }
+        where
+          ordered_stand : (w v : World S) (asked : IsAsked w) (its : asked.primary.is.leaf ≡ leaf) → IsReplicaNext w v 0 (ordered_calmly R p asked.primary.replica.state ask).state → (id : ℕ) → is_live R s hears id ≡ true → id < s.counts.n → (id ≡ 0) ⊎ (id ≡ 0 → ⊥)
+              → Stands R s v (stand_of R s stand_before stand_after the_backups id) id
+          ordered_stand w v asked its next id is_id inside_n (inl same) =
+              let gone : is_in the_backups 0 ≡ false = (all_different (is_live R s hears) fit.first s.counts.n fit.some).0 in
+              subst (λ (k : ℕ). Stands R s v (stand_of R s stand_before stand_after the_backups k) k) (sym same)
+              (subst (λ (b : Bool). Stands R s v (if b then stand_before else stand_after) 0) (sym gone)
+              (stands_anew R s w v 0 _ asked.primary.replica stand_after asked.primary.there next
+              (request_after R s p client stamp leaf op (may_run leaf low) (stand_at R s hears before) refl asked.primary.replica.state asked.primary.is its room)))
+          ordered_stand w v asked its next id is_id inside_n (inr other) =
+              let old = asked.stand id is_id inside_n in
+              let among : is_in the_backups id ≡ true = among_backups (is_live R s hears) s.counts.n id is_id inside_n other in
+              subst (λ (b : Bool). Stands R s v (if b then stand_before else stand_after) id) (sym among)
+              (stands_still R s w v 0 id _ stand_before next other (record { replica = old.replica; there = old.there; is = moved (stand_at R s hears before) stand_before old.is refl (omega arith) (omega arith) }))

@@ -46,4 +46,4 @@ pub record IsCalm (s : Setup) (path : Path) (muted : List ℕ) (asks : List Calm
   pub enough : IsEnough path s.counts (length (live_of s muted))
   pub short : length asks < s.interval
   pub leaves : 3 * length asks ≤ 2 ^ levels_of s.height
-  pub asks : AllByRecursion (IsCalmAsk s) asks
+  pub each : AllByRecursion (IsCalmAsk s) asks
