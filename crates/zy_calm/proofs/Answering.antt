@@ -27,11 +27,12 @@ use Rattle.zy_table.specs.declared.client.Done.{Done}
 use Rattle.zy_table.specs.declared.client.Path.TheVariants.{Fast}
 use Rattle.zy_table.specs.declared.client.Response.{Response}
 use Rattle.zy_world_law.proofs.Seats.{get_set, get_set_other, seat_of}
-use Rattle.zy_world_law.specs.Events.{client_note, completed_by}
+use Rattle.zy_world_law.specs.Events.{client_note, completed_by, happens}
 use Rattle.zy_world_law.specs.Runs.{Rest, flow}
 use Rattle.zy_world_law.specs.Setup.{Setup, keys_of, sealer_of}
 use Rattle.zy_world_law.specs.World as world
 use Rattle.zy_world_law.specs.World.{World, client_at, correct_in}
+use Rattle.zy_world_law.specs.declared.event.WorldEvent.TheVariants as events
 use Rattle.zy_world_law.specs.declared.note.Note.{Note}
 use Rattle.zy_world_law.specs.declared.note.Note.TheVariants as notes
 use Rattle.zy_world_law.specs.declared.note.Note.TheVariants.{Quiet}
@@ -135,7 +136,7 @@ module _ {S : Type 0} (R : Rules S) (s : Setup) (hears : Hears) (client stamp : 
           number = d.number;
           next = d.next;
           comes =
-              subst (λ (n : Note). MayCome _ n Holds) told
+              subst (λ (n : Note). MayCome (happens R w (events.Deliver d.number None)) n Holds) told
               (weaken d.comes (λ v both. leads v both.0 (both.1
               ∙ ap (λ (l : Frames). map world.mail_to (map answer_from answers ++ filter (λ z. hears z.0) l)) nothing
               ∙ ap (map world.mail_to) (append-nil (map answer_from answers)))));

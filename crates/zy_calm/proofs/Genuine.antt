@@ -60,7 +60,7 @@ digest_long e = length-sha256 _
 
 -- ---- what a party signs
 
-get_map : {A : Type 0} (f : ℕ → A) (from n i : ℕ) → i < n → slice_get (map f (range_with_len from n)) i ≡ Some (f (from + i))
+pub get_map : {A : Type 0} (f : ℕ → A) (from n i : ℕ) → i < n → slice_get (map f (range_with_len from n)) i ≡ Some (f (from + i))
 get_map f from zero i inside = absurd (omega arith)
 get_map f from (suc n) zero inside = ap (λ (k : ℕ). Some (f k)) (let e : from ≡ from + 0 = omega arith in e)
 get_map f from (suc n) (suc i) inside = get_map f (from + 1) n i (omega arith) ∙ ap (λ (k : ℕ). Some (f k)) (let e : from + 1 + i ≡ from + suc i = omega arith in e)

@@ -63,10 +63,10 @@ module _ {S : Type 0} where
   abbrev pub Left : Hears → World S → Frames → Type 0
   Left hears w frames = filter (is_left hears) w.bag ≡ map mail_to frames
 
-  correct_replica : (w : World S) (id : ℕ) → is_correct w (Replica (record { 0 = id })) ≡ sits (slice_get w.replicas id)
+  pub correct_replica : (w : World S) (id : ℕ) → is_correct w (Replica (record { 0 = id })) ≡ sits (slice_get w.replicas id)
   correct_replica w id = told_map _ (replica_at w id)
 
-  correct_client : (w : World S) (id : ℕ) → is_correct w (Client (record { 0 = id })) ≡ sits (slice_get w.clients id)
+  pub correct_client : (w : World S) (id : ℕ) → is_correct w (Client (record { 0 = id })) ≡ sits (slice_get w.clients id)
   correct_client w id = told_map _ (client_at w id)
 
   -- what a step of a replica leaves of a world

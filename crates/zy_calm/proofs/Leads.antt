@@ -74,3 +74,10 @@ module _ {S : Type 0} where
   unfolding flow
   flow_ends R zero rest w none = refl
   flow_ends R (suc n) rest w none = ap (flow_on R w rest (flow R n rest)) none
+
+  -- a flow that finds nothing more to deliver ends
+  pub flowed_out : (R : Rules S) (n : ℕ) (rest : Rest S) (r : Run S) (notes : List Note) (Holds : World S → Type 0) → ((w : World S) → Holds w → next_undelivered w ≡ None) → Leads r notes (flow R n rest) Holds → Leads r notes rest Holds
+  flowed_out R n rest r notes Holds none (inl broken) = inl broken
+  flowed_out R n rest r notes Holds none (inr on) =
+      let same : flow R n rest on.world ≡ rest on.world = flow_ends R n rest on.world (none on.world on.holds) in
+      inr (record { world = on.world; holds = on.holds; told = on.told ∙ ap (λ (q : Run S). notes ++ q.notes) same; ended = on.ended ∙ ap (λ (q : Run S). q.end) same })

@@ -10,3 +10,5 @@ pub mod Answering
 pub mod JustAsked
 pub mod Between
 pub mod Serving
+pub mod Chain
+pub mod Starting

@@ -180,7 +180,7 @@ module _ {S : Type 0} (R : Rules S) (s : Setup) where
             done_by d = record {
               number = d.number;
               next = d.next;
-              comes = weaken d.comes (λ v both. goes_on_so v both.0 (both.1 ∙ ap (λ (l : Frames). map world.mail_to ((map order_to todo ++ map answer_from answers) ++ l)) (one_frame _ _)));
+              comes = weaken d.comes (λ v both. goes_on_so v both.0 (both.1 ∙ ap (λ (l : Frames). map world.mail_to ((map order_to todo ++ map answer_from answers) ++ l)) (one_frame (taken_calmly R p here.replica.state (order_frame R s p client ask order)).state.me.0 (taken_calmly R p here.replica.state (order_frame R s p client ask order)).state.counts.n)));
             }
 
       pub ordering_step : (w : World S) (id : ℕ) (todo : List ℕ) (answers : Answers) → IsOrdering Keeps w (id ∷ todo) answers → (n : ℕ) (rest : Rest S)

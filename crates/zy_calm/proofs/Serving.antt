@@ -40,7 +40,7 @@ use Rattle.zy_world_law.specs.Events.{client_note, happens}
 use Rattle.zy_world_law.specs.Runs.{Rest, Run, flow, goes_on, run}
 use Rattle.zy_world_law.specs.Setup.{Setup}
 use Rattle.zy_world_law.specs.World as world
-use Rattle.zy_world_law.specs.World.{World, client_at, correct_in, replica_at}
+use Rattle.zy_world_law.specs.World.{World, client_at, correct_in, next_undelivered}
 use Rattle.zy_world_law.specs.declared.event.WorldEvent.TheVariants as events
 use Rattle.zy_world_law.specs.declared.note.Note.{Note}
 use Rattle.zy_world_law.specs.declared.note.Note.TheVariants as notes
@@ -51,12 +51,12 @@ use Rattle.zy_calm.proofs.Asking.{MayRun, asked_for, given, heard_copies, is_rou
 use Rattle.zy_calm.proofs.Between.{AreUpTo, IsAsker, IsBetween, IsIdle, asked_as_before, asked_once_more, is_live, newer_than, place_after, point_after, point_next, stand_at, state_along}
 use Rattle.zy_calm.proofs.Happens.{DoHear, IsClientNext, IsDelivery, IsReplicaNext, Left, client_asks, replica_hears, still_hear, still_hear_client}
 use Rattle.zy_calm.proofs.JustAsked.{after_ask, ask_sent, asks_so, awaits_first, of_after_ask}
-use Rattle.zy_calm.proofs.Leads.{Leads, MayCome, already, flow_ends, flow_step, joined, one_event, same_run, weaken}
+use Rattle.zy_calm.proofs.Leads.{Leads, MayCome, already, flow_step, flowed_out, joined, one_event, same_run, weaken}
 use Rattle.zy_calm.proofs.Numbers.{AreDifferent, all_different, among_backups, backups, backups_behind, backups_live, is_in, live}
 use Rattle.zy_calm.proofs.Ordering.{AllStand, IsOrdered, IsOrdering, Stands, all_ordered, new_replica, stand_of, stands_anew, stands_still}
 use Rattle.zy_calm.proofs.Queue.{Frames, Hears, none_next}
 use Rattle.zy_calm.proofs.Round.{IsAt, IsReady, IsRound, Stand, answer, frame_of, moved, order_frame}
-use Rattle.zy_calm.specs.Asks.{CalmAsk}
+use Rattle.zy_calm.specs.Asks.{CalmAsk, lines_of}
 use Rattle.zy_calm.specs.Calm.{IsCalmAsk}
 use Rattle.zy_calm.specs.Entries.{asked_in, done_at, entry_after}
 use Rattle.zy_calm.specs.Notes.{notes_of}
@@ -88,7 +88,7 @@ pub record IsFit (s : Setup) (hears : Hears) : Type 0 where
   pub fast : 1 ≤ s.counts.fast
 
 module _ {S : Type 0} (R : Rules S) (s : Setup) (hears : Hears) (fit : IsFit s hears) (is_state : S → Type 0) (machine : IsMachine R is_state) where
-  abbrev count : ℕ
+  abbrev pub count : ℕ
   count = length (live (is_live R s hears) s.counts.n)
 
   module _ (a : CalmAsk) (before : List Entry) (calm : IsCalmAsk s a) (asker : IsAsker R s hears a.client.0) (inside : length before + 1 < s.interval)
@@ -143,7 +143,7 @@ module _ {S : Type 0} (R : Rules S) (s : Setup) (hears : Hears) (fit : IsFit s h
       pub others : (id : ℕ) → IsAsker R s hears id → (id ≡ client → ⊥) → IsIdle R s hears (client_at w id) id (asked_in (record { 0 = id }) before)
       pub left : Left hears w ((Replica (record { 0 = 0 }), spelling (frames.Request ask)) ∷ [])
 
-    same_stand : (w v : World S) (at : Stand S) (id : ℕ) → v.replicas ≡ w.replicas → Stands R s w at id → Stands R s v at id
+    abbrev same_stand : (w v : World S) (at : Stand S) (id : ℕ) → v.replicas ≡ w.replicas → Stands R s w at id → Stands R s v at id
     same_stand w v at id same stands = record { replica = stands.replica; there = ap (λ (l : List (Option (world.Replica S))). correct_in (slice_get l id)) same ∙ stands.there; is = stands.is }
 
     asked_next : (w : World S) → IsBetween R s hears w before → MayCome (happens R w (events.Ask a.client op)) Quiet IsAsked
@@ -251,3 +251,133 @@ module _ {S : Type 0} (R : Rules S) (s : Setup) (hears : Hears) (fit : IsFit s h
               let among : is_in the_backups id ≡ true = among_backups (is_live R s hears) s.counts.n id is_id inside_n other in
               subst (λ (b : Bool). Stands R s v (if b then stand_before else stand_after) id) (sym among)
               (stands_still R s w v 0 id _ stand_before next other (record { replica = old.replica; there = old.there; is = moved (stand_at R s hears before) stand_before old.is refl (omega arith) (omega arith) }))
+
+      -- ---- the answers come
+
+      -- a live replica that ran the order
+      pub record HasRun (replicas : List (Option (world.Replica S))) (id : ℕ) : Type 0 where
+        pub replica : world.Replica S
+        pub there : correct_in (slice_get replicas id) ≡ Some replica
+        pub is : IsAt R s stand_after id replica.state
+
+      abbrev HaveRun : List (Option (world.Replica S)) → Type 0
+      HaveRun replicas = (id : ℕ) → is_live R s hears id ≡ true → id < s.counts.n → HasRun replicas id
+
+      abbrev IsOtherIdle : ℕ → Option world.Client → Type 0
+      IsOtherIdle id o = IsAsker R s hears id → IsIdle R s hears o id (asked_in (record { 0 = id }) before)
+
+      abbrev IsServed : World S → Type 0
+      IsServed w = answering.IsServed R s hears client (stamp + 1) p ask order round HaveRun IsOtherIdle w []
+
+      answering_begins : (w : World S) (answers : List (ℕ × Response)) → Ordering w [] answers → answering.IsAnswering R s hears client (stamp + 1) p ask order round HaveRun IsOtherIdle w 0 answers
+      answering_begins w answers is =
+          record {
+            around = record {
+              hear = is.hear;
+              replicas = λ id is_id inside_n. (let st : Stands R s w stand_after id = is.stand id is_id inside_n in record { replica = st.replica; there = st.there; is = st.is });
+              others = λ id other is_asker. is.keeps.others id is_asker other;
+              left = is.left;
+              ready = is.ready;
+            };
+            client' = is.keeps.asking;
+            there = is.keeps.there;
+            of = is.keeps.of;
+            awaits = is.keeps.awaits;
+            free = all_free is.keeps.asking.state answers is.keeps.awaits.count;
+            different = subst AreDifferent (append-nil (map (λ (x : ℕ × Response). x.0) answers)) is.different;
+          }
+
+      -- and then the next may ask
+      abbrev e : Entry
+      e = entry_after before a
+
+      longer : length (before ++ e ∷ []) ≡ length before + 1
+      longer = length-append before (e ∷ [])
+
+      calm_again : (w : World S) → IsServed w → IsBetween R s hears w (before ++ e ∷ [])
+      calm_again w served =
+          record {
+            hear = served.around.hear;
+            stand = λ id is_id inside_n.
+                (let run_it = served.around.replicas id is_id inside_n in
+                record { replica = run_it.replica; there = run_it.there; is = moved stand_after (stand_at R s hears (before ++ e ∷ [])) run_it.is (sym (point_next R before e)) (omega (arith, longer)) (omega (arith, longer)) });
+            clients = λ id is_asker. idle_again id is_asker (cases_eq id client);
+            left = served.around.left;
+          }
+        where
+          idle_again : (id : ℕ) → IsAsker R s hears id → (id ≡ client) ⊎ (id ≡ client → ⊥) → IsIdle R s hears (client_at w id) id (asked_in (record { 0 = id }) (before ++ e ∷ []))
+          idle_again id is_asker (inl same) =
+              subst (λ (k : ℕ). IsIdle R s hears (client_at w k) k (asked_in (record { 0 = k }) (before ++ e ∷ []))) (sym same)
+              (subst (λ (k : ℕ). IsIdle R s hears (client_at w client) client k) (sym (asked_once_more before a)) (record { client = served.client'; there = served.there; of = served.of; waits = served.idle }))
+          idle_again id is_asker (inr other) =
+              subst (λ (k : ℕ). IsIdle R s hears (client_at w id) id k) (sym (asked_as_before (record { 0 = id }) before a other)) (served.around.others id other is_asker)
+
+      -- ---- the flow
+
+      abbrev fast : ℕ
+      fast = s.counts.fast
+
+      abbrev done_note : Note
+      done_note = notes.Done a.client (done_at R Fast before e)
+
+      abbrev late : Note
+      late = notes.Refused (Some (Client a.client)) causes.Finished
+
+      abbrev answer_notes : List Note
+      answer_notes = replicate (fast - 1) Quiet ++ done_note ∷ replicate (count - fast) late
+
+      counted : count ≡ 1 + length the_backups
+      counted = ap length (backups_behind (is_live R s hears) fit.first s.counts.n fit.some) ∙ (let same : suc (length the_backups) ≡ 1 + length the_backups = omega arith in same)
+
+      answers_come : fast ≤ count → (w : World S) (answers : List (ℕ × Response)) → length answers ≡ count → Ordering w [] answers → (n all : ℕ) (rest : Rest S) → all ≡ count + n
+          → Leads (flow R all rest w) answer_notes (flow R n rest) IsServed
+      answers_come enough w answers long is n all rest same =
+          all_answered R s hears client (stamp + 1) p ask order round HaveRun IsOtherIdle answers w 0 (fast - 1) (count - fast) (answering_begins w answers is)
+          (omega (arith, fit.fast)) (omega (arith, long, enough, fit.fast)) n all rest (omega (arith, same, long))
+
+      abbrev flow_notes : List Note
+      flow_notes = Quiet ∷ replicate (length the_backups) Quiet ++ answer_notes
+
+      abbrev Again : World S → Type 0
+      Again w = IsBetween R s hears w (before ++ e ∷ [])
+
+      none_left : (w : World S) → IsServed w → next_undelivered w ≡ None
+      none_left w served = none_next hears w served.around.hear served.around.left
+
+      weaker_end : {r : Run S} {ns : List Note} {rest : Rest S} {First Second : World S → Type 0} → Leads r ns rest First → ((w : World S) → First w → Second w) → Leads r ns rest Second
+      weaker_end (inl broken) more = inl broken
+      weaker_end (inr on) more = inr (record { world = on.world; holds = more on.world on.holds; told = on.told; ended = on.ended })
+
+      flow_serves : fast ≤ count → count ≤ s.counts.n → (w : World S) (asked : IsAsked w) → asked.primary.is.leaf ≡ leaf → (all : ℕ) (rest : Rest S) → 2 * s.counts.n ≤ all → Leads (flow R all rest w) flow_notes rest Again
+      flow_serves enough few w asked its zero rest long = absurd (omega (arith, few, counted, long))
+      flow_serves enough few w asked its (suc all) rest long =
+          let behind : ℕ = all - length the_backups in
+          let n : ℕ = behind - count in
+          let d = order_goes w asked its in
+          let first : Leads (flow R (suc all) rest w) (Quiet ∷ []) (flow R all rest) (λ v. Ordering v the_backups ((0, own) ∷ [])) =
+          same_run _ _ (Quiet ∷ []) (flow R all rest) (λ v. Ordering v the_backups ((0, own) ∷ [])) (flow_step R all rest w d.number d.next)
+          (one_event _ Quiet (flow R all rest) (λ v. Ordering v the_backups ((0, own) ∷ [])) d.comes) in
+          joined _ (Quiet ∷ []) (replicate (length the_backups) Quiet ++ answer_notes) (flow R all rest) rest _ Again first
+          (λ v ordering. joined _ (replicate (length the_backups) Quiet) answer_notes (flow R behind rest) rest _ Again
+          (all_ordered R s hears (is_live R s hears) client p ask order round (3 * length before) (length before) room (λ id is inside_n. is) asker.1 IsWaitedFor the_backups v ((0, own) ∷ []) ordering behind all rest (omega (arith, few, counted, long)))
+          (λ u ordered. weaker_end (flowed_out R n rest _ answer_notes IsServed none_left
+          (answers_come enough u ordered.answers (ordered.long ∙ sym counted) ordered.is n behind rest (omega (arith, few, counted, long)))) calm_again))
+
+    -- ---- the ask and its flow
+
+    quiets : (m n : ℕ) (l : List Note) → replicate m Quiet ++ (replicate n Quiet ++ l) ≡ replicate (m + n) Quiet ++ l
+    quiets m n l = sym (append_assoc (replicate m Quiet) (replicate n Quiet) l) ∙ ap (λ (front : List Note). front ++ l) (replicate-append-replicate m n Quiet)
+
+    pub ask_served : s.counts.fast ≤ count → count ≤ s.counts.n → (w : World S) (more : List Line) → IsBetween R s hears w before
+        → Leads (run R (lines_of Fast a ++ more) w) (notes_of R s.counts Fast count before (entry_after before a)) (run R more) (λ v. IsBetween R s hears v (before ++ entry_after before a ∷ []))
+    unfolding run
+    ask_served enough few w more between =
+        let tail : List Note = notes.Done a.client (done_at R Fast before (entry_after before a)) ∷ replicate (count - s.counts.fast) (notes.Refused (Some (Client a.client)) causes.Finished) in
+        let j : ℕ = length (backups (is_live R s hears) s.counts.n) in
+        let all_quiet : Quiet ∷ Quiet ∷ replicate j Quiet ++ (replicate (s.counts.fast - 1) Quiet ++ tail) ≡ replicate (1 + count + (s.counts.fast - 1)) Quiet ++ tail =
+        quiets (suc (suc j)) (s.counts.fast - 1) tail
+        ∙ ap (λ (k : ℕ). replicate k Quiet ++ tail) (let same : suc (suc j) + (s.counts.fast - 1) ≡ 1 + count + (s.counts.fast - 1) = omega (arith, counted 0 (omega arith)) in same) in
+        subst (λ (ns : List Note). Leads (run R (lines_of Fast a ++ more) w) ns (run R more) (λ v. IsBetween R s hears v (before ++ entry_after before a ∷ []))) all_quiet
+        (joined _ (Quiet ∷ []) (Quiet ∷ replicate j Quiet ++ (replicate (s.counts.fast - 1) Quiet ++ tail)) (flow R a.flow (run R more)) (run R more) IsAsked _
+        (one_event _ Quiet (flow R a.flow (run R more)) IsAsked (asked_next w between))
+        (λ v asked. flow_serves asked.primary.is.leaf asked.primary.is.spent enough few v asked refl a.flow (run R more) calm.flow))
