@@ -12,3 +12,4 @@ pub mod Between
 pub mod Serving
 pub mod Chain
 pub mod Starting
+pub mod CalmRuns

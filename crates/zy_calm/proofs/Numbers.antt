@@ -1,6 +1,8 @@
 -- The numbers of live replicas, no two the same.
-use Rattle.std.proofs.Common.{◌≡◌, ◌⊎◌, inl, inr, ℕ, zero, suc, ◌+◌, ◌<◌, ◌≤◌, Bool, true, false, List, [], ◌∷◌, ◌++◌, cond, refl, sym, ap, ◌∙◌, subst, arith}
+use Rattle.std.proofs.Common.{◌≡◌, ◌⊎◌, inl, inr, ℕ, zero, suc, ◌+◌, ◌<◌, ◌≤◌, Bool, true, false, List, [], ◌∷◌, ◌++◌, length, cond, refl, sym, ap, ◌∙◌, subst, arith}
 use Rattle.std.proofs.lemmas.Bool.{cases_eq, eq-eqb, eqb-true, ne_eqb, or_cases, or_from, or_left, or_right, true≢false}
+use Rattle.std.proofs.lemmas.List.FromFn.{length-range_with_len}
+use Rattle.std.proofs.lemmas.List.Sums.{count_by-le-length, length-filter}
 use Rattle.std.specs.List.{AllByRecursion, filter, list_any, range_with_len}
 use Rattle.std.specs.Prelude.{nat_eq, if◌then◌else◌}
 
@@ -127,3 +129,6 @@ pub among_backups : (is_live : ℕ → Bool) (n id : ℕ) → is_live id ≡ tru
 among_backups is_live n id live inside other =
     filter_has is_live id (filter not_first (range_with_len 0 n)) live
     (filter_has not_first id (range_with_len 0 n) (ap (λ (b : Bool). if b then false else true) (ne_eqb id 0 other)) (range_has id 0 n (omega arith) (omega (arith, inside))))
+
+pub few_live : (is_live : ℕ → Bool) (n : ℕ) → length (live is_live n) ≤ n
+few_live is_live n = omega (arith, length-filter is_live (range_with_len 0 n), count_by-le-length is_live (range_with_len 0 n), length-range_with_len 0 n)
