@@ -17,9 +17,9 @@ use Rattle.zy_tuple.specs.Bytes.{op_bytes}
 use Rattle.zy_world_law.specs.Setup.{Setup}
 use Rattle.zy_world_law.specs.World as world
 use Rattle.zy_world_law.specs.World.{World, client_at}
-use Rattle.zy_calm.proofs.Answering.{IsClientOf}
+use Rattle.zy_calm.proofs.Receiving.{IsClientOf}
 use Rattle.zy_calm.proofs.Happens.{DoHear, Left}
-use Rattle.zy_calm.proofs.Ordering.{Stands}
+use Rattle.zy_calm.proofs.Turns.{Stands}
 use Rattle.zy_calm.proofs.Queue.{Hears}
 use Rattle.zy_calm.proofs.Round.{Stand}
 use Rattle.zy_calm.specs.Asks.{CalmAsk}

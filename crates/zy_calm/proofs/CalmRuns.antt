@@ -21,6 +21,7 @@ use Rattle.zy_calm.proofs.Leads.{GoesOn, Leads}
 use Rattle.zy_calm.proofs.Numbers.{few_live, live}
 use Rattle.zy_calm.proofs.Queue.{Hears}
 use Rattle.zy_calm.proofs.Serving.{IsFit, IsMachine, ask_served, count}
+use Rattle.zy_calm.proofs.SlowPath.{ask_served_slowly}
 use Rattle.zy_calm.proofs.Starting.{IsAsRun, as_many_live, first_calm, first_up_to, first_world, hears, hears_client, hears_live, muted_runs}
 use Rattle.zy_calm.specs.Asks.{CalmAsk, calm_lines, lines_of, mute_line}
 use Rattle.zy_calm.specs.Calm as calm
@@ -94,3 +95,14 @@ module _ {S : Type 0} (R : Rules S) (is_state : S → Type 0) (machine : IsMachi
       serves_all R s muted Fast asks is (count R s heard fits is_state machine) many
       (λ a before one is_asker inside leaves up_to w more between. ask_served R s heard fits is_state machine a before one is_asker inside leaves up_to (omega (arith, is.enough, many))
       (few_live (is_live R s heard) s.counts.n) w more between) unforged
+
+  pub slow_runs : IsCalm s Slow muted asks → IsUnforged (calm_run R s Slow muted asks).end → RunsCalmly R s Slow muted asks
+  slow_runs is unforged =
+      let heard = hears R s muted in
+      let fits = fit R s muted Slow asks is in
+      let sound = s.counts.sound in
+      let alive : live (is_live R s heard) s.counts.n ≡ calm.live_of s muted = as_many_live R s muted in
+      let many : count R s heard fits is_state machine ≡ length (calm.live_of s muted) = ap length alive in
+      serves_all R s muted Slow asks is (count R s heard fits is_state machine) many
+      (λ a before one is_asker inside leaves up_to w more between. ask_served_slowly R s heard fits is_state machine sound.short_certificate (omega (arith, sound.two_certificates)) (omega (arith, sound.local_and_change, sound.change_in_reach)) a before one is_asker inside leaves up_to
+      (omega (arith, is.enough.0, many)) (omega (arith, is.enough.1, many)) (omega (arith, is.enough.2, many)) (few_live (is_live R s heard) s.counts.n) w more between) unforged

@@ -32,7 +32,7 @@ use Rattle.zy_world_law.specs.Setup.{Setup, sealer_of}
 use Rattle.zy_world_law.specs.World as world
 use Rattle.zy_world_law.specs.World.{World, client_at, correct_in}
 use Rattle.zy_calm.proofs.Asking.{MayRun, asked_for, given, is_round, new_ask}
-use Rattle.zy_calm.proofs.Answering.{IsClientOf}
+use Rattle.zy_calm.proofs.Receiving.{IsClientOf}
 use Rattle.zy_calm.proofs.Queue.{Frames, Hears}
 use Rattle.zy_calm.proofs.Round.{IsRound, answer}
 

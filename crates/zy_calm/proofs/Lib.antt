@@ -5,11 +5,15 @@ pub mod Genuine
 pub mod Happens
 pub mod Round
 pub mod Asking
-pub mod Ordering
+pub mod Turns
+pub mod Receiving
 pub mod Answering
 pub mod JustAsked
 pub mod Between
 pub mod Serving
 pub mod Chain
 pub mod Starting
+pub mod Committing
+pub mod Counting
+pub mod SlowPath
 pub mod CalmRuns

@@ -132,3 +132,9 @@ among_backups is_live n id live inside other =
 
 pub few_live : (is_live : ℕ → Bool) (n : ℕ) → length (live is_live n) ≤ n
 few_live is_live n = omega (arith, length-filter is_live (range_with_len 0 n), count_by-le-length is_live (range_with_len 0 n), length-range_with_len 0 n)
+
+pub among_live : (is_live : ℕ → Bool) (n id : ℕ) → is_live id ≡ true → id < n → is_in (live is_live n) id ≡ true
+among_live is_live n id passes inside = filter_has is_live id (range_with_len 0 n) passes (range_has id 0 n (omega arith) (omega (arith, inside)))
+
+pub live_live : (is_live : ℕ → Bool) (n : ℕ) → AllByRecursion (λ id. (is_live id ≡ true) × (id < n)) (live is_live n)
+live_live is_live n = filter_all (λ id. id < n) is_live (range_with_len 0 n) (range_below 0 n n (omega arith))

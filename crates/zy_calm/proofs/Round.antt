@@ -65,7 +65,7 @@ pub record IsAt {S : Type 0} (R : Rules S) (s : Setup) (at : Stand S) (id : ℕ)
   pub spent : leaf ≤ at.leaves
   pub locals : AllByRecursion (λ said. said.stmt.place.0 ≤ at.told) state.locals
 
-all_up_to : (few more : ℕ) (locals : List (Signed Local)) → few ≤ more → AllByRecursion (λ said. said.stmt.place.0 ≤ few) locals → AllByRecursion (λ said. said.stmt.place.0 ≤ more) locals
+pub all_up_to : (few more : ℕ) (locals : List (Signed Local)) → few ≤ more → AllByRecursion (λ said. said.stmt.place.0 ≤ few) locals → AllByRecursion (λ said. said.stmt.place.0 ≤ more) locals
 all_up_to few more [] less all = tt
 all_up_to few more (said ∷ locals) less all = ((let e : said.stmt.place.0 ≤ more = omega (arith, less, all.0) in e), all_up_to few more locals less all.1)
 

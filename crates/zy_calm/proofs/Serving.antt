@@ -16,7 +16,7 @@ use Rattle.zy_base.specs.declared.ids.ReplicaId.{ReplicaId}
 use Rattle.zy_base.specs.declared.step.Answer.TheVariants.{Taken}
 use Rattle.zy_calm_rows.proofs.ClientSlots.{counts}
 use Rattle.zy_calm_rows.specs.Calm as rows
-use Rattle.zy_calm_rows.specs.Outcomes.{ordered_calmly}
+use Rattle.zy_calm_rows.specs.Outcomes.{ordered_calmly, taken_calmly}
 use Rattle.zy_calm_rows.specs.Waiting.{Awaits}
 use Rattle.zy_chain.specs.declared.entry.Entry.{Entry}
 use Rattle.zy_exec.specs.Replay.{Point, known_of, origin, step}
@@ -46,16 +46,17 @@ use Rattle.zy_world_law.specs.declared.note.Note.{Note}
 use Rattle.zy_world_law.specs.declared.note.Note.TheVariants as notes
 use Rattle.zy_world_law.specs.declared.note.Note.TheVariants.{Quiet}
 use Rattle.zy_calm.proofs.Answering as answering
-use Rattle.zy_calm.proofs.Answering.{IsClientOf, all_answered, new_client, same_client}
+use Rattle.zy_calm.proofs.Answering.{AllKept, all_answered}
+use Rattle.zy_calm.proofs.Receiving.{IsClientOf, new_client, same_client}
 use Rattle.zy_calm.proofs.Asking.{MayRun, asked_for, given, heard_copies, is_round, own_ready, own_response, request_after, request_sent, request_taken, to_replica}
 use Rattle.zy_calm.proofs.Between.{AreUpTo, IsAsker, IsBetween, IsIdle, asked_as_before, asked_once_more, is_live, newer_than, place_after, point_after, point_next, stand_at, state_along}
 use Rattle.zy_calm.proofs.Happens.{DoHear, IsClientNext, IsDelivery, IsReplicaNext, Left, client_asks, replica_hears, still_hear, still_hear_client}
 use Rattle.zy_calm.proofs.JustAsked.{after_ask, ask_sent, asks_so, awaits_first, of_after_ask}
 use Rattle.zy_calm.proofs.Leads.{Leads, MayCome, already, flow_step, flowed_out, joined, one_event, same_run, weaken}
 use Rattle.zy_calm.proofs.Numbers.{AreDifferent, all_different, among_backups, backups, backups_behind, backups_live, is_in, live}
-use Rattle.zy_calm.proofs.Ordering.{AllStand, IsOrdered, IsOrdering, Stands, all_ordered, new_replica, stand_of, stands_anew, stands_still}
+use Rattle.zy_calm.proofs.Turns.{AreTurned, IsTurn, IsTurning, Stands, all_turn, stand_of, stands_anew, stands_still}
 use Rattle.zy_calm.proofs.Queue.{Frames, Hears, none_next}
-use Rattle.zy_calm.proofs.Round.{IsAt, IsReady, IsRound, Stand, answer, frame_of, moved, order_frame}
+use Rattle.zy_calm.proofs.Round.{IsAt, IsReady, IsRound, Stand, answer, frame_of, moved, order_after, order_frame, order_sent, order_taken, response, response_ready}
 use Rattle.zy_calm.specs.Asks.{CalmAsk, lines_of}
 use Rattle.zy_calm.specs.Calm.{IsCalmAsk}
 use Rattle.zy_calm.specs.Entries.{asked_in, done_at, entry_after}
@@ -68,9 +69,18 @@ none_at (None ∷ slots) zero none = refl
 none_at (None ∷ slots) (suc i) none = none_at slots i none
 none_at (Some x ∷ slots) i none = absurd (let e : 1 + count_by is_some slots ≡ 0 = sym (counts is_some (Some x) slots) ∙ none in omega (arith, e))
 
+none_so : (P : Response → Type 0) (slots : List (Option Response)) → count_by is_some slots ≡ 0 → AllKept P slots
+none_so P [] none = tt
+none_so P (None ∷ slots) none = none_so P slots none
+none_so P (Some x ∷ slots) none = absurd (let e : 1 + count_by is_some slots ≡ 0 = sym (counts is_some (Some x) slots) ∙ none in omega (arith, e))
+
 all_free : (c : ClientState) (answers : List (ℕ × Response)) → count_by is_some c.responses ≡ 0 → AllByRecursion (λ x. kept_of c x.0 ≡ None) answers
 all_free c [] none = tt
 all_free c (x ∷ answers) none = (none_at c.responses x.0 none, all_free c answers none)
+
+-- quiet notes in a row
+pub quiets : (m n : ℕ) (l : List Note) → replicate m Quiet ++ (replicate n Quiet ++ l) ≡ replicate (m + n) Quiet ++ l
+quiets m n l = sym (append_assoc (replicate m Quiet) (replicate n Quiet) l) ∙ ap (λ (front : List Note). front ++ l) (replicate-append-replicate m n Quiet)
 
 -- what a machine has to be
 pub record IsMachine {S : Type 0} (R : Rules S) (is_state : S → Type 0) : Type 0 where
@@ -93,25 +103,25 @@ module _ {S : Type 0} (R : Rules S) (s : Setup) (hears : Hears) (fit : IsFit s h
 
   module _ (a : CalmAsk) (before : List Entry) (calm : IsCalmAsk s a) (asker : IsAsker R s hears a.client.0) (inside : length before + 1 < s.interval)
       (leaves : 3 * (length before + 1) ≤ 2 ^ levels_of s.height) (up_to : AreUpTo R before) where
-    abbrev client : ℕ
+    abbrev pub client : ℕ
     client = a.client.0
 
-    abbrev stamp : ℕ
+    abbrev pub stamp : ℕ
     stamp = asked_in a.client before
 
-    abbrev p : Point S
+    abbrev pub p : Point S
     p = point_after R before
 
-    abbrev op : List ℕ
+    abbrev pub op : List ℕ
     op = op_bytes a.op
 
-    abbrev ask : Signed Ask
+    abbrev pub ask : Signed Ask
     ask = asked_for R s p client stamp 0 op
 
     few_asked : stamp ≤ length before
     few_asked = count_by-le-length (λ e. nat_eq e.client.0 a.client.0) before
 
-    may_run : (leaf : ℕ) → leaf ≤ 3 * length before → MayRun R s p client stamp leaf op
+    pub may_run : (leaf : ℕ) → leaf ≤ 3 * length before → MayRun R s p client stamp leaf op
     may_run leaf low =
         record {
           some = fit.some;
@@ -146,7 +156,7 @@ module _ {S : Type 0} (R : Rules S) (s : Setup) (hears : Hears) (fit : IsFit s h
     abbrev same_stand : (w v : World S) (at : Stand S) (id : ℕ) → v.replicas ≡ w.replicas → Stands R s w at id → Stands R s v at id
     same_stand w v at id same stands = record { replica = stands.replica; there = ap (λ (l : List (Option (world.Replica S))). correct_in (slice_get l id)) same ∙ stands.there; is = stands.is }
 
-    asked_next : (w : World S) → IsBetween R s hears w before → MayCome (happens R w (events.Ask a.client op)) Quiet IsAsked
+    pub asked_next : (w : World S) → IsBetween R s hears w before → MayCome (happens R w (events.Ask a.client op)) Quiet IsAsked
     asked_next w between =
         let idle = between.clients client asker in
         let c = idle.client.state in
@@ -174,13 +184,13 @@ module _ {S : Type 0} (R : Rules S) (s : Setup) (hears : Hears) (fit : IsFit s h
     -- ---- the primary orders it
 
     module _ (leaf : ℕ) (low : leaf ≤ 3 * length before) where
-      abbrev order : Signed Order
+      abbrev pub order : Signed Order
       order = given R s p client stamp leaf op
 
-      round : IsRound R s p client ask order
+      pub round : IsRound R s p client ask order
       round = is_round R s p client stamp leaf op (may_run leaf low)
 
-      room : 3 * length before + 2 ≤ 2 ^ levels_of s.height
+      pub room : 3 * length before + 2 ≤ 2 ^ levels_of s.height
       room = omega (arith, leaves)
 
       -- the clients, as they are until an answer comes
@@ -191,22 +201,46 @@ module _ {S : Type 0} (R : Rules S) (s : Setup) (hears : Hears) (fit : IsFit s h
         pub awaits : Awaits asking.state ask (answer R s p client ask order) 0
         pub others : (id : ℕ) → IsAsker R s hears id → (id ≡ client → ⊥) → IsIdle R s hears (correct_in (slice_get clients id)) id (asked_in (record { 0 = id }) before)
 
-      abbrev the_backups : List ℕ
+      abbrev pub the_backups : List ℕ
       the_backups = backups (is_live R s hears) s.counts.n
 
-      abbrev own : Response
+      abbrev pub own : Response
       own = own_response R s p client stamp leaf op
 
-      abbrev Ordering : World S → List ℕ → List (ℕ × Response) → Type 0
-      Ordering w todo answers = IsOrdering R s hears (is_live R s hears) client p ask order round (3 * length before) (length before) room (λ id is inside_n. is) asker.1 IsWaitedFor w todo answers
-
-      abbrev stand_before : Stand S
+      abbrev pub stand_before : Stand S
       stand_before = record { point = p; leaves = 3 * length before + 1; told = length before }
 
-      abbrev stand_after : Stand S
+      abbrev pub stand_after : Stand S
       stand_after = record { point = step R p (entry_of ask); leaves = 3 * length before + 2; told = length before }
 
-      order_goes : (w : World S) (asked : IsAsked w) → asked.primary.is.leaf ≡ leaf → IsDelivery R hears w Quiet (λ v. Ordering v the_backups ((0, own) ∷ []))
+      abbrev pub order_bytes : List ℕ
+      order_bytes = spelling (frames.Order (order_frame R s p client ask order))
+
+      abbrev pub answer_from : ℕ × Response → Party × List ℕ
+      answer_from x = (Client (record { 0 = client }), spelling (frame_of R s p client ask order x.1))
+
+      -- a live replica runs the order and answers
+      pub takes_order : (id : ℕ) → id < s.counts.n → (state : State S) → IsAt R s stand_before id state
+          → IsTurn R s hears (is_live R s hears) stand_before stand_after order_bytes Response (IsReady R s p client ask order) answer_from id state
+      takes_order id inside_n state is =
+          let left : stand_before.leaves + 1 ≤ 2 ^ levels_of s.height = omega (arith, room) in
+          let gets = response R s p client ask order round stand_before refl id inside_n state is left in
+          record {
+            outcome = taken_calmly R p state (order_frame R s p client ask order);
+            step = order_taken R s p client ask order round stand_before refl id inside_n state is left;
+            quiet = refl;
+            at = moved _ stand_after (order_after R s p client ask order round stand_before refl id inside_n state is left) refl (omega arith) (omega arith);
+            gives = gets;
+            good = response_ready R s p client ask order round stand_before refl id inside_n state is left;
+            sent = λ m n.
+                ap (filter (λ z. hears z.0)) (order_sent R s p client ask order round stand_before refl id inside_n state is left m n)
+                ∙ ap (λ (b : Bool). cond b (answer_from (id, gets) ∷ []) []) asker.1;
+          }
+
+      abbrev pub Ordering : World S → List ℕ → List (ℕ × Response) → Type 0
+      Ordering w todo answers = IsTurning R s hears (is_live R s hears) stand_before stand_after order_bytes Response (IsReady R s p client ask order) answer_from IsWaitedFor w todo answers
+
+      pub order_goes : (w : World S) (asked : IsAsked w) → asked.primary.is.leaf ≡ leaf → IsDelivery R hears w Quiet (λ v. Ordering v the_backups ((0, own) ∷ []))
       order_goes w asked its =
           let x = asked.primary.replica in
           let is = asked.primary.is in
@@ -233,7 +267,7 @@ module _ {S : Type 0} (R : Rules S) (s : Setup) (hears : Hears) (fit : IsFit s h
                   left = both.1 ∙ ap (map world.mail_to) (sent
                       ∙ ap (λ (me : ReplicaId). map (to_replica hears (spelling (frames.Order (order_frame R s p client ask order)))) (filter (is_live R s hears) (filter (λ id. if nat_eq id me.0 then false else true) (range_with_len 0 o.state.counts.n))) ++ (Client (record { 0 = client }), spelling (frame_of R s p client ask order own)) ∷ []) is.me
                       ∙ ap (λ counts. map (to_replica hears (spelling (frames.Order (order_frame R s p client ask order)))) (filter (is_live R s hears) (filter (λ id. if nat_eq id 0 then false else true) (range_with_len 0 counts.n))) ++ (Client (record { 0 = client }), spelling (frame_of R s p client ask order own)) ∷ []) is.counts);
-                  ready = (own_ready R s p client stamp leaf op may (let e : leaf + 1 < 2 ^ levels_of s.height = omega (arith, low, leaves) in e), tt);
+                  good = (own_ready R s p client stamp leaf op may (let e : leaf + 1 < 2 ^ levels_of s.height = omega (arith, low, leaves) in e), tt);
                   keeps = subst IsWaitedFor (sym next.clients) (record { asking = asked.asking; there = asked.there; of = asked.of; awaits = subst (λ (n : ℕ). Awaits asked.asking.state ask (answer R s p client ask (given R s p client stamp n op)) 0) its asked.awaits; others = asked.others });
                 });
           }
@@ -254,22 +288,25 @@ module _ {S : Type 0} (R : Rules S) (s : Setup) (hears : Hears) (fit : IsFit s h
 
       -- ---- the answers come
 
-      -- a live replica that ran the order
-      pub record HasRun (replicas : List (Option (world.Replica S))) (id : ℕ) : Type 0 where
+      -- a live replica that stands so
+      pub record HasRun (at : Stand S) (replicas : List (Option (world.Replica S))) (id : ℕ) : Type 0 where
         pub replica : world.Replica S
         pub there : correct_in (slice_get replicas id) ≡ Some replica
-        pub is : IsAt R s stand_after id replica.state
+        pub is : IsAt R s at id replica.state
 
-      abbrev HaveRun : List (Option (world.Replica S)) → Type 0
-      HaveRun replicas = (id : ℕ) → is_live R s hears id ≡ true → id < s.counts.n → HasRun replicas id
+      abbrev pub HaveRun : Stand S → List (Option (world.Replica S)) → Type 0
+      HaveRun at replicas = (id : ℕ) → is_live R s hears id ≡ true → id < s.counts.n → HasRun at replicas id
 
-      abbrev IsOtherIdle : ℕ → Option world.Client → Type 0
+      abbrev pub IsOtherIdle : ℕ → Option world.Client → Type 0
       IsOtherIdle id o = IsAsker R s hears id → IsIdle R s hears o id (asked_in (record { 0 = id }) before)
 
-      abbrev IsServed : World S → Type 0
-      IsServed w = answering.IsServed R s hears client (stamp + 1) p ask order round HaveRun IsOtherIdle w []
+      abbrev pub Answering : World S → ℕ → List (ℕ × Response) → Type 0
+      Answering w kept answers = answering.IsAnswering R s hears client (stamp + 1) p ask order round (HaveRun stand_after) IsOtherIdle w kept answers
 
-      answering_begins : (w : World S) (answers : List (ℕ × Response)) → Ordering w [] answers → answering.IsAnswering R s hears client (stamp + 1) p ask order round HaveRun IsOtherIdle w 0 answers
+      abbrev Answered : World S → Type 0
+      Answered w = answering.AnswersServed R s hears client (stamp + 1) p ask order round (HaveRun stand_after) IsOtherIdle w []
+
+      pub answering_begins : (w : World S) (answers : List (ℕ × Response)) → Ordering w [] answers → Answering w 0 answers
       answering_begins w answers is =
           record {
             around = record {
@@ -277,40 +314,65 @@ module _ {S : Type 0} (R : Rules S) (s : Setup) (hears : Hears) (fit : IsFit s h
               replicas = λ id is_id inside_n. (let st : Stands R s w stand_after id = is.stand id is_id inside_n in record { replica = st.replica; there = st.there; is = st.is });
               others = λ id other is_asker. is.keeps.others id is_asker other;
               left = is.left;
-              ready = is.ready;
+              good = is.good;
             };
             client' = is.keeps.asking;
             there = is.keeps.there;
             of = is.keeps.of;
             awaits = is.keeps.awaits;
             free = all_free is.keeps.asking.state answers is.keeps.awaits.count;
+            sound = none_so _ is.keeps.asking.state.responses is.keeps.awaits.count;
             different = subst AreDifferent (append-nil (map (λ (x : ℕ × Response). x.0) answers)) is.different;
           }
 
       -- and then the next may ask
-      abbrev e : Entry
+      abbrev pub e : Entry
       e = entry_after before a
 
-      longer : length (before ++ e ∷ []) ≡ length before + 1
+      pub longer : length (before ++ e ∷ []) ≡ length before + 1
       longer = length-append before (e ∷ [])
 
-      calm_again : (w : World S) → IsServed w → IsBetween R s hears w (before ++ e ∷ [])
-      calm_again w served =
+      -- its client has what it asked for, and live replicas stand so
+      pub record IsOver (at : Stand S) (w : World S) : Type 0 where
+        pub hear : DoHear hears w
+        pub replicas : HaveRun at w.replicas
+        pub others : (id : ℕ) → (id ≡ client → ⊥) → IsOtherIdle id (client_at w id)
+        pub left : Left hears w []
+        pub served : world.Client
+        pub there : client_at w client ≡ Some served
+        pub of : IsClientOf s client (stamp + 1) served.state
+        pub idle : served.state.waiting ≡ None
+
+      pub calm_again : (at : Stand S) → at.point ≡ step R p (entry_of ask) → at.leaves ≤ 3 * length before + 3 → at.told ≤ length before + 1 → (w : World S) → IsOver at w → IsBetween R s hears w (before ++ e ∷ [])
+      calm_again at same few told w over =
           record {
-            hear = served.around.hear;
+            hear = over.hear;
             stand = λ id is_id inside_n.
-                (let run_it = served.around.replicas id is_id inside_n in
-                record { replica = run_it.replica; there = run_it.there; is = moved stand_after (stand_at R s hears (before ++ e ∷ [])) run_it.is (sym (point_next R before e)) (omega (arith, longer)) (omega (arith, longer)) });
+                (let run_it = over.replicas id is_id inside_n in
+                record { replica = run_it.replica; there = run_it.there; is = moved at (stand_at R s hears (before ++ e ∷ [])) run_it.is (same ∙ sym (point_next R before e)) (omega (arith, longer, few)) (omega (arith, longer, told)) });
             clients = λ id is_asker. idle_again id is_asker (cases_eq id client);
-            left = served.around.left;
+            left = over.left;
           }
         where
           idle_again : (id : ℕ) → IsAsker R s hears id → (id ≡ client) ⊎ (id ≡ client → ⊥) → IsIdle R s hears (client_at w id) id (asked_in (record { 0 = id }) (before ++ e ∷ []))
-          idle_again id is_asker (inl same) =
-              subst (λ (k : ℕ). IsIdle R s hears (client_at w k) k (asked_in (record { 0 = k }) (before ++ e ∷ []))) (sym same)
-              (subst (λ (k : ℕ). IsIdle R s hears (client_at w client) client k) (sym (asked_once_more before a)) (record { client = served.client'; there = served.there; of = served.of; waits = served.idle }))
+          idle_again id is_asker (inl same_id) =
+              subst (λ (k : ℕ). IsIdle R s hears (client_at w k) k (asked_in (record { 0 = k }) (before ++ e ∷ []))) (sym same_id)
+              (subst (λ (k : ℕ). IsIdle R s hears (client_at w client) client k) (sym (asked_once_more before a)) (record { client = over.served; there = over.there; of = over.of; waits = over.idle }))
           idle_again id is_asker (inr other) =
-              subst (λ (k : ℕ). IsIdle R s hears (client_at w id) id k) (sym (asked_as_before (record { 0 = id }) before a other)) (served.around.others id other is_asker)
+              subst (λ (k : ℕ). IsIdle R s hears (client_at w id) id k) (sym (asked_as_before (record { 0 = id }) before a other)) (over.others id other is_asker)
+
+      fast_over : (w : World S) → Answered w → IsOver stand_after w
+      fast_over w served =
+          record {
+            hear = served.around.hear;
+            replicas = served.around.replicas;
+            others = served.around.others;
+            left = served.around.left;
+            served = served.client';
+            there = served.there;
+            of = served.of;
+            idle = served.idle;
+          }
 
       -- ---- the flow
 
@@ -326,13 +388,13 @@ module _ {S : Type 0} (R : Rules S) (s : Setup) (hears : Hears) (fit : IsFit s h
       abbrev answer_notes : List Note
       answer_notes = replicate (fast - 1) Quiet ++ done_note ∷ replicate (count - fast) late
 
-      counted : count ≡ 1 + length the_backups
+      pub counted : count ≡ 1 + length the_backups
       counted = ap length (backups_behind (is_live R s hears) fit.first s.counts.n fit.some) ∙ (let same : suc (length the_backups) ≡ 1 + length the_backups = omega arith in same)
 
       answers_come : fast ≤ count → (w : World S) (answers : List (ℕ × Response)) → length answers ≡ count → Ordering w [] answers → (n all : ℕ) (rest : Rest S) → all ≡ count + n
-          → Leads (flow R all rest w) answer_notes (flow R n rest) IsServed
+          → Leads (flow R all rest w) answer_notes (flow R n rest) Answered
       answers_come enough w answers long is n all rest same =
-          all_answered R s hears client (stamp + 1) p ask order round HaveRun IsOtherIdle answers w 0 (fast - 1) (count - fast) (answering_begins w answers is)
+          all_answered R s hears client (stamp + 1) p ask order round (HaveRun stand_after) IsOtherIdle answers w 0 (fast - 1) (count - fast) (answering_begins w answers is)
           (omega (arith, fit.fast)) (omega (arith, long, enough, fit.fast)) n all rest (omega (arith, same, long))
 
       abbrev flow_notes : List Note
@@ -341,32 +403,41 @@ module _ {S : Type 0} (R : Rules S) (s : Setup) (hears : Hears) (fit : IsFit s h
       abbrev Again : World S → Type 0
       Again w = IsBetween R s hears w (before ++ e ∷ [])
 
-      none_left : (w : World S) → IsServed w → next_undelivered w ≡ None
+      none_left : (w : World S) → Answered w → next_undelivered w ≡ None
       none_left w served = none_next hears w served.around.hear served.around.left
 
-      weaker_end : {r : Run S} {ns : List Note} {rest : Rest S} {First Second : World S → Type 0} → Leads r ns rest First → ((w : World S) → First w → Second w) → Leads r ns rest Second
+      pub weaker_end : {r : Run S} {ns : List Note} {rest : Rest S} {First Second : World S → Type 0} → Leads r ns rest First → ((w : World S) → First w → Second w) → Leads r ns rest Second
       weaker_end (inl broken) more = inl broken
       weaker_end (inr on) more = inr (record { world = on.world; holds = more on.world on.holds; told = on.told; ended = on.ended })
+
+      pub request_step : (w : World S) (asked : IsAsked w) → asked.primary.is.leaf ≡ leaf → (n : ℕ) (rest : Rest S) → Leads (flow R (suc n) rest w) (Quiet ∷ []) (flow R n rest) (λ v. Ordering v the_backups ((0, own) ∷ []))
+      request_step w asked its n rest =
+          let d = order_goes w asked its in
+          let Next = λ (v : World S). Ordering v the_backups ((0, own) ∷ []) in
+          same_run _ _ (Quiet ∷ []) (flow R n rest) Next (flow_step R n rest w d.number d.next) (one_event _ Quiet (flow R n rest) Next d.comes)
+
+      -- all that ran the order, with their answers
+      abbrev pub Ordered : World S → Type 0
+      Ordered v = AreTurned R s hears (is_live R s hears) stand_before stand_after order_bytes Response (IsReady R s p client ask order) answer_from takes_order IsWaitedFor v (1 + length the_backups)
+
+      pub all_order : (w : World S) → Ordering w the_backups ((0, own) ∷ []) → (n all : ℕ) (rest : Rest S) → all ≡ length the_backups + n → Leads (flow R all rest w) (replicate (length the_backups) Quiet) (flow R n rest) Ordered
+      all_order w ordering n all rest same =
+          all_turn R s hears (is_live R s hears) stand_before stand_after order_bytes Response (IsReady R s p client ask order) answer_from takes_order IsWaitedFor the_backups w ((0, own) ∷ []) ordering n all rest same
 
       flow_serves : fast ≤ count → count ≤ s.counts.n → (w : World S) (asked : IsAsked w) → asked.primary.is.leaf ≡ leaf → (all : ℕ) (rest : Rest S) → 2 * s.counts.n ≤ all → Leads (flow R all rest w) flow_notes rest Again
       flow_serves enough few w asked its zero rest long = absurd (omega (arith, few, counted, long))
       flow_serves enough few w asked its (suc all) rest long =
           let behind : ℕ = all - length the_backups in
           let n : ℕ = behind - count in
-          let d = order_goes w asked its in
-          let first : Leads (flow R (suc all) rest w) (Quiet ∷ []) (flow R all rest) (λ v. Ordering v the_backups ((0, own) ∷ [])) =
-          same_run _ _ (Quiet ∷ []) (flow R all rest) (λ v. Ordering v the_backups ((0, own) ∷ [])) (flow_step R all rest w d.number d.next)
-          (one_event _ Quiet (flow R all rest) (λ v. Ordering v the_backups ((0, own) ∷ [])) d.comes) in
+          let first = request_step w asked its all rest in
           joined _ (Quiet ∷ []) (replicate (length the_backups) Quiet ++ answer_notes) (flow R all rest) rest _ Again first
           (λ v ordering. joined _ (replicate (length the_backups) Quiet) answer_notes (flow R behind rest) rest _ Again
-          (all_ordered R s hears (is_live R s hears) client p ask order round (3 * length before) (length before) room (λ id is inside_n. is) asker.1 IsWaitedFor the_backups v ((0, own) ∷ []) ordering behind all rest (omega (arith, few, counted, long)))
-          (λ u ordered. weaker_end (flowed_out R n rest _ answer_notes IsServed none_left
-          (answers_come enough u ordered.answers (ordered.long ∙ sym counted) ordered.is n behind rest (omega (arith, few, counted, long)))) calm_again))
+          (all_order v ordering behind all rest (omega (arith, few, counted, long)))
+          (λ u ordered. weaker_end (flowed_out R n rest _ answer_notes Answered none_left
+          (answers_come enough u ordered.given (ordered.long ∙ sym counted) ordered.is n behind rest (omega (arith, few, counted, long))))
+          (λ x served. calm_again stand_after refl (omega arith) (omega arith) x (fast_over x served))))
 
     -- ---- the ask and its flow
-
-    quiets : (m n : ℕ) (l : List Note) → replicate m Quiet ++ (replicate n Quiet ++ l) ≡ replicate (m + n) Quiet ++ l
-    quiets m n l = sym (append_assoc (replicate m Quiet) (replicate n Quiet) l) ∙ ap (λ (front : List Note). front ++ l) (replicate-append-replicate m n Quiet)
 
     pub ask_served : s.counts.fast ≤ count → count ≤ s.counts.n → (w : World S) (more : List Line) → IsBetween R s hears w before
         → Leads (run R (lines_of Fast a ++ more) w) (notes_of R s.counts Fast count before (entry_after before a)) (run R more) (λ v. IsBetween R s hears v (before ++ entry_after before a ∷ []))

@@ -15,12 +15,12 @@ use Rattle.zy_world_law.specs.Runs.{Run, run}
 use Rattle.zy_world_law.specs.Setup.{Setup}
 use Rattle.zy_world_law.specs.World as world
 use Rattle.zy_world_law.specs.World.{World, client_at, correct_in, is_correct, is_told, same_party, seats, set_muted, start, starting_client, starting_replica}
-use Rattle.zy_calm.proofs.Answering.{IsClientOf}
+use Rattle.zy_calm.proofs.Receiving.{IsClientOf}
 use Rattle.zy_calm.proofs.Between.{AreUpTo, IsAsker, IsBetween, IsIdle, IsUpTo, is_live, point_after, stand_at}
 use Rattle.zy_calm.proofs.Genuine.{get_map}
 use Rattle.zy_calm.proofs.Happens.{correct_client, correct_replica}
 use Rattle.zy_calm.proofs.Numbers.{live, range_below}
-use Rattle.zy_calm.proofs.Ordering.{Stands}
+use Rattle.zy_calm.proofs.Turns.{Stands}
 use Rattle.zy_calm.proofs.Queue.{Hears, is_left}
 use Rattle.zy_calm.specs.Asks.{mute_line}
 use Rattle.zy_calm.specs.Calm as calm

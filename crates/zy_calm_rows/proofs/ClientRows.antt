@@ -26,7 +26,9 @@ use Rattle.zy_parts.specs.declared.statements.Ask.{Ask}
 use Rattle.zy_parts.specs.declared.statements.Local.{Local}
 use Rattle.zy_parts.specs.declared.statements.Order.{Order}
 use Rattle.zy_parts.specs.declared.statements.Spec.{Spec}
-use Rattle.zy_table.specs.ClientRows.{agreeing, agrees, ask, ask_or_commit, ask_while, asked, certificate_of, certified_in, complete, complete_by, completed_if, contradicted, count_local, done_by, done_of, equal_in, evidence_by, evidence_with, hear, hear_response, is_by_primary, is_certified, is_for, is_own_order, is_own_order_if, is_repeated, keep, keep_unless, kept_of, local_beside, local_while, locals_for, next_ask, order_in, respond, respond_while, response_cause, run_out, run_out_while, send_commit, told, vote_on}
+use Rattle.zy_base.specs.declared.step.Event.TheVariants.{Timer}
+use Rattle.zy_base.specs.declared.step.TimerKind.TheVariants as timers
+use Rattle.zy_table.specs.ClientRows.{agreeing, agrees, ask, ask_or_commit, ask_while, asked, certificate_of, certified_in, client_step, complete, complete_by, completed_if, contradicted, count_local, done_by, done_of, equal_in, evidence_by, evidence_with, hear, hear_response, is_by_primary, is_certified, is_for, is_own_order, is_own_order_if, is_repeated, keep, keep_unless, kept_of, local_beside, local_while, locals_for, next_ask, order_in, respond, respond_while, response_cause, run_out, run_out_while, send_commit, told, vote_on}
 use Rattle.zy_table.specs.ClientState.{ClientOutcome, ClientState, leaves_of, refused, taken}
 use Rattle.zy_table.specs.Roles.{is_primary_of}
 use Rattle.zy_table.specs.declared.client.Commit.{Commit}
@@ -160,6 +162,10 @@ module _ (c : ClientState) (waiting : Signed Ask) (a : Answered) (count id : ℕ
 
 -- ---- the timer
 
+pub timer_step : (c : ClientState) → client_step c (Timer timers.Answer) ≡ run_out c
+unfolding client_step
+timer_step c = refl
+
 module _ (c : ClientState) (waiting : Signed Ask) (a : Answered) (count : ℕ) (awaits : Awaits c waiting a count) (some : 1 ≤ c.counts.cert) (enough : c.counts.cert ≤ count) where
   is_enough : (n : ℕ) (r : Response) → IsOf a n r → is_certified c (Some r) ≡ true
   is_enough n r of =
@@ -175,6 +181,13 @@ module _ (c : ClientState) (waiting : Signed Ask) (a : Answered) (count : ℕ) (
       let long : length all ≡ count = as_many a 0 c.responses awaits.kept ∙ awaits.count in
       certifies a 0 c.counts.cert (take c.counts.cert all) (rise_taken a c.counts.cert 0 all (rising a 0 c.responses awaits.kept))
       (length-take-le c.counts.cert all (omega (arith, long))) some
+
+  -- as many as it takes
+  pub certificate_long : length (certificate_of c a.spec) ≡ c.counts.cert
+  certificate_long =
+      let all = filter_map (equal_in a.spec) c.responses in
+      let long : length all ≡ count = as_many a 0 c.responses awaits.kept ∙ awaits.count in
+      length-take-le c.counts.cert all (omega (arith, long))
 
   pub timer_row : run_out c ≡ send_commit c a.spec a.reply
   unfolding run_out
