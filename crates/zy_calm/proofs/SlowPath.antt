@@ -288,9 +288,10 @@ module _ {S : Type 0} (R : Rules S) (s : Setup) (hears : Hears) (fit : IsFit s h
         kept_all : (u : World S) (answers : List (ℕ × Response)) → length answers ≡ count → serving.Ordering R s hears fit is_state machine a before calm asker inside leaves up_to leaf low u [] answers → (n behind : ℕ) (rest : Rest S) → behind ≡ count + n
             → Leads (flow R behind rest u) (replicate count Quiet) (flow R n rest) (λ x. Answering x count [])
         kept_all u answers long_is is n behind rest same =
-            subst (λ (k : ℕ). Leads (flow R behind rest u) (replicate k Quiet) (flow R n rest) (λ x. Answering x k [])) long_is
+            subst (λ (k : ℕ). Leads (flow R behind rest u) (replicate k Quiet) (flow R n rest) (λ x. Answering x count [])) long_is
+            (subst (λ (k : ℕ). Leads (flow R behind rest u) (replicate (length answers) Quiet) (flow R n rest) (λ x. Answering x k [])) (let e : 0 + length answers ≡ count = omega (arith, long_is) in e)
             (all_kept R s hears client stamp p ask order round (HaveRun stand_ran) IsOtherIdle answers u 0 (serving.answering_begins R s hears fit is_state machine a before calm asker inside leaves up_to leaf low u answers is)
-            (omega (arith, long_is, few)) n behind rest (omega (arith, same, long_is)))
+            (omega (arith, long_is, few)) n behind rest (omega (arith, same, long_is))))
 
     -- ---- and behind it
 
