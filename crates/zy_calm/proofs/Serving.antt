@@ -46,7 +46,7 @@ use Rattle.zy_world_law.specs.declared.note.Note.{Note}
 use Rattle.zy_world_law.specs.declared.note.Note.TheVariants as notes
 use Rattle.zy_world_law.specs.declared.note.Note.TheVariants.{Quiet}
 use Rattle.zy_calm.proofs.Answering as answering
-use Rattle.zy_calm.proofs.Answering.{AllKept, all_answered}
+use Rattle.zy_calm.proofs.Answering.{AllKept, IsSound, all_answered}
 use Rattle.zy_calm.proofs.Receiving.{IsClientOf, new_client, same_client}
 use Rattle.zy_calm.proofs.Asking.{MayRun, asked_for, given, heard_copies, is_round, own_ready, own_response, request_after, request_sent, request_taken, to_replica}
 use Rattle.zy_calm.proofs.Between.{AreUpTo, IsAsker, IsBetween, IsIdle, asked_as_before, asked_once_more, is_live, newer_than, place_after, point_after, point_next, stand_at, state_along}
@@ -321,7 +321,7 @@ module _ {S : Type 0} (R : Rules S) (s : Setup) (hears : Hears) (fit : IsFit s h
             of = is.keeps.of;
             awaits = is.keeps.awaits;
             free = all_free is.keeps.asking.state answers is.keeps.awaits.count;
-            sound = none_so _ is.keeps.asking.state.responses is.keeps.awaits.count;
+            sound = none_so (λ (r : Response). IsSound s r.spec) is.keeps.asking.state.responses is.keeps.awaits.count;
             different = subst AreDifferent (append-nil (map (λ (x : ℕ × Response). x.0) answers)) is.different;
           }
 

@@ -3,3 +3,4 @@ pub mod Entries
 pub mod Calm
 pub mod Notes
 pub mod Law
+pub mod Example

@@ -2,6 +2,8 @@
 //! two texts share a digest. The crate has no code: its functions are laws, which have no argument and do nothing.
 #![tactic(auto)]
 
+mod example;
 mod runs;
 
+pub use example::a_calm_schedule;
 pub use runs::calm_runs;
