@@ -324,7 +324,7 @@ module _ {S : Type 0} (R : Rules S) (s : Setup) (hears : Hears) (fit : IsFit s h
           different = subst AreDifferent (append-nil (map (λ (x : ℕ × Signed Local). x.0) votes)) is.different;
         }
       where
-        none_counted : (votes : List (ℕ × Signed Local)) → AllByRecursion (λ x. has_signer (Replica (record { 0 = x.0 })) [] ≡ false) votes
+        none_counted : (votes : List (ℕ × Signed Local)) → AllByRecursion (λ (x : ℕ × Signed Local). has_signer {S = Local} (Replica (record { 0 = x.0 })) [] ≡ false) votes
         none_counted [] = tt
         none_counted (x ∷ votes) = (refl, none_counted votes)
 
