@@ -1,20 +1,16 @@
 -- The answers reach their client: it keeps them until they complete its request, and refuses those that come later.
-use Rattle.std.proofs.Common.{◌≡◌, ◌⊎◌, inl, inr, ℕ, zero, suc, ◌+◌, ◌-◌, ◌<◌, ◌≤◌, Bool, true, false, List, [], ◌∷◌, ◌++◌, length, map, replicate, set, Option, Some, None, refl, sym, ap, ◌∙◌, subst, arith}
+use Rattle.std.proofs.Common.{◌≡◌, ℕ, zero, suc, ◌+◌, ◌<◌, ◌≤◌, true, false, List, [], ◌∷◌, ◌++◌, length, map, replicate, set, Option, Some, None, refl, sym, ap, ◌∙◌, subst, arith}
 use Rattle.std.proofs.lemmas.Bool.{eqb-false, or_parts}
-use Rattle.std.proofs.lemmas.List.{append-nil, get_or-set_other}
-use Rattle.std.specs.List.{AllByRecursion, filter, list_any}
-use Rattle.std.specs.Prelude.{nat_eq, slice_get, if◌then◌else◌}
+use Rattle.std.proofs.lemmas.List.{get_or-set_other}
+use Rattle.std.specs.List.{AllByRecursion, list_any}
+use Rattle.std.specs.Prelude.{nat_eq, if◌then◌else◌}
 use Rattle.zy_base.specs.Machine.{Rules}
 use Rattle.zy_base.specs.declared.cause.Cause.TheVariants as causes
-use Rattle.zy_base.specs.declared.ids.Party.{Party}
-use Rattle.zy_base.specs.declared.ids.Party.TheVariants.{Client, Replica}
-use Rattle.zy_base.specs.declared.step.Answer.TheVariants.{Refused, Taken}
-use Rattle.zy_base.specs.declared.step.Event.TheVariants.{Heard}
+use Rattle.zy_base.specs.declared.step.Answer.TheVariants.{Taken}
 use Rattle.zy_calm_rows.proofs.ClientRows.{awaits_more, by_first, late_response, response_completes, response_kept}
-use Rattle.zy_calm_rows.proofs.ReadAgain.{client_heard}
-use Rattle.zy_calm_rows.specs.Waiting.{Awaits, IsAnswer, IsOf}
+use Rattle.zy_calm_rows.specs.Waiting.{Awaits, IsOf}
 use Rattle.zy_exec.specs.Replay.{Point}
-use Rattle.zy_frames.specs.Frames.{FitsFrame, parts_of, spelling}
+use Rattle.zy_frames.specs.Frames.{FitsFrame}
 use Rattle.zy_parts.specs.Numbers as numbers
 use Rattle.zy_parts.specs.Signing.{part_of, signed}
 use Rattle.zy_parts.specs.Statements.{spec_fields}
@@ -22,8 +18,7 @@ use Rattle.zy_parts.specs.declared.signed.Signed.{Signed}
 use Rattle.zy_parts.specs.declared.statements.Ask.{Ask}
 use Rattle.zy_parts.specs.declared.statements.Order.{Order}
 use Rattle.zy_parts.specs.declared.statements.Spec.{Spec}
-use Rattle.zy_seal.specs.Keys.{Keys}
-use Rattle.zy_seal.specs.Screening.{answer_to, screen}
+use Rattle.zy_seal.specs.Screening.{answer_to}
 use Rattle.zy_seal.specs.declared.directory.SealAnswer.TheVariants.{Yes}
 use Rattle.zy_table.specs.ClientRows.{complete, done_of, hear, hear_response, is_by_primary, keep, kept_of}
 use Rattle.zy_table.specs.ClientState.{ClientOutcome, ClientState, client_outgoing, is_waiting, refused, taken}
@@ -31,21 +26,18 @@ use Rattle.zy_table.specs.Roles.{is_replica}
 use Rattle.zy_table.specs.declared.client.Done.{Done}
 use Rattle.zy_table.specs.declared.client.Path.TheVariants.{Fast}
 use Rattle.zy_table.specs.declared.client.Response.{Response}
-use Rattle.zy_world_law.proofs.Seats.{get_set, get_set_other, seat_of}
-use Rattle.zy_world_law.specs.Events.{client_note, completed_by, happens}
+use Rattle.zy_world_law.specs.Events.{client_note, completed_by}
 use Rattle.zy_world_law.specs.Runs.{Rest, flow}
-use Rattle.zy_world_law.specs.Setup.{Setup, keys_of, sealer_of}
+use Rattle.zy_world_law.specs.Setup.{Setup, keys_of}
 use Rattle.zy_world_law.specs.World as world
 use Rattle.zy_world_law.specs.World.{World, client_at, correct_in}
-use Rattle.zy_world_law.specs.declared.event.WorldEvent.TheVariants as events
 use Rattle.zy_world_law.specs.declared.note.Note.{Note}
 use Rattle.zy_world_law.specs.declared.note.Note.TheVariants as notes
 use Rattle.zy_world_law.specs.declared.note.Note.TheVariants.{Quiet}
-use Rattle.zy_calm.proofs.Genuine.{accepted}
 use Rattle.zy_calm.proofs.Happens.{IsClientNext, IsDelivery}
-use Rattle.zy_calm.proofs.Leads.{Leads, MayCome, already, flow_step, joined, one_event, same_run, weaken}
+use Rattle.zy_calm.proofs.Leads.{Leads, already, joined, same_run}
 use Rattle.zy_calm.proofs.Numbers.{AreDifferent}
-use Rattle.zy_calm.proofs.Queue.{Frames, Hears}
+use Rattle.zy_calm.proofs.Queue.{Hears}
 use Rattle.zy_calm.proofs.Receiving.{AreReadable, IsAround, IsClientOf, IsServed, all_late, late_at, new_client, received, step_of}
 use Rattle.zy_calm.proofs.Round.{IsReady, IsRound, answer, frame_of}
 

@@ -1,19 +1,14 @@
 -- A client asks, and the primary orders its request.
-use Rattle.std.proofs.Common.{◌≡◌, ◌⊎◌, inl, inr, ℕ, zero, suc, ◌+◌, ◌-◌, ◌*◌, ◌%◌, ◌<◌, ◌≤◌, ◌^◌, Bool, true, false, not, ◌&&◌, ◌||◌, List, [], ◌∷◌, ◌++◌, length, map, replicate, cond, get_or, set, Option, Some, None, refl, sym, ap, ◌∙◌, subst, arith, append-nil}
+use Rattle.std.proofs.Common.{◌≡◌, ℕ, ◌+◌, ◌%◌, ◌<◌, ◌≤◌, ◌^◌, Bool, true, false, List, [], ◌∷◌, ◌++◌, length, map, cond, Some, None, refl, sym, ap, ◌∙◌, subst, arith}
 use Rattle.std.proofs.Math.Nat.{mod-eq_of_lt}
-use Rattle.std.proofs.lemmas.Bool.{and_from, eq-eqb, eqb-false, eqb-true, ne_eqb}
-use Rattle.std.proofs.lemmas.List.{map-append}
-use Rattle.std.proofs.lemmas.List.Elements.{filter-append}
-use Rattle.std.specs.List.{AllByRecursion, filter, range_with_len}
-use Rattle.std.specs.Prelude.{nat_eq, if◌then◌else◌}
-use Rattle.zy_admit.specs.Judging.{asking, entry_of}
+use Rattle.std.proofs.lemmas.Bool.{eq-eqb}
+use Rattle.std.specs.List.{filter}
+use Rattle.std.specs.Prelude.{nat_eq}
+use Rattle.zy_admit.specs.Judging.{entry_of}
 use Rattle.zy_base.specs.Machine.{Rules}
 use Rattle.zy_base.specs.declared.ids.Party.{Party}
 use Rattle.zy_base.specs.declared.ids.Party.TheVariants.{Client, Replica}
 use Rattle.zy_base.specs.declared.ids.ReplicaId.{ReplicaId}
-use Rattle.zy_base.specs.declared.ids.Stamp.{Stamp}
-use Rattle.zy_base.specs.declared.ids.View.{View}
-use Rattle.zy_base.specs.declared.step.Answer.TheVariants.{Taken}
 use Rattle.zy_base.specs.declared.step.Event.TheVariants.{Heard}
 use Rattle.zy_calm_rows.proofs.ReadAgain.{heard}
 use Rattle.zy_calm_rows.proofs.ReplicaRows.{in_first_view, order_is, request_calm, request_row}
@@ -25,26 +20,23 @@ use Rattle.zy_frames.specs.Frames.{FitsFrame, parts_of, spelling}
 use Rattle.zy_frames.specs.declared.frame.Frame.TheVariants as frames
 use Rattle.zy_lms.specs.Height.{levels_of}
 use Rattle.zy_parts.specs.Numbers as numbers
-use Rattle.zy_parts.specs.Signing.{part_of, signed}
 use Rattle.zy_parts.specs.Statements.{ask_fields, order_fields, spec_fields}
 use Rattle.zy_parts.specs.declared.signed.Signed.{Signed}
 use Rattle.zy_parts.specs.declared.statements.Ask.{Ask}
 use Rattle.zy_parts.specs.declared.statements.Order.{Order}
-use Rattle.zy_parts.specs.declared.statements.Spec.{Spec}
 use Rattle.zy_seal.specs.Keys.{Keys}
 use Rattle.zy_seal.specs.Screening.{screen}
 use Rattle.zy_seal.specs.Sealing.{SealerState, sealed_by, spent_one}
 use Rattle.zy_table.specs.Deeds.{others, outgoing_of}
 use Rattle.zy_table.specs.Requests.{order_of}
-use Rattle.zy_table.specs.Roles.{in_role, is_client}
 use Rattle.zy_table.specs.Sending.{copies}
-use Rattle.zy_table.specs.State.{State, is_primary, leaves_of, own_view}
+use Rattle.zy_table.specs.State.{State, is_primary}
 use Rattle.zy_table.specs.Whole.{whole_step}
 use Rattle.zy_table.specs.declared.client.Response.{Response}
 use Rattle.zy_world_law.specs.Setup.{Setup, keys_of, sealer_of}
 use Rattle.zy_calm.proofs.Genuine.{accepted, digest_long, is_accepted, is_spelled, next_long}
 use Rattle.zy_calm.proofs.Queue.{Frames}
-use Rattle.zy_calm.proofs.Round.{IsAt, IsReady, IsRound, Stand, answer, frame_of, leaves_are, order_frame, spec_spelled}
+use Rattle.zy_calm.proofs.Round.{IsAt, IsReady, IsRound, Stand, frame_of, leaves_are, order_frame, spec_spelled}
 
 -- ---- the request and its order, as the client and the primary sign them
 

@@ -1,19 +1,16 @@
 -- A calm world between two requests: nothing is left to deliver, all live replicas stand behind the same entries, and no client waits.
-use Rattle.std.proofs.Common.{◌≡◌, ◌⊎◌, inl, inr, ℕ, zero, suc, ◌+◌, ◌*◌, ◌<◌, ◌≤◌, Bool, true, false, List, [], ◌∷◌, ◌++◌, length, get_or, set, cond, Option, Some, None, refl, sym, ap, ◌∙◌, subst, arith, lt-ltb}
+use Rattle.std.proofs.Common.{◌≡◌, ℕ, zero, suc, ◌+◌, ◌*◌, ◌<◌, ◌≤◌, Bool, true, List, [], ◌∷◌, ◌++◌, length, get_or, set, cond, Option, Some, None, refl, sym, ap, ◌∙◌, subst, arith, lt-ltb}
 use Rattle.std.proofs.lemmas.Bool.{eq-eqb, ne_eqb}
-use Rattle.std.proofs.lemmas.List.{length-append}
 use Rattle.std.proofs.lemmas.List.Sums.{sum_by_push}
-use Rattle.std.specs.Prelude.{count_by, nat_eq, nat_lt, option_map, slice_index_or}
+use Rattle.std.specs.Prelude.{nat_eq, option_map, slice_index_or}
 use Rattle.zy_admit.specs.Judging.{newer}
 use Rattle.zy_base.specs.Machine.{Rules}
 use Rattle.zy_base.specs.declared.ids.ClientId.{ClientId}
 use Rattle.zy_base.specs.declared.ids.Party.TheVariants.{Client, Replica}
-use Rattle.zy_base.specs.declared.ids.Stamp.{Stamp}
 use Rattle.zy_chain.specs.declared.entry.Entry.{Entry}
 use Rattle.zy_exec.proofs.ReplayLemmas.{along-append, along-cons, along-nil, place-along}
 use Rattle.zy_exec.specs.Replay.{Point, along, known_of, origin, step}
 use Rattle.zy_exec.specs.declared.known.Known.{Known}
-use Rattle.zy_tuple.specs.Bytes.{op_bytes}
 use Rattle.zy_world_law.specs.Setup.{Setup}
 use Rattle.zy_world_law.specs.World as world
 use Rattle.zy_world_law.specs.World.{World, client_at}

@@ -1,33 +1,30 @@
 -- The run of a calm schedule from the start.
-use Rattle.std.proofs.Common.{◌≡◌, ◌⊎◌, inl, inr, ℕ, zero, suc, ◌+◌, ◌*◌, ◌<◌, ◌≤◌, ◌^◌, true, List, [], ◌∷◌, ◌++◌, length, map, refl, sym, ap, ◌∙◌, subst, arith, append-nil}
+use Rattle.std.proofs.Common.{◌≡◌, inl, inr, ℕ, ◌≤◌, List, [], ◌∷◌, length, ap, ◌∙◌, subst, arith, append-nil}
 use Rattle.std.specs.List.{AllByRecursion, flat_map}
 use Rattle.zy_base.specs.Machine.{Rules}
 use Rattle.zy_base.specs.declared.ids.Digest.{Digest}
-use Rattle.zy_base.specs.declared.ids.Party.TheVariants.{Replica}
-use Rattle.zy_schedule.specs.declared.line.Line.{Line}
 use Rattle.zy_table.specs.declared.client.Path.{Path}
 use Rattle.zy_table.specs.declared.client.Path.TheVariants.{Fast, Slow}
 use Rattle.zy_world_law.specs.Events.{Broken}
 use Rattle.zy_world_law.specs.Events.Broken.{Clash, Forged}
 use Rattle.zy_world_law.specs.Faithful.{IsQuiet, IsUnforged}
-use Rattle.zy_world_law.specs.Runs.{End, Run, ends, run}
-use Rattle.zy_world_law.specs.Runs.End.{At, Stopped}
+use Rattle.zy_world_law.specs.Runs.{Run, ends, run}
+use Rattle.zy_world_law.specs.Runs.End.{Stopped}
 use Rattle.zy_world_law.specs.Setup.{Setup}
-use Rattle.zy_world_law.specs.World.{World, start}
-use Rattle.zy_world_law.specs.declared.note.Note.{Note}
+use Rattle.zy_world_law.specs.World.{start}
 use Rattle.zy_calm.proofs.Between.{IsAsker, is_live}
 use Rattle.zy_calm.proofs.Chain.{Anything, Serves, all_served}
-use Rattle.zy_calm.proofs.Leads.{GoesOn, Leads}
+use Rattle.zy_calm.proofs.Leads.{Leads}
 use Rattle.zy_calm.proofs.Numbers.{few_live, live}
 use Rattle.zy_calm.proofs.Queue.{Hears}
 use Rattle.zy_calm.proofs.Serving.{IsFit, IsMachine, ask_served, count}
 use Rattle.zy_calm.proofs.SlowPath.{ask_served_slowly}
 use Rattle.zy_calm.proofs.Starting.{IsAsRun, as_many_live, first_calm, first_up_to, first_world, hears, hears_client, hears_live, muted_runs}
-use Rattle.zy_calm.specs.Asks.{CalmAsk, calm_lines, lines_of, mute_line}
+use Rattle.zy_calm.specs.Asks.{CalmAsk, calm_lines, lines_of}
 use Rattle.zy_calm.specs.Calm as calm
 use Rattle.zy_calm.specs.Calm.{IsCalm, IsCalmAsk}
-use Rattle.zy_calm.specs.Law.{IsServed, RunsCalmly, calm_run}
-use Rattle.zy_calm.specs.Notes.{calm_notes, notes_after}
+use Rattle.zy_calm.specs.Law.{RunsCalmly, calm_run}
+use Rattle.zy_calm.specs.Notes.{notes_after}
 
 -- ---- nobody lies by its lines
 

@@ -1,5 +1,5 @@
 -- One request after another.
-use Rattle.std.proofs.Common.{◌≡◌, ◌⊎◌, inl, inr, ℕ, zero, suc, ◌+◌, ◌*◌, ◌<◌, ◌≤◌, ◌^◌, List, [], ◌∷◌, ◌++◌, length, refl, sym, ap, ◌∙◌, subst, arith, append-nil}
+use Rattle.std.proofs.Common.{◌≡◌, ℕ, ◌+◌, ◌*◌, ◌<◌, ◌≤◌, ◌^◌, List, [], ◌∷◌, ◌++◌, length, arith}
 use Rattle.std.proofs.lemmas.List.{length-append}
 use Rattle.std.specs.List.{AllByRecursion, flat_map}
 use Rattle.zy_base.specs.Machine.{Rules}
@@ -11,7 +11,7 @@ use Rattle.zy_world_law.specs.Runs.{ends, run}
 use Rattle.zy_world_law.specs.Setup.{Setup}
 use Rattle.zy_world_law.specs.World.{World}
 use Rattle.zy_calm.proofs.Between.{AreUpTo, IsAsker, IsBetween, up_to_next}
-use Rattle.zy_calm.proofs.Leads.{Leads, already, joined, same_run}
+use Rattle.zy_calm.proofs.Leads.{Leads, already, joined}
 use Rattle.zy_calm.proofs.Queue.{Hears}
 use Rattle.zy_calm.specs.Asks.{CalmAsk, lines_of}
 use Rattle.zy_calm.specs.Calm.{IsCalmAsk}

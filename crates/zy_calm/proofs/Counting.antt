@@ -1,5 +1,5 @@
 -- The local commits reach the client: it counts them until they complete its request, and refuses those that come later.
-use Rattle.std.proofs.Common.{◌≡◌, ◌⊎◌, inl, inr, ℕ, zero, suc, ◌+◌, ◌<◌, ◌≤◌, Bool, true, false, not, List, [], ◌∷◌, ◌++◌, length, map, replicate, Option, Some, None, refl, sym, ap, ◌∙◌, subst, arith}
+use Rattle.std.proofs.Common.{◌≡◌, ℕ, zero, suc, ◌+◌, ◌<◌, Bool, false, not, List, [], ◌∷◌, ◌++◌, length, map, replicate, Option, Some, None, refl, sym, ap, ◌∙◌, subst, arith}
 use Rattle.std.proofs.lemmas.Bool.{or_from, or_parts}
 use Rattle.std.proofs.lemmas.List.{length-append}
 use Rattle.std.specs.List.{AllByRecursion, list_any}
@@ -7,25 +7,22 @@ use Rattle.std.specs.Prelude.{nat_eq, if◌then◌else◌}
 use Rattle.zy_base.specs.Machine.{Rules}
 use Rattle.zy_base.specs.declared.cause.Cause.TheVariants as causes
 use Rattle.zy_base.specs.declared.ids.Party.{Party}
-use Rattle.zy_base.specs.declared.ids.Party.TheVariants.{Client, Replica}
-use Rattle.zy_base.specs.declared.step.Answer.TheVariants.{Refused, Taken}
+use Rattle.zy_base.specs.declared.ids.Party.TheVariants.{Replica}
+use Rattle.zy_base.specs.declared.step.Answer.TheVariants.{Taken}
 use Rattle.zy_calm_rows.proofs.ClientRows.{late_local, local_completes, local_counted}
 use Rattle.zy_calm_rows.specs.Waiting.{Answered, IsFresh, commit_with, local_to}
 use Rattle.zy_cert.specs.Equal.{local-equal, same_local}
 use Rattle.zy_cert.specs.Signers.{has_other, has_signer, same_party}
 use Rattle.zy_exec.specs.Replay.{Point}
-use Rattle.zy_frames.specs.declared.frame.Frame.{Frame}
 use Rattle.zy_frames.specs.declared.frame.Frame.TheVariants as frames
 use Rattle.zy_parts.specs.declared.signed.Signed.{Signed}
 use Rattle.zy_parts.specs.declared.statements.Ask.{Ask}
 use Rattle.zy_parts.specs.declared.statements.Local.{Local}
 use Rattle.zy_parts.specs.declared.statements.Order.{Order}
 use Rattle.zy_parts.specs.declared.statements.Spec.{Spec}
-use Rattle.zy_seal.specs.Sealing.{SealerState}
 use Rattle.zy_table.specs.ClientRows.{complete_by, count_local, hear}
 use Rattle.zy_table.specs.ClientState.{ClientOutcome, ClientState, client_outgoing, is_waiting, refused, taken}
 use Rattle.zy_table.specs.Roles.{is_replica}
-use Rattle.zy_table.specs.declared.client.Commit.{Commit}
 use Rattle.zy_table.specs.declared.client.Done.{Done}
 use Rattle.zy_table.specs.declared.client.Path.TheVariants.{Slow}
 use Rattle.zy_world_law.specs.Events.{client_note, completed_by}

@@ -1,11 +1,10 @@
 -- What correct parties of a setup sign can be spelled and is accepted.
-use Rattle.std.proofs.Common.{◌≡◌, ℕ, zero, suc, ◌+◌, ◌<◌, ◌≤◌, ◌^◌, Bool, true, false, List, [], ◌∷◌, ◌++◌, length, map, Option, Some, None, refl, sym, ap, ◌∙◌, arith}
+use Rattle.std.proofs.Common.{◌≡◌, ℕ, zero, suc, ◌+◌, ◌<◌, ◌≤◌, ◌^◌, Bool, true, false, List, [], ◌∷◌, ◌++◌, length, map, Option, Some, None, refl, ap, ◌∙◌, arith}
 use Rattle.sha2.proofs.Facts256.{length-sha256}
 use Rattle.std.proofs.lemmas.Bool.{or_from}
 use Rattle.std.proofs.lemmas.List.{length-take-le}
 use Rattle.std.specs.List.{AllByRecursion, list_any, range_with_len}
 use Rattle.std.specs.Prelude.{slice_get, if◌then◌else◌}
-use Rattle.zy_base.specs.declared.cause.Cause.{Cause}
 use Rattle.zy_base.specs.declared.cause.Cause.TheVariants as causes
 use Rattle.zy_base.specs.declared.ids.Digest.{Digest}
 use Rattle.zy_base.specs.declared.ids.Party.{Party}
@@ -21,14 +20,13 @@ use Rattle.zy_lms.specs.KeyState.{IsKey}
 use Rattle.zy_lms.specs.Lms.{public_of, signature_of, verified}
 use Rattle.zy_parts.specs.Signing.{part_of, signed, text_of}
 use Rattle.zy_parts.specs.declared.signed.Part.{Part}
-use Rattle.zy_parts.specs.declared.signed.Signed.{Signed}
 use Rattle.zy_seal.proofs.SealedLemmas.{IsSealed-sealed_by}
 use Rattle.zy_seal.specs.Checking.{answer_under}
 use Rattle.zy_seal.specs.Keys.{Keys, key_of}
 use Rattle.zy_seal.specs.Screening.{answer_to, is_bad, is_unknown, screen}
 use Rattle.zy_seal.specs.Sealing.{sealed_by}
 use Rattle.zy_seal.specs.declared.directory.SealAnswer.{SealAnswer}
-use Rattle.zy_seal.specs.declared.directory.SealAnswer.TheVariants.{BadSignature, UnknownParty, Yes}
+use Rattle.zy_seal.specs.declared.directory.SealAnswer.TheVariants.{BadSignature, Yes}
 use Rattle.zy_wire.specs.Fields.{IsParty, party_bytes}
 use Rattle.zy_wire.specs.Spelling.{Spelling}
 use Rattle.zy_world_law.specs.Setup.{Setup, key_of_party, keys_of, public_key_of, sealer_of}

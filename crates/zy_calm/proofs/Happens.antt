@@ -1,5 +1,5 @@
 -- What one event makes of a world, as far as calm runs read it.
-use Rattle.std.proofs.Common.{◌≡◌, ◌⊎◌, inl, inr, ℕ, suc, ◌+◌, ◌-◌, Bool, not, ◌&&◌, List, [], ◌∷◌, ◌++◌, map, Option, Some, None, Result, Ok, Err, refl, sym, ap, ◌∙◌, subst, arith, add-one}
+use Rattle.std.proofs.Common.{◌≡◌, ◌⊎◌, inl, inr, ℕ, ◌+◌, ◌-◌, Bool, not, ◌&&◌, List, [], ◌∷◌, ◌++◌, map, Option, Some, None, Result, Ok, Err, refl, sym, ap, ◌∙◌, arith, add-one}
 use Rattle.std.proofs.lemmas.Bool.{cases_eq}
 use Rattle.std.specs.List.{filter}
 use Rattle.std.specs.Prelude.{option_map, slice_get, slice_set}
@@ -19,16 +19,14 @@ use Rattle.zy_table.specs.State.{State}
 use Rattle.zy_table.specs.Whole.{whole_step}
 use Rattle.zy_world_law.proofs.Seats.{get_set, get_set_other, seat_of}
 use Rattle.zy_world_law.specs.Events.Broken.{Clash, Forged}
-use Rattle.zy_world_law.specs.Events.Happened.{Breaks, Goes}
 use Rattle.zy_world_law.specs.Events.{Happened, ask_in, bring_to_client, bring_to_replica, client_goes, client_note, client_stepped, client_timer_in, completed_by, deliver, go_with, happens, replica_goes, replica_note, stepped, unless_forged, with_client, with_done, with_replica}
 use Rattle.zy_world_law.specs.Honest.{forger_in}
-use Rattle.zy_world_law.specs.Setup.{Setup}
 use Rattle.zy_world_law.specs.Texts.{keep_all, step_texts, texts_in}
 use Rattle.zy_world_law.specs.World as world
 use Rattle.zy_world_law.specs.World.{Mail, Texts, World, client_at, correct_in, delivered, is_correct, is_told, mail_at, mail_to, next_undelivered, replica_at, texts_said, with_sent}
 use Rattle.zy_world_law.specs.declared.event.WorldEvent.TheVariants as events
 use Rattle.zy_world_law.specs.declared.note.Note.{Note}
-use Rattle.zy_calm.proofs.Leads.{Comes, MayCome}
+use Rattle.zy_calm.proofs.Leads.{MayCome}
 use Rattle.zy_calm.proofs.Queue.{Frames, Hears, IsNext, brought, is_left, more_left, next_is, next_left}
 
 -- ---- seats

@@ -1,20 +1,16 @@
 -- A client that has just asked waits for the answer, and keeps nothing yet.
-use Rattle.std.proofs.Common.{◌≡◌, ◌⊎◌, inl, inr, ℕ, zero, suc, ◌+◌, ◌-◌, ◌*◌, ◌%◌, ◌<◌, ◌≤◌, ◌^◌, Bool, true, false, not, ◌&&◌, List, [], ◌∷◌, ◌++◌, length, map, replicate, cond, Option, Some, None, refl, sym, ap, ◌∙◌, subst, arith, append-nil, append_assoc}
+use Rattle.std.proofs.Common.{◌≡◌, ℕ, zero, suc, ◌+◌, ◌-◌, ◌%◌, ◌≤◌, ◌^◌, Bool, true, List, [], ◌∷◌, replicate, cond, Option, Some, None, refl, sym, ap, ◌∙◌, subst, arith}
 use Rattle.std.proofs.Math.Nat.{mod-eq_of_lt}
-use Rattle.std.proofs.lemmas.Bool.{ne_eqb}
-use Rattle.std.proofs.lemmas.List.{get_or-replicate, length-replicate, replicate-append-replicate}
-use Rattle.std.proofs.lemmas.List.Elements.{filter-append}
-use Rattle.std.specs.List.{AllByRecursion, filter, range_with_len}
-use Rattle.std.specs.Prelude.{is_some, count_by, nat_eq, if◌then◌else◌}
+use Rattle.std.proofs.lemmas.List.{length-replicate}
+use Rattle.std.specs.List.{filter}
+use Rattle.std.specs.Prelude.{is_some, count_by}
 use Rattle.zy_admit.specs.Judging.{entry_of}
 use Rattle.zy_base.specs.Machine.{Rules}
-use Rattle.zy_base.specs.declared.ids.Party.{Party}
 use Rattle.zy_base.specs.declared.ids.Party.TheVariants.{Client, Replica}
 use Rattle.zy_calm_rows.proofs.ClientRows.{ask_row}
-use Rattle.zy_calm_rows.specs.Outcomes.{ordered_calmly}
 use Rattle.zy_calm_rows.specs.Waiting.{Answered, AreOf, Awaits}
 use Rattle.zy_chain.specs.Entries.{digest_of_request}
-use Rattle.zy_exec.specs.Replay.{Point, known_of, step}
+use Rattle.zy_exec.specs.Replay.{Point, known_of}
 use Rattle.zy_frames.specs.Frames.{spelling}
 use Rattle.zy_frames.specs.declared.frame.Frame.TheVariants as frames
 use Rattle.zy_lms.specs.Height.{levels_of}
@@ -24,17 +20,13 @@ use Rattle.zy_parts.specs.declared.signed.Signed.{Signed}
 use Rattle.zy_parts.specs.declared.statements.Ask.{Ask}
 use Rattle.zy_seal.specs.Sealing.{SealerState, sealed_by, spent_one}
 use Rattle.zy_table.specs.ClientRows.{ask as client_ask, asked, next_ask}
-use Rattle.zy_table.specs.ClientState.{ClientOutcome, ClientState, client_outgoing, leaves_of, no_responses}
-use Rattle.zy_table.specs.Deeds.{others, outgoing_of}
-use Rattle.zy_table.specs.Sending.{copies}
+use Rattle.zy_table.specs.ClientState.{ClientState, client_outgoing, leaves_of}
 use Rattle.zy_table.specs.declared.client.Response.{Response}
 use Rattle.zy_world_law.specs.Setup.{Setup, sealer_of}
-use Rattle.zy_world_law.specs.World as world
-use Rattle.zy_world_law.specs.World.{World, client_at, correct_in}
-use Rattle.zy_calm.proofs.Asking.{MayRun, asked_for, given, is_round, new_ask}
+use Rattle.zy_calm.proofs.Asking.{MayRun, asked_for, given}
 use Rattle.zy_calm.proofs.Receiving.{IsClientOf}
-use Rattle.zy_calm.proofs.Queue.{Frames, Hears}
-use Rattle.zy_calm.proofs.Round.{IsRound, answer}
+use Rattle.zy_calm.proofs.Queue.{Hears}
+use Rattle.zy_calm.proofs.Round.{answer}
 
 -- ---- a client that has just asked
 

@@ -1,9 +1,9 @@
 -- Runs that go on from a world once so much was told, unless an event isn't honest.
-use Rattle.std.proofs.Common.{◌≡◌, ◌⊎◌, inl, inr, ℕ, zero, suc, List, [], ◌∷◌, ◌++◌, Option, Some, None, refl, sym, ap, ◌∙◌, append_assoc}
+use Rattle.std.proofs.Common.{◌≡◌, ◌⊎◌, inl, inr, ℕ, zero, suc, List, [], ◌∷◌, ◌++◌, Some, None, refl, sym, ap, ◌∙◌, append_assoc}
 use Rattle.zy_base.specs.Machine.{Rules}
 use Rattle.zy_world_law.specs.Events.{Broken, Happened, happens}
 use Rattle.zy_world_law.specs.Events.Happened.{Breaks, Goes}
-use Rattle.zy_world_law.specs.Runs.{Rest, Run, comes_to, flow, flow_on, goes_on}
+use Rattle.zy_world_law.specs.Runs.{Rest, Run, flow, flow_on, goes_on}
 use Rattle.zy_world_law.specs.Runs.End.{Stopped}
 use Rattle.zy_world_law.specs.World.{World, next_undelivered}
 use Rattle.zy_world_law.specs.declared.event.WorldEvent.TheVariants as events

@@ -1,22 +1,19 @@
 -- One request of a calm run: its frames, and what live replicas make of them.
-use Rattle.std.proofs.Common.{◌≡◌, ℕ, ◌+◌, ◌-◌, ◌%◌, ◌<◌, ◌≤◌, ◌^◌, Bool, true, false, List, [], ◌∷◌, ◌++◌, length, Option, Some, None, refl, sym, ap, ◌∙◌, subst, arith}
+use Rattle.std.proofs.Common.{◌≡◌, ℕ, ◌+◌, ◌-◌, ◌%◌, ◌<◌, ◌≤◌, ◌^◌, true, List, [], ◌∷◌, length, Some, None, refl, sym, ap, ◌∙◌, subst, arith}
 use Rattle.std.proofs.Math.Nat.{mod-eq_of_lt}
 use Rattle.std.proofs.lemmas.Bool.{eq-eqb, and_from}
 use Rattle.std.specs.List.{AllByRecursion}
-use Rattle.std.specs.Prelude.{◌&&◌, nat_eq}
+use Rattle.std.specs.Prelude.{nat_eq}
 use Rattle.sha2.proofs.Facts256.{length-sha256}
 use Rattle.zy_admit.specs.Judging.{asking, entry_of}
 use Rattle.zy_base.specs.Machine.{Rules}
-use Rattle.zy_base.specs.declared.ids.ClientId.{ClientId}
-use Rattle.zy_base.specs.declared.ids.Digest.{Digest}
 use Rattle.zy_base.specs.declared.ids.Party.{Party}
 use Rattle.zy_base.specs.declared.ids.Party.TheVariants.{Client, Replica}
-use Rattle.zy_base.specs.declared.ids.ReplicaId.{ReplicaId}
 use Rattle.zy_base.specs.declared.step.Event.TheVariants.{Heard}
 use Rattle.zy_calm_rows.proofs.ReadAgain.{heard}
 use Rattle.zy_calm_rows.proofs.ReplicaRows.{order_calm, order_row}
 use Rattle.zy_calm_rows.specs.Calm as rows
-use Rattle.zy_calm_rows.specs.Outcomes.{calm_order, calm_spec, run_calmly, taken_calmly}
+use Rattle.zy_calm_rows.specs.Outcomes.{calm_order, calm_spec, taken_calmly}
 use Rattle.zy_calm_rows.specs.Waiting.{Answered, IsOf}
 use Rattle.zy_chain.specs.Entries.{digest_of_entry}
 use Rattle.zy_exec.specs.Replay.{Point, known_of, step}
@@ -28,7 +25,6 @@ use Rattle.zy_lms.specs.Height.{levels_of}
 use Rattle.zy_parts.specs.Numbers as numbers
 use Rattle.zy_parts.specs.Signing.{part_of, signed}
 use Rattle.zy_parts.specs.Statements.{ask_fields, order_fields, spec_fields}
-use Rattle.zy_parts.specs.declared.signed.Part.{Part}
 use Rattle.zy_parts.specs.declared.signed.Signed.{Signed}
 use Rattle.zy_parts.specs.declared.statements.Ask.{Ask}
 use Rattle.zy_parts.specs.declared.statements.Local.{Local}

@@ -1,5 +1,5 @@
 -- One request is served on the fast path.
-use Rattle.std.proofs.Common.{◌≡◌, ◌⊎◌, inl, inr, ℕ, zero, suc, ◌+◌, ◌-◌, ◌*◌, ◌<◌, ◌≤◌, ◌^◌, Bool, true, false, not, ◌&&◌, List, [], ◌∷◌, ◌++◌, length, map, replicate, cond, get_or, Option, Some, None, refl, sym, ap, ◌∙◌, subst, arith, append-nil, append_assoc}
+use Rattle.std.proofs.Common.{◌≡◌, ◌⊎◌, inl, inr, ℕ, zero, suc, ◌+◌, ◌-◌, ◌*◌, ◌<◌, ◌≤◌, ◌^◌, Bool, true, false, List, [], ◌∷◌, ◌++◌, length, map, replicate, cond, get_or, Option, Some, None, refl, sym, ap, ◌∙◌, subst, arith, append-nil, append_assoc}
 use Rattle.std.proofs.lemmas.Bool.{cases_eq}
 use Rattle.std.proofs.lemmas.List.{length-append, replicate-append-replicate}
 use Rattle.std.proofs.lemmas.List.Elements.{filter-append}
@@ -15,12 +15,10 @@ use Rattle.zy_base.specs.declared.ids.Party.TheVariants.{Client, Replica}
 use Rattle.zy_base.specs.declared.ids.ReplicaId.{ReplicaId}
 use Rattle.zy_base.specs.declared.step.Answer.TheVariants.{Taken}
 use Rattle.zy_calm_rows.proofs.ClientSlots.{counts}
-use Rattle.zy_calm_rows.specs.Calm as rows
 use Rattle.zy_calm_rows.specs.Outcomes.{ordered_calmly, taken_calmly}
 use Rattle.zy_calm_rows.specs.Waiting.{Awaits}
 use Rattle.zy_chain.specs.declared.entry.Entry.{Entry}
-use Rattle.zy_exec.specs.Replay.{Point, known_of, origin, step}
-use Rattle.zy_exec.specs.declared.known.Known.{Known}
+use Rattle.zy_exec.specs.Replay.{Point, origin, step}
 use Rattle.zy_frames.specs.Frames.{spelling}
 use Rattle.zy_frames.specs.declared.frame.Frame.TheVariants as frames
 use Rattle.zy_lms.specs.Height.{levels_of}
@@ -29,7 +27,7 @@ use Rattle.zy_parts.specs.declared.statements.Ask.{Ask}
 use Rattle.zy_parts.specs.declared.statements.Order.{Order}
 use Rattle.zy_schedule.specs.declared.line.Line.{Line}
 use Rattle.zy_table.specs.ClientRows.{asked, kept_of, next_ask}
-use Rattle.zy_table.specs.ClientState.{ClientState, client_outgoing, is_waiting}
+use Rattle.zy_table.specs.ClientState.{ClientState, is_waiting}
 use Rattle.zy_table.specs.Deeds.{others, outgoing_of}
 use Rattle.zy_table.specs.Sending.{copies}
 use Rattle.zy_table.specs.State.{State}
@@ -37,7 +35,7 @@ use Rattle.zy_table.specs.declared.client.Path.TheVariants.{Fast}
 use Rattle.zy_table.specs.declared.client.Response.{Response}
 use Rattle.zy_tuple.specs.Bytes.{op_bytes}
 use Rattle.zy_world_law.specs.Events.{client_note, happens}
-use Rattle.zy_world_law.specs.Runs.{Rest, Run, flow, goes_on, run}
+use Rattle.zy_world_law.specs.Runs.{Rest, Run, flow, run}
 use Rattle.zy_world_law.specs.Setup.{Setup}
 use Rattle.zy_world_law.specs.World as world
 use Rattle.zy_world_law.specs.World.{World, client_at, correct_in, next_undelivered}
@@ -50,9 +48,9 @@ use Rattle.zy_calm.proofs.Answering.{AllKept, IsSound, all_answered}
 use Rattle.zy_calm.proofs.Receiving.{IsClientOf, new_client, same_client}
 use Rattle.zy_calm.proofs.Asking.{MayRun, asked_for, given, heard_copies, is_round, own_ready, own_response, request_after, request_sent, request_taken, to_replica}
 use Rattle.zy_calm.proofs.Between.{AreUpTo, IsAsker, IsBetween, IsIdle, asked_as_before, asked_once_more, is_live, newer_than, place_after, point_after, point_next, stand_at, state_along}
-use Rattle.zy_calm.proofs.Happens.{DoHear, IsClientNext, IsDelivery, IsReplicaNext, Left, client_asks, replica_hears, still_hear, still_hear_client}
-use Rattle.zy_calm.proofs.JustAsked.{after_ask, ask_sent, asks_so, awaits_first, of_after_ask}
-use Rattle.zy_calm.proofs.Leads.{Leads, MayCome, already, flow_step, flowed_out, joined, one_event, same_run, weaken}
+use Rattle.zy_calm.proofs.Happens.{DoHear, IsDelivery, IsReplicaNext, Left, client_asks, replica_hears, still_hear, still_hear_client}
+use Rattle.zy_calm.proofs.JustAsked.{ask_sent, asks_so, awaits_first, of_after_ask}
+use Rattle.zy_calm.proofs.Leads.{Leads, MayCome, flow_step, flowed_out, joined, one_event, same_run, weaken}
 use Rattle.zy_calm.proofs.Numbers.{AreDifferent, all_different, among_backups, backups, backups_behind, backups_live, is_in, live}
 use Rattle.zy_calm.proofs.Turns.{AreTurned, IsTurn, IsTurning, Stands, all_turn, stand_of, stands_anew, stands_still}
 use Rattle.zy_calm.proofs.Queue.{Frames, Hears, none_next}

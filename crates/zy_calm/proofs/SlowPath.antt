@@ -1,12 +1,11 @@
 -- One request is served on the slow path.
-use Rattle.std.proofs.Common.{◌≡◌, ◌⊎◌, inl, inr, ℕ, zero, suc, ◌+◌, ◌-◌, ◌*◌, ◌<◌, ◌≤◌, ◌^◌, Bool, true, false, List, [], ◌∷◌, ◌++◌, length, map, replicate, take, cond, Option, Some, None, refl, sym, ap, ◌∙◌, subst, arith, append-nil, append_assoc}
+use Rattle.std.proofs.Common.{◌≡◌, ℕ, zero, suc, ◌+◌, ◌-◌, ◌*◌, ◌<◌, ◌≤◌, ◌^◌, Bool, true, false, List, [], ◌∷◌, ◌++◌, length, map, replicate, take, cond, Option, Some, None, refl, sym, ap, ◌∙◌, subst, arith, append-nil, append_assoc}
 use Rattle.std.proofs.lemmas.Bool.{and_from}
 use Rattle.std.proofs.lemmas.List.Elements.{All-from_recursion}
 use Rattle.std.specs.List.{AllByRecursion, cons_option, filter, filter_map, list_all, range_with_len}
-use Rattle.std.specs.Prelude.{All, ◌&&◌, slice_get, if◌then◌else◌}
+use Rattle.std.specs.Prelude.{slice_get, if◌then◌else◌}
 use Rattle.zy_admit.specs.Judging.{entry_of}
 use Rattle.zy_base.specs.Machine.{Rules}
-use Rattle.zy_base.specs.declared.cause.Cause.TheVariants as causes
 use Rattle.zy_base.specs.declared.ids.Party.{Party}
 use Rattle.zy_base.specs.declared.ids.Party.TheVariants.{Client, Replica}
 use Rattle.zy_base.specs.declared.step.Answer.TheVariants.{Taken}
@@ -14,35 +13,32 @@ use Rattle.zy_base.specs.declared.step.Event.TheVariants.{Timer}
 use Rattle.zy_base.specs.declared.step.TimerKind.TheVariants as timers
 use Rattle.zy_calm_rows.proofs.ClientRows.{certificate, certificate_long, commit_kept, timer_row, timer_step}
 use Rattle.zy_calm_rows.specs.Outcomes.{committed_calmly}
-use Rattle.zy_calm_rows.specs.Waiting.{Awaits, IsCertificateOf, commit_with, local_to}
+use Rattle.zy_calm_rows.specs.Waiting.{IsCertificateOf, commit_with, local_to}
 use Rattle.zy_cert.specs.Equal.{same_spec}
 use Rattle.zy_cert.specs.Signers.{has_signer}
 use Rattle.zy_chain.specs.declared.entry.Entry.{Entry}
 use Rattle.zy_exec.specs.Replay.{Point, step}
-use Rattle.zy_frames.specs.Frames.{FitsFrame, parts_of, spelling}
+use Rattle.zy_frames.specs.Frames.{FitsFrame, spelling}
 use Rattle.zy_frames.specs.declared.frame.Frame.TheVariants as frames
 use Rattle.zy_lms.specs.Height.{levels_of}
 use Rattle.zy_parts.specs.Numbers as numbers
 use Rattle.zy_parts.specs.Signing.{part_of, signed}
 use Rattle.zy_parts.specs.Statements.{spec_fields}
-use Rattle.zy_parts.specs.declared.signed.Part.{Part}
 use Rattle.zy_parts.specs.declared.signed.Signed.{Signed}
 use Rattle.zy_parts.specs.declared.statements.Ask.{Ask}
 use Rattle.zy_parts.specs.declared.statements.Local.{Local}
 use Rattle.zy_parts.specs.declared.statements.Order.{Order}
 use Rattle.zy_parts.specs.declared.statements.Spec.{Spec}
 use Rattle.zy_schedule.specs.declared.line.Line.{Line}
-use Rattle.zy_seal.specs.Screening.{answer_to}
-use Rattle.zy_seal.specs.declared.directory.SealAnswer.TheVariants.{Yes}
-use Rattle.zy_table.specs.ClientRows.{certificate_of, client_step, equal_in, run_out, send_commit}
-use Rattle.zy_table.specs.ClientState.{ClientOutcome, ClientState, all_replicas, client_outgoing, is_waiting}
+use Rattle.zy_table.specs.ClientRows.{certificate_of, client_step, equal_in, send_commit}
+use Rattle.zy_table.specs.ClientState.{ClientState, all_replicas, client_outgoing, is_waiting}
 use Rattle.zy_table.specs.Roles.{is_replica}
 use Rattle.zy_table.specs.Sending.{copies}
 use Rattle.zy_table.specs.State.{State}
 use Rattle.zy_table.specs.declared.client.Path.TheVariants.{Slow}
 use Rattle.zy_table.specs.declared.client.Response.{Response}
 use Rattle.zy_world_law.specs.Events.{client_note, happens}
-use Rattle.zy_world_law.specs.Runs.{Rest, Run, flow, goes_on, run}
+use Rattle.zy_world_law.specs.Runs.{Rest, flow, goes_on, run}
 use Rattle.zy_world_law.specs.Setup.{Setup, keys_of}
 use Rattle.zy_world_law.specs.World as world
 use Rattle.zy_world_law.specs.World.{World, client_at, correct_in, next_undelivered}
@@ -50,22 +46,21 @@ use Rattle.zy_world_law.specs.declared.event.WorldEvent.TheVariants as events
 use Rattle.zy_world_law.specs.declared.note.Note.{Note}
 use Rattle.zy_world_law.specs.declared.note.Note.TheVariants as notes
 use Rattle.zy_world_law.specs.declared.note.Note.TheVariants.{Quiet}
-use Rattle.zy_calm.proofs.Answering as answering
 use Rattle.zy_calm.proofs.Answering.{AllKept, IsSound, all_kept}
 use Rattle.zy_calm.proofs.Asking.{heard_copies, to_replica}
-use Rattle.zy_calm.proofs.Between.{AreUpTo, IsAsker, IsBetween, IsIdle, is_live, place_after}
+use Rattle.zy_calm.proofs.Between.{AreUpTo, IsAsker, IsBetween, is_live, place_after}
 use Rattle.zy_calm.proofs.Committing.{IsCertificate, IsVote, commit_after, commit_sent, commit_taken, vote, vote_good}
 use Rattle.zy_calm.proofs.Counting.{IsCounting, VotesServed, all_counted}
 use Rattle.zy_calm.proofs.Genuine.{AreAccepted}
-use Rattle.zy_calm.proofs.Happens.{DoHear, IsClientNext, Left, client_timer_runs_out, still_hear_client}
-use Rattle.zy_calm.proofs.Leads.{Leads, MayCome, flow_step, flowed_out, joined, one_event, same_run, weaken}
+use Rattle.zy_calm.proofs.Happens.{client_timer_runs_out, still_hear_client}
+use Rattle.zy_calm.proofs.Leads.{Leads, MayCome, flowed_out, joined, one_event, weaken}
 use Rattle.zy_calm.proofs.Numbers.{AreDifferent, all_different, among_live, backups, backups_behind, is_in, live, live_live}
-use Rattle.zy_calm.proofs.Queue.{Frames, Hears, none_next}
+use Rattle.zy_calm.proofs.Queue.{Hears, none_next}
 use Rattle.zy_calm.proofs.Receiving.{IsClientOf, late_at, new_client, same_client}
-use Rattle.zy_calm.proofs.Round.{IsAt, IsReady, IsRound, Stand, answer, moved}
+use Rattle.zy_calm.proofs.Round.{IsAt, IsRound, Stand, answer, moved}
 use Rattle.zy_calm.proofs.Serving as serving
 use Rattle.zy_calm.proofs.Serving.{IsFit, IsMachine, quiets}
-use Rattle.zy_calm.proofs.Turns.{AreTurned, IsTurn, IsTurning, Stands, all_turn, stand_of}
+use Rattle.zy_calm.proofs.Turns.{IsTurn, IsTurning, Stands, all_turn}
 use Rattle.zy_calm.specs.Asks.{CalmAsk, lines_of}
 use Rattle.zy_calm.specs.Calm.{IsCalmAsk}
 use Rattle.zy_calm.specs.Entries.{asked_in, done_at, entry_after}

@@ -1,5 +1,5 @@
 -- The start, once some replicas are muted.
-use Rattle.std.proofs.Common.{◌≡◌, ◌⊎◌, inl, inr, ℕ, zero, suc, ◌+◌, ◌*◌, ◌<◌, ◌≤◌, ◌^◌, Bool, true, false, not, ◌&&◌, ◌||◌, List, [], ◌∷◌, ◌++◌, length, map, replicate, cond, Option, Some, None, refl, sym, ap, ◌∙◌, subst, arith}
+use Rattle.std.proofs.Common.{◌≡◌, ℕ, ◌+◌, ◌*◌, ◌<◌, ◌≤◌, Bool, true, false, not, ◌&&◌, ◌||◌, List, [], ◌∷◌, ◌++◌, length, map, cond, Option, Some, None, refl, sym, ap, ◌∙◌, subst, arith}
 use Rattle.std.proofs.lemmas.Bool.{and_parts, ltb-false, ne_eqb, not-true}
 use Rattle.std.proofs.lemmas.List.FromFn.{length-map-range_with_len}
 use Rattle.std.specs.List.{AllByRecursion, filter, list_any, range_with_len}
@@ -15,7 +15,6 @@ use Rattle.zy_world_law.specs.Runs.{Run, run}
 use Rattle.zy_world_law.specs.Setup.{Setup}
 use Rattle.zy_world_law.specs.World as world
 use Rattle.zy_world_law.specs.World.{World, client_at, correct_in, is_correct, is_told, same_party, seats, set_muted, start, starting_client, starting_replica}
-use Rattle.zy_calm.proofs.Receiving.{IsClientOf}
 use Rattle.zy_calm.proofs.Between.{AreUpTo, IsAsker, IsBetween, IsIdle, IsUpTo, is_live, point_after, stand_at}
 use Rattle.zy_calm.proofs.Genuine.{get_map}
 use Rattle.zy_calm.proofs.Happens.{correct_client, correct_replica}

@@ -1,5 +1,5 @@
 -- What calm requests become in the history, one entry each, and what their clients count as complete.
-use Rattle.std.specs.Prelude.{ℕ, ◌+◌, nat_eq, count_by, List, [], ◌∷◌, ◌++◌, length}
+use Rattle.std.specs.Prelude.{ℕ, ◌+◌, nat_eq, count_by, List, [], ◌∷◌, ◌++◌}
 use Rattle.zy_base.specs.Machine.{Rules}
 use Rattle.zy_base.specs.declared.ids.ClientId.{ClientId}
 use Rattle.zy_chain.specs.declared.entry.Entry.{Entry}

@@ -1,10 +1,10 @@
 -- What a client makes of a request of its own, of responses, of its timer and of local commits in a calm run.
-use Rattle.std.proofs.Common.{◌≡◌, ℕ, ◌+◌, ◌%◌, ◌<◌, ◌≤◌, Bool, true, false, List, [], ◌∷◌, ◌++◌, length, get_or, set, take, cond, Option, Some, None, refl, sym, ap, ◌∙◌, subst, arith, le-leb}
+use Rattle.std.proofs.Common.{◌≡◌, ℕ, ◌+◌, ◌%◌, ◌<◌, ◌≤◌, Bool, true, false, List, [], ◌∷◌, ◌++◌, length, take, Option, Some, None, refl, sym, ap, ◌∙◌, subst, arith, le-leb}
 use Rattle.std.proofs.Math.Nat.{mod-eq_of_lt}
 use Rattle.std.proofs.lemmas.Bool.{eq-eqb, le-ltb, lt-leb, ne_eqb}
 use Rattle.std.proofs.lemmas.List.{length-set, length-take-le}
 use Rattle.std.specs.List.{filter_map, find}
-use Rattle.std.specs.Prelude.{is_some, count_by, nat_eq, nat_le, nat_lt, unwrap_or, if◌then◌else◌, ◌&&◌}
+use Rattle.std.specs.Prelude.{is_some, count_by, nat_eq, nat_lt, unwrap_or, if◌then◌else◌, ◌&&◌}
 use Rattle.sha2.specs.Sha256.{sha256}
 use Rattle.zy_base.specs.declared.cause.Cause.{Cause}
 use Rattle.zy_base.specs.declared.cause.Cause.TheVariants as causes
@@ -14,13 +14,11 @@ use Rattle.zy_base.specs.declared.ids.Party.{Party}
 use Rattle.zy_base.specs.declared.ids.Party.TheVariants.{Replica}
 use Rattle.zy_base.specs.declared.ids.Stamp.{Stamp}
 use Rattle.zy_base.specs.declared.ids.View.{View}
-use Rattle.zy_cert.specs.Equal.{digest-equal, local-equal, same_digest, same_local, same_spec}
-use Rattle.zy_cert.specs.Signers.{has_other, has_signer}
+use Rattle.zy_cert.specs.Equal.{digest-equal, same_digest, same_local}
+use Rattle.zy_cert.specs.Signers.{has_other}
 use Rattle.zy_cert.specs.Votes.{Poll, answer_to, counted, poll_after}
-use Rattle.zy_cert.specs.declared.votes.Vote.{Vote}
 use Rattle.zy_cert.specs.declared.votes.Vote.TheVariants.{Counted, Full, Mixed, Repeat}
 use Rattle.zy_chain.specs.Entries.{digest_of_request}
-use Rattle.zy_frames.specs.declared.frame.Frame.TheVariants as frames
 use Rattle.zy_parts.specs.declared.signed.Signed.{Signed}
 use Rattle.zy_parts.specs.declared.statements.Ask.{Ask}
 use Rattle.zy_parts.specs.declared.statements.Local.{Local}
@@ -28,13 +26,13 @@ use Rattle.zy_parts.specs.declared.statements.Order.{Order}
 use Rattle.zy_parts.specs.declared.statements.Spec.{Spec}
 use Rattle.zy_base.specs.declared.step.Event.TheVariants.{Timer}
 use Rattle.zy_base.specs.declared.step.TimerKind.TheVariants as timers
-use Rattle.zy_table.specs.ClientRows.{agreeing, agrees, ask, ask_or_commit, ask_while, asked, certificate_of, certified_in, client_step, complete, complete_by, completed_if, contradicted, count_local, done_by, done_of, equal_in, evidence_by, evidence_with, hear, hear_response, is_by_primary, is_certified, is_for, is_own_order, is_own_order_if, is_repeated, keep, keep_unless, kept_of, local_beside, local_while, locals_for, next_ask, order_in, respond, respond_while, response_cause, run_out, run_out_while, send_commit, told, vote_on}
-use Rattle.zy_table.specs.ClientState.{ClientOutcome, ClientState, leaves_of, refused, taken}
+use Rattle.zy_table.specs.ClientRows.{agreeing, ask, ask_or_commit, ask_while, asked, certificate_of, client_step, complete, complete_by, completed_if, count_local, equal_in, evidence_by, evidence_with, hear_response, is_by_primary, is_certified, is_for, is_own_order, is_own_order_if, keep, keep_unless, kept_of, local_beside, local_while, locals_for, next_ask, respond, respond_while, response_cause, run_out, run_out_while, send_commit, told, vote_on}
+use Rattle.zy_table.specs.ClientState.{ClientState, leaves_of, refused, taken}
 use Rattle.zy_table.specs.Roles.{is_primary_of}
 use Rattle.zy_table.specs.declared.client.Commit.{Commit}
 use Rattle.zy_table.specs.declared.client.Response.{Response}
-use Rattle.zy_calm_rows.proofs.ClientSlots.{IsFound, all_agree, as_many, certifies, count_more, first_found, kept_more, none_contradicts, rise_taken, rising, same_answer}
-use Rattle.zy_calm_rows.specs.Waiting.{Answered, AreOf, Awaits, IsAnswer, IsCertificateOf, IsFresh, IsOf, commit_with, local_to}
+use Rattle.zy_calm_rows.proofs.ClientSlots.{IsFound, all_agree, as_many, certifies, count_more, first_found, kept_more, none_contradicts, rise_taken, rising}
+use Rattle.zy_calm_rows.specs.Waiting.{Answered, AreOf, Awaits, IsAnswer, IsCertificateOf, IsFresh, IsOf, commit_with}
 
 same_itself : (d : Digest) → same_digest d d ≡ true
 same_itself d = (digest-equal d d).1 refl

@@ -1,6 +1,6 @@
 -- The responses that a waiting client keeps in a calm run.
 use Rattle.std.proofs.Common.{◌≡◌, ℕ, zero, suc, ◌+◌, ◌<◌, ◌≤◌, Bool, true, false, List, [], ◌∷◌, length, get_or, set, take, cond, Option, Some, None, Ok, refl, sym, ap, ◌∙◌, subst, arith}
-use Rattle.std.proofs.lemmas.Bool.{cond-true, cond-false, le-ltb, ne_eqb, or_from}
+use Rattle.std.proofs.lemmas.Bool.{le-ltb, ne_eqb, or_from}
 use Rattle.std.proofs.lemmas.List.Sums.{sum_by-cons, sum_by-set}
 use Rattle.std.specs.List.{cons_option, filter_map, find, sum_by}
 use Rattle.std.specs.Prelude.{is_some, count_by, nat_eq, nat_lt, not, ◌&&◌, Result, Err, if◌then◌else◌}
@@ -11,7 +11,7 @@ use Rattle.zy_base.specs.declared.ids.Party.{Party}
 use Rattle.zy_base.specs.declared.ids.Party.TheVariants.{Replica}
 use Rattle.zy_base.specs.declared.ids.Place.{Place}
 use Rattle.zy_base.specs.declared.ids.View.{View}
-use Rattle.zy_cert.specs.Certificates.{certified, point_of_equal}
+use Rattle.zy_cert.specs.Certificates.{point_of_equal}
 use Rattle.zy_cert.specs.Equal.{order-equal, same_spec, spec-equal}
 use Rattle.zy_cert.specs.Misbehaviour.{conflict}
 use Rattle.zy_cert.specs.Points.{point_of_spec}

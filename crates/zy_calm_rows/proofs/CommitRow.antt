@@ -1,15 +1,14 @@
 -- What a calm replica makes of a certificate for its last place.
-use Rattle.std.proofs.Common.{◌≡◌, ℕ, ◌+◌, ◌-◌, ◌<◌, ◌≤◌, Bool, true, false, ◌||◌, List, ◌∷◌, [], ◌++◌, length, take, Option, Some, None, Ok, refl, sym, ap, ◌∙◌, arith, le-leb}
+use Rattle.std.proofs.Common.{◌≡◌, ℕ, ◌-◌, ◌<◌, ◌≤◌, Bool, true, false, List, ◌∷◌, take, Option, Some, None, refl, sym, ap, ◌∙◌, arith, le-leb}
 use Rattle.std.proofs.lemmas.Bool.{le-ltb, or_from}
 use Rattle.std.proofs.lemmas.List.{take_all}
-use Rattle.std.specs.Prelude.{nat_le, nat_lt, Result, if◌then◌else◌}
+use Rattle.std.specs.Prelude.{nat_lt, if◌then◌else◌}
 use Rattle.zy_admit.specs.Judging.{same_digest}
 use Rattle.zy_base.specs.Machine.{Rules}
 use Rattle.zy_base.specs.declared.cause.Cause.{Cause}
 use Rattle.zy_base.specs.declared.cause.Cause.TheVariants as causes
 use Rattle.zy_base.specs.declared.ids.ClientId.{ClientId}
 use Rattle.zy_base.specs.declared.ids.Digest.{Digest}
-use Rattle.zy_base.specs.declared.ids.Place.{Place}
 use Rattle.zy_base.specs.declared.ids.View.{View}
 use Rattle.zy_base.specs.declared.step.Answer.TheVariants.{Taken}
 use Rattle.zy_cert.specs.Certificates.{certified}
@@ -21,17 +20,16 @@ use Rattle.zy_chain.specs.declared.entry.Entry.{Entry}
 use Rattle.zy_change.specs.Views.{is_further}
 use Rattle.zy_exec.proofs.ReplayLemmas.{head-along}
 use Rattle.zy_exec.specs.Kept.{last_place, reply_in, stretch_of}
-use Rattle.zy_exec.specs.Replay.{Point, along}
+use Rattle.zy_exec.specs.Replay.{Point}
 use Rattle.zy_frames.specs.declared.frame.Frame.TheVariants as frames
 use Rattle.zy_parts.specs.declared.signed.Signed.{Signed}
 use Rattle.zy_parts.specs.declared.statements.Local.{Local}
 use Rattle.zy_parts.specs.declared.statements.Spec.{Spec}
-use Rattle.zy_table.specs.Commits.{commit, commit_as, commit_beside, commit_judged, local_at, local_said, say_local}
+use Rattle.zy_table.specs.Commits.{commit, commit_as, commit_beside, commit_judged, local_said, say_local}
 use Rattle.zy_table.specs.Deeds.{ends, refused}
-use Rattle.zy_table.specs.Gathering.{own_at, own_from, state_in, with_certificate}
-use Rattle.zy_table.specs.State.{State, leaves_of, own_view, spent}
+use Rattle.zy_table.specs.Gathering.{own_at, own_from, with_certificate}
+use Rattle.zy_table.specs.State.{State, leaves_of, own_view}
 use Rattle.zy_table.specs.Whole.{commit_in_view, plain_row, unless}
-use Rattle.zy_table.specs.declared.kept.OwnCheckpoint.{OwnCheckpoint}
 use Rattle.zy_calm_rows.proofs.ReplicaRows.{no_cause}
 use Rattle.zy_calm_rows.proofs.Running.{none_due}
 use Rattle.zy_calm_rows.specs.Calm.{IsCalm}

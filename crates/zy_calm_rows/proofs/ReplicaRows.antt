@@ -1,18 +1,16 @@
 -- What a calm replica makes of a request, at the primary, and of an order.
-use Rattle.std.proofs.Common.{◌≡◌, ℕ, ◌+◌, ◌*◌, ◌-◌, ◌^◌, ◌<◌, ◌≤◌, min, Bool, true, false, List, length, Option, Some, None, refl, sym, ap, ◌∙◌, arith, lt-ltb, le-leb}
-use Rattle.std.proofs.lemmas.Bool.{eq-eqb, le-ltb, lt-leb, ltb-true, ne_eqb}
+use Rattle.std.proofs.Common.{◌≡◌, ℕ, ◌+◌, ◌-◌, ◌<◌, ◌≤◌, Bool, true, false, Option, Some, None, refl, sym, ap, ◌∙◌, arith, lt-ltb, le-leb}
+use Rattle.std.proofs.lemmas.Bool.{le-ltb, lt-leb, ltb-true, ne_eqb}
 use Rattle.std.proofs.lemmas.List.{get_or_past}
 use Rattle.std.specs.Prelude.{nat_eq, nat_le, nat_lt, option_map, slice_index_or, if◌then◌else◌}
 use Rattle.zy_admit.specs.Judging.{entry_of, judge_at_end, judge_beside, judge_fresh, judge_in, newer, same_digest}
 use Rattle.zy_admit.specs.Orders.{stored_in, with_order}
-use Rattle.zy_admit.specs.declared.judging.Admit.{Admit}
 use Rattle.zy_admit.specs.declared.judging.Admit.TheVariants as admits
 use Rattle.zy_admit.specs.declared.judging.Position.{Position}
 use Rattle.zy_base.specs.Machine.{Rules}
 use Rattle.zy_base.specs.declared.cause.Cause.{Cause}
 use Rattle.zy_base.specs.declared.cause.Cause.TheVariants as causes
 use Rattle.zy_base.specs.declared.ids.Digest.{Digest}
-use Rattle.zy_base.specs.declared.ids.Stamp.{Stamp}
 use Rattle.zy_base.specs.declared.step.Answer.TheVariants.{Taken}
 use Rattle.zy_base.specs.declared.step.Mode.{Mode}
 use Rattle.zy_cert.specs.Equal.{digest-equal}
@@ -20,16 +18,16 @@ use Rattle.zy_chain.specs.Entries.{digest_of_entry}
 use Rattle.zy_chain.specs.Heads.{head_after}
 use Rattle.zy_change.specs.Views as views
 use Rattle.zy_exec.specs.Kept.{known_in, last_place, longer, now_of}
-use Rattle.zy_exec.specs.Replay.{Point, known_of, step}
+use Rattle.zy_exec.specs.Replay.{Point, step}
 use Rattle.zy_exec.specs.declared.known.Known.{Known}
 use Rattle.zy_frames.specs.declared.frame.Frame.TheVariants as frames
 use Rattle.zy_frames.specs.declared.frame.OrderFrame.{OrderFrame}
 use Rattle.zy_parts.specs.declared.signed.Signed.{Signed}
 use Rattle.zy_parts.specs.declared.statements.Ask.{Ask}
 use Rattle.zy_parts.specs.declared.statements.Order.{Order}
-use Rattle.zy_table.specs.Deeds.{Going, Outcome, begin, ends, refused}
+use Rattle.zy_table.specs.Deeds.{Going, begin, ends, refused}
 use Rattle.zy_table.specs.Gathering.{state_in}
-use Rattle.zy_table.specs.Orders.{order_as, position_of, take_order}
+use Rattle.zy_table.specs.Orders.{position_of}
 use Rattle.zy_table.specs.Requests.{is_behind, new_request, order_of, ordered, request, request_after, request_at_backup, request_at_primary, respond_again, sealed_order, take_request}
 use Rattle.zy_table.specs.Roles.{view_cause}
 use Rattle.zy_table.specs.Running.{run, signs_of}

@@ -1,5 +1,5 @@
 -- What a client keeps in a calm run while it waits, as far as its rows read it.
-use Rattle.std.specs.Prelude.{◌≡◌, ℕ, ◌+◌, ◌≤◌, suc, false, is_some, count_by, length, List, [], ◌∷◌, Option, Some, None, Ok}
+use Rattle.std.specs.Prelude.{◌≡◌, ℕ, ◌≤◌, suc, false, is_some, count_by, length, List, [], ◌∷◌, Option, Some, None, Ok}
 use Rattle.sha2.specs.Sha256.{sha256}
 use Rattle.zy_base.specs.declared.ids.Party.TheVariants.{Replica}
 use Rattle.zy_chain.specs.Entries.{digest_of_request}
