@@ -1,4 +1,5 @@
-//! The program's top call, over any files, any sink, any link and any clock.
+//! The program's top call, over any files, any sink, any link and any clock; and the parts of a replay, for a program that tells
+//! more of it.
 #![tactic(auto)]
 
 mod group;
@@ -12,4 +13,8 @@ mod tale;
 mod tally;
 mod top;
 
+pub use replays::{read_group, read_lines};
+pub use running::{Stop, run_event, run_line};
+pub use tale::Tale;
+pub use tally::Tally;
 pub use top::zyzzyva;

@@ -55,7 +55,7 @@ pub(crate) fn replay<R: Threads + Sync, M: Machine + Send>(
             Ok(Replayed::Whole(text))
         }
         Err(Stop::Broke(what)) => {
-            let Tale { tally, text } = tale;
+            let Tale { tally, text, .. } = tale;
             Ok(Replayed::Broke {
                 text,
                 event: tally.events + 1,

@@ -63,8 +63,9 @@ pub(crate) fn run_replay<R: Threads + Sync, F: Files, S: Sink>(
     run_told(rt, alloc, setup, lines, out)
 }
 
-/// The group in the file with this name.
-fn read_group<F: Files>(alloc: Global, group: &str, files: &mut F) -> Result<Setup, Exit>
+/// What the world begins with of the group in the file with this name. `Group` where a field fails, `TooLong` where the file has more
+/// than 16,777,216 bytes.
+pub fn read_group<F: Files>(alloc: Global, group: &str, files: &mut F) -> Result<Setup, Exit>
     ensures told { IfSome (F.held files.old) (λ held. IsGroupJudged (content_of held group.now) result) }
     ensures start { IfOk result IsStart }
     ensures exit { IsReading result }
@@ -75,8 +76,8 @@ fn read_group<F: Files>(alloc: Global, group: &str, files: &mut F) -> Result<Set
     read_setup(alloc, &text)
 }
 
-/// The schedule in the file with this name.
-fn read_lines<F: Files>(alloc: Global, schedule: &str, files: &mut F) -> Result<Vec<Line>, Exit>
+/// The schedule in the file with this name. `Text` at the first line that can't be read, `TooLong` as for a group.
+pub fn read_lines<F: Files>(alloc: Global, schedule: &str, files: &mut F) -> Result<Vec<Line>, Exit>
     ensures told { IfSome (F.held files.old) (λ held. IsScheduleJudged (content_of held schedule.now) result) }
     ensures said { IfOk result (λ lines. All IsSaid lines.items) }
     ensures few { IfOk result (λ lines. length lines.items ≤ limit) }

@@ -14,7 +14,7 @@ ghost use Rattle.zy_world_law.specs.declared.event.WorldEvent.TheVariants as eve
 use crate::tale::Tale;
 use std::alloc::Global;
 use std::thread::Threads;
-use zy_base::{ClientId, Items, Machine, Party, View, Want};
+use zy_base::{Answer, ClientId, Items, Machine, Party, View, Want};
 use zy_schedule::Line;
 use zy_top_words::Broken;
 use zy_tuple::{Op, Reply, op_bytes, reply_bytes};
@@ -23,7 +23,7 @@ use zy_world_law::{Note, WorldEvent};
 
 /// Why a run stopped.
 #[derive(Clone, Copy, Debug, PartialEq, Eq)]
-pub(crate) enum Stop {
+pub enum Stop {
     /// The next event isn't honest.
     Broke(Broken),
     Want,
@@ -57,7 +57,8 @@ pub(crate) fn run_lines<R: Threads + Sync, M: Machine + Send>(
     Ok(world)
 }
 
-fn run_line<R: Threads + Sync, M: Machine + Send>(
+/// Runs one line, and tells of its events: none, one, or those of a flow, whose replicas step at once.
+pub fn run_line<R: Threads + Sync, M: Machine + Send>(
     rt: &R,
     alloc: Global,
     mut world: World<M>,
@@ -206,7 +207,7 @@ fn run_flow<R: Threads + Sync, M: Machine + Send>(
 }
 
 /// Runs one event, and tells of it.
-fn run_event<M: Machine>(
+pub fn run_event<M: Machine>(
     alloc: Global,
     world: World<M>,
     event: WorldEvent,
@@ -218,7 +219,13 @@ fn run_event<M: Machine>(
     ensures count { tale.new.tally.events ≤ tale.old.tally.events + 1 }
 {
     match world.step(event) {
-        Ok(WorldStepped { world, note }) => told(alloc, world, &note, tale),
+        Ok(
+            WorldStepped {
+                world,
+                note,
+                answer,
+            },
+        ) => told(alloc, world, &note, answer, tale),
         Err(WorldFault::Forged(_)) => Err(Stop::Broke(Broken::Forged)),
         Err(WorldFault::Clash(_)) => Err(Stop::Broke(Broken::Clash)),
         Err(WorldFault::Want) => Err(Stop::Want),
@@ -229,12 +236,13 @@ fn told<M: Machine>(
     alloc: Global,
     world: World<M>,
     note: &Note,
+    answer: Option<Answer>,
     tale: &mut Tale,
 ) -> Result<World<M>, Stop>
     requires { tale.old.tally.events + 1 < 2 ^ 64 }
     ensures told { IsTold world note.now tale.old tale.new result }
     ensures count { tale.new.tally.events ≤ tale.old.tally.events + 1 }
 {
-    tale.add(alloc, note)?;
+    tale.add(alloc, note, answer)?;
     Ok(world)
 }

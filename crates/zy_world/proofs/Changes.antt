@@ -1,8 +1,8 @@
 -- What a world shows after a change of one part.
-use Rattle.std.proofs.Common.{◌≡◌, ◌≢◌, ℕ, zero, suc, ◌+◌, ◌-◌, ◌<◌, ◌≤◌, Bool, true, false, ◌||◌, List, [], ◌∷◌, ◌++◌, length, map, Option, Some, None, refl, sym, ap, ◌∙◌, subst, arith, inl, inr}
-use Rattle.std.specs.Prelude.{slice_get, slice_set, option_map, option_to_list, nat_eq, if◌then◌else◌}
+use Rattle.std.proofs.Common.{◌≡◌, ℕ, zero, suc, ◌+◌, ◌-◌, ◌<◌, ◌≤◌, Bool, true, false, ◌||◌, List, [], ◌∷◌, ◌++◌, length, map, Option, Some, None, refl, sym, ap, ◌∙◌, subst, arith, inl, inr}
+use Rattle.std.specs.Prelude.{slice_get, slice_set, option_map, option_to_list, nat_eq}
 use Rattle.std.proofs.lemmas.Bool.{cases_lt, eqb-true, eqb-false}
-use Rattle.std.proofs.lemmas.List.{append-nil, length-set, map-append}
+use Rattle.std.proofs.lemmas.List.{append-nil, map-append}
 use Rattle.std.proofs.lemmas.List.Sums.{fold-append}
 use Rattle.std.proofs.lemmas.Option.{same_Some}
 use Rattle.zy_base.specs.declared.ids.ClientId.{ClientId}
@@ -16,7 +16,7 @@ use Rattle.zy_world.specs.Passed.{ArePast, is_past}
 use Rattle.zy_world.specs.Shown.{Shown, Seated, Posted, numbered, delivered_if, with_delivered, dropped_if, with_dropped, mark_after}
 use Rattle.zy_world.specs.Shows.{Shows}
 use Rattle.zy_world_law.specs.Events.{with_done}
-use Rattle.zy_world_law.specs.Safe.{agreed_mark, completion_of}
+use Rattle.zy_world_law.specs.Safe.{completion_of}
 use Rattle.zy_world_law.specs.World as whole
 use Rattle.zy_world_law.specs.World.{World, Mail, Completed, mail_at, mail_to, with_sent, delivered, drop_frame}
 use Rattle.zy_world_law.proofs.Seats.{get_set, get_set_other}

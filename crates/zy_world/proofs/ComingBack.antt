@@ -1,7 +1,7 @@
 -- Frames are brought in their turns, while replicas are out of their seats.
-use Rattle.std.proofs.Common.{◌≡◌, ℕ, ◌+◌, List, [], ◌∷◌, ◌++◌, Option, Some, None, Result, Ok, Err, refl, sym, ap, ◌∙◌, length, map, Bool, subst, append-nil, arith}
+use Rattle.std.proofs.Common.{◌≡◌, ℕ, ◌+◌, List, [], ◌∷◌, ◌++◌, Option, Some, None, Result, Ok, Err, sym, ap, ◌∙◌, length, map, subst, append-nil, arith}
 use Rattle.std.specs.List.{AllZip}
-use Rattle.std.specs.Prelude.{slice_get, slice_set, option_map, IfOk, IfErr}
+use Rattle.std.specs.Prelude.{slice_get, slice_set, IfOk}
 use Rattle.zy_base.specs.Machine.{Rules}
 use Rattle.zy_base.specs.declared.ids.ClientId.{ClientId}
 use Rattle.zy_base.specs.declared.ids.Party.{Party}
@@ -27,7 +27,7 @@ use Rattle.zy_world.specs.declared.step.Job.{Job}
 use Rattle.zy_world.specs.declared.seat.Seat.TheVariants as sat
 use Rattle.zy_world.specs.declared.step.ReplicaStep.{ReplicaStep}
 use Rattle.zy_world_law.proofs.Seats.{get_set}
-use Rattle.zy_world_law.specs.Events.{Happened, bring, happens, replica_goes}
+use Rattle.zy_world_law.specs.Events.{bring, happens, replica_goes}
 use Rattle.zy_world_law.specs.Events.Broken.{Forged, Clash}
 use Rattle.zy_world_law.specs.Runs.{Rest, flow}
 use Rattle.zy_world_law.specs.World.{World, Replica, Mail, correct_in, delivered, is_told}

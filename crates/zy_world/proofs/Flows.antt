@@ -1,5 +1,5 @@
 -- How the parts of a flow follow one another.
-use Rattle.std.proofs.Common.{◌≡◌, ℕ, zero, suc, ◌+◌, List, [], ◌∷◌, ◌++◌, Some, None, Result, Ok, Err, refl, sym, ap, ◌∙◌, subst, append_assoc, append-nil, arith}
+use Rattle.std.proofs.Common.{◌≡◌, ℕ, zero, suc, ◌+◌, List, [], ◌∷◌, ◌++◌, Some, None, refl, sym, ap, ◌∙◌, subst, append_assoc, append-nil, arith}
 use Rattle.zy_base.specs.Machine.{Rules}
 use Rattle.zy_world.specs.Flowing.{ComesTo, IsCutBy, IsCutOff, Passes, Stops, all_done}
 use Rattle.zy_world.specs.declared.fault.WorldFault.{WorldFault}

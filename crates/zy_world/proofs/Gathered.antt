@@ -1,13 +1,13 @@
 -- The next frames, gathered one by one.
-use Rattle.std.proofs.Common.{◌≡◌, ℕ, suc, ◌+◌, ◌<◌, ◌≤◌, ◌⊎◌, inl, inr, Bool, true, false, not, cond, ◌&&◌, ◌||◌, List, [], ◌∷◌, ◌++◌, length, map, drop, drop-cons, get_or, Option, Some, None, Result, Ok, Err, refl, sym, ap, ap₂, ◌∙◌, subst, append_assoc, append-nil, length-append, arith}
-use Rattle.std.specs.Prelude.{slice_get, slice_index_or, option_map, unwrap_or, nat_lt, if◌then◌else◌, IfOk, OnOk}
+use Rattle.std.proofs.Common.{◌≡◌, ℕ, suc, ◌+◌, ◌<◌, ◌≤◌, ◌⊎◌, inl, inr, Bool, true, false, not, cond, ◌&&◌, ◌||◌, List, [], ◌∷◌, ◌++◌, length, map, drop, drop-cons, get_or, Option, Some, None, Result, Ok, Err, refl, sym, ap, ap₂, ◌∙◌, subst, append_assoc, length-append, arith}
+use Rattle.std.specs.Prelude.{slice_get, option_map, unwrap_or, nat_lt, if◌then◌else◌, IfOk, OnOk}
 use Rattle.std.proofs.lemmas.Bool.{le-ltb}
 use Rattle.std.proofs.lemmas.List.{drop_all}
 use Rattle.std.proofs.lemmas.Option.{slice_get-get_or, slice_get-map, unwrap_or-slice_get}
 use Rattle.zy_base.specs.declared.ids.Party.{Party}
 use Rattle.zy_base.specs.declared.ids.Party.TheVariants as parties
 use Rattle.zy_base.specs.declared.want.Want.{Want}
-use Rattle.zy_world.specs.Ahead.{AreApart, AreNext, IsBatch, due_from, due_of, is_free, with_taken}
+use Rattle.zy_world.specs.Ahead.{AreApart, IsBatch, due_from, due_of, is_free, with_taken}
 use Rattle.zy_world.specs.Gathering.{AreGathered, GoesIn, GoesOn, IsGathered, IsSecond}
 use Rattle.zy_world.specs.Passed.{is_due_in, is_past}
 use Rattle.zy_world.specs.Shown.{Shown, is_correct_seat, seat_in, seat_of, muted_in}

@@ -20,3 +20,4 @@ pub mod Gathered
 pub mod NextFrames
 pub mod ComingBack
 pub mod Flows
+pub mod Answering

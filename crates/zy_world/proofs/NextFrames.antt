@@ -1,6 +1,6 @@
 -- Which frame flows bring next, and which behind it.
-use Rattle.std.proofs.Common.{◌≡◌, ◌≢◌, ℕ, suc, ◌+◌, ◌-◌, Bool, true, false, not, cond, ◌&&◌, List, [], ◌∷◌, ◌++◌, length, map, Option, Some, None, Result, Ok, Err, refl, sym, ap, ap₂, ◌∙◌, subst, append_assoc, arith}
-use Rattle.std.specs.Prelude.{slice_get, slice_set, option_map, nat_lt, IfOk}
+use Rattle.std.proofs.Common.{◌≡◌, ℕ, suc, ◌+◌, ◌-◌, Bool, true, false, not, cond, ◌&&◌, List, ◌∷◌, ◌++◌, length, map, Option, Some, None, refl, sym, ap, ap₂, ◌∙◌, subst, append_assoc, arith}
+use Rattle.std.specs.Prelude.{slice_get, slice_set, option_map, nat_lt}
 use Rattle.std.proofs.lemmas.Bool.{lt-ltb}
 use Rattle.zy_base.specs.Machine.{Rules}
 use Rattle.zy_base.specs.declared.ids.ClientId.{ClientId}
@@ -8,33 +8,27 @@ use Rattle.zy_base.specs.declared.ids.Party.{Party}
 use Rattle.zy_base.specs.declared.ids.Party.TheVariants as parties
 use Rattle.zy_base.specs.declared.ids.ReplicaId.{ReplicaId}
 use Rattle.zy_base.specs.declared.step.Event.TheVariants.{Heard}
-use Rattle.zy_base.specs.declared.want.Want.{Want}
 use Rattle.zy_table.specs.ClientRows.{client_step}
-use Rattle.zy_table.specs.ClientState.{ClientState, client_outgoing}
+use Rattle.zy_table.specs.ClientState.{client_outgoing}
 use Rattle.zy_table.specs.Deeds.{outgoing_of}
 use Rattle.zy_table.specs.State.{State}
 use Rattle.zy_table.specs.Whole.{whole_step}
-use Rattle.zy_world.specs.Ahead.{AreNext, AreOut, GoesAhead, IsGone, MayBeGone, IsTurn, ShowsAhead, due_from, out_for}
-use Rattle.zy_world.specs.Answered.{GoesTo}
-use Rattle.zy_world.specs.Shown.{Shown, is_correct_seat, seat_in, with_replicas}
-use Rattle.zy_world.specs.Shows.{Shows}
+use Rattle.zy_world.specs.Ahead.{AreNext, due_from}
+use Rattle.zy_world.specs.Shown.{is_correct_seat, seat_in}
 use Rattle.zy_world.specs.declared.batch.Due.{Due}
-use Rattle.zy_world.specs.declared.step.Gone.{Gone}
 use Rattle.zy_world.specs.declared.seat.Seat.{Seat}
 use Rattle.zy_world.specs.declared.seat.Seat.TheVariants as sat
 use Rattle.zy_world_law.proofs.Goings.{kept_goes}
-use Rattle.zy_world_law.proofs.Seats.{get_set}
 use Rattle.zy_world_law.specs.Events.{Happened, bring, bring_to_client, bring_to_replica, client_note, client_stepped, completed_by, deliver, happens, replica_goes, replica_note, stepped, unless_forged, with_client, with_done, with_replica, client_goes}
-use Rattle.zy_world_law.specs.Events.Happened.{Goes, Breaks}
+use Rattle.zy_world_law.specs.Events.Happened.{Goes}
 use Rattle.zy_world_law.specs.Texts.{step_texts, texts_in}
 use Rattle.zy_world_law.specs.Honest.{forger_in}
-use Rattle.zy_world_law.specs.World.{World, Replica, Client, Mail, correct_in, delivered, is_correct, is_due, is_told, mail_at, mail_to, next_undelivered, with_sent}
+use Rattle.zy_world_law.specs.World.{World, Replica, Client, Mail, correct_in, delivered, is_correct, is_due, mail_at, mail_to, next_undelivered, with_sent}
 use Rattle.zy_world_law.specs.declared.event.WorldEvent.TheVariants.{Deliver}
 use Rattle.zy_world_law.specs.declared.note.Note.{Note}
 use Rattle.zy_world.proofs.DueFrames.{IsFirst, due_append, first_of}
-use Rattle.zy_world.proofs.OutOfSeats.{comes_back}
-use Rattle.zy_world.proofs.SeatLemmas.{kind_of_set, set_set, told_kind}
-use Rattle.zy_world.proofs.ShownSeats.{correct_is, replica_shown, whole_seat}
+use Rattle.zy_world.proofs.SeatLemmas.{kind_of_set, told_kind}
+use Rattle.zy_world.proofs.ShownSeats.{correct_is, whole_seat}
 
 -- ---- who sits where
 

@@ -9,7 +9,7 @@ use Rattle.zy_world.specs.Shown.{Seated, seat_in, seat_of, is_seated, is_correct
 use Rattle.zy_world.specs.Shows.{ShowsSeats, texts_of}
 use Rattle.zy_world.specs.declared.seat.Seat.{Seat}
 use Rattle.zy_world.specs.declared.seat.Seat.TheVariants as sat
-use Rattle.zy_world_law.specs.World.{World, Replica, Client, correct_in, texts_said, is_party, is_correct, is_liar}
+use Rattle.zy_world_law.specs.World.{World, correct_in, texts_said, is_party, is_correct, is_liar}
 use Rattle.zy_world.proofs.SeatLemmas.{kind_of_map, told_kind, within_kind, sits_in_map}
 
 -- the seat of a party in the whole world

@@ -9,3 +9,4 @@ pub mod Answered
 pub mod Ahead
 pub mod Gathering
 pub mod Flowing
+pub mod Answers

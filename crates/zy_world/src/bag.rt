@@ -15,13 +15,13 @@ use zy_world_setup::request_in;
 
 /// A frame that was sent, with its marks.
 #[derive(Debug, Drop)]
-pub(crate) struct Mail {
-    pub(crate) to: Party,
-    pub(crate) bytes: Bytes,
-    // an event brought it to some party
-    pub(crate) delivered: bool,
-    // flows pass over it
-    pub(crate) dropped: bool,
+pub struct Mail {
+    pub to: Party,
+    pub bytes: Bytes,
+    /// An event brought it to some party.
+    pub delivered: bool,
+    /// Flows pass over it.
+    pub dropped: bool,
 }
 
 impl Model for Mail {

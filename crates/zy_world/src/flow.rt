@@ -164,7 +164,7 @@ impl<M: Machine> World<M> {
             → IfErr result (IsCutOff (runs.flow M.rules (left + 1)) g notes.old notes.new) }
         ensures most { length notes.new ≤ length notes.old + 1 }
     {
-        let WorldStepped { world, note } = self.turn(due, out)?;
+        let WorldStepped { world, note, .. } = self.turn(due, out)?;
         notes.push(note)?;
         Ok(world)
     }
@@ -186,7 +186,7 @@ impl<M: Machine> World<M> {
                     let gone = made?;
                     self.comes_back(due.number, id, &due.bytes, gone)
                 }
-                None => Ok(self.no_subject()),
+                None => Ok(self.no_subject().answered(None)),
             },
             Party::Client(id) => self.client_hears(due.number, id, due.bytes),
         }

@@ -2,6 +2,8 @@
 
 ghost use Rattle.std.specs.Prelude.{◌≡◌, ◌≤◌, ℕ, List, Option, [], length, slice_get, None, Some, IfOk, IfErr};
 ghost use Rattle.zy_base.specs.declared.step.Event.{Event as Happening};
+ghost use Rattle.zy_base.specs.declared.ids.Party.TheVariants as parties;
+ghost use Rattle.zy_world.specs.Answers.{ask_answer, party_answer};
 ghost use Rattle.zy_world.specs.Answered.{GoesTo, IsBrokenBy, HeardTo, IsUnheardBy, replica_steps, client_steps};
 ghost use Rattle.zy_world.specs.Shown.{with_replicas};
 ghost use Rattle.zy_world.specs.Shows.{Shows};
@@ -21,16 +23,38 @@ use zy_table::{AnyFrame, Done};
 use zy_world_law::Note;
 use zy_world_setup::read_frame;
 
+/// The world behind an event, and what is told of it.
+#[derive(Drop)]
+pub(crate) struct Noted<M: Machine> {
+    pub(crate) world: World<M>,
+    pub(crate) note: Note,
+}
+
+impl<M: Machine> Noted<M> {
+    /// This is what a party answered to the event, or none that none did.
+    pub(crate) fn answered(self, answer: Option<Answer>) -> WorldStepped<M>
+        ensures world { result.world ≡ self.world }
+        ensures note { result.note ≡ self.note }
+        ensures answer { result.answer ≡ answer }
+    {
+        WorldStepped {
+            world: self.world,
+            note: self.note,
+            answer,
+        }
+    }
+}
+
 impl<M: Machine> World<M> {
-    pub(crate) fn noted(self, note: Note) -> WorldStepped<M>
+    pub(crate) fn noted(self, note: Note) -> Noted<M>
         ensures world { result.world ≡ self }
         ensures note { result.note ≡ note }
     {
-        WorldStepped { world: self, note }
+        Noted { world: self, note }
     }
 
     /// The event has no subject, and changes nothing.
-    pub(crate) fn no_subject(self) -> WorldStepped<M>
+    pub(crate) fn no_subject(self) -> Noted<M>
         ensures goes { (g : Whole M.State) (others : List (Option (State M.State)) → List (Option (State M.State))) → Shows g (with_replicas others self) → GoesTo (no_subject g) result.note (with_replicas others result.world) }
         ensures seats { result.world.seats ≡ self.seats }
     {
@@ -72,9 +96,10 @@ impl<M: Machine> World<M> {
     ) -> Result<WorldStepped<M>, WorldFault>
         ensures goes { (g : Whole M.State) → Shows g self → IfOk result (λ r. GoesTo (replica_steps M.rules g id event (slice_get g.replicas id.0)) r.note r.world) }
         ensures broken { (g : Whole M.State) → Shows g self → IfErr result (IsBrokenBy (replica_steps M.rules g id event (slice_get g.replicas id.0))) }
+        ensures answer { IfOk result (λ r. r.answer ≡ party_answer M.rules self.seats (parties.Replica id) event) }
     {
         match self.seats.step_replica(id, event)? {
-            None => Ok(self.no_subject()),
+            None => Ok(self.no_subject().answered(None)),
             Some(step) => self.replica_stepped(id, step),
         }
     }
@@ -90,12 +115,14 @@ impl<M: Machine> World<M> {
         ensures broken { (g : Whole M.State) (x : AReplica M.State) (event : Happening) (o : Outcome M.State) (others : List (Option (State M.State)) → List (Option (State M.State))) → HasReplicaStepped g id x o step (with_replicas others self)
             → IfErr result (IsBrokenBy (replica_goes g id x [] event o)) }
         ensures seats { IfOk result (λ r. r.world.seats ≡ self.seats) }
+        ensures answer { IfOk result (λ r. r.answer ≡ Some step.answer) }
     {
-        let note = replica_note(id, step.answer);
+        let answer = step.answer;
+        let note = replica_note(id, answer);
         self.texts.keep_step(&step.got)?;
         self.said.add(Party::Replica(id), step.said)?;
         self.bag.send(step.out)?;
-        Ok(self.noted(note))
+        Ok(self.noted(note).answered(Some(answer)))
     }
 
     /// The client of this number makes a step.
@@ -109,9 +136,10 @@ impl<M: Machine> World<M> {
         ensures broken { (g : Whole M.State) (others : List (Option (State M.State)) → List (Option (State M.State))) → Shows g (with_replicas others self)
             → IfErr result (IsBrokenBy (client_steps g id event (slice_get g.clients id.0))) }
         ensures replicas { IfOk result (λ r. r.world.seats.replicas ≡ self.seats.replicas) }
+        ensures answer { IfOk result (λ r. r.answer ≡ party_answer M.rules self.seats (parties.Client id) event) }
     {
         match self.seats.step_client(id, event)? {
-            None => Ok(self.no_subject()),
+            None => Ok(self.no_subject().answered(None)),
             Some(step) => Ok(self.client_stepped(id, step)?),
         }
     }
@@ -125,9 +153,10 @@ impl<M: Machine> World<M> {
         requires { length op ≤ 1100 }
         ensures goes { (g : Whole M.State) → Shows g self → IfOk result (λ r. GoesTo (ask_in g id op (slice_get g.clients id.0)) r.note r.world) }
         ensures broken { (g : Whole M.State) → Shows g self → IfErr result (IsBrokenBy (ask_in g id op (slice_get g.clients id.0))) }
+        ensures answer { IfOk result (λ r. r.answer ≡ ask_answer self.seats id op) }
     {
         match self.seats.ask_client(id, op)? {
-            None => Ok(self.no_subject()),
+            None => Ok(self.no_subject().answered(None)),
             Some(step) => Ok(self.client_stepped(id, step)?),
         }
     }
@@ -137,11 +166,16 @@ impl<M: Machine> World<M> {
         ensures goes { (g : Whole M.State) (x : AClient) (o : ClientOutcome) (others : List (Option (State M.State)) → List (Option (State M.State))) → HasClientStepped g id x o step (with_replicas others self)
             → IfOk result (λ r. GoesTo (client_goes g id x [] o) r.note (with_replicas others r.world)) }
         ensures seats { IfOk result (λ r. r.world.seats ≡ self.seats) }
+        ensures answer { IfOk result (λ r. r.answer ≡ Some step.answer) }
     {
+        let answer = step.answer;
         self.said.add(Party::Client(id), step.said)?;
         self.bag.send(step.out)?;
         self.agreed.complete(&step.done);
-        Ok(self.noted(client_note(id, step.done, step.answer)))
+        Ok(
+            self.noted(client_note(id, step.done, answer))
+                .answered(Some(answer)),
+        )
     }
 }
 

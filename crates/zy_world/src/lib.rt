@@ -14,6 +14,7 @@ mod liars;
 mod lying;
 mod marks;
 mod mutes;
+mod readers;
 mod seat;
 mod seats;
 mod start;
@@ -21,6 +22,7 @@ mod step;
 mod tale;
 mod world;
 
+pub use bag::Mail;
 pub use events::WorldStepped;
 pub use fault::WorldFault;
 pub use flow::{FlowFault, Flowed};

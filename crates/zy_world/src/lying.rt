@@ -19,8 +19,9 @@ ghost use Rattle.zy_world_law.specs.declared.note.Note.TheVariants.{Quiet};
 ghost use Rattle.zy_world_law.specs.Liars.{by_replica, if_short, order_told, spec_told, requests_at, statement_told};
 ghost use Rattle.zy_world_law.specs.World.{World as Whole, are_parties, is_correct, is_liar, with_sent};
 
+use crate::World;
+use crate::going::Noted;
 use crate::tale::Tale;
-use crate::{World, WorldStepped};
 use zy_base::{Bytes, Cause, Items, Machine, Party, View, Want};
 use zy_parts::{Ask, Signed};
 use zy_seal::SealFault;
@@ -35,7 +36,7 @@ impl<M: Machine> World<M> {
         view: View,
         asks: &Items<u64>,
         to: &Items<Party>,
-    ) -> Result<WorldStepped<M>, Want>
+    ) -> Result<Noted<M>, Want>
         requires { IsHistoryTold view asks.now }
         ensures { (g : Whole M.State) → Shows g self → IfOk result (λ r. GoesTo (lie g liar to.now (by_replica liar (option_and_then (order_told view) (requests_at g asks.now)))) r.note r.world) }
     {
@@ -53,7 +54,7 @@ impl<M: Machine> World<M> {
         asks: &Items<u64>,
         to: &Items<Party>,
         reply: Bytes,
-    ) -> Result<WorldStepped<M>, Want>
+    ) -> Result<Noted<M>, Want>
         requires history { IsHistoryTold view asks.now }
         requires reply { length reply ≤ 1100 }
         ensures { (g : Whole M.State) → Shows g self → IfOk result (λ r. GoesTo (lie g liar to.now (by_replica liar (option_and_then (spec_told view reply) (requests_at g asks.now)))) r.note r.world) }
@@ -70,7 +71,7 @@ impl<M: Machine> World<M> {
         liar: Party,
         bytes: &Bytes,
         to: &Items<Party>,
-    ) -> Result<WorldStepped<M>, Want>
+    ) -> Result<Noted<M>, Want>
         ensures { (g : Whole M.State) → Shows g self → IfOk result (λ r. GoesTo (lie g liar to.now (if_short g.setup liar (statement_told bytes.now))) r.note r.world) }
     {
         match read_statement(self.alloc, bytes.as_slice())? {
@@ -85,7 +86,7 @@ impl<M: Machine> World<M> {
         party: Party,
         bytes: &Bytes,
         to: &Items<Party>,
-    ) -> Result<WorldStepped<M>, Want>
+    ) -> Result<Noted<M>, Want>
         ensures { (g : Whole M.State) → Shows g self → IfOk result (λ r. GoesTo (forge g party to.now (if_short g.setup party (statement_told bytes.now))) r.note r.world) }
     {
         match read_statement(self.alloc, bytes.as_slice())? {
@@ -95,7 +96,7 @@ impl<M: Machine> World<M> {
     }
 
     /// Bytes are sent as they are.
-    pub(crate) fn raw(self, bytes: &Bytes, to: &Items<Party>) -> Result<WorldStepped<M>, Want>
+    pub(crate) fn raw(self, bytes: &Bytes, to: &Items<Party>) -> Result<Noted<M>, Want>
         ensures { (g : Whole M.State) → Shows g self → IfOk result (λ r. GoesTo (raw g bytes.now to.now) r.note r.world) }
     {
         if self.are_parties(to) {
@@ -122,7 +123,7 @@ impl<M: Machine> World<M> {
     }
 
     // A liar signs by its next leaf.
-    fn lie(self, liar: Party, to: &Items<Party>, tale: Tale) -> Result<WorldStepped<M>, Want>
+    fn lie(self, liar: Party, to: &Items<Party>, tale: Tale) -> Result<Noted<M>, Want>
         requires { IsTale tale }
         ensures { (g : Whole M.State) → Shows g self → IfOk result (λ r. GoesTo (lie g liar to.now (told_by g.setup liar tale)) r.note r.world) }
     {
@@ -140,7 +141,7 @@ impl<M: Machine> World<M> {
     }
 
     // Signs, and sends the frame, unless it is longer than a frame may be.
-    fn lies(mut self, liar: Party, to: &Items<Party>, tale: Tale) -> Result<WorldStepped<M>, Want>
+    fn lies(mut self, liar: Party, to: &Items<Party>, tale: Tale) -> Result<Noted<M>, Want>
         requires { IsTale tale }
         ensures { (g : Whole M.State) → Shows g self → (is_liar g liar && are_parties g to.now) ≡ true → IfOk result (λ r. GoesTo (lie g liar to.now (told_by g.setup liar tale)) r.note r.world) }
     {
@@ -152,12 +153,7 @@ impl<M: Machine> World<M> {
         }
     }
 
-    fn forge(
-        self,
-        party: Party,
-        to: &Items<Party>,
-        statement: Tellable,
-    ) -> Result<WorldStepped<M>, Want>
+    fn forge(self, party: Party, to: &Items<Party>, statement: Tellable) -> Result<Noted<M>, Want>
         requires { IsTellable statement }
         ensures { (g : Whole M.State) → Shows g self → IfOk result (λ r. GoesTo (forge g party to.now (if_short g.setup party (Some (telling_of statement)))) r.note r.world) }
     {
@@ -175,12 +171,7 @@ impl<M: Machine> World<M> {
     }
 
     // Signs by the party's last leaf, and sends the frame, unless it is longer than a frame may be.
-    fn forges(
-        self,
-        party: Party,
-        to: &Items<Party>,
-        statement: Tellable,
-    ) -> Result<WorldStepped<M>, Want>
+    fn forges(self, party: Party, to: &Items<Party>, statement: Tellable) -> Result<Noted<M>, Want>
         requires { IsTellable statement }
         ensures { (g : Whole M.State) → Shows g self → (is_correct g party && are_parties g to.now) ≡ true → IfOk result (λ r. GoesTo (forge g party to.now (if_short g.setup party (Some (telling_of statement)))) r.note r.world) }
     {
@@ -211,7 +202,7 @@ impl<M: Machine> World<M> {
         self.seats.are_seated(to.as_slice())
     }
 
-    fn sends(mut self, bytes: &Bytes, to: &Items<Party>) -> Result<WorldStepped<M>, Want>
+    fn sends(mut self, bytes: &Bytes, to: &Items<Party>) -> Result<Noted<M>, Want>
         ensures { (g : Whole M.State) → Shows g self → IfOk result (λ r. GoesTo (Goes (with_sent g (copies bytes.now to.now)) Quiet) r.note r.world) }
     {
         self.bag.send_copies(bytes, to)?;

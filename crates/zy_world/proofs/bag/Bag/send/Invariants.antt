@@ -1,4 +1,4 @@
-use Rattle.std.proofs.Common.{◌≡◌, ◌≤◌, ◌++◌, length, map}
+use Rattle.std.proofs.Common.{◌≡◌, ◌++◌, length, map}
 use Rattle.zy_world_law.specs.World.{mail_to}
 use Rattle.zy_world.proofs.bag.Bag.send.Given as goal
 

@@ -1,8 +1,7 @@
-use Rattle.std.proofs.Common.{◌≡◌, List, Option, Some, None, sym, ap, ◌∙◌}
+use Rattle.std.proofs.Common.{◌≡◌, Option, None, sym, ap, ◌∙◌}
 use Rattle.std.specs.Prelude.{slice_get, slice_set}
 use Rattle.std.proofs.lemmas.Option.{same_Some}
 use Rattle.zy_world.specs.Shown.{Seated}
-use Rattle.zy_world.specs.Ahead.{IsJob}
 use Rattle.zy_world_law.specs.World.{correct_in}
 use Rattle.zy_table.specs.State.{State}
 use Rattle.zy_world.proofs.seats.Seats.take_for.Goals as goal

@@ -1,4 +1,4 @@
-use Rattle.std.proofs.Common.{◌≡◌, ◌∷◌, [], List, ℕ, suc, ◌+◌, get_or, drop, drop-cons, sym, ap, ◌∙◌, subst, refl, arith}
+use Rattle.std.proofs.Common.{◌≡◌, ◌∷◌, List, suc, ◌+◌, drop, drop-cons, sym, ap, ◌∙◌, subst, refl, arith}
 use Rattle.std.proofs.lemmas.List.{drop_all}
 use Rattle.zy_world.proofs.OutOfSeats.{IsTaking, taking_all, taking_more, taking_none}
 use Rattle.zy_world.specs.Ahead.{IsJob}

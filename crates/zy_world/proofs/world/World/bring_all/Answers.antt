@@ -1,15 +1,4 @@
-use Rattle.std.proofs.Common.{◌≡◌, List, Bool, Result, Option, map, sym, ap, ◌∙◌, subst}
 use Rattle.std.proofs.lemmas.Result.{err_from_is_err_and}
-use Rattle.std.specs.List.{AllZip}
-use Rattle.zy_base.specs.declared.want.Want.{Want}
-use Rattle.zy_table.specs.State.{State}
-use Rattle.zy_world.specs.Ahead.{AreApart, AreOut, IsBatch, IsJob, MayBeGone, ShowsAhead}
-use Rattle.zy_world.specs.Shown.{Shown, Seated}
-use Rattle.zy_world.specs.Shows.{Shows}
-use Rattle.zy_world.specs.declared.batch.Due.{Due}
-use Rattle.zy_world.specs.declared.step.Gone.{Gone}
-use Rattle.zy_world.specs.declared.step.Job.{Job}
-use Rattle.zy_world_law.specs.World.{is_told}
 use Rattle.zy_world.proofs.ComingBack.{all_ahead}
 use Rattle.zy_world.proofs.world.World.bring_all.Goals as goal
 

@@ -1,12 +1,12 @@
-use Rattle.std.proofs.Common.{◌≡◌, sym, ap, ◌∙◌, subst}
+use Rattle.std.proofs.Common.{sym, ap, ◌∙◌, subst}
 use Rattle.zy_world.specs.Passed.{ArePast}
 use Rattle.zy_world.specs.Shown.{Posted, Shown}
 use Rattle.zy_world.specs.Shows.{Shows}
 use Rattle.zy_world.proofs.Changes.{mail_is, past_delivered, shows_delivered}
 use Rattle.zy_world.proofs.world.World.delivered.Goals as goal
 
-pub returns : goal.returns
-returns g c w mail s there =
+pub returns-clause-shows : goal.returns-clause-shows
+returns-clause-shows g c w mail s there =
     let i = subst (λ (v : Shown g.row.M-State.Denot). Shows w v) (sym c.self.view_is) s in
     shows_delivered w _ c.args.number mail _ i (sym (mail_is w c.args.number) ∙ there)
     (c.pass.ensures.mails ∙ ap (λ (bag : Posted). bag.mails) c.deliver.ensures)

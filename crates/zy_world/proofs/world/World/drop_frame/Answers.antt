@@ -1,4 +1,4 @@
-use Rattle.std.proofs.Common.{◌≡◌, sym, ap, ◌∙◌, subst}
+use Rattle.std.proofs.Common.{sym, ap, ◌∙◌, subst}
 use Rattle.zy_world.specs.Passed.{ArePast}
 use Rattle.zy_world.specs.Shown.{Posted, Shown}
 use Rattle.zy_world.specs.Shows.{Shows}

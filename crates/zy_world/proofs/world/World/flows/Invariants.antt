@@ -1,4 +1,4 @@
-use Rattle.std.proofs.Common.{◌≡◌, ℕ, ◌+◌, ◌≤◌, length}
+use Rattle.std.proofs.Common.{◌+◌, ◌≤◌, length}
 use Rattle.zy_world.specs.Flowing.{ComesTo}
 use Rattle.zy_world.specs.Shows.{Shows}
 use Rattle.zy_world_law.specs.Runs.{flow}

@@ -1,4 +1,4 @@
-use Rattle.std.proofs.Common.{◌≡◌, ◌<◌, ◌≤◌, Bool, length, ap, ◌∙◌, subst, arith}
+use Rattle.std.proofs.Common.{◌≡◌, ◌<◌, Bool, length, ap, ◌∙◌, subst, arith}
 use Rattle.zy_world.specs.Gathering.{GoesIn}
 use Rattle.zy_world.specs.Shown.{Shown}
 use Rattle.zy_world.specs.declared.world.World.TheInside.{Inside}

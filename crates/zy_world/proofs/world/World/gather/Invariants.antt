@@ -1,4 +1,4 @@
-use Rattle.std.proofs.Common.{◌≡◌, ℕ, ◌≤◌, ◌-◌, length}
+use Rattle.std.proofs.Common.{◌≤◌, ◌-◌, length}
 use Rattle.zy_world.specs.Gathering.{GoesOn}
 use Rattle.zy_world.proofs.world.World.gather.Given as goal
 

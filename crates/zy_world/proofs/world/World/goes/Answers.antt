@@ -1,4 +1,3 @@
-use Rattle.std.proofs.Common.{◌≡◌}
 use Rattle.std.proofs.lemmas.Result.{err_from_is_err_and}
 use Rattle.zy_world_law.specs.Events.{happens}
 use Rattle.zy_world.proofs.world.World.goes.Goals as goal
@@ -29,23 +28,23 @@ returns-in-Timer-clause-broken g c w s = rw c.in-Timer.is (c.runs_out.ensures.br
 
 pub returns-in_ok-lie_order-in-Order-clause-goes : goal.returns-in_ok-lie_order-in-Order-clause-goes
 unfolding happens
-returns-in_ok-lie_order-in-Order-clause-goes g c w s = rw c.in-Order.is (c.in_ok-lie_order-in-Order.ensures w s)
+returns-in_ok-lie_order-in-Order-clause-goes g c w s = rw (c.in-Order.is, c.answered.ensures.world, c.answered.ensures.note) (c.in_ok-lie_order-in-Order.ensures w s)
 
 pub returns-in_ok-lie_spec-in-Spec-clause-goes : goal.returns-in_ok-lie_spec-in-Spec-clause-goes
 unfolding happens
-returns-in_ok-lie_spec-in-Spec-clause-goes g c w s = rw c.in-Spec.is (c.in_ok-lie_spec-in-Spec.ensures w s)
+returns-in_ok-lie_spec-in-Spec-clause-goes g c w s = rw (c.in-Spec.is, c.answered-in-Spec.ensures.world, c.answered-in-Spec.ensures.note) (c.in_ok-lie_spec-in-Spec.ensures w s)
 
 pub returns-in_ok-lie_statement-in-Statement-clause-goes : goal.returns-in_ok-lie_statement-in-Statement-clause-goes
 unfolding happens
-returns-in_ok-lie_statement-in-Statement-clause-goes g c w s = rw c.in-Statement.is (c.in_ok-lie_statement-in-Statement.ensures w s)
+returns-in_ok-lie_statement-in-Statement-clause-goes g c w s = rw (c.in-Statement.is, c.answered-in-Statement.ensures.world, c.answered-in-Statement.ensures.note) (c.in_ok-lie_statement-in-Statement.ensures w s)
 
 pub returns-in_ok-raw-in-Raw-clause-goes : goal.returns-in_ok-raw-in-Raw-clause-goes
 unfolding happens
-returns-in_ok-raw-in-Raw-clause-goes g c w s = rw c.in-Raw.is (c.in_ok-raw-in-Raw.ensures w s)
+returns-in_ok-raw-in-Raw-clause-goes g c w s = rw (c.in-Raw.is, c.answered-in-Raw.ensures.world, c.answered-in-Raw.ensures.note) (c.in_ok-raw-in-Raw.ensures w s)
 
 pub returns-in_ok-forge_statement-in-Forge-clause-goes : goal.returns-in_ok-forge_statement-in-Forge-clause-goes
 unfolding happens
-returns-in_ok-forge_statement-in-Forge-clause-goes g c w s = rw c.in-Forge.is (c.in_ok-forge_statement-in-Forge.ensures w s)
+returns-in_ok-forge_statement-in-Forge-clause-goes g c w s = rw (c.in-Forge.is, c.answered-in-Forge.ensures.world, c.answered-in-Forge.ensures.note) (c.in_ok-forge_statement-in-Forge.ensures w s)
 
 pub returns-in_err-lie_order-in-Order-clause-broken : goal.returns-in_err-lie_order-in-Order-clause-broken
 returns-in_err-lie_order-in-Order-clause-broken g c w s =

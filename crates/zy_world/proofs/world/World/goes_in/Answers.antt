@@ -1,4 +1,4 @@
-use Rattle.std.proofs.Common.{◌≡◌, sym, ap, ◌∙◌, arith}
+use Rattle.std.proofs.Common.{sym, ap, ◌∙◌, arith}
 use Rattle.zy_world.specs.Shown.{Shown}
 use Rattle.zy_world.specs.declared.world.World.TheInside.{Inside}
 use Rattle.zy_world.proofs.Gathered.{added, passes_over, read_there}

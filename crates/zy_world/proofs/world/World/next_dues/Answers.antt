@@ -1,4 +1,4 @@
-use Rattle.std.proofs.Common.{◌≡◌, ◌≤◌, length, map, ap, ◌∙◌, arith}
+use Rattle.std.proofs.Common.{length, map, ap, ◌∙◌, arith}
 use Rattle.zy_world.specs.Shown.{Shown}
 use Rattle.zy_world_law.specs.World.{is_told}
 use Rattle.zy_world.proofs.Gathered.{are_batch, none_left}

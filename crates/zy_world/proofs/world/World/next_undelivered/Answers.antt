@@ -1,4 +1,4 @@
-use Rattle.std.proofs.Common.{◌≡◌, ◌+◌, Some, None, sym, ap, ◌∙◌}
+use Rattle.std.proofs.Common.{◌+◌, Some, sym, ap, ◌∙◌}
 use Rattle.std.specs.Prelude.{option_map}
 use Rattle.zy_world.specs.Shown.{Shown}
 use Rattle.zy_world.specs.declared.world.World.TheInside.{Inside}

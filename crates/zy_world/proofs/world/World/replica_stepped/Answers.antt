@@ -1,4 +1,4 @@
-use Rattle.std.proofs.Common.{◌≡◌, [], Err, sym, ap, subst}
+use Rattle.std.proofs.Common.{[], Err, sym, ap, subst}
 use Rattle.std.proofs.lemmas.Result.{err_from_is_err_and}
 use Rattle.zy_world.specs.Shown.{Shown, with_replicas}
 use Rattle.zy_world.specs.Stepping.{HasReplicaStepped}
@@ -9,7 +9,7 @@ use Rattle.zy_world.proofs.world.World.replica_stepped.Goals as goal
 pub returns-clause-goes : goal.returns-clause-goes
 returns-clause-goes g c w x event o others has =
     let i = subst (λ (v : Shown g.row.M-State.Denot). HasReplicaStepped w c.args.id x o c.args.step (with_replicas others v)) (sym c.self.view_is) has in
-    rw (c.noted.ensures.world, c.noted.ensures.note)
+    rw (c.answered.ensures.world, c.answered.ensures.note, c.noted.ensures.world, c.noted.ensures.note)
     (replica_gone w c.args.id x event o c.args.step _ i _ _ _ _ c.in_ok-keep_step.ensures.keeps c.in_ok-add.ensures c.in_ok-send.ensures.within c.in_ok-send.ensures.sent c.replica_note-note.ensures)
 
 pub returns-in_err-keep_step-clause-broken : goal.returns-in_err-keep_step-clause-broken

@@ -1,4 +1,3 @@
-use Rattle.std.proofs.Common.{◌≡◌}
 use Rattle.zy_world.specs.Answered.{steps}
 use Rattle.zy_world.proofs.world.World.steps.Goals as goal
 

@@ -1,11 +1,9 @@
 use Rattle.std.proofs.Common.{◌≡◌, [], ◌+◌, rules, length, ap, ◌∙◌, arith}
 use Rattle.std.proofs.lemmas.List.{nil_from_length}
 use Rattle.std.proofs.lemmas.Result.{err_from_is_err_and}
-use Rattle.std.specs.Vec.Iter.{into_iter_items}
 use Rattle.zy_world.specs.Ahead.{ShowsAhead}
 use Rattle.zy_world.specs.Shows.{Shows}
 use Rattle.zy_world_law.specs.Runs.{flow}
-use Rattle.zy_world_law.specs.World.{World}
 use Rattle.zy_world.proofs.ComingBack.{none_is_out, turns_cut, turns_end, turns_on}
 use Rattle.zy_world.proofs.Flows.{comes_none, comes_on, cut_on}
 use Rattle.zy_world.proofs.world.World.take_turns.Goals as goal
