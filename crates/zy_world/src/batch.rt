@@ -83,10 +83,10 @@ impl<M: Machine> World<M> {
     }
 
     fn gather(&self, most: u64, batch: &mut Batch) -> Result<(), Want>
-        ensures within { self.now.bag.passed ≤ length self.now.bag.mails }
+        ensures within { self.now.bag.passed.idle ≤ length self.now.bag.mails }
         ensures gathered { OnOk result (AreGathered self.now most batch.old batch.new) }
     {
-        let mut at = self.bag.passed;
+        let mut at = self.bag.passed.idle;
         while at < self.bag.mails.len() && (batch.dues.len() as u64) < most {
             if !self.goes_in(at, batch)? {
                 return Ok(());

@@ -252,7 +252,7 @@ impl<M: Machine> World<M> {
     fn passed(mut self) -> World<M>
         ensures { (g : Whole M.State) → Shows g self → Shows g result }
     {
-        pass(&mut self.bag, &self.seats);
+        pass(&mut self.bag, &self.seats, &self.muted);
         self
     }
 }
