@@ -132,8 +132,19 @@ pub mail_is : {S : Type 0} (g : World S) (number : ℕ) → mail_at g number ≡
 mail_is g zero = refl
 mail_is g (suc before) = refl
 
+-- the frame that is marked stays in its place
+pub mail_marked : {S : Type 0} (g : World S) (number : ℕ) (mail : Mail) → mail_at g number ≡ Some mail → mail_at (delivered g number mail) number ≡ Some (record mail { delivered = true })
+mail_marked g zero mail is = absurd cc
+mail_marked g (suc before) mail is =
+    let marked : Mail = record mail { delivered = true } in
+    let one : suc before - 1 ≡ before = omega arith in
+    ap (λ (n : ℕ). slice_get (slice_set g.bag n marked) before) one ∙ get_set g.bag before marked mail is
+
 pub mail_there : {S : Type 0} (g : World S) (v : Shown S) (number : ℕ) (o : Option Mail) → Shows g v → o ≡ numbered v.bag.mails number → mail_at g number ≡ o
 mail_there g v number o s is = mail_is g number ∙ ap (λ (mails : List Mail). numbered mails number) s.mails ∙ sym is
+
+pub mail_held : {S : Type 0} (g : World S) (v : Shown S) (number : ℕ) (mail : Mail) → Shows g v → mail_at g number ≡ Some mail → numbered v.bag.mails number ≡ Some mail
+mail_held g v number mail s there = ap (λ (mails : List Mail). numbered mails number) (sym s.mails) ∙ sym (mail_is g number) ∙ there
 
 delivered_by : {S : Type 0} (g : World S) (before : ℕ) (mail : Mail) (o : Option Mail) → o ≡ Some mail → delivered g (suc before) mail ≡ record g { bag = delivered_if g.bag (suc before) o }
 delivered_by g before mail None is = absurd cc

@@ -10,7 +10,7 @@ use crate::World;
 use crate::bag::Mail;
 use crate::mutes::{is_set, put};
 use std::alloc::Global;
-use zy_base::{Bytes, Machine, Party, ReplicaId, Want};
+use zy_base::{Bytes, ClientId, Machine, Party, ReplicaId, Want};
 
 /// A frame that flows have left.
 #[derive(Drop)]
@@ -18,6 +18,13 @@ pub(crate) struct Due {
     pub(crate) number: u64,
     pub(crate) to: Party,
     pub(crate) bytes: Bytes,
+}
+
+/// Whose turn it is to hear the frame of this number. A replica is out of its seat and has the frame's bytes with it.
+#[derive(Drop)]
+pub(crate) enum Turn {
+    Replica { number: u64, id: ReplicaId },
+    Client { number: u64, id: ClientId, bytes: Bytes },
 }
 
 // Frames that flows have left, in order, and which replicas sit in their seats when those are out to which they go.
