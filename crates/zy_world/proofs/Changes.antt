@@ -1,10 +1,10 @@
 -- What a world shows after a change of one part.
-use Rattle.std.proofs.Common.{◌≡◌, ℕ, zero, suc, ◌+◌, ◌-◌, ◌<◌, ◌≤◌, Bool, true, false, not, ◌&&◌, ◌||◌, List, [], ◌∷◌, ◌++◌, length, map, Option, Some, None, refl, sym, ap, ◌∙◌, subst, arith, inl, inr}
+use Rattle.std.proofs.Common.{◌≡◌, ℕ, zero, suc, ◌+◌, ◌-◌, ◌<◌, ◌≤◌, Bool, true, false, not, ◌&&◌, ◌||◌, List, [], ◌∷◌, ◌++◌, length, map, get_or, Option, Some, None, refl, sym, ap, ◌∙◌, subst, arith, inl, inr}
 use Rattle.std.specs.Prelude.{slice_get, slice_set, option_map, option_to_list, nat_eq}
 use Rattle.std.proofs.lemmas.Bool.{cases_lt, eqb-true, eqb-false}
 use Rattle.std.proofs.lemmas.List.{append-nil, map-append}
 use Rattle.std.proofs.lemmas.List.Sums.{fold-append}
-use Rattle.std.proofs.lemmas.Option.{same_Some}
+use Rattle.std.proofs.lemmas.Option.{same_Some, slice_get-get_or}
 use Rattle.zy_base.specs.declared.ids.ClientId.{ClientId}
 use Rattle.zy_base.specs.declared.ids.Party.{Party}
 use Rattle.zy_chain.specs.Stretch.{Mark}
@@ -217,6 +217,11 @@ shows_done g v id done m s is =
       texts = s.texts;
       said = s.said;
     }
+
+-- the frame at an index, as it is read there
+pub mail_at_index : (mails items : List Mail) (at : ℕ) (here : Mail) → items ≡ mails → at < length items → here ≡ get_or items at here → slice_get mails at ≡ Some here
+mail_at_index mails items at here same below is =
+    ap (λ (l : List Mail). slice_get l at) (sym same) ∙ slice_get-get_or items at here below ∙ ap (λ (m : Mail). Some m) (sym is)
 
 -- flows go over one frame more
 so_one : (P : Mail → Type 0) (mails : List Mail) (many : ℕ) (here : Mail) → slice_get mails many ≡ Some here → P here → AreSo P many mails → AreSo P (many + 1) mails
