@@ -110,13 +110,13 @@ module _ {M S : Type 0} (R : Rules S) (g : World S) (due : Due) (more : List Due
             world = goes.world;
             goes = event_is (parties.Replica id) to ∙ made;
             shows = record {
-          before = slice_set is.before id.0 (Some gone.replica);
-          shows = goes.shows;
-          next = next_later R g goes.world due more is.next
-              (later g goes.world due.number (mail R g due more is.next) due.bytes note R (parties.Replica id) (correct_there (parties.Replica id) to) made);
-          out = subst (λ (l : List (Option (State S))). AreOut (MayBeGone R) l more (slice_set is.before id.0 (Some gone.replica)) new) (sym replicas) left;
-        };
-      }
+              before = slice_set is.before id.0 (Some gone.replica);
+              shows = goes.shows;
+              next = next_later R g goes.world due more is.next
+                  (later g goes.world due.number (mail R g due more is.next) due.bytes note R (parties.Replica id) (correct_there (parties.Replica id) to) made);
+              out = subst (λ (l : List (Option (State S))). AreOut (MayBeGone R) l more (slice_set is.before id.0 (Some gone.replica)) new) (sym replicas) left;
+            };
+          }
 
   -- ---- a client
 
@@ -129,17 +129,17 @@ module _ {M S : Type 0} (R : Rules S) (g : World S) (due : Due) (more : List Due
     client_goes_on number bytes note w numbered spelled goes replicas =
         let made = brought_is number bytes (parties.Client id) numbered spelled ∙ goes.goes in
         record {
-      world = goes.world;
-      goes = event_is (parties.Client id) to ∙ made;
-      shows = record {
-        before = is.before;
-        shows = goes.shows;
-        next = next_later R g goes.world due more is.next
-            (later g goes.world due.number (mail R g due more is.next) due.bytes note R (parties.Client id) (correct_there (parties.Client id) to) made);
-        out = subst (λ (l : List (Option (State S))). AreOut (MayBeGone R) l more is.before old) (sym replicas)
-            (subst (λ (p : Party). out_for (MayBeGone R) p due.bytes (AreOut (MayBeGone R) v.seats.replicas more) is.before old) to is.out);
-      };
-    }
+          world = goes.world;
+          goes = event_is (parties.Client id) to ∙ made;
+          shows = record {
+            before = is.before;
+            shows = goes.shows;
+            next = next_later R g goes.world due more is.next
+                (later g goes.world due.number (mail R g due more is.next) due.bytes note R (parties.Client id) (correct_there (parties.Client id) to) made);
+            out = subst (λ (l : List (Option (State S))). AreOut (MayBeGone R) l more is.before old) (sym replicas)
+                (subst (λ (p : Party). out_for (MayBeGone R) p due.bytes (AreOut (MayBeGone R) v.seats.replicas more) is.before old) to is.out);
+          };
+        }
 
 -- ---- turns
 

@@ -23,8 +23,15 @@ pub(crate) struct Due {
 /// Whose turn it is to hear the frame of this number. A replica is out of its seat and has the frame's bytes with it.
 #[derive(Drop)]
 pub(crate) enum Turn {
-    Replica { number: u64, id: ReplicaId },
-    Client { number: u64, id: ClientId, bytes: Bytes },
+    Replica {
+        number: u64,
+        id: ReplicaId,
+    },
+    Client {
+        number: u64,
+        id: ClientId,
+        bytes: Bytes,
+    },
 }
 
 // Frames that flows have left, in order, and which replicas sit in their seats when those are out to which they go.

@@ -88,9 +88,7 @@ pub(crate) fn pass<M: Machine>(bag: &mut Bag, seats: &Seats<M>, muted: &Muted)
     ensures mails { bag.new.mails ≡ bag.old.mails }
     ensures past { ArePast seats.now muted.now bag.old → ArePast seats.now muted.now bag.new }
 {
-    while bag.passed.idle < bag.mails.len()
-        && !is_left(seats, muted, &bag.mails[bag.passed.idle])
-    {
+    while bag.passed.idle < bag.mails.len() && !is_left(seats, muted, &bag.mails[bag.passed.idle]) {
         bag.passed.idle += 1;
     }
 }

@@ -3,6 +3,7 @@ ghost use Rattle.std.specs.List.{list_all};
 ghost use Rattle.zy_table.specs.ClientRows.{ask as ask_row, client_step};
 ghost use Rattle.zy_table.specs.ClientState.{ClientState as AClient, ClientOutcome, is_waiting};
 ghost use Rattle.zy_table.specs.State.{State};
+ghost use Rattle.zy_base.specs.declared.ids.Party.TheVariants as parties;
 ghost use Rattle.zy_table.specs.Whole.{whole_step};
 ghost use Rattle.zy_client.specs.Stepped.{IsStepped};
 ghost use Rattle.zy_world.specs.Ahead.{AreApart, AreOut, IsJob, takes_for, turn_of};
@@ -128,12 +129,26 @@ impl<M: Machine> Seats<M> {
         let Due { number, to, bytes } = due;
         match to {
             Party::Replica(id) => {
-                if let Some(replica) = take_from(&mut self.replicas, id.0 as usize) {
-                    jobs.push(Job { replica, bytes })?;
-                }
+                self.take_replica(id, bytes, jobs)?;
                 Ok(Turn::Replica { number, id })
             }
             Party::Client(id) => Ok(Turn::Client { number, id, bytes }),
+        }
+    }
+
+    // The replica of this number, if it sits in its seat, with these bytes.
+    fn take_replica(
+        &mut self,
+        id: ReplicaId,
+        bytes: Bytes,
+        jobs: &mut Vec<Job<M>>,
+    ) -> Result<(), Want>
+        ensures taken { OnOk result (takes_for IsJob (parties.Replica id) bytes self.old.replicas self.new.replicas jobs.old.items jobs.new.items) }
+        ensures clients { self.new.clients ≡ self.old.clients }
+    {
+        match take_from(&mut self.replicas, id.0 as usize) {
+            Some(replica) => Ok(jobs.push(Job { replica, bytes })?),
+            None => Ok(()),
         }
     }
 

@@ -9,7 +9,7 @@ invariant-loop-bag g l =
     × (l.bag-inside.passed.past ≤ length l.fn.bag.mails)
     × (l.bag-inside.passed.idle ≤ length l.fn.bag.mails)
     × ((mutes : Mutes) → ArePast l.seats mutes l.fn.bag
-        → ArePast l.seats mutes (record { mails = l.fn.bag.mails; passed = record { past = l.bag-inside.passed.past; idle = l.bag-inside.passed.idle } }))
+    → ArePast l.seats mutes (record { mails = l.fn.bag.mails; passed = record { past = l.bag-inside.passed.past; idle = l.bag-inside.passed.idle } }))
 
 abbrev pub decreases-loop-bag : goal.decreases-loop-bag
 decreases-loop-bag g l = length l.fn.bag.mails - l.bag-inside.passed.past

@@ -14,8 +14,8 @@ use Rattle.zy_world.proofs.ComingBack.{both_ok, client_goes_on, client_there, cl
 use Rattle.zy_world.proofs.NextFrames.{bytes_are, mail, mail_there}
 use Rattle.zy_world.proofs.world.World.turn.Goals as goal
 
-pub returns-in-Some-clause-goes : goal.returns-in-Some-clause-goes
-returns-in-Some-clause-goes g c w due more first is =
+pub returns-in_ok-gone-in-Some-clause-goes : goal.returns-in_ok-gone-in-Some-clause-goes
+returns-in_ok-gone-in-Some-clause-goes g c w due more first is =
     let R = g.M.Machine.rules in
     let old = into_iter_items c.args.out.now in
     let new = into_iter_items c.next.new.self in
@@ -29,8 +29,8 @@ returns-in-Some-clause-goes g c w due more first is =
     both_ok _ _ _ c.comes_back.result (c.comes_back.ensures.goes w (mail R w due more is.next) x.0 is.before turn) c.comes_back.ensures.replicas
     (λ r goes seats. replica_goes_on R w due more old c.args.self is id to.0 new gone taken number r.note r.world to.1 goes seats)
 
-pub returns-in-Some-clause-broken : goal.returns-in-Some-clause-broken
-returns-in-Some-clause-broken g c w due more first is =
+pub returns-in_ok-gone-in-Some-clause-broken : goal.returns-in_ok-gone-in-Some-clause-broken
+returns-in_ok-gone-in-Some-clause-broken g c w due more first is =
     let R = g.M.Machine.rules in
     let old = into_iter_items c.args.out.now in
     let new = into_iter_items c.next.new.self in
@@ -50,13 +50,13 @@ returns-in_err-gone-in-Some-clause-broken g c w due more first is =
     let p = err_from_is_err_and c.from_residual.result c.from_residual.ensures.1 in
     rw (p.1, p.2) tt
 
-pub returns-in-Replica-clause-goes : goal.returns-in-Replica-clause-goes
-returns-in-Replica-clause-goes g c w due more first is =
+pub returns-in-None-clause-goes : goal.returns-in-None-clause-goes
+returns-in-None-clause-goes g c w due more first is =
     let to = replica_turn c.in-Replica.number c.in-Replica.id due (sym c.in-Replica.is ∙ first) in
     absurd (some_out g.M.Machine.rules w due more (into_iter_items c.args.out.now) c.args.self is c.in-Replica.id to.0 (nil_from_length _ (sym c.args.out.now.rest.ok.0 ∙ c.in-None.ensures.cases.0)))
 
-pub returns-clause-goes : goal.returns-clause-goes
-returns-clause-goes g c w due more first is =
+pub returns-in-Client-clause-goes : goal.returns-in-Client-clause-goes
+returns-in-Client-clause-goes g c w due more first is =
     let R = g.M.Machine.rules in
     let old = into_iter_items c.args.out.now in
     let number = c.in-Client.number in
@@ -69,8 +69,8 @@ returns-clause-goes g c w due more first is =
     c.client_hears.ensures.replicas
     (λ r goes seats. client_goes_on R w due more old c.args.self is id to.0 number bytes r.note r.world to.1 to.2 goes seats)
 
-pub returns-clause-broken : goal.returns-clause-broken
-returns-clause-broken g c w due more first is =
+pub returns-in-Client-clause-broken : goal.returns-in-Client-clause-broken
+returns-in-Client-clause-broken g c w due more first is =
     let R = g.M.Machine.rules in
     let old = into_iter_items c.args.out.now in
     let number = c.in-Client.number in
