@@ -11,6 +11,8 @@ use Rattle.zy_top_words.proofs.Endings.{cut_short, told_finishes}
 use Rattle.zy_top.proofs.Headline.{of_commands}
 use Rattle.zy_top.specs.Replaying.{IsBackedRun, IsBlamelessRun, IsSafeRun}
 use Rattle.zy_top.proofs.HostLaws.{asked_in_vain, nothing_due, turns_end, unbound}
+use Rattle.zy_top.proofs.KeptLaws.{serve_ends}
+use Rattle.zy_serving.specs.Identity.{identity_of}
 use Rattle.zy_top.proofs.MadeRuns.{made_finishes, own_answer}
 use Rattle.zy_top.proofs.TruthfulRuns.{make_truthful, replay_truthful}
 use Rattle.zy_top.proofs.top.zyzzyva.Goals as goal
@@ -183,3 +185,21 @@ pub returns-in-Err-run_make-clause-truthful : goal.returns-in-Err-run_make-claus
 returns-in-Err-run_make-clause-truthful g c =
     let read : command_of (texts c.args.words.now) ≡ Ok (Command.Make c.in-Ok-Make.number c.in-Ok-Make.asks.count) = rw c.in-Ok-Make.field-0-is at c.in-Ok-Make.ensures in
     rw read (make_truthful c.in-Ok-Make.number c.in-Ok-Make.asks.count _ (c.made_runs_are_safe.ensures.unforged c.in-Ok-Make.number c.in-Ok-Make.asks.count) c.in-Err-run_make.ensures.answer)
+
+pub returns-in-Ok-Serve-clause-complete : goal.returns-in-Ok-Serve-clause-complete
+returns-in-Ok-Serve-clause-complete g c =
+    let asked = c.in-Ok-Serve in
+    let read : command_of (texts c.args.words.now) ≡ Ok (Command.Serve asked.group.now asked.secret.now asked.id asked.turns asked.journal.now) = rw asked.field-0-is at asked.ensures in
+    rw read
+    (nothing_due (g.F.Files.held c.args.files.now) (λ held. node_start asked.id (content_of held asked.group.now) (content_of held asked.secret.now)) c.run_serve.result
+    (g.F.Files.faults c.args.files.now) (g.F.Files.faults c.run_serve.new.files) (g.S.Sink.faults c.args.out.now) (g.S.Sink.faults c.run_serve.new.out))
+
+pub returns-in-Ok-Serve-clause-goes_on : goal.returns-in-Ok-Serve-clause-goes_on
+returns-in-Ok-Serve-clause-goes_on g c still calm quiet sound =
+    let asked = c.in-Ok-Serve in
+    let read : command_of (texts c.args.words.now) ≡ Ok (Command.Serve asked.group.now asked.secret.now asked.id asked.turns asked.journal.now) = rw asked.field-0-is at asked.ensures in
+    let ran = c.run_serve.ensures in
+    rw read
+    (serve_ends (g.F.Files.held c.args.files.now) (λ held. node_start asked.id (content_of held asked.group.now) (content_of held asked.secret.now))
+    (λ held. identity_of asked.id (content_of held asked.group.now) (content_of held asked.secret.now)) (g.D.Disk.contents c.args.disk.now) c.run_serve.result
+    _ _ _ _ _ _ _ _ ran.started ran.read_faults ran.write_faults ran.link_faults ran.disk_faults still calm quiet sound)
