@@ -34,7 +34,7 @@ IsHosted told (Ok (Command.Node group secret id turns)) exit from to old new =
     IfSome told (λ files. IsNodeRun id (node_start id (content_of files group) (content_of files secret)) turns exit from to old new)
 IsHosted told (Ok (Command.Ask group secret id turns op)) exit from to old new =
     IfSome told (λ files. IsAskRun id (asker_start id (content_of files group) (content_of files secret)) (op_bytes op) turns exit from to old new)
--- which a disk decides too
+-- of a replica with a journal a disk decides too: it is said in Keeping, and likewise how it ends by itself
 IsHosted told (Ok (Command.Serve group secret id turns journal)) exit from to old new = ⊤
 
 -- a node and an ask whose files are in order end by themselves
