@@ -1,5 +1,6 @@
 use Rattle.std.proofs.Common.{◌≡◌, Ok, Err, refl, ap, ◌∙◌, inl}
 use Rattle.zy_top_hosting.specs.Files.{asker_start, node_start}
+use Rattle.zy_top_hosting.specs.Hosted.{Surroundings}
 use Rattle.zy_tuple.specs.Reading.{op_read}
 use Rattle.zy_top_words.proofs.Stops.{IsWritten-stopped}
 use Rattle.zy_top_words.specs.Words.{Command, asked, command_of, op_alone, texts}
@@ -210,11 +211,11 @@ returns-in-Err-run_replay-clause-disk_faults g c =
 pub returns-in-Err-run_keys-clause-kept : goal.returns-in-Err-run_keys-clause-kept
 returns-in-Err-run_keys-clause-kept g c =
     let read : command_of (texts c.args.words.now) ≡ Ok (Command.Keys c.in-Ok-Keys.seed c.in-Ok-Keys.by c.in-Ok-Keys.height) = rw c.in-Ok-Keys.field-0-is at c.in-Ok-Keys.ensures in
-    rw read (refl, running_journal c.in-Err-run_keys.exit (sent_runs _ _ _ (Err c.in-Err-run_keys.exit) c.in-Err-run_keys.ensures.written))
+    rw read (refl, running_journal c.in-Err-run_keys.exit (sent_runs (g.S.Sink.taken c.args.out.now) (g.S.Sink.taken c.run_keys.new.out) (key_file c.in-Ok-Keys.seed c.in-Ok-Keys.by c.in-Ok-Keys.height) (Err c.in-Err-run_keys.exit) c.in-Err-run_keys.ensures.written))
 
 pub returns-in-Err-run_keys-clause-disk_faults : goal.returns-in-Err-run_keys-clause-disk_faults
 returns-in-Err-run_keys-clause-disk_faults g c =
-    left_counted c.in-Err-run_keys.exit (g.D.Disk.faults c.args.disk.now) (running_journal c.in-Err-run_keys.exit (sent_runs _ _ _ (Err c.in-Err-run_keys.exit) c.in-Err-run_keys.ensures.written))
+    left_counted c.in-Err-run_keys.exit (g.D.Disk.faults c.args.disk.now) (running_journal c.in-Err-run_keys.exit (sent_runs (g.S.Sink.taken c.args.out.now) (g.S.Sink.taken c.run_keys.new.out) (key_file c.in-Ok-Keys.seed c.in-Ok-Keys.by c.in-Ok-Keys.height) (Err c.in-Err-run_keys.exit) c.in-Err-run_keys.ensures.written))
 
 pub returns-in-Err-run_make-clause-kept : goal.returns-in-Err-run_make-clause-kept
 returns-in-Err-run_make-clause-kept g c =
@@ -237,12 +238,14 @@ returns-in-Ok-Node-clause-disk_faults g c =
 pub returns-in-Ok-op_read_alone-clause-kept : goal.returns-in-Ok-op_read_alone-clause-kept
 returns-in-Ok-op_read_alone-clause-kept g c =
     let words : command_of (texts c.args.words.now) ≡ asked c.in-Ok-Ask.group.now c.in-Ok-Ask.secret.now c.in-Ok-Ask.id c.in-Ok-Ask.turns (op_alone (op_read c.in-Ok-Ask.op.now) (texts c.in-Ok-Ask.others.now)) = rw c.in-Ok-Ask.field-0-is at c.in-Ok-Ask.ensures in
-    rw words (asked_leaves g.D.Disk.contents g.D.Disk.may_leave g.D.Disk.moment g.D.Disk.left_since (g.F.Files.held c.args.files.now) c.in-Ok-Ask.group.now c.in-Ok-Ask.secret.now c.in-Ok-Ask.id c.in-Ok-Ask.turns (op_alone (op_read c.in-Ok-Ask.op.now) (texts c.in-Ok-Ask.others.now)) _ _ _ _ _ c.args.disk.now c.run_ask.ensures.no_journal)
+    let read : command_of (texts c.args.words.now) ≡ Ok (Command.Ask c.in-Ok-Ask.group.now c.in-Ok-Ask.secret.now c.in-Ok-Ask.id c.in-Ok-Ask.turns c.in-Ok-op_read_alone.op) = words ∙ ap (asked c.in-Ok-Ask.group.now c.in-Ok-Ask.secret.now c.in-Ok-Ask.id c.in-Ok-Ask.turns) c.in-Ok-op_read_alone.ensures.0 in
+    rw read (refl, c.run_ask.ensures.no_journal)
 
 pub returns-in-Ok-op_read_alone-clause-goes_on : goal.returns-in-Ok-op_read_alone-clause-goes_on
 returns-in-Ok-op_read_alone-clause-goes_on g c still calm quiet sound =
     let words : command_of (texts c.args.words.now) ≡ asked c.in-Ok-Ask.group.now c.in-Ok-Ask.secret.now c.in-Ok-Ask.id c.in-Ok-Ask.turns (op_alone (op_read c.in-Ok-Ask.op.now) (texts c.in-Ok-Ask.others.now)) = rw c.in-Ok-Ask.field-0-is at c.in-Ok-Ask.ensures in
-    rw words (asked_goes_on (g.F.Files.held c.args.files.now) (g.D.Disk.contents c.args.disk.now) c.in-Ok-Ask.group.now c.in-Ok-Ask.secret.now c.in-Ok-Ask.id c.in-Ok-Ask.turns (op_alone (op_read c.in-Ok-Ask.op.now) (texts c.in-Ok-Ask.others.now)) _)
+    let read : command_of (texts c.args.words.now) ≡ Ok (Command.Ask c.in-Ok-Ask.group.now c.in-Ok-Ask.secret.now c.in-Ok-Ask.id c.in-Ok-Ask.turns c.in-Ok-op_read_alone.op) = words ∙ ap (asked c.in-Ok-Ask.group.now c.in-Ok-Ask.secret.now c.in-Ok-Ask.id c.in-Ok-Ask.turns) c.in-Ok-op_read_alone.ensures.0 in
+    rw read tt
 
 pub returns-in-Ok-op_read_alone-clause-disk_faults : goal.returns-in-Ok-op_read_alone-clause-disk_faults
 returns-in-Ok-op_read_alone-clause-disk_faults g c =
@@ -251,7 +254,13 @@ returns-in-Ok-op_read_alone-clause-disk_faults g c =
 pub returns-in-Err-Want-clause-kept : goal.returns-in-Err-Want-clause-kept
 returns-in-Err-Want-clause-kept g c =
     let words : command_of (texts c.args.words.now) ≡ asked c.in-Ok-Ask.group.now c.in-Ok-Ask.secret.now c.in-Ok-Ask.id c.in-Ok-Ask.turns (op_alone (op_read c.in-Ok-Ask.op.now) (texts c.in-Ok-Ask.others.now)) = rw c.in-Ok-Ask.field-0-is at c.in-Ok-Ask.ensures in
-    rw words (asked_leaves g.D.Disk.contents g.D.Disk.may_leave g.D.Disk.moment g.D.Disk.left_since (g.F.Files.held c.args.files.now) c.in-Ok-Ask.group.now c.in-Ok-Ask.secret.now c.in-Ok-Ask.id c.in-Ok-Ask.turns (op_alone (op_read c.in-Ok-Ask.op.now) (texts c.in-Ok-Ask.others.now)) exits.Want _ _ _ _ c.args.disk.now (λ is. cc))
+    let outside : Surroundings = record {
+      outside = record { mail = g.L.Link.mail c.args.link.now; receives = g.L.Link.receives c.args.link.now; moments = g.C.Clock.moments c.args.clock.now };
+      binding = g.L.Link.binding c.args.link.now;
+    } in
+    rw words
+    (asked_leaves g.D.Disk.contents g.D.Disk.may_leave g.D.Disk.moment g.D.Disk.left_since (g.F.Files.held c.args.files.now) c.in-Ok-Ask.group.now c.in-Ok-Ask.secret.now c.in-Ok-Ask.id c.in-Ok-Ask.turns (op_alone (op_read c.in-Ok-Ask.op.now) (texts c.in-Ok-Ask.others.now))
+    exits.Want outside outside (g.S.Sink.taken c.args.out.now) (g.S.Sink.taken c.args.out.now) c.args.disk.now (λ is. cc))
 
 pub returns-in-Err-Want-clause-goes_on : goal.returns-in-Err-Want-clause-goes_on
 returns-in-Err-Want-clause-goes_on g c still calm quiet sound =
