@@ -2,6 +2,7 @@
 //! that tells more of it.
 #![tactic(auto)]
 
+mod calm;
 mod group;
 mod keys;
 mod making;
