@@ -1,21 +1,22 @@
 //! The table `texts`: a book of texts. Its rows are steps of one book.
 
-use crate::cases::Scene;
-use crate::text::ok_text;
-use crate::values::digest;
-use crate::words::Row;
 use std::alloc::Global;
 use std::io;
 use zy_base::Want;
 use zy_book::{Book, KeepFault};
-use zy_rows::{Hex, lacking, not_a_line};
+use zy_rows::{Row, Scene, digest, found_text, lacking, not_a_line, ok_text};
 
-impl Scene for Book {
+/// The book of the rows.
+#[derive(Drop)]
+pub(crate) struct BookScene(pub(crate) Book);
+
+impl Scene for BookScene {
     fn step(&mut self, alloc: Global, row: &Row) -> io::Result<String> {
+        let book = &mut self.0;
         match row.call()? {
-            "begin" => begin(alloc, self),
-            "keep" => keep(alloc, self, row),
-            "text" => found_text(alloc, self.text(&digest(row, "digest")?)),
+            "begin" => begin(alloc, book),
+            "keep" => keep(alloc, book, row),
+            "text" => found_text(alloc, book.text(&digest(row, "digest")?)),
             _ => Err(not_a_line()),
         }
     }
@@ -34,14 +35,5 @@ fn keep(alloc: Global, book: &mut Book, row: &Row) -> io::Result<String> {
         Ok(()) => ok_text(alloc),
         Err(KeepFault::Clash) => Ok(String::from_str(alloc, "Err Clash")?),
         Err(KeepFault::Want) => Err(lacking(Want)),
-    }
-}
-
-/// A text that was looked up.
-pub(crate) fn found_text(alloc: Global, text: Option<&[u8]>) -> io::Result<String> {
-    match text {
-        Some([]) => Ok(String::from_str(alloc, "empty")?),
-        Some(text) => Ok(format!(in alloc; "{}", Hex(text))?),
-        None => Ok(String::from_str(alloc, "-")?),
     }
 }

@@ -4,15 +4,13 @@
 ghost use Rattle.std.specs.Prelude.{IsTrue};
 ghost use Rattle.zy_edge.specs.Clock.{are_moments as are_moments_lem};
 
-use crate::values::numbers;
-use crate::words::Row;
 use std::alloc::Global;
 use std::io;
 use zy_base::Bytes;
 use zy_edge::{
     CalmFiles, CalmSink, Chosen, Clock, Files, MemClock, MemFiles, MemSink, Read, Sink, Wrote,
 };
-use zy_rows::{lacking, not_a_line};
+use zy_rows::{Row, lacking, not_a_line, numbers};
 
 /// The names of the files with what they hold. The last has the name of the first.
 const FILES: [(&str, &str); 3] = [("a", "hello"), ("b", ""), ("a", "other")];

@@ -1,7 +1,5 @@
 //! The tables `group-files` and `secret-files`: what a command is told of its group and of its own key.
 
-use crate::values::MaybeHex;
-use crate::words::Row;
 use std::alloc::Global;
 use std::io;
 use zy_base::Want;
@@ -9,9 +7,7 @@ use zy_group::{
     AskGroup, GroupFault, NodeGroup, ReplayGroup, Secret, read_ask_group, read_node_group,
     read_replay_group, read_secret,
 };
-use zy_rows::{Hex, lacking, not_a_line};
-use zy_seal::Directory;
-use zy_tuple::party_text_read;
+use zy_rows::{Hex, Row, lacking, not_a_line, put_keys};
 
 /// A field of a file: the word of a row that stands for its value, its key, and the value where the row has no such word.
 type Field = (&'static str, &'static str, &'static str);
@@ -201,20 +197,6 @@ fn members_text(alloc: Global, group: &AskGroup, row: &Row) -> io::Result<String
         put_keys(&mut text, &group.keys, row.text("parties")?)?;
     }
     Ok(text)
-}
-
-/// The public keys of some parties.
-pub(crate) fn put_keys(text: &mut String, keys: &Directory, parties: &str) -> io::Result<()> {
-    for party in parties.split(' ') {
-        put_public(text, keys, party)?;
-    }
-    Ok(())
-}
-
-fn put_public(text: &mut String, keys: &Directory, name: &str) -> io::Result<()> {
-    let party = party_text_read(name.as_bytes()).ok_or_else(not_a_line)?;
-    let key = MaybeHex(keys.key(party).map(|key| key.as_slice()));
-    Ok(write!(text, " {name} {key}")?)
 }
 
 fn secret_text(alloc: Global, secret: &Secret) -> io::Result<String> {

@@ -1,11 +1,9 @@
 //! The tables of the numbers of a group, and of the lists that an event leaves.
 
-use crate::text::plain_text;
-use crate::words::Row;
 use std::alloc::Global;
 use std::io;
 use zy_base::{Bytes, ClientId, Counts, Items, Outgoing, Party, Said, Spoken, View};
-use zy_rows::{lacking, not_a_line};
+use zy_rows::{Row, lacking, not_a_line, plain_text};
 
 /// The numbers of the group with `f` liars, and the primary of `view`.
 pub(crate) fn numbers(alloc: Global, row: &Row) -> io::Result<String> {

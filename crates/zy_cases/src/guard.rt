@@ -1,15 +1,12 @@
 //! The tables of the guarded space: lines of its scripts, the texts of its replies, and a space that runs operations, and goes
 //! back over them.
 
-use crate::cases::Scene;
 use crate::space::{forget, go_back};
-use crate::text::{fault_text, hex_text, text_of};
-use crate::words::Row;
 use std::alloc::Global;
 use std::io;
 use zy_base::{ClientId, Machine, RestoreFault};
 use zy_guard::{Guard, gop_text_read, greply_text};
-use zy_rows::{Hex, lacking, not_a_line};
+use zy_rows::{Hex, Row, Scene, fault_text, hex_text, lacking, not_a_line, text_of};
 
 /// The client and the operation's bytes that a line spells.
 pub(crate) fn line(alloc: Global, row: &Row) -> io::Result<String> {
@@ -25,21 +22,32 @@ pub(crate) fn reply(alloc: Global, bytes: &[u8]) -> io::Result<String> {
     text_of(alloc, text.as_slice())
 }
 
-impl Scene for Guard {
+/// The guarded space of the rows.
+#[derive(Drop)]
+pub(crate) struct GuardScene(Guard);
+
+impl GuardScene {
+    pub(crate) fn new(alloc: Global) -> io::Result<GuardScene> {
+        Ok(GuardScene(Guard::empty(alloc).map_err(lacking)?))
+    }
+}
+
+impl Scene for GuardScene {
     fn step(&mut self, alloc: Global, row: &Row) -> io::Result<String> {
+        let guard = &mut self.0;
         match row.call()? {
-            "restore" => restore(alloc, self, row.bytes("bytes")?),
-            "run" => run(alloc, self, row.bytes("line")?),
-            "apply" => apply(alloc, self, row),
+            "restore" => restore(alloc, guard, row.bytes("bytes")?),
+            "run" => run(alloc, guard, row.bytes("line")?),
+            "apply" => apply(alloc, guard, row),
             "undo" => {
-                go_back(self, row.number("times")?);
-                now(alloc, self)
+                go_back(guard, row.number("times")?);
+                now(alloc, guard)
             }
             "forget" => {
-                forget(self, row.number("times")?);
-                now(alloc, self)
+                forget(guard, row.number("times")?);
+                now(alloc, guard)
             }
-            "now" => now(alloc, self),
+            "now" => now(alloc, guard),
             _ => Err(not_a_line()),
         }
     }

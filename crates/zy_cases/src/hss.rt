@@ -1,15 +1,12 @@
 //! The tables of keys of two levels, which sign by one leaf after another of one lower key after another, and of their signatures.
 
-use crate::cases::Scene;
 use crate::lms::{height, key_of};
 use crate::ots::ots_type;
-use crate::text::{fault_text, plain_text, sha_text};
-use crate::words::Row;
 use std::alloc::Global;
 use std::io;
 use zy_base::Bytes;
 use zy_lms::{HssKey, hss_verify};
-use zy_rows::{Hex, lacking, not_a_line};
+use zy_rows::{Hex, Row, Scene, fault_text, lacking, not_a_line, plain_text, sha_text};
 
 /// Whether a signature verifies.
 pub(crate) fn verified(alloc: Global, row: &Row) -> io::Result<String> {

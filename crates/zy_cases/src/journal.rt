@@ -3,13 +3,11 @@ ghost use Rattle.std.specs.Prelude.{◌≤◌, IfOk, IfSome, Some};
 ghost use Rattle.zy_journal.specs.Journal.{IsAtEnd, IsAtGate, IsPiece};
 ghost use Rattle.zy_journal.specs.Memory.{contents_of, left_by};
 
-use crate::text::{fault_text, hex_text};
-use crate::words::Row;
 use std::alloc::Global;
 use std::io;
 use zy_base::{Bytes, Digest};
 use zy_journal::{AppendFault, Journal, MAX_PIECE, MemDisk, Next, NextFault, Reading};
-use zy_rows::{Hex, lacking, not_a_line};
+use zy_rows::{Hex, Row, fault_text, hex_text, lacking, not_a_line};
 
 /// Room for what a row writes.
 const ROOM: u64 = 1 << 16;

@@ -1,30 +1,34 @@
 //! The table `links-in-memory`: datagrams in memory, with the calls that are to fail. Its rows are calls on one link.
 
-use crate::cases::Scene;
-use crate::text::{PartyText, ok_text, plain_text};
-use crate::values::numbers;
-use crate::words::Row;
 use std::alloc::Global;
 use std::io;
 use zy_base::Bytes;
 use zy_edge::{Binding, Bound, Heard, Link, MemLink, Sent};
-use zy_rows::{Hex, lacking, not_a_line};
+use zy_rows::{Hex, PartyText, Row, Scene, lacking, not_a_line, numbers, ok_text, plain_text};
 
-/// A link to which nothing is to come.
-pub(crate) fn silent(alloc: Global) -> io::Result<MemLink> {
-    MemLink::new(alloc, Vec::new(alloc), Vec::new(alloc), 0).map_err(lacking)
+/// The link of the rows.
+#[derive(Drop)]
+pub(crate) struct LinkScene(MemLink);
+
+impl LinkScene {
+    /// A link to which nothing is to come.
+    pub(crate) fn silent(alloc: Global) -> io::Result<LinkScene> {
+        let link = MemLink::new(alloc, Vec::new(alloc), Vec::new(alloc), 0);
+        Ok(LinkScene(link.map_err(lacking)?))
+    }
 }
 
-impl Scene for MemLink {
+impl Scene for LinkScene {
     fn step(&mut self, alloc: Global, row: &Row) -> io::Result<String> {
+        let link = &mut self.0;
         match row.call()? {
-            "begin" => begin(alloc, self, row),
-            "bind" => bind(alloc, self, row),
-            "binding" => binding_text(alloc, self.binding()),
-            "receive" => receive(alloc, self, row),
-            "send" => send(alloc, self, row),
-            "parcels" => plain_text(alloc, &self.parcels()),
-            "parcel" => parcel(alloc, self, row),
+            "begin" => begin(alloc, link, row),
+            "bind" => bind(alloc, link, row),
+            "binding" => binding_text(alloc, link.binding()),
+            "receive" => receive(alloc, link, row),
+            "send" => send(alloc, link, row),
+            "parcels" => plain_text(alloc, &link.parcels()),
+            "parcel" => parcel(alloc, link, row),
             _ => Err(not_a_line()),
         }
     }

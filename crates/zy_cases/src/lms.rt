@@ -1,14 +1,11 @@
 //! The tables of keys that sign by one leaf after another, and of their signatures.
 
-use crate::cases::Scene;
 use crate::ots::ots_type;
-use crate::text::{fault_text, plain_text, sha_text};
-use crate::words::Row;
 use std::alloc::Global;
 use std::io;
 use zy_lms::{Height, LmsKey, verify};
 use zy_ots::OtsType;
-use zy_rows::{Hex, lacking, not_a_line};
+use zy_rows::{Hex, Row, Scene, fault_text, lacking, not_a_line, plain_text, sha_text};
 
 /// Whether a signature verifies.
 pub(crate) fn verified(alloc: Global, row: &Row) -> io::Result<String> {

@@ -1,12 +1,10 @@
 //! The table of one-time signatures.
 
-use crate::text::{hex_text, plain_text, sha_text};
-use crate::words::Row;
 use std::alloc::Global;
 use std::io;
 use zy_base::Digest;
 use zy_ots::{OtsType, checksum, coef, ots_public, ots_recover, ots_sign};
-use zy_rows::{lacking, not_a_line};
+use zy_rows::{Row, hex_text, lacking, not_a_line, plain_text, sha_text};
 
 /// Elements and checksums of strings, public values, signatures, and what these lead back to.
 pub(crate) fn signatures(alloc: Global, row: &Row) -> io::Result<String> {

@@ -1,13 +1,10 @@
 //! The tables of frames that are cut into datagrams, and of those that are gathered from them.
 
-use crate::cases::Scene;
-use crate::text::{ok_text, sha_text};
-use crate::words::Row;
 use std::alloc::Global;
 use std::io;
 use zy_base::Bytes;
 use zy_pieces::{Gather, Gathered, cut};
-use zy_rows::{Hex, lacking, not_a_line};
+use zy_rows::{Hex, Row, Scene, lacking, not_a_line, ok_text, sha_text};
 
 /// The bytes before the payload of a datagram.
 const HEADER_LEN: usize = 37;
@@ -37,15 +34,19 @@ fn datagram_text(alloc: Global, datagrams: &[Bytes], index: usize) -> io::Result
     )?)
 }
 
-impl Scene for Gather {
+/// What the rows gather.
+#[derive(Drop)]
+pub(crate) struct GatherScene(pub(crate) Gather);
+
+impl Scene for GatherScene {
     fn step(&mut self, alloc: Global, row: &Row) -> io::Result<String> {
         match row.call()? {
             "begin" => {
-                *self = Gather::new(alloc);
+                self.0 = Gather::new(alloc);
                 ok_text(alloc)
             }
             "add" => {
-                let gathered = self.add(row.bytes("datagram")?).map_err(lacking)?;
+                let gathered = self.0.add(row.bytes("datagram")?).map_err(lacking)?;
                 gathered_text(alloc, &gathered)
             }
             _ => Err(not_a_line()),

@@ -1,7 +1,5 @@
 //! The table `report-lines`: the lines that a run writes.
 
-use crate::values::{byte, digest, maybe_number};
-use crate::words::Row;
 use std::alloc::Global;
 use std::io;
 use zy_base::{
@@ -11,7 +9,7 @@ use zy_report::{
     agreed_line, done_line, key_line, key_lines, refused_line, replica_line, reply_line,
     summary_line,
 };
-use zy_rows::{lacking, not_a_line};
+use zy_rows::{Row, byte, digest, lacking, maybe_number, not_a_line};
 
 /// The line that is called for.
 pub(crate) fn lines(alloc: Global, row: &Row) -> io::Result<String> {

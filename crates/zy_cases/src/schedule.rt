@@ -4,10 +4,9 @@ ghost use Rattle.std.specs.Prelude.{All};
 ghost use Rattle.zy_schedule.specs.Texts.{IsSaid};
 
 use crate::schedule_lines::put_line;
-use crate::words::Row;
 use std::alloc::Global;
 use std::io;
-use zy_rows::{lacking, not_a_line};
+use zy_rows::{Row, lacking, not_a_line};
 use zy_schedule::{Line, ScheduleFault, make, read_schedule, read_script};
 
 /// The lines of the schedule that the row's first word is, written again.

@@ -3,11 +3,10 @@
 ghost use Rattle.zy_schedule.specs.Texts.{IsSaid};
 ghost use Rattle.zy_tuple.specs.Values.{IsOp, IsReply};
 
-use crate::text::PartyText;
 use std::alloc::Global;
 use std::io;
 use zy_base::{Bytes, Items, Party, TimerKind, View};
-use zy_rows::{Hex, lacking, not_a_line};
+use zy_rows::{Hex, PartyText, lacking, not_a_line};
 use zy_schedule::Line;
 use zy_tuple::{Op, Reply, op_text, reply_text};
 

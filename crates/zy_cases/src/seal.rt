@@ -1,15 +1,12 @@
 //! The table of parties that sign statements, and of the directory by which these are checked.
 
-use crate::cases::Scene;
 use crate::lms::key_of;
 use crate::ots::signature_text;
-use crate::text::{PartyText, fault_text};
-use crate::words::Row;
 use std::alloc::{AllocError, Global};
 use std::io;
 use zy_base::View;
 use zy_parts::Hate;
-use zy_rows::not_a_line;
+use zy_rows::{PartyText, Row, Scene, fault_text, not_a_line};
 use zy_seal::{Directory, Sealer, check};
 
 /// The party that signs.

@@ -3,13 +3,10 @@
 ghost use Rattle.std.specs.Prelude.{◌≡◌, ◌<◌, ◌∷◌, ◌++◌, [], IfOk};
 ghost use Rattle.zy_slots.specs.Cells.{with_live};
 
-use crate::text::text_of;
-use crate::values::byte;
-use crate::words::Row;
 use std::alloc::Global;
 use std::io;
 use zy_base::{Bytes, Want};
-use zy_rows::{lacking, not_a_line};
+use zy_rows::{Row, byte, lacking, not_a_line, text_of};
 use zy_slots::{SlotId, Slots};
 
 /// The ids that are met, up to four.

@@ -3,39 +3,47 @@
 ghost use Rattle.std.specs.Prelude.{◌≡◌, ◌<◌};
 ghost use Rattle.zy_tuple.specs.Values.{IsOp, IsReply};
 
-use crate::cases::Scene;
-use crate::text::{ok_text, text_of};
-use crate::words::Row;
 use std::alloc::Global;
 use std::io;
 use std::marker::Brand;
 use std::sync::ledger::{Blank, Ledger};
 use zy_base::{ClientId, Machine, RestoreFault, Steps};
-use zy_rows::{Hex, lacking, not_a_line};
+use zy_rows::{Hex, Row, Scene, lacking, not_a_line, ok_text, text_of};
 use zy_space::Space;
 use zy_tuple::{Op, Reply, op_text_read, reply_text};
 
 /// Who asks.
 const CLIENT: ClientId = ClientId(0);
 
-impl Scene for Space {
+/// The space of the rows.
+#[derive(Drop)]
+pub(crate) struct SpaceScene(Space);
+
+impl SpaceScene {
+    pub(crate) fn new(alloc: Global) -> io::Result<SpaceScene> {
+        Ok(SpaceScene(Space::empty(alloc).map_err(lacking)?))
+    }
+}
+
+impl Scene for SpaceScene {
     fn step(&mut self, alloc: Global, row: &Row) -> io::Result<String> {
+        let space = &mut self.0;
         match row.call()? {
-            "begin" => begin(alloc, self),
-            "restore" => restore(alloc, self, row.bytes("bytes")?),
-            "apply" => apply(alloc, self, row.bytes("op")?),
-            "run" => run(alloc, self, row.bytes("op")?),
-            "run-in-turn" => run_in_turn(alloc, self, row),
+            "begin" => begin(alloc, space),
+            "restore" => restore(alloc, space, row.bytes("bytes")?),
+            "apply" => apply(alloc, space, row.bytes("op")?),
+            "run" => run(alloc, space, row.bytes("op")?),
+            "run-in-turn" => run_in_turn(alloc, space, row),
             "undo" => {
-                go_back(self, row.number("times")?);
-                now(alloc, self)
+                go_back(space, row.number("times")?);
+                now(alloc, space)
             }
             "forget" => {
-                forget(self, row.number("times")?);
-                now(alloc, self)
+                forget(space, row.number("times")?);
+                now(alloc, space)
             }
-            "now" => now(alloc, self),
-            "counts" => counts(alloc, self),
+            "now" => now(alloc, space),
+            "counts" => counts(alloc, space),
             _ => Err(not_a_line()),
         }
     }

@@ -2,11 +2,9 @@
 
 ghost use Rattle.zy_tuple.specs.Values.{IsOp, IsReply};
 
-use crate::text::{fault_text, hex_text, plain_text, text_of};
-use crate::words::Row;
 use std::alloc::Global;
 use std::io;
-use zy_rows::{lacking, not_a_line};
+use zy_rows::{Row, fault_text, hex_text, lacking, not_a_line, plain_text, text_of};
 use zy_tuple::{
     Op, Reply, matches, op_bytes, op_read, op_text, op_text_read, reply_bytes, reply_read,
     reply_text, reply_text_read,

@@ -2,11 +2,10 @@
 
 use crate::groups::counts_text;
 use crate::schedule::made_text;
-use crate::words::Row;
 use std::alloc::Global;
 use std::io;
 use zy_base::View;
-use zy_rows::{lacking, not_a_line};
+use zy_rows::{Row, lacking, not_a_line};
 use zy_wide::{calm, wide};
 
 /// The numbers of the group with `f` liars, and the primary of `view`.

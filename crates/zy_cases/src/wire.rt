@@ -1,11 +1,11 @@
 //! The table of the fields of the wire.
 
-use crate::text::{PartyText, fault_text, hex_text, ok_text, plain_text};
-use crate::words::Row;
 use std::alloc::Global;
 use std::{fmt, io};
 use zy_base::{Digest, FrameFault, Want};
-use zy_rows::{Hex, lacking, not_a_line, number};
+use zy_rows::{
+    Hex, PartyText, Row, fault_text, hex_text, lacking, not_a_line, number, ok_text, plain_text,
+};
 use zy_tuple::party_text_read;
 use zy_wire::{Cut, Put, kind_of};
 

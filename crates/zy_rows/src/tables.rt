@@ -14,6 +14,14 @@ pub trait Table {
     fn line(&mut self, alloc: Global, line: &str) -> io::Result<Option<Answered>>;
 }
 
+/// Whether a table runs: each does where no word names one.
+pub fn is_chosen(only: &Option<String>, table: &str) -> bool {
+    match only {
+        Some(name) => name.as_str() == table,
+        None => true,
+    }
+}
+
 /// How many rows there are, and how many of them agree.
 #[derive(Clone, Copy)]
 struct Count {
