@@ -16,9 +16,9 @@ use Rattle.zy_lms.specs.Lms.{signature_of}
 use Rattle.zy_lms.specs.Tree.{path_from}
 use Rattle.zy_seal.specs.Sealing.{signatures_by, signature_size}
 
-pub some_signatures : (height : Height) → 1 ≤ signatures_by height
-some_signatures H5 = omega arith
-some_signatures H10 = omega arith
+pub least_signatures : (height : Height) → 32 ≤ signatures_by height
+least_signatures H5 = omega arith
+least_signatures H10 = omega arith
 
 pub few_signatures : (height : Height) → signatures_by height ≤ 1024
 few_signatures H5 = omega arith

@@ -1,5 +1,5 @@
 -- A party that signs statements with its own key.
-use Rattle.std.specs.Prelude.{◌≡◌, ℕ, ◌+◌, ◌-◌, ◌^◌, ◌≤◌, length}
+use Rattle.std.specs.Prelude.{◌≡◌, ℕ, ◌+◌, ◌-◌, ◌^◌, ◌≤◌, nat_lt, if◌then◌else◌, List, length, Option, Some, None}
 use Rattle.zy_base.specs.declared.ids.Party.{Party}
 use Rattle.zy_wire.specs.Spelling.{Spelling}
 use Rattle.zy_ots.specs.declared.ots_type.OtsType.{OtsType}
@@ -24,6 +24,10 @@ left_of sealer = signatures_by sealer.key.height - sealer.key.next
 -- the length of each signature by a key of these types
 abbrev pub signature_size : Height → OtsType → ℕ
 signature_size height ots = signature_len_of height ots
+
+-- the number that a signature tells, of those that its key gives; none where it is too short to tell one
+abbrev pub number_told : List ℕ → Option ℕ
+number_told signature = if nat_lt (length signature) 4 then None else Some (leaf_of signature)
 
 -- the statement with the party's next signature on its signed text
 abbrev pub sealed_by : {S : Type 0} → ℕ → Spelling S → SealerState → S → Signed S

@@ -13,4 +13,4 @@ pub use directory::{Directory, SealAnswer, check};
 pub use laws::seals;
 pub use screening::screen_parts;
 pub use sealer::{SealFault, Sealer};
-pub use sizes::{signature_count, signature_len};
+pub use sizes::{signature_count, signature_len, signature_number};

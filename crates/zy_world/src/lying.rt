@@ -183,7 +183,7 @@ impl<M: Machine> World<M> {
     }
 
     // The frame under the party's key, made anew, with its last signature.
-    #[tactic(auto, using(zy_seal::proofs::SignatureLemmas::some_signatures))]
+    #[tactic(auto, using(zy_seal::proofs::SignatureLemmas::least_signatures))]
     fn forged(&self, party: Party, statement: Tellable) -> Result<Option<Bytes>, Want>
         requires { IsTellable statement }
         ensures { IfOk result (IsEncoded (telling_of statement (sealer_of self.now.setup party (signatures_by self.now.setup.height - 1)))) }
