@@ -100,7 +100,7 @@ OfCert F cert = OfNew F cert.new × FitsList F.began 1 16 cert.begans
 abbrev pub OfFrame : Signs → Frame → Type 0
 OfFrame F (frames.Request ask) = F.ask ask
 OfFrame F (frames.Order both) = OfOrder F both
-OfFrame F (frames.SpecResponse spec reply with_order) = F.spec spec × (FitsAnswers reply) × IfSome with_order F.order
+OfFrame F (frames.SpecResponse spec reply with_order) = F.spec spec × FitsAnswers reply × IfSome with_order F.order
 OfFrame F (frames.Commit specs) = FitsList F.spec 1 16 specs
 OfFrame F (frames.LocalCommit local) = F.local local
 OfFrame F (frames.ConfirmReq confirm ask) = F.confirm confirm × F.ask ask
