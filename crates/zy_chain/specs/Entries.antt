@@ -1,5 +1,5 @@
 -- An entry of a history as bytes.
-use Rattle.std.specs.Prelude.{ℕ, ◌^◌, ◌<◌, ◌≤◌, Bool, true, nat_lt, List, [], ◌∷◌, ◌++◌, length, Option, Some, None}
+use Rattle.std.specs.Prelude.{ℕ, ◌^◌, ◌<◌, ◌≤◌, Bool, true, nat_lt, List, ◌++◌, length, Option, Some, None}
 use Rattle.std.specs.Int.{w16, w32, w64, to_be_bytes}
 use Rattle.sha2.specs.Sha256.{sha256}
 use Rattle.zy_base.specs.declared.ids.ClientId.{ClientId}
@@ -12,10 +12,7 @@ pub record IsEntryInRange (e : Entry) : Type 0 where
   pub stamp : e.stamp.0 < 2 ^ 62
   pub op : length e.op ≤ 1100
 
--- the clients whose requests it answers, in order, and that a group may have each of them
-abbrev pub clients_of : Entry → List ClientId
-clients_of e = e.client ∷ []
-
+-- a group may have the clients whose requests it answers
 abbrev pub IsOfClients : Entry → Type 0
 IsOfClients e = e.client.0 < 64
 
