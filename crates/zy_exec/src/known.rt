@@ -1,6 +1,6 @@
 //! What is known of the last entry of each client, and what leads back over an entry.
 
-ghost use Rattle.std.specs.Prelude.{◌≡◌, ◌+◌, ◌-◌, ◌<◌, ◌≤◌, [], ◌∷◌, ◌++◌, length, IfOk, IfSome, replicate, slice_index_or, slice_set, slice_get, option_map, option_copied};
+ghost use Rattle.std.specs.Prelude.{◌≡◌, ◌+◌, ◌-◌, ◌<◌, [], ◌∷◌, ◌++◌, length, IfOk, IfSome, replicate, slice_index_or, slice_set, slice_get, option_map, option_copied};
 ghost use Rattle.std.specs.VecDeque.{deque_len, deque_capacity};
 ghost use Rattle.std.specs.List.{AllByRecursion};
 ghost use Rattle.zy_exec.specs.Trail.{known_above, known_at as kept_of, IsPopped, IsSettled, IsDoneInRange, IsBaseInRange};

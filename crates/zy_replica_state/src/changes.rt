@@ -1,6 +1,6 @@
 //! The changes of a replica, one at a time.
 
-ghost use Rattle.std.specs.Prelude.{◌≡◌, ◌≤◌, ◌<◌, ◌+◌, ◌++◌, ◌∷◌, [], length, Some, None, Option, Bool, IfOk, filter};
+ghost use Rattle.std.specs.Prelude.{◌≡◌, ◌≤◌, ◌<◌, ◌+◌, ◌++◌, ◌∷◌, [], length, None, Option, Bool, IfOk, filter};
 ghost use Rattle.std.specs.Option.{ForSome};
 ghost use Rattle.zy_chain.specs.Entries.{IsEntryInRange, IsOfClients};
 ghost use Rattle.zy_parts.specs.Signing.{IsSignedInRange};
