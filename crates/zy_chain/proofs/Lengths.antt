@@ -1,5 +1,4 @@
 -- How many bytes entries and answers have at most as fields of frames.
-use Rattle.std.proofs.Common.{ℕ, ◌+◌}
 use Rattle.zy_wire.proofs.Lengths.{IsAtMost, u62-at_most, word32-at_most, sized16-at_most, pair-at_most, converted-at_most}
 use Rattle.zy_chain.specs.Answers.{answers_fields}
 use Rattle.zy_chain.specs.Fields.{entry_fields}

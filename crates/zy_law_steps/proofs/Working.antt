@@ -11,14 +11,13 @@ use Rattle.zy_base.specs.declared.ids.ReplicaId.{ReplicaId}
 use Rattle.zy_base.specs.declared.ids.View.{View}
 use Rattle.zy_base.specs.declared.step.Mode.{Mode}
 use Rattle.zy_base.specs.declared.step.Mode.TheVariants.{Active}
-use Rattle.zy_admit.specs.Judging.{entry_of, asking}
+use Rattle.zy_admit.specs.Judging.{entry_of}
 use Rattle.zy_chain.specs.Heads.{empty_head}
 use Rattle.zy_chain.specs.declared.entry.Entry.{Entry}
 use Rattle.zy_exec.proofs.HistoryLemmas.{stands_leads}
 use Rattle.zy_exec.proofs.ReplayLemmas.{head-along}
 use Rattle.zy_exec.specs.Kept.{last_place, now_of}
 use Rattle.zy_exec.specs.Replay.{Point, origin, is_new_to}
-use Rattle.zy_exec.specs.declared.known.Known.{Known}
 use Rattle.zy_law.proofs.StepsLawful.{saying_lawful, standing_lawful}
 use Rattle.zy_law.specs.Lawful.{AreAskedFor, IsLawful}
 use Rattle.zy_law.specs.Said.{IsCorrect, Moment, Stood}

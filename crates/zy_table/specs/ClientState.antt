@@ -1,5 +1,5 @@
 -- What a client is, as far as its answers tell, and what a step of it does.
-use Rattle.std.specs.Prelude.{ℕ, ◌-◌, Bool, true, false, List, [], map, replicate, Option, Some, None}
+use Rattle.std.specs.Prelude.{ℕ, Bool, true, false, List, [], map, replicate, Option, Some, None}
 use Rattle.std.specs.List.{range_with_len}
 use Rattle.zy_base.specs.declared.counts.Counts.{Counts}
 use Rattle.zy_base.specs.declared.cause.Cause.{Cause}

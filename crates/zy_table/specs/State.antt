@@ -1,5 +1,5 @@
 -- What a replica is, as far as its answers tell.
-use Rattle.std.specs.Prelude.{ℕ, ◌+◌, ◌-◌, ◌*◌, ◌%◌, ◌^◌, min, nat_eq, ◌||◌, Bool, true, false, List, [], slice_index_or, slice_set, replicate, Option, Some, None, is_some, not, filter, ◌∷◌, ◌++◌}
+use Rattle.std.specs.Prelude.{ℕ, ◌+◌, ◌-◌, ◌*◌, ◌%◌, ◌^◌, min, nat_eq, ◌||◌, Bool, true, false, List, [], slice_index_or, slice_set, replicate, Option, None, is_some, not, filter, ◌∷◌, ◌++◌}
 use Rattle.std.specs.List.{list_any, find}
 use Rattle.zy_base.specs.Machine.{Rules}
 use Rattle.zy_base.specs.declared.counts.Counts.{Counts}

@@ -5,7 +5,7 @@ use Rattle.std.proofs.lemmas.List.{length-append}
 use Rattle.zy_wire.specs.Kind.{frame_limit}
 use Rattle.zy_wire.specs.Spelling.{Spelling, pair, converted, bytes_of}
 use Rattle.zy_wire.specs.Fields.{u62, digest, list, optional, FitsList}
-use Rattle.zy_wire.proofs.Lengths.{IsAtMost, u62-at_most, word32-at_most, digest-at_most, sized16-at_most, pair-at_most, converted-at_most, optional-at_most, list-at_most}
+use Rattle.zy_wire.proofs.Lengths.{IsAtMost, u62-at_most, word32-at_most, digest-at_most, pair-at_most, converted-at_most, optional-at_most, list-at_most}
 use Rattle.zy_chain.specs.Fields.{entry_fields}
 use Rattle.zy_parts.specs.declared.signed.Signed.{Signed}
 use Rattle.zy_parts.specs.declared.statements.Spec.{Spec}

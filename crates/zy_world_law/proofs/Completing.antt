@@ -8,7 +8,6 @@ use Rattle.std.proofs.lemmas.Nat.{from_be_bytes-to_be_bytes_4}
 use Rattle.zy_base.specs.Machine.{Rules}
 use Rattle.zy_base.specs.declared.counts.Counts.{Counts}
 use Rattle.zy_base.specs.declared.ids.ClientId.{ClientId}
-use Rattle.zy_base.specs.declared.ids.Digest.{Digest}
 use Rattle.zy_base.specs.declared.ids.Party.{Party}
 use Rattle.zy_base.specs.declared.ids.Party.TheVariants as parties
 use Rattle.zy_base.specs.declared.step.Event.{Event}
