@@ -1,7 +1,7 @@
 //! The table `adoptions`: how a replica takes up the history with which a view begins. The own history is an execution as in the
 //! table `execution`, and the other one is run in a tuple space too.
 
-ghost use Rattle.std.specs.Prelude.{◌≡◌, ◌<◌, Some, All, IfOk, IsTrue};
+ghost use Rattle.std.specs.Prelude.{◌≡◌, Some, All, IfOk, IsTrue};
 ghost use Rattle.zy_chain.specs.Entries.{IsEntryInRange, IsOfClients};
 ghost use Rattle.zy_chain.specs.Stretch.{head_in};
 ghost use Rattle.zy_evidence.specs.Reading.{stretch_of};
