@@ -5,3 +5,4 @@ pub mod Verdict
 pub mod Replaying
 pub mod Hosting
 pub mod Truthful
+pub mod Acts
