@@ -2,7 +2,7 @@
 ghost use Rattle.std.specs.Prelude.{◌≡◌, ◌++◌, ◌∷◌, [], OnOk, option_copied};
 ghost use Rattle.zy_report.specs.Lines.{mode_text};
 ghost use Rattle.zy_schedule.specs.Texts.{kind_text};
-ghost use Rattle.zy_trace.specs.Lines as lines;
+ghost use Rattle.zy_trace.specs.Lines as spelled;
 ghost use Rattle.zy_tuple.specs.Values.{IsOp};
 
 use crate::parts::{put_act, put_hex, put_maybe, put_name, put_number};
@@ -22,7 +22,7 @@ pub(crate) fn put_act_line(
     act: &[u8],
     party: Option<Party>,
 ) -> Result<(), Want>
-    ensures { OnOk result (out.new.items ≡ out.old.items ++ lines.act_line number act.now party) }
+    ensures { OnOk result (out.new.items ≡ out.old.items ++ spelled.act_line number act.now party) }
 {
     put_act(alloc, out, number, act, party)?;
     out.push(b'\n')?;
@@ -37,7 +37,7 @@ pub(crate) fn put_ask(
     op: &Op,
 ) -> Result<(), Want>
     requires { IsOp op.now }
-    ensures { OnOk result (out.new.items ≡ out.old.items ++ lines.ask_line number client op.now) }
+    ensures { OnOk result (out.new.items ≡ out.old.items ++ spelled.ask_line number client op.now) }
 {
     let text = op_text(alloc, op)?;
     put_act(alloc, out, number, b" ask ", Some(Party::Client(client)))?;
@@ -54,7 +54,7 @@ pub(crate) fn put_timer(
     party: Party,
     kind: TimerKind,
 ) -> Result<(), Want>
-    ensures { OnOk result (out.new.items ≡ out.old.items ++ lines.timer_line number party kind) }
+    ensures { OnOk result (out.new.items ≡ out.old.items ++ spelled.timer_line number party kind) }
 {
     put_act(alloc, out, number, b" timer ", Some(party))?;
     out.push(b' ')?;
@@ -84,7 +84,7 @@ pub(crate) fn put_frame_line(
     from: Option<Party>,
     to: Option<Party>,
 ) -> Result<(), Want>
-    ensures { OnOk result (out.new.items ≡ out.old.items ++ lines.frame_line number act.now frame kind.now from to) }
+    ensures { OnOk result (out.new.items ≡ out.old.items ++ spelled.frame_line number act.now frame kind.now from to) }
 {
     put_number(alloc, out, b"", number)?;
     put_number(alloc, out, act, frame)?;
@@ -106,7 +106,7 @@ pub(crate) fn put_answer(
     by: Option<Party>,
     answer: Option<Answer>,
 ) -> Result<(), Want>
-    ensures { OnOk result (out.new.items ≡ out.old.items ++ lines.answer_line number by answer) }
+    ensures { OnOk result (out.new.items ≡ out.old.items ++ spelled.answer_line number by answer) }
 {
     match answer {
         Some(Answer::Taken) => put_act_line(alloc, out, number, b" taken ", by),
@@ -118,7 +118,7 @@ pub(crate) fn put_answer(
 
 /// The party signed it, by a leaf from this one on.
 fn is_signed_by(by: Option<Party>, leaf: u64, statement: Statement) -> bool
-    ensures { result ≡ lines.is_signed_by by leaf statement }
+    ensures { result ≡ spelled.is_signed_by by leaf statement }
 {
     match by {
         Some(party) => party == statement.by && leaf <= u64::from(statement.leaf),
@@ -135,7 +135,7 @@ pub(crate) fn put_signing(
     leaf: u64,
     statement: Statement,
 ) -> Result<(), Want>
-    ensures { OnOk result (out.new.items ≡ out.old.items ++ lines.signing_line number by leaf statement) }
+    ensures { OnOk result (out.new.items ≡ out.old.items ++ spelled.signing_line number by leaf statement) }
 {
     if is_signed_by(by, leaf, statement) {
         put_signs(alloc, out, number, by, statement)
@@ -151,7 +151,7 @@ fn put_signs(
     by: Option<Party>,
     statement: Statement,
 ) -> Result<(), Want>
-    ensures { OnOk result (out.new.items ≡ out.old.items ++ lines.signs_line number by statement) }
+    ensures { OnOk result (out.new.items ≡ out.old.items ++ spelled.signs_line number by statement) }
 {
     put_act(alloc, out, number, b" signs ", by)?;
     put_number(alloc, out, b" ", u64::from(statement.leaf))?;
@@ -163,7 +163,7 @@ fn put_signs(
 
 /// The first leaf that wasn't told as spent, behind this statement.
 pub(crate) fn leaf_behind(by: Option<Party>, leaf: u64, statement: Statement) -> u64
-    ensures { result ≡ lines.leaf_behind by leaf statement }
+    ensures { result ≡ spelled.leaf_behind by leaf statement }
 {
     if is_signed_by(by, leaf, statement) {
         u64::from(statement.leaf) + 1
@@ -184,7 +184,7 @@ pub(crate) fn put_sends(
     view: Option<u64>,
     place: Option<u64>,
 ) -> Result<(), Want>
-    ensures { OnOk result (out.new.items ≡ out.old.items ++ lines.sends_line number by frame kind.now to view place) }
+    ensures { OnOk result (out.new.items ≡ out.old.items ++ spelled.sends_line number by frame kind.now to view place) }
 {
     put_act(alloc, out, number, b" sends ", by)?;
     put_number(alloc, out, b" ", frame)?;
@@ -206,7 +206,7 @@ pub(crate) fn put_replica<M: Machine>(
     by: Option<Party>,
     replica: Option<&Replica<M>>,
 ) -> Result<(), Want>
-    ensures { OnOk result (out.new.items ≡ out.old.items ++ lines.replica_stands M.rules number by (option_copied replica.entry)) }
+    ensures { OnOk result (out.new.items ≡ out.old.items ++ spelled.replica_stands M.rules number by (option_copied replica.entry)) }
 {
     let Some(replica) = replica else {
         return Ok(());
@@ -237,7 +237,7 @@ pub(crate) fn put_client(
     by: Option<Party>,
     client: Option<&Client>,
 ) -> Result<(), Want>
-    ensures { OnOk result (out.new.items ≡ out.old.items ++ lines.client_stands number by (option_copied client.entry)) }
+    ensures { OnOk result (out.new.items ≡ out.old.items ++ spelled.client_stands number by (option_copied client.entry)) }
 {
     let Some(client) = client else {
         return Ok(());
@@ -248,7 +248,7 @@ pub(crate) fn put_client(
 }
 
 fn waiting_text(waiting: Option<Stamp>) -> &'static [u8]
-    ensures { result.now ≡ lines.waiting_text waiting }
+    ensures { result.now ≡ spelled.waiting_text waiting }
 {
     match waiting {
         Some(_) => b" waiting ",
@@ -258,7 +258,7 @@ fn waiting_text(waiting: Option<Stamp>) -> &'static [u8]
 
 /// The next leaf of its key, and the timers that are to run.
 fn put_ready(alloc: Global, out: &mut Vec<u8>, leaf: u32, timers: Timers) -> Result<(), Want>
-    ensures { OnOk result (out.new.items ≡ out.old.items ++ lines.ready_text leaf timers) }
+    ensures { OnOk result (out.new.items ≡ out.old.items ++ spelled.ready_text leaf timers) }
 {
     put_number(alloc, out, b" leaf ", u64::from(leaf))?;
     out.extend_from_slice(b" timers ")?;
@@ -268,7 +268,7 @@ fn put_ready(alloc: Global, out: &mut Vec<u8>, leaf: u32, timers: Timers) -> Res
 }
 
 fn timers_text(timers: Timers) -> &'static [u8]
-    ensures { result.now ≡ lines.timers_text timers }
+    ensures { result.now ≡ spelled.timers_text timers }
 {
     if timers.request {
         if timers.change {
@@ -292,7 +292,7 @@ pub(crate) fn put_broken(
     number: u64,
     what: Broken,
 ) -> Result<(), Want>
-    ensures { OnOk result (out.new.items ≡ out.old.items ++ lines.broken_line number what) }
+    ensures { OnOk result (out.new.items ≡ out.old.items ++ spelled.broken_line number what) }
 {
     put_number(alloc, out, b"", number)?;
     match what {

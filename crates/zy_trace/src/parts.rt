@@ -2,7 +2,7 @@
 ghost use Rattle.std.specs.Prelude.{◌≡◌, ◌++◌, ◌∷◌, OnOk};
 ghost use Rattle.std.specs.Fmt.{decimal};
 ghost use Rattle.hex.specs.Hex.{encode_lower};
-ghost use Rattle.zy_trace.specs.Lines as lines;
+ghost use Rattle.zy_trace.specs.Lines as spelled;
 
 use std::alloc::Global;
 use zy_base::{Party, Want};
@@ -30,7 +30,7 @@ pub(crate) fn put_maybe(
     word: &[u8],
     number: Option<u64>,
 ) -> Result<(), Want>
-    ensures { OnOk result (out.new.items ≡ out.old.items ++ (word.now ++ lines.number_text number)) }
+    ensures { OnOk result (out.new.items ≡ out.old.items ++ (word.now ++ spelled.number_text number)) }
 {
     match number {
         Some(number) => put_number(alloc, out, word, number),
@@ -59,7 +59,7 @@ pub(crate) fn put_hex(
 
 /// Puts a party's name, or a dash for nobody.
 pub(crate) fn put_name(alloc: Global, out: &mut Vec<u8>, party: Option<Party>) -> Result<(), Want>
-    ensures { OnOk result (out.new.items ≡ out.old.items ++ lines.name_text party) }
+    ensures { OnOk result (out.new.items ≡ out.old.items ++ spelled.name_text party) }
 {
     match party {
         Some(party) => party_text_put(alloc, out, party)?,
@@ -76,7 +76,7 @@ pub(crate) fn put_act(
     act: &[u8],
     party: Option<Party>,
 ) -> Result<(), Want>
-    ensures { OnOk result (out.new.items ≡ out.old.items ++ lines.act_front number act.now party) }
+    ensures { OnOk result (out.new.items ≡ out.old.items ++ spelled.act_front number act.now party) }
 {
     put_number(alloc, out, b"", number)?;
     out.extend_from_slice(act)?;

@@ -3,7 +3,7 @@
 ghost use Rattle.std.specs.Prelude.{◌≡◌, ◌≤◌, ◌<◌, ◌+◌, ◌*◌, ◌^◌, All, length, option_copied};
 ghost use Rattle.zy_schedule.specs.Texts.{IsSaid};
 ghost use Rattle.zy_top.specs.Acts.{IsAllowed};
-ghost use Rattle.zy_trace.specs.Telling as telling;
+ghost use Rattle.zy_trace.specs.Telling as traces;
 ghost use Rattle.zy_trace.specs.Tracing.{IsTraced, told_of};
 ghost use Rattle.zy_world.specs.Event.{IsEvent};
 ghost use Rattle.zy_world.specs.Shows.{Shows};
@@ -29,7 +29,7 @@ pub(crate) fn trace_lines<M: Machine>(
 ) -> Result<World<M>, Stop>
     requires said { All IsSaid lines.items }
     requires room { trace.old.events + 100000 * length lines.items < 2 ^ 64 }
-    ensures traced { (g : Whole M.State) → Shows g world → IsTraced (telling.trace M.rules lines.items g (told_of trace.old)) (told_of trace.new) result }
+    ensures traced { (g : Whole M.State) → Shows g world → IsTraced (traces.trace M.rules lines.items g (told_of trace.old)) (told_of trace.new) result }
     ensures count { trace.new.events ≤ trace.old.events + 100000 * length lines.items }
 {
     let mut world = world;
@@ -47,7 +47,7 @@ fn trace_line<M: Machine>(
 ) -> Result<World<M>, Stop>
     requires said { IsSaid line }
     requires room { trace.old.events + 100000 < 2 ^ 64 }
-    ensures traced { (g : Whole M.State) → Shows g world → IsTraced (telling.trace_line M.rules line g (told_of trace.old)) (told_of trace.new) result }
+    ensures traced { (g : Whole M.State) → Shows g world → IsTraced (traces.trace_line M.rules line g (told_of trace.old)) (told_of trace.new) result }
     ensures count { trace.new.events ≤ trace.old.events + 100000 }
 {
     trace.head(alloc, &world, &line)?;
@@ -63,7 +63,7 @@ fn trace_act<M: Machine>(
 ) -> Result<World<M>, Stop>
     requires allowed { IsAllowed act }
     requires room { trace.old.events + 100000 < 2 ^ 64 }
-    ensures traced { (g : Whole M.State) → Shows g world → IsTraced (telling.trace_act M.rules act g (told_of trace.old)) (told_of trace.new) result }
+    ensures traced { (g : Whole M.State) → Shows g world → IsTraced (traces.trace_act M.rules act g (told_of trace.old)) (told_of trace.new) result }
     ensures count { trace.new.events ≤ trace.old.events + 100000 }
 {
     match act {
@@ -93,7 +93,7 @@ fn trace_flow<M: Machine>(
 ) -> Result<World<M>, Stop>
     requires few { events ≤ 100000 }
     requires room { trace.old.events + 100000 < 2 ^ 64 }
-    ensures traced { (g : Whole M.State) → Shows g world → IsTraced (telling.trace_flow M.rules events g (told_of trace.old)) (told_of trace.new) result }
+    ensures traced { (g : Whole M.State) → Shows g world → IsTraced (traces.trace_flow M.rules events g (told_of trace.old)) (told_of trace.new) result }
     ensures count { trace.new.events ≤ trace.old.events + 100000 }
 {
     let mut world = world;
@@ -114,7 +114,7 @@ fn trace_delivery<M: Machine>(
     trace: &mut Trace,
 ) -> Result<World<M>, Stop>
     requires { trace.old.events + 1 < 2 ^ 64 }
-    ensures traced { (g : Whole M.State) → Shows g world → IsTraced (telling.trace_delivery M.rules frame g (told_of trace.old)) (told_of trace.new) result }
+    ensures traced { (g : Whole M.State) → Shows g world → IsTraced (traces.trace_delivery M.rules frame g (told_of trace.old)) (told_of trace.new) result }
     ensures count { trace.new.events ≤ trace.old.events + 1 }
 {
     trace.deliver(alloc, &world, frame, None)?;
@@ -129,7 +129,7 @@ fn trace_event<M: Machine>(
 ) -> Result<World<M>, Stop>
     requires event { IsEvent event }
     requires room { trace.old.events + 1 < 2 ^ 64 }
-    ensures traced { (g : Whole M.State) → Shows g world → IsTraced (telling.trace_event M.rules event g (told_of trace.old)) (told_of trace.new) result }
+    ensures traced { (g : Whole M.State) → Shows g world → IsTraced (traces.trace_event M.rules event g (told_of trace.old)) (told_of trace.new) result }
     ensures count { trace.new.events ≤ trace.old.events + 1 }
 {
     let by = actor(&world, &event);
@@ -159,7 +159,7 @@ fn trace_event<M: Machine>(
 
 /// Who acts by an event.
 fn actor<M: Machine>(world: &World<M>, event: &WorldEvent) -> Option<Party>
-    ensures { (g : Whole M.State) → Shows g world.now → result ≡ telling.actor g event.now }
+    ensures { (g : Whole M.State) → Shows g world.now → result ≡ traces.actor g event.now }
 {
     match event {
         WorldEvent::Ask { client, .. } => Some(Party::Client(*client)),
@@ -175,7 +175,7 @@ fn actor<M: Machine>(world: &World<M>, event: &WorldEvent) -> Option<Party>
 
 /// The next leaf of a correct party's key, else 0.
 fn next_leaf<M: Machine>(world: &World<M>, party: Option<Party>) -> u32
-    ensures { (g : Whole M.State) → Shows g world.now → result ≡ telling.next_leaf g party }
+    ensures { (g : Whole M.State) → Shows g world.now → result ≡ traces.next_leaf g party }
 {
     match party {
         Some(Party::Replica(id)) => replica_leaf(world.replica(id)),
@@ -185,7 +185,7 @@ fn next_leaf<M: Machine>(world: &World<M>, party: Option<Party>) -> u32
 }
 
 fn replica_leaf<M: Machine>(replica: Option<&Replica<M>>) -> u32
-    ensures { result ≡ telling.replica_leaf (option_copied replica.entry) }
+    ensures { result ≡ traces.replica_leaf (option_copied replica.entry) }
 {
     match replica {
         Some(replica) => replica.key_next(),
@@ -194,7 +194,7 @@ fn replica_leaf<M: Machine>(replica: Option<&Replica<M>>) -> u32
 }
 
 fn client_leaf(client: Option<&Client>) -> u32
-    ensures { result ≡ telling.client_leaf (option_copied client.entry) }
+    ensures { result ≡ traces.client_leaf (option_copied client.entry) }
 {
     match client {
         Some(client) => client.key_next(),

@@ -3,8 +3,8 @@ ghost use Rattle.std.specs.Prelude.{◌≡◌, ◌++◌, [], ◌∷◌, ◌+◌,
 ghost use Rattle.zy_schedule.specs.Texts.{IsSaid};
 ghost use Rattle.zy_top.specs.Telling.{note_line};
 ghost use Rattle.zy_trace.specs.Frames.{statement_in};
-ghost use Rattle.zy_trace.specs.Lines as lines;
-ghost use Rattle.zy_trace.specs.Telling as telling;
+ghost use Rattle.zy_trace.specs.Lines as spelled;
+ghost use Rattle.zy_trace.specs.Telling as traces;
 ghost use Rattle.zy_world.specs.Shows.{Shows};
 ghost use Rattle.zy_world_law.specs.World.{World as Whole, mail_at};
 
@@ -52,7 +52,7 @@ impl Trace {
     ) -> Result<(), Want>
         requires said { IsSaid line.now }
         requires room { self.old.events + 1 < 2 ^ 64 }
-        ensures text { (g : Whole M.State) → Shows g world.now → OnOk result (self.new.text.items ≡ self.old.text.items ++ telling.head_line g self.old.senders.items self.old.events line.now) }
+        ensures text { (g : Whole M.State) → Shows g world.now → OnOk result (self.new.text.items ≡ self.old.text.items ++ traces.head_line g self.old.senders.items self.old.events line.now) }
         ensures events { self.new.events ≡ self.old.events }
         ensures senders { self.new.senders.items ≡ self.old.senders.items }
     {
@@ -83,7 +83,7 @@ impl Trace {
         act: &[u8],
         party: Option<Party>,
     ) -> Result<(), Want>
-        ensures text { OnOk result (self.new.text.items ≡ self.old.text.items ++ lines.act_line number act.now party) }
+        ensures text { OnOk result (self.new.text.items ≡ self.old.text.items ++ spelled.act_line number act.now party) }
         ensures events { self.new.events ≡ self.old.events }
         ensures senders { self.new.senders.items ≡ self.old.senders.items }
     {
@@ -100,7 +100,7 @@ impl Trace {
     ) -> Result<(), Want>
         requires { self.old.events + 1 < 2 ^ 64 }
         ensures text { (g : Whole M.State) → Shows g world.now → OnOk result (self.new.text.items ≡
-            self.old.text.items ++ telling.moved_line (self.old.events + 1) (codes " deliver ") frame (telling.sender_in self.old.senders.items frame) to (mail_at g frame)) }
+            self.old.text.items ++ traces.moved_line (self.old.events + 1) (codes " deliver ") frame (traces.sender_in self.old.senders.items frame) to (mail_at g frame)) }
         ensures events { self.new.events ≡ self.old.events }
         ensures senders { self.new.senders.items ≡ self.old.senders.items }
     {
@@ -119,7 +119,7 @@ impl Trace {
         to: Option<Party>,
     ) -> Result<(), Want>
         ensures text { (g : Whole M.State) → Shows g world.now → OnOk result (self.new.text.items ≡
-            self.old.text.items ++ telling.moved_line number act.now frame (telling.sender_in self.old.senders.items frame) to (mail_at g frame)) }
+            self.old.text.items ++ traces.moved_line number act.now frame (traces.sender_in self.old.senders.items frame) to (mail_at g frame)) }
         ensures events { self.new.events ≡ self.old.events }
         ensures senders { self.new.senders.items ≡ self.old.senders.items }
     {
@@ -142,7 +142,7 @@ impl Trace {
     ) -> Result<(), Want>
         requires { self.old.events + 1 < 2 ^ 64 }
         ensures text { (g : Whole M.State) → Shows g world.now → OnOk result (self.new.text.items ≡
-            self.old.text.items ++ telling.event_lines M.rules g (self.old.events + 1) by leaf (length self.old.senders.items) note.now answer) }
+            self.old.text.items ++ traces.event_lines M.rules g (self.old.events + 1) by leaf (length self.old.senders.items) note.now answer) }
         ensures events { OnOk result (self.new.events ≡ self.old.events + 1) }
         ensures senders { (g : Whole M.State) → Shows g world.now → OnOk result (self.new.senders.items ≡
             self.old.senders.items ++ replicate (length g.bag - length self.old.senders.items) by) }
@@ -162,7 +162,7 @@ impl Trace {
     /// The next event isn't honest.
     pub(crate) fn cut(&mut self, alloc: Global, what: Broken) -> Result<(), Want>
         requires { self.old.events + 1 < 2 ^ 64 }
-        ensures text { OnOk result (self.new.text.items ≡ self.old.text.items ++ lines.broken_line (self.old.events + 1) what) }
+        ensures text { OnOk result (self.new.text.items ≡ self.old.text.items ++ spelled.broken_line (self.old.events + 1) what) }
         ensures events { self.new.events ≡ self.old.events }
         ensures senders { self.new.senders.items ≡ self.old.senders.items }
     {
@@ -173,7 +173,7 @@ impl Trace {
 
 /// Of those who sent the frames, in order, the one of this number.
 fn sender_in(senders: &[Option<Party>], frame: u64) -> Option<Party>
-    ensures { result ≡ telling.sender_in senders.now frame }
+    ensures { result ≡ traces.sender_in senders.now frame }
 {
     if frame == 0 {
         return None;
@@ -186,7 +186,7 @@ fn sender_in(senders: &[Option<Party>], frame: u64) -> Option<Party>
 
 /// The kind of a frame, or a dash where there is none.
 fn kind_of(mail: Option<&Mail>) -> &'static str
-    ensures { result.now ≡ telling.kind_of (option_copied mail.entry) }
+    ensures { result.now ≡ traces.kind_of (option_copied mail.entry) }
 {
     match mail {
         Some(mail) => kind_name(mail.bytes.as_slice()),
@@ -196,7 +196,7 @@ fn kind_of(mail: Option<&Mail>) -> &'static str
 
 /// The named party, or the one that a frame is addressed to.
 pub(crate) fn receiver(to: Option<Party>, mail: Option<&Mail>) -> Option<Party>
-    ensures { result ≡ telling.receiver to (option_copied mail.entry) }
+    ensures { result ≡ traces.receiver to (option_copied mail.entry) }
 {
     match mail {
         Some(mail) => Some(to.unwrap_or(mail.to)),
@@ -223,7 +223,7 @@ fn put_frames<M: Machine>(
     leaf: u32,
     sent: u64,
 ) -> Result<(), Want>
-    ensures { (g : Whole M.State) → Shows g world.now → OnOk result (out.new.items ≡ out.old.items ++ telling.frames_lines number by leaf (sent + 1) (drop sent g.bag)) }
+    ensures { (g : Whole M.State) → Shows g world.now → OnOk result (out.new.items ≡ out.old.items ++ traces.frames_lines number by leaf (sent + 1) (drop sent g.bag)) }
 {
     let mut next = u64::from(leaf);
     for before in sent..world.sent() {
@@ -245,8 +245,8 @@ fn put_frame(
     frame: u64,
     mail: &Mail,
 ) -> Result<u64, Want>
-    ensures text { OnOk result (out.new.items ≡ out.old.items ++ telling.sent_lines number by leaf frame mail.now (statement_in mail.now.bytes)) }
-    ensures leaf { IfOk result (λ next. next ≡ telling.leaf_after by leaf (statement_in mail.now.bytes)) }
+    ensures text { OnOk result (out.new.items ≡ out.old.items ++ traces.sent_lines number by leaf frame mail.now (statement_in mail.now.bytes)) }
+    ensures leaf { IfOk result (λ next. next ≡ traces.leaf_after by leaf (statement_in mail.now.bytes)) }
 {
     match statement_in(alloc, mail.bytes.as_slice())? {
         Some(statement) => put_stated(alloc, out, number, by, leaf, frame, mail, statement),
@@ -268,8 +268,8 @@ fn put_stated(
     mail: &Mail,
     statement: Statement,
 ) -> Result<u64, Want>
-    ensures text { OnOk result (out.new.items ≡ out.old.items ++ telling.stated_lines number by leaf frame mail.now statement) }
-    ensures leaf { IfOk result (λ next. next ≡ lines.leaf_behind by leaf statement) }
+    ensures text { OnOk result (out.new.items ≡ out.old.items ++ traces.stated_lines number by leaf frame mail.now statement) }
+    ensures leaf { IfOk result (λ next. next ≡ spelled.leaf_behind by leaf statement) }
 {
     let kind = kind_name(mail.bytes.as_slice());
     let Statement { view, place, .. } = statement;
@@ -287,7 +287,7 @@ fn put_stand<M: Machine>(
     by: Option<Party>,
     answer: Option<Answer>,
 ) -> Result<(), Want>
-    ensures { (g : Whole M.State) → Shows g world.now → OnOk result (out.new.items ≡ out.old.items ++ telling.stand_line M.rules g number by answer) }
+    ensures { (g : Whole M.State) → Shows g world.now → OnOk result (out.new.items ≡ out.old.items ++ traces.stand_line M.rules g number by answer) }
 {
     match answer {
         Some(Answer::Taken) => put_party(alloc, out, world, number, by),
@@ -304,7 +304,7 @@ fn put_party<M: Machine>(
     number: u64,
     by: Option<Party>,
 ) -> Result<(), Want>
-    ensures { (g : Whole M.State) → Shows g world.now → OnOk result (out.new.items ≡ out.old.items ++ telling.party_line M.rules g number by) }
+    ensures { (g : Whole M.State) → Shows g world.now → OnOk result (out.new.items ≡ out.old.items ++ traces.party_line M.rules g number by) }
 {
     match by {
         Some(Party::Replica(id)) => put_replica(alloc, out, number, by, world.replica(id)),
