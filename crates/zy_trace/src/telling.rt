@@ -154,7 +154,7 @@ impl Trace {
         put_note(alloc, &mut self.text, number, note)?;
         put_frames(alloc, &mut self.text, world, number, by, leaf, known as u64)?;
         put_stand(alloc, &mut self.text, world, number, by, answer)?;
-        self.senders.resize(known.max(world.sent() as usize), by)?;
+        fill(&mut self.senders, world.sent() as usize, by)?;
         self.events = number;
         Ok(())
     }
@@ -169,6 +169,22 @@ impl Trace {
         let number = self.events + 1;
         put_broken(alloc, &mut self.text, number, what)
     }
+}
+
+/// Puts the party in for each frame behind those that are known, so that there are so many.
+fn fill(
+    senders: &mut Vec<Option<Party>>,
+    frames: usize,
+    by: Option<Party>,
+) -> Result<(), Want>
+    ensures { OnOk result (senders.new.items ≡ senders.old.items ++ replicate (frames - length senders.old.items) by) }
+{
+    let known = senders.len();
+    if frames <= known {
+        return Ok(());
+    }
+    senders.resize(frames, by)?;
+    Ok(())
 }
 
 /// Of those who sent the frames, in order, the one of this number.

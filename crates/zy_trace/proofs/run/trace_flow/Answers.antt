@@ -17,7 +17,7 @@ pub returns-in_default-clause-traced : goal.returns-in_default-clause-traced
 returns-in_default-clause-traced g c whole shows =
     let R = g.M.Machine.rules in
     left_all _ (trace_flow R (c.args.events - c.loop.counter)) _ _ (c.loop.invariant.left whole shows)
-    (λ v shown. flow_ends R (c.args.events - c.loop.counter) v _ (sym (c.next_undelivered.ensures v shown) ∙ c.in_default.is))
+    (λ v shown. flow_ends R (c.args.events - c.loop.counter) v (told_of c.loop.trace) (sym (c.next_undelivered.ensures v shown) ∙ c.in_default.is))
 
 pub returns-in_err-world-clause-traced : goal.returns-in_err-world-clause-traced
 returns-in_err-world-clause-traced g c whole shows =
@@ -27,7 +27,7 @@ returns-in_err-world-clause-traced g c whole shows =
     rw (p.1, p.2)
     (left_ends _ (trace_flow R (c.args.events - i)) (trace_delivery R c.in-Some.frame) (trace_flow R (c.args.events - (i + 1))) _ _ _ _
     (c.loop.invariant.left whole shows) c.in_err-world.ensures.traced
-    (λ v shown. flow_begins R c.args.events i v c.in-Some.frame _ c.loop-test.true (sym (c.next_undelivered.ensures v shown) ∙ c.in-Some.is)))
+    (λ v shown. flow_begins R c.args.events i v c.in-Some.frame (told_of c.loop.trace) c.loop-test.true (sym (c.next_undelivered.ensures v shown) ∙ c.in-Some.is)))
 
 pub loop-preserved : goal.loop-preserved
 loop-preserved g c =
@@ -38,7 +38,7 @@ loop-preserved g c =
       left = λ whole shows.
           left_then _ (trace_flow R (c.args.events - i)) (trace_delivery R c.in-Some.frame) (trace_flow R (c.args.events - (i + 1))) _ _ _ _
           (c.loop.invariant.left whole shows) c.in_ok-world.ensures.traced
-          (λ v shown. flow_begins R c.args.events i v c.in-Some.frame _ c.loop-test.true (sym (c.next_undelivered.ensures v shown) ∙ c.in-Some.is));
+          (λ v shown. flow_begins R c.args.events i v c.in-Some.frame (told_of c.loop.trace) c.loop-test.true (sym (c.next_undelivered.ensures v shown) ∙ c.in-Some.is));
     }
 
 pub returns-clause-traced : goal.returns-clause-traced
@@ -46,4 +46,4 @@ returns-clause-traced g c whole shows =
     let R = g.M.Machine.rules in
     let left : c.args.events - c.loop.counter ≡ 0 = omega (arith, c.loop-test.false) in
     left_all _ (trace_flow R (c.args.events - c.loop.counter)) _ _ (c.loop.invariant.left whole shows)
-    (λ v shown. flow_done R (c.args.events - c.loop.counter) v _ left)
+    (λ v shown. flow_done R (c.args.events - c.loop.counter) v (told_of c.loop.trace) left)

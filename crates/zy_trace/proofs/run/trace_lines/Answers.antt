@@ -32,7 +32,7 @@ returns-in_err-world-clause-traced g c whole shows =
     let p = err_from_is_err_and c.from_residual.result c.from_residual.ensures.1 in
     rw (p.1, p.2)
     (left_ends (trace R c.args.lines.items whole (told_of c.args.trace.now)) (trace R c.loop-line.line-iterator.rest.items) (trace_line R c.in-Some.line) (trace R left) _ _ _ _
-    (c.loop-line.invariant.left whole shows) c.in_err-world.ensures.traced (λ v shown. ap (λ ls. trace R ls v _) steps.0 ∙ line_begins R c.in-Some.line left v _))
+    (c.loop-line.invariant.left whole shows) c.in_err-world.ensures.traced (λ v shown. ap (λ ls. trace R ls v (told_of c.loop-line.trace)) steps.0 ∙ line_begins R c.in-Some.line left v (told_of c.loop-line.trace)))
 
 pub returns-in_err-world-clause-count : goal.returns-in_err-world-clause-count
 returns-in_err-world-clause-count g c = omega (arith, c.loop-line.invariant.count, c.trace_line.ensures.count, ap length c.in-Some.ensures.steps.0)
@@ -49,7 +49,7 @@ loop-line-preserved g c =
       count = omega (arith, held.count, c.trace_line.ensures.count, ap length steps.0);
       left = λ whole shows.
           left_then (trace R c.args.lines.items whole (told_of c.args.trace.now)) (trace R c.loop-line.line-iterator.rest.items) (trace_line R c.in-Some.line) (trace R left) _ _ _ _
-          (held.left whole shows) c.in_ok-world.ensures.traced (λ v shown. ap (λ ls. trace R ls v _) steps.0 ∙ line_begins R c.in-Some.line left v _);
+          (held.left whole shows) c.in_ok-world.ensures.traced (λ v shown. ap (λ ls. trace R ls v (told_of c.loop-line.trace)) steps.0 ∙ line_begins R c.in-Some.line left v (told_of c.loop-line.trace));
     }
 
 pub returns-clause-traced : goal.returns-clause-traced
@@ -57,7 +57,7 @@ returns-clause-traced g c whole shows =
     let R = g.M.Machine.rules in
     let held = c.loop-line.invariant in
     let none : c.loop-line.line-iterator.rest.items ≡ [] = nil_from_length _ (held.long ∙ c.in-None.ensures.steps.0) in
-    left_all _ (trace R c.loop-line.line-iterator.rest.items) _ _ (held.left whole shows) (λ v shown. ap (λ ls. trace R ls v _) none ∙ all_run R v _)
+    left_all _ (trace R c.loop-line.line-iterator.rest.items) _ _ (held.left whole shows) (λ v shown. ap (λ ls. trace R ls v (told_of c.loop-line.trace)) none ∙ all_run R v (told_of c.loop-line.trace))
 
 pub returns-clause-count : goal.returns-clause-count
 returns-clause-count g c = omega (arith, c.loop-line.invariant.count)

@@ -1,5 +1,4 @@
-use Rattle.std.proofs.Common.{sym}
-use Rattle.zy_trace.proofs.Framing.{filled, told_on}
+use Rattle.zy_trace.proofs.Framing.{told_on}
 use Rattle.zy_trace.proofs.telling.Trace.follow.Goals as goal
 
 pub returns-clause-text : goal.returns-clause-text
@@ -7,4 +6,4 @@ returns-clause-text g c whole shows =
     told_on _ _ _ _ _ _ _ _ _ c.in_ok-put_answer.ensures c.in_ok-put_note.ensures (c.in_ok-put_frames.ensures whole shows) (c.in_ok-put_stand.ensures whole shows)
 
 pub returns-clause-senders : goal.returns-clause-senders
-returns-clause-senders g c whole shows = filled _ _ _ _ _ c.in_ok-resize.ensures.items (sym (c.sent.ensures whole shows))
+returns-clause-senders g c whole shows = rw (c.sent.ensures whole shows) at c.in_ok-fill.ensures
