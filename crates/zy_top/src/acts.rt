@@ -42,14 +42,12 @@ pub fn act_of(alloc: Global, line: Line) -> Result<Act, Want>
             view,
             asks,
             to,
-        } => Ok(
-            Act::Event(WorldEvent::Order {
-                liar,
-                view,
-                asks,
-                to,
-            }),
-        ),
+        } => Ok(Act::Event(WorldEvent::Order {
+            liar,
+            view,
+            asks,
+            to,
+        })),
         Line::Spec {
             liar,
             view,

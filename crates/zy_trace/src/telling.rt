@@ -172,11 +172,7 @@ impl Trace {
 }
 
 /// Puts the party in for each frame behind those that are known, so that there are so many.
-fn fill(
-    senders: &mut Vec<Option<Party>>,
-    frames: usize,
-    by: Option<Party>,
-) -> Result<(), Want>
+fn fill(senders: &mut Vec<Option<Party>>, frames: usize, by: Option<Party>) -> Result<(), Want>
     ensures { OnOk result (senders.new.items ≡ senders.old.items ++ replicate (frames - length senders.old.items) by) }
 {
     let known = senders.len();
