@@ -24,7 +24,7 @@ use Rattle.zy_top_words.specs.declared.exit.Exit.TheVariants as exits
 long_group : (group schedule : List ℕ) → limit < length group → replay_verdict group schedule ≡ Verdict.Refused exits.TooLong
 long_group group schedule long = rw (lt-ltb limit (length group) long) refl
 
-short_group : (group schedule : List ℕ) → length group ≤ limit → replay_verdict group schedule ≡ group_verdict (group_of group) schedule
+pub short_group : (group schedule : List ℕ) → length group ≤ limit → replay_verdict group schedule ≡ group_verdict (group_of group) schedule
 short_group group schedule short = rw (le-ltb limit (length group) short) refl
 
 unread_group : (group : List ℕ) (exit : Exit) → IsFileRead (Some group) (Err exit) → IsGroupJudged group (Err exit)
@@ -77,7 +77,7 @@ setup_spelled (Some held) content text (Ok setup) file read = rw (← file.0) re
 long_schedule : (setup : Setup) (text : List ℕ) → limit < length text → text_verdict setup text ≡ Verdict.Refused exits.TooLong
 long_schedule setup text long = rw (lt-ltb limit (length text) long) refl
 
-short_schedule : (setup : Setup) (text : List ℕ) → length text ≤ limit → text_verdict setup text ≡ schedule_verdict setup (schedule_of text)
+pub short_schedule : (setup : Setup) (text : List ℕ) → length text ≤ limit → text_verdict setup text ≡ schedule_verdict setup (schedule_of text)
 short_schedule setup text short = rw (le-ltb limit (length text) short) refl
 
 unread_schedule : (text : List ℕ) (exit : Exit) → IsFileRead (Some text) (Err exit) → IsScheduleJudged text (Err exit)

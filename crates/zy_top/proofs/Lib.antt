@@ -1,3 +1,4 @@
+mod CalmReplays
 pub mod GroupLaws
 pub mod Headline
 pub mod HostLaws

@@ -6,3 +6,4 @@ pub mod Replaying
 pub mod Hosting
 pub mod Truthful
 pub mod Acts
+pub mod Calm

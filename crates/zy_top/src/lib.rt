@@ -3,6 +3,7 @@
 #![tactic(auto)]
 
 mod acts;
+mod calm;
 mod group;
 mod keys;
 mod making;

@@ -9,10 +9,9 @@ ghost use Rattle.zy_world_law.specs.World.{World as Whole};
 use crate::tally::Tally;
 use std::alloc::Global;
 use zy_base::{Bytes, Digest, Items, Machine, ReplicaId, Want};
-use zy_replica::Replica;
 use zy_report::{agreed_line, refused_line, replica_line, summary_line};
 use zy_top_hosting::completion_line;
-use zy_world::World;
+use zy_world::{Replica, World};
 use zy_world_law::Note;
 
 /// The events in numbers, and a line for each that `replay` writes of.

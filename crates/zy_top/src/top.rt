@@ -3,6 +3,7 @@ ghost use Rattle.zy_edge.specs.Faults.{IsCounted, Rose};
 ghost use Rattle.zy_edge.specs.Files.{content_of};
 ghost use Rattle.zy_top_words.specs.Calls.{exit_of, IsSent, stops_writing};
 ghost use Rattle.zy_top_words.specs.Ends.{IsAnswer, IsOwnAnswer, IsReport, IsWritten, is_foreign, is_link_fault, is_read_fault, is_refusal, is_write_fault};
+ghost use Rattle.zy_top.specs.Calm.{IsServedCommand};
 ghost use Rattle.zy_top.specs.Hosting.{AreBound, AreSpent, EndsItself, IsHosted, is_hosted};
 ghost use Rattle.zy_top.specs.Verdict.{own_verdict, space_verdict, verdict};
 ghost use Rattle.zy_top.specs.Keys.{key_file};
@@ -10,6 +11,7 @@ ghost use Rattle.zy_top.specs.Replaying.{IsBackedCommand, IsBlamelessCommand, Is
 ghost use Rattle.zy_top.specs.Truthful.{IsTruthful};
 ghost use Rattle.zy_top_words.specs.Words.{command_of, texts};
 
+use crate::calm::calm_replays_are_served;
 use crate::keys::key_file;
 use crate::making::{made_runs_are_safe, run_make};
 use crate::replays::{replays_are_safe, run_replay};
@@ -97,6 +99,11 @@ pub fn zyzzyva<R: Threads + Sync, F: Files, S: Sink, L: Link, C: Clock>(
     // or that lies.
     ensures backed { IsBackedCommand (F.held files.old) (command_of (texts words.now)) }
 
+    // Where a told group and a told schedule are calm, with one request after another under a live primary, enough others that are live
+    // and nothing lost but what goes to silent replicas, the report is due that tells of each request, in order, that it is complete, and
+    // of nothing else but what came too late for it. Or two texts share a digest, and at that event the run ends.
+    ensures calm { IsServedCommand (F.held files.old) (command_of (texts words.now)) }
+
     // A forged signature is told of a replay alone, and of none in whose schedule nobody lies: no liar signs a frame there, no bytes
     // are sent as they are, and no key is made anew. So `make` stops before its end at two texts of one digest alone.
     ensures truthful { IsTruthful (F.held files.old) (command_of (texts words.now)) result }
@@ -112,6 +119,7 @@ pub fn zyzzyva<R: Threads + Sync, F: Files, S: Sink, L: Link, C: Clock>(
 {
     replays_are_safe();
     made_runs_are_safe();
+    calm_replays_are_served();
     match command_of(words) {
         Ok(Command::Space(script)) => match run_space(alloc, script, files, out) {
             Ok(()) => Exit::Done,

@@ -10,9 +10,9 @@ use crate::statement::{Statement, saying_name};
 use std::alloc::Global;
 use zy_base::{Answer, ClientId, Machine, Mode, Party, Stamp, TimerKind, Timers, Want};
 use zy_client::Client;
-use zy_replica::Replica;
 use zy_top_words::Broken;
 use zy_tuple::{Op, op_text};
+use zy_world::Replica;
 
 /// An act, and whose it is.
 pub(crate) fn put_act_line(

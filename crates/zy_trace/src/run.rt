@@ -13,11 +13,10 @@ use crate::telling::{Trace, receiver};
 use std::alloc::Global;
 use zy_base::{Machine, Party};
 use zy_client::Client;
-use zy_replica::Replica;
 use zy_schedule::Line;
 use zy_top::{Act, Stop, act_of};
 use zy_top_words::Broken;
-use zy_world::{World, WorldFault, WorldStepped};
+use zy_world::{Replica, World, WorldFault, WorldStepped};
 use zy_world_law::WorldEvent;
 
 /// Runs all lines.

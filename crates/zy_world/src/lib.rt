@@ -28,3 +28,4 @@ pub use fault::WorldFault;
 pub use flow::{FlowFault, Flowed};
 pub use hands::{Hands, PlainHands};
 pub use world::World;
+pub use zy_replica::Replica;

@@ -8,6 +8,7 @@ use Rattle.zy_edge.specs.Files.{content_of}
 use Rattle.zy_top.specs.Keys.{key_file}
 use Rattle.zy_top.specs.Verdict.{make_verdict, replay_verdict, verdict}
 use Rattle.zy_top_words.proofs.Endings.{cut_short, told_finishes}
+use Rattle.zy_top.proofs.CalmReplays.{served_command}
 use Rattle.zy_top.proofs.Headline.{of_commands}
 use Rattle.zy_top.specs.Replaying.{IsBackedRun, IsBlamelessRun, IsSafeRun}
 use Rattle.zy_top.proofs.HostLaws.{asked_in_vain, nothing_due, turns_end, unbound}
@@ -40,6 +41,10 @@ pub returns-in-Ok-run_replay-clause-backed : goal.returns-in-Ok-run_replay-claus
 returns-in-Ok-run_replay-clause-backed g c =
     of_commands IsBackedRun c.replays_are_safe.ensures.backed c.made_runs_are_safe.ensures.backed (g.F.Files.held c.args.files.now) (command_of (texts c.args.words.now))
 
+pub returns-in-Ok-run_replay-clause-calm : goal.returns-in-Ok-run_replay-clause-calm
+returns-in-Ok-run_replay-clause-calm g c =
+    served_command c.calm_replays_are_served.ensures (g.F.Files.held c.args.files.now) (command_of (texts c.args.words.now))
+
 pub returns-in-Ok-run_make-clause-headline : goal.returns-in-Ok-run_make-clause-headline
 returns-in-Ok-run_make-clause-headline g c =
     of_commands IsSafeRun c.replays_are_safe.ensures.safe c.made_runs_are_safe.ensures.safe (g.F.Files.held c.args.files.now) (command_of (texts c.args.words.now))
@@ -63,6 +68,10 @@ returns-in-Err-run_replay-clause-blameless g c =
 pub returns-in-Err-run_replay-clause-backed : goal.returns-in-Err-run_replay-clause-backed
 returns-in-Err-run_replay-clause-backed g c =
     of_commands IsBackedRun c.replays_are_safe.ensures.backed c.made_runs_are_safe.ensures.backed (g.F.Files.held c.args.files.now) (command_of (texts c.args.words.now))
+
+pub returns-in-Err-run_replay-clause-calm : goal.returns-in-Err-run_replay-clause-calm
+returns-in-Err-run_replay-clause-calm g c =
+    served_command c.calm_replays_are_served.ensures (g.F.Files.held c.args.files.now) (command_of (texts c.args.words.now))
 
 pub returns-in-Err-run_make-clause-headline : goal.returns-in-Err-run_make-clause-headline
 returns-in-Err-run_make-clause-headline g c =
