@@ -113,7 +113,7 @@ module _ {S : Type 0} (R : Rules S) (setup : Setup) where
         marks = none_muted r c;
       }
 
-  pub shows_start : (v : Shown S) (r c : ℕ) → v.setup ≡ setup → v.keys ≡ keys_of setup → v.seats ≡ seated → v.liars ≡ keyed → v.bag ≡ record { mails = []; passed = 0 }
+  pub shows_start : (v : Shown S) (r c : ℕ) → v.setup ≡ setup → v.keys ≡ keys_of setup → v.seats ≡ seated → v.liars ≡ keyed → v.bag ≡ record { mails = []; passed = record { past = 0; idle = 0 } }
       → r ≡ length seated.replicas → c ≡ length seated.clients → v.mutes ≡ record { replicas = replicate r false; clients = replicate c false } → v.agreed ≡ origin → IsShown first_texts v.texts
       → v.said ≡ none_said setup.counts.n setup.liars setup.clients setup.lying_clients → Shows g v
   shows_start v r c setup_is keys_are seats_are liars_are bag_is replicas clients mutes_are agreed_is texts_are said_is_ =
@@ -123,7 +123,7 @@ module _ {S : Type 0} (R : Rules S) (setup : Setup) where
         seats = subst (λ (s : Seated S). ShowsSeats g.replicas g.clients s) (sym seats_are) seats_begun;
         liars = rw (seats_are, liars_are) keys_begun;
         mails = sym (ap (λ b. b.mails) bag_is);
-        past = rw bag_is (λ before mail below is. absurd (omega (arith, below)));
+        past = rw bag_is (record { past = λ before mail below is. absurd (omega (arith, below)); idle = λ before mail below is. absurd (omega (arith, below)) });
         mutes = subst (λ (m : Mutes). ShowsMutes (length g.replicas) (length g.clients) (λ party. false) m) (sym mutes_are) (mutes_begun r c replicas clients);
         agreed = sym agreed_is;
         texts = texts_are;

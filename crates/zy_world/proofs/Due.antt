@@ -4,7 +4,7 @@ use Rattle.std.specs.Prelude.{slice_get, option_map, nat_lt, position}
 use Rattle.std.specs.List.{position_or_len}
 use Rattle.std.proofs.lemmas.Bool.{ltb-true, ltb-false}
 use Rattle.std.proofs.lemmas.List.{length-drop}
-use Rattle.zy_world.specs.Passed.{is_past, is_due_in}
+use Rattle.zy_world.specs.Passed.{is_due_in}
 use Rattle.zy_world.specs.Shown.{Shown, is_correct_seat, muted_in, seat_of}
 use Rattle.zy_world.specs.Shows.{Shows}
 use Rattle.zy_world_law.specs.World.{World, Mail, is_due, next_undelivered}
@@ -43,9 +43,6 @@ due_by false true correct muted = refl
 due_by false false true muted = refl
 due_by false false false muted = refl
 
-pub past_due : (past muted : Bool) → past ≡ true → (not past && not muted) ≡ false
-past_due past muted is = ap (λ (b : Bool). not b && not muted) is
-
 module _ {S : Type 0} (g : World S) (v : Shown S) (s : Shows g v) where
   pub due_is : (mail : Mail) → is_due g mail ≡ is_due_in v mail
   due_is mail =
@@ -53,11 +50,11 @@ module _ {S : Type 0} (g : World S) (v : Shown S) (s : Shows g v) where
       (correct_is g mail.to ∙ ap is_correct_seat (sym (seat_shown g v.seats s.seats mail.to))) (sym (s.mutes.marks mail.to))
       ∙ due_by mail.delivered mail.dropped (is_correct_seat (seat_of v.seats mail.to)) (muted_in v.mutes mail.to)
 
-  pub next_is : (found : Option ℕ) → v.bag.passed ≤ length v.bag.mails → found ≡ position (is_due_in v) (drop v.bag.passed v.bag.mails)
-      → option_map (λ ahead. v.bag.passed + ahead + 1) found ≡ next_undelivered g
+  pub next_is : (found : Option ℕ) → v.bag.passed.idle ≤ length v.bag.mails → found ≡ position (is_due_in v) (drop v.bag.passed.idle v.bag.mails)
+      → option_map (λ ahead. v.bag.passed.idle + ahead + 1) found ≡ next_undelivered g
   next_is found within is =
       let tests : is_due g ≡ is_due_in v = λ j mail. due_is mail j in
       let all : position (is_due g) g.bag ≡ position (is_due_in v) v.bag.mails = ap₂ (λ (p : Mail → Bool) (mails : List Mail). position p mails) tests s.mails in
-      ap (option_map (λ ahead. v.bag.passed + ahead + 1)) is
-      ∙ sym (position_past (is_due_in v) v.bag.mails v.bag.passed within (λ k mail below at. past_due (is_past v.seats mail) (muted_in v.mutes mail.to) (s.past k mail below at)))
+      ap (option_map (λ ahead. v.bag.passed.idle + ahead + 1)) is
+      ∙ sym (position_past (is_due_in v) v.bag.mails v.bag.passed.idle within s.past.idle)
       ∙ sym (ap (option_map (λ before. before + 1)) all)

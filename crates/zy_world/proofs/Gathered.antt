@@ -9,13 +9,13 @@ use Rattle.zy_base.specs.declared.ids.Party.TheVariants as parties
 use Rattle.zy_base.specs.declared.want.Want.{Want}
 use Rattle.zy_world.specs.Ahead.{AreApart, IsBatch, due_from, due_of, is_free, with_taken}
 use Rattle.zy_world.specs.Gathering.{AreGathered, GoesIn, GoesOn, IsGathered, IsSecond}
-use Rattle.zy_world.specs.Passed.{is_due_in, is_past}
+use Rattle.zy_world.specs.Passed.{is_due_in}
 use Rattle.zy_world.specs.Shown.{Shown, is_correct_seat, seat_in, seat_of, muted_in}
 use Rattle.zy_world.specs.Shows.{Shows}
 use Rattle.zy_world.specs.declared.batch.Batch.{Batch}
 use Rattle.zy_world.specs.declared.batch.Due.{Due}
 use Rattle.zy_world_law.specs.World.{World, Mail, is_due, is_told, next_undelivered}
-use Rattle.zy_world.proofs.Due.{due_is, past_due}
+use Rattle.zy_world.proofs.Due.{due_is}
 use Rattle.zy_world.proofs.DueFrames.{due_past, none_of}
 use Rattle.zy_world.proofs.OutOfSeats.{apart_more}
 
@@ -96,7 +96,7 @@ module _ {S : Type 0} (v : Shown S) (most from at : ℕ) (old batch new : Batch)
   pub gathers_on : length batch.dues.items < most → GoesIn v at batch new true → GoesOn v from old (at + 1) new × (length old.dues.items ≤ most → length new.dues.items ≤ most)
   gathers_on room goes = ((λ all sits is. goes.0 all sits (on all sits is)), (λ within. omega (arith, goes.1, room)))
 
-module _ {S : Type 0} (v : Shown S) (most at : ℕ) (old batch : Batch) (on : GoesOn v v.bag.passed old at batch) (few : length old.dues.items ≤ most → length batch.dues.items ≤ most) where
+module _ {S : Type 0} (v : Shown S) (most at : ℕ) (old batch : Batch) (on : GoesOn v v.bag.passed.idle old at batch) (few : length old.dues.items ≤ most → length batch.dues.items ≤ most) where
   pub gathered_to_second : (new : Batch) → GoesIn v at batch new false → AreGathered v most old new
   gathered_to_second new goes = record {
     at = at;
@@ -134,7 +134,7 @@ free_to v (parties.Replica id) is =
 first_free : {S : Type 0} (v : Shown S) (mail : Mail) → is_due_in v mail ≡ true → is_free mail.to (map is_told v.seats.replicas) ≡ true
 first_free v mail due = free_to v mail.to (due_correct mail.delivered mail.dropped (is_correct_seat (seat_of v.seats mail.to)) (muted_in v.mutes mail.to) due)
 
-module _ {S : Type 0} (g : World S) (v : Shown S) (s : Shows g v) (within : v.bag.passed ≤ length v.bag.mails) (most : ℕ) (old new : Batch) (none : old.dues.items ≡ [])
+module _ {S : Type 0} (g : World S) (v : Shown S) (s : Shows g v) (within : v.bag.passed.idle ≤ length v.bag.mails) (most : ℕ) (old new : Batch) (none : old.dues.items ≡ [])
     (all_sit : old.sits.items ≡ map is_told v.seats.replicas) (are : AreGathered v most old new) where
   abbrev all : List Due
   all = due_from (is_due_in v) 1 v.bag.mails
@@ -142,14 +142,14 @@ module _ {S : Type 0} (g : World S) (v : Shown S) (s : Shows g v) (within : v.ba
   abbrev left : List Due
   left = due_from (is_due_in v) (are.at + 1) (drop are.at v.bag.mails)
 
-  begins : IsGathered v all (map is_told v.seats.replicas) v.bag.passed old
+  begins : IsGathered v all (map is_told v.seats.replicas) v.bag.passed.idle old
   begins =
-      let first : 1 + v.bag.passed ≡ v.bag.passed + 1 = omega arith in
+      let first : 1 + v.bag.passed.idle ≡ v.bag.passed.idle + 1 = omega arith in
       record {
         due =
-            due_past (is_due_in v) 1 v.bag.mails v.bag.passed within (λ i mail below at. past_due (is_past v.seats mail) (muted_in v.mutes mail.to) (s.past i mail below at))
-            ∙ ap (λ (n : ℕ). due_from (is_due_in v) n (drop v.bag.passed v.bag.mails)) first
-            ∙ ap (λ (l : List Due). l ++ due_from (is_due_in v) (v.bag.passed + 1) (drop v.bag.passed v.bag.mails)) (sym none);
+            due_past (is_due_in v) 1 v.bag.mails v.bag.passed.idle within s.past.idle
+            ∙ ap (λ (n : ℕ). due_from (is_due_in v) n (drop v.bag.passed.idle v.bag.mails)) first
+            ∙ ap (λ (l : List Due). l ++ due_from (is_due_in v) (v.bag.passed.idle + 1) (drop v.bag.passed.idle v.bag.mails)) (sym none);
         apart = subst (λ (l : List Due). AreApart old.sits.items l (map is_told v.seats.replicas)) (sym none) (sym all_sit);
       }
 

@@ -1,5 +1,5 @@
 -- A party made a step, and the world goes on.
-use Rattle.std.proofs.Common.{◌≡◌, ℕ, ◌≤◌, List, [], ◌∷◌, ◌++◌, length, map, Option, Ok, Err, refl, sym, ap, ap₂, ◌∙◌}
+use Rattle.std.proofs.Common.{◌≡◌, ℕ, List, [], ◌∷◌, ◌++◌, map, Option, Ok, Err, refl, sym, ap, ap₂, ◌∙◌}
 use Rattle.std.specs.List.{flat_map}
 use Rattle.std.proofs.lemmas.List.{map-append}
 use Rattle.zy_base.specs.declared.ids.ClientId.{ClientId}
@@ -20,6 +20,7 @@ use Rattle.zy_world_setup.specs.Said.{Told, AreShown, also_said}
 use Rattle.zy_world_setup.specs.declared.fault.TextFault.{TextFault}
 use Rattle.zy_world_setup.specs.declared.fault.TextFault.TheVariants as text_faults
 use Rattle.zy_world.specs.Answered.{GoesTo, IsBrokenBy, world_fault}
+use Rattle.zy_world.specs.Passed.{AreWithin}
 use Rattle.zy_world.specs.Shown.{Shown, Posted, mark_after}
 use Rattle.zy_world.specs.Shows.{Shows, texts_of}
 use Rattle.zy_world.specs.Stepping.{HasReplicaStepped, HasClientStepped}
@@ -55,7 +56,7 @@ module _ {S : Type 0} (w : World S) (id : ReplicaId) (x : Replica S) (event : Ev
   brings = ap (flat_map got_texts) has.step.got
 
   pub replica_gone : (pairs : Pairs) (told : Told) (bag : Posted) (note : Note) → Keeps (flat_map got_texts r.got) v.texts pairs → Says (parties.Replica id) r.said v.said told
-      → v.bag.passed ≤ length v.bag.mails → bag ≡ record { mails = v.bag.mails ++ map mail_to r.out; passed = v.bag.passed } → note ≡ replica_note id r.answer
+      → AreWithin v.bag → bag ≡ record { mails = v.bag.mails ++ map mail_to r.out; passed = v.bag.passed } → note ≡ replica_note id r.answer
       → GoesTo (replica_goes w id x [] event o) note (record v { texts = pairs; said = told; bag = bag })
   replica_gone pairs told bag note keeps more within sent noted =
       let kept = keeps w.texts has.shows.texts in
@@ -86,7 +87,7 @@ module _ {S : Type 0} (w : World S) (id : ClientId) (x : Client) (o : ClientOutc
   client_says = ap (λ (said : List Spoken). x.said ++ map (λ spoken. spoken.text) said) (sym has.step.said)
 
   pub client_gone : (told : Told) (bag : Posted) (mark : Mark) (note : Note) → Says (parties.Client id) r.said v.said told
-      → v.bag.passed ≤ length v.bag.mails → bag ≡ record { mails = v.bag.mails ++ map mail_to r.out; passed = v.bag.passed } → mark ≡ mark_after v.agreed r.done → note ≡ client_note id r.done r.answer
+      → AreWithin v.bag → bag ≡ record { mails = v.bag.mails ++ map mail_to r.out; passed = v.bag.passed } → mark ≡ mark_after v.agreed r.done → note ≡ client_note id r.done r.answer
       → GoesTo (client_goes w id x [] o) note (record v { said = told; bag = bag; agreed = mark })
   client_gone told bag mark note more within sent further noted =
       let v1 : Shown S = record v { seats = has.before } in

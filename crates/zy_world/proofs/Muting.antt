@@ -1,5 +1,5 @@
 -- What a world shows after a party was muted.
-use Rattle.std.proofs.Common.{◌≡◌, ℕ, ◌<◌, ◌≤◌, Bool, true, false, List, length, set, get_or, refl, ap, ◌∙◌, arith}
+use Rattle.std.proofs.Common.{◌≡◌, ℕ, ◌<◌, ◌≤◌, Bool, true, false, not, ◌&&◌, List, length, set, get_or, refl, sym, ap, ◌∙◌, subst, arith}
 use Rattle.std.specs.Prelude.{slice_set, slice_index_or, nat_eq, if◌then◌else◌}
 use Rattle.std.proofs.lemmas.Bool.{eqb-true, eqb-false, ltb-true, ltb-false}
 use Rattle.std.proofs.lemmas.List.{length-set, set_past, get_or-set_same, get_or-set_other}
@@ -7,11 +7,16 @@ use Rattle.zy_base.specs.declared.ids.ClientId.{ClientId}
 use Rattle.zy_base.specs.declared.ids.Party.{Party}
 use Rattle.zy_base.specs.declared.ids.Party.TheVariants as parties
 use Rattle.zy_base.specs.declared.ids.ReplicaId.{ReplicaId}
+use Rattle.zy_world.specs.Passed.{ArePast, is_past}
 use Rattle.zy_world.specs.Shown.{Shown, Mutes, muted_in, with_muted}
 use Rattle.zy_world.specs.Shows.{Shows, ShowsMutes}
 use Rattle.zy_world_law.specs.World.{World, set_muted, is_party, same_party}
 
 -- ---- one mark of a list
+
+or_before : (b before : Bool) → before ≡ true → (if b then true else before) ≡ true
+or_before true before is = refl
+or_before false before is = is
 
 mark_at : (marks : List Bool) (at j : ℕ) (on : Bool) → at < length marks → (b : Bool) → nat_eq j at ≡ b
     → slice_index_or (slice_set marks at on) j false ≡ (if b then on else slice_index_or marks j false)
@@ -64,28 +69,58 @@ module _ (m : Mutes) (replicas clients : ℕ) (muted : Party → Bool) (shows : 
 
 -- ---- the world
 
-with_mutes : {S : Type 0} (g : World S) (v : Shown S) (muted : Party → Bool) (m : Mutes) → Shows g v → ShowsMutes (length g.replicas) (length g.clients) muted m → Shows (record g { muted = muted }) (record v { mutes = m })
-with_mutes g v muted m s shown =
+with_mutes : {S : Type 0} (g : World S) (v : Shown S) (muted : Party → Bool) (m : Mutes) → Shows g v → ShowsMutes (length g.replicas) (length g.clients) muted m → ArePast v.seats m v.bag
+    → Shows (record g { muted = muted }) (record v { mutes = m })
+with_mutes g v muted m s shown past =
     record {
       setup = s.setup;
       keys = s.keys;
       seats = s.seats;
       liars = s.liars;
       mails = s.mails;
-      past = s.past;
+      past = past;
       mutes = shown;
       agreed = s.agreed;
       texts = s.texts;
       said = s.said;
     }
 
-muted_by : {S : Type 0} (g : World S) (v : Shown S) (party : Party) (on : Bool) (m : Mutes) → Shows g v → m ≡ with_muted v.mutes party on → (b : Bool) → is_party g party ≡ b
-    → Shows (if b then record g { muted = λ other. if same_party other party then on else g.muted other } else g) (record v { mutes = m })
-muted_by g v party on m s is true there =
-    rw is (with_mutes g v (λ other. if same_party other party then on else g.muted other) (with_muted v.mutes party on) s
-    (marked v.mutes (length g.replicas) (length g.clients) g.muted s.mutes on party (within_of g party there)))
-muted_by {S = S} g v party on m s is false none =
-    rw (is ∙ unmarked v.mutes (length g.replicas) (length g.clients) g.muted s.mutes on party (past_of g party none)) s
+module _ {S : Type 0} (g : World S) (v : Shown S) (party : Party) (on : Bool) (s : Shows g v) where
+  abbrev muted_now : Party → Bool
+  muted_now other = if same_party other party then on else g.muted other
 
-pub shows_muted : {S : Type 0} (g : World S) (v : Shown S) (party : Party) (on : Bool) (m : Mutes) → Shows g v → m ≡ with_muted v.mutes party on → Shows (set_muted g party on) (record v { mutes = m })
-shows_muted g v party on m s is = muted_by g v party on m s is (is_party g party) refl
+  marked_now : is_party g party ≡ true → ShowsMutes (length g.replicas) (length g.clients) muted_now (with_muted v.mutes party on)
+  marked_now there = marked v.mutes (length g.replicas) (length g.clients) g.muted s.mutes on party (within_of g party there)
+
+  same_mutes : is_party g party ≡ false → with_muted v.mutes party on ≡ v.mutes
+  same_mutes none = unmarked v.mutes (length g.replicas) (length g.clients) g.muted s.mutes on party (past_of g party none)
+
+  muted_by : (m : Mutes) → m ≡ with_muted v.mutes party on → ArePast v.seats m v.bag → (b : Bool) → is_party g party ≡ b
+      → Shows (if b then record g { muted = muted_now } else g) (record v { mutes = m })
+  muted_by m is past true there =
+      with_mutes g v muted_now m s (subst (λ (n : Mutes). ShowsMutes (length g.replicas) (length g.clients) muted_now n) (sym is) (marked_now there)) past
+  muted_by m is past false none = rw (is ∙ same_mutes none) s
+
+  pub shows_muted : (m : Mutes) → m ≡ with_muted v.mutes party on → ArePast v.seats m v.bag → Shows (set_muted g party on) (record v { mutes = m })
+  shows_muted m is past = muted_by m is past (is_party g party) refl
+
+-- ---- of what flows went over they have nothing left when one party more is muted
+
+still_muted : {S : Type 0} (g : World S) (v : Shown S) (party other : Party) (s : Shows g v) (b : Bool) → is_party g party ≡ b → muted_in v.mutes other ≡ true → muted_in (with_muted v.mutes party true) other ≡ true
+still_muted g v party other s true there is =
+    (marked_now g v party true s there).marks other ∙ or_before (same_party other party) (g.muted other) (sym (s.mutes.marks other) ∙ is)
+still_muted g v party other s false none is = ap (λ (m : Mutes). muted_in m other) (same_mutes g v party true s none) ∙ is
+
+none_left : (past before now : Bool) → (before ≡ true → now ≡ true) → (not past && not before) ≡ false → (not past && not now) ≡ false
+none_left true before now more is = refl
+none_left false true now more is = ap not (more refl)
+none_left false false now more is = absurd cc
+
+pub still_past : {S : Type 0} (g : World S) (v : Shown S) (party : Party) → Shows g v → ArePast v.seats (with_muted v.mutes party true) v.bag
+still_past g v party s =
+    record {
+      past = s.past.past;
+      idle = λ before mail below is.
+          none_left (is_past v.seats mail) (muted_in v.mutes mail.to) (muted_in (with_muted v.mutes party true) mail.to)
+          (still_muted g v party mail.to s (is_party g party) refl) (s.past.idle before mail below is);
+    }

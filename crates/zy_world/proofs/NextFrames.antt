@@ -68,6 +68,9 @@ module _ {S : Type 0} (R : Rules S) (g : World S) (due : Due) (more : List Due) 
   pub mail_there : mail_at g due.number ≡ Some mail
   mail_there = ap (mail_at g) stands ∙ first.there
 
+  pub bytes_are : mail.bytes ≡ due.bytes
+  bytes_are = first.bytes
+
   pub is_next : next_undelivered g ≡ Some due.number
   is_next =
       let below : nat_lt first.before (length g.bag) ≡ true = lt-ltb first.before (length g.bag) first.within in

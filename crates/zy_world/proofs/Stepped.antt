@@ -1,5 +1,5 @@
 -- What a world shows after a party made a step.
-use Rattle.std.proofs.Common.{◌≡◌, ℕ, Bool, true, false, not, ◌||◌, List, ◌++◌, length, map, Option, Some, refl, sym, ap, ◌∙◌, subst}
+use Rattle.std.proofs.Common.{◌≡◌, ℕ, Bool, true, false, not, ◌&&◌, ◌||◌, List, ◌++◌, length, map, Option, Some, refl, sym, ap, ◌∙◌, subst}
 use Rattle.std.specs.Prelude.{slice_get, slice_set, option_map, nat_eq, if◌then◌else◌}
 use Rattle.std.proofs.lemmas.Bool.{eqb-true, eqb-false}
 use Rattle.std.proofs.lemmas.List.{length-set, map-set}
@@ -12,7 +12,7 @@ use Rattle.zy_table.specs.State.{State}
 use Rattle.zy_world_setup.proofs.SaidLemmas.{same_shown}
 use Rattle.zy_world_setup.specs.Said.{Told, AreShown, also_said}
 use Rattle.zy_world.specs.Passed.{ArePast}
-use Rattle.zy_world.specs.Shown.{Shown, Seated, Keyed, Posted, seat_of, is_liar_seat, is_correct_seat, with_replica, with_client}
+use Rattle.zy_world.specs.Shown.{Shown, Seated, Keyed, Mutes, Posted, muted_in, seat_of, is_liar_seat, is_correct_seat, with_replica, with_client}
 use Rattle.zy_world.specs.Shows.{Shows, ShowsKeys, ShowsMutes, texts_of}
 use Rattle.zy_world.specs.declared.seat.Seat.{Seat}
 use Rattle.zy_world_law.specs.Events as events
@@ -32,9 +32,14 @@ module _ {S : Type 0} (before after : Seated S) (same : (party : Party) → seat
         within = λ party lies. shows.within party (ap is_liar_seat (sym (same party)) ∙ lies);
       }
 
-  pub past_same : (bag : Posted) → ArePast before bag → ArePast after bag
-  past_same bag past number mail below is =
-      subst (λ (seat : Seat). (mail.delivered || (mail.dropped || not (is_correct_seat seat))) ≡ true) (sym (same mail.to)) (past number mail below is)
+  pub past_same : (mutes : Mutes) (bag : Posted) → ArePast before mutes bag → ArePast after mutes bag
+  past_same mutes bag past =
+      record {
+        past = λ number mail below is.
+            subst (λ (seat : Seat). (mail.delivered || (mail.dropped || not (is_correct_seat seat))) ≡ true) (sym (same mail.to)) (past.past number mail below is);
+        idle = λ number mail below is.
+            subst (λ (seat : Seat). (not (mail.delivered || (mail.dropped || not (is_correct_seat seat))) && not (muted_in mutes mail.to)) ≡ false) (sym (same mail.to)) (past.idle number mail below is);
+      }
 
 -- ---- a replica
 
@@ -79,7 +84,7 @@ shows_replica {S = S} g v id x y more seats told s there says is said =
       };
       liars = keys_same v.seats seats same g.setup g.leaves v.liars s.liars;
       mails = s.mails;
-      past = past_same v.seats seats same v.bag s.past;
+      past = past_same v.seats seats same v.mutes v.bag s.past;
       mutes = subst (λ (n : ℕ). ShowsMutes n (length g.clients) g.muted v.mutes) (sym (length-set g.replicas id.0 (Some y))) s.mutes;
       agreed = s.agreed;
       texts = s.texts;
@@ -130,7 +135,7 @@ shows_client {S = S} g v id x y more seats told s there says is said =
       };
       liars = keys_same v.seats seats same g.setup g.leaves v.liars s.liars;
       mails = s.mails;
-      past = past_same v.seats seats same v.bag s.past;
+      past = past_same v.seats seats same v.mutes v.bag s.past;
       mutes = subst (λ (n : ℕ). ShowsMutes (length g.replicas) n g.muted v.mutes) (sym (length-set g.clients id.0 (Some y))) s.mutes;
       agreed = s.agreed;
       texts = s.texts;

@@ -12,6 +12,8 @@ use Rattle.zy_world.specs.Shown.{Shown, with_replicas}
 use Rattle.zy_world.specs.Shows.{Shows}
 use Rattle.zy_world.specs.Stepping.{IsReplicaStep}
 use Rattle.zy_world.specs.declared.batch.Due.{Due}
+use Rattle.zy_world.specs.declared.batch.Turn.{Turn}
+use Rattle.zy_world.specs.declared.batch.Turn.TheVariants as turns
 use Rattle.zy_world.specs.declared.step.Gone.{Gone}
 use Rattle.zy_world.specs.declared.step.Job.{Job}
 use Rattle.zy_world_law.specs.Events.{Happened}
@@ -99,6 +101,20 @@ pub record ShowsAhead {M S : Type 0} (R : Rules S) (g : World S) (dues : List Du
   pub next : AreNext g dues
   pub out : AreOut (MayBeGone R) v.seats.replicas dues before made
 
+-- whose turn a frame of this number is: a replica has its bytes with it
+abbrev pub turn_to : ℕ → List ℕ → Party → Turn
+turn_to number bytes (parties.Replica id) = turns.Replica number id
+turn_to number bytes (parties.Client id) = turns.Client number id bytes
+
+abbrev pub turn_of : Due → Turn
+turn_of due = turn_to due.number due.bytes due.to
+
+-- these turns are left
+pub record ShowsTurns {M S : Type 0} (R : Rules S) (g : World S) (turns : List Turn) (made : List (Result (Gone M S) Want)) (v : Shown S) : Type 0 where
+  pub dues : List Due
+  pub are : turns ≡ map turn_of dues
+  pub ahead : ShowsAhead R g dues made v
+
 -- it goes on with this note to a world that is shown so
 pub record GoesAhead {M S : Type 0} (R : Rules S) (happened : Happened S) (dues : List Due) (made : List (Result (Gone M S) Want)) (note : Note) (v : Shown S) : Type 0 where
   pub world : World S
@@ -106,8 +122,8 @@ pub record GoesAhead {M S : Type 0} (R : Rules S) (happened : Happened S) (dues 
   pub shows : ShowsAhead R world dues made v
 
 -- The replica of this number is out, and went on to this one by the frame of this number.
-pub record IsTurn {M S : Type 0} (R : Rules S) (g : World S) (number : ℕ) (mail : Mail) (id : ReplicaId) (bytes : List ℕ) (x : Replica S) (before : List (Option (State S))) (back : Gone M S) (v : Shown S) : Type 0 where
+pub record IsTurn {M S : Type 0} (R : Rules S) (g : World S) (number : ℕ) (mail : Mail) (id : ReplicaId) (x : Replica S) (before : List (Option (State S))) (back : Gone M S) (v : Shown S) : Type 0 where
   pub shows : Shows g (with_replicas (λ xs. before) v)
   pub there : mail_at g number ≡ Some mail
   pub sits : slice_get g.replicas id.0 ≡ Some (Some x)
-  pub gone : IsGone R x.state bytes back
+  pub gone : IsGone R x.state mail.bytes back

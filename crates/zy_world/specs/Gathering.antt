@@ -30,6 +30,6 @@ GoesIn v at old new false = GoesOn v at old at new × (length new.dues.items ≤
 -- they are gathered as far as it goes: no frame is left, or they are as many as may be, or the next goes to a replica that stands among them
 pub record AreGathered {S : Type 0} (v : Shown S) (most : ℕ) (old new : Batch) : Type 0 where
   pub at : ℕ
-  pub on : GoesOn v v.bag.passed old at new
+  pub on : GoesOn v v.bag.passed.idle old at new
   pub few : length old.dues.items ≤ most → length new.dues.items ≤ most
   pub end : (length v.bag.mails ≤ at) ⊎ ((most ≤ length new.dues.items) ⊎ IsSecond v at new)

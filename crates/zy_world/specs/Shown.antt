@@ -14,6 +14,7 @@ use Rattle.zy_table.specs.State.{State}
 use Rattle.zy_table.specs.declared.client.Done.{Done}
 use Rattle.zy_world_setup.specs.Kept.{Pairs}
 use Rattle.zy_world_setup.specs.Said.{Told}
+use Rattle.zy_world.specs.declared.bag.Passed.{Passed}
 use Rattle.zy_world.specs.declared.seat.Seat.{Seat}
 use Rattle.zy_world.specs.declared.seat.Seat.TheVariants as sat
 use Rattle.zy_world_law.specs.Liars.{request_read}
@@ -30,10 +31,10 @@ pub record Keyed : Type 0 where
   pub replicas : List (Option SealerState)
   pub clients : List (Option SealerState)
 
--- the frames that were sent, and how many of the first ones flows have nothing left of
+-- the frames that were sent, and how many of the first ones flows go over
 pub record Posted : Type 0 where
   pub mails : List Mail
-  pub passed : ℕ
+  pub passed : Passed
 
 -- whether each party is muted
 pub record Mutes : Type 0 where

@@ -37,7 +37,7 @@ pub record Shows {S : Type 0} (g : World S) (v : Shown S) : Type 0 where
   pub seats : ShowsSeats g.replicas g.clients v.seats
   pub liars : ShowsKeys v.seats g.setup g.leaves v.liars
   pub mails : g.bag ≡ v.bag.mails
-  pub past : ArePast v.seats v.bag
+  pub past : ArePast v.seats v.mutes v.bag
   pub mutes : ShowsMutes (length g.replicas) (length g.clients) g.muted v.mutes
   pub agreed : agreed_mark g ≡ v.agreed
   pub texts : IsShown g.texts v.texts

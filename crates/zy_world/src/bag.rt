@@ -1,9 +1,10 @@
-ghost use Rattle.std.specs.Prelude.{◌≡◌, ◌≤◌, ◌++◌, ◌∷◌, [], length, map, option_copied, option_map, IfOk, IfSome, OnOk};
+ghost use Rattle.std.specs.Prelude.{◌≡◌, ◌++◌, ◌∷◌, [], map, option_copied, option_map, IfOk, IfSome, OnOk};
 ghost use Rattle.std.specs.List.{AllByRecursion};
 ghost use Rattle.std.specs.Option.{ForSome};
 ghost use Rattle.zy_parts.specs.Signing.{IsSignedInRange};
 ghost use Rattle.zy_parts.specs.Statements.{IsAskInRange};
 ghost use Rattle.zy_table.specs.Sending.{copies};
+ghost use Rattle.zy_world.specs.Passed.{AreWithin};
 ghost use Rattle.zy_world.specs.Shown.{numbered, request_in as request_at, requests_in, with_delivered, with_dropped};
 ghost use Rattle.zy_world_law.specs.World.{mail_to};
 
@@ -37,11 +38,20 @@ impl Model for Mail {
     } };
 }
 
-/// Every frame that was sent, in order. Of the first ones flows have nothing left, whoever is muted.
+/// How many of the first frames flows go over.
+#[derive(Debug, Drop)]
+pub(crate) struct Passed {
+    /// Of them they have nothing left, whoever is muted.
+    pub(crate) past: usize,
+    /// Of them they have nothing left while no muted party is heard again.
+    pub(crate) idle: usize,
+}
+
+/// Every frame that was sent, in order.
 #[derive(Debug, Drop)]
 pub(crate) struct Bag {
     pub(crate) mails: Vec<Mail>,
-    pub(crate) passed: usize,
+    pub(crate) passed: Passed,
 }
 
 impl Model for Bag {
@@ -52,23 +62,23 @@ impl Model for Bag {
 
     ghost view = { λ b. record { mails = b.mails.items; passed = b.passed } };
 
-    ghost invariant = { λ b. b.passed ≤ length b.mails.items };
+    ghost invariant = { λ b. (b.passed.past ≤ length b.mails.items) × (b.passed.idle ≤ length b.mails.items) };
 }
 
 impl Bag {
     pub(crate) fn new(alloc: Global) -> Bag
-        ensures { result ≡ record { mails = []; passed = 0 } }
+        ensures { result ≡ record { mails = []; passed = record { past = 0; idle = 0 } } }
     {
         Bag {
             mails: Vec::new(alloc),
-            passed: 0,
+            passed: Passed { past: 0, idle: 0 },
         }
     }
 
     /// Puts frames in at the end.
     pub(crate) fn send(&mut self, sent: Outgoing) -> Result<(), Want>
         ensures sent { OnOk result (self.new ≡ record { mails = self.old.mails ++ map mail_to sent; passed = self.old.passed }) }
-        ensures within { self.old.passed ≤ length self.old.mails }
+        ensures within { AreWithin self.old }
     {
         let _ = &self.mails;
         for (to, bytes) in sent.into_vec() {
@@ -127,7 +137,7 @@ impl Bag {
     /// Puts a frame in for each of these parties.
     pub(crate) fn send_copies(&mut self, bytes: &Bytes, to: &Items<Party>) -> Result<(), Want>
         ensures sent { OnOk result (self.new ≡ record { mails = self.old.mails ++ map mail_to (copies bytes.now to.now); passed = self.old.passed }) }
-        ensures within { self.old.passed ≤ length self.old.mails }
+        ensures within { AreWithin self.old }
     {
         let _ = &self.mails;
         for party in to.as_slice() {

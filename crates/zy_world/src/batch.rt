@@ -10,7 +10,7 @@ use crate::World;
 use crate::bag::Mail;
 use crate::mutes::{is_set, put};
 use std::alloc::Global;
-use zy_base::{Bytes, Machine, Party, ReplicaId, Want};
+use zy_base::{Bytes, ClientId, Machine, Party, ReplicaId, Want};
 
 /// A frame that flows have left.
 #[derive(Drop)]
@@ -18,6 +18,20 @@ pub(crate) struct Due {
     pub(crate) number: u64,
     pub(crate) to: Party,
     pub(crate) bytes: Bytes,
+}
+
+/// Whose turn it is to hear the frame of this number. A replica is out of its seat and has the frame's bytes with it.
+#[derive(Drop)]
+pub(crate) enum Turn {
+    Replica {
+        number: u64,
+        id: ReplicaId,
+    },
+    Client {
+        number: u64,
+        id: ClientId,
+        bytes: Bytes,
+    },
 }
 
 // Frames that flows have left, in order, and which replicas sit in their seats when those are out to which they go.
@@ -83,10 +97,10 @@ impl<M: Machine> World<M> {
     }
 
     fn gather(&self, most: u64, batch: &mut Batch) -> Result<(), Want>
-        ensures within { self.now.bag.passed ≤ length self.now.bag.mails }
+        ensures within { self.now.bag.passed.idle ≤ length self.now.bag.mails }
         ensures gathered { OnOk result (AreGathered self.now most batch.old batch.new) }
     {
-        let mut at = self.bag.passed;
+        let mut at = self.bag.passed.idle;
         while at < self.bag.mails.len() && (batch.dues.len() as u64) < most {
             if !self.goes_in(at, batch)? {
                 return Ok(());

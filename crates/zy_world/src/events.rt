@@ -114,7 +114,7 @@ impl<M: Machine> World<M> {
         ensures seats { result.seats ≡ self.seats }
     {
         self.bag.deliver(number);
-        pass(&mut self.bag, &self.seats);
+        pass(&mut self.bag, &self.seats, &self.muted);
         self
     }
 

@@ -6,12 +6,13 @@ ghost use Rattle.zy_base.specs.declared.ids.Digest.{Digest as Sum};
 ghost use Rattle.zy_base.specs.declared.ids.Party.{Party as Somebody};
 ghost use Rattle.zy_base.specs.declared.ids.Party.TheVariants as parties;
 ghost use Rattle.zy_table.specs.State.{State};
-ghost use Rattle.zy_world.specs.Ahead.{GoesAhead, IsBatch, IsTurn, ShowsAhead};
+ghost use Rattle.zy_world.specs.Ahead.{GoesAhead, IsBatch, IsTurn, ShowsAhead, ShowsTurns, turn_of};
 ghost use Rattle.zy_world.specs.Answered.{GoesTo, IsBrokenBy};
 ghost use Rattle.zy_world.specs.Flowing.{ComesTo, IsCutOff, Passes, Stops, all_done, notes_of};
 ghost use Rattle.zy_world.specs.Shown.{seat_in, with_replicas};
 ghost use Rattle.zy_world.specs.Shows.{Shows};
 ghost use Rattle.zy_world.specs.declared.batch.Due.{Due as ADue};
+ghost use Rattle.zy_world.specs.declared.batch.Turn.{Turn as ATurn};
 ghost use Rattle.zy_world.specs.declared.flow.FlowFault.TheVariants.{Forged, Clash};
 ghost use Rattle.zy_world.specs.declared.seat.Seat.TheVariants.{Correct};
 ghost use Rattle.zy_world_law.specs.Events.{bring, happens};
@@ -21,11 +22,11 @@ ghost use Rattle.zy_world_law.specs.World.{World as Whole, Mail as Post, Replica
 ghost use Rattle.zy_world_law.specs.declared.event.WorldEvent.TheVariants as events;
 ghost use Rattle.zy_world_law.specs.declared.note.Note.{Note as Told};
 
-use crate::batch::Due;
+use crate::batch::{Due, Turn};
 use crate::hands::{Hands, step_all};
 use crate::marks::pass;
 use crate::seat::put_in;
-use crate::step::Gone;
+use crate::step::{Away, Gone};
 use crate::{World, WorldFault, WorldStepped};
 use std::alloc::Global;
 use std::thread::Threads;
@@ -125,28 +126,28 @@ impl<M: Machine> World<M> {
             → IfErr result (IsCutOff (runs.flow M.rules (length dues.items + left)) g notes.old notes.new) }
         ensures most { length notes.new ≤ length notes.old + length dues.items }
     {
-        let jobs = self.seats.take_out(self.alloc, &dues)?;
+        let Away { jobs, turns } = self.seats.take_out(self.alloc, dues)?;
         let made = step_all(rt, hands, jobs)?;
-        self.take_turns(dues, made, notes)
+        self.take_turns(turns, made, notes)
     }
 
     // Each frame is brought in its turn, and a replica that is out comes back then.
     fn take_turns(
         self,
-        dues: Vec<Due>,
+        turns: Vec<Turn>,
         made: Vec<Result<Gone<M>, Want>>,
         notes: &mut Items<Note>,
     ) -> Result<World<M>, WorldFault>
-        ensures comes { (g : Whole M.State) (left : ℕ) → ShowsAhead M.rules g dues.items made.items self
-            → IfOk result (λ w. ComesTo (runs.flow M.rules (length dues.items + left)) g (runs.flow M.rules left) notes.old notes.new (λ v. Shows v w)) }
-        ensures cut { (g : Whole M.State) (left : ℕ) → ShowsAhead M.rules g dues.items made.items self
-            → IfErr result (IsCutOff (runs.flow M.rules (length dues.items + left)) g notes.old notes.new) }
-        ensures most { length notes.new ≤ length notes.old + length dues.items }
+        ensures comes { (g : Whole M.State) (left : ℕ) → ShowsTurns M.rules g turns.items made.items self
+            → IfOk result (λ w. ComesTo (runs.flow M.rules (length turns.items + left)) g (runs.flow M.rules left) notes.old notes.new (λ v. Shows v w)) }
+        ensures cut { (g : Whole M.State) (left : ℕ) → ShowsTurns M.rules g turns.items made.items self
+            → IfErr result (IsCutOff (runs.flow M.rules (length turns.items + left)) g notes.old notes.new) }
+        ensures most { length notes.new ≤ length notes.old + length turns.items }
     {
         let mut world = self;
         let mut out = made.into_iter();
-        for due in dues {
-            world = world.take_turn(due, &mut out, notes)?;
+        for turn in turns {
+            world = world.take_turn(turn, &mut out, notes)?;
         }
         Ok(world.passed())
     }
@@ -154,17 +155,17 @@ impl<M: Machine> World<M> {
     // One frame is brought, and noted.
     fn take_turn(
         self,
-        due: Due,
+        turn: Turn,
         out: &mut IntoIter<Result<Gone<M>, Want>, Global>,
         notes: &mut Items<Note>,
     ) -> Result<World<M>, WorldFault>
-        ensures comes { (g : Whole M.State) (more : List ADue) (left : ℕ) → ShowsAhead M.rules g (due ∷ more) (into_iter_items out.old) self
-            → IfOk result (λ w. ComesTo (runs.flow M.rules (left + 1)) g (runs.flow M.rules left) notes.old notes.new (λ v. ShowsAhead M.rules v more (into_iter_items out.new) w)) }
-        ensures cut { (g : Whole M.State) (more : List ADue) (left : ℕ) → ShowsAhead M.rules g (due ∷ more) (into_iter_items out.old) self
+        ensures comes { (g : Whole M.State) (more : List ATurn) (left : ℕ) → ShowsTurns M.rules g (turn ∷ more) (into_iter_items out.old) self
+            → IfOk result (λ w. ComesTo (runs.flow M.rules (left + 1)) g (runs.flow M.rules left) notes.old notes.new (λ v. ShowsTurns M.rules v more (into_iter_items out.new) w)) }
+        ensures cut { (g : Whole M.State) (more : List ATurn) (left : ℕ) → ShowsTurns M.rules g (turn ∷ more) (into_iter_items out.old) self
             → IfErr result (IsCutOff (runs.flow M.rules (left + 1)) g notes.old notes.new) }
         ensures most { length notes.new ≤ length notes.old + 1 }
     {
-        let WorldStepped { world, note, .. } = self.turn(due, out)?;
+        let WorldStepped { world, note, .. } = self.turn(turn, out)?;
         notes.push(note)?;
         Ok(world)
     }
@@ -172,23 +173,23 @@ impl<M: Machine> World<M> {
     // One frame is brought to whom it goes.
     fn turn(
         self,
-        due: Due,
+        turn: Turn,
         out: &mut IntoIter<Result<Gone<M>, Want>, Global>,
     ) -> Result<WorldStepped<M>, WorldFault>
-        ensures goes { (g : Whole M.State) (more : List ADue) → ShowsAhead M.rules g (due ∷ more) (into_iter_items out.old) self
+        ensures goes { (g : Whole M.State) (due : ADue) (more : List ADue) → turn ≡ turn_of due → ShowsAhead M.rules g (due ∷ more) (into_iter_items out.old) self
             → IfOk result (λ r. GoesAhead M.rules (happens M.rules g (events.Deliver due.number None)) more (into_iter_items out.new) r.note r.world) }
-        ensures broken { (g : Whole M.State) (more : List ADue) → ShowsAhead M.rules g (due ∷ more) (into_iter_items out.old) self
+        ensures broken { (g : Whole M.State) (due : ADue) (more : List ADue) → turn ≡ turn_of due → ShowsAhead M.rules g (due ∷ more) (into_iter_items out.old) self
             → IfErr result (IsBrokenBy (happens M.rules g (events.Deliver due.number None))) }
     {
-        match due.to {
-            Party::Replica(id) => match out.next() {
+        match turn {
+            Turn::Replica { number, id } => match out.next() {
                 Some(made) => {
                     let gone = made?;
-                    self.comes_back(due.number, id, &due.bytes, gone)
+                    self.comes_back(number, id, gone)
                 }
                 None => Ok(self.no_subject().answered(None)),
             },
-            Party::Client(id) => self.client_hears(due.number, id, due.bytes),
+            Turn::Client { number, id, bytes } => self.client_hears(number, id, bytes),
         }
     }
 
@@ -197,17 +198,16 @@ impl<M: Machine> World<M> {
         self,
         number: u64,
         id: ReplicaId,
-        bytes: &Bytes,
         gone: Gone<M>,
     ) -> Result<WorldStepped<M>, WorldFault>
-        ensures goes { (g : Whole M.State) (mail : Post) (x : AReplica M.State) (before : List (Option (State M.State))) → IsTurn M.rules g number mail id bytes.now x before gone self
-            → IfOk result (λ r. GoesTo (bring M.rules g (delivered g number mail) (parties.Replica id) bytes.now) r.note (with_replicas (λ xs. slice_set before id.0 (Some gone.replica)) r.world)) }
-        ensures broken { (g : Whole M.State) (mail : Post) (x : AReplica M.State) (before : List (Option (State M.State))) → IsTurn M.rules g number mail id bytes.now x before gone self
-            → IfErr result (IsBrokenBy (bring M.rules g (delivered g number mail) (parties.Replica id) bytes.now)) }
+        ensures goes { (g : Whole M.State) (mail : Post) (x : AReplica M.State) (before : List (Option (State M.State))) → IsTurn M.rules g number mail id x before gone self
+            → IfOk result (λ r. GoesTo (bring M.rules g (delivered g number mail) (parties.Replica id) mail.bytes) r.note (with_replicas (λ xs. slice_set before id.0 (Some gone.replica)) r.world)) }
+        ensures broken { (g : Whole M.State) (mail : Post) (x : AReplica M.State) (before : List (Option (State M.State))) → IsTurn M.rules g number mail id x before gone self
+            → IfErr result (IsBrokenBy (bring M.rules g (delivered g number mail) (parties.Replica id) mail.bytes)) }
         ensures replicas { IfOk result (λ r. r.world.seats.replicas ≡ slice_set self.seats.replicas id.0 (Some gone.replica)) }
     {
         self.marked(number)
-            .hears(bytes)?
+            .hears_sent(number)?
             .seated(id, gone.replica)
             .replica_stepped(id, gone.step)
     }
@@ -252,7 +252,7 @@ impl<M: Machine> World<M> {
     fn passed(mut self) -> World<M>
         ensures { (g : Whole M.State) → Shows g self → Shows g result }
     {
-        pass(&mut self.bag, &self.seats);
+        pass(&mut self.bag, &self.seats, &self.muted);
         self
     }
 }

@@ -1,11 +1,12 @@
 //! A correct party hears a frame and makes a step.
 
 ghost use Rattle.std.specs.Prelude.{◌≡◌, ◌≤◌, ℕ, List, Option, [], length, slice_get, None, Some, IfOk, IfErr};
+ghost use Rattle.std.specs.Option.{ForSome};
 ghost use Rattle.zy_base.specs.declared.step.Event.{Event as Happening};
 ghost use Rattle.zy_base.specs.declared.ids.Party.TheVariants as parties;
 ghost use Rattle.zy_world.specs.Answers.{ask_answer, party_answer};
 ghost use Rattle.zy_world.specs.Answered.{GoesTo, IsBrokenBy, HeardTo, IsUnheardBy, replica_steps, client_steps};
-ghost use Rattle.zy_world.specs.Shown.{with_replicas};
+ghost use Rattle.zy_world.specs.Shown.{numbered, with_replicas};
 ghost use Rattle.zy_world.specs.Shows.{Shows};
 ghost use Rattle.zy_table.specs.ClientState.{ClientOutcome};
 ghost use Rattle.zy_table.specs.Deeds.{Outcome};
@@ -14,7 +15,7 @@ ghost use Rattle.zy_world.specs.Stepping.{HasReplicaStepped, HasClientStepped};
 ghost use Rattle.zy_world_law.specs.Events.{ask_in, no_subject, replica_goes, client_goes, replica_note, client_note as noted_client, client_answer};
 ghost use Rattle.zy_world_setup.specs.Reading.{IsInRange};
 ghost use Rattle.zy_world_law.specs.Reading.{any_frame_in};
-ghost use Rattle.zy_world_law.specs.World.{World as Whole, Replica as AReplica, Client as AClient};
+ghost use Rattle.zy_world_law.specs.World.{World as Whole, Mail as Post, Replica as AReplica, Client as AClient, mail_at};
 
 use crate::step::{ClientStep, ReplicaStep};
 use crate::{World, WorldFault, WorldStepped};
@@ -70,6 +71,29 @@ impl<M: Machine> World<M> {
         match read_frame(self.alloc, bytes.as_slice())? {
             Some(frame) => self.hears_frame(&frame),
             None => Ok(self),
+        }
+    }
+
+    /// As `hears`, of the frame of this number, which was sent.
+    pub(crate) fn hears_sent(self, number: u64) -> Result<World<M>, WorldFault>
+        ensures heard { (g : Whole M.State) (mail : Post) (others : List (Option (State M.State)) → List (Option (State M.State))) → Shows g (with_replicas others self) → mail_at g number ≡ Some mail → IfOk result (λ w. HeardTo g mail.bytes (with_replicas others w)) }
+        ensures unheard { (g : Whole M.State) (mail : Post) (others : List (Option (State M.State)) → List (Option (State M.State))) → Shows g (with_replicas others self) → mail_at g number ≡ Some mail → IfErr result (IsUnheardBy g mail.bytes) }
+        ensures seats { IfOk result (λ w. w.seats ≡ self.seats) }
+    {
+        match self.frame_of(number)? {
+            Some(frame) => self.hears_frame(&frame),
+            None => Ok(self),
+        }
+    }
+
+    // The frame of this number, as it is read.
+    fn frame_of(&self, number: u64) -> Result<Option<AnyFrame>, Want>
+        ensures value { IfOk result (λ frame. (mail : Post) → numbered self.now.bag.mails number ≡ Some mail → frame ≡ any_frame_in mail.bytes) }
+        ensures in_range { IfOk result (λ frame. ForSome frame IsInRange) }
+    {
+        match self.bag.frame(number) {
+            Some(mail) => read_frame(self.alloc, mail.bytes.as_slice()),
+            None => Ok(None),
         }
     }
 

@@ -3,16 +3,17 @@ ghost use Rattle.std.specs.List.{list_all};
 ghost use Rattle.zy_table.specs.ClientRows.{ask as ask_row, client_step};
 ghost use Rattle.zy_table.specs.ClientState.{ClientState as AClient, ClientOutcome, is_waiting};
 ghost use Rattle.zy_table.specs.State.{State};
+ghost use Rattle.zy_base.specs.declared.ids.Party.TheVariants as parties;
 ghost use Rattle.zy_table.specs.Whole.{whole_step};
 ghost use Rattle.zy_client.specs.Stepped.{IsStepped};
-ghost use Rattle.zy_world.specs.Ahead.{AreApart, AreOut, IsJob, takes_for};
+ghost use Rattle.zy_world.specs.Ahead.{AreApart, AreOut, IsJob, takes_for, turn_of};
 ghost use Rattle.zy_world.specs.Shown.{is_correct_seat, is_liar_seat, is_seated, seat_of, with_replica, with_client};
 ghost use Rattle.zy_world.specs.Stepping.{IsReplicaStep, IsClientStep, done_if};
 ghost use Rattle.zy_world_law.specs.World.{correct_in, is_told};
 
-use crate::batch::Due;
+use crate::batch::{Due, Turn};
 use crate::seat::{Seat, is_there, put_in, seat_at, sitting, take_from};
-use crate::step::{ClientStep, Job, ReplicaStep};
+use crate::step::{Away, ClientStep, Job, ReplicaStep};
 use std::alloc::Global;
 use std::marker::Model;
 use zy_base::{Bytes, ClientId, Event, Machine, Party, ReplicaId, Want};
@@ -106,29 +107,49 @@ impl<M: Machine> Seats<M> {
     }
 
     /// Takes the replicas out of their seats to which these frames go, each with the bytes that it is to hear.
-    pub(crate) fn take_out(&mut self, alloc: Global, dues: &[Due]) -> Result<Vec<Job<M>>, Want>
-        ensures out { (left : List Bool) → AreApart left dues.now (map is_told self.old.replicas) → IfOk result (λ jobs. AreOut IsJob self.new.replicas dues.now self.old.replicas jobs.items) }
+    pub(crate) fn take_out(&mut self, alloc: Global, dues: Vec<Due>) -> Result<Away<M>, Want>
+        ensures out { (left : List Bool) → AreApart left dues.items (map is_told self.old.replicas) → IfOk result (λ away. AreOut IsJob self.new.replicas dues.items self.old.replicas away.jobs.items) }
+        ensures turns { IfOk result (λ away. away.turns.items ≡ map turn_of dues.items) }
         ensures clients { self.new.clients ≡ self.old.clients }
     {
         let mut jobs = Vec::new(alloc);
+        let mut turns = Vec::new(alloc);
         for due in dues {
-            self.take_for(due, &mut jobs)?;
+            turns.push(self.take_for(due, &mut jobs)?)?;
         }
-        Ok(jobs)
+        Ok(Away { jobs, turns })
     }
 
     // The replica to which this frame goes.
-    fn take_for(&mut self, due: &Due, jobs: &mut Vec<Job<M>>) -> Result<(), Want>
-        ensures taken { OnOk result (takes_for IsJob due.now.to due.now.bytes self.old.replicas self.new.replicas jobs.old.items jobs.new.items) }
+    fn take_for(&mut self, due: Due, jobs: &mut Vec<Job<M>>) -> Result<Turn, Want>
+        ensures taken { OnOk result (takes_for IsJob due.to due.bytes self.old.replicas self.new.replicas jobs.old.items jobs.new.items) }
+        ensures turn { IfOk result (λ turn. turn ≡ turn_of due) }
         ensures clients { self.new.clients ≡ self.old.clients }
     {
-        if let Party::Replica(id) = due.to {
-            if let Some(replica) = take_from(&mut self.replicas, id.0 as usize) {
-                let bytes = due.bytes.clone()?;
-                jobs.push(Job { replica, bytes })?;
+        let Due { number, to, bytes } = due;
+        match to {
+            Party::Replica(id) => {
+                self.take_replica(id, bytes, jobs)?;
+                Ok(Turn::Replica { number, id })
             }
+            Party::Client(id) => Ok(Turn::Client { number, id, bytes }),
         }
-        Ok(())
+    }
+
+    // The replica of this number, if it sits in its seat, with these bytes.
+    fn take_replica(
+        &mut self,
+        id: ReplicaId,
+        bytes: Bytes,
+        jobs: &mut Vec<Job<M>>,
+    ) -> Result<(), Want>
+        ensures taken { OnOk result (takes_for IsJob (parties.Replica id) bytes self.old.replicas self.new.replicas jobs.old.items jobs.new.items) }
+        ensures clients { self.new.clients ≡ self.old.clients }
+    {
+        match take_from(&mut self.replicas, id.0 as usize) {
+            Some(replica) => Ok(jobs.push(Job { replica, bytes })?),
+            None => Ok(()),
+        }
     }
 
     /// The replica of this number makes a step, if there is such a correct one.

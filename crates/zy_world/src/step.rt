@@ -2,6 +2,7 @@ ghost use Rattle.std.proofs.Props.{props};
 ghost use Rattle.std.specs.List.{AllByRecursion};
 ghost use Rattle.zy_chain.specs.Entries.{IsEntryInRange};
 
+use crate::batch::Turn;
 use zy_base::{Answer, Bytes, Machine, Outgoing, Said};
 use zy_replica::Replica;
 use zy_table::{Done, Gains};
@@ -30,6 +31,13 @@ pub(crate) struct ClientStep {
 pub(crate) struct Job<M: Machine> {
     pub(crate) replica: Replica<M>,
     pub(crate) bytes: Bytes,
+}
+
+/// Replicas that are out of their seats, and the turns of all frames that are brought next.
+#[derive(Drop)]
+pub(crate) struct Away<M: Machine> {
+    pub(crate) jobs: Vec<Job<M>>,
+    pub(crate) turns: Vec<Turn>,
 }
 
 /// The replica behind its step, and what the step did beside.

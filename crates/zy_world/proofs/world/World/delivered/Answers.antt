@@ -10,4 +10,4 @@ returns-clause-shows g c w mail s there =
     let i = subst (λ (v : Shown g.row.M-State.Denot). Shows w v) (sym c.self.view_is) s in
     shows_delivered w _ c.args.number mail _ i (sym (mail_is w c.args.number) ∙ there)
     (c.pass.ensures.mails ∙ ap (λ (bag : Posted). bag.mails) c.deliver.ensures)
-    (c.pass.ensures.past (subst (λ (bag : Posted). ArePast c.self.inside.seats bag) (sym c.deliver.ensures) (past_delivered c.self.inside.seats c.self.inside.bag c.args.number i.past)))
+    (c.pass.ensures.past (subst (λ (bag : Posted). ArePast c.self.inside.seats c.self.inside.muted bag) (sym c.deliver.ensures) (past_delivered _ _ c.self.inside.bag c.args.number i.past)))

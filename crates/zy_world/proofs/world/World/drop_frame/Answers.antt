@@ -10,4 +10,4 @@ returns g c w s =
     let i = subst (λ (v : Shown g.row.M-State.Denot). Shows w v) (sym c.self.view_is) s in
     shows_dropped w _ c.args.frame _ i
     (c.pass.ensures.mails ∙ ap (λ (bag : Posted). bag.mails) c.drop_frame.ensures)
-    (c.pass.ensures.past (subst (λ (bag : Posted). ArePast c.self.inside.seats bag) (sym c.drop_frame.ensures) (past_dropped c.self.inside.seats c.self.inside.bag c.args.frame i.past)))
+    (c.pass.ensures.past (subst (λ (bag : Posted). ArePast c.self.inside.seats c.self.inside.muted bag) (sym c.drop_frame.ensures) (past_dropped _ _ c.self.inside.bag c.args.frame i.past)))

@@ -11,7 +11,7 @@ loop-at-preserved g c =
     let loop = c.loop-at in
     let room : length loop.batch.dues.items < c.args.most = omega (arith, c.if-len-most.true, c.len-in-loop-at.ensures, loop.batch.dues.ok.0) in
     let goes = subst (λ (b : Bool). GoesIn v loop.at loop.batch c.goes_in.new.batch b) c.if-not-branch.false c.in_ok-goes_in.ensures in
-    let on = gathers_on v c.args.most v.bag.passed loop.at c.args.batch.now loop.batch c.goes_in.new.batch loop.invariant.on loop.invariant.few room goes in
+    let on = gathers_on v c.args.most v.bag.passed.idle loop.at c.args.batch.now loop.batch c.goes_in.new.batch loop.invariant.on loop.invariant.few room goes in
     record { on = on.0; few = on.1 }
 
 pub returns-then-not-branch-clause-gathered : goal.returns-then-not-branch-clause-gathered

@@ -10,4 +10,4 @@ returns-clause-shows g c w mail others s there =
     let i = subst (λ (v : Shown g.row.M-State.Denot). Shows w (with_replicas others v)) (sym c.self.view_is) s in
     shows_delivered w _ c.args.number mail _ i (sym (mail_is w c.args.number) ∙ there)
     (ap (λ (bag : Posted). bag.mails) c.deliver.ensures)
-    (subst (λ (bag : Posted). ArePast (record c.self.inside.seats { replicas = others c.self.inside.seats.replicas }) bag) (sym c.deliver.ensures) (past_delivered _ c.self.inside.bag c.args.number i.past))
+    (subst (λ (bag : Posted). ArePast (record c.self.inside.seats { replicas = others c.self.inside.seats.replicas }) c.self.inside.muted bag) (sym c.deliver.ensures) (past_delivered _ _ c.self.inside.bag c.args.number i.past))
