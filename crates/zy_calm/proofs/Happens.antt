@@ -19,7 +19,7 @@ use Rattle.zy_table.specs.State.{State}
 use Rattle.zy_table.specs.Whole.{whole_step}
 use Rattle.zy_world_law.proofs.Seats.{get_set, get_set_other, seat_of}
 use Rattle.zy_world_law.specs.Events.Broken.{Clash, Forged}
-use Rattle.zy_world_law.specs.Events.{Happened, ask_in, bring_to_client, bring_to_replica, client_goes, client_note, client_stepped, client_timer_in, completed_by, deliver, go_with, happens, replica_goes, replica_note, stepped, unless_forged, with_client, with_done, with_replica}
+use Rattle.zy_world_law.specs.Events.{Happened, ask_in, bring, bring_to_client, bring_to_replica, client_goes, client_note, client_stepped, client_timer_in, completed_by, deliver, go_with, happens, keeping, replica_goes, replica_note, stepped, unless_forged, with_client, with_done, with_replica}
 use Rattle.zy_world_law.specs.Honest.{forger_in}
 use Rattle.zy_world_law.specs.Texts.{keep_all, step_texts, texts_in}
 use Rattle.zy_world_law.specs.World as world
@@ -152,82 +152,76 @@ module _ {S : Type 0} where
       pub next : next_undelivered w ≡ Some number
       pub comes : MayCome (happens R w (events.Deliver number None)) note Holds
 
-    pub replica_hears : (id : ℕ) (bytes : List ℕ) (others : Frames) (x : world.Replica S) (o : Outcome S) → DoHear hears w → Left hears w ((Replica (record { 0 = id }), bytes) ∷ others)
-        → replica_at w id ≡ Some x → whole_step R x.state (Heard bytes) ≡ o
-        → IsDelivery (replica_note (record { 0 = id }) o.answer) (λ v. IsReplicaNext w v id o.state × Left hears v (others ++ filter (λ z. hears z.0) (outgoing_of o.state.me.0 o.state.counts.n o.deeds.sent)))
-    replica_hears id bytes others x o hear left there step =
-        let y : Party × List ℕ = (Replica (record { 0 = id }), bytes) in
+    -- its party makes of it what this change says
+    reaches : (y : Party × List ℕ) (others : Frames) (note : Note) (Holds : World S → Type 0) (texts : List (List ℕ)) (change : World S → World S) → DoHear hears w → Left hears w (y ∷ others)
+        → ((number : ℕ) → bring R w (delivered w number (mail_to y)) y.0 y.1 ≡ unless_forged (forger_in w y.1) (keeping (delivered w number (mail_to y)) texts change note))
+        → ((number : ℕ) (t : Texts) → filter (is_left hears) (delivered w number (mail_to y)).bag ≡ map mail_to others → Holds (change (record (delivered w number (mail_to y)) { texts = t })))
+        → IsDelivery note Holds
+    reaches y others note Holds texts change hear left goes holds =
         let next = next_left hears y others w.bag left in
-        let note = replica_note (record { 0 = id }) o.answer in
-        let sent = outgoing_of o.state.me.0 o.state.counts.n o.deeds.sent in
-        let Holds = λ (v : World S). IsReplicaNext w v id o.state × Left hears v (others ++ filter (λ z. hears z.0) sent) in
-        let seat : slice_get w.replicas id ≡ Some (Some x) = seat_of (slice_get w.replicas id) x there in
         let at = marked y others next in
         record {
           number = next.before + 1;
           next = next_is hears w hear y others next;
           comes =
-              same_happened _ _ note Holds
-              (delivered_is y others next
-              ∙ ap (bring_to_replica R w at (record { 0 = id }) bytes) seat
-              ∙ ap (λ (made : Outcome S). unless_forged (forger_in w bytes) (replica_goes at (record { 0 = id }) x (texts_in bytes) (Heard bytes) made)) step)
-              (unforged (forger_in w bytes) _ note Holds
-              (kept at (replica_change (record { 0 = id }) x (Heard bytes) o) note Holds (keep_all (texts_in bytes ++ step_texts o.deeds.acts) at.texts) (λ t. (
-                record { replica = stepped t (Heard bytes) x o; replicas = refl; state = refl; clients = refl; muted = refl; setup = refl },
-                more_left hears at.bag others sent (left_marked y others next),
-              ))));
+              same_happened _ _ note Holds (delivered_is y others next ∙ goes (next.before + 1))
+              (unforged (forger_in w y.1) _ note Holds (kept at change note Holds (keep_all texts at.texts) (λ t. holds (next.before + 1) t (left_marked y others next))));
         }
+
+    pub replica_hears : (id : ℕ) (bytes : List ℕ) (others : Frames) (x : world.Replica S) (o : Outcome S) → DoHear hears w → Left hears w ((Replica (record { 0 = id }), bytes) ∷ others)
+        → replica_at w id ≡ Some x → whole_step R x.state (Heard bytes) ≡ o
+        → IsDelivery (replica_note (record { 0 = id }) o.answer) (λ v. IsReplicaNext w v id o.state × Left hears v (others ++ filter (λ z. hears z.0) (outgoing_of o.state.me.0 o.state.counts.n o.deeds.sent)))
+    replica_hears id bytes others x o hear left there step =
+        let y : Party × List ℕ = (Replica (record { 0 = id }), bytes) in
+        let sent = outgoing_of o.state.me.0 o.state.counts.n o.deeds.sent in
+        let Holds = λ (v : World S). IsReplicaNext w v id o.state × Left hears v (others ++ filter (λ z. hears z.0) sent) in
+        reaches y others (replica_note (record { 0 = id }) o.answer) Holds (texts_in bytes ++ step_texts o.deeds.acts) (replica_change (record { 0 = id }) x (Heard bytes) o) hear left
+        (λ number. ap (bring_to_replica R w (delivered w number (mail_to y)) (record { 0 = id }) bytes) (seat_of (slice_get w.replicas id) x there)
+        ∙ ap (λ (made : Outcome S). unless_forged (forger_in w bytes) (replica_goes (delivered w number (mail_to y)) (record { 0 = id }) x (texts_in bytes) (Heard bytes) made)) step)
+        (λ number t others_left. (
+          record { replica = stepped t (Heard bytes) x o; replicas = refl; state = refl; clients = refl; muted = refl; setup = refl },
+          more_left hears (delivered w number (mail_to y)).bag others sent others_left,
+        ))
 
     pub client_hears : (id : ℕ) (bytes : List ℕ) (others : Frames) (x : world.Client) (o : ClientOutcome) → DoHear hears w → Left hears w ((Client (record { 0 = id }), bytes) ∷ others)
         → client_at w id ≡ Some x → client_step x.state (Heard bytes) ≡ o
         → IsDelivery (client_note (record { 0 = id }) (completed_by x.state o.state) o.answer) (λ v. IsClientNext w v id o.state × Left hears v (others ++ filter (λ z. hears z.0) (client_outgoing o.state.counts.n o.sent)))
     client_hears id bytes others x o hear left there step =
         let y : Party × List ℕ = (Client (record { 0 = id }), bytes) in
-        let next = next_left hears y others w.bag left in
+        let sent = client_outgoing o.state.counts.n o.sent in
+        let Holds = λ (v : World S). IsClientNext w v id o.state × Left hears v (others ++ filter (λ z. hears z.0) sent) in
+        reaches y others (client_note (record { 0 = id }) (completed_by x.state o.state) o.answer) Holds (texts_in bytes) (client_change (record { 0 = id }) x o) hear left
+        (λ number. ap (bring_to_client w (delivered w number (mail_to y)) (record { 0 = id }) bytes) (seat_of (slice_get w.clients id) x there)
+        ∙ ap (λ (made : ClientOutcome). unless_forged (forger_in w bytes) (client_goes (delivered w number (mail_to y)) (record { 0 = id }) x (texts_in bytes) made)) step)
+        (λ number t others_left. (
+          record { client = client_stepped x o; clients = refl; state = refl; replicas = refl; muted = refl; setup = refl },
+          more_left hears (delivered w number (mail_to y)).bag others sent others_left,
+        ))
+
+    -- ---- a client asks, or its timer runs out
+
+    by_itself : (happened : Happened S) (id : ℕ) (others : Frames) (x : world.Client) (o : ClientOutcome) → Left hears w others → happened ≡ client_goes w (record { 0 = id }) x [] o
+        → MayCome happened (client_note (record { 0 = id }) (completed_by x.state o.state) o.answer)
+        (λ v. IsClientNext w v id o.state × Left hears v (others ++ filter (λ z. hears z.0) (client_outgoing o.state.counts.n o.sent)))
+    by_itself happened id others x o left is =
         let note = client_note (record { 0 = id }) (completed_by x.state o.state) o.answer in
         let sent = client_outgoing o.state.counts.n o.sent in
         let Holds = λ (v : World S). IsClientNext w v id o.state × Left hears v (others ++ filter (λ z. hears z.0) sent) in
-        let seat : slice_get w.clients id ≡ Some (Some x) = seat_of (slice_get w.clients id) x there in
-        let at = marked y others next in
-        record {
-          number = next.before + 1;
-          next = next_is hears w hear y others next;
-          comes =
-              same_happened _ _ note Holds
-              (delivered_is y others next
-              ∙ ap (bring_to_client w at (record { 0 = id }) bytes) seat
-              ∙ ap (λ (made : ClientOutcome). unless_forged (forger_in w bytes) (client_goes at (record { 0 = id }) x (texts_in bytes) made)) step)
-              (unforged (forger_in w bytes) _ note Holds
-              (kept at (client_change (record { 0 = id }) x o) note Holds (keep_all (texts_in bytes) at.texts) (λ t. (
-                record { client = client_stepped x o; clients = refl; state = refl; replicas = refl; muted = refl; setup = refl },
-                more_left hears at.bag others sent (left_marked y others next),
-              ))));
-        }
-
-    -- ---- a client asks, or its timer runs out
+        same_happened _ _ note Holds is
+        (kept w (client_change (record { 0 = id }) x o) note Holds (keep_all [] w.texts) (λ t. (record { client = client_stepped x o; clients = refl; state = refl; replicas = refl; muted = refl; setup = refl }, more_left hears w.bag others sent left)))
 
     pub client_asks : (id : ℕ) (op : List ℕ) (others : Frames) (x : world.Client) (o : ClientOutcome) → Left hears w others → client_at w id ≡ Some x → ask x.state op ≡ o
         → MayCome (happens R w (events.Ask (record { 0 = id }) op)) (client_note (record { 0 = id }) (completed_by x.state o.state) o.answer)
         (λ v. IsClientNext w v id o.state × Left hears v (others ++ filter (λ z. hears z.0) (client_outgoing o.state.counts.n o.sent)))
     unfolding happens
     client_asks id op others x o left there step =
-        let note = client_note (record { 0 = id }) (completed_by x.state o.state) o.answer in
-        let sent = client_outgoing o.state.counts.n o.sent in
-        let Holds = λ (v : World S). IsClientNext w v id o.state × Left hears v (others ++ filter (λ z. hears z.0) sent) in
-        let seat : slice_get w.clients id ≡ Some (Some x) = seat_of (slice_get w.clients id) x there in
-        same_happened _ _ note Holds
-        (ap (ask_in w (record { 0 = id }) op) seat ∙ ap (client_goes w (record { 0 = id }) x []) step)
-        (kept w (client_change (record { 0 = id }) x o) note Holds (keep_all [] w.texts) (λ t. (record { client = client_stepped x o; clients = refl; state = refl; replicas = refl; muted = refl; setup = refl }, more_left hears w.bag others sent left)))
+        by_itself (happens R w (events.Ask (record { 0 = id }) op)) id others x o left
+        (ap (ask_in w (record { 0 = id }) op) (seat_of (slice_get w.clients id) x there) ∙ ap (client_goes w (record { 0 = id }) x []) step)
 
     pub client_timer_runs_out : (id : ℕ) (others : Frames) (x : world.Client) (o : ClientOutcome) → Left hears w others → client_at w id ≡ Some x → client_step x.state (Timer timers.Answer) ≡ o
         → MayCome (happens R w (events.Timer (Client (record { 0 = id })) timers.Answer)) (client_note (record { 0 = id }) (completed_by x.state o.state) o.answer)
         (λ v. IsClientNext w v id o.state × Left hears v (others ++ filter (λ z. hears z.0) (client_outgoing o.state.counts.n o.sent)))
     unfolding happens
     client_timer_runs_out id others x o left there step =
-        let note = client_note (record { 0 = id }) (completed_by x.state o.state) o.answer in
-        let sent = client_outgoing o.state.counts.n o.sent in
-        let Holds = λ (v : World S). IsClientNext w v id o.state × Left hears v (others ++ filter (λ z. hears z.0) sent) in
-        let seat : slice_get w.clients id ≡ Some (Some x) = seat_of (slice_get w.clients id) x there in
-        same_happened _ _ note Holds
-        (ap (client_timer_in w (record { 0 = id }) timers.Answer) seat ∙ ap (client_goes w (record { 0 = id }) x []) step)
-        (kept w (client_change (record { 0 = id }) x o) note Holds (keep_all [] w.texts) (λ t. (record { client = client_stepped x o; clients = refl; state = refl; replicas = refl; muted = refl; setup = refl }, more_left hears w.bag others sent left)))
+        by_itself (happens R w (events.Timer (Client (record { 0 = id })) timers.Answer)) id others x o left
+        (ap (client_timer_in w (record { 0 = id }) timers.Answer) (seat_of (slice_get w.clients id) x there) ∙ ap (client_goes w (record { 0 = id }) x []) step)
