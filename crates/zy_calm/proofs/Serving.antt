@@ -20,6 +20,7 @@ use Rattle.zy_calm_rows.specs.Waiting.{Awaits}
 use Rattle.zy_chain.specs.declared.entry.Entry.{Entry}
 use Rattle.zy_exec.specs.Replay.{Point, origin, step}
 use Rattle.zy_frames.specs.Frames.{spelling}
+use Rattle.zy_frames.specs.declared.frame.Frame.{Frame}
 use Rattle.zy_frames.specs.declared.frame.Frame.TheVariants as frames
 use Rattle.zy_lms.specs.Height.{levels_of}
 use Rattle.zy_parts.specs.declared.signed.Signed.{Signed}
@@ -45,7 +46,7 @@ use Rattle.zy_world_law.specs.declared.note.Note.TheVariants as notes
 use Rattle.zy_world_law.specs.declared.note.Note.TheVariants.{Quiet}
 use Rattle.zy_calm.proofs.Answering as answering
 use Rattle.zy_calm.proofs.Answering.{AllKept, IsSound, all_answered}
-use Rattle.zy_calm.proofs.Receiving.{IsClientOf, new_client, same_client}
+use Rattle.zy_calm.proofs.Receiving.{AreReadable, IsClientOf, IsServed, new_client, same_client}
 use Rattle.zy_calm.proofs.Asking.{MayRun, asked_for, given, heard_copies, is_round, own_ready, own_response, request_after, request_sent, request_taken, to_replica}
 use Rattle.zy_calm.proofs.Between.{AreUpTo, IsAsker, IsBetween, IsIdle, asked_as_before, asked_once_more, is_live, newer_than, place_after, point_after, point_next, stand_at, state_along}
 use Rattle.zy_calm.proofs.Happens.{DoHear, IsDelivery, IsReplicaNext, Left, client_asks, replica_hears, still_hear, still_hear_client}
@@ -330,47 +331,25 @@ module _ {S : Type 0} (R : Rules S) (s : Setup) (hears : Hears) (fit : IsFit s h
       pub longer : length (before ++ e ∷ []) ≡ length before + 1
       longer = length-append before (e ∷ [])
 
-      -- its client has what it asked for, and live replicas stand so
-      pub record IsOver (at : Stand S) (w : World S) : Type 0 where
-        pub hear : DoHear hears w
-        pub replicas : HaveRun at w.replicas
-        pub others : (id : ℕ) → (id ≡ client → ⊥) → IsOtherIdle id (client_at w id)
-        pub left : Left hears w []
-        pub served : world.Client
-        pub there : client_at w client ≡ Some served
-        pub of : IsClientOf s client (stamp + 1) served.state
-        pub idle : served.state.waiting ≡ None
-
-      pub calm_again : (at : Stand S) → at.point ≡ step R p (entry_of ask) → at.leaves ≤ 3 * length before + 3 → at.told ≤ length before + 1 → (w : World S) → IsOver at w → IsBetween R s hears w (before ++ e ∷ [])
+      -- its client has what it asked for, and has heard all that was given to it; live replicas stand so
+      pub calm_again : {Gives : Type 0} {IsGood : ℕ → Gives → Type 0} {frame : Gives → Frame} {readable : AreReadable s Gives IsGood frame} (at : Stand S) → at.point ≡ step R p (entry_of ask) → at.leaves ≤ 3 * length before + 3
+          → at.told ≤ length before + 1 → (w : World S) → IsServed R s hears client (stamp + 1) Gives IsGood frame readable (HaveRun at) IsOtherIdle w [] → IsBetween R s hears w (before ++ e ∷ [])
       calm_again at same few told w over =
           record {
-            hear = over.hear;
+            hear = over.around.hear;
             stand = λ id is_id inside_n.
-                (let run_it = over.replicas id is_id inside_n in
+                (let run_it = over.around.replicas id is_id inside_n in
                 record { replica = run_it.replica; there = run_it.there; is = moved at (stand_at R s hears (before ++ e ∷ [])) run_it.is (same ∙ sym (point_next R before e)) (omega (arith, longer, few)) (omega (arith, longer, told)) });
             clients = λ id is_asker. idle_again id is_asker (cases_eq id client);
-            left = over.left;
+            left = over.around.left;
           }
         where
           idle_again : (id : ℕ) → IsAsker R s hears id → (id ≡ client) ⊎ (id ≡ client → ⊥) → IsIdle R s hears (client_at w id) id (asked_in (record { 0 = id }) (before ++ e ∷ []))
           idle_again id is_asker (inl same_id) =
               subst (λ (k : ℕ). IsIdle R s hears (client_at w k) k (asked_in (record { 0 = k }) (before ++ e ∷ []))) (sym same_id)
-              (subst (λ (k : ℕ). IsIdle R s hears (client_at w client) client k) (sym (asked_once_more before a)) (record { client = over.served; there = over.there; of = over.of; waits = over.idle }))
+              (subst (λ (k : ℕ). IsIdle R s hears (client_at w client) client k) (sym (asked_once_more before a)) (record { client = over.client'; there = over.there; of = over.of; waits = over.idle }))
           idle_again id is_asker (inr other) =
-              subst (λ (k : ℕ). IsIdle R s hears (client_at w id) id k) (sym (asked_as_before (record { 0 = id }) before a other)) (over.others id other is_asker)
-
-      fast_over : (w : World S) → Answered w → IsOver stand_after w
-      fast_over w served =
-          record {
-            hear = served.around.hear;
-            replicas = served.around.replicas;
-            others = served.around.others;
-            left = served.around.left;
-            served = served.client';
-            there = served.there;
-            of = served.of;
-            idle = served.idle;
-          }
+              subst (λ (k : ℕ). IsIdle R s hears (client_at w id) id k) (sym (asked_as_before (record { 0 = id }) before a other)) (over.around.others id other is_asker)
 
       -- ---- the flow
 
@@ -433,7 +412,7 @@ module _ {S : Type 0} (R : Rules S) (s : Setup) (hears : Hears) (fit : IsFit s h
           (all_order v ordering behind all rest (omega (arith, few, counted, long)))
           (λ u ordered. weaker_end (flowed_out R n rest _ answer_notes Answered none_left
           (answers_come enough u ordered.given (ordered.long ∙ sym counted) ordered.is n behind rest (omega (arith, few, counted, long))))
-          (λ x served. calm_again stand_after refl (omega arith) (omega arith) x (fast_over x served))))
+          (λ x served. calm_again stand_after refl (omega arith) (omega arith) x served)))
 
     -- ---- the ask and its flow
 

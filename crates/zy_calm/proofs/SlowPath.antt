@@ -323,19 +323,6 @@ module _ {S : Type 0} (R : Rules S) (s : Setup) (hears : Hears) (fit : IsFit s h
         none_counted [] = tt
         none_counted (x ∷ votes) = (refl, none_counted votes)
 
-    slow_over : (specs : List (Signed Spec)) (w : World S) → Voted specs w → serving.IsOver R s hears fit is_state machine a before calm asker inside leaves up_to leaf low stand_told w
-    slow_over specs w served =
-        record {
-          hear = served.around.hear;
-          replicas = served.around.replicas;
-          others = served.around.others;
-          left = served.around.left;
-          served = served.client';
-          there = served.there;
-          of = served.of;
-          idle = served.idle;
-        }
-
     abbrev Again : World S → Type 0
     Again w = IsBetween R s hears w (before ++ entry_after before a ∷ [])
 
@@ -350,7 +337,7 @@ module _ {S : Type 0} (R : Rules S) (s : Setup) (hears : Hears) (fit : IsFit s h
         (flowed_out R n rest _ vote_notes (Voted specs) (λ x served. none_next hears x served.around.hear served.around.left)
         (all_counted R s hears client stamp p ask order round specs (HaveRun stand_told) IsOtherIdle turned.given u [] (s.counts.local - 1) (count - s.counts.local) (counting_begins specs u turned.given turned.is)
         (omega (arith, some_local)) (omega (arith, turned.long, enough, some_local)) n behind rest (omega (arith, turned.long, within, long))))
-        (λ x served. serving.calm_again R s hears fit is_state machine a before calm asker inside leaves up_to leaf low stand_told refl (omega arith) (omega arith) x (slow_over specs x served)))
+        (λ x served. serving.calm_again R s hears fit is_state machine a before calm asker inside leaves up_to leaf low stand_told refl (omega arith) (omega arith) x served))
 
   module _ (a : CalmAsk) (before : List Entry) (calm : IsCalmAsk s a) (asker : IsAsker R s hears a.client.0) (inside : length before + 1 < s.interval)
       (leaves : 3 * (length before + 1) ≤ 2 ^ levels_of s.height) (up_to : AreUpTo R before) where

@@ -24,7 +24,9 @@ use Rattle.zy_frames.specs.declared.frame.Frame.TheVariants as frames
 use Rattle.zy_frames.specs.declared.frame.OrderFrame.{OrderFrame}
 use Rattle.zy_parts.specs.declared.signed.Signed.{Signed}
 use Rattle.zy_parts.specs.declared.statements.Ask.{Ask}
+use Rattle.zy_parts.specs.declared.statements.Hole.{Hole}
 use Rattle.zy_parts.specs.declared.statements.Order.{Order}
+use Rattle.zy_seal.specs.Sealing.{SealerState, spent_one}
 use Rattle.zy_table.specs.Deeds.{Going, begin, ends, refused}
 use Rattle.zy_table.specs.Gathering.{state_in}
 use Rattle.zy_table.specs.Orders.{position_of}
@@ -70,6 +72,19 @@ module _ {S : Type 0} (R : Rules S) (p : Point S) (s : State S) (calm : IsCalm R
   in_window : (interval : ℕ) → s.kept.interval ≡ interval → p.place + 1 < interval → interval ≤ 32 → p.place + 1 ≤ window_of s
   in_window interval is inside small = omega (arith, calm.orders)
 
+  -- the next place's order is kept, whatever its key and its hole are then
+  about_with : (sealer : SealerState) (hole : Option (Signed Hole)) (o : OrderFrame) → o.order.stmt.place.0 ≡ p.place + 1 → IsAbout R p (record s { sealer = sealer; orders = with_order s.orders o; hole = hole })
+  about_with sealer hole o place =
+      record {
+        mode = calm.mode;
+        now = calm.now;
+        place = calm.place;
+        base = calm.base;
+        orders = calm.orders;
+        slots = slots_with s.orders o p.place calm.orders calm.slots place;
+        pending = calm.pending;
+      }
+
   module _ (ask : Signed Ask) (next : IsNext p s.kept.interval ask) where
     none_here : state_in R (longer s.kept (entry_of ask)) (p.place + 1) ≡ None
     none_here =
@@ -103,16 +118,7 @@ module _ {S : Type 0} (R : Rules S) (p : Point S) (s : State S) (calm : IsCalm R
         ordering v q = record { view = record { 0 = v }; place = record { 0 = q.place + 1 }; head = head_after q.head (digest_of_entry (entry_of ask)); request = digest_of_entry (entry_of ask) }
 
     pub about_ordered : IsAbout R p (ordered R s ask).state
-    about_ordered =
-        record {
-          mode = calm.mode;
-          now = calm.now;
-          place = calm.place;
-          base = calm.base;
-          orders = calm.orders;
-          slots = slots_with s.orders (sealed_order R s ask) p.place calm.orders calm.slots (ap (λ (o : Order). o.place.0) order_is);
-          pending = calm.pending;
-        }
+    about_ordered = about_with (spent_one s.sealer) s.hole (sealed_order R s ask) (ap (λ (o : Order). o.place.0) order_is)
 
     pub request_row : is_primary s ≡ true → 2 ≤ leaves_of s → plain_row R s (frames.Request ask) ≡ ordered_calmly R p s ask
     unfolding request
@@ -138,16 +144,7 @@ module _ {S : Type 0} (R : Rules S) (p : Point S) (s : State S) (calm : IsCalm R
     stored = record s { orders = with_order s.orders o; hole = None }
 
     pub about_stored : IsAbout R p stored
-    about_stored =
-        record {
-          mode = calm.mode;
-          now = calm.now;
-          place = calm.place;
-          base = calm.base;
-          orders = calm.orders;
-          slots = slots_with s.orders o p.place calm.orders calm.slots (ap (λ (x : Order). x.place.0) is);
-          pending = calm.pending;
-        }
+    about_stored = about_with s.sealer None o (ap (λ (x : Order). x.place.0) is)
 
     nothing_stored : stored_in s.orders (p.place + 1) ≡ None
     nothing_stored =
