@@ -4,3 +4,4 @@ pub mod Calm
 pub mod Notes
 pub mod Law
 pub mod Example
+pub mod Jobs

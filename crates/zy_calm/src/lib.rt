@@ -4,6 +4,8 @@
 
 mod example;
 mod runs;
+mod wide;
 
 pub use example::a_calm_schedule;
 pub use runs::calm_runs;
+pub use wide::wide_schedules;
