@@ -29,7 +29,7 @@ use Rattle.zy_parts.specs.declared.statements.Order.{Order}
 use Rattle.zy_parts.specs.declared.statements.Spec.{Spec}
 use Rattle.zy_seal.specs.Keys.{Keys}
 use Rattle.zy_seal.specs.Screening.{screen}
-use Rattle.zy_seal.specs.Sealing.{SealerState, sealed_by, spent_one}
+use Rattle.zy_seal.specs.Sealing.{SealerState, sealed_by}
 use Rattle.zy_table.specs.Deeds.{outgoing_of}
 use Rattle.zy_table.specs.Gathering.{with_certificate}
 use Rattle.zy_table.specs.Roles.{is_replica}
@@ -37,7 +37,7 @@ use Rattle.zy_table.specs.State.{State}
 use Rattle.zy_table.specs.Whole.{whole_step}
 use Rattle.zy_world_law.specs.Setup.{Setup, keys_of, sealer_of}
 use Rattle.zy_calm.proofs.Genuine.{AreAccepted, accepted, is_accepted, is_spelled, next_long}
-use Rattle.zy_calm.proofs.Round.{IsAt, IsRound, Stand, all_up_to, answer, leaves_are}
+use Rattle.zy_calm.proofs.Round.{IsAt, IsRound, Stand, all_up_to, answer, leaves_are, signs_one}
 
 -- ---- local commits of earlier places
 
@@ -130,17 +130,9 @@ module _ {S : Type 0} (R : Rules S) (s : Setup) (p : Point S) (client : ℕ) (as
 
     pub commit_after : IsAt R s (record { point = next_point; leaves = at.leaves + 1; told = p.place + 1 }) id (committed_calmly R state specs certified.spec.client (local_to certified)).state
     commit_after =
-        record {
-          calm = commit_calm R next_point state calm_here certified specs certified.spec.client;
-          me = certain_at.me;
-          counts = certain_at.counts;
-          keys = certain_at.keys;
-          interval = certain_at.interval;
-          leaf = certain_at.leaf + 1;
-          sealer = ap spent_one certain_at.sealer;
-          spent = (let e : certain_at.leaf + 1 ≤ at.leaves + 1 = omega (arith, certain_at.spent) in e);
-          locals = all_with (p.place + 1) certain.locals vote (all_up_to at.told (p.place + 1) certain.locals (omega (arith, untold)) certain_at.locals) (omega arith);
-        }
+        signs_one at (record { point = next_point; leaves = at.leaves + 1; told = p.place + 1 }) (committed_calmly R state specs certified.spec.client (local_to certified)).state certain_at
+        (commit_calm R next_point state calm_here certified specs certified.spec.client) refl refl refl refl refl (omega arith)
+        (all_with (p.place + 1) certain.locals vote (all_up_to at.told (p.place + 1) certain.locals (omega (arith, untold)) certain_at.locals) (omega arith))
 
     pub commit_sent : (m n : ℕ) → outgoing_of m n (committed_calmly R state specs certified.spec.client (local_to certified)).deeds.sent ≡ (Client (record { 0 = client }), spelling (frames.LocalCommit vote)) ∷ []
     commit_sent m n = ap (λ (by : Party). (Client (asking by), spelling (frames.LocalCommit vote)) ∷ []) round.asked_by

@@ -80,6 +80,22 @@ moved {S = S} {R = R} {state = state} at to is same leaves told =
       locals = all_up_to at.told to.told state.locals told is.locals;
     }
 
+-- it signs one statement, and is calm there
+pub signs_one : {S : Type 0} {R : Rules S} {s : Setup} {id : ℕ} {state : State S} (at to : Stand S) (after : State S) → IsAt R s at id state → rows.IsCalm R to.point after → after.me ≡ state.me → after.counts ≡ state.counts
+    → after.keys ≡ state.keys → after.kept.interval ≡ state.kept.interval → after.sealer ≡ spent_one state.sealer → at.leaves + 1 ≤ to.leaves → AllByRecursion (λ said. said.stmt.place.0 ≤ to.told) after.locals → IsAt R s to id after
+signs_one at to after is calm me counts keys interval sealer leaves locals =
+    record {
+      calm = calm;
+      me = me ∙ is.me;
+      counts = counts ∙ is.counts;
+      keys = keys ∙ is.keys;
+      interval = interval ∙ is.interval;
+      leaf = is.leaf + 1;
+      sealer = sealer ∙ ap spent_one is.sealer;
+      spent = (let e : is.leaf + 1 ≤ to.leaves = omega (arith, is.spent, leaves) in e);
+      locals = locals;
+    }
+
 -- a request of a client and its order, where the replicas stand at this point
 pub record IsRound {S : Type 0} (R : Rules S) (s : Setup) (p : Point S) (client : ℕ) (ask : Signed Ask) (order : Signed Order) : Type 0 where
   pub some : 1 ≤ s.counts.n
@@ -167,17 +183,7 @@ module _ {S : Type 0} (R : Rules S) (s : Setup) (p : Point S) (client : ℕ) (as
 
       pub order_after : IsAt R s (record { point = step R p (entry_of ask); leaves = at.leaves + 1; told = at.told }) id after
       order_after =
-          record {
-            calm = order_calm R p state calm_here order_frame next_here round.ordered;
-            me = is.me;
-            counts = is.counts;
-            keys = is.keys;
-            interval = is.interval;
-            leaf = is.leaf + 1;
-            sealer = ap spent_one is.sealer;
-            spent = (let e : is.leaf + 1 ≤ at.leaves + 1 = omega (arith, is.spent) in e);
-            locals = is.locals;
-          }
+          signs_one at (record { point = step R p (entry_of ask); leaves = at.leaves + 1; told = at.told }) after is (order_calm R p state calm_here order_frame next_here round.ordered) refl refl refl refl refl (omega arith) is.locals
 
       -- the response
       abbrev pub response : Response
