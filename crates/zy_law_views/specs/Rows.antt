@@ -30,8 +30,8 @@ pub record IsLawfulRow {S : Type 0} (R : Rules S) (interval : ℕ) (w : World) (
   pub may : AllMay w r (acts_of w r s history outcome)
   pub tied : IsTied R interval (world_after w r s history outcome) r (core_of outcome.state) history
 
--- A cause that blames those whose statements a replica holds: two heads stand at one place of what is proven, or the own stable
--- checkpoint isn't on the chosen history.
+-- A cause that blames those whose statements a replica holds: two heads stand at one place of what is proven, the own stable
+-- checkpoint isn't on the chosen history, or another snapshot is told, or comes, than the one that is had or waited for.
 abbrev pub blames : Cause → Bool
 blames (causes.AnchorClash first second) = true
 blames (causes.BelowStable own other) = true

@@ -72,7 +72,8 @@ pub record Stores {D : Type 0} (contents : D → Option (List ℕ)) (may_leave :
   pub place : next ≡ gate + length (blocks records)
   pub room : HasRoom gate records
 
--- they don't fit the journal, and a front of them is stored
+-- they weren't all stored, as the disk failed, they don't fit the journal, or memory was wanted: a crash at any moment leaves
+-- a front of them
 abbrev pub StoresNot : {D : Type 0} → (D → Option (List ℕ)) → (D → ℕ) → (D → ℕ → List ℕ → Type 0) → ℕ → List (List ℕ) → TakeFault → D → D → Type 0
 StoresNot contents moment left_since gate records take_faults.Disk old new = StoresFront contents moment left_since records old new
 StoresNot contents moment left_since gate records take_faults.Link old new = ⊥

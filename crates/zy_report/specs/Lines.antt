@@ -79,7 +79,7 @@ abbrev pub replica_line : ReplicaId → Option Stood → Digest → List ℕ
 replica_line id None state = 114 ∷ decimal id.0 ++ codes " liar" ++ 10 ∷ []
 replica_line id (Some stood) state = 114 ∷ decimal id.0 ++ stood_text stood state
 
--- what all correct replicas agree on: a place, and the head there
+-- the agreed list: its length, and its head
 abbrev pub agreed_line : Place → Digest → List ℕ
 agreed_line place head = codes "agreed " ++ decimal place.0 ++ 32 ∷ encode_lower head.0 ++ 10 ∷ []
 

@@ -7,7 +7,7 @@ use crate::parts::{put_hex, put_number};
 use std::alloc::Global;
 use zy_base::{Bytes, Digest, Mode, Place, ReplicaId, Stood, Want};
 
-/// What all correct replicas agree on: `agreed N HEX` with a line feed, a place and the head there.
+/// The list of what clients count as complete: `agreed N HEX` with a line feed, its length and its head.
 pub fn agreed_line(alloc: Global, place: Place, head: &Digest) -> Result<Bytes, Want>
     ensures { IfOk result (λ line. line ≡ lines.agreed_line place head.now) }
 {
