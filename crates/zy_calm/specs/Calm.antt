@@ -38,8 +38,8 @@ pub record IsCalmAsk (s : Setup) (a : CalmAsk) : Type 0 where
   pub flow : 2 * s.counts.n ≤ a.flow
   pub again : 2 * s.counts.n ≤ a.again
 
--- The first primary is live, and so many others as complete requests on this path. No checkpoint is due in it, and no key runs out of
--- leaves.
+-- The first primary is live, and with it so many replicas as complete requests on this path. No checkpoint is due in it, and no key
+-- runs out of leaves.
 pub record IsCalm (s : Setup) (path : Path) (muted : List ℕ) (asks : List CalmAsk) : Type 0 where
   pub setup : IsSetup s
   pub primary : is_live s muted 0 ≡ true

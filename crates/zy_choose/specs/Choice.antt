@@ -37,7 +37,7 @@ pub data IsPicked (next : Digest → Entry → Digest) (agree : ℕ) (reports : 
       → IsPicked next agree reports anchor m
   anchored : ((other : Mark) → IsAgreed next agree reports anchor other → ⊥) → m ≡ anchor → IsPicked next agree reports anchor m
 
--- The choice: of the reports with the greatest last view, what is picked past an anchor.
+-- The choice: of the reports with the greatest last view, what is picked past the anchor of these.
 pub record IsChoice (next : Digest → Entry → Digest) (agree : ℕ) (reports : List PlainReport) (m : Mark) : Type 0 where
   pub view : ℕ
   pub anchor : Mark

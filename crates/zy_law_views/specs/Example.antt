@@ -83,8 +83,8 @@ pub record AreFirstKept {S : Type 0} (R : Rules S) (texts : Texts) : Type 0 wher
   pub reply : IsKept texts (R.reply R.initial first_entry.client first_entry.op)
   pub snapshot : IsKept texts (first_snapshot R)
 
--- In a lawful world of four replicas, of which one lies, the history of the entry is chosen out of a proper new view, whose
--- provider has it in its stable checkpoint alone; and a replica that ran nothing stands in the view with it.
+-- In a lawful world of four replicas with f = 1, the history of the entry is chosen out of a proper new view, whose provider has it in
+-- its stable checkpoint alone; and a replica that ran nothing stands in the view with it.
 pub record IsInstalledIn {S : Type 0} (R : Rules S) (texts : Texts) (w : World) (n : New) (p : Signed Change) : Type 0 where
   pub lawful : IsLawful w
   pub many : w.counts.n ≡ 4

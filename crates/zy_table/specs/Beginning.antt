@@ -58,7 +58,8 @@ settled_as R told s =
 abbrev pub with_history : {S : Type 0} → Rules S → Told → Place → State S → State S
 with_history R told place s = settled_as R told (record s { kept = taken_over (stretch_of told) place.0 s.kept })
 
--- It is active in the view of the certificate, and of earlier views it keeps no order, no response and no checkpoint.
+-- It is active in the view of the certificate. It keeps no order, and of what others signed in earlier views no response and no
+-- checkpoint but those that prove its stable one.
 abbrev pub active_by : {S : Type 0} → ViewCert → Chosen → State S → State S
 active_by cert chosen s =
     record s {
