@@ -13,7 +13,7 @@ use Rattle.zy_world_setup.specs.Starting.{IsStart}
 use Rattle.zy_world_law.specs.Setup.{Setup}
 use Rattle.zy_top_words.specs.Calls.{IsFileRead, IsReading, exit_of_fault, is_reading}
 use Rattle.zy_top.specs.Group.{group_of}
-use Rattle.zy_top.specs.Replaying.{IsGroupJudged, IsScheduleJudged, IsSetupRead, text_verdict}
+use Rattle.zy_top.specs.Replaying.{IsGroupJudged, IsScheduleJudged, IsSetupOf, IsSetupRead, text_verdict}
 use Rattle.zy_top_words.specs.Ends.{IsAnswer, Verdict, limit}
 use Rattle.zy_top.specs.Verdict.{group_verdict, replay_verdict, schedule_verdict}
 use Rattle.zy_top_words.specs.declared.exit.Exit.{Exit}
@@ -65,6 +65,13 @@ pub group_read : {A : Type 0} (told : Option A) (content : A → List ℕ) (text
 group_read None content text r file read = tt
 group_read (Some held) content text r file read = rw (← file.0) (judged_group text.items r file.1 read)
 
+-- the group that a file spells tells of the setup
+pub setup_spelled : {A : Type 0} (told : Option A) (content : A → List ℕ) (text : Vec ℕ Global) (r : Result Setup Exit) → IsFileRead (option_map content told) (Ok text)
+    → IsSetupRead (group_of text.items) r → IfOk r (λ setup. IfSome told (λ held. IsSetupOf (group_of (content held)) setup))
+setup_spelled told content text (Err exit) file read = tt
+setup_spelled None content text (Ok setup) file read = tt
+setup_spelled (Some held) content text (Ok setup) file read = rw (← file.0) read.1
+
 -- ---- the schedule
 
 long_schedule : (setup : Setup) (text : List ℕ) → limit < length text → text_verdict setup text ≡ Verdict.Refused exits.TooLong
@@ -107,6 +114,11 @@ pub schedule_read : {A : Type 0} (told : Option A) (content : A → List ℕ) (t
     → schedule_of text.items ≡ Ok lines.items → IfSome told (λ held. IsScheduleJudged (content held) (Ok lines))
 schedule_read None content text lines file read = tt
 schedule_read (Some held) content text lines file read = rw (← file.0) (judged_schedule text.items lines file.1 read)
+
+pub schedule_spelled : {A : Type 0} (told : Option A) (content : A → List ℕ) (text : Vec ℕ Global) (lines : Vec Line Global) → IsFileRead (option_map content told) (Ok text)
+    → schedule_of text.items ≡ Ok lines.items → IfSome told (λ held. schedule_of (content held) ≡ Ok lines.items)
+schedule_spelled None content text lines file read = tt
+schedule_spelled (Some held) content text lines file read = rw (← file.0) read
 
 -- ---- refusals
 

@@ -5,6 +5,7 @@ use Rattle.std.proofs.lemmas.List.{take_all, take_more}
 use Rattle.std.proofs.lemmas.List.Sums.{sum_by-append}
 use Rattle.zy_base.specs.Machine.{Rules}
 use Rattle.zy_schedule.specs.declared.line.Line.{Line}
+use Rattle.zy_schedule.specs.declared.line.Line.TheVariants as lines
 use Rattle.zy_world.proofs.Flows.{passes_none}
 use Rattle.zy_world.specs.Flowing.{Passes, Stops, all_done}
 use Rattle.zy_world.specs.Shown.{Shown}
@@ -16,6 +17,7 @@ use Rattle.zy_world_law.specs.Runs.{Rest, comes_to, ends, goes_on, run, run_line
 use Rattle.zy_world_law.specs.World.{World}
 use Rattle.zy_world_law.specs.declared.event.WorldEvent.{WorldEvent}
 use Rattle.zy_world_law.specs.declared.note.Note.{Note}
+use Rattle.zy_top.specs.Acts.{act_of, act_part}
 use Rattle.zy_top.specs.Replaying.{Adds, IsFar, IsPartRun, IsRun, IsTold, event_part}
 use Rattle.zy_top.specs.Telling.{is_done_fast, is_done_slow, is_refused, note_line, note_lines}
 use Rattle.zy_top.specs.Verdict.{what_broke}
@@ -201,6 +203,21 @@ module _ {S : Type 0} where
   )
 
   -- ---- schedules
+
+  -- a line makes of a world what is done that it asks for
+  pub line_acts : (R : Rules S) (line : Line) (rest : Rest S) (w : World S) → run_line R line rest w ≡ act_part R (act_of line) rest w
+  line_acts R (lines.Ask client op) rest w = refl
+  line_acts R (lines.Deliver frame to) rest w = refl
+  line_acts R (lines.Timer party kind) rest w = refl
+  line_acts R (lines.Order liar view asks to) rest w = refl
+  line_acts R (lines.Spec liar view asks to reply) rest w = refl
+  line_acts R (lines.Statement liar bytes to) rest w = refl
+  line_acts R (lines.Raw bytes to) rest w = refl
+  line_acts R (lines.Forge party bytes to) rest w = refl
+  line_acts R (lines.Flow n) rest w = refl
+  line_acts R (lines.Drop frame) rest w = refl
+  line_acts R (lines.Mute party) rest w = refl
+  line_acts R (lines.Unmute party) rest w = refl
 
   pub line_begins : (R : Rules S) (line : Line) (more : List Line) (v : World S) (rest : Rest S) → run R (line ∷ more) v ≡ run_line R line (run R more) v
   unfolding run

@@ -5,4 +5,5 @@ pub mod Verdict
 pub mod Replaying
 pub mod Hosting
 pub mod Truthful
+pub mod Acts
 pub mod Calm

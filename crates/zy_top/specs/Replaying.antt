@@ -36,9 +36,13 @@ use Rattle.zy_top.specs.declared.tale.Tale.{Tale}
 
 -- ---- groups
 
+-- a group was read, and tells of this setup
+abbrev pub IsSetupOf : Result ReplayGroup ℕ → Setup → Type 0
+IsSetupOf read setup = (group : ReplayGroup) × (read ≡ Ok group) × (setup ≡ setup_of group)
+
 -- the group told of this setup, or a field of it fails, or memory is wanted
 abbrev pub IsSetupRead : Result ReplayGroup ℕ → Result Setup Exit → Type 0
-IsSetupRead read (Ok setup) = IsStart setup × ((group : ReplayGroup) × (read ≡ Ok group) × (setup ≡ setup_of group))
+IsSetupRead read (Ok setup) = IsStart setup × IsSetupOf read setup
 IsSetupRead read (Err (exits.Group field)) = read ≡ Err field
 IsSetupRead read (Err exits.Want) = ⊤
 IsSetupRead read (Err exit) = ⊥

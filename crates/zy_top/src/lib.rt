@@ -2,6 +2,7 @@
 //! more of it.
 #![tactic(auto)]
 
+mod acts;
 mod calm;
 mod group;
 mod keys;
@@ -14,8 +15,8 @@ mod tale;
 mod tally;
 mod top;
 
+pub use acts::{Act, act_of};
 pub use replays::{read_group, read_lines};
-pub use running::{Stop, run_event, run_line};
-pub use tale::Tale;
-pub use tally::Tally;
+pub use running::Stop;
+pub use tale::note_line;
 pub use top::zyzzyva;

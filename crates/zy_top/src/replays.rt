@@ -1,11 +1,13 @@
 // The command `replay`.
-ghost use Rattle.std.specs.Prelude.{◌≡◌, ℕ, List, All, IfOk, IfSome, IsTrue, ◌≤◌, length};
+ghost use Rattle.std.specs.Prelude.{◌≡◌, ℕ, List, All, IfOk, IfSome, IsTrue, Ok, ◌≤◌, length};
 ghost use Rattle.zy_edge.specs.Faults.{IsCounted};
 ghost use Rattle.zy_edge.specs.Files.{content_of};
+ghost use Rattle.zy_schedule.specs.Reading.{schedule_of};
 ghost use Rattle.zy_schedule.specs.Texts.{IsSaid};
 ghost use Rattle.zy_world_setup.specs.Starting.{IsStart};
 ghost use Rattle.zy_top_words.specs.Calls.{IsReading, exit_of, stops_reading};
-ghost use Rattle.zy_top.specs.Replaying.{IsBackedRun, IsBlamelessRun, IsGroupJudged, IsRunning, IsSafeRun, IsScheduleJudged, OfReplay};
+ghost use Rattle.zy_top.specs.Group.{group_of};
+ghost use Rattle.zy_top.specs.Replaying.{IsBackedRun, IsBlamelessRun, IsGroupJudged, IsRunning, IsSafeRun, IsScheduleJudged, IsSetupOf, OfReplay};
 ghost use Rattle.zy_top_words.specs.Ends.{IsAnswer, IsWritten, is_read_fault, is_foreign, is_refusal, is_write_fault, limit};
 ghost use Rattle.zy_top.specs.Truthful.{IsUnforgedRun};
 ghost use Rattle.zy_top.specs.Verdict.{replay_verdict, run_verdict};
@@ -67,6 +69,7 @@ pub(crate) fn run_replay<R: Threads + Sync, F: Files, S: Sink>(
 /// than 16,777,216 bytes.
 pub fn read_group<F: Files>(alloc: Global, group: &str, files: &mut F) -> Result<Setup, Exit>
     ensures told { IfSome (F.held files.old) (λ held. IsGroupJudged (content_of held group.now) result) }
+    ensures spelled { IfOk result (λ setup. IfSome (F.held files.old) (λ held. IsSetupOf (group_of (content_of held group.now)) setup)) }
     ensures start { IfOk result IsStart }
     ensures exit { IsReading result }
     ensures count { IsCounted (stops_reading result) (F.faults files.old) (F.faults files.new) }
@@ -79,6 +82,7 @@ pub fn read_group<F: Files>(alloc: Global, group: &str, files: &mut F) -> Result
 /// The schedule in the file with this name. `Text` at the first line that can't be read, `TooLong` as for a group.
 pub fn read_lines<F: Files>(alloc: Global, schedule: &str, files: &mut F) -> Result<Vec<Line>, Exit>
     ensures told { IfSome (F.held files.old) (λ held. IsScheduleJudged (content_of held schedule.now) result) }
+    ensures spelled { IfOk result (λ lines. IfSome (F.held files.old) (λ held. schedule_of (content_of held schedule.now) ≡ Ok lines.items)) }
     ensures said { IfOk result (λ lines. All IsSaid lines.items) }
     ensures few { IfOk result (λ lines. length lines.items ≤ limit) }
     ensures exit { IsReading result }

@@ -1,23 +1,21 @@
 // The run of a schedule, event by event.
 ghost use Rattle.std.specs.Prelude.{◌≡◌, ◌≤◌, ◌<◌, ◌+◌, ◌*◌, ◌^◌, All, length};
 ghost use Rattle.zy_schedule.specs.Texts.{IsSaid};
+ghost use Rattle.zy_top.specs.Acts.{IsAllowed, act_part};
 ghost use Rattle.zy_top.specs.Replaying.{IsPartRun, IsRun, IsTold, event_part};
 ghost use Rattle.zy_top.specs.declared.running.Stop.TheVariants as stops;
-ghost use Rattle.zy_tuple.specs.Values.{IsOp, IsReply};
-ghost use Rattle.zy_tuple.specs.Bytes as spelled;
-ghost use Rattle.zy_world.specs.Event.{IsEvent, IsHistoryTold};
+ghost use Rattle.zy_world.specs.Event.{IsEvent};
 ghost use Rattle.zy_world.specs.Shows.{Shows};
 ghost use Rattle.zy_world_law.specs.Runs as runs;
 ghost use Rattle.zy_world_law.specs.World.{World as Whole};
-ghost use Rattle.zy_world_law.specs.declared.event.WorldEvent.TheVariants as events;
 
+use crate::acts::{Act, act_of};
 use crate::tale::Tale;
 use std::alloc::Global;
 use std::thread::Threads;
-use zy_base::{Answer, ClientId, Items, Machine, Party, View, Want};
+use zy_base::{Machine, Want};
 use zy_schedule::Line;
 use zy_top_words::Broken;
-use zy_tuple::{Op, Reply, op_bytes, reply_bytes};
 use zy_world::{FlowFault, Flowed, PlainHands, World, WorldFault, WorldStepped};
 use zy_world_law::{Note, WorldEvent};
 
@@ -57,11 +55,11 @@ pub(crate) fn run_lines<R: Threads + Sync, M: Machine + Send>(
     Ok(world)
 }
 
-/// Runs one line, and tells of its events: none, one, or those of a flow, whose replicas step at once.
-pub fn run_line<R: Threads + Sync, M: Machine + Send>(
+/// Runs one line, and tells of its events.
+fn run_line<R: Threads + Sync, M: Machine + Send>(
     rt: &R,
     alloc: Global,
-    mut world: World<M>,
+    world: World<M>,
     line: Line,
     tale: &mut Tale,
 ) -> Result<World<M>, Stop>
@@ -70,110 +68,39 @@ pub fn run_line<R: Threads + Sync, M: Machine + Send>(
     ensures run { (g : Whole M.State) → Shows g world → IsPartRun (runs.run_line M.rules line) g tale.old tale.new result }
     ensures count { tale.new.tally.events ≤ tale.old.tally.events + 100000 }
 {
-    match line {
-        Line::Ask { client, op } => run_ask(alloc, world, client, op, tale),
-        Line::Deliver { frame, to } => {
-            run_event(alloc, world, WorldEvent::Deliver { frame, to }, tale)
-        }
-        Line::Timer { party, kind } => {
-            run_event(alloc, world, WorldEvent::Timer { party, kind }, tale)
-        }
-        Line::Order {
-            liar,
-            view,
-            asks,
-            to,
-        } => run_event(
-            alloc,
-            world,
-            WorldEvent::Order {
-                liar,
-                view,
-                asks,
-                to,
-            },
-            tale,
-        ),
-        Line::Spec {
-            liar,
-            view,
-            asks,
-            to,
-            reply,
-        } => run_spec(alloc, world, liar, view, asks, to, reply, tale),
-        Line::Statement { liar, bytes, to } => {
-            run_event(
-                alloc,
-                world,
-                WorldEvent::Statement { liar, bytes, to },
-                tale,
-            )
-        }
-        Line::Raw { bytes, to } => run_event(alloc, world, WorldEvent::Raw { bytes, to }, tale),
-        Line::Forge { party, bytes, to } => {
-            run_event(alloc, world, WorldEvent::Forge { party, bytes, to }, tale)
-        }
-        Line::Flow(events) => run_flow(rt, alloc, world, events, tale),
-        Line::Drop(frame) => {
+    let act = act_of(alloc, line)?;
+    run_act(rt, alloc, world, act, tale)
+}
+
+/// Does what a line asks for, and tells of its events: none, one, or those of a flow, whose replicas step at once.
+fn run_act<R: Threads + Sync, M: Machine + Send>(
+    rt: &R,
+    alloc: Global,
+    mut world: World<M>,
+    act: Act,
+    tale: &mut Tale,
+) -> Result<World<M>, Stop>
+    requires allowed { IsAllowed act }
+    requires room { tale.old.tally.events + 100000 < 2 ^ 64 }
+    ensures run { (g : Whole M.State) → Shows g world → IsPartRun (act_part M.rules act) g tale.old tale.new result }
+    ensures count { tale.new.tally.events ≤ tale.old.tally.events + 100000 }
+{
+    match act {
+        Act::Event(event) => run_event(alloc, world, event, tale),
+        Act::Flow(events) => run_flow(rt, alloc, world, events, tale),
+        Act::Drop(frame) => {
             world.drop_frame(frame);
             Ok(world)
         }
-        Line::Mute(party) => {
+        Act::Mute(party) => {
             world.mute(party);
             Ok(world)
         }
-        Line::Unmute(party) => {
+        Act::Unmute(party) => {
             world.unmute(party);
             Ok(world)
         }
     }
-}
-
-fn run_ask<M: Machine>(
-    alloc: Global,
-    world: World<M>,
-    client: ClientId,
-    op: Op,
-    tale: &mut Tale,
-) -> Result<World<M>, Stop>
-    requires op { IsOp op }
-    requires room { tale.old.tally.events + 1 < 2 ^ 64 }
-    ensures run { (g : Whole M.State) → Shows g world → IsPartRun (event_part M.rules (events.Ask client (spelled.op_bytes op))) g tale.old tale.new result }
-    ensures count { tale.new.tally.events ≤ tale.old.tally.events + 1 }
-{
-    let op = op_bytes(alloc, &op)?;
-    run_event(alloc, world, WorldEvent::Ask { client, op }, tale)
-}
-
-fn run_spec<M: Machine>(
-    alloc: Global,
-    world: World<M>,
-    liar: Party,
-    view: View,
-    asks: Items<u64>,
-    to: Items<Party>,
-    reply: Reply,
-    tale: &mut Tale,
-) -> Result<World<M>, Stop>
-    requires history { IsHistoryTold view asks }
-    requires reply { IsReply reply }
-    requires room { tale.old.tally.events + 1 < 2 ^ 64 }
-    ensures run { (g : Whole M.State) → Shows g world → IsPartRun (event_part M.rules (events.Spec liar view asks to (spelled.reply_bytes reply))) g tale.old tale.new result }
-    ensures count { tale.new.tally.events ≤ tale.old.tally.events + 1 }
-{
-    let reply = reply_bytes(alloc, &reply)?;
-    run_event(
-        alloc,
-        world,
-        WorldEvent::Spec {
-            liar,
-            view,
-            asks,
-            to,
-            reply,
-        },
-        tale,
-    )
 }
 
 /// Delivers the least frame that a flow has left, up to so many times.
@@ -207,7 +134,7 @@ fn run_flow<R: Threads + Sync, M: Machine + Send>(
 }
 
 /// Runs one event, and tells of it.
-pub fn run_event<M: Machine>(
+fn run_event<M: Machine>(
     alloc: Global,
     world: World<M>,
     event: WorldEvent,
@@ -219,13 +146,7 @@ pub fn run_event<M: Machine>(
     ensures count { tale.new.tally.events ≤ tale.old.tally.events + 1 }
 {
     match world.step(event) {
-        Ok(
-            WorldStepped {
-                world,
-                note,
-                answer,
-            },
-        ) => told(alloc, world, &note, answer, tale),
+        Ok(WorldStepped { world, note, .. }) => told(alloc, world, &note, tale),
         Err(WorldFault::Forged(_)) => Err(Stop::Broke(Broken::Forged)),
         Err(WorldFault::Clash(_)) => Err(Stop::Broke(Broken::Clash)),
         Err(WorldFault::Want) => Err(Stop::Want),
@@ -236,13 +157,12 @@ fn told<M: Machine>(
     alloc: Global,
     world: World<M>,
     note: &Note,
-    answer: Option<Answer>,
     tale: &mut Tale,
 ) -> Result<World<M>, Stop>
     requires { tale.old.tally.events + 1 < 2 ^ 64 }
     ensures told { IsTold world note.now tale.old tale.new result }
     ensures count { tale.new.tally.events ≤ tale.old.tally.events + 1 }
 {
-    tale.add(alloc, note, answer)?;
+    tale.add(alloc, note)?;
     Ok(world)
 }

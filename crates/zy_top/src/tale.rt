@@ -8,24 +8,22 @@ ghost use Rattle.zy_world_law.specs.World.{World as Whole};
 
 use crate::tally::Tally;
 use std::alloc::Global;
-use zy_base::{Answer, Bytes, Digest, Items, Machine, ReplicaId, Want};
+use zy_base::{Bytes, Digest, Items, Machine, ReplicaId, Want};
 use zy_report::{agreed_line, refused_line, replica_line, summary_line};
 use zy_top_hosting::completion_line;
 use zy_world::{Replica, World};
 use zy_world_law::Note;
 
-/// The events in numbers, a line for each that `replay` writes of, and what was answered to the last one.
+/// The events in numbers, and a line for each that `replay` writes of.
 #[derive(Drop)]
-pub struct Tale {
-    pub tally: Tally,
-    pub text: Vec<u8>,
-    /// None where no correct party made a step by it, and where it is one of a flow.
-    pub answer: Option<Answer>,
+pub(crate) struct Tale {
+    pub(crate) tally: Tally,
+    pub(crate) text: Vec<u8>,
 }
 
 impl Tale {
     /// Nothing.
-    pub fn new(alloc: Global) -> Tale
+    pub(crate) fn new(alloc: Global) -> Tale
         ensures events { result.tally.events ≡ 0 }
         ensures fast { result.tally.fast ≡ 0 }
         ensures slow { result.tally.slow ≡ 0 }
@@ -35,26 +33,18 @@ impl Tale {
         Tale {
             tally: Tally::new(),
             text: Vec::new(alloc),
-            answer: None,
         }
     }
 
     /// One event more.
-    pub(crate) fn add(
-        &mut self,
-        alloc: Global,
-        note: &Note,
-        answer: Option<Answer>,
-    ) -> Result<(), Want>
+    pub(crate) fn add(&mut self, alloc: Global, note: &Note) -> Result<(), Want>
         requires { self.old.tally.events + 1 < 2 ^ 64 }
         ensures told { OnOk result (Adds self.old self.new (note.now ∷ [])) }
         ensures count { self.new.tally.events ≤ self.old.tally.events + 1 }
-        ensures answer { OnOk result (self.new.answer ≡ answer) }
     {
         let line = note_line(alloc, self.tally.events + 1, note)?;
         self.text.extend_from_slice(line.as_slice())?;
         self.tally = self.tally.with(note);
-        self.answer = answer;
         Ok(())
     }
 
@@ -65,14 +55,14 @@ impl Tale {
         ensures count { self.new.tally.events ≤ self.old.tally.events + length notes.now }
     {
         for note in notes.as_slice() {
-            self.add(alloc, note, None)?;
+            self.add(alloc, note)?;
         }
         Ok(())
     }
 }
 
-/// What is written of the event with this number.
-fn note_line(alloc: Global, number: u64, note: &Note) -> Result<Bytes, Want>
+/// What `replay` writes of the event with this number.
+pub fn note_line(alloc: Global, number: u64, note: &Note) -> Result<Bytes, Want>
     ensures { IfOk result (λ line. line ≡ telling.note_line number note.now) }
 {
     match note {

@@ -7,11 +7,11 @@ use zy_world_law::Note;
 
 /// How many events there were, how many of them completed a request, on a fast or on a slow path, and how many were refused.
 #[derive(Clone, Copy)]
-pub struct Tally {
-    pub events: u64,
-    pub fast: u64,
-    pub slow: u64,
-    pub refused: u64,
+pub(crate) struct Tally {
+    pub(crate) events: u64,
+    pub(crate) fast: u64,
+    pub(crate) slow: u64,
+    pub(crate) refused: u64,
     ghost counted: { fast + slow + refused ≤ events },
 }
 

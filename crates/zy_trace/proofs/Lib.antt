@@ -1,2 +1,5 @@
 pub mod Ends
-pub mod Deliveries
+pub mod Framing
+pub mod Likeness
+pub mod Steps
+pub mod Writing

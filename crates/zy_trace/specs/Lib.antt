@@ -1,2 +1,5 @@
 pub mod Words
+pub mod Frames
+pub mod Lines
+pub mod Telling
 pub mod Tracing

@@ -2,9 +2,10 @@
 //! party stands then.
 #![tactic(auto)]
 
-mod frames;
-mod names;
+mod lines;
+mod parts;
 mod run;
+mod statement;
 mod telling;
 mod tracing;
 mod words;
@@ -17,7 +18,6 @@ use zy_top_words::{Exit, ending, line_words};
 fn main(rt: HostRuntime) -> ExitCode {
     let exit = match line_words(&rt, rt.alloc()) {
         Ok(words) => run_trace(
-            &rt,
             rt.alloc(),
             &words,
             &mut RealFiles::new(&rt),

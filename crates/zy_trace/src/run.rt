@@ -1,119 +1,202 @@
-// The run of a schedule, event by event. Its parts are those of `replay`, but that a flow delivers one frame after another by
-// `World::step`, and no replicas step at once: what happened is told behind each event. By the definitions both are one run.
-ghost use Rattle.std.specs.Prelude.{◌≡◌, ◌≤◌, ◌<◌, ◌+◌, ◌*◌, ◌^◌, All, length, None};
+// The run of a schedule, event by event, with what is told of each. A flow delivers one frame after another, so that it is known what
+// every replica answered in its turn.
+ghost use Rattle.std.specs.Prelude.{◌≡◌, ◌≤◌, ◌<◌, ◌+◌, ◌*◌, ◌^◌, All, length, option_copied};
 ghost use Rattle.zy_schedule.specs.Texts.{IsSaid};
-ghost use Rattle.zy_top.specs.Replaying.{IsPartRun, IsRun, event_part};
+ghost use Rattle.zy_top.specs.Acts.{IsAllowed};
+ghost use Rattle.zy_trace.specs.Telling as traces;
+ghost use Rattle.zy_trace.specs.Tracing.{IsTraced, told_of};
+ghost use Rattle.zy_world.specs.Event.{IsEvent};
 ghost use Rattle.zy_world.specs.Shows.{Shows};
-ghost use Rattle.zy_world_law.specs.Runs as runs;
 ghost use Rattle.zy_world_law.specs.World.{World as Whole};
-ghost use Rattle.zy_world_law.specs.declared.event.WorldEvent.TheVariants.{Deliver};
 
-use crate::telling::Trace;
+use crate::telling::{Trace, receiver};
 use std::alloc::Global;
-use std::thread::Threads;
-use zy_base::Machine;
+use zy_base::{Machine, Party};
+use zy_client::Client;
 use zy_schedule::Line;
-use zy_top::{Stop, Tale, run_event, run_line};
-use zy_world::World;
+use zy_top::{Act, Stop, act_of};
+use zy_top_words::Broken;
+use zy_world::{Replica, World, WorldFault, WorldStepped};
 use zy_world_law::WorldEvent;
 
 /// Runs all lines.
-pub(crate) fn run_lines<R: Threads + Sync, M: Machine + Send>(
-    rt: &R,
+pub(crate) fn trace_lines<M: Machine>(
     alloc: Global,
     world: World<M>,
     lines: Vec<Line>,
-    tale: &mut Tale,
     trace: &mut Trace,
 ) -> Result<World<M>, Stop>
     requires said { All IsSaid lines.items }
-    requires room { tale.old.tally.events + 100000 * length lines.items < 2 ^ 64 }
-    ensures run { (g : Whole M.State) → Shows g world → IsRun (runs.run M.rules lines.items g) tale.old tale.new result }
-    ensures count { tale.new.tally.events ≤ tale.old.tally.events + 100000 * length lines.items }
+    requires room { trace.old.events + 100000 * length lines.items < 2 ^ 64 }
+    ensures traced { (g : Whole M.State) → Shows g world → IsTraced (traces.trace M.rules lines.items g (told_of trace.old)) (told_of trace.new) result }
+    ensures count { trace.new.events ≤ trace.old.events + 100000 * length lines.items }
 {
     let mut world = world;
     for line in lines {
-        world = run_whole(rt, alloc, world, line, tale, trace)?;
+        world = trace_line(alloc, world, line, trace)?;
     }
     Ok(world)
 }
 
-fn run_whole<R: Threads + Sync, M: Machine + Send>(
-    rt: &R,
+fn trace_line<M: Machine>(
     alloc: Global,
     world: World<M>,
     line: Line,
-    tale: &mut Tale,
     trace: &mut Trace,
 ) -> Result<World<M>, Stop>
     requires said { IsSaid line }
-    requires room { tale.old.tally.events + 100000 < 2 ^ 64 }
-    ensures run { (g : Whole M.State) → Shows g world → IsPartRun (runs.run_line M.rules line) g tale.old tale.new result }
-    ensures count { tale.new.tally.events ≤ tale.old.tally.events + 100000 }
+    requires room { trace.old.events + 100000 < 2 ^ 64 }
+    ensures traced { (g : Whole M.State) → Shows g world → IsTraced (traces.trace_line M.rules line g (told_of trace.old)) (told_of trace.new) result }
+    ensures count { trace.new.events ≤ trace.old.events + 100000 }
 {
-    match line {
-        Line::Flow(events) => run_flow(alloc, world, events, tale, trace),
-        line => run_told(rt, alloc, world, line, tale, trace),
+    trace.head(alloc, &world, &line)?;
+    let act = act_of(alloc, line)?;
+    trace_act(alloc, world, act, trace)
+}
+
+fn trace_act<M: Machine>(
+    alloc: Global,
+    mut world: World<M>,
+    act: Act,
+    trace: &mut Trace,
+) -> Result<World<M>, Stop>
+    requires allowed { IsAllowed act }
+    requires room { trace.old.events + 100000 < 2 ^ 64 }
+    ensures traced { (g : Whole M.State) → Shows g world → IsTraced (traces.trace_act M.rules act g (told_of trace.old)) (told_of trace.new) result }
+    ensures count { trace.new.events ≤ trace.old.events + 100000 }
+{
+    match act {
+        Act::Event(event) => trace_event(alloc, world, event, trace),
+        Act::Flow(events) => trace_flow(alloc, world, events, trace),
+        Act::Drop(frame) => {
+            world.drop_frame(frame);
+            Ok(world)
+        }
+        Act::Mute(party) => {
+            world.mute(party);
+            Ok(world)
+        }
+        Act::Unmute(party) => {
+            world.unmute(party);
+            Ok(world)
+        }
     }
 }
 
 /// Delivers the least frame that a flow has left, up to so many times.
-fn run_flow<M: Machine>(
+fn trace_flow<M: Machine>(
     alloc: Global,
     world: World<M>,
     events: u64,
-    tale: &mut Tale,
     trace: &mut Trace,
 ) -> Result<World<M>, Stop>
     requires few { events ≤ 100000 }
-    requires room { tale.old.tally.events + 100000 < 2 ^ 64 }
-    ensures run { (g : Whole M.State) → Shows g world → IsPartRun (runs.flow M.rules events) g tale.old tale.new result }
-    ensures count { tale.new.tally.events ≤ tale.old.tally.events + 100000 }
+    requires room { trace.old.events + 100000 < 2 ^ 64 }
+    ensures traced { (g : Whole M.State) → Shows g world → IsTraced (traces.trace_flow M.rules events g (told_of trace.old)) (told_of trace.new) result }
+    ensures count { trace.new.events ≤ trace.old.events + 100000 }
 {
     let mut world = world;
     for _ in 0..events {
         let Some(frame) = world.next_undelivered() else {
             return Ok(world);
         };
-        world = run_delivery(alloc, world, frame, tale, trace)?;
+        world = trace_delivery(alloc, world, frame, trace)?;
     }
     Ok(world)
 }
 
-/// Delivers a frame to whom it is addressed, and tells of it.
-fn run_delivery<M: Machine>(
+/// Delivers a frame to whom it is addressed.
+fn trace_delivery<M: Machine>(
     alloc: Global,
     world: World<M>,
     frame: u64,
-    tale: &mut Tale,
     trace: &mut Trace,
 ) -> Result<World<M>, Stop>
-    requires room { tale.old.tally.events + 1 < 2 ^ 64 }
-    ensures run { (g : Whole M.State) → Shows g world → IsPartRun (event_part M.rules (Deliver frame None)) g tale.old tale.new result }
-    ensures count { tale.new.tally.events ≤ tale.old.tally.events + 1 }
+    requires { trace.old.events + 1 < 2 ^ 64 }
+    ensures traced { (g : Whole M.State) → Shows g world → IsTraced (traces.trace_delivery M.rules frame g (told_of trace.old)) (told_of trace.new) result }
+    ensures count { trace.new.events ≤ trace.old.events + 1 }
 {
-    let ahead = trace.ahead_of_delivery(alloc, &world, frame, tale)?;
-    let world = run_event(alloc, world, WorldEvent::Deliver { frame, to: None }, tale)?;
-    trace.behind(alloc, &world, ahead, tale)?;
-    Ok(world)
+    trace.deliver(alloc, &world, frame, None)?;
+    trace_event(alloc, world, WorldEvent::Deliver { frame, to: None }, trace)
 }
 
-/// Runs a line that is no flow, and tells of its event. No thread is started: the handle is that of `replay`'s lines.
-fn run_told<R: Threads + Sync, M: Machine + Send>(
-    rt: &R,
+fn trace_event<M: Machine>(
     alloc: Global,
     world: World<M>,
-    line: Line,
-    tale: &mut Tale,
+    event: WorldEvent,
     trace: &mut Trace,
 ) -> Result<World<M>, Stop>
-    requires said { IsSaid line }
-    requires room { tale.old.tally.events + 100000 < 2 ^ 64 }
-    ensures run { (g : Whole M.State) → Shows g world → IsPartRun (runs.run_line M.rules line) g tale.old tale.new result }
-    ensures count { tale.new.tally.events ≤ tale.old.tally.events + 100000 }
+    requires event { IsEvent event }
+    requires room { trace.old.events + 1 < 2 ^ 64 }
+    ensures traced { (g : Whole M.State) → Shows g world → IsTraced (traces.trace_event M.rules event g (told_of trace.old)) (told_of trace.new) result }
+    ensures count { trace.new.events ≤ trace.old.events + 1 }
 {
-    let ahead = trace.ahead(alloc, &world, &line, tale)?;
-    let world = run_line(rt, alloc, world, line, tale)?;
-    trace.behind(alloc, &world, ahead, tale)?;
-    Ok(world)
+    let by = actor(&world, &event);
+    let leaf = next_leaf(&world, by);
+    match world.step(event) {
+        Ok(
+            WorldStepped {
+                world,
+                note,
+                answer,
+            },
+        ) => {
+            trace.follow(alloc, &world, by, leaf, &note, answer)?;
+            Ok(world)
+        }
+        Err(WorldFault::Forged(_)) => {
+            trace.cut(alloc, Broken::Forged)?;
+            Err(Stop::Broke(Broken::Forged))
+        }
+        Err(WorldFault::Clash(_)) => {
+            trace.cut(alloc, Broken::Clash)?;
+            Err(Stop::Broke(Broken::Clash))
+        }
+        Err(WorldFault::Want) => Err(Stop::Want),
+    }
+}
+
+/// Who acts by an event.
+fn actor<M: Machine>(world: &World<M>, event: &WorldEvent) -> Option<Party>
+    ensures { (g : Whole M.State) → Shows g world.now → result ≡ traces.actor g event.now }
+{
+    match event {
+        WorldEvent::Ask { client, .. } => Some(Party::Client(*client)),
+        WorldEvent::Deliver { frame, to } => receiver(*to, world.mail(*frame)),
+        WorldEvent::Timer { party, .. } => Some(*party),
+        WorldEvent::Order { liar, .. } => Some(*liar),
+        WorldEvent::Spec { liar, .. } => Some(*liar),
+        WorldEvent::Statement { liar, .. } => Some(*liar),
+        WorldEvent::Raw { .. } => None,
+        WorldEvent::Forge { .. } => None,
+    }
+}
+
+/// The next leaf of a correct party's key, else 0.
+fn next_leaf<M: Machine>(world: &World<M>, party: Option<Party>) -> u32
+    ensures { (g : Whole M.State) → Shows g world.now → result ≡ traces.next_leaf g party }
+{
+    match party {
+        Some(Party::Replica(id)) => replica_leaf(world.replica(id)),
+        Some(Party::Client(id)) => client_leaf(world.client(id)),
+        None => 0,
+    }
+}
+
+fn replica_leaf<M: Machine>(replica: Option<&Replica<M>>) -> u32
+    ensures { result ≡ traces.replica_leaf (option_copied replica.entry) }
+{
+    match replica {
+        Some(replica) => replica.key_next(),
+        None => 0,
+    }
+}
+
+fn client_leaf(client: Option<&Client>) -> u32
+    ensures { result ≡ traces.client_leaf (option_copied client.entry) }
+{
+    match client {
+        Some(client) => client.key_next(),
+        None => 0,
+    }
 }

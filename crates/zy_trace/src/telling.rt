@@ -1,467 +1,326 @@
-// The lines of a trace.
-ghost use Rattle.std.specs.Prelude.{◌<◌, ◌≤◌, ◌+◌, ◌^◌};
+// What is told of a run.
+ghost use Rattle.std.specs.Prelude.{◌≡◌, ◌++◌, [], ◌∷◌, ◌+◌, ◌-◌, ◌<◌, ◌≤◌, ◌^◌, OnOk, IfOk, codes, drop, length, option_copied, replicate};
 ghost use Rattle.zy_schedule.specs.Texts.{IsSaid};
-ghost use Rattle.zy_tuple.specs.Values.{IsOp};
+ghost use Rattle.zy_top.specs.Telling.{note_line};
+ghost use Rattle.zy_trace.specs.Frames.{statement_in};
+ghost use Rattle.zy_trace.specs.Lines as spelled;
+ghost use Rattle.zy_trace.specs.Telling as traces;
+ghost use Rattle.zy_world.specs.Shows.{Shows};
+ghost use Rattle.zy_world_law.specs.World.{World as Whole, mail_at};
 
-use crate::frames::{Signed, Spot, outer_statement};
-use crate::names::{Name, Number, kind_name, timer_name, timers_names};
+use crate::lines::{
+    leaf_behind, put_act_line, put_answer, put_ask, put_broken, put_client, put_frame_line,
+    put_replica, put_sends, put_signing, put_timer,
+};
+use crate::statement::{Statement, kind_name, statement_in};
 use std::alloc::Global;
-use zy_base::{Answer, Digest, Machine, Mode, Party, TimerKind, Want};
-use zy_client::Client;
-use zy_replica::Replica;
+use zy_base::{Answer, Machine, Party, Want};
 use zy_schedule::Line;
-use zy_top::Tale;
+use zy_top::note_line;
 use zy_top_words::Broken;
-use zy_tuple::{Op, op_text};
-use zy_world::World;
+use zy_world::{Mail, World};
+use zy_world_law::Note;
 
-/// What is told of a run, and who sent each frame so far.
+/// What is told so far, of how many events, and who sent each frame.
 #[derive(Drop)]
 pub(crate) struct Trace {
     pub(crate) text: Vec<u8>,
-    senders: Vec<Option<Party>>,
-}
-
-/// What was seen before an event.
-#[derive(Clone, Copy)]
-pub(crate) struct Ahead {
-    /// The number that the event has, if the line is one.
-    number: u64,
-    /// Who acts by it.
-    by: Option<Party>,
-    /// How many frames were sent.
-    sent: u64,
-    /// The next leaf of its key; 0 of a liar, whose leaf the world doesn't tell.
-    leaf: u32,
-    /// How long the report was.
-    told: usize,
+    pub(crate) events: u64,
+    pub(crate) senders: Vec<Option<Party>>,
 }
 
 impl Trace {
     /// Nothing.
-    pub(crate) fn new(alloc: Global) -> Trace {
+    pub(crate) fn new(alloc: Global) -> Trace
+        ensures text { result.text.items ≡ [] }
+        ensures events { result.events ≡ 0 }
+        ensures senders { result.senders.items ≡ [] }
+    {
         Trace {
             text: Vec::new(alloc),
+            events: 0,
             senders: Vec::new(alloc),
         }
     }
 
-    /// Tells what is to happen.
-    pub(crate) fn ahead<M: Machine>(
+    /// A line of the schedule comes.
+    pub(crate) fn head<M: Machine>(
         &mut self,
         alloc: Global,
         world: &World<M>,
-        line: &Line,
-        tale: &Tale,
-    ) -> Result<Ahead, Want>
-        requires said { IsSaid line.now }
-        requires room { tale.now.tally.events + 1 < 2 ^ 64 }
-    {
-        let number = tale.tally.events + 1;
-        self.put_line(alloc, world, number, line)?;
-        Ok(seen(world, actor(world, line), tale))
-    }
-
-    /// Tells that a frame reaches whom it is addressed to.
-    pub(crate) fn ahead_of_delivery<M: Machine>(
-        &mut self,
-        alloc: Global,
-        world: &World<M>,
-        frame: u64,
-        tale: &Tale,
-    ) -> Result<Ahead, Want>
-        requires { tale.now.tally.events + 1 < 2 ^ 64 }
-    {
-        let number = tale.tally.events + 1;
-        self.put_delivery(alloc, world, number, frame, None)?;
-        Ok(seen(world, Met::of(world, frame).to, tale))
-    }
-
-    /// Tells what came of it, if it was an event: the answer, what the report has of it, the frames that were sent with the
-    /// statements that were signed for them, and where the party stands.
-    pub(crate) fn behind<M: Machine>(
-        &mut self,
-        alloc: Global,
-        world: &World<M>,
-        ahead: Ahead,
-        tale: &Tale,
-    ) -> Result<(), Want> {
-        if tale.tally.events < ahead.number {
-            return Ok(());
-        }
-        self.put_answer(alloc, ahead, tale.answer)?;
-        let told = ahead.told.min(tale.text.len());
-        self.text.extend_from_slice(&tale.text[told..])?;
-        self.put_frames(alloc, world, ahead)?;
-        self.put_stand(alloc, world, ahead, tale.answer)
-    }
-
-    /// Tells that the event with this number isn't honest.
-    pub(crate) fn broke(&mut self, alloc: Global, number: u64, what: Broken) -> Result<(), Want> {
-        match what {
-            Broken::Forged => self.put(format!(in alloc; "{number} forged\n")?),
-            Broken::Clash => self.put(format!(in alloc; "{number} clash\n")?),
-        }
-    }
-
-    fn put(&mut self, line: String) -> Result<(), Want> {
-        self.text.extend_from_slice(line.as_bytes())?;
-        Ok(())
-    }
-
-    fn put_line<M: Machine>(
-        &mut self,
-        alloc: Global,
-        world: &World<M>,
-        number: u64,
         line: &Line,
     ) -> Result<(), Want>
         requires said { IsSaid line.now }
-        requires some { 1 ≤ number }
+        requires room { self.old.events + 1 < 2 ^ 64 }
+        ensures text { (g : Whole M.State) → Shows g world.now → OnOk result (self.new.text.items ≡ self.old.text.items ++ traces.head_line g self.old.senders.items self.old.events line.now) }
+        ensures events { self.new.events ≡ self.old.events }
+        ensures senders { self.new.senders.items ≡ self.old.senders.items }
     {
+        let before = self.events;
+        let number = before + 1;
         match line {
-            Line::Ask { client, op } => self.put_ask(alloc, number, Party::Client(*client), op),
-            Line::Deliver { frame, to } => self.put_delivery(alloc, world, number, *frame, *to),
-            Line::Timer { party, kind } => self.put_timer(alloc, number, *party, *kind),
-            Line::Order { liar, .. } => self.put_act(alloc, number, "order", Some(*liar)),
-            Line::Spec { liar, .. } => self.put_act(alloc, number, "spec", Some(*liar)),
-            Line::Statement { liar, .. } => self.put_act(alloc, number, "statement", Some(*liar)),
-            Line::Raw { .. } => self.put_act(alloc, number, "raw", None),
-            Line::Forge { party, .. } => self.put_act(alloc, number, "forge", Some(*party)),
-            Line::Drop(frame) => self.put_drop(alloc, world, number - 1, *frame),
-            Line::Mute(party) => self.put_act(alloc, number - 1, "mute", Some(*party)),
-            Line::Unmute(party) => self.put_act(alloc, number - 1, "unmute", Some(*party)),
+            Line::Ask { client, op } => put_ask(alloc, &mut self.text, number, *client, op),
+            Line::Deliver { frame, to } => self.deliver(alloc, world, *frame, *to),
+            Line::Timer { party, kind } => {
+                put_timer(alloc, &mut self.text, number, *party, *kind)
+            }
+            Line::Order { liar, .. } => self.act(alloc, number, b" order ", Some(*liar)),
+            Line::Spec { liar, .. } => self.act(alloc, number, b" spec ", Some(*liar)),
+            Line::Statement { liar, .. } => self.act(alloc, number, b" statement ", Some(*liar)),
+            Line::Raw { .. } => self.act(alloc, number, b" raw ", None),
+            Line::Forge { party, .. } => self.act(alloc, number, b" forge ", Some(*party)),
             Line::Flow(_) => Ok(()),
+            Line::Drop(frame) => self.moved(alloc, world, before, b" drop ", *frame, None),
+            Line::Mute(party) => self.act(alloc, before, b" mute ", Some(*party)),
+            Line::Unmute(party) => self.act(alloc, before, b" unmute ", Some(*party)),
         }
     }
 
-    /// An act with whose it is.
-    fn put_act(
+    fn act(
         &mut self,
         alloc: Global,
         number: u64,
-        act: &str,
+        act: &[u8],
         party: Option<Party>,
-    ) -> Result<(), Want> {
-        let name = Name(party);
-        self.put(format!(in alloc; "{number} {act} {name}\n")?)
-    }
-
-    fn put_ask(&mut self, alloc: Global, number: u64, by: Party, op: &Op) -> Result<(), Want>
-        requires { IsOp op.now }
+    ) -> Result<(), Want>
+        ensures text { OnOk result (self.new.text.items ≡ self.old.text.items ++ spelled.act_line number act.now party) }
+        ensures events { self.new.events ≡ self.old.events }
+        ensures senders { self.new.senders.items ≡ self.old.senders.items }
     {
-        let text = op_text(alloc, op)?;
-        let name = Name(Some(by));
-        self.put(format!(in alloc; "{number} ask {name} ")?)?;
-        self.text.extend_from_slice(text.as_slice())?;
-        self.text.push(b'\n')?;
-        Ok(())
+        put_act_line(alloc, &mut self.text, number, act, party)
     }
 
-    fn put_timer(
-        &mut self,
-        alloc: Global,
-        number: u64,
-        party: Party,
-        kind: TimerKind,
-    ) -> Result<(), Want> {
-        let name = Name(Some(party));
-        let kind = timer_name(kind);
-        self.put(format!(in alloc; "{number} timer {name} {kind}\n")?)
-    }
-
-    fn put_delivery<M: Machine>(
+    /// A frame is delivered to the named party, or to whom it is addressed.
+    pub(crate) fn deliver<M: Machine>(
         &mut self,
         alloc: Global,
         world: &World<M>,
-        number: u64,
         frame: u64,
         to: Option<Party>,
-    ) -> Result<(), Want> {
-        let from = Name(self.sender(frame));
-        let met = Met::of(world, frame);
-        let to = Name(either(to, met.to));
-        let kind = met.kind;
-        self.put(format!(in alloc; "{number} deliver {frame} {kind} {from} {to}\n")?)
+    ) -> Result<(), Want>
+        requires { self.old.events + 1 < 2 ^ 64 }
+        ensures text { (g : Whole M.State) → Shows g world.now → OnOk result (self.new.text.items ≡
+            self.old.text.items ++ traces.moved_line (self.old.events + 1) (codes " deliver ") frame (traces.sender_in self.old.senders.items frame) to (mail_at g frame)) }
+        ensures events { self.new.events ≡ self.old.events }
+        ensures senders { self.new.senders.items ≡ self.old.senders.items }
+    {
+        let number = self.events + 1;
+        self.moved(alloc, world, number, b" deliver ", frame, to)
     }
 
-    fn put_drop<M: Machine>(
+    /// What becomes of the frame of this number, which goes to the named party, or to whom it is addressed.
+    fn moved<M: Machine>(
         &mut self,
         alloc: Global,
         world: &World<M>,
         number: u64,
+        act: &[u8],
         frame: u64,
-    ) -> Result<(), Want> {
-        let from = Name(self.sender(frame));
-        let met = Met::of(world, frame);
-        let to = Name(met.to);
-        let kind = met.kind;
-        self.put(format!(in alloc; "{number} drop {frame} {kind} {from} {to}\n")?)
+        to: Option<Party>,
+    ) -> Result<(), Want>
+        ensures text { (g : Whole M.State) → Shows g world.now → OnOk result (self.new.text.items ≡
+            self.old.text.items ++ traces.moved_line number act.now frame (traces.sender_in self.old.senders.items frame) to (mail_at g frame)) }
+        ensures events { self.new.events ≡ self.old.events }
+        ensures senders { self.new.senders.items ≡ self.old.senders.items }
+    {
+        let from = sender_in(self.senders.as_slice(), frame);
+        let mail = world.mail(frame);
+        let kind = kind_of(mail);
+        let to = receiver(to, mail);
+        put_frame_line(alloc, &mut self.text, number, act, frame, kind, from, to)
     }
 
-    /// Who sent the frame of this number. Nobody where there is no such frame, or its bytes were put in as they are.
-    fn sender(&self, frame: u64) -> Option<Party> {
-        if frame == 0 {
-            return None;
-        }
-        match self.senders.get((frame - 1) as usize) {
-            Some(sender) => *sender,
-            None => None,
-        }
-    }
-
-    /// What was answered; a refusal stands in the report.
-    fn put_answer(
-        &mut self,
-        alloc: Global,
-        ahead: Ahead,
-        answer: Option<Answer>,
-    ) -> Result<(), Want> {
-        match answer {
-            Some(Answer::Taken) => self.put_act(alloc, ahead.number, "taken", ahead.by),
-            Some(Answer::Held) => self.put_act(alloc, ahead.number, "held", ahead.by),
-            Some(Answer::Refused(_)) => Ok(()),
-            None => Ok(()),
-        }
-    }
-
-    fn put_frames<M: Machine>(
+    /// An event led to this world, by which this party acted, whose next leaf was this one.
+    pub(crate) fn follow<M: Machine>(
         &mut self,
         alloc: Global,
         world: &World<M>,
-        ahead: Ahead,
-    ) -> Result<(), Want> {
-        let mut leaf = ahead.leaf;
-        for before in ahead.sent..world.sent() {
-            leaf = self.put_frame(alloc, world, ahead, before + 1, leaf)?;
-        }
+        by: Option<Party>,
+        leaf: u32,
+        note: &Note,
+        answer: Option<Answer>,
+    ) -> Result<(), Want>
+        requires { self.old.events + 1 < 2 ^ 64 }
+        ensures text { (g : Whole M.State) → Shows g world.now → OnOk result (self.new.text.items ≡
+            self.old.text.items ++ traces.event_lines M.rules g (self.old.events + 1) by leaf (length self.old.senders.items) note.now answer) }
+        ensures events { OnOk result (self.new.events ≡ self.old.events + 1) }
+        ensures senders { (g : Whole M.State) → Shows g world.now → OnOk result (self.new.senders.items ≡
+            self.old.senders.items ++ replicate (length g.bag - length self.old.senders.items) by) }
+        ensures count { self.new.events ≤ self.old.events + 1 }
+    {
+        let number = self.events + 1;
+        let known = self.senders.len();
+        put_answer(alloc, &mut self.text, number, by, answer)?;
+        put_note(alloc, &mut self.text, number, note)?;
+        put_frames(alloc, &mut self.text, world, number, by, leaf, known as u64)?;
+        put_stand(alloc, &mut self.text, world, number, by, answer)?;
+        fill(&mut self.senders, world.sent() as usize, by)?;
+        self.events = number;
         Ok(())
     }
 
-    /// Tells of a frame that was sent, and before it of the statement that was signed for it by a leaf from this one on. Gives the
-    /// leaf behind it.
-    fn put_frame<M: Machine>(
-        &mut self,
-        alloc: Global,
-        world: &World<M>,
-        ahead: Ahead,
-        frame: u64,
-        leaf: u32,
-    ) -> Result<u32, Want> {
-        let Some(mail) = world.mail(frame) else {
-            return Ok(leaf);
-        };
-        let bytes = mail.bytes.as_slice();
-        let sent = Sent {
-            frame,
-            kind: kind_name(bytes),
-            to: mail.to,
-        };
-        match outer_statement(alloc, bytes)? {
-            Some(signed) => {
-                let leaf = self.put_signed(alloc, ahead, signed, leaf)?;
-                self.put_sent(alloc, ahead, sent, signed.spot)?;
-                Ok(leaf)
-            }
-            None => {
-                self.put_sent(alloc, ahead, sent, Spot::NOWHERE)?;
-                Ok(leaf)
-            }
-        }
-    }
-
-    fn put_signed(
-        &mut self,
-        alloc: Global,
-        ahead: Ahead,
-        signed: Signed,
-        leaf: u32,
-    ) -> Result<u32, Want> {
-        if ahead.by != Some(signed.by) || signed.leaf < leaf {
-            return Ok(leaf);
-        }
-        let number = ahead.number;
-        let by = Name(ahead.by);
-        let spent = signed.leaf;
-        let name = signed.name;
-        self.put(format!(in alloc; "{number} signs {by} {spent} {name}\n")?)?;
-        Ok(spent.saturating_add(1))
-    }
-
-    fn put_sent(
-        &mut self,
-        alloc: Global,
-        ahead: Ahead,
-        sent: Sent,
-        spot: Spot,
-    ) -> Result<(), Want> {
-        let number = ahead.number;
-        let from = Name(ahead.by);
-        let Sent { frame, kind, to } = sent;
-        let to = Name(Some(to));
-        let view = Number(spot.view);
-        let place = Number(spot.place);
-        self.put(format!(in alloc;
-            "{number} sends {from} {frame} {kind} {to} view {view} place {place}\n"
-        )?)?;
-        self.senders.push(ahead.by)?;
-        Ok(())
-    }
-
-    /// Where the party stands that took or held what came.
-    fn put_stand<M: Machine>(
-        &mut self,
-        alloc: Global,
-        world: &World<M>,
-        ahead: Ahead,
-        answer: Option<Answer>,
-    ) -> Result<(), Want> {
-        match answer {
-            Some(Answer::Taken | Answer::Held) => self.put_party(alloc, world, ahead),
-            Some(Answer::Refused(_)) => Ok(()),
-            None => Ok(()),
-        }
-    }
-
-    fn put_party<M: Machine>(
-        &mut self,
-        alloc: Global,
-        world: &World<M>,
-        ahead: Ahead,
-    ) -> Result<(), Want> {
-        match ahead.by {
-            Some(Party::Replica(id)) => match world.replica(id) {
-                Some(replica) => self.put_replica(alloc, ahead, replica),
-                None => Ok(()),
-            },
-            Some(Party::Client(id)) => match world.client(id) {
-                Some(client) => self.put_client(alloc, ahead, client),
-                None => Ok(()),
-            },
-            None => Ok(()),
-        }
-    }
-
-    fn put_replica<M: Machine>(
-        &mut self,
-        alloc: Global,
-        ahead: Ahead,
-        replica: &Replica<M>,
-    ) -> Result<(), Want> {
-        let number = ahead.number;
-        let name = Name(ahead.by);
-        let stood = replica.stood();
-        let mode = mode_name(stood.mode);
-        let view = stood.mode.view().0;
-        let length = stood.length.0;
-        let Digest(head) = stood.head;
-        let head = hex::encode(alloc, &head)?;
-        let stable = replica.stable().1.0;
-        let leaf = replica.key_next();
-        let timers = timers_names(replica.timers());
-        self.put(format!(in alloc;
-            "{number} stands {name} {mode} {view} length {length} head {head} stable {stable} leaf {leaf} timers {timers}\n"
-        )?)
-    }
-
-    fn put_client(&mut self, alloc: Global, ahead: Ahead, client: &Client) -> Result<(), Want> {
-        let number = ahead.number;
-        let name = Name(ahead.by);
-        let mode = match client.waiting() {
-            Some(_) => "waiting",
-            None => "idle",
-        };
-        let stamp = client.stamp().0;
-        let leaf = client.key_next();
-        let timers = timers_names(client.timers());
-        self.put(format!(in alloc;
-            "{number} stands {name} {mode} {stamp} leaf {leaf} timers {timers}\n"
-        )?)
+    /// The next event isn't honest.
+    pub(crate) fn cut(&mut self, alloc: Global, what: Broken) -> Result<(), Want>
+        requires { self.old.events + 1 < 2 ^ 64 }
+        ensures text { OnOk result (self.new.text.items ≡ self.old.text.items ++ spelled.broken_line (self.old.events + 1) what) }
+        ensures events { self.new.events ≡ self.old.events }
+        ensures senders { self.new.senders.items ≡ self.old.senders.items }
+    {
+        let number = self.events + 1;
+        put_broken(alloc, &mut self.text, number, what)
     }
 }
 
-/// What is seen before an event by which this party acts.
-fn seen<M: Machine>(world: &World<M>, by: Option<Party>, tale: &Tale) -> Ahead
-    requires { tale.now.tally.events + 1 < 2 ^ 64 }
+/// Puts the party in for each frame behind those that are known, so that there are so many.
+fn fill(senders: &mut Vec<Option<Party>>, frames: usize, by: Option<Party>) -> Result<(), Want>
+    ensures { OnOk result (senders.new.items ≡ senders.old.items ++ replicate (frames - length senders.old.items) by) }
 {
-    Ahead {
-        number: tale.tally.events + 1,
-        by,
-        sent: world.sent(),
-        leaf: next_leaf(world, by),
-        told: tale.text.len(),
+    let known = senders.len();
+    if frames <= known {
+        return Ok(());
+    }
+    senders.resize(frames, by)?;
+    Ok(())
+}
+
+/// Of those who sent the frames, in order, the one of this number.
+fn sender_in(senders: &[Option<Party>], frame: u64) -> Option<Party>
+    ensures { result ≡ traces.sender_in senders.now frame }
+{
+    if frame == 0 {
+        return None;
+    }
+    match senders.get((frame - 1) as usize) {
+        Some(sender) => *sender,
+        None => None,
     }
 }
 
-/// A frame that was sent.
-#[derive(Clone, Copy)]
-struct Sent {
-    frame: u64,
-    kind: &'static str,
-    to: Party,
-}
-
-/// A frame as it is met: whom it is addressed to, and its kind.
-#[derive(Clone, Copy)]
-struct Met {
-    to: Option<Party>,
-    kind: &'static str,
-}
-
-impl Met {
-    fn of<M: Machine>(world: &World<M>, frame: u64) -> Met {
-        match world.mail(frame) {
-            Some(mail) => Met {
-                to: Some(mail.to),
-                kind: kind_name(mail.bytes.as_slice()),
-            },
-            None => Met {
-                to: None,
-                kind: "-",
-            },
-        }
-    }
-}
-
-fn mode_name(mode: Mode) -> &'static str {
-    match mode {
-        Mode::Active(_) => "active",
-        Mode::Leaving(_) => "leaving",
-    }
-}
-
-/// Who acts by a line.
-fn actor<M: Machine>(world: &World<M>, line: &Line) -> Option<Party> {
-    match line {
-        Line::Ask { client, .. } => Some(Party::Client(*client)),
-        Line::Deliver { frame, to } => either(*to, Met::of(world, *frame).to),
-        Line::Timer { party, .. } => Some(*party),
-        Line::Order { liar, .. } => Some(*liar),
-        Line::Spec { liar, .. } => Some(*liar),
-        Line::Statement { liar, .. } => Some(*liar),
-        _ => None,
-    }
-}
-
-/// The next leaf of a correct party's key, else 0.
-fn next_leaf<M: Machine>(world: &World<M>, party: Option<Party>) -> u32 {
-    match party {
-        Some(Party::Replica(id)) => match world.replica(id) {
-            Some(replica) => replica.key_next(),
-            None => 0,
-        },
-        Some(Party::Client(id)) => match world.client(id) {
-            Some(client) => client.key_next(),
-            None => 0,
-        },
-        None => 0,
+/// The kind of a frame, or a dash where there is none.
+fn kind_of(mail: Option<&Mail>) -> &'static str
+    ensures { result.now ≡ traces.kind_of (option_copied mail.entry) }
+{
+    match mail {
+        Some(mail) => kind_name(mail.bytes.as_slice()),
+        None => "-",
     }
 }
 
 /// The named party, or the one that a frame is addressed to.
-fn either(named: Option<Party>, to: Option<Party>) -> Option<Party> {
-    match named {
-        Some(party) => Some(party),
+pub(crate) fn receiver(to: Option<Party>, mail: Option<&Mail>) -> Option<Party>
+    ensures { result ≡ traces.receiver to (option_copied mail.entry) }
+{
+    match mail {
+        Some(mail) => Some(to.unwrap_or(mail.to)),
         None => to,
+    }
+}
+
+/// What the report has of an event.
+fn put_note(alloc: Global, out: &mut Vec<u8>, number: u64, note: &Note) -> Result<(), Want>
+    ensures { OnOk result (out.new.items ≡ out.old.items ++ note_line number note.now) }
+{
+    let line = note_line(alloc, number, note)?;
+    out.extend_from_slice(line.as_slice())?;
+    Ok(())
+}
+
+/// The frames behind so many, with the statements that were signed for them by leaves from this one on.
+fn put_frames<M: Machine>(
+    alloc: Global,
+    out: &mut Vec<u8>,
+    world: &World<M>,
+    number: u64,
+    by: Option<Party>,
+    leaf: u32,
+    sent: u64,
+) -> Result<(), Want>
+    ensures { (g : Whole M.State) → Shows g world.now → OnOk result (out.new.items ≡ out.old.items ++ traces.frames_lines number by leaf (sent + 1) (drop sent g.bag)) }
+{
+    let mut next = u64::from(leaf);
+    for before in sent..world.sent() {
+        let Some(mail) = world.mail(before + 1) else {
+            return Ok(());
+        };
+        next = put_frame(alloc, out, number, by, next, before + 1, mail)?;
+    }
+    Ok(())
+}
+
+/// A frame that was sent, behind a statement that was signed for it by a leaf from this one on. Gives the next leaf that wasn't told.
+fn put_frame(
+    alloc: Global,
+    out: &mut Vec<u8>,
+    number: u64,
+    by: Option<Party>,
+    leaf: u64,
+    frame: u64,
+    mail: &Mail,
+) -> Result<u64, Want>
+    ensures text { OnOk result (out.new.items ≡ out.old.items ++ traces.sent_lines number by leaf frame mail.now (statement_in mail.now.bytes)) }
+    ensures leaf { IfOk result (λ next. next ≡ traces.leaf_after by leaf (statement_in mail.now.bytes)) }
+{
+    match statement_in(alloc, mail.bytes.as_slice())? {
+        Some(statement) => put_stated(alloc, out, number, by, leaf, frame, mail, statement),
+        None => {
+            let kind = kind_name(mail.bytes.as_slice());
+            put_sends(alloc, out, number, by, frame, kind, mail.to, None, None)?;
+            Ok(leaf)
+        }
+    }
+}
+
+fn put_stated(
+    alloc: Global,
+    out: &mut Vec<u8>,
+    number: u64,
+    by: Option<Party>,
+    leaf: u64,
+    frame: u64,
+    mail: &Mail,
+    statement: Statement,
+) -> Result<u64, Want>
+    ensures text { OnOk result (out.new.items ≡ out.old.items ++ traces.stated_lines number by leaf frame mail.now statement) }
+    ensures leaf { IfOk result (λ next. next ≡ spelled.leaf_behind by leaf statement) }
+{
+    let kind = kind_name(mail.bytes.as_slice());
+    let Statement { view, place, .. } = statement;
+    put_signing(alloc, out, number, by, leaf, statement)?;
+    put_sends(alloc, out, number, by, frame, kind, mail.to, view, place)?;
+    Ok(leaf_behind(by, leaf, statement))
+}
+
+/// Where the party stands that took or held what came.
+fn put_stand<M: Machine>(
+    alloc: Global,
+    out: &mut Vec<u8>,
+    world: &World<M>,
+    number: u64,
+    by: Option<Party>,
+    answer: Option<Answer>,
+) -> Result<(), Want>
+    ensures { (g : Whole M.State) → Shows g world.now → OnOk result (out.new.items ≡ out.old.items ++ traces.stand_line M.rules g number by answer) }
+{
+    match answer {
+        Some(Answer::Taken) => put_party(alloc, out, world, number, by),
+        Some(Answer::Held) => put_party(alloc, out, world, number, by),
+        Some(Answer::Refused(_)) => Ok(()),
+        None => Ok(()),
+    }
+}
+
+fn put_party<M: Machine>(
+    alloc: Global,
+    out: &mut Vec<u8>,
+    world: &World<M>,
+    number: u64,
+    by: Option<Party>,
+) -> Result<(), Want>
+    ensures { (g : Whole M.State) → Shows g world.now → OnOk result (out.new.items ≡ out.old.items ++ traces.party_line M.rules g number by) }
+{
+    match by {
+        Some(Party::Replica(id)) => put_replica(alloc, out, number, by, world.replica(id)),
+        Some(Party::Client(id)) => put_client(alloc, out, number, by, world.client(id)),
+        None => Ok(()),
     }
 }

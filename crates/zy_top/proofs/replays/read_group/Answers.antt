@@ -1,6 +1,6 @@
 use Rattle.std.proofs.lemmas.Result.{err_from_is_err_and}
 use Rattle.zy_edge.specs.Files.{Held, content_of}
-use Rattle.zy_top.proofs.JudgeLaws.{group_read, group_unread, setup_reads, setup_starts}
+use Rattle.zy_top.proofs.JudgeLaws.{group_read, group_unread, setup_reads, setup_spelled, setup_starts}
 use Rattle.zy_top.proofs.replays.read_group.Goals as goal
 
 pub returns-in_err-text-clause-told : goal.returns-in_err-text-clause-told
@@ -11,6 +11,11 @@ returns-in_err-text-clause-told g c =
 pub returns-clause-told : goal.returns-clause-told
 returns-clause-told g c =
     group_read {A = Held} (g.F.Files.held c.args.files.now) (λ held. content_of held c.args.group.now) c.in_ok-text.text c.read_setup.result c.in_ok-text.ensures.bytes
+    (rw c.deref.ensures.value at c.read_setup.ensures)
+
+pub returns-clause-spelled : goal.returns-clause-spelled
+returns-clause-spelled g c =
+    setup_spelled {A = Held} (g.F.Files.held c.args.files.now) (λ held. content_of held c.args.group.now) c.in_ok-text.text c.read_setup.result c.in_ok-text.ensures.bytes
     (rw c.deref.ensures.value at c.read_setup.ensures)
 
 pub returns-clause-start : goal.returns-clause-start

@@ -1,7 +1,7 @@
 use Rattle.std.proofs.Common.{arith}
 use Rattle.std.proofs.lemmas.Result.{err_from_is_err_and}
 use Rattle.zy_edge.specs.Files.{Held, content_of}
-use Rattle.zy_top.proofs.JudgeLaws.{schedule_read, schedule_unread}
+use Rattle.zy_top.proofs.JudgeLaws.{schedule_read, schedule_spelled, schedule_unread}
 use Rattle.zy_top.proofs.SaidLaws.{schedule_few}
 use Rattle.zy_top.proofs.replays.read_lines.Goals as goal
 
@@ -13,6 +13,11 @@ returns-in_err-text-clause-told g c =
 pub returns-clause-told : goal.returns-clause-told
 returns-clause-told g c =
     schedule_read {A = Held} (g.F.Files.held c.args.files.now) (λ held. content_of held c.args.schedule.now) c.in_ok-text.text c.in_ok-read_schedule.field-0 c.in_ok-text.ensures.bytes
+    (rw c.deref.ensures.value at c.in_ok-read_schedule.ensures.exact)
+
+pub returns-clause-spelled : goal.returns-clause-spelled
+returns-clause-spelled g c =
+    schedule_spelled {A = Held} (g.F.Files.held c.args.files.now) (λ held. content_of held c.args.schedule.now) c.in_ok-text.text c.in_ok-read_schedule.field-0 c.in_ok-text.ensures.bytes
     (rw c.deref.ensures.value at c.in_ok-read_schedule.ensures.exact)
 
 pub returns-clause-few : goal.returns-clause-few

@@ -1,0 +1,127 @@
+-- The lines of a trace. Each ends with a line feed (10), and begins with the number of its event; a dash stands where there is nothing
+-- to name.
+use Rattle.std.specs.Prelude.{ℕ, ◌+◌, nat_le, ◌&&◌, Bool, false, if◌then◌else◌, List, [], ◌∷◌, ◌++◌, codes, Option, Some, None, option_map}
+use Rattle.std.specs.Fmt.{decimal}
+use Rattle.hex.specs.Hex.{encode_lower}
+use Rattle.zy_base.specs.Machine.{Rules}
+use Rattle.zy_base.specs.Step.{view_of}
+use Rattle.zy_base.specs.declared.ids.ClientId.{ClientId}
+use Rattle.zy_base.specs.declared.ids.Party.{Party}
+use Rattle.zy_base.specs.declared.ids.Party.TheVariants as parties
+use Rattle.zy_base.specs.declared.ids.Stamp.{Stamp}
+use Rattle.zy_base.specs.declared.step.Answer.{Answer}
+use Rattle.zy_base.specs.declared.step.Answer.TheVariants.{Taken, Held, Refused}
+use Rattle.zy_base.specs.declared.step.TimerKind.{TimerKind}
+use Rattle.zy_base.specs.declared.step.Timers.{Timers}
+use Rattle.zy_report.specs.Lines.{mode_text}
+use Rattle.zy_schedule.specs.Texts.{kind_text}
+use Rattle.zy_table.specs.ClientState as clients
+use Rattle.zy_table.specs.ClientState.{ClientState}
+use Rattle.zy_table.specs.State.{State, stood_of, timers_of}
+use Rattle.zy_top_words.specs.declared.exit.Broken.{Broken}
+use Rattle.zy_top_words.specs.declared.exit.Broken.TheVariants as broken
+use Rattle.zy_trace.specs.Frames.{saying_name}
+use Rattle.zy_trace.specs.declared.statement.Statement.{Statement}
+use Rattle.zy_tuple.specs.Parties.{party_text}
+use Rattle.zy_tuple.specs.Texts.{op_text}
+use Rattle.zy_tuple.specs.declared.values.Op.{Op}
+use Rattle.zy_world_law.specs.World.{same_party}
+
+abbrev pub name_text : Option Party → List ℕ
+name_text None = codes "-"
+name_text (Some party) = party_text party
+
+abbrev pub number_text : Option ℕ → List ℕ
+number_text None = codes "-"
+number_text (Some number) = decimal number
+
+-- an act, and whose it is
+abbrev pub act_front : ℕ → List ℕ → Option Party → List ℕ
+act_front number act party = decimal number ++ act ++ name_text party
+
+abbrev pub act_line : ℕ → List ℕ → Option Party → List ℕ
+act_line number act party = act_front number act party ++ 10 ∷ []
+
+-- ---- before an event
+
+-- a client is to ask for this
+abbrev pub ask_line : ℕ → ClientId → Op → List ℕ
+ask_line number client op = act_front number (codes " ask ") (Some (parties.Client client)) ++ 32 ∷ op_text op ++ 10 ∷ []
+
+abbrev pub timer_line : ℕ → Party → TimerKind → List ℕ
+timer_line number party kind = act_front number (codes " timer ") (Some party) ++ 32 ∷ kind_text kind ++ 10 ∷ []
+
+-- what becomes of a frame: its number and kind, who sent it and whom it reaches
+abbrev pub frame_line : ℕ → List ℕ → ℕ → List ℕ → Option Party → Option Party → List ℕ
+frame_line number act frame kind from to =
+    decimal number ++ act ++ decimal frame ++ 32 ∷ kind ++ 32 ∷ name_text from ++ 32 ∷ name_text to ++ 10 ∷ []
+
+-- ---- behind it
+
+-- what the party answers; a refusal stands in the report
+abbrev pub answer_line : ℕ → Option Party → Option Answer → List ℕ
+answer_line number by None = []
+answer_line number by (Some Taken) = act_line number (codes " taken ") by
+answer_line number by (Some Held) = act_line number (codes " held ") by
+answer_line number by (Some (Refused cause)) = []
+
+-- a statement is told as signed where the party signed it, by a leaf from this one on
+abbrev pub is_signed_by : Option Party → ℕ → Statement → Bool
+is_signed_by None leaf statement = false
+is_signed_by (Some party) leaf statement = same_party party statement.by && nat_le leaf statement.leaf
+
+abbrev pub signs_line : ℕ → Option Party → Statement → List ℕ
+signs_line number by statement =
+    act_front number (codes " signs ") by ++ 32 ∷ decimal statement.leaf ++ 32 ∷ saying_name statement.saying ++ 10 ∷ []
+
+abbrev pub signing_line : ℕ → Option Party → ℕ → Statement → List ℕ
+signing_line number by leaf statement = if is_signed_by by leaf statement then signs_line number by statement else []
+
+-- and then the leaves from the next one on
+abbrev pub leaf_behind : Option Party → ℕ → Statement → ℕ
+leaf_behind by leaf statement = if is_signed_by by leaf statement then statement.leaf + 1 else leaf
+
+-- a frame that the party sent, with the view and the place of its first statement
+abbrev pub sends_line : ℕ → Option Party → ℕ → List ℕ → Party → Option ℕ → Option ℕ → List ℕ
+sends_line number by frame kind to view place =
+    act_front number (codes " sends ") by ++ 32 ∷ decimal frame ++ 32 ∷ kind ++ 32 ∷ party_text to
+    ++ codes " view " ++ number_text view ++ codes " place " ++ number_text place ++ 10 ∷ []
+
+-- ---- where a party stands
+
+abbrev pub timers_text : Timers → List ℕ
+timers_text timers =
+    if timers.request then (if timers.change then codes "request,change" else codes "request")
+    else (if timers.change then codes "change" else (if timers.answer then codes "answer" else codes "-"))
+
+-- the next leaf of its key, and the timers that are to run
+abbrev pub ready_text : ℕ → Timers → List ℕ
+ready_text leaf timers = codes " leaf " ++ decimal leaf ++ codes " timers " ++ timers_text timers ++ 10 ∷ []
+
+-- a replica: its mode and view, its history, its stable place
+abbrev pub replica_stands : {S : Type 0} → Rules S → ℕ → Option Party → Option (State S) → List ℕ
+replica_stands R number by None = []
+replica_stands R number by (Some s) =
+    act_front number (codes " stands ") by ++ mode_text (stood_of R s).mode ++ decimal (view_of (stood_of R s).mode).0
+    ++ codes " length " ++ decimal (stood_of R s).length.0
+    ++ codes " head " ++ encode_lower (stood_of R s).head.0
+    ++ codes " stable " ++ decimal s.board.stable.place.0
+    ++ ready_text s.sealer.key.next (timers_of s)
+
+-- the request that waits is told by its stamp
+abbrev pub waiting_text : Option Stamp → List ℕ
+waiting_text None = codes " idle "
+waiting_text (Some stamp) = codes " waiting "
+
+-- a client: whether it waits, and the stamp of its last request
+abbrev pub client_stands : ℕ → Option Party → Option ClientState → List ℕ
+client_stands number by None = []
+client_stands number by (Some s) =
+    act_front number (codes " stands ") by ++ waiting_text (option_map (λ ask. ask.stmt.stamp) s.waiting) ++ decimal s.stamp.0
+    ++ ready_text s.sealer.key.next (clients.timers_of s)
+
+-- ---- the last line, where this event isn't honest
+
+abbrev pub broken_line : ℕ → Broken → List ℕ
+broken_line number broken.Forged = decimal number ++ codes " forged" ++ 10 ∷ []
+broken_line number broken.Clash = decimal number ++ codes " clash" ++ 10 ∷ []
