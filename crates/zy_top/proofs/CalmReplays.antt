@@ -48,4 +48,5 @@ served_command replays told (Ok (Command.Space script)) = tt
 served_command replays told (Ok (Command.Keys seed by height)) = tt
 served_command replays told (Ok (Command.Node group secret id turns)) = tt
 served_command replays told (Ok (Command.Ask group secret id turns op)) = tt
+served_command replays told (Ok (Command.Serve group secret id turns journal)) = tt
 served_command replays told (Err word) = tt

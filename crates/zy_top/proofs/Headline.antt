@@ -15,4 +15,5 @@ of_commands Holds replays made told (Ok (Command.Space script)) = tt
 of_commands Holds replays made told (Ok (Command.Keys seed by height)) = tt
 of_commands Holds replays made told (Ok (Command.Node group secret id turns)) = tt
 of_commands Holds replays made told (Ok (Command.Ask group secret id turns op)) = tt
+of_commands Holds replays made told (Ok (Command.Serve group secret id turns journal)) = tt
 of_commands Holds replays made told (Err word) = tt

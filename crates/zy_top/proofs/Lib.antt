@@ -3,6 +3,7 @@ pub mod GroupLaws
 pub mod Headline
 pub mod HostLaws
 pub mod JudgeLaws
+pub mod KeptLaws
 pub mod MadeRuns
 pub mod ReplayLaws
 pub mod Report

@@ -54,4 +54,5 @@ IsServedCommand told (Ok (Command.Space script)) = ⊤
 IsServedCommand told (Ok (Command.Keys seed by height)) = ⊤
 IsServedCommand told (Ok (Command.Node group secret id turns)) = ⊤
 IsServedCommand told (Ok (Command.Ask group secret id turns op)) = ⊤
+IsServedCommand told (Ok (Command.Serve group secret id turns journal)) = ⊤
 IsServedCommand told (Err word) = ⊤

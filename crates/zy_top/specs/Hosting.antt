@@ -3,6 +3,7 @@ use Rattle.std.specs.Prelude.{◌≡◌, ◌≢◌, ℕ, Bool, true, false, IsTr
 use Rattle.zy_base.specs.declared.ids.Party.TheVariants as parties
 use Rattle.zy_edge.specs.Binding.{BindCalls, Standing}
 use Rattle.zy_edge.specs.Files.{Held, content_of}
+use Rattle.zy_serving.specs.Serving.{IsKeptBound}
 use Rattle.zy_top_hosting.specs.Files.{asker_start, node_start}
 use Rattle.zy_top_hosting.specs.Hosted.{IsAskRun, IsBoundAs, IsNodeRun, Surroundings, TookAll, files_verdict, is_end}
 use Rattle.zy_tuple.specs.Bytes.{op_bytes}
@@ -19,6 +20,7 @@ is_hosted (Ok (Command.Keys seed by height)) = false
 is_hosted (Ok (Command.Make number asks)) = false
 is_hosted (Ok (Command.Node group secret id turns)) = true
 is_hosted (Ok (Command.Ask group secret id turns op)) = true
+is_hosted (Ok (Command.Serve group secret id turns journal)) = true
 
 -- what a node's turns and an ask's come to over files that are told, at the address of their group's file; other commands hear and
 -- send nothing, and ask for no address
@@ -32,6 +34,8 @@ IsHosted told (Ok (Command.Node group secret id turns)) exit from to old new =
     IfSome told (λ files. IsNodeRun id (node_start id (content_of files group) (content_of files secret)) turns exit from to old new)
 IsHosted told (Ok (Command.Ask group secret id turns op)) exit from to old new =
     IfSome told (λ files. IsAskRun id (asker_start id (content_of files group) (content_of files secret)) (op_bytes op) turns exit from to old new)
+-- of a replica with a journal a disk decides too: it is said in Keeping, and likewise how it ends by itself
+IsHosted told (Ok (Command.Serve group secret id turns journal)) exit from to old new = ⊤
 
 -- a node and an ask whose files are in order end by themselves
 abbrev pub EndsItself : Option Held → Result Command ℕ → Exit → Type 0
@@ -44,6 +48,7 @@ EndsItself told (Ok (Command.Node group secret id turns)) exit =
     IfSome told (λ files. files_verdict (node_start id (content_of files group) (content_of files secret)) ≡ Verdict.Hosted → IsTrue (is_end exit))
 EndsItself told (Ok (Command.Ask group secret id turns op)) exit =
     IfSome told (λ files. files_verdict (asker_start id (content_of files group) (content_of files secret)) ≡ Verdict.Hosted → IsTrue (is_end exit))
+EndsItself told (Ok (Command.Serve group secret id turns journal)) exit = ⊤
 
 -- so many turns were taken, where they are spent; no other command ends so
 abbrev pub AreSpent : Result Command ℕ → Exit → ℕ → ℕ → Type 0
@@ -54,6 +59,7 @@ AreSpent (Ok (Command.Keys seed by height)) exit before after = exit ≢ exits.T
 AreSpent (Ok (Command.Make number asks)) exit before after = exit ≢ exits.TurnsSpent
 AreSpent (Ok (Command.Node group secret id turns)) exit before after = TookAll turns exit before after
 AreSpent (Ok (Command.Ask group secret id turns op)) exit before after = TookAll turns exit before after
+AreSpent (Ok (Command.Serve group secret id turns journal)) exit before after = TookAll turns exit before after
 
 -- a node and an ask ask for an address of their party, once and before anything is sent or heard, where their files are in order and
 -- can be read; no other command asks for one
@@ -65,3 +71,4 @@ AreBound (Ok (Command.Keys seed by height)) exit start before after = after ≡ 
 AreBound (Ok (Command.Make number asks)) exit start before after = after ≡ before
 AreBound (Ok (Command.Node group secret id turns)) exit start before after = IsBoundAs (parties.Replica id) exit start before after
 AreBound (Ok (Command.Ask group secret id turns op)) exit start before after = IsBoundAs (parties.Client id) exit start before after
+AreBound (Ok (Command.Serve group secret id turns journal)) exit start before after = IsKeptBound (parties.Replica id) exit start before after

@@ -1,3 +1,4 @@
+pub mod Keeping
 pub mod Keys
 pub mod Group
 pub mod Telling

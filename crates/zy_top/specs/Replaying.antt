@@ -148,6 +148,7 @@ OfCommand Holds told (Ok (Command.Space script)) = ⊤
 OfCommand Holds told (Ok (Command.Keys seed by height)) = ⊤
 OfCommand Holds told (Ok (Command.Node group secret id turns)) = ⊤
 OfCommand Holds told (Ok (Command.Ask group secret id turns op)) = ⊤
+OfCommand Holds told (Ok (Command.Serve group secret id turns journal)) = ⊤
 OfCommand Holds told (Err word) = ⊤
 
 -- ---- the headline

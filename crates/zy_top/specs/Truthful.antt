@@ -31,4 +31,5 @@ IsTruthful told (Ok (Command.Space script)) exit = ⊤
 IsTruthful told (Ok (Command.Keys seed by height)) exit = ⊤
 IsTruthful told (Ok (Command.Node group secret id turns)) exit = ⊤
 IsTruthful told (Ok (Command.Ask group secret id turns op)) exit = ⊤
+IsTruthful told (Ok (Command.Serve group secret id turns journal)) exit = ⊤
 IsTruthful told (Err word) exit = ⊤

@@ -99,6 +99,7 @@ command_verdict files (Ok (Command.Keys seed by height)) = Verdict.Report (key_f
 command_verdict files (Ok (Command.Make number asks)) = make_verdict number asks
 command_verdict files (Ok (Command.Node group secret id turns)) = files_verdict (node_start id (content_of files group) (content_of files secret))
 command_verdict files (Ok (Command.Ask group secret id turns op)) = files_verdict (asker_start id (content_of files group) (content_of files secret))
+command_verdict files (Ok (Command.Serve group secret id turns journal)) = files_verdict (node_start id (content_of files group) (content_of files secret))
 
 -- words are judged first, then the files that they name, each before the next is read
 abbrev pub verdict : List (List ℕ) → Held → Verdict
@@ -113,3 +114,4 @@ own_verdict (Ok (Command.Keys seed by height)) = Some (Verdict.Report (key_file 
 own_verdict (Ok (Command.Make number asks)) = Some (make_verdict number asks)
 own_verdict (Ok (Command.Node group secret id turns)) = None
 own_verdict (Ok (Command.Ask group secret id turns op)) = None
+own_verdict (Ok (Command.Serve group secret id turns journal)) = None

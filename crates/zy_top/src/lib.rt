@@ -1,5 +1,5 @@
-//! The program's top call, over any files, any sink, any link and any clock; and the parts of a replay, for a program that tells
-//! more of it.
+//! The program's top call, over any files, any sink, any link, any clock and any disk; and the parts of a replay, for a program
+//! that tells more of it.
 #![tactic(auto)]
 
 mod acts;

@@ -2,9 +2,10 @@ ghost use Rattle.std.specs.Prelude.{◌≡◌, ◌↔◌, ◌⊎◌, ◌<◌, �
 ghost use Rattle.zy_edge.specs.Faults.{IsCounted, Rose};
 ghost use Rattle.zy_edge.specs.Files.{content_of};
 ghost use Rattle.zy_top_words.specs.Calls.{exit_of, IsSent, stops_writing};
-ghost use Rattle.zy_top_words.specs.Ends.{IsAnswer, IsOwnAnswer, IsReport, IsWritten, is_foreign, is_link_fault, is_read_fault, is_refusal, is_write_fault};
+ghost use Rattle.zy_top_words.specs.Ends.{IsAnswer, IsOwnAnswer, IsReport, IsWritten, is_disk_fault, is_foreign, is_link_fault, is_read_fault, is_refusal, is_write_fault};
 ghost use Rattle.zy_top.specs.Calm.{IsServedCommand};
 ghost use Rattle.zy_top.specs.Hosting.{AreBound, AreSpent, EndsItself, IsHosted, is_hosted};
+ghost use Rattle.zy_top.specs.Keeping.{GoesOnItself, IsKeptCommand};
 ghost use Rattle.zy_top.specs.Verdict.{own_verdict, space_verdict, verdict};
 ghost use Rattle.zy_top.specs.Keys.{key_file};
 ghost use Rattle.zy_top.specs.Replaying.{IsBackedCommand, IsBlamelessCommand, IsSafeCommand};
@@ -20,8 +21,10 @@ use std::alloc::Global;
 use std::thread::Threads;
 use zy_base::Party;
 use zy_edge::{Clock, Files, Link, Sink};
+use zy_journal::Disk;
 use zy_lms::Height;
 use zy_schedule::read_script;
+use zy_serving::run_serve;
 use zy_top_hosting::{run_ask, run_node};
 use zy_top_words::{Command, Exit, OpFault, command_of, op_read_alone, read_file, write_all};
 
@@ -38,7 +41,10 @@ use zy_top_words::{Command, Exit, OpFault, command_of, op_read_alone, read_file,
 /// stands then and the next leaf of its key. `ask GROUP SECRET PARTY TURNS OP` asks for an operation as a client of a group by its
 /// secret file, takes turns until the request is complete, at most so many, and writes the completion, if it came, and where the
 /// client's key and stamps go on.
-pub fn zyzzyva<R: Threads + Sync, F: Files, S: Sink, L: Link, C: Clock>(
+///
+/// `serve GROUP SECRET PARTY TURNS JOURNAL` is `node` with a journal: the replica goes on from what the journal holds, and stores what
+/// isn't refused of its events before anything of them is sent.
+pub fn zyzzyva<R: Threads + Sync, F: Files, S: Sink, L: Link, C: Clock, D: Disk>(
     rt: &R,
     alloc: Global,
     words: &[String],
@@ -46,6 +52,7 @@ pub fn zyzzyva<R: Threads + Sync, F: Files, S: Sink, L: Link, C: Clock>(
     out: &mut S,
     link: &mut L,
     clock: &mut C,
+    disk: &mut D,
 ) -> Exit
     // Words that are wrong are refused by the number of the first such, and by nothing else. From the sixth word on an
     // operation has to be read for that, so that memory may be wanted.
@@ -87,6 +94,19 @@ pub fn zyzzyva<R: Threads + Sync, F: Files, S: Sink, L: Link, C: Clock>(
     ensures ends { ¬ Rose (F.faults files.old) (F.faults files.new) → ¬ Rose (S.faults out.old) (S.faults out.new)
         → ¬ Rose (L.faults link.old) (L.faults link.new) → EndsItself (F.held files.old) (command_of (texts words.now)) result }
 
+    // A replica with a journal goes on from what the journal holds, over files and a disk that are told. What was sent is a front of what
+    // the stored events owe, and whatever a crash leaves has the record of each event of which a piece was sent; once the turns are
+    // spent, all was sent. Where the journal can't be opened or read, nothing is sent, and no record is lost. Other commands leave the
+    // disk alone.
+    ensures kept { IsKeptCommand D.contents D.may_leave D.moment D.left_since (F.held files.old) (command_of (texts words.now)) result
+        (record { outside = record { mail = L.mail link.old; receives = L.receives link.old; moments = C.moments clock.old }; binding = L.binding link.old })
+        (record { outside = record { mail = L.mail link.new; receives = L.receives link.new; moments = C.moments clock.new }; binding = L.binding link.new })
+        (S.taken out.old) (S.taken out.new) disk.old disk.new }
+
+    // A replica with a journal, whose files and journal are in order, ends by itself where no object fails.
+    ensures goes_on { ¬ Rose (F.faults files.old) (F.faults files.new) → ¬ Rose (S.faults out.old) (S.faults out.new) → ¬ Rose (L.faults link.old) (L.faults link.new)
+        → ¬ Rose (D.faults disk.old) (D.faults disk.new) → GoesOnItself (F.held files.old) (D.contents disk.old) (command_of (texts words.now)) result }
+
     // Whatever the answer is: in the run that a told group and a told schedule spell, and in the run that a number makes, every
     // world is safe, and the agreed list only grows.
     ensures headline { IsSafeCommand (F.held files.old) (command_of (texts words.now)) }
@@ -115,6 +135,7 @@ pub fn zyzzyva<R: Threads + Sync, F: Files, S: Sink, L: Link, C: Clock>(
     ensures read_faults { IsCounted (is_read_fault result) (F.faults files.old) (F.faults files.new) }
     ensures write_faults { IsCounted (is_write_fault result) (S.faults out.old) (S.faults out.new) }
     ensures link_faults { IsCounted (is_link_fault result) (L.faults link.old) (L.faults link.new) }
+    ensures disk_faults { IsCounted (is_disk_fault result) (D.faults disk.old) (D.faults disk.new) }
     ensures held { F.held files.new ≡ F.held files.old }
 {
     replays_are_safe();
@@ -163,6 +184,17 @@ pub fn zyzzyva<R: Threads + Sync, F: Files, S: Sink, L: Link, C: Clock>(
             Err(OpFault::Word(word)) => Exit::Usage(word),
             Err(OpFault::Want) => Exit::Want,
         },
+        Ok(
+            Command::Serve {
+                group,
+                secret,
+                id,
+                turns,
+                journal,
+            },
+        ) => run_serve(
+            alloc, group, secret, id, turns, journal, files, out, link, clock, disk,
+        ),
         Err(word) => Exit::Usage(word),
     }
 }

@@ -21,6 +21,10 @@ module _ (party : Party) (address : Address) (start : Standing) (before after : 
   bound_as exits.Want turning = inr once
   bound_as exits.ReadFault turning = absurd cc
   bound_as exits.TooLong turning = absurd cc
+  bound_as exits.DiskFault turning = absurd cc
+  bound_as exits.NotJournal turning = absurd cc
+  bound_as (exits.Damaged gate) turning = absurd cc
+  bound_as exits.JournalFull turning = absurd cc
   bound_as (exits.Usage word) turning = absurd cc
   bound_as (exits.Text line rule) turning = absurd cc
   bound_as (exits.Group field) turning = absurd cc

@@ -34,6 +34,10 @@ module _ {A : Type 0} (fields : Option Members → Result A ℕ) where
   unread text (exits.Text line rule) read = absurd read
   unread text (exits.Group field) read = absurd read
   unread text (exits.Premise event what) read = absurd read
+  unread text exits.DiskFault read = absurd read
+  unread text exits.NotJournal read = absurd read
+  unread text (exits.Damaged gate) read = absurd read
+  unread text exits.JournalFull read = absurd read
 
   pub file_unread : {H : Type 0} (told : Option H) (content : H → List ℕ) (exit : Exit) → IsFileRead (option_map content told) (Err exit)
       → IfSome told (λ held. IsJudged (judged fields (content held)) (Err exit))
@@ -54,6 +58,11 @@ module _ {A : Type 0} (fields : Option Members → Result A ℕ) where
   file_read None content text x file read = tt
   file_read (Some held) content text x file read = rw (← file.0) (short text.items file.1 ∙ ap by_field read)
 
+-- its text is the one that is told
+pub file_text : {H : Type 0} (told : Option H) (content : H → List ℕ) (text : Vec ℕ Global) → IsFileRead (option_map content told) (Ok text) → IfSome told (λ held. text.items ≡ content held)
+file_text None content text file = tt
+file_text (Some held) content text file = file.0
+
 -- ---- one file behind another
 
 module _ {A B : Type 0} where
@@ -70,6 +79,10 @@ module _ {A B : Type 0} where
   first_refused first next (exits.Group field) judged = ap (λ r. and_then r next) judged
   first_refused first next (exits.Premise event what) judged = ap (λ r. and_then r next) judged
   first_refused first next exits.TooLong judged = ap (λ r. and_then r next) judged
+  first_refused first next exits.DiskFault judged = ap (λ r. and_then r next) judged
+  first_refused first next exits.NotJournal judged = ap (λ r. and_then r next) judged
+  first_refused first next (exits.Damaged gate) judged = ap (λ r. and_then r next) judged
+  first_refused first next exits.JournalFull judged = ap (λ r. and_then r next) judged
 
   pub then_next : (first : Result A Exit) (next : A → Result B Exit) (x : A) (r : Result B Exit) → IsJudged first (Ok x) → IsJudged (next x) r → IsJudged (and_then first next) r
   then_next first next x r judged after = rw judged after

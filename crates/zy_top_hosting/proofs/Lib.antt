@@ -1,6 +1,6 @@
 mod Tellings
-mod FileLaws
-mod Runs
+pub mod FileLaws
+pub mod Runs
 mod Asks
-mod Bound
+pub mod Bound
 pub mod ShortOps

@@ -35,7 +35,7 @@ pub front_from : (all : List Parcel) (a b c : Option Mail) → StaysAsTold a b �
 front_from all a b c bound sends = record { front = sends.front; rest = sends.rest; parts = sends.parts; sent = sends_from sends.front a b c bound sends.sent }
 
 module _ (a b : Option Mail) (receives : ℕ) (moments : Option (List ℕ)) (to : Outside) (bound : StaysAsTold a b) where
-  run_from : {S : Type 0} (R : Rules S) (many : ℕ) (before after : HostState S) → IsRun R many before after (at b receives moments) to → IsRun R many before after (at a receives moments) to
+  pub run_from : {S : Type 0} (R : Rules S) (many : ℕ) (before after : HostState S) → IsRun R many before after (at b receives moments) to → IsRun R many before after (at a receives moments) to
   run_from R many before after ran = record {
     turns = ran.turns;
     number = ran.number;
@@ -49,7 +49,7 @@ module _ (a b : Option Mail) (receives : ℕ) (moments : Option (List ℕ)) (to 
   pub idle_from : IsIdle (at b receives moments) to → IsIdle (at a receives moments) to
   idle_from idle = record { mail = stays_from a b to.mail bound idle.mail; receives = idle.receives; moments = idle.moments }
 
-cut_from : (a b : Option Mail) (receives : ℕ) (moments : Option (List ℕ)) (to : Outside) → StaysAsTold a b → {S : Type 0} (R : Rules S) (most : ℕ) (before : HostState S)
+pub cut_from : (a b : Option Mail) (receives : ℕ) (moments : Option (List ℕ)) (to : Outside) → StaysAsTold a b → {S : Type 0} (R : Rules S) (most : ℕ) (before : HostState S)
     → IsCutRun R most before (at b receives moments) to → IsCutRun R most before (at a receives moments) to
 cut_from a b receives moments to bound R most before cut = record {
   many = cut.many;

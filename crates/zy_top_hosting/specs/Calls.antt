@@ -8,6 +8,7 @@ use Rattle.zy_top_words.specs.Ends.{IsAnswer, IsWritten, Verdict, is_write_fault
 use Rattle.zy_top_words.specs.declared.exit.Exit.{Exit}
 use Rattle.zy_top_words.specs.declared.exit.Exit.TheVariants as exits
 use Rattle.zy_top_hosting.specs.Files.{Replica, Seat}
+use Rattle.zy_top_hosting.specs.declared.files.Told.{Told}
 use Rattle.zy_top_hosting.specs.declared.seat.NodeSeat.{NodeSeat}
 use Rattle.zy_top_hosting.specs.declared.seat.AskSeat.{AskSeat}
 
@@ -17,6 +18,11 @@ IsJudged read (Ok x) = read ≡ Ok x
 IsJudged read (Err exits.Want) = ⊤
 IsJudged read (Err exits.ReadFault) = ⊤
 IsJudged read (Err exit) = read ≡ Err exit
+
+-- what a file tells, without its text
+abbrev pub value_in : {A : Type 0} → Result (Told A) Exit → Result A Exit
+value_in (Ok told) = Ok told.value
+value_in (Err exit) = Err exit
 
 -- so many leaves are left of its key
 abbrev pub Leaves : ℕ → Secret → Type 0

@@ -5,7 +5,7 @@ ghost use Rattle.zy_edge.specs.Faults.{IsCounted};
 ghost use Rattle.zy_edge.specs.Files.{content_of};
 ghost use Rattle.zy_tuple.specs.Bytes as bytes;
 ghost use Rattle.zy_tuple.specs.Values.{IsOp};
-ghost use Rattle.zy_top_words.specs.Ends.{IsAnswer, IsWritten, Verdict, is_link_fault, is_read_fault, is_refusal, is_usage, is_write_fault};
+ghost use Rattle.zy_top_words.specs.Ends.{IsAnswer, IsWritten, Verdict, is_link_fault, is_of_journal, is_read_fault, is_refusal, is_usage, is_write_fault};
 ghost use Rattle.zy_top_hosting.specs.Calls.{MayAsk, is_hosting, is_turning};
 ghost use Rattle.zy_top_hosting.specs.Files.{asker_start};
 ghost use Rattle.zy_top_hosting.specs.Hosted.{IsAskRun, IsAsking, IsBoundAs, IsBoundTo, TookAll, files_verdict};
@@ -47,6 +47,7 @@ pub fn run_ask<F: Files, S: Sink, L: Link, C: Clock>(
     ensures spent { TookAll turns result (L.receives link.old) (L.receives link.new) }
     ensures started { IfSome (F.held files.old) (λ held. (files_verdict (asker_start id (content_of held group.now) (content_of held secret.now)) ≡ Verdict.Hosted) → IsTrue (is_hosting result)) }
     ensures judged { IsTrue (is_usage result) → ⊥ }
+    ensures no_journal { IsTrue (is_of_journal result) → ⊥ }
     ensures refused { IsTrue (is_refusal result) → out.new ≡ out.old }
     ensures read_faults { IsCounted (is_read_fault result) (F.faults files.old) (F.faults files.new) }
     ensures write_faults { IsCounted (is_write_fault result) (S.faults out.old) (S.faults out.new) }

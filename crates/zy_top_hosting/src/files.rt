@@ -6,7 +6,7 @@ ghost use Rattle.zy_edge.specs.Files.{content_of};
 ghost use Rattle.zy_group.specs.Members.{AreMembers, IsNodeGroup, text_ask_group, text_node_group};
 ghost use Rattle.zy_group.specs.Secret.{text_secret};
 ghost use Rattle.zy_top_words.specs.Calls.{IsReading, stops_reading};
-ghost use Rattle.zy_top_hosting.specs.Calls.{IsJudged, Leaves, MayAsk, asker_in, node_in};
+ghost use Rattle.zy_top_hosting.specs.Calls.{IsJudged, Leaves, MayAsk, asker_in, node_in, value_in};
 ghost use Rattle.zy_top_hosting.specs.Files.{asker_start, judged, node_start};
 
 use crate::seat::{AskSeat, NodeSeat, ask_seat, node_seat};
@@ -15,6 +15,13 @@ use zy_base::{ClientId, ReplicaId};
 use zy_edge::Files;
 use zy_group::{AskGroup, NodeGroup, Secret, read_ask_group, read_node_group, read_secret};
 use zy_top_words::{Exit, read_file};
+
+/// What a file tells, and its text.
+#[derive(Drop)]
+pub struct Told<A> {
+    pub value: A,
+    pub text: Vec<u8>,
+}
 
 /// The replica that the files tell of.
 pub(crate) fn read_node<F: Files>(
@@ -32,7 +39,7 @@ pub(crate) fn read_node<F: Files>(
 {
     let group = node_group(alloc, group, files)?;
     let secret = secret_of(alloc, secret, 0, files)?;
-    node_seat(alloc, id, group, &secret)
+    node_seat(alloc, id, group.value, &secret.value)
 }
 
 /// The client that the files tell of.
@@ -52,18 +59,27 @@ pub(crate) fn read_asker<F: Files>(
 {
     let group = ask_group(alloc, group, files)?;
     let secret = secret_of(alloc, secret, 1, files)?;
-    ask_seat(alloc, id, group, &secret)
+    ask_seat(alloc, id, group, &secret.value)
 }
 
-fn node_group<F: Files>(alloc: Global, name: &str, files: &mut F) -> Result<NodeGroup, Exit>
-    ensures told { IfSome (F.held files.old) (λ held. IsJudged (judged text_node_group (content_of held name.now)) result) }
-    ensures group { IfOk result IsNodeGroup }
+/// The group of a replica. `Exit::Group` for the first field that fails.
+pub fn node_group<F: Files>(
+    alloc: Global,
+    name: &str,
+    files: &mut F,
+) -> Result<Told<NodeGroup>, Exit>
+    ensures told { IfSome (F.held files.old) (λ held. IsJudged (judged text_node_group (content_of held name.now)) (value_in result)) }
+    ensures text { IfOk result (λ told. IfSome (F.held files.old) (λ held. told.text.items ≡ content_of held name.now)) }
+    ensures group { IfOk result (λ told. IsNodeGroup told.value) }
     ensures exit { IsReading result }
     ensures count { IsCounted (stops_reading result) (F.faults files.old) (F.faults files.new) }
     ensures held { F.held files.new ≡ F.held files.old }
 {
     let text = read_file(alloc, files, name)?;
-    Ok(read_node_group(alloc, &text)?)
+    Ok(Told {
+        value: read_node_group(alloc, &text)?,
+        text,
+    })
 }
 
 fn ask_group<F: Files>(alloc: Global, name: &str, files: &mut F) -> Result<AskGroup, Exit>
@@ -77,15 +93,25 @@ fn ask_group<F: Files>(alloc: Global, name: &str, files: &mut F) -> Result<AskGr
     Ok(read_ask_group(alloc, &text)?)
 }
 
-fn secret_of<F: Files>(alloc: Global, name: &str, left: u32, files: &mut F) -> Result<Secret, Exit>
+/// A party's secret, of whose key so many leaves have to be left. `Exit::Group` for the first field that fails.
+pub fn secret_of<F: Files>(
+    alloc: Global,
+    name: &str,
+    left: u32,
+    files: &mut F,
+) -> Result<Told<Secret>, Exit>
     requires { left ≤ 1 }
-    ensures told { IfSome (F.held files.old) (λ held. IsJudged (judged (text_secret left) (content_of held name.now)) result) }
-    ensures leaves { IfOk result (Leaves left) }
-    ensures stamp { IfOk result (λ secret. secret.stamp ≤ 2 ^ 61) }
+    ensures told { IfSome (F.held files.old) (λ held. IsJudged (judged (text_secret left) (content_of held name.now)) (value_in result)) }
+    ensures text { IfOk result (λ told. IfSome (F.held files.old) (λ held. told.text.items ≡ content_of held name.now)) }
+    ensures leaves { IfOk result (λ told. Leaves left told.value) }
+    ensures stamp { IfOk result (λ told. told.value.stamp ≤ 2 ^ 61) }
     ensures exit { IsReading result }
     ensures count { IsCounted (stops_reading result) (F.faults files.old) (F.faults files.new) }
     ensures held { F.held files.new ≡ F.held files.old }
 {
     let text = read_file(alloc, files, name)?;
-    Ok(read_secret(alloc, &text, left)?)
+    Ok(Told {
+        value: read_secret(alloc, &text, left)?,
+        text,
+    })
 }

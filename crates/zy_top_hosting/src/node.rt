@@ -3,7 +3,7 @@ ghost use Rattle.std.specs.Prelude.{◌≡◌, IfSome, IsTrue};
 ghost use Rattle.zy_base.specs.declared.ids.Party.TheVariants as parties;
 ghost use Rattle.zy_edge.specs.Faults.{IsCounted};
 ghost use Rattle.zy_edge.specs.Files.{content_of};
-ghost use Rattle.zy_top_words.specs.Ends.{IsAnswer, IsWritten, Verdict, is_link_fault, is_read_fault, is_refusal, is_usage, is_write_fault};
+ghost use Rattle.zy_top_words.specs.Ends.{IsAnswer, IsWritten, Verdict, is_link_fault, is_of_journal, is_read_fault, is_refusal, is_usage, is_write_fault};
 ghost use Rattle.zy_top_hosting.specs.Calls.{is_hosting, is_turning};
 ghost use Rattle.zy_top_hosting.specs.Files.{node_start};
 ghost use Rattle.zy_top_hosting.specs.Hosted.{IsBoundAs, IsBoundTo, IsNodeRun, IsServing, TookAll, files_verdict};
@@ -42,6 +42,7 @@ pub fn run_node<F: Files, S: Sink, L: Link, C: Clock>(
     ensures spent { TookAll turns result (L.receives link.old) (L.receives link.new) }
     ensures started { IfSome (F.held files.old) (λ held. (files_verdict (node_start id (content_of held group.now) (content_of held secret.now)) ≡ Verdict.Hosted) → IsTrue (is_hosting result)) }
     ensures judged { IsTrue (is_usage result) → ⊥ }
+    ensures no_journal { IsTrue (is_of_journal result) → ⊥ }
     ensures refused { IsTrue (is_refusal result) → out.new ≡ out.old }
     ensures read_faults { IsCounted (is_read_fault result) (F.faults files.old) (F.faults files.new) }
     ensures write_faults { IsCounted (is_write_fault result) (S.faults out.old) (S.faults out.new) }

@@ -19,9 +19,11 @@ use zy_top_words::Exit;
 
 /// A replica of a tuple space in its place.
 #[derive(Drop)]
-pub(crate) struct NodeSeat {
-    pub(crate) replica: Replica<Space>,
-    pub(crate) address: Address,
+pub struct NodeSeat {
+    /// As it begins.
+    pub replica: Replica<Space>,
+    /// At which it is heard.
+    pub address: Address,
 }
 
 /// A client in its place.
@@ -31,8 +33,9 @@ pub(crate) struct AskSeat {
     pub(crate) address: Address,
 }
 
-/// The replica of the group that the secret is of.
-pub(crate) fn node_seat(
+/// The replica of the group that the secret is of. `Exit::Group` where the key isn't the group's, or its party isn't in
+/// the group.
+pub fn node_seat(
     alloc: Global,
     id: ReplicaId,
     group: NodeGroup,

@@ -48,8 +48,9 @@ fn is_fast(path: Path) -> bool
     }
 }
 
-/// Tells where a replica stands whose turns are taken.
-pub(crate) fn tell_node<S: Sink>(
+/// Tells where a replica stands whose turns are taken, and the next leaf of its key: `Exit::TurnsSpent`, unless the sink
+/// fails or memory is wanted.
+pub fn tell_node<S: Sink>(
     alloc: Global,
     id: ReplicaId,
     replica: &Replica<Space>,

@@ -1,8 +1,9 @@
-// Each call fails once: those of a replay's files and of its output, and those of a node's link, until a run meets no failure.
+// Each call fails once: those of a replay's files and of its output, those of a node's link, and those of a journal's disk,
+// until a run meets no failure.
 
 ghost use Rattle.std.specs.Prelude.{Some};
 
-use crate::hosted::{ask_exit, node_exit};
+use crate::hosted::{ask_exit, node_exit, serve_exit};
 use crate::outside::{Faults, NO_FAULTS, Outside, outside_of, two_files};
 use crate::secrets::{GROUP, KEYS, SECRET_OF_CLIENT, SECRET_OF_REPLICA};
 use crate::texts::{lines_and, strings, text_bytes};
@@ -11,6 +12,7 @@ use std::test::Fail;
 use std::thread::Threads;
 use zy_base::{Bytes, ClientId, ReplicaId, Want};
 use zy_edge::{MemLink, MemSink, Sink, Wrote};
+use zy_journal::MemDisk;
 use zy_top::zyzzyva;
 use zy_top_words::Exit;
 
@@ -82,6 +84,7 @@ fn replay_exit<R: Threads + Sync>(
         out,
         &mut outside.link,
         &mut outside.clock,
+        &mut outside.disk,
     ))
 }
 
@@ -187,5 +190,62 @@ fn a_node_that_meets_no_failure_takes_its_turns(rt: HostRuntime) -> Result<(), F
     let request = request(rt.alloc())?;
     let end = served(rt.alloc(), &request, CALLS + 1)?;
     assert_eq!(rt; end, (Exit::TurnsSpent, false, true));
+    Ok(())
+}
+
+/// How a replica of twenty turns with a journal ends to which this datagram comes and of whose disk this call fails, and how
+/// many datagrams it has sent.
+fn stored(alloc: Global, datagram: &Bytes, failing: u64) -> Result<(Exit, usize), Want> {
+    let faults = Faults {
+        disk: &[failing],
+        ..NO_FAULTS
+    };
+    let mut outside = outside_of(alloc, hosted_files(alloc, &SECRET_OF_REPLICA)?, faults)?;
+    outside.link = link_of(alloc, datagram, 0)?;
+    let exit = serve_exit(alloc, ReplicaId(0), 20, &mut outside);
+    Ok((exit, outside.link.parcels()))
+}
+
+// An empty file is opened, synced and measured, made a journal by three writes, and read to its end; then the request is stored
+// by two writes.
+const DISK_CALLS: u64 = 15;
+
+#[test]
+fn each_call_of_its_disk_ends_a_replica_that_has_sent_nothing(rt: HostRuntime) -> Result<(), Fail> {
+    let request = request(rt.alloc())?;
+    for call in 1..=DISK_CALLS {
+        let end = stored(rt.alloc(), &request, call)?;
+        assert_eq!(rt; end, (Exit::DiskFault, 0), "call {call}");
+    }
+    Ok(())
+}
+
+// The order goes to three backups, and the response to the client.
+#[test]
+fn a_replica_that_stored_its_request_sends(rt: HostRuntime) -> Result<(), Fail> {
+    let request = request(rt.alloc())?;
+    let end = stored(rt.alloc(), &request, DISK_CALLS + 1)?;
+    assert_eq!(rt; end, (Exit::TurnsSpent, 4));
+    Ok(())
+}
+
+/// What a replica writes of its end: to which this datagram came, and which goes on then from the file that its disk has.
+fn ends(alloc: Global, datagram: &Bytes) -> Result<(Vec<u8>, Vec<u8>), Want> {
+    let mut outside = outside_of(alloc, hosted_files(alloc, &SECRET_OF_REPLICA)?, NO_FAULTS)?;
+    outside.link = link_of(alloc, datagram, 0)?;
+    serve_exit(alloc, ReplicaId(0), 1, &mut outside);
+    let first = Vec::from_slice(alloc, outside.out.taken())?;
+    let image = Bytes::from_slice(alloc, outside.disk.contents())?;
+    let mut later = outside_of(alloc, hosted_files(alloc, &SECRET_OF_REPLICA)?, NO_FAULTS)?;
+    later.disk = MemDisk::new(alloc, image, 0, 100, Vec::new(alloc))?;
+    serve_exit(alloc, ReplicaId(0), 0, &mut later);
+    Ok((first, Vec::from_slice(alloc, later.out.taken())?))
+}
+
+#[test]
+fn a_replica_goes_on_where_it_stood(rt: HostRuntime) -> Result<(), Fail> {
+    let (first, later) = ends(rt.alloc(), &request(rt.alloc())?)?;
+    let is_ordered = first.starts_with(b"r0 active 0 length 1 ");
+    assert_eq!(rt; (is_ordered, later == first), (true, true));
     Ok(())
 }

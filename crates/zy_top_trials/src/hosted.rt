@@ -8,6 +8,7 @@ use std::alloc::Global;
 use std::test::Fail;
 use zy_base::{Bytes, ClientId, Party, ReplicaId, Want};
 use zy_edge::{Address, Binding};
+use zy_serving::run_serve;
 use zy_top_hosting::{run_ask, run_node};
 use zy_top_words::Exit;
 use zy_tuple::op_text_read;
@@ -23,6 +24,22 @@ pub(crate) fn node_exit(alloc: Global, id: ReplicaId, turns: u32, outside: &mut 
         &mut outside.out,
         &mut outside.link,
         &mut outside.clock,
+    )
+}
+
+pub(crate) fn serve_exit(alloc: Global, id: ReplicaId, turns: u32, outside: &mut Outside) -> Exit {
+    run_serve(
+        alloc,
+        "group",
+        "secret",
+        id,
+        turns,
+        "journal",
+        &mut outside.files,
+        &mut outside.out,
+        &mut outside.link,
+        &mut outside.clock,
+        &mut outside.disk,
     )
 }
 

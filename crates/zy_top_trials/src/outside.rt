@@ -1,10 +1,11 @@
-// What a node, an ask or the whole program works on: files, a sink, a link that hears nothing and a clock, all in memory, of
-// which chosen calls fail.
+// What a node, an ask or the whole program works on: files, a sink, a link that hears nothing, a clock and a disk, all in
+// memory, of which chosen calls fail.
 
 use crate::texts::text_bytes;
 use std::alloc::{AllocError, Global};
 use zy_base::{Bytes, Want};
 use zy_edge::{MemClock, MemFiles, MemLink, MemSink};
+use zy_journal::MemDisk;
 
 #[derive(Drop)]
 pub(crate) struct Outside {
@@ -12,6 +13,7 @@ pub(crate) struct Outside {
     pub(crate) out: MemSink,
     pub(crate) link: MemLink,
     pub(crate) clock: MemClock,
+    pub(crate) disk: MemDisk,
 }
 
 /// The numbers of the calls that fail, and the room of the sink.
@@ -20,6 +22,7 @@ pub(crate) struct Faults<'a> {
     pub(crate) files: &'a [u64],
     pub(crate) sink: &'a [u64],
     pub(crate) link: &'a [u64],
+    pub(crate) disk: &'a [u64],
     pub(crate) room: u32,
 }
 
@@ -28,6 +31,7 @@ pub(crate) const NO_FAULTS: Faults<'static> = Faults {
     files: &[],
     sink: &[],
     link: &[],
+    disk: &[],
     room: 1_000,
 };
 
@@ -57,6 +61,12 @@ fn clock_of(alloc: Global) -> Result<MemClock, AllocError> {
     Ok(MemClock::new(alloc, Vec::from_slice(alloc, &[0])?))
 }
 
+/// A disk with an empty file, and room for some calls.
+pub(crate) fn disk_of(alloc: Global, failing: &[u64]) -> Result<MemDisk, Want> {
+    let failing = Vec::from_slice(alloc, failing)?;
+    MemDisk::new(alloc, Bytes::new(alloc), 10_000, 100, failing)
+}
+
 /// A file system of these files, and the rest.
 pub(crate) fn outside_of(
     alloc: Global,
@@ -67,10 +77,12 @@ pub(crate) fn outside_of(
     let out = sink_of(alloc, faults)?;
     let link = link_of(alloc, faults)?;
     let clock = clock_of(alloc)?;
+    let disk = disk_of(alloc, faults.disk)?;
     Ok(Outside {
         files,
         out,
         link,
         clock,
+        disk,
     })
 }

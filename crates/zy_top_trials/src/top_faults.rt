@@ -26,6 +26,7 @@ fn exit_of<R: Threads + Sync>(
         &mut outside.out,
         &mut outside.link,
         &mut outside.clock,
+        &mut outside.disk,
     ))
 }
 
@@ -73,6 +74,7 @@ fn script_ends<R: Threads + Sync>(
         files,
         sink,
         link: &[],
+        disk: &[],
         room,
     };
     let mut outside = outside_of(alloc, long_script(alloc)?, faults)?;

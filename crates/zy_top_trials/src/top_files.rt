@@ -1,5 +1,6 @@
 // The whole program over files that never fail, and a sink that takes all.
 
+use crate::outside::disk_of;
 use crate::texts::{repeated, strings, text_bytes};
 use std::alloc::Global;
 use std::test::Fail;
@@ -31,8 +32,9 @@ fn script_exit<R: Threads + Sync>(
     let mut link = MemLink::new(alloc, Vec::new(alloc), Vec::new(alloc), 0)?;
     let mut clock = MemClock::new(alloc, Vec::from_slice(alloc, &[0])?);
     let mut out = CalmSink::new();
+    let mut disk = disk_of(alloc, &[])?;
     Ok(zyzzyva(
-        rt, alloc, &words, &mut files, &mut out, &mut link, &mut clock,
+        rt, alloc, &words, &mut files, &mut out, &mut link, &mut clock, &mut disk,
     ))
 }
 

@@ -26,6 +26,10 @@ IsWritten-none (Verdict.Report report) (exits.Usage word) taken is = absurd cc
 IsWritten-none (Verdict.Report report) exits.LinkFault taken is = absurd cc
 IsWritten-none (Verdict.Report report) exits.TurnsSpent taken is = absurd cc
 IsWritten-none (Verdict.Report report) (exits.Premise event what) taken is = absurd cc
+IsWritten-none (Verdict.Report report) exits.DiskFault taken is = absurd cc
+IsWritten-none (Verdict.Report report) exits.NotJournal taken is = absurd cc
+IsWritten-none (Verdict.Report report) (exits.Damaged gate) taken is = absurd cc
+IsWritten-none (Verdict.Report report) exits.JournalFull taken is = absurd cc
 IsWritten-none (Verdict.Broke front refusal) exits.Want taken is = no_front taken front
 IsWritten-none (Verdict.Broke front refusal) exits.ReadFault taken is = no_front taken front
 IsWritten-none (Verdict.Broke front refusal) (exits.Text line rule) taken is = no_front taken front
@@ -37,6 +41,10 @@ IsWritten-none (Verdict.Broke front refusal) (exits.Usage word) taken is = absur
 IsWritten-none (Verdict.Broke front refusal) exits.LinkFault taken is = absurd cc
 IsWritten-none (Verdict.Broke front refusal) exits.TurnsSpent taken is = absurd cc
 IsWritten-none (Verdict.Broke front refusal) (exits.Premise event what) taken is = absurd cc
+IsWritten-none (Verdict.Broke front refusal) exits.DiskFault taken is = absurd cc
+IsWritten-none (Verdict.Broke front refusal) exits.NotJournal taken is = absurd cc
+IsWritten-none (Verdict.Broke front refusal) (exits.Damaged gate) taken is = absurd cc
+IsWritten-none (Verdict.Broke front refusal) exits.JournalFull taken is = absurd cc
 
 pub IsWritten-stopped : {A : Type 0} (told : Option A) (verdict : A → Verdict) (exit : Exit) (taken : Option (List ℕ)) → IsTrue (is_reading exit)
     → IfSome told (λ held. IsWritten (verdict held) exit taken taken)
@@ -55,6 +63,10 @@ unread-stops told exits.WriteFault read = absurd read
 unread-stops told (exits.Text line rule) read = absurd read
 unread-stops told (exits.Group field) read = absurd read
 unread-stops told (exits.Premise event what) read = absurd read
+unread-stops told exits.DiskFault read = absurd read
+unread-stops told exits.NotJournal read = absurd read
+unread-stops told (exits.Damaged gate) read = absurd read
+unread-stops told exits.JournalFull read = absurd read
 
 pub fault-stops : (fault : ScheduleFault) → IsTrue (is_reading (exit_of_fault fault))
 fault-stops (faults.Text line rule) = refl

@@ -9,10 +9,11 @@ use Rattle.zy_schedule.specs.declared.fault.ScheduleFault.TheVariants as faults
 use Rattle.zy_tuple.specs.Reading.{op_read}
 use Rattle.zy_tuple.specs.Values.{IsOp}
 use Rattle.zy_tuple.specs.declared.values.Op.{Op}
-use Rattle.zy_top_words.specs.Words.{Command, Named, Turns, asked, op_alone, texts}
+use Rattle.zy_top_words.specs.Words.{Command, Named, Posted, Turns, asked, op_alone, texts}
 use Rattle.zy_top_words.specs.declared.hosted.Names.{Names}
 use Rattle.zy_top_words.specs.declared.hosted.OpFault.{OpFault}
 use Rattle.zy_top_words.specs.declared.hosted.OpFault.TheVariants as op_faults
+use Rattle.zy_top_words.specs.declared.hosted.PostedWords.{PostedWords}
 use Rattle.zy_top_words.specs.declared.hosted.TurnsRead.{TurnsRead}
 use Rattle.zy_top_words.specs.declared.words.Command as commands
 use Rattle.zy_top_words.specs.Ends.{AppendsFront, limit, is_read_fault, is_write_fault}
@@ -72,6 +73,7 @@ IsCommand read (Ok (commands.TheVariants.Replay group schedule)) = read ≡ Ok (
 IsCommand read (Ok (commands.TheVariants.Keys seed by height)) = read ≡ Ok (Command.Keys seed by height)
 IsCommand read (Ok (commands.TheVariants.Make number asks)) = read ≡ Ok (Command.Make number asks.count)
 IsCommand read (Ok (commands.TheVariants.Node group secret id turns)) = read ≡ Ok (Command.Node group.now secret.now id turns)
+IsCommand read (Ok (commands.TheVariants.Serve group secret id turns journal)) = read ≡ Ok (Command.Serve group.now secret.now id turns journal.now)
 -- whose operation isn't judged yet
 IsCommand read (Ok (commands.TheVariants.Ask group secret id turns op others)) = read ≡ asked group.now secret.now id turns (op_alone (op_read op.now) (texts others.now))
 IsCommand read (Err word) = read ≡ Err word
@@ -81,7 +83,7 @@ abbrev pub exit_of : Result (Unit {0}) Exit → Exit
 exit_of (Ok _) = exits.Done
 exit_of (Err exit) = exit
 
--- ---- the words of a node and of an ask
+-- ---- the words of a node, of an ask and of a node with a journal
 
 -- the names and the words behind them, or the first word that is wrong
 abbrev pub named_in : Names → Named
@@ -94,6 +96,13 @@ IsNamed read (Err word) = read ≡ Err word
 abbrev pub IsTurnsRead : Result Turns ℕ → Result TurnsRead ℕ → Type 0
 IsTurnsRead read (Ok turns) = read ≡ Ok (record { number = turns.number; others = texts turns.others.now })
 IsTurnsRead read (Err word) = read ≡ Err word
+
+abbrev pub posted_in : PostedWords → Posted
+posted_in posted = record { group = posted.group.now; secret = posted.secret.now; id = posted.id; turns = posted.turns; others = texts posted.others.now }
+
+abbrev pub IsPosted : Result Posted ℕ → Result PostedWords ℕ → Type 0
+IsPosted read (Ok posted) = read ≡ Ok (posted_in posted)
+IsPosted read (Err word) = read ≡ Err word
 
 -- the operation that a word spells, with no word behind it
 abbrev pub IsOpRead : Result Op ℕ → Result Op OpFault → Type 0

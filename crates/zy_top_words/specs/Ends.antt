@@ -80,15 +80,31 @@ pub record IsOwnAnswer (own : Verdict) (exit : Exit) (old new : Option (List ℕ
   pub written : IsWritten own exit old new
   pub complete : IsReport own → ¬ Rose before after → (exit ≡ exits.Done) ⊎ (exit ≡ exits.Want)
 
+abbrev pub is_disk_fault : Exit → Bool
+is_disk_fault exits.DiskFault = true
+is_disk_fault exit = false
+
+-- what a disk and its journal alone come to
+abbrev pub is_of_journal : Exit → Bool
+is_of_journal exits.DiskFault = true
+is_of_journal exits.NotJournal = true
+is_of_journal (exits.Damaged gate) = true
+is_of_journal exits.JournalFull = true
+is_of_journal exit = false
+
 abbrev pub is_usage : Exit → Bool
 is_usage (exits.Usage word) = true
 is_usage exit = false
 
--- an answer that comes of wrong words, of a link or of its turns, and never of files and a sink alone
+-- an answer that comes of wrong words, of a link, of its turns or of a journal, and never of files and a sink alone
 abbrev pub is_foreign : Exit → Bool
 is_foreign (exits.Usage word) = true
 is_foreign exits.LinkFault = true
 is_foreign exits.TurnsSpent = true
+is_foreign exits.DiskFault = true
+is_foreign exits.NotJournal = true
+is_foreign (exits.Damaged gate) = true
+is_foreign exits.JournalFull = true
 is_foreign exit = false
 
 -- an answer before which nothing is written
@@ -99,6 +115,10 @@ is_refusal (exits.Group field) = true
 is_refusal exits.TooLong = true
 is_refusal exits.ReadFault = true
 is_refusal exits.LinkFault = true
+is_refusal exits.DiskFault = true
+is_refusal exits.NotJournal = true
+is_refusal (exits.Damaged gate) = true
+is_refusal exits.JournalFull = true
 is_refusal exit = false
 
 -- the status that the program ends with
@@ -114,3 +134,7 @@ status_of exits.LinkFault = 8
 status_of exits.Want = 9
 status_of exits.TurnsSpent = 10
 status_of exits.TooLong = 11
+status_of exits.DiskFault = 12
+status_of exits.NotJournal = 13
+status_of (exits.Damaged gate) = 14
+status_of exits.JournalFull = 15

@@ -3,7 +3,7 @@ use Rattle.std.specs.Prelude.{ℕ, List, [], ◌++◌, codes, decimal, Option, S
 use Rattle.zy_top_words.specs.declared.exit.Broken.{Broken}
 use Rattle.zy_top_words.specs.declared.exit.Broken.TheVariants.{Forged, Clash}
 use Rattle.zy_top_words.specs.declared.exit.Exit.{Exit}
-use Rattle.zy_top_words.specs.declared.exit.Exit.TheVariants.{Done, Usage, ReadFault, WriteFault, Text, Group, Premise, LinkFault, Want, TurnsSpent, TooLong}
+use Rattle.zy_top_words.specs.declared.exit.Exit.TheVariants.{Done, Usage, ReadFault, WriteFault, Text, Group, Premise, LinkFault, Want, TurnsSpent, TooLong, DiskFault, NotJournal, Damaged, JournalFull}
 
 abbrev pub broken_text : Broken → List ℕ
 broken_text Forged = codes "forged"
@@ -21,6 +21,10 @@ fault_text LinkFault = codes "link fault"
 fault_text Want = codes "out of memory"
 fault_text TurnsSpent = codes "turns spent"
 fault_text TooLong = codes "too long"
+fault_text DiskFault = codes "disk fault"
+fault_text NotJournal = codes "not a journal"
+fault_text (Damaged gate) = codes "damaged at " ++ decimal gate
+fault_text JournalFull = codes "journal full"
 
 -- nothing where all went well, and else a line
 abbrev pub error_line : Exit → Option (List ℕ)

@@ -29,6 +29,8 @@ pub data Command : Type 0 where
   Node : List ℕ → List ℕ → ReplicaId → ℕ → Command
   -- ask for the operation as a client of the group, for so many turns at most
   Ask : List ℕ → List ℕ → ClientId → ℕ → Op → Command
+  -- run a replica as `Node` does, and keep its events in the journal with this name
+  Serve : List ℕ → List ℕ → ReplicaId → ℕ → List ℕ → Command
 
 abbrev pub texts : List (String Global) → List (List ℕ)
 texts words = map string_bytes words
@@ -109,7 +111,7 @@ make_words (number ∷ words) = behind_number (number_below (2 ^ 32) number) wor
 
 -- ---- on the network
 
--- behind `node` and `ask` stand the names of a group file and of a secret file
+-- behind `node`, `ask` and `serve` stand the names of a group file and of a secret file
 pub record Named : Type 0 where
   pub group : List ℕ
   pub secret : List ℕ
@@ -124,7 +126,7 @@ abbrev pub names_of : List (List ℕ) → Result Named ℕ
 names_of [] = Err 2
 names_of (group ∷ words) = if begins_with_dash group then Err 2 else secret_named group words
 
--- then a party: of `node` a replica, of `ask` a client
+-- then a party: of `node` and of `serve` a replica, of `ask` a client
 abbrev pub replica_in : Option Party → Option ReplicaId
 replica_in None = None
 replica_in (Some (parties.Replica id)) = Some id
@@ -148,29 +150,57 @@ abbrev pub turns_of : List (List ℕ) → Result Turns ℕ
 turns_of [] = Err 5
 turns_of (turns ∷ words) = turns_numbered (number_below (2 ^ 32) turns) words
 
+-- the words that `node` and `serve` share
+pub record Posted : Type 0 where
+  pub group : List ℕ
+  pub secret : List ℕ
+  pub id : ReplicaId
+  pub turns : ℕ
+  pub others : List (List ℕ)
+
+abbrev pub posted_turns : Named → ReplicaId → Result Turns ℕ → Result Posted ℕ
+posted_turns named id (Err word) = Err word
+posted_turns named id (Ok turns) = Ok (record { group = named.group; secret = named.secret; id = id; turns = turns.number; others = turns.others })
+
+abbrev pub posted_id : Named → Option ReplicaId → List (List ℕ) → Result Posted ℕ
+posted_id named None words = Err 4
+posted_id named (Some id) words = posted_turns named id (turns_of words)
+
+abbrev pub posted_party : Named → List (List ℕ) → Result Posted ℕ
+posted_party named [] = Err 4
+posted_party named (party ∷ words) = posted_id named (replica_in (party_of party)) words
+
+abbrev pub posted_named : Result Named ℕ → Result Posted ℕ
+posted_named (Err word) = Err word
+posted_named (Ok named) = posted_party named named.others
+
+abbrev pub posted_of : List (List ℕ) → Result Posted ℕ
+posted_of words = posted_named (names_of words)
+
 -- and of `node` no word more
-abbrev pub node_alone : Named → ReplicaId → ℕ → List (List ℕ) → Result Command ℕ
-node_alone named id turns [] = Ok (Node named.group named.secret id turns)
-node_alone named id turns (word ∷ words) = Err 6
+abbrev pub node_alone : Posted → List (List ℕ) → Result Command ℕ
+node_alone posted [] = Ok (Node posted.group posted.secret posted.id posted.turns)
+node_alone posted (word ∷ words) = Err 6
 
-abbrev pub node_turns : Named → ReplicaId → Result Turns ℕ → Result Command ℕ
-node_turns named id (Err word) = Err word
-node_turns named id (Ok turns) = node_alone named id turns.number turns.others
-
-abbrev pub node_numbered : Named → Option ReplicaId → List (List ℕ) → Result Command ℕ
-node_numbered named None words = Err 4
-node_numbered named (Some id) words = node_turns named id (turns_of words)
-
-abbrev pub node_party : Named → List (List ℕ) → Result Command ℕ
-node_party named [] = Err 4
-node_party named (party ∷ words) = node_numbered named (replica_in (party_of party)) words
-
-abbrev pub node_named : Result Named ℕ → Result Command ℕ
-node_named (Err word) = Err word
-node_named (Ok named) = node_party named named.others
+abbrev pub node_posted : Result Posted ℕ → Result Command ℕ
+node_posted (Err word) = Err word
+node_posted (Ok posted) = node_alone posted posted.others
 
 abbrev pub node_words : List (List ℕ) → Result Command ℕ
-node_words words = node_named (names_of words)
+node_words words = node_posted (posted_of words)
+
+-- of `serve` the name of a journal, and no word more
+abbrev pub serve_alone : Posted → List (List ℕ) → Result Command ℕ
+serve_alone posted [] = Err 6
+serve_alone posted (journal ∷ []) = if begins_with_dash journal then Err 6 else Ok (Serve posted.group posted.secret posted.id posted.turns journal)
+serve_alone posted (journal ∷ word ∷ words) = if begins_with_dash journal then Err 6 else Err 7
+
+abbrev pub serve_posted : Result Posted ℕ → Result Command ℕ
+serve_posted (Err word) = Err word
+serve_posted (Ok posted) = serve_alone posted posted.others
+
+abbrev pub serve_words : List (List ℕ) → Result Command ℕ
+serve_words words = serve_posted (posted_of words)
 
 -- and of `ask` an operation, and no word more
 abbrev pub op_alone : Result Op ℕ → List (List ℕ) → Result Op ℕ
@@ -214,4 +244,5 @@ command_of (word ∷ words) =
     else (if is_word word (codes "keys") then keys_words words
     else (if is_word word (codes "make") then make_words words
     else (if is_word word (codes "node") then node_words words
-    else (if is_word word (codes "ask") then ask_words words else Err 1)))))
+    else (if is_word word (codes "ask") then ask_words words
+    else (if is_word word (codes "serve") then serve_words words else Err 1))))))

@@ -40,6 +40,14 @@ pub enum Exit {
     TurnsSpent,
     /// A file gave more than 16,777,216 bytes.
     TooLong,
+    /// A call of the disk failed. Nothing was written.
+    DiskFault,
+    /// The file that is to hold the journal is another's journal, or none.
+    NotJournal,
+    /// The gate at this place of the journal is open, and no record stands behind it that spells an event.
+    Damaged(u64),
+    /// A record doesn't fit the journal any more. Nothing was written.
+    JournalFull,
 }
 
 impl Exit {
@@ -59,6 +67,10 @@ impl Exit {
             Exit::Want => 9,
             Exit::TurnsSpent => 10,
             Exit::TooLong => 11,
+            Exit::DiskFault => 12,
+            Exit::NotJournal => 13,
+            Exit::Damaged(_) => 14,
+            Exit::JournalFull => 15,
         }
     }
 }

@@ -27,6 +27,10 @@ impl fmt::Display for FaultText {
             Exit::Want => write!(f, "out of memory"),
             Exit::TurnsSpent => write!(f, "turns spent"),
             Exit::TooLong => write!(f, "too long"),
+            Exit::DiskFault => write!(f, "disk fault"),
+            Exit::NotJournal => write!(f, "not a journal"),
+            Exit::Damaged(gate) => write!(f, "damaged at {gate}"),
+            Exit::JournalFull => write!(f, "journal full"),
         }
     }
 }

@@ -1,9 +1,9 @@
-// The words behind `node` and `ask`.
+// The words behind `node`, `ask` and `serve`.
 ghost use Rattle.std.specs.Prelude.{◌≡◌};
 ghost use Rattle.zy_tuple.specs.Parties.{party_of};
 ghost use Rattle.zy_tuple.specs.Reading.{op_read};
-ghost use Rattle.zy_top_words.specs.Calls.{IsCommand, IsNamed, IsOpRead, IsTurnsRead, named_in};
-ghost use Rattle.zy_top_words.specs.Words.{ask_op, ask_party, ask_words, client_in, names_of, node_alone, node_party, node_words, op_alone, replica_in, secret_named, texts, turns_of};
+ghost use Rattle.zy_top_words.specs.Calls.{IsCommand, IsNamed, IsOpRead, IsPosted, IsTurnsRead, named_in, posted_in};
+ghost use Rattle.zy_top_words.specs.Words.{ask_op, ask_party, ask_words, client_in, names_of, node_alone, node_words, op_alone, posted_of, posted_party, replica_in, secret_named, serve_alone, serve_words, texts, turns_of};
 
 use crate::words::{Command, number_read};
 use std::alloc::Global;
@@ -15,6 +15,16 @@ use zy_tuple::{LineFault, Op, op_text_read, party_text_read};
 pub(crate) struct Names<'a> {
     group: &'a str,
     secret: &'a str,
+    others: &'a [String],
+}
+
+/// The names of the files, a replica and how many turns, and the words behind.
+#[derive(Clone, Copy)]
+pub(crate) struct PostedWords<'a> {
+    group: &'a str,
+    secret: &'a str,
+    id: ReplicaId,
+    turns: u32,
     others: &'a [String],
 }
 
@@ -85,18 +95,18 @@ fn turns_of(words: &[String]) -> Result<TurnsRead<'_>, u64>
     }
 }
 
-/// Behind `node` stand the names of a group file and of a secret file, a replica, and a number of turns.
-pub(crate) fn node_words(words: &[String]) -> Result<Command<'_>, u64>
-    ensures { IsCommand (node_words (texts words.now)) result }
+// The words that `node` and `serve` share.
+fn posted_of(words: &[String]) -> Result<PostedWords<'_>, u64>
+    ensures { IsPosted (posted_of (texts words.now)) result }
 {
     match names_of(words) {
-        Ok(names) => node_party(names),
+        Ok(names) => posted_party(names),
         Err(word) => Err(word),
     }
 }
 
-fn node_party(names: Names<'_>) -> Result<Command<'_>, u64>
-    ensures { IsCommand (node_party (named_in names.entry) (texts names.entry.others.now)) result }
+fn posted_party(names: Names<'_>) -> Result<PostedWords<'_>, u64>
+    ensures { IsPosted (posted_party (named_in names.entry) (texts names.entry.others.now)) result }
 {
     let [party, others @ ..] = names.others else {
         return Err(4);
@@ -105,27 +115,69 @@ fn node_party(names: Names<'_>) -> Result<Command<'_>, u64>
         return Err(4);
     };
     match turns_of(others) {
-        Ok(turns) => node_alone(names, id, turns.number, turns.others),
+        Ok(turns) => Ok(PostedWords {
+            group: names.group,
+            secret: names.secret,
+            id,
+            turns: turns.number,
+            others: turns.others,
+        }),
         Err(word) => Err(word),
     }
 }
 
-fn node_alone<'a>(
-    names: Names<'a>,
-    id: ReplicaId,
-    turns: u32,
-    words: &'a [String],
-) -> Result<Command<'a>, u64>
-    ensures { IsCommand (node_alone (named_in names.entry) id turns (texts words.now)) result }
+/// Behind `node` stand the names of a group file and of a secret file, a replica, and a number of turns.
+pub(crate) fn node_words(words: &[String]) -> Result<Command<'_>, u64>
+    ensures { IsCommand (node_words (texts words.now)) result }
 {
-    if !words.is_empty() {
+    match posted_of(words) {
+        Ok(posted) => node_alone(posted),
+        Err(word) => Err(word),
+    }
+}
+
+fn node_alone(posted: PostedWords<'_>) -> Result<Command<'_>, u64>
+    ensures { IsCommand (node_alone (posted_in posted.entry) (texts posted.entry.others.now)) result }
+{
+    if !posted.others.is_empty() {
         return Err(6);
     }
     Ok(Command::Node {
-        group: names.group,
-        secret: names.secret,
-        id,
-        turns,
+        group: posted.group,
+        secret: posted.secret,
+        id: posted.id,
+        turns: posted.turns,
+    })
+}
+
+/// Behind `serve` stand the words of `node` and the name of a journal.
+pub(crate) fn serve_words(words: &[String]) -> Result<Command<'_>, u64>
+    ensures { IsCommand (serve_words (texts words.now)) result }
+{
+    match posted_of(words) {
+        Ok(posted) => serve_alone(posted),
+        Err(word) => Err(word),
+    }
+}
+
+fn serve_alone(posted: PostedWords<'_>) -> Result<Command<'_>, u64>
+    ensures { IsCommand (serve_alone (posted_in posted.entry) (texts posted.entry.others.now)) result }
+{
+    let [journal, others @ ..] = posted.others else {
+        return Err(6);
+    };
+    if journal.as_str().starts_with('-') {
+        return Err(6);
+    }
+    if !others.is_empty() {
+        return Err(7);
+    }
+    Ok(Command::Serve {
+        group: posted.group,
+        secret: posted.secret,
+        id: posted.id,
+        turns: posted.turns,
+        journal: journal.as_str(),
     })
 }
 

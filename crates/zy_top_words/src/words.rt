@@ -5,7 +5,7 @@ ghost use Rattle.zy_top_words.specs.Calls.{IsCommand};
 ghost use Rattle.zy_top_words.specs.Words.{asks_of, behind_group, behind_seed, command_of, height_read, keys_words, make_words, replay_words, space_words, texts};
 
 use crate::asks::Asks;
-use crate::hosted::{ask_words, node_words};
+use crate::hosted::{ask_words, node_words, serve_words};
 use hex::FromHex;
 use zy_base::{ClientId, Party, ReplicaId};
 use zy_lms::Height;
@@ -48,6 +48,14 @@ pub enum Command<'a> {
         op: &'a str,
         others: &'a [String],
     },
+    /// Run a replica as `Node` does, and keep its events in the journal with this name.
+    Serve {
+        group: &'a str,
+        secret: &'a str,
+        id: ReplicaId,
+        turns: u32,
+        journal: &'a str,
+    },
 }
 
 /// The command, or the number of the first word that isn't allowed, is missing or is too many.
@@ -64,6 +72,7 @@ pub fn command_of(words: &[String]) -> Result<Command<'_>, u64>
         "make" => make_words(others),
         "node" => node_words(others),
         "ask" => ask_words(others),
+        "serve" => serve_words(others),
         _ => Err(1),
     }
 }

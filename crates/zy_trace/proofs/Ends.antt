@@ -31,6 +31,10 @@ module _ {S : Type 0} (R : Rules S) (r : Run S) where
   unsent_answers old new bytes (exits.Group field) sent = absurd sent
   unsent_answers old new bytes (exits.Premise event what) sent = absurd sent
   unsent_answers old new bytes exits.TooLong sent = absurd sent
+  unsent_answers old new bytes exits.DiskFault sent = absurd sent
+  unsent_answers old new bytes exits.NotJournal sent = absurd sent
+  unsent_answers old new bytes (exits.Damaged gate) sent = absurd sent
+  unsent_answers old new bytes exits.JournalFull sent = absurd sent
 
   whole_at : (end : End S) → None ≡ stop_of r end → IsAnswer (told_verdict R r.notes end) exits.Done
   whole_at (End.At w) is = refl

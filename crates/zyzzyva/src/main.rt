@@ -1,8 +1,9 @@
-//! The program: the real files, standard output, loopback and the clock for the top call, which has the theorem.
+//! The program: the real files, standard output, loopback, the clock and a disk for the top call, which has the theorem.
 #![tactic(auto)]
 
 use std::process::ExitCode;
 use zy_edge::{RealClock, RealFiles, StdSink, UdpLink};
+use zy_journal::RealDisk;
 use zy_top::zyzzyva;
 use zy_top_words::{Exit, ending, line_words};
 
@@ -16,6 +17,7 @@ fn main(rt: HostRuntime) -> ExitCode {
             &mut StdSink::new(&rt),
             &mut UdpLink::new(&rt),
             &mut RealClock::new(&rt),
+            &mut RealDisk::new(&rt),
         ),
         Err(want) => Exit::from(want),
     };

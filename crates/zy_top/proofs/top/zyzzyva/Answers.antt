@@ -1,5 +1,6 @@
 use Rattle.std.proofs.Common.{◌≡◌, Ok, Err, refl, ap, ◌∙◌, inl}
 use Rattle.zy_top_hosting.specs.Files.{asker_start, node_start}
+use Rattle.zy_top_hosting.specs.Hosted.{Surroundings}
 use Rattle.zy_tuple.specs.Reading.{op_read}
 use Rattle.zy_top_words.proofs.Stops.{IsWritten-stopped}
 use Rattle.zy_top_words.specs.Words.{Command, asked, command_of, op_alone, texts}
@@ -12,7 +13,10 @@ use Rattle.zy_top.proofs.CalmReplays.{served_command}
 use Rattle.zy_top.proofs.Headline.{of_commands}
 use Rattle.zy_top.specs.Replaying.{IsBackedRun, IsBlamelessRun, IsSafeRun}
 use Rattle.zy_top.proofs.HostLaws.{asked_in_vain, nothing_due, turns_end, unbound}
+use Rattle.zy_top.proofs.KeptLaws.{asked_goes_on, asked_leaves, left_counted, own_journal, running_journal, serve_ends}
+use Rattle.zy_serving.specs.Identity.{identity_of}
 use Rattle.zy_top.proofs.MadeRuns.{made_finishes, own_answer}
+use Rattle.zy_top.proofs.ReplayLaws.{sent_runs}
 use Rattle.zy_top.proofs.TruthfulRuns.{make_truthful, replay_truthful}
 use Rattle.zy_top.proofs.top.zyzzyva.Goals as goal
 
@@ -192,3 +196,102 @@ pub returns-in-Err-run_make-clause-truthful : goal.returns-in-Err-run_make-claus
 returns-in-Err-run_make-clause-truthful g c =
     let read : command_of (texts c.args.words.now) ≡ Ok (Command.Make c.in-Ok-Make.number c.in-Ok-Make.asks.count) = rw c.in-Ok-Make.field-0-is at c.in-Ok-Make.ensures in
     rw read (make_truthful c.in-Ok-Make.number c.in-Ok-Make.asks.count _ (c.made_runs_are_safe.ensures.unforged c.in-Ok-Make.number c.in-Ok-Make.asks.count) c.in-Err-run_make.ensures.answer)
+
+-- ---- the disk, which other commands leave alone
+
+pub returns-in-Err-run_space-clause-kept : goal.returns-in-Err-run_space-clause-kept
+returns-in-Err-run_space-clause-kept g c =
+    let read : command_of (texts c.args.words.now) ≡ Ok (Command.Space c.in-Ok-Space.script.now) = rw c.in-Ok-Space.field-0-is at c.in-Ok-Space.ensures in
+    rw read (refl, own_journal c.in-Err-run_space.exit c.in-Err-run_space.ensures.judged)
+
+pub returns-in-Err-run_space-clause-disk_faults : goal.returns-in-Err-run_space-clause-disk_faults
+returns-in-Err-run_space-clause-disk_faults g c =
+    left_counted c.in-Err-run_space.exit (g.D.Disk.faults c.args.disk.now) (own_journal c.in-Err-run_space.exit c.in-Err-run_space.ensures.judged)
+
+pub returns-in-Err-run_replay-clause-kept : goal.returns-in-Err-run_replay-clause-kept
+returns-in-Err-run_replay-clause-kept g c =
+    let read : command_of (texts c.args.words.now) ≡ Ok (Command.Replay c.in-Ok-Replay.group.now c.in-Ok-Replay.schedule.now) = rw c.in-Ok-Replay.field-0-is at c.in-Ok-Replay.ensures in
+    rw read (refl, own_journal c.in-Err-run_replay.exit c.in-Err-run_replay.ensures.judged)
+
+pub returns-in-Err-run_replay-clause-disk_faults : goal.returns-in-Err-run_replay-clause-disk_faults
+returns-in-Err-run_replay-clause-disk_faults g c =
+    left_counted c.in-Err-run_replay.exit (g.D.Disk.faults c.args.disk.now) (own_journal c.in-Err-run_replay.exit c.in-Err-run_replay.ensures.judged)
+
+pub returns-in-Err-run_keys-clause-kept : goal.returns-in-Err-run_keys-clause-kept
+returns-in-Err-run_keys-clause-kept g c =
+    let read : command_of (texts c.args.words.now) ≡ Ok (Command.Keys c.in-Ok-Keys.seed c.in-Ok-Keys.by c.in-Ok-Keys.height) = rw c.in-Ok-Keys.field-0-is at c.in-Ok-Keys.ensures in
+    rw read (refl, running_journal c.in-Err-run_keys.exit (sent_runs (g.S.Sink.taken c.args.out.now) (g.S.Sink.taken c.run_keys.new.out) (key_file c.in-Ok-Keys.seed c.in-Ok-Keys.by c.in-Ok-Keys.height) (Err c.in-Err-run_keys.exit) c.in-Err-run_keys.ensures.written))
+
+pub returns-in-Err-run_keys-clause-disk_faults : goal.returns-in-Err-run_keys-clause-disk_faults
+returns-in-Err-run_keys-clause-disk_faults g c =
+    left_counted c.in-Err-run_keys.exit (g.D.Disk.faults c.args.disk.now) (running_journal c.in-Err-run_keys.exit (sent_runs (g.S.Sink.taken c.args.out.now) (g.S.Sink.taken c.run_keys.new.out) (key_file c.in-Ok-Keys.seed c.in-Ok-Keys.by c.in-Ok-Keys.height) (Err c.in-Err-run_keys.exit) c.in-Err-run_keys.ensures.written))
+
+pub returns-in-Err-run_make-clause-kept : goal.returns-in-Err-run_make-clause-kept
+returns-in-Err-run_make-clause-kept g c =
+    let read : command_of (texts c.args.words.now) ≡ Ok (Command.Make c.in-Ok-Make.number c.in-Ok-Make.asks.count) = rw c.in-Ok-Make.field-0-is at c.in-Ok-Make.ensures in
+    rw read (refl, running_journal c.in-Err-run_make.exit c.in-Err-run_make.ensures.exit)
+
+pub returns-in-Err-run_make-clause-disk_faults : goal.returns-in-Err-run_make-clause-disk_faults
+returns-in-Err-run_make-clause-disk_faults g c =
+    left_counted c.in-Err-run_make.exit (g.D.Disk.faults c.args.disk.now) (running_journal c.in-Err-run_make.exit c.in-Err-run_make.ensures.exit)
+
+pub returns-in-Ok-Node-clause-kept : goal.returns-in-Ok-Node-clause-kept
+returns-in-Ok-Node-clause-kept g c =
+    let read : command_of (texts c.args.words.now) ≡ Ok (Command.Node c.in-Ok-Node.group.now c.in-Ok-Node.secret.now c.in-Ok-Node.id c.in-Ok-Node.turns) = rw c.in-Ok-Node.field-0-is at c.in-Ok-Node.ensures in
+    rw read (refl, c.run_node.ensures.no_journal)
+
+pub returns-in-Ok-Node-clause-disk_faults : goal.returns-in-Ok-Node-clause-disk_faults
+returns-in-Ok-Node-clause-disk_faults g c =
+    left_counted c.run_node.result (g.D.Disk.faults c.args.disk.now) c.run_node.ensures.no_journal
+
+pub returns-in-Ok-op_read_alone-clause-kept : goal.returns-in-Ok-op_read_alone-clause-kept
+returns-in-Ok-op_read_alone-clause-kept g c =
+    let words : command_of (texts c.args.words.now) ≡ asked c.in-Ok-Ask.group.now c.in-Ok-Ask.secret.now c.in-Ok-Ask.id c.in-Ok-Ask.turns (op_alone (op_read c.in-Ok-Ask.op.now) (texts c.in-Ok-Ask.others.now)) = rw c.in-Ok-Ask.field-0-is at c.in-Ok-Ask.ensures in
+    let read : command_of (texts c.args.words.now) ≡ Ok (Command.Ask c.in-Ok-Ask.group.now c.in-Ok-Ask.secret.now c.in-Ok-Ask.id c.in-Ok-Ask.turns c.in-Ok-op_read_alone.op) = words ∙ ap (asked c.in-Ok-Ask.group.now c.in-Ok-Ask.secret.now c.in-Ok-Ask.id c.in-Ok-Ask.turns) c.in-Ok-op_read_alone.ensures.0 in
+    rw read (refl, c.run_ask.ensures.no_journal)
+
+pub returns-in-Ok-op_read_alone-clause-goes_on : goal.returns-in-Ok-op_read_alone-clause-goes_on
+returns-in-Ok-op_read_alone-clause-goes_on g c still calm quiet sound =
+    let words : command_of (texts c.args.words.now) ≡ asked c.in-Ok-Ask.group.now c.in-Ok-Ask.secret.now c.in-Ok-Ask.id c.in-Ok-Ask.turns (op_alone (op_read c.in-Ok-Ask.op.now) (texts c.in-Ok-Ask.others.now)) = rw c.in-Ok-Ask.field-0-is at c.in-Ok-Ask.ensures in
+    let read : command_of (texts c.args.words.now) ≡ Ok (Command.Ask c.in-Ok-Ask.group.now c.in-Ok-Ask.secret.now c.in-Ok-Ask.id c.in-Ok-Ask.turns c.in-Ok-op_read_alone.op) = words ∙ ap (asked c.in-Ok-Ask.group.now c.in-Ok-Ask.secret.now c.in-Ok-Ask.id c.in-Ok-Ask.turns) c.in-Ok-op_read_alone.ensures.0 in
+    rw read tt
+
+pub returns-in-Ok-op_read_alone-clause-disk_faults : goal.returns-in-Ok-op_read_alone-clause-disk_faults
+returns-in-Ok-op_read_alone-clause-disk_faults g c =
+    left_counted c.run_ask.result (g.D.Disk.faults c.args.disk.now) c.run_ask.ensures.no_journal
+
+pub returns-in-Err-Want-clause-kept : goal.returns-in-Err-Want-clause-kept
+returns-in-Err-Want-clause-kept g c =
+    let words : command_of (texts c.args.words.now) ≡ asked c.in-Ok-Ask.group.now c.in-Ok-Ask.secret.now c.in-Ok-Ask.id c.in-Ok-Ask.turns (op_alone (op_read c.in-Ok-Ask.op.now) (texts c.in-Ok-Ask.others.now)) = rw c.in-Ok-Ask.field-0-is at c.in-Ok-Ask.ensures in
+    let outside : Surroundings = record {
+      outside = record { mail = g.L.Link.mail c.args.link.now; receives = g.L.Link.receives c.args.link.now; moments = g.C.Clock.moments c.args.clock.now };
+      binding = g.L.Link.binding c.args.link.now;
+    } in
+    rw words
+    (asked_leaves g.D.Disk.contents g.D.Disk.may_leave g.D.Disk.moment g.D.Disk.left_since (g.F.Files.held c.args.files.now) c.in-Ok-Ask.group.now c.in-Ok-Ask.secret.now c.in-Ok-Ask.id c.in-Ok-Ask.turns (op_alone (op_read c.in-Ok-Ask.op.now) (texts c.in-Ok-Ask.others.now))
+    exits.Want outside outside (g.S.Sink.taken c.args.out.now) (g.S.Sink.taken c.args.out.now) c.args.disk.now (λ is. cc))
+
+pub returns-in-Err-Want-clause-goes_on : goal.returns-in-Err-Want-clause-goes_on
+returns-in-Err-Want-clause-goes_on g c still calm quiet sound =
+    let words : command_of (texts c.args.words.now) ≡ asked c.in-Ok-Ask.group.now c.in-Ok-Ask.secret.now c.in-Ok-Ask.id c.in-Ok-Ask.turns (op_alone (op_read c.in-Ok-Ask.op.now) (texts c.in-Ok-Ask.others.now)) = rw c.in-Ok-Ask.field-0-is at c.in-Ok-Ask.ensures in
+    rw words (asked_goes_on (g.F.Files.held c.args.files.now) (g.D.Disk.contents c.args.disk.now) c.in-Ok-Ask.group.now c.in-Ok-Ask.secret.now c.in-Ok-Ask.id c.in-Ok-Ask.turns (op_alone (op_read c.in-Ok-Ask.op.now) (texts c.in-Ok-Ask.others.now)) exits.Want)
+
+-- ---- a replica with a journal
+
+pub returns-in-Ok-Serve-clause-complete : goal.returns-in-Ok-Serve-clause-complete
+returns-in-Ok-Serve-clause-complete g c =
+    let asked = c.in-Ok-Serve in
+    let read : command_of (texts c.args.words.now) ≡ Ok (Command.Serve asked.group.now asked.secret.now asked.id asked.turns asked.journal.now) = rw asked.field-0-is at asked.ensures in
+    rw read
+    (nothing_due (g.F.Files.held c.args.files.now) (λ held. node_start asked.id (content_of held asked.group.now) (content_of held asked.secret.now)) c.run_serve.result
+    (g.F.Files.faults c.args.files.now) (g.F.Files.faults c.run_serve.new.files) (g.S.Sink.faults c.args.out.now) (g.S.Sink.faults c.run_serve.new.out))
+
+pub returns-in-Ok-Serve-clause-goes_on : goal.returns-in-Ok-Serve-clause-goes_on
+returns-in-Ok-Serve-clause-goes_on g c still calm quiet sound =
+    let asked = c.in-Ok-Serve in
+    let read : command_of (texts c.args.words.now) ≡ Ok (Command.Serve asked.group.now asked.secret.now asked.id asked.turns asked.journal.now) = rw asked.field-0-is at asked.ensures in
+    let ran = c.run_serve.ensures in
+    rw read
+    (serve_ends (g.F.Files.held c.args.files.now) (λ held. node_start asked.id (content_of held asked.group.now) (content_of held asked.secret.now))
+    (λ held. identity_of asked.id (content_of held asked.group.now) (content_of held asked.secret.now)) (g.D.Disk.contents c.args.disk.now) c.run_serve.result
+    _ _ _ _ _ _ _ _ ran.started ran.read_faults ran.write_faults ran.link_faults ran.disk_faults still calm quiet sound)

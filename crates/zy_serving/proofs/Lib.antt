@@ -1,0 +1,5 @@
+mod Joins
+mod Opening
+mod Turning
+mod Keeping
+mod Exits

@@ -1,0 +1,4 @@
+pub mod Identity
+pub mod Recovered
+pub mod Serving
+pub mod Files
