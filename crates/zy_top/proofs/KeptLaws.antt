@@ -5,7 +5,7 @@ use Rattle.zy_base.specs.declared.ids.ClientId.{ClientId}
 use Rattle.zy_base.specs.declared.ids.Digest.{Digest}
 use Rattle.zy_edge.specs.Faults.{IsCounted, Rose}
 use Rattle.zy_edge.specs.Files.{Held}
-use Rattle.zy_serving.specs.Serving.{OfJournal, is_kept_end, is_kept_hosting}
+use Rattle.zy_top_hosting.specs.Serving.{OfJournal, is_kept_end, is_kept_hosting}
 use Rattle.zy_top.specs.Keeping.{GoesOnItself, IsKeptCommand}
 use Rattle.zy_top.specs.Replaying.{is_running}
 use Rattle.zy_top_hosting.specs.Hosted.{Surroundings, files_verdict}

@@ -3,7 +3,7 @@ use Rattle.std.specs.Prelude.{◌≡◌, ◌≢◌, ℕ, Bool, true, false, IsTr
 use Rattle.zy_base.specs.declared.ids.Party.TheVariants as parties
 use Rattle.zy_edge.specs.Binding.{BindCalls, Standing}
 use Rattle.zy_edge.specs.Files.{Held, content_of}
-use Rattle.zy_serving.specs.Serving.{IsKeptBound}
+use Rattle.zy_top_hosting.specs.Serving.{IsKeptBound}
 use Rattle.zy_top_hosting.specs.Files.{asker_start, node_start}
 use Rattle.zy_top_hosting.specs.Hosted.{IsAskRun, IsBoundAs, IsNodeRun, Surroundings, TookAll, files_verdict, is_end}
 use Rattle.zy_tuple.specs.Bytes.{op_bytes}

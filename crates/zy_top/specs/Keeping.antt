@@ -1,8 +1,8 @@
 -- The command whose replica keeps its events in a journal.
 use Rattle.std.specs.Prelude.{◌≡◌, ℕ, IsTrue, List, Option, IfSome, Result, Ok, Err, ⊤}
 use Rattle.zy_edge.specs.Files.{Held, content_of}
-use Rattle.zy_serving.specs.Identity.{identity_of}
-use Rattle.zy_serving.specs.Serving.{IsServeRun, OfJournal, is_kept_end}
+use Rattle.zy_top_hosting.specs.Identity.{identity_of}
+use Rattle.zy_top_hosting.specs.Serving.{IsServeRun, OfJournal, is_kept_end}
 use Rattle.zy_top_hosting.specs.Files.{node_start}
 use Rattle.zy_top_hosting.specs.Hosted.{Surroundings, files_verdict}
 use Rattle.zy_top_words.specs.Ends.{Verdict, is_of_journal}

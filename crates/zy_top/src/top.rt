@@ -24,8 +24,7 @@ use zy_edge::{Clock, Files, Link, Sink};
 use zy_journal::Disk;
 use zy_lms::Height;
 use zy_schedule::read_script;
-use zy_serving::run_serve;
-use zy_top_hosting::{run_ask, run_node};
+use zy_top_hosting::{run_ask, run_node, run_serve};
 use zy_top_words::{Command, Exit, OpFault, command_of, op_read_alone, read_file, write_all};
 
 /// Runs the command that the words ask for. Words are judged first, then the file that they name, whole, and

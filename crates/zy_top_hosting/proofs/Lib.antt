@@ -4,3 +4,8 @@ pub mod Runs
 mod Asks
 pub mod Bound
 pub mod ShortOps
+mod Joins
+mod Opening
+mod Turning
+mod Keeping
+mod Exits

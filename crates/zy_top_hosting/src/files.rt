@@ -18,9 +18,9 @@ use zy_top_words::{Exit, read_file};
 
 /// What a file tells, and its text.
 #[derive(Drop)]
-pub struct Told<A> {
-    pub value: A,
-    pub text: Vec<u8>,
+pub(crate) struct Told<A> {
+    pub(crate) value: A,
+    pub(crate) text: Vec<u8>,
 }
 
 /// The replica that the files tell of.
@@ -63,7 +63,7 @@ pub(crate) fn read_asker<F: Files>(
 }
 
 /// The group of a replica. `Exit::Group` for the first field that fails.
-pub fn node_group<F: Files>(
+pub(crate) fn node_group<F: Files>(
     alloc: Global,
     name: &str,
     files: &mut F,
@@ -94,7 +94,7 @@ fn ask_group<F: Files>(alloc: Global, name: &str, files: &mut F) -> Result<AskGr
 }
 
 /// A party's secret, of whose key so many leaves have to be left. `Exit::Group` for the first field that fails.
-pub fn secret_of<F: Files>(
+pub(crate) fn secret_of<F: Files>(
     alloc: Global,
     name: &str,
     left: u32,

@@ -19,11 +19,9 @@ use zy_top_words::Exit;
 
 /// A replica of a tuple space in its place.
 #[derive(Drop)]
-pub struct NodeSeat {
-    /// As it begins.
-    pub replica: Replica<Space>,
-    /// At which it is heard.
-    pub address: Address,
+pub(crate) struct NodeSeat {
+    pub(crate) replica: Replica<Space>,
+    pub(crate) address: Address,
 }
 
 /// A client in its place.
@@ -35,7 +33,7 @@ pub(crate) struct AskSeat {
 
 /// The replica of the group that the secret is of. `Exit::Group` where the key isn't the group's, or its party isn't in
 /// the group.
-pub fn node_seat(
+pub(crate) fn node_seat(
     alloc: Global,
     id: ReplicaId,
     group: NodeGroup,

@@ -50,7 +50,7 @@ fn is_fast(path: Path) -> bool
 
 /// Tells where a replica stands whose turns are taken, and the next leaf of its key: `Exit::TurnsSpent`, unless the sink
 /// fails or memory is wanted.
-pub fn tell_node<S: Sink>(
+pub(crate) fn tell_node<S: Sink>(
     alloc: Global,
     id: ReplicaId,
     replica: &Replica<Space>,

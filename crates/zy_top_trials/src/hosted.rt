@@ -8,8 +8,7 @@ use std::alloc::Global;
 use std::test::Fail;
 use zy_base::{Bytes, ClientId, Party, ReplicaId, Want};
 use zy_edge::{Address, Binding};
-use zy_serving::run_serve;
-use zy_top_hosting::{run_ask, run_node};
+use zy_top_hosting::{run_ask, run_node, run_serve};
 use zy_top_words::Exit;
 use zy_tuple::op_text_read;
 

@@ -14,7 +14,7 @@ use Rattle.zy_top.proofs.Headline.{of_commands}
 use Rattle.zy_top.specs.Replaying.{IsBackedRun, IsBlamelessRun, IsSafeRun}
 use Rattle.zy_top.proofs.HostLaws.{asked_in_vain, nothing_due, turns_end, unbound}
 use Rattle.zy_top.proofs.KeptLaws.{asked_goes_on, asked_leaves, left_counted, own_journal, running_journal, serve_ends}
-use Rattle.zy_serving.specs.Identity.{identity_of}
+use Rattle.zy_top_hosting.specs.Identity.{identity_of}
 use Rattle.zy_top.proofs.MadeRuns.{made_finishes, own_answer}
 use Rattle.zy_top.proofs.ReplayLaws.{sent_runs}
 use Rattle.zy_top.proofs.TruthfulRuns.{make_truthful, replay_truthful}

@@ -1,5 +1,0 @@
-mod Joins
-mod Opening
-mod Turning
-mod Keeping
-mod Exits

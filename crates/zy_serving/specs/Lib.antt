@@ -1,4 +1,0 @@
-pub mod Identity
-pub mod Recovered
-pub mod Serving
-pub mod Files

@@ -1,0 +1,41 @@
+use Rattle.std.proofs.Common.{List, ℕ, subst}
+use Rattle.zy_base.specs.declared.ids.Party.{Party}
+use Rattle.zy_edge.specs.Files.{Held, content_of}
+use Rattle.zy_top_hosting.proofs.Exits.{served_as, started_as, unread_bound, unread_served, unread_started}
+use Rattle.zy_top_hosting.specs.Identity.{identity_of}
+use Rattle.zy_top_hosting.specs.Serving.{IsKeptBound}
+use Rattle.zy_top_hosting.specs.Files.{node_start}
+use Rattle.zy_top_hosting.proofs.serving.run.run_serve.Goals as goal
+
+pub returns-in-Ok-clause-served : goal.returns-in-Ok-clause-served
+returns-in-Ok-clause-served g c =
+    let D = g.D.Disk in
+    served_as D.contents D.may_leave D.moment D.left_since {H = Held} (g.F.Files.held c.args.files.now)
+    (λ held. node_start c.args.id (content_of held c.args.group.now) (content_of held c.args.secret.now)) (λ held. identity_of c.args.id (content_of held c.args.group.now) (content_of held c.args.secret.now))
+    _ _ _ _ _ _ _ _ _ _ _ c.in-Ok.ensures.told c.in-Ok.ensures.identity c.serve.ensures.served
+
+pub returns-in-Ok-clause-bound : goal.returns-in-Ok-clause-bound
+returns-in-Ok-clause-bound g c =
+    subst (λ (party : Party). IsKeptBound party c.serve.result (record { receives = g.L.Link.receives c.args.link.now; mail = g.L.Link.mail c.args.link.now }) (g.L.Link.binding c.args.link.now) (g.L.Link.binding c.serve.new.link)) c.in-Ok.ensures.party c.serve.ensures.bound
+
+pub returns-in-Ok-clause-started : goal.returns-in-Ok-clause-started
+returns-in-Ok-clause-started g c =
+    started_as {H = Held} (g.F.Files.held c.args.files.now)
+    (λ held. node_start c.args.id (content_of held c.args.group.now) (content_of held c.args.secret.now)) (λ held. identity_of c.args.id (content_of held c.args.group.now) (content_of held c.args.secret.now))
+    _ _ c.serve.result c.in-Ok.ensures.identity c.serve.ensures.started
+
+pub returns-in-Err-clause-served : goal.returns-in-Err-clause-served
+returns-in-Err-clause-served g c =
+    let D = g.D.Disk in
+    unread_served D.contents D.may_leave D.moment D.left_since {H = Held} (g.F.Files.held c.args.files.now)
+    (λ held. node_start c.args.id (content_of held c.args.group.now) (content_of held c.args.secret.now)) (λ held. identity_of c.args.id (content_of held c.args.group.now) (content_of held c.args.secret.now))
+    _ _ c.in-Err.exit _ _ _ c.in-Err.ensures.exit c.in-Err.ensures.told
+
+pub returns-in-Err-clause-bound : goal.returns-in-Err-clause-bound
+returns-in-Err-clause-bound g c = unread_bound _ _ _ c.in-Err.exit c.in-Err.ensures.exit
+
+pub returns-in-Err-clause-started : goal.returns-in-Err-clause-started
+returns-in-Err-clause-started g c =
+    unread_started {H = Held} (g.F.Files.held c.args.files.now)
+    (λ held. node_start c.args.id (content_of held c.args.group.now) (content_of held c.args.secret.now)) (λ held. identity_of c.args.id (content_of held c.args.group.now) (content_of held c.args.secret.now))
+    _ c.in-Err.exit c.in-Err.ensures.exit c.in-Err.ensures.told

@@ -1,0 +1,48 @@
+// What the files of a replica tell.
+ghost use Rattle.std.specs.Prelude.{◌≡◌, IfOk, IfSome, length};
+ghost use Rattle.zy_base.specs.declared.ids.Party.TheVariants as parties;
+ghost use Rattle.zy_edge.specs.Faults.{IsCounted};
+ghost use Rattle.zy_edge.specs.Files.{content_of};
+ghost use Rattle.zy_top_hosting.specs.KeptFiles.{kept_in};
+ghost use Rattle.zy_top_hosting.specs.Identity as identity;
+ghost use Rattle.zy_top_hosting.specs.Calls.{IsJudged};
+ghost use Rattle.zy_top_hosting.specs.Files.{node_start};
+ghost use Rattle.zy_top_words.specs.Calls.{IsReading, stops_reading};
+
+use crate::files::{node_group, secret_of};
+use crate::seat::{NodeSeat, node_seat};
+use crate::serving::identity::identity_of;
+use std::alloc::Global;
+use zy_base::{Digest, ReplicaId};
+use zy_edge::Files;
+use zy_top_words::Exit;
+
+/// A replica in its place, and whose journal it goes on from.
+#[derive(Drop)]
+pub(crate) struct KeptSeat {
+    pub(crate) seat: NodeSeat,
+    pub(crate) identity: Digest,
+}
+
+/// The replica that the files tell of. A journal belongs to the very bytes of both files.
+pub(crate) fn read_kept<F: Files>(
+    alloc: Global,
+    group: &str,
+    secret: &str,
+    id: ReplicaId,
+    files: &mut F,
+) -> Result<KeptSeat, Exit>
+    ensures told { IfSome (F.held files.old) (λ held. IsJudged (node_start id (content_of held group.now) (content_of held secret.now)) (kept_in result)) }
+    ensures identity { IfOk result (λ kept. IfSome (F.held files.old) (λ held. kept.identity ≡ identity.identity_of id (content_of held group.now) (content_of held secret.now))) }
+    ensures size { IfOk result (λ kept. length kept.identity.0 ≡ 32) }
+    ensures party { IfOk result (λ kept. kept.seat.address.party ≡ parties.Replica id) }
+    ensures exit { IsReading result }
+    ensures count { IsCounted (stops_reading result) (F.faults files.old) (F.faults files.new) }
+    ensures held { F.held files.new ≡ F.held files.old }
+{
+    let group = node_group(alloc, group, files)?;
+    let secret = secret_of(alloc, secret, 0, files)?;
+    let identity = identity_of(id, &group.text, &secret.text);
+    let seat = node_seat(alloc, id, group.value, &secret.value)?;
+    Ok(KeptSeat { seat, identity })
+}
