@@ -26,7 +26,7 @@ use Rattle.zy_top_hosting.specs.Serving.{AllSent, HoldsLeast, IsCutOffServing, I
 use Rattle.zy_space.specs.Service.{space_rules}
 use Rattle.zy_top_hosting.specs.Files.{Replica}
 use Rattle.zy_top_hosting.specs.Calls.{IsTelling, is_telling}
-use Rattle.zy_top_hosting.specs.Hosted.{TookAll, node_verdict}
+use Rattle.zy_top_hosting.specs.Hosted.{TookAll, node_text, node_verdict}
 use Rattle.zy_top_words.specs.Ends.{IsAnswer, IsWritten, Verdict}
 use Rattle.zy_top_words.specs.declared.exit.Exit.{Exit}
 use Rattle.zy_top_words.specs.declared.exit.Exit.TheVariants as exits
@@ -72,7 +72,7 @@ cut_took turns before after take_faults.Full = tt
 cut_took turns before after take_faults.Want = tt
 
 -- what is told of turns that were taken ends so
-pub tells_turning : (front : List ℕ) (exit : Exit) → IsAnswer (Verdict.Broke front exits.TurnsSpent) exit → IsTrue (is_telling exit) → IsTrue (is_kept_turning exit)
+tells_turning : (front : List ℕ) (exit : Exit) → IsAnswer (Verdict.Broke front exits.TurnsSpent) exit → IsTrue (is_telling exit) → IsTrue (is_kept_turning exit)
 tells_turning front exits.TurnsSpent answer telling = refl
 tells_turning front exits.WriteFault answer telling = refl
 tells_turning front exits.Want answer telling = refl
@@ -88,6 +88,9 @@ tells_turning front exits.DiskFault answer telling = absurd cc
 tells_turning front exits.NotJournal answer telling = absurd cc
 tells_turning front (exits.Damaged gate) answer telling = absurd cc
 tells_turning front exits.JournalFull answer telling = absurd cc
+
+pub node_turning : (id : ReplicaId) (told core : Replica) (exit : Exit) (before after : Option (List ℕ)) (count later : ℕ) → told ≡ core → IsTelling (node_verdict id told) exit before after count later → IsTrue (is_kept_turning exit)
+node_turning id told core exit before after count later same telling = tells_turning (node_text space_rules id told) exit telling.answer telling.told
 
 -- ---- what is sent
 

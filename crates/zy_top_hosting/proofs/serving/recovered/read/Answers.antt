@@ -42,10 +42,10 @@ returns-in-Err-Disk-clause-loses_none g c =
     let D = g.D.Disk in
     loses_opened D.contents D.may_leave D.moment D.left_since c.args.identity.now _ c.args.disk.now c.open.new.disk (g.met.D.Disk.counts_now c.open.new.disk) c.in-Err-Disk.ensures.any_moment
 
-pub returns-in-Err-NotJournal-clause-loses_none : goal.returns-in-Err-NotJournal-clause-loses_none
-returns-in-Err-NotJournal-clause-loses_none g c =
+pub returns-clause-loses_none : goal.returns-clause-loses_none
+returns-clause-loses_none g c =
     let D = g.D.Disk in
     loses_opened D.contents D.may_leave D.moment D.left_since c.args.identity.now _ c.args.disk.now c.open.new.disk (g.met.D.Disk.counts_now c.open.new.disk) c.in-Err-NotJournal.ensures.any_moment
 
-pub returns-in-Err-NotJournal-clause-not_gone_on : goal.returns-in-Err-NotJournal-clause-not_gone_on
-returns-in-Err-NotJournal-clause-not_gone_on g c = rw c.in-Err-NotJournal.field-0-is at c.in-Err-NotJournal.ensures.exactly
+pub returns-clause-not_gone_on : goal.returns-clause-not_gone_on
+returns-clause-not_gone_on g c = rw c.in-Err-NotJournal.field-0-is at c.in-Err-NotJournal.ensures.exactly

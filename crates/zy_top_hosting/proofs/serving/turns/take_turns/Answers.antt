@@ -1,5 +1,5 @@
 use Rattle.zy_node.specs.declared.fault.TakeFault.TheVariants as take_faults
-use Rattle.zy_top_hosting.proofs.Turning.{spent_of, tells_turning, turned_cut, turned_whole}
+use Rattle.zy_top_hosting.proofs.Turning.{node_turning, spent_of, turned_cut, turned_whole}
 use Rattle.zy_top_hosting.proofs.serving.turns.take_turns.Goals as goal
 
 pub returns-in-Ok-clause-turned : goal.returns-in-Ok-clause-turned
@@ -11,7 +11,7 @@ returns-in-Ok-clause-spent g c =
     spent_of g.D.Disk.contents g.D.Disk.may_leave g.D.Disk.moment g.D.Disk.left_since _ _ _ _ _ _ _ _ _ _ (returns-in-Ok-clause-turned g c)
 
 pub returns-in-Ok-clause-turning : goal.returns-in-Ok-clause-turning
-returns-in-Ok-clause-turning g c = tells_turning _ c.tell_node.result c.tell_node.ensures.answer c.tell_node.ensures.told
+returns-in-Ok-clause-turning g c = node_turning _ _ _ _ _ _ _ _ c.replica.ensures c.tell_node.ensures
 
 pub returns-in-Err-Disk-clause-turned : goal.returns-in-Err-Disk-clause-turned
 returns-in-Err-Disk-clause-turned g c =
