@@ -1,5 +1,5 @@
 -- How the command ends where its files or its journal are refused, and whom its address is of.
-use Rattle.std.proofs.Common.{◌≡◌, inl, inr, ℕ, List, Option, Some, None, IfSome, Result, Ok, Err, refl, subst}
+use Rattle.std.proofs.Common.{◌≡◌, inl, inr, ℕ, false, List, Option, Some, None, IfSome, Result, Ok, Err, refl, subst}
 use Rattle.std.specs.Prelude.{IsTrue}
 use Rattle.std.proofs.KnownBytes.{Keeps-refl}
 use Rattle.zy_base.specs.declared.ids.Digest.{Digest}
@@ -15,7 +15,7 @@ use Rattle.zy_top_hosting.specs.Calls.{IsJudged}
 use Rattle.zy_top_hosting.specs.Files.{Replica, Seat}
 use Rattle.zy_top_hosting.specs.Hosted.{IsBoundOnce, IsBoundTo, Surroundings, TookAll, files_verdict}
 use Rattle.zy_top_words.specs.Calls.{is_reading}
-use Rattle.zy_top_words.specs.Ends.{Verdict, is_link_fault, is_usage, is_write_fault}
+use Rattle.zy_top_words.specs.Ends.{IsAnswer, Verdict, is_link_fault, is_read_fault, is_usage, is_write_fault}
 use Rattle.zy_top_words.specs.declared.exit.Exit.{Exit}
 use Rattle.zy_top_words.specs.declared.exit.Exit.TheVariants as exits
 
@@ -45,12 +45,13 @@ pub record IsEarly (exit : Exit) : Type 0 where
   pub judged : IsTrue (is_usage exit) → ⊥
   pub writes : (count : ℕ) → IsCounted (is_write_fault exit) count count
   pub links : (count : ℕ) → IsCounted (is_link_fault exit) count count
+  pub unread : is_read_fault exit ≡ false
 
 pub early : (identity : Digest) (contents : Option (List ℕ)) (exit : Exit) → IsNotGoneOn identity contents exit → IsEarly exit
-early identity contents exits.DiskFault why = record { bound = λ party start binding. inl refl; spent = λ turns receives. tt; judged = λ usage. cc; writes = λ count. refl; links = λ count. refl }
-early identity contents exits.Want why = record { bound = λ party start binding. inl refl; spent = λ turns receives. tt; judged = λ usage. cc; writes = λ count. refl; links = λ count. refl }
-early identity contents exits.NotJournal why = record { bound = λ party start binding. refl; spent = λ turns receives. tt; judged = λ usage. cc; writes = λ count. refl; links = λ count. refl }
-early identity contents (exits.Damaged gate) why = record { bound = λ party start binding. refl; spent = λ turns receives. tt; judged = λ usage. cc; writes = λ count. refl; links = λ count. refl }
+early identity contents exits.DiskFault why = record { bound = λ party start binding. inl refl; spent = λ turns receives. tt; judged = λ usage. cc; writes = λ count. refl; links = λ count. refl; unread = refl }
+early identity contents exits.Want why = record { bound = λ party start binding. inl refl; spent = λ turns receives. tt; judged = λ usage. cc; writes = λ count. refl; links = λ count. refl; unread = refl }
+early identity contents exits.NotJournal why = record { bound = λ party start binding. refl; spent = λ turns receives. tt; judged = λ usage. cc; writes = λ count. refl; links = λ count. refl; unread = refl }
+early identity contents (exits.Damaged gate) why = record { bound = λ party start binding. refl; spent = λ turns receives. tt; judged = λ usage. cc; writes = λ count. refl; links = λ count. refl; unread = refl }
 early identity contents exits.Done why = absurd why
 early identity contents (exits.Usage word) why = absurd why
 early identity contents exits.ReadFault why = absurd why
@@ -79,6 +80,47 @@ stopped_turning exits.TooLong is = absurd cc
 stopped_turning exits.NotJournal is = absurd cc
 stopped_turning (exits.Damaged gate) is = absurd cc
 stopped_turning exits.JournalFull is = absurd cc
+
+-- turns stop at no read fault
+pub turned_unread : (exit : Exit) → IsTrue (is_kept_turning exit) → is_read_fault exit ≡ false
+turned_unread exits.Done is = absurd cc
+turned_unread (exits.Usage word) is = absurd cc
+turned_unread exits.ReadFault is = absurd cc
+turned_unread exits.WriteFault is = refl
+turned_unread (exits.Text line rule) is = absurd cc
+turned_unread (exits.Group field) is = absurd cc
+turned_unread (exits.Premise event what) is = absurd cc
+turned_unread exits.LinkFault is = refl
+turned_unread exits.TurnsSpent is = refl
+turned_unread exits.Want is = refl
+turned_unread exits.TooLong is = absurd cc
+turned_unread exits.DiskFault is = refl
+turned_unread exits.NotJournal is = absurd cc
+turned_unread (exits.Damaged gate) is = absurd cc
+turned_unread exits.JournalFull is = refl
+
+-- where the files are in order, any end answers them
+answers_hosted : (exit : Exit) → IsAnswer Verdict.Hosted exit
+answers_hosted exits.Done = tt
+answers_hosted (exits.Usage word) = tt
+answers_hosted exits.ReadFault = tt
+answers_hosted exits.WriteFault = tt
+answers_hosted (exits.Text line rule) = tt
+answers_hosted (exits.Group field) = tt
+answers_hosted (exits.Premise event what) = tt
+answers_hosted exits.LinkFault = tt
+answers_hosted exits.TurnsSpent = tt
+answers_hosted exits.Want = tt
+answers_hosted exits.TooLong = tt
+answers_hosted exits.DiskFault = tt
+answers_hosted exits.NotJournal = tt
+answers_hosted (exits.Damaged gate) = tt
+answers_hosted exits.JournalFull = tt
+
+pub answer_as : {H : Type 0} (told : Option H) (start : H → Result (Seat Replica) Exit) (seat : Seat Replica) (exit : Exit)
+    → IfSome told (λ held. start held ≡ Ok seat) → IfSome told (λ held. IsAnswer (files_verdict (start held)) exit)
+answer_as None start seat exit is = tt
+answer_as (Some held) start seat exit is = rw is (answers_hosted exit)
 
 pub stops_as : (identity : Digest) (contents : Option (List ℕ)) (exit : Exit) → OfJournal identity contents (IsTrue (is_stopped exit)) → OfJournal identity contents (IsTrue (is_kept_turning exit))
 stops_as identity None exit of = tt

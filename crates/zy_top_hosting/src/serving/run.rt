@@ -1,5 +1,5 @@
 // The command `serve`.
-ghost use Rattle.std.specs.Prelude.{◌≡◌, IfSome, IsTrue, length};
+ghost use Rattle.std.specs.Prelude.{◌≡◌, IfSome, IsTrue, false, length};
 ghost use Rattle.zy_base.specs.declared.ids.Party.TheVariants as parties;
 ghost use Rattle.zy_edge.specs.Faults.{IsCounted};
 ghost use Rattle.zy_edge.specs.Files.{content_of};
@@ -83,6 +83,7 @@ fn serve<S: Sink, L: Link, C: Clock, D: Disk>(
     ensures bound { IsKeptBound kept.seat.address.party result (record { receives = L.receives link.old; mail = L.mail link.old }) (L.binding link.old) (L.binding link.new) }
     ensures spent { TookAll turns result (L.receives link.old) (L.receives link.new) }
     ensures started { OfJournal kept.identity (D.contents disk.old) (IsTrue (is_kept_turning result)) }
+    ensures read { is_read_fault result ≡ false }
     ensures judged { IsTrue (is_usage result) → ⊥ }
     ensures refused { IsTrue (is_refusal result) → out.new ≡ out.old }
     ensures write_faults { IsCounted (is_write_fault result) (S.faults out.old) (S.faults out.new) }

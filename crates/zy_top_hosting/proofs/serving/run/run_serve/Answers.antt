@@ -1,11 +1,16 @@
 use Rattle.std.proofs.Common.{List, ℕ, subst}
 use Rattle.zy_base.specs.declared.ids.Party.{Party}
 use Rattle.zy_edge.specs.Files.{Held, content_of}
-use Rattle.zy_top_hosting.proofs.Exits.{served_as, started_as, unread_bound, unread_served, unread_started}
+use Rattle.zy_top_hosting.proofs.Exits.{answer_as, served_as, started_as, unread_bound, unread_served, unread_started}
 use Rattle.zy_top_hosting.specs.Identity.{identity_of}
 use Rattle.zy_top_hosting.specs.Serving.{IsKeptBound}
 use Rattle.zy_top_hosting.specs.Files.{node_start}
 use Rattle.zy_top_hosting.proofs.serving.run.run_serve.Goals as goal
+
+pub returns-in-Ok-clause-answer : goal.returns-in-Ok-clause-answer
+returns-in-Ok-clause-answer g c =
+    answer_as {H = Held} (g.F.Files.held c.args.files.now)
+    (λ held. node_start c.args.id (content_of held c.args.group.now) (content_of held c.args.secret.now)) _ c.serve.result c.in-Ok.ensures.told
 
 pub returns-in-Ok-clause-served : goal.returns-in-Ok-clause-served
 returns-in-Ok-clause-served g c =
