@@ -90,14 +90,14 @@ signing_line number by leaf statement = if is_signed_by by leaf statement then s
 abbrev pub leaf_behind : Option Party → ℕ → Statement → ℕ
 leaf_behind by leaf statement = if is_signed_by by leaf statement then statement.leaf + 1 else leaf
 
--- of what view and place a statement speaks
-abbrev pub speaks_text : Option ℕ → Option ℕ → List ℕ
-speaks_text view place = codes " view " ++ number_text view ++ codes " place " ++ number_text place
+-- whom a frame is for, and of what view and place its first statement speaks
+abbrev pub speaks_text : Party → Option ℕ → Option ℕ → List ℕ
+speaks_text to view place = 32 ∷ party_text to ++ codes " view " ++ number_text view ++ codes " place " ++ number_text place
 
--- a frame that the party sent, with the view and the place of its first statement
+-- a frame that the party sent
 abbrev pub sends_line : ℕ → Option Party → ℕ → List ℕ → Party → Option ℕ → Option ℕ → List ℕ
 sends_line number by frame kind to view place =
-    act_front number (codes " sends ") by ++ 32 ∷ frame_text frame kind ++ 32 ∷ party_text to ++ speaks_text view place ++ 10 ∷ []
+    act_front number (codes " sends ") by ++ 32 ∷ frame_text frame kind ++ speaks_text to view place ++ 10 ∷ []
 
 -- ---- where a party stands
 

@@ -211,22 +211,23 @@ pub(crate) fn put_sends(
     put_act(alloc, out, number, b" sends ", by)?;
     out.push(b' ')?;
     put_frame_text(alloc, out, frame, kind)?;
-    out.push(b' ')?;
-    put_name(alloc, out, Some(to))?;
-    put_speaks(alloc, out, view, place)?;
+    put_speaks(alloc, out, to, view, place)?;
     out.push(b'\n')?;
     Ok(())
 }
 
-/// Of what view and place a statement speaks.
+/// Whom a frame is for, and of what view and place its first statement speaks.
 fn put_speaks(
     alloc: Global,
     out: &mut Vec<u8>,
+    to: Party,
     view: Option<u64>,
     place: Option<u64>,
 ) -> Result<(), Want>
-    ensures { OnOk result (out.new.items ≡ out.old.items ++ spelled.speaks_text view place) }
+    ensures { OnOk result (out.new.items ≡ out.old.items ++ spelled.speaks_text to view place) }
 {
+    out.push(b' ')?;
+    put_name(alloc, out, Some(to))?;
     put_maybe(alloc, out, b" view ", view)?;
     put_maybe(alloc, out, b" place ", place)
 }
