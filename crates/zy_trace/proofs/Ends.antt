@@ -1,10 +1,10 @@
 -- A trace ends as a replay does.
-use Rattle.std.proofs.Common.{◌≡◌, ℕ, ◌+◌, true, false, List, length, Option, None, Some, Result, Ok, Err, refl, sym, ap, subst}
+use Rattle.std.proofs.Common.{◌≡◌, ℕ, ◌+◌, true, List, length, Option, None, Some, Result, Ok, Err, refl, sym, ap, subst}
 use Rattle.zy_base.specs.Machine.{Rules}
 use Rattle.zy_top.specs.Replaying.{is_running}
 use Rattle.zy_top.specs.Verdict.{run_verdict, told_verdict, what_broke}
 use Rattle.zy_top_words.specs.Calls.{IsSent}
-use Rattle.zy_top_words.specs.Ends.{IsAnswer, is_write_fault}
+use Rattle.zy_top_words.specs.Ends.{IsAnswer}
 use Rattle.zy_top_words.specs.declared.exit.Broken.{Broken}
 use Rattle.zy_top_words.specs.declared.exit.Exit.{Exit}
 use Rattle.zy_top_words.specs.declared.exit.Exit.TheVariants as exits
@@ -62,16 +62,6 @@ module _ {S : Type 0} (R : Rules S) (r : Run S) where
 
   pub broken_runs : (stop : Option Exit) (exit : Exit) → stop ≡ Some exit → IsStopOf r stop → is_running exit ≡ true
   broken_runs stop exit there is = running_at r.end exit (subst (λ (o : Option Exit). o ≡ stop_of r r.end) there is)
-
-  -- which is no fault of the sink
-  faultless_at : (end : End S) (exit : Exit) → Some exit ≡ stop_of r end → is_write_fault exit ≡ false
-  faultless_at (End.At w) exit is = absurd cc
-  faultless_at (End.Stopped what) exit is =
-      let same : exit ≡ exits.Premise (length r.notes + 1) (what_broke what) = cc in
-      subst (λ (e : Exit). is_write_fault e ≡ false) (sym same) refl
-
-  pub broken_writes : (stop : Option Exit) (exit : Exit) → stop ≡ Some exit → IsStopOf r stop → is_write_fault exit ≡ false
-  broken_writes stop exit there is = faultless_at r.end exit (subst (λ (o : Option Exit). o ≡ stop_of r r.end) there is)
 
   -- ---- how the run of a trace ended
 

@@ -1,6 +1,6 @@
 -- The frames of an event, one after another.
-use Rattle.std.proofs.Common.{◌≡◌, ℕ, suc, ◌+◌, ◌-◌, ◌≤◌, ◌<◌, Some, None, List, [], ◌∷◌, ◌++◌, Option, drop, take, length, replicate, inl, inr, refl, sym, ap, ◌∙◌, append_assoc, append-nil, arith}
-use Rattle.std.proofs.lemmas.List.{drop_all, drop_more, take_all}
+use Rattle.std.proofs.Common.{◌≡◌, ℕ, suc, ◌+◌, ◌≤◌, Some, None, List, [], ◌∷◌, ◌++◌, Option, drop, length, inl, inr, sym, ap, ◌∙◌, append_assoc, append-nil, arith}
+use Rattle.std.proofs.lemmas.List.{drop_all, drop_more}
 use Rattle.std.proofs.lemmas.Option.{get_or_from_slice_get, none-some, slice_get_cases, slice_get_within}
 use Rattle.std.specs.Prelude.{slice_get}
 use Rattle.zy_base.specs.declared.ids.Party.{Party}
@@ -55,19 +55,3 @@ module _ {S : Type 0} (w : World S) where
   pub frames_all : (out all : List ℕ) (number : ℕ) (by : Option Party) (leaf i : ℕ) → length w.bag ≤ i
       → out ++ frames_lines number by leaf (i + 1) (drop i w.bag) ≡ all → out ≡ all
   frames_all out all number by leaf i past before = frames_none out all number by leaf i (drop_all i w.bag past) before
-
--- ---- a list that is filled up
-
-pub full : {A : Type 0} (old : List A) (n : ℕ) (x : A) → n ≤ length old → old ≡ old ++ replicate (n - length old) x
-full {A} old n x past =
-    let none : n - length old ≡ 0 = omega (arith, past) in sym (ap (λ (k : ℕ). old ++ replicate k x) none ∙ append-nil old)
-
-pub filled : {A : Type 0} (old new : List A) (n k : ℕ) (x : A) → k ≡ length old → k < n → new ≡ take n old ++ replicate (n - k) x → new ≡ old ++ replicate (n - length old) x
-filled {A} old new n k x known above is =
-    is ∙ ap (λ (l : List A). l ++ replicate (n - k) x) (take_all n old (omega (arith, known, above))) ∙ ap (λ (j : ℕ). old ++ replicate (n - j) x) known
-
--- four texts more
-pub told_on : (t a b n c f d s e : List ℕ) → b ≡ t ++ a → c ≡ b ++ n → d ≡ c ++ f → e ≡ d ++ s → e ≡ t ++ (a ++ (n ++ (f ++ s)))
-told_on t a b n c f d s e first second third fourth =
-    fourth ∙ ap (λ (l : List ℕ). l ++ s) (third ∙ ap (λ (l : List ℕ). l ++ f) (second ∙ ap (λ (l : List ℕ). l ++ n) first))
-    ∙ append_assoc ((t ++ a) ++ n) f s ∙ append_assoc (t ++ a) n (f ++ s) ∙ append_assoc t a (n ++ (f ++ s))

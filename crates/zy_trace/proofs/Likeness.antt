@@ -1,5 +1,5 @@
 -- A trace ends as the run of its schedule.
-use Rattle.std.proofs.Common.{◌≡◌, ℕ, zero, suc, ◌+◌, Some, None, List, [], ◌∷◌, Option, length, refl, sym, subst, arith}
+use Rattle.std.proofs.Common.{◌≡◌, ℕ, zero, suc, ◌+◌, true, false, Some, None, List, [], ◌∷◌, Option, length, refl, sym, subst, arith}
 use Rattle.zy_base.specs.Machine.{Rules}
 use Rattle.zy_schedule.specs.declared.line.Line.{Line}
 use Rattle.zy_schedule.specs.declared.line.Line.TheVariants as lines
@@ -12,8 +12,8 @@ use Rattle.zy_trace.specs.Telling.{Told, Trace, happened, headed, then_on, trace
 use Rattle.zy_world_law.specs.Events as events
 use Rattle.zy_world_law.specs.Events.{Happened, happens}
 use Rattle.zy_world_law.specs.Runs as runs
-use Rattle.zy_world_law.specs.Runs.{End, Rest, Run, flow, goes_on, run}
-use Rattle.zy_world_law.specs.World.{World, next_undelivered}
+use Rattle.zy_world_law.specs.Runs.{End, Rest, Run, comes_to, flow, goes_on, run}
+use Rattle.zy_world_law.specs.World.{World, drop_frame, next_undelivered, set_muted}
 use Rattle.zy_world_law.specs.declared.event.WorldEvent.{WorldEvent}
 use Rattle.zy_world_law.specs.declared.event.WorldEvent.TheVariants as happenings
 use Rattle.zy_world_law.specs.declared.note.Note.{Note}
@@ -43,6 +43,9 @@ module _ {S : Type 0} where
   like_come_to : (worlds : List (World S)) (r : Run S) (n : ℕ) (x : Trace S) → IsLike r n x → IsLike (record { worlds = worlds; notes = r.notes; end = r.end }) n x
   like_come_to worlds r n (Trace.Goes v t) like = like
   like_come_to worlds r n (Trace.Breaks broken t) like = like
+
+  comes_like : (v : World S) (t : Told) (rest : Rest S) (more : World S → Told → Trace S) → AreLike rest more → IsLike (comes_to v rest) t.events (more v t)
+  comes_like v t rest more like = like_come_to (v ∷ (rest v).worlds) (rest v) t.events (more v t) (like v t)
 
   then_twice : (x : Trace S) (step next : World S → Told → Trace S) → then_on (then_on x step) next ≡ then_on x (λ v t. then_on (step v t) next)
   then_twice (Trace.Goes v t) step next = refl
@@ -75,9 +78,9 @@ module _ {S : Type 0} (R : Rules S) where
   act_like : (act : Act) (w : World S) (t : Told) (rest : Rest S) (more : World S → Told → Trace S) → AreLike rest more → IsLike (act_part R act rest w) t.events (then_on (trace_act R act w t) more)
   act_like (acts.Event event) w t rest more like = happened_like event w t rest more like (happens R w event)
   act_like (acts.Flow n) w t rest more like = flow_like n rest more like w t
-  act_like (acts.Drop frame) w t rest more like = like_come_to _ _ t.events _ (like _ t)
-  act_like (acts.Mute party) w t rest more like = like_come_to _ _ t.events _ (like _ t)
-  act_like (acts.Unmute party) w t rest more like = like_come_to _ _ t.events _ (like _ t)
+  act_like (acts.Drop frame) w t rest more like = comes_like (drop_frame w frame) t rest more like
+  act_like (acts.Mute party) w t rest more like = comes_like (set_muted w party true) t rest more like
+  act_like (acts.Unmute party) w t rest more like = comes_like (set_muted w party false) t rest more like
 
   pub run_like : (schedule : List Line) (w : World S) (t : Told) → IsLike (run R schedule w) t.events (trace R schedule w t)
   unfolding run trace

@@ -26,14 +26,15 @@ unsent_part : (text : List ℕ) (stop : Option Exit) (exit : Exit) (old new : Op
 unsent_part text None exit old new sent = sent_writes old new text (Err exit) sent
 unsent_part text (Some refusal) exit old new sent = stopped_writes old new text refusal exit sent
 
-pub unsent_writes : (verdict : Verdict) (text : List ℕ) (stop : Option Exit) (exit : Exit) (old new : Option (List ℕ)) → stopped_verdict text stop ≡ verdict → IsSent old new text (Err exit)
-    → IsWritten verdict exit old new
-unsent_writes verdict text stop exit old new is sent = subst (λ (v : Verdict). IsWritten v exit old new) is (unsent_part text stop exit old new sent)
+pub unsent_writes : (verdict : Verdict) (text bytes : List ℕ) (stop : Option Exit) (exit : Exit) (old new : Option (List ℕ)) → stopped_verdict text stop ≡ verdict → bytes ≡ text
+    → IsSent old new bytes (Err exit) → IsWritten verdict exit old new
+unsent_writes verdict text bytes stop exit old new is same sent =
+    subst (λ (v : Verdict). IsWritten v exit old new) is (unsent_part text stop exit old new (subst (λ (b : List ℕ). IsSent old new b (Err exit)) same sent))
 
-pub whole_writes : (verdict : Verdict) (text : List ℕ) (stop : Option Exit) (old new : Option (List ℕ)) → stopped_verdict text stop ≡ verdict → stop ≡ None → Appends old new text
-    → IsWritten verdict exits.Done old new
-whole_writes verdict text stop old new is none sent =
-    subst (λ (v : Verdict). IsWritten v exits.Done old new) (ap (stopped_verdict text) (sym none) ∙ is) sent
+pub whole_writes : (verdict : Verdict) (text bytes : List ℕ) (stop : Option Exit) (old new : Option (List ℕ)) → stopped_verdict text stop ≡ verdict → stop ≡ None → bytes ≡ text
+    → Appends old new bytes → IsWritten verdict exits.Done old new
+whole_writes verdict text bytes stop old new is none same sent =
+    subst (λ (v : Verdict). IsWritten v exits.Done old new) (ap (stopped_verdict text) (sym none) ∙ is) (subst (λ (b : List ℕ). Appends old new b) same sent)
 
 module _ {S : Type 0} (r : Run S) where
   broken_at : (end : End S) (text : List ℕ) (exit : Exit) (old new : Option (List ℕ)) → Some exit ≡ stop_of r end → Appends old new text → IsWritten (Verdict.Broke text exit) exit old new
@@ -42,11 +43,11 @@ module _ {S : Type 0} (r : Run S) where
       let same : exit ≡ exits.Premise (length r.notes + 1) (what_broke what) = cc in
       subst (λ (e : Exit). IsWritten (Verdict.Broke text e) e old new) (sym same) sent
 
-  pub broken_text : (verdict : Verdict) (text : List ℕ) (stop : Option Exit) (exit : Exit) (old new : Option (List ℕ)) → stopped_verdict text stop ≡ verdict → stop ≡ Some exit → IsStopOf r stop
-      → Appends old new text → IsWritten verdict exit old new
-  broken_text verdict text stop exit old new is there stops sent =
+  pub broken_text : (verdict : Verdict) (text bytes : List ℕ) (stop : Option Exit) (exit : Exit) (old new : Option (List ℕ)) → stopped_verdict text stop ≡ verdict → stop ≡ Some exit
+      → IsStopOf r stop → bytes ≡ text → Appends old new bytes → IsWritten verdict exit old new
+  broken_text verdict text bytes stop exit old new is there stops same sent =
       subst (λ (v : Verdict). IsWritten v exit old new) (ap (stopped_verdict text) (sym there) ∙ is)
-      (broken_at r.end text exit old new (subst (λ (o : Option Exit). o ≡ stop_of r r.end) there stops) sent)
+      (broken_at r.end text exit old new (subst (λ (o : Option Exit). o ≡ stop_of r r.end) there stops) (subst (λ (b : List ℕ). Appends old new b) same sent))
 
 -- ---- the run that files tell of
 

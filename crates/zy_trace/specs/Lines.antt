@@ -8,9 +8,11 @@ use Rattle.zy_base.specs.Step.{view_of}
 use Rattle.zy_base.specs.declared.ids.ClientId.{ClientId}
 use Rattle.zy_base.specs.declared.ids.Party.{Party}
 use Rattle.zy_base.specs.declared.ids.Party.TheVariants as parties
+use Rattle.zy_base.specs.declared.ids.Place.{Place}
 use Rattle.zy_base.specs.declared.ids.Stamp.{Stamp}
 use Rattle.zy_base.specs.declared.step.Answer.{Answer}
 use Rattle.zy_base.specs.declared.step.Answer.TheVariants.{Taken, Held, Refused}
+use Rattle.zy_base.specs.declared.step.Stood.{Stood}
 use Rattle.zy_base.specs.declared.step.TimerKind.{TimerKind}
 use Rattle.zy_base.specs.declared.step.Timers.{Timers}
 use Rattle.zy_report.specs.Lines.{mode_text}
@@ -51,10 +53,17 @@ ask_line number client op = act_front number (codes " ask ") (Some (parties.Clie
 abbrev pub timer_line : ℕ → Party → TimerKind → List ℕ
 timer_line number party kind = act_front number (codes " timer ") (Some party) ++ 32 ∷ kind_text kind ++ 10 ∷ []
 
--- what becomes of a frame: its number and kind, who sent it and whom it reaches
+-- a frame by its number, and its kind
+abbrev pub frame_text : ℕ → List ℕ → List ℕ
+frame_text frame kind = decimal frame ++ 32 ∷ kind
+
+-- who sent it, and whom it reaches
+abbrev pub way_text : Option Party → Option Party → List ℕ
+way_text from to = 32 ∷ name_text from ++ 32 ∷ name_text to
+
+-- what becomes of a frame
 abbrev pub frame_line : ℕ → List ℕ → ℕ → List ℕ → Option Party → Option Party → List ℕ
-frame_line number act frame kind from to =
-    decimal number ++ act ++ decimal frame ++ 32 ∷ kind ++ 32 ∷ name_text from ++ 32 ∷ name_text to ++ 10 ∷ []
+frame_line number act frame kind from to = decimal number ++ act ++ frame_text frame kind ++ way_text from to ++ 10 ∷ []
 
 -- ---- behind it
 
@@ -81,11 +90,14 @@ signing_line number by leaf statement = if is_signed_by by leaf statement then s
 abbrev pub leaf_behind : Option Party → ℕ → Statement → ℕ
 leaf_behind by leaf statement = if is_signed_by by leaf statement then statement.leaf + 1 else leaf
 
--- a frame that the party sent, with the view and the place of its first statement
+-- whom a frame is for, and of what view and place its first statement speaks
+abbrev pub speaks_text : Party → Option ℕ → Option ℕ → List ℕ
+speaks_text to view place = 32 ∷ party_text to ++ codes " view " ++ number_text view ++ codes " place " ++ number_text place
+
+-- a frame that the party sent
 abbrev pub sends_line : ℕ → Option Party → ℕ → List ℕ → Party → Option ℕ → Option ℕ → List ℕ
 sends_line number by frame kind to view place =
-    act_front number (codes " sends ") by ++ 32 ∷ decimal frame ++ 32 ∷ kind ++ 32 ∷ party_text to
-    ++ codes " view " ++ number_text view ++ codes " place " ++ number_text place ++ 10 ∷ []
+    act_front number (codes " sends ") by ++ 32 ∷ frame_text frame kind ++ speaks_text to view place ++ 10 ∷ []
 
 -- ---- where a party stands
 
@@ -98,15 +110,18 @@ timers_text timers =
 abbrev pub ready_text : ℕ → Timers → List ℕ
 ready_text leaf timers = codes " leaf " ++ decimal leaf ++ codes " timers " ++ timers_text timers ++ 10 ∷ []
 
--- a replica: its mode and view, its history, its stable place
+-- mode and view, the history, the stable place
+abbrev pub stood_text : Stood → Place → List ℕ
+stood_text stood stable =
+    mode_text stood.mode ++ decimal (view_of stood.mode).0
+    ++ codes " length " ++ decimal stood.length.0
+    ++ codes " head " ++ encode_lower stood.head.0
+    ++ codes " stable " ++ decimal stable.0
+
 abbrev pub replica_stands : {S : Type 0} → Rules S → ℕ → Option Party → Option (State S) → List ℕ
 replica_stands R number by None = []
 replica_stands R number by (Some s) =
-    act_front number (codes " stands ") by ++ mode_text (stood_of R s).mode ++ decimal (view_of (stood_of R s).mode).0
-    ++ codes " length " ++ decimal (stood_of R s).length.0
-    ++ codes " head " ++ encode_lower (stood_of R s).head.0
-    ++ codes " stable " ++ decimal s.board.stable.place.0
-    ++ ready_text s.sealer.key.next (timers_of s)
+    act_front number (codes " stands ") by ++ stood_text (stood_of R s) s.board.stable.place ++ ready_text s.sealer.key.next (timers_of s)
 
 -- the request that waits is told by its stamp
 abbrev pub waiting_text : Option Stamp → List ℕ

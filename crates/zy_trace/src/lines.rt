@@ -8,7 +8,9 @@ ghost use Rattle.zy_tuple.specs.Values.{IsOp};
 use crate::parts::{put_act, put_hex, put_maybe, put_name, put_number};
 use crate::statement::{Statement, saying_name};
 use std::alloc::Global;
-use zy_base::{Answer, ClientId, Machine, Mode, Party, Stamp, TimerKind, Timers, Want};
+use zy_base::{
+    Answer, ClientId, Machine, Mode, Party, Place, Stamp, Stood, TimerKind, Timers, Want,
+};
 use zy_client::Client;
 use zy_top_words::Broken;
 use zy_tuple::{Op, op_text};
@@ -87,15 +89,35 @@ pub(crate) fn put_frame_line(
     ensures { OnOk result (out.new.items ≡ out.old.items ++ spelled.frame_line number act.now frame kind.now from to) }
 {
     put_number(alloc, out, b"", number)?;
-    put_number(alloc, out, act, frame)?;
+    out.extend_from_slice(act)?;
+    put_frame_text(alloc, out, frame, kind)?;
+    put_way(alloc, out, from, to)?;
+    out.push(b'\n')?;
+    Ok(())
+}
+
+fn put_frame_text(alloc: Global, out: &mut Vec<u8>, frame: u64, kind: &str) -> Result<(), Want>
+    ensures { OnOk result (out.new.items ≡ out.old.items ++ spelled.frame_text frame kind.now) }
+{
+    put_number(alloc, out, b"", frame)?;
     out.push(b' ')?;
     out.extend_from_slice(kind.as_bytes())?;
+    Ok(())
+}
+
+/// Who sent a frame, and whom it reaches.
+fn put_way(
+    alloc: Global,
+    out: &mut Vec<u8>,
+    from: Option<Party>,
+    to: Option<Party>,
+) -> Result<(), Want>
+    ensures { OnOk result (out.new.items ≡ out.old.items ++ spelled.way_text from to) }
+{
     out.push(b' ')?;
     put_name(alloc, out, from)?;
     out.push(b' ')?;
-    put_name(alloc, out, to)?;
-    out.push(b'\n')?;
-    Ok(())
+    put_name(alloc, out, to)
 }
 
 /// What the party answered; a refusal stands in the report.
@@ -187,15 +209,27 @@ pub(crate) fn put_sends(
     ensures { OnOk result (out.new.items ≡ out.old.items ++ spelled.sends_line number by frame kind.now to view place) }
 {
     put_act(alloc, out, number, b" sends ", by)?;
-    put_number(alloc, out, b" ", frame)?;
     out.push(b' ')?;
-    out.extend_from_slice(kind.as_bytes())?;
+    put_frame_text(alloc, out, frame, kind)?;
+    put_speaks(alloc, out, to, view, place)?;
+    out.push(b'\n')?;
+    Ok(())
+}
+
+/// Whom a frame is for, and of what view and place its first statement speaks.
+fn put_speaks(
+    alloc: Global,
+    out: &mut Vec<u8>,
+    to: Party,
+    view: Option<u64>,
+    place: Option<u64>,
+) -> Result<(), Want>
+    ensures { OnOk result (out.new.items ≡ out.old.items ++ spelled.speaks_text to view place) }
+{
     out.push(b' ')?;
     put_name(alloc, out, Some(to))?;
     put_maybe(alloc, out, b" view ", view)?;
-    put_maybe(alloc, out, b" place ", place)?;
-    out.push(b'\n')?;
-    Ok(())
+    put_maybe(alloc, out, b" place ", place)
 }
 
 /// Where a correct replica stands.
@@ -211,13 +245,19 @@ pub(crate) fn put_replica<M: Machine>(
     let Some(replica) = replica else {
         return Ok(());
     };
-    let stood = replica.stood();
     put_act(alloc, out, number, b" stands ", by)?;
+    put_stood(alloc, out, &replica.stood(), replica.stable().1)?;
+    put_ready(alloc, out, replica.key_next(), replica.timers())
+}
+
+/// Its mode and view, its history, its stable place.
+fn put_stood(alloc: Global, out: &mut Vec<u8>, stood: &Stood, stable: Place) -> Result<(), Want>
+    ensures { OnOk result (out.new.items ≡ out.old.items ++ spelled.stood_text stood.now stable) }
+{
     put_number(alloc, out, mode_text(stood.mode), stood.mode.view().0)?;
     put_number(alloc, out, b" length ", stood.length.0)?;
     put_hex(alloc, out, b" head ", &stood.head.0)?;
-    put_number(alloc, out, b" stable ", replica.stable().1.0)?;
-    put_ready(alloc, out, replica.key_next(), replica.timers())
+    put_number(alloc, out, b" stable ", stable.0)
 }
 
 fn mode_text(mode: Mode) -> &'static [u8]

@@ -7,8 +7,8 @@ use Rattle.zy_trace.specs.Telling.{actor, answer_in, cut, followed, next_leaf}
 use Rattle.zy_trace.specs.Tracing.{told_of}
 use Rattle.zy_world_law.specs.Events as events
 
-pub returns-in_ok-follow-clause-traced : goal.returns-in_ok-follow-clause-traced
-returns-in_ok-follow-clause-traced g c whole shows =
+pub returns-in_ok-follow-in-Ok-clause-traced : goal.returns-in_ok-follow-in-Ok-clause-traced
+returns-in_ok-follow-in-Ok-clause-traced g c whole shows =
     let R = g.M.Machine.rules in
     let event = c.args.event in
     let goes = c.in-Ok.ensures.goes whole shows in
@@ -16,11 +16,11 @@ returns-in_ok-follow-clause-traced g c whole shows =
     let leaf = c.next_leaf-leaf.ensures whole shows in
     let answer : c.in-Ok.field-0.answer ≡ answer_in R whole event = c.in-Ok.ensures.answer ∙ answer_is R whole c.args.world event shows in
     let told : told_of c.follow.new.self ≡ followed R goes.0 (actor whole event) (next_leaf whole (actor whole event)) c.in-Ok.field-0.note (answer_in R whole event) (told_of c.args.trace.now) =
-    told_same _ _ _ _ _ _ (rw (leaf, by, answer) at (c.in_ok-follow.ensures.text goes.0 goes.2)) c.in_ok-follow.ensures.events (rw by at (c.in_ok-follow.ensures.senders goes.0 goes.2)) in
+    told_same _ _ _ _ _ _ (rw (leaf, by, answer) at (c.in_ok-follow-in-Ok.ensures.text goes.0 goes.2)) c.in_ok-follow-in-Ok.ensures.events (rw by at (c.in_ok-follow-in-Ok.ensures.senders goes.0 goes.2)) in
     event_goes R event whole goes.0 c.in-Ok.field-0.note (told_of c.args.trace.now) (told_of c.follow.new.self) c.in-Ok.field-0.world goes.1 told goes.2
 
-pub returns-in_err-follow-clause-traced : goal.returns-in_err-follow-clause-traced
-returns-in_err-follow-clause-traced g c whole shows =
+pub returns-in_err-follow-in-Ok-clause-traced : goal.returns-in_err-follow-in-Ok-clause-traced
+returns-in_err-follow-in-Ok-clause-traced g c whole shows =
     let p = err_from_is_err_and c.from_residual.result c.from_residual.ensures.1 in
     rw (p.1, p.2) tt
 

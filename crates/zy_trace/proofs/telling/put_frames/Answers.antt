@@ -13,4 +13,4 @@ loop-before-preserved g c whole shows =
 
 pub returns : goal.returns
 returns g c whole shows =
-    frames_all whole _ _ c.args.number c.args.by c.loop-before.next c.loop-before.before (omega (arith, c.sent.ensures whole shows, c.loop-before-test.false)) (c.loop-before.invariant whole shows)
+    frames_all whole _ _ c.args.number c.args.by c.loop-before.next c.loop-before.before (omega (arith, c.sent-before-end.ensures whole shows, c.loop-before-test.false)) (c.loop-before.invariant whole shows)

@@ -22,22 +22,22 @@ returns-in_err-write_all-clause-answer g c =
 pub returns-in_err-write_all-clause-written : goal.returns-in_err-write_all-clause-written
 returns-in_err-write_all-clause-written g c =
     let p = err_from_is_err_and c.from_residual-in_err-write_all.result c.from_residual-in_err-write_all.ensures.1 in
-    rw (p.1, p.2) (unsent_writes _ _ c.in_ok-finished.finished.stop _ _ _ c.in_ok-finished.ensures.verdict (rw c.deref.ensures.value at c.in_err-write_all.ensures.written))
+    rw (p.1, p.2) (unsent_writes _ _ c.deref.result.now c.in_ok-finished.finished.stop _ _ _ c.in_ok-finished.ensures.verdict c.deref.ensures.value c.in_err-write_all.ensures.written)
 
 pub returns-in-None-clause-answer : goal.returns-in-None-clause-answer
 returns-in-None-clause-answer g c = whole_answers space_rules (run space_rules c.args.lines.items (start space_rules c.args.setup)) _ c.in-None.is c.in_ok-finished.ensures.stop
 
 pub returns-in-None-clause-written : goal.returns-in-None-clause-written
 returns-in-None-clause-written g c =
-    whole_writes _ _ _ _ _ c.in_ok-finished.ensures.verdict c.in-None.is (rw c.deref.ensures.value at c.in_ok-write_all.ensures.written)
+    whole_writes _ _ c.deref.result.now _ _ _ c.in_ok-finished.ensures.verdict c.in-None.is c.deref.ensures.value c.in_ok-write_all.ensures.written
 
 pub returns-clause-answer : goal.returns-clause-answer
 returns-clause-answer g c = broken_answers space_rules (run space_rules c.args.lines.items (start space_rules c.args.setup)) _ c.in-Some.exit c.in-Some.is c.in_ok-finished.ensures.stop
 
 pub returns-clause-written : goal.returns-clause-written
 returns-clause-written g c =
-    broken_text (run space_rules c.args.lines.items (start space_rules c.args.setup)) _ _ _ c.in-Some.exit _ _ c.in_ok-finished.ensures.verdict c.in-Some.is c.in_ok-finished.ensures.stop
-    (rw c.deref.ensures.value at c.in_ok-write_all.ensures.written)
+    broken_text (run space_rules c.args.lines.items (start space_rules c.args.setup)) _ _ c.deref.result.now _ c.in-Some.exit _ _ c.in_ok-finished.ensures.verdict c.in-Some.is
+    c.in_ok-finished.ensures.stop c.deref.ensures.value c.in_ok-write_all.ensures.written
 
 pub returns-clause-exit : goal.returns-clause-exit
 returns-clause-exit g c = broken_runs space_rules (run space_rules c.args.lines.items (start space_rules c.args.setup)) _ c.in-Some.exit c.in-Some.is c.in_ok-finished.ensures.stop
