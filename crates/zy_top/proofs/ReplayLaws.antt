@@ -1,5 +1,5 @@
 -- What a replay comes to is the verdict on its run.
-use Rattle.std.proofs.Common.{◌≡◌, ℕ, ◌+◌, List, [], ◌++◌, length, Option, Result, Ok, Err, refl, sym, ap, ◌∙◌, append-nil, arith}
+use Rattle.std.proofs.Common.{◌≡◌, ℕ, ◌+◌, List, [], ◌++◌, length, Option, Result, Ok, Err, refl, sym, ap, ◌∙◌, arith}
 use Rattle.zy_base.specs.Machine.{Rules}
 use Rattle.zy_world_law.specs.Events as events
 use Rattle.zy_world_law.specs.Runs.{End, Run}

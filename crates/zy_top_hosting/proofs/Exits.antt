@@ -13,7 +13,7 @@ use Rattle.zy_top_hosting.specs.Serving.{IsKeptBound, IsServeRun, OfJournal, Ser
 use Rattle.zy_top_hosting.proofs.Bound.{bound_as}
 use Rattle.zy_top_hosting.specs.Calls.{IsJudged}
 use Rattle.zy_top_hosting.specs.Files.{Replica, Seat}
-use Rattle.zy_top_hosting.specs.Hosted.{IsBoundOnce, IsBoundTo, Surroundings, TookAll, files_verdict}
+use Rattle.zy_top_hosting.specs.Hosted.{IsBoundTo, Surroundings, TookAll, files_verdict}
 use Rattle.zy_top_words.specs.Calls.{is_reading}
 use Rattle.zy_top_words.specs.Ends.{IsAnswer, Verdict, is_link_fault, is_read_fault, is_usage, is_write_fault}
 use Rattle.zy_top_words.specs.declared.exit.Exit.{Exit}

@@ -1,5 +1,5 @@
 -- A file whose records were read from its first gate on stands for them.
-use Rattle.std.proofs.Common.{◌≡◌, ◌≢◌, inl, inr, ℕ, ◌+◌, ◌^◌, ◌<◌, ◌≤◌, true, false, cond, List, [], ◌∷◌, ◌++◌, length, map, drop, refl, sym, ◌∙◌, ap, subst, arith, append_assoc, length-append, length-drop}
+use Rattle.std.proofs.Common.{◌≡◌, ◌≢◌, inl, inr, ℕ, ◌+◌, true, false, cond, List, [], ◌∷◌, ◌++◌, length, map, drop, refl, sym, ◌∙◌, ap, subst, arith, append_assoc, length-append, length-drop}
 use Rattle.std.proofs.lemmas.Bool.{cases_Bool, cases_eq}
 use Rattle.std.proofs.lemmas.List.{drop_at, drop-drop}
 use Rattle.std.specs.Int.{w32, to_be_bytes}
@@ -11,7 +11,7 @@ use Rattle.zy_journal.specs.Journal.{HasRecord, Holds, IsMarked, IsPiece, Stands
 use Rattle.zy_journal.proofs.Begins.{opened_used}
 use Rattle.zy_journal.proofs.Lists.{first_is, length-block, length-head, one_list, same_front, same_length, shut_blank, tail_is, used_holds}
 use Rattle.zy_node.specs.Events.{event_bytes}
-use Rattle.zy_node.specs.Recovering.{AreListed, IsBroken, IsBrokenAt, IsNoEvent}
+use Rattle.zy_node.specs.Recovering.{AreListed, IsBroken, IsBrokenAt}
 
 opened_blank : (identity : Digest) (file : List ℕ) → is_blank file ≡ true → opened identity file ≡ head_of identity ++ (0 ∷ drop 42 file)
 opened_blank identity file blank = ap (λ b. cond b (head_of identity ++ (0 ∷ drop 42 file)) file) blank

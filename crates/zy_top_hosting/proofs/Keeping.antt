@@ -1,5 +1,5 @@
 -- A replica that goes on from its journal, once its address was asked for.
-use Rattle.std.proofs.Common.{◌≡◌, ◌⊎◌, inl, inr, ℕ, ◌≤◌, List, length, take, Option, Some, None, IfSome, refl, sym, ◌∙◌, ap, subst}
+use Rattle.std.proofs.Common.{◌≡◌, ◌⊎◌, inl, inr, ℕ, ◌≤◌, List, take, Option, Some, None, IfSome, refl, sym, ◌∙◌, subst}
 use Rattle.std.specs.Prelude.{IsTrue}
 use Rattle.zy_base.specs.declared.ids.Digest.{Digest}
 use Rattle.zy_base.specs.declared.ids.ReplicaId.{ReplicaId}
@@ -12,7 +12,7 @@ use Rattle.zy_node.specs.Told.{IsCutRun, IsRun, Outside}
 use Rattle.zy_node.specs.Turn.{HostState, all_parcels, host_of}
 use Rattle.zy_top_hosting.proofs.Turning.{kept_of, no_turn, serves_of}
 use Rattle.zy_top_hosting.specs.Recovered.{IsGoneOn, rules}
-use Rattle.zy_top_hosting.specs.Serving.{AllSent, IsCutOffServing, IsKeeping, IsKept, ServesFrom, TurnsFrom, is_cut_off}
+use Rattle.zy_top_hosting.specs.Serving.{AllSent, IsKeeping, IsKept, ServesFrom, TurnsFrom, is_cut_off}
 use Rattle.zy_top_hosting.proofs.Runs.{at, cut_from, idle_from, run_from}
 use Rattle.zy_top_hosting.specs.Files.{Replica}
 use Rattle.zy_top_hosting.specs.Hosted.{IsIdle}

@@ -1,11 +1,9 @@
 -- A journal that is opened and read, over any disk.
-use Rattle.std.proofs.Common.{◌≡◌, ◌⊎◌, inl, inr, ⊎_elim, ℕ, ◌≤◌, false, List, length, map, Option, Some, None, IfSome, is_some, Result, Ok, Err, refl, sym, ◌∙◌, ap, subst}
+use Rattle.std.proofs.Common.{◌≡◌, ◌⊎◌, inl, inr, ⊎_elim, ℕ, ◌≤◌, false, List, length, Option, Some, None, IfSome, is_some, Result, Ok, Err, refl, sym, ◌∙◌, ap, subst}
 use Rattle.std.specs.Prelude.{IfErr, IfOk, IsTrue}
 use Rattle.zy_base.specs.declared.ids.Digest.{Digest}
-use Rattle.zy_base.specs.declared.step.Event.{Event}
 use Rattle.zy_journal.specs.Disk.{IsOnly, LeavesOnly, Narrows, Only, Rests, StaysTold}
 use Rattle.zy_journal.specs.Journal.{IsAtEnd, IsMarked, Keeps, StandsFor, is_blank, opened}
-use Rattle.zy_journal.proofs.Lists.{holds_used}
 use Rattle.zy_journal.proofs.Told.{from_some, if_some, some_is, was_told}
 use Rattle.zy_node.specs.Keeping.{KeptState}
 use Rattle.zy_node.specs.Recovering.{AreListed, IsBrokenAt, IsRecovered}

@@ -1,5 +1,5 @@
 -- Turns that are stored first are turns of a node, and keep what they stored.
-use Rattle.std.proofs.Common.{◌≡◌, ◌⊎◌, inl, inr, ℕ, ◌≤◌, List, [], ◌∷◌, ◌++◌, length, map, take, Option, Some, None, IfSome, is_some, Result, Ok, Err, refl, sym, ◌∙◌, ap, subst, arith}
+use Rattle.std.proofs.Common.{◌≡◌, inl, inr, ℕ, ◌≤◌, List, [], ◌++◌, length, map, take, Option, Some, None, IfSome, Result, Ok, Err, refl, sym, ◌∙◌, ap, subst, arith}
 use Rattle.std.specs.Prelude.{IsTrue}
 use Rattle.std.proofs.KnownBytes.{Keeps-refl}
 use Rattle.std.proofs.lemmas.List.{append-nil, length-map, map-append, take-map, take_all}
@@ -11,7 +11,7 @@ use Rattle.zy_edge.specs.Link.{Mail, Parcel}
 use Rattle.zy_journal.specs.Disk.{Only}
 use Rattle.zy_journal.specs.Journal.{IsAtEnd, IsEnd, StandsFor}
 use Rattle.zy_journal.proofs.Told.{from_some, if_some, was_told}
-use Rattle.zy_node.specs.Events.{IsSameAsKept, SuitsJournal, event_bytes, events_of_all, kept, sent_by}
+use Rattle.zy_node.specs.Events.{SuitsJournal, event_bytes, events_of_all, kept, sent_by}
 use Rattle.zy_node.specs.Keeping.{HasAll, KeptState}
 use Rattle.zy_node.specs.Serving.{FrontSent, HasLeast, IsCutOff, IsKeptRun, KeepsRun, KeepsWord}
 use Rattle.zy_node.specs.Told.{IsCutRun, IsCutTurn, IsRun, MovesAll, Outside, RoseBy}
@@ -22,7 +22,7 @@ use Rattle.zy_node.proofs.EventLemmas.{same_as_kept}
 use Rattle.zy_node.proofs.ReplicaLemmas.{replica_suits}
 use Rattle.zy_node.proofs.WordLemmas.{word_of}
 use Rattle.zy_top_hosting.specs.Recovered.{pieces_of, rules}
-use Rattle.zy_top_hosting.specs.Serving.{AllSent, HoldsLeast, IsCutOffServing, IsKept, IsTurned, ServesFrom, Tells, exit_of_take, is_cut_off, is_kept_turning}
+use Rattle.zy_top_hosting.specs.Serving.{AllSent, HoldsLeast, IsKept, IsTurned, ServesFrom, Tells, exit_of_take, is_cut_off, is_kept_turning}
 use Rattle.zy_space.specs.Service.{space_rules}
 use Rattle.zy_top_hosting.specs.Files.{Replica}
 use Rattle.zy_top_hosting.specs.Calls.{IsTelling, is_telling}

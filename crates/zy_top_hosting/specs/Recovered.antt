@@ -1,9 +1,9 @@
 -- What a journal makes of a replica before its turns.
-use Rattle.std.specs.Prelude.{◌≡◌, ◌⊎◌, ℕ, Bool, true, false, IsTrue, List, map, Option, IfSome, Result, Ok, Err, ⊤}
+use Rattle.std.specs.Prelude.{◌≡◌, ◌⊎◌, ℕ, Bool, true, false, List, map, Option, IfSome, Result, Ok, Err, ⊤}
 use Rattle.zy_base.specs.declared.ids.Digest.{Digest}
 use Rattle.zy_base.specs.declared.step.Event.{Event}
 use Rattle.zy_journal.specs.Disk.{StaysTold}
-use Rattle.zy_journal.specs.Journal.{IsAtEnd, IsMarked, Keeps, StandsFor, blocks, is_blank, opened}
+use Rattle.zy_journal.specs.Journal.{IsAtEnd, IsMarked, Keeps, StandsFor, is_blank, opened}
 use Rattle.zy_node.specs.Events.{after, event_bytes}
 use Rattle.zy_node.specs.Keeping.{KeptState}
 use Rattle.zy_node.specs.Recovering.{IsBrokenAt, IsRecovered}

@@ -1,5 +1,5 @@
 -- A trace ends as a replay does.
-use Rattle.std.proofs.Common.{◌≡◌, ℕ, ◌+◌, true, List, length, Option, None, Some, Result, Ok, Err, refl, sym, ap, subst}
+use Rattle.std.proofs.Common.{◌≡◌, ℕ, ◌+◌, true, List, length, Option, None, Some, Err, refl, sym, ap, subst}
 use Rattle.zy_base.specs.Machine.{Rules}
 use Rattle.zy_top.specs.Replaying.{is_running}
 use Rattle.zy_top.specs.Verdict.{run_verdict, told_verdict, what_broke}

@@ -8,7 +8,7 @@ use Rattle.zy_top.specs.Acts.{act_of, act_part}
 use Rattle.zy_top.specs.declared.acts.Act.{Act}
 use Rattle.zy_top.specs.declared.acts.Act.TheVariants as acts
 use Rattle.zy_trace.specs.Telling as telling
-use Rattle.zy_trace.specs.Telling.{Told, Trace, happened, headed, then_on, trace, trace_act, trace_delivery, trace_event, trace_flow}
+use Rattle.zy_trace.specs.Telling.{Told, Trace, happened, headed, then_on, trace, trace_act, trace_delivery, trace_flow}
 use Rattle.zy_world_law.specs.Events as events
 use Rattle.zy_world_law.specs.Events.{Happened, happens}
 use Rattle.zy_world_law.specs.Runs as runs

@@ -1,9 +1,8 @@
 -- What is written is the trace.
-use Rattle.std.proofs.Common.{◌≡◌, ℕ, ◌+◌, List, length, Option, None, Some, IfSome, Result, Ok, Err, sym, ap, ◌∙◌, subst}
+use Rattle.std.proofs.Common.{◌≡◌, ℕ, ◌+◌, List, length, Option, None, Some, IfSome, Ok, Err, sym, ap, ◌∙◌, subst}
 use Rattle.std.specs.Io.KnownBytes.{Appends}
 use Rattle.std.specs.Prelude.{IsTrue}
 use Rattle.zy_edge.specs.Files.{Held, content_of}
-use Rattle.zy_group.specs.declared.replay.ReplayGroup.{ReplayGroup}
 use Rattle.zy_schedule.specs.Reading.{schedule_of}
 use Rattle.zy_schedule.specs.declared.line.Line.{Line}
 use Rattle.zy_top.proofs.ReplayLaws.{sent_writes, stopped_writes}

@@ -1,5 +1,5 @@
 // The lines of a trace that need no world.
-ghost use Rattle.std.specs.Prelude.{◌≡◌, ◌++◌, ◌∷◌, [], OnOk, option_copied};
+ghost use Rattle.std.specs.Prelude.{◌≡◌, ◌++◌, OnOk, option_copied};
 ghost use Rattle.zy_report.specs.Lines.{mode_text};
 ghost use Rattle.zy_schedule.specs.Texts.{kind_text};
 ghost use Rattle.zy_trace.specs.Lines as spelled;

@@ -1,8 +1,6 @@
 use Rattle.std.proofs.Common.{true, false, refl}
 use Rattle.zy_trace.proofs.Steps.{come_to}
 use Rattle.zy_trace.proofs.run.trace_act.Goals as goal
-use Rattle.zy_trace.specs.Telling.{trace_act}
-use Rattle.zy_trace.specs.Tracing.{told_of}
 use Rattle.zy_world_law.specs.World.{drop_frame, set_muted}
 
 pub returns-in-Event-clause-traced : goal.returns-in-Event-clause-traced

@@ -1,4 +1,4 @@
-use Rattle.std.proofs.Common.{◌+◌, Some, None, sym, ap, ◌∙◌, option_copied, arith}
+use Rattle.std.proofs.Common.{sym, ap, ◌∙◌, option_copied, arith}
 use Rattle.zy_trace.proofs.Framing.{frames_all, frames_end, frames_on}
 use Rattle.zy_trace.proofs.telling.put_frames.Goals as goal
 

@@ -1,8 +1,5 @@
-use Rattle.std.proofs.Common.{◌≡◌, ◌+◌, [], length, sym, ap, ◌∙◌, arith}
+use Rattle.std.proofs.Common.{◌≡◌, ◌+◌, length, sym, ap, ◌∙◌, arith}
 use Rattle.zy_space.specs.Service.{space_rules}
-use Rattle.zy_top.specs.Verdict.{what_broke}
-use Rattle.zy_top_words.specs.Ends.{Verdict}
-use Rattle.zy_top_words.specs.declared.exit.Exit.TheVariants as exits
 use Rattle.zy_world_law.specs.Runs.{run}
 use Rattle.zy_world_law.specs.World.{start}
 use Rattle.zy_trace.proofs.Ends.{stop_at_break, stop_at_end}

@@ -1,4 +1,3 @@
-use Rattle.std.proofs.Common.{◌≡◌, ℕ, List, length}
 use Rattle.zy_journal.specs.Journal.{IsAtEnd}
 use Rattle.zy_node.specs.Recovering.{IsRecovered}
 use Rattle.zy_top_hosting.proofs.Opening.{both_ok, damaged, goes_on, loses_opened, loses_then, recovered_as, stopped_as}

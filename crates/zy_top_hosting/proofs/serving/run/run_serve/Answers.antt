@@ -1,4 +1,4 @@
-use Rattle.std.proofs.Common.{List, ℕ, subst}
+use Rattle.std.proofs.Common.{subst}
 use Rattle.zy_base.specs.declared.ids.Party.{Party}
 use Rattle.zy_edge.specs.Files.{Held, content_of}
 use Rattle.zy_top_hosting.proofs.Exits.{answer_as, served_as, started_as, unread_bound, unread_served, unread_started}
