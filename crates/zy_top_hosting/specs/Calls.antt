@@ -1,15 +1,15 @@
 -- What the parts of a node's command and of an ask's give.
-use Rattle.std.specs.Prelude.{◌≡◌, ℕ, ◌<◌, ◌≤◌, ◌+◌, ◌^◌, Bool, true, false, IsTrue, List, Option, None, Result, Ok, Err, ⊤}
+use Rattle.std.specs.Prelude.{◌≡◌, ℕ, ◌<◌, ◌≤◌, ◌+◌, Bool, true, false, IsTrue, List, Option, None, Result, Ok, Err, ⊤}
 use Rattle.zy_edge.specs.Faults.{IsCounted}
-use Rattle.zy_lms.specs.Height.{levels_of}
 use Rattle.zy_group.specs.declared.secret.Secret.{Secret}
-use Rattle.zy_table.specs.ClientState.{ClientState, leaves_of}
+use Rattle.zy_table.specs.ClientState.{ClientState, signs_left}
 use Rattle.zy_top_words.specs.Ends.{IsAnswer, IsWritten, Verdict, is_write_fault}
 use Rattle.zy_top_words.specs.declared.exit.Exit.{Exit}
 use Rattle.zy_top_words.specs.declared.exit.Exit.TheVariants as exits
 use Rattle.zy_top_hosting.specs.Files.{Replica, Seat}
 use Rattle.zy_top_hosting.specs.declared.seat.NodeSeat.{NodeSeat}
 use Rattle.zy_top_hosting.specs.declared.seat.AskSeat.{AskSeat}
+use Rattle.zy_seal.specs.Sealing.{signatures_by}
 
 -- what was judged, or how it is refused, or a file could not be read, or memory was wanted
 abbrev pub IsJudged : {A : Type 0} → Result A Exit → Result A Exit → Type 0
@@ -18,9 +18,9 @@ IsJudged read (Err exits.Want) = ⊤
 IsJudged read (Err exits.ReadFault) = ⊤
 IsJudged read (Err exit) = read ≡ Err exit
 
--- so many leaves are left of its key
-abbrev pub Leaves : ℕ → Secret → Type 0
-Leaves left secret = secret.next + left ≤ 2 ^ levels_of secret.height
+-- so many signatures are left of its key
+abbrev pub HasLeft : ℕ → Secret → Type 0
+HasLeft left secret = secret.next + left ≤ signatures_by secret.height
 
 -- the party is what the files tell, and so is its address
 abbrev pub node_in : Result NodeSeat Exit → Result (Seat Replica) Exit
@@ -31,10 +31,10 @@ abbrev pub asker_in : Result AskSeat Exit → Result (Seat ClientState) Exit
 asker_in (Ok seat) = Ok (record { core = seat.client; address = seat.address })
 asker_in (Err exit) = Err exit
 
--- the client may ask: nothing waits, and its key has a leaf
+-- the client may ask: nothing waits, and its key has a signature left
 pub record MayAsk (client : ClientState) : Type 0 where
   pub free : client.waiting ≡ None
-  pub leaf : 0 < leaves_of client
+  pub left : 0 < signs_left client
 
 -- ---- what is written at the end
 

@@ -6,14 +6,15 @@ use crate::names::statement_name;
 use std::alloc::Global;
 use zy_base::{Party, Want};
 use zy_parts::Part;
+use zy_seal::signature_number;
 use zy_table::AnyFrame;
 use zy_world_setup::read_frame;
 
-/// A signed statement: who signed it, by which leaf of the key, the statement's name, and the view and the place that it speaks of.
+/// A signed statement: who signed it, the number of the signature, the statement's name, and the view and the place that it speaks of.
 #[derive(Clone, Copy)]
 pub(crate) struct Signed {
     pub(crate) by: Party,
-    pub(crate) leaf: u32,
+    pub(crate) number: u32,
     pub(crate) name: &'static str,
     pub(crate) spot: Spot,
 }
@@ -55,18 +56,10 @@ fn first_signed(parts: &[Part]) -> Option<Signed> {
     let text = part.text.as_slice();
     Some(Signed {
         by: part.by,
-        leaf: leaf_of(part.sig.as_slice())?,
+        number: signature_number(part.sig.as_slice())?,
         name: statement_name(text),
         spot: spot_of(text),
     })
-}
-
-/// The number of the leaf that signed, which an LMS signature begins with (RFC 8554 section 5.4).
-fn leaf_of(signature: &[u8]) -> Option<u32> {
-    match signature {
-        [a, b, c, d, ..] => Some(u32::from_be_bytes([*a, *b, *c, *d])),
-        _ => None,
-    }
 }
 
 /// The view and the place in a signed text: of a wish for orders the first place, of an ask nothing. The fields stand behind nine

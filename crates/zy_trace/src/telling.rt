@@ -31,8 +31,8 @@ pub(crate) struct Ahead {
     by: Option<Party>,
     /// How many frames were sent.
     sent: u64,
-    /// The next leaf of its key; 0 of a liar, whose leaf the world doesn't tell.
-    leaf: u32,
+    /// The number of its key's next signature; 0 of a liar, of which the world doesn't tell it.
+    key_next: u32,
     /// How long the report was.
     told: usize,
 }
@@ -231,25 +231,25 @@ impl Trace {
         world: &World<M>,
         ahead: Ahead,
     ) -> Result<(), Want> {
-        let mut leaf = ahead.leaf;
+        let mut key_next = ahead.key_next;
         for before in ahead.sent..world.sent() {
-            leaf = self.put_frame(alloc, world, ahead, before + 1, leaf)?;
+            key_next = self.put_frame(alloc, world, ahead, before + 1, key_next)?;
         }
         Ok(())
     }
 
-    /// Tells of a frame that was sent, and before it of the statement that was signed for it by a leaf from this one on. Gives the
-    /// leaf behind it.
+    /// Tells of a frame that was sent, and before it of the statement that was signed for it by a signature from this number on. Gives
+    /// the number behind it.
     fn put_frame<M: Machine>(
         &mut self,
         alloc: Global,
         world: &World<M>,
         ahead: Ahead,
         frame: u64,
-        leaf: u32,
+        key_next: u32,
     ) -> Result<u32, Want> {
         let Some(mail) = world.mail(frame) else {
-            return Ok(leaf);
+            return Ok(key_next);
         };
         let bytes = mail.bytes.as_slice();
         let sent = Sent {
@@ -259,13 +259,13 @@ impl Trace {
         };
         match outer_statement(alloc, bytes)? {
             Some(signed) => {
-                let leaf = self.put_signed(alloc, ahead, signed, leaf)?;
+                let key_next = self.put_signed(alloc, ahead, signed, key_next)?;
                 self.put_sent(alloc, ahead, sent, signed.spot)?;
-                Ok(leaf)
+                Ok(key_next)
             }
             None => {
                 self.put_sent(alloc, ahead, sent, Spot::NOWHERE)?;
-                Ok(leaf)
+                Ok(key_next)
             }
         }
     }
@@ -275,14 +275,14 @@ impl Trace {
         alloc: Global,
         ahead: Ahead,
         signed: Signed,
-        leaf: u32,
+        key_next: u32,
     ) -> Result<u32, Want> {
-        if ahead.by != Some(signed.by) || signed.leaf < leaf {
-            return Ok(leaf);
+        if ahead.by != Some(signed.by) || signed.number < key_next {
+            return Ok(key_next);
         }
         let number = ahead.number;
         let by = Name(ahead.by);
-        let spent = signed.leaf;
+        let spent = signed.number;
         let name = signed.name;
         self.put(format!(in alloc; "{number} signs {by} {spent} {name}\n")?)?;
         Ok(spent.saturating_add(1))
@@ -357,10 +357,10 @@ impl Trace {
         let Digest(head) = stood.head;
         let head = hex::encode(alloc, &head)?;
         let stable = replica.stable().1.0;
-        let leaf = replica.key_next();
+        let next = replica.key_next();
         let timers = timers_names(replica.timers());
         self.put(format!(in alloc;
-            "{number} stands {name} {mode} {view} length {length} head {head} stable {stable} leaf {leaf} timers {timers}\n"
+            "{number} stands {name} {mode} {view} length {length} head {head} stable {stable} leaf {next} timers {timers}\n"
         )?)
     }
 
@@ -372,10 +372,10 @@ impl Trace {
             None => "idle",
         };
         let stamp = client.stamp().0;
-        let leaf = client.key_next();
+        let next = client.key_next();
         let timers = timers_names(client.timers());
         self.put(format!(in alloc;
-            "{number} stands {name} {mode} {stamp} leaf {leaf} timers {timers}\n"
+            "{number} stands {name} {mode} {stamp} leaf {next} timers {timers}\n"
         )?)
     }
 }
@@ -388,7 +388,7 @@ fn seen<M: Machine>(world: &World<M>, by: Option<Party>, tale: &Tale) -> Ahead
         number: tale.tally.events + 1,
         by,
         sent: world.sent(),
-        leaf: next_leaf(world, by),
+        key_next: key_next(world, by),
         told: tale.text.len(),
     }
 }
@@ -443,8 +443,8 @@ fn actor<M: Machine>(world: &World<M>, line: &Line) -> Option<Party> {
     }
 }
 
-/// The next leaf of a correct party's key, else 0.
-fn next_leaf<M: Machine>(world: &World<M>, party: Option<Party>) -> u32 {
+/// The number of the next signature of a correct party's key, else 0.
+fn key_next<M: Machine>(world: &World<M>, party: Option<Party>) -> u32 {
     match party {
         Some(Party::Replica(id)) => match world.replica(id) {
             Some(replica) => replica.key_next(),
