@@ -55,6 +55,10 @@ replied {S} R list (suc before) e at =
       ap (λ (o : Option Entry). option_map (λ (d : Entry). answers_of R (along R (origin R) (take before list)).state d) o) there,
     )
 
+-- what a response tells is one value, out of which each part can be read
+parts_told : (a b c d : ℕ) (x y : List ℕ) → a ∷ b ∷ x ≡ c ∷ d ∷ y → (a ≡ c) × ((b ≡ d) × (x ≡ y))
+parts_told a b c d x y same = let client : a ≡ c = cc in let stamp : b ≡ d = cc in let told : x ≡ y = cc in (client, (stamp, told))
+
 answer_front : {S : Type 0} (R : Rules S) (list : List Entry) (place : ℕ) → place ≤ length list → answer_at R (take place list) place ≡ answer_at R list place
 answer_front R list place within =
     sym (answer_longer R (take place list) (drop place list) place (let long = length-take-le place list within in omega arith)) ∙ ap (λ (l : List Entry). answer_at R l place) (take-append-drop place list)
@@ -101,10 +105,8 @@ module _ {S : Type 0} (R : Rules S) (w : World S) (good : IsGood R w) where
         let (reply, answer) = replied R list place a.entry a.last in
         -- the response tells whose entry it is, and what it is answered with
         let agrees : Agrees R v = record { next = refl; digest = refl; reply = refl; state = refl } in
-        let same_answer : a.entry.client.0 ∷ a.entry.stamp.0 ∷ sha256 reply ≡ c.client.0 ∷ c.done.stamp.0 ∷ sha256 c.done.reply =
-        ap (λ (d : Digest). d.0) (sym (true_reply R v agrees list place a.entry reply within a.last answer) ∙ a.reply) in
-        let same_client : a.entry.client.0 ≡ c.client.0 = cc in
-        let same_stamp : a.entry.stamp.0 ≡ c.done.stamp.0 = cc in
+        let (same_client, (same_stamp, told)) = parts_told a.entry.client.0 a.entry.stamp.0 c.client.0 c.done.stamp.0 (sha256 reply) (sha256 c.done.reply)
+        (ap (λ (d : Digest). d.0) (sym (true_reply R v agrees list place a.entry reply within a.last answer) ∙ a.reply)) in
         let client : a.entry.client ≡ c.client = ap (λ (n : ℕ). let id : ClientId = record { 0 = n } in id) same_client in
         let stamp : a.entry.stamp ≡ c.done.stamp = ap (λ (n : ℕ). let t : Stamp = record { 0 = n } in t) same_stamp in
         let seat : client_at w a.entry.client.0 ≡ Some done.client = ap (λ (n : ClientId). client_at w n.0) client ∙ done.correct in
@@ -118,7 +120,6 @@ module _ {S : Type 0} (R : Rules S) (w : World S) (good : IsGood R w) where
         let there : answer_at R t.stand.history place ≡ Some reply =
         sym (answer_front R t.stand.history place known.passes.within) ∙ ap (λ (l : List Entry). answer_at R l place) same ∙ answer_front R list place within ∙ answer in
         let kept : IsKept w.texts reply = (good.kept.kept.histories t).replies place reply there in
-        let told : sha256 reply ≡ sha256 c.done.reply = cc in
         let one : reply ≡ c.done.reply = one_kept_text w.texts reply c.done.reply kept done.reply told in
         record {
           passes = record { within = within; head = is.passes.head };
