@@ -185,10 +185,16 @@ module _ {S : Type 0} (s : State S) (r : IsReady s) where
   pub ready_spent : IsReady (spent s)
   ready_spent = beside (spent_one s.sealer) s.hole s.specs s.pending s.locals s.hate s.fetches r.signer r.hole r.specs r.all_pending r.pending r.locals r.hate r.fetches
 
+  ready_said : (specs : List (Signed Spec)) → AllByRecursion (IsSignedInRange IsSpecInRange) specs → IsReady (record s { specs = specs })
+  ready_said specs said = beside s.sealer s.hole specs s.pending s.locals s.hate s.fetches r.signer r.hole said r.all_pending r.pending r.locals r.hate r.fetches
+
+  -- with some of its responses, and with one more
+  pub ready_beside : (stays : Signed Spec → Bool) → IsReady (record s { specs = filter stays s.specs })
+  ready_beside stays = ready_said (filter stays s.specs) (filtered_all (IsSignedInRange IsSpecInRange) stays s.specs r.specs)
+
   pub ready_specs : (stays : Signed Spec → Bool) (spec : Signed Spec) → IsSignedInRange IsSpecInRange spec → IsReady (record s { specs = filter stays s.specs ++ spec ∷ [] })
   ready_specs stays spec range =
-      beside s.sealer s.hole (filter stays s.specs ++ spec ∷ []) s.pending s.locals s.hate s.fetches r.signer r.hole
-      (all_and (IsSignedInRange IsSpecInRange) (filter stays s.specs) spec (filtered_all (IsSignedInRange IsSpecInRange) stays s.specs r.specs) range) r.all_pending r.pending r.locals r.hate r.fetches
+      ready_said (filter stays s.specs ++ spec ∷ []) (all_and (IsSignedInRange IsSpecInRange) (filter stays s.specs) spec (filtered_all (IsSignedInRange IsSpecInRange) stays s.specs r.specs) range)
 
   pub ready_pending : (client : ℕ) (pending : Option Pending) → IsKeptPending pending → IsReady (record s { pending = slice_set s.pending client pending })
   ready_pending client pending ready =

@@ -64,13 +64,8 @@ impl<M: Machine> Core<M> {
     {
         let (core, signed) = self.seal(spec)?;
         let copy = signed_copy(&signed)?;
-        match core.keep_spec(copy) {
-            Ok(core) => Ok((core, signed)),
-            Err(want) => {
-                drop(signed);
-                Err(want)
-            }
-        }
+        let core = core.keep_spec(copy)?;
+        Ok((core, signed))
     }
 
     /// One entry more, with its reply.
