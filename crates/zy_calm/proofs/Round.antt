@@ -83,7 +83,7 @@ moved {S = S} {R = R} {state = state} at to is same more told =
 -- it signs one statement, and is calm there
 pub signs_one : {S : Type 0} {R : Rules S} {s : Setup} {id : ℕ} {state : State S} (at to : Stand S) (after : State S) → IsAt R s at id state → rows.IsCalm R to.point after → after.me ≡ state.me → after.counts ≡ state.counts
     → after.keys ≡ state.keys → after.kept.interval ≡ state.kept.interval → after.sealer ≡ spent_one state.sealer → at.used + 1 ≤ to.used → AllByRecursion (λ said. said.stmt.place.0 ≤ to.told) after.locals → IsAt R s to id after
-signs_one at to after is calm me counts keys interval sealer used locals =
+signs_one at to after is calm me counts keys interval sealer more locals =
     record {
       calm = calm;
       me = me ∙ is.me;
@@ -92,7 +92,7 @@ signs_one at to after is calm me counts keys interval sealer used locals =
       interval = interval ∙ is.interval;
       used = is.used + 1;
       sealer = sealer ∙ ap spent_one is.sealer;
-      spent = (let e : is.used + 1 ≤ to.used = omega (arith, is.spent, used) in e);
+      spent = (let e : is.used + 1 ≤ to.used = omega (arith, is.spent, more) in e);
       locals = locals;
     }
 
