@@ -1,4 +1,4 @@
-ghost use Rattle.std.specs.Prelude.{◌≡◌, ◌↔◌, ℕ, List, Option, option_copied, None, Some};
+ghost use Rattle.std.specs.Prelude.{◌≡◌, ◌↔◌, ℕ, List, Option, option_copied, None, Some, IsTrue};
 ghost use Rattle.zy_lms.specs.Lms.{Verifies, verified};
 
 use crate::known::Known;
@@ -82,9 +82,10 @@ impl Directory {
         &self.known
     }
 
-    // Each signature that verified and is kept is found, and not checked again.
+    // What is known to verify isn't checked again.
     fn verifies(&self, key: &[u8; 56], text: &[u8], sig: &[u8]) -> bool
-        ensures { result ≡ verified key.now text.now sig.now }
+        ensures value { result ≡ verified key.now text.now sig.now }
+        ensures meaning { IsTrue result ↔ Verifies key.now text.now sig.now }
     {
         if self.known.has(key, text, sig) {
             return true;

@@ -86,8 +86,8 @@ impl Sealer {
         if self.left() == 0 {
             return Err(SealFault::KeySpent);
         }
-        let public = self.key.public();
         let text = signed_text(self.alloc, self.me, &stmt)?;
+        let public = self.key.public();
         match self.key.sign(text.as_slice()) {
             Ok(sig) => {
                 self.known.keep(&public, text.as_slice(), sig.as_slice());
