@@ -6,18 +6,28 @@ ghost use Rattle.zy_lms.specs.Lms.{verified};
 use crate::store::{Checked, Store};
 use std::alloc::Global;
 use std::cell::RefCell;
-use std::mem;
 use std::sync::{Arc, RwLock};
 
 // A party keeps no more by itself, if nobody takes it in.
 const MOST_FRESH: usize = 4096;
 
 /// No clause sees what is known. While parties step at once they only read the store: what each of them checked is taken in afterwards.
-#[derive(Drop)]
 pub(crate) struct Known {
     alloc: Global,
     store: Option<Arc<RwLock<Store>, Global>>,
     fresh: RefCell<Vec<Checked>>,
+}
+
+// A derived drop would be written out wherever a directory or a sealer is let go.
+impl Drop for Known {
+    fn drop(self) {
+        let Known {
+            alloc: _,
+            store,
+            fresh,
+        } = self;
+        drop((store, fresh));
+    }
 }
 
 impl Known {
