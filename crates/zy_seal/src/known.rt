@@ -1,6 +1,6 @@
 //! What one party knows to verify: what its process keeps, and what it checked or signed itself since.
 
-ghost use Rattle.std.specs.Prelude.{◌≡◌, IsTrue};
+ghost use Rattle.std.specs.Prelude.{IsTrue};
 ghost use Rattle.zy_lms.specs.Lms.{verified};
 
 use crate::store::{Checked, Store};

@@ -1,6 +1,6 @@
 //! What a process needn't check again: signatures that verify, each with its key and its text.
 
-ghost use Rattle.std.specs.Prelude.{◌≡◌, IsTrue, IfOk, true};
+ghost use Rattle.std.specs.Prelude.{◌≡◌, IsTrue, true};
 ghost use Rattle.std.proofs.Props.{props};
 ghost use Rattle.zy_lms.specs.Lms.{verified};
 
