@@ -128,7 +128,7 @@ impl<M: Machine> Replica<M> {
         self.core.board().stable()
     }
 
-    /// The number of the leaf that signs next.
+    /// The number of its next signature.
     pub fn key_next(&self) -> u32
         ensures { result ≡ self.now.sealer.key.next }
     {
