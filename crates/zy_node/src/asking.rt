@@ -144,6 +144,7 @@ impl Core for Client {
             timers: _,
             said: _,
         } = self.step(event)?;
+        client.take_in();
         Ok(Moved {
             core: client,
             out,

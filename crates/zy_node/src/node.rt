@@ -99,6 +99,7 @@ impl<M: Machine> Core for Replica<M> {
             said: _,
             got: _,
         } = self.step(event)?;
+        replica.take_in();
         Ok(Moved {
             core: replica,
             out,

@@ -92,6 +92,11 @@ impl<M: Machine> Replica<M> {
         finish(moves(core, event)?)
     }
 
+    /// What it checked and signed is known from now on to all that share its store of signatures.
+    pub fn take_in(&self) {
+        self.core.take_in();
+    }
+
     /// Whether it takes part in its view, and which that is.
     pub fn mode(&self) -> Mode
         ensures { result ≡ self.now.views.mode }

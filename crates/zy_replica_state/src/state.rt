@@ -185,8 +185,8 @@ impl<M: Machine> Core<M> {
             alloc,
             me,
             counts,
+            sealer: sealer.beside(&directory),
             directory,
-            sealer,
             views,
             exec,
             orders: Admission::start(alloc),
@@ -198,6 +198,12 @@ impl<M: Machine> Core<M> {
             hate: None,
             fetches: Items::new(alloc),
         })
+    }
+
+    /// What it checked and signed is known from now on to all that share its store of signatures.
+    pub fn take_in(&self) {
+        self.directory.take_in();
+        self.sealer.take_in();
     }
 
     /// Whether it takes part in its view, and which that is.

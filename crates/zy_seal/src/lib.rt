@@ -3,10 +3,12 @@
 
 mod derived;
 mod directory;
+mod known;
 mod laws;
 mod screening;
 mod sealer;
 mod sizes;
+mod store;
 
 pub use derived::{party_id, party_seed};
 pub use directory::{Directory, SealAnswer, check};

@@ -3,6 +3,8 @@ ghost use Rattle.zy_lms.specs.KeyState.{IsKey};
 ghost use Rattle.zy_seal.specs.Sealing.{signatures_by, left_of};
 ghost use Rattle.zy_seal.specs.declared.sealer.SealFault.TheVariants.{KeySpent};
 
+use crate::Directory;
+use crate::known::Known;
 use std::alloc::Global;
 use std::marker::Model;
 use zy_base::{Party, Want};
@@ -33,6 +35,7 @@ pub struct Sealer {
     alloc: Global,
     me: Party,
     key: LmsKey,
+    known: Known,
 }
 
 impl Model for Sealer {
@@ -50,7 +53,25 @@ impl Sealer {
     pub fn new(alloc: Global, me: Party, key: LmsKey) -> Sealer
         ensures { result ≡ record { me = me; key = key } }
     {
-        Sealer { alloc, me, key }
+        Sealer {
+            alloc,
+            me,
+            key,
+            known: Known::nothing(alloc),
+        }
+    }
+
+    /// The same party, beside the directory's store, if it has one: what it signs needn't be checked there.
+    pub fn beside(mut self, directory: &Directory) -> Sealer
+        ensures { result ≡ self }
+    {
+        self.known = directory.known().beside();
+        self
+    }
+
+    /// Keeps for all that share the store what was signed since.
+    pub fn take_in(&self) {
+        self.known.take_in();
     }
 
     /// The statement with the own signature on its signed text, by the key's next signature.
@@ -66,12 +87,16 @@ impl Sealer {
             return Err(SealFault::KeySpent);
         }
         let text = signed_text(self.alloc, self.me, &stmt)?;
+        let public = self.key.public();
         match self.key.sign(text.as_slice()) {
-            Ok(sig) => Ok(Signed {
-                by: self.me,
-                stmt,
-                sig,
-            }),
+            Ok(sig) => {
+                self.known.keep(&public, text.as_slice(), sig.as_slice());
+                Ok(Signed {
+                    by: self.me,
+                    stmt,
+                    sig,
+                })
+            }
             Err(SignFault::Spent) => Err(SealFault::KeySpent),
             Err(SignFault::Want) => Err(SealFault::Want),
         }

@@ -68,7 +68,14 @@ fn replica_of(
     let NodeGroup { k, members } = group;
     let AskGroup { f, keys, port: _ } = members;
     let sealer = Sealer::new(alloc, Party::Replica(id), key);
-    Replica::start(alloc, plain_counts(f), id, u64::from(k), sealer, keys)
+    Replica::start(
+        alloc,
+        plain_counts(f),
+        id,
+        u64::from(k),
+        sealer,
+        keys.with_store(),
+    )
 }
 
 /// The client of the group that the secret is of.
@@ -109,5 +116,5 @@ fn client_of(
 {
     let AskGroup { f, keys, port: _ } = group;
     let sealer = Sealer::new(alloc, Party::Client(id), key);
-    Client::start(alloc, plain_counts(f), id, sealer, keys, stamp)
+    Client::start(alloc, plain_counts(f), id, sealer, keys.with_store(), stamp)
 }

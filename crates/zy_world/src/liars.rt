@@ -109,6 +109,7 @@ impl Liars {
         ensures unchanged { IsErrOf result SealFault.KeySpent → self.new ≡ with_key self.old liar (Some key) }
     {
         let told = tale.frame(alloc, &mut key);
+        key.take_in();
         self.put(liar, key);
         told
     }

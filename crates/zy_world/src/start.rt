@@ -140,7 +140,7 @@ fn seat_replica<M: Machine>(
     ensures keys { OnOk result (row.new.keys.items ≡ row.old.keys.items ++ replica_key setup.now id.0 ∷ []) }
 {
     if setup.liars.contains(&id) {
-        return row.leave(sealer);
+        return row.leave(sealer.beside(directory));
     }
     row.seat(Replica::start(
         alloc,
@@ -184,7 +184,7 @@ fn seat_client(
     ensures keys { OnOk result (row.new.keys.items ≡ row.old.keys.items ++ client_key setup.now id.0 ∷ []) }
 {
     if setup.lying_clients.contains(&id) {
-        return row.leave(sealer);
+        return row.leave(sealer.beside(directory));
     }
     row.seat(Client::start(
         alloc,

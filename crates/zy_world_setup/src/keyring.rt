@@ -34,7 +34,7 @@ pub struct Keyring {
     pub replicas: Vec<Sealer>,
     /// Each client likewise.
     pub clients: Vec<Sealer>,
-    /// Their public keys.
+    /// Their public keys, with one store of signatures for all that copy them.
     pub directory: Directory,
 }
 
@@ -50,7 +50,7 @@ impl Keyring {
         Ok(Keyring {
             replicas: replicas.sealers,
             clients: clients.sealers,
-            directory: Directory::new(alloc, replicas.public, clients.public),
+            directory: Directory::new(alloc, replicas.public, clients.public).with_store(),
         })
     }
 }

@@ -19,7 +19,7 @@ returns-then-contains g c =
       seats = subst (λ (seat : Option (State g.row.M-State.Denot)). OnOk c.leave.result (c.leave.new.self.seats.items ≡ c.args.row.now.seats.items ++ seat ∷ []))
           (liar_seated (list_any (nat_eq c.args.id.0) s.liars) _ lies) c.leave.ensures.seats;
       keys = subst (λ (key : Option SealerState). OnOk c.leave.result (c.leave.new.self.keys.items ≡ c.args.row.now.keys.items ++ key ∷ []))
-          (liar_signs (list_any (nat_eq c.args.id.0) s.liars) c.args.sealer (sealer_of s (parties.Replica c.args.id) 0) lies c.requires.sealer) c.leave.ensures.keys;
+          (liar_signs (list_any (nat_eq c.args.id.0) s.liars) c.beside.result (sealer_of s (parties.Replica c.args.id) 0) lies (c.beside.ensures ∙ c.requires.sealer)) c.leave.ensures.keys;
     }
 
 pub returns : goal.returns
