@@ -203,7 +203,7 @@ module _ {S : Type 0} (R : Rules S) where
 
   answers_it : (w : World) → w.reply ≡ last_reply R → IsTrueAnswer w list_1 m_1 answer_1
   answers_it w replies =
-      record { entry = first_entry; last = record { first = omega arith; there = refl }; client = refl; stamp = refl; reply = ap (λ (f : List Entry → Digest). f list_1) replies }
+      record { entry = first_entry; last = record { first = omega arith; there = refl }; reply = ap (λ (f : List Entry → Digest). f list_1) replies }
 
   abbrev world_3 : World
   world_3 = after_saying world_2 0 (said_now world_2 0 response)

@@ -65,6 +65,11 @@ pub commit_is : {S : Type 0} (R : Rules S) (s : State S) (first : Spec) (specs :
 unfolding commit
 commit_is R s first specs old behind = rw (old, behind) refl
 
+pub commit_old : {S : Type 0} (R : Rules S) (s : State S) (first : Spec) (specs : List (Signed Spec)) → nat_lt first.place.0 s.orders.base ≡ true
+    → refused causes.OldPlace s ≡ commit R s first specs
+unfolding commit
+commit_old R s first specs old = rw old refl
+
 pub commit_behind : {S : Type 0} (R : Rules S) (s : State S) (first : Spec) (specs : List (Signed Spec)) → nat_lt first.place.0 s.orders.base ≡ false → nat_lt (last_place s.kept) first.place.0 ≡ true
     → refused (causes.Behind first.place) s ≡ commit R s first specs
 unfolding commit

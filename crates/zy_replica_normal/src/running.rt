@@ -35,7 +35,7 @@ use zy_parts::{Ask, Order, Signed, Spec};
 use zy_replica_state::{
     Core, Moved, Progress, bytes_copy, entry_of, own_with, signed_copy, spec_of,
 };
-use zy_table::{Act, Got, OwnCheckpoint};
+use zy_table::{Act, Got};
 
 // ---- an entry is executed
 
@@ -259,32 +259,6 @@ fn send_copy<M: Machine>(
     progress.send_spec(signed, reply, Some(order))
 }
 
-/// The own response is kept with those of others, without what says another thing.
-pub fn keep_own_spec<M: Machine>(
-    progress: Progress<M>,
-    own: &OwnCheckpoint,
-    signed: &Signed<Spec>,
-) -> Result<Progress<M>, Want>
-    requires { IsSignedInRange IsSpecInRange signed.now }
-    ensures { IfOk result (λ g. g ≡ record progress { state = with_own_spec progress.state own.now signed.now }) }
-{
-    let Progress { core, deeds } = progress;
-    let kept = match signed_copy(signed) {
-        Ok(copy) => core.keep_own_spec(own, copy),
-        Err(want) => {
-            drop(core);
-            Err(want)
-        }
-    };
-    match kept {
-        Ok(core) => Ok(Progress { core, deeds }),
-        Err(want) => {
-            drop(deeds);
-            Err(want)
-        }
-    }
-}
-
 // At a multiple of the interval it goes to all as well, it is kept with those of others, and what is kept is looked
 // through.
 fn share<M: Machine>(
@@ -302,7 +276,7 @@ fn share<M: Machine>(
     ensures { IfOk result (λ g. g ≡ shared M.rules order signed reply (Some state) progress) }
 {
     let own = own_with(signed.stmt, state);
-    let kept = keep_own_spec(progress, &own, &signed)?;
+    let kept = progress.keep_own_spec(&own, &signed)?;
     let told = kept.share_spec(signed, reply, Some(order))?;
     gather(told, &own, false)
 }

@@ -14,17 +14,18 @@ ghost use Rattle.zy_table.specs.declared.deeds.Body.TheVariants as bodies;
 ghost use Rattle.zy_seal.specs.Sealing.{sealed_by};
 ghost use Rattle.zy_table.specs.State.{signs_left, spent, stood_of, with_spec};
 ghost use Rattle.zy_table.specs.Commits.{send_local};
+ghost use Rattle.zy_table.specs.Gathering.{with_own_spec};
 ghost use Rattle.zy_table.specs.Adopting.{IsGotInRange};
 ghost use Rattle.zy_replica_state.specs.Ready.{IsActInRange, IsBodyInRange, IsOrderReady, IsPendingReady};
 ghost use Rattle.zy_chain.specs.Answers.{FitsAnswers};
 
 use crate::Core;
-use crate::copies::frame_copy;
+use crate::copies::{frame_copy, signed_copy};
 use std::marker::Model;
 use zy_base::{Answer, Bytes, Cause, ClientId, Items, Machine, Party, Place, Stood, View, Want};
 use zy_frames::{Frame, OrderFrame};
 use zy_parts::{Check, Hole, Local, Order, Signed, Spec, Statement};
-use zy_table::{Act, AnyFrame, Body, Deeds, Gains, Pending, Remark, Sent, To};
+use zy_table::{Act, AnyFrame, Body, Deeds, Gains, OwnCheckpoint, Pending, Remark, Sent, To};
 use zy_vframes::ViewFrame;
 
 /// A replica on its way through a step, with what the step did so far.
@@ -194,6 +195,32 @@ impl<M: Machine> Progress<M> {
         let Progress { core, deeds } = self;
         match core.seal_spec(spec) {
             Ok((core, signed)) => Ok((Progress { core, deeds }, signed)),
+            Err(want) => {
+                drop(deeds);
+                Err(want)
+            }
+        }
+    }
+
+    /// The own response is kept with those of others, without what says another thing.
+    pub fn keep_own_spec(
+        self,
+        own: &OwnCheckpoint,
+        signed: &Signed<Spec>,
+    ) -> Result<Progress<M>, Want>
+        requires { IsSignedInRange IsSpecInRange signed.now }
+        ensures { IfOk result (λ g. g ≡ record self { state = with_own_spec self.state own.now signed.now }) }
+    {
+        let Progress { core, deeds } = self;
+        let kept = match signed_copy(signed) {
+            Ok(copy) => core.keep_own_spec(own, copy),
+            Err(want) => {
+                drop(core);
+                Err(want)
+            }
+        };
+        match kept {
+            Ok(core) => Ok(Progress { core, deeds }),
             Err(want) => {
                 drop(deeds);
                 Err(want)

@@ -14,7 +14,6 @@ ghost use Rattle.zy_chain.specs.Answers.{FitsAnswers};
 
 use zy_base::{Bytes, Machine, Place, Want};
 use zy_parts::{Signed, Spec};
-use zy_replica_normal::keep_own_spec;
 use zy_replica_state::{Core, Progress, bytes_copy, signed_copy};
 use zy_table::OwnCheckpoint;
 
@@ -30,7 +29,7 @@ fn respond_alone<M: Machine>(
     ensures { IfOk result (λ g. g ≡ responding M.rules own.now reply progress) }
 {
     let (said, signed) = progress.sign_spec(own.spec)?;
-    let kept = keep_own_spec(said, own, &signed)?;
+    let kept = said.keep_own_spec(own, &signed)?;
     let told = send_alone(kept, &signed, &reply)?;
     told.share_spec(signed, reply, None)
 }

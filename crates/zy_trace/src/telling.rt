@@ -9,8 +9,8 @@ ghost use Rattle.zy_world.specs.Shows.{Shows};
 ghost use Rattle.zy_world_law.specs.World.{World as Whole, mail_at};
 
 use crate::lines::{
-    unspent_behind, put_act_line, put_answer, put_ask, put_broken, put_client, put_frame_line,
-    put_replica, put_sends, put_signing, put_timer,
+    put_act_line, put_answer, put_ask, put_broken, put_client, put_frame_line, put_replica,
+    put_sends, put_signing, put_timer, unspent_behind,
 };
 use crate::statement::{Statement, kind_name, statement_in};
 use std::alloc::Global;
@@ -152,7 +152,15 @@ impl Trace {
         let known = self.senders.len();
         put_answer(alloc, &mut self.text, number, by, answer)?;
         put_note(alloc, &mut self.text, number, note)?;
-        put_frames(alloc, &mut self.text, world, number, by, unspent, known as u64)?;
+        put_frames(
+            alloc,
+            &mut self.text,
+            world,
+            number,
+            by,
+            unspent,
+            known as u64,
+        )?;
         put_stand(alloc, &mut self.text, world, number, by, answer)?;
         fill(&mut self.senders, world.sent() as usize, by)?;
         self.events = number;

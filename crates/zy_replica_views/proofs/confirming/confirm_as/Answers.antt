@@ -1,5 +1,6 @@
 use Rattle.std.proofs.Common.{◌≡◌, ◌≤◌, ◌+◌, nat_lt, if◌then◌else◌, IfOk, sym, ap, ◌∙◌, subst}
 use Rattle.std.proofs.lemmas.Result.{IfOk-weaker}
+use Rattle.zy_change.specs.Fit.{IsAccepted}
 use Rattle.zy_table.specs.Beginning.{arrive, finished}
 use Rattle.zy_table.specs.Confirming.{new_view}
 use Rattle.zy_table.specs.Deeds.{Going, Outcome}
@@ -35,3 +36,8 @@ returns g c =
 
 pub confirm-requires-clause-sends : goal.confirm-requires-clause-sends
 confirm-requires-clause-sends g c = accepted_sends c.args.core c.args.new c.args.owed c.in-Some.chosen c.requires.owed c.in-Some.is c.requires.accepted
+
+pub confirm-requires-clause-accepted : goal.confirm-requires-clause-accepted
+confirm-requires-clause-accepted g c =
+    subst (λ (x : Going g.row.M-State.Denot). IsAccepted x.state.views.counts x.state.views.interval (record { new = c.args.new; chosen = c.in-Some.chosen })) (sym c.begin.ensures)
+    (c.requires.accepted c.in-Some.chosen c.in-Some.is)
