@@ -3,7 +3,7 @@ ghost use Rattle.std.specs.Prelude.{◌≡◌, ◌≤◌, ◌+◌, ◌++◌, ◌
 ghost use Rattle.std.specs.Int.{w32, to_be_bytes};
 ghost use Rattle.toml.specs.Data.{get_member};
 ghost use Rattle.toml.specs.View.{view, array_view, table_view};
-ghost use Rattle.zy_group.specs.Fields.{number_of, number_at, different_from, numbers_at, text_at, bytes_at, height_at, ots_at, of_spoken_types, key_in, key_of, keys_from, so_many, keys_in, keys_at, told_ots_at, count_by, next_at, number_or, stamp_at, version_at};
+ghost use Rattle.zy_group.specs.Fields.{number_of, number_at, different_from, numbers_at, text_at, bytes_at, height_at, ots_at, of_spoken_types, key_in, key_of, keys_from, so_many, keys_in, keys_at, told_ots_at, count_by, next_at, number_or, stamp_at, version_of, version_at};
 
 use crate::{Numbers, Version};
 use hex::FromHex;
@@ -265,14 +265,22 @@ pub(crate) fn keys_at(
 pub(crate) fn version_at(table: &Table) -> Option<Version>
     ensures { result ≡ version_at (table_view table.now) }
 {
-    let number = match value_at(table, "version") {
-        None => 1,
-        Some(value) => number_of(value, 1, 2)?,
-    };
+    match value_at(table, "version") {
+        None => Some(Version::OneLevel),
+        Some(value) => match number_of(value, 1, 2) {
+            Some(number) => Some(version_of(number)),
+            None => None,
+        },
+    }
+}
+
+fn version_of(number: u8) -> Version
+    ensures { result ≡ version_of number }
+{
     if number == 1 {
-        Some(Version::OneLevel)
+        Version::OneLevel
     } else {
-        Some(Version::TwoLevels)
+        Version::TwoLevels
     }
 }
 

@@ -1,9 +1,10 @@
-ghost use Rattle.std.specs.Prelude.{◌≡◌, ◌≢◌, ◌≤◌, ◌*◌, ◌^◌, IfOk, None};
+ghost use Rattle.std.specs.Prelude.{◌≡◌, ◌≢◌, ◌≤◌, ◌+◌, ◌*◌, ◌^◌, IfOk, None};
 ghost use Rattle.zy_group.specs.Fields.{count_by};
 ghost use Rattle.zy_group.specs.Own.{is_own, key_state, own_key};
 ghost use Rattle.zy_group.specs.Reading.{IsRead};
 ghost use Rattle.zy_lms.specs.Height.{levels_of};
 ghost use Rattle.zy_seal.specs.Keys.{key_of};
+ghost use Rattle.zy_seal.specs.Sealing.{signatures_by};
 
 use crate::{GroupFault, Secret, Version};
 use std::alloc::Global;
@@ -11,8 +12,9 @@ use zy_base::{Party, Want};
 use zy_lms::{HssKey, LmsKey};
 use zy_seal::Directory;
 
-/// The key of a party of the group, by its secret. This judges field 18: the group has the party, and its key there is the
-/// public key of the secret.
+/// The key of a party of the group, by its secret; one of a single level is migrated. This judges field 18: the group has the party,
+/// and its key there is the public key of the secret.
+#[tactic(auto, using(crate::proofs::CountLemmas::number_left))]
 pub fn own_key(
     alloc: Global,
     party: Party,
@@ -22,6 +24,7 @@ pub fn own_key(
     requires { secret.now.next ≤ count_by secret.now.version secret.now.height }
     ensures read { IsRead (own_key party keys.now secret.now) result }
     ensures member { IfOk result (λ _. key_of keys.now party ≢ None) }
+    ensures left { IfOk result (λ key. secret.now.next + 1 ≤ count_by secret.now.version secret.now.height → key.next + 1 ≤ signatures_by key.height) }
 {
     let Some(public) = keys.key(party) else {
         return Err(GroupFault::Field(18));

@@ -18,7 +18,7 @@ IsSealed-sealed_by number fields sealer stmt is_key left =
     record {
       signer = refl;
       body = refl;
-      number = number_is sealer.key text is_key.id_len left;
+      told = number_is sealer.key text is_key.id_len left;
       verifies = HssVerifies-signature sealer.key text is_key.id_len left;
       short = signature_short sealer.key text;
     }

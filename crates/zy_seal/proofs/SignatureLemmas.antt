@@ -1,5 +1,5 @@
 -- How many signatures a key gives, how long each of them is, whichever it is and whatever it signs, and which number it tells.
-use Rattle.std.proofs.Common.{◌≡◌, ℕ, ◌+◌, ◌*◌, ◌<◌, ◌≤◌, ◌^◌, ◌/◌, ◌%◌, true, List, [], ◌++◌, ◌∷◌, length, take, drop, Some, refl, sym, ap, ◌∙◌, arith}
+use Rattle.std.proofs.Common.{◌≡◌, ℕ, ◌+◌, ◌*◌, ◌<◌, ◌≤◌, ◌^◌, ◌/◌, ◌%◌, true, List, [], ◌++◌, ◌∷◌, length, length-drop, take, drop, Some, refl, sym, ap, ◌∙◌, arith}
 use Rattle.std.specs.Prelude.{option_and_then}
 use Rattle.std.proofs.lemmas.Bool.{le-leb, lt-ltb}
 use Rattle.std.proofs.lemmas.List.{length-append, length-take-le, append_assoc, drop-append-le, drop_at, take-append-le, take-take, drop-drop}
@@ -171,7 +171,9 @@ module _ (k : KeyState) (text : List ℕ) (sized : length k.id ≡ 16) (left : k
       let len = top_verifies.len in
       let place = 8 + ots_types.signature_len_of k.ots in
       let there : number_there sig place ≡ Some (number_at sig place) = number_there-Some sig place (omega (arith, long)) in
-      let number : number_at sig place ≡ type_number_of k.height = in_top (4 + ots_types.signature_len_of k.ots) (omega (arith, len)) ∙ top_verifies.type in
+      let here : place ≡ 4 + (4 + ots_types.signature_len_of k.ots) = omega arith in
+      let number : number_at sig place ≡ type_number_of k.height =
+      ap (number_at sig) here ∙ in_top (4 + ots_types.signature_len_of k.ots) (omega (arith, len)) ∙ top_verifies.type in
       ap (option_and_then _) there ∙ height_with-number (number_at sig place) k.height number
 
   pub number_is : number_told sig ≡ Some k.next

@@ -66,7 +66,7 @@ sealed_by number fields sealer stmt =
 pub record IsSealed {S : Type 0} (number : ℕ) (fields : Spelling S) (sealer : SealerState) (stmt : S) (signed : Signed S) : Type 0 where
   pub signer : signed.by ≡ sealer.me
   pub body : signed.stmt ≡ stmt
-  pub number : number_told signed.sig ≡ Some sealer.key.next
+  pub told : number_told signed.sig ≡ Some sealer.key.next
   pub verifies : HssVerifies (hss_public_of sealer.key) (text_of number fields sealer.me stmt) signed.sig
   pub short : length signed.sig ≤ 8192
 

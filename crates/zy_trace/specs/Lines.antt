@@ -75,12 +75,12 @@ answer_line number by (Some Taken) = act_line number (codes " taken ") by
 answer_line number by (Some Held) = act_line number (codes " held ") by
 answer_line number by (Some (Refused cause)) = []
 
--- a statement is told as signed where the party signed it, by a signature from this number on
+-- the number of a signature, where it is from this one on
 abbrev pub from_unspent : ℕ → Option ℕ → Option ℕ
 from_unspent unspent None = None
 from_unspent unspent (Some spent) = if nat_le unspent spent then Some spent else None
 
--- the number of that signature
+-- a statement is told as signed where the party signed it, by a signature from this number on: the number of that
 abbrev pub signed_with : Option Party → ℕ → Statement → Option ℕ
 signed_with None unspent statement = None
 signed_with (Some party) unspent statement = if same_party party statement.by then from_unspent unspent statement.spent else None

@@ -9,7 +9,7 @@ use zy_base::{ClientId, Party, ReplicaId, Want};
 use zy_lms::HssKey;
 use zy_seal::{Directory, Sealer, party_id, party_seed};
 
-/// The party with its key, derived from the seed, whose next signature has this number. Its tree is built.
+/// The party with its key, derived from the seed, whose next signature has this number. Its top tree is built.
 pub fn sealer_at(alloc: Global, setup: &Setup, party: Party, number: u32) -> Result<Sealer, Want>
     requires { number ≤ signatures_by setup.now.height }
     ensures { IfOk result (λ sealer. sealer ≡ sealer_of setup.now party number) }
@@ -39,7 +39,7 @@ pub struct Keyring {
 }
 
 impl Keyring {
-    /// Each party's tree is built once.
+    /// Each party's top tree is built once.
     pub fn of(alloc: Global, setup: &Setup) -> Result<Keyring, Want>
         ensures replicas { IfOk result (λ keys. keys.replicas.items ≡ replica_sealers setup.now) }
         ensures clients { IfOk result (λ keys. keys.clients.items ≡ client_sealers setup.now) }
