@@ -1,7 +1,7 @@
 -- What a party with a signature left seals.
 use Rattle.std.proofs.Common.{◌≡◌, ◌<◌, ℕ, Some, refl}
 use Rattle.zy_wire.specs.Spelling.{Spelling}
-use Rattle.zy_lms.specs.Hss.{HssVerifies, IsHssKey, hss_public_of, hss_signature_of}
+use Rattle.zy_lms.specs.Hss.{IsHssKey, hss_public_of, hss_signature_of}
 use Rattle.zy_lms.proofs.HssLemmas.{HssVerifies-signature}
 use Rattle.zy_lms.proofs.HssVerifiedLemmas.{Decides-hss_verified}
 use Rattle.zy_parts.specs.Signing.{text_of}

@@ -1,5 +1,5 @@
 -- How many signatures a key gives, how long each of them is, whichever it is and whatever it signs, and which number it tells.
-use Rattle.std.proofs.Common.{◌≡◌, ℕ, ◌+◌, ◌*◌, ◌<◌, ◌≤◌, ◌^◌, ◌/◌, ◌%◌, true, List, [], ◌++◌, ◌∷◌, length, length-drop, take, drop, Some, refl, sym, ap, ◌∙◌, arith}
+use Rattle.std.proofs.Common.{◌≡◌, ℕ, ◌+◌, ◌*◌, ◌<◌, ◌≤◌, ◌^◌, ◌/◌, ◌%◌, List, [], ◌++◌, ◌∷◌, length, length-drop, take, drop, Some, refl, sym, ap, ◌∙◌, arith}
 use Rattle.std.specs.Prelude.{option_and_then}
 use Rattle.std.proofs.lemmas.Bool.{le-leb, lt-ltb}
 use Rattle.std.proofs.lemmas.List.{length-append, length-take-le, append_assoc, drop-append-le, drop_at, take-append-le, take-take, drop-drop}
@@ -20,11 +20,11 @@ use Rattle.zy_lms.proofs.VerifiedLemmas.{height_with-number, type_with-number}
 use Rattle.zy_lms.specs.declared.height.Height.{Height}
 use Rattle.zy_lms.specs.declared.height.Height.TheVariants.{H5, H10}
 use Rattle.zy_lms.specs.Height.{levels_of, type_number_of}
-use Rattle.zy_lms.specs.Hss.{hss_signature_of, id_under, key_under, lower_leaf, lower_leaf_in, top_leaf, top_leaf_in}
+use Rattle.zy_lms.specs.Hss.{hss_signature_of, id_under, key_under, lower_leaf, top_leaf}
 use Rattle.zy_lms.specs.KeyState.{KeyState, at_leaf}
 use Rattle.zy_lms.specs.Lms.{VerifiesAs, public_of, signature_of, signature_len_of}
 use Rattle.zy_lms.specs.Tree.{path_from}
-use Rattle.zy_seal.specs.Sealing.{height_told, number_by, number_of_leaves, number_there, number_told, ots_told, signatures_by, signature_size}
+use Rattle.zy_seal.specs.Sealing.{height_told, number_of_leaves, number_there, number_told, ots_told, signatures_by, signature_size}
 
 pub least_signatures : (height : Height) → 1024 ≤ signatures_by height
 least_signatures H5 = omega arith
