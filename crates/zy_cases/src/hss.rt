@@ -1,8 +1,8 @@
 //! The tables of keys of two levels, which sign by one leaf after another of one lower key after another, and of their signatures.
 
 use crate::cases::Scene;
-use crate::lms::height;
 use crate::lms;
+use crate::lms::height;
 use crate::ots::ots_type;
 use crate::text::{fault_text, plain_text, sha_text};
 use crate::words::Row;

@@ -189,18 +189,8 @@ type KeyRow = (Party, &'static [&'static str; 4], &'static str, u8);
 
 const WRONG_KEYS: [KeyRow; 8] = [
     (CLIENT_3, &SECRET_OF_CLIENT, "next = 32", 16),
-    (
-        CLIENT_3,
-        &SECRET_OF_CLIENT,
-        "version = 2\nnext = 1024",
-        16,
-    ),
-    (
-        REPLICA_0,
-        &SECRET_OF_REPLICA,
-        "version = 3\nnext = 0",
-        19,
-    ),
+    (CLIENT_3, &SECRET_OF_CLIENT, "version = 2\nnext = 1024", 16),
+    (REPLICA_0, &SECRET_OF_REPLICA, "version = 3\nnext = 0", 19),
     (REPLICA_0, &SECRET_OF_CLIENT, "next = 32", 18),
     (CLIENT_3, &SECRET_OF_REPLICA, "next = 31", 18),
     (

@@ -101,7 +101,7 @@ fn plain_statement(frame: &Frame) -> Option<Statement>
             Saying::Checkpoint,
             Some(check.stmt.view.0),
             Some(check.stmt.place.0),
-        ),
+        )),
     }
 }
 
