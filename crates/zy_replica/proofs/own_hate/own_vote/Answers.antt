@@ -1,9 +1,14 @@
-use Rattle.std.proofs.Common.{◌<◌, ◌∙◌, ap, subst}
+use Rattle.std.proofs.Common.{◌≡◌, ◌<◌, false, Bool, ◌∙◌, ap, sym, subst}
 use Rattle.zy_base.specs.declared.counts.Counts.{Counts}
 use Rattle.zy_base.specs.declared.ids.Party.TheVariants.{Replica}
 use Rattle.zy_base.specs.declared.ids.ReplicaId.{ReplicaId}
-use Rattle.zy_change.specs.Views.{Views}
-use Rattle.zy_replica.proofs.own_hate.unsigned.Goals as goal
+use Rattle.zy_change.specs.Views.{Views, is_hated_by}
+use Rattle.zy_replica.specs.Judging.{OwesOwn}
+use Rattle.zy_replica.proofs.own_hate.own_vote.Goals as goal
+
+pub owed_by_hate-owed-requires : goal.owed_by_hate-owed-requires
+owed_by_hate-owed-requires g c =
+    subst (λ (counts : Counts). c.me.result.0 < counts.n) (ap (λ (v : Views). v.counts) c.views.ensures.views ∙ c.views.ensures.ready.views.counts) c.me.ensures.member
 
 pub returns-clause-by : goal.returns-clause-by
 returns-clause-by g c =
