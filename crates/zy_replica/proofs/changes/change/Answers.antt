@@ -18,7 +18,7 @@ returns-in-Err g c =
     let owed = c.in_ok-owed in
     let step = change_step R s c.judge_owed.ensures.signer c.judge_owed.ensures.ready owed.owed owed.ensures.enters c.args.vote c.requires.replica owed.ensures.owed in
     c.refused.ensures
-    ∙ sym (step_refused R s 0 (change R s c.args.vote) owed.owed (begin (kept_unless owed.owed.send c.args.vote s)) step c.in-Err.cause (sym c.in_ok-judge_owed.ensures.ending ∙ c.in-Err.is))
+    ∙ sym (step_refused R s 0 (change R s c.args.vote) owed.owed (begin (kept_unless owed.owed.send c.args.vote s)) step c.in-Err.cause (sym c.in_ok-ending.ensures.ending ∙ c.in-Err.is))
 
 pub carry_change-requires-clause-kept : goal.carry_change-requires-clause-kept
 carry_change-requires-clause-kept g c =
@@ -26,7 +26,7 @@ carry_change-requires-clause-kept g c =
     let s = c.args.core in
     let owed = c.in_ok-owed in
     change_keeps s.views c.args.vote (report_of s) no_pens c.requires.replica c.requires.range owed.owed (owed.ensures.owed no_pens)
-    (goes_on R s owed.owed 0 c.in-Ok.ending (sym c.in_ok-judge_owed.ensures.ending ∙ c.in-Ok.is))
+    (goes_on R s owed.owed 0 c.in-Ok.ending (sym c.in_ok-ending.ensures.ending ∙ c.in-Ok.is))
 
 pub carry_change-requires-clause-judged : goal.carry_change-requires-clause-judged
 carry_change-requires-clause-judged g c =
@@ -38,7 +38,7 @@ carry_change-requires-clause-judged g c =
       more = 0;
       attempt = change R s c.args.vote;
       step = change_step R s c.judge_owed.ensures.signer c.judge_owed.ensures.ready owed.owed owed.ensures.enters c.args.vote c.requires.replica owed.ensures.owed;
-      ends = sym c.in_ok-judge_owed.ensures.ending ∙ c.in-Ok.is;
+      ends = sym c.in_ok-ending.ensures.ending ∙ c.in-Ok.is;
     }
 
 pub returns-in-Ok : goal.returns-in-Ok
@@ -48,4 +48,4 @@ returns-in-Ok g c =
     let owed = c.in_ok-owed in
     c.carry_change.ensures s 0 (change R s c.args.vote)
     (change_step R s c.judge_owed.ensures.signer c.judge_owed.ensures.ready owed.owed owed.ensures.enters c.args.vote c.requires.replica owed.ensures.owed)
-    (sym c.in_ok-judge_owed.ensures.ending ∙ c.in-Ok.is)
+    (sym c.in_ok-ending.ensures.ending ∙ c.in-Ok.is)

@@ -14,7 +14,7 @@ returns-in-Err g c =
     let s = c.args.core in
     let owed = c.in_ok-owed in
     let step = hate_step R s c.judge_owed.ensures.signer c.judge_owed.ensures.ready owed.owed owed.ensures.enters c.args.vote owed.ensures.owed in
-    c.refused.ensures ∙ sym (step_refused R s 0 (hate R s c.args.vote) owed.owed (with_hate_of c.args.vote.by (begin s)) step c.in-Err.cause (sym c.in_ok-judge_owed.ensures.ending ∙ c.in-Err.is))
+    c.refused.ensures ∙ sym (step_refused R s 0 (hate R s c.args.vote) owed.owed (with_hate_of c.args.vote.by (begin s)) step c.in-Err.cause (sym c.in_ok-ending.ensures.ending ∙ c.in-Err.is))
 
 pub carry_hate-requires-clause-judged : goal.carry_hate-requires-clause-judged
 carry_hate-requires-clause-judged g c =
@@ -26,7 +26,7 @@ carry_hate-requires-clause-judged g c =
       more = 0;
       attempt = hate R s c.args.vote;
       step = hate_step R s c.judge_owed.ensures.signer c.judge_owed.ensures.ready owed.owed owed.ensures.enters c.args.vote owed.ensures.owed;
-      ends = sym c.in_ok-judge_owed.ensures.ending ∙ c.in-Ok.is;
+      ends = sym c.in_ok-ending.ensures.ending ∙ c.in-Ok.is;
     }
 
 pub returns-in-Ok : goal.returns-in-Ok
@@ -36,4 +36,4 @@ returns-in-Ok g c =
     let owed = c.in_ok-owed in
     c.carry_hate.ensures s 0 (hate R s c.args.vote)
     (hate_step R s c.judge_owed.ensures.signer c.judge_owed.ensures.ready owed.owed owed.ensures.enters c.args.vote owed.ensures.owed)
-    (sym c.in_ok-judge_owed.ensures.ending ∙ c.in-Ok.is)
+    (sym c.in_ok-ending.ensures.ending ∙ c.in-Ok.is)

@@ -18,7 +18,7 @@ returns-in-Err g c =
     let told = send All (frames.Pom c.args.kept c.args.order) (begin s) in
     let owed = c.in_ok-owed in
     let step = blame_step R s c.judge_owed.ensures.signer c.judge_owed.ensures.ready owed.owed owed.ensures.enters c.args.kept c.args.order owed.ensures.owed in
-    c.refused.ensures ∙ sym (step_refused R s 0 (leave R (next_view s.views) told) owed.owed told step c.in-Err.cause (sym c.in_ok-judge_owed.ensures.ending ∙ c.in-Err.is))
+    c.refused.ensures ∙ sym (step_refused R s 0 (leave R (next_view s.views) told) owed.owed told step c.in-Err.cause (sym c.in_ok-ending.ensures.ending ∙ c.in-Err.is))
 
 pub carry_blame-requires-clause-judged : goal.carry_blame-requires-clause-judged
 carry_blame-requires-clause-judged g c =
@@ -30,7 +30,7 @@ carry_blame-requires-clause-judged g c =
       more = 0;
       attempt = leave R (next_view s.views) (send All (frames.Pom c.args.kept c.args.order) (begin s));
       step = blame_step R s c.judge_owed.ensures.signer c.judge_owed.ensures.ready owed.owed owed.ensures.enters c.args.kept c.args.order owed.ensures.owed;
-      ends = sym c.in_ok-judge_owed.ensures.ending ∙ c.in-Ok.is;
+      ends = sym c.in_ok-ending.ensures.ending ∙ c.in-Ok.is;
     }
 
 pub returns-in-Ok : goal.returns-in-Ok
@@ -40,4 +40,4 @@ returns-in-Ok g c =
     let owed = c.in_ok-owed in
     c.carry_blame.ensures s 0 (leave R (next_view s.views) (send All (frames.Pom c.args.kept c.args.order) (begin s)))
     (blame_step R s c.judge_owed.ensures.signer c.judge_owed.ensures.ready owed.owed owed.ensures.enters c.args.kept c.args.order owed.ensures.owed)
-    (sym c.in_ok-judge_owed.ensures.ending ∙ c.in-Ok.is)
+    (sym c.in_ok-ending.ensures.ending ∙ c.in-Ok.is)

@@ -15,8 +15,8 @@ count_hate-requires g c =
     let same = ap (λ (x : Going g.row.M-State.Denot). x.state.counts) c.in_ok-said.ensures ∙ group_stays g.M.Machine.rules c.args.progress (own_hate c.args.progress.state) in
     subst (λ (counts : Counts). number_of_party c.args.own.by < counts.n) (sym same) c.requires.member
 
-pub carry-carried-requires-clause-judged : goal.carry-carried-requires-clause-judged
-carry-carried-requires-clause-judged g c =
+pub carry-requires-clause-judged : goal.carry-requires-clause-judged
+carry-requires-clause-judged g c =
     let came =
     c.count_hate.ensures
     ∙ ap (λ (by : Party). with_hate_of by c.in_ok-said.said) c.requires.by

@@ -9,4 +9,4 @@ pub returns-in-Err : goal.returns-in-Err
 returns-in-Err g c =
     let owed = c.in_ok-owed in
     c.refused.ensures
-    ∙ sym (vote_refused g.M.Machine.rules c.args.core c.args.vote owed.owed owed.ensures.owed owed.ensures.fit c.judge_owed.ensures.ready c.judge_owed.ensures.signer c.in-Err.cause (sym c.in_ok-judge_owed.ensures.ending ∙ c.in-Err.is))
+    ∙ sym (vote_refused g.M.Machine.rules c.args.core c.args.vote owed.owed owed.ensures.owed owed.ensures.fit c.judge_owed.ensures.ready c.judge_owed.ensures.signer c.in-Err.cause (sym c.in_ok-ending.ensures.ending ∙ c.in-Err.is))

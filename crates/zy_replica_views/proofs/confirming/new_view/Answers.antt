@@ -9,4 +9,4 @@ pub returns-in-Err : goal.returns-in-Err
 returns-in-Err g c =
     let owed = c.in_ok-owed in
     c.refused.ensures
-    ∙ sym (new_refusal g.M.Machine.rules c.args.core c.args.new owed.owed owed.ensures.owed owed.ensures.accepted c.judge_owed.ensures.signer c.judge_owed.ensures.ready c.in-Err.cause (sym c.in_ok-judge_owed.ensures.ending ∙ c.in-Err.is))
+    ∙ sym (new_refusal g.M.Machine.rules c.args.core c.args.new owed.owed owed.ensures.owed owed.ensures.accepted c.judge_owed.ensures.signer c.judge_owed.ensures.ready c.in-Err.cause (sym c.in_ok-ending.ensures.ending ∙ c.in-Err.is))

@@ -9,4 +9,4 @@ pub returns-in-Err : goal.returns-in-Err
 returns-in-Err g c =
     let owed = c.in_ok-owed in
     c.refused.ensures
-    ∙ sym (cert_refused g.M.Machine.rules c.args.core c.args.cert owed.owed owed.ensures.owed c.requires.signers c.requires.range.0 c.judge_owed.ensures.ready c.judge_owed.ensures.signer c.in-Err.cause (sym c.in_ok-judge_owed.ensures.ending ∙ c.in-Err.is))
+    ∙ sym (cert_refused g.M.Machine.rules c.args.core c.args.cert owed.owed owed.ensures.owed c.requires.signers c.requires.range.0 c.judge_owed.ensures.ready c.judge_owed.ensures.signer c.in-Err.cause (sym c.in_ok-ending.ensures.ending ∙ c.in-Err.is))
