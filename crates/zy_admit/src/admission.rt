@@ -3,7 +3,7 @@ ghost use Rattle.zy_chain.specs.Entries.{IsEntryInRange};
 ghost use Rattle.zy_parts.specs.Signing.{IsSignedInRange};
 ghost use Rattle.zy_parts.specs.Statements.{IsAskInRange, IsOrderInRange};
 ghost use Rattle.zy_admit.specs.Orders.{no_orders, stored_in, with_order, without_order, orders_above, orders_up_to, gap_above, filled, orders_from};
-ghost use Rattle.zy_admit.specs.Judging.{judge_in};
+ghost use Rattle.zy_admit.specs.Judging.{judge_in, entry_of};
 
 use crate::judging::judge_new;
 use crate::queue::{drop_front, fill_up_to, first_filled};
@@ -117,7 +117,7 @@ impl Admission {
     pub fn judge(&self, order: &Order, ask: &Signed<Ask>, now: &Position) -> Admit
         requires order { IsOrderInRange order.now }
         requires ask { IsSignedInRange IsAskInRange ask.now }
-        ensures { result ≡ judge_in self.now order.now ask.now now.now }
+        ensures { result ≡ judge_in self.now order.now (entry_of ask.now) now.now }
     {
         match self.stored(order.place) {
             Some(kept) if kept.order.stmt == *order => Admit::Refused(Cause::Repeat),

@@ -1,8 +1,8 @@
 ghost use Rattle.std.specs.Prelude.{◌≡◌};
-ghost use Rattle.zy_chain.specs.Entries.{digest_of_entry};
+ghost use Rattle.zy_chain.specs.Entries.{digest_of_entry, newer};
 ghost use Rattle.zy_parts.specs.Signing.{IsSignedInRange};
 ghost use Rattle.zy_parts.specs.Statements.{IsAskInRange};
-ghost use Rattle.zy_admit.specs.Judging.{asking, entry_of, newer, judge_fresh, judge_at_end};
+ghost use Rattle.zy_admit.specs.Judging.{asking, entry_of, judge_fresh, judge_at_end};
 
 use zy_base::{Cause, ClientId, Digest, Party, Place, Stamp};
 use zy_chain::{next_head, request_digest};
@@ -36,7 +36,7 @@ pub enum Admit {
 // An order for a place where none is kept.
 pub(crate) fn judge_new(order: &Order, ask: &Signed<Ask>, now: &Position) -> Admit
     requires ask { IsSignedInRange IsAskInRange ask.now }
-    ensures { result ≡ judge_fresh order.now ask.now now.now }
+    ensures { result ≡ judge_fresh order.now (entry_of ask.now) now.now }
 {
     if order.place <= now.end {
         return Admit::Refused(Cause::OldPlace);
@@ -57,7 +57,7 @@ pub(crate) fn judge_new(order: &Order, ask: &Signed<Ask>, now: &Position) -> Adm
 // An order for the next place, of a request with this digest.
 fn judge_next(order: &Order, ask: &Signed<Ask>, now: &Position, request: &Digest) -> Admit
     requires { request.now ≡ digest_of_entry (entry_of ask.now) }
-    ensures { result ≡ judge_at_end order.now ask.now now.now }
+    ensures { result ≡ judge_at_end order.now (entry_of ask.now) now.now }
 {
     if order.head != next_head(&now.head, request) {
         return Admit::Refused(Cause::WrongHead);

@@ -9,6 +9,7 @@ use Rattle.zy_base.specs.declared.cause.Cause.TheVariants as causes
 use Rattle.zy_base.specs.declared.step.Answer.TheVariants.{Taken}
 use Rattle.zy_calm_rows.proofs.ClientRows.{awaits_more, by_first, late_response, response_completes, response_kept}
 use Rattle.zy_calm_rows.specs.Waiting.{Awaits, IsOf}
+use Rattle.zy_chain.specs.Answers as chain
 use Rattle.zy_exec.specs.Replay.{Point}
 use Rattle.zy_frames.specs.Frames.{FitsFrame}
 use Rattle.zy_parts.specs.Numbers as numbers
@@ -20,7 +21,7 @@ use Rattle.zy_parts.specs.declared.statements.Order.{Order}
 use Rattle.zy_parts.specs.declared.statements.Spec.{Spec}
 use Rattle.zy_seal.specs.Screening.{answer_to}
 use Rattle.zy_seal.specs.declared.directory.SealAnswer.TheVariants.{Yes}
-use Rattle.zy_table.specs.ClientRows.{complete, done_of, hear, hear_response, is_by_primary, keep, kept_of}
+use Rattle.zy_table.specs.ClientRows.{complete, done_of, hear, hear_response, is_by_primary, keep, kept_of, own_reply}
 use Rattle.zy_table.specs.ClientState.{ClientOutcome, ClientState, client_outgoing, is_waiting, refused, taken}
 use Rattle.zy_table.specs.Roles.{is_replica}
 use Rattle.zy_table.specs.declared.client.Done.{Done}
@@ -140,13 +141,13 @@ module _ {S : Type 0} (R : Rules S) (s : Setup) (hears : Hears) (client stamp : 
   abbrev pub done : Done
   done =
       let a = answer R s p client ask order in
-      record { stamp = a.spec.stamp; view = a.spec.view; place = a.spec.place; head = a.spec.head; path = Fast; reply = a.reply }
+      record { stamp = a.spec.stamp; view = a.spec.view; place = a.spec.place; head = a.spec.head; path = Fast; reply = own_reply a.reply }
 
   done_is : (n : ℕ) (r : Response) → IsOf (answer R s p client ask order) n r → done_of r ≡ done
   done_is n r of =
       let a = answer R s p client ask order in
-      ap (λ (x : Spec). record { stamp = x.stamp; view = x.view; place = x.place; head = x.head; path = Fast; reply = r.reply }) of.stmt
-      ∙ ap (λ (reply : List ℕ). record { stamp = a.spec.stamp; view = a.spec.view; place = a.spec.place; head = a.spec.head; path = Fast; reply = reply }) of.reply
+      ap (λ (x : Spec). record { stamp = x.stamp; view = x.view; place = x.place; head = x.head; path = Fast; reply = own_reply r.reply }) of.stmt
+      ∙ ap (λ (reply : chain.Answers). record { stamp = a.spec.stamp; view = a.spec.view; place = a.spec.place; head = a.spec.head; path = Fast; reply = own_reply reply }) of.reply
 
   pub completes_one : (w : World S) (count : ℕ) (y : ℕ × Response) (answers : Answers) → IsAnswering w count (y ∷ answers) → s.counts.fast ≤ count + 1
       → IsDelivery R hears w (notes.Done (record { 0 = client }) done) (λ v. AnswersServed v answers)

@@ -3,10 +3,10 @@ use Rattle.std.proofs.Common.{◌≡◌, ℕ, zero, suc, ◌+◌, ◌*◌, ◌<�
 use Rattle.std.proofs.lemmas.Bool.{eq-eqb, ne_eqb}
 use Rattle.std.proofs.lemmas.List.Sums.{sum_by_push}
 use Rattle.std.specs.Prelude.{nat_eq, option_map, slice_index_or}
-use Rattle.zy_admit.specs.Judging.{newer}
 use Rattle.zy_base.specs.Machine.{Rules}
 use Rattle.zy_base.specs.declared.ids.ClientId.{ClientId}
 use Rattle.zy_base.specs.declared.ids.Party.TheVariants.{Client, Replica}
+use Rattle.zy_chain.specs.Entries.{newer}
 use Rattle.zy_chain.specs.declared.entry.Entry.{Entry}
 use Rattle.zy_exec.proofs.ReplayLemmas.{along-append, along-cons, along-nil, place-along}
 use Rattle.zy_exec.specs.Replay.{Point, along, known_of, origin, step}
@@ -95,7 +95,7 @@ module _ {S : Type 0} (R : Rules S) where
     is_live id = hears (Replica (record { 0 = id }))
 
     abbrev pub stand_at : List Entry → Stand S
-    stand_at before = record { point = point_after R before; leaves = 3 * length before; told = length before }
+    stand_at before = record { point = point_after R before; used = 3 * length before; told = length before }
 
     -- a client that waits for nothing
     pub record IsIdle (o : Option world.Client) (id stamp : ℕ) : Type 0 where

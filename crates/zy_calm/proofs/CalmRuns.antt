@@ -67,7 +67,7 @@ module _ {S : Type 0} (R : Rules S) (s : Setup) (muted : List ℕ) (path : Path)
 
   serves_all : (live_count : ℕ) → live_count ≡ length (calm.live_of s muted) → Serves R s hearing path live_count → IsUnforged (calm_run R s path muted asks).end → RunsCalmly R s path muted asks
   serves_all live_count same serves unforged =
-      let served = all_served R s hearing path live_count serves asker asks [] is.each (omega (arith, is.short)) (omega (arith, is.leaves)) (first_up_to R s muted) (first_world R s muted) (first_calm R s muted) in
+      let served = all_served R s hearing path live_count serves asker asks [] is.each (omega (arith, is.short)) (omega (arith, is.signatures)) (first_up_to R s muted) (first_world R s muted) (first_calm R s muted) in
       let alike = muted_runs R s muted (flat_map (lines_of path) asks) (start R s) in
       outcome alike served
     where
@@ -90,7 +90,7 @@ module _ {S : Type 0} (R : Rules S) (is_state : S → Type 0) (machine : IsMachi
       let alive : live (is_live R s heard) s.counts.n ≡ calm.live_of s muted = as_many_live R s muted in
       let many : count R s heard fits is_state machine ≡ length (calm.live_of s muted) = ap length alive in
       serves_all R s muted Fast asks is (count R s heard fits is_state machine) many
-      (λ a before one is_asker inside leaves up_to w more between. ask_served R s heard fits is_state machine a before one is_asker inside leaves up_to (omega (arith, is.enough, many))
+      (λ a before one is_asker inside lasts up_to w more between. ask_served R s heard fits is_state machine a before one is_asker inside lasts up_to (omega (arith, is.enough, many))
       (few_live (is_live R s heard) s.counts.n) w more between) unforged
 
   pub slow_runs : IsCalm s Slow muted asks → IsUnforged (calm_run R s Slow muted asks).end → RunsCalmly R s Slow muted asks
@@ -101,5 +101,5 @@ module _ {S : Type 0} (R : Rules S) (is_state : S → Type 0) (machine : IsMachi
       let alive : live (is_live R s heard) s.counts.n ≡ calm.live_of s muted = as_many_live R s muted in
       let many : count R s heard fits is_state machine ≡ length (calm.live_of s muted) = ap length alive in
       serves_all R s muted Slow asks is (count R s heard fits is_state machine) many
-      (λ a before one is_asker inside leaves up_to w more between. ask_served_slowly R s heard fits is_state machine sound.short_certificate (omega (arith, sound.two_certificates)) (omega (arith, sound.local_and_change, sound.change_in_reach)) a before one is_asker inside leaves up_to
+      (λ a before one is_asker inside lasts up_to w more between. ask_served_slowly R s heard fits is_state machine sound.short_certificate (omega (arith, sound.two_certificates)) (omega (arith, sound.local_and_change, sound.change_in_reach)) a before one is_asker inside lasts up_to
       (omega (arith, is.enough.0, many)) (omega (arith, is.enough.1, many)) (omega (arith, is.enough.2, many)) (few_live (is_live R s heard) s.counts.n) w more between) unforged

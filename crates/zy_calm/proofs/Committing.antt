@@ -1,5 +1,5 @@
 -- The certificate of one request: what live replicas make of it, and their local commits.
-use Rattle.std.proofs.Common.{◌≡◌, ℕ, ◌+◌, ◌<◌, ◌≤◌, ◌^◌, Bool, true, false, List, [], ◌∷◌, ◌++◌, cond, Some, None, refl, sym, ap, ◌∙◌, subst, arith}
+use Rattle.std.proofs.Common.{◌≡◌, ℕ, ◌+◌, ◌<◌, ◌≤◌, Bool, true, false, List, [], ◌∷◌, ◌++◌, cond, Some, None, refl, sym, ap, ◌∙◌, subst, arith}
 use Rattle.std.proofs.lemmas.Bool.{ne_eqb}
 use Rattle.std.specs.List.{AllByRecursion, find, list_all}
 use Rattle.std.specs.Prelude.{◌&&◌, nat_eq, if◌then◌else◌}
@@ -19,7 +19,6 @@ use Rattle.zy_chain.specs.Entries.{digest_of_entry}
 use Rattle.zy_exec.specs.Replay.{Point, step}
 use Rattle.zy_frames.specs.Frames.{FitsFrame, parts_of, spelling}
 use Rattle.zy_frames.specs.declared.frame.Frame.TheVariants as frames
-use Rattle.zy_lms.specs.Height.{levels_of}
 use Rattle.zy_parts.specs.Numbers as numbers
 use Rattle.zy_parts.specs.Statements.{local_fields}
 use Rattle.zy_parts.specs.declared.signed.Signed.{Signed}
@@ -29,7 +28,7 @@ use Rattle.zy_parts.specs.declared.statements.Order.{Order}
 use Rattle.zy_parts.specs.declared.statements.Spec.{Spec}
 use Rattle.zy_seal.specs.Keys.{Keys}
 use Rattle.zy_seal.specs.Screening.{screen}
-use Rattle.zy_seal.specs.Sealing.{SealerState, sealed_by}
+use Rattle.zy_seal.specs.Sealing.{SealerState, sealed_by, signatures_by}
 use Rattle.zy_table.specs.Deeds.{outgoing_of}
 use Rattle.zy_table.specs.Gathering.{with_certificate}
 use Rattle.zy_table.specs.Roles.{is_replica}
@@ -37,7 +36,7 @@ use Rattle.zy_table.specs.State.{State}
 use Rattle.zy_table.specs.Whole.{whole_step}
 use Rattle.zy_world_law.specs.Setup.{Setup, keys_of, sealer_of}
 use Rattle.zy_calm.proofs.Genuine.{AreAccepted, accepted, is_accepted, is_spelled, next_long}
-use Rattle.zy_calm.proofs.Round.{IsAt, IsRound, Stand, all_up_to, answer, leaves_are, signs_one}
+use Rattle.zy_calm.proofs.Round.{IsAt, IsRound, Stand, all_up_to, answer, left_is, signs_one}
 
 -- ---- local commits of earlier places
 
@@ -85,7 +84,7 @@ module _ {S : Type 0} (R : Rules S) (s : Setup) (p : Point S) (client : ℕ) (as
       ((omega arith, omega arith), ((omega arith, omega arith), next_long p.head (digest_of_entry (entry_of ask))))
 
   module _ (cert : IsCertificate) (at : Stand S) (same : at.point ≡ next_point) (untold : at.told < p.place + 1) (id : ℕ) (inside : id < s.counts.n) (state : State S) (is : IsAt R s at id state)
-      (left : at.leaves + 1 ≤ 2 ^ levels_of s.height) where
+      (left : at.used + 1 ≤ signatures_by s.height) where
     calm_here : rows.IsCalm R next_point state
     calm_here = subst (λ (q : Point S). rows.IsCalm R q state) same is.calm
 
@@ -98,7 +97,7 @@ module _ {S : Type 0} (R : Rules S) (s : Setup) (p : Point S) (client : ℕ) (as
         ∙ commit_row R next_point state calm_here certified (omega arith) (let next : p.place + 1 < state.kept.interval = omega (arith, is.interval, round.next.inside) in next) refl refl specs refl
         (subst (λ counts. IsCertificateOf certified counts.cert specs) (sym is.counts) cert.certifies)
         (none_said at.told (local_to certified) state.locals untold is.locals)
-        (omega (arith, leaves_are R s p client ask order round is.leaf state (Replica (record { 0 = id })) is.sealer, is.spent, left))
+        (omega (arith, left_is R s p client ask order round is.used state (Replica (record { 0 = id })) is.sealer, is.spent, left))
 
     -- the certificate is kept beside the rest
     either_at : (b : Bool) (t : State S) → IsAt R s at id t → IsAt R s at id (if b then t else state)
@@ -118,7 +117,7 @@ module _ {S : Type 0} (R : Rules S) (s : Setup) (p : Point S) (client : ℕ) (as
           counts = is.counts;
           keys = is.keys;
           interval = is.interval;
-          leaf = is.leaf;
+          used = is.used;
           sealer = is.sealer;
           spent = is.spent;
           locals = is.locals;
@@ -128,9 +127,9 @@ module _ {S : Type 0} (R : Rules S) (s : Setup) (p : Point S) (client : ℕ) (as
     abbrev pub vote : Signed Local
     vote = sealed_by numbers.local local_fields certain.sealer (local_to certified)
 
-    pub commit_after : IsAt R s (record { point = next_point; leaves = at.leaves + 1; told = p.place + 1 }) id (committed_calmly R state specs certified.spec.client (local_to certified)).state
+    pub commit_after : IsAt R s (record { point = next_point; used = at.used + 1; told = p.place + 1 }) id (committed_calmly R state specs certified.spec.client (local_to certified)).state
     commit_after =
-        signs_one at (record { point = next_point; leaves = at.leaves + 1; told = p.place + 1 }) (committed_calmly R state specs certified.spec.client (local_to certified)).state certain_at
+        signs_one at (record { point = next_point; used = at.used + 1; told = p.place + 1 }) (committed_calmly R state specs certified.spec.client (local_to certified)).state certain_at
         (commit_calm R next_point state calm_here certified specs certified.spec.client) refl refl refl refl refl (omega arith)
         (all_with (p.place + 1) certain.locals vote (all_up_to at.told (p.place + 1) certain.locals (omega (arith, untold)) certain_at.locals) (omega arith))
 
@@ -138,22 +137,22 @@ module _ {S : Type 0} (R : Rules S) (s : Setup) (p : Point S) (client : ℕ) (as
     commit_sent m n = ap (λ (by : Party). (Client (asking by), spelling (frames.LocalCommit vote)) ∷ []) round.asked_by
 
     vote_by : ℕ → Signed Local
-    vote_by leaf = sealed_by numbers.local local_fields (sealer_of s (Replica (record { 0 = id })) leaf) (local_to certified)
+    vote_by used = sealed_by numbers.local local_fields (sealer_of s (Replica (record { 0 = id })) used) (local_to certified)
 
-    vote_is : vote ≡ vote_by certain_at.leaf
+    vote_is : vote ≡ vote_by certain_at.used
     unfolding vote_by
     vote_is = ap (λ (x : SealerState). sealed_by numbers.local local_fields x (local_to certified)) certain_at.sealer
 
-    vote_good_as : IsVote id (vote_by certain_at.leaf)
+    vote_good_as : IsVote id (vote_by certain_at.used)
     unfolding vote_by FitsFrame
     vote_good_as =
-        let low : certain_at.leaf < 2 ^ levels_of s.height = omega (arith, certain_at.spent, left) in
+        let low : certain_at.used < signatures_by s.height = omega (arith, certain_at.spent, left) in
         let party = Replica (record { 0 = id }) in
         record {
           by = refl;
           stmt = refl;
-          fits = is_spelled s party certain_at.leaf low numbers.local local_fields (local_to certified) inside (omega (arith, round.few, inside)) local_spelled;
-          accepted = (is_accepted s party certain_at.leaf low numbers.local local_fields (local_to certified) inside, tt);
+          fits = is_spelled s party certain_at.used low numbers.local local_fields (local_to certified) inside (omega (arith, round.few, inside)) local_spelled;
+          accepted = (is_accepted s party certain_at.used low numbers.local local_fields (local_to certified) inside, tt);
         }
 
     pub vote_good : IsVote id vote

@@ -20,7 +20,7 @@ use Rattle.zy_parts.specs.declared.statements.Ask.{Ask}
 use Rattle.zy_parts.specs.declared.statements.Local.{Local}
 use Rattle.zy_parts.specs.declared.statements.Order.{Order}
 use Rattle.zy_parts.specs.declared.statements.Spec.{Spec}
-use Rattle.zy_table.specs.ClientRows.{complete_by, count_local, hear}
+use Rattle.zy_table.specs.ClientRows.{complete_by, count_local, hear, own_reply}
 use Rattle.zy_table.specs.ClientState.{ClientOutcome, ClientState, client_outgoing, is_waiting, refused, taken}
 use Rattle.zy_table.specs.Roles.{is_replica}
 use Rattle.zy_table.specs.declared.client.Done.{Done}
@@ -132,7 +132,7 @@ module _ {S : Type 0} (R : Rules S) (s : Setup) (hears : Hears) (client stamp : 
       })
 
   abbrev pub done : Done
-  done = record { stamp = a.spec.stamp; view = a.spec.view; place = a.spec.place; head = a.spec.head; path = Slow; reply = a.reply }
+  done = record { stamp = a.spec.stamp; view = a.spec.view; place = a.spec.place; head = a.spec.head; path = Slow; reply = own_reply a.reply }
 
   completes_one : (w : World S) (counted : List (Signed Local)) (y : ℕ × Signed Local) (votes : Votes) → IsCounting w counted (y ∷ votes) → length counted + 1 ≡ s.counts.local
       → IsDelivery R hears w (notes.Done (record { 0 = client }) done) (λ v. VotesServed v votes)

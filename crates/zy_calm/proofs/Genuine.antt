@@ -1,5 +1,5 @@
 -- What correct parties of a setup sign can be spelled and is accepted.
-use Rattle.std.proofs.Common.{◌≡◌, ℕ, zero, suc, ◌+◌, ◌<◌, ◌≤◌, ◌^◌, Bool, true, false, List, [], ◌∷◌, ◌++◌, length, map, Option, Some, None, refl, ap, ◌∙◌, arith}
+use Rattle.std.proofs.Common.{◌≡◌, ℕ, zero, suc, ◌+◌, ◌<◌, ◌≤◌, Bool, false, List, [], ◌∷◌, ◌++◌, length, map, Some, None, refl, ap, ◌∙◌, arith}
 use Rattle.sha2.proofs.Facts256.{length-sha256}
 use Rattle.std.proofs.lemmas.Bool.{or_from}
 use Rattle.std.proofs.lemmas.List.{length-take-le}
@@ -13,20 +13,16 @@ use Rattle.sha2.specs.Sha256.{sha256}
 use Rattle.zy_chain.specs.Entries.{digest_of_entry, digest_of_request}
 use Rattle.zy_chain.specs.Heads.{head_after}
 use Rattle.zy_chain.specs.declared.entry.Entry.{Entry}
-use Rattle.zy_lms.proofs.LmsLemmas.{VerifiesAs-signature}
-use Rattle.zy_lms.proofs.VerifiedLemmas.{Decides-verified}
-use Rattle.zy_lms.specs.Height.{levels_of}
 use Rattle.zy_lms.specs.KeyState.{IsKey}
-use Rattle.zy_lms.specs.Lms.{public_of, signature_of, verified}
-use Rattle.zy_parts.specs.Signing.{part_of, signed, text_of}
+use Rattle.zy_lms.specs.Lms.{public_of}
+use Rattle.zy_parts.specs.Signing.{part_of, signed}
 use Rattle.zy_parts.specs.declared.signed.Part.{Part}
-use Rattle.zy_seal.proofs.SealedLemmas.{IsSealed-sealed_by}
-use Rattle.zy_seal.specs.Checking.{answer_under}
+use Rattle.zy_seal.proofs.SealedLemmas.{IsSealed-sealed_by, sealed_by-accepted}
 use Rattle.zy_seal.specs.Keys.{Keys, key_of}
 use Rattle.zy_seal.specs.Screening.{answer_to, is_bad, is_unknown, screen}
-use Rattle.zy_seal.specs.Sealing.{sealed_by}
+use Rattle.zy_seal.specs.Sealing.{sealed_by, signatures_by}
 use Rattle.zy_seal.specs.declared.directory.SealAnswer.{SealAnswer}
-use Rattle.zy_seal.specs.declared.directory.SealAnswer.TheVariants.{BadSignature, Yes}
+use Rattle.zy_seal.specs.declared.directory.SealAnswer.TheVariants.{Yes}
 use Rattle.zy_wire.specs.Fields.{IsParty, party_bytes}
 use Rattle.zy_wire.specs.Spelling.{Spelling}
 use Rattle.zy_world_law.specs.Setup.{Setup, key_of_party, keys_of, public_key_of, sealer_of}
@@ -74,31 +70,22 @@ module _ (s : Setup) where
   known_key (Replica id) inside = get_map (λ n. public_key_of s (Replica (record { 0 = n }))) 0 s.counts.n id.0 inside ∙ ap (λ (n : ℕ). Some (public_key_of s (Replica (record { 0 = n })))) (let e : 0 + id.0 ≡ id.0 = omega arith in e)
   known_key (Client id) inside = get_map (λ n. public_key_of s (Client (record { 0 = n }))) 0 s.clients id.0 inside ∙ ap (λ (n : ℕ). Some (public_key_of s (Client (record { 0 = n })))) (let e : 0 + id.0 ≡ id.0 = omega arith in e)
 
-  module _ (party : Party) (leaf : ℕ) (left : leaf < 2 ^ levels_of s.height) where
-    same_key : public_key_of s party ≡ public_of (key_of_party s party leaf)
+  module _ (party : Party) (used : ℕ) (left : used < signatures_by s.height) where
+    same_key : public_key_of s party ≡ public_of (key_of_party s party used)
     unfolding public_of
     same_key = refl
 
-    id_long : length (key_of_party s party leaf).id ≡ 16
-    id_long = length-take-le 16 (sha256 (2 ∷ s.seed ++ party_bytes party)) (omega (arith, length-sha256 (2 ∷ s.seed ++ party_bytes party)))
-
-    verifies : (text : List ℕ) → verified (public_key_of s party) text (signature_of (key_of_party s party leaf) text) ≡ true
-    verifies text =
-        let key = key_of_party s party leaf in
-        ap (λ (public : List ℕ). verified public text (signature_of key text)) same_key
-        ∙ (Decides-verified (public_of key) text (signature_of key text)).1 (s.height, s.ots, VerifiesAs-signature key text id_long left)
+    is_key : IsKey (key_of_party s party used)
+    is_key =
+        record {
+          id_len = length-take-le 16 (sha256 (2 ∷ s.seed ++ party_bytes party)) (omega (arith, length-sha256 (2 ∷ s.seed ++ party_bytes party)));
+          within = (let e : used ≤ signatures_by s.height = omega (arith, left) in e);
+        }
 
     module _ {A : Type 0} (number : ℕ) (fields : Spelling A) (stmt : A) (member : IsMember party) where
-      pub is_accepted : answer_to (keys_of s) (part_of number fields (sealed_by number fields (sealer_of s party leaf) stmt)) ≡ Yes
-      is_accepted =
-          let text = text_of number fields party stmt in
-          let sig = signature_of (key_of_party s party leaf) text in
-          ap (λ (key : Option (List ℕ)). answer_under key text sig) (known_key party member)
-          ∙ ap (λ (b : Bool). if b then Yes else BadSignature) (verifies text)
+      pub is_accepted : answer_to (keys_of s) (part_of number fields (sealed_by number fields (sealer_of s party used) stmt)) ≡ Yes
+      is_accepted = sealed_by-accepted number fields (keys_of s) (sealer_of s party used) stmt is_key left (known_key party member ∙ ap Some same_key)
 
-      pub is_spelled : IsParty party → fields.Fits stmt → (signed fields).Fits (sealed_by number fields (sealer_of s party leaf) stmt)
+      pub is_spelled : IsParty party → fields.Fits stmt → (signed fields).Fits (sealed_by number fields (sealer_of s party used) stmt)
       unfolding signed
-      is_spelled by fits =
-          let key = key_of_party s party leaf in
-          let is_key : IsKey key = record { id_len = id_long; within = (let e : leaf ≤ 2 ^ levels_of s.height = omega (arith, left) in e) } in
-          (by, (fits, (IsSealed-sealed_by number fields (sealer_of s party leaf) stmt is_key left).short))
+      is_spelled by fits = (by, (fits, (IsSealed-sealed_by number fields (sealer_of s party used) stmt is_key left).short))

@@ -1,5 +1,5 @@
 -- A client that has just asked waits for the answer, and keeps nothing yet.
-use Rattle.std.proofs.Common.{◌≡◌, ℕ, zero, suc, ◌+◌, ◌-◌, ◌%◌, ◌≤◌, ◌^◌, Bool, true, List, [], ◌∷◌, replicate, cond, Option, Some, None, refl, sym, ap, ◌∙◌, subst, arith}
+use Rattle.std.proofs.Common.{◌≡◌, ℕ, zero, suc, ◌+◌, ◌-◌, ◌%◌, ◌≤◌, Bool, true, List, [], ◌∷◌, replicate, cond, Option, Some, None, refl, sym, ap, ◌∙◌, subst, arith}
 use Rattle.std.proofs.Math.Nat.{mod-eq_of_lt}
 use Rattle.std.proofs.lemmas.List.{length-replicate}
 use Rattle.std.specs.List.{filter}
@@ -9,18 +9,18 @@ use Rattle.zy_base.specs.Machine.{Rules}
 use Rattle.zy_base.specs.declared.ids.Party.TheVariants.{Client, Replica}
 use Rattle.zy_calm_rows.proofs.ClientRows.{ask_row}
 use Rattle.zy_calm_rows.specs.Waiting.{Answered, AreOf, Awaits}
-use Rattle.zy_chain.specs.Entries.{digest_of_request}
+use Rattle.zy_chain.specs.Entries.{digest_of_entry}
 use Rattle.zy_exec.specs.Replay.{Point, known_of}
 use Rattle.zy_frames.specs.Frames.{spelling}
 use Rattle.zy_frames.specs.declared.frame.Frame.TheVariants as frames
-use Rattle.zy_lms.specs.Height.{levels_of}
 use Rattle.zy_parts.specs.Numbers as numbers
+use Rattle.zy_parts.specs.Statements as statements
 use Rattle.zy_parts.specs.Statements.{ask_fields}
 use Rattle.zy_parts.specs.declared.signed.Signed.{Signed}
 use Rattle.zy_parts.specs.declared.statements.Ask.{Ask}
-use Rattle.zy_seal.specs.Sealing.{SealerState, sealed_by, spent_one}
+use Rattle.zy_seal.specs.Sealing.{SealerState, left_of, sealed_by, signatures_by, spent_one}
 use Rattle.zy_table.specs.ClientRows.{ask as client_ask, asked, next_ask}
-use Rattle.zy_table.specs.ClientState.{ClientState, client_outgoing, leaves_of}
+use Rattle.zy_table.specs.ClientState.{ClientState, client_outgoing, signs_left}
 use Rattle.zy_table.specs.declared.client.Response.{Response}
 use Rattle.zy_world_law.specs.Setup.{Setup, sealer_of}
 use Rattle.zy_calm.proofs.Asking.{MayRun, asked_for, given}
@@ -41,9 +41,9 @@ none_counted : (n : ℕ) → count_by is_some (no_slots n) ≡ 0
 none_counted zero = refl
 none_counted (suc n) = none_counted n
 
-module _ {S : Type 0} (R : Rules S) (s : Setup) (p : Point S) (client stamp leaf : ℕ) (op : List ℕ) (may : MayRun R s p client stamp leaf op) (c : ClientState) (of : IsClientOf s client stamp c) (idle : c.waiting ≡ None) where
+module _ {S : Type 0} (R : Rules S) (s : Setup) (p : Point S) (client stamp used : ℕ) (op : List ℕ) (may : MayRun R s p client stamp used op) (c : ClientState) (of : IsClientOf s client stamp c) (idle : c.waiting ≡ None) where
   abbrev pub ask : Signed Ask
-  ask = asked_for R s p client stamp leaf op
+  ask = asked_for R s p client stamp used op
 
   signed_so : sealed_by numbers.ask ask_fields c.sealer (next_ask c op) ≡ ask
   signed_so =
@@ -55,7 +55,7 @@ module _ {S : Type 0} (R : Rules S) (s : Setup) (p : Point S) (client stamp leaf
 
   pub asks_so : client_ask c op ≡ asked c (next_ask c op)
   asks_so =
-      let left : leaves_of c ≡ 2 ^ levels_of s.height - stamp = ap (λ (x : SealerState). 2 ^ levels_of x.key.height - x.key.next) of.sealer in
+      let left : signs_left c ≡ signatures_by s.height - stamp = ap left_of of.sealer in
       ask_row c op idle (omega (arith, left, may.stamp_left))
 
   pub of_after_ask : IsClientOf s client (stamp + 1) after_ask
@@ -69,7 +69,7 @@ module _ {S : Type 0} (R : Rules S) (s : Setup) (p : Point S) (client stamp leaf
         sealer = ap spent_one of.sealer;
       }
 
-  pub awaits_first : Awaits after_ask ask (answer R s p client ask (given R s p client stamp leaf op)) 0
+  pub awaits_first : Awaits after_ask ask (answer R s p client ask (given R s p client stamp used op)) 0
   awaits_first =
       record {
         waiting = ap Some signed_so;
@@ -80,7 +80,7 @@ module _ {S : Type 0} (R : Rules S) (s : Setup) (p : Point S) (client stamp leaf
           stamp = refl;
           reply = refl;
           by = refl;
-          ordered = ap (λ me. record { view = record { 0 = 0 }; place = (known_of R p (entry_of ask)).place; head = (known_of R p (entry_of ask)).head; request = digest_of_request me ask.stmt.stamp ask.stmt.op }) (sym of.me);
+          ordered = ap (λ me. record { view = record { 0 = 0 }; place = (known_of R p (entry_of ask)).place; head = (known_of R p (entry_of ask)).head; request = digest_of_entry (statements.entry_of me ask.stmt) }) (sym of.me);
         };
         slots = length-replicate c.counts.n None;
         kept = none_kept _ c.counts.n 0;

@@ -1,5 +1,5 @@
 -- One request is served on the fast path.
-use Rattle.std.proofs.Common.{◌≡◌, ◌⊎◌, inl, inr, ℕ, zero, suc, ◌+◌, ◌-◌, ◌*◌, ◌<◌, ◌≤◌, ◌^◌, Bool, true, false, List, [], ◌∷◌, ◌++◌, length, map, replicate, cond, get_or, Option, Some, None, refl, sym, ap, ◌∙◌, subst, arith, append-nil, append_assoc}
+use Rattle.std.proofs.Common.{◌≡◌, ◌⊎◌, inl, inr, ℕ, zero, suc, ◌+◌, ◌-◌, ◌*◌, ◌<◌, ◌≤◌, Bool, true, false, List, [], ◌∷◌, ◌++◌, length, map, replicate, cond, get_or, Option, Some, None, refl, sym, ap, ◌∙◌, subst, arith, append-nil, append_assoc}
 use Rattle.std.proofs.lemmas.Bool.{cases_eq}
 use Rattle.std.proofs.lemmas.List.{length-append, replicate-append-replicate}
 use Rattle.std.proofs.lemmas.List.Elements.{filter-append}
@@ -22,11 +22,11 @@ use Rattle.zy_exec.specs.Replay.{Point, origin, step}
 use Rattle.zy_frames.specs.Frames.{spelling}
 use Rattle.zy_frames.specs.declared.frame.Frame.{Frame}
 use Rattle.zy_frames.specs.declared.frame.Frame.TheVariants as frames
-use Rattle.zy_lms.specs.Height.{levels_of}
 use Rattle.zy_parts.specs.declared.signed.Signed.{Signed}
 use Rattle.zy_parts.specs.declared.statements.Ask.{Ask}
 use Rattle.zy_parts.specs.declared.statements.Order.{Order}
 use Rattle.zy_schedule.specs.declared.line.Line.{Line}
+use Rattle.zy_seal.specs.Sealing.{signatures_by}
 use Rattle.zy_table.specs.ClientRows.{asked, kept_of, next_ask}
 use Rattle.zy_table.specs.ClientState.{ClientState, is_waiting}
 use Rattle.zy_table.specs.Deeds.{others, outgoing_of}
@@ -101,7 +101,7 @@ module _ {S : Type 0} (R : Rules S) (s : Setup) (hears : Hears) (fit : IsFit s h
   count = length (live (is_live R s hears) s.counts.n)
 
   module _ (a : CalmAsk) (before : List Entry) (calm : IsCalmAsk s a) (asker : IsAsker R s hears a.client.0) (inside : length before + 1 < s.interval)
-      (leaves : 3 * (length before + 1) ≤ 2 ^ levels_of s.height) (up_to : AreUpTo R before) where
+      (lasts : 3 * (length before + 1) ≤ signatures_by s.height) (up_to : AreUpTo R before) where
     abbrev pub client : ℕ
     client = a.client.0
 
@@ -120,16 +120,16 @@ module _ {S : Type 0} (R : Rules S) (s : Setup) (hears : Hears) (fit : IsFit s h
     few_asked : stamp ≤ length before
     few_asked = count_by-le-length (λ e. nat_eq e.client.0 a.client.0) before
 
-    pub may_run : (leaf : ℕ) → leaf ≤ 3 * length before → MayRun R s p client stamp leaf op
-    may_run leaf low =
+    pub may_run : (used : ℕ) → used ≤ 3 * length before → MayRun R s p client stamp used op
+    may_run used low =
         record {
           some = fit.some;
           few = fit.few;
           clients = fit.clients;
           member = calm.client;
           stamp_low = omega (arith, few_asked, inside, fit.small);
-          stamp_left = omega (arith, few_asked, leaves);
-          leaf_left = omega (arith, low, leaves);
+          stamp_left = omega (arith, few_asked, lasts);
+          key_left = omega (arith, low, lasts);
           op_short = calm.op;
           next = record {
             inside = (let e : p.place + 1 < s.interval = omega (arith, place_after R before, inside) in e);
@@ -148,7 +148,7 @@ module _ {S : Type 0} (R : Rules S) (s : Setup) (hears : Hears) (fit : IsFit s h
       pub asking : world.Client
       pub there : client_at w client ≡ Some asking
       pub of : IsClientOf s client (stamp + 1) asking.state
-      pub awaits : Awaits asking.state ask (answer R s p client ask (given R s p client stamp primary.is.leaf op)) 0
+      pub awaits : Awaits asking.state ask (answer R s p client ask (given R s p client stamp primary.is.used op)) 0
       pub others : (id : ℕ) → IsAsker R s hears id → (id ≡ client → ⊥) → IsIdle R s hears (client_at w id) id (asked_in (record { 0 = id }) before)
       pub left : Left hears w ((Replica (record { 0 = 0 }), spelling (frames.Request ask)) ∷ [])
 
@@ -160,12 +160,12 @@ module _ {S : Type 0} (R : Rules S) (s : Setup) (hears : Hears) (fit : IsFit s h
         let idle = between.clients client asker in
         let c = idle.client.state in
         let first = between.stand 0 fit.first fit.some in
-        let may = may_run first.is.leaf first.is.spent in
+        let may = may_run first.is.used first.is.spent in
         let o = asked c (next_ask c op) in
         let note : client_note a.client (if is_waiting c.waiting then (if is_waiting o.state.waiting then None else o.state.done) else None) Taken ≡ Quiet =
         ap (λ (waits : Option (Signed Ask)). client_note a.client (if is_waiting waits then (if is_waiting o.state.waiting then None else o.state.done) else None) Taken) idle.waits in
         subst (λ (n : Note). MayCome (happens R w (events.Ask a.client op)) n IsAsked) note
-        (weaken (client_asks R hears w client op [] idle.client o between.left idle.there (asks_so R s p client stamp first.is.leaf op may c idle.of idle.waits))
+        (weaken (client_asks R hears w client op [] idle.client o between.left idle.there (asks_so R s p client stamp first.is.used op may c idle.of idle.waits))
         (λ v both.
         let next = both.0 in
         record {
@@ -174,23 +174,23 @@ module _ {S : Type 0} (R : Rules S) (s : Setup) (hears : Hears) (fit : IsFit s h
           primary = same_stand w v (stand_at R s hears before) 0 next.replicas first;
           asking = next.client;
           there = new_client w v client o.state idle.client idle.there next;
-          of = subst (IsClientOf s client (stamp + 1)) (sym next.state) (of_after_ask R s p client stamp first.is.leaf op may c idle.of idle.waits);
-          awaits = subst (λ (d : ClientState). Awaits d ask (answer R s p client ask (given R s p client stamp first.is.leaf op)) 0) (sym next.state) (awaits_first R s p client stamp first.is.leaf op may c idle.of idle.waits);
+          of = subst (IsClientOf s client (stamp + 1)) (sym next.state) (of_after_ask R s p client stamp first.is.used op may c idle.of idle.waits);
+          awaits = subst (λ (d : ClientState). Awaits d ask (answer R s p client ask (given R s p client stamp first.is.used op)) 0) (sym next.state) (awaits_first R s p client stamp first.is.used op may c idle.of idle.waits);
           others = λ id is_asker other. subst (λ (x : Option world.Client). IsIdle R s hears x id (asked_in (record { 0 = id }) before)) (sym (same_client w v client id o.state next other)) (between.clients id is_asker);
-          left = both.1 ∙ ap (map world.mail_to) (ask_sent R s p client stamp first.is.leaf op may c idle.of idle.waits hears fit.first);
+          left = both.1 ∙ ap (map world.mail_to) (ask_sent R s p client stamp first.is.used op may c idle.of idle.waits hears fit.first);
         }))
 
     -- ---- the primary orders it
 
-    module _ (leaf : ℕ) (low : leaf ≤ 3 * length before) where
+    module _ (used : ℕ) (low : used ≤ 3 * length before) where
       abbrev pub order : Signed Order
-      order = given R s p client stamp leaf op
+      order = given R s p client stamp used op
 
       pub round : IsRound R s p client ask order
-      round = is_round R s p client stamp leaf op (may_run leaf low)
+      round = is_round R s p client stamp used op (may_run used low)
 
-      pub room : 3 * length before + 2 ≤ 2 ^ levels_of s.height
-      room = omega (arith, leaves)
+      pub room : 3 * length before + 2 ≤ signatures_by s.height
+      room = omega (arith, lasts)
 
       -- the clients, as they are until an answer comes
       pub record IsWaitedFor (clients : List (Option world.Client)) : Type 0 where
@@ -204,13 +204,13 @@ module _ {S : Type 0} (R : Rules S) (s : Setup) (hears : Hears) (fit : IsFit s h
       the_backups = backups (is_live R s hears) s.counts.n
 
       abbrev pub own : Response
-      own = own_response R s p client stamp leaf op
+      own = own_response R s p client stamp used op
 
       abbrev pub stand_before : Stand S
-      stand_before = record { point = p; leaves = 3 * length before + 1; told = length before }
+      stand_before = record { point = p; used = 3 * length before + 1; told = length before }
 
       abbrev pub stand_after : Stand S
-      stand_after = record { point = step R p (entry_of ask); leaves = 3 * length before + 2; told = length before }
+      stand_after = record { point = step R p (entry_of ask); used = 3 * length before + 2; told = length before }
 
       abbrev pub order_bytes : List ℕ
       order_bytes = spelling (frames.Order (order_frame R s p client ask order))
@@ -222,7 +222,7 @@ module _ {S : Type 0} (R : Rules S) (s : Setup) (hears : Hears) (fit : IsFit s h
       pub takes_order : (id : ℕ) → id < s.counts.n → (state : State S) → IsAt R s stand_before id state
           → IsTurn R s hears (is_live R s hears) stand_before stand_after order_bytes Response (IsReady R s p client ask order) answer_from id state
       takes_order id inside_n state is =
-          let left : stand_before.leaves + 1 ≤ 2 ^ levels_of s.height = omega (arith, room) in
+          let left : stand_before.used + 1 ≤ signatures_by s.height = omega (arith, room) in
           let gets = response R s p client ask order round stand_before refl id inside_n state is left in
           record {
             outcome = taken_calmly R p state (order_frame R s p client ask order);
@@ -239,16 +239,16 @@ module _ {S : Type 0} (R : Rules S) (s : Setup) (hears : Hears) (fit : IsFit s h
       abbrev pub Ordering : World S → List ℕ → List (ℕ × Response) → Type 0
       Ordering w todo answers = IsTurning R s hears (is_live R s hears) stand_before stand_after order_bytes Response (IsReady R s p client ask order) answer_from IsWaitedFor w todo answers
 
-      pub order_goes : (w : World S) (asked : IsAsked w) → asked.primary.is.leaf ≡ leaf → IsDelivery R hears w Quiet (λ v. Ordering v the_backups ((0, own) ∷ []))
+      pub order_goes : (w : World S) (asked : IsAsked w) → asked.primary.is.used ≡ used → IsDelivery R hears w Quiet (λ v. Ordering v the_backups ((0, own) ∷ []))
       order_goes w asked its =
           let x = asked.primary.replica in
           let is = asked.primary.is in
           let at = stand_at R s hears before in
-          let may = may_run leaf low in
+          let may = may_run used low in
           let o = ordered_calmly R p x.state ask in
-          let d = replica_hears R hears w 0 (spelling (frames.Request ask)) [] x o asked.hear asked.left asked.primary.there (request_taken R s p client stamp leaf op may at refl x.state is its room) in
+          let d = replica_hears R hears w 0 (spelling (frames.Request ask)) [] x o asked.hear asked.left asked.primary.there (request_taken R s p client stamp used op may at refl x.state is its room) in
           let sent : filter (λ z. hears z.0) (outgoing_of o.state.me.0 o.state.counts.n o.deeds.sent) ≡ map (to_replica hears (spelling (frames.Order (order_frame R s p client ask order)))) (filter (is_live R s hears) (filter (λ id. if nat_eq id o.state.me.0 then false else true) (range_with_len 0 o.state.counts.n))) ++ (Client (record { 0 = client }), spelling (frame_of R s p client ask order own)) ∷ [] =
-          ap (filter (λ z. hears z.0)) (request_sent R s p client stamp leaf op may at refl x.state is its room o.state.me.0 o.state.counts.n)
+          ap (filter (λ z. hears z.0)) (request_sent R s p client stamp used op may at refl x.state is its room o.state.me.0 o.state.counts.n)
           ∙ filter-append (λ z. hears z.0) (copies (spelling (frames.Order (order_frame R s p client ask order))) (others o.state.me.0 o.state.counts.n)) ((Client (record { 0 = client }), spelling (frame_of R s p client ask order own)) ∷ [])
           ∙ ap (λ (l : Frames). l ++ filter (λ z. hears z.0) ((Client (record { 0 = client }), spelling (frame_of R s p client ask order own)) ∷ []))
           (heard_copies hears (spelling (frames.Order (order_frame R s p client ask order))) (filter (λ id. if nat_eq id o.state.me.0 then false else true) (range_with_len 0 o.state.counts.n)))
@@ -266,19 +266,19 @@ module _ {S : Type 0} (R : Rules S) (s : Setup) (hears : Hears) (fit : IsFit s h
                   left = both.1 ∙ ap (map world.mail_to) (sent
                       ∙ ap (λ (me : ReplicaId). map (to_replica hears (spelling (frames.Order (order_frame R s p client ask order)))) (filter (is_live R s hears) (filter (λ id. if nat_eq id me.0 then false else true) (range_with_len 0 o.state.counts.n))) ++ (Client (record { 0 = client }), spelling (frame_of R s p client ask order own)) ∷ []) is.me
                       ∙ ap (λ counts. map (to_replica hears (spelling (frames.Order (order_frame R s p client ask order)))) (filter (is_live R s hears) (filter (λ id. if nat_eq id 0 then false else true) (range_with_len 0 counts.n))) ++ (Client (record { 0 = client }), spelling (frame_of R s p client ask order own)) ∷ []) is.counts);
-                  good = (own_ready R s p client stamp leaf op may (let e : leaf + 1 < 2 ^ levels_of s.height = omega (arith, low, leaves) in e), tt);
+                  good = (own_ready R s p client stamp used op may (let e : used + 1 < signatures_by s.height = omega (arith, low, lasts) in e), tt);
                   keeps = subst IsWaitedFor (sym next.clients) (record { asking = asked.asking; there = asked.there; of = asked.of; awaits = subst (λ (n : ℕ). Awaits asked.asking.state ask (answer R s p client ask (given R s p client stamp n op)) 0) its asked.awaits; others = asked.others });
                 });
           }
         where
-          ordered_stand : (w v : World S) (asked : IsAsked w) (its : asked.primary.is.leaf ≡ leaf) → IsReplicaNext w v 0 (ordered_calmly R p asked.primary.replica.state ask).state → (id : ℕ) → is_live R s hears id ≡ true → id < s.counts.n → (id ≡ 0) ⊎ (id ≡ 0 → ⊥)
+          ordered_stand : (w v : World S) (asked : IsAsked w) (its : asked.primary.is.used ≡ used) → IsReplicaNext w v 0 (ordered_calmly R p asked.primary.replica.state ask).state → (id : ℕ) → is_live R s hears id ≡ true → id < s.counts.n → (id ≡ 0) ⊎ (id ≡ 0 → ⊥)
               → Stands R s v (stand_of R s stand_before stand_after the_backups id) id
           ordered_stand w v asked its next id is_id inside_n (inl same) =
               let gone : is_in the_backups 0 ≡ false = (all_different (is_live R s hears) fit.first s.counts.n fit.some).0 in
               subst (λ (k : ℕ). Stands R s v (stand_of R s stand_before stand_after the_backups k) k) (sym same)
               (subst (λ (b : Bool). Stands R s v (if b then stand_before else stand_after) 0) (sym gone)
               (stands_anew R s w v 0 _ asked.primary.replica stand_after asked.primary.there next
-              (request_after R s p client stamp leaf op (may_run leaf low) (stand_at R s hears before) refl asked.primary.replica.state asked.primary.is its room)))
+              (request_after R s p client stamp used op (may_run used low) (stand_at R s hears before) refl asked.primary.replica.state asked.primary.is its room)))
           ordered_stand w v asked its next id is_id inside_n (inr other) =
               let old = asked.stand id is_id inside_n in
               let among : is_in the_backups id ≡ true = among_backups (is_live R s hears) s.counts.n id is_id inside_n other in
@@ -332,7 +332,7 @@ module _ {S : Type 0} (R : Rules S) (s : Setup) (hears : Hears) (fit : IsFit s h
       longer = length-append before (e ∷ [])
 
       -- its client has what it asked for, and has heard all that was given to it; live replicas stand so
-      pub calm_again : {Gives : Type 0} {IsGood : ℕ → Gives → Type 0} {frame : Gives → Frame} {readable : AreReadable s Gives IsGood frame} (at : Stand S) → at.point ≡ step R p (entry_of ask) → at.leaves ≤ 3 * length before + 3
+      pub calm_again : {Gives : Type 0} {IsGood : ℕ → Gives → Type 0} {frame : Gives → Frame} {readable : AreReadable s Gives IsGood frame} (at : Stand S) → at.point ≡ step R p (entry_of ask) → at.used ≤ 3 * length before + 3
           → at.told ≤ length before + 1 → (w : World S) → IsServed R s hears client (stamp + 1) Gives IsGood frame readable (HaveRun at) IsOtherIdle w [] → IsBetween R s hears w (before ++ e ∷ [])
       calm_again at same few told w over =
           record {
@@ -387,7 +387,7 @@ module _ {S : Type 0} (R : Rules S) (s : Setup) (hears : Hears) (fit : IsFit s h
       weaker_end (inl broken) more = inl broken
       weaker_end (inr on) more = inr (record { world = on.world; holds = more on.world on.holds; told = on.told; ended = on.ended })
 
-      pub request_step : (w : World S) (asked : IsAsked w) → asked.primary.is.leaf ≡ leaf → (n : ℕ) (rest : Rest S) → Leads (flow R (suc n) rest w) (Quiet ∷ []) (flow R n rest) (λ v. Ordering v the_backups ((0, own) ∷ []))
+      pub request_step : (w : World S) (asked : IsAsked w) → asked.primary.is.used ≡ used → (n : ℕ) (rest : Rest S) → Leads (flow R (suc n) rest w) (Quiet ∷ []) (flow R n rest) (λ v. Ordering v the_backups ((0, own) ∷ []))
       request_step w asked its n rest =
           let d = order_goes w asked its in
           let Next = λ (v : World S). Ordering v the_backups ((0, own) ∷ []) in
@@ -401,7 +401,7 @@ module _ {S : Type 0} (R : Rules S) (s : Setup) (hears : Hears) (fit : IsFit s h
       all_order w ordering n all rest same =
           all_turn R s hears (is_live R s hears) stand_before stand_after order_bytes Response (IsReady R s p client ask order) answer_from takes_order IsWaitedFor the_backups w ((0, own) ∷ []) ordering n all rest same
 
-      flow_serves : fast ≤ count → count ≤ s.counts.n → (w : World S) (asked : IsAsked w) → asked.primary.is.leaf ≡ leaf → (all : ℕ) (rest : Rest S) → 2 * s.counts.n ≤ all → Leads (flow R all rest w) flow_notes rest Again
+      flow_serves : fast ≤ count → count ≤ s.counts.n → (w : World S) (asked : IsAsked w) → asked.primary.is.used ≡ used → (all : ℕ) (rest : Rest S) → 2 * s.counts.n ≤ all → Leads (flow R all rest w) flow_notes rest Again
       flow_serves enough few w asked its zero rest long = absurd (omega (arith, few, counted, long))
       flow_serves enough few w asked its (suc all) rest long =
           let behind : ℕ = all - length the_backups in
@@ -428,4 +428,4 @@ module _ {S : Type 0} (R : Rules S) (s : Setup) (hears : Hears) (fit : IsFit s h
         subst (λ (ns : List Note). Leads (run R (lines_of Fast a ++ more) w) ns (run R more) (λ v. IsBetween R s hears v (before ++ entry_after before a ∷ []))) all_quiet
         (joined _ (Quiet ∷ []) (Quiet ∷ replicate j Quiet ++ (replicate (s.counts.fast - 1) Quiet ++ tail)) (flow R a.flow (run R more)) (run R more) IsAsked _
         (one_event _ Quiet (flow R a.flow (run R more)) IsAsked (asked_next w between))
-        (λ v asked. flow_serves asked.primary.is.leaf asked.primary.is.spent enough few v asked refl a.flow (run R more) calm.flow))
+        (λ v asked. flow_serves asked.primary.is.used asked.primary.is.spent enough few v asked refl a.flow (run R more) calm.flow))

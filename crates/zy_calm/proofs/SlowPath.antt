@@ -1,5 +1,5 @@
 -- One request is served on the slow path.
-use Rattle.std.proofs.Common.{◌≡◌, ℕ, zero, suc, ◌+◌, ◌-◌, ◌*◌, ◌<◌, ◌≤◌, ◌^◌, Bool, true, false, List, [], ◌∷◌, ◌++◌, length, map, replicate, take, cond, Option, Some, None, refl, sym, ap, ◌∙◌, subst, arith, append-nil, append_assoc}
+use Rattle.std.proofs.Common.{◌≡◌, ℕ, zero, suc, ◌+◌, ◌-◌, ◌*◌, ◌<◌, ◌≤◌, Bool, true, false, List, [], ◌∷◌, ◌++◌, length, map, replicate, take, cond, Option, Some, None, refl, sym, ap, ◌∙◌, subst, arith, append-nil, append_assoc}
 use Rattle.std.proofs.lemmas.Bool.{and_from}
 use Rattle.std.proofs.lemmas.List.Elements.{All-from_recursion}
 use Rattle.std.specs.List.{AllByRecursion, cons_option, filter, filter_map, list_all, range_with_len}
@@ -20,7 +20,6 @@ use Rattle.zy_chain.specs.declared.entry.Entry.{Entry}
 use Rattle.zy_exec.specs.Replay.{Point, step}
 use Rattle.zy_frames.specs.Frames.{FitsFrame, spelling}
 use Rattle.zy_frames.specs.declared.frame.Frame.TheVariants as frames
-use Rattle.zy_lms.specs.Height.{levels_of}
 use Rattle.zy_parts.specs.Numbers as numbers
 use Rattle.zy_parts.specs.Signing.{part_of, signed}
 use Rattle.zy_parts.specs.Statements.{spec_fields}
@@ -30,6 +29,7 @@ use Rattle.zy_parts.specs.declared.statements.Local.{Local}
 use Rattle.zy_parts.specs.declared.statements.Order.{Order}
 use Rattle.zy_parts.specs.declared.statements.Spec.{Spec}
 use Rattle.zy_schedule.specs.declared.line.Line.{Line}
+use Rattle.zy_seal.specs.Sealing.{signatures_by}
 use Rattle.zy_table.specs.ClientRows.{certificate_of, client_step, equal_in, send_commit}
 use Rattle.zy_table.specs.ClientState.{ClientState, all_replicas, client_outgoing, is_waiting}
 use Rattle.zy_table.specs.Roles.{is_replica}
@@ -117,7 +117,7 @@ module _ {S : Type 0} (R : Rules S) (s : Setup) (hears : Hears) (fit : IsFit s h
   count = serving.count R s hears fit is_state machine
 
   module _ (a : CalmAsk) (before : List Entry) (calm : IsCalmAsk s a) (asker : IsAsker R s hears a.client.0) (inside : length before + 1 < s.interval)
-      (leaves : 3 * (length before + 1) ≤ 2 ^ levels_of s.height) (up_to : AreUpTo R before) (leaf : ℕ) (low : leaf ≤ 3 * length before) where
+      (lasts : 3 * (length before + 1) ≤ signatures_by s.height) (up_to : AreUpTo R before) (used : ℕ) (low : used ≤ 3 * length before) where
     abbrev client : ℕ
     client = a.client.0
 
@@ -125,31 +125,31 @@ module _ {S : Type 0} (R : Rules S) (s : Setup) (hears : Hears) (fit : IsFit s h
     stamp = asked_in a.client before + 1
 
     abbrev p : Point S
-    p = serving.p R s hears fit is_state machine a before calm asker inside leaves up_to
+    p = serving.p R s hears fit is_state machine a before calm asker inside lasts up_to
 
     abbrev ask : Signed Ask
-    ask = serving.ask R s hears fit is_state machine a before calm asker inside leaves up_to
+    ask = serving.ask R s hears fit is_state machine a before calm asker inside lasts up_to
 
     abbrev order : Signed Order
-    order = serving.order R s hears fit is_state machine a before calm asker inside leaves up_to leaf low
+    order = serving.order R s hears fit is_state machine a before calm asker inside lasts up_to used low
 
     abbrev round : IsRound R s p client ask order
-    round = serving.round R s hears fit is_state machine a before calm asker inside leaves up_to leaf low
+    round = serving.round R s hears fit is_state machine a before calm asker inside lasts up_to used low
 
     abbrev stand_ran : Stand S
-    stand_ran = serving.stand_after R s hears fit is_state machine a before calm asker inside leaves up_to leaf low
+    stand_ran = serving.stand_after R s hears fit is_state machine a before calm asker inside lasts up_to used low
 
     abbrev stand_told : Stand S
-    stand_told = record { point = step R p (entry_of ask); leaves = 3 * length before + 3; told = length before + 1 }
+    stand_told = record { point = step R p (entry_of ask); used = 3 * length before + 3; told = length before + 1 }
 
     abbrev HaveRun : Stand S → List (Option (world.Replica S)) → Type 0
-    HaveRun = serving.HaveRun R s hears fit is_state machine a before calm asker inside leaves up_to leaf low
+    HaveRun = serving.HaveRun R s hears fit is_state machine a before calm asker inside lasts up_to used low
 
     abbrev IsOtherIdle : ℕ → Option world.Client → Type 0
-    IsOtherIdle = serving.IsOtherIdle R s hears fit is_state machine a before calm asker inside leaves up_to leaf low
+    IsOtherIdle = serving.IsOtherIdle R s hears fit is_state machine a before calm asker inside lasts up_to used low
 
     abbrev Answering : World S → ℕ → List (ℕ × Response) → Type 0
-    Answering = serving.Answering R s hears fit is_state machine a before calm asker inside leaves up_to leaf low
+    Answering = serving.Answering R s hears fit is_state machine a before calm asker inside lasts up_to used low
 
     abbrev the_live : List ℕ
     the_live = live (is_live R s hears) s.counts.n
@@ -178,7 +178,7 @@ module _ {S : Type 0} (R : Rules S) (s : Setup) (hears : Hears) (fit : IsFit s h
       takes_commit : IsCertificate R s p client ask order round specs → (id : ℕ) → id < s.counts.n → (state : State S) → IsAt R s stand_ran id state
           → IsTurn R s hears (is_live R s hears) stand_ran stand_told commit_bytes (Signed Local) (IsVote R s p client ask order round specs) vote_from id state
       takes_commit cert id inside_n state is =
-          let left : stand_ran.leaves + 1 ≤ 2 ^ levels_of s.height = omega (arith, leaves) in
+          let left : stand_ran.used + 1 ≤ signatures_by s.height = omega (arith, lasts) in
           let untold : stand_ran.told < p.place + 1 = omega (arith, place_after R before) in
           let gets = vote R s p client ask order round specs cert stand_ran refl untold id inside_n state is left in
           record {
@@ -262,30 +262,30 @@ module _ {S : Type 0} (R : Rules S) (s : Setup) (hears : Hears) (fit : IsFit s h
     j = length (backups (is_live R s hears) s.counts.n)
 
     counted : count ≡ 1 + j
-    counted = serving.counted R s hears fit is_state machine a before calm asker inside leaves up_to leaf low
+    counted = serving.counted R s hears fit is_state machine a before calm asker inside lasts up_to used low
 
     none_left : (kept : ℕ) (w : World S) → Answering w kept [] → next_undelivered w ≡ None
     none_left kept w is = none_next hears w is.around.hear is.around.left
 
-    all_quiet_before : count < s.counts.fast → count ≤ s.counts.n → (w : World S) (asked : serving.IsAsked R s hears fit is_state machine a before calm asker inside leaves up_to w) → asked.primary.is.leaf ≡ leaf → (all : ℕ) (rest : Rest S) → 2 * s.counts.n ≤ all
+    all_quiet_before : count < s.counts.fast → count ≤ s.counts.n → (w : World S) (asked : serving.IsAsked R s hears fit is_state machine a before calm asker inside lasts up_to w) → asked.primary.is.used ≡ used → (all : ℕ) (rest : Rest S) → 2 * s.counts.n ≤ all
         → Leads (flow R all rest w) (Quiet ∷ replicate j Quiet ++ replicate count Quiet) rest (λ v. Answering v count [])
     all_quiet_before few within w asked its zero rest long = absurd (omega (arith, within, counted, long))
     all_quiet_before few within w asked its (suc all) rest long =
         let behind : ℕ = all - j in
         let n : ℕ = behind - count in
-        let first = serving.request_step R s hears fit is_state machine a before calm asker inside leaves up_to leaf low w asked its all rest in
+        let first = serving.request_step R s hears fit is_state machine a before calm asker inside lasts up_to used low w asked its all rest in
         joined _ (Quiet ∷ []) (replicate j Quiet ++ replicate count Quiet) (flow R all rest) rest _ _ first
         (λ v ordering. joined _ (replicate j Quiet) (replicate count Quiet) (flow R behind rest) rest _ _
-        (serving.all_order R s hears fit is_state machine a before calm asker inside leaves up_to leaf low v ordering behind all rest (omega (arith, within, counted, long)))
+        (serving.all_order R s hears fit is_state machine a before calm asker inside lasts up_to used low v ordering behind all rest (omega (arith, within, counted, long)))
         (λ u ordered. flowed_out R n rest _ (replicate count Quiet) (λ x. Answering x count []) (none_left count)
         (kept_all u ordered.given (ordered.long ∙ sym counted) ordered.is n behind rest (omega (arith, within, counted, long)))))
       where
-        kept_all : (u : World S) (answers : List (ℕ × Response)) → length answers ≡ count → serving.Ordering R s hears fit is_state machine a before calm asker inside leaves up_to leaf low u [] answers → (n behind : ℕ) (rest : Rest S) → behind ≡ count + n
+        kept_all : (u : World S) (answers : List (ℕ × Response)) → length answers ≡ count → serving.Ordering R s hears fit is_state machine a before calm asker inside lasts up_to used low u [] answers → (n behind : ℕ) (rest : Rest S) → behind ≡ count + n
             → Leads (flow R behind rest u) (replicate count Quiet) (flow R n rest) (λ x. Answering x count [])
         kept_all u answers long_is is n behind rest same =
             subst (λ (k : ℕ). Leads (flow R behind rest u) (replicate k Quiet) (flow R n rest) (λ x. Answering x count [])) long_is
             (subst (λ (k : ℕ). Leads (flow R behind rest u) (replicate (length answers) Quiet) (flow R n rest) (λ x. Answering x k [])) (let e : 0 + length answers ≡ count = omega (arith, long_is) in e)
-            (all_kept R s hears client stamp p ask order round (HaveRun stand_ran) IsOtherIdle answers u 0 (serving.answering_begins R s hears fit is_state machine a before calm asker inside leaves up_to leaf low u answers is)
+            (all_kept R s hears client stamp p ask order round (HaveRun stand_ran) IsOtherIdle answers u 0 (serving.answering_begins R s hears fit is_state machine a before calm asker inside lasts up_to used low u answers is)
             (omega (arith, long_is, few)) n behind rest (omega (arith, same, long_is))))
 
     -- ---- and behind it
@@ -333,14 +333,14 @@ module _ {S : Type 0} (R : Rules S) (s : Setup) (hears : Hears) (fit : IsFit s h
         let n : ℕ = behind - count in
         joined _ (replicate count Quiet) vote_notes (flow R behind rest) rest _ Again
         (all_turn R s hears (is_live R s hears) stand_ran stand_told (commit_bytes specs) (Signed Local) (IsVote R s p client ask order round specs) (vote_from specs) (takes_commit specs is.cert) (IsToldOf specs) the_live w [] is.is behind all rest (omega (arith, within, long)))
-        (λ u turned. serving.weaker_end R s hears fit is_state machine a before calm asker inside leaves up_to leaf low
+        (λ u turned. serving.weaker_end R s hears fit is_state machine a before calm asker inside lasts up_to used low
         (flowed_out R n rest _ vote_notes (Voted specs) (λ x served. none_next hears x served.around.hear served.around.left)
         (all_counted R s hears client stamp p ask order round specs (HaveRun stand_told) IsOtherIdle turned.given u [] (s.counts.local - 1) (count - s.counts.local) (counting_begins specs u turned.given turned.is)
         (omega (arith, some_local)) (omega (arith, turned.long, enough, some_local)) n behind rest (omega (arith, turned.long, within, long))))
-        (λ x served. serving.calm_again R s hears fit is_state machine a before calm asker inside leaves up_to leaf low stand_told refl (omega arith) (omega arith) x served))
+        (λ x served. serving.calm_again R s hears fit is_state machine a before calm asker inside lasts up_to used low stand_told refl (omega arith) (omega arith) x served))
 
   module _ (a : CalmAsk) (before : List Entry) (calm : IsCalmAsk s a) (asker : IsAsker R s hears a.client.0) (inside : length before + 1 < s.interval)
-      (leaves : 3 * (length before + 1) ≤ 2 ^ levels_of s.height) (up_to : AreUpTo R before) where
+      (lasts : 3 * (length before + 1) ≤ signatures_by s.height) (up_to : AreUpTo R before) where
     -- the ask, its flow, the timer, and its flow
     pub ask_served_slowly : count < s.counts.fast → s.counts.cert ≤ count → s.counts.local ≤ count → count ≤ s.counts.n → (w : World S) (more : List Line) → IsBetween R s hears w before
         → Leads (run R (lines_of Slow a ++ more) w) (notes_of R s.counts Slow count before (entry_after before a)) (run R more) (λ v. IsBetween R s hears v (before ++ entry_after before a ∷ []))
@@ -354,15 +354,15 @@ module _ {S : Type 0} (R : Rules S) (s : Setup) (hears : Hears) (fit : IsFit s h
         let second : Rest S = flow R a.again rest in
         let timer : Rest S = λ v. goes_on (happens R v (events.Timer (Client a.client) timers.Answer)) second in
         let quiet_again : List Note = Quiet ∷ replicate count Quiet ++ (replicate l Quiet ++ tail) in
-        let all_quiet : Quiet ∷ (Quiet ∷ replicate k Quiet ++ replicate count Quiet) ++ quiet_again ≡ replicate (2 + 3 * count + l) Quiet ++ tail = slow_notes k count l tail (serving.counted R s hears fit is_state machine a before calm asker inside leaves up_to 0 (omega arith)) in
+        let all_quiet : Quiet ∷ (Quiet ∷ replicate k Quiet ++ replicate count Quiet) ++ quiet_again ≡ replicate (2 + 3 * count + l) Quiet ++ tail = slow_notes k count l tail (serving.counted R s hears fit is_state machine a before calm asker inside lasts up_to 0 (omega arith)) in
         subst (λ (ns : List Note). Leads (run R (lines_of Slow a ++ more) w) ns rest Again) all_quiet
         (joined _ (Quiet ∷ []) ((Quiet ∷ replicate k Quiet ++ replicate count Quiet) ++ quiet_again) (flow R a.flow timer) rest _ Again
-        (one_event _ Quiet (flow R a.flow timer) _ (serving.asked_next R s hears fit is_state machine a before calm asker inside leaves up_to w between))
+        (one_event _ Quiet (flow R a.flow timer) _ (serving.asked_next R s hears fit is_state machine a before calm asker inside lasts up_to w between))
         (λ v asked.
-        let leaf : ℕ = asked.primary.is.leaf in
-        let low : leaf ≤ 3 * length before = asked.primary.is.spent in
+        let used : ℕ = asked.primary.is.used in
+        let low : used ≤ 3 * length before = asked.primary.is.spent in
         joined _ (Quiet ∷ replicate k Quiet ++ replicate count Quiet) quiet_again timer rest _ Again
-        (all_quiet_before a before calm asker inside leaves up_to leaf low few within v asked refl a.flow timer calm.flow)
+        (all_quiet_before a before calm asker inside lasts up_to used low few within v asked refl a.flow timer calm.flow)
         (λ u kept. joined _ (Quiet ∷ []) (replicate count Quiet ++ (replicate l Quiet ++ tail)) second rest _ Again
-        (one_event _ Quiet second _ (timer_runs_out a before calm asker inside leaves up_to leaf low u count certain kept))
-        (λ x committing. all_told a before calm asker inside leaves up_to leaf low enough within x committing a.again rest calm.again))))
+        (one_event _ Quiet second _ (timer_runs_out a before calm asker inside lasts up_to used low u count certain kept))
+        (λ x committing. all_told a before calm asker inside lasts up_to used low enough within x committing a.again rest calm.again))))

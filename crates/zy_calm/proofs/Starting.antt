@@ -166,7 +166,7 @@ module _ {S : Type 0} (R : Rules S) (s : Setup) where
             counts = refl;
             keys = refl;
             interval = refl;
-            leaf = 0;
+            used = 0;
             sealer = refl;
             spent = (let e : 0 ≤ 3 * 0 = omega arith in e);
             locals = tt;

@@ -1,8 +1,8 @@
 -- When a schedule is calm: what silent replicas there may be, and how long it may be.
-use Rattle.std.specs.Prelude.{◌≡◌, ℕ, ◌*◌, ◌^◌, ◌<◌, ◌≤◌, nat_eq, not, ◌&&◌, Bool, true, false, List, filter, length}
+use Rattle.std.specs.Prelude.{◌≡◌, ℕ, ◌*◌, ◌<◌, ◌≤◌, nat_eq, not, ◌&&◌, Bool, true, false, List, filter, length}
 use Rattle.std.specs.List.{AllByRecursion, list_any, range_with_len}
 use Rattle.zy_base.specs.declared.counts.Counts.{Counts}
-use Rattle.zy_lms.specs.Height.{levels_of}
+use Rattle.zy_seal.specs.Sealing.{signatures_by}
 use Rattle.zy_table.specs.declared.client.Path.{Path}
 use Rattle.zy_table.specs.declared.client.Path.TheVariants.{Fast, Slow}
 use Rattle.zy_tuple.specs.Bytes.{op_bytes}
@@ -39,11 +39,11 @@ pub record IsCalmAsk (s : Setup) (a : CalmAsk) : Type 0 where
   pub again : 2 * s.counts.n ≤ a.again
 
 -- The first primary is live, and with it so many replicas as complete requests on this path. No checkpoint is due in it, and no key
--- runs out of leaves.
+-- runs out of signatures.
 pub record IsCalm (s : Setup) (path : Path) (muted : List ℕ) (asks : List CalmAsk) : Type 0 where
   pub setup : IsSetup s
   pub primary : is_live s muted 0 ≡ true
   pub enough : IsEnough path s.counts (length (live_of s muted))
   pub short : length asks < s.interval
-  pub leaves : 3 * length asks ≤ 2 ^ levels_of s.height
+  pub signatures : 3 * length asks ≤ signatures_by s.height
   pub each : AllByRecursion (IsCalmAsk s) asks

@@ -4,6 +4,7 @@ use Rattle.zy_base.specs.Machine.{Rules}
 use Rattle.zy_base.specs.declared.ids.ClientId.{ClientId}
 use Rattle.zy_chain.specs.declared.entry.Entry.{Entry}
 use Rattle.zy_exec.specs.Replay.{along, known_of, origin}
+use Rattle.zy_table.specs.ClientRows.{own_reply}
 use Rattle.zy_table.specs.declared.client.Done.{Done}
 use Rattle.zy_table.specs.declared.client.Path.{Path}
 use Rattle.zy_tuple.specs.Bytes.{op_bytes}
@@ -35,5 +36,5 @@ done_at R path before e =
       place = known.place;
       head = known.head;
       path = path;
-      reply = known.reply;
+      reply = own_reply known.reply;
     }

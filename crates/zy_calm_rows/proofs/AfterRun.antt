@@ -2,7 +2,7 @@
 use Rattle.std.proofs.Common.{◌≡◌, ℕ, zero, suc, ◌+◌, ◌-◌, List, [], ◌∷◌, ◌++◌, length, get_or, set, replicate, Option, Some, None, refl, ap, ◌∙◌, arith}
 use Rattle.std.proofs.lemmas.List.{length-append, length-replicate, length-set}
 use Rattle.std.specs.Prelude.{slice_index_or}
-use Rattle.zy_admit.specs.Judging.{entry_of}
+use Rattle.zy_admit.specs.Judging.{ordered_entry}
 use Rattle.zy_admit.specs.Orders.{Orders, with_order}
 use Rattle.zy_base.specs.Machine.{Rules}
 use Rattle.zy_base.specs.declared.ids.ClientId.{ClientId}
@@ -54,14 +54,14 @@ module _ {S : Type 0} where
     pub slots : length s.orders.slots ≡ p.place + 1
     pub pending : (client : ClientId) → pending_of s client ≡ None
 
-  pub calm_after : (R : Rules S) (p : Point S) (o : OrderFrame) (g : Going S) → IsAbout R p g.state → IsCalm R (step R p (entry_of o.ask)) (run_calmly R p o g).state
+  pub calm_after : (R : Rules S) (p : Point S) (o : OrderFrame) (g : Going S) → IsAbout R p g.state → IsCalm R (step R p (ordered_entry o)) (run_calmly R p o g).state
   calm_after R p o g is =
       record {
         mode = is.mode;
-        now = along-append R g.state.kept.base g.state.kept.entries (entry_of o.ask) ∙ ap (λ (q : Point S). step R q (entry_of o.ask)) is.now;
-        place = last_longer R g.state.kept (entry_of o.ask) ∙ ap (λ (n : ℕ). n + 1) is.place;
+        now = along-append R g.state.kept.base g.state.kept.entries (ordered_entry o) ∙ ap (λ (q : Point S). step R q (ordered_entry o)) is.now;
+        place = last_longer R g.state.kept (ordered_entry o) ∙ ap (λ (n : ℕ). n + 1) is.place;
         base = is.base;
         orders = is.orders;
         slots = is.slots;
-        pending = none_waits g.state (entry_of o.ask) is.pending;
+        pending = none_waits g.state (ordered_entry o) is.pending;
       }

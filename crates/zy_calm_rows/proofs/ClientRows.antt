@@ -5,7 +5,6 @@ use Rattle.std.proofs.lemmas.Bool.{eq-eqb, le-ltb, lt-leb, ne_eqb}
 use Rattle.std.proofs.lemmas.List.{length-set, length-take-le}
 use Rattle.std.specs.List.{filter_map, find}
 use Rattle.std.specs.Prelude.{is_some, count_by, nat_eq, nat_lt, unwrap_or, if◌then◌else◌, ◌&&◌}
-use Rattle.sha2.specs.Sha256.{sha256}
 use Rattle.zy_base.specs.declared.cause.Cause.{Cause}
 use Rattle.zy_base.specs.declared.cause.Cause.TheVariants as causes
 use Rattle.zy_base.specs.declared.ids.ClientId.{ClientId}
@@ -18,7 +17,9 @@ use Rattle.zy_cert.specs.Equal.{digest-equal, same_digest, same_local}
 use Rattle.zy_cert.specs.Signers.{has_other}
 use Rattle.zy_cert.specs.Votes.{Poll, answer_to, counted, poll_after}
 use Rattle.zy_cert.specs.declared.votes.Vote.TheVariants.{Counted, Full, Mixed, Repeat}
-use Rattle.zy_chain.specs.Entries.{digest_of_request}
+use Rattle.zy_chain.specs.Answers.{digest_of_answers}
+use Rattle.zy_chain.specs.Entries.{digest_of_entry}
+use Rattle.zy_parts.specs.Statements.{entry_of}
 use Rattle.zy_parts.specs.declared.signed.Signed.{Signed}
 use Rattle.zy_parts.specs.declared.statements.Ask.{Ask}
 use Rattle.zy_parts.specs.declared.statements.Local.{Local}
@@ -27,7 +28,7 @@ use Rattle.zy_parts.specs.declared.statements.Spec.{Spec}
 use Rattle.zy_base.specs.declared.step.Event.TheVariants.{Timer}
 use Rattle.zy_base.specs.declared.step.TimerKind.TheVariants as timers
 use Rattle.zy_table.specs.ClientRows.{agreeing, ask, ask_or_commit, ask_while, asked, certificate_of, client_step, complete, complete_by, completed_if, count_local, equal_in, evidence_by, evidence_with, hear_response, is_by_primary, is_certified, is_for, is_own_order, is_own_order_if, keep, keep_unless, kept_of, local_beside, local_while, locals_for, next_ask, respond, respond_while, response_cause, run_out, run_out_while, send_commit, told, vote_on}
-use Rattle.zy_table.specs.ClientState.{ClientState, leaves_of, refused, taken}
+use Rattle.zy_table.specs.ClientState.{ClientState, refused, signs_left, taken}
 use Rattle.zy_table.specs.Roles.{is_primary_of}
 use Rattle.zy_table.specs.declared.client.Commit.{Commit}
 use Rattle.zy_table.specs.declared.client.Response.{Response}
@@ -39,11 +40,11 @@ same_itself d = (digest-equal d d).1 refl
 
 -- ---- asking
 
-pub ask_row : (c : ClientState) (op : List ℕ) → c.waiting ≡ None → 1 ≤ leaves_of c → ask c op ≡ asked c (next_ask c op)
+pub ask_row : (c : ClientState) (op : List ℕ) → c.waiting ≡ None → 1 ≤ signs_left c → ask c op ≡ asked c (next_ask c op)
 unfolding ask
 ask_row c op idle left =
     ap (λ (w : Option (Signed Ask)). ask_while c w op) idle
-    ∙ ap (λ (b : Bool). if b then asked c (next_ask c op) else refused causes.KeySpent c) (le-leb 1 (leaves_of c) left)
+    ∙ ap (λ (b : Bool). if b then asked c (next_ask c op) else refused causes.KeySpent c) (le-leb 1 (signs_left c) left)
 
 -- ---- what comes too late
 
@@ -77,7 +78,7 @@ module _ (c : ClientState) (waiting : Signed Ask) (a : Answered) (count id : ℕ
   view_is = ap (λ (o : Order). o.view) answer.ordered ∙ answer.view
 
   abbrev expected : Order
-  expected = record { view = a.spec.view; place = a.spec.place; head = a.spec.head; request = digest_of_request c.me waiting.stmt.stamp waiting.stmt.op }
+  expected = record { view = a.spec.view; place = a.spec.place; head = a.spec.head; request = digest_of_entry (entry_of c.me waiting.stmt) }
 
   all_four : (w x y z : Bool) → w ≡ true → x ≡ true → y ≡ true → z ≡ true → (w && (x && (y && z))) ≡ true
   all_four w x y z w_is x_is y_is z_is = rw (w_is, x_is, y_is, z_is) refl
@@ -86,7 +87,7 @@ module _ (c : ClientState) (waiting : Signed Ask) (a : Answered) (count id : ℕ
   own =
       ap (λ (o : Order). is_own_order c waiting a.spec o) answer.ordered
       ∙ all_four (nat_eq expected.view.0 a.spec.view.0) (nat_eq expected.place.0 a.spec.place.0) (same_digest expected.head a.spec.head)
-      (same_digest expected.request (digest_of_request c.me waiting.stmt.stamp waiting.stmt.op))
+      (same_digest expected.request (digest_of_entry (entry_of c.me waiting.stmt)))
       (eq-eqb a.spec.view.0 a.spec.view.0 refl) (eq-eqb a.spec.place.0 a.spec.place.0 refl) (same_itself a.spec.head) (same_itself expected.request)
 
   -- the response in the answer's own words
@@ -101,7 +102,7 @@ module _ (c : ClientState) (waiting : Signed Ask) (a : Answered) (count id : ℕ
         let stamps : a.spec.stamp.0 ≡ waiting.stmt.stamp.0 = ap (λ (x : Stamp). x.0) answer.stamp in
         let low : nat_lt a.spec.stamp.0 waiting.stmt.stamp.0 ≡ false = le-ltb a.spec.stamp.0 waiting.stmt.stamp.0 (omega arith) in
         let high : nat_lt waiting.stmt.stamp.0 a.spec.stamp.0 ≡ false = le-ltb waiting.stmt.stamp.0 a.spec.stamp.0 (omega arith) in
-        let reply : same_digest (record { 0 = sha256 a.reply }) a.spec.reply ≡ true = (digest-equal _ _).1 (sym answer.reply) in
+        let reply : same_digest (digest_of_answers a.reply) a.spec.reply ≡ true = (digest-equal _ _).1 (sym answer.reply) in
         ap (λ (x : Spec). response_cause c waiting id (as_answer (record spec { stmt = x }))) stmt
         ∙ rw (same_client, low, high, reply, own, free) refl
 

@@ -14,6 +14,7 @@ use Rattle.zy_base.specs.declared.step.Answer.TheVariants.{Taken}
 use Rattle.zy_cert.specs.Certificates.{certified}
 use Rattle.zy_cert.specs.Equal.{digest-equal, same_spec}
 use Rattle.zy_cert.specs.Points.{point_of_spec}
+use Rattle.zy_chain.specs.Answers.{Answers}
 use Rattle.zy_chain.specs.Heads.{head_from}
 use Rattle.zy_chain.specs.Stretch.{end_of, entry_in, head_in}
 use Rattle.zy_chain.specs.declared.entry.Entry.{Entry}
@@ -28,7 +29,7 @@ use Rattle.zy_parts.specs.declared.statements.Spec.{Spec}
 use Rattle.zy_table.specs.Commits.{commit, commit_as, commit_beside, commit_judged, local_said, say_local}
 use Rattle.zy_table.specs.Deeds.{ends, refused}
 use Rattle.zy_table.specs.Gathering.{own_at, own_from, with_certificate}
-use Rattle.zy_table.specs.State.{State, leaves_of, own_view}
+use Rattle.zy_table.specs.State.{State, own_view, signs_left}
 use Rattle.zy_table.specs.Whole.{commit_in_view, plain_row, unless}
 use Rattle.zy_calm_rows.proofs.ReplicaRows.{no_cause}
 use Rattle.zy_calm_rows.proofs.Running.{none_due}
@@ -36,7 +37,7 @@ use Rattle.zy_calm_rows.specs.Calm.{IsCalm}
 use Rattle.zy_calm_rows.specs.Outcomes.{committed_calmly}
 use Rattle.zy_calm_rows.specs.Waiting.{Answered, IsCertificateOf, local_to}
 
-nothing_own : (view place : ℕ) (e : Option Entry) (head : Option Digest) (reply : Option (List ℕ)) → own_from view place e head reply None ≡ None
+nothing_own : (view place : ℕ) (e : Option Entry) (head : Option Digest) (reply : Option Answers) → own_from view place e head reply None ≡ None
 nothing_own view place None head reply = refl
 nothing_own view place (Some e) None reply = refl
 nothing_own view place (Some e) (Some head) None = refl
@@ -60,7 +61,7 @@ module _ {S : Type 0} (R : Rules S) (p : Point S) (s : State S) (calm : IsCalm R
       (none_due R s.kept a.spec.place.0 calm.base (calm.place ∙ sym place) (omega (arith, place)) (omega (arith, place)))
       ∙ nothing_own (own_view s) a.spec.place.0 (entry_in (stretch_of s.kept) a.spec.place.0) (head_in (stretch_of s.kept) a.spec.place.0) (reply_in R s.kept a.spec.place.0)
 
-  pub commit_row : a.spec.view ≡ record { 0 = 0 } → IsCertificateOf a s.counts.cert specs → local_said s (local_to a) ≡ None → 1 ≤ leaves_of s
+  pub commit_row : a.spec.view ≡ record { 0 = 0 } → IsCertificateOf a s.counts.cert specs → local_said s (local_to a) ≡ None → 1 ≤ signs_left s
       → plain_row R s (frames.Commit specs) ≡ committed_calmly R s specs a.spec.client (local_to a)
   unfolding commit
   commit_row view cert unsaid left =
@@ -80,7 +81,7 @@ module _ {S : Type 0} (R : Rules S) (p : Point S) (s : State S) (calm : IsCalm R
       ∙ ap (λ (b : Bool). if b then commit_as R s specs a.spec.client local (local_said s local) (own_at R s a.spec.place.0) else refused (causes.OtherHistory p.head a.spec.head) s) same
       ∙ ap (λ (l : Option (Signed Local)). commit_as R s specs a.spec.client local l (own_at R s a.spec.place.0)) unsaid
       ∙ ap (commit_as R s specs a.spec.client local None) no_checkpoint
-      ∙ ap (λ (b : Bool). if b then ends Taken (say_local R a.spec.client local (with_certificate s local.place specs)) else refused causes.KeySpent s) (le-leb 1 (leaves_of s) left)
+      ∙ ap (λ (b : Bool). if b then ends Taken (say_local R a.spec.client local (with_certificate s local.place specs)) else refused causes.KeySpent s) (le-leb 1 (signs_left s) left)
 
 module _ {S : Type 0} (R : Rules S) (p : Point S) (s : State S) (calm : IsCalm R p s) (a : Answered) (specs : List (Signed Spec)) where
   -- what is kept of certificates is all that changes beside the local commit

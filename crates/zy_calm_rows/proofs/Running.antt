@@ -4,10 +4,11 @@ use Rattle.std.proofs.Math.Nat.{mod-eq_of_lt}
 use Rattle.std.proofs.lemmas.Bool.{ne_eqb}
 use Rattle.std.proofs.lemmas.List.{drop_all, take_all, length-append}
 use Rattle.std.specs.Prelude.{nat_eq, nat_lt, option_map, if◌then◌else◌}
-use Rattle.zy_admit.specs.Judging.{entry_of}
+use Rattle.zy_admit.specs.Judging.{ordered_entry}
 use Rattle.zy_admit.specs.Orders.{slots_above}
 use Rattle.zy_base.specs.Machine.{Rules}
 use Rattle.zy_base.specs.declared.ids.Digest.{Digest}
+use Rattle.zy_chain.specs.Answers.{Answers}
 use Rattle.zy_chain.specs.declared.entry.Entry.{Entry}
 use Rattle.zy_exec.proofs.ReplayLemmas.{place-along}
 use Rattle.zy_exec.specs.Kept.{Kept, longer, last_place, now_of}
@@ -16,7 +17,6 @@ use Rattle.zy_exec.specs.Shots.{digest_of_snapshot, snapshot_due}
 use Rattle.zy_exec.specs.Snapshot.{snapshot_of}
 use Rattle.zy_frames.specs.declared.frame.OrderFrame.{OrderFrame}
 use Rattle.zy_parts.specs.declared.signed.Signed.{Signed}
-use Rattle.zy_parts.specs.declared.statements.Ask.{Ask}
 use Rattle.zy_parts.specs.declared.statements.Spec.{Spec}
 use Rattle.zy_table.specs.Deeds.{Going}
 use Rattle.zy_table.specs.Gathering.{signs_with, state_in}
@@ -58,18 +58,19 @@ module _ {S : Type 0} (R : Rules S) where
 
   -- where no checkpoint is due it is executed and answered, and no more
   pub run_one_calmly : (p : Point S) (o : OrderFrame) (g : Going S) → own_view g.state ≡ 0 → now_of R g.state.kept ≡ p
-      → state_in R (longer g.state.kept (entry_of o.ask)) (p.place + 1) ≡ None → run_one R o g ≡ run_calmly R p o g
+      → state_in R (longer g.state.kept (ordered_entry o)) (p.place + 1) ≡ None → run_one R o g ≡ run_calmly R p o g
   unfolding run_one
   run_one_calmly p o g view now none =
-      let after : Going S = executed R o.ask g in
-      let reply : List ℕ = (known_of R p (entry_of o.ask)).reply in
-      let signed : Signed Spec = sealed_spec after.state (calm_spec R p o.ask) in
-      ap (λ (v : ℕ). answered R o.order (spec_of v o.ask (next_known R g.state o.ask)) (next_known R g.state o.ask).reply after) view
-      ∙ ap (λ (q : Point S). answered R o.order (spec_of 0 o.ask (known_of R q (entry_of o.ask))) (known_of R q (entry_of o.ask)).reply after) now
+      let e : Entry = ordered_entry o in
+      let after : Going S = executed R e g in
+      let reply : Answers = (known_of R p e).reply in
+      let signed : Signed Spec = sealed_spec after.state (calm_spec R p e) in
+      ap (λ (v : ℕ). answered R o.order (spec_of v e (next_known R g.state e)) (next_known R g.state e).reply after) view
+      ∙ ap (λ (q : Point S). answered R o.order (spec_of 0 e (known_of R q e)) (known_of R q e).reply after) now
       ∙ ap (λ (d : Option Digest). share R o.order signed reply d (respond R o.order signed reply after)) none
 
   -- and signs one statement
-  pub one_sign : (p : Point S) (s : State S) (ask : Signed Ask) → now_of R s.kept ≡ p → state_in R (longer s.kept (entry_of ask)) (p.place + 1) ≡ None → signs_of R s ask ≡ 1
-  one_sign p s ask now none =
-      ap (λ (q : Point S). signs_with s (spec_of (own_view s) ask (known_of R q (entry_of ask))) (state_in R (longer s.kept (entry_of ask)) (q.place + 1))) now
-      ∙ ap (λ (d : Option Digest). signs_with s (spec_of (own_view s) ask (known_of R p (entry_of ask))) d) none
+  pub one_sign : (p : Point S) (s : State S) (e : Entry) → now_of R s.kept ≡ p → state_in R (longer s.kept e) (p.place + 1) ≡ None → signs_of R s e ≡ 1
+  one_sign p s e now none =
+      ap (λ (q : Point S). signs_with s (spec_of (own_view s) e (known_of R q e)) (state_in R (longer s.kept e) (q.place + 1))) now
+      ∙ ap (λ (d : Option Digest). signs_with s (spec_of (own_view s) e (known_of R p e)) d) none

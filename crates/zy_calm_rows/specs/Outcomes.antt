@@ -1,11 +1,12 @@
 -- What a calm replica makes of what it hears.
 use Rattle.std.specs.Prelude.{List, None}
-use Rattle.zy_admit.specs.Judging.{entry_of}
+use Rattle.zy_admit.specs.Judging.{ordered_entry}
 use Rattle.zy_admit.specs.Orders.{with_order}
 use Rattle.zy_base.specs.Machine.{Rules}
 use Rattle.zy_base.specs.declared.ids.ClientId.{ClientId}
 use Rattle.zy_base.specs.declared.step.Answer.TheVariants.{Taken}
 use Rattle.zy_chain.specs.Entries.{digest_of_entry}
+use Rattle.zy_chain.specs.declared.entry.Entry.{Entry}
 use Rattle.zy_exec.specs.Replay.{Point, known_of}
 use Rattle.zy_frames.specs.declared.frame.OrderFrame.{OrderFrame}
 use Rattle.zy_parts.specs.declared.signed.Signed.{Signed}
@@ -20,25 +21,26 @@ use Rattle.zy_table.specs.Requests.{sealed_order, ordered}
 use Rattle.zy_table.specs.Running.{executed, respond, sealed_spec, spec_of}
 use Rattle.zy_table.specs.State.{State}
 
--- what a response to a request says that is run next at a point
-abbrev pub calm_spec : {S : Type 0} → Rules S → Point S → Signed Ask → Spec
-calm_spec R p ask = spec_of 0 ask (known_of R p (entry_of ask))
+-- what a response says to an entry that is run next at a point
+abbrev pub calm_spec : {S : Type 0} → Rules S → Point S → Entry → Spec
+calm_spec R p e = spec_of 0 e (known_of R p e)
 
--- what an order says of a request that is run next at a point
-abbrev pub calm_order : {S : Type 0} → Rules S → Point S → Signed Ask → Order
-calm_order R p ask =
+-- what an order says of an entry that is run next at a point
+abbrev pub calm_order : {S : Type 0} → Rules S → Point S → Entry → Order
+calm_order R p e =
     record {
       view = record { 0 = 0 };
-      place = (known_of R p (entry_of ask)).place;
-      head = (known_of R p (entry_of ask)).head;
-      request = digest_of_entry (entry_of ask);
+      place = (known_of R p e).place;
+      head = (known_of R p e).head;
+      request = digest_of_entry e;
     }
 
 -- an order is run: its entry is executed, and its client gets the response
 abbrev pub run_calmly : {S : Type 0} → Rules S → Point S → OrderFrame → Going S → Going S
 run_calmly R p o g =
-    let after = executed R o.ask g in
-    respond R o.order (sealed_spec after.state (calm_spec R p o.ask)) (known_of R p (entry_of o.ask)).reply after
+    let e = ordered_entry o in
+    let after = executed R e g in
+    respond R o.order (sealed_spec after.state (calm_spec R p e)) (known_of R p e).reply after
 
 -- of a request, at the primary
 abbrev pub ordered_calmly : {S : Type 0} → Rules S → Point S → State S → Signed Ask → Outcome S

@@ -1,12 +1,13 @@
 -- What a client keeps in a calm run while it waits, as far as its rows read it.
 use Rattle.std.specs.Prelude.{◌≡◌, ℕ, ◌≤◌, suc, false, is_some, count_by, length, List, [], ◌∷◌, Option, Some, None, Ok}
-use Rattle.sha2.specs.Sha256.{sha256}
 use Rattle.zy_base.specs.declared.ids.Party.TheVariants.{Replica}
-use Rattle.zy_chain.specs.Entries.{digest_of_request}
+use Rattle.zy_chain.specs.Answers.{Answers, digest_of_answers}
+use Rattle.zy_chain.specs.Entries.{digest_of_entry}
 use Rattle.zy_cert.specs.Certificates.{certified}
 use Rattle.zy_cert.specs.Equal.{same_local, same_spec}
 use Rattle.zy_cert.specs.Points.{point_of_spec}
 use Rattle.zy_cert.specs.Signers.{has_other, has_signer}
+use Rattle.zy_parts.specs.Statements.{entry_of}
 use Rattle.zy_parts.specs.declared.signed.Signed.{Signed}
 use Rattle.zy_parts.specs.declared.statements.Ask.{Ask}
 use Rattle.zy_parts.specs.declared.statements.Local.{Local}
@@ -16,10 +17,10 @@ use Rattle.zy_table.specs.ClientState.{ClientState}
 use Rattle.zy_table.specs.declared.client.Commit.{Commit}
 use Rattle.zy_table.specs.declared.client.Response.{Response}
 
--- The one answer that all replicas give to a request, in the first view: what it says, the reply, and the primary's order.
+-- The one answer that all replicas give to a request, in the first view: what it says, the answers, and the primary's order.
 pub record Answered : Type 0 where
   pub spec : Spec
-  pub reply : List ℕ
+  pub reply : Answers
   pub order : Signed Order
 
 -- it answers this request of this client, and its order is that of the request
@@ -28,9 +29,9 @@ pub record IsAnswer (c : ClientState) (ask : Signed Ask) (a : Answered) : Type 0
   pub view : a.spec.view ≡ record { 0 = 0 }
   pub client : a.spec.client ≡ c.me
   pub stamp : a.spec.stamp ≡ ask.stmt.stamp
-  pub reply : a.spec.reply ≡ record { 0 = sha256 a.reply }
+  pub reply : a.spec.reply ≡ digest_of_answers a.reply
   pub by : a.order.by ≡ Replica (record { 0 = 0 })
-  pub ordered : a.order.stmt ≡ record { view = a.spec.view; place = a.spec.place; head = a.spec.head; request = digest_of_request c.me ask.stmt.stamp ask.stmt.op }
+  pub ordered : a.order.stmt ≡ record { view = a.spec.view; place = a.spec.place; head = a.spec.head; request = digest_of_entry (entry_of c.me ask.stmt) }
 
 -- a response of the replica with this number is that answer
 pub record IsOf (a : Answered) (id : ℕ) (r : Response) : Type 0 where

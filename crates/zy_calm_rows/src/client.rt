@@ -5,13 +5,13 @@ ghost use Rattle.zy_parts.specs.declared.signed.Signed.{Signed};
 ghost use Rattle.zy_parts.specs.declared.statements.Ask.{Ask};
 ghost use Rattle.zy_parts.specs.declared.statements.Local.{Local};
 ghost use Rattle.zy_table.specs.ClientRows.{ask, asked, certificate_of, complete, complete_by, count_local, hear_response, is_by_primary, keep, kept_of, next_ask, run_out, send_commit};
-ghost use Rattle.zy_table.specs.ClientState.{ClientState, leaves_of, refused, taken};
+ghost use Rattle.zy_table.specs.ClientState.{ClientState, signs_left, refused, taken};
 ghost use Rattle.zy_table.specs.declared.client.Response.{Response};
 ghost use Rattle.zy_calm_rows.specs.Waiting.{Answered, Awaits, IsCertificateOf, IsFresh, IsOf, commit_with};
 
-/// A client that waits for nothing, and has a leaf left, asks.
+/// A client that waits for nothing, and has a signature left, asks.
 pub fn calm_asks()
-    ensures { (c : ClientState) (op : List ℕ) → c.waiting ≡ None → 1 ≤ leaves_of c → ask c op ≡ asked c (next_ask c op) }
+    ensures { (c : ClientState) (op : List ℕ) → c.waiting ≡ None → 1 ≤ signs_left c → ask c op ≡ asked c (next_ask c op) }
 {}
 
 /// A waiting client that keeps nothing but the one answer keeps one more response of it, of a replica of which it kept none; with as

@@ -1,8 +1,8 @@
 //! The table `adoptions`: how a replica takes up the history with which a view begins. The own history is an execution as in the
 //! table `execution`, and the other one is run in a tuple space too.
 
-ghost use Rattle.std.specs.Prelude.{◌≡◌, ◌<◌, Some, All, IfOk, IsTrue};
-ghost use Rattle.zy_chain.specs.Entries.{IsEntryInRange};
+ghost use Rattle.std.specs.Prelude.{◌≡◌, Some, All, IfOk, IsTrue};
+ghost use Rattle.zy_chain.specs.Entries.{IsEntryInRange, IsOfClients};
 ghost use Rattle.zy_chain.specs.Stretch.{head_in};
 ghost use Rattle.zy_evidence.specs.Reading.{stretch_of};
 ghost use Rattle.zy_parts.specs.Reports.{IsToldInRange};
@@ -177,7 +177,7 @@ fn head_told(alloc: Global, told: &Told, place: Place) -> io::Result<Digest>
 }
 
 fn has_clients(told: &Told) -> bool
-    ensures { IsTrue result → All (λ e. e.client.0 < 64) told.now.entries }
+    ensures { IsTrue result → All IsOfClients told.now.entries }
 {
     told.entries.as_slice().iter().all(|e| e.client.0 < 64)
 }

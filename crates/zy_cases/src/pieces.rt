@@ -8,6 +8,7 @@ use std::io;
 use zy_base::Bytes;
 use zy_pieces::{Gather, Gathered, cut};
 use zy_rows::{Hex, lacking, not_a_line};
+use zy_wire::MAX_FRAME;
 
 /// The bytes before the payload of a datagram.
 const HEADER_LEN: usize = 37;
@@ -16,7 +17,7 @@ const HEADER_LEN: usize = 37;
 pub(crate) fn datagram(alloc: Global, row: &Row) -> io::Result<String> {
     let index = row.number("index")?;
     let frame = row.bytes("frame")?;
-    if frame.is_empty() || frame.len() > 4_194_304 {
+    if frame.is_empty() || frame.len() > MAX_FRAME {
         return Err(not_a_line());
     }
     match cut(alloc, frame) {

@@ -7,7 +7,7 @@ use crate::text::{PartyText, fault_text};
 use crate::words::Row;
 use std::alloc::{AllocError, Global};
 use std::io;
-use zy_base::View;
+use zy_base::{Party, ReplicaId, View};
 use zy_parts::Hate;
 use zy_rows::not_a_line;
 use zy_seal::{Directory, Sealer, check};
@@ -42,6 +42,7 @@ impl Scene for Seals {
             },
             "check" => checked(alloc, &directory(alloc, row)?, row),
             "check-by-copy" => checked(alloc, &directory(alloc, row)?.clone()?, row),
+            "check-again" => checked(alloc, &knowing(alloc, row)?.clone()?, row),
             _ => Err(not_a_line()),
         }
     }
@@ -73,6 +74,20 @@ fn directory(alloc: Global, row: &Row) -> io::Result<Directory> {
     let key = row.array("key")?;
     let replicas = one_key(alloc, key)?;
     Ok(Directory::new(alloc, replicas, one_key(alloc, key)?))
+}
+
+/// The same beside a store that keeps what the replica 0 signed, if that verifies.
+fn knowing(alloc: Global, row: &Row) -> io::Result<Directory> {
+    let directory = directory(alloc, row)?.with_store();
+    let signer = Party::Replica(ReplicaId(0));
+    check(
+        &directory,
+        signer,
+        row.bytes("known-text")?,
+        row.bytes("known-signature")?,
+    );
+    directory.take_in();
+    Ok(directory)
 }
 
 fn one_key(alloc: Global, key: [u8; 56]) -> Result<Vec<[u8; 56]>, AllocError> {

@@ -1,5 +1,5 @@
 -- An entry of a history as bytes.
-use Rattle.std.specs.Prelude.{ℕ, ◌^◌, ◌<◌, ◌≤◌, List, ◌++◌, length}
+use Rattle.std.specs.Prelude.{ℕ, ◌^◌, ◌<◌, ◌≤◌, Bool, true, nat_lt, List, ◌++◌, length, Option, Some, None}
 use Rattle.std.specs.Int.{w16, w32, w64, to_be_bytes}
 use Rattle.sha2.specs.Sha256.{sha256}
 use Rattle.zy_base.specs.declared.ids.ClientId.{ClientId}
@@ -12,9 +12,9 @@ pub record IsEntryInRange (e : Entry) : Type 0 where
   pub stamp : e.stamp.0 < 2 ^ 62
   pub op : length e.op ≤ 1100
 
--- the entry that a client's request stands for
-abbrev pub entry_of : ClientId → Stamp → List ℕ → Entry
-entry_of client stamp op = record { client = client; stamp = stamp; op = op }
+-- a group may have the clients whose requests it answers
+abbrev pub IsOfClients : Entry → Type 0
+IsOfClients e = e.client.0 < 64
 
 -- the client, the stamp, and the operation behind its length
 unfoldable pub bytes_of_request : ClientId → Stamp → List ℕ → List ℕ
@@ -30,3 +30,8 @@ bytes_of_entry e = bytes_of_request e.client e.stamp e.op
 
 abbrev pub digest_of_entry : Entry → Digest
 digest_of_entry e = digest_of_request e.client e.stamp e.op
+
+-- a stamp is above the last one of its client, where there is one
+abbrev pub newer : Stamp → Option Stamp → Bool
+newer stamp None = true
+newer stamp (Some last) = nat_lt last.0 stamp.0

@@ -1,4 +1,4 @@
--- An entry as a field of others: its spelling is exact, and what has one is in range.
+-- An entry and answers as fields of others: their spellings are exact, and what has one is in range.
 use Rattle.std.proofs.Common.{◌≡◌, refl, arith}
 use Rattle.std.specs.Int.{w16, w32}
 use Rattle.zy_wire.specs.Spelling.{Spelling, IsExact, pair, converted, word, bytes_of}
@@ -7,6 +7,7 @@ use Rattle.zy_wire.proofs.Parts.{pair-exact, converted-exact, word-exact, wide16
 use Rattle.zy_wire.proofs.Laws.{u62-exact, sized-exact}
 use Rattle.zy_chain.specs.declared.entry.Entry.{Entry}
 use Rattle.zy_chain.specs.Entries.{IsEntryInRange, bytes_of_entry, bytes_of_request}
+use Rattle.zy_chain.specs.Answers.{answers_fields}
 
 -- the client, the stamp, and the operation behind its length
 unfoldable pub entry_fields : Spelling Entry
@@ -24,3 +25,6 @@ entry-exact = converted-exact _ _ _ (pair-exact _ _ (word-exact w32 wide32) (pai
 pub entry-in_range : (e : Entry) → entry_fields.Fits e → IsEntryInRange e
 unfolding entry_fields
 entry-in_range e fits = record { stamp = fits.1.0.1; op = fits.1.1 }
+
+pub answers-exact : IsExact answers_fields
+answers-exact = sized-exact w16 1100 wide16 (omega arith)

@@ -6,6 +6,7 @@ use Rattle.zy_choose.specs.Marks.{Has, link}
 use Rattle.zy_choose.specs.Reports.{PlainReport}
 use Rattle.zy_choose.specs.declared.report.ReportRule.{ReportRule}
 use Rattle.zy_choose.specs.declared.report.ReportRule.TheVariants.{Stable, Entries, Began, Spec}
+use Rattle.zy_chain.specs.Entries.{IsOfClients}
 
 -- the stable proof isn't of a later view, and its place is a multiple of the interval between snapshots
 pub record IsStableInOrder (interval : ℕ) (r : PlainReport) : Type 0 where
@@ -15,7 +16,7 @@ pub record IsStableInOrder (interval : ℕ) (r : PlainReport) : Type 0 where
 -- there are few entries, of clients below 64, and the places are those of a frame
 pub record AreEntriesInRange (interval : ℕ) (r : PlainReport) : Type 0 where
   pub few : length r.stretch.entries ≤ 2 * interval
-  pub clients : All (λ e. e.client.0 < 64) r.stretch.entries
+  pub clients : All IsOfClients r.stretch.entries
   pub end : end_of r.stretch < 2 ^ 62
 
 -- a mark that isn't past the end, and is the stretch's where it isn't below the base

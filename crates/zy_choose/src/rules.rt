@@ -1,6 +1,7 @@
 ghost use Rattle.std.specs.Prelude.{◌<◌, ◌≤◌, ◌^◌, ◌↔◌, All, IfSome, IsTrue, MatchResult};
 ghost use Rattle.zy_choose.specs.Marks.{mark_of};
 ghost use Rattle.zy_choose.specs.Rules.{AreEntriesInRange, Fits, IsFirstBroken, IsStableInOrder, IsWellFormed};
+ghost use Rattle.zy_chain.specs.Entries.{IsOfClients};
 
 use crate::{Report, ReportRule};
 use zy_base::{Digest, Place};
@@ -46,7 +47,7 @@ fn are_entries_in_range(report: &Report, interval: u64) -> bool
 }
 
 fn are_clients_known(spine: &Spine) -> bool
-    ensures { IsTrue result ↔ All (λ e. e.client.0 < 64) spine.now.entries }
+    ensures { IsTrue result ↔ All IsOfClients spine.now.entries }
 {
     for place in spine.base().0..spine.end().0 {
         if let Some(entry) = spine.entry_at(Place(place + 1))

@@ -5,7 +5,6 @@ use Rattle.std.proofs.lemmas.Option.{same_Some}
 use Rattle.std.specs.Prelude.{slice_set, slice_index_or, unwrap_or}
 use Rattle.std.specs.List.{AllByRecursion, find}
 use Rattle.std.specs.Cmp.Lexicographic.{same_text}
-use Rattle.sha2.specs.Sha256.{sha256}
 use Rattle.zy_base.specs.declared.counts.Counts.{Counts}
 use Rattle.zy_base.specs.declared.cause.Cause.{Cause}
 use Rattle.zy_base.specs.declared.cause.Cause.TheVariants as causes
@@ -45,7 +44,7 @@ use Rattle.zy_cert.specs.declared.votes.Vote.TheVariants.{Counted, Full, Repeat,
 use Rattle.zy_table.specs.Roles.{is_replica}
 use Rattle.zy_table.specs.declared.client.Commit.{Commit}
 use Rattle.zy_table.specs.declared.client.Response.{Response}
-use Rattle.zy_table.specs.ClientState.{ClientState, client_start, leaves_of, refused}
+use Rattle.zy_table.specs.ClientState.{ClientState, client_start, signs_left, refused}
 use Rattle.zy_table.specs.ClientRows.{ask, ask_while, asked, next_ask, kept_of, response_cause, is_own_order_if, is_repeated, keep, agreeing, completed_if, evidence_by, told, keep_unless, complete, respond, respond_while, is_for, complete_by, vote_on, local_beside, local_while, count_local, is_certified, certified_in, locals_for, send_commit, ask_or_commit, run_out, run_out_while, is_by_primary, hear_response, hear, unless, decoded, decoded_as, view_decoded, client_step}
 use Rattle.zy_vframes.specs.Parts as view_parts
 use Rattle.zy_vframes.specs.ViewFrames as views
@@ -54,6 +53,7 @@ use Rattle.zy_client.specs.Held.{IsHeldBy, AreHeld, IsCounted, IsCommitHeld, Hol
 use Rattle.zy_client.specs.Held.CommitComes.{stays as from_before, counts as from_vote, certifies as from_responses}
 use Rattle.zy_client.specs.Held.IsComplete.{fast, slow}
 use Rattle.zy_client.proofs.PollLemmas.{pushed, counts as counts_vote, fills as fills_votes, votes_pushed}
+use Rattle.zy_chain.specs.Answers.{digest_of_answers}
 
 -- ---- slots
 
@@ -155,13 +155,13 @@ cause_free : (s : ClientState) (waiting : Signed Ask) (id : ℕ) (r : Response) 
 cause_free s waiting id r by signed is =
     let spec = r.spec.stmt in
     let by_order : Option Cause = if is_own_order_if s waiting spec r.order then (if is_repeated (kept_of s id) spec then Some causes.Repeat else None) else Some causes.Unmatched in
-    let by_reply : Option Cause = if same_digest (record { 0 = sha256 r.reply }) spec.reply then by_order else Some causes.Unmatched in
+    let by_reply : Option Cause = if same_digest (digest_of_answers r.reply) spec.reply then by_order else Some causes.Unmatched in
     let by_late : Option Cause = if nat_lt waiting.stmt.stamp.0 spec.stamp.0 then Some causes.Unmatched else by_reply in
     let by_stamp : Option Cause = if nat_lt spec.stamp.0 waiting.stmt.stamp.0 then Some causes.OldStamp else by_late in
     let own = taken_if (nat_eq spec.client.0 s.me.0) by_stamp causes.Unmatched is in
     let early = taken_unless (nat_lt spec.stamp.0 waiting.stmt.stamp.0) causes.OldStamp by_late own.1 in
     let late = taken_unless (nat_lt waiting.stmt.stamp.0 spec.stamp.0) causes.Unmatched by_reply early.1 in
-    let told = taken_if (same_digest (record { 0 = sha256 r.reply }) spec.reply) by_order causes.Unmatched late.1 in
+    let told = taken_if (same_digest (digest_of_answers r.reply) spec.reply) by_order causes.Unmatched late.1 in
     let least = ltb-false _ _ early.0 in
     let most = ltb-false _ _ late.0 in
     record {
@@ -169,7 +169,7 @@ cause_free s waiting id r by signed is =
       signed = signed;
       client = eqb-true _ _ own.0;
       stamp = omega (arith, least, most);
-      reply = ap (λ (bytes : List ℕ). let digest : Digest = record { 0 = bytes } in digest) (same_text (sha256 r.reply) r.spec.stmt.reply.0 (sym told.0));
+      reply = ap (λ (bytes : List ℕ). let digest : Digest = record { 0 = bytes } in digest) (same_text (digest_of_answers r.reply).0 r.spec.stmt.reply.0 (sym told.0));
     }
 
 module _ (s : ClientState) (event : Event) where
@@ -355,11 +355,11 @@ starts me counts keys sealer stamp = record { responses = λ waiting is. absurd 
 
 asks_while : (s : ClientState) (wait : Option (Signed Ask)) (op : List ℕ) → Holds s → Holds (ask_while s wait op).state
 asks_while s (Some waiting) op holds = holds
-asks_while s None op holds = with_leaf (nat_le 1 (leaves_of s))
+asks_while s None op holds = with_left (nat_le 1 (signs_left s))
   where
-    with_leaf : (leaf : Bool) → Holds (if leaf then asked s (next_ask s op) else refused causes.KeySpent s).state
-    with_leaf true = record { responses = λ waiting is id r kept. absurd (none_filled s.counts.n id r kept); commit = λ waiting commit is held. absurd cc }
-    with_leaf false = holds
+    with_left : (left : Bool) → Holds (if left then asked s (next_ask s op) else refused causes.KeySpent s).state
+    with_left true = record { responses = λ waiting is id r kept. absurd (none_filled s.counts.n id r kept); commit = λ waiting commit is held. absurd cc }
+    with_left false = holds
 
 pub asks_hold : (s : ClientState) (op : List ℕ) → Holds s → Holds (ask s op).state
 unfolding ask

@@ -1,7 +1,6 @@
 -- What a client holds, and what a completion rests on.
 use Rattle.std.specs.Prelude.{◌≡◌, ℕ, ◌+◌, ◌≤◌, List, [], ◌∷◌, ◌++◌, length, Some, Ok}
 use Rattle.std.specs.List.{AllByRecursion}
-use Rattle.sha2.specs.Sha256.{sha256}
 use Rattle.zy_base.specs.declared.ids.Party.TheVariants.{Replica}
 use Rattle.zy_base.specs.declared.step.Event.{Event}
 use Rattle.zy_base.specs.declared.step.Event.TheVariants.{Heard}
@@ -23,6 +22,7 @@ use Rattle.zy_table.specs.declared.client.Commit.{Commit}
 use Rattle.zy_table.specs.declared.client.Response.{Response}
 use Rattle.zy_table.specs.ClientState.{ClientState}
 use Rattle.zy_table.specs.ClientRows.{kept_of, agreeing, done_of, done_by, locals_for}
+use Rattle.zy_chain.specs.Answers.{digest_of_answers}
 
 -- ---- responses
 
@@ -32,7 +32,7 @@ pub record IsHeldBy (s : ClientState) (waiting : Signed Ask) (id : ℕ) (r : Res
   pub signed : answer_to s.keys (part_of numbers.spec spec_fields r.spec) ≡ Yes
   pub client : r.spec.stmt.client.0 ≡ s.me.0
   pub stamp : r.spec.stmt.stamp.0 ≡ waiting.stmt.stamp.0
-  pub reply : record { 0 = sha256 r.reply } ≡ r.spec.stmt.reply
+  pub reply : digest_of_answers r.reply ≡ r.spec.stmt.reply
 
 -- each response that is kept is such a one, of the replica of its slot
 abbrev pub AreHeld : ClientState → Signed Ask → Type 0
@@ -56,7 +56,7 @@ pub record IsCounted (keys : Keys) (spec : Spec) (vote : Signed Local) : Type 0 
 pub record IsCommitHeld (s : ClientState) (waiting : Signed Ask) (commit : Commit) : Type 0 where
   pub client : commit.spec.client.0 ≡ s.me.0
   pub stamp : commit.spec.stamp.0 ≡ waiting.stmt.stamp.0
-  pub reply : record { 0 = sha256 commit.reply } ≡ commit.spec.reply
+  pub reply : digest_of_answers commit.reply ≡ commit.spec.reply
   pub wanted : commit.locals.count ≡ s.counts.local
   pub votes : AreVotes commit.locals.votes
   pub counted : AllByRecursion (IsCounted s.keys commit.spec) commit.locals.votes

@@ -12,7 +12,7 @@ use Rattle.zy_parts.specs.declared.statements.Order.{Order}
 use Rattle.zy_table.specs.Sending.{CanBeSent}
 use Rattle.zy_table.specs.declared.client.Response.{Response}
 use Rattle.zy_table.specs.declared.deeds.Sent.{Sent}
-use Rattle.zy_table.specs.ClientState.{ClientState, leaves_of}
+use Rattle.zy_table.specs.ClientState.{ClientState, signs_left}
 
 -- a response that can stand in a certificate, and its order in a proof of misbehaviour
 pub record IsKeepable (r : Response) : Type 0 where
@@ -22,8 +22,8 @@ pub record IsKeepable (r : Response) : Type 0 where
 pub record IsReady (s : ClientState) : Type 0 where
   -- it signs as itself
   pub signer : s.sealer.me ≡ Client s.me
-  -- each request raises the stamp by one and spends a leaf, and a key has at most 1,024 of them
-  pub stamp : s.stamp.0 + leaves_of s ≤ 2 ^ 61 + 2 ^ 10
+  -- each request raises the stamp by one and spends a signature, of which a key gives at most 1,024
+  pub stamp : s.stamp.0 + signs_left s ≤ 2 ^ 61 + 2 ^ 10
   pub waiting : ForSome s.waiting (IsSignedInRange IsAskInRange)
   pub responses : length s.responses ≡ s.counts.n
   pub kept : AllByRecursion (λ slot. ForSome slot IsKeepable) s.responses

@@ -1,12 +1,11 @@
-ghost use Rattle.std.specs.Prelude.{◌≡◌, ◌≤◌, ◌+◌, ◌-◌, ◌^◌, ◌∷◌, [], length, Some, None, IfOk, OnOk, OnErr};
+ghost use Rattle.std.specs.Prelude.{◌≡◌, ◌≤◌, ◌+◌, ◌-◌, ◌∷◌, [], length, Some, None, IfOk, OnOk, OnErr};
 ghost use Rattle.std.specs.List.{AllByRecursion};
-ghost use Rattle.zy_table.specs.ClientState.{leaves_of, no_responses};
+ghost use Rattle.zy_table.specs.ClientState.{signs_left, no_responses};
 ghost use Rattle.zy_table.specs.ClientRows.{ask as ask_row, asked as asked_row, next_ask};
 ghost use Rattle.zy_parts.specs.Numbers as numbers;
 ghost use Rattle.zy_parts.specs.Signing.{IsSignedInRange};
 ghost use Rattle.zy_parts.specs.Statements.{IsAskInRange, ask_fields};
-ghost use Rattle.zy_seal.specs.Sealing.{sealed_by, spent_one};
-ghost use Rattle.zy_lms.specs.Height.{levels_of};
+ghost use Rattle.zy_seal.specs.Sealing.{sealed_by, spent_one, left_of};
 
 use crate::client::{Client, no_responses};
 use crate::moved::Moved;
@@ -38,7 +37,7 @@ impl Client {
 
     // The request is signed, kept and sent to the primary of the known view.
     fn asked(self, ask: Ask) -> Result<Moved, Want>
-        requires leaf { 1 ≤ leaves_of self }
+        requires left { 1 ≤ signs_left self }
         requires stamp { ask.stamp.0 ≡ self.stamp.0 + 1 }
         requires op { length ask.op ≤ 1100 }
         ensures { IfOk result (λ m. m ≡ asked_row self ask) }
@@ -50,9 +49,9 @@ impl Client {
         client.sends(to, Frame::Request(signed), said)
     }
 
-    // The request signed by the next leaf, and the client that has come to its stamp.
+    // The request with the next signature, and the client that has come to its stamp.
     fn signs(mut self, ask: Ask) -> Result<(Client, Signed<Ask>), Want>
-        requires leaf { 1 ≤ leaves_of self }
+        requires left { 1 ≤ signs_left self }
         requires stamp { ask.stamp.0 ≡ self.stamp.0 + 1 }
         requires op { length ask.op ≤ 1100 }
         ensures client { IfOk result (λ r. r.0 ≡ record self { sealer = spent_one self.sealer; stamp = ask.stamp }) }
@@ -77,9 +76,9 @@ impl Client {
     }
 }
 
-// The request signed by the next leaf, of which there is one.
+// The request with the next signature, of which one is left.
 fn seal(sealer: &mut Sealer, ask: Ask) -> Result<Signed<Ask>, Want>
-    requires leaf { 1 ≤ 2 ^ levels_of sealer.old.key.height - sealer.old.key.next }
+    requires left { 1 ≤ left_of sealer.old }
     requires range { IsAskInRange ask }
     ensures value { IfOk result (λ s. s ≡ sealed_by numbers.ask ask_fields sealer.old ask) }
     ensures short { IfOk result (λ s. length s.sig ≤ 8192) }

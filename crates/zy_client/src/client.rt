@@ -94,8 +94,8 @@ impl Client {
             alloc,
             me,
             counts,
+            sealer: sealer.beside(&directory),
             directory,
-            sealer,
             known_view: View(0),
             stamp,
             waiting: None,
@@ -104,6 +104,12 @@ impl Client {
             done: None,
             blamed: Items::new(alloc),
         })
+    }
+
+    /// What it checked and signed is known from now on to all that share its store of signatures.
+    pub fn take_in(&self) {
+        self.directory.take_in();
+        self.sealer.take_in();
     }
 
     /// The last completion.
@@ -123,7 +129,7 @@ impl Client {
         }
     }
 
-    /// The number of the leaf that signs next.
+    /// The number of its next signature.
     pub fn key_next(&self) -> u32
         ensures { result ≡ self.now.sealer.key.next }
     {

@@ -1,5 +1,4 @@
-ghost use Rattle.std.specs.Prelude.{◌≡◌, ◌<◌, length, count_by, slice_index_or, slice_set, option_copied, None, Some, IfOk, List, ℕ};
-ghost use Rattle.sha2.specs.Sha256.{sha256};
+ghost use Rattle.std.specs.Prelude.{◌≡◌, ◌<◌, count_by, slice_index_or, slice_set, option_copied, None, Some, IfOk, List, ℕ};
 ghost use Rattle.zy_parts.specs.Statements.{IsAskInRange};
 ghost use Rattle.zy_parts.specs.Signing.{IsSignedInRange};
 ghost use Rattle.zy_table.specs.ClientRows.{response_cause, is_own_order_if, is_repeated, kept_of, keep as keep_row, agrees, agreeing, done_of, completed_if, keep_unless, respond as respond_row};
@@ -8,9 +7,8 @@ ghost use Rattle.zy_client.specs.Ready.{IsKeepable};
 
 use crate::Client;
 use crate::moved::Moved;
-use sha2::{Digest as Hasher, Sha256};
-use zy_base::{Bytes, Cause, Digest, ReplicaId, Want};
-use zy_chain::request_digest;
+use zy_base::{Cause, ReplicaId, Want};
+use zy_chain::{answers_digest, request_digest};
 use zy_parts::{Ask, Order, Signed, Spec};
 use zy_table::{Done, Path, Response};
 
@@ -51,7 +49,7 @@ impl Client {
         if spec.stamp > waiting.stmt.stamp {
             return Some(Cause::Unmatched);
         }
-        if reply_digest(&response.reply) != spec.reply {
+        if answers_digest(&response.reply) != spec.reply {
             return Some(Cause::Unmatched);
         }
         if !self.is_own_order_if(waiting, spec, &response.order) {
@@ -193,13 +191,4 @@ fn agrees_with(slot: &Option<Response>, spec: &Spec) -> bool
         None => false,
         Some(kept) => kept.spec.stmt == *spec,
     }
-}
-
-// SHA-256 (FIPS 180-4) of a reply.
-fn reply_digest(reply: &Bytes) -> Digest
-    ensures { result ≡ record { 0 = sha256 reply.now } }
-{
-    let mut hasher = Sha256::new();
-    hasher.update(reply.as_slice());
-    Digest(hasher.finalize())
 }

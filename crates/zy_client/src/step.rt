@@ -30,7 +30,7 @@ use zy_vframes::ViewFrame;
 
 impl Client {
     /// Asks: the request with the next stamp goes to the primary of the known view. Refused as `Waiting` while an
-    /// earlier request waits, and as `KeySpent` where no leaf is left. After a refusal all is as before, and nothing
+    /// earlier request waits, and as `KeySpent` where no signature is left. After a refusal all is as before, and nothing
     /// is sent.
     pub fn ask(self, op: Bytes) -> Result<ClientStepped, Want>
         requires { length op ≤ 1100 }

@@ -14,6 +14,7 @@ use Rattle.zy_choose.proofs.MarkLemmas.{has_mark-Has, Has-has_mark}
 use Rattle.zy_evidence.specs.Reading.{began_of, spec_of, stretch_of, read_by}
 use Rattle.zy_evidence.specs.Rules.{is_stable_in_order, are_entries_in_range, fits, fits_if, rule_of_itself}
 use Rattle.zy_evidence.proofs.TestLemmas.{at_most, all_of, refuted, Clear, all_kept, and_first}
+use Rattle.zy_chain.specs.Entries.{IsOfClients}
 
 module _ (interval : ℕ) (id : ℕ) (t : Told) where
   in_order : Decides (is_stable_in_order interval t) (IsStableInOrder interval (read_by id t))
@@ -25,7 +26,7 @@ module _ (interval : ℕ) (id : ℕ) (t : Told) where
   in_range =
       Decides-like _ (λ h. record { few = h.0; clients = h.1.0; end = h.1.1 }) (λ r. (r.few, (r.clients, r.end)))
       (Decides-and _ _ (at_most (length t.entries) (2 * interval))
-      (Decides-and _ _ (all_of (λ e. nat_lt e.client.0 64) (λ e. e.client.0 < 64) (λ e. Decides-ltb e.client.0 64) t.entries) (Decides-ltb (end_of (stretch_of t)) (2 ^ 62))))
+      (Decides-and _ _ (all_of (λ e. nat_lt e.client.0 64) IsOfClients (λ e. Decides-ltb e.client.0 64) t.entries) (Decides-ltb (end_of (stretch_of t)) (2 ^ 62))))
 
 fitting : (s : Stretch) (m : Mark) → Decides (fits s m) (Fits s m)
 fitting s m =

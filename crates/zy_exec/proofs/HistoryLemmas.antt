@@ -10,7 +10,7 @@ use Rattle.zy_chain.specs.declared.entry.Entry.{Entry}
 use Rattle.zy_chain.specs.Heads.{head_of, head_from}
 use Rattle.zy_chain.specs.Places.{entry_at, head_at}
 use Rattle.zy_chain.specs.Stretch.{entry_in, head_in}
-use Rattle.zy_exec.specs.Replay.{Point, origin, step, along, answer_at}
+use Rattle.zy_exec.specs.Replay.{Point, origin, step, along, answer_at, answers_of}
 use Rattle.zy_exec.specs.Kept.{Kept, StandsFor, stretch_of, last_place, now_of, longer, back_to, reply_in}
 use Rattle.zy_exec.proofs.ReplayLemmas.{head-along}
 
@@ -108,5 +108,5 @@ stands_reply {S} R k history (suc before) stands above =
     let point : along R k.base (take i k.entries) ≡ along R (origin R) (take before history) =
     stands_after R k history i stands ∙ ap (λ (n : ℕ). along R (origin R) (take n history)) at in
     rw (lt-leb (suc before) k.base.place above)
-    (ap (λ (p : Point S). option_map (λ (e : Entry). R.reply p.state e.client e.op) (slice_get k.entries i)) point
-    ∙ ap (option_map (λ (e : Entry). R.reply (along R (origin R) (take before history)).state e.client e.op)) (entry_there R k history before stands above))
+    (ap (λ (p : Point S). option_map (λ (e : Entry). answers_of R p.state e) (slice_get k.entries i)) point
+    ∙ ap (option_map (λ (e : Entry). answers_of R (along R (origin R) (take before history)).state e)) (entry_there R k history before stands above))

@@ -22,6 +22,7 @@ use Rattle.zy_exec.specs.Installed.{IsShownSlot, IsShown, IsInstalled, IsRunnabl
 use Rattle.zy_exec.specs.Reading.{IsSpelledBy}
 use Rattle.zy_exec.proofs.ReplayLemmas.{place-along, head-along}
 use Rattle.zy_exec.proofs.SnapshotLemmas.{one_meaning}
+use Rattle.zy_chain.specs.Sizes.{greatest_state}
 
 slots_set : (known : List (Option Known)) (client : ℕ) (k : Known) → AllByRecursion IsShownSlot known → IsShownSlot (Some k) → AllByRecursion IsShownSlot (set known client (Some k))
 slots_set [] client k all one = tt
@@ -53,7 +54,7 @@ pub record IsLawful {S : Type 0} (IsState : S → Type 0) (R : Rules S) : Type 0
   pub starts : IsState R.initial
   pub stays : (s : S) (client : ClientId) (op : List ℕ) → IsState s → IsState (R.next s client op)
   pub short_reply : (s : S) (client : ClientId) (op : List ℕ) → IsState s → length (R.reply s client op) ≤ 1100
-  pub short_spelling : (s : S) → IsState s → length (R.spelled s) ≤ 2300000
+  pub short_spelling : (s : S) → IsState s → length (R.spelled s) ≤ greatest_state
   pub reads : (s : S) → IsState s → R.read (R.spelled s) ≡ Some s
   pub one_spelling : (s t : S) → IsState s → IsState t → R.spelled s ≡ R.spelled t → s ≡ t
 

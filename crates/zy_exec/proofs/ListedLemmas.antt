@@ -1,10 +1,12 @@
 -- The known clients of a list, one client on.
 use Rattle.std.proofs.Common.{◌≡◌, ℕ, zero, suc, ◌+◌, ◌<◌, List, [], ◌∷◌, ◌++◌, length, take, get_or, Option, Some, None, refl, sym, ap, ◌∙◌, arith, add-one, append-nil, append_assoc}
 use Rattle.std.specs.List.{flat_map}
-use Rattle.zy_wire.proofs.Lengths.{IsAtMost, pair-at_most, converted-at_most, word32-at_most, u62-at_most, digest-at_most, sized16-at_most}
+use Rattle.zy_wire.proofs.Lengths.{IsAtMost, pair-at_most, converted-at_most, word32-at_most, u62-at_most, digest-at_most}
 use Rattle.zy_exec.specs.declared.known.Known.{Known}
 use Rattle.zy_exec.specs.declared.row.Row.{Row}
 use Rattle.zy_exec.specs.Snapshot.{listed, row_fields}
+use Rattle.zy_chain.specs.Sizes.{record_size}
+use Rattle.zy_chain.proofs.Lengths.{answers-at_most}
 
 abbrev pub row_of : ℕ → Known → Row
 row_of client k = record { client = record { 0 = client }; known = k }
@@ -49,7 +51,7 @@ flat_map_more [] x = append-nil (row_fields.spell x)
 flat_map_more (y ∷ xs) x = ap (λ (b : List ℕ). row_fields.spell y ++ b) (flat_map_more xs x) ∙ sym (append_assoc (row_fields.spell y) (flat_map row_fields.spell xs) (row_fields.spell x))
 
 -- a client's part has at most 1,154 bytes
-pub row-at_most : IsAtMost row_fields 1154
+pub row-at_most : IsAtMost row_fields record_size
 unfolding row_fields
 row-at_most =
-    converted-at_most _ _ _ 1154 (pair-at_most _ _ 4 1150 word32-at_most (pair-at_most _ _ 8 1142 (u62-at_most 0) (pair-at_most _ _ 8 1134 (u62-at_most 1) (pair-at_most _ _ 32 1102 digest-at_most (sized16-at_most 1100)))))
+    converted-at_most _ _ _ _ (pair-at_most _ _ _ _ word32-at_most (pair-at_most _ _ _ _ (u62-at_most 0) (pair-at_most _ _ _ _ (u62-at_most 1) (pair-at_most _ _ _ _ digest-at_most answers-at_most))))

@@ -10,15 +10,16 @@ use Rattle.zy_base.specs.Machine.{Rules}
 use Rattle.zy_base.specs.declared.ids.Digest.{Digest}
 use Rattle.zy_base.specs.declared.ids.Place.{Place}
 use Rattle.zy_chain.specs.declared.entry.Entry.{Entry}
-use Rattle.zy_chain.specs.Entries.{digest_of_entry}
+use Rattle.zy_chain.specs.Entries.{digest_of_entry, IsOfClients}
 use Rattle.zy_chain.specs.Heads.{head_after, head_from}
 use Rattle.zy_chain.specs.Stretch.{Stretch, end_of, with_entry, up_to}
 use Rattle.zy_exec.specs.declared.known.Known.{Known}
 use Rattle.zy_exec.specs.declared.known.Done.{Done}
 use Rattle.zy_exec.specs.Known.{IsKnownInRange}
-use Rattle.zy_exec.specs.Replay.{Point, known_of, step, along}
+use Rattle.zy_exec.specs.Replay.{Point, known_of, step, along, answers_of, state_after}
 use Rattle.zy_exec.specs.Kept.{Kept, reply_in}
-use Rattle.zy_exec.specs.Trail.{base_of, oldest_state, states_from, placed, last_from, done_from, known_at, IsPopped, IsDoneInRange, IsBaseInRange, HasClient, IsBefore, IsReplayed}
+use Rattle.zy_exec.specs.Trail.{base_of, oldest_state, states_from, placed, last_from, done_from, known_at, IsPopped, IsDoneInRange, IsBaseInRange, IsBefore, IsReplayed}
+use Rattle.zy_chain.specs.Answers.{FitsAnswers}
 
 -- what holds of no entries, and with one entry more, holds of all lists
 pub by_last : (P : List Entry → Type 0) → P [] → ((entries : List Entry) (e : Entry) → P entries → P (entries ++ e ∷ [])) → (entries : List Entry) → P entries
@@ -108,24 +109,24 @@ pub in_range_pop : (done : List Done) (d : Done) → AllByRecursion IsDoneInRang
 in_range_pop [] d all = tt
 in_range_pop (first ∷ done) d all = (all.0, in_range_pop done d all.1)
 
-pub clients_push : (entries : List Entry) (e : Entry) → AllByRecursion HasClient entries → HasClient e → AllByRecursion HasClient (entries ++ e ∷ [])
+pub clients_push : (entries : List Entry) (e : Entry) → AllByRecursion IsOfClients entries → IsOfClients e → AllByRecursion IsOfClients (entries ++ e ∷ [])
 clients_push [] e all one = (one, tt)
 clients_push (first ∷ entries) e all one = (all.0, clients_push entries e all.1 one)
 
-pub clients_pop : (entries : List Entry) (e : Entry) → AllByRecursion HasClient (entries ++ e ∷ []) → AllByRecursion HasClient entries × HasClient e
+pub clients_pop : (entries : List Entry) (e : Entry) → AllByRecursion IsOfClients (entries ++ e ∷ []) → AllByRecursion IsOfClients entries × IsOfClients e
 clients_pop [] e all = (tt, all.0)
 clients_pop (first ∷ entries) e all = let rest = clients_pop entries e all.1 in ((all.0, rest.0), rest.1)
 
 -- ---- one entry on, one back
 
 pub replayed_on : {S : Type 0} (R : Rules S) (base : Point S) (entries : List Entry) (state : S) (trail : List S) (done : List Done) (last : List (Option Place)) (e : Entry) (known : Known)
-    → IsReplayed R base entries state trail done last → e.client.0 < 64 → known ≡ known_of R (along R base entries) e → IsKnownInRange known
-    → IsReplayed R base (entries ++ e ∷ []) (R.next state e.client e.op) (trail ++ state ∷ [])
+    → IsReplayed R base entries state trail done last → IsOfClients e → known ≡ known_of R (along R base entries) e → IsKnownInRange known
+    → IsReplayed R base (entries ++ e ∷ []) (state_after R state e) (trail ++ state ∷ [])
     (done ++ record { client = e.client; known = known; earlier = get_or last e.client.0 None } ∷ []) (set last e.client.0 (Some known.place))
 replayed_on {S} R base entries state trail done last e known was client known_is in_range =
     let here = along R base entries in
     record {
-      state_is = ap (λ (s : S). R.next s e.client e.op) was.state_is ∙ sym (ap (λ (p : Point S). p.state) (along-append R base entries e));
+      state_is = ap (λ (s : S). state_after R s e) was.state_is ∙ sym (ap (λ (p : Point S). p.state) (along-append R base entries e));
       trail_is = ap (λ (s : S). trail ++ s ∷ []) was.state_is ∙ ap (λ (t : List S). t ++ here.state ∷ []) was.trail_is ∙ sym (states-append R base entries e);
       before = was.before;
       is_before = was.is_before;
@@ -166,7 +167,7 @@ replayed_back {S} R base entries e state state' trail trail' done done' last las
 
 pub reply-done : {S : Type 0} (R : Rules S) (p : Point S) (last : List (Option Place)) (entries : List Entry) (i : ℕ)
     → option_map (λ (d : Done). d.known.reply) (slice_get (done_from R p last entries) i)
-    ≡ option_map (λ (e : Entry). R.reply (along R p (take i entries)).state e.client e.op) (slice_get entries i)
+    ≡ option_map (λ (e : Entry). answers_of R (along R p (take i entries)).state e) (slice_get entries i)
 unfolding along
 reply-done R p last [] i = refl
 reply-done R p last (e ∷ entries) zero = refl
@@ -217,7 +218,7 @@ known_none R p before client is =
       up = record { below = λ place some. let low = is.below client place some in omega arith };
     }
 
-known_more : {S : Type 0} (R : Rules S) (p : Point S) (before : List (Option Place)) (client : ℕ) (entries : List Entry) (e : Entry) → length p.known ≡ 64 → length before ≡ 64 → e.client.0 < 64
+known_more : {S : Type 0} (R : Rules S) (p : Point S) (before : List (Option Place)) (client : ℕ) (entries : List Entry) (e : Entry) → length p.known ≡ 64 → length before ≡ 64 → IsOfClients e
     → IsKnown R p before client entries → IsKnown R p before client (entries ++ e ∷ [])
 known_more R p before client entries e all all_before within was =
     let last = last_from p.place before entries in
@@ -253,10 +254,10 @@ known_more R p before client entries e all all_before within was =
           }
     ]
 
-known_all : {S : Type 0} (R : Rules S) (p : Point S) (before : List (Option Place)) (client : ℕ) → length p.known ≡ 64 → IsBefore p.place before → (entries : List Entry) → AllByRecursion HasClient entries
+known_all : {S : Type 0} (R : Rules S) (p : Point S) (before : List (Option Place)) (client : ℕ) → length p.known ≡ 64 → IsBefore p.place before → (entries : List Entry) → AllByRecursion IsOfClients entries
     → IsKnown R p before client entries
 known_all R p before client all is =
-    by_last (λ (entries : List Entry). AllByRecursion HasClient entries → IsKnown R p before client entries)
+    by_last (λ (entries : List Entry). AllByRecursion IsOfClients entries → IsKnown R p before client entries)
     (λ none. known_none R p before client is)
     (λ entries e was clients. let both = clients_pop entries e clients in known_more R p before client entries e all is.all_clients both.1 (was both.0))
 
@@ -270,7 +271,7 @@ known_is R base entries state trail done last client was =
 pub reply_is : {S : Type 0} (R : Rules S) (base : Point S) (entries : List Entry) (state : S) (trail : List S) (done : List Done) (last : List (Option Place)) (i : ℕ)
     → IsReplayed R base entries state trail done last
     → option_map (λ (d : Done). d.known.reply) (slice_get done i)
-    ≡ option_map (λ (e : Entry). R.reply (along R base (take i entries)).state e.client e.op) (slice_get entries i)
+    ≡ option_map (λ (e : Entry). answers_of R (along R base (take i entries)).state e) (slice_get entries i)
 reply_is R base entries state trail done last i was = rw was.done_is (reply-done R base was.before entries i)
 
 -- a list that isn't empty has a last entry
@@ -283,10 +284,10 @@ snoc (e ∷ next ∷ entries) some = let rest = snoc (next ∷ entries) (omega a
 
 pub replayed_push : {S : Type 0} (R : Rules S) (spine spine' : Stretch) (base_known : List (Option Known)) (state state' : S) (trail trail' : List S) (done done' : List Done) (last last' : List (Option Place)) (e : Entry)
     (place : Place) (head : Digest) (reply : List ℕ)
-    → IsReplayed R (base_of spine trail state base_known) spine.entries state trail done last → e.client.0 < 64 → spine' ≡ with_entry spine e
-    → state' ≡ R.next state e.client e.op → trail' ≡ trail ++ state ∷ []
-    → e.stamp.0 < 2 ^ 62 → length reply ≤ 1100 → end_of spine < 2 ^ 62 - 1
-    → place.0 ≡ end_of spine' → head ≡ head_from spine'.base.head spine'.entries → reply ≡ R.reply state e.client e.op
+    → IsReplayed R (base_of spine trail state base_known) spine.entries state trail done last → IsOfClients e → spine' ≡ with_entry spine e
+    → state' ≡ state_after R state e → trail' ≡ trail ++ state ∷ []
+    → e.stamp.0 < 2 ^ 62 → FitsAnswers reply → end_of spine < 2 ^ 62 - 1
+    → place.0 ≡ end_of spine' → head ≡ head_from spine'.base.head spine'.entries → reply ≡ answers_of R state e
     → done' ≡ done ++ record { client = e.client; known = record { stamp = e.stamp; place = place; head = head; reply = reply }; earlier = get_or last e.client.0 None } ∷ []
     → last' ≡ set last e.client.0 (Some place)
     → IsReplayed R (base_of spine' trail' state' base_known) spine'.entries state' trail' done' last'
@@ -299,13 +300,13 @@ replayed_push {S} R spine spine' base_known state state' trail trail' done done'
     let head_now : head ≡ head_after here.head (digest_of_entry e) =
     head_is ∙ ap (λ (s : Stretch). head_from s.base.head s.entries) spine_is ∙ fold-append (λ (h : Digest) (x : Entry). head_after h (digest_of_entry x)) spine.base.head entries (e ∷ [])
     ∙ ap (λ (h : Digest). head_after h (digest_of_entry e)) (sym (head-along R base entries)) in
-    let reply_now : reply ≡ R.reply here.state e.client e.op = reply_is ∙ ap (λ (s : S). R.reply s e.client e.op) was.state_is in
+    let reply_now : reply ≡ answers_of R here.state e = reply_is ∙ ap (λ (s : S). answers_of R s e) was.state_is in
     let known : Known = record { stamp = e.stamp; place = place; head = head; reply = reply } in
     let known_now : known ≡ known_of R here e =
     ap (λ (n : ℕ). record known { place = record { 0 = n } }) place_now
     ∙ ap (λ (h : Digest). record { stamp = e.stamp; place = record { 0 = here.place + 1 }; head = h; reply = reply }) head_now
     ∙ ap (λ (r : List ℕ). record { stamp = e.stamp; place = record { 0 = here.place + 1 }; head = head_after here.head (digest_of_entry e); reply = r }) reply_now in
-    rw (spine_is, state_is, trail_is, done_is, last_is, oldest-append trail state (R.next state e.client e.op))
+    rw (spine_is, state_is, trail_is, done_is, last_is, oldest-append trail state (state_after R state e))
     (replayed_on R base entries state trail done last e known was client known_now
     (let next : end_of spine' ≡ end_of spine + 1 = ap (λ (s : Stretch). end_of s) spine_is ∙ omega (arith, length-append entries (e ∷ [])) in
     record { stamp = stamp; place_least = omega arith; place_most = omega arith; reply = short }))
@@ -343,7 +344,7 @@ now_next R spine spine' base_known state state' trail trail' e spine_is trail_is
     rw (spine_is, trail_is, oldest-append trail state state') (along-append R (base_of spine trail state base_known) spine.entries e)
 
 pub reply_above : {S : Type 0} (R : Rules S) (k : Kept S) (place : ℕ) → k.base.place < place
-    → option_map (λ (e : Entry). R.reply (along R k.base (take (place - k.base.place - 1) k.entries)).state e.client e.op) (slice_get k.entries (place - k.base.place - 1)) ≡ reply_in R k place
+    → option_map (λ (e : Entry). answers_of R (along R k.base (take (place - k.base.place - 1) k.entries)).state e) (slice_get k.entries (place - k.base.place - 1)) ≡ reply_in R k place
 reply_above R k place above = rw (lt-leb place k.base.place above) refl
 
 -- nobody stood anywhere before the base

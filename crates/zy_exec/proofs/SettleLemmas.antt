@@ -17,17 +17,18 @@ use Rattle.zy_exec.specs.Known.{IsKnownInRange}
 use Rattle.zy_exec.specs.Replay.{Point, known_of, step, along, origin}
 use Rattle.zy_exec.specs.Kept.{Kept, StandsFor, last_place, now_of, settled}
 use Rattle.zy_exec.specs.Shots.{snapshot_in, snapshot_at}
-use Rattle.zy_exec.specs.Trail.{base_of, oldest_state, placed, done_from, IsSettled, IsDoneInRange, IsBaseInRange, HasClient, IsBefore, IsReplayed}
+use Rattle.zy_exec.specs.Trail.{base_of, oldest_state, placed, done_from, IsSettled, IsDoneInRange, IsBaseInRange, IsBefore, IsReplayed}
 use Rattle.zy_exec.proofs.ReplayLemmas.{along-cons, along-nil, place-along}
 use Rattle.zy_exec.proofs.ListedLemmas.{same_cons}
 use Rattle.zy_exec.proofs.HistoryLemmas.{along-append_all, stands_end, stands_after}
+use Rattle.zy_chain.specs.Entries.{IsOfClients}
 
 base_set : (known : List (Option Known)) (client : ℕ) (k : Known) → AllByRecursion IsBaseInRange known → IsKnownInRange k → AllByRecursion IsBaseInRange (set known client (Some k))
 base_set [] client k all one = tt
 base_set (x ∷ known) zero k all one = (one, all.1)
 base_set (x ∷ known) (suc client) k all one = (all.0, base_set known client k all.1 one)
 
-before_on : (base : ℕ) (before : List (Option Place)) (e : Entry) → HasClient e → IsBefore base before → IsBefore (base + 1) (placed before e (base + 1))
+before_on : (base : ℕ) (before : List (Option Place)) (e : Entry) → IsOfClients e → IsBefore base before → IsBefore (base + 1) (placed before e (base + 1))
 before_on base before e within is =
     let place : Place = record { 0 = base + 1 } in
     record {

@@ -13,6 +13,7 @@ use Rattle.zy_exec.specs.Kept.{Kept, last_place, now_of, longer, back_to, settle
 use Rattle.zy_exec.specs.Snapshot.{snapshot_of}
 use Rattle.zy_exec.specs.Shots.{snapshot_in, digest_of_snapshot, shot_of, shot_in, shots_from, IsShort, IsShotsKept}
 use Rattle.zy_exec.proofs.ReplayLemmas.{along-nil, along-append}
+use Rattle.zy_chain.specs.Sizes.{greatest_snapshot}
 
 pub shots-append : {S : Type 0} (R : Rules S) (interval : ℕ) (p : Point S) (entries : List Entry) (e : Entry)
     → shots_from R interval p (entries ++ e ∷ []) ≡ shots_from R interval p entries ++ shot_of R interval (step R (along R p entries) e) ∷ []
@@ -159,11 +160,11 @@ none_below R k place below = rw (lt-ltb place k.base.place below) refl
 
 -- ---- how long they are
 
-short_of : (shot : Option Shot) → IsShort shot → IfSome shot (λ s. length s.bytes ≤ 2373862)
+short_of : (shot : Option Shot) → IsShort shot → IfSome shot (λ s. length s.bytes ≤ greatest_snapshot)
 short_of None short = tt
 short_of (Some shot) short = short
 
-pub short_at : (shots : List (Option Shot)) (i : ℕ) → All IsShort shots → IfSome (get_or shots i None) (λ s. length s.bytes ≤ 2373862)
+pub short_at : (shots : List (Option Shot)) (i : ℕ) → All IsShort shots → IfSome (get_or shots i None) (λ s. length s.bytes ≤ greatest_snapshot)
 short_at shots i short =
     elim (cases_Bool (nat_lt i (length shots))) [
       | inl within ↦ short_of (get_or shots i None) (All-get_or IsShort shots i None (ltb-true i (length shots) within) short)

@@ -1,12 +1,14 @@
 -- A client's part of a snapshot as a field of others: its spelling is exact, and what has one is in range.
 use Rattle.std.proofs.Common.{refl, arith}
-use Rattle.std.specs.Int.{w16, w32}
+use Rattle.std.specs.Int.{w32}
 use Rattle.zy_wire.specs.Spelling.{IsExact}
-use Rattle.zy_wire.proofs.Parts.{pair-exact, converted-exact, word-exact, wide16, wide32}
+use Rattle.zy_wire.proofs.Parts.{pair-exact, converted-exact, word-exact, wide32}
 use Rattle.zy_wire.proofs.Laws.{u62-exact, digest-exact, sized-exact, list-exact}
 use Rattle.zy_exec.specs.declared.row.Row.{Row}
 use Rattle.zy_exec.specs.Known.{IsKnownInRange}
 use Rattle.zy_exec.specs.Snapshot.{row_fields, snapshot_fields}
+use Rattle.zy_chain.specs.Fields.{answers-exact}
+use Rattle.zy_chain.specs.Sizes.{greatest_state}
 
 abbrev pub IsRowInRange : Row → Type 0
 IsRowInRange r = IsKnownInRange r.known
@@ -14,7 +16,7 @@ IsRowInRange r = IsKnownInRange r.known
 pub row-exact : IsExact row_fields
 unfolding row_fields
 row-exact =
-    converted-exact _ _ _ (pair-exact _ _ (word-exact w32 wide32) (pair-exact _ _ (u62-exact 0) (pair-exact _ _ (u62-exact 1) (pair-exact _ _ digest-exact (sized-exact w16 1100 wide16 (omega arith))))))
+    converted-exact _ _ _ (pair-exact _ _ (word-exact w32 wide32) (pair-exact _ _ (u62-exact 0) (pair-exact _ _ (u62-exact 1) (pair-exact _ _ digest-exact answers-exact))))
     (λ s. refl) (λ x. refl)
 
 pub row-in_range : (r : Row) → row_fields.Fits r → IsRowInRange r
@@ -23,4 +25,4 @@ row-in_range r fits = record { stamp = fits.1.0.1; place_least = fits.1.1.0.0; p
 
 pub snapshot-exact : IsExact snapshot_fields
 unfolding snapshot_fields
-snapshot-exact = pair-exact _ _ (list-exact 0 64 row_fields row-exact (omega arith)) (sized-exact w32 2300000 wide32 (omega arith))
+snapshot-exact = pair-exact _ _ (list-exact 0 64 row_fields row-exact (omega arith)) (sized-exact w32 greatest_state wide32 (omega arith))

@@ -1,10 +1,10 @@
 -- What a snapshot can show, and what stands after one was installed.
-use Rattle.std.specs.Prelude.{◌≡◌, ℕ, ◌<◌, List, [], length, Option, Some, None}
+use Rattle.std.specs.Prelude.{◌≡◌, ℕ, List, [], length, Option, Some, None}
 use Rattle.std.specs.List.{AllByRecursion}
 use Rattle.zy_base.specs.Machine.{Rules}
 use Rattle.zy_base.specs.declared.ids.Digest.{Digest}
 use Rattle.zy_chain.specs.declared.entry.Entry.{Entry}
-use Rattle.zy_chain.specs.Entries.{IsEntryInRange}
+use Rattle.zy_chain.specs.Entries.{IsEntryInRange, IsOfClients}
 use Rattle.zy_exec.specs.declared.known.Known.{Known}
 use Rattle.zy_exec.specs.Known.{IsKnownInRange}
 use Rattle.zy_exec.specs.Replay.{Point}
@@ -31,7 +31,7 @@ pub record IsInstalled {S : Type 0} (IsState : S → Type 0) (R : Rules S) (inte
   pub shown : IsShown IsState k.base
   pub spelled : snapshot_of R k.base ≡ bytes
 
--- an entry of a client that may be known
+-- an entry of clients that may be known
 pub record IsRunnable (e : Entry) : Type 0 where
-  pub client : e.client.0 < 64
+  pub client : IsOfClients e
   pub in_range : IsEntryInRange e

@@ -4,7 +4,8 @@ use Rattle.zy_base.specs.Machine.{Rules}
 use Rattle.zy_chain.specs.declared.entry.Entry.{Entry}
 use Rattle.zy_chain.specs.Stretch.{Stretch, entry_in}
 use Rattle.zy_exec.specs.declared.known.Known.{Known}
-use Rattle.zy_exec.specs.Replay.{Point, origin, along}
+use Rattle.zy_exec.specs.Replay.{Point, origin, along, answers_of}
+use Rattle.zy_chain.specs.Answers.{Answers}
 
 pub record Kept (S : Type 0) : Type 0 where
   -- how many places lie between two snapshots
@@ -45,9 +46,9 @@ settled R place k =
 abbrev pub point_before : {S : Type 0} → Rules S → Kept S → ℕ → Point S
 point_before R k place = along R k.base (take (place - k.base.place - 1) k.entries)
 
--- the reply to the entry of a place
-abbrev pub reply_in : {S : Type 0} → Rules S → Kept S → ℕ → Option (List ℕ)
-reply_in R k place = option_map (λ e. R.reply (point_before R k place).state e.client e.op) (entry_in (stretch_of k) place)
+-- the answers to the entry of a place
+abbrev pub reply_in : {S : Type 0} → Rules S → Kept S → ℕ → Option Answers
+reply_in R k place = option_map (λ e. answers_of R (point_before R k place).state e) (entry_in (stretch_of k) place)
 
 -- what is known of a client's last entry
 abbrev pub known_in : {S : Type 0} → Rules S → Kept S → ℕ → Option Known

@@ -12,6 +12,7 @@ use Rattle.zy_exec.specs.declared.install_fault.InstallFault.{InstallFault}
 use Rattle.zy_exec.specs.declared.install_fault.InstallFault.TheVariants.{NotState, Want}
 use Rattle.zy_exec.specs.Snapshot.{listed, snapshot_fields}
 use Rattle.zy_exec.specs.Installed.{IsShownSlot}
+use Rattle.zy_chain.specs.Sizes.{greatest_state}
 
 -- faults of other readers, as faults of this one
 abbrev pub fault_of_get : GetFault → InstallFault
@@ -40,5 +41,5 @@ is_rising least (r ∷ rows) = (nat_le least r.client.0 && nat_lt r.client.0 64)
 pub record IsSpelledBy (bytes : List ℕ) (known : List (Option Known)) (state : List ℕ) : Type 0 where
   pub all_clients : length known ≡ 64
   pub in_range : AllByRecursion IsShownSlot known
-  pub fits : length state ≤ 2300000
+  pub fits : length state ≤ greatest_state
   pub spelled : snapshot_fields.spell (listed 0 known, state) ≡ bytes

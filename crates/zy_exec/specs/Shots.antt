@@ -8,6 +8,7 @@ use Rattle.zy_exec.specs.declared.shot.Shot.{Shot}
 use Rattle.zy_exec.specs.Replay.{Point, origin, along, step}
 use Rattle.zy_exec.specs.Kept.{Kept, last_place}
 use Rattle.zy_exec.specs.Snapshot.{snapshot_of}
+use Rattle.zy_chain.specs.Sizes.{greatest_snapshot}
 
 -- the snapshot at a point, where that is at a multiple of the interval
 abbrev pub snapshot_due : {S : Type 0} → Rules S → ℕ → Point S → Option (List ℕ)
@@ -52,7 +53,7 @@ shot_in R k place =
 -- as many bytes as a frame can bring
 abbrev pub IsShort : Option Shot → Type 0
 IsShort None = ⊤
-IsShort (Some shot) = length shot.bytes ≤ 2373862
+IsShort (Some shot) = length shot.bytes ≤ greatest_snapshot
 
 pub record IsShotsKept {S : Type 0} (R : Rules S) (k : Kept S) (shots : List (Option Shot)) : Type 0 where
   pub shots_are : shots ≡ shots_from R k.interval k.base k.entries

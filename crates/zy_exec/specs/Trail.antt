@@ -10,6 +10,7 @@ use Rattle.zy_exec.specs.declared.known.Known.{Known}
 use Rattle.zy_exec.specs.declared.known.Done.{Done}
 use Rattle.zy_exec.specs.Known.{IsKnownInRange}
 use Rattle.zy_exec.specs.Replay.{Point, known_of, step, along}
+use Rattle.zy_chain.specs.Entries.{IsOfClients}
 
 -- the oldest of the earlier states, or the state
 abbrev pub oldest_state : {S : Type 0} → List S → S → S
@@ -69,9 +70,6 @@ abbrev pub IsBaseInRange : Option Known → Type 0
 IsBaseInRange None = Unit {0}
 IsBaseInRange (Some k) = IsKnownInRange k
 
-abbrev pub HasClient : Entry → Type 0
-HasClient e = e.client.0 < 64
-
 -- places of clients' last entries that aren't above the base
 pub record IsBefore (base : ℕ) (before : List (Option Place)) : Type 0 where
   pub all_clients : length before ≡ 64
@@ -85,7 +83,7 @@ pub record IsReplayed {S : Type 0} (R : Rules S) (base : Point S) (entries : Lis
   pub is_before : IsBefore base.place before
   pub done_is : done ≡ done_from R base before entries
   pub last_is : last ≡ last_from base.place before entries
-  pub clients : AllByRecursion HasClient entries
+  pub clients : AllByRecursion IsOfClients entries
   pub all_clients : length base.known ≡ 64
   pub in_range : AllByRecursion IsDoneInRange done
   pub base_in_range : AllByRecursion IsBaseInRange base.known

@@ -1,14 +1,16 @@
 ghost use Rattle.std.specs.Prelude.{◌≡◌, ◌+◌, ◌-◌, ◌%◌, ◌<◌, ◌≤◌, ◌^◌, [], ◌∷◌, ◌++◌, length, slice_index_or, option_copied, option_map, IfOk, OnOk, OnErr, IfErr, IfSome, IfNone, IsErrOf};
 ghost use Rattle.zy_chain.specs.declared.entry.Entry.{Entry};
-ghost use Rattle.zy_chain.specs.Entries.{IsEntryInRange};
+ghost use Rattle.zy_chain.specs.Entries.{IsEntryInRange, IsOfClients};
 ghost use Rattle.zy_chain.specs.Stretch.{head_in, entry_in};
 ghost use Rattle.zy_exec.specs.declared.install_fault.InstallFault.TheVariants.{NotState};
 ghost use Rattle.zy_exec.specs.Known.{IsKnownInRange};
-ghost use Rattle.zy_exec.specs.Replay.{Point, origin, step};
+ghost use Rattle.zy_exec.specs.Replay.{Point, origin, step, answers_of};
 ghost use Rattle.zy_exec.specs.Snapshot.{snapshot_of};
 ghost use Rattle.zy_exec.specs.Shots.{snapshot_in, digest_of_snapshot, shot_in};
 ghost use Rattle.zy_exec.specs.Installed.{IsShown, IsInstalled};
 ghost use Rattle.zy_exec.specs.Kept.{Kept, stretch_of, last_place, now_of, longer, back_to, settled, reply_in, known_in};
+ghost use Rattle.zy_chain.specs.Answers.{FitsAnswers};
+ghost use Rattle.zy_chain.specs.Sizes.{greatest_snapshot};
 
 use crate::install_fault::InstallFault;
 use crate::known::Known;
@@ -131,7 +133,7 @@ impl<M: Machine> Exec<M> {
     /// The reply to the entry that leads to a place. `None` exactly outside base + 1 to end.
     pub fn reply_at(&self, place: Place) -> Option<&Bytes>
         ensures reply { option_copied result ≡ reply_in M.rules self.now place.0 }
-        ensures short { IfSome result (λ reply. length reply.now ≤ 1100) }
+        ensures short { IfSome result (λ reply. FitsAnswers reply.now) }
     {
         self.track.reply_at(place)
     }
@@ -159,16 +161,16 @@ impl<M: Machine> Exec<M> {
         self.track.known(client)
     }
 
-    /// Runs an entry: the history gets it, and the answer is the reply. The answer is `Err` for want of memory alone:
-    /// then the entry comes back, and all is as it was.
+    /// Runs an entry: the history gets it, and its answers are given. `Err` comes for want of memory alone: then the entry
+    /// comes back, and all is as it was.
     pub fn run(&mut self, e: Entry) -> Result<Bytes, (Entry, Want)>
         requires room { last_place self.old < 2 ^ 62 - 1 }
-        requires client { e.client.0 < 64 }
+        requires client { IsOfClients e }
         requires entry { IsEntryInRange e }
         ensures after { OnOk result (self.new ≡ longer self.old e) }
         ensures now { OnOk result (now_of M.rules self.new ≡ step M.rules (now_of M.rules self.old) e) }
-        ensures reply { IfOk result (λ reply. reply ≡ M.rules.reply (now_of M.rules self.old).state e.client e.op) }
-        ensures short { IfOk result (λ reply. length reply ≤ 1100) }
+        ensures reply { IfOk result (λ reply. reply ≡ answers_of M.rules (now_of M.rules self.old).state e) }
+        ensures short { IfOk result FitsAnswers }
         ensures err { OnErr result (self.new ≡ self.old) }
         ensures entry { IfErr result (λ refused. refused.0 ≡ e) }
     {
@@ -240,7 +242,7 @@ impl<M: Machine> Exec<M> {
     // The snapshot at a place as it is kept.
     fn shot_at(&self, place: Place) -> Option<&Shot>
         ensures shot { option_copied result ≡ shot_in M.rules self.now place.0 }
-        ensures short { IfSome result (λ shot. length shot.now.bytes ≤ 2373862) }
+        ensures short { IfSome result (λ shot. length shot.now.bytes ≤ greatest_snapshot) }
     {
         if place.0 < self.track.base().0 {
             return None;
@@ -252,7 +254,7 @@ impl<M: Machine> Exec<M> {
     /// the interval.
     pub fn snapshot_at(&self, place: Place) -> Option<&Bytes>
         ensures snapshot { option_copied result ≡ snapshot_in M.rules self.now place.0 }
-        ensures short { IfSome result (λ snapshot. length snapshot.now ≤ 2373862) }
+        ensures short { IfSome result (λ snapshot. length snapshot.now ≤ greatest_snapshot) }
     {
         match self.shot_at(place) {
             Some(shot) => Some(&shot.bytes),
@@ -273,7 +275,7 @@ impl<M: Machine> Exec<M> {
     /// The snapshot at the end: what is known of each client, and the machine's state. At most 2,373,862 bytes.
     pub fn snapshot(&self) -> Result<Bytes, Want>
         ensures bytes { IfOk result (λ bytes. bytes ≡ snapshot_of M.rules (now_of M.rules self.now)) }
-        ensures short { IfOk result (λ bytes. length bytes ≤ 2373862) }
+        ensures short { IfOk result (λ bytes. length bytes ≤ greatest_snapshot) }
     {
         self.track.snapshot()
     }

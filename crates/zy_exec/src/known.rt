@@ -1,10 +1,11 @@
 //! What is known of the last entry of each client, and what leads back over an entry.
 
-ghost use Rattle.std.specs.Prelude.{◌≡◌, ◌+◌, ◌-◌, ◌<◌, ◌≤◌, [], ◌∷◌, ◌++◌, length, IfOk, IfSome, replicate, slice_index_or, slice_set, slice_get, option_map, option_copied};
+ghost use Rattle.std.specs.Prelude.{◌≡◌, ◌+◌, ◌-◌, ◌<◌, [], ◌∷◌, ◌++◌, length, IfOk, IfSome, replicate, slice_index_or, slice_set, slice_get, option_map, option_copied};
 ghost use Rattle.std.specs.VecDeque.{deque_len, deque_capacity};
 ghost use Rattle.std.specs.List.{AllByRecursion};
 ghost use Rattle.zy_exec.specs.Trail.{known_above, known_at as kept_of, IsPopped, IsSettled, IsDoneInRange, IsBaseInRange};
 ghost use Rattle.zy_exec.specs.Known.{IsKnownInRange};
+ghost use Rattle.zy_chain.specs.Answers.{FitsAnswers};
 
 use std::alloc::Global;
 use std::collections::VecDeque;
@@ -63,7 +64,7 @@ fn known_done(done: &VecDeque<Done>, index: usize) -> Option<&Known>
 /// The reply that is kept of an entry above the base.
 pub fn reply_done(done: &VecDeque<Done>, index: usize) -> Option<&Bytes>
     requires { AllByRecursion IsDoneInRange done.now.items }
-    ensures short { IfSome result (λ reply. length reply.now ≤ 1100) }
+    ensures short { IfSome result (λ reply. FitsAnswers reply.now) }
     ensures reply { option_copied result ≡ option_map (λ d. d.known.reply) (slice_get done.now.items index) }
 {
     match done.get(index) {

@@ -1,6 +1,7 @@
 //! Calls of a machine that do all or nothing.
 
-ghost use Rattle.std.specs.Prelude.{◌≡◌, ◌<◌, ◌≤◌, [], ◌∷◌, ◌++◌, length, IfOk, OnOk, OnErr};
+ghost use Rattle.std.specs.Prelude.{◌≡◌, ◌<◌, [], ◌∷◌, ◌++◌, length, IfOk, OnOk, OnErr};
+ghost use Rattle.zy_chain.specs.Answers.{FitsAnswers};
 
 use std::marker::Brand;
 use std::sync::ledger::{Blank, Ledger};
@@ -14,8 +15,8 @@ pub fn apply<M: Machine>(
 ) -> Result<(Bytes, Bytes), Want>
     ensures kept { IfOk result (λ replies. replies.0 ≡ M.rules.reply (M.state machine.old) client op.now) }
     ensures given { IfOk result (λ replies. replies.1 ≡ M.rules.reply (M.state machine.old) client op.now) }
-    ensures short { IfOk result (λ replies. length replies.1 ≤ 1100) }
-    ensures short_kept { IfOk result (λ replies. length replies.0 ≤ 1100) }
+    ensures short { IfOk result (λ replies. FitsAnswers replies.1) }
+    ensures short_kept { IfOk result (λ replies. FitsAnswers replies.0) }
     ensures state { OnOk result (M.state machine.new ≡ M.rules.next (M.state machine.old) client op.now) }
     ensures trail { OnOk result (M.trail machine.new ≡ M.trail machine.old ++ M.state machine.old ∷ []) }
     ensures same_state { OnErr result (M.state machine.new ≡ M.state machine.old) }

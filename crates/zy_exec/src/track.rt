@@ -1,15 +1,17 @@
 ghost use Rattle.std.specs.Prelude.{◌≡◌, ◌+◌, ◌-◌, ◌*◌, ◌<◌, ◌≤◌, ◌^◌, List, [], ◌∷◌, ◌++◌, length, take, drop, slice_index_or, option_copied, IfOk, OnOk, OnErr, IfErr, IfSome, IfNone, IsErrOf};
 ghost use Rattle.std.specs.List.{flat_map};
 ghost use Rattle.zy_chain.specs.declared.entry.Entry.{Entry};
-ghost use Rattle.zy_chain.specs.Entries.{IsEntryInRange};
+ghost use Rattle.zy_chain.specs.Entries.{IsEntryInRange, IsOfClients};
 ghost use Rattle.zy_chain.specs.Stretch.{head_in, entry_in};
 ghost use Rattle.zy_exec.specs.declared.install_fault.InstallFault.TheVariants.{NotState};
 ghost use Rattle.zy_exec.specs.Known.{IsKnownInRange};
-ghost use Rattle.zy_exec.specs.Replay.{Point, origin, along, step};
+ghost use Rattle.zy_exec.specs.Replay.{Point, origin, along, step, answers_of};
 ghost use Rattle.zy_exec.specs.Snapshot.{listed, row_fields, snapshot_of};
 ghost use Rattle.zy_exec.specs.Shots.{shot_of, IsShort};
 ghost use Rattle.zy_exec.specs.Installed.{IsShown, IsInstalled};
 ghost use Rattle.zy_exec.specs.Kept.{Kept, stretch_of, last_place, now_of, longer, back_to, settled, reply_in, known_in, StandsFor};
+ghost use Rattle.zy_chain.specs.Answers.{FitsAnswers};
+ghost use Rattle.zy_chain.specs.Sizes.{greatest_snapshot, record_size};
 
 use crate::install_fault::InstallFault;
 use crate::known::{
@@ -132,7 +134,7 @@ impl<M: Machine> Track<M> {
     /// The reply to the entry that leads to a place. `None` exactly outside base + 1 to end.
     pub fn reply_at(&self, place: Place) -> Option<&Bytes>
         ensures reply { option_copied result ≡ reply_in M.rules self.now place.0 }
-        ensures short { IfSome result (λ reply. length reply.now ≤ 1100) }
+        ensures short { IfSome result (λ reply. FitsAnswers reply.now) }
     {
         if place.0 <= self.spine.base().0 {
             return None;
@@ -168,16 +170,16 @@ impl<M: Machine> Track<M> {
         )
     }
 
-    /// Runs an entry: the history gets it, and the answer is the reply. The answer is `Err` for want of memory alone:
-    /// then the entry comes back, and all is as it was.
+    /// Runs an entry: the history gets it, and its answers are given. `Err` comes for want of memory alone: then the entry
+    /// comes back, and all is as it was.
     pub fn run(&mut self, e: Entry) -> Result<Bytes, (Entry, Want)>
         requires room { last_place self.old < 2 ^ 62 - 1 }
-        requires client { e.client.0 < 64 }
+        requires client { IsOfClients e }
         requires entry { IsEntryInRange e }
         ensures after { OnOk result (self.new ≡ longer self.old e) }
         ensures now { OnOk result (now_of M.rules self.new ≡ step M.rules (now_of M.rules self.old) e) }
-        ensures reply { IfOk result (λ reply. reply ≡ M.rules.reply (now_of M.rules self.old).state e.client e.op) }
-        ensures short { IfOk result (λ reply. length reply ≤ 1100) }
+        ensures reply { IfOk result (λ reply. reply ≡ answers_of M.rules (now_of M.rules self.old).state e) }
+        ensures short { IfOk result FitsAnswers }
         ensures err { OnErr result (self.new ≡ self.old) }
         ensures entry { IfErr result (λ refused. refused.0 ≡ e) }
     {
@@ -287,7 +289,7 @@ impl<M: Machine> Track<M> {
     // Writes what is known of each client.
     fn put_all_known(&self, out: &mut Put) -> Result<(), Want>
         ensures bytes { OnOk result (out.new ≡ out.old ++ flat_map row_fields.spell (listed 0 (now_of M.rules self.now).known)) }
-        ensures short { OnOk result (length out.new ≤ length out.old + 64 * 1154) }
+        ensures short { OnOk result (length out.new ≤ length out.old + 64 * record_size) }
     {
         for client in 0..self.clients() {
             match self.known(ClientId(client)) {
@@ -302,7 +304,7 @@ impl<M: Machine> Track<M> {
     #[tactic(auto, unfolding(crate::specs::Snapshot::snapshot_of, crate::specs::Snapshot::snapshot_fields, zy_wire::specs::Fields::list_bytes, zy_wire::specs::Spelling::bytes_of))]
     pub fn snapshot(&self) -> Result<Bytes, Want>
         ensures bytes { IfOk result (λ bytes. bytes ≡ snapshot_of M.rules (now_of M.rules self.now)) }
-        ensures short { IfOk result (λ bytes. length bytes ≤ 2373862) }
+        ensures short { IfOk result (λ bytes. length bytes ≤ greatest_snapshot) }
     {
         let state = self.machine.state_bytes()?;
         let mut out = Put::new(self.allocator());

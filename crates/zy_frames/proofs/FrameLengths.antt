@@ -1,28 +1,29 @@
 -- No frame of these kinds is too long.
-use Rattle.std.proofs.Common.{◌≡◌, ℕ, ◌+◌, ◌≤◌, [], ◌∷◌, ◌++◌, length, ◌∙◌, arith}
-use Rattle.zy_wire.proofs.Lengths.{IsAtMost, sized16-at_most, pair-at_most, converted-at_most, optional-at_most, list-at_most}
+use Rattle.std.proofs.Common.{◌≡◌, ℕ, ◌≤◌, [], ◌∷◌, ◌++◌, length, ◌∙◌, arith}
+use Rattle.zy_wire.proofs.Lengths.{IsAtMost, pair-at_most, converted-at_most, optional-at_most, list-at_most}
 use Rattle.zy_parts.specs.Signing.{signed}
 use Rattle.zy_parts.proofs.Lengths.{signed-at_most, ask-at_most, order-at_most, spec-at_most, local-at_most, confirm-at_most, hole-at_most, hate-at_most, check-at_most}
 use Rattle.zy_frames.specs.declared.frame.Frame.{Frame}
 use Rattle.zy_frames.specs.declared.frame.Frame.TheVariants as frames
-use Rattle.zy_frames.specs.Frames.{order, spec_response, commit, confirm_request, misbehaviour, fields_of, spelling, FitsFrame}
+use Rattle.zy_frames.specs.Frames.{order, spec_response, commit, confirm_request, misbehaviour, fields_of, spelling, FitsFrame, order_frame_size, spec_response_size, commit_size, confirm_request_size, misbehaviour_size, greatest_frame}
+use Rattle.zy_chain.proofs.Lengths.{answers-at_most}
 
-order_frame-at_most : IsAtMost order 17588
+order_frame-at_most : IsAtMost order order_frame_size
 order_frame-at_most = converted-at_most _ _ _ _ (pair-at_most _ _ _ _ (signed-at_most _ _ order-at_most) (signed-at_most _ _ ask-at_most))
 
-spec_response-at_most : IsAtMost spec_response 17673
-spec_response-at_most = pair-at_most _ _ _ _ (signed-at_most _ _ spec-at_most) (pair-at_most _ _ _ _ (sized16-at_most 1100) (optional-at_most _ _ (signed-at_most _ _ order-at_most)))
+spec_response-at_most : IsAtMost spec_response spec_response_size
+spec_response-at_most = pair-at_most _ _ _ _ (signed-at_most _ _ spec-at_most) (pair-at_most _ _ _ _ answers-at_most (optional-at_most _ _ (signed-at_most _ _ order-at_most)))
 
-commit-at_most : IsAtMost commit 132658
+commit-at_most : IsAtMost commit commit_size
 commit-at_most = list-at_most _ _ (signed-at_most _ _ spec-at_most) 1 16
 
-confirm_request-at_most : IsAtMost confirm_request 17548
+confirm_request-at_most : IsAtMost confirm_request confirm_request_size
 confirm_request-at_most = pair-at_most _ _ _ _ (signed-at_most _ _ confirm-at_most) (signed-at_most _ _ ask-at_most)
 
-misbehaviour-at_most : IsAtMost misbehaviour 16558
+misbehaviour-at_most : IsAtMost misbehaviour misbehaviour_size
 misbehaviour-at_most = pair-at_most _ _ _ _ (signed-at_most _ _ order-at_most) (signed-at_most _ _ order-at_most)
 
-fields-len : (f : Frame) → FitsFrame f → length (fields_of f) ≤ 132658
+fields-len : (f : Frame) → FitsFrame f → length (fields_of f) ≤ commit_size
 unfolding fields_of FitsFrame
 fields-len (frames.Request ask) fits = omega (arith, (signed-at_most _ _ ask-at_most).fits ask fits)
 fields-len (frames.Order both) fits = omega (arith, order_frame-at_most.fits both fits)
@@ -35,5 +36,5 @@ fields-len (frames.Hate hate) fits = omega (arith, (signed-at_most _ _ hate-at_m
 fields-len (frames.Pom first second) fits = omega (arith, misbehaviour-at_most.fits (first, second) fits)
 fields-len (frames.Checkpoint check) fits = omega (arith, (signed-at_most _ _ check-at_most).fits check fits)
 
-pub spelling-len : (f : Frame) → FitsFrame f → length (spelling f) ≤ 132660
+pub spelling-len : (f : Frame) → FitsFrame f → length (spelling f) ≤ greatest_frame
 spelling-len f fits = omega (arith, fields-len f fits)

@@ -1,14 +1,13 @@
 -- The laws that the trait of frames asks: what is read by a kind was spelled so and is in range, and what was spelled is
 -- read by its kind.
 use Rattle.std.proofs.Common.{◌≡◌, ℕ, ◌≤◌, cond, eqb, List, ◌++◌, Result, Ok, refl, arith}
-use Rattle.std.specs.Int.{w16}
 use Rattle.zy_base.specs.declared.frame_fault.FrameFault.{FrameFault}
 use Rattle.zy_base.specs.declared.frame_fault.FrameFault.TheVariants.{Kind}
 use Rattle.zy_wire.specs.Spelling.{Spelling, IsExact, IsChoice, made}
 use Rattle.zy_wire.specs.Kind.{greatest_kind}
 use Rattle.zy_wire.specs.Framing.{IsFraming}
-use Rattle.zy_wire.proofs.Parts.{pair-exact, converted-exact, wide16}
-use Rattle.zy_wire.proofs.Laws.{sized-exact, list-exact, optional-exact, FitsList-weaker, FitsOptional-weaker}
+use Rattle.zy_wire.proofs.Parts.{pair-exact, converted-exact}
+use Rattle.zy_wire.proofs.Laws.{list-exact, optional-exact, FitsList-weaker, FitsOptional-weaker}
 use Rattle.zy_wire.proofs.Choices.{Takes, Takes-or, Takes-none, made_again}
 use Rattle.zy_parts.specs.Statements.{local_fields, hole_fields, hate_fields, check_fields}
 use Rattle.zy_parts.specs.Signing.{signed}
@@ -16,6 +15,7 @@ use Rattle.zy_parts.specs.Exact.{signed-exact, signed-in_range, ask-exact, ask-i
 use Rattle.zy_frames.specs.declared.frame.Frame.{Frame}
 use Rattle.zy_frames.specs.declared.frame.Frame.TheVariants as frames
 use Rattle.zy_frames.specs.Frames.{request, order, ordered, spec_response, commit, confirm_request, misbehaviour, kind_of_frame, fields_of, FitsFrame, IsFrameInRange, frame_at}
+use Rattle.zy_chain.specs.Fields.{answers-exact}
 
 -- ---- the fields of each kind
 
@@ -26,7 +26,7 @@ ordered-exact : IsExact ordered
 ordered-exact = optional-exact _ (signed-exact _ order-exact)
 
 spec_response-exact : IsExact spec_response
-spec_response-exact = pair-exact _ _ (signed-exact _ spec-exact) (pair-exact _ _ (sized-exact w16 1100 wide16 (omega arith)) ordered-exact)
+spec_response-exact = pair-exact _ _ (signed-exact _ spec-exact) (pair-exact _ _ answers-exact ordered-exact)
 
 commit-exact : IsExact commit
 commit-exact = list-exact 1 16 _ (signed-exact _ spec-exact) (omega arith)

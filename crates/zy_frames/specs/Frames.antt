@@ -1,9 +1,9 @@
 -- The ten frames of normal operation as bytes.
-use Rattle.std.specs.Prelude.{◌≡◌, ℕ, ◌≤◌, List, [], ◌∷◌, length, map, Option, Some, None, Result, Err, ◌==◌, if◌then◌else◌}
+use Rattle.std.specs.Prelude.{◌≡◌, ℕ, List, [], ◌∷◌, map, Option, Some, None, Result, Err, ◌==◌, if◌then◌else◌, ◌+◌, ◌*◌}
 use Rattle.zy_base.specs.declared.frame_fault.FrameFault.{FrameFault}
 use Rattle.zy_base.specs.declared.frame_fault.FrameFault.TheVariants.{Kind}
 use Rattle.zy_wire.specs.Spelling.{Spelling, pair, converted, made}
-use Rattle.zy_wire.specs.Fields.{bytes16, list, optional, FitsList, FitsOptional}
+use Rattle.zy_wire.specs.Fields.{list, optional, FitsList, FitsOptional}
 use Rattle.zy_wire.specs.Framing.{frame_bytes, framed_in}
 use Rattle.zy_parts.specs.declared.signed.Signed.{Signed}
 use Rattle.zy_parts.specs.declared.signed.Part.{Part}
@@ -16,6 +16,9 @@ use Rattle.zy_parts.specs.Numbers as numbers
 use Rattle.zy_parts.specs.Signing.{signed, IsSignedInRange, part_of}
 use Rattle.zy_frames.specs.declared.frame.OrderFrame.{OrderFrame}
 use Rattle.zy_frames.specs.declared.frame.Frame.{Frame}
+use Rattle.zy_chain.specs.Answers.{Answers, answers_fields, FitsAnswers}
+use Rattle.zy_parts.specs.Sizes.{order_size, ask_size, spec_size, confirm_size, signed_size}
+use Rattle.zy_chain.specs.Sizes.{answers_size}
 use Rattle.zy_frames.specs.declared.frame.Frame.TheVariants as frames
 
 -- ---- the fields of each kind in a row
@@ -29,8 +32,8 @@ order = converted (λ x. record { order = x.0; ask = x.1 }) (λ f. (f.order, f.a
 abbrev pub ordered : Spelling (Option (Signed Order))
 ordered = optional (signed order_fields)
 
-abbrev pub spec_response : Spelling (Signed Spec × (List ℕ × Option (Signed Order)))
-spec_response = pair (signed spec_fields) (pair (bytes16 1100) ordered)
+abbrev pub spec_response : Spelling (Signed Spec × (Answers × Option (Signed Order)))
+spec_response = pair (signed spec_fields) (pair answers_fields ordered)
 
 abbrev pub commit : Spelling (List (Signed Spec))
 commit = list 1 16 (signed spec_fields)
@@ -40,6 +43,27 @@ confirm_request = pair (signed confirm_fields) (signed ask_fields)
 
 abbrev pub misbehaviour : Spelling (Signed Order × Signed Order)
 misbehaviour = pair (signed order_fields) (signed order_fields)
+
+-- ---- how many bytes they have at most
+
+abbrev pub order_frame_size : ℕ
+order_frame_size = signed_size order_size + signed_size ask_size
+
+abbrev pub spec_response_size : ℕ
+spec_response_size = signed_size spec_size + (answers_size + (1 + signed_size order_size))
+
+abbrev pub commit_size : ℕ
+commit_size = 2 + 16 * signed_size spec_size
+
+abbrev pub confirm_request_size : ℕ
+confirm_request_size = signed_size confirm_size + signed_size ask_size
+
+abbrev pub misbehaviour_size : ℕ
+misbehaviour_size = signed_size order_size + signed_size order_size
+
+-- the version, the kind and the fields of the longest: no frame of these kinds has more
+abbrev pub greatest_frame : ℕ
+greatest_frame = 2 + commit_size
 
 -- ---- a frame
 
@@ -88,7 +112,7 @@ FitsFrame (frames.Checkpoint check) = (signed check_fields).Fits check
 abbrev pub IsFrameInRange : Frame → Type 0
 IsFrameInRange (frames.Request ask) = IsSignedInRange IsAskInRange ask
 IsFrameInRange (frames.Order both) = IsSignedInRange IsOrderInRange both.order × IsSignedInRange IsAskInRange both.ask
-IsFrameInRange (frames.SpecResponse spec reply with_order) = IsSignedInRange IsSpecInRange spec × (length reply ≤ 1100) × FitsOptional (IsSignedInRange IsOrderInRange) with_order
+IsFrameInRange (frames.SpecResponse spec reply with_order) = IsSignedInRange IsSpecInRange spec × FitsAnswers reply × FitsOptional (IsSignedInRange IsOrderInRange) with_order
 IsFrameInRange (frames.Commit specs) = FitsList (IsSignedInRange IsSpecInRange) 1 16 specs
 IsFrameInRange (frames.LocalCommit local) = IsSignedInRange IsLocalInRange local
 IsFrameInRange (frames.ConfirmReq confirm ask) = IsSignedInRange IsConfirmInRange confirm × IsSignedInRange IsAskInRange ask

@@ -10,7 +10,8 @@ use Rattle.zy_ots.specs.OtsType.{type_with}
 use Rattle.zy_ots.specs.Coef as words
 use Rattle.zy_lms.specs.declared.height.Height.{Height}
 use Rattle.zy_lms.specs.declared.height.Height.TheVariants.{H5, H10}
-use Rattle.zy_lms.specs.Height.{height_with, levels_of}
+use Rattle.zy_lms.specs.Height.{height_with}
+use Rattle.zy_seal.specs.Sealing.{signatures_by}
 
 -- ---- numbers
 
@@ -106,9 +107,9 @@ keys_at count table = option_and_then (keys_in count) (get_member (codes "keys")
 abbrev pub told_ots_at : Members → Option OtsType
 told_ots_at table = option_and_then type_with (number_at 3 4 (codes "ots") table)
 
--- `next`: the leaf that signs next, with so many left at least
+-- `next`: the number of the next signature, with so many left at least
 abbrev pub next_at : Height → ℕ → Members → Option ℕ
-next_at height left table = number_at 0 (2 ^ levels_of height - left) (codes "next") table
+next_at height left table = number_at 0 (signatures_by height - left) (codes "next") table
 
 abbrev pub number_or : ℕ → ℕ → ℕ → Option Data → Option ℕ
 number_or absent low high None = Some absent

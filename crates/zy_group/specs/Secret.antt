@@ -5,7 +5,7 @@ use Rattle.zy_group.specs.Fields.{bytes_at, height_at, told_ots_at, next_at, sta
 use Rattle.zy_group.specs.Reading.{field}
 use Rattle.zy_group.specs.declared.secret.Secret.{Secret}
 
--- The fields in their order, with so many leaves left at least.
+-- The fields in their order, with so many signatures left at least.
 unfoldable pub secret : ℕ → Members → Result Secret ℕ
 secret left table =
     field 12 (bytes_at 32 (codes "seed") table) (λ seed.

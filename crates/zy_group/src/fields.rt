@@ -3,7 +3,7 @@ ghost use Rattle.std.specs.Prelude.{◌≡◌, ◌≤◌, ◌+◌, ◌^◌, [], 
 ghost use Rattle.toml.specs.Data.{get_member};
 ghost use Rattle.toml.specs.View.{view, array_view, table_view};
 ghost use Rattle.zy_group.specs.Fields.{number_of, number_at, different_from, numbers_at, text_at, bytes_at, height_at, ots_at, of_spoken_types, key_of, keys_from, so_many, keys_in, keys_at, told_ots_at, next_at, number_or, stamp_at};
-ghost use Rattle.zy_lms.specs.Height.{levels_of};
+ghost use Rattle.zy_seal.specs.Sealing.{signatures_by};
 
 use crate::Numbers;
 use hex::FromHex;
@@ -13,6 +13,7 @@ use toml::{Table, Value};
 use zy_base::Want;
 use zy_lms::Height;
 use zy_ots::{OtsType, u32_at};
+use zy_seal::signature_count;
 
 /// The integer, if it is from `low` to `high`.
 fn long_of(value: &Value, low: u64, high: u64) -> Option<u64>
@@ -231,13 +232,13 @@ pub(crate) fn keys_at(
 
 // ---- where a key and a client stand
 
-/// The leaf that signs next, under `next`: at least so many are left.
+/// The number of the next signature, under `next`: at least so many are left.
 pub(crate) fn next_at(table: &Table, height: Height, left: u32) -> Option<u32>
     requires { left ≤ 1 }
     ensures is { result ≡ next_at height left (table_view table.now) }
-    ensures most { IfSome result (λ next. next + left ≤ 2 ^ levels_of height) }
+    ensures most { IfSome result (λ next. next + left ≤ signatures_by height) }
 {
-    let last = height.leaf_count() - left;
+    let last = signature_count(height) - left;
     let next = long_at(table, "next", 0, u64::from(last))?;
     Some(next as u32)
 }

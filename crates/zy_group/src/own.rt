@@ -1,8 +1,8 @@
-ghost use Rattle.std.specs.Prelude.{◌≡◌, ◌≢◌, ◌≤◌, ◌^◌, IfOk, None};
+ghost use Rattle.std.specs.Prelude.{◌≡◌, ◌≢◌, ◌≤◌, IfOk, None};
 ghost use Rattle.zy_group.specs.Own.{is_own, key_state, own_key};
 ghost use Rattle.zy_group.specs.Reading.{IsRead};
-ghost use Rattle.zy_lms.specs.Height.{levels_of};
 ghost use Rattle.zy_seal.specs.Keys.{key_of};
+ghost use Rattle.zy_seal.specs.Sealing.{signatures_by};
 
 use crate::{GroupFault, Secret};
 use std::alloc::Global;
@@ -18,7 +18,7 @@ pub fn own_key(
     keys: &Directory,
     secret: &Secret,
 ) -> Result<LmsKey, GroupFault>
-    requires { secret.now.next ≤ 2 ^ levels_of secret.now.height }
+    requires { secret.now.next ≤ signatures_by secret.now.height }
     ensures read { IsRead (own_key party keys.now secret.now) result }
     ensures member { IfOk result (λ _. key_of keys.now party ≢ None) }
 {
@@ -34,7 +34,7 @@ pub fn own_key(
 }
 
 fn key_of(alloc: Global, secret: &Secret) -> Result<LmsKey, Want>
-    requires { secret.now.next ≤ 2 ^ levels_of secret.now.height }
+    requires { secret.now.next ≤ signatures_by secret.now.height }
     ensures { IfOk result (λ key. key ≡ key_state secret.now) }
 {
     LmsKey::make(

@@ -1,9 +1,9 @@
 ghost use Rattle.std.specs.Prelude.{◌≡◌, ◌≤◌, ◌+◌, ◌^◌, IsUtf8, IfOk};
 ghost use Rattle.toml.specs.Parse.{parse_document};
 ghost use Rattle.toml.specs.View.{table_view};
-ghost use Rattle.zy_lms.specs.Height.{levels_of};
 ghost use Rattle.zy_group.specs.Secret.{secret, text_secret};
 ghost use Rattle.zy_group.specs.Reading.{IsRead, IsNoText};
+ghost use Rattle.zy_seal.specs.Sealing.{signatures_by};
 
 use crate::GroupFault;
 use crate::fields::{height_at, id_at, next_at, seed_at, stamp_at, told_ots_at};
@@ -21,19 +21,19 @@ pub struct Secret {
     pub id: [u8; 16],
     pub height: Height,
     pub ots: OtsType,
-    /// The leaf that signs next, at most the number of leaves.
+    /// The number of the next signature, at most how many the key gives.
     pub next: u32,
     /// The last stamp that the client used, at most 2^61.
     pub stamp: u64,
 }
 
-/// Reads a secret file, of whose key so many leaves must be left, none or one. Its fields are judged in this order: 11 the
+/// Reads a secret file, of whose key so many signatures must be left, none or one. Its fields are judged in this order: 11 the
 /// text, which must be TOML, 12 `seed`, 13 `id`, 14 `height`, 15 `ots`, 16 `next`, 17 `stamp`. Other keys are left aside.
 pub fn read_secret(alloc: Global, text: &[u8], left: u32) -> Result<Secret, GroupFault>
     requires { left ≤ 1 }
     ensures read { IsUtf8 text.now → IsRead (text_secret left (parse_document text.now)) result }
     ensures no_text { ¬ IsUtf8 text.now → IsNoText 11 result }
-    ensures next { IfOk result (λ secret. secret.next + left ≤ 2 ^ levels_of secret.height) }
+    ensures next { IfOk result (λ secret. secret.next + left ≤ signatures_by secret.height) }
     ensures stamp { IfOk result (λ secret. secret.stamp ≤ 2 ^ 61) }
 {
     match table_of(alloc, text, 11) {
@@ -47,7 +47,7 @@ pub fn read_secret(alloc: Global, text: &[u8], left: u32) -> Result<Secret, Grou
 fn judged(table: &Table, left: u32) -> Result<Secret, GroupFault>
     requires { left ≤ 1 }
     ensures read { IsRead (secret left (table_view table.now)) result }
-    ensures next { IfOk result (λ secret. secret.next + left ≤ 2 ^ levels_of secret.height) }
+    ensures next { IfOk result (λ secret. secret.next + left ≤ signatures_by secret.height) }
     ensures stamp { IfOk result (λ secret. secret.stamp ≤ 2 ^ 61) }
 {
     let Some(seed) = seed_at(table, "seed") else {

@@ -30,7 +30,7 @@ pub first_is : (x y : ℕ) (xs ys : List ℕ) → x ∷ xs ≡ y ∷ ys → x �
 first_is x y xs ys e = cc
 
 -- a block at the front tells its record
-same_block : (p q x y : List ℕ) → IsPiece p → IsPiece q → block_of p ++ x ≡ block_of q ++ y → (p ≡ q) × (x ≡ y)
+pub same_block : (p q x y : List ℕ) → IsPiece p → IsPiece q → block_of p ++ x ≡ block_of q ++ y → (p ≡ q) × (x ≡ y)
 same_block p q x y fits fits' e =
     let behind : to_be_bytes w32 (length p) ++ (p ++ x) ≡ to_be_bytes w32 (length q) ++ (q ++ y) =
     sym (append_assoc (to_be_bytes w32 (length p)) p x) ∙ tail_is 1 1 _ _ e ∙ append_assoc (to_be_bytes w32 (length q)) q y in

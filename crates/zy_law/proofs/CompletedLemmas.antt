@@ -132,8 +132,6 @@ module _ (w : World) (lawful : IsLawful w) where
       record {
         entry = is.entry;
         last = entry_shared m.place xs ys is.entry same is.last;
-        client = is.client;
-        stamp = is.stamp;
         reply = ap w.reply (sym same) ∙ is.reply;
       }
 

@@ -29,6 +29,7 @@ use Rattle.zy_law.specs.Steps.{IsStart, MaySay, MayStand, AllMay, after_acts}
 use Rattle.zy_law.specs.Example.{next_text, text_of, first_entry, second_entry, first_mark, second_mark, first_answer, second_answer, before_all, primary_acts, backup_acts, answered, leave_acts, left, reports, report_of, says, begin_acts, confirmed, move_acts, example}
 use Rattle.zy_law.proofs.CountLemmas.{bit}
 use Rattle.zy_law.proofs.ConductLemmas.{acts_conduct, start_conduct}
+use Rattle.zy_chain.specs.Entries.{IsOfClients}
 
 -- ---- tests of what was said
 
@@ -241,10 +242,10 @@ may_execute {w} {r} number last e stood now is_in view asked texts orders =
     }
 
 true_first : {w : World} → w.reply (first_entry ∷ []) ≡ first_answer.reply → IsTrueAnswer w (first_entry ∷ []) first_mark first_answer
-true_first reply = record { entry = first_entry; last = at_first; client = refl; stamp = refl; reply = reply }
+true_first reply = record { entry = first_entry; last = at_first; reply = reply }
 
 true_second : {w : World} → w.reply (first_entry ∷ second_entry ∷ []) ≡ second_answer.reply → IsTrueAnswer w (first_entry ∷ second_entry ∷ []) second_mark second_answer
-true_second reply = record { entry = second_entry; last = record { first = lit< tt; there = refl }; client = refl; stamp = refl; reply = reply }
+true_second reply = record { entry = second_entry; last = record { first = lit< tt; there = refl }; reply = reply }
 
 first_ordered : {w : World} {history : List Entry} → Passes w.next history first_mark → IsEntryAt history 1 first_entry → w.digest first_entry ≡ record { 0 = text_of first_entry }
     → IsOrdered w history first_mark (record { 0 = text_of first_entry })
@@ -382,7 +383,7 @@ in_order {next} {interval} r is apart =
     (record {
       multiple = omega arith;
       few = lit≤ tt;
-      clients = All-cons (λ (e : Entry). e.client.0 < 64) first_entry (second_entry ∷ []) (lit< tt) (All-cons (λ (e : Entry). e.client.0 < 64) second_entry [] (lit< tt) (All-nil (λ (e : Entry). e.client.0 < 64)));
+      clients = All-cons IsOfClients first_entry (second_entry ∷ []) (lit< tt) (All-cons IsOfClients second_entry [] (lit< tt) (All-nil IsOfClients));
       end = omega arith;
       began = record { within = lit≤ tt; shared = λ above. record { above = lit≤ tt; below = lit≤ tt; head = refl } };
       spec = record { within = lit≤ tt; shared = λ above. record { above = lit≤ tt; below = lit≤ tt; head = refl } };

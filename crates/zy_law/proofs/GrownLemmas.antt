@@ -203,7 +203,7 @@ module _ (w : World) (asked : ℕ → List Entry) (said : ℕ → List Spoken) (
   response_grown r when view m a t =
       record {
         at = stood_at_grown r when view m t.at;
-        answer = record { entry = t.answer.entry; last = t.answer.last; client = t.answer.client; stamp = t.answer.stamp; reply = t.answer.reply };
+        answer = record { entry = t.answer.entry; last = t.answer.last; reply = t.answer.reply };
       }
 
   pub vote_grown : (r when view : ℕ) (m : Mark) → IsTrueVote w r when view m → IsTrueVote (grown w asked said past kept) r when view m

@@ -33,7 +33,7 @@ agreed_mark completions = fold further origin completions
 abbrev pub IsAgreedList : World → List Completion → List Entry → Type 0
 IsAgreedList w completions list = IsListOf w (agreed_mark completions) list
 
--- a completion is of the list: the list passes its mark, and has the client's request there, with the reply that was told
+-- a completion is of the list: the list passes its mark, and the entry there is answered as was told
 pub record IsResultOf (w : World) (list : List Entry) (c : Completion) : Type 0 where
   pub passes : Passes w.next list c.mark
   pub answer : IsTrueAnswer w list c.mark c.answer

@@ -66,10 +66,10 @@ abbrev pub second_mark : Mark
 second_mark = record { place = 2; head = next_text (next_text empty_head first_entry) second_entry }
 
 abbrev pub first_answer : Answer
-first_answer = record { client = 0; stamp = 1; reply = record { 0 = 1 ∷ [] } }
+first_answer = record { reply = record { 0 = 1 ∷ [] } }
 
 abbrev pub second_answer : Answer
-second_answer = record { client = 0; stamp = 2; reply = record { 0 = 2 ∷ [] } }
+second_answer = record { reply = record { 0 = 2 ∷ [] } }
 
 abbrev pub first_asked : ℕ → List Entry
 first_asked client = first_entry ∷ second_entry ∷ []

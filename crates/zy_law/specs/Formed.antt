@@ -8,6 +8,7 @@ use Rattle.zy_choose.specs.Reports.{PlainReport}
 use Rattle.zy_law.specs.Lawful.{IsChosenStart}
 use Rattle.zy_law.specs.Reports.{IsProven, IsValidNew}
 use Rattle.zy_law.specs.World.{World}
+use Rattle.zy_chain.specs.Entries.{IsOfClients}
 
 -- a mark that isn't past the end, and is the stretch's where it isn't below the base
 pub record IsInReach (next : Digest → Entry → Digest) (s : Stretch) (m : Mark) : Type 0 where
@@ -19,7 +20,7 @@ pub record IsInReach (next : Digest → Entry → Digest) (s : Stretch) (m : Mar
 pub record IsInOrder (next : Digest → Entry → Digest) (interval : ℕ) (r : PlainReport) : Type 0 where
   pub multiple : r.stretch.base.place % interval ≡ 0
   pub few : length r.stretch.entries ≤ 2 * interval
-  pub clients : All (λ e. e.client.0 < 64) r.stretch.entries
+  pub clients : All IsOfClients r.stretch.entries
   pub end : end_of r.stretch < 2 ^ 62
   pub began : IsInReach next r.stretch r.began
   pub spec : IfSome r.spec (IsInReach next r.stretch)

@@ -40,20 +40,18 @@ pub record StoodAt (w : World) (r when view : ℕ) (m : Mark) : Type 0 where
 
 -- ---- the nine rules of conduct, each of every correct replica
 
--- the entry at the mark's place is the request, and the reply is that of the history up to there
+-- there is an entry at the mark's place, and it is answered as the history up to there tells
 pub record IsTrueAnswer (w : World) (history : List Entry) (m : Mark) (a : Answer) : Type 0 where
   pub entry : Entry
   pub last : IsEntryAt history m.place entry
-  pub client : entry.client.0 ≡ a.client
-  pub stamp : entry.stamp.0 ≡ a.stamp
   pub reply : w.reply (take m.place history) ≡ a.reply
 
 pub record IsTrueResponse (w : World) (r when view : ℕ) (m : Mark) (a : Answer) : Type 0 where
   pub at : StoodAt w r when view m
   pub answer : IsTrueAnswer w at.stand.history m a
 
--- 1. True responses: a speculative response is said while active in its view, of the own history up to a place, for the
--- request there with its reply.
+-- 1. True responses: a speculative response is said while active in its view, of the own history up to a place, with the
+-- answer to the entry there.
 abbrev pub TrueResponses : World → Type 0
 TrueResponses w =
     (r number : ℕ) (x : Spoken) (view : ℕ) (m : Mark) (a : Answer) → IsCorrect w r → Says w r number x → x.what ≡ Spec view m a

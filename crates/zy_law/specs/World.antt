@@ -6,10 +6,8 @@ use Rattle.zy_chain.specs.declared.entry.Entry.{Entry}
 use Rattle.zy_chain.specs.Stretch.{Mark}
 use Rattle.zy_choose.specs.Reports.{PlainReport}
 
--- what a speculative response answers: whose request, and the digest of its reply
+-- what a speculative response answers with, told by a digest
 pub record Answer : Type 0 where
-  pub client : ℕ
-  pub stamp : ℕ
   pub reply : Digest
 
 -- What a replica signs, as far as safety rests on it. Two statements are equal where all their fields are.
@@ -58,7 +56,7 @@ pub record World : Type 0 where
   pub next : Digest → Entry → Digest
   -- the digest of an entry
   pub digest : Entry → Digest
-  -- the digest of the reply to the last entry of a history
+  -- what the last entry of a history is answered with, told by a digest
   pub reply : List Entry → Digest
   -- the digest of the snapshot where a history leads
   pub state : List Entry → Digest

@@ -9,7 +9,7 @@ use Rattle.zy_base.specs.declared.ids.Digest.{Digest}
 use Rattle.zy_base.specs.declared.ids.Party.{Party}
 use Rattle.zy_base.specs.declared.ids.Place.{Place}
 use Rattle.zy_base.specs.declared.ids.View.{View}
-use Rattle.zy_chain.specs.Entries.{digest_of_entry}
+use Rattle.zy_chain.specs.Entries.{digest_of_entry, newer}
 use Rattle.zy_chain.specs.Stretch.{head_in}
 use Rattle.zy_cert.proofs.CertificateLemmas.{certified-taken}
 use Rattle.zy_cert.specs.Certificates.{IsCertificate, certified}
@@ -23,7 +23,7 @@ use Rattle.zy_check.specs.Board.{Board, specs_at, checks_at}
 use Rattle.zy_check.specs.Judging.{is_refused, judge_spec, judge_check}
 use Rattle.zy_check.specs.declared.kept.Kept.{Kept}
 use Rattle.zy_check.specs.declared.kept.Kept.TheVariants as answers
-use Rattle.zy_admit.specs.Judging.{newer, entry_of, same_digest}
+use Rattle.zy_admit.specs.Judging.{entry_of, same_digest, asking}
 use Rattle.zy_admit.specs.Orders.{with_order, stored_in}
 use Rattle.zy_frames.specs.declared.frame.Frame.{Frame}
 use Rattle.zy_frames.specs.declared.frame.Frame.TheVariants as frames
@@ -40,7 +40,7 @@ use Rattle.zy_parts.specs.declared.statements.Order.{Order as OrderStatement}
 use Rattle.zy_parts.specs.declared.statements.Spec.{Spec}
 use Rattle.zy_seal.specs.Sealing.{sealed_by}
 use Rattle.zy_exec.specs.declared.known.Known.{Known}
-use Rattle.zy_exec.specs.Kept.{known_in, last_place, stretch_of}
+use Rattle.zy_exec.specs.Kept.{known_in, last_place, stretch_of, now_of}
 use Rattle.zy_table.specs.Checkpoints.{checkpoint, kept_as, response, with_board}
 use Rattle.zy_table.specs.Commits.{local_at, local_said, locals_owed, give_local, commit_as, commit_beside, commit_judged, commit}
 use Rattle.zy_table.specs.Confirms.{order_again, confirm_after, confirm}
@@ -48,10 +48,10 @@ use Rattle.zy_table.specs.Deeds.{Outcome, begin, refused, ends, act}
 use Rattle.zy_admit.specs.Orders.{orders_from}
 use Rattle.zy_table.specs.Gathering.{checks_owed, gather_at, own_at}
 use Rattle.zy_table.specs.Holes.{fill_with, fill_hole}
-use Rattle.zy_table.specs.Requests.{said_already, respond_as, sealed_order, ordered, request_at_primary, request_waits, forward, request_at_backup, tell_primary, new_request, request_after, is_behind, request, response_of}
+use Rattle.zy_table.specs.Requests.{respond_as, sealed_order, ordered, request_at_primary, request_waits, forward, request_at_backup, tell_primary, new_request, request_after, is_behind, request, response_of}
 use Rattle.zy_table.specs.Roles.{view_cause}
 use Rattle.zy_table.specs.Running.{run, signs_of, spec_of}
-use Rattle.zy_table.specs.State.{State, own_view, is_leaving, is_primary, window_of, stood_of, leaves_of, spent, with_spec, spec_to, pending_of}
+use Rattle.zy_table.specs.State.{State, own_view, is_leaving, is_primary, window_of, stood_of, signs_left, spent, with_spec, pending_of, spec_said}
 use Rattle.zy_table.specs.Whole.{unless, commit_in_view, plain_row}
 use Rattle.zy_table.specs.declared.deeds.Act.TheVariants.{Says}
 use Rattle.zy_table.specs.declared.deeds.Body.TheVariants as bodies
@@ -63,6 +63,7 @@ use Rattle.zy_table.specs.declared.kept.OwnCheckpoint.{OwnCheckpoint}
 use Rattle.zy_table.specs.declared.kept.Pending.{Pending}
 use Rattle.zy_base.specs.declared.cause.Cause.TheVariants as causes
 use Rattle.zy_base.specs.declared.step.Answer.TheVariants.{Taken, Held}
+use Rattle.zy_exec.specs.Replay.{is_new_to}
 
 stamp_above : (a b : ℕ) → nat_lt b a ≡ false → nat_eq b a ≡ false → nat_lt a b ≡ true
 stamp_above a b from other =
@@ -84,11 +85,11 @@ with_held s o = record s { orders = with_order s.orders o }
 
 -- the order of a request, and an order, come with a stamp above the one that is known
 abbrev pub IsNew : {S : Type 0} → Rules S → State S → Signed Ask → Type 0
-IsNew R s ask = newer ask.stmt.stamp (option_map (λ (known : Known). known.stamp) (known_in R s.kept (entry_of ask).client.0)) ≡ true
+IsNew R s ask = is_new_to (now_of R s.kept).known (entry_of ask) ≡ true
 
 -- so many statements can still be signed
-abbrev pub HasLeaves : {S : Type 0} → State S → ℕ → Type 0
-HasLeaves s n = nat_le n (leaves_of s) ≡ true
+abbrev pub CanSign : {S : Type 0} → State S → ℕ → Type 0
+CanSign s n = nat_le n (signs_left s) ≡ true
 
 -- a local commit in the own view, of a place that the responses certify and of the own head there
 pub record IsOwnCommit {S : Type 0} (s : State S) (specs : List (Signed Spec)) (local : Local) : Type 0 where
@@ -106,14 +107,14 @@ pub data IsPut {S : Type 0} (s : State S) (Heard : Frame → Type 0) (board : Bo
 pub record Cases {S : Type 0} (R : Rules S) (s : State S) (Heard : Frame → Type 0) (P : Outcome S → Type 0) : Type 0 where
   pub refuses : (cause : Cause) → P (refused cause s)
   pub stays : (sent : List Sent) → P (record { answer = Taken; state = s; deeds = record { sent = sent; acts = [] } })
-  pub responds : (ask : Signed Ask) (known : Known) → known_in R s.kept (entry_of ask).client.0 ≡ Some known → HasLeaves s 1 → P (responded R s (spec_of (own_view s) ask known) known)
-  pub orders : (ask : Signed Ask) → Heard (frames.Request ask) → is_primary s ≡ true → IsNew R s ask → HasLeaves s (signs_of R s ask + 1) → P (ends Taken (run R (sealed_order R s ask) (ordered R s ask)))
-  pub waits : (ask : Signed Ask) → HasLeaves s 1 → P (ends Taken (request_waits R s ask))
+  pub responds : (ask : Signed Ask) (known : Known) → known_in R s.kept (asking ask.by).0 ≡ Some known → CanSign s 1 → P (responded R s (spec_of (own_view s) (entry_of ask) known) known)
+  pub orders : (ask : Signed Ask) → Heard (frames.Request ask) → is_primary s ≡ true → IsNew R s ask → CanSign s (signs_of R s (entry_of ask) + 1) → P (ends Taken (run R (sealed_order R s ask) (ordered R s ask)))
+  pub waits : (ask : Signed Ask) → CanSign s 1 → P (ends Taken (request_waits R s ask))
   pub commits : (specs : List (Signed Spec)) (client : ClientId) (local : Local) (said : Option (Signed Local)) (held : Option Certificate) → Heard (frames.Commit specs) → IsOwnCommit s specs local
-      → IsFurthest local.place specs s.views.specs held → HasLeaves s (locals_owed said + checks_owed (holding s held) (own_at R s local.place.0) true)
+      → IsFurthest local.place specs s.views.specs held → CanSign s (locals_owed said + checks_owed (holding s held) (own_at R s local.place.0) true)
       → P (ends Taken (gather_at R (own_at R s local.place.0) true (give_local R client local said (holding s held))))
   pub keeps : (board : Board) → IsPut s Heard board → P (ends Held (begin (with_board s board)))
-  pub gathers : (place : ℕ) (board : Board) → IsPut s Heard board → HasLeaves s (checks_owed (with_board s board) (own_at R s place) false)
+  pub gathers : (place : ℕ) (board : Board) → IsPut s Heard board → CanSign s (checks_owed (with_board s board) (own_at R s place) false)
       → P (ends Taken (gather_at R (own_at R s place) false (begin (with_board s board))))
   -- a request that a backup passes on may do what one of its client may
   pub confirms : (confirm : Signed Confirm) (ask : Signed Ask) → Heard (frames.ConfirmReq confirm ask) → Heard (frames.Request ask)
@@ -121,18 +122,18 @@ pub record Cases {S : Type 0} (R : Rules S) (s : State S) (Heard : Frame → Typ
 module _ {S : Type 0} (R : Rules S) (s : State S) (Heard : Frame → Type 0) (P : Outcome S → Type 0) (of : Cases R s Heard P) where
   -- ---- REQUEST
 
-  respond_as_case : (ask : Signed Ask) (known : Known) (signed : Option (Signed Spec)) → known_in R s.kept (entry_of ask).client.0 ≡ Some known → P (respond_as R s signed (spec_of (own_view s) ask known) known)
-  respond_as_case ask known None is = by_test P (nat_le 1 (leaves_of s)) _ _ (of.responds ask known is) (λ none. of.refuses causes.KeySpent)
+  respond_as_case : (ask : Signed Ask) (known : Known) (signed : Option (Signed Spec)) → known_in R s.kept (asking ask.by).0 ≡ Some known → P (respond_as R s signed (spec_of (own_view s) (entry_of ask) known) known)
+  respond_as_case ask known None is = by_test P (nat_le 1 (signs_left s)) _ _ (of.responds ask known is) (λ none. of.refuses causes.KeySpent)
   respond_as_case ask known (Some signed) is = of.stays (response_of s signed known (begin s)).deeds.sent
 
   primary_case : (ask : Signed Ask) → Heard (frames.Request ask) → is_primary s ≡ true → IsNew R s ask → P (request_at_primary R s ask)
   primary_case ask heard primary new =
       by_test P (nat_lt (last_place s.kept) (window_of s)) _ _
-      (λ room. by_test P (nat_le (signs_of R s ask + 1) (leaves_of s)) _ _ (of.orders ask heard primary new) (λ none. of.refuses causes.KeySpent))
+      (λ room. by_test P (nat_le (signs_of R s (entry_of ask) + 1) (signs_left s)) _ _ (of.orders ask heard primary new) (λ none. of.refuses causes.KeySpent))
       (λ full. of.refuses (causes.WindowFull (record { 0 = window_of s })))
 
   forward_case : (ask : Signed Ask) → P (forward R s ask)
-  forward_case ask = by_test P (nat_le 1 (leaves_of s)) _ _ (of.waits ask) (λ none. of.refuses causes.KeySpent)
+  forward_case ask = by_test P (nat_le 1 (signs_left s)) _ _ (of.waits ask) (λ none. of.refuses causes.KeySpent)
 
   backup_case : (ask : Signed Ask) (pending : Option Pending) → P (request_at_backup R s ask pending)
   backup_case ask None = forward_case ask
@@ -143,16 +144,16 @@ module _ {S : Type 0} (R : Rules S) (s : State S) (Heard : Frame → Type 0) (P 
 
   new_request_case : (ask : Signed Ask) → Heard (frames.Request ask) → IsNew R s ask → P (new_request R s ask)
   new_request_case ask heard new =
-      by_test P (is_primary s) _ _ (λ primary. primary_case ask heard primary new) (λ backup. backup_case ask (pending_of s (entry_of ask).client))
+      by_test P (is_primary s) _ _ (λ primary. primary_case ask heard primary new) (λ backup. backup_case ask (pending_of s (asking ask.by)))
 
-  request_after_case : (ask : Signed Ask) (known : Option Known) → known_in R s.kept (entry_of ask).client.0 ≡ known → Heard (frames.Request ask) → P (request_after R s ask known)
+  request_after_case : (ask : Signed Ask) (known : Option Known) → known_in R s.kept (asking ask.by).0 ≡ known → Heard (frames.Request ask) → P (request_after R s ask known)
   request_after_case ask None is heard =
       new_request_case ask heard (ap (λ (o : Option Known). newer ask.stmt.stamp (option_map (λ (known : Known). known.stamp) o)) is)
   request_after_case ask (Some known) is heard =
       by_test P (nat_lt ask.stmt.stamp.0 known.stamp.0) _ _
       (λ old. of.refuses causes.OldStamp)
       (λ from. by_test P (nat_eq ask.stmt.stamp.0 known.stamp.0) _ _
-      (λ same. respond_as_case ask known (said_already (spec_to s (entry_of ask).client) (spec_of (own_view s) ask known)) is)
+      (λ same. respond_as_case ask known (spec_said s (spec_of (own_view s) (entry_of ask) known)) is)
       (λ other. new_request_case ask heard
       (ap (λ (o : Option Known). newer ask.stmt.stamp (option_map (λ (k : Known). k.stamp) o)) is ∙ stamp_above known.stamp.0 ask.stmt.stamp.0 from other)))
 
@@ -160,8 +161,8 @@ module _ {S : Type 0} (R : Rules S) (s : State S) (Heard : Frame → Type 0) (P 
   unfolding request
   request_case ask heard =
       by_test P (is_leaving s) _ _ (λ leaving. of.refuses causes.NotActive)
-      (λ active. by_test P (is_behind ask (pending_of s (entry_of ask).client)) _ _ (λ behind. of.refuses causes.OldStamp)
-      (λ newest. request_after_case ask (known_in R s.kept (entry_of ask).client.0) refl heard))
+      (λ active. by_test P (is_behind ask (pending_of s (asking ask.by))) _ _ (λ behind. of.refuses causes.OldStamp)
+      (λ newest. request_after_case ask (known_in R s.kept (asking ask.by).0) refl heard))
 
   -- ---- CONFIRM-REQ
 
@@ -182,7 +183,7 @@ module _ {S : Type 0} (R : Rules S) (s : State S) (Heard : Frame → Type 0) (P 
   unfolding confirm
   confirm_case confirmed ask heard =
       by_test P (same_digest confirmed.stmt.request (digest_of_entry (entry_of ask))) _ _
-      (λ same. confirm_after_case confirmed.by ask (known_in R s.kept (entry_of ask).client.0) heard)
+      (λ same. confirm_after_case confirmed.by ask (known_in R s.kept (asking ask.by).0) heard)
       (λ other. of.refuses causes.Unmatched)
 
   -- ---- COMMIT
@@ -192,10 +193,10 @@ module _ {S : Type 0} (R : Rules S) (s : State S) (Heard : Frame → Type 0) (P 
   commit_as_case specs client local said heard own =
       let mine : Option OwnCheckpoint = own_at R s local.place.0 in
       by_certificate s
-      (λ (s' : State S). P (if nat_le (locals_owed said + checks_owed s' mine true) (leaves_of s) then ends Taken (gather_at R mine true (give_local R client local said s')) else refused causes.KeySpent s))
+      (λ (s' : State S). P (if nat_le (locals_owed said + checks_owed s' mine true) (signs_left s) then ends Taken (gather_at R mine true (give_local R client local said s')) else refused causes.KeySpent s))
       local.place specs
       (λ held furthest.
-      by_test P (nat_le (locals_owed said + checks_owed (holding s held) mine true) (leaves_of s)) _ _
+      by_test P (nat_le (locals_owed said + checks_owed (holding s held) mine true) (signs_left s)) _ _
       (λ left. of.commits specs client local said held heard own furthest left)
       (λ none. of.refuses causes.KeySpent))
 
@@ -237,7 +238,7 @@ module _ {S : Type 0} (R : Rules S) (s : State S) (Heard : Frame → Type 0) (P 
   kept_case : (place : ℕ) (answer : Kept) (board : Board) → (is_refused answer ≡ false → IsPut s Heard board) → P (kept_as R s (own_at R s place) answer board)
   kept_case place answers.Held board put = of.keeps board (put refl)
   kept_case place (answers.Kept number) board put =
-      by_test P (nat_le (checks_owed (with_board s board) (own_at R s place) false) (leaves_of s)) _ _ (λ left. of.gathers place board (put refl) left) (λ none. of.refuses causes.KeySpent)
+      by_test P (nat_le (checks_owed (with_board s board) (own_at R s place) false) (signs_left s)) _ _ (λ left. of.gathers place board (put refl) left) (λ none. of.refuses causes.KeySpent)
   kept_case place (answers.Refused cause) board put = of.refuses cause
 
   response_case : (vote : Signed Spec) (reply : List ℕ) (with_order : Option (Signed OrderStatement)) → Heard (frames.SpecResponse vote reply with_order) → P (response R s vote)

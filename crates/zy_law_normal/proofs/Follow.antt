@@ -22,6 +22,7 @@ use Rattle.zy_table.specs.Running.{executed, next_known, respond, run_one, seale
 use Rattle.zy_table.specs.State.{State, own_view}
 use Rattle.zy_table.specs.declared.deeds.To.{To}
 use Rattle.zy_table.specs.declared.kept.OwnCheckpoint.{OwnCheckpoint}
+use Rattle.zy_admit.specs.Judging.{ordered_entry}
 
 -- with another state
 abbrev pub in_state : {S : Type 0} → Going S → State S → Going S
@@ -72,12 +73,12 @@ module _ {S : Type 0} (R : Rules S) (P : Going S → Type 0) (keeps : Keeps R P)
       (keeps.owns told (own_with signed.stmt state) signed (keeps.sends g _ _ is))
 
   -- an executed entry is answered
-  pub one_keeps : (o : OrderFrame) (g : Going S) → P (executed R o.ask g) → P (run_one R o g)
+  pub one_keeps : (o : OrderFrame) (g : Going S) → P (executed R (ordered_entry o) g) → P (run_one R o g)
   unfolding run_one
   one_keeps o g is =
-      let done : Going S = executed R o.ask g in
-      let known = next_known R g.state o.ask in
-      let signed : Signed Spec = sealed_spec done.state (spec_of (own_view g.state) o.ask known) in
+      let done : Going S = executed R (ordered_entry o) g in
+      let known = next_known R g.state (ordered_entry o) in
+      let signed : Signed Spec = sealed_spec done.state (spec_of (own_view g.state) (ordered_entry o) known) in
       share_keeps o.order signed known.reply (state_in R done.state.kept signed.stmt.place.0) (respond R o.order signed known.reply done) (keeps.responds done o.order signed known.reply is)
 
 -- ---- wherever the base moves to, what is kept ends there and stands for the same histories

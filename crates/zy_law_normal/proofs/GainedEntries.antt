@@ -2,7 +2,7 @@
 use Rattle.std.proofs.Common.{◌+◌, ◌-◌, true, false, List, [], ◌∷◌, ◌++◌, Option, Some, None, refl, sym, subst}
 use Rattle.std.specs.Prelude.{nat_le}
 use Rattle.std.specs.List.{AllByRecursion}
-use Rattle.zy_admit.specs.Judging.{entry_of}
+use Rattle.zy_admit.specs.Judging.{ordered_entry}
 use Rattle.zy_admit.specs.Orders.{slots_above}
 use Rattle.zy_admit.specs.declared.judging.Admit.{Admit}
 use Rattle.zy_admit.specs.declared.judging.Admit.TheVariants as admits
@@ -28,7 +28,7 @@ use Rattle.zy_table.specs.Deeds.{Going, Outcome, begin, gains_in}
 use Rattle.zy_table.specs.Requests.{ordered, sealed_order}
 use Rattle.zy_table.specs.Gathering.{own_at}
 use Rattle.zy_table.specs.Running.{got_of, run_one, run_held, run, fits_end, signs_of}
-use Rattle.zy_table.specs.State.{State, leaves_of}
+use Rattle.zy_table.specs.State.{State, signs_left}
 use Rattle.zy_table.specs.Orders.{order_as, owes_hole}
 use Rattle.zy_table.specs.Whole.{plain_row}
 use Rattle.zy_table.specs.declared.deeds.Act.{Act}
@@ -60,9 +60,9 @@ module _ {S : Type 0} (R : Rules S) (w : World) where
         settles = λ g place proof all. all;
       }
 
-  one_gained : (o : OrderFrame) (g : Going S) → MayRun w (entry_of o.ask) → AreGained g.deeds.acts → AreGained (run_one R o g).deeds.acts
+  one_gained : (o : OrderFrame) (g : Going S) → MayRun w (ordered_entry o) → AreGained g.deeds.acts → AreGained (run_one R o g).deeds.acts
   one_gained o g may all =
-      one_keeps R (λ g. AreGained g.deeds.acts) gained_kept o g (gained_more g.deeds.acts (got_of R g.state o.ask) all (record { run = may; head = refl }))
+      one_keeps R (λ g. AreGained g.deeds.acts) gained_kept o g (gained_more g.deeds.acts (got_of R g.state (ordered_entry o)) all (record { run = may; head = refl }))
 
   held_gained : (slots : List (Option OrderFrame)) (g : Going S) → AllByRecursion (MaySlotRun w) slots → AreGained g.deeds.acts → AreGained (run_held R slots g).deeds.acts
   unfolding run_held
@@ -70,12 +70,12 @@ module _ {S : Type 0} (R : Rules S) (w : World) where
   held_gained (None ∷ slots) g may all = all
   held_gained (Some o ∷ slots) g may all =
       by_test (λ (g' : Going S). AreGained g'.deeds.acts) (fits_end R g.state o) _ _
-      (λ fits. by_test (λ (g' : Going S). AreGained g'.deeds.acts) (nat_le (signs_of R g.state o.ask) (leaves_of g.state)) _ _
+      (λ fits. by_test (λ (g' : Going S). AreGained g'.deeds.acts) (nat_le (signs_of R g.state (ordered_entry o)) (signs_left g.state)) _ _
       (λ left. held_gained slots (run_one R o g) may.1 (one_gained o g may.0 all))
       (λ none. all))
       (λ differs. all)
 
-  run_gained : (o : OrderFrame) (g : Going S) → AllByRecursion (MaySlotRun w) g.state.orders.slots → MayRun w (entry_of o.ask) → AreGained g.deeds.acts → AreGained (run R o g).deeds.acts
+  run_gained : (o : OrderFrame) (g : Going S) → AllByRecursion (MaySlotRun w) g.state.orders.slots → MayRun w (ordered_entry o) → AreGained g.deeds.acts → AreGained (run R o g).deeds.acts
   run_gained o g slots may all =
       held_gained (slots_above (last_place g.state.kept + 1) g.state.orders) (run_one R o g) (slots_from w (last_place g.state.kept + 1 - g.state.orders.base) g.state.orders.slots slots) (one_gained o g may all)
 
@@ -105,9 +105,9 @@ module _ {S : Type 0} (R : Rules S) (w : World) where
     pub row_gained : (frame : Frame) → IsNormal frame → MayFrameRun w frame → Gained (plain_row R s frame)
     row_gained frame normal may = row_case R s (MayFrameRun w) Gained cases frame normal may
 
-    pub order_gained : (o : OrderFrame) → MayRun w (entry_of o.ask) → (a : Admit) → Gained (order_as R s o a)
+    pub order_gained : (o : OrderFrame) → MayRun w (ordered_entry o) → (a : Admit) → Gained (order_as R s o a)
     order_gained o may admits.Next =
-        by_test Gained (nat_le (signs_of R s o.ask) (leaves_of s)) _ _ (λ left. run_gained o (begin (record (with_held s o) { hole = None })) (slots_put w s.orders o slots may) may tt) (λ none. tt)
-    order_gained o may admits.Held = by_test Gained (owes_hole s) _ _ (λ owes. by_test Gained (nat_le 1 (leaves_of s)) _ _ (λ left. tt) (λ none. tt)) (λ asked. tt)
+        by_test Gained (nat_le (signs_of R s (ordered_entry o)) (signs_left s)) _ _ (λ left. run_gained o (begin (record (with_held s o) { hole = None })) (slots_put w s.orders o slots may) may tt) (λ none. tt)
+    order_gained o may admits.Held = by_test Gained (owes_hole s) _ _ (λ owes. by_test Gained (nat_le 1 (signs_left s)) _ _ (λ left. tt) (λ none. tt)) (λ asked. tt)
     order_gained o may (admits.Refused cause) = tt
     order_gained o may admits.Evidence = tt

@@ -9,13 +9,13 @@ use Rattle.zy_base.specs.declared.ids.Digest.{Digest}
 use Rattle.zy_base.specs.declared.ids.ClientId.{ClientId}
 use Rattle.zy_base.specs.declared.ids.Stamp.{Stamp}
 use Rattle.zy_chain.specs.declared.entry.Entry.{Entry}
-use Rattle.zy_chain.specs.Entries.{digest_of_entry}
+use Rattle.zy_chain.specs.Entries.{digest_of_entry, newer}
 use Rattle.zy_chain.specs.Heads.{empty_head, head_of}
 use Rattle.zy_chain.specs.Stretch.{Mark}
-use Rattle.zy_admit.specs.Judging.{newer, entry_of}
+use Rattle.zy_admit.specs.Judging.{ordered_entry}
 use Rattle.zy_frames.specs.declared.frame.OrderFrame.{OrderFrame}
 use Rattle.zy_exec.specs.declared.known.Known.{Known}
-use Rattle.zy_exec.specs.Replay.{Point, origin, known_of}
+use Rattle.zy_exec.specs.Replay.{Point, origin, known_of, is_new_to}
 use Rattle.zy_exec.specs.Kept.{longer, now_of, known_in}
 use Rattle.zy_exec.proofs.ReplayLemmas.{place-along, head-along}
 use Rattle.zy_exec.proofs.HistoryLemmas.{stands_leads}
@@ -41,7 +41,7 @@ kept_pushed kept next head (d ∷ es) e all link = (all.0, kept_pushed kept next
 
 slot_more : (w v : World) → ((e : Entry) → MayRun w e → MayRun v e) → (o : Option OrderFrame) → MaySlotRun w o → MaySlotRun v o
 slot_more w v more None may = tt
-slot_more w v more (Some o) may = more (entry_of o.ask) may
+slot_more w v more (Some o) may = more (ordered_entry o) may
 
 pub slots_more : (w v : World) → ((e : Entry) → MayRun w e → MayRun v e) → (slots : List (Option OrderFrame)) → AllByRecursion (MaySlotRun w) slots → AllByRecursion (MaySlotRun v) slots
 slots_more w v more [] all = tt
@@ -100,7 +100,7 @@ module _ {S : Type 0} (R : Rules S) (w : World) (r : ℕ) (s : State S) (h : Lis
       ]
 
   -- it may stand next with one entry more, which was asked for with a newer stamp, and whose link is kept
-  pub may_stand : (e : Entry) → MayRun w e → newer e.stamp (option_map (λ (known : Known). known.stamp) (known_in R s.kept e.client.0)) ≡ true → w.kept (now_of R s.kept).head e ≡ true
+  pub may_stand : (e : Entry) → MayRun w e → is_new_to (now_of R s.kept).known e ≡ true → w.kept (now_of R s.kept).head e ≡ true
       → AreOrdersOf w r (own_view s) (h ++ e ∷ []) → MayStand w r (record { view = own_view s; history = h ++ e ∷ [] })
   may_stand e may new link orders =
       record {

@@ -15,11 +15,12 @@ use Rattle.zy_exec.specs.Kept.{Kept, StandsFor, last_place, reply_in, stretch_of
 use Rattle.zy_exec.specs.Replay.{Point, origin, along}
 use Rattle.zy_exec.specs.Shots.{digest_of_snapshot, snapshot_due}
 use Rattle.zy_exec.specs.Snapshot.{snapshot_of}
-use Rattle.zy_law_normal.specs.Tied.{IsOfClient, IsCheckpointOf, state_of}
+use Rattle.zy_law_normal.specs.Tied.{IsCheckpointOf, state_of}
 use Rattle.zy_parts.specs.declared.statements.Spec.{Spec}
 use Rattle.zy_table.specs.Gathering.{own_at, own_from, own_with, check_with, spec_at, state_in}
 use Rattle.zy_table.specs.State.{State, own_view}
 use Rattle.zy_table.specs.declared.kept.OwnCheckpoint.{OwnCheckpoint}
+use Rattle.zy_chain.specs.Entries.{IsOfClients}
 
 -- ---- lists and tests
 
@@ -72,13 +73,13 @@ module _ {S : Type 0} (R : Rules S) (k : Kept S) (h : List Entry) (stands : Stan
       let leads : along R (origin R) (take place h) ≡ p = sym (stands_after R k h n stands ∙ ap (λ (m : ℕ). along R (origin R) (take m h)) at) in
       (above, (ltb-false (last_place k) place range.1, ap (λ (q : Point S). digest_of_snapshot (snapshot_of R q)) leads ∙ due (nat_eq (p.place % k.interval) 0) (snapshot_of R p) state there.1))
 
-  entry_told : (b : Bool) (e : Entry) → (if b then None else slice_get k.entries (place - k.base.place - 1)) ≡ Some e → AllByRecursion IsOfClient h → IsOfClient e
+  entry_told : (b : Bool) (e : Entry) → (if b then None else slice_get k.entries (place - k.base.place - 1)) ≡ Some e → AllByRecursion IsOfClients h → IsOfClients e
   entry_told true e is clients = absurd cc
   entry_told false e is clients =
-      at_of IsOfClient (drop k.base.place h) (place - k.base.place - 1) e (all_drop IsOfClient k.base.place h clients)
+      at_of IsOfClients (drop k.base.place h) (place - k.base.place - 1) e (all_drop IsOfClients k.base.place h clients)
       (ap (λ (es : List Entry). slice_get es (place - k.base.place - 1)) (sym stands.others) ∙ is)
 
-  pub client_told : (e : Entry) → entry_in (stretch_of k) place ≡ Some e → AllByRecursion IsOfClient h → IsOfClient e
+  pub client_told : (e : Entry) → entry_in (stretch_of k) place ≡ Some e → AllByRecursion IsOfClients h → IsOfClients e
   client_told e is clients = entry_told (nat_le place k.base.place) e is clients
 
 -- ---- what is said of it

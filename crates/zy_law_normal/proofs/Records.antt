@@ -9,14 +9,13 @@ use Rattle.std.proofs.lemmas.Option.{same_Some}
 use Rattle.zy_base.specs.Machine.{Rules}
 use Rattle.zy_base.specs.declared.ids.Digest.{Digest}
 use Rattle.zy_chain.specs.declared.entry.Entry.{Entry}
-use Rattle.zy_chain.specs.Entries.{digest_of_entry}
+use Rattle.zy_chain.specs.Entries.{digest_of_entry, IsOfClients}
 use Rattle.zy_chain.specs.Heads.{head_after, head_of, empty_head}
 use Rattle.zy_exec.specs.declared.known.Known.{Known}
-use Rattle.zy_exec.specs.Replay.{Point, origin, known_of, along, answer_at}
+use Rattle.zy_exec.specs.Replay.{Point, origin, known_of, along, answer_at, answers_of}
 use Rattle.zy_exec.proofs.ReplayLemmas.{by_last, along-append, along-nil, place-along, head-along, length-known-along, clients_pop}
 use Rattle.zy_law.specs.Histories.{IsEntryAt}
 use Rattle.zy_law.proofs.EntriesAskedFor.{entry_within, entry_longer, entry_shorter}
-use Rattle.zy_law_normal.specs.Tied.{IsOfClient}
 
 -- ---- the reply to an entry of a longer history
 
@@ -32,13 +31,13 @@ entry_pushed (y ∷ xs) x = entry_pushed xs x
 pub answer_longer : {S : Type 0} (R : Rules S) (xs ys : List Entry) (place : ℕ) → place ≤ length xs → answer_at R (xs ++ ys) place ≡ answer_at R xs place
 answer_longer R xs ys zero within = refl
 answer_longer {S} R xs ys (suc before) within =
-    ap (λ (es : List Entry). option_map (λ (e : Entry). R.reply (along R (origin R) es).state e.client e.op) (slice_get (xs ++ ys) before)) (take-append-le before xs ys (omega arith))
-    ∙ ap (λ (o : Option Entry). option_map (λ (e : Entry). R.reply (along R (origin R) (take before xs)).state e.client e.op) o) (entry_of_front xs ys before (omega arith))
+    ap (λ (es : List Entry). option_map (λ (e : Entry). answers_of R (along R (origin R) es).state e) (slice_get (xs ++ ys) before)) (take-append-le before xs ys (omega arith))
+    ∙ ap (λ (o : Option Entry). option_map (λ (e : Entry). answers_of R (along R (origin R) (take before xs)).state e) o) (entry_of_front xs ys before (omega arith))
 
-pub answer_pushed : {S : Type 0} (R : Rules S) (xs : List Entry) (e : Entry) → answer_at R (xs ++ e ∷ []) (suc (length xs)) ≡ Some (R.reply (along R (origin R) xs).state e.client e.op)
+pub answer_pushed : {S : Type 0} (R : Rules S) (xs : List Entry) (e : Entry) → answer_at R (xs ++ e ∷ []) (suc (length xs)) ≡ Some (answers_of R (along R (origin R) xs).state e)
 answer_pushed {S} R xs e =
-    ap (λ (o : Option Entry). option_map (λ (d : Entry). R.reply (along R (origin R) (take (length xs) (xs ++ e ∷ []))).state d.client d.op) o) (entry_pushed xs e)
-    ∙ ap (λ (es : List Entry). Some (R.reply (along R (origin R) es).state e.client e.op)) (take-append-le (length xs) xs (e ∷ []) (omega arith) ∙ take_all (length xs) xs (omega arith))
+    ap (λ (o : Option Entry). option_map (λ (d : Entry). answers_of R (along R (origin R) (take (length xs) (xs ++ e ∷ []))).state d) o) (entry_pushed xs e)
+    ∙ ap (λ (es : List Entry). Some (answers_of R (along R (origin R) es).state e)) (take-append-le (length xs) xs (e ∷ []) (omega arith) ∙ take_all (length xs) xs (omega arith))
 
 -- ---- the entry at a place of a longer history
 
@@ -114,7 +113,7 @@ known_after R h client = get_or (along R (origin R) h).known client None
 none_long : (n : ℕ) (none : Option Known) → length (replicate n none) ≡ n
 none_long n none = length-replicate n none
 
-record_next : {S : Type 0} (R : Rules S) (h : List Entry) (e : Entry) (client : ℕ) → e.client.0 < 64 → IsRecord R h client (known_after R h client)
+record_next : {S : Type 0} (R : Rules S) (h : List Entry) (e : Entry) (client : ℕ) → IsOfClients e → IsRecord R h client (known_after R h client)
     → IsRecord R (h ++ e ∷ []) client (known_after R (h ++ e ∷ []) client)
 record_next {S} R h e client small is =
     let p = along R (origin R) h in
@@ -141,8 +140,8 @@ record_start {S} R client =
     (λ place d at same. let within = entry_within [] place d at in let first = at.first in absurd (omega arith))
 
 -- what is known of each client after a history is its last entry
-pub records : {S : Type 0} (R : Rules S) (client : ℕ) (h : List Entry) → AllByRecursion IsOfClient h → IsRecord R h client (known_after R h client)
+pub records : {S : Type 0} (R : Rules S) (client : ℕ) (h : List Entry) → AllByRecursion IsOfClients h → IsRecord R h client (known_after R h client)
 records R client =
-    by_last (λ h. AllByRecursion IsOfClient h → IsRecord R h client (known_after R h client))
+    by_last (λ h. AllByRecursion IsOfClients h → IsRecord R h client (known_after R h client))
     (λ all. record_start R client)
     (λ h e before all. let parts = clients_pop h e all in record_next R h e client parts.1 (before parts.0))

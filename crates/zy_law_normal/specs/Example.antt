@@ -1,6 +1,5 @@
 -- What the first request makes a primary say and where it makes it stand.
 use Rattle.std.specs.Prelude.{List, [], ◌∷◌}
-use Rattle.sha2.specs.Sha256.{sha256}
 use Rattle.zy_base.specs.Machine.{Rules}
 use Rattle.zy_chain.specs.Entries.{digest_of_entry}
 use Rattle.zy_chain.specs.Heads.{head_of}
@@ -10,18 +9,16 @@ use Rattle.zy_law.specs.Steps as law
 use Rattle.zy_law.specs.Steps.Act.{Say, Move}
 use Rattle.zy_law.specs.World.Statement.{Order, Spec}
 use Rattle.zy_law.specs.World.{Answer}
+use Rattle.zy_exec.specs.Replay.{answers_of}
+use Rattle.zy_chain.specs.Answers.{digest_of_answers}
+use Rattle.zy_law_normal.specs.Acts.{answer_told}
 
 -- the history of one entry
 abbrev pub first_mark : Entry → Mark
 first_mark e = record { place = 1; head = head_of (e ∷ []) }
 
 abbrev pub first_answer : {S : Type 0} → Rules S → Entry → Answer
-first_answer R e =
-    record {
-      client = e.client.0;
-      stamp = e.stamp.0;
-      reply = record { 0 = sha256 (R.reply R.initial e.client e.op) };
-    }
+first_answer R e = answer_told e.client.0 e.stamp.0 (digest_of_answers (answers_of R R.initial e))
 
 -- the order, at the stand with the empty history; the stand with the entry; the response, there
 abbrev pub first_acts : {S : Type 0} → Rules S → Entry → List law.Act

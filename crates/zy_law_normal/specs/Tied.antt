@@ -1,16 +1,15 @@
 -- How a replica's state is tied to what it said and where it stood.
-use Rattle.std.specs.Prelude.{◌≡◌, ◌⊎◌, ℕ, ◌+◌, ◌<◌, ◌≤◌, true, false, List, [], length, take, All, Option, Some, None, unwrap_or, Contains}
+use Rattle.std.specs.Prelude.{◌≡◌, ◌⊎◌, ℕ, ◌+◌, ◌≤◌, true, false, List, [], length, take, All, Option, Some, None, Contains}
 use Rattle.std.specs.List.{AllByRecursion}
-use Rattle.sha2.specs.Sha256.{sha256}
 use Rattle.zy_base.specs.Machine.{Rules}
 use Rattle.zy_base.specs.declared.ids.Digest.{Digest}
 use Rattle.zy_base.specs.declared.ids.Party.{Party}
 use Rattle.zy_base.specs.declared.ids.Party.TheVariants.{Replica, Client}
-use Rattle.zy_chain.specs.Entries.{IsEntryInRange, digest_of_entry}
+use Rattle.zy_chain.specs.Entries.{IsEntryInRange, digest_of_entry, IsOfClients}
 use Rattle.zy_chain.specs.Heads.{head_after, head_of}
 use Rattle.zy_chain.specs.Stretch.{Mark}
 use Rattle.zy_chain.specs.declared.entry.Entry.{Entry}
-use Rattle.zy_admit.specs.Judging.{entry_of}
+use Rattle.zy_admit.specs.Judging.{entry_of, ordered_entry}
 use Rattle.zy_change.specs.declared.kept.Certificate.{Certificate}
 use Rattle.zy_check.specs.Board.{Round}
 use Rattle.zy_check.specs.Votes.{IsRising}
@@ -30,15 +29,23 @@ use Rattle.zy_parts.specs.declared.statements.Check.{Check}
 use Rattle.zy_parts.specs.declared.statements.Spec.{Spec}
 use Rattle.zy_table.specs.State.{State, own_view, is_leaving}
 use Rattle.zy_table.specs.declared.deeds.Got.{Got}
+use Rattle.zy_chain.specs.Answers.{digest_of_answers, Answers}
+use Rattle.zy_chain.specs.Places.{entry_at}
+use Rattle.zy_law_normal.specs.Acts.{answer_told}
 
 -- ---- heads, digests and replies of the law
 
 abbrev pub next_head : Digest → Entry → Digest
 next_head head e = head_after head (digest_of_entry e)
 
--- the digest of the reply to a history's last entry
+-- what a response says of a history's last entry
+abbrev pub reply_told : Option Entry → Option Answers → Digest
+reply_told None answers = record { 0 = [] }
+reply_told (Some e) None = record { 0 = [] }
+reply_told (Some e) (Some answers) = (answer_told e.client.0 e.stamp.0 (digest_of_answers answers)).reply
+
 abbrev pub last_reply : {S : Type 0} → Rules S → List Entry → Digest
-last_reply R history = record { 0 = sha256 (unwrap_or (answer_at R history (length history)) []) }
+last_reply R history = reply_told (entry_at history (length history)) (answer_at R history (length history))
 
 -- the digest of the snapshot where a history leads
 abbrev pub state_of : {S : Type 0} → Rules S → List Entry → Digest
@@ -53,19 +60,15 @@ pub record Agrees {S : Type 0} (R : Rules S) (w : World) : Type 0 where
 
 -- ---- what may run
 
--- the clients have numbers below 64
-abbrev pub IsOfClient : Entry → Type 0
-IsOfClient e = e.client.0 < 64
-
 -- an entry in its ranges, whose client asked for it or lies
 pub record MayRun (w : World) (e : Entry) : Type 0 where
-  pub client : IsOfClient e
+  pub client : IsOfClients e
   pub range : IsEntryInRange e
   pub asked : (w.lying e.client.0 ≡ true) ⊎ Contains (w.asked e.client.0) e
 
 abbrev pub MaySlotRun : World → Option OrderFrame → Type 0
 MaySlotRun w None = Unit {0}
-MaySlotRun w (Some o) = MayRun w (entry_of o.ask)
+MaySlotRun w (Some o) = MayRun w (ordered_entry o)
 
 -- ---- what may be counted
 
@@ -88,7 +91,7 @@ pub record IsStanding {S : Type 0} (R : Rules S) (w : World) (r : ℕ) (s : Stat
   pub stood : Stood w r number (record { view = own_view s; history = history })
   pub last : number + 1 ≡ length (w.past r)
   pub stands : StandsFor R s.kept history
-  pub clients : AllByRecursion IsOfClient history
+  pub clients : AllByRecursion IsOfClients history
   -- it left for no greater view
   pub left : (said : ℕ) (x : Spoken) (view : ℕ) (report : PlainReport) → Says w r said x → x.what ≡ Change view report → view ≤ own_view s
   -- what is kept to be run may be run
@@ -132,7 +135,7 @@ IsNormal _ = Unit {0}
 -- the request of a frame may be run
 abbrev pub MayFrameRun : World → Frame → Type 0
 MayFrameRun w (frames.Request ask) = MayRun w (entry_of ask)
-MayFrameRun w (frames.Order both) = MayRun w (entry_of both.ask)
+MayFrameRun w (frames.Order both) = MayRun w (ordered_entry both)
 MayFrameRun w (frames.ConfirmReq confirm ask) = MayRun w (entry_of ask)
 MayFrameRun w _ = Unit {0}
 

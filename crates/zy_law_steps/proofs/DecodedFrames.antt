@@ -19,12 +19,13 @@ use Rattle.zy_vframes.specs.declared.frame.ViewFrame.{ViewFrame}
 use Rattle.zy_vframes.specs.declared.frame.ViewFrame.TheVariants as view_frames
 use Rattle.zy_law_views.specs.Told.{change_spelled}
 use Rattle.zy_wire.proofs.Parts.{bind_ok, ended_ok}
-use Rattle.zy_wire.specs.Fields.{bytes16, list}
+use Rattle.zy_wire.specs.Fields.{list}
 use Rattle.zy_wire.specs.Framing.{framed_in}
 use Rattle.zy_wire.specs.Kind.{kind_in}
 use Rattle.zy_wire.specs.Spelling.{Spelling, ◌>>=◌, ended, made, pair}
 use Rattle.zy_law_steps.specs.Spelled.{IsBeganSpelled, IsChangeSpelled, IsCheckSpelled, IsSpecSpelled}
 use Rattle.zy_law_steps.proofs.Decoded.{Gives, all_give, began_gives, check_gives, list_gives, made_gives, pair_gives, signature_gives, signed_gives, spec_spelled_gives}
+use Rattle.zy_chain.specs.Answers.{answers_fields}
 
 -- ---- either kind
 
@@ -66,7 +67,7 @@ unfolding plain.frame_at
 plain_gives kind =
     or_gives IsReadable _ _ _ (other_gives IsReadable frames.Request plain.request (λ x. tt))
     (or_gives IsReadable _ _ _ (other_gives IsReadable frames.Order plain.order (λ x. tt))
-    (or_gives IsReadable _ _ _ (made_gives (λ x. frames.SpecResponse x.0 x.1.0 x.1.1) plain.spec_response _ IsReadable (pair_gives (signed spec_fields) (pair (bytes16 1100) plain.ordered) _ _ spec_spelled_gives (all_give _)) (λ x fits. fits.0))
+    (or_gives IsReadable _ _ _ (made_gives (λ x. frames.SpecResponse x.0 x.1.0 x.1.1) plain.spec_response _ IsReadable (pair_gives (signed spec_fields) (pair answers_fields plain.ordered) _ _ spec_spelled_gives (all_give _)) (λ x fits. fits.0))
     (or_gives IsReadable _ _ _ (made_gives frames.Commit plain.commit _ IsReadable (list_gives (signed spec_fields) _ spec_spelled_gives 1 16) (λ x fits. fits))
     (or_gives IsReadable _ _ _ (other_gives IsReadable frames.LocalCommit (signed local_fields) (λ x. tt))
     (or_gives IsReadable _ _ _ (other_gives IsReadable (λ x. frames.ConfirmReq x.0 x.1) plain.confirm_request (λ x. tt))

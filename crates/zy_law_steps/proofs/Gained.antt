@@ -11,7 +11,7 @@ use Rattle.zy_exec.proofs.HistoryLemmas.{stands_leads, stands_run}
 use Rattle.zy_exec.proofs.ReplayLemmas.{place-along}
 use Rattle.zy_exec.proofs.SettleLemmas.{stands_snapshot}
 use Rattle.zy_exec.specs.Kept.{Kept, StandsFor, longer, now_of}
-use Rattle.zy_exec.specs.Replay.{Point, along, answer_at, known_of, origin}
+use Rattle.zy_exec.specs.Replay.{Point, along, answer_at, known_of, origin, answers_of}
 use Rattle.zy_exec.specs.Shots.{snapshot_at, snapshot_due, snapshot_in}
 use Rattle.zy_frames.specs.declared.frame.OrderFrame.{OrderFrame}
 use Rattle.zy_law_normal.proofs.Follow.{Keeps, one_keeps}
@@ -21,13 +21,14 @@ use Rattle.zy_law_normal.proofs.Records.{answer_longer, answer_pushed}
 use Rattle.zy_law.specs.World.{World}
 use Rattle.zy_table.specs.Deeds.{Going, gains_in}
 use Rattle.zy_table.specs.Running.{fits_end, got_of, run_held, run_one, signs_of}
-use Rattle.zy_table.specs.State.{leaves_of}
+use Rattle.zy_table.specs.State.{signs_left}
 use Rattle.zy_table.specs.declared.deeds.Act.{Act}
 use Rattle.zy_table.specs.declared.deeds.Act.TheVariants.{Gains}
 use Rattle.zy_table.specs.declared.deeds.Got.{Got}
 use Rattle.zy_law_views.specs.Adopted.{IsHistoryKept}
 use Rattle.zy_law_views.specs.Texts.{IsKept, Texts}
 use Rattle.zy_law_steps.specs.Gains.{AreGainsKept, IsGainKept}
+use Rattle.zy_admit.specs.Judging.{ordered_entry}
 
 -- ---- one entry more
 
@@ -43,7 +44,7 @@ module _ {S : Type 0} (R : Rules S) (texts : Texts) (k : Kept S) (history : List
   past_end zero text is = absurd cc
   past_end (suc before) text is = by (slice_get far before) refl is
     where
-      by : (o : Option Entry) → slice_get far before ≡ o → option_map (λ (d : Entry). R.reply (along R (origin R) (take before far)).state d.client d.op) o ≡ Some text → suc before ≤ length far
+      by : (o : Option Entry) → slice_get far before ≡ o → option_map (λ (d : Entry). answers_of R (along R (origin R) (take before far)).state d) o ≡ Some text → suc before ≤ length far
       by None there told = absurd cc
       by (Some d) there told = let inside = slice_get_within far before d there in omega arith
 
@@ -51,8 +52,8 @@ module _ {S : Type 0} (R : Rules S) (texts : Texts) (k : Kept S) (history : List
   last_reply place text at is =
       let end : place ≡ suc (length history) = omega arith in
       let told : answer_at R far (suc (length history)) ≡ Some text = ap (answer_at R far) (sym end) ∙ is in
-      ap (λ (p : Point S). R.reply p.state e.client e.op) (stands_leads R k history stands)
-      ∙ same_Some (R.reply (along R (origin R) history).state e.client e.op) text (sym (answer_pushed R history e) ∙ told)
+      ap (λ (p : Point S). answers_of R p.state e) (stands_leads R k history stands)
+      ∙ same_Some (answers_of R (along R (origin R) history).state e) text (sym (answer_pushed R history e) ∙ told)
 
   -- the snapshot of an earlier place
   snapshot_before : (interval place : ℕ) → place ≤ length history → snapshot_at R interval far place ≡ snapshot_at R interval history place
@@ -121,9 +122,9 @@ module _ (w : World) (texts : Texts) where
           settles = λ g place proof front gains. front gains;
         }
 
-    pub one_gains : (o : OrderFrame) (g : Going S) → AreGainsKept w texts (run_one R o g).deeds.acts → AreGainsKept w texts g.deeds.acts × IsGainKept w texts (got_of R g.state o.ask)
+    pub one_gains : (o : OrderFrame) (g : Going S) → AreGainsKept w texts (run_one R o g).deeds.acts → AreGainsKept w texts g.deeds.acts × IsGainKept w texts (got_of R g.state (ordered_entry o))
     one_gains o g gains =
-        let got : Got = got_of R g.state o.ask in
+        let got : Got = got_of R g.state (ordered_entry o) in
         let gained : List Act = g.deeds.acts ++ Gains got ∷ [] in
         let moved : AreGainsKept w texts gained = one_keeps R (λ g'. AreGainsKept w texts g'.deeds.acts → AreGainsKept w texts gained) (gains_before gained) o g (λ gains. gains) gains in
         (gains_of_front g.deeds.acts (Gains got ∷ []) moved, gain_of_last g.deeds.acts got moved)
@@ -134,7 +135,7 @@ module _ (w : World) (texts : Texts) where
     held_gains (None ∷ slots) g = λ gains. gains
     held_gains (Some o ∷ slots) g =
         by_test (λ (g' : Going S). AreGainsKept w texts g'.deeds.acts → AreGainsKept w texts g.deeds.acts) (fits_end R g.state o) _ _
-        (λ fits. by_test (λ (g' : Going S). AreGainsKept w texts g'.deeds.acts → AreGainsKept w texts g.deeds.acts) (nat_le (signs_of R g.state o.ask) (leaves_of g.state)) _ _
+        (λ fits. by_test (λ (g' : Going S). AreGainsKept w texts g'.deeds.acts → AreGainsKept w texts g.deeds.acts) (nat_le (signs_of R g.state (ordered_entry o)) (signs_left g.state)) _ _
         (λ left gains. (one_gains o g (held_gains slots (run_one R o g) gains)).0)
         (λ none gains. gains))
         (λ differs gains. gains)

@@ -61,6 +61,7 @@ use Rattle.zy_law_views.proofs.AtWork.{own_held, work_board, work_said}
 use Rattle.zy_law_views.specs.Cores.{core_of}
 use Rattle.zy_law_steps.proofs.Working.{IsWorking, goes_as, last_view_is, own_view_is, says, standing}
 use Rattle.zy_law_views.specs.Work.{IsSlotSigned, workplace_of}
+use Rattle.zy_chain.specs.Entries.{IsOfClients}
 
 -- the place and the head that a response tells
 abbrev pub mark_in : Spec → Mark
@@ -249,7 +250,7 @@ module _ {S : Type 0} (R : Rules S) (interval : ℕ) (texts : Texts) (w : World)
           empty = λ none. absurd (omega (arith, here.over));
           held = first.vouched;
           few = omega (arith, is.tied.grounded.few, length-drop n g.state.kept.entries);
-          clients = All-drop (λ (e : Entry). e.client.0 < 64) n g.state.kept.entries is.tied.grounded.clients;
+          clients = All-drop IsOfClients n g.state.kept.entries is.tied.grounded.clients;
           end = omega (arith, is.tied.grounded.end, settled_end R g.state.kept place here.own.above here.own.below);
         }
 

@@ -7,7 +7,7 @@ use Rattle.zy_base.specs.declared.cause.Cause.TheVariants as causes
 use Rattle.zy_base.specs.declared.ids.View.{View}
 use Rattle.zy_base.specs.declared.step.Mode.{Mode}
 use Rattle.zy_base.specs.declared.step.Mode.TheVariants.{Active, Leaving}
-use Rattle.zy_admit.specs.Judging.{entry_of}
+use Rattle.zy_admit.specs.Judging.{entry_of, ordered_entry}
 use Rattle.zy_admit.specs.declared.judging.Admit.{Admit}
 use Rattle.zy_chain.specs.declared.entry.Entry.{Entry}
 use Rattle.zy_check.specs.Board.{Board}
@@ -122,7 +122,7 @@ module _ {S : Type 0} (R : Rules S) (interval : ℕ) (texts : Texts) (w : World)
     confirm_does : (confirmed : Signed Confirm) (ask : Signed Ask) → MayRun w (entry_of ask) → Does (confirm R s confirmed ask)
     confirm_does confirmed ask may = confirm_row R s Does run_cases ask (room_cases ask may) confirmed
 
-    admitted_does : (o : OrderFrame) → MayRun w (entry_of o.ask) → IsHeldPart w order_told o.order → (a : Admit) → IsPlaced o.order.stmt o.ask (position_of R s o) a → Does (order_as R s o a)
+    admitted_does : (o : OrderFrame) → MayRun w (ordered_entry o) → IsHeldPart w order_told o.order → (a : Admit) → IsPlaced o.order.stmt o.ask (position_of R s o) a → Does (order_as R s o a)
     admitted_does o may held =
         order_admitted R s Does run_cases o
         (λ new room. rows.takes R interval texts w r s h ready kept work view active o may held new room.above room.below)
@@ -188,5 +188,5 @@ module _ {S : Type 0} (R : Rules S) (interval : ℕ) (texts : Texts) (w : World)
     pub confirm_lawful : (confirmed : Signed Confirm) (ask : Signed Ask) → MayRun w (entry_of ask) → AreGainsKept w texts (confirm R s confirmed ask).deeds.acts → IsLawfulStep R interval texts w r s h (confirm R s confirmed ask)
     confirm_lawful confirmed ask may gains = done R interval texts w r s h ready kept work view active (confirm R s confirmed ask) (confirm_does view active confirmed ask may) gains
 
-    pub order_as_lawful : (o : OrderFrame) → MayRun w (entry_of o.ask) → IsHeldPart w order_told o.order → (a : Admit) → IsPlaced o.order.stmt o.ask (position_of R s o) a → AreGainsKept w texts (order_as R s o a).deeds.acts → IsLawfulStep R interval texts w r s h (order_as R s o a)
+    pub order_as_lawful : (o : OrderFrame) → MayRun w (ordered_entry o) → IsHeldPart w order_told o.order → (a : Admit) → IsPlaced o.order.stmt o.ask (position_of R s o) a → AreGainsKept w texts (order_as R s o a).deeds.acts → IsLawfulStep R interval texts w r s h (order_as R s o a)
     order_as_lawful o may held a is gains = done R interval texts w r s h ready kept work view active (order_as R s o a) (admitted_does view active o may held a is) gains

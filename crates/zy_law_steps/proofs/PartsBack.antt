@@ -1,5 +1,5 @@
 -- What holds of each part of a frame holds of each signed statement in it.
-use Rattle.std.proofs.Common.{ℕ, ◌≤◌, Bool, List, [], ◌∷◌, ◌++◌, length, map, Option, Some, None}
+use Rattle.std.proofs.Common.{ℕ, Bool, List, [], ◌∷◌, ◌++◌, map, Option, Some, None}
 use Rattle.std.specs.Int.{w16}
 use Rattle.std.specs.List.{AllByRecursion, flat_map}
 use Rattle.std.specs.Prelude.{All, IfSome}
@@ -26,16 +26,17 @@ use Rattle.zy_vframes.specs.Parts as view_parts
 use Rattle.zy_vframes.specs.ViewFrames as views
 use Rattle.zy_vframes.specs.declared.frame.ViewFrame.{ViewFrame}
 use Rattle.zy_vframes.specs.declared.frame.ViewFrame.TheVariants as view_frames
-use Rattle.zy_wire.specs.Fields.{FitsList, bytes16, list}
+use Rattle.zy_wire.specs.Fields.{FitsList, list}
 use Rattle.zy_wire.specs.Spelling.{Spelling, pair}
 use Rattle.zy_law_steps.proofs.Decoded.{Gives, all_give, counted_gives, made_gives, pair_gives, sized_gives}
 use Rattle.zy_law_steps.proofs.DecodedFrames.{fault_gives, framed_gives, or_gives, other_gives}
 use Rattle.zy_law_steps.specs.Signs.{DoPass, DoVerifiedPass, OfChange, OfFrame, OfHeard, OfNew, OfTextAlone, OfTextsAlone, OfTold, OfVerified, OfViewFrame, Signs}
+use Rattle.zy_chain.specs.Answers.{FitsAnswers, answers_fields}
 
 -- ---- what is read has as many statements, and a reply as long, as a frame may have
 
 abbrev HasFew : Frame → Type 0
-HasFew (frames.SpecResponse spec reply with_order) = length reply ≤ 1100
+HasFew (frames.SpecResponse spec reply with_order) = FitsAnswers reply
 HasFew (frames.Commit specs) = FitsList (λ spec. Unit {0}) 1 16 specs
 HasFew _ = Unit {0}
 
@@ -54,11 +55,11 @@ plain_gives kind =
     (or_gives HasFew _ _ _ (other_gives HasFew frames.Checkpoint (signed check_fields) (λ x. tt))
     (fault_gives HasFew _))))))))))
   where
-    after_response : Gives (pair (bytes16 1100) plain.ordered).at (λ x. length x.0 ≤ 1100)
-    after_response bytes x rest e = (pair_gives (bytes16 1100) plain.ordered (λ x. length x ≤ 1100) (λ x. Unit {0}) (sized_gives w16 1100) (all_give _) bytes x rest e).0
+    after_response : Gives (pair answers_fields plain.ordered).at (λ x. FitsAnswers x.0)
+    after_response bytes x rest e = (pair_gives answers_fields plain.ordered FitsAnswers (λ x. Unit {0}) (sized_gives w16 1100) (all_give _) bytes x rest e).0
 
-    response_read : Gives plain.spec_response.at (λ x. length x.1.0 ≤ 1100)
-    response_read bytes x rest e = (pair_gives (signed spec_fields) (pair (bytes16 1100) plain.ordered) (λ x. Unit {0}) (λ x. length x.0 ≤ 1100) (all_give _) after_response bytes x rest e).1
+    response_read : Gives plain.spec_response.at (λ x. FitsAnswers x.1.0)
+    response_read bytes x rest e = (pair_gives (signed spec_fields) (pair answers_fields plain.ordered) (λ x. Unit {0}) (λ x. FitsAnswers x.0) (all_give _) after_response bytes x rest e).1
 
 abbrev HasFewBegans : ViewFrame → Type 0
 HasFewBegans (view_frames.ViewCert cert) = FitsList (λ began. Unit {0}) 1 16 cert.begans

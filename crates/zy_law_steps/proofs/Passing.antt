@@ -8,11 +8,11 @@ use Rattle.zy_base.specs.Machine.{Rules}
 use Rattle.zy_base.specs.declared.counts.Counts.{Counts}
 use Rattle.zy_base.specs.declared.ids.Digest.{Digest}
 use Rattle.zy_base.specs.declared.ids.Party.{Party}
-use Rattle.zy_base.specs.declared.ids.Party.TheVariants.{Replica, Client}
+use Rattle.zy_base.specs.declared.ids.Party.TheVariants.{Replica}
 use Rattle.zy_base.specs.declared.ids.Place.{Place}
 use Rattle.zy_base.specs.declared.ids.ReplicaId.{ReplicaId}
 use Rattle.zy_base.specs.declared.ids.Stamp.{Stamp}
-use Rattle.zy_admit.specs.Judging.{entry_of}
+use Rattle.zy_admit.specs.Judging.{entry_of, ordered_entry, asking}
 use Rattle.zy_admit.specs.Orders.{slots_above, with_slot, without_order}
 use Rattle.zy_cert.specs.Equal.{check-equal, same_check, same_spec, spec-equal}
 use Rattle.zy_change.specs.Views.{is_further}
@@ -28,7 +28,7 @@ use Rattle.zy_base.specs.declared.ids.ClientId.{ClientId}
 use Rattle.zy_chain.specs.Stretch.{entry_in}
 use Rattle.zy_chain.specs.declared.entry.Entry.{Entry}
 use Rattle.zy_exec.specs.Kept.{Kept, known_in, last_place, now_of, point_before, reply_in, stretch_of}
-use Rattle.zy_exec.specs.Replay.{Point, along, known_of, step}
+use Rattle.zy_exec.specs.Replay.{Point, along, known_of, step, answers_of}
 use Rattle.zy_exec.specs.declared.known.Known.{Known}
 use Rattle.zy_parts.specs.Numbers as numbers
 use Rattle.zy_parts.specs.Statements.{check_fields}
@@ -38,22 +38,23 @@ use Rattle.zy_seal.specs.Sealing.{SealerState, sealed_by}
 use Rattle.zy_parts.specs.declared.statements.Check.{Check}
 use Rattle.zy_parts.specs.declared.statements.Order.{Order}
 use Rattle.zy_parts.specs.declared.statements.Spec.{Spec}
-use Rattle.zy_table.specs.Deeds.{Going, act, send_any}
+use Rattle.zy_table.specs.Deeds.{Going, act, send_any, to_clients}
 use Rattle.zy_table.specs.Gathering.{certificate_at, gather, gather_at, keep_certificate, own_with, owes_check, proof_at, say_check, say_check_if, settle_with, settled_at, state_in, with_certificate, with_own_spec}
 use Rattle.zy_table.specs.Running.{executed, fits_end, next_known, respond, run, run_held, run_one, sealed_spec, share, signs_of, spec_of, still_pending}
-use Rattle.zy_table.specs.State.{State, leaves_of, own_view, spent, start_of, stood_of, with_spec}
+use Rattle.zy_table.specs.State.{State, signs_left, own_view, spent, start_of, stood_of, with_spec, is_beside}
 use Rattle.zy_table.specs.declared.deeds.Act.TheVariants.{Says, Gains}
 use Rattle.zy_table.specs.declared.deeds.AnyFrame.{AnyFrame}
 use Rattle.zy_table.specs.declared.deeds.AnyFrame.TheVariants.{Plain}
 use Rattle.zy_table.specs.declared.deeds.Body.TheVariants as bodies
 use Rattle.zy_table.specs.declared.deeds.Remark.{Remark}
 use Rattle.zy_table.specs.declared.deeds.To.{To}
-use Rattle.zy_table.specs.declared.deeds.To.TheVariants.{All as Everyone, One}
+use Rattle.zy_table.specs.declared.deeds.To.TheVariants.{All as Everyone}
 use Rattle.zy_table.specs.declared.kept.OwnCheckpoint.{OwnCheckpoint}
 use Rattle.zy_table.specs.declared.kept.Pending.{Pending}
 use Rattle.zy_law_steps.proofs.Slots.{AreKept, filled, never_flagged}
 use Rattle.zy_parts.specs.declared.statements.Ask.{Ask}
 use Rattle.zy_law_steps.specs.Signs.{IsShort, OfAct, OfActs, OfAnyFrame, OfBoard, OfBody, OfChange, OfOrder, OfPending, OfSent, OfState, Signs}
+use Rattle.zy_chain.specs.Answers.{FitsAnswers}
 
 -- ---- lists
 
@@ -65,6 +66,10 @@ module _ {A : Type 0} (P : A → Type 0) where
       by : (b : Bool) → AllByRecursion P (filter test xs) → AllByRecursion P (if b then x ∷ filter test xs else filter test xs)
       by true rest = (all.0, rest)
       by false rest = rest
+
+  -- one more, in place of those that don't stay
+  pub one_more : (stays : A → Bool) (xs : List A) (x : A) → AllByRecursion P xs → P x → AllByRecursion P (filter stays xs ++ x ∷ [])
+  one_more stays xs x all one = all_of_both P (filter stays xs) (x ∷ []) (all_filtered stays xs all) (one, tt)
 
   pub found : (test : A → Bool) (xs : List A) → AllByRecursion P xs → IfSome (find test xs) P
   found test [] all = tt
@@ -123,7 +128,7 @@ pub record Laws {S : Type 0} (ok : S → Type 0) (R : Rules S) : Type 0 where
   pub reads : (bytes : List ℕ) (s : S) → R.read bytes ≡ Some s → ok s
 
 abbrev pub IsShortKnown : Known → Type 0
-IsShortKnown known = length known.reply ≤ 1100
+IsShortKnown known = FitsAnswers known.reply
 
 module _ {S : Type 0} (R : Rules S) (ok : S → Type 0) (law : Laws ok R) where
   pub along_short : (p : Point S) (es : List Entry) → IsShort ok p → IsShort ok (along R p es)
@@ -135,16 +140,16 @@ module _ {S : Type 0} (R : Rules S) (ok : S → Type 0) (law : Laws ok R) where
   pub now_short : (k : Kept S) → IsShort ok k.base → IsShort ok (now_of R k)
   now_short k is = along_short k.base k.entries is
 
-  pub next_short : (s : State S) (ask : Signed Ask) → IsShort ok s.kept.base → IsShortKnown (next_known R s ask)
-  next_short s ask is = law.short (now_of R s.kept).state (entry_of ask).client (entry_of ask).op (now_short s.kept is).state
+  pub next_short : (s : State S) (ask : Signed Ask) → IsShort ok s.kept.base → IsShortKnown (next_known R s (entry_of ask))
+  next_short s ask is = law.short (now_of R s.kept).state (asking ask.by) (entry_of ask).op (now_short s.kept is).state
 
   pub known_short : (k : Kept S) (client : ℕ) → IsShort ok k.base → IfSome (known_in R k client) IsShortKnown
   known_short k client is = slot_at IsShortKnown (now_of R k).known client (now_short k is).known
 
-  pub reply_short : (k : Kept S) (place : ℕ) → IsShort ok k.base → IfSome (reply_in R k place) (λ reply. length reply ≤ 1100)
+  pub reply_short : (k : Kept S) (place : ℕ) → IsShort ok k.base → IfSome (reply_in R k place) (λ reply. FitsAnswers reply)
   reply_short k place is = by (entry_in (stretch_of k) place)
     where
-      by : (o : Option Entry) → IfSome (option_map (λ (e : Entry). R.reply (point_before R k place).state e.client e.op) o) (λ reply. length reply ≤ 1100)
+      by : (o : Option Entry) → IfSome (option_map (λ (e : Entry). answers_of R (point_before R k place).state e) o) (λ reply. FitsAnswers reply)
       by None = tt
       by (Some e) = law.short (point_before R k place).state e.client e.op (along_short k.base (take (place - k.base.place - 1) k.entries) is).state
 
@@ -156,7 +161,7 @@ starts R ok law F interval me counts keys sealer itself = (
   tt,
   (none_kept F.spec F.check, none_kept F.spec F.check, All-nil F.check),
   tt,
-  empty_slots F.spec 64,
+  tt,
   empty_slots (OfPending F) 64,
   tt,
   tt,
@@ -190,13 +195,13 @@ module _ {S : Type 0} (R : Rules S) (ok : S → Type 0) (law : Laws ok R) (F : S
 
   -- ---- an order is run
 
-  runs_entry : (X : Type 0) (o : OrderFrame) (g : Going S) → Passes X g → Passes X (executed R o.ask g)
+  runs_entry : (X : Type 0) (o : OrderFrame) (g : Going S) → Passes X g → Passes X (executed R (ordered_entry o) g)
   runs_entry X o g is acts =
       let b = is (all_of_front (OfAct F me) g.deeds.acts (Gains _ ∷ []) acts) in
       let v = b.2 in
-      let client : ℕ = (entry_of o.ask).client.0 in
-      let waits = still (entry_of o.ask).stamp (slice_index_or g.state.pending client None) (slot_at (OfPending F) g.state.pending client v.5) in
-      (b.0, b.1, (v.0, v.1, v.2, v.3, v.4, put (OfPending F) g.state.pending client (still_pending (entry_of o.ask).stamp (slice_index_or g.state.pending client None)) v.5 waits, v.6, v.7, v.8), b.3)
+      let client : ℕ = (ordered_entry o).client.0 in
+      let waits = still (ordered_entry o).stamp (slice_index_or g.state.pending client None) (slot_at (OfPending F) g.state.pending client v.5) in
+      (b.0, b.1, (v.0, v.1, v.2, v.3, v.4, put (OfPending F) g.state.pending client (still_pending (ordered_entry o).stamp (slice_index_or g.state.pending client None)) v.5 waits, v.6, v.7, v.8), b.3)
     where
       still : (stamp : Stamp) (pending : Option Pending) → IfSome pending (OfPending F) → IfSome (still_pending stamp pending) (OfPending F)
       still stamp None one = tt
@@ -281,18 +286,18 @@ module _ {S : Type 0} (R : Rules S) (ok : S → Type 0) (law : Laws ok R) (F : S
   keeps_own X own signed g tells is =
       turns X X (with_own_spec g.state own signed) g (λ x signer v. (x, signer, (v.0, v.1, spec_put F g.state.board own signed v.2 (tells x), v.3, v.4, v.5, v.6, v.7, v.8))) is
 
-  responds : (X : Type 0) (order : Signed Order) (spec : Spec) (reply : List ℕ) (g : Going S) → (X → F.order order) → (X → length reply ≤ 1100) → Passes X g
+  responds : (X : Type 0) (order : Signed Order) (spec : Spec) (reply : List ℕ) (g : Going S) → (X → F.order order) → (X → FitsAnswers reply) → Passes X g
       → Passes (X × F.spec (sealed_spec g.state spec)) (respond R order (sealed_spec g.state spec) reply g)
   responds X order spec reply g tells short is =
       let signed : Signed Spec = sealed_spec g.state spec in
       let remark : Remark = record { body = bodies.Spec spec; stood = stood_of R g.state } in
       let s : State S = with_spec (spent g.state) signed in
-      sends (X × F.spec signed) (One (Client spec.client)) (Plain (frames.SpecResponse signed reply (Some order))) (act (Says remark) (record g { state = s })) (λ x state. (x.1, short x.0, tells x.0))
+      sends (X × F.spec signed) (to_clients spec) (Plain (frames.SpecResponse signed reply (Some order))) (act (Says remark) (record g { state = s })) (λ x state. (x.1, short x.0, tells x.0))
       (says X (X × F.spec signed) remark s g (λ x signer v said.
       let one : F.spec signed = said g.state.sealer signer in
-      ((x, one), signer, (v.0, v.1, v.2, v.3, filled F.spec g.state.specs spec.client.0 signed v.4 one, v.5, v.6, v.7, v.8))) is)
+      ((x, one), signer, (v.0, v.1, v.2, v.3, one_more F.spec (is_beside spec) g.state.specs signed v.4 one, v.5, v.6, v.7, v.8))) is)
 
-  shares : (X : Type 0) (order : Signed Order) (signed : Signed Spec) (reply : List ℕ) (state : Option Digest) (g : Going S) → (X → F.order order) → (X → F.spec signed) → (X → length reply ≤ 1100) → Passes X g
+  shares : (X : Type 0) (order : Signed Order) (signed : Signed Spec) (reply : List ℕ) (state : Option Digest) (g : Going S) → (X → F.order order) → (X → F.spec signed) → (X → FitsAnswers reply) → Passes X g
       → Passes X (share R order signed reply state g)
   shares X order signed reply None g tells_order tells short is = is
   shares X order signed reply (Some state) g tells_order tells short is =
@@ -304,9 +309,9 @@ module _ {S : Type 0} (R : Rules S) (ok : S → Type 0) (law : Laws ok R) (F : S
   runs_one : (X : Type 0) (o : OrderFrame) (g : Going S) → (X → F.order o.order) → Passes X g → Passes X (run_one R o g)
   unfolding run_one
   runs_one X o g tells is =
-      let done : Going S = executed R o.ask g in
-      let known = next_known R g.state o.ask in
-      let spec : Spec = spec_of (own_view g.state) o.ask known in
+      let done : Going S = executed R (ordered_entry o) g in
+      let known = next_known R g.state (ordered_entry o) in
+      let spec : Spec = spec_of (own_view g.state) (ordered_entry o) known in
       let signed : Signed Spec = sealed_spec done.state spec in
       let Z : Type 0 = X × IsShortKnown known in
       let Y : Type 0 = Z × F.spec signed in
@@ -320,7 +325,7 @@ module _ {S : Type 0} (R : Rules S) (ok : S → Type 0) (law : Laws ok R) (F : S
   runs_held (None ∷ slots) X g tells is = is
   runs_held (Some o ∷ slots) X g tells is =
       by_test (λ (h : Going S). Passes X h) (fits_end R g.state o) _ _
-      (λ fits. by_test (λ (h : Going S). Passes X h) (nat_le (signs_of R g.state o.ask) (leaves_of g.state)) _ _
+      (λ fits. by_test (λ (h : Going S). Passes X h) (nat_le (signs_of R g.state (ordered_entry o)) (signs_left g.state)) _ _
       (λ left. runs_held slots X (run_one R o g) (λ x. (tells x).1) (runs_one X o g (λ x. (tells x).0.0) is)) (λ none. is))
       (λ differs. turns X X (record g.state { orders = without_order g.state.orders (last_place g.state.kept + 1) }) g (λ x signer v. (x, signer, (v.0, put (OfOrder F) g.state.orders.slots (last_place g.state.kept + 1 - g.state.orders.base - 1) None v.1 tt, v.2, v.3, v.4, v.5, v.6, v.7, v.8))) is)
 

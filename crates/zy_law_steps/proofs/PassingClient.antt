@@ -32,7 +32,7 @@ use Rattle.zy_parts.specs.declared.statements.Order.{Order}
 use Rattle.zy_parts.specs.declared.statements.Spec.{Spec}
 use Rattle.zy_seal.specs.Screening.{screen}
 use Rattle.zy_table.specs.ClientRows.{agreeing, agrees, ask, ask_or_commit, ask_while, certified_in, client_step, completed_if, contradicted, count_local, decoded_as, equal_in, evidence_by, evidence_with, hear, hear_response, is_blamed, is_by_primary, is_certified, is_for, keep, keep_unless, local_beside, local_while, order_in, respond, respond_while, response_cause, run_out, run_out_while, told, unless, view_decoded, vote_on}
-use Rattle.zy_table.specs.ClientState.{ClientOutcome, ClientState, leaves_of, refused, taken}
+use Rattle.zy_table.specs.ClientState.{ClientOutcome, ClientState, signs_left, refused, taken}
 use Rattle.zy_table.specs.Roles.{is_replica}
 use Rattle.zy_table.specs.declared.client.Commit.{Commit}
 use Rattle.zy_table.specs.declared.client.Response.{Response}
@@ -96,7 +96,7 @@ module _ (F : Signs) (s : ClientState) (v : OfClient F s) where
       by : (waiting : Option (Signed Ask)) → OfAsks F s.sealer.me (ask_while s waiting op).said → Of (ask_while s waiting op)
       by (Some waiting) = λ said. refuses (causes.Waiting waiting.stmt.stamp)
       by None =
-          by_test (λ (o : ClientOutcome). OfAsks F s.sealer.me o.said → Of o) (nat_le 1 (leaves_of s)) _ _
+          by_test (λ (o : ClientOutcome). OfAsks F s.sealer.me o.said → Of o) (nat_le 1 (signs_left s)) _ _
           (λ left said. let one = said.0 s.sealer refl in let low = v.2.1 in ((one, empty_slots (OfResponse F) s.counts.n, (v.2.0, omega arith)), (one, tt))) (λ none said. refuses causes.KeySpent)
 
   -- ---- responses

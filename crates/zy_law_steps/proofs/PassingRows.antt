@@ -20,7 +20,7 @@ use Rattle.zy_base.specs.declared.step.Event.TheVariants.{Heard, Timer}
 use Rattle.zy_base.specs.declared.step.Mode.{Mode}
 use Rattle.zy_base.specs.declared.step.Mode.TheVariants.{Active, Leaving}
 use Rattle.zy_base.specs.declared.step.TimerKind.TheVariants as timers
-use Rattle.zy_admit.specs.Judging.{entry_of, judge_in, same_digest}
+use Rattle.zy_admit.specs.Judging.{entry_of, judge_in, same_digest, ordered_entry, asking}
 use Rattle.zy_admit.specs.Orders.{Orders, orders_from, slots_above, stored_in, with_order}
 use Rattle.zy_admit.specs.Orders as orders
 use Rattle.zy_admit.specs.declared.judging.Admit.{Admit}
@@ -84,7 +84,7 @@ use Rattle.zy_table.specs.Checkpoints.{checkpoint, kept_as, response, with_board
 use Rattle.zy_table.specs.Commits.{commit, commit_beside, commit_judged, give_local, local_at, local_said, locals_owed}
 use Rattle.zy_table.specs.Confirming.{certificate_compared, certificate_judged, confirmation, confirmation_beside, confirmation_judged, new_view, new_view_judged, view_certificate, with_confirmation}
 use Rattle.zy_table.specs.Confirms.{confirm, confirm_after, order_again}
-use Rattle.zy_table.specs.Deeds.{Going, Outcome, act, begin, ends, refused, send_any}
+use Rattle.zy_table.specs.Deeds.{Going, Outcome, act, begin, ends, refused, send_any, to_clients}
 use Rattle.zy_table.specs.Fetching.{fetch, fetch_judged, install, installed, state_for, state_heard, state_judged, state_transfer}
 use Rattle.zy_table.specs.Gathering.{checks_owed, gather_at, own_at, with_certificate}
 use Rattle.zy_table.specs.Hates.{ask_for_hole, change_again, count_own, has_pending, hate, hate_counted, hate_for, hate_from, hate_now, hate_of, on_change_timer, on_request_timer, own_hate, say_hate, then_ask, with_hate_of}
@@ -92,10 +92,10 @@ use Rattle.zy_table.specs.Holes.{fill_hole, fill_with, order_to}
 use Rattle.zy_table.specs.Leaving.{Attempt, concluded, is_overspent}
 use Rattle.zy_table.specs.Misbehaviour.{blamed, pom, tell_all}
 use Rattle.zy_table.specs.Orders.{ask_for_missing, hole_of, order_as, owes_hole, position_of}
-use Rattle.zy_table.specs.Requests.{is_behind, new_request, ordered, request, request_after, request_at_backup, request_waits, respond_as, response_of, said_already, sealed_confirm, sealed_order, tell_primary}
+use Rattle.zy_table.specs.Requests.{is_behind, new_request, ordered, request, request_after, request_at_backup, request_waits, respond_as, response_of, sealed_confirm, sealed_order, tell_primary}
 use Rattle.zy_table.specs.Roles.{in_role, is_replica, view_cause}
 use Rattle.zy_table.specs.Running.{run, sealed_spec, signs_of, spec_of}
-use Rattle.zy_table.specs.State.{State, is_leaving, is_primary, leaves_of, own_view, pending_of, primary_of, spec_to, spent, stood_of, window_of, with_pending, with_spec as with_own}
+use Rattle.zy_table.specs.State.{State, is_leaving, is_primary, signs_left, own_view, pending_of, primary_of, spent, stood_of, window_of, with_pending, with_spec as with_own, is_beside, spec_said}
 use Rattle.zy_table.specs.Whole.{commit_in_view, unless, decoded_as, hear_plain, hear_view, is_view_frame_in_role, order_judged, plain_row, view_decoded, view_row, whole_step}
 use Rattle.zy_table.specs.declared.deeds.Act.TheVariants.{Says}
 use Rattle.zy_table.specs.declared.deeds.AnyFrame.TheVariants.{Plain, View as Framed}
@@ -110,7 +110,7 @@ use Rattle.zy_vframes.specs.declared.frame.ViewCert.{ViewCert}
 use Rattle.zy_vframes.specs.declared.frame.ViewFrame.{ViewFrame}
 use Rattle.zy_vframes.specs.declared.frame.ViewFrame.TheVariants as view_frames
 use Rattle.zy_law_steps.proofs.PassingStates.{shown_short}
-use Rattle.zy_law_steps.proofs.Passing.{IsShortKnown, Laws, Passes, known_short, certified, found, gathers_at, kept_filled, kept_of, runs, says, sends, settled_of, slot_at, turns, knows}
+use Rattle.zy_law_steps.proofs.Passing.{IsShortKnown, Laws, Passes, known_short, certified, found, gathers_at, kept_filled, kept_of, runs, says, sends, settled_of, slot_at, turns, knows, one_more}
 use Rattle.zy_law_steps.proofs.PassingViews.{Ends, IsOf, accepts, adopts, arrives, begun_on, certifies_with, collects, ended, leaves}
 use Rattle.zy_law_steps.proofs.Slots.{AreKept, filled, flagged_now}
 use Rattle.zy_law_steps.specs.Signs.{OfBoard, OfCert, OfChange, OfFrame, OfHated, OfHateBy, OfNew, OfOrder, OfOrders, OfPending, OfSent, OfState, OfVerified, OfViewFrame, Signs}
@@ -191,13 +191,13 @@ module _ {S : Type 0} (R : Rules S) (ok : S → Type 0) (law : Laws ok R) (F : S
 
   again : (signed : Signed Spec) (known : Known) (g : Going S) → IsShortKnown known → F.spec signed → On g → On (response_of s signed known g)
   again signed known g short one is =
-      sends R ok law F me (Unit {0}) (One (Client signed.stmt.client)) (Plain (frames.SpecResponse signed known.reply (option_map (λ (o : OrderFrame). o.order) (stored_in s.orders known.place.0)))) g
+      sends R ok law F me (Unit {0}) (to_clients signed.stmt) (Plain (frames.SpecResponse signed known.reply (option_map (λ (o : OrderFrame). o.order) (stored_in s.orders known.place.0)))) g
       (λ x state. (one, short, order_alone F (stored_in s.orders known.place.0) (stored F s.orders known.place.0 v.1))) is
 
   responds_as : (said : Option (Signed Spec)) (spec : Spec) (known : Known) → IsShortKnown known → IfSome said F.spec → Of (respond_as R s said spec known)
   responds_as (Some signed) spec known short one = comes (response_of s signed known (begin s)) (again signed known (begin s) short one start)
   responds_as None spec known short none =
-      by_test Of (nat_le 1 (leaves_of s)) _ _
+      by_test Of (nat_le 1 (signs_left s)) _ _
       (λ left.
       let signed : Signed Spec = sealed_spec s spec in
       let remark : Remark = record { body = bodies.Spec spec; stood = stood_of R s } in
@@ -205,15 +205,11 @@ module _ {S : Type 0} (R : Rules S) (ok : S → Type 0) (law : Laws ok R) (F : S
       let g : Going S = act (Says remark) (begin t) in
       let said : Passes R ok law F me (F.spec signed) g =
       says R ok law F me (Unit {0}) (F.spec signed) remark t (begin s) (λ x by w to_say.
-      let one : F.spec signed = to_say s.sealer by in (one, by, (w.0, w.1, w.2, w.3, filled F.spec s.specs spec.client.0 signed w.4 one, w.5, w.6, w.7, w.8))) start in
+      let one : F.spec signed = to_say s.sealer by in (one, by, (w.0, w.1, w.2, w.3, one_more F.spec (is_beside spec) s.specs signed w.4 one, w.5, w.6, w.7, w.8))) start in
       ended R ok law F me (F.spec signed) Taken (response_of s signed known g)
-      (sends R ok law F me (F.spec signed) (One (Client spec.client)) (Plain (frames.SpecResponse signed known.reply (option_map (λ (o : OrderFrame). o.order) (stored_in s.orders known.place.0)))) g
+      (sends R ok law F me (F.spec signed) (to_clients spec) (Plain (frames.SpecResponse signed known.reply (option_map (λ (o : OrderFrame). o.order) (stored_in s.orders known.place.0)))) g
       (λ one state. (one, short, order_alone F (stored_in s.orders known.place.0) (stored F s.orders known.place.0 v.1))) said))
       (λ none. refuses causes.KeySpent)
-
-  already : (o : Option (Signed Spec)) (spec : Spec) → IfSome o F.spec → IfSome (said_already o spec) F.spec
-  already None spec is = tt
-  already (Some signed) spec is = by_test (λ (o : Option (Signed Spec)). IfSome o F.spec) (same_spec signed.stmt spec) _ _ (λ same. is) (λ other. tt)
 
   takes_request : (ask : Signed Ask) → F.ask ask → On (run R (sealed_order R s ask) (ordered R s ask))
   takes_request ask heard =
@@ -235,7 +231,7 @@ module _ {S : Type 0} (R : Rules S) (ok : S → Type 0) (law : Laws ok R) (F : S
   waits ask heard =
       let pending : Pending = sealed_confirm s ask in
       let remark : Remark = record { body = bodies.Confirm pending.confirm.stmt; stood = stood_of R s } in
-      let client : ClientId = (entry_of ask).client in
+      let client : ClientId = (asking ask.by) in
       let t : State S = with_pending (spent s) client (Some pending) in
       let Y : Type 0 = OfPending F pending in
       knows R ok law F me Y (Unit {0}) (request_waits R s ask) (λ y state. tt)
@@ -244,8 +240,8 @@ module _ {S : Type 0} (R : Rules S) (ok : S → Type 0) (law : Laws ok R) (F : S
       let one : OfPending F pending = (to_say s.sealer by, heard) in
       (one, by, (w.0, w.1, w.2, w.3, w.4, filled (OfPending F) s.pending client.0 pending w.5 one, w.6, w.7, w.8))) start))
 
-  forwards : (ask : Signed Ask) → F.ask ask → Of (if nat_le 1 (leaves_of s) then ends Taken (request_waits R s ask) else refused causes.KeySpent s)
-  forwards ask heard = by_test Of (nat_le 1 (leaves_of s)) _ _ (λ left. comes (request_waits R s ask) (waits ask heard)) (λ none. refuses causes.KeySpent)
+  forwards : (ask : Signed Ask) → F.ask ask → Of (if nat_le 1 (signs_left s) then ends Taken (request_waits R s ask) else refused causes.KeySpent s)
+  forwards ask heard = by_test Of (nat_le 1 (signs_left s)) _ _ (λ left. comes (request_waits R s ask) (waits ask heard)) (λ none. refuses causes.KeySpent)
 
   at_backup : (ask : Signed Ask) (pending : Option Pending) → F.ask ask → IfSome pending (OfPending F) → Of (request_at_backup R s ask pending)
   at_backup ask None heard none = forwards ask heard
@@ -257,24 +253,24 @@ module _ {S : Type 0} (R : Rules S) (ok : S → Type 0) (law : Laws ok R) (F : S
   new_one ask heard =
       by_test Of (is_primary s) _ _
       (λ primary. by_test Of (nat_lt (last_place s.kept) (window_of s)) _ _
-      (λ room. by_test Of (nat_le (signs_of R s ask + 1) (leaves_of s)) _ _ (λ left. comes (run R (sealed_order R s ask) (ordered R s ask)) (takes_request ask heard)) (λ none. refuses causes.KeySpent))
+      (λ room. by_test Of (nat_le (signs_of R s (entry_of ask) + 1) (signs_left s)) _ _ (λ left. comes (run R (sealed_order R s ask) (ordered R s ask)) (takes_request ask heard)) (λ none. refuses causes.KeySpent))
       (λ full. refuses (causes.WindowFull (record { 0 = window_of s }))))
-      (λ backup. at_backup ask (pending_of s (entry_of ask).client) heard (slot_at (OfPending F) s.pending (entry_of ask).client.0 v.5))
+      (λ backup. at_backup ask (pending_of s (asking ask.by)) heard (slot_at (OfPending F) s.pending (asking ask.by).0 v.5))
 
   after : (ask : Signed Ask) (known : Option Known) → IfSome known IsShortKnown → F.ask ask → Of (request_after R s ask known)
   after ask None short heard = new_one ask heard
   after ask (Some known) short heard =
-      let spec : Spec = spec_of (own_view s) ask known in
+      let spec : Spec = spec_of (own_view s) (entry_of ask) known in
       by_test Of (nat_lt ask.stmt.stamp.0 known.stamp.0) _ _ (λ old. refuses causes.OldStamp)
       (λ from_it. by_test Of (nat_eq ask.stmt.stamp.0 known.stamp.0) _ _
-      (λ same. responds_as (said_already (spec_to s spec.client) spec) spec known short (already (spec_to s spec.client) spec (slot_at F.spec s.specs spec.client.0 v.4)))
+      (λ same. responds_as (spec_said s spec) spec known short (found F.spec (λ one. same_spec one.stmt spec) s.specs v.4))
       (λ newer. new_one ask heard))
 
   requests : (ask : Signed Ask) → F.ask ask → Of (request R s ask)
   unfolding request
   requests ask heard =
       by_test Of (is_leaving s) _ _ (λ leaves. refuses causes.NotActive)
-      (λ stays. by_test Of (is_behind ask (pending_of s (entry_of ask).client)) _ _ (λ old. refuses causes.OldStamp) (λ newer. after ask (known_in R s.kept (entry_of ask).client.0) (known_short R ok law s.kept (entry_of ask).client.0 v.8.1) heard))
+      (λ stays. by_test Of (is_behind ask (pending_of s (asking ask.by))) _ _ (λ old. refuses causes.OldStamp) (λ newer. after ask (known_in R s.kept (asking ask.by).0) (known_short R ok law s.kept (asking ask.by).0 v.8.1) heard))
 
   by_again : (by : Party) (kept : Option OrderFrame) → IfSome kept (OfOrder F) → Of (order_again s by kept)
   by_again by None none = refuses causes.OldPlace
@@ -290,7 +286,7 @@ module _ {S : Type 0} (R : Rules S) (ok : S → Type 0) (law : Laws ok R) (F : S
   unfolding confirm
   confirms_one confirmed ask heard =
       by_test Of (same_digest confirmed.stmt.request (digest_of_entry (entry_of ask))) _ _
-      (λ same. confirm_known confirmed.by ask (known_in R s.kept (entry_of ask).client.0) heard) (λ other. refuses causes.Unmatched)
+      (λ same. confirm_known confirmed.by ask (known_in R s.kept (asking ask.by).0) heard) (λ other. refuses causes.Unmatched)
 
   -- ---- ORDER
 
@@ -312,12 +308,12 @@ module _ {S : Type 0} (R : Rules S) (ok : S → Type 0) (law : Laws ok R) (F : S
   orders_as o admits.Next heard =
       let t : State S = record s { orders = with_order s.orders o; hole = None } in
       let w = with_held o heard in
-      by_test Of (nat_le (signs_of R s o.ask) (leaves_of s)) _ _
+      by_test Of (nat_le (signs_of R s (ordered_entry o)) (signs_left s)) _ _
       (λ left. comes (run R o (begin t)) (runs R ok law F me (Unit {0}) o (begin t) (λ x. heard.0) (begins_at t signer (w.0, w.1, w.2, tt, w.4, w.5, w.6, w.7, w.8)))) (λ none. refuses causes.KeySpent)
   orders_as o admits.Held heard =
       let t : State S = record s { orders = with_order s.orders o } in
       by_test Of (owes_hole s) _ _
-      (λ owes. by_test Of (nat_le 1 (leaves_of s)) _ _ (λ left. holds (ask_for_missing R t) (misses t signer (with_held o heard))) (λ none. refuses causes.KeySpent))
+      (λ owes. by_test Of (nat_le 1 (signs_left s)) _ _ (λ left. holds (ask_for_missing R t) (misses t signer (with_held o heard))) (λ none. refuses causes.KeySpent))
       (λ asked. holds (begin t) (begins_at t signer (with_held o heard)))
   orders_as o (admits.Refused cause) heard = refuses cause
   orders_as o admits.Evidence heard = refuses causes.Unmatched
@@ -343,7 +339,7 @@ module _ {S : Type 0} (R : Rules S) (ok : S → Type 0) (law : Laws ok R) (F : S
       let said : Option (Signed Local) = local_said s local in
       let by : t.sealer.me ≡ me = by_test (λ (q : State S). q.sealer.me ≡ me) (is_further local.place s.views.specs) _ _ (λ further. signer) (λ near. signer) in
       by_test Of (same_digest own local.head) _ _
-      (λ same. by_test Of (nat_le (locals_owed said + checks_owed t (own_at R s local.place.0) true) (leaves_of s)) _ _
+      (λ same. by_test Of (nat_le (locals_owed said + checks_owed t (own_at R s local.place.0) true) (signs_left s)) _ _
       (λ left. comes (gather_at R (own_at R s local.place.0) true (give_local R client local said t))
       (gathers_at R ok law F me (Unit {0}) (own_at R s local.place.0) true (give_local R client local said t)
       (gives_local client local said t by (certified R ok law F me s local.place specs v heard) (found F.local (λ one. same_local one.stmt local) s.locals v.6))))
@@ -382,7 +378,7 @@ module _ {S : Type 0} (R : Rules S) (ok : S → Type 0) (law : Laws ok R) (F : S
   keeps_as : (own : Option OwnCheckpoint) (answer : Kept) (board : Board) → (is_refused answer ≡ false → OfBoard F board) → Of (kept_as R s own answer board)
   keeps_as own answers.Held board tells = holds (begin (with_board s board)) (begins_at (with_board s board) signer (v.0, v.1, tells refl, v.3, v.4, v.5, v.6, v.7, v.8))
   keeps_as own (answers.Kept number) board tells =
-      by_test Of (nat_le (checks_owed (with_board s board) own false) (leaves_of s)) _ _
+      by_test Of (nat_le (checks_owed (with_board s board) own false) (signs_left s)) _ _
       (λ left. comes (gather_at R own false (begin (with_board s board)))
       (gathers_at R ok law F me (Unit {0}) own false (begin (with_board s board)) (begins_at (with_board s board) signer (v.0, v.1, tells refl, v.3, v.4, v.5, v.6, v.7, v.8)))) (λ none. refuses causes.KeySpent)
   keeps_as own (answers.Refused cause) board tells = refuses cause
@@ -629,7 +625,7 @@ module _ {S : Type 0} (R : Rules S) (ok : S → Type 0) (law : Laws ok R) (F : S
 
   plain_of : (frame : Frame) → in_role s frame ≡ true → OfFrame F frame → Of (plain_row R s frame)
   plain_of (frames.Request ask) role heard = requests ask heard
-  plain_of (frames.Order both) role heard = under (view_cause s both.order.stmt.view.0) _ (λ own. order_by both (judge_in s.orders both.order.stmt both.ask (position_of R s both)) heard)
+  plain_of (frames.Order both) role heard = under (view_cause s both.order.stmt.view.0) _ (λ own. order_by both (judge_in s.orders both.order.stmt (ordered_entry both) (position_of R s both)) heard)
   plain_of (frames.SpecResponse spec reply with_order) role heard = under (view_cause s spec.stmt.view.0) _ (λ own. response_kept spec heard.0)
   plain_of (frames.Commit specs) role heard = in_view specs heard.each
   plain_of (frames.LocalCommit local) role heard = refuses causes.WrongRole

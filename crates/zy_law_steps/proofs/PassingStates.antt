@@ -15,27 +15,29 @@ use Rattle.zy_exec.specs.Snapshot.{row_fields, snapshot_fields}
 use Rattle.zy_exec.specs.declared.known.Known.{Known}
 use Rattle.zy_exec.specs.declared.row.Row.{Row}
 use Rattle.zy_wire.proofs.Parts.{bind_ok, ended_ok}
-use Rattle.zy_wire.specs.Fields.{bytes16, bytes32, digest, list, u62}
+use Rattle.zy_wire.specs.Fields.{bytes32, digest, list, u62}
 use Rattle.zy_wire.specs.Spelling.{ended, pair, whole, word}
 use Rattle.zy_law_steps.proofs.Decoded.{Gives, all_give, list_gives, made_gives, pair_gives, sized_gives}
 use Rattle.zy_law_steps.proofs.Passing.{IsShortKnown, Laws, empty_slots}
 use Rattle.zy_law_steps.proofs.Slots.{AreKept, filled}
 use Rattle.zy_law_steps.specs.Signs.{IsShort}
+use Rattle.zy_chain.specs.Answers.{answers_fields}
+use Rattle.zy_chain.specs.Sizes.{greatest_state}
 
 row_gives : Gives row_fields.at (λ r. IsShortKnown r.known)
 unfolding row_fields
 row_gives =
-    made_gives _ (pair (word w32) (pair (u62 0) (pair (u62 1) (pair digest (bytes16 1100))))) _ (λ r. IsShortKnown r.known)
-    (pair_gives (word w32) (pair (u62 0) (pair (u62 1) (pair digest (bytes16 1100)))) _ _ (all_give (word w32).at)
-    (pair_gives (u62 0) (pair (u62 1) (pair digest (bytes16 1100))) _ _ (all_give (u62 0).at)
-    (pair_gives (u62 1) (pair digest (bytes16 1100)) _ _ (all_give (u62 1).at)
-    (pair_gives digest (bytes16 1100) _ _ (all_give digest.at) (sized_gives w16 1100)))))
+    made_gives _ (pair (word w32) (pair (u62 0) (pair (u62 1) (pair digest answers_fields)))) _ (λ r. IsShortKnown r.known)
+    (pair_gives (word w32) (pair (u62 0) (pair (u62 1) (pair digest answers_fields))) _ _ (all_give (word w32).at)
+    (pair_gives (u62 0) (pair (u62 1) (pair digest answers_fields)) _ _ (all_give (u62 0).at)
+    (pair_gives (u62 1) (pair digest answers_fields) _ _ (all_give (u62 1).at)
+    (pair_gives digest answers_fields _ _ (all_give digest.at) (sized_gives w16 1100)))))
     (λ x short. short.1.1.1.1)
 
 snapshot_gives : Gives snapshot_fields.at (λ parts. AllByRecursion (λ r. IsShortKnown r.known) parts.0)
 unfolding snapshot_fields
 snapshot_gives bytes x rest e =
-    (pair_gives (list 0 64 row_fields) (bytes32 2300000) (AllByRecursion (λ r. IsShortKnown r.known)) (λ x. Unit {0}) (list_gives row_fields _ row_gives 0 64) (all_give (bytes32 2300000).at) bytes x rest e).0
+    (pair_gives (list 0 64 row_fields) (bytes32 greatest_state) (AllByRecursion (λ r. IsShortKnown r.known)) (λ x. Unit {0}) (list_gives row_fields _ row_gives 0 64) (all_give (bytes32 greatest_state).at) bytes x rest e).0
 
 rows_short : (known : List (Option Known)) (rows : List Row) → AreKept IsShortKnown known → AllByRecursion (λ r. IsShortKnown r.known) rows → AreKept IsShortKnown (with_rows known rows)
 rows_short known [] all each = all

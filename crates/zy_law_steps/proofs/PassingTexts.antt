@@ -1,4 +1,4 @@
--- What a replica and a client say can be spelled and passes a test, so it is of those texts, whichever leaf signs it.
+-- What a replica and a client say can be spelled and passes a test, so it is of those texts, whichever signature it has.
 use Rattle.std.proofs.Common.{◌≡◌, ℕ, ◌+◌, ◌<◌, ◌≤◌, ◌^◌, Bool, true, List, [], ◌∷◌, length, map, Option, Some, None, refl, sym, ap, ◌∙◌, subst, arith}
 use Rattle.std.specs.Prelude.{All, IfSome, nat_le, option_map}
 use Rattle.std.proofs.lemmas.Bool.{leb-true}
@@ -17,12 +17,9 @@ use Rattle.zy_parts.specs.declared.signed.Signed.{Signed}
 use Rattle.zy_parts.specs.declared.statements.Ask.{Ask}
 use Rattle.zy_parts.specs.declared.statements.Spec.{Spec}
 use Rattle.zy_seal.specs.Sealing.{SealerState, sealed_by}
-use Rattle.zy_lms.specs.Height.{levels_of}
-use Rattle.zy_lms.specs.declared.height.Height.{Height}
-use Rattle.zy_lms.specs.declared.height.Height.TheVariants.{H5, H10}
 use Rattle.zy_law_normal.proofs.Own.{by_test}
 use Rattle.zy_table.specs.ClientRows.{ask, ask_while}
-use Rattle.zy_table.specs.ClientState.{ClientOutcome, ClientState, leaves_of, spoken_of}
+use Rattle.zy_table.specs.ClientState.{ClientOutcome, ClientState, signs_left, spoken_of}
 use Rattle.zy_table.specs.Deeds.{said_from, text_by}
 use Rattle.zy_table.specs.declared.deeds.Act.{Act}
 use Rattle.zy_table.specs.declared.deeds.Act.TheVariants.{Says, Gains, Adopts}
@@ -35,12 +32,9 @@ use Rattle.zy_law_steps.proofs.SaidBack.{same_spelled}
 use Rattle.zy_law_steps.proofs.Sizes.{sealed_fits}
 use Rattle.zy_law_steps.specs.Signs.{ArePassed, OfActs, OfAsks, OfBody, OfChange, OfText, OfTextAlone, OfTexts, OfTextsAlone, OfTold, Signs}
 use Rattle.zy_law_steps.specs.Spelled.{FitAll, FitsBody}
+use Rattle.zy_seal.proofs.SignatureLemmas.{few_signatures}
 
 -- ---- a report whose responses are spelled as they are is spelled as it is
-
-few_leaves : (height : Height) → 2 ^ levels_of height ≤ 1024
-few_leaves H5 = omega arith
-few_leaves H10 = omega arith
 
 module _ {A : Type 0} (P : Signed A → Type 0) (f : A → A) (same : (x : Signed A) → P x → with_stmt f x ≡ x) where
   map_same : (xs : List (Signed A)) → AllByRecursion P xs → map (with_stmt f) xs ≡ xs
@@ -105,7 +99,7 @@ module _ (p : Party → List ℕ → Bool) where
   asks_pass me small [] fit passed = tt
   asks_pass me small (ask ∷ asks) fit passed = (seals (Client me) small numbers.ask ask_fields ask fit.0 passed.0, asks_pass me small asks fit.1 passed.1)
 
--- what a client asks for can be spelled: its stamps are as few as its leaves
+-- what a client asks for can be spelled: its stamps are as few as its signatures
 pub ask_fits : (s : ClientState) (op : List ℕ) → s.stamp.0 ≤ s.sealer.key.next → length op ≤ 1100 → AllByRecursion (λ ask. ask_fields.Fits ask) (ask s op).said
 unfolding ask ask_fields
 ask_fits s op low short = by s.waiting
@@ -113,8 +107,8 @@ ask_fits s op low short = by s.waiting
     by : (waiting : Option (Signed Ask)) → AllByRecursion (λ ask. ask_fields.Fits ask) (ask_while s waiting op).said
     by (Some waiting) = tt
     by None =
-        by_test (λ (o : ClientOutcome). AllByRecursion (λ ask. ask_fields.Fits ask) o.said) (nat_le 1 (leaves_of s)) _ _
-        (λ left. let some = leb-true 1 (leaves_of s) left in let most = few_leaves s.sealer.key.height in (((omega arith, omega arith), short), tt)) (λ none. tt)
+        by_test (λ (o : ClientOutcome). AllByRecursion (λ ask. ask_fields.Fits ask) o.said) (nat_le 1 (signs_left s)) _ _
+        (λ left. let some = leb-true 1 (signs_left s) left in let most = few_signatures s.sealer.key.height in (((omega arith, omega arith), short), tt)) (λ none. tt)
 
 -- ---- whether it can be spelled or not
 

@@ -1,10 +1,9 @@
 -- So it does where a replica leaves its view and begins the next.
-use Rattle.std.proofs.Common.{◌≡◌, ℕ, ◌-◌, ◌≤◌, ◌^◌, Bool, true, false, List, [], ◌∷◌, ◌++◌, length, map, take, Option, Some, None, refl, subst, arith}
+use Rattle.std.proofs.Common.{◌≡◌, ℕ, ◌-◌, ◌^◌, Bool, true, false, List, [], ◌∷◌, ◌++◌, length, map, take, Option, Some, None, refl, subst, arith}
 use Rattle.std.specs.Prelude.{All, IfSome, Ok, Err, if◌then◌else◌, nat_le, nat_lt, option_map, slice_get}
 use Rattle.std.specs.List.{AllByRecursion, list_any}
 use Rattle.zy_base.specs.Machine.{Rules}
 use Rattle.zy_base.specs.declared.ids.Party.{Party}
-use Rattle.zy_base.specs.declared.ids.Party.TheVariants.{Client}
 use Rattle.zy_base.specs.declared.ids.View.{View}
 use Rattle.zy_base.specs.declared.step.Answer.{Answer}
 use Rattle.zy_change.proofs.FitLemmas.{taken_there}
@@ -33,16 +32,16 @@ use Rattle.zy_parts.specs.declared.statements.Spec.{Spec}
 use Rattle.zy_seal.specs.Sealing.{sealed_by}
 use Rattle.zy_table.specs.Adopting.{checkpoints_between, taken_over, verdict_of}
 use Rattle.zy_table.specs.Beginning.{active_by, adopt, adopt_as, adopt_from, adopt_if, adoption_of, arrive, ask_each, ask_for, asked_of, begin_view, begun, certify_with, confirms, fetch_said, fetch_to, kept_waiting, respond_alone, respond_at, respond_to, send_to_each, settled_as, take_up, wait_for, wanted_of}
-use Rattle.zy_table.specs.Deeds.{Going, Outcome, act, ends, send_any, send_view}
+use Rattle.zy_table.specs.Deeds.{Going, Outcome, act, ends, send_any, send_view, to_clients}
 use Rattle.zy_table.specs.Gathering.{own_at, with_own_spec}
 use Rattle.zy_table.specs.Leaving.{Attempt, accept, collect, give_new, given, leave, leave_alone, left_with, report_of, sealed_change, sealed_new}
 use Rattle.zy_table.specs.Running.{sealed_spec}
-use Rattle.zy_table.specs.State.{State, own_view, spent, stood_of, with_spec}
+use Rattle.zy_table.specs.State.{State, own_view, spent, stood_of, with_spec, is_beside}
 use Rattle.zy_table.specs.declared.deeds.Act.TheVariants.{Says}
 use Rattle.zy_table.specs.declared.deeds.AnyFrame.TheVariants.{Plain, View as Framed}
 use Rattle.zy_table.specs.declared.deeds.Body.TheVariants as bodies
 use Rattle.zy_table.specs.declared.deeds.Remark.{Remark}
-use Rattle.zy_table.specs.declared.deeds.To.TheVariants.{All as Everyone, One}
+use Rattle.zy_table.specs.declared.deeds.To.TheVariants.{All as Everyone}
 use Rattle.zy_table.specs.declared.deeds.Verdict.{Verdict}
 use Rattle.zy_table.specs.declared.deeds.Verdict.TheVariants as verdicts
 use Rattle.zy_table.specs.declared.kept.OwnCheckpoint.{OwnCheckpoint}
@@ -54,9 +53,10 @@ use Rattle.std.proofs.lemmas.List.Elements.{All-from_recursion}
 use Rattle.zy_chain.specs.Stretch.{Stretch}
 use Rattle.zy_exec.specs.Kept.{Kept}
 use Rattle.zy_law_normal.proofs.Backing.{all_listed}
-use Rattle.zy_law_steps.proofs.Passing.{Laws, Passes, reply_short, empty_slots, found, knows, says, sends, settled_of, spec_put, turns}
+use Rattle.zy_law_steps.proofs.Passing.{Laws, Passes, reply_short, empty_slots, found, knows, says, sends, settled_of, spec_put, turns, one_more}
 use Rattle.zy_law_steps.proofs.Slots.{begans_later, changes_later, equal_kept, filled, gathered_kept, never_flagged, others_dropped}
 use Rattle.zy_law_steps.specs.Signs.{IsShort, OfActs, OfAct, OfAnyFrame, OfCert, OfChange, OfNew, OfOrder, OfPending, OfSent, OfState, OfTold, Signs}
+use Rattle.zy_chain.specs.Answers.{FitsAnswers}
 
 module _ {S : Type 0} (R : Rules S) (ok : S → Type 0) (law : Laws ok R) (F : Signs) (me : Party) where
   abbrev On : Type 0 → Going S → Type 0
@@ -186,23 +186,23 @@ module _ {S : Type 0} (R : Rules S) (ok : S → Type 0) (law : Laws ok R) (F : S
       let n = settled t s (v.0, v.1, v.2, v.3, v.4, v.5, v.6, v.7, (v.8.0, over_short (stretch_of t) chosen.place.0 g.state.kept v.8.1, v.8.2)) (checks b.0) b.1 in
       (b.0, n.0, active cert chosen (settled_as R t s) n.1 (tells b.0), b.3)
 
-  alone : (X : Type 0) (own : OwnCheckpoint) (reply : List ℕ) (g : Going S) → (X → length reply ≤ 1100) → On X g → On X (respond_alone R own reply g)
+  alone : (X : Type 0) (own : OwnCheckpoint) (reply : List ℕ) (g : Going S) → (X → FitsAnswers reply) → On X g → On X (respond_alone R own reply g)
   alone X own reply g short is =
       let signed : Signed Spec = sealed_spec g.state own.spec in
       let remark : Remark = record { body = bodies.Spec own.spec; stood = stood_of R g.state } in
       let responded : State S = with_spec (spent g.state) signed in
       let Y : Type 0 = X × F.spec signed in
       let said : Going S = act (Says remark) (record g { state = with_own_spec responded own signed }) in
-      let told : Going S = send_any (One (Client own.spec.client)) (Plain (frames.SpecResponse signed reply None)) said in
+      let told : Going S = send_any (to_clients own.spec) (Plain (frames.SpecResponse signed reply None)) said in
       knows R ok law F me Y X (send_any Everyone (Plain (frames.SpecResponse signed reply None)) told) (λ y state. y.0)
       (sends R ok law F me Y Everyone (Plain (frames.SpecResponse signed reply None)) told (λ y state. (y.1, short y.0, tt))
-      (sends R ok law F me Y (One (Client own.spec.client)) (Plain (frames.SpecResponse signed reply None)) said (λ y state. (y.1, short y.0, tt))
+      (sends R ok law F me Y (to_clients own.spec) (Plain (frames.SpecResponse signed reply None)) said (λ y state. (y.1, short y.0, tt))
       (says R ok law F me X Y remark (with_own_spec responded own signed) g
       (λ x signer v to_say.
       let one : F.spec signed = to_say g.state.sealer signer in
-      ((x, one), signer, (v.0, v.1, spec_put F g.state.board own signed v.2 one, v.3, filled F.spec g.state.specs own.spec.client.0 signed v.4 one, v.5, v.6, v.7, v.8))) is)))
+      ((x, one), signer, (v.0, v.1, spec_put F g.state.board own signed v.2 one, v.3, one_more F.spec (is_beside own.spec) g.state.specs signed v.4 one, v.5, v.6, v.7, v.8))) is)))
 
-  responds_to : (X : Type 0) (own : Option OwnCheckpoint) (reply : Option (List ℕ)) (g : Going S) → (X → IfSome reply (λ reply. length reply ≤ 1100)) → On X g → On X (respond_to R own reply g)
+  responds_to : (X : Type 0) (own : Option OwnCheckpoint) (reply : Option (List ℕ)) (g : Going S) → (X → IfSome reply (λ reply. FitsAnswers reply)) → On X g → On X (respond_to R own reply g)
   responds_to X None reply g short is = is
   responds_to X (Some own) None g short is = is
   responds_to X (Some own) (Some reply) g short is = alone X own reply g short is
@@ -212,7 +212,7 @@ module _ {S : Type 0} (R : Rules S) (ok : S → Type 0) (law : Laws ok R) (F : S
   responds_at X (place ∷ places) g is =
       let reply : Option (List ℕ) = reply_in R g.state.kept place in
       let h : Going S = respond_to R (own_at R g.state place) reply g in
-      let Y : Type 0 = X × IfSome reply (λ reply. length reply ≤ 1100) in
+      let Y : Type 0 = X × IfSome reply (λ reply. FitsAnswers reply) in
       responds_at X places h
       (knows R ok law F me Y X h (λ y state. y.0)
       (responds_to Y (own_at R g.state place) reply g (λ y. y.1) (knows R ok law F me X Y g (λ x state. (x, reply_short R ok law g.state.kept place state.8.1)) is)))

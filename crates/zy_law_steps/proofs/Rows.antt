@@ -12,7 +12,7 @@ use Rattle.zy_base.specs.declared.ids.Digest.{Digest}
 use Rattle.zy_base.specs.declared.ids.View.{View}
 use Rattle.zy_base.specs.declared.step.Answer.TheVariants.{Held, Taken}
 use Rattle.zy_base.specs.declared.step.Mode.TheVariants.{Active}
-use Rattle.zy_admit.specs.Judging.{entry_of}
+use Rattle.zy_admit.specs.Judging.{entry_of, ordered_entry, asking}
 use Rattle.zy_admit.specs.Orders.{Orders, with_order}
 use Rattle.zy_cert.proofs.CertificateLemmas.{certified-taken}
 use Rattle.zy_cert.specs.Certificates.{IsCertificate, certified}
@@ -118,7 +118,7 @@ pub record IsInWindow (interval : ℕ) (orders : Orders) (o : OrderFrame) : Type
   pub near : o.order.stmt.place.0 ≤ orders.base + 2 * interval
   pub low : o.order.stmt.place.0 < 2 ^ 62
 
-work_put : (interval : ℕ) (w : World) (r bound : ℕ) (p : Workplace) (o : OrderFrame) → IsWorkTied interval w r bound p → MayRun w (entry_of o.ask) → IsHeldPart w order_told o.order → IsInWindow interval p.orders o
+work_put : (interval : ℕ) (w : World) (r bound : ℕ) (p : Workplace) (o : OrderFrame) → IsWorkTied interval w r bound p → MayRun w (ordered_entry o) → IsHeldPart w order_told o.order → IsInWindow interval p.orders o
     → IsWorkTied interval w r bound (record p { orders = with_order p.orders o })
 work_put interval w r bound p o is may held inside =
     record {
@@ -183,7 +183,7 @@ module _ {S : Type 0} (R : Rules S) (interval : ℕ) (texts : Texts) (w : World)
 
   -- ---- a request that was executed last, and one that waits
 
-  pub responds : (ask : Signed Ask) (known : Known) → known_in R s.kept (entry_of ask).client.0 ≡ Some known → Goes (responded R s (spec_of (table.own_view s) ask known) known)
+  pub responds : (ask : Signed Ask) (known : Known) → known_in R s.kept (asking ask.by).0 ≡ Some known → Goes (responded R s (spec_of (table.own_view s) (entry_of ask) known) known)
   responds ask known is gains = on_way R interval texts w r s h view ready kept work active _ (answered_on R interval texts w r s h ready kept ask known is view active) active
 
   pub waits : (ask : Signed Ask) → Goes (ends Taken (request_waits R s ask))
@@ -218,16 +218,16 @@ module _ {S : Type 0} (R : Rules S) (interval : ℕ) (texts : Texts) (w : World)
         far = omega (arith, in_window.above);
       }
 
-  puts : (o : OrderFrame) → MayRun w (entry_of o.ask) → IsHeldPart w order_told o.order → IsInWindow interval s.orders o → (hole : Option (Signed Hole)) → Works (begin (record (with_held s o) { hole = hole }))
+  puts : (o : OrderFrame) → MayRun w (ordered_entry o) → IsHeldPart w order_told o.order → IsInWindow interval s.orders o → (hole : Option (Signed Hole)) → Works (begin (record (with_held s o) { hole = hole }))
   unfolding goes_as
   puts o may held in_window hole =
       goes_as R interval texts w r s h view 0 (begin s) start (begin (record (with_held s o) { hole = hole })) refl start.tied
-      (work_put interval start.world r (length start.now + 0) (workplace_of s) o start.work (start.may (entry_of o.ask) may) (subst (λ (u : World). IsHeldPart u order_told o.order) (sym same_start) held) in_window) refl refl refl refl
+      (work_put interval start.world r (length start.now + 0) (workplace_of s) o start.work (start.may (ordered_entry o) may) (subst (λ (u : World). IsHeldPart u order_told o.order) (sym same_start) held) in_window) refl refl refl refl
 
-  pub holds_order : (o : OrderFrame) → MayRun w (entry_of o.ask) → IsHeldPart w order_told o.order → last_place s.kept < o.order.stmt.place.0 → o.order.stmt.place.0 ≤ window_of s → Goes (ends Held (begin (with_held s o)))
+  pub holds_order : (o : OrderFrame) → MayRun w (ordered_entry o) → IsHeldPart w order_told o.order → last_place s.kept < o.order.stmt.place.0 → o.order.stmt.place.0 ≤ window_of s → Goes (ends Held (begin (with_held s o)))
   holds_order o may held above below gains = puts o may held (inside o above below) s.hole
 
-  pub asks : (o : OrderFrame) → MayRun w (entry_of o.ask) → IsHeldPart w order_told o.order → last_place s.kept < o.order.stmt.place.0 → o.order.stmt.place.0 ≤ window_of s → Goes (ends Held (ask_for_missing R (with_held s o)))
+  pub asks : (o : OrderFrame) → MayRun w (ordered_entry o) → IsHeldPart w order_told o.order → last_place s.kept < o.order.stmt.place.0 → o.order.stmt.place.0 ≤ window_of s → Goes (ends Held (ask_for_missing R (with_held s o)))
   asks o may held above below gains =
       let s' : State S = with_held s o in
       let put = puts o may held (inside o above below) s.hole in
@@ -236,7 +236,7 @@ module _ {S : Type 0} (R : Rules S) (interval : ℕ) (texts : Texts) (w : World)
       says R interval texts w r s h view 0 (begin s') put remark 0 (ask_for_missing R s') refl (says_other R interval put.world put.lawful r put.correct (core_of s') put.now put.tied) refl refl
       (work_said interval put.world r y (length put.now + 0) (length put.now + 0) (workplace_of s') (omega arith) (λ m request told. absurd cc) put.work)
 
-  pub takes : (o : OrderFrame) → MayRun w (entry_of o.ask) → IsHeldPart w order_told o.order → IsNew R s o.ask → last_place s.kept < o.order.stmt.place.0 → o.order.stmt.place.0 ≤ window_of s
+  pub takes : (o : OrderFrame) → MayRun w (ordered_entry o) → IsHeldPart w order_told o.order → IsNew R s o.ask → last_place s.kept < o.order.stmt.place.0 → o.order.stmt.place.0 ≤ window_of s
       → Goes (ends Taken (run R o (begin (record (with_held s o) { hole = None }))))
   takes o may held new above below gains =
       let s' : State S = record (with_held s o) { hole = None } in
@@ -255,8 +255,8 @@ module _ {S : Type 0} (R : Rules S) (interval : ℕ) (texts : Texts) (w : World)
   orders ask may primary new room gains =
       let e : Entry = entry_of ask in
       let there = standing R interval texts w r s h view 0 (begin s) start in
-      let m : Mark = record { place = (next_known R s ask).place.0; head = (next_known R s ask).head } in
-      let remark : Remark = record { body = bodies.Order (order_of R s ask); stood = stood_of R s } in
+      let m : Mark = record { place = (next_known R s (entry_of ask)).place.0; head = (next_known R s (entry_of ask)).head } in
+      let remark : Remark = record { body = bodies.Order (order_of R s (entry_of ask)); stood = stood_of R s } in
       let y : Spoken = said_now start.world r (statement_by r remark.body) in
       let o : OrderFrame = sealed_order R s ask in
       let g : Going S = ordered R s ask in

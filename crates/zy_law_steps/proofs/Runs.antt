@@ -1,24 +1,22 @@
 -- An order is run: its entry is executed and answered, and then the orders that were held for it.
-use Rattle.std.proofs.Common.{◌≡◌, ℕ, ◌+◌, ◌-◌, ◌*◌, ◌^◌, ◌<◌, ◌≤◌, nat_le, true, false, List, [], ◌∷◌, ◌++◌, length, take, Option, Some, None, refl, sym, ap, ◌∙◌, subst, arith}
+use Rattle.std.proofs.Common.{◌≡◌, ℕ, ◌+◌, ◌-◌, ◌*◌, ◌^◌, ◌<◌, ◌≤◌, nat_le, true, false, List, [], ◌∷◌, ◌++◌, length, take, Option, Some, None, refl, sym, ◌∙◌, subst, arith}
 use Rattle.std.specs.List.{AllByRecursion}
-use Rattle.std.specs.Prelude.{option_map}
 use Rattle.std.proofs.lemmas.Bool.{and_parts}
 use Rattle.std.proofs.lemmas.List.{length-append, length-drop, length-set}
 use Rattle.zy_base.specs.Machine.{Rules}
 use Rattle.zy_base.specs.declared.ids.Digest.{Digest}
-use Rattle.zy_base.specs.declared.ids.Stamp.{Stamp}
 use Rattle.zy_base.specs.declared.ids.View.{View}
 use Rattle.zy_chain.specs.Entries.{digest_of_entry}
 use Rattle.zy_chain.specs.Heads.{head_after}
 use Rattle.zy_chain.specs.Stretch.{Mark}
 use Rattle.zy_chain.specs.declared.entry.Entry.{Entry}
-use Rattle.zy_admit.specs.Judging.{entry_of, newer, same_digest}
+use Rattle.zy_admit.specs.Judging.{same_digest, ordered_entry}
 use Rattle.zy_admit.specs.Orders.{slots_above, without_order}
 use Rattle.zy_check.proofs.JudgingLemmas.{after_spec-stays, without_others-stays}
 use Rattle.zy_check.specs.Board.{Board, without_others}
 use Rattle.zy_check.specs.Judging.{after_spec}
 use Rattle.zy_exec.proofs.ReplayLemmas.{place-along}
-use Rattle.zy_exec.specs.Kept.{known_in, last_place, longer, now_of}
+use Rattle.zy_exec.specs.Kept.{last_place, longer, now_of}
 use Rattle.zy_exec.specs.declared.known.Known.{Known}
 use Rattle.zy_frames.specs.declared.frame.OrderFrame.{OrderFrame}
 use Rattle.zy_law.proofs.EntriesAskedFor.{entry_within}
@@ -30,7 +28,7 @@ use Rattle.zy_law_normal.proofs.KeptVotes.{AreKeptOf, after_spec_kept, without_o
 use Rattle.zy_law_normal.proofs.OneEntry.{AreOrdersOf, fold_is, known_next, orders_of_longer}
 use Rattle.zy_law_normal.proofs.Own.{by_test, state_told}
 use Rattle.zy_law_normal.proofs.Records.{IsLastOf}
-use Rattle.zy_law_normal.specs.Acts.{statement_by}
+use Rattle.zy_law_normal.specs.Acts.{statement_by, answer_told}
 use Rattle.zy_law_normal.specs.Tied.{MayRun, MaySlotRun}
 use Rattle.zy_parts.specs.declared.signed.Signed.{Signed}
 use Rattle.zy_parts.specs.declared.statements.Check.{Check}
@@ -40,7 +38,7 @@ use Rattle.zy_table.specs.Deeds.{Going, send}
 use Rattle.zy_table.specs.Gathering.{check_with, own_with, state_in, with_own_spec}
 use Rattle.zy_table.specs.Running.{executed, fits_end, got_of, next_known, respond, run, run_held, run_one, sealed_spec, share, signs_of, spec_of}
 use Rattle.zy_table.specs.State as table
-use Rattle.zy_table.specs.State.{State, leaves_of, stood_of}
+use Rattle.zy_table.specs.State.{State, signs_left, stood_of}
 use Rattle.zy_table.specs.declared.deeds.Body.TheVariants as bodies
 use Rattle.zy_table.specs.declared.deeds.Remark.{Remark}
 use Rattle.zy_table.specs.declared.deeds.To.TheVariants.{All}
@@ -58,6 +56,8 @@ use Rattle.zy_law_steps.proofs.Working.{IsWorking, gains, goes_as, last_view_is,
 use Rattle.zy_law_views.proofs.SignedSlots.{signed_with}
 use Rattle.zy_law_views.specs.Work.{workplace_of}
 use Rattle.zy_law_steps.specs.Gains.{AreGainsKept, IsGainKept}
+use Rattle.zy_exec.specs.Replay.{is_new_to}
+use Rattle.zy_chain.specs.Answers.{digest_of_answers}
 
 -- ---- where what is kept begins and ends
 
@@ -84,7 +84,7 @@ module _ {S : Type 0} (R : Rules S) where
   one_further : (o : OrderFrame) (g : Going S) → IsBetween g.state.kept.base.place (last_place g.state.kept + 1) (run_one R o g)
   one_further o g =
       one_keeps R (IsBetween g.state.kept.base.place (last_place g.state.kept + 1)) (between g.state.kept.base.place (last_place g.state.kept + 1)) o g
-      (record { above = omega arith; ends = omega (arith, length-append g.state.kept.entries (entry_of o.ask ∷ [])) })
+      (record { above = omega arith; ends = omega (arith, length-append g.state.kept.entries (ordered_entry o ∷ [])) })
 
 module _ {S : Type 0} (R : Rules S) (interval : ℕ) (texts : Texts) (w : World) (r : ℕ) (s : State S) (h : List Entry) (view : View) where
   abbrev Works : Going S → Type 0
@@ -119,21 +119,21 @@ module _ {S : Type 0} (R : Rules S) (interval : ℕ) (texts : Texts) (w : World)
 
   -- ---- one order
 
-  module _ (more : ℕ) (g : Going S) (is : IsWorking R interval texts w r s h view more g) (o : OrderFrame) (may : MayRun w (entry_of o.ask))
-      (new : newer o.ask.stmt.stamp (option_map (λ (known : Known). known.stamp) (known_in R g.state.kept (entry_of o.ask).client.0)) ≡ true)
-      (gain : IsGainKept w texts (got_of R g.state o.ask)) (of : AreOrdersOf is.world r (table.own_view g.state) (is.now ++ entry_of o.ask ∷ []))
+  module _ (more : ℕ) (g : Going S) (is : IsWorking R interval texts w r s h view more g) (o : OrderFrame) (may : MayRun w (ordered_entry o))
+      (new : is_new_to (now_of R g.state.kept).known (ordered_entry o) ≡ true)
+      (gain : IsGainKept w texts (got_of R g.state (ordered_entry o))) (of : AreOrdersOf is.world r (table.own_view g.state) (is.now ++ ordered_entry o ∷ []))
       (top : ℕ) (low : last_place g.state.kept < top) (near : top ≤ g.state.kept.base.place + 2 * interval) (in_range : top < 2 ^ 62) where
     pub one_goes : more ≤ 1 → Works (run_one R o g)
     unfolding run_one gains says
     one_goes few =
-        let e : Entry = entry_of o.ask in
-        let done : Going S = executed R o.ask g in
+        let e : Entry = ordered_entry o in
+        let done : Going S = executed R (ordered_entry o) g in
         let moved : Works done = gains R interval texts w r s h view more g is o.ask may new gain of top low near in_range few in
         let far : List Entry = is.now ++ e ∷ [] in
-        let known : Known = next_known R g.state o.ask in
-        let spec : Spec = spec_of (table.own_view g.state) o.ask known in
+        let known : Known = next_known R g.state (ordered_entry o) in
+        let spec : Spec = spec_of (table.own_view g.state) (ordered_entry o) known in
         let m : Mark = mark_at known.place known.head in
-        let a : Answer = record { client = e.client.0; stamp = known.stamp.0; reply = spec.reply } in
+        let a : Answer = answer_told e.client.0 known.stamp.0 spec.reply in
         let remark : Remark = record { body = bodies.Spec spec; stood = stood_of R done.state } in
         let y : Spoken = said_now moved.world r (statement_by r remark.body) in
         let last : IsLastOf R far e.client.0 known =
@@ -146,9 +146,8 @@ module _ {S : Type 0} (R : Rules S) (interval : ℕ) (texts : Texts) (w : World)
         (record {
           entry = last.entry;
           last = last.there;
-          client = last.client_is;
-          stamp = ap (λ (t : Stamp). t.0) last.stamp;
-          reply = true_reply R moved.world moved.kept.agrees far known.place.0 known.reply within last.reply;
+          reply = true_reply R moved.world moved.kept.agrees far known.place.0 last.entry known.reply within last.there last.reply
+              ∙ (λ i. (answer_told (last.client_is i) (last.stamp i).0 (digest_of_answers known.reply)).reply);
         }) in
         let views : view.0 ≡ table.own_view g.state = sym (own_view_is R interval texts w r s h view more g is) in
         let says_it : SaysLawfully R interval moved.world r (core_of done.state) far (statement_by r remark.body) =
@@ -169,8 +168,8 @@ module _ {S : Type 0} (R : Rules S) (interval : ℕ) (texts : Texts) (w : World)
         held
 
   -- where its orders are of places of its history
-  pub next_goes : (o : OrderFrame) (g : Going S) → Works g → MayRun w (entry_of o.ask)
-      → newer o.ask.stmt.stamp (option_map (λ (known : Known). known.stamp) (known_in R g.state.kept (entry_of o.ask).client.0)) ≡ true → IsGainKept w texts (got_of R g.state o.ask)
+  pub next_goes : (o : OrderFrame) (g : Going S) → Works g → MayRun w (ordered_entry o)
+      → is_new_to (now_of R g.state.kept).known (ordered_entry o) ≡ true → IsGainKept w texts (got_of R g.state (ordered_entry o))
       → (top : ℕ) → last_place g.state.kept < top → top ≤ g.state.kept.base.place + 2 * interval → top < 2 ^ 62 → Works (run_one R o g)
   next_goes o g is may new gain top low near in_range =
       let views : g.state.views.last_view.0 ≡ table.own_view g.state = sym (last_view_is R interval texts w r s h view 0 g is) ∙ sym (own_view_is R interval texts w r s h view 0 g is) in
@@ -178,7 +177,7 @@ module _ {S : Type 0} (R : Rules S) (interval : ℕ) (texts : Texts) (w : World)
       let up_to : AreOrdersUpTo is.world r (table.own_view g.state) (length is.now) =
       subst (λ (n : ℕ). AreOrdersUpTo is.world r (table.own_view g.state) n) all (subst (λ (v : ℕ). AreOrdersUpTo is.world r v (length is.now + 0)) views is.work.ordered) in
       one_goes 0 g is o may new gain
-      (orders_of_longer R is.world r g.state is.now is.lawful is.kept.agrees is.correct (standing R interval texts w r s h view 0 g is) (entry_of o.ask) up_to)
+      (orders_of_longer R is.world r g.state is.now is.lawful is.kept.agrees is.correct (standing R interval texts w r s h view 0 g is) (ordered_entry o) up_to)
       top low near in_range (omega arith)
 
   -- ---- the orders that are held
@@ -191,9 +190,9 @@ module _ {S : Type 0} (R : Rules S) (interval : ℕ) (texts : Texts) (w : World)
   held_goes (Some o ∷ slots) g all is =
       by_test (λ (g' : Going S). AreGainsKept w texts g'.deeds.acts → (top : ℕ) → last_place g.state.kept + length (Some o ∷ slots) ≤ top → top ≤ g.state.kept.base.place + 2 * interval → top < 2 ^ 62 → Works g') (fits_end R g.state o) _ _
       (λ fits. by_test (λ (g' : Going S). AreGainsKept w texts g'.deeds.acts → (top : ℕ) → last_place g.state.kept + length (Some o ∷ slots) ≤ top → top ≤ g.state.kept.base.place + 2 * interval → top < 2 ^ 62 → Works g')
-      (nat_le (signs_of R g.state o.ask) (leaves_of g.state)) _ _
+      (nat_le (signs_of R g.state (ordered_entry o)) (signs_left g.state)) _ _
       (λ left gains top low near in_range.
-      let new = (and_parts (same_digest o.order.stmt.head (head_after (now_of R g.state.kept).head (digest_of_entry (entry_of o.ask)))) (newer o.ask.stmt.stamp (option_map (λ (known : Known). known.stamp) (known_in R g.state.kept (entry_of o.ask).client.0))) fits).1 in
+      let new = (and_parts (same_digest o.order.stmt.head (head_after (now_of R g.state.kept).head (digest_of_entry (ordered_entry o)))) (is_new_to (now_of R g.state.kept).known (ordered_entry o)) fits).1 in
       let gain = (one_gains w texts R o g (held_gains w texts R slots (run_one R o g) gains)).1 in
       held_goes slots (run_one R o g) all.1 (next_goes o g is all.0 new gain top (omega arith) near in_range) gains top
       (omega (arith, (one_further R o g).ends)) (omega (arith, (one_further R o g).above)) in_range)

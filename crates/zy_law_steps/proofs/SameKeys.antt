@@ -21,7 +21,7 @@ use Rattle.zy_base.specs.declared.step.Mode.{Mode}
 use Rattle.zy_base.specs.declared.step.Mode.TheVariants.{Active, Leaving}
 use Rattle.zy_base.specs.declared.step.TimerKind.{TimerKind}
 use Rattle.zy_base.specs.declared.step.TimerKind.TheVariants as timers
-use Rattle.zy_admit.specs.Judging.{judge_in, same_digest}
+use Rattle.zy_admit.specs.Judging.{judge_in, same_digest, ordered_entry}
 use Rattle.zy_admit.specs.Orders.{slots_above, stored_in}
 use Rattle.zy_admit.specs.declared.judging.Admit.{Admit}
 use Rattle.zy_admit.specs.declared.judging.Admit.TheVariants as admits
@@ -81,7 +81,7 @@ use Rattle.zy_table.specs.Orders.{order_as, position_of}
 use Rattle.zy_table.specs.Requests.{ordered, sealed_order}
 use Rattle.zy_table.specs.Roles.{in_role, view_cause}
 use Rattle.zy_table.specs.Running.{fits_end, run, run_held, run_one, signs_of}
-use Rattle.zy_table.specs.State.{State, leaves_of}
+use Rattle.zy_table.specs.State.{State, signs_left}
 use Rattle.zy_table.specs.State as table
 use Rattle.zy_table.specs.Whole.{decoded_as, hear_plain, hear_view, is_view_frame_in_role, order, order_judged, plain_row, timer, unless, view_decoded, view_row, whole_step}
 use Rattle.zy_table.specs.declared.deeds.Verdict.{Verdict}
@@ -137,7 +137,7 @@ module _ {S : Type 0} (R : Rules S) (s : State S) where
   held_same (None ∷ slots) g is = is
   held_same (Some o ∷ slots) g is =
       by_test Same (fits_end R g.state o) _ _
-      (λ fits. by_test Same (nat_le (signs_of R g.state o.ask) (leaves_of g.state)) _ _ (λ left. held_same slots (run_one R o g) (one_same o g is)) (λ none. is))
+      (λ fits. by_test Same (nat_le (signs_of R g.state (ordered_entry o)) (signs_left g.state)) _ _ (λ left. held_same slots (run_one R o g) (one_same o g is)) (λ none. is))
       (λ differs. record { keys = is.keys; me = is.me; counts = is.counts; interval = is.interval })
 
   run_same : (o : OrderFrame) (g : Going S) → Same g → Same (run R o g)
@@ -466,7 +466,7 @@ module _ {S : Type 0} (R : Rules S) (s : State S) where
   frame_same : (frame : Frame) → HasSame (unless (screen s.keys (plain.parts_of frame)) s (hear_plain R s frame))
   frame_same (frames.Order both) =
       verified_same (frames.Order both) (unless_case s HasSame refuses (view_cause s both.order.stmt.view.0) (order R s both)
-      (λ current. order_judged_same both (judge_in s.orders both.order.stmt both.ask (position_of R s both)) (placed both.order.stmt both.ask (position_of R s both) s.orders)))
+      (λ current. order_judged_same both (judge_in s.orders both.order.stmt (ordered_entry both) (position_of R s both)) (placed both.order.stmt both.ask (position_of R s both) s.orders)))
   frame_same (frames.Hate vote) = verified_same (frames.Hate vote) (finishes (hate R s vote) (hates vote))
   frame_same (frames.Pom first second) = verified_same (frames.Pom first second) (finishes (pom R s first second) (misbehaves first second))
   frame_same (frames.Request ask) = row_same (frames.Request ask) tt

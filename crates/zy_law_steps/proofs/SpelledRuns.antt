@@ -6,7 +6,7 @@ use Rattle.std.proofs.lemmas.List.{length-append}
 use Rattle.sha2.proofs.Facts256.{length-sha256}
 use Rattle.zy_base.specs.Machine.{Rules}
 use Rattle.zy_base.specs.declared.ids.Digest.{Digest}
-use Rattle.zy_admit.specs.Judging.{entry_of}
+use Rattle.zy_admit.specs.Judging.{entry_of, ordered_entry}
 use Rattle.zy_admit.specs.Orders.{slots_above}
 use Rattle.zy_chain.specs.Entries.{digest_of_entry}
 use Rattle.zy_chain.specs.Fields.{entry_fields}
@@ -34,7 +34,7 @@ use Rattle.zy_parts.specs.declared.statements.Spec.{Spec}
 use Rattle.zy_table.specs.Deeds.{Going, send}
 use Rattle.zy_table.specs.Gathering.{own_with, state_in, with_own_spec}
 use Rattle.zy_table.specs.Running.{executed, fits_end, got_of, next_known, respond, run, run_held, run_one, sealed_spec, share, signs_of, spec_of}
-use Rattle.zy_table.specs.State.{State, leaves_of, own_view}
+use Rattle.zy_table.specs.State.{State, signs_left, own_view}
 use Rattle.zy_table.specs.declared.deeds.Act.TheVariants.{Gains}
 use Rattle.zy_table.specs.declared.kept.OwnCheckpoint.{OwnCheckpoint}
 use Rattle.zy_law_views.specs.Told.{spec_spelled}
@@ -59,7 +59,7 @@ module _ {S : Type 0} (R : Rules S) where
 
   pub one_further : (o : OrderFrame) (g : Going S) → last_place (run_one R o g).state.kept ≡ last_place g.state.kept + 1
   one_further o g =
-      one_keeps R (λ g'. last_place g'.state.kept ≡ last_place g.state.kept + 1) (ends_there (last_place g.state.kept + 1)) o g (omega (arith, length-append g.state.kept.entries (entry_of o.ask ∷ [])))
+      one_keeps R (λ g'. last_place g'.state.kept ≡ last_place g.state.kept + 1) (ends_there (last_place g.state.kept + 1)) o g (omega (arith, length-append g.state.kept.entries (ordered_entry o ∷ [])))
 
   held_further : (slots : List (Option OrderFrame)) (g : Going S) → last_place g.state.kept ≤ last_place (run_held R slots g).state.kept
   unfolding run_held
@@ -67,13 +67,13 @@ module _ {S : Type 0} (R : Rules S) where
   held_further (None ∷ slots) g = omega arith
   held_further (Some o ∷ slots) g =
       by_test (λ (g' : Going S). last_place g.state.kept ≤ last_place g'.state.kept) (fits_end R g.state o) _ _
-      (λ fits. by_test (λ (g' : Going S). last_place g.state.kept ≤ last_place g'.state.kept) (nat_le (signs_of R g.state o.ask) (leaves_of g.state)) _ _
+      (λ fits. by_test (λ (g' : Going S). last_place g.state.kept ≤ last_place g'.state.kept) (nat_le (signs_of R g.state (ordered_entry o)) (signs_left g.state)) _ _
       (λ left. omega (arith, one_further o g, held_further slots (run_one R o g)))
       (λ none. omega arith))
       (λ differs. omega arith)
 
   -- the place of the entry that is executed next
-  pub next_place : (s : State S) (ask : Signed Ask) → (next_known R s ask).place.0 ≡ last_place s.kept + 1
+  pub next_place : (s : State S) (ask : Signed Ask) → (next_known R s (entry_of ask)).place.0 ≡ last_place s.kept + 1
   next_place s ask = ap (λ (n : ℕ). n + 1) (place-along R s.kept.base s.kept.entries)
 
 -- ---- a response
@@ -114,10 +114,10 @@ module _ {S : Type 0} (R : Rules S) (w : World) where
 
   -- ---- one order
 
-  executes : (ask : Signed Ask) (g : Going S) → MayRun w (entry_of ask) → IsGoing g → IsGoing (executed R ask g)
+  executes : (ask : Signed Ask) (g : Going S) → MayRun w (entry_of ask) → IsGoing g → IsGoing (executed R (entry_of ask) g)
   executes ask g may is =
       record {
-        acts = fit-append g.deeds.acts (Gains (got_of R g.state ask) ∷ []) is.acts tt;
+        acts = fit-append g.deeds.acts (Gains (got_of R g.state (entry_of ask)) ∷ []) is.acts tt;
         spelled = record {
           signer = is.spelled.signer;
           views = is.spelled.views;
@@ -126,19 +126,19 @@ module _ {S : Type 0} (R : Rules S) (w : World) where
         };
       }
 
-  pub one_goes : (o : OrderFrame) (g : Going S) → MayRun w (entry_of o.ask) → last_place g.state.kept + 1 < 2 ^ 62 → IsGoing g → IsGoing (run_one R o g)
+  pub one_goes : (o : OrderFrame) (g : Going S) → MayRun w (ordered_entry o) → last_place g.state.kept + 1 < 2 ^ 62 → IsGoing g → IsGoing (run_one R o g)
   unfolding run_one spec_fields check_fields
   one_goes o g may low is =
       let s : State S = g.state in
-      let known : Known = next_known R s o.ask in
-      let spec : Spec = spec_of (own_view s) o.ask known in
+      let known : Known = next_known R s (ordered_entry o) in
+      let spec : Spec = spec_of (own_view s) (ordered_entry o) known in
       let at = next_place R s o.ask in
       let small = may.client in
       let view : IsU62 0 (own_view s) = (omega arith, is.spelled.views.own) in
       let there : IsU62 1 known.place.0 = (omega arith, omega arith) in
-      let head = next_long (now_of R s.kept).head (digest_of_entry (entry_of o.ask)) in
+      let head = next_long (now_of R s.kept).head (digest_of_entry (ordered_entry o)) in
       let fits : spec_fields.Fits spec = (view, (there, (head, (length-sha256 _, (omega arith, (omega arith, may.range.stamp)))))) in
-      let done : Going S = executed R o.ask g in
+      let done : Going S = executed R (ordered_entry o) g in
       let moved : IsGoing done = executes o.ask g may is in
       let signed : Signed Spec = sealed_spec done.state spec in
       let after : Going S = respond R o.order signed known.reply done in
@@ -146,8 +146,8 @@ module _ {S : Type 0} (R : Rules S) (w : World) where
         acts = fit_said done.deeds.acts _ moved.acts fits;
         spelled = record { signer = moved.spelled.signer; views = moved.spelled.views; history = moved.spelled.history; board = moved.spelled.board };
       } in
-      shares R o.order signed known.reply (state_in R (longer s.kept (entry_of o.ask)) known.place.0) after (own_spec_spelled done.state spec moved.spelled fits)
-      (λ state told. record { spec = fits; check = (view, (there, (head, state_long (snapshot_in R (longer s.kept (entry_of o.ask)) known.place.0) state told))) })
+      shares R o.order signed known.reply (state_in R (longer s.kept (ordered_entry o)) known.place.0) after (own_spec_spelled done.state spec moved.spelled fits)
+      (λ state told. record { spec = fits; check = (view, (there, (head, state_long (snapshot_in R (longer s.kept (ordered_entry o)) known.place.0) state told))) })
       responds
 
   -- ---- and those that were held for it
@@ -158,12 +158,12 @@ module _ {S : Type 0} (R : Rules S) (w : World) where
   held_goes (None ∷ slots) g may is = λ low. is
   held_goes (Some o ∷ slots) g may is =
       by_test (λ (g' : Going S). last_place g'.state.kept < 2 ^ 62 → IsGoing g') (fits_end R g.state o) _ _
-      (λ fits. by_test (λ (g' : Going S). last_place g'.state.kept < 2 ^ 62 → IsGoing g') (nat_le (signs_of R g.state o.ask) (leaves_of g.state)) _ _
+      (λ fits. by_test (λ (g' : Going S). last_place g'.state.kept < 2 ^ 62 → IsGoing g') (nat_le (signs_of R g.state (ordered_entry o)) (signs_left g.state)) _ _
       (λ left low. held_goes slots (run_one R o g) may.1 (one_goes o g may.0 (omega (arith, one_further R o g, held_further R slots (run_one R o g))) is) low)
       (λ none low. is))
       (λ differs low. record { acts = is.acts; spelled = record { signer = is.spelled.signer; views = is.spelled.views; history = is.spelled.history; board = is.spelled.board } })
 
-  pub runs : (o : OrderFrame) (g : Going S) → AllByRecursion (MaySlotRun w) g.state.orders.slots → MayRun w (entry_of o.ask) → IsGoing g → last_place (run R o g).state.kept < 2 ^ 62 → IsGoing (run R o g)
+  pub runs : (o : OrderFrame) (g : Going S) → AllByRecursion (MaySlotRun w) g.state.orders.slots → MayRun w (ordered_entry o) → IsGoing g → last_place (run R o g).state.kept < 2 ^ 62 → IsGoing (run R o g)
   runs o g slots may is low =
       let rest = slots_above (last_place g.state.kept + 1) g.state.orders in
       held_goes rest (run_one R o g) (slots_from w (last_place g.state.kept + 1 - g.state.orders.base) g.state.orders.slots slots)

@@ -9,7 +9,7 @@ use Rattle.zy_base.specs.declared.step.Event.{Event}
 use Rattle.zy_base.specs.declared.step.Event.TheVariants.{Heard, Timer}
 use Rattle.zy_base.specs.declared.step.TimerKind.{TimerKind}
 use Rattle.zy_base.specs.declared.step.TimerKind.TheVariants as timers
-use Rattle.zy_admit.specs.Judging.{entry_of, judge_in}
+use Rattle.zy_admit.specs.Judging.{judge_in, ordered_entry}
 use Rattle.zy_admit.specs.Orders.{stored_in}
 use Rattle.zy_admit.specs.declared.judging.Admit.{Admit}
 use Rattle.zy_admit.specs.declared.judging.Admit.TheVariants as admits
@@ -75,7 +75,7 @@ module _ {S : Type 0} (R : Rules S) (interval : ℕ) (texts : Texts) (w : World)
   abbrev IsBroughtOnceVerified : Frame → Type 0
   IsBroughtOnceVerified frame = screen s.keys (plain.parts_of frame) ≡ None → in_role s frame ≡ true → Brought frame
 
-  order_judged_done : (o : OrderFrame) → MayRun w (entry_of o.ask) → (a : Admit) → IsPlaced o.order.stmt o.ask (position_of R s o) a → IsDone (order_judged R s o a)
+  order_judged_done : (o : OrderFrame) → MayRun w (ordered_entry o) → (a : Admit) → IsPlaced o.order.stmt o.ask (position_of R s o) a → IsDone (order_judged R s o a)
   order_judged_done o may a place = by a place
     where
       as_it_is : (a : Admit) → IsPlaced o.order.stmt o.ask (position_of R s o) a → IsDone (order_as R s o a)
@@ -90,8 +90,8 @@ module _ {S : Type 0} (R : Rules S) (interval : ℕ) (texts : Texts) (w : World)
       by admits.Held place = as_it_is admits.Held place
       by (admits.Refused cause) place = as_it_is (admits.Refused cause) place
 
-  order_done : (o : OrderFrame) → MayRun w (entry_of o.ask) → IsDone (order R s o)
-  order_done o may = order_judged_done o may (judge_in s.orders o.order.stmt o.ask (position_of R s o)) (placed o.order.stmt o.ask (position_of R s o) s.orders)
+  order_done : (o : OrderFrame) → MayRun w (ordered_entry o) → IsDone (order R s o)
+  order_done o may = order_judged_done o may (judge_in s.orders o.order.stmt (ordered_entry o) (position_of R s o)) (placed o.order.stmt o.ask (position_of R s o) s.orders)
 
   verified_done : (frame : Frame) → (screen s.keys (plain.parts_of frame) ≡ None → in_role s frame ≡ true → IsDone (plain_row R s frame)) → IsDone (unless (screen s.keys (plain.parts_of frame)) s (hear_plain R s frame))
   verified_done frame done =

@@ -12,7 +12,7 @@ use Rattle.zy_base.specs.declared.ids.Place.{Place}
 use Rattle.zy_base.specs.declared.ids.Stamp.{Stamp}
 use Rattle.zy_base.specs.declared.ids.View.{View}
 use Rattle.zy_base.specs.declared.step.Answer.TheVariants.{Taken, Held}
-use Rattle.zy_admit.specs.Judging.{entry_of}
+use Rattle.zy_admit.specs.Judging.{entry_of, ordered_entry, asking}
 use Rattle.zy_admit.specs.Orders.{gap_above, gap_in, slots_above, with_order}
 use Rattle.zy_cert.proofs.CertificateLemmas.{certified-taken}
 use Rattle.zy_cert.specs.Certificates.{IsCertificate}
@@ -111,23 +111,23 @@ module _ {S : Type 0} (R : Rules S) (interval : ℕ) (texts : Texts) (w : World)
 
   -- ---- a request that was executed last
 
-  known_fits : (ask : Signed Ask) (known : Known) → known_in R s.kept (entry_of ask).client.0 ≡ Some known → last_place s.kept < 2 ^ 62 → spec_fields.Fits (spec_of (own_view s) ask known)
+  known_fits : (ask : Signed Ask) (known : Known) → known_in R s.kept (asking ask.by).0 ≡ Some known → last_place s.kept < 2 ^ 62 → spec_fields.Fits (spec_of (own_view s) (entry_of ask) known)
   unfolding spec_fields
   known_fits ask known there low =
       let standing = ready.tied.standing in
-      let last : IsLastOf R h (entry_of ask).client.0 known = record_is R interval texts w r s h ready kept (entry_of ask).client.0 known there in
+      let last : IsLastOf R h (asking ask.by).0 known = record_is R interval texts w r s h ready kept (asking ask.by).0 known there in
       let within = entry_within h known.place.0 last.entry last.there in
       let end = stands_end R s.kept h standing.stands in
       let first = last.there.first in
       let here : Moment w = record { by = r; correct = ready.correct; number = standing.number; stand = record { view = s.views.last_view.0; history = h }; stood = standing.stood } in
       let all : AllByRecursion IsRunnable h = all_listed IsRunnable h (all_runnable texts w kept.kept.links w.next empty_head h (ready.lawful.texts here)) in
       let run : IsRunnable last.entry = at_of IsRunnable h (known.place.0 - 1) last.entry all last.there.there in
-      let client : (entry_of ask).client.0 < 64 = subst (λ (n : ℕ). n < 64) last.client_is run.client in
+      let client : (asking ask.by).0 < 64 = subst (λ (n : ℕ). n < 64) last.client_is run.client in
       let stamp : known.stamp.0 < 2 ^ 62 = subst (λ (t : Stamp). t.0 < 2 ^ 62) last.stamp run.in_range.stamp in
       let head : length known.head.0 ≡ 32 = ap (λ (d : Digest). length d.0) (sym last.head) ∙ head_long empty_head (take known.place.0 h) refl in
       ((omega arith, is.views.own), ((omega arith, omega arith), (head, (length-sha256 _, (omega arith, (omega arith, stamp))))))
 
-  responds : (ask : Signed Ask) (known : Known) → known_in R s.kept (entry_of ask).client.0 ≡ Some known → IsDone (responded R s (spec_of (own_view s) ask known) known)
+  responds : (ask : Signed Ask) (known : Known) → known_in R s.kept (asking ask.by).0 ≡ Some known → IsDone (responded R s (spec_of (own_view s) (entry_of ask) known) known)
   responds ask known there low = record { acts = (known_fits ask known there low, tt); spelled = same_spelled _ refl refl refl refl }
 
   -- ---- an order
@@ -146,7 +146,7 @@ module _ {S : Type 0} (R : Rules S) (interval : ℕ) (texts : Texts) (w : World)
       })
       low
 
-  pub takes : (o : OrderFrame) → MayRun w (entry_of o.ask) → IsDone (ends Taken (run R o (begin (record (with_held s o) { hole = None }))))
+  pub takes : (o : OrderFrame) → MayRun w (ordered_entry o) → IsDone (ends Taken (run R o (begin (record (with_held s o) { hole = None }))))
   takes o may low =
       let g : Going S = begin (record (with_held s o) { hole = None }) in
       runs R w o g (slots_put w s.orders o work.runs may) may (record { acts = tt; spelled = same_spelled g.state refl refl refl refl }) low

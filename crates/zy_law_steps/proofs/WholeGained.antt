@@ -9,7 +9,7 @@ use Rattle.zy_base.specs.declared.frame_fault.FrameFault.{FrameFault}
 use Rattle.zy_base.specs.declared.frame_fault.FrameFault.TheVariants as faults
 use Rattle.zy_base.specs.declared.step.Event.{Event}
 use Rattle.zy_base.specs.declared.step.Event.TheVariants.{Heard, Timer}
-use Rattle.zy_admit.specs.Judging.{entry_of, judge_in}
+use Rattle.zy_admit.specs.Judging.{judge_in, ordered_entry}
 use Rattle.zy_admit.specs.Orders.{stored_in}
 use Rattle.zy_admit.specs.declared.judging.Admit.{Admit}
 use Rattle.zy_admit.specs.declared.judging.Admit.TheVariants as admits
@@ -68,7 +68,7 @@ module _ {S : Type 0} (R : Rules S) (interval : ℕ) (texts : Texts) (w : World)
 
   -- ---- a frame of normal operation
 
-  judged_gain : (both : OrderFrame) → MayRun w (entry_of both.ask) → (a : Admit) → Gains (order_judged R s both a)
+  judged_gain : (both : OrderFrame) → MayRun w (ordered_entry both) → (a : Admit) → Gains (order_judged R s both a)
   judged_gain both may admits.Evidence =
       let stored = stored_in s.orders both.order.stmt.place.0 in
       (finishes_leaving R interval texts w r s h ready kept_texts (tell_all R s both.order stored) (order_attempt R interval w r s h ready both.order stored)).gained
@@ -90,7 +90,7 @@ module _ {S : Type 0} (R : Rules S) (interval : ℕ) (texts : Texts) (w : World)
   frame_gain : (frame : Frame) → IsHeldOnceVerified frame → Gains (unless (screen s.keys (plain.parts_of frame)) s (hear_plain R s frame))
   frame_gain (frames.Order both) held =
       verified_gain (frames.Order both) (λ verified role. unless_case s Gains refused_gains (view_cause s both.order.stmt.view.0) (order R s both)
-      (λ current. judged_gain both (held verified role).0 (judge_in s.orders both.order.stmt both.ask (position_of R s both))))
+      (λ current. judged_gain both (held verified role).0 (judge_in s.orders both.order.stmt (ordered_entry both) (position_of R s both))))
   frame_gain (frames.Hate vote) held = verified_gain (frames.Hate vote) (λ verified role. (finishes_leaving R interval texts w r s h ready kept_texts (hate R s vote) (hate_attempt R interval w r s h ready vote)).gained)
   frame_gain (frames.Pom first second) held =
       verified_gain (frames.Pom first second) (λ verified role. (finishes_leaving R interval texts w r s h ready kept_texts (pom R s first second) (pom_attempt R interval w r s h ready first second)).gained)

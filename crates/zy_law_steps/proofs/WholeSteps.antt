@@ -8,7 +8,7 @@ use Rattle.zy_base.specs.declared.frame_fault.FrameFault.{FrameFault}
 use Rattle.zy_base.specs.declared.frame_fault.FrameFault.TheVariants as faults
 use Rattle.zy_base.specs.declared.step.Event.{Event}
 use Rattle.zy_base.specs.declared.step.Event.TheVariants.{Heard, Timer}
-use Rattle.zy_admit.specs.Judging.{judge_in}
+use Rattle.zy_admit.specs.Judging.{judge_in, ordered_entry}
 use Rattle.zy_admit.specs.Orders.{stored_in}
 use Rattle.zy_admit.specs.declared.judging.Admit.{Admit}
 use Rattle.zy_admit.specs.declared.judging.Admit.TheVariants as admits
@@ -106,7 +106,7 @@ module _ {S : Type 0} (R : Rules S) (interval : ℕ) (texts : Texts) (w : World)
   order_judged_fine o may stays (admits.Refused cause) is gains = refuses R interval texts w r s h ready kept cause
 
   pub order_fine : (o : OrderFrame) → IsFrameHeld w (frames.Order o) → is_leaving s ≡ false → IsFine (order R s o)
-  order_fine o may stays = order_judged_fine o may stays (judge_in s.orders o.order.stmt o.ask (position_of R s o)) (placed o.order.stmt o.ask (position_of R s o) s.orders)
+  order_fine o may stays = order_judged_fine o may stays (judge_in s.orders o.order.stmt (ordered_entry o) (position_of R s o)) (placed o.order.stmt o.ask (position_of R s o) s.orders)
 
   -- ---- a frame of normal operation
 

@@ -1,7 +1,6 @@
 -- A replica on its way through a step of normal operation: what it did so far is allowed, and it is tied in the world after it.
 use Rattle.std.proofs.Common.{◌≡◌, ℕ, ◌+◌, ◌-◌, ◌*◌, ◌^◌, ◌<◌, ◌≤◌, true, List, [], ◌∷◌, ◌++◌, length, fold, refl, sym, ap, ◌∙◌, subst, arith}
 use Rattle.std.specs.List.{AllByRecursion}
-use Rattle.std.specs.Prelude.{option_map}
 use Rattle.std.proofs.lemmas.List.{length-append}
 use Rattle.std.proofs.lemmas.Option.{same_Some}
 use Rattle.zy_base.specs.Machine.{Rules}
@@ -12,14 +11,13 @@ use Rattle.zy_base.specs.declared.ids.ReplicaId.{ReplicaId}
 use Rattle.zy_base.specs.declared.ids.View.{View}
 use Rattle.zy_base.specs.declared.step.Mode.{Mode}
 use Rattle.zy_base.specs.declared.step.Mode.TheVariants.{Active}
-use Rattle.zy_admit.specs.Judging.{entry_of, newer}
+use Rattle.zy_admit.specs.Judging.{entry_of}
 use Rattle.zy_chain.specs.Heads.{empty_head}
 use Rattle.zy_chain.specs.declared.entry.Entry.{Entry}
 use Rattle.zy_exec.proofs.HistoryLemmas.{stands_leads}
 use Rattle.zy_exec.proofs.ReplayLemmas.{head-along}
-use Rattle.zy_exec.specs.Kept.{known_in, last_place, now_of}
-use Rattle.zy_exec.specs.Replay.{Point, origin}
-use Rattle.zy_exec.specs.declared.known.Known.{Known}
+use Rattle.zy_exec.specs.Kept.{last_place, now_of}
+use Rattle.zy_exec.specs.Replay.{Point, origin, is_new_to}
 use Rattle.zy_law.proofs.StepsLawful.{saying_lawful, standing_lawful}
 use Rattle.zy_law.specs.Lawful.{AreAskedFor, IsLawful}
 use Rattle.zy_law.specs.Said.{IsCorrect, Moment, Stood}
@@ -55,6 +53,7 @@ use Rattle.zy_law_views.specs.Steps.{IsWorldOf}
 use Rattle.zy_law_steps.proofs.Gained.{longer_kept}
 use Rattle.zy_law_views.specs.Work.{IsAtWork, IsWorkTied, last_long, workplace_of}
 use Rattle.zy_law_steps.specs.Gains.{IsGainKept}
+use Rattle.zy_chain.specs.Entries.{IsOfClients}
 
 -- an entry that is gained
 leads_gaining : (w : World) (r view number : ℕ) (h : List Entry) (got : Got) → MayStand w r (stand_with view h got)
@@ -203,7 +202,7 @@ module _ {S : Type 0} (R : Rules S) (interval : ℕ) (texts : Texts) (w : World)
           stood = is.tied.standing.stood;
         }
 
-    pub clients_now : AllByRecursion lawful.IsOfClient is.now
+    pub clients_now : AllByRecursion IsOfClients is.now
     clients_now = clients_of is.world texts is.kept.kept.links empty_head is.now (is.lawful.texts here)
 
     stood_now : Stood is.world r is.at (record { view = table.own_view g.state; history = is.now })
@@ -233,8 +232,8 @@ module _ {S : Type 0} (R : Rules S) (interval : ℕ) (texts : Texts) (w : World)
 
     -- ---- an entry more
 
-    module _ (ask : Signed Ask) (run : MayRun w (entry_of ask)) (new : newer ask.stmt.stamp (option_map (λ (known : Known). known.stamp) (known_in R g.state.kept (entry_of ask).client.0)) ≡ true)
-        (gain : IsGainKept w texts (got_of R g.state ask)) (of : AreOrdersOf is.world r (table.own_view g.state) (is.now ++ entry_of ask ∷ []))
+    module _ (ask : Signed Ask) (run : MayRun w (entry_of ask)) (new : is_new_to (now_of R g.state.kept).known (entry_of ask) ≡ true)
+        (gain : IsGainKept w texts (got_of R g.state (entry_of ask))) (of : AreOrdersOf is.world r (table.own_view g.state) (is.now ++ entry_of ask ∷ []))
         (top : ℕ) (low : last_place g.state.kept < top) (near : top ≤ g.state.kept.base.place + 2 * interval) (in_range : top < 2 ^ 62) where
       abbrev pub e : Entry
       e = entry_of ask
@@ -279,16 +278,16 @@ module _ {S : Type 0} (R : Rules S) (interval : ℕ) (texts : Texts) (w : World)
       pub may_be : MayStand is.world r stand
       may_be = may_run R interval is.world is.lawful r is.correct (core_of g.state) is.now is.tied view is.active e runnable
 
-      pub lead_run : LeadsTo w r (table.own_view s) number h (g.deeds.acts ++ Gains (got_of R g.state ask) ∷ []) (after_standing is.world r stand) (table.own_view s) (is.at + 1) far
+      pub lead_run : LeadsTo w r (table.own_view s) number h (g.deeds.acts ++ Gains (got_of R g.state (entry_of ask)) ∷ []) (after_standing is.world r stand) (table.own_view s) (is.at + 1) far
       lead_run =
           let own = table.own_view s in
-          let got = got_of R g.state ask in
+          let got = got_of R g.state (entry_of ask) in
           let views : g.state.views.last_view.0 ≡ own = sym last_view_is ∙ sym is.begun in
           leads_on w r own number h g.deeds.acts (Gains got ∷ []) is.world (after_standing is.world r stand) own own is.at (is.at + 1) is.now far is.lead
           (subst (λ (v : ℕ). LeadsTo is.world r own is.at is.now (Gains got ∷ []) (after_standing is.world r (record { view = v; history = far })) own (is.at + 1) far) (sym views)
           (leads_gaining is.world r own is.at is.now got (subst (λ (v : ℕ). MayStand is.world r (record { view = v; history = far })) views may_be)))
 
-      unfoldable pub gains : more ≤ 1 → IsWorking 0 (executed R ask g)
+      unfoldable pub gains : more ≤ 1 → IsWorking 0 (executed R (entry_of ask) g)
       gains few =
           let long : length far ≡ length is.now + 1 = length-append is.now (e ∷ []) in
           record {
@@ -309,6 +308,6 @@ module _ {S : Type 0} (R : Rules S) (interval : ℕ) (texts : Texts) (w : World)
             signer = is.signer;
             spaced = is.spaced;
             begun = is.begun;
-            gained = subst (AllByRecursion (IsGained w)) (sym (gains_in-append g.deeds.acts (Gains (got_of R g.state ask) ∷ [])))
-                (all_of_both (IsGained w) (gains_in g.deeds.acts) (got_of R g.state ask ∷ []) is.gained (record { run = run; head = refl }, tt));
+            gained = subst (AllByRecursion (IsGained w)) (sym (gains_in-append g.deeds.acts (Gains (got_of R g.state (entry_of ask)) ∷ [])))
+                (all_of_both (IsGained w) (gains_in g.deeds.acts) (got_of R g.state (entry_of ask) ∷ []) is.gained (record { run = run; head = refl }, tt));
           }

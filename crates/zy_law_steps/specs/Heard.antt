@@ -2,7 +2,7 @@
 use Rattle.std.specs.Prelude.{◌≡◌, true, None, Ok, All}
 use Rattle.zy_base.specs.declared.step.Event.{Event}
 use Rattle.zy_base.specs.declared.step.Event.TheVariants.{Heard, Timer}
-use Rattle.zy_admit.specs.Judging.{entry_of}
+use Rattle.zy_admit.specs.Judging.{entry_of, ordered_entry}
 use Rattle.zy_frames.specs.Frames.{frame_in, parts_of}
 use Rattle.zy_frames.specs.declared.frame.Frame.{Frame}
 use Rattle.zy_frames.specs.declared.frame.Frame.TheVariants as frames
@@ -17,7 +17,7 @@ use Rattle.zy_law_views.specs.Told.{check_told, order_told, response_told}
 -- the requests in it may be run, and its order, its responses and its checkpoint are held
 abbrev pub IsFrameHeld : World → Frame → Type 0
 IsFrameHeld w (frames.Request ask) = MayRun w (entry_of ask)
-IsFrameHeld w (frames.Order both) = MayRun w (entry_of both.ask) × IsHeldPart w order_told both.order
+IsFrameHeld w (frames.Order both) = MayRun w (ordered_entry both) × IsHeldPart w order_told both.order
 IsFrameHeld w (frames.SpecResponse spec reply with_order) = IsHeldPart w response_told spec
 IsFrameHeld w (frames.Commit specs) = All (IsHeldPart w response_told) specs
 IsFrameHeld w (frames.ConfirmReq confirm ask) = MayRun w (entry_of ask)

@@ -1,5 +1,5 @@
 -- What holds of each signed statement that a replica hears, keeps, says or sends, where something is said of each kind of them.
-use Rattle.std.specs.Prelude.{◌≡◌, ℕ, ◌≤◌, Bool, true, List, All, IfSome, None, Ok, Err, length}
+use Rattle.std.specs.Prelude.{◌≡◌, ℕ, ◌≤◌, Bool, true, List, All, IfSome, None, Ok, Err}
 use Rattle.std.specs.List.{AllByRecursion}
 use Rattle.zy_base.specs.declared.frame_fault.FrameFault.TheVariants as faults
 use Rattle.zy_base.specs.declared.ids.Party.{Party}
@@ -58,6 +58,7 @@ use Rattle.zy_vframes.specs.declared.frame.ViewFrame.{ViewFrame}
 use Rattle.zy_vframes.specs.declared.frame.ViewFrame.TheVariants as views
 use Rattle.zy_wire.specs.Fields.{FitsList}
 use Rattle.zy_wire.specs.Spelling.{Spelling}
+use Rattle.zy_chain.specs.Answers.{FitsAnswers}
 
 -- what is to hold of each kind, of a report and of a new view without what is inside
 pub record Signs : Type 1 where
@@ -99,7 +100,7 @@ OfCert F cert = OfNew F cert.new × FitsList F.began 1 16 cert.begans
 abbrev pub OfFrame : Signs → Frame → Type 0
 OfFrame F (frames.Request ask) = F.ask ask
 OfFrame F (frames.Order both) = OfOrder F both
-OfFrame F (frames.SpecResponse spec reply with_order) = F.spec spec × (length reply ≤ 1100) × IfSome with_order F.order
+OfFrame F (frames.SpecResponse spec reply with_order) = F.spec spec × FitsAnswers reply × IfSome with_order F.order
 OfFrame F (frames.Commit specs) = FitsList F.spec 1 16 specs
 OfFrame F (frames.LocalCommit local) = F.local local
 OfFrame F (frames.ConfirmReq confirm ask) = F.confirm confirm × F.ask ask
@@ -149,7 +150,7 @@ OfBoard F b = IsRoundOf F.spec F.check b.near × IsRoundOf F.spec F.check b.far 
 -- No reply that it kept is longer than a frame may hold, and its state is one that a machine may have.
 pub record IsShort {S : Type 0} (is_state : S → Type 0) (p : Point S) : Type 0 where
   pub state : is_state p.state
-  pub known : AllByRecursion (λ slot. IfSome slot (λ (known : Known). length known.reply ≤ 1100)) p.known
+  pub known : AllByRecursion (λ slot. IfSome slot (λ (known : Known). FitsAnswers known.reply)) p.known
 
 -- the snapshots that it fetched, and where what it keeps of its history begins; and it signs as itself
 abbrev pub OfBase : {S : Type 0} → (S → Type 0) → Signs → State S → Type 0
@@ -158,12 +159,12 @@ OfBase is_state F s = AllByRecursion F.fetch s.fetches × IsShort is_state s.kep
 abbrev pub OfState : {S : Type 0} → (S → Type 0) → Signs → State S → Type 0
 OfState is_state F s =
     OfViews F s.views × OfOrders F s.orders × OfBoard F s.board × IfSome s.hole F.hole
-    × AllByRecursion (λ slot. IfSome slot F.spec) s.specs × AllByRecursion (λ slot. IfSome slot (OfPending F)) s.pending
+    × AllByRecursion F.spec s.specs × AllByRecursion (λ slot. IfSome slot (OfPending F)) s.pending
     × AllByRecursion F.local s.locals × IfSome s.hate (OfHateBy F (Replica s.me)) × OfBase is_state F s
 
 -- ---- what it signs
 
--- It holds of the statement, whichever leaf of the party's key signs it; of a report and a new view where it holds of all inside.
+-- It holds of the statement, whichever signature of the party it has; of a report and a new view where it holds of all inside.
 abbrev pub OfBody : Signs → Party → Body → Type 0
 OfBody F me (bodies.Order order) = (sealer : SealerState) → sealer.me ≡ me → F.order (sealed_by numbers.order order_fields sealer order)
 OfBody F me (bodies.Spec spec) = (sealer : SealerState) → sealer.me ≡ me → F.spec (sealed_by numbers.spec spec_fields sealer spec)
@@ -207,14 +208,14 @@ OfVerified F keys (Timer kind) = Unit {0}
 abbrev pub OfResponse : Signs → Response → Type 0
 OfResponse F r = F.spec r.spec × IfSome r.order F.order
 
--- it signs as itself, and its last stamp isn't above the number of leaves that it spent
+-- it signs as itself, and its last stamp isn't above the number of signatures that it spent
 abbrev pub SignsAsItself : ClientState → Type 0
 SignsAsItself s = (s.sealer.me ≡ Client s.me) × (s.stamp.0 ≤ s.sealer.key.next)
 
 abbrev pub OfClient : Signs → ClientState → Type 0
 OfClient F s = IfSome s.waiting F.ask × AllByRecursion (λ slot. IfSome slot (OfResponse F)) s.responses × SignsAsItself s
 
--- the requests that it signs, whichever leaf of its key signs them
+-- the requests that it signs, whichever signatures they have
 abbrev pub OfAsks : Signs → Party → List Ask → Type 0
 OfAsks F me asks = AllByRecursion (λ ask. (sealer : SealerState) → sealer.me ≡ me → F.ask (sealed_by numbers.ask ask_fields sealer ask)) asks
 

@@ -1,5 +1,5 @@
 ghost use Rattle.std.specs.Prelude.{◌≡◌, ℕ, List};
-ghost use Rattle.zy_admit.specs.Judging.{entry_of};
+ghost use Rattle.zy_admit.specs.Judging.{entry_of, ordered_entry};
 ghost use Rattle.zy_base.specs.declared.ids.View.{View};
 ghost use Rattle.zy_base.specs.declared.step.Mode.TheVariants.{Active};
 ghost use Rattle.zy_chain.specs.declared.entry.Entry.{Entry};
@@ -29,5 +29,5 @@ use zy_base::Machine;
 pub fn working_rows<M: Machine>()
     ensures request { (interval r : ℕ) (texts : Texts) (w : World) (s : State M.State) (history : List Entry) (view : View) (ask : Signed Ask) → IsReady M.rules interval w r s history → IsWorldOf M.rules interval w texts → IsAtWork interval w r s → s.views.mode ≡ Active view → MayRun w (entry_of ask) → AreGainsKept w texts (request M.rules s ask).deeds.acts → IsLawfulStep M.rules interval texts w r s history (request M.rules s ask) }
     ensures passed_on { (interval r : ℕ) (texts : Texts) (w : World) (s : State M.State) (history : List Entry) (view : View) (confirmed : Signed Confirm) (ask : Signed Ask) → IsReady M.rules interval w r s history → IsWorldOf M.rules interval w texts → IsAtWork interval w r s → s.views.mode ≡ Active view → MayRun w (entry_of ask) → AreGainsKept w texts (confirm M.rules s confirmed ask).deeds.acts → IsLawfulStep M.rules interval texts w r s history (confirm M.rules s confirmed ask) }
-    ensures order { (interval r : ℕ) (texts : Texts) (w : World) (s : State M.State) (history : List Entry) (view : View) (both : OrderFrame) → IsReady M.rules interval w r s history → IsWorldOf M.rules interval w texts → IsAtWork interval w r s → s.views.mode ≡ Active view → MayRun w (entry_of both.ask) → IsHeldPart w order_told both.order → AreGainsKept w texts (order M.rules s both).deeds.acts → IsLawfulStep M.rules interval texts w r s history (order M.rules s both) }
+    ensures order { (interval r : ℕ) (texts : Texts) (w : World) (s : State M.State) (history : List Entry) (view : View) (both : OrderFrame) → IsReady M.rules interval w r s history → IsWorldOf M.rules interval w texts → IsAtWork interval w r s → s.views.mode ≡ Active view → MayRun w (ordered_entry both) → IsHeldPart w order_told both.order → AreGainsKept w texts (order M.rules s both).deeds.acts → IsLawfulStep M.rules interval texts w r s history (order M.rules s both) }
 {}

@@ -31,6 +31,7 @@ use Rattle.zy_law_views.specs.Tied.{IsTied}
 use Rattle.zy_law_views.specs.Told.{check_told, order_told, response_told}
 use Rattle.zy_law_views.specs.Cores.{core_of}
 use Rattle.zy_law_views.specs.Work.{IsAtWork, IsRoundHeld, IsSlotSigned, IsWorkTied, Workplace, last_long, workplace_of}
+use Rattle.zy_law_normal.specs.Acts.{answer_told}
 
 -- ---- the last stand
 
@@ -56,9 +57,9 @@ own_held w r y by me correct signer is =
     subst (λ (p : Party). IsVouchedBy (after_saying w r y) y.what p) (sym signer) (subst (λ (n : ℕ). IsVouched (after_saying w r y) y.what n) (sym is) itself)
 
 -- a response to a client that there may be is spelled as it was said
-pub told_alike : (spec : Spec) → spec.client.0 < 64 → Statement.Spec spec.view.0 (mark_at spec.place spec.head) (record { client = spec.client.0; stamp = spec.stamp.0; reply = spec.reply }) ≡ response_told spec
+pub told_alike : (spec : Spec) → spec.client.0 < 64 → Statement.Spec spec.view.0 (mark_at spec.place spec.head) (answer_told spec.client.0 spec.stamp.0 spec.reply) ≡ response_told spec
 told_alike spec small =
-    ap (λ (n : ℕ). Statement.Spec spec.view.0 (mark_at spec.place spec.head) (record { client = n; stamp = spec.stamp.0; reply = spec.reply }))
+    ap (λ (n : ℕ). Statement.Spec spec.view.0 (mark_at spec.place spec.head) (answer_told n spec.stamp.0 spec.reply))
     (sym (from_be_bytes-to_be_bytes_4 spec.client.0 (omega arith)))
 
 -- ---- as more is said, and where it stands elsewhere

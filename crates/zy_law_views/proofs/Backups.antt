@@ -5,12 +5,11 @@ use Rattle.std.specs.Prelude.{slice_index_or}
 use Rattle.zy_base.specs.Machine.{Rules}
 use Rattle.zy_base.specs.declared.cause.Cause.TheVariants as causes
 use Rattle.zy_base.specs.declared.ids.Digest.{Digest}
-use Rattle.zy_base.specs.declared.ids.Stamp.{Stamp}
 use Rattle.zy_base.specs.declared.ids.View.{View}
 use Rattle.zy_base.specs.declared.step.Answer.TheVariants.{Taken}
 use Rattle.zy_base.specs.declared.step.Mode.{Mode}
 use Rattle.zy_base.specs.declared.step.Mode.TheVariants.{Active, Leaving}
-use Rattle.zy_admit.specs.Judging.{entry_of}
+use Rattle.zy_admit.specs.Judging.{entry_of, asking}
 use Rattle.zy_admit.specs.Orders.{orders_from}
 use Rattle.zy_chain.specs.Heads.{empty_head}
 use Rattle.zy_chain.specs.declared.entry.Entry.{Entry}
@@ -25,7 +24,6 @@ use Rattle.zy_law.specs.Said.{Moment}
 use Rattle.zy_law.specs.World.{World}
 use Rattle.zy_law_normal.proofs.Own.{by_test}
 use Rattle.zy_law_normal.proofs.Records.{IsLastOf, IsRecord, records}
-use Rattle.zy_law_normal.specs.Tied.{IsOfClient}
 use Rattle.zy_parts.specs.declared.signed.Signed.{Signed}
 use Rattle.zy_parts.specs.declared.statements.Ask.{Ask}
 use Rattle.zy_parts.specs.declared.statements.Hole.{Hole}
@@ -50,9 +48,12 @@ use Rattle.zy_law_views.proofs.Requested.{RoomCases, RunCases, request_row}
 use Rattle.zy_law_views.proofs.Responding.{IsInView, speaks, true_reply, world_agrees}
 use Rattle.zy_law_views.proofs.Taking.{ended}
 use Rattle.zy_law_views.specs.Steps.{IsLawfulStep, IsWorldOf}
+use Rattle.zy_chain.specs.Entries.{IsOfClients}
+use Rattle.zy_law_normal.specs.Acts.{answer_told}
+use Rattle.zy_chain.specs.Answers.{digest_of_answers}
 
 -- the clients of a history whose links are kept
-pub clients_of : (w : World) (texts : Texts) → AreLinks w texts → (head : Digest) (list : List Entry) → AreKept w.kept w.next head list → AllByRecursion IsOfClient list
+pub clients_of : (w : World) (texts : Texts) → AreLinks w texts → (head : Digest) (list : List Entry) → AreKept w.kept w.next head list → AllByRecursion IsOfClients list
 clients_of w texts links head [] kept = tt
 clients_of w texts links head (e ∷ list) kept = ((links head e kept.0).runnable.client, clients_of w texts links (w.next head e) list kept.1)
 
@@ -83,9 +84,9 @@ module _ {S : Type 0} (R : Rules S) (interval : ℕ) (texts : Texts) (w : World)
 
   -- ---- a request that was executed last is answered again
 
-  module _ (ask : Signed Ask) (known : Known) (is : known_in R s.kept (entry_of ask).client.0 ≡ Some known) (view : View) (active : s.views.mode ≡ Active view) where
+  module _ (ask : Signed Ask) (known : Known) (is : known_in R s.kept (asking ask.by).0 ≡ Some known) (view : View) (active : s.views.mode ≡ Active view) where
     abbrev pub spec : Spec
-    spec = spec_of (table.own_view s) ask known
+    spec = spec_of (table.own_view s) (entry_of ask) known
 
     abbrev pub signed : Signed Spec
     signed = sealed_spec s spec
@@ -95,7 +96,7 @@ module _ {S : Type 0} (R : Rules S) (interval : ℕ) (texts : Texts) (w : World)
 
     pub answered_on : IsOnWay R interval w r s history ready answered
     answered_on =
-        let last = record_is (entry_of ask).client.0 known is in
+        let last = record_is (asking ask.by).0 known is in
         let within : known.place.0 ≤ length history = entry_within history known.place.0 last.entry last.there in
         let in_view : IsInView R interval w r s history ready kept.agrees view (begin s) = record { way = start; active = active } in
         (speaks R interval w r s history ready kept.agrees view (begin s) in_view spec answered refl
@@ -104,9 +105,8 @@ module _ {S : Type 0} (R : Rules S) (interval : ℕ) (texts : Texts) (w : World)
         (record {
           entry = last.entry;
           last = last.there;
-          client = last.client_is;
-          stamp = ap (λ (t : Stamp). t.0) last.stamp;
-          reply = true_reply R start.world (world_agrees R interval w r s history ready kept.agrees view (begin s) start) history known.place.0 known.reply within last.reply;
+          reply = true_reply R start.world (world_agrees R interval w r s history ready kept.agrees view (begin s) start) history known.place.0 last.entry known.reply within last.there last.reply
+              ∙ (λ i. (answer_told (last.client_is i) (last.stamp i).0 (digest_of_answers known.reply)).reply);
         })
         (works_said interval start.world r _ s (λ v m request told. absurd cc))).way
 

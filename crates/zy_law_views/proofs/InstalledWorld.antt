@@ -19,7 +19,7 @@ use Rattle.zy_choose.specs.Reports.{PlainReport, proven}
 use Rattle.zy_evidence.specs.Reading.{read}
 use Rattle.zy_exec.proofs.ReplayLemmas.{along-nil}
 use Rattle.zy_exec.specs.Kept.{Kept}
-use Rattle.zy_exec.specs.Replay.{Point, answer_at, origin}
+use Rattle.zy_exec.specs.Replay.{Point, answer_at, origin, answers_of}
 use Rattle.zy_exec.specs.Installed.{IsRunnable}
 use Rattle.zy_exec.specs.Shots.{snapshot_at}
 use Rattle.zy_law.proofs.HistoryLemmas.{mark_is}
@@ -55,7 +55,7 @@ module _ {S : Type 0} (R : Rules S) (texts : Texts) (kept : AreFirstKept R texts
       reply : (place : ℕ) (text : List ℕ) → answer_at R list_1 place ≡ Some text → IsKept texts text
       reply zero text told = absurd cc
       reply (suc zero) text told =
-          subst (IsKept texts) (same_Some _ text (ap (λ (p : Point S). Some (R.reply p.state first_entry.client first_entry.op)) (sym (along-nil R (origin R))) ∙ told)) kept.reply
+          subst (IsKept texts) (same_Some _ text (ap (λ (p : Point S). Some (answers_of R p.state first_entry)) (sym (along-nil R (origin R))) ∙ told)) kept.reply
       reply (suc (suc before)) text told = absurd cc
 
       due : (b : Bool) (text : List ℕ) → cond b (Some (first_snapshot R)) None ≡ Some text → IsKept texts text

@@ -8,7 +8,7 @@ use Rattle.zy_base.specs.Machine.{Rules}
 use Rattle.zy_chain.specs.declared.entry.Entry.{Entry}
 use Rattle.zy_exec.proofs.ReplayLemmas.{place-along}
 use Rattle.zy_exec.specs.Kept.{Kept, StandsFor}
-use Rattle.zy_exec.specs.Replay.{Point, along, answer_at, origin}
+use Rattle.zy_exec.specs.Replay.{Point, along, answer_at, origin, answers_of}
 use Rattle.zy_exec.specs.Shots.{snapshot_at, snapshot_due}
 use Rattle.zy_exec.specs.Snapshot.{snapshot_of}
 use Rattle.zy_law_views.specs.Adopted.{IsHistoryKept, with_entries}
@@ -26,13 +26,13 @@ mapped f (Some x) y is = (x, refl)
 
 module _ {S : Type 0} (R : Rules S) (p : ℕ) (history : List Entry) where
   replied : List Entry → Option Entry → Option (List ℕ)
-  replied front e = option_map (λ e. R.reply (along R (origin R) front).state e.client e.op) e
+  replied front e = option_map (λ e. answers_of R (along R (origin R) front).state e) e
 
   answer_front : (place : ℕ) (reply : List ℕ) → answer_at R (take p history) place ≡ Some reply → answer_at R history place ≡ Some reply
   unfolding replied
   answer_front zero reply is = absurd cc
   answer_front (suc before) reply is =
-      let one = mapped (λ (e : Entry). R.reply (along R (origin R) (take before (take p history))).state e.client e.op) (slice_get (take p history) before) reply is in
+      let one = mapped (λ (e : Entry). answers_of R (along R (origin R) (take before (take p history))).state e) (slice_get (take p history) before) reply is in
       let inside : before < length (take p history) = slice_get_within (take p history) before one.0 one.1 in
       let low : before < p = omega (arith, length-take p history) in
       sym

@@ -7,11 +7,11 @@ use Rattle.zy_base.specs.declared.cause.Cause.{Cause}
 use Rattle.zy_base.specs.declared.cause.Cause.TheVariants as causes
 use Rattle.zy_base.specs.declared.ids.Party.{Party}
 use Rattle.zy_base.specs.declared.step.Answer.TheVariants.{Held, Taken}
-use Rattle.zy_admit.specs.Judging.{entry_of, newer, same_digest}
+use Rattle.zy_admit.specs.Judging.{entry_of, same_digest, ordered_entry, asking}
 use Rattle.zy_admit.specs.Orders.{stored_in}
 use Rattle.zy_admit.specs.declared.judging.Admit.{Admit}
 use Rattle.zy_admit.specs.declared.judging.Admit.TheVariants as admits
-use Rattle.zy_chain.specs.Entries.{digest_of_entry}
+use Rattle.zy_chain.specs.Entries.{digest_of_entry, newer}
 use Rattle.zy_exec.specs.Kept.{known_in, last_place}
 use Rattle.zy_exec.specs.declared.known.Known.{Known}
 use Rattle.zy_frames.specs.declared.frame.OrderFrame.{OrderFrame}
@@ -24,9 +24,9 @@ use Rattle.zy_parts.specs.declared.statements.Spec.{Spec}
 use Rattle.zy_table.specs.Confirms.{confirm, confirm_after, order_again}
 use Rattle.zy_table.specs.Deeds.{Outcome, begin, ends, refused}
 use Rattle.zy_table.specs.Orders.{ask_for_missing, order_as, owes_hole, position_of}
-use Rattle.zy_table.specs.Requests.{forward, is_behind, new_request, ordered, request, request_after, request_at_backup, request_at_primary, request_waits, respond_as, response_of, said_already, sealed_order, tell_primary}
+use Rattle.zy_table.specs.Requests.{forward, is_behind, new_request, ordered, request, request_after, request_at_backup, request_at_primary, request_waits, respond_as, response_of, sealed_order, tell_primary}
 use Rattle.zy_table.specs.Running.{run, signs_of, spec_of}
-use Rattle.zy_table.specs.State.{State, is_leaving, is_primary, leaves_of, own_view, pending_of, spec_to, window_of}
+use Rattle.zy_table.specs.State.{State, is_leaving, is_primary, signs_left, own_view, pending_of, window_of, spec_said}
 use Rattle.zy_table.specs.declared.deeds.Sent.{Sent}
 use Rattle.zy_table.specs.declared.kept.Pending.{Pending}
 use Rattle.zy_law_views.proofs.Admitted.{IsFresh, IsPlaced}
@@ -43,7 +43,7 @@ pub record HasRoomFor {S : Type 0} (s : State S) (o : OrderFrame) : Type 0 where
 pub record RunCases {S : Type 0} (R : Rules S) (s : State S) (P : Outcome S → Type 0) : Type 0 where
   pub refuses : (cause : Cause) → P (refused cause s)
   pub stays : (sent : List Sent) → P (record { answer = Taken; state = s; deeds = record { sent = sent; acts = [] } })
-  pub responds : (ask : Signed Ask) (known : Known) → known_in R s.kept (entry_of ask).client.0 ≡ Some known → P (responded R s (spec_of (own_view s) ask known) known)
+  pub responds : (ask : Signed Ask) (known : Known) → known_in R s.kept (asking ask.by).0 ≡ Some known → P (responded R s (spec_of (own_view s) (entry_of ask) known) known)
   pub waits : (ask : Signed Ask) → P (ends Taken (request_waits R s ask))
 
 -- and of an order, given or heard, of an entry that may run
@@ -57,11 +57,11 @@ module _ {S : Type 0} (R : Rules S) (s : State S) (P : Outcome S → Type 0) (of
     at_primary : is_primary s ≡ true → IsNew R s ask → P (request_at_primary R s ask)
     at_primary primary new =
         by_test P (nat_lt (last_place s.kept) (window_of s)) _ _
-        (λ inside. by_test P (nat_le (signs_of R s ask + 1) (leaves_of s)) _ _ (λ left. room.orders primary new (ltb-true _ _ inside)) (λ none. of.refuses causes.KeySpent))
+        (λ inside. by_test P (nat_le (signs_of R s (entry_of ask) + 1) (signs_left s)) _ _ (λ left. room.orders primary new (ltb-true _ _ inside)) (λ none. of.refuses causes.KeySpent))
         (λ full. of.refuses (causes.WindowFull (record { 0 = window_of s })))
 
     forwards : P (forward R s ask)
-    forwards = by_test P (nat_le 1 (leaves_of s)) _ _ (λ left. of.waits ask) (λ none. of.refuses causes.KeySpent)
+    forwards = by_test P (nat_le 1 (signs_left s)) _ _ (λ left. of.waits ask) (λ none. of.refuses causes.KeySpent)
 
     at_backup : (pending : Option Pending) → P (request_at_backup R s ask pending)
     at_backup None = forwards
@@ -69,25 +69,25 @@ module _ {S : Type 0} (R : Rules S) (s : State S) (P : Outcome S → Type 0) (of
         by_test P (nat_eq ask.stmt.stamp.0 pending.ask.stmt.stamp.0) _ _ (λ same. of.stays (tell_primary s pending (begin s)).deeds.sent) (λ other. forwards)
 
     new_one : IsNew R s ask → P (new_request R s ask)
-    new_one new = by_test P (is_primary s) _ _ (λ primary. at_primary primary new) (λ backup. at_backup (pending_of s (entry_of ask).client))
+    new_one new = by_test P (is_primary s) _ _ (λ primary. at_primary primary new) (λ backup. at_backup (pending_of s (asking ask.by)))
 
-    answers : (known : Known) (said : Option (Signed Spec)) → known_in R s.kept (entry_of ask).client.0 ≡ Some known → P (respond_as R s said (spec_of (own_view s) ask known) known)
-    answers known None is = by_test P (nat_le 1 (leaves_of s)) _ _ (λ left. of.responds ask known is) (λ none. of.refuses causes.KeySpent)
+    answers : (known : Known) (said : Option (Signed Spec)) → known_in R s.kept (asking ask.by).0 ≡ Some known → P (respond_as R s said (spec_of (own_view s) (entry_of ask) known) known)
+    answers known None is = by_test P (nat_le 1 (signs_left s)) _ _ (λ left. of.responds ask known is) (λ none. of.refuses causes.KeySpent)
     answers known (Some said) is = of.stays (response_of s said known (begin s)).deeds.sent
 
-    after_known : (known : Option Known) → known_in R s.kept (entry_of ask).client.0 ≡ known → P (request_after R s ask known)
+    after_known : (known : Option Known) → known_in R s.kept (asking ask.by).0 ≡ known → P (request_after R s ask known)
     after_known None is = new_one (ap (λ (o : Option Known). newer ask.stmt.stamp (option_map (λ (k : Known). k.stamp) o)) is)
     after_known (Some known) is =
         by_test P (nat_lt ask.stmt.stamp.0 known.stamp.0) _ _ (λ old. of.refuses causes.OldStamp)
         (λ from. by_test P (nat_eq ask.stmt.stamp.0 known.stamp.0) _ _
-        (λ same. answers known (said_already (spec_to s (entry_of ask).client) (spec_of (own_view s) ask known)) is)
+        (λ same. answers known (spec_said s (spec_of (own_view s) (entry_of ask) known)) is)
         (λ other. new_one (ap (λ (o : Option Known). newer ask.stmt.stamp (option_map (λ (k : Known). k.stamp) o)) is ∙ stamp_above known.stamp.0 ask.stmt.stamp.0 from other)))
 
     pub request_row : P (request R s ask)
     unfolding request
     request_row =
         by_test P (is_leaving s) _ _ (λ leaving. of.refuses causes.NotActive)
-        (λ active. by_test P (is_behind ask (pending_of s (entry_of ask).client)) _ _ (λ behind. of.refuses causes.OldStamp) (λ newest. after_known (known_in R s.kept (entry_of ask).client.0) refl))
+        (λ active. by_test P (is_behind ask (pending_of s (asking ask.by))) _ _ (λ behind. of.refuses causes.OldStamp) (λ newest. after_known (known_in R s.kept (asking ask.by).0) refl))
 
     -- ---- one that a backup passes on
 
@@ -105,7 +105,7 @@ module _ {S : Type 0} (R : Rules S) (s : State S) (P : Outcome S → Type 0) (of
     unfolding confirm
     confirm_row confirmed =
         by_test P (same_digest confirmed.stmt.request (digest_of_entry (entry_of ask))) _ _
-        (λ same. after_run confirmed.by (known_in R s.kept (entry_of ask).client.0)) (λ other. of.refuses causes.Unmatched)
+        (λ same. after_run confirmed.by (known_in R s.kept (asking ask.by).0)) (λ other. of.refuses causes.Unmatched)
 
   -- ---- an order
 
@@ -116,8 +116,8 @@ module _ {S : Type 0} (R : Rules S) (s : State S) (P : Outcome S → Type 0) (of
 
     pub order_admitted : (a : Admit) → IsPlaced o.order.stmt o.ask (position_of R s o) a → P (order_as R s o a)
     order_admitted admits.Next is =
-        by_test P (nat_le (signs_of R s o.ask) (leaves_of s)) _ _ (λ left. takes is.new (has_room is.fresh)) (λ none. of.refuses causes.KeySpent)
+        by_test P (nat_le (signs_of R s (ordered_entry o)) (signs_left s)) _ _ (λ left. takes is.new (has_room is.fresh)) (λ none. of.refuses causes.KeySpent)
     order_admitted admits.Held is =
-        by_test P (owes_hole s) _ _ (λ owes. by_test P (nat_le 1 (leaves_of s)) _ _ (λ left. asks (has_room is)) (λ none. of.refuses causes.KeySpent)) (λ asked. holds (has_room is))
+        by_test P (owes_hole s) _ _ (λ owes. by_test P (nat_le 1 (signs_left s)) _ _ (λ left. asks (has_room is)) (λ none. of.refuses causes.KeySpent)) (λ asked. holds (has_room is))
     order_admitted (admits.Refused cause) is = of.refuses cause
     order_admitted admits.Evidence is = of.refuses causes.Unmatched

@@ -1,10 +1,9 @@
 -- A replica in its view answers the checkpoints of its history anew.
 use Rattle.std.proofs.Common.{◌≡◌, ℕ, ◌-◌, ◌<◌, ◌≤◌, zero, suc, Bool, true, false, nat_le, if◌then◌else◌, List, [], ◌∷◌, ◌++◌, length, take, Option, Some, None, refl, sym, ap, ◌∙◌, subst, arith}
-use Rattle.std.specs.Prelude.{All, slice_get, unwrap_or}
+use Rattle.std.specs.Prelude.{All, slice_get}
 use Rattle.std.proofs.lemmas.Bool.{leb-false}
 use Rattle.std.proofs.lemmas.List.{length-take-le, take-append-drop}
 use Rattle.std.proofs.lemmas.Option.{slice_get_within}
-use Rattle.sha2.specs.Sha256.{sha256}
 use Rattle.zy_base.specs.Machine.{Rules}
 use Rattle.zy_base.specs.Step.{view_of}
 use Rattle.zy_base.specs.declared.ids.Digest.{Digest}
@@ -29,8 +28,8 @@ use Rattle.zy_law.specs.Steps.{MaySay, after_saying}
 use Rattle.zy_law.specs.World.{Answer, Spoken, Statement, World}
 use Rattle.zy_law_normal.proofs.KeptVotes.{AreKeptOf, after_spec_kept, without_others_kept}
 use Rattle.zy_law_normal.proofs.Records.{answer_longer}
-use Rattle.zy_law_normal.specs.Acts.{spec_statement}
-use Rattle.zy_law_normal.specs.Tied.{Agrees}
+use Rattle.zy_law_normal.specs.Acts.{spec_statement, answer_told}
+use Rattle.zy_law_normal.specs.Tied.{Agrees, reply_told}
 use Rattle.zy_parts.specs.declared.statements.Spec.{Spec}
 use Rattle.zy_table.specs.Beginning.{respond_alone, respond_at, respond_to}
 use Rattle.zy_table.specs.Deeds.{Going}
@@ -50,6 +49,9 @@ use Rattle.zy_law_views.proofs.Leaves.{IsOnWay, said_more}
 use Rattle.zy_law_views.specs.Cores.{core_of}
 use Rattle.zy_law_views.specs.Rows.{IsReady}
 use Rattle.zy_law_views.specs.Work.{IsAtWork, workplace_of}
+use Rattle.zy_chain.specs.Answers.{digest_of_answers}
+use Rattle.zy_chain.specs.Entries.{IsOfClients}
+use Rattle.zy_law.proofs.EntriesAskedFor.{entry_shorter, take_front}
 
 -- the entry of a place lies above the base
 pub above_base : {S : Type 0} (k : Kept S) (place : ℕ) (e : Entry) → entry_in (stretch_of k) place ≡ Some e → k.base.place < place
@@ -60,12 +62,12 @@ above_base k place e = by (nat_le place k.base.place) refl
     by false above is = let past = leb-false _ _ above in omega arith
 
 -- and its client is one that there may be
-client_small : {S : Type 0} (k : Kept S) (place : ℕ) (e : Entry) → entry_in (stretch_of k) place ≡ Some e → All (λ x. x.client.0 < 64) k.entries → e.client.0 < 64
+client_small : {S : Type 0} (k : Kept S) (place : ℕ) (e : Entry) → entry_in (stretch_of k) place ≡ Some e → All IsOfClients k.entries → IsOfClients e
 client_small k place e there small = by (nat_le place k.base.place) there
   where
-    by : (low : Bool) → (if low then None else slice_get k.entries (place - k.base.place - 1)) ≡ Some e → e.client.0 < 64
+    by : (low : Bool) → (if low then None else slice_get k.entries (place - k.base.place - 1)) ≡ Some e → IsOfClients e
     by true is = absurd cc
-    by false is = All_at (λ x. x.client.0 < 64) k.entries (place - k.base.place - 1) e is small
+    by false is = All_at IsOfClients k.entries (place - k.base.place - 1) e is small
 
 entry_is : (history : List Entry) (place : ℕ) (e : Entry) → entry_at history place ≡ Some e → IsEntryAt history place e
 entry_is history zero e is = absurd cc
@@ -74,17 +76,25 @@ entry_is history (suc before) e is =
     record { first = omega arith; there = ap (slice_get history) low ∙ is }
 
 abbrev answer_to : Entry → List ℕ → Answer
-answer_to e reply = record { client = e.client.0; stamp = e.stamp.0; reply = record { 0 = sha256 reply } }
+answer_to e reply = answer_told e.client.0 e.stamp.0 (digest_of_answers reply)
 
--- a history's reply at a place is that of its first entries
-pub true_reply : {S : Type 0} (R : Rules S) (w : World) → Agrees R w → (history : List Entry) (place : ℕ) (reply : List ℕ) → place ≤ length history → answer_at R history place ≡ Some reply
-    → w.reply (take place history) ≡ record { 0 = sha256 reply }
-true_reply R w agrees history place reply within is =
+at_place : (history : List Entry) (place : ℕ) (e : Entry) → IsEntryAt history place e → entry_at history place ≡ Some e
+at_place history zero e at = absurd (omega (arith, at.first))
+at_place history (suc before) e at = let low : before ≡ suc before - 1 = omega arith in ap (slice_get history) low ∙ at.there
+
+-- a history's answer to the entry of a place is that of its first entries
+pub true_reply : {S : Type 0} (R : Rules S) (w : World) → Agrees R w → (history : List Entry) (place : ℕ) (e : Entry) (reply : List ℕ) → place ≤ length history → IsEntryAt history place e → answer_at R history place ≡ Some reply
+    → w.reply (take place history) ≡ (answer_to e reply).reply
+true_reply R w agrees history place e reply within at is =
     let long : length (take place history) ≡ place = length-take-le place history within in
     let front : answer_at R (take place history) place ≡ answer_at R history place =
     sym (ap (λ (es : List Entry). answer_at R es place) (sym (take-append-drop place history)) ∙ answer_longer R (take place history) _ place (omega arith)) in
-    let digest : Option (List ℕ) → Digest = λ o. record { 0 = sha256 (unwrap_or o []) } in
-    ap (λ (f : List Entry → Digest). f (take place history)) agrees.reply ∙ ap (λ (n : ℕ). digest (answer_at R (take place history) n)) long ∙ ap digest (front ∙ is)
+    let there : entry_at (take place history) place ≡ Some e =
+    at_place (take place history) place e (entry_shorter (take place history) history place e (take_front place history) (omega (arith, long)) at) in
+    ap (λ (f : List Entry → Digest). f (take place history)) agrees.reply
+    ∙ ap (λ (n : ℕ). reply_told (entry_at (take place history) n) (answer_at R (take place history) n)) long
+    ∙ ap (λ (o : Option Entry). reply_told o (answer_at R (take place history) place)) there
+    ∙ ap (reply_told (Some e)) (front ∙ is)
 
 true_answer : {S : Type 0} (R : Rules S) (w : World) → Agrees R w → (k : Kept S) (history : List Entry) → StandsFor R k history → (place : ℕ) (e : Entry) (head : Digest) (reply : List ℕ)
     → entry_in (stretch_of k) place ≡ Some e → reply_in R k place ≡ Some reply
@@ -96,9 +106,7 @@ true_answer R w agrees k history stands place e head reply entry_there reply_the
     record {
       entry = e;
       last = at;
-      client = refl;
-      stamp = refl;
-      reply = true_reply R w agrees history place reply within (sym (stands_reply R k history place stands above) ∙ reply_there);
+      reply = true_reply R w agrees history place e reply within at (sym (stands_reply R k history place stands above) ∙ reply_there);
     }
 
 module _ {S : Type 0} (R : Rules S) (interval : ℕ) (w : World) (r : ℕ) (s : State S) (history : List Entry) (ready : IsReady R interval w r s history) (agrees : Agrees R w) (view : View) where
@@ -124,11 +132,11 @@ module _ {S : Type 0} (R : Rules S) (interval : ℕ) (w : World) (r : ℕ) (s : 
   module _ (g : Going S) (is : IsInView g) where
     pub speaks : (spec : Spec) (next : Going S) → next.deeds.acts ≡ g.deeds.acts ++ Says (record { body = bodies.Spec spec; stood = table.stood_of R g.state }) ∷ [] → IsLike g next → spec.view.0 ≡ table.own_view g.state
         → Passes is.way.world.next history (record { place = spec.place.0; head = spec.head })
-        → IsTrueAnswer is.way.world history (record { place = spec.place.0; head = spec.head }) (record { client = spec.client.0; stamp = spec.stamp.0; reply = spec.reply })
+        → IsTrueAnswer is.way.world history (record { place = spec.place.0; head = spec.head }) (answer_told spec.client.0 spec.stamp.0 spec.reply)
         → (IsAtWork interval is.way.world r g.state → IsAtWork interval (after_saying is.way.world r (said_now is.way.world r (spec_statement spec))) r next.state) → IsInView next
     speaks spec next acts like of_view passes answer works =
         let m : Mark = record { place = spec.place.0; head = spec.head } in
-        let a : Answer = record { client = spec.client.0; stamp = spec.stamp.0; reply = spec.reply } in
+        let a : Answer = answer_told spec.client.0 spec.stamp.0 spec.reply in
         let view_is : view.0 ≡ spec.view.0 = sym (of_view ∙ ap (λ (mode : Mode). (view_of mode).0) is.active) in
         let says = says_response R interval is.way.world is.way.lawful r is.way.correct (core_of g.state) history is.way.tied view is.active m a passes answer in
         let after : ℕ → World = λ n. after_saying is.way.world r (said_now is.way.world r (Statement.Spec n m a)) in

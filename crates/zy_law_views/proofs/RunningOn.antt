@@ -36,6 +36,7 @@ use Rattle.zy_law_views.specs.Texts.{AreLinks, Texts}
 use Rattle.zy_law_views.proofs.AdoptedLists.{base_passed, given_entries, list_adopted, provider_formed, provider_has_it}
 use Rattle.zy_law_views.proofs.KeptFronts.{stands_more}
 use Rattle.zy_law_views.proofs.ReadLists.{all_runnable}
+use Rattle.zy_chain.specs.Entries.{IsOfClients}
 
 -- a head that a stretch has at a place
 pub has_at : (s : Stretch) (place : ℕ) (head : Digest) → head_in s place ≡ Some head → Has link s (record { place = place; head = head })
@@ -148,8 +149,8 @@ module _ (w : World) (lawful : IsLawful w) (links : w.next ≡ link) (interval :
     pub end_in_range : last_place k < 2 ^ 62
     end_in_range = omega (arith, (provider_formed w lawful links interval n m c is).itself.entries.end, choice_near, ends_at)
 
-    pub entries_of_clients : All (λ e. e.client.0 < 64) k.entries
+    pub entries_of_clients : All IsOfClients k.entries
     entries_of_clients =
         let kept_links = AreKept-drop w.kept w.next k.base.place empty_head list of.texts in
-        subst (λ (l : List Entry). All (λ e. e.client.0 < 64) l) (sym stands.others)
+        subst (λ (l : List Entry). All IsOfClients l) (sym stands.others)
         (λ i d within. (all_runnable texts w known w.next (fold w.next empty_head (take k.base.place list)) (drop k.base.place list) kept_links i d within).client)

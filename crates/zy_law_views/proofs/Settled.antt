@@ -1,6 +1,6 @@
 -- Two of three correct replicas run an entry in view 0 and commit to it; for the first of them its place is stable.
 use Rattle.std.proofs.Common.{◌≡◌, ℕ, zero, suc, ◌<◌, inl, inr, nat_eq, nat_lt, Bool, true, false, cond, List, [], ◌∷◌, Option, Some, None, refl, sym, ap, subst, arith, eqb-true, lit≤}
-use Rattle.std.specs.Prelude.{All, slice_get}
+use Rattle.std.specs.Prelude.{All, slice_get, unwrap_or}
 use Rattle.zy_base.specs.Machine.{Rules}
 use Rattle.zy_base.specs.declared.ids.Digest.{Digest}
 use Rattle.zy_base.specs.declared.ids.Party.TheVariants.{Replica}
@@ -15,7 +15,7 @@ use Rattle.zy_change.specs.declared.kept.Certificate.{Certificate}
 use Rattle.zy_choose.specs.Marks.{link}
 use Rattle.zy_exec.proofs.ReplayLemmas.{head-along, place-along}
 use Rattle.zy_exec.specs.Kept.{Kept, settled}
-use Rattle.zy_exec.specs.Replay.{origin}
+use Rattle.zy_exec.specs.Replay.{origin, answer_at}
 use Rattle.zy_law.proofs.StepsLawful.{standing_lawful, start_lawful}
 use Rattle.zy_law.specs.Example.{first_entry}
 use Rattle.zy_law.specs.Fixed.{IsCertified}
@@ -38,6 +38,8 @@ use Rattle.zy_law_views.proofs.AtWork.{told_alike}
 use Rattle.zy_law_views.proofs.Changing.{IsStage, Setting, all_three, apart, correct_one, others_stand, said_stage, start, three_differ, with_core, world_of}
 use Rattle.zy_law_views.proofs.FirstEntry.{first_linked, first_runs, one_link}
 use Rattle.zy_law_views.specs.Example.{first_stand, id_of, is_first_link}
+use Rattle.zy_law_normal.specs.Acts.{answer_told}
+use Rattle.zy_chain.specs.Answers.{digest_of_answers}
 
 module _ {S : Type 0} (R : Rules S) where
   -- ---- what is said
@@ -58,10 +60,10 @@ module _ {S : Type 0} (R : Rules S) where
   m_1 = mark_at place_1 head_1
 
   abbrev spec_1 : Spec
-  spec_1 = record { view = view_0; place = place_1; head = head_1; reply = last_reply R list_1; client = first_entry.client; stamp = first_entry.stamp }
+  spec_1 = record { view = view_0; place = place_1; head = head_1; reply = digest_of_answers (unwrap_or (answer_at R list_1 1) []); client = first_entry.client; stamp = first_entry.stamp }
 
   abbrev answer_1 : Answer
-  answer_1 = record { client = 0; stamp = 1; reply = last_reply R list_1 }
+  answer_1 = answer_told 0 1 spec_1.reply
 
   abbrev pub check_1 : Check
   check_1 = record { view = view_0; place = place_1; head = head_1; state = state_of R list_1 }
@@ -201,7 +203,7 @@ module _ {S : Type 0} (R : Rules S) where
 
   answers_it : (w : World) → w.reply ≡ last_reply R → IsTrueAnswer w list_1 m_1 answer_1
   answers_it w replies =
-      record { entry = first_entry; last = record { first = omega arith; there = refl }; client = refl; stamp = refl; reply = ap (λ (f : List Entry → Digest). f list_1) replies }
+      record { entry = first_entry; last = record { first = omega arith; there = refl }; reply = ap (λ (f : List Entry → Digest). f list_1) replies }
 
   abbrev world_3 : World
   world_3 = after_saying world_2 0 (said_now world_2 0 response)

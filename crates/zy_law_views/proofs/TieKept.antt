@@ -35,6 +35,7 @@ use Rattle.zy_parts.specs.declared.statements.Spec.{Spec}
 use Rattle.zy_law_views.specs.Tied.{Core, IsAhead, IsCommitHeld, IsFarEnough, IsGrounded, IsHearing, IsRunnableNext, IsTied, told_by, core_at_start, ran_with, settled_with, with_heard}
 use Rattle.zy_law_views.specs.Told.{began_told}
 use Rattle.zy_law_views.proofs.TiedGrown.{commit_stood, grounded_stood, hearing_stood, one_longer, parts_stood, stood_last}
+use Rattle.zy_chain.specs.Entries.{IsOfClients}
 
 -- ---- the start
 
@@ -170,7 +171,7 @@ module _ {S : Type 0} (R : Rules S) (interval : ℕ) (w : World) (lawful : IsLaw
             empty = grounded.empty;
             held = grounded.held;
             few = omega (arith, is.room, long);
-            clients = All-push (λ (x : Entry). x.client.0 < 64) c.kept.entries e grounded.clients is.client;
+            clients = All-push IsOfClients c.kept.entries e grounded.clients is.client;
             end = omega (arith, is.end, long);
           };
           begun = record {

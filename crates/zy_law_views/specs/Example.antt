@@ -11,7 +11,7 @@ use Rattle.zy_chain.specs.declared.entry.Entry.{Entry}
 use Rattle.zy_chain.specs.Stretch.{Mark}
 use Rattle.zy_choose.specs.Marks.{link}
 use Rattle.zy_evidence.specs.Reading.{stretch_of}
-use Rattle.zy_exec.specs.Replay.{along, origin}
+use Rattle.zy_exec.specs.Replay.{along, origin, answers_of}
 use Rattle.zy_exec.specs.Snapshot.{snapshot_of}
 use Rattle.zy_law.specs.Example.{first_entry, four}
 use Rattle.zy_law.specs.Lawful.{IsLawful}
@@ -80,7 +80,7 @@ first_snapshot R = snapshot_of R (along R (origin R) (first_entry ∷ []))
 pub record AreFirstKept {S : Type 0} (R : Rules S) (texts : Texts) : Type 0 where
   pub entry : IsKept texts (bytes_of_entry first_entry)
   pub link_kept : IsKept texts (link_text empty_head first_entry)
-  pub reply : IsKept texts (R.reply R.initial first_entry.client first_entry.op)
+  pub reply : IsKept texts (answers_of R R.initial first_entry)
   pub snapshot : IsKept texts (first_snapshot R)
 
 -- In a lawful world of four replicas with f = 1, the history of the entry is chosen out of a proper new view, whose provider has it in

@@ -1,5 +1,5 @@
 -- What the laws of steps ask of a frame of a change of view that is heard.
-use Rattle.std.specs.Prelude.{◌≡◌, ◌<◌, true, None, Result, Ok, Err, List, All}
+use Rattle.std.specs.Prelude.{◌≡◌, true, None, Result, Ok, Err, List, All}
 use Rattle.zy_base.specs.declared.frame_fault.FrameFault.{FrameFault}
 use Rattle.zy_chain.specs.declared.entry.Entry.{Entry}
 use Rattle.zy_law.specs.World.{World}
@@ -17,6 +17,7 @@ use Rattle.zy_law_views.specs.Held.{AreLinksKept, IsHonestPart}
 use Rattle.zy_law_views.specs.Texts.{IsKept, Texts}
 use Rattle.zy_law_views.specs.Told.{change_spelled, new_spelled}
 use Rattle.zy_law_views.specs.Steps.{history_from}
+use Rattle.zy_chain.specs.Entries.{IsOfClients}
 
 -- what is signed in it can be read back out of its texts
 abbrev pub IsSpelled : ViewFrame → Type 0
@@ -29,7 +30,7 @@ IsSpelled (frames.State place snapshot) = Unit {0}
 
 -- all entries of a report are of clients that there may be
 abbrev pub AreOfClients : Signed Change → Type 0
-AreOfClients c = All (λ e. e.client.0 < 64) c.stmt.told.entries
+AreOfClients c = All IsOfClients c.stmt.told.entries
 
 -- the links of such a report's entries
 abbrev pub AreLinksBrought : World → Signed Change → Type 0

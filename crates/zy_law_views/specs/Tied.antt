@@ -41,6 +41,7 @@ use Rattle.zy_parts.specs.declared.statements.Check.{Check}
 use Rattle.zy_vframes.specs.declared.frame.ViewCert.{ViewCert}
 use Rattle.zy_law_views.specs.Held.{IsHeldChange, IsHeldPart, IsProperNew, mark_at}
 use Rattle.zy_law_views.specs.Told.{began_told, check_told, response_told}
+use Rattle.zy_chain.specs.Entries.{IsOfClients}
 
 -- what a replica keeps that its reports and its views rest on
 pub record Core (S : Type 0) : Type 0 where
@@ -146,7 +147,7 @@ pub record IsGrounded {S : Type 0} (interval : ℕ) (w : World) (c : Core S) : T
   pub empty : c.stable.place.0 ≡ 0 → c.stable.state ≡ w.state []
   pub held : All (IsHeldPart w check_told) c.proof
   pub few : length c.kept.entries ≤ 2 * interval
-  pub clients : All (λ e. e.client.0 < 64) c.kept.entries
+  pub clients : All IsOfClients c.kept.entries
   pub end : last_place c.kept < 2 ^ 62
 
 -- A commit certificate that it holds: of its last active view, for a mark of its history.
@@ -247,7 +248,7 @@ pub record IsRunnableNext {S : Type 0} (interval : ℕ) (w : World) (r : ℕ) (c
   pub link : w.kept (fold w.next empty_head history) e ≡ true
   pub ordered : (number : ℕ) (x : Spoken) (m : Mark) (request : Digest) → Says w r number x → x.what ≡ Statement.Order c.views.last_view.0 m request
       → m.place ≤ length (history ++ e ∷ []) → IsOrdered w (history ++ e ∷ []) m request
-  pub client : e.client.0 < 64
+  pub client : IsOfClients e
   pub room : length c.kept.entries < 2 * interval
   pub end : last_place c.kept + 1 < 2 ^ 62
 

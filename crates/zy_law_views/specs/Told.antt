@@ -18,6 +18,7 @@ use Rattle.zy_parts.specs.declared.statements.Local.{Local}
 use Rattle.zy_parts.specs.declared.statements.Order.{Order}
 use Rattle.zy_parts.specs.declared.statements.Spec.{Spec}
 use Rattle.zy_wire.specs.Spelling.{Spelling, whole}
+use Rattle.zy_law_normal.specs.Acts.{answer_told}
 
 -- ---- a statement
 
@@ -26,8 +27,7 @@ order_told order = Statement.Order order.view.0 (record { place = order.place.0;
 
 abbrev pub spec_told : Spec → Statement
 spec_told spec =
-    Statement.Spec spec.view.0 (record { place = spec.place.0; head = spec.head })
-    (record { client = spec.client.0; stamp = spec.stamp.0; reply = spec.reply })
+    Statement.Spec spec.view.0 (record { place = spec.place.0; head = spec.head }) (answer_told spec.client.0 spec.stamp.0 spec.reply)
 
 abbrev pub local_told : Local → Statement
 local_told local = Statement.Local local.view.0 (record { place = local.place.0; head = local.head })

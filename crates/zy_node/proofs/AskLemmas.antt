@@ -9,7 +9,7 @@ use Rattle.zy_edge.specs.Link.{Mail}
 use Rattle.zy_parts.specs.declared.signed.Signed.{Signed}
 use Rattle.zy_parts.specs.declared.statements.Ask.{Ask}
 use Rattle.zy_table.specs.ClientRows.{ask, ask_while, asked as asked_row, next_ask}
-use Rattle.zy_table.specs.ClientState.{ClientState, leaves_of, refused}
+use Rattle.zy_table.specs.ClientState.{ClientState, signs_left, refused}
 use Rattle.zy_node.specs.Asking.{BeginsAs, WaitsAs, refusal, refusal_of}
 use Rattle.zy_node.specs.Clients.{client_rules, is_complete}
 use Rattle.zy_node.specs.Told.{IsRun, IsWholeRun, Outside}
@@ -23,13 +23,13 @@ refused_asking : (s : ClientState) (op : List ℕ) (cause : Cause) → refusal s
 unfolding ask
 refused_asking s op cause = by s.waiting
   where
-    leaf : (b : Bool) → refusal_of (if b then asked_row s (next_ask s op) else refused causes.KeySpent s).answer ≡ Some cause → (if b then asked_row s (next_ask s op) else refused causes.KeySpent s).state ≡ s
-    leaf true is = absurd cc
-    leaf false is = refl
+    left : (b : Bool) → refusal_of (if b then asked_row s (next_ask s op) else refused causes.KeySpent s).answer ≡ Some cause → (if b then asked_row s (next_ask s op) else refused causes.KeySpent s).state ≡ s
+    left true is = absurd cc
+    left false is = refl
 
     by : (waiting : Option (Signed Ask)) → refusal_of (ask_while s waiting op).answer ≡ Some cause → (ask_while s waiting op).state ≡ s
     by (Some waiting) is = refl
-    by None is = leaf (nat_le 1 (leaves_of s)) is
+    by None is = left (nat_le 1 (signs_left s)) is
 
 pub begin_refused : (s : ClientState) (op : List ℕ) (answer : Answer) (cause : Cause) (client : ClientState) (mail : Option Mail)
     → answer ≡ (ask s op).answer → client ≡ (ask s op).state → answer ≡ answers.Refused cause → BeginsAs s op (Ok (begun.Refused client cause)) mail mail

@@ -18,7 +18,7 @@ use Rattle.zy_table.specs.State.{State, timers_in, waits}
 use Rattle.zy_table.specs.Whole.{decoded_as, whole_step}
 use Rattle.zy_table.proofs.Refusals.{step_stays}
 use Rattle.zy_wire.specs.Framing.{framed_in}
-use Rattle.zy_wire.specs.Kind.{kind_of_parts}
+use Rattle.zy_wire.specs.Kind.{kind_of_parts, frame_limit}
 use Rattle.zy_wire.specs.Spelling.{◌>>=◌, ended}
 use Rattle.zy_node.specs.Events.{SuitsJournal}
 use Rattle.zy_node.specs.Replicas.{replica_rules}
@@ -35,11 +35,11 @@ module _ {S : Type 0} (R : machine.Rules S) where
           let stays = step_stays R s event cause is in
           (ap (λ (o : Outcome S). o.state) stays, ap (λ (o : Outcome S). outgoing_of o.state.me.0 o.state.counts.n o.deeds.sent) stays)
 
-  too_long : (bytes : List ℕ) → 4194304 < length bytes → frame_in bytes ≡ Err faults.TooLong
+  too_long : (bytes : List ℕ) → frame_limit < length bytes → frame_in bytes ≡ Err faults.TooLong
   unfolding framed_in
   too_long bytes long =
       ap (λ (read : Result ℕ FrameFault). read >>= (λ kind. frame_at kind (drop 2 bytes) >>= (λ x. ended x.0 x.1)))
-      (cond-true (nat_lt 4194304 (length bytes)) (Err faults.TooLong) (kind_of_parts bytes) (lt-ltb 4194304 (length bytes) long))
+      (cond-true (nat_lt frame_limit (length bytes)) (Err faults.TooLong) (kind_of_parts bytes) (lt-ltb frame_limit (length bytes) long))
 
   short : (frame : List ℕ) (s : State S) → 8388608 < length frame → is_refused (whole_step R s (events.Heard frame)).answer ≡ true
   unfolding whole_step

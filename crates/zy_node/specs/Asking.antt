@@ -38,7 +38,7 @@ refusal_of answers.Taken = None
 refusal_of answers.Held = None
 refusal_of (answers.Refused cause) = Some cause
 
--- why a request isn't asked: an earlier one waits, or the key has no leaf
+-- why a request isn't asked: an earlier one waits, or the key has no signature left
 abbrev pub refusal : ClientState → List ℕ → Option Cause
 refusal client op = refusal_of (ask client op).answer
 

@@ -14,6 +14,7 @@ use Rattle.zy_pieces.specs.declared.gather.Gathered.TheVariants.{Whole, Part, Re
 use Rattle.zy_node.specs.declared.due.Due.{Due}
 use Rattle.zy_node.specs.Rules.{Rules}
 use Rattle.zy_node.specs.Timing.{moment_of, no_moments, kept_for, begun_at, is_reached, again_at}
+use Rattle.zy_wire.specs.Kind.{frame_limit}
 
 -- the core, the frames of which some pieces have come, and when the timers run out
 pub record HostState (S : Type 0) : Type 0 where
@@ -29,7 +30,7 @@ host_of core = record { core = core; frames = []; due = no_moments }
 
 -- a frame of more than 4,194,304 bytes has no pieces, and no core sends one
 abbrev pub pieces_of : List ℕ → List (List ℕ)
-pieces_of frame = if nat_le (length frame) 4194304 then cut_of frame else []
+pieces_of frame = if nat_le (length frame) frame_limit then cut_of frame else []
 
 abbrev pub parcels_to : Party → List (List ℕ) → List Parcel
 parcels_to to datagrams = map (λ bytes. record { to = to; bytes = bytes }) datagrams

@@ -24,7 +24,7 @@ impl Model for Asker {
 pub enum Begun {
     /// The request was sent.
     Waiting(Asker),
-    /// The client waits for an earlier request, or its key has no leaf. Nothing was sent.
+    /// The client waits for an earlier request, or its key has no signature left. Nothing was sent.
     Refused(Client, Cause),
 }
 

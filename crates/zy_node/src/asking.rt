@@ -15,6 +15,7 @@ use std::alloc::Global;
 use zy_base::{Answer, Bytes, Event, Timers, Want};
 use zy_client::{Client, ClientStepped};
 use zy_edge::{Clock, Link};
+use zy_pieces::MAX_DATAGRAM;
 
 impl Asker {
     /// Asks for an operation of at most 1,100 bytes, and sends the request.
@@ -54,7 +55,8 @@ impl Asker {
         ensures binding { L.binding link.new ≡ L.binding link.old }
         ensures count { IsCounted (is_ask_fault result) (L.faults link.old) (L.faults link.new) }
     {
-        asker_of(self.host.turn(link, clock))
+        let mut room = [0; MAX_DATAGRAM];
+        asker_of(self.host.turn(&mut room, link, clock))
     }
 
     pub fn client(&self) -> &Client
@@ -144,6 +146,7 @@ impl Core for Client {
             timers: _,
             said: _,
         } = self.step(event)?;
+        client.take_in();
         Ok(Moved {
             core: client,
             out,

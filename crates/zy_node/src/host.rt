@@ -80,9 +80,10 @@ impl<C: Core> Host<C> {
 
     /// One turn: a datagram is heard, or none within 20 ms; a frame that it makes whole is stepped, and what the step sends
     /// is sent; then the clock is read, and each timer whose moment has come is stepped likewise. The first call of the
-    /// link that fails ends the turn.
+    /// link that fails ends the turn. The room is what datagrams are read into, and its bytes tell nothing before or after.
     pub fn turn<L: Link, T: Clock>(
         self,
+        room: &mut [u8; MAX_DATAGRAM],
         link: &mut L,
         clock: &mut T,
     ) -> Result<Host<C>, NodeFault<Host<C>>>
@@ -90,7 +91,7 @@ impl<C: Core> Host<C> {
         ensures binding { L.binding link.new ≡ L.binding link.old }
         ensures count { IsCounted (is_link_fault result) (L.faults link.old) (L.faults link.new) }
     {
-        let host = self.hear(link)?;
+        let host = self.hear(room, link)?;
         let now = clock.now_ms();
         host.read(now).fire_all(now, link)
     }
@@ -106,12 +107,13 @@ impl<C: Core> Host<C> {
         ensures binding { L.binding link.new ≡ L.binding link.old }
         ensures count { IsCounted (is_link_fault result) (L.faults link.old) (L.faults link.new) }
     {
+        let mut room = [0; MAX_DATAGRAM];
         let mut host = self;
         for _ in 0..turns {
             if host.is_done() {
                 return Ok(host);
             }
-            host = host.turn(link, clock)?;
+            host = host.turn(&mut room, link, clock)?;
         }
         Ok(host)
     }
@@ -123,14 +125,17 @@ impl<C: Core> Host<C> {
     }
 
     // A datagram, and what it makes.
-    fn hear<L: Link>(self, link: &mut L) -> Result<Host<C>, NodeFault<Host<C>>>
+    fn hear<L: Link>(
+        self,
+        room: &mut [u8; MAX_DATAGRAM],
+        link: &mut L,
+    ) -> Result<Host<C>, NodeFault<Host<C>>>
         ensures hears { HearsTo C.rules self result (L.mail link.old) (L.mail link.new) (L.receives link.old) (L.receives link.new) }
         ensures receives { L.receives link.new ≡ raised (L.receives link.old) }
         ensures binding { L.binding link.new ≡ L.binding link.old }
         ensures count { IsCounted (is_link_fault result) (L.faults link.old) (L.faults link.new) }
     {
-        let mut room = [0; MAX_DATAGRAM];
-        match link.receive(&mut room, WAIT_MS) {
+        match link.receive(room, WAIT_MS) {
             Heard::Datagram(len) => self.take(&room[..len], link),
             Heard::Quiet => Ok(self),
             Heard::Failed => Err(NodeFault::Link(self)),

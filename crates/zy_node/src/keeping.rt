@@ -65,6 +65,7 @@ impl<C: Core> Keeping<C> {
     /// stored.
     pub(crate) fn turn<D: Disk, L: Link, T: Clock>(
         self,
+        room: &mut [u8; MAX_DATAGRAM],
         disk: &mut D,
         link: &mut L,
         clock: &mut T,
@@ -80,8 +81,7 @@ impl<C: Core> Keeping<C> {
         ensures disk_count { IsCounted (is_disk_fault result) (D.faults disk.old) (D.faults disk.new) }
         ensures link_count { IsCounted (is_taken_link_fault result) (L.faults link.old) (L.faults link.new) }
     {
-        let mut room = [0; MAX_DATAGRAM];
-        match link.receive(&mut room, WAIT_MS) {
+        match link.receive(room, WAIT_MS) {
             Heard::Datagram(len) => {
                 let now = clock.now_ms();
                 self.hear(&room[..len], disk)?.read(now).fire_due(now, disk)

@@ -18,6 +18,7 @@ use std::marker::Model;
 use zy_base::Machine;
 use zy_edge::{Clock, Link, Sent};
 use zy_journal::{Disk, Reading};
+use zy_pieces::MAX_DATAGRAM;
 use zy_replica::Replica;
 
 /// A replica in its node, with the journal of its events, of which contracts see the place of the gate that ends it.
@@ -87,6 +88,7 @@ impl<M: Machine> KeptNode<M> {
     /// One turn of `Host`, whose clock is read before the first step. What isn't refused is stored, and nothing is sent.
     pub fn take<D: Disk, L: Link, T: Clock>(
         self,
+        room: &mut [u8; MAX_DATAGRAM],
         disk: &mut D,
         link: &mut L,
         clock: &mut T,
@@ -99,7 +101,7 @@ impl<M: Machine> KeptNode<M> {
         ensures link_count { IsCounted (is_taken_link_fault result) (L.faults link.old) (L.faults link.new) }
     {
         let KeptNode { keeping } = self;
-        match keeping.turn(disk, link, clock) {
+        match keeping.turn(room, disk, link, clock) {
             Ok(keeping) => Ok(Unsent { keeping }),
             Err(fault) => Err(fault),
         }
@@ -121,9 +123,10 @@ impl<M: Machine> KeptNode<M> {
         ensures disk_count { IsCounted (is_disk_fault result) (D.faults disk.old) (D.faults disk.new) }
         ensures link_count { IsCounted (is_taken_link_fault result) (L.faults link.old) (L.faults link.new) }
     {
+        let mut room = [0; MAX_DATAGRAM];
         let mut node = self;
         for _ in 0..turns {
-            node = node.turn(disk, link, clock)?;
+            node = node.turn(&mut room, disk, link, clock)?;
         }
         Ok(node)
     }
@@ -131,6 +134,7 @@ impl<M: Machine> KeptNode<M> {
     // A turn, and then its datagrams.
     fn turn<D: Disk, L: Link, T: Clock>(
         self,
+        room: &mut [u8; MAX_DATAGRAM],
         disk: &mut D,
         link: &mut L,
         clock: &mut T,
@@ -142,7 +146,7 @@ impl<M: Machine> KeptNode<M> {
         ensures disk_count { IsCounted (is_disk_fault result) (D.faults disk.old) (D.faults disk.new) }
         ensures link_count { IsCounted (is_taken_link_fault result) (L.faults link.old) (L.faults link.new) }
     {
-        match self.take(disk, link, clock)?.give(link) {
+        match self.take(room, disk, link, clock)?.give(link) {
             Ok(node) => Ok(node),
             Err(GiveFault::Link(_)) => Err(TakeFault::Link),
         }

@@ -14,6 +14,7 @@ use std::alloc::Global;
 use std::marker::Model;
 use zy_base::{Event, Machine, Timers, Want};
 use zy_edge::{Clock, Link};
+use zy_pieces::MAX_DATAGRAM;
 use zy_replica::{Replica, Stepped};
 
 /// A replica with the frames that are being gathered for it and the moments at which its timers run out.
@@ -57,7 +58,8 @@ impl<M: Machine> Node<M> {
         ensures binding { L.binding link.new ≡ L.binding link.old }
         ensures count { IsCounted (is_link_fault result) (L.faults link.old) (L.faults link.new) }
     {
-        node_of(self.host.turn(link, clock))
+        let mut room = [0; MAX_DATAGRAM];
+        node_of(self.host.turn(&mut room, link, clock))
     }
 
     /// So many turns, or those until a call of the link fails.
@@ -99,6 +101,7 @@ impl<M: Machine> Core for Replica<M> {
             said: _,
             got: _,
         } = self.step(event)?;
+        replica.take_in();
         Ok(Moved {
             core: replica,
             out,

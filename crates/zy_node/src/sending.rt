@@ -11,9 +11,7 @@ use std::alloc::Global;
 use zy_base::{Bytes, Party, Want};
 use zy_edge::{Link, Sent};
 use zy_pieces::cut;
-
-/// The bytes of the longest frame.
-const MAX_FRAME: usize = 4_194_304;
+use zy_wire::MAX_FRAME;
 
 /// Sends frames, each in its pieces. The first call of the link that fails is the last one.
 pub(crate) fn send_all<L: Link>(

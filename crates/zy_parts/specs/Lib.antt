@@ -4,3 +4,4 @@ pub mod Signing
 pub mod Exact
 pub mod Reports
 pub mod ReportsExact
+pub mod Sizes

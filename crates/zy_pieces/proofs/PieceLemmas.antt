@@ -8,7 +8,8 @@ use Rattle.sha2.proofs.Facts256.{length-sha256}
 use Rattle.zy_wire.proofs.Parts.{wide16}
 use Rattle.zy_pieces.specs.declared.piece.PieceFault.{PieceFault}
 use Rattle.zy_pieces.specs.declared.piece.PieceFault.TheVariants.{Header, Index}
-use Rattle.zy_pieces.specs.Pieces.{Piece, IsPiece, datagram_of, fields_of, fits, fault_of, unless, piece_of, count_of, piece_at}
+use Rattle.zy_pieces.specs.Pieces.{Piece, IsPiece, datagram_of, fields_of, fits, fault_of, unless, piece_of, count_of, piece_at, most_pieces}
+use Rattle.zy_wire.specs.Kind.{frame_limit}
 
 -- ---- the fields of a datagram
 
@@ -61,8 +62,8 @@ fits_its_place p is =
 
 no_fault : (p : Piece) → IsPiece p → fault_of p ≡ None
 no_fault p is =
-    cond-false (nat_lt p.count 1 || nat_lt 512 p.count) (Some Header) (cond (nat_le p.count p.index) (Some Index) (cond (fits p) None (Some Header)))
-    (or_from (nat_lt p.count 1) (nat_lt 512 p.count) (le-ltb _ _ (omega (arith, is.index))) (le-ltb _ _ is.count))
+    cond-false (nat_lt p.count 1 || nat_lt most_pieces p.count) (Some Header) (cond (nat_le p.count p.index) (Some Index) (cond (fits p) None (Some Header)))
+    (or_from (nat_lt p.count 1) (nat_lt most_pieces p.count) (le-ltb _ _ (omega (arith, is.index))) (le-ltb _ _ is.count))
     ∙ cond-false (nat_le p.count p.index) (Some Index) (cond (fits p) None (Some Header)) (lt-leb _ _ is.index)
     ∙ cond-true (fits p) None (Some Header) (fits_its_place p is)
 
@@ -91,7 +92,7 @@ not_past false fault o e = (refl, e)
 
 faultless_below : (p : Piece) → fault_of p ≡ None → p.index < p.count
 faultless_below p none =
-    let some = not_past (nat_lt p.count 1 || nat_lt 512 p.count) Header _ none in
+    let some = not_past (nat_lt p.count 1 || nat_lt most_pieces p.count) Header _ none in
     let below = not_past (nat_le p.count p.index) Index _ some.1 in
     leb-false _ _ below.0
 
@@ -105,7 +106,7 @@ piece_below datagram p e =
 -- ---- a frame's pieces
 
 -- each is a piece
-pub frame_piece : (frame : List ℕ) (i : ℕ) → 1 ≤ length frame → length frame ≤ 4194304 → i < count_of frame → IsPiece (piece_at frame i)
+pub frame_piece : (frame : List ℕ) (i : ℕ) → 1 ≤ length frame → length frame ≤ frame_limit → i < count_of frame → IsPiece (piece_at frame i)
 frame_piece frame i some long within =
     let left = length-drop (8192 * i) frame in
     let len = length-take 8192 (drop (8192 * i) frame) in

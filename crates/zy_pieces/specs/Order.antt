@@ -4,6 +4,7 @@ use Rattle.std.specs.List.{list_any}
 use Rattle.zy_pieces.specs.declared.piece.PieceFault.{PieceFault}
 use Rattle.zy_pieces.specs.Pieces.{Piece, piece_of, piece_at, count_of}
 use Rattle.zy_pieces.specs.Gathering.{Gathering, is_of, added}
+use Rattle.zy_wire.specs.Kind.{frame_limit}
 
 abbrev pub is_gathered : Piece → List Gathering → Bool
 is_gathered p gs = list_any (is_of p) gs
@@ -31,7 +32,7 @@ IsOwn frame datagram = (p : Piece) → piece_of datagram ≡ Ok p → p.digest �
 -- number of pieces, and no frame is dropped.
 pub record AreAllThere (frame : List ℕ) (gs : List Gathering) (datagrams : List (List ℕ)) : Type 0 where
   pub some_byte : 1 ≤ length frame
-  pub not_too_long : length frame ≤ 4194304
+  pub not_too_long : length frame ≤ frame_limit
   pub new : is_gathered (piece_at frame 0) gs ≡ false
   pub each : (i : ℕ) → i < count_of frame → Any (Brings frame i) datagrams
   pub no_other : All (IsOwn frame) datagrams

@@ -29,15 +29,19 @@ fields_of datagram = record {
   payload = drop 37 datagram;
 }
 
+-- the pieces of the longest frame
+abbrev pub most_pieces : ℕ
+most_pieces = 512
+
 -- every piece but the last has 8,192 bytes, and the last has no more
 abbrev pub fits : Piece → Bool
 fits p = if nat_eq (p.index + 1) p.count then nat_le (length p.payload) 8192 else nat_eq (length p.payload) 8192
 
--- What is wrong with a piece: a frame has 1 to 512, the number is judged first, then the place, and then how many bytes
+-- What is wrong with a piece: a frame has 1 to that many, the number is judged first, then the place, and then how many bytes
 -- there are.
 abbrev pub fault_of : Piece → Option PieceFault
 fault_of p =
-    if nat_lt p.count 1 || nat_lt 512 p.count
+    if nat_lt p.count 1 || nat_lt most_pieces p.count
     then Some Header
     else (if nat_le p.count p.index then Some Index else (if fits p then None else Some Header))
 
@@ -56,7 +60,7 @@ piece_of datagram =
 pub record IsPiece (p : Piece) : Type 0 where
   pub digest : length p.digest.0 ≡ 32
   pub index : p.index < p.count
-  pub count : p.count ≤ 512
+  pub count : p.count ≤ most_pieces
   pub payload : 1 ≤ length p.payload
   pub room : length p.payload ≤ 8192
   pub full : p.index + 1 < p.count → length p.payload ≡ 8192

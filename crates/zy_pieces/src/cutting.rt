@@ -1,5 +1,6 @@
 ghost use Rattle.std.specs.Prelude.{◌≡◌, ◌*◌, ◌≤◌, length, IfOk};
 ghost use Rattle.zy_pieces.specs.Pieces.{cut_of, datagram_of, payload_at};
+ghost use Rattle.zy_wire.specs.Kind.{frame_limit};
 
 use crate::piece::{HEADER_LEN, MAX_PAYLOAD, VERSION};
 use sha2::{Digest as Hasher, Sha256};
@@ -10,7 +11,7 @@ use zy_base::{Bytes, Digest, Want};
 #[tactic(auto, using(crate::proofs::CutLemmas::rounded_up))]
 pub fn cut(alloc: Global, frame: &[u8]) -> Result<Vec<Bytes>, Want>
     requires some_byte { 1 ≤ length frame.now }
-    requires not_too_long { length frame.now ≤ 4194304 }
+    requires not_too_long { length frame.now ≤ frame_limit }
     ensures { IfOk result (λ datagrams. datagrams.items ≡ cut_of frame.now) }
 {
     let digest = Digest(Sha256::digest(frame));

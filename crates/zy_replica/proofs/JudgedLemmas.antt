@@ -1,5 +1,5 @@
 -- What is known of a step that owes this, before anything is signed.
-use Rattle.std.proofs.Common.{◌≡◌, ◌≤◌, ◌+◌, ◌^◌, ℕ, Bool, false, refl, ap, sym, ◌∙◌, subst, arith}
+use Rattle.std.proofs.Common.{◌≡◌, ◌≤◌, ◌+◌, ℕ, Bool, false, refl, ap, sym, ◌∙◌, subst, arith}
 use Rattle.std.specs.Prelude.{Result, Ok, Err, IfOk, if◌then◌else◌}
 use Rattle.std.specs.List.{list_any}
 use Rattle.std.proofs.lemmas.Bool.{le-ltb}
@@ -7,8 +7,7 @@ use Rattle.zy_base.specs.Machine.{Rules}
 use Rattle.zy_base.specs.declared.cause.Cause.{Cause}
 use Rattle.zy_base.specs.declared.step.Answer.TheVariants.{Taken}
 use Rattle.zy_base.specs.declared.want.Want.{Want}
-use Rattle.zy_lms.specs.Height.{levels_of}
-use Rattle.zy_seal.specs.Sealing.{SealerState}
+use Rattle.zy_seal.specs.Sealing.{SealerState, signatures_by}
 use Rattle.zy_change.specs.declared.owed.Owed.{Owed}
 use Rattle.zy_table.specs.State.{State}
 use Rattle.zy_table.specs.Deeds.{Going, Outcome, refused, ends}
@@ -28,7 +27,7 @@ pub begun_rests : {S : Type 0} (R : Rules S) (g : Going S) → list_any confirms
 begun_rests R g none = ap (λ (b : Bool). if b then certify R Taken g else goes Taken g) none
 
 -- a step ends that signed no more than it could, and confirmed nothing
-pub taken_is : {S : Type 0} (R : Rules S) (s : State S) (g : Going S) → list_any confirms g.deeds.acts ≡ false → g.state.sealer.key.next ≤ 2 ^ levels_of g.state.sealer.key.height → ends Taken g ≡ finished R s (goes Taken g)
+pub taken_is : {S : Type 0} (R : Rules S) (s : State S) (g : Going S) → list_any confirms g.deeds.acts ≡ false → g.state.sealer.key.next ≤ signatures_by g.state.sealer.key.height → ends Taken g ≡ finished R s (goes Taken g)
 taken_is R s g none within =
     let e : is_overspent g.state.sealer ≡ false = le-ltb _ _ within in
     let done : ends Taken g ≡ concluded s (goes Taken g) = rw e refl in

@@ -1,24 +1,23 @@
--- The own hate: it is counted as another's of the own view would be, and saying it spends a leaf where it wasn't said.
-use Rattle.std.proofs.Common.{◌≡◌, ◌≤◌, ◌^◌, ℕ, nat_eq, nat_lt, nat_le, Bool, true, false, if◌then◌else◌, [], Option, Some, None, refl, ap, sym, ◌∙◌, subst, arith}
+-- The own hate: it is counted as another's of the own view would be, and saying it spends a signature where it wasn't said.
+use Rattle.std.proofs.Common.{◌≡◌, ◌≤◌, ℕ, nat_eq, nat_lt, nat_le, Bool, true, false, if◌then◌else◌, [], Option, Some, None, refl, ap, sym, ◌∙◌, subst, arith}
 use Rattle.std.specs.List.{list_any}
 use Rattle.std.proofs.lemmas.Bool.{leb-false, le-ltb, lt-ltb}
 use Rattle.zy_base.specs.Machine.{Rules}
 use Rattle.zy_base.specs.declared.cause.Cause.TheVariants as causes
 use Rattle.zy_base.specs.declared.ids.Party.TheVariants.{Replica}
 use Rattle.zy_base.specs.declared.step.Answer.TheVariants.{Taken}
-use Rattle.zy_lms.specs.Height.{levels_of}
 use Rattle.zy_parts.specs.Numbers as numbers
 use Rattle.zy_parts.specs.Statements.{hate_fields}
 use Rattle.zy_parts.specs.declared.signed.Signed.{Signed}
 use Rattle.zy_parts.specs.declared.statements.Hate.{Hate}
 use Rattle.zy_frames.specs.declared.frame.Frame.TheVariants as frames
-use Rattle.zy_seal.specs.Sealing.{sealed_by}
+use Rattle.zy_seal.specs.Sealing.{sealed_by, signatures_by}
 use Rattle.zy_change.specs.declared.owed.Owed.{Owed}
 use Rattle.zy_change.specs.Views.{is_hated_by}
 use Rattle.zy_table.specs.declared.deeds.Act.TheVariants.{Says}
 use Rattle.zy_table.specs.declared.deeds.Body.TheVariants as bodies
 use Rattle.zy_table.specs.declared.deeds.To.TheVariants.{All}
-use Rattle.zy_table.specs.State.{State, leaves_of, own_view, spent, stood_of}
+use Rattle.zy_table.specs.State.{State, signs_left, own_view, spent, stood_of}
 use Rattle.zy_table.specs.Deeds.{Going, act, refused, send}
 use Rattle.zy_table.specs.Beginning.{confirms, finished}
 use Rattle.zy_table.specs.Leaving.{concluded, goes, is_overspent}
@@ -107,7 +106,7 @@ module _ {S : Type 0} (R : Rules S) (g : Going S) where
   pub again_taken : (said : Option (Signed Hate)) (end : Going S) → said ≡ own_hate s → is_hated_by s.views (Replica s.me) ≡ true → end ≡ say_hate R said g → finished R s (goes Taken end) ≡ finished R s (hate_from R g)
   again_taken said end own old is = ap (λ (g : Going S). finished R s (goes Taken g)) is ∙ ap (finished R s) (sym (again_is said own old))
 
-  overspent : (said : Option (Signed Hate)) → s.sealer.key.next ≤ 2 ^ levels_of s.sealer.key.height → nat_le (signs_of said) (leaves_of s) ≡ false → is_overspent (say_hate R said g).state.sealer ≡ true
+  overspent : (said : Option (Signed Hate)) → s.sealer.key.next ≤ signatures_by s.sealer.key.height → nat_le (signs_of said) (signs_left s) ≡ false → is_overspent (say_hate R said g).state.sealer ≡ true
   overspent said within few =
       let many = leb-false _ _ few in
       ap is_overspent (said_spends said) ∙ lt-ltb _ _ (omega (arith, many, within))
@@ -121,7 +120,7 @@ module _ {S : Type 0} (R : Rules S) (g : Going S) where
     pub again_only : (said : Option (Signed Hate)) (end : Going S) → end ≡ say_hate R said g → list_any confirms end.deeds.acts ≡ false
     again_only said end is = ap (λ (g : Going S). list_any confirms g.deeds.acts) is ∙ said_only said
 
-    pub again_spent : (said : Option (Signed Hate)) → said ≡ own_hate s → is_hated_by s.views (Replica s.me) ≡ true → s.sealer.key.next ≤ 2 ^ levels_of s.sealer.key.height → nat_le (signs_of said) (leaves_of s) ≡ false
+    pub again_spent : (said : Option (Signed Hate)) → said ≡ own_hate s → is_hated_by s.views (Replica s.me) ≡ true → s.sealer.key.next ≤ signatures_by s.sealer.key.height → nat_le (signs_of said) (signs_left s) ≡ false
         → finished R s (hate_from R g) ≡ refused causes.KeySpent s
     again_spent said own old within few =
         ap (finished R s) (again_is said own old)

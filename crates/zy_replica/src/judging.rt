@@ -15,7 +15,7 @@ pub(crate) fn taken<M: Machine>(progress: Progress<M>) -> Moved<M>
     requires { list_any confirms progress.deeds.acts ≡ false }
     ensures { (s : State M.State) → result ≡ finished M.rules s (goes Answer.Taken progress) }
 {
-    let can_sign = progress.core.has_leaves(0);
+    let can_sign = progress.core.can_sign(0);
     prove!(can_sign);
     progress.ends(Answer::Taken)
 }

@@ -15,7 +15,7 @@ ghost use Rattle.zy_table.specs.Beginning.{finished};
 ghost use Rattle.zy_table.specs.Misbehaviour.{blamed as blamed_by, pom as pom_row, tell_all as told_all};
 ghost use Rattle.zy_table.specs.Whole.{order_judged as judged_as, order as order_row};
 ghost use Rattle.zy_table.specs.Orders.{position_of};
-ghost use Rattle.zy_admit.specs.Judging.{judge_in};
+ghost use Rattle.zy_admit.specs.Judging.{judge_in, ordered_entry};
 ghost use Rattle.zy_replica_state.specs.Ready.{IsOrderReady};
 ghost use Rattle.zy_replica_views.specs.Follows.{IsLeaveOwed};
 ghost use Rattle.zy_replica_views.specs.Entering.{IsJudged, IsStep, ending_of};
@@ -188,7 +188,7 @@ fn order_judged<M: Machine>(
 ) -> Result<Moved<M>, Want>
     requires active { is_leaving core ≡ false }
     requires order { IsOrderReady frame }
-    requires judged { admit ≡ judge_in core.orders frame.order.stmt frame.ask (position_of M.rules core frame) }
+    requires judged { admit ≡ judge_in core.orders frame.order.stmt (ordered_entry frame) (position_of M.rules core frame) }
     ensures { IfOk result (λ m. m ≡ judged_as M.rules core frame admit) }
 {
     match admit {

@@ -14,7 +14,7 @@ ghost use Rattle.zy_change.specs.Ahead.{IsOwedInRange};
 ghost use Rattle.zy_table.specs.declared.deeds.To.TheVariants as tos;
 ghost use Rattle.zy_table.specs.declared.deeds.Act.TheVariants as acts;
 ghost use Rattle.zy_table.specs.declared.deeds.Body.TheVariants as bodies;
-ghost use Rattle.zy_table.specs.State.{State, leaves_of, spent, stood_of};
+ghost use Rattle.zy_table.specs.State.{State, signs_left, spent, stood_of};
 ghost use Rattle.zy_table.specs.Deeds.{act as acting, refused as refused_with, send as sending};
 ghost use Rattle.zy_table.specs.Leaving.{Attempt};
 ghost use Rattle.zy_table.specs.Beginning.{finished};
@@ -69,7 +69,7 @@ fn unsigned<M: Machine>(core: &Core<M>) -> Signed<Hate>
 
 // It is signed, and kept for good. Beside it the signed one.
 fn seal_hate<M: Machine>(core: Core<M>) -> Result<(Core<M>, Signed<Hate>), Want>
-    requires leaf { 1 ≤ leaves_of core }
+    requires left { 1 ≤ signs_left core }
     ensures core { IfOk result (λ r. r.0 ≡ record (spent core) { hate = Some (sealed_by numbers.hate hate_fields core.sealer (now_of core)) }) }
     ensures hate { IfOk result (λ r. r.1 ≡ sealed_by numbers.hate hate_fields core.sealer (now_of core)) }
     ensures range { IfOk result (λ r. IsSignedInRange IsHateInRange r.1) }
@@ -96,7 +96,7 @@ fn tell_hate<M: Machine>(progress: Progress<M>, signed: Signed<Hate>) -> Result<
 }
 
 fn sign_hate<M: Machine>(progress: Progress<M>) -> Result<Progress<M>, Want>
-    requires leaf { 1 ≤ leaves_of progress.state }
+    requires left { 1 ≤ signs_left progress.state }
     ensures { IfOk result (λ g. g ≡ said_as M.rules None progress) }
 {
     let Progress { core, deeds } = progress;
@@ -114,7 +114,7 @@ fn say_hate<M: Machine>(
     progress: Progress<M>,
     said: Option<Signed<Hate>>,
 ) -> Result<Progress<M>, Want>
-    requires leaf { signs_of said ≤ leaves_of progress.state }
+    requires left { signs_of said ≤ signs_left progress.state }
     requires said { ForSome said (IsSignedInRange IsHateInRange) }
     ensures { IfOk result (λ g. g ≡ said_as M.rules said progress) }
 {
@@ -161,7 +161,7 @@ fn repeat_hate<M: Machine>(
     requires counted { is_hated_by progress.state.views (parties.Replica progress.state.me) ≡ true }
     ensures { IfOk result (λ m. m ≡ finished M.rules progress.state (hate_row M.rules progress)) }
 {
-    if !progress.core.has_leaves(signs(&said)) {
+    if !progress.core.can_sign(signs(&said)) {
         return refused(progress, said, Cause::KeySpent);
     }
     Ok(taken(say_hate(progress, said)?))
@@ -171,7 +171,7 @@ fn count_own<M: Machine>(
     progress: Progress<M>,
     said: Option<Signed<Hate>>,
 ) -> Result<Progress<M>, Want>
-    requires leaf { signs_of said ≤ leaves_of progress.state }
+    requires left { signs_of said ≤ signs_left progress.state }
     requires said { ForSome said (IsSignedInRange IsHateInRange) }
     ensures { IfOk result (λ g. g ≡ with_hate_of (parties.Replica progress.state.me) (said_as M.rules said progress)) }
 {
@@ -192,7 +192,7 @@ fn carry_own<M: Machine>(
     owed: Owed,
     ending: Ending,
 ) -> Result<Moved<M>, Want>
-    requires leaf { signs_of said ≤ leaves_of progress.state }
+    requires left { signs_of said ≤ signs_left progress.state }
     requires range { ForSome said (IsSignedInRange IsHateInRange) }
     requires judged { IsJudged M.rules owed ending (with_hate_of (parties.Replica progress.state.me) (said_as M.rules said progress)) }
     requires in_range { IsOwedInRange owed }
@@ -214,7 +214,7 @@ fn carry_and_ask<M: Machine>(
     owed: Owed,
     ending: Ending,
 ) -> Result<Moved<M>, Want>
-    requires leaf { signs_of said ≤ leaves_of progress.state }
+    requires left { signs_of said ≤ signs_left progress.state }
     requires range { ForSome said (IsSignedInRange IsHateInRange) }
     requires judged { IsJudged M.rules owed ending (with_hate_of (parties.Replica progress.state.me) (said_as M.rules said progress)) }
     requires in_range { IsOwedInRange owed }

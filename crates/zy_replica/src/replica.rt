@@ -92,6 +92,11 @@ impl<M: Machine> Replica<M> {
         finish(moves(core, event)?)
     }
 
+    /// What it checked and signed is known from now on to all that share its store of signatures.
+    pub fn take_in(&self) {
+        self.core.take_in();
+    }
+
     /// Whether it takes part in its view, and which that is.
     pub fn mode(&self) -> Mode
         ensures { result ≡ self.now.views.mode }
@@ -128,7 +133,7 @@ impl<M: Machine> Replica<M> {
         self.core.board().stable()
     }
 
-    /// The number of the leaf that signs next.
+    /// The number of its next signature.
     pub fn key_next(&self) -> u32
         ensures { result ≡ self.now.sealer.key.next }
     {

@@ -9,7 +9,7 @@ use Rattle.zy_base.specs.declared.ids.Place.{Place}
 use Rattle.zy_chain.specs.declared.entry.Entry.{Entry}
 use Rattle.zy_chain.specs.Stretch.{Stretch}
 use Rattle.zy_exec.specs.Kept.{Kept, last_place, now_of, longer, back_to}
-use Rattle.zy_exec.specs.Replay.{Point, known_of}
+use Rattle.zy_exec.specs.Replay.{Point, known_of, answers_of}
 use Rattle.zy_exec.specs.Shots.{snapshot_in}
 use Rattle.zy_exec.proofs.ReplayLemmas.{along-append}
 use Rattle.zy_table.specs.declared.deeds.Got.{Got}
@@ -53,7 +53,7 @@ module _ {S : Type 0} where
 
   -- what is read after an entry was run is what is gained
   pub got_is : (R : Rules S) (k after : Kept S) (e entry : Entry) (place : Place) (before head : Digest) (reply : List ℕ) (snapshot : Option (List ℕ)) → after ≡ longer k e → entry ≡ e
-      → place.0 ≡ (now_of R after).place → before ≡ (now_of R k).head → head ≡ (now_of R after).head → reply ≡ R.reply (now_of R k).state e.client e.op
+      → place.0 ≡ (now_of R after).place → before ≡ (now_of R k).head → head ≡ (now_of R after).head → reply ≡ answers_of R (now_of R k).state e
       → snapshot ≡ snapshot_in R after place.0
       → ◌≡◌ {A = Got} (record { place = place; before = before; entry = entry; head = head; reply = reply; snapshot = snapshot }) (got_next R k e)
   got_is R k after e entry place before head reply snapshot after_is entry_is place_is before_is head_is reply_is snapshot_is =

@@ -1,6 +1,6 @@
 ghost use Rattle.std.specs.Prelude.{◌≡◌, ◌+◌, ◌-◌, ◌<◌, ◌≤◌, ◌^◌, List, Bool, Some, All, length, if◌then◌else◌, IfOk, OnOk};
 ghost use Rattle.std.specs.List.{AllByRecursion, slice_range};
-ghost use Rattle.zy_chain.specs.Entries.{IsEntryInRange};
+ghost use Rattle.zy_chain.specs.Entries.{IsEntryInRange, IsOfClients};
 ghost use Rattle.zy_chain.specs.Stretch.{end_of, head_in};
 ghost use Rattle.zy_parts.specs.Reports.{IsToldInRange};
 ghost use Rattle.zy_exec.specs.Kept.{last_place, now_of, longer, back_to, stretch_of as own_stretch};
@@ -8,6 +8,8 @@ ghost use Rattle.zy_exec.specs.Shots.{snapshot_in};
 ghost use Rattle.zy_evidence.specs.Reading.{stretch_of};
 ghost use Rattle.zy_table.specs.Adopting.{same_head, common_with, with_entries, taken_over, got_next, gots_along, gots_of, IsGotInRange};
 ghost use Rattle.zy_exec.specs.Installed.{IsRunnable};
+ghost use Rattle.zy_exec.specs.Replay.{answers_of};
+ghost use Rattle.zy_chain.specs.Answers.{FitsAnswers};
 
 use std::alloc::Global;
 use std::marker::Brand;
@@ -28,7 +30,7 @@ pub fn take_over<M: Machine>(
     place: Place,
 ) -> Result<(Place, Gains), Want>
     requires range { IsToldInRange told.now }
-    requires clients { All (λ e. e.client.0 < 64) told.now.entries }
+    requires clients { All IsOfClients told.now.entries }
     requires end { place.0 ≤ end_of (stretch_of told.now) }
     requires place { place.0 < 2 ^ 62 }
     requires base { exec.old.base.place ≤ common_with (stretch_of told.now) place.0 exec.old }
@@ -155,8 +157,8 @@ fn run_copy<M: Machine>(exec: &mut Exec<M>, entry: &Entry) -> Result<Bytes, Want
     requires room { last_place exec.old + 1 < 2 ^ 62 }
     requires runnable { IsRunnable entry.now }
     ensures exec { OnOk result (exec.new ≡ longer exec.old entry.now) }
-    ensures reply { IfOk result (λ reply. reply ≡ M.rules.reply (now_of M.rules exec.old).state entry.now.client entry.now.op) }
-    ensures short { IfOk result (λ reply. length reply ≤ 1100) }
+    ensures reply { IfOk result (λ reply. reply ≡ answers_of M.rules (now_of M.rules exec.old).state entry.now) }
+    ensures short { IfOk result (λ reply. FitsAnswers reply) }
 {
     match exec.run(entry_copy(entry)?) {
         Ok(reply) => Ok(reply),

@@ -23,11 +23,11 @@ use Rattle.zy_chain.specs.Stretch.{head_in}
 use Rattle.zy_exec.specs.Kept.{Kept, last_place, longer, now_of, stretch_of}
 use Rattle.zy_exec.specs.Replay.{Point}
 use Rattle.zy_exec.proofs.ReplayLemmas.{along-append, head-along, place-along}
-use Rattle.zy_admit.specs.Judging.{entry_of}
+use Rattle.zy_admit.specs.Judging.{ordered_entry}
 use Rattle.zy_check.specs.Board.{IsBoard}
 use Rattle.zy_table.specs.declared.deeds.To.TheVariants.{All}
 use Rattle.zy_table.specs.declared.kept.OwnCheckpoint.{OwnCheckpoint}
-use Rattle.zy_table.specs.State.{own_view, is_leaving, leaves_of}
+use Rattle.zy_table.specs.State.{own_view, is_leaving, signs_left}
 use Rattle.zy_table.specs.Deeds.{Going, send}
 use Rattle.zy_table.specs.Gathering.{state_in, own_with, with_own_spec, owes_check, gather, signs_with}
 use Rattle.zy_table.specs.Running.{spec_of, next_known, executed, sealed_spec, respond, share, answered, signs_of, run_one}
@@ -45,8 +45,8 @@ module _ {S : Type 0} (R : Rules S) (order : Signed Order) (signed : Signed Spec
   pub shared_own : IsOwnReady g.state.kept g.state.views.last_view (own_with signed.stmt state) → IsOwnReady told.state.kept told.state.views.last_view own
   shared_own ready = rw (told_is, kept_is, own_is) ready
 
-  pub shared_leaf : (if owes_check (with_own_spec g.state (own_with signed.stmt state) signed) (own_with signed.stmt state) false then 1 else 0) ≤ leaves_of g.state → (if owes_check told.state own false then 1 else 0) ≤ leaves_of told.state
-  shared_leaf leaf = rw (told_is, kept_is, own_is) leaf
+  pub shared_left : (if owes_check (with_own_spec g.state (own_with signed.stmt state) signed) (own_with signed.stmt state) false then 1 else 0) ≤ signs_left g.state → (if owes_check told.state own false then 1 else 0) ≤ signs_left told.state
+  shared_left left = rw (told_is, kept_is, own_is) left
 
 -- ---- the answer
 
@@ -80,13 +80,13 @@ module _ {S : Type 0} (R : Rules S) (g : Going S) (order : Signed Order) (spec :
         → IsOwnReady told.state.kept told.state.views.last_view (own_with signed.stmt state)
     own_told range view head above within = rw (told_is, signed_is) (own_after range view head above within)
 
-    leaf_after : IsBoard g.state.board → g.state.sealer.me ≡ Replica g.state.me → signs_with g.state spec (Some state) ≤ leaves_of g.state
-        → (if owes_check (with_own_spec after.state (own_with spec state) (sealed_spec g.state spec)) (own_with spec state) false then 1 else 0) ≤ leaves_of after.state
-    leaf_after board signer enough = omega (arith, enough, signs_cover g.state (sealed_spec g.state spec) state board signer)
+    left_after : IsBoard g.state.board → g.state.sealer.me ≡ Replica g.state.me → signs_with g.state spec (Some state) ≤ signs_left g.state
+        → (if owes_check (with_own_spec after.state (own_with spec state) (sealed_spec g.state spec)) (own_with spec state) false then 1 else 0) ≤ signs_left after.state
+    left_after board signer enough = omega (arith, enough, signs_cover g.state (sealed_spec g.state spec) state board signer)
 
-    pub leaf_told : IsBoard g.state.board → g.state.sealer.me ≡ Replica g.state.me → signs_with g.state spec (Some state) ≤ leaves_of g.state
-        → (if owes_check (with_own_spec told.state (own_with signed.stmt state) signed) (own_with signed.stmt state) false then 1 else 0) ≤ leaves_of told.state
-    leaf_told board signer enough = rw (told_is, signed_is) (leaf_after board signer enough)
+    pub left_told : IsBoard g.state.board → g.state.sealer.me ≡ Replica g.state.me → signs_with g.state spec (Some state) ≤ signs_left g.state
+        → (if owes_check (with_own_spec told.state (own_with signed.stmt state) signed) (own_with signed.stmt state) false then 1 else 0) ≤ signs_left told.state
+    left_told board signer enough = rw (told_is, signed_is) (left_after board signer enough)
 
 -- ---- an order that is run
 
@@ -108,14 +108,14 @@ longer_head R k e =
     ∙ ap (λ (l : List Entry). Some (head_from k.base.head l)) (take-length (k.entries ++ e ∷ []))
     ∙ ap Some (sym (head-along R k.base (k.entries ++ e ∷ [])) ∙ ap (λ (p : Point _). p.head) (along-append R k.base k.entries e))
 
-module _ {S : Type 0} (R : Rules S) (g : Going S) (o : OrderFrame) (ran : Going S) (view : ℕ) (known : Known) (spec : Spec) (ran_is : ran ≡ executed R o.ask g) (view_is : view ≡ own_view g.state)
-    (known_is : known ≡ next_known R g.state o.ask) (spec_is : spec ≡ spec_of view o.ask known) where
+module _ {S : Type 0} (R : Rules S) (g : Going S) (o : OrderFrame) (ran : Going S) (view : ℕ) (known : Known) (spec : Spec) (ran_is : ran ≡ executed R (ordered_entry o) g) (view_is : view ≡ own_view g.state)
+    (known_is : known ≡ next_known R g.state (ordered_entry o)) (spec_is : spec ≡ spec_of view (ordered_entry o) known) where
   place_is : spec.place.0 ≡ last_place g.state.kept + 1
   place_is =
       ap (λ (x : Spec). x.place.0) spec_is ∙ ap (λ (x : Known). x.place.0) known_is ∙ ap (λ (n : ℕ). n + 1) (place-along R g.state.kept.base g.state.kept.entries)
 
   last_is : last_place ran.state.kept ≡ last_place g.state.kept + 1
-  last_is = ap (λ (x : Going S). last_place x.state.kept) ran_is ∙ omega (arith, length-append g.state.kept.entries (entry_of o.ask ∷ []))
+  last_is = ap (λ (x : Going S). last_place x.state.kept) ran_is ∙ omega (arith, length-append g.state.kept.entries (ordered_entry o ∷ []))
 
   pub ran_above : ran.state.kept.base.place < spec.place.0
   ran_above = let base = ap (λ (x : Going S). x.state.kept.base.place) ran_is in omega (arith, base, place_is)
@@ -130,8 +130,8 @@ module _ {S : Type 0} (R : Rules S) (g : Going S) (o : OrderFrame) (ran : Going 
   pub ran_head : head_in (stretch_of ran.state.kept) spec.place.0 ≡ Some spec.head
   ran_head =
       ap (λ (x : Going S). head_in (stretch_of x.state.kept) spec.place.0) ran_is
-      ∙ ap (head_in (stretch_of (longer g.state.kept (entry_of o.ask)))) place_is
-      ∙ longer_head R g.state.kept (entry_of o.ask)
+      ∙ ap (head_in (stretch_of (longer g.state.kept (ordered_entry o)))) place_is
+      ∙ longer_head R g.state.kept (ordered_entry o)
       ∙ ap Some (sym (ap (λ (x : Spec). x.head) spec_is ∙ ap (λ (x : Known). x.head) known_is))
 
   pub ran_board : IsBoard g.state.board → IsBoard ran.state.board
@@ -140,17 +140,17 @@ module _ {S : Type 0} (R : Rules S) (g : Going S) (o : OrderFrame) (ran : Going 
   pub ran_signer : g.state.sealer.me ≡ Replica g.state.me → ran.state.sealer.me ≡ Replica ran.state.me
   ran_signer is = subst (λ (x : Going S). x.state.sealer.me ≡ Replica x.state.me) (sym ran_is) is
 
-  pub ran_leaf : signs_of R g.state o.ask ≤ leaves_of g.state → signs_with ran.state spec (state_in R ran.state.kept spec.place.0) ≤ leaves_of ran.state
-  ran_leaf enough =
+  pub ran_left : signs_of R g.state (ordered_entry o) ≤ signs_left g.state → signs_with ran.state spec (state_in R ran.state.kept spec.place.0) ≤ signs_left ran.state
+  ran_left enough =
       let signs =
       signs_counted R g.state ran.state o.ask view known spec (state_in R ran.state.kept spec.place.0)
       (λ x st. ap (λ (y : Going S). signs_with y.state x st) ran_is ∙ signs_executed R o.ask g x st) (ap (λ (y : Going S). y.state.kept) ran_is) view_is known_is spec_is refl in
-      let leaves = ap (λ (y : Going S). leaves_of y.state) ran_is in
-      omega (arith, signs, leaves, enough)
+      let same_left = ap (λ (y : Going S). signs_left y.state) ran_is in
+      omega (arith, signs, same_left, enough)
 
   pub ran_answered : answered R o.order spec known.reply ran ≡ run_one R o g
   unfolding run_one
   ran_answered =
       ap (λ (x : Going S). answered R o.order spec known.reply x) ran_is
-      ∙ ap (λ (x : Spec). answered R o.order x known.reply (executed R o.ask g)) (spec_is ∙ ap (λ (v : ℕ). spec_of v o.ask known) view_is)
-      ∙ ap (λ (k : Known). answered R o.order (spec_of (own_view g.state) o.ask k) k.reply (executed R o.ask g)) known_is
+      ∙ ap (λ (x : Spec). answered R o.order x known.reply (executed R (ordered_entry o) g)) (spec_is ∙ ap (λ (v : ℕ). spec_of v (ordered_entry o) known) view_is)
+      ∙ ap (λ (k : Known). answered R o.order (spec_of (own_view g.state) (ordered_entry o) k) k.reply (executed R (ordered_entry o) g)) known_is

@@ -27,7 +27,7 @@ use Rattle.zy_cert.specs.Points.{point_of_spec}
 use Rattle.zy_cert.specs.Signers.{has_other, has_repeat}
 use Rattle.zy_exec.specs.Kept.{last_place, stretch_of}
 use Rattle.zy_table.specs.declared.kept.OwnCheckpoint.{OwnCheckpoint}
-use Rattle.zy_table.specs.State.{State, is_leaving, is_leaving_mode, leaves_of, own_view}
+use Rattle.zy_table.specs.State.{State, is_leaving, is_leaving_mode, signs_left, own_view}
 use Rattle.zy_replica_state.specs.Ready.{IsOwnCertificate, IsReady}
 use Rattle.zy_table.specs.Deeds.{refused, ends}
 use Rattle.zy_change.specs.Views.{is_further}
@@ -65,6 +65,11 @@ pub commit_is : {S : Type 0} (R : Rules S) (s : State S) (first : Spec) (specs :
 unfolding commit
 commit_is R s first specs old behind = rw (old, behind) refl
 
+pub commit_old : {S : Type 0} (R : Rules S) (s : State S) (first : Spec) (specs : List (Signed Spec)) → nat_lt first.place.0 s.orders.base ≡ true
+    → refused causes.OldPlace s ≡ commit R s first specs
+unfolding commit
+commit_old R s first specs old = rw old refl
+
 pub commit_behind : {S : Type 0} (R : Rules S) (s : State S) (first : Spec) (specs : List (Signed Spec)) → nat_lt first.place.0 s.orders.base ≡ false → nat_lt (last_place s.kept) first.place.0 ≡ true
     → refused (causes.Behind first.place) s ≡ commit R s first specs
 unfolding commit
@@ -98,24 +103,24 @@ pub given_last : {S : Type 0} (R : Rules S) (client : ClientId) (local : Local) 
 given_last R client local None s = refl
 given_last R client local (Some said) s = refl
 
-pub given_leaves : {S : Type 0} (R : Rules S) (client : ClientId) (local : Local) (said : Option (Signed Local)) (s : State S)
-    → leaves_of (give_local R client local said s).state ≡ leaves_of s - locals_owed said
-given_leaves R client local None s = omega arith
-given_leaves R client local (Some said) s = omega arith
+pub given_left : {S : Type 0} (R : Rules S) (client : ClientId) (local : Local) (said : Option (Signed Local)) (s : State S)
+    → signs_left (give_local R client local said s).state ≡ signs_left s - locals_owed said
+given_left R client local None s = omega arith
+given_left R client local (Some said) s = omega arith
 
--- the certificate is taken where the leaves are enough
+-- the certificate is taken where the signatures left are enough
 pub commit_fits : {S : Type 0} (R : Rules S) (s : State S) (specs : List (Signed Spec)) (client : ClientId) (local : Local) (said : Option (Signed Local)) (own : Option OwnCheckpoint)
-    → locals_owed said + checks_owed s own true ≤ leaves_of s
+    → locals_owed said + checks_owed s own true ≤ signs_left s
     → commit_as R s specs client local said own ≡ ends Taken (gather_at R own true (give_local R client local said (with_certificate s local.place specs)))
 commit_fits R s specs client local said own fits =
-    let is : nat_le (locals_owed said + checks_owed (with_certificate s local.place specs) own true) (leaves_of s) ≡ true =
+    let is : nat_le (locals_owed said + checks_owed (with_certificate s local.place specs) own true) (signs_left s) ≡ true =
     rw (owed_alike s local.place specs own true) (le-leb _ _ fits) in
     rw is refl
 
 pub commit_spent : {S : Type 0} (R : Rules S) (s : State S) (specs : List (Signed Spec)) (client : ClientId) (local : Local) (said : Option (Signed Local)) (own : Option OwnCheckpoint)
-    → leaves_of s < locals_owed said + checks_owed s own true → commit_as R s specs client local said own ≡ refused causes.KeySpent s
+    → signs_left s < locals_owed said + checks_owed s own true → commit_as R s specs client local said own ≡ refused causes.KeySpent s
 commit_spent R s specs client local said own lacks =
-    let is : nat_le (locals_owed said + checks_owed (with_certificate s local.place specs) own true) (leaves_of s) ≡ false =
+    let is : nat_le (locals_owed said + checks_owed (with_certificate s local.place specs) own true) (signs_left s) ≡ false =
     rw (owed_alike s local.place specs own true) (lt-leb _ _ lacks) in
     rw is refl
 

@@ -15,7 +15,7 @@ use Rattle.zy_parts.specs.declared.statements.Check.{Check}
 use Rattle.zy_exec.specs.Kept.{Kept, last_place}
 use Rattle.zy_exec.proofs.ReplayLemmas.{place-along}
 use Rattle.zy_exec.proofs.SettleLemmas.{settled_end}
-use Rattle.zy_admit.specs.Judging.{entry_of}
+use Rattle.zy_admit.specs.Judging.{ordered_entry}
 use Rattle.zy_admit.specs.Orders.{Orders, slots_above, orders_above}
 use Rattle.zy_table.specs.declared.deeds.To.TheVariants.{All}
 use Rattle.zy_table.specs.declared.kept.OwnCheckpoint.{OwnCheckpoint}
@@ -97,16 +97,16 @@ module _ {S : Type 0} (R : Rules S) where
       record { mode = same.mode; last = same.last; slots = same.slots }
 
   -- an order that is run: one place more, and the orders above it are the same
-  pub run_above : (o : OrderFrame) (g : Going S) → g.state.orders.base ≤ last_place g.state.kept → IsSameAbove (executed R o.ask g).state (run_one R o g).state
+  pub run_above : (o : OrderFrame) (g : Going S) → g.state.orders.base ≤ last_place g.state.kept → IsSameAbove (executed R (ordered_entry o) g).state (run_one R o g).state
   unfolding run_one
   run_above o g base =
-      let known = next_known R g.state o.ask in
-      let spec : Spec = spec_of (own_view g.state) o.ask known in
-      let e : Going S = executed R o.ask g in
+      let known = next_known R g.state (ordered_entry o) in
+      let spec : Spec = spec_of (own_view g.state) (ordered_entry o) known in
+      let e : Going S = executed R (ordered_entry o) g in
       let signed : Signed Spec = sealed_spec e.state spec in
       let r : Going S = respond R o.order signed known.reply e in
       let here : spec.place.0 ≡ last_place g.state.kept + 1 = ap (λ (n : ℕ). n + 1) (place-along R g.state.kept.base g.state.kept.entries) in
-      let longer = length-append g.state.kept.entries (entry_of o.ask ∷ []) in
+      let longer = length-append g.state.kept.entries (ordered_entry o ∷ []) in
       let same = shared_above o.order signed known.reply (state_in R e.state.kept spec.place.0) r (omega (arith, here)) (omega (arith, here)) (omega (arith, here, longer)) in
       record { mode = same.mode; last = same.last; slots = same.slots }
 

@@ -34,18 +34,18 @@ signs_longer s k spec (Some state) = refl
 
 -- what is counted once the entry is executed
 pub signs_counted : {S : Type 0} (R : Rules S) (s ran : State S) (ask : Signed Ask) (view : ℕ) (known : Known) (spec : Spec) (state : Option Digest) → ((x : Spec) (st : Option Digest) → signs_with ran x st ≡ signs_with s x st)
-    → ran.kept ≡ longer s.kept (entry_of ask) → view ≡ own_view s → known ≡ next_known R s ask → spec ≡ spec_of view ask known → state ≡ state_in R ran.kept spec.place.0
-    → signs_with ran spec state ≡ signs_of R s ask
+    → ran.kept ≡ longer s.kept (entry_of ask) → view ≡ own_view s → known ≡ next_known R s (entry_of ask) → spec ≡ spec_of view (entry_of ask) known → state ≡ state_in R ran.kept spec.place.0
+    → signs_with ran spec state ≡ signs_of R s (entry_of ask)
 signs_counted {S} R s ran ask view known spec state same kept_is view_is known_is spec_is state_is =
-    let is : spec ≡ spec_of (own_view s) ask (next_known R s ask) = spec_is ∙ ap (λ (v : ℕ). spec_of v ask known) view_is ∙ ap (spec_of (own_view s) ask) known_is in
+    let is : spec ≡ spec_of (own_view s) (entry_of ask) (next_known R s (entry_of ask)) = spec_is ∙ ap (λ (v : ℕ). spec_of v (entry_of ask) known) view_is ∙ ap (spec_of (own_view s) (entry_of ask)) known_is in
     same spec state
     ∙ ap (signs_with s spec) (state_is ∙ ap (λ (k : Kept S). state_in R k spec.place.0) kept_is)
     ∙ ap (λ (x : Spec). signs_with s x (state_in R (longer s.kept (entry_of ask)) x.place.0)) is
 
-pub some_signs : {S : Type 0} (R : Rules S) (s : State S) (ask : Signed Ask) → (1 ≤ signs_of R s ask) × (signs_of R s ask ≤ 2)
-some_signs R s ask = signs_few s (spec_of (own_view s) ask (next_known R s ask)) (state_in R (longer s.kept (entry_of ask)) (next_known R s ask).place.0)
+pub some_signs : {S : Type 0} (R : Rules S) (s : State S) (ask : Signed Ask) → (1 ≤ signs_of R s (entry_of ask)) × (signs_of R s (entry_of ask) ≤ 2)
+some_signs R s ask = signs_few s (spec_of (own_view s) (entry_of ask) (next_known R s (entry_of ask))) (state_in R (longer s.kept (entry_of ask)) (next_known R s (entry_of ask)).place.0)
 
--- where one leaf decides
+-- where one signature decides
 pub decided : (signs more left : ℕ) → 1 ≤ signs → signs ≤ 2 → (left ≡ more + 1 → ⊥) → nat_lt more left ≡ nat_le (signs + more) left
 decided signs more left some few not_one = grind (arith, nat_tests)
 
@@ -53,7 +53,7 @@ pub undecided : (signs more left : ℕ) → 1 ≤ signs → signs ≤ 2 → left
 undecided signs more left some few one = grind (arith, nat_tests)
 
 -- the same once the entry is executed
-pub signs_executed : {S : Type 0} (R : Rules S) (ask : Signed Ask) (g : Going S) (spec : Spec) (state : Option Digest) → signs_with (executed R ask g).state spec state ≡ signs_with g.state spec state
+pub signs_executed : {S : Type 0} (R : Rules S) (ask : Signed Ask) (g : Going S) (spec : Spec) (state : Option Digest) → signs_with (executed R (entry_of ask) g).state spec state ≡ signs_with g.state spec state
 signs_executed R ask g spec None = refl
 signs_executed R ask g spec (Some state) = refl
 

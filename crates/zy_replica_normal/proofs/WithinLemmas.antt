@@ -10,7 +10,7 @@ use Rattle.zy_frames.specs.declared.frame.OrderFrame.{OrderFrame}
 use Rattle.zy_admit.specs.declared.judging.Admit.{Admit}
 use Rattle.zy_admit.specs.declared.judging.Admit.TheVariants as admits
 use Rattle.zy_admit.specs.declared.judging.Position.{Position}
-use Rattle.zy_admit.specs.Judging.{judge_in, judge_beside, judge_fresh, same_order}
+use Rattle.zy_admit.specs.Judging.{judge_in, judge_beside, judge_fresh, same_order, entry_of}
 use Rattle.zy_admit.specs.Orders.{Orders, stored_in}
 
 abbrev pub is_kept : Admit → Bool
@@ -29,16 +29,16 @@ module _ (order : Order) (ask : Signed Ask) (now : Position) where
   at_if false true rest place window is = let never : ⊥ = cc in absurd never
   at_if false false rest place window is = (leb-false _ _ place, ltb-false _ _ window)
 
-  fresh : is_kept (judge_fresh order ask now) ≡ true → IsWithin
+  fresh : is_kept (judge_fresh order (entry_of ask) now) ≡ true → IsWithin
   fresh is = at_if (nat_le order.place.0 now.end.0) (nat_lt now.window.0 order.place.0) _ refl refl is
 
   other : (same : Bool) → is_kept (if same then admits.Refused causes.Repeat else admits.Evidence) ≡ true → IsWithin
   other true is = let never : ⊥ = cc in absurd never
   other false is = let never : ⊥ = cc in absurd never
 
-  beside : (kept : Option OrderFrame) → is_kept (judge_beside kept order ask now) ≡ true → IsWithin
+  beside : (kept : Option OrderFrame) → is_kept (judge_beside kept order (entry_of ask) now) ≡ true → IsWithin
   beside None is = fresh is
   beside (Some kept) is = other (same_order kept.order.stmt order) is
 
-  pub kept_within : (orders : Orders) (admit : Admit) → admit ≡ judge_in orders order ask now → is_kept admit ≡ true → IsWithin
+  pub kept_within : (orders : Orders) (admit : Admit) → admit ≡ judge_in orders order (entry_of ask) now → is_kept admit ≡ true → IsWithin
   kept_within orders admit judged is = beside (stored_in orders order.place.0) (subst (λ (a : Admit). is_kept a ≡ true) judged is)

@@ -7,7 +7,7 @@ ghost use Rattle.zy_check.specs.Board.{with_spec, with_check};
 ghost use Rattle.zy_check.specs.Judging.{judge_spec, judge_check, is_refused};
 ghost use Rattle.zy_parts.specs.Signing.{IsSignedInRange};
 ghost use Rattle.zy_parts.specs.Statements.{IsSpecInRange, IsCheckInRange};
-ghost use Rattle.zy_table.specs.State.{is_leaving, leaves_of};
+ghost use Rattle.zy_table.specs.State.{is_leaving, signs_left};
 ghost use Rattle.zy_table.specs.Deeds.{ends, begin};
 ghost use Rattle.zy_table.specs.Gathering.{checks_owed, gather_at as gathered_at};
 ghost use Rattle.zy_table.specs.Checkpoints.{gathered, kept_as, response_beside as answered_beside, response as response_row, checkpoint_beside as checked_beside, checkpoint as checkpoint_row};
@@ -22,7 +22,7 @@ use zy_table::OwnCheckpoint;
 
 // What is kept at a place is looked through, and with that the step ends.
 fn gather_kept<M: Machine>(core: Core<M>, own: Option<OwnCheckpoint>) -> Result<Moved<M>, Want>
-    requires leaf { checks_owed core own false ≤ leaves_of core }
+    requires left { checks_owed core own false ≤ signs_left core }
     requires own { ForSome own (IsOwnReady core.kept core.views.last_view) }
     ensures { IfOk result (λ m. m ≡ ends Answer.Taken (gathered_at M.rules own false (begin core))) }
 {
@@ -42,7 +42,7 @@ fn gather_response<M: Machine>(
     requires own { ForSome own (IsOwnReady core.kept core.views.last_view) }
     ensures { IfOk result (λ m. m ≡ gathered M.rules core own (with_spec core.board spec)) }
 {
-    if core.owed_with_spec(&spec, own) > core.leaves() {
+    if core.owed_with_spec(&spec, own) > core.signs_left() {
         return core.not_heard(spec, Cause::KeySpent);
     }
     gather_kept(core.keep_spec_vote(spec, own)?, own)
@@ -104,7 +104,7 @@ fn gather_checkpoint<M: Machine>(
     requires place { ForSome own (λ o. o.check.place ≡ check.stmt.place) }
     ensures { IfOk result (λ m. m ≡ gathered M.rules core own (with_check core.board check)) }
 {
-    if core.owed_with_check(&check, own) > core.leaves() {
+    if core.owed_with_check(&check, own) > core.signs_left() {
         return core.not_heard(check, Cause::KeySpent);
     }
     gather_kept(core.keep_check_vote(check, own)?, own)

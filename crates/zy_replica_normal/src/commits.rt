@@ -9,7 +9,7 @@ ghost use Rattle.zy_frames.specs.Frames.{IsFrameInRange};
 ghost use Rattle.zy_frames.specs.declared.frame.Frame.TheVariants as frames;
 ghost use Rattle.zy_seal.specs.Sealing.{sealed_by};
 ghost use Rattle.zy_base.specs.declared.step.Answer.TheVariants as Answer;
-ghost use Rattle.zy_table.specs.State.{is_leaving, leaves_of, own_view, spent};
+ghost use Rattle.zy_table.specs.State.{is_leaving, signs_left, own_view, spent};
 ghost use Rattle.zy_table.specs.Deeds.{ends};
 ghost use Rattle.zy_table.specs.Gathering.{checks_owed, gather_at as gathered};
 ghost use Rattle.zy_table.specs.Commits.{local_at as local_for, local_said, say_local as local_by, locals_owed as owed, give_local as given, commit_as as committed, commit_beside as beside, commit_judged as judged_as, commit as commit_row};
@@ -36,7 +36,7 @@ fn local_at(point: (View, Place, Digest)) -> Local
 
 // The local commit, signed and kept.
 fn seal_local<M: Machine>(core: Core<M>, local: Local) -> Result<(Core<M>, Signed<Local>), Want>
-    requires leaf { 1 ≤ leaves_of core }
+    requires left { 1 ≤ signs_left core }
     requires range { IsLocalInRange local }
     ensures core { IfOk result (λ r. r.0 ≡ record (spent core) { locals = core.locals ++ sealed_by numbers.local local_fields core.sealer local ∷ [] }) }
     ensures local { IfOk result (λ r. r.1 ≡ sealed_by numbers.local local_fields core.sealer local) }
@@ -55,7 +55,7 @@ fn seal_local<M: Machine>(core: Core<M>, local: Local) -> Result<(Core<M>, Signe
 
 // It is signed, kept and sent to the client.
 fn say_local<M: Machine>(core: Core<M>, client: ClientId, local: Local) -> Result<Progress<M>, Want>
-    requires leaf { 1 ≤ leaves_of core }
+    requires left { 1 ≤ signs_left core }
     requires range { IsLocalInRange local }
     ensures { IfOk result (λ g. g ≡ local_by M.rules client local core) }
 {
@@ -86,7 +86,7 @@ fn give_local<M: Machine>(
     local: Local,
     said: Option<Signed<Local>>,
 ) -> Result<Progress<M>, Want>
-    requires leaf { owed said ≤ leaves_of core }
+    requires left { owed said ≤ signs_left core }
     requires local { IsLocalInRange local }
     requires said { ForSome said (IsSignedInRange IsLocalInRange) }
     ensures { IfOk result (λ g. g ≡ given M.rules client local said core) }
@@ -105,7 +105,7 @@ fn give_and_gather<M: Machine>(
     said: Option<Signed<Local>>,
     own: Option<OwnCheckpoint>,
 ) -> Result<Moved<M>, Want>
-    requires leaves { owed said + checks_owed core own true ≤ leaves_of core }
+    requires left { owed said + checks_owed core own true ≤ signs_left core }
     requires local { IsLocalInRange local }
     requires said { ForSome said (IsSignedInRange IsLocalInRange) }
     requires own { ForSome own (IsOwnReady core.kept core.views.last_view) }
@@ -130,7 +130,7 @@ fn commit_as<M: Machine>(
     requires certificate { IsOwnCertificate core local.place specs }
     ensures { IfOk result (λ m. m ≡ committed M.rules core specs client local said own) }
 {
-    if locals_owed(&said) + core.checks_owed(own, true) > core.leaves() {
+    if locals_owed(&said) + core.checks_owed(own, true) > core.signs_left() {
         return core.not_heard((specs, said), Cause::KeySpent);
     }
     let core = core.keep_certificate(local.place, specs);

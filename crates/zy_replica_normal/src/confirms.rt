@@ -1,7 +1,7 @@
 //! What the primary answers to a backup that waits for an order.
 
 ghost use Rattle.std.specs.Prelude.{◌≡◌, nat_eq, nat_lt, if◌then◌else◌, IfOk};
-ghost use Rattle.zy_admit.specs.Judging.{entry_of};
+ghost use Rattle.zy_admit.specs.Judging.{asking};
 ghost use Rattle.zy_admit.specs.Orders.{stored_in};
 ghost use Rattle.zy_base.specs.declared.cause.Cause.TheVariants as causes;
 ghost use Rattle.zy_exec.specs.Kept.{known_in};
@@ -51,7 +51,7 @@ fn confirm_known<M: Machine>(
 // A request that isn't executed yet is read as any request.
 fn confirm_after<M: Machine>(core: Core<M>, by: Party, ask: Signed<Ask>) -> Result<Moved<M>, Want>
     requires ask { IsAskReady ask }
-    ensures { IfOk result (λ m. m ≡ after M.rules core by ask (known_in M.rules core.kept (entry_of ask).client.0)) }
+    ensures { IfOk result (λ m. m ≡ after M.rules core by ask (known_in M.rules core.kept (asking ask.by).0)) }
 {
     match core.exec().known(client_of(ask.by)) {
         None => hear_request(core, ask),

@@ -8,7 +8,7 @@ ghost use Rattle.zy_parts.specs.Signing.{IsSignedInRange};
 ghost use Rattle.zy_parts.specs.Statements.{IsCheckInRange, check_fields};
 ghost use Rattle.zy_seal.specs.Sealing.{sealed_by};
 ghost use Rattle.zy_check.specs.Judging.{after_check};
-ghost use Rattle.zy_table.specs.State.{leaves_of, spent};
+ghost use Rattle.zy_table.specs.State.{signs_left, spent};
 ghost use Rattle.zy_table.specs.Gathering.{certificate_at, keep_certificate, owes_check, checks_owed, say_check as check_said, say_check_if as check_said_if, settle_own as own_settled, gather as gathered, gather_at as gathered_at};
 ghost use Rattle.zy_replica_state.specs.Ready.{IsOwnReady};
 
@@ -19,7 +19,7 @@ use zy_table::{Body, OwnCheckpoint};
 
 // The checkpoint, signed and kept.
 fn seal_check<M: Machine>(core: Core<M>, own: &Check) -> Result<(Core<M>, Signed<Check>), Want>
-    requires leaf { 1 ≤ leaves_of core }
+    requires left { 1 ≤ signs_left core }
     requires range { IsCheckInRange own.now }
     ensures core { IfOk result (λ r. r.0 ≡ record (spent core) { board = after_check core.board (sealed_by numbers.check check_fields core.sealer own.now) (Some own.now) }) }
     ensures check { IfOk result (λ r. r.1 ≡ sealed_by numbers.check check_fields core.sealer own.now) }
@@ -38,7 +38,7 @@ fn seal_check<M: Machine>(core: Core<M>, own: &Check) -> Result<(Core<M>, Signed
 
 // It is signed, kept and sent to all.
 fn say_check<M: Machine>(progress: Progress<M>, own: &Check) -> Result<Progress<M>, Want>
-    requires leaf { 1 ≤ leaves_of progress.state }
+    requires left { 1 ≤ signs_left progress.state }
     requires range { IsCheckInRange own.now }
     ensures { IfOk result (λ g. g ≡ check_said M.rules own.now progress) }
 {
@@ -65,7 +65,7 @@ fn say_check_if<M: Machine>(
     owes: bool,
     own: &Check,
 ) -> Result<Progress<M>, Want>
-    requires leaf { (if owes then 1 else 0) ≤ leaves_of progress.state }
+    requires left { (if owes then 1 else 0) ≤ signs_left progress.state }
     requires range { IsCheckInRange own.now }
     ensures progress { IfOk result (λ g. g ≡ check_said_if M.rules owes own.now progress) }
     ensures kept { IfOk result (λ g. g.state.kept ≡ progress.state.kept) }
@@ -119,7 +119,7 @@ pub(crate) fn gather<M: Machine>(
     own: &OwnCheckpoint,
     brought: bool,
 ) -> Result<Progress<M>, Want>
-    requires leaf { (if owes_check progress.state own.now brought then 1 else 0) ≤ leaves_of progress.state }
+    requires left { (if owes_check progress.state own.now brought then 1 else 0) ≤ signs_left progress.state }
     requires own { IsOwnReady progress.state.kept progress.state.views.last_view own.now }
     ensures { IfOk result (λ g. g ≡ gathered M.rules own.now brought progress) }
 {
@@ -130,13 +130,13 @@ pub(crate) fn gather<M: Machine>(
 }
 
 /// What is kept at a place is looked through beside what the own history says there; a certificate may have been brought
-/// for it. The checkpoint that this owes has its leaf.
+/// for it. A signature is left for the checkpoint that this owes.
 pub fn gather_at<M: Machine>(
     progress: Progress<M>,
     own: Option<OwnCheckpoint>,
     brought: bool,
 ) -> Result<Progress<M>, Want>
-    requires leaf { checks_owed progress.state own brought ≤ leaves_of progress.state }
+    requires left { checks_owed progress.state own brought ≤ signs_left progress.state }
     requires own { ForSome own (IsOwnReady progress.state.kept progress.state.views.last_view) }
     ensures { IfOk result (λ g. g ≡ gathered_at M.rules own brought progress) }
 {

@@ -17,4 +17,3 @@ pub use requests::hear_request;
 pub use rows::{
     checkpoint_in_view, commit_in_view, confirm_in_view, hole_in_view, response_in_view,
 };
-pub use running::keep_own_spec;

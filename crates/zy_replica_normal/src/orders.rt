@@ -2,9 +2,9 @@
 
 ghost use Rattle.std.specs.Prelude.{◌≡◌, ◌≤◌, ◌<◌, ◌+◌, IfOk, is_some, if◌then◌else◌, true, false, Some, None};
 ghost use Rattle.zy_exec.specs.Kept.{last_place};
-ghost use Rattle.zy_admit.specs.Judging.{judge_in};
+ghost use Rattle.zy_admit.specs.Judging.{judge_in, ordered_entry};
 ghost use Rattle.zy_admit.specs.Orders.{with_order};
-ghost use Rattle.zy_table.specs.State.{is_leaving, leaves_of, window_of, spent};
+ghost use Rattle.zy_table.specs.State.{is_leaving, signs_left, window_of, spent};
 ghost use Rattle.zy_base.specs.declared.step.Answer.TheVariants as Answer;
 ghost use Rattle.zy_table.specs.Deeds.{ends, begin};
 ghost use Rattle.zy_table.specs.Running.{run, signs_of};
@@ -68,7 +68,7 @@ fn take_order<M: Machine>(core: Core<M>, frame: OrderFrame) -> Result<Moved<M>, 
 
 fn accept_and_run<M: Machine>(core: Core<M>, frame: &OrderFrame) -> Result<Moved<M>, Want>
     requires active { is_leaving core ≡ false }
-    requires leaf { signs_of M.rules core frame.now.ask ≤ leaves_of core }
+    requires left { signs_of M.rules core (ordered_entry frame.now) ≤ signs_left core }
     requires order { IsOrderReady frame.now }
     requires above { last_place core.kept < frame.now.order.stmt.place.0 }
     requires within { frame.now.order.stmt.place.0 ≤ window_of core }
@@ -95,7 +95,7 @@ fn has_asked_from<M: Machine>(core: &Core<M>, place: Place) -> bool
 }
 
 fn seal_hole<M: Machine>(core: Core<M>) -> Result<(Core<M>, Signed<Hole>), Want>
-    requires leaf { 1 ≤ leaves_of core }
+    requires left { 1 ≤ signs_left core }
     requires room { last_place core.kept < window_of core }
     ensures core { IfOk result (λ r. r.0 ≡ record (spent core) { hole = Some (sealed_by numbers.hole hole_fields core.sealer (hole_for core)) }) }
     ensures hole { IfOk result (λ r. r.1 ≡ sealed_by numbers.hole hole_fields core.sealer (hole_for core)) }
@@ -109,7 +109,7 @@ fn seal_hole<M: Machine>(core: Core<M>) -> Result<(Core<M>, Signed<Hole>), Want>
 
 // The primary is asked for them.
 fn ask_for_missing<M: Machine>(core: Core<M>) -> Result<Progress<M>, Want>
-    requires leaf { 1 ≤ leaves_of core }
+    requires left { 1 ≤ signs_left core }
     requires room { last_place core.kept < window_of core }
     ensures { IfOk result (λ g. g ≡ asked M.rules core) }
 {
@@ -136,7 +136,7 @@ fn hold_order<M: Machine>(core: Core<M>, frame: OrderFrame) -> Result<Moved<M>, 
         let core = core.keep_order(frame)?;
         return Ok(core.begin().ends(Answer::Held));
     }
-    if core.leaves() == 0 {
+    if core.signs_left() == 0 {
         return core.not_heard(frame, Cause::KeySpent);
     }
     let progress = ask_for_missing(core.keep_order(frame)?)?;
@@ -146,7 +146,7 @@ fn hold_order<M: Machine>(core: Core<M>, frame: OrderFrame) -> Result<Moved<M>, 
 /// How an order is judged beside those that are kept and the own history.
 pub fn judge<M: Machine>(core: &Core<M>, frame: &OrderFrame) -> Admit
     requires { IsOrderReady frame.now }
-    ensures { result ≡ judge_in core.now.orders frame.now.order.stmt frame.now.ask (position_for M.rules core.now frame.now) }
+    ensures { result ≡ judge_in core.now.orders frame.now.order.stmt (ordered_entry frame.now) (position_for M.rules core.now frame.now) }
 {
     let position = position_of(core, frame);
     core.orders()
@@ -161,7 +161,7 @@ pub fn order_as<M: Machine>(
 ) -> Result<Moved<M>, Want>
     requires active { is_leaving core ≡ false }
     requires order { IsOrderReady frame }
-    requires judged { admit ≡ judge_in core.orders frame.order.stmt frame.ask (position_for M.rules core frame) }
+    requires judged { admit ≡ judge_in core.orders frame.order.stmt (ordered_entry frame) (position_for M.rules core frame) }
     ensures { IfOk result (λ m. m ≡ answered_as M.rules core frame admit) }
 {
     match admit {

@@ -2,7 +2,7 @@
 
 ghost use Rattle.std.specs.Prelude.{◌≡◌, ◌≤◌, ◌<◌, ◌+◌, nat_eq, nat_lt, if◌then◌else◌, false, Some, IfOk};
 ghost use Rattle.std.specs.Option.{ForSome};
-ghost use Rattle.zy_admit.specs.Judging.{entry_of};
+ghost use Rattle.zy_admit.specs.Judging.{entry_of, asking};
 ghost use Rattle.zy_admit.specs.Orders.{with_order};
 ghost use Rattle.zy_parts.specs.Signing.{IsSignedInRange};
 ghost use Rattle.zy_parts.specs.Statements.{IsConfirmInRange, IsOrderInRange, IsSpecInRange, spec_fields};
@@ -15,10 +15,10 @@ ghost use Rattle.zy_seal.specs.Sealing.{sealed_by};
 ghost use Rattle.zy_table.specs.declared.deeds.To.TheVariants as tos;
 ghost use Rattle.zy_table.specs.declared.deeds.Act.TheVariants as acts;
 ghost use Rattle.zy_table.specs.declared.deeds.Body.TheVariants as bodies;
-ghost use Rattle.zy_table.specs.State.{is_leaving, leaves_of, window_of, spent, stood_of, with_spec, with_pending, pending_of, spec_to as last_spec};
+ghost use Rattle.zy_table.specs.State.{is_leaving, signs_left, window_of, spent, stood_of, with_spec, with_pending, pending_of};
 ghost use Rattle.zy_table.specs.Deeds.{ends, begin, act as acting, send as sending};
 ghost use Rattle.zy_table.specs.Running.{spec_of as spec_for, run, signs_of};
-ghost use Rattle.zy_table.specs.Requests.{response_of, respond_anew as anew, respond_with as answered_with, respond_again as answered_again, said_already as already, order_of as order_for, sealed_order as sealed, ordered as ordered_by, take_request as taken, request_at_primary as at_primary, confirm_of as confirm_for, sealed_confirm as confirmed, tell_primary as told_of, request_waits as waiting, forward as forwarded, request_at_backup as at_backup, new_request as fresh, request_after as after, is_behind as behind, request as request_row};
+ghost use Rattle.zy_table.specs.Requests.{response_of, respond_anew as anew, respond_with as answered_with, respond_again as answered_again, order_of as order_for, sealed_order as sealed, ordered as ordered_by, take_request as taken, request_at_primary as at_primary, confirm_of as confirm_for, sealed_confirm as confirmed, tell_primary as told_of, request_waits as waiting, forward as forwarded, request_at_backup as at_backup, new_request as fresh, request_after as after, is_behind as behind, request as request_row};
 ghost use Rattle.zy_replica_state.specs.Ready.{IsAskReady, IsKeptPending, IsOrderReady, IsPendingReady};
 
 use crate::running::{can_run, run_all};
@@ -28,7 +28,7 @@ use zy_chain::next_head;
 use zy_exec::Known;
 use zy_frames::OrderFrame;
 use zy_parts::{Ask, Confirm, Order, Signed, Spec};
-use zy_replica_state::{Core, Moved, Progress, pending_copy, signed_copy, spec_of};
+use zy_replica_state::{Core, Moved, Progress, pending_copy, spec_of};
 use zy_table::{Body, Pending};
 
 pub(crate) fn is_older(stamp: Stamp, last: Stamp) -> bool
@@ -65,9 +65,8 @@ fn send_response<M: Machine>(
 }
 
 fn sign_response<M: Machine>(core: Core<M>, spec: Spec, known: Known) -> Result<Progress<M>, Want>
-    requires leaf { 1 ≤ leaves_of core }
+    requires left { 1 ≤ signs_left core }
     requires spec { IsSpecInRange spec }
-    requires client { spec.client.0 < 64 }
     requires known { IsKnownInRange known }
     ensures { IfOk result (λ g. g ≡ response_of core (sealed_by numbers.spec spec_fields core.sealer spec) known (acting (acts.Says (record { body = bodies.Spec spec; stood = stood_of M.rules core })) (begin (with_spec (spent core) (sealed_by numbers.spec spec_fields core.sealer spec))))) }
 {
@@ -83,34 +82,21 @@ fn sign_response<M: Machine>(core: Core<M>, spec: Spec, known: Known) -> Result<
 // The response is signed anew.
 fn respond_anew<M: Machine>(core: Core<M>, spec: Spec, known: Known) -> Result<Moved<M>, Want>
     requires spec { IsSpecInRange spec }
-    requires client { spec.client.0 < 64 }
     requires known { IsKnownInRange known }
     ensures { IfOk result (λ m. m ≡ anew M.rules core spec known) }
 {
-    if core.leaves() == 0 {
+    if core.signs_left() == 0 {
         return core.not_heard(known, Cause::KeySpent);
     }
     Ok(sign_response(core, spec, known)?.ends(Answer::Taken))
 }
 
-// A copy of the response that was signed last, where it is this one.
-fn said_already<M: Machine>(core: &Core<M>, spec: &Spec) -> Result<Option<Signed<Spec>>, Want>
-    ensures said { IfOk result (λ said. said ≡ already (last_spec core.now spec.now.client) spec.now) }
-    ensures range { IfOk result (λ said. ForSome said (IsSignedInRange IsSpecInRange)) }
-{
-    match core.spec_to(spec.client) {
-        Some(last) if last.stmt == *spec => Ok(Some(signed_copy(last)?)),
-        _ => Ok(None),
-    }
-}
-
 fn respond_with<M: Machine>(core: Core<M>, spec: Spec, known: Known) -> Result<Moved<M>, Want>
     requires spec { IsSpecInRange spec }
-    requires client { spec.client.0 < 64 }
     requires known { IsKnownInRange known }
     ensures { IfOk result (λ m. m ≡ answered_with M.rules core spec known) }
 {
-    match said_already(&core, &spec) {
+    match core.spec_said(&spec) {
         Ok(None) => respond_anew(core, spec, known),
         Ok(Some(said)) => Ok(send_response(core.begin(), said, known)?.ends(Answer::Taken)),
         Err(want) => {
@@ -138,7 +124,7 @@ fn respond_again<M: Machine>(
 fn order_of<M: Machine>(core: &Core<M>, ask: &Signed<Ask>) -> Order
     requires ask { IsAskReady ask.now }
     requires room { last_place core.now.kept < window_of core.now }
-    ensures order { result ≡ order_for M.rules core.now ask.now }
+    ensures order { result ≡ order_for M.rules core.now (entry_of ask.now) }
     ensures range { IsOrderInRange result }
     ensures next { result.place.0 ≡ last_place core.now.kept + 1 }
 {
@@ -152,7 +138,7 @@ fn order_of<M: Machine>(core: &Core<M>, ask: &Signed<Ask>) -> Order
 }
 
 fn seal_order<M: Machine>(core: Core<M>, ask: Signed<Ask>) -> Result<(Core<M>, OrderFrame), Want>
-    requires leaf { 1 ≤ leaves_of core }
+    requires left { 1 ≤ signs_left core }
     requires ask { IsAskReady ask }
     requires room { last_place core.kept < window_of core }
     ensures core { IfOk result (λ r. r.0 ≡ spent core) }
@@ -172,7 +158,7 @@ fn seal_order<M: Machine>(core: Core<M>, ask: Signed<Ask>) -> Result<(Core<M>, O
 
 // The order is signed, kept and sent to all.
 fn order<M: Machine>(core: Core<M>, ask: Signed<Ask>) -> Result<(Progress<M>, OrderFrame), Want>
-    requires leaf { 1 ≤ leaves_of core }
+    requires left { 1 ≤ signs_left core }
     requires ask { IsAskReady ask }
     requires room { last_place core.kept < window_of core }
     ensures progress { IfOk result (λ r. r.0 ≡ ordered_by M.rules core ask) }
@@ -208,7 +194,7 @@ fn say_order<M: Machine>(
         .send_order(frame)
 }
 
-// The order wants a leaf beside all that running it signs.
+// The order wants a signature beside all that running it signs.
 fn take_request<M: Machine>(core: Core<M>, ask: Signed<Ask>) -> Result<Moved<M>, Want>
     requires active { is_leaving core ≡ false }
     requires ask { IsAskReady ask }
@@ -227,7 +213,7 @@ fn take_request<M: Machine>(core: Core<M>, ask: Signed<Ask>) -> Result<Moved<M>,
 
 fn order_and_run<M: Machine>(core: Core<M>, ask: Signed<Ask>) -> Result<Moved<M>, Want>
     requires active { is_leaving core ≡ false }
-    requires leaves { signs_of M.rules core ask + 1 ≤ leaves_of core }
+    requires left { signs_of M.rules core (entry_of ask) + 1 ≤ signs_left core }
     requires ask { IsAskReady ask }
     requires room { last_place core.kept < window_of core }
     ensures { IfOk result (λ m. m ≡ ends Answer.Taken (run M.rules (sealed M.rules core ask) (ordered_by M.rules core ask))) }
@@ -265,7 +251,7 @@ fn confirm_of<M: Machine>(core: &Core<M>, ask: &Signed<Ask>) -> Confirm
 }
 
 fn seal_confirm<M: Machine>(core: Core<M>, ask: Signed<Ask>) -> Result<(Core<M>, Pending), Want>
-    requires leaf { 1 ≤ leaves_of core }
+    requires left { 1 ≤ signs_left core }
     requires ask { IsAskReady ask }
     ensures core { IfOk result (λ r. r.0 ≡ spent core) }
     ensures pending { IfOk result (λ r. r.1 ≡ confirmed core ask) }
@@ -301,7 +287,7 @@ fn say_confirm<M: Machine>(
 
 // The request waits for its order from now on, in place of its client's earlier one, and the primary is told.
 fn request_waits<M: Machine>(core: Core<M>, ask: Signed<Ask>) -> Result<Progress<M>, Want>
-    requires leaf { 1 ≤ leaves_of core }
+    requires left { 1 ≤ signs_left core }
     requires ask { IsAskReady ask }
     ensures { IfOk result (λ g. g ≡ waiting M.rules core ask) }
 {
@@ -320,7 +306,7 @@ fn forward<M: Machine>(core: Core<M>, ask: Signed<Ask>) -> Result<Moved<M>, Want
     requires ask { IsAskReady ask }
     ensures { IfOk result (λ m. m ≡ forwarded M.rules core ask) }
 {
-    if core.leaves() == 0 {
+    if core.signs_left() == 0 {
         return core.not_heard(ask, Cause::KeySpent);
     }
     Ok(request_waits(core, ask)?.ends(Answer::Taken))
@@ -432,7 +418,7 @@ fn repeat_or_take<M: Machine>(
 
 // A newer request of the client waits.
 fn is_behind<M: Machine>(core: &Core<M>, ask: &Signed<Ask>) -> bool
-    ensures { result ≡ behind ask.now (pending_of core.now (entry_of ask.now).client) }
+    ensures { result ≡ behind ask.now (pending_of core.now (asking ask.now.by)) }
 {
     match core.pending_of(client_of(ask.by)) {
         Some(pending) => ask.stmt.stamp < pending.ask.stmt.stamp,

@@ -12,18 +12,18 @@ ghost use Rattle.zy_exec.specs.Kept.{last_place, longer, stretch_of};
 ghost use Rattle.zy_chain.specs.Stretch.{head_in};
 ghost use Rattle.zy_exec.specs.Known.{IsKnownInRange};
 ghost use Rattle.zy_exec.specs.Shots.{snapshot_in};
-ghost use Rattle.zy_admit.specs.Judging.{entry_of as entry_asked};
+ghost use Rattle.zy_admit.specs.Judging.{entry_of as entry_asked, ordered_entry};
 ghost use Rattle.zy_admit.specs.Orders.{slots_above, without_order, stored_in};
 ghost use Rattle.zy_frames.specs.declared.frame.Frame.TheVariants as frames;
 ghost use Rattle.zy_check.specs.Board.{IsBoard};
-ghost use Rattle.zy_table.specs.declared.deeds.To.TheVariants as tos;
 ghost use Rattle.zy_table.specs.declared.deeds.Act.TheVariants as acts;
-ghost use Rattle.zy_table.specs.State.{own_view, is_leaving, window_of, leaves_of};
-ghost use Rattle.zy_table.specs.Deeds.{ends, send, act as acting};
+ghost use Rattle.zy_table.specs.State.{own_view, is_leaving, window_of, signs_left};
+ghost use Rattle.zy_table.specs.Deeds.{ends, send, act as acting, to_clients};
 ghost use Rattle.zy_table.specs.Gathering.{own_with as own_by, with_own_spec, owes_check, state_in, signs_with as signs_by};
 ghost use Rattle.zy_table.specs.Running.{executed, without_pending, next_known, got_from, spec_of as spec_for, respond as respond_with, share as shared, answered, signs_of as signs_for, run_one as one_run, run_held as held_run, fits_end as fits, run as whole_run};
 ghost use Rattle.zy_replica_state.specs.Ready.{IsAskReady, IsOrderReady, IsOwnReady};
 ghost use Rattle.zy_table.specs.Adopting.{IsGotInRange};
+ghost use Rattle.zy_chain.specs.Answers.{FitsAnswers};
 
 use crate::gathering::gather;
 use zy_admit::{client_of, is_newer, request_digest_of};
@@ -35,7 +35,7 @@ use zy_parts::{Ask, Order, Signed, Spec};
 use zy_replica_state::{
     Core, Moved, Progress, bytes_copy, entry_of, own_with, signed_copy, spec_of,
 };
-use zy_table::{Act, Got, OwnCheckpoint};
+use zy_table::{Act, Got};
 
 // ---- an entry is executed
 
@@ -47,7 +47,7 @@ fn got_of(
 ) -> Result<Got, Want>
     requires ask { IsAskReady ask.now }
     requires known { IsKnownInRange known.now }
-    ensures got { IfOk result (λ got. got ≡ got_from before ask.now known.now snapshot) }
+    ensures got { IfOk result (λ got. got ≡ got_from before (entry_asked ask.now) known.now snapshot) }
     ensures range { IfOk result IsGotInRange }
 {
     let entry = entry_of(ask)?;
@@ -67,7 +67,7 @@ fn run_entry<M: Machine>(core: Core<M>, ask: &Signed<Ask>) -> Result<(Core<M>, K
     requires room { last_place core.kept < window_of core }
     requires ask { IsAskReady ask.now }
     ensures core { IfOk result (λ r. r.0 ≡ record core { kept = longer core.kept (entry_asked ask.now) }) }
-    ensures known { IfOk result (λ r. r.1 ≡ next_known M.rules core ask.now) }
+    ensures known { IfOk result (λ r. r.1 ≡ next_known M.rules core (entry_asked ask.now)) }
     ensures place { IfOk result (λ r. r.1.place.0 ≡ last_place core.kept + 1) }
     ensures range { IfOk result (λ r. IsKnownInRange r.1) }
 {
@@ -86,7 +86,7 @@ fn run_ask<M: Machine>(core: Core<M>, ask: &Signed<Ask>) -> Result<(Core<M>, Kno
     requires room { last_place core.kept < window_of core }
     requires ask { IsAskReady ask.now }
     ensures core { IfOk result (λ r. r.0 ≡ without_pending (record core { kept = longer core.kept (entry_asked ask.now) }) (entry_asked ask.now)) }
-    ensures known { IfOk result (λ r. r.1 ≡ next_known M.rules core ask.now) }
+    ensures known { IfOk result (λ r. r.1 ≡ next_known M.rules core (entry_asked ask.now)) }
     ensures place { IfOk result (λ r. r.1.place.0 ≡ last_place core.kept + 1) }
     ensures range { IfOk result (λ r. IsKnownInRange r.1) }
 {
@@ -102,7 +102,7 @@ fn run_in<M: Machine>(
     requires room { last_place progress.state.kept < window_of progress.state }
     requires ask { IsAskReady ask.now }
     ensures progress { IfOk result (λ r. r.0 ≡ record progress { state = without_pending (record progress.state { kept = longer progress.state.kept (entry_asked ask.now) }) (entry_asked ask.now) }) }
-    ensures known { IfOk result (λ r. r.1 ≡ next_known M.rules progress.state ask.now) }
+    ensures known { IfOk result (λ r. r.1 ≡ next_known M.rules progress.state (entry_asked ask.now)) }
     ensures place { IfOk result (λ r. r.1.place.0 ≡ last_place progress.state.kept + 1) }
     ensures range { IfOk result (λ r. IsKnownInRange r.1) }
 {
@@ -124,7 +124,7 @@ fn gains<M: Machine>(
 ) -> Result<Progress<M>, Want>
     requires ask { IsAskReady ask.now }
     requires known { IsKnownInRange known.now }
-    ensures { IfOk result (λ g. g ≡ acting (acts.Gains (got_from before ask.now known.now (snapshot_in M.rules progress.state.kept known.now.place.0))) progress) }
+    ensures { IfOk result (λ g. g ≡ acting (acts.Gains (got_from before (entry_asked ask.now) known.now (snapshot_in M.rules progress.state.kept known.now.place.0))) progress) }
 {
     let snapshot = progress.core.snapshot_at(known.place)?;
     let got = got_of(before, ask, known, snapshot)?;
@@ -138,8 +138,8 @@ fn execute<M: Machine>(
 ) -> Result<(Progress<M>, Known), Want>
     requires room { last_place progress.state.kept < window_of progress.state }
     requires ask { IsAskReady ask.now }
-    ensures progress { IfOk result (λ r. r.0 ≡ executed M.rules ask.now progress) }
-    ensures known { IfOk result (λ r. r.1 ≡ next_known M.rules progress.state ask.now) }
+    ensures progress { IfOk result (λ r. r.0 ≡ executed M.rules (entry_asked ask.now) progress) }
+    ensures known { IfOk result (λ r. r.1 ≡ next_known M.rules progress.state (entry_asked ask.now)) }
     ensures place { IfOk result (λ r. r.1.place.0 ≡ last_place progress.state.kept + 1) }
     ensures range { IfOk result (λ r. IsKnownInRange r.1) }
 {
@@ -161,7 +161,7 @@ fn count_signs<M: Machine>(core: Core<M>, ask: &Signed<Ask>) -> Result<(Core<M>,
     requires room { last_place core.kept < window_of core }
     requires ask { IsAskReady ask.now }
     ensures core { IfOk result (λ r. r.0 ≡ core) }
-    ensures signs { IfOk result (λ r. r.1 ≡ signs_for M.rules core ask.now) }
+    ensures signs { IfOk result (λ r. r.1 ≡ signs_for M.rules core (entry_asked ask.now)) }
 {
     let own_view = core.view();
     let (core, known) = run_entry(core, ask)?;
@@ -172,7 +172,7 @@ fn count_signs<M: Machine>(core: Core<M>, ask: &Signed<Ask>) -> Result<(Core<M>,
     Ok((core.unrun(), signs))
 }
 
-/// Whether enough leaves are left for all that running a request's entry signs, and for some statements more. Running
+/// Whether enough signatures are left for all that running a request's entry signs, and for some statements more. Running
 /// signs one statement or two: only where that decides is the entry executed for it, and taken out again.
 pub fn can_run<M: Machine>(
     core: Core<M>,
@@ -183,9 +183,9 @@ pub fn can_run<M: Machine>(
     requires ask { IsAskReady ask.now }
     requires more { more ≤ 1 }
     ensures core { IfOk result (λ r. r.0 ≡ core) }
-    ensures fits { IfOk result (λ r. r.1 ≡ nat_le (signs_for M.rules core ask.now + more) (leaves_of core)) }
+    ensures fits { IfOk result (λ r. r.1 ≡ nat_le (signs_for M.rules core (entry_asked ask.now) + more) (signs_left core)) }
 {
-    let left = core.leaves();
+    let left = core.signs_left();
     if left != more + 1 {
         return Ok((core, left > more));
     }
@@ -202,11 +202,10 @@ fn respond<M: Machine>(
     spec: Spec,
     reply: Bytes,
 ) -> Result<Progress<M>, Want>
-    requires leaf { 1 ≤ leaves_of progress.state }
+    requires left { 1 ≤ signs_left progress.state }
     requires order { IsSignedInRange IsOrderInRange order }
     requires spec { IsSpecInRange spec }
-    requires client { spec.client.0 < 64 }
-    requires reply { length reply ≤ 1100 }
+    requires reply { FitsAnswers reply }
     ensures { IfOk result (λ g. g ≡ respond_with M.rules order (sealed_by numbers.spec spec_fields progress.state.sealer spec) reply progress) }
 {
     match progress.sign_spec(spec) {
@@ -225,11 +224,10 @@ fn respond_by_copy<M: Machine>(
     spec: Spec,
     reply: &Bytes,
 ) -> Result<(Progress<M>, Signed<Spec>), Want>
-    requires leaf { 1 ≤ leaves_of progress.state }
+    requires left { 1 ≤ signs_left progress.state }
     requires order { IsSignedInRange IsOrderInRange order.now }
     requires spec { IsSpecInRange spec }
-    requires client { spec.client.0 < 64 }
-    requires reply { length reply.now ≤ 1100 }
+    requires reply { FitsAnswers reply.now }
     ensures progress { IfOk result (λ r. r.0 ≡ respond_with M.rules order.now (sealed_by numbers.spec spec_fields progress.state.sealer spec) reply.now progress) }
     ensures spec { IfOk result (λ r. r.1 ≡ sealed_by numbers.spec spec_fields progress.state.sealer spec) }
     ensures range { IfOk result (λ r. IsSignedInRange IsSpecInRange r.1) }
@@ -252,39 +250,13 @@ fn send_copy<M: Machine>(
 ) -> Result<Progress<M>, Want>
     requires order { IsSignedInRange IsOrderInRange order.now }
     requires spec { IsSignedInRange IsSpecInRange signed.now }
-    requires reply { length reply.now ≤ 1100 }
-    ensures { IfOk result (λ g. g ≡ send (tos.One (parties.Client signed.now.stmt.client)) (frames.SpecResponse signed.now reply.now (Some order.now)) progress) }
+    requires reply { FitsAnswers reply.now }
+    ensures { IfOk result (λ g. g ≡ send (to_clients signed.now.stmt) (frames.SpecResponse signed.now reply.now (Some order.now)) progress) }
 {
     let order = signed_copy(order)?;
     let signed = signed_copy(signed)?;
     let reply = bytes_copy(reply)?;
     progress.send_spec(signed, reply, Some(order))
-}
-
-/// The own response is kept with those of others, without what says another thing.
-pub fn keep_own_spec<M: Machine>(
-    progress: Progress<M>,
-    own: &OwnCheckpoint,
-    signed: &Signed<Spec>,
-) -> Result<Progress<M>, Want>
-    requires { IsSignedInRange IsSpecInRange signed.now }
-    ensures { IfOk result (λ g. g ≡ record progress { state = with_own_spec progress.state own.now signed.now }) }
-{
-    let Progress { core, deeds } = progress;
-    let kept = match signed_copy(signed) {
-        Ok(copy) => core.keep_own_spec(own, copy),
-        Err(want) => {
-            drop(core);
-            Err(want)
-        }
-    };
-    match kept {
-        Ok(core) => Ok(Progress { core, deeds }),
-        Err(want) => {
-            drop(deeds);
-            Err(want)
-        }
-    }
 }
 
 // At a multiple of the interval it goes to all as well, it is kept with those of others, and what is kept is looked
@@ -298,13 +270,13 @@ fn share<M: Machine>(
 ) -> Result<Progress<M>, Want>
     requires order { IsSignedInRange IsOrderInRange order }
     requires spec { IsSignedInRange IsSpecInRange signed }
-    requires reply { length reply ≤ 1100 }
+    requires reply { FitsAnswers reply }
     requires own { IsOwnReady progress.state.kept progress.state.views.last_view (own_by signed.stmt state) }
-    requires leaf { (if owes_check (with_own_spec progress.state (own_by signed.stmt state) signed) (own_by signed.stmt state) false then 1 else 0) ≤ leaves_of progress.state }
+    requires left { (if owes_check (with_own_spec progress.state (own_by signed.stmt state) signed) (own_by signed.stmt state) false then 1 else 0) ≤ signs_left progress.state }
     ensures { IfOk result (λ g. g ≡ shared M.rules order signed reply (Some state) progress) }
 {
     let own = own_with(signed.stmt, state);
-    let kept = keep_own_spec(progress, &own, &signed)?;
+    let kept = progress.keep_own_spec(&own, &signed)?;
     let told = kept.share_spec(signed, reply, Some(order))?;
     gather(told, &own, false)
 }
@@ -327,13 +299,12 @@ fn answer<M: Machine>(
     requires signer { progress.state.sealer.me ≡ parties.Replica progress.state.me }
     requires order { IsSignedInRange IsOrderInRange order }
     requires spec { IsSpecInRange spec }
-    requires client { spec.client.0 < 64 }
-    requires reply { length reply ≤ 1100 }
+    requires reply { FitsAnswers reply }
     requires view { spec.view ≡ progress.state.views.last_view }
     requires head { head_in (stretch_of progress.state.kept) spec.place.0 ≡ Some spec.head }
     requires above { progress.state.kept.base.place < spec.place.0 }
     requires within { spec.place.0 ≤ last_place progress.state.kept }
-    requires leaf { signs_by progress.state spec (state_in M.rules progress.state.kept spec.place.0) ≤ leaves_of progress.state }
+    requires left { signs_by progress.state spec (state_in M.rules progress.state.kept spec.place.0) ≤ signs_left progress.state }
     ensures { IfOk result (λ g. g ≡ answered M.rules order spec reply progress) }
 {
     match state_at(&progress, spec.place) {
@@ -353,14 +324,13 @@ fn answer_all<M: Machine>(
     requires signer { progress.state.sealer.me ≡ parties.Replica progress.state.me }
     requires order { IsSignedInRange IsOrderInRange order }
     requires spec { IsSpecInRange spec }
-    requires client { spec.client.0 < 64 }
-    requires reply { length reply ≤ 1100 }
+    requires reply { FitsAnswers reply }
     requires view { spec.view ≡ progress.state.views.last_view }
     requires head { head_in (stretch_of progress.state.kept) spec.place.0 ≡ Some spec.head }
     requires above { progress.state.kept.base.place < spec.place.0 }
     requires within { spec.place.0 ≤ last_place progress.state.kept }
     requires state { state_in M.rules progress.state.kept spec.place.0 ≡ Some state }
-    requires leaf { signs_by progress.state spec (Some state) ≤ leaves_of progress.state }
+    requires left { signs_by progress.state spec (Some state) ≤ signs_left progress.state }
     ensures { IfOk result (λ g. g ≡ answered M.rules order spec reply progress) }
 {
     let (told, signed) = respond_by_copy(progress, &order, spec, &reply)?;
@@ -373,7 +343,7 @@ fn answer_all<M: Machine>(
 #[tactic(auto, unfolding(zy_table::specs::Running::run_one))]
 fn run_one<M: Machine>(progress: Progress<M>, frame: &OrderFrame) -> Result<Progress<M>, Want>
     requires active { is_leaving progress.state ≡ false }
-    requires leaf { signs_for M.rules progress.state frame.now.ask ≤ leaves_of progress.state }
+    requires left { signs_for M.rules progress.state (ordered_entry frame.now) ≤ signs_left progress.state }
     requires room { last_place progress.state.kept < window_of progress.state }
     requires order { IsOrderReady frame.now }
     ensures progress { IfOk result (λ g. g ≡ one_run M.rules frame.now progress) }
@@ -400,7 +370,7 @@ fn fits_end<M: Machine>(core: &Core<M>, frame: &OrderFrame) -> bool
         )
 }
 
-// The orders that are held in the next slots, as long as leaves are left; one that doesn't fit is dropped.
+// The orders that are held in the next slots, as long as signatures are left; one that doesn't fit is dropped.
 fn run_held<M: Machine>(progress: Progress<M>) -> Result<Progress<M>, Want>
     requires { is_leaving progress.state ≡ false }
     ensures { IfOk result (λ g. g ≡ held_run M.rules (slots_above (last_place progress.state.kept) progress.state.orders) progress) }
@@ -462,7 +432,7 @@ fn can_run_in<M: Machine>(
     requires room { last_place progress.state.kept < window_of progress.state }
     requires ask { IsAskReady ask.now }
     ensures progress { IfOk result (λ r. r.0 ≡ progress) }
-    ensures fits { IfOk result (λ r. r.1 ≡ nat_le (signs_for M.rules progress.state ask.now) (leaves_of progress.state)) }
+    ensures fits { IfOk result (λ r. r.1 ≡ nat_le (signs_for M.rules progress.state (entry_asked ask.now)) (signs_left progress.state)) }
 {
     let Progress { core, deeds } = progress;
     match can_run(core, ask, 0) {
@@ -488,7 +458,7 @@ fn drop_next<M: Machine>(progress: Progress<M>) -> Progress<M>
 // An order that is next, and those that were held for it.
 fn run<M: Machine>(progress: Progress<M>, frame: &OrderFrame) -> Result<Progress<M>, Want>
     requires active { is_leaving progress.state ≡ false }
-    requires leaf { signs_for M.rules progress.state frame.now.ask ≤ leaves_of progress.state }
+    requires left { signs_for M.rules progress.state (ordered_entry frame.now) ≤ signs_left progress.state }
     requires room { last_place progress.state.kept < window_of progress.state }
     requires order { IsOrderReady frame.now }
     ensures { IfOk result (λ g. g ≡ whole_run M.rules frame.now progress) }
@@ -499,7 +469,7 @@ fn run<M: Machine>(progress: Progress<M>, frame: &OrderFrame) -> Result<Progress
 /// An order that is next, and those that were held for it; with that the step ends.
 pub fn run_all<M: Machine>(progress: Progress<M>, frame: &OrderFrame) -> Result<Moved<M>, Want>
     requires active { is_leaving progress.state ≡ false }
-    requires leaf { signs_for M.rules progress.state frame.now.ask ≤ leaves_of progress.state }
+    requires left { signs_for M.rules progress.state (ordered_entry frame.now) ≤ signs_left progress.state }
     requires room { last_place progress.state.kept < window_of progress.state }
     requires order { IsOrderReady frame.now }
     ensures { IfOk result (λ m. m ≡ ends Answer.Taken (whole_run M.rules frame.now progress)) }

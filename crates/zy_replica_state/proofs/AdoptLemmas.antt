@@ -12,7 +12,7 @@ use Rattle.zy_base.specs.declared.ids.Digest.{Digest}
 use Rattle.zy_base.specs.declared.ids.Party.TheVariants.{Replica}
 use Rattle.zy_base.specs.declared.ids.Place.{Place}
 use Rattle.zy_base.specs.declared.ids.View.{View}
-use Rattle.zy_chain.specs.Entries.{IsEntryInRange}
+use Rattle.zy_chain.specs.Entries.{IsEntryInRange, IsOfClients}
 use Rattle.zy_chain.specs.Heads.{head_from}
 use Rattle.zy_chain.specs.Stretch.{IsShared, Mark, Stretch, end_of, head_in}
 use Rattle.zy_chain.specs.declared.entry.Entry.{Entry}
@@ -143,7 +143,7 @@ module _ {S : Type 0} (s : State S) (r : IsReady s) (fit : IsFit s.views) (cert 
   pub told_range : IsToldInRange told
   told_range = given.1.0.1
 
-  told_clients : All (λ (e : Entry). e.client.0 < 64) told.entries
+  told_clients : All IsOfClients told.entries
   told_clients = well.itself.entries.clients
 
   has : head_in report chosen.place.0 ≡ Some chosen.head
@@ -156,7 +156,7 @@ module _ {S : Type 0} (s : State S) (r : IsReady s) (fit : IsFit s.views) (cert 
 
   -- ---- a history that takes it up
 
-  module _ (k : Kept S) (meets : Meets report chosen.place.0 k) (entries : All IsEntryInRange k.entries) (clients : All (λ (e : Entry). e.client.0 < 64) k.entries) where
+  module _ (k : Kept S) (meets : Meets report chosen.place.0 k) (entries : All IsEntryInRange k.entries) (clients : All IsOfClients k.entries) where
     abbrev taken : Kept S
     taken = taken_over report chosen.place.0 k
 
@@ -166,8 +166,8 @@ module _ {S : Type 0} (s : State S) (r : IsReady s) (fit : IsFit s.views) (cert 
     taken_range : All IsEntryInRange taken.entries
     taken_range = taken_all report chosen.place.0 k IsEntryInRange entries told_range.entries.each
 
-    taken_clients : All (λ (e : Entry). e.client.0 < 64) taken.entries
-    taken_clients = taken_all report chosen.place.0 k (λ (e : Entry). e.client.0 < 64) clients told_clients
+    taken_clients : All IsOfClients taken.entries
+    taken_clients = taken_all report chosen.place.0 k IsOfClients clients told_clients
 
     has_taken : head_in (stretch_of taken) chosen.place.0 ≡ Some chosen.head
     has_taken = let up = meets.up_to in taken_told report chosen.place.0 k meets chosen.place.0 within.1 up (omega arith) ∙ has
@@ -203,7 +203,7 @@ module _ {S : Type 0} (s : State S) (r : IsReady s) (fit : IsFit s.views) (cert 
         }
 
     -- a view can begin with a history that stands on it
-    begins_at : (k : Kept S) → k.base.place ≡ stable_place → k.base.head ≡ told.stable_head → k.interval ≡ s.kept.interval → All IsEntryInRange k.entries → All (λ (e : Entry). e.client.0 < 64) k.entries
+    begins_at : (k : Kept S) → k.base.place ≡ stable_place → k.base.head ≡ told.stable_head → k.interval ≡ s.kept.interval → All IsEntryInRange k.entries → All IsOfClients k.entries
         → last_place k ≡ chosen.place.0 → Fits (record { base = record { place = stable_place; head = told.stable_head }; entries = k.entries }) (record { place = chosen.place.0; head = chosen.head })
         → CanBegin s cert chosen k (with_stable s.board told.checks)
     unfolding with_stable
@@ -259,7 +259,7 @@ module _ {S : Type 0} (s : State S) (r : IsReady s) (fit : IsFit s.views) (cert 
     begins_shown : CanBegin s cert chosen shown (with_stable s.board told.checks)
     begins_shown =
         let small = none_of IsEntryInRange in
-        let known = none_of (λ (e : Entry). e.client.0 < 64) in
+        let known = none_of IsOfClients in
         begins_at some shown
         (base k shown_meets small known ∙ place)
         (ap (λ (p : Point S). p.head) (taken_base report chosen.place.0 k) ∙ head)
@@ -368,7 +368,7 @@ module _ {S : Type 0} (s : State S) (r : IsReady s) (fit : IsFit s.views) (cert 
     own_range : All IsEntryInRange s.kept.entries
     own_range = r.report.in_range.entries.each
 
-    own_clients : All (λ (e : Entry). e.client.0 < 64) s.kept.entries
+    own_clients : All IsOfClients s.kept.entries
     own_clients = own.itself.entries.clients
 
     abbrev now : Kept S
@@ -386,7 +386,7 @@ module _ {S : Type 0} (s : State S) (r : IsReady s) (fit : IsFit s.views) (cert 
     now_range : All IsEntryInRange now.entries
     now_range = taken_range s.kept meets own_range own_clients
 
-    now_clients : All (λ (e : Entry). e.client.0 < 64) now.entries
+    now_clients : All IsOfClients now.entries
     now_clients = taken_clients s.kept meets own_range own_clients
 
     -- where the report isn't stable further on
@@ -451,7 +451,7 @@ module _ {S : Type 0} (s : State S) (r : IsReady s) (fit : IsFit s.views) (cert 
           (head-along R now.base (take (told.stable_place.0 - now.base.place) now.entries) ∙ head_taken)
           (taken_interval report chosen.place.0 s.kept)
           (All-drop IsEntryInRange (told.stable_place.0 - now.base.place) now.entries now_range)
-          (All-drop (λ (e : Entry). e.client.0 < 64) (told.stable_place.0 - now.base.place) now.entries now_clients)
+          (All-drop IsOfClients (told.stable_place.0 - now.base.place) now.entries now_clients)
           (settled_end R now told.stable_place.0 settles_above settles_within ∙ now_end)
           (subst (λ (d : Digest). Fits (record { base = record { place = told.stable_place.0; head = d }; entries = settled_kept.entries }) (record { place = chosen.place.0; head = chosen.head })) head_taken
           (fits-settled (stretch_of now) told.stable_place.0 (record { place = chosen.place.0; head = chosen.head }) settles_above settles_within (own-fits (stretch_of now) chosen.place.0 chosen.head now_has)))

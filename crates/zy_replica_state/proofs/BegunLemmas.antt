@@ -8,7 +8,7 @@ use Rattle.zy_base.specs.declared.ids.Digest.{Digest}
 use Rattle.zy_base.specs.declared.ids.Place.{Place}
 use Rattle.zy_base.specs.declared.ids.View.{View}
 use Rattle.zy_base.specs.declared.step.Mode.TheVariants.{Active}
-use Rattle.zy_chain.specs.Entries.{IsEntryInRange}
+use Rattle.zy_chain.specs.Entries.{IsEntryInRange, IsOfClients}
 use Rattle.zy_parts.specs.Signing.{IsSignedInRange}
 use Rattle.zy_parts.specs.Statements.{IsLocalInRange, IsSpecInRange, IsCheckInRange}
 use Rattle.zy_parts.specs.declared.signed.Signed.{Signed}
@@ -49,7 +49,7 @@ pub record CanBegin {S : Type 0} (s : State S) (cert : ViewCert) (chosen : Chose
   pub few_checks : length b.proof ≤ 16
   pub checks : All (IsSignedInRange IsCheckInRange) b.proof
   pub entries : AllByRecursion IsEntryInRange k.entries
-  pub clients : All (λ e. e.client.0 < 64) k.entries
+  pub clients : All IsOfClients k.entries
   pub few : length k.entries ≤ 2 * s.kept.interval
   pub end : last_place k ≡ chosen.place.0
   pub began : Fits (record { base = record { place = b.stable.place.0; head = b.stable.head }; entries = k.entries }) (record { place = chosen.place.0; head = chosen.head })
@@ -140,7 +140,6 @@ module _ {S : Type 0} (s : State S) (r : IsReady s) (fit : IsFit s.views) (cert 
         slots = let fits = place_below in omega arith;
         orders = tt;
         hole = r.hole;
-        all_specs = r.all_specs;
         specs = r.specs;
         all_pending = r.all_pending;
         pending = r.pending;

@@ -31,7 +31,7 @@ use Rattle.zy_chain.specs.declared.entry.Entry.{Entry}
 use Rattle.zy_parts.specs.Signing.{IsSignedInRange}
 use Rattle.zy_parts.specs.Statements.{IsSpecInRange, IsLocalInRange, IsHoleInRange, IsHateInRange, IsCheckInRange}
 use Rattle.zy_parts.specs.Reports.{IsFetchInRange}
-use Rattle.zy_chain.specs.Entries.{IsEntryInRange}
+use Rattle.zy_chain.specs.Entries.{IsEntryInRange, IsOfClients}
 use Rattle.zy_wire.specs.Fields.{FitsList}
 use Rattle.zy_parts.specs.declared.reports.Change.{Change}
 use Rattle.zy_parts.specs.declared.statements.Hate.{Hate}
@@ -75,14 +75,14 @@ use Rattle.zy_table.specs.declared.deeds.AnyFrame.TheVariants as sent
 use Rattle.zy_table.proofs.ReportLemmas.{TellsTrue, IsJoined, IsOwnCheck, start-true, with_board-true, with_hate-true, with_change-true, left-true, with_new-true, longer-true, certificate-in_range, certificate-proven, certificate-fits, certificate-true, certificate_at-certified, certificate_at-all, proof_at-certified, proof_at-equal, proof_at-all, settle-true, settle-joined, true-short}
 use Rattle.zy_table.proofs.SentLemmas.{change-kept}
 use Rattle.zy_exec.proofs.SettleLemmas.{settled_place, settled_end}
-use Rattle.zy_replica_state.specs.Ready.{AreKeysOf, IsReady, IsOrderReady, IsOwnCertificate, IsOwnReady, IsKeptPending, IsKeptSpec, IsPendingReady, IsSlotReady, AreOwnViews, AreRoundsInRange, IsWaitingReady}
+use Rattle.zy_replica_state.specs.Ready.{AreKeysOf, IsReady, IsOrderReady, IsOwnCertificate, IsOwnReady, IsKeptPending, IsPendingReady, IsSlotReady, AreOwnViews, AreRoundsInRange, IsWaitingReady}
 use Rattle.zy_replica_state.proofs.RoundLemmas.{start-in_range, round_at-in_range, after_spec-in_range, after_check-in_range, without_others-in_range, with_stable-in_range}
 
 -- ---- a replica that begins
 
-pub start_is : {S : Type 0} (R : Rules S) (interval : ℕ) (me : ReplicaId) (counts : Counts) (keys : Keys) (sealer : SealerState) (v : Views) (k : Kept S) (o : Orders) (b : Board) (specs : List (Option (Signed Spec))) (pending : List (Option Pending)) (locals : List (Signed Local)) (fetches : List (Signed Fetch))
+pub start_is : {S : Type 0} (R : Rules S) (interval : ℕ) (me : ReplicaId) (counts : Counts) (keys : Keys) (sealer : SealerState) (v : Views) (k : Kept S) (o : Orders) (b : Board) (specs : List (Signed Spec)) (pending : List (Option Pending)) (locals : List (Signed Local)) (fetches : List (Signed Fetch))
     → v ≡ views.start_of counts me interval → k ≡ record { interval = interval; base = origin R; entries = [] } → o ≡ no_orders 0 → b ≡ boards.start_of interval (digest_of_snapshot (snapshot_of R (origin R)))
-    → specs ≡ replicate 64 None → pending ≡ replicate 64 None → locals ≡ [] → fetches ≡ []
+    → specs ≡ [] → pending ≡ replicate 64 None → locals ≡ [] → fetches ≡ []
     → ◌≡◌ {A = State S}
     (record { me = me; counts = counts; keys = keys; sealer = sealer; views = v; kept = k; orders = o; board = b; hole = None; specs = specs; pending = pending; locals = locals; hate = None; fetches = fetches })
     (start_of R interval me counts keys sealer)
@@ -126,8 +126,7 @@ start_ready R interval me counts keys sealer signer clients least most =
       slots = omega arith;
       orders = tt;
       hole = λ hole none. cc;
-      all_specs = length-replicate {A = Option (Signed Spec)} 64 None;
-      specs = none_ready (IsSignedInRange IsSpecInRange) 64;
+      specs = tt;
       all_pending = length-replicate {A = Option Pending} 64 None;
       pending = none_ready IsPendingReady 64;
       locals = tt;
@@ -142,14 +141,22 @@ all_and : {A : Type 0} (P : A → Type 0) (xs : List A) (x : A) → AllByRecursi
 all_and P [] x all one = (one, tt)
 all_and P (y ∷ xs) x all one = (all.0, all_and P xs x all.1 one)
 
+pub filtered_all : {A : Type 0} (P : A → Type 0) (p : A → Bool) (xs : List A) → AllByRecursion P xs → AllByRecursion P (filter p xs)
+filtered_all P p [] all = tt
+filtered_all P p (x ∷ xs) all = filtered_if (p x) (filtered_all P p xs all.1)
+  where
+    filtered_if : (b : Bool) → AllByRecursion P (filter p xs) → AllByRecursion P (if b then x ∷ filter p xs else filter p xs)
+    filtered_if true rest = (all.0, rest)
+    filtered_if false rest = rest
+
 -- ---- what is beside the history
 
 module _ {S : Type 0} (s : State S) (r : IsReady s) where
-  beside : (sealer : SealerState) (hole : Option (Signed Hole)) (specs : List (Option (Signed Spec))) (pending : List (Option Pending)) (locals : List (Signed Local)) (hate : Option (Signed Hate)) (fetches : List (Signed Fetch))
-      → sealer.me ≡ Replica s.me → ForSome hole (IsSignedInRange IsHoleInRange) → length specs ≡ 64 → AllByRecursion IsKeptSpec specs → length pending ≡ 64 → AllByRecursion IsKeptPending pending
+  beside : (sealer : SealerState) (hole : Option (Signed Hole)) (specs : List (Signed Spec)) (pending : List (Option Pending)) (locals : List (Signed Local)) (hate : Option (Signed Hate)) (fetches : List (Signed Fetch))
+      → sealer.me ≡ Replica s.me → ForSome hole (IsSignedInRange IsHoleInRange) → AllByRecursion (IsSignedInRange IsSpecInRange) specs → length pending ≡ 64 → AllByRecursion IsKeptPending pending
       → AllByRecursion (IsSignedInRange IsLocalInRange) locals → ForSome hate (IsSignedInRange IsHateInRange) → AllByRecursion (IsSignedInRange IsFetchInRange) fetches
       → IsReady (record s { sealer = sealer; hole = hole; specs = specs; pending = pending; locals = locals; hate = hate; fetches = fetches })
-  beside sealer hole specs pending locals hate fetches mine asked all_specs said all_pending wait own hated fetched =
+  beside sealer hole specs pending locals hate fetches mine asked said all_pending wait own hated fetched =
       record {
         signer = mine;
         clients = r.clients;
@@ -169,7 +176,6 @@ module _ {S : Type 0} (s : State S) (r : IsReady s) where
         slots = r.slots;
         orders = r.orders;
         hole = asked;
-        all_specs = all_specs;
         specs = said;
         all_pending = all_pending;
         pending = wait;
@@ -177,37 +183,43 @@ module _ {S : Type 0} (s : State S) (r : IsReady s) where
       }
 
   pub ready_spent : IsReady (spent s)
-  ready_spent = beside (spent_one s.sealer) s.hole s.specs s.pending s.locals s.hate s.fetches r.signer r.hole r.all_specs r.specs r.all_pending r.pending r.locals r.hate r.fetches
+  ready_spent = beside (spent_one s.sealer) s.hole s.specs s.pending s.locals s.hate s.fetches r.signer r.hole r.specs r.all_pending r.pending r.locals r.hate r.fetches
 
-  pub ready_specs : (client : ℕ) (spec : Signed Spec) → IsSignedInRange IsSpecInRange spec → IsReady (record s { specs = slice_set s.specs client (Some spec) })
-  ready_specs client spec range =
-      beside s.sealer s.hole (slice_set s.specs client (Some spec)) s.pending s.locals s.hate s.fetches r.signer r.hole (length-set s.specs client (Some spec) ∙ r.all_specs)
-      (items_set (IsSignedInRange IsSpecInRange) s.specs client (Some spec) r.specs (λ x is. subst (IsSignedInRange IsSpecInRange) (same_Some spec x is) range)) r.all_pending r.pending r.locals r.hate r.fetches
+  ready_said : (specs : List (Signed Spec)) → AllByRecursion (IsSignedInRange IsSpecInRange) specs → IsReady (record s { specs = specs })
+  ready_said specs said = beside s.sealer s.hole specs s.pending s.locals s.hate s.fetches r.signer r.hole said r.all_pending r.pending r.locals r.hate r.fetches
+
+  -- with some of its responses, and with one more
+  pub ready_beside : (stays : Signed Spec → Bool) → IsReady (record s { specs = filter stays s.specs })
+  ready_beside stays = ready_said (filter stays s.specs) (filtered_all (IsSignedInRange IsSpecInRange) stays s.specs r.specs)
+
+  pub ready_specs : (stays : Signed Spec → Bool) (spec : Signed Spec) → IsSignedInRange IsSpecInRange spec → IsReady (record s { specs = filter stays s.specs ++ spec ∷ [] })
+  ready_specs stays spec range =
+      ready_said (filter stays s.specs ++ spec ∷ []) (all_and (IsSignedInRange IsSpecInRange) (filter stays s.specs) spec (filtered_all (IsSignedInRange IsSpecInRange) stays s.specs r.specs) range)
 
   pub ready_pending : (client : ℕ) (pending : Option Pending) → IsKeptPending pending → IsReady (record s { pending = slice_set s.pending client pending })
   ready_pending client pending ready =
-      beside s.sealer s.hole s.specs (slice_set s.pending client pending) s.locals s.hate s.fetches r.signer r.hole r.all_specs r.specs (length-set s.pending client pending ∙ r.all_pending)
+      beside s.sealer s.hole s.specs (slice_set s.pending client pending) s.locals s.hate s.fetches r.signer r.hole r.specs (length-set s.pending client pending ∙ r.all_pending)
       (items_set IsPendingReady s.pending client pending r.pending ready) r.locals r.hate r.fetches
 
   pub ready_hole : (hole : Option (Signed Hole)) → ForSome hole (IsSignedInRange IsHoleInRange) → IsReady (record s { hole = hole })
-  ready_hole hole range = beside s.sealer hole s.specs s.pending s.locals s.hate s.fetches r.signer range r.all_specs r.specs r.all_pending r.pending r.locals r.hate r.fetches
+  ready_hole hole range = beside s.sealer hole s.specs s.pending s.locals s.hate s.fetches r.signer range r.specs r.all_pending r.pending r.locals r.hate r.fetches
 
   pub ready_hate : (hate : Signed Hate) → IsSignedInRange IsHateInRange hate → IsReady (record s { hate = Some hate })
   ready_hate hate range =
-      beside s.sealer s.hole s.specs s.pending s.locals (Some hate) s.fetches r.signer r.hole r.all_specs r.specs r.all_pending r.pending r.locals (λ x is. subst (IsSignedInRange IsHateInRange) (same_Some hate x is) range) r.fetches
+      beside s.sealer s.hole s.specs s.pending s.locals (Some hate) s.fetches r.signer r.hole r.specs r.all_pending r.pending r.locals (λ x is. subst (IsSignedInRange IsHateInRange) (same_Some hate x is) range) r.fetches
 
   pub ready_local : (local : Signed Local) → IsSignedInRange IsLocalInRange local → IsReady (record s { locals = s.locals ++ local ∷ [] })
   ready_local local range =
-      beside s.sealer s.hole s.specs s.pending (s.locals ++ local ∷ []) s.hate s.fetches r.signer r.hole r.all_specs r.specs r.all_pending r.pending (all_and (IsSignedInRange IsLocalInRange) s.locals local r.locals range) r.hate r.fetches
+      beside s.sealer s.hole s.specs s.pending (s.locals ++ local ∷ []) s.hate s.fetches r.signer r.hole r.specs r.all_pending r.pending (all_and (IsSignedInRange IsLocalInRange) s.locals local r.locals range) r.hate r.fetches
 
   -- nothing waits
   pub ready_idle : IsReady (record s { hole = None; pending = replicate 64 None })
   ready_idle =
-      beside s.sealer None s.specs (replicate 64 None) s.locals s.hate s.fetches r.signer (λ hole none. cc) r.all_specs r.specs (length-replicate {A = Option Pending} 64 None) (none_ready IsPendingReady 64) r.locals r.hate r.fetches
+      beside s.sealer None s.specs (replicate 64 None) s.locals s.hate s.fetches r.signer (λ hole none. cc) r.specs (length-replicate {A = Option Pending} 64 None) (none_ready IsPendingReady 64) r.locals r.hate r.fetches
 
   pub ready_fetch : (said : Signed Fetch) → IsSignedInRange IsFetchInRange said → IsReady (record s { fetches = s.fetches ++ said ∷ [] })
   ready_fetch said range =
-      beside s.sealer s.hole s.specs s.pending s.locals s.hate (s.fetches ++ said ∷ []) r.signer r.hole r.all_specs r.specs r.all_pending r.pending r.locals r.hate (all_and (IsSignedInRange IsFetchInRange) s.fetches said r.fetches range)
+      beside s.sealer s.hole s.specs s.pending s.locals s.hate (s.fetches ++ said ∷ []) r.signer r.hole r.specs r.all_pending r.pending r.locals r.hate (all_and (IsSignedInRange IsFetchInRange) s.fetches said r.fetches range)
 
 -- ---- a commit certificate
 
@@ -253,7 +265,6 @@ module _ {S : Type 0} (s : State S) (r : IsReady s) where
         slots = r.slots;
         orders = r.orders;
         hole = r.hole;
-        all_specs = r.all_specs;
         specs = r.specs;
         all_pending = r.all_pending;
         pending = r.pending;
@@ -401,7 +412,6 @@ ready_board s b r is stays ranges =
       slots = r.slots;
       orders = r.orders;
       hole = r.hole;
-      all_specs = r.all_specs;
       specs = r.specs;
       all_pending = r.all_pending;
       pending = r.pending;
@@ -454,14 +464,13 @@ module _ {S : Type 0} (s : State S) (r : IsReady s) where
         slots = omega (arith, interval, r.slots);
         orders = r.orders;
         hole = r.hole;
-        all_specs = r.all_specs;
         specs = r.specs;
         all_pending = r.all_pending;
         pending = r.pending;
         locals = r.locals;
       }
 
-  pub ready_longer : (e : Entry) → last_place s.kept < window_of s → e.client.0 < 64 → IsEntryInRange e → IsReady (record s { kept = longer s.kept e })
+  pub ready_longer : (e : Entry) → last_place s.kept < window_of s → IsOfClients e → IsEntryInRange e → IsReady (record s { kept = longer s.kept e })
   ready_longer e room client range =
       ready_kept (longer s.kept e) refl refl (omega (arith, length-append s.kept.entries (e ∷ []), room)) (longer-true s r.report e (joined s r) r.stable r.most room client range)
 
@@ -485,14 +494,6 @@ slots_drop : (n : ℕ) (xs : List (Option OrderFrame)) → AllByRecursion IsSlot
 slots_drop zero xs all = all
 slots_drop (suc n) [] all = tt
 slots_drop (suc n) (x ∷ xs) all = slots_drop n xs all.1
-
-pub filtered_all : {A : Type 0} (P : A → Type 0) (p : A → Bool) (xs : List A) → AllByRecursion P xs → AllByRecursion P (filter p xs)
-filtered_all P p [] all = tt
-filtered_all P p (x ∷ xs) all = filtered_if (p x) (filtered_all P p xs all.1)
-  where
-    filtered_if : (b : Bool) → AllByRecursion P (filter p xs) → AllByRecursion P (if b then x ∷ filter p xs else filter p xs)
-    filtered_if true rest = (all.0, rest)
-    filtered_if false rest = rest
 
 stated_place : (b : Board) (place : ℕ) (proof : List (Signed Check)) → IsProof place proof → (with_stable b proof).stable.place.0 ≡ place
 unfolding with_stable
@@ -554,7 +555,6 @@ module _ {S : Type 0} (R : Rules S) (s : State S) (own : OwnCheckpoint) (proof :
         slots = omega (arith, length-drop (place - s.orders.base) s.orders.slots);
         orders = slots_drop (place - s.orders.base) s.orders.slots r.orders;
         hole = r.hole;
-        all_specs = r.all_specs;
         specs = r.specs;
         all_pending = r.all_pending;
         pending = r.pending;
@@ -650,7 +650,6 @@ ready_orders s o r base short ready =
       slots = subst (λ (n : ℕ). o.base + length o.slots ≤ min (n + 2 * s.kept.interval) (2 ^ 62 - 1)) (sym base) short;
       orders = ready;
       hole = r.hole;
-      all_specs = r.all_specs;
       specs = r.specs;
       all_pending = r.all_pending;
       pending = r.pending;

@@ -6,7 +6,7 @@ use Rattle.std.proofs.lemmas.Option.{get_or_from_slice_get, slice_get_within}
 use Rattle.zy_base.specs.Machine.{Rules}
 use Rattle.zy_base.specs.declared.ids.Party.TheVariants.{Replica}
 use Rattle.zy_base.specs.declared.ids.View.{View}
-use Rattle.zy_chain.specs.Entries.{IsEntryInRange}
+use Rattle.zy_chain.specs.Entries.{IsEntryInRange, IsOfClients}
 use Rattle.zy_chain.specs.Stretch.{Stretch, entry_in}
 use Rattle.zy_chain.specs.declared.entry.Entry.{Entry}
 use Rattle.zy_parts.specs.Statements.{IsSpecInRange}
@@ -35,7 +35,7 @@ module _ {S : Type 0} (s : State S) (r : IsReady s) where
   change = record { view = record { 0 = (report_of s).last_view.0 + 1 }; told = report_of s }
 
   -- its own entries are of clients for which there is room
-  pub own_clients : All (λ (e : Entry). e.client.0 < 64) s.kept.entries
+  pub own_clients : All IsOfClients s.kept.entries
   own_clients =
       let own : IsWellFormedChange s.views.counts s.views.interval (record { by = Replica (record { 0 = 0 }); stmt = change; sig = [] }) =
       (all_clear s.views.counts s.views.interval (record { by = Replica (record { 0 = 0 }); stmt = change; sig = [] })).0 r.report.keeps_rules in
@@ -49,7 +49,7 @@ module _ {S : Type 0} (s : State S) (r : IsReady s) where
       let ready = own_ready R s place r.views.active active r.views.own last own some in
       let range = ready.range in
       let small = entry_all IsEntryInRange (stretch_of s.kept) place e r.report.in_range.entries.each there in
-      let known = entry_all (λ (x : Entry). x.client.0 < 64) (stretch_of s.kept) place e own_clients there in
+      let known = entry_all IsOfClients (stretch_of s.kept) place e own_clients there in
       let view = ap (λ (v : View). v.0) ready.same_view in
       let at = ap (λ p. p.0) ready.same_place in
       let stamp = ap (λ t. t.0) same_stamp in

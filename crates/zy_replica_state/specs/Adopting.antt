@@ -1,5 +1,5 @@
 -- What lets a replica take up the history with which a view begins.
-use Rattle.std.specs.Prelude.{◌≡◌, ◌<◌, ◌≤◌, ◌%◌, nat_le, nat_lt, true, filter, All}
+use Rattle.std.specs.Prelude.{◌≡◌, ◌≤◌, ◌%◌, nat_le, nat_lt, true, filter, All}
 use Rattle.zy_base.specs.Machine.{Rules}
 use Rattle.zy_chain.specs.Stretch.{end_of}
 use Rattle.zy_parts.specs.Reports.{IsToldInRange}
@@ -19,12 +19,13 @@ use Rattle.zy_table.specs.Beginning.{active_by, with_history}
 use Rattle.zy_table.specs.Fetching.{installed}
 use Rattle.zy_replica_adopt.specs.Meeting.{Meets}
 use Rattle.zy_replica_state.specs.Ready.{IsReady}
+use Rattle.zy_chain.specs.Entries.{IsOfClients}
 
 -- The report can be executed up to the choice from where it meets the own history; where it is stable further on, what is
 -- taken up comes to its checkpoint, which is proven; and the replica is ready again once the view began.
 pub record CanAdopt {S : Type 0} (R : Rules S) (s : State S) (cert : ViewCert) (chosen : Chosen) (told : Told) : Type 0 where
   pub range : IsToldInRange told
-  pub clients : All (λ e. e.client.0 < 64) told.entries
+  pub clients : All IsOfClients told.entries
   pub end : chosen.place.0 ≤ end_of (stretch_of told)
   pub meets : Meets (stretch_of told) chosen.place.0 s.kept
   pub above : nat_lt s.board.stable.place.0 told.stable_place.0 ≡ true → (taken_over (stretch_of told) chosen.place.0 s.kept).base.place ≤ told.stable_place.0
@@ -37,7 +38,7 @@ pub record CanAdopt {S : Type 0} (R : Rules S) (s : State S) (cert : ViewCert) (
 -- kept of checkpoints can begin anew with it; then the replica is ready again.
 pub record CanInstall {S : Type 0} (R : Rules S) (s : State S) (cert : ViewCert) (chosen : Chosen) (told : Told) (k : Kept S) : Type 0 where
   pub range : IsToldInRange told
-  pub clients : All (λ e. e.client.0 < 64) told.entries
+  pub clients : All IsOfClients told.entries
   pub end : chosen.place.0 ≤ end_of (stretch_of told)
   pub meets : Meets (stretch_of told) chosen.place.0 k
   pub least : 4 ≤ k.interval

@@ -65,9 +65,6 @@ pub record IsPendingReady (pending : Pending) : Type 0 where
 abbrev pub IsKeptPending : Option Pending → Type 0
 IsKeptPending pending = ForSome pending IsPendingReady
 
-abbrev pub IsKeptSpec : Option (Signed Spec) → Type 0
-IsKeptSpec spec = ForSome spec (IsSignedInRange IsSpecInRange)
-
 -- a checkpoint of the own history in the last active view, that can be signed, and whose place can become stable
 pub record IsOwnReady {S : Type 0} (k : Kept S) (last : View) (own : OwnCheckpoint) : Type 0 where
   pub range : IsCheckInRange own.check
@@ -151,8 +148,7 @@ pub record IsReady {S : Type 0} (s : State S) : Type 0 where
   pub slots : s.orders.base + length s.orders.slots ≤ window_of s
   pub orders : AllByRecursion IsSlotReady s.orders.slots
   pub hole : ForSome s.hole (IsSignedInRange IsHoleInRange)
-  pub all_specs : length s.specs ≡ 64
-  pub specs : AllByRecursion IsKeptSpec s.specs
+  pub specs : AllByRecursion (IsSignedInRange IsSpecInRange) s.specs
   pub all_pending : length s.pending ≡ 64
   pub pending : AllByRecursion IsKeptPending s.pending
   pub locals : AllByRecursion (IsSignedInRange IsLocalInRange) s.locals

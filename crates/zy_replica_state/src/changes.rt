@@ -1,17 +1,17 @@
 //! The changes of a replica, one at a time.
 
-ghost use Rattle.std.specs.Prelude.{◌≡◌, ◌≤◌, ◌<◌, ◌+◌, ◌++◌, ◌∷◌, [], length, Some, None, Option, Bool, IfOk};
+ghost use Rattle.std.specs.Prelude.{◌≡◌, ◌≤◌, ◌<◌, ◌+◌, ◌++◌, ◌∷◌, [], length, None, Option, Bool, IfOk, filter};
 ghost use Rattle.std.specs.Option.{ForSome};
-ghost use Rattle.zy_chain.specs.Entries.{IsEntryInRange};
+ghost use Rattle.zy_chain.specs.Entries.{IsEntryInRange, IsOfClients};
 ghost use Rattle.zy_parts.specs.Signing.{IsSignedInRange};
 ghost use Rattle.zy_parts.specs.Statements.{IsHoleInRange, IsLocalInRange, IsSpecInRange, spec_fields};
 ghost use Rattle.zy_parts.specs.Numbers as numbers;
-ghost use Rattle.zy_exec.specs.Replay.{step as one_entry};
+ghost use Rattle.zy_exec.specs.Replay.{step as one_entry, answers_of};
 ghost use Rattle.zy_chain.specs.declared.entry.Entry.{Entry};
 ghost use Rattle.zy_exec.specs.Kept.{Kept, longer, last_place, now_of};
 ghost use Rattle.zy_seal.specs.Sealing.{sealed_by};
 ghost use Rattle.zy_admit.specs.Orders.{with_order, without_order};
-ghost use Rattle.zy_table.specs.State.{window_of, leaves_of, spent, with_spec as with_spec_of, pending_of as waiting_of, with_pending};
+ghost use Rattle.zy_table.specs.State.{window_of, signs_left, spent, with_spec as with_spec_of, pending_of as waiting_of, with_pending, is_beside};
 ghost use Rattle.zy_table.specs.Running.{still_pending as still_waiting};
 ghost use Rattle.zy_table.specs.declared.kept.OwnCheckpoint.{OwnCheckpoint};
 ghost use Rattle.zy_table.specs.Gathering.{with_certificate, checks_owed};
@@ -21,6 +21,7 @@ ghost use Rattle.zy_replica_state.specs.Ready.{IsKeptPending, IsOrderReady, IsOw
 
 use crate::Core;
 use crate::copies::{frame_copy, signed_copy};
+use std::mem;
 use zy_base::{Bytes, ClientId, Items, Machine, Place, Stamp, Want};
 use zy_chain::Entry;
 use zy_frames::OrderFrame;
@@ -28,10 +29,19 @@ use zy_parts::{Hole, Local, Signed, Spec, Statement};
 use zy_seal::SealFault;
 use zy_table::Pending;
 
+// Without the responses that don't stay beside a later one.
+fn specs_beside(specs: Items<Signed<Spec>>, later: &Spec) -> Items<Signed<Spec>>
+    ensures { result ≡ filter (is_beside later.now) specs }
+{
+    let mut kept = specs.into_vec();
+    kept.retain(|said| said.stmt.client.0 != later.client.0);
+    Items::from(kept)
+}
+
 impl<M: Machine> Core<M> {
-    /// A statement signed by the next leaf, of which there is one.
+    /// A statement with the next signature, of which one is left.
     pub fn seal<S: Statement>(mut self, stmt: S) -> Result<(Core<M>, Signed<S>), Want>
-        requires leaf { 1 ≤ leaves_of self }
+        requires left { 1 ≤ signs_left self }
         requires range { S.in_range stmt }
         ensures core { IfOk result (λ r. r.0 ≡ spent self) }
         ensures value { IfOk result (λ r. r.1 ≡ sealed_by S.its_number S.spelling self.sealer stmt) }
@@ -46,26 +56,26 @@ impl<M: Machine> Core<M> {
 
     /// The response, signed and kept.
     pub fn seal_spec(self, spec: Spec) -> Result<(Core<M>, Signed<Spec>), Want>
-        requires leaf { 1 ≤ leaves_of self }
+        requires left { 1 ≤ signs_left self }
         requires spec { IsSpecInRange spec }
-        requires client { spec.client.0 < 64 }
         ensures core { IfOk result (λ r. r.0 ≡ with_spec_of (spent self) (sealed_by numbers.spec spec_fields self.sealer spec)) }
         ensures spec { IfOk result (λ r. r.1 ≡ sealed_by numbers.spec spec_fields self.sealer spec) }
         ensures range { IfOk result (λ r. IsSignedInRange IsSpecInRange r.1) }
     {
         let (core, signed) = self.seal(spec)?;
         let copy = signed_copy(&signed)?;
-        Ok((core.keep_spec(copy), signed))
+        let core = core.keep_spec(copy)?;
+        Ok((core, signed))
     }
 
     /// One entry more, with its reply.
     pub fn run_entry(mut self, entry: Entry) -> Result<(Core<M>, Bytes), Want>
         requires room { last_place self.kept < window_of self }
-        requires client { entry.client.0 < 64 }
+        requires client { IsOfClients entry }
         requires range { IsEntryInRange entry }
         ensures core { IfOk result (λ r. r.0 ≡ record self { kept = longer self.kept entry }) }
         ensures now { IfOk result (λ r. now_of M.rules r.0.kept ≡ one_entry M.rules (now_of M.rules self.kept) entry) }
-        ensures reply { IfOk result (λ r. r.1 ≡ M.rules.reply (now_of M.rules self.kept).state entry.client entry.op) }
+        ensures reply { IfOk result (λ r. r.1 ≡ answers_of M.rules (now_of M.rules self.kept).state entry) }
         ensures short { IfOk result (λ r. length r.1 ≤ 1100) }
     {
         match self.exec.run(entry) {
@@ -83,15 +93,17 @@ impl<M: Machine> Core<M> {
         self
     }
 
-    // The last response to a client, in place of the one before.
-    fn keep_spec(mut self, spec: Signed<Spec>) -> Core<M>
-        requires client { spec.stmt.client.0 < 64 }
-        requires range { IsSignedInRange IsSpecInRange spec }
-        ensures { result ≡ with_spec_of self spec }
+    // One response more.
+    fn keep_spec(mut self, spec: Signed<Spec>) -> Result<Core<M>, Want>
+        requires { IsSignedInRange IsSpecInRange spec }
+        ensures { IfOk result (λ r. r ≡ with_spec_of self spec) }
     {
-        let at = spec.stmt.client.0 as usize;
-        self.specs[at] = Some(spec);
-        self
+        let said = mem::replace(&mut self.specs, Items::new(self.alloc));
+        self.specs = specs_beside(said, &spec.stmt);
+        match self.specs.push(spec) {
+            Ok(()) => Ok(self),
+            Err(want) => Err(want),
+        }
     }
 
     // ---- orders

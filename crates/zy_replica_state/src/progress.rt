@@ -1,7 +1,6 @@
 ghost use Rattle.std.specs.Prelude.{◌≡◌, ◌≤◌, ◌<◌, length, IfOk};
 ghost use Rattle.std.specs.List.{AllByRecursion};
 ghost use Rattle.std.specs.Option.{ForSome};
-ghost use Rattle.zy_base.specs.declared.ids.Party.TheVariants as parties;
 ghost use Rattle.zy_parts.specs.Numbers as numbers;
 ghost use Rattle.zy_parts.specs.Signing.{IsSignedInRange};
 ghost use Rattle.zy_parts.specs.Statements.{IsOrderInRange, IsSpecInRange, IsLocalInRange, IsHoleInRange, IsCheckInRange, spec_fields};
@@ -13,18 +12,20 @@ ghost use Rattle.zy_table.specs.declared.deeds.To.TheVariants as tos;
 ghost use Rattle.zy_table.specs.declared.deeds.Act.TheVariants as acts;
 ghost use Rattle.zy_table.specs.declared.deeds.Body.TheVariants as bodies;
 ghost use Rattle.zy_seal.specs.Sealing.{sealed_by};
-ghost use Rattle.zy_table.specs.State.{leaves_of, spent, stood_of, with_spec};
+ghost use Rattle.zy_table.specs.State.{signs_left, spent, stood_of, with_spec};
 ghost use Rattle.zy_table.specs.Commits.{send_local};
+ghost use Rattle.zy_table.specs.Gathering.{with_own_spec};
 ghost use Rattle.zy_table.specs.Adopting.{IsGotInRange};
 ghost use Rattle.zy_replica_state.specs.Ready.{IsActInRange, IsBodyInRange, IsOrderReady, IsPendingReady};
+ghost use Rattle.zy_chain.specs.Answers.{FitsAnswers};
 
 use crate::Core;
-use crate::copies::frame_copy;
+use crate::copies::{frame_copy, signed_copy};
 use std::marker::Model;
 use zy_base::{Answer, Bytes, Cause, ClientId, Items, Machine, Party, Place, Stood, View, Want};
 use zy_frames::{Frame, OrderFrame};
 use zy_parts::{Check, Hole, Local, Order, Signed, Spec, Statement};
-use zy_table::{Act, AnyFrame, Body, Deeds, Gains, Pending, Remark, Sent, To};
+use zy_table::{Act, AnyFrame, Body, Deeds, Gains, OwnCheckpoint, Pending, Remark, Sent, To};
 use zy_vframes::ViewFrame;
 
 /// A replica on its way through a step, with what the step did so far.
@@ -95,7 +96,7 @@ impl<M: Machine> Core<M> {
 }
 
 impl<M: Machine> Progress<M> {
-    ghost use Rattle.zy_table.specs.Deeds.{send as sending, send_any as sending_any, send_view as sending_view, act as acting, ends as ending};
+    ghost use Rattle.zy_table.specs.Deeds.{send as sending, send_any as sending_any, send_view as sending_view, act as acting, ends as ending, to_clients};
 
     // One more frame of either kind is sent.
     fn send_any(mut self, to: To, frame: AnyFrame) -> Result<Progress<M>, Want>
@@ -149,9 +150,8 @@ impl<M: Machine> Progress<M> {
 
     /// The response is signed and kept.
     pub fn sign_spec(self, spec: Spec) -> Result<(Progress<M>, Signed<Spec>), Want>
-        requires leaf { 1 ≤ leaves_of self.state }
+        requires left { 1 ≤ signs_left self.state }
         requires spec { IsSpecInRange spec }
-        requires client { spec.client.0 < 64 }
         ensures progress { IfOk result (λ r. r.0 ≡ acting (acts.Says (record { body = bodies.Spec spec; stood = stood_of M.rules self.state })) (record self { state = with_spec (spent self.state) (sealed_by numbers.spec spec_fields self.state.sealer spec) })) }
         ensures spec { IfOk result (λ r. r.1 ≡ sealed_by numbers.spec spec_fields self.state.sealer spec) }
         ensures range { IfOk result (λ r. IsSignedInRange IsSpecInRange r.1) }
@@ -167,9 +167,9 @@ impl<M: Machine> Progress<M> {
         }
     }
 
-    /// A statement signed by the next leaf, of which there is one.
+    /// A statement with the next signature, of which one is left.
     pub fn seal<S: Statement>(self, stmt: S) -> Result<(Progress<M>, Signed<S>), Want>
-        requires leaf { 1 ≤ leaves_of self.state }
+        requires left { 1 ≤ signs_left self.state }
         requires range { S.in_range stmt }
         ensures progress { IfOk result (λ r. r.0 ≡ record self { state = spent self.state }) }
         ensures value { IfOk result (λ r. r.1 ≡ sealed_by S.its_number S.spelling self.state.sealer stmt) }
@@ -186,9 +186,8 @@ impl<M: Machine> Progress<M> {
     }
 
     fn seal_spec(self, spec: Spec) -> Result<(Progress<M>, Signed<Spec>), Want>
-        requires leaf { 1 ≤ leaves_of self.state }
+        requires left { 1 ≤ signs_left self.state }
         requires spec { IsSpecInRange spec }
-        requires client { spec.client.0 < 64 }
         ensures progress { IfOk result (λ r. r.0 ≡ record self { state = with_spec (spent self.state) (sealed_by numbers.spec spec_fields self.state.sealer spec) }) }
         ensures spec { IfOk result (λ r. r.1 ≡ sealed_by numbers.spec spec_fields self.state.sealer spec) }
         ensures range { IfOk result (λ r. IsSignedInRange IsSpecInRange r.1) }
@@ -196,6 +195,32 @@ impl<M: Machine> Progress<M> {
         let Progress { core, deeds } = self;
         match core.seal_spec(spec) {
             Ok((core, signed)) => Ok((Progress { core, deeds }, signed)),
+            Err(want) => {
+                drop(deeds);
+                Err(want)
+            }
+        }
+    }
+
+    /// The own response is kept with those of others, without what says another thing.
+    pub fn keep_own_spec(
+        self,
+        own: &OwnCheckpoint,
+        signed: &Signed<Spec>,
+    ) -> Result<Progress<M>, Want>
+        requires { IsSignedInRange IsSpecInRange signed.now }
+        ensures { IfOk result (λ g. g ≡ record self { state = with_own_spec self.state own.now signed.now }) }
+    {
+        let Progress { core, deeds } = self;
+        let kept = match signed_copy(signed) {
+            Ok(copy) => core.keep_own_spec(own, copy),
+            Err(want) => {
+                drop(core);
+                Err(want)
+            }
+        };
+        match kept {
+            Ok(core) => Ok(Progress { core, deeds }),
             Err(want) => {
                 drop(deeds);
                 Err(want)
@@ -230,9 +255,9 @@ impl<M: Machine> Progress<M> {
         order: Option<Signed<Order>>,
     ) -> Result<Progress<M>, Want>
         requires spec { IsSignedInRange IsSpecInRange spec }
-        requires reply { length reply ≤ 1100 }
+        requires reply { FitsAnswers reply }
         requires order { ForSome order (IsSignedInRange IsOrderInRange) }
-        ensures { IfOk result (λ g. g ≡ sending (tos.One (parties.Client spec.stmt.client)) (frames.SpecResponse spec reply order) self) }
+        ensures { IfOk result (λ g. g ≡ sending (to_clients spec.stmt) (frames.SpecResponse spec reply order) self) }
     {
         let to = To::One(Party::Client(spec.stmt.client));
         self.send(to, Frame::SpecResponse { spec, reply, order })
@@ -246,7 +271,7 @@ impl<M: Machine> Progress<M> {
         order: Option<Signed<Order>>,
     ) -> Result<Progress<M>, Want>
         requires spec { IsSignedInRange IsSpecInRange spec }
-        requires reply { length reply ≤ 1100 }
+        requires reply { FitsAnswers reply }
         requires order { ForSome order (IsSignedInRange IsOrderInRange) }
         ensures { IfOk result (λ g. g ≡ sending tos.All (frames.SpecResponse spec reply order) self) }
     {

@@ -4,18 +4,18 @@ ghost use Rattle.std.specs.Prelude.{◌≡◌, ◌≤◌, ◌<◌, ◌+◌, ◌^
 ghost use Rattle.std.specs.List.{AllByRecursion, find};
 ghost use Rattle.std.specs.Option.{ForSome};
 ghost use Rattle.zy_parts.specs.Signing.{IsSignedInRange};
-ghost use Rattle.zy_parts.specs.Statements.{IsHoleInRange, IsLocalInRange, IsOrderInRange};
+ghost use Rattle.zy_parts.specs.Statements.{IsHoleInRange, IsLocalInRange, IsOrderInRange, IsSpecInRange};
 ghost use Rattle.zy_exec.specs.Kept.{last_place, known_in};
 ghost use Rattle.zy_exec.specs.Known.{IsKnownInRange};
-ghost use Rattle.zy_lms.specs.Height.{levels_of};
 ghost use Rattle.zy_admit.specs.Orders.{stored_in, orders_from};
-ghost use Rattle.zy_cert.specs.Equal.{same_local};
-ghost use Rattle.zy_table.specs.State.{own_view, is_leaving, is_primary, primary_of, window_of, leaves_of, spec_to, pending_of};
+ghost use Rattle.zy_cert.specs.Equal.{same_local, same_spec};
+ghost use Rattle.zy_table.specs.State.{own_view, is_leaving, is_primary, primary_of, window_of, signs_left, spec_said, pending_of};
 ghost use Rattle.zy_table.specs.Roles.{is_primary_of, view_cause};
 ghost use Rattle.zy_table.specs.Running.{still_pending};
 ghost use Rattle.zy_table.specs.Orders.{hole_of};
 ghost use Rattle.zy_table.specs.Commits.{local_said};
-ghost use Rattle.zy_replica_state.specs.Ready.{IsKeptPending, IsKeptSpec, IsOrderReady, IsReady};
+ghost use Rattle.zy_replica_state.specs.Ready.{IsKeptPending, IsOrderReady, IsReady};
+ghost use Rattle.zy_seal.specs.Sealing.{signatures_by};
 
 use crate::Core;
 use crate::copies::{frame_copy, known_copy, signed_copy};
@@ -28,6 +28,13 @@ use zy_frames::OrderFrame;
 use zy_parts::{Hole, Local, Order, Signed, Spec};
 use zy_seal::Directory;
 use zy_table::Pending;
+
+// The first of some responses that says this.
+fn spec_among<'a>(said: &'a [Signed<Spec>], spec: &Spec) -> Option<&'a Signed<Spec>>
+    ensures { option_copied result ≡ find (λ one. same_spec one.stmt spec.now) said.now }
+{
+    said.iter().find(|one| one.stmt == *spec)
+}
 
 // The first of some local commits that says this.
 fn local_among<'a>(said: &'a [Signed<Local>], local: &Local) -> Option<&'a Signed<Local>>
@@ -162,16 +169,16 @@ impl<M: Machine> Core<M> {
     }
 
     /// How many statements it can still sign.
-    pub fn leaves(&self) -> u32
-        ensures { result ≡ leaves_of self.now }
+    pub fn signs_left(&self) -> u32
+        ensures { result ≡ signs_left self.now }
     {
         self.sealer.left()
     }
 
     /// Whether it can sign so many statements.
-    pub fn has_leaves(&self, count: u64) -> bool
-        ensures enough { result ≡ nat_le count (leaves_of self.now) }
-        ensures within { self.now.sealer.key.next ≤ 2 ^ levels_of self.now.sealer.key.height }
+    pub fn can_sign(&self, count: u64) -> bool
+        ensures enough { result ≡ nat_le count (signs_left self.now) }
+        ensures within { self.now.sealer.key.next ≤ signatures_by self.now.sealer.key.height }
         ensures ready { IsReady self.now }
     {
         count <= self.sealer.left() as u64
@@ -265,14 +272,14 @@ impl<M: Machine> Core<M> {
 
     // ---- what it has said, and the requests that wait
 
-    /// The own last response to a client.
-    pub fn spec_to(&self, client: ClientId) -> Option<&Signed<Spec>>
-        ensures spec { option_copied result ≡ spec_to self.now client }
-        ensures range { IsKeptSpec (option_copied result) }
+    /// A copy of the own response that says this, where it is kept.
+    pub fn spec_said(&self, spec: &Spec) -> Result<Option<Signed<Spec>>, Want>
+        ensures said { IfOk result (λ said. said ≡ spec_said self.now spec.now) }
+        ensures range { IfOk result (λ said. ForSome said (IsSignedInRange IsSpecInRange)) }
     {
-        match self.specs.get(client.0 as usize) {
-            Some(Some(spec)) => Some(spec),
-            _ => None,
+        match spec_among(self.specs.as_slice(), spec) {
+            Some(said) => Ok(Some(signed_copy(said)?)),
+            None => Ok(None),
         }
     }
 

@@ -1,39 +1,29 @@
 //! What an entry is answered with, and what is said of its place.
 
 ghost use Rattle.std.specs.Prelude.{◌≡◌, option_copied};
-ghost use Rattle.sha2.specs.Sha256.{sha256};
 ghost use Rattle.zy_table.specs.Running.{spec_of as spec_for};
 ghost use Rattle.zy_table.specs.Gathering.{own_with as own_by, spec_at as spec_by, own_from as own_by_parts};
+ghost use Rattle.zy_admit.specs.Judging.{entry_of};
 
-use sha2::{Digest as Hasher, Sha256};
 use zy_admit::client_of;
 use zy_base::{Bytes, Digest, Place, View};
-use zy_chain::Entry;
+use zy_chain::{Entry, answers_digest};
 use zy_exec::Known;
 use zy_parts::{Ask, Check, Signed, Spec};
 use zy_table::OwnCheckpoint;
 
 /// What an executed entry is answered with.
 pub fn spec_of(view: View, ask: &Signed<Ask>, known: &Known) -> Spec
-    ensures { result ≡ spec_for view.0 ask.now known.now }
+    ensures { result ≡ spec_for view.0 (entry_of ask.now) known.now }
 {
     Spec {
         view,
         place: known.place,
         head: known.head,
-        reply: digest_of(&known.reply),
+        reply: answers_digest(&known.reply),
         client: client_of(ask.by),
         stamp: known.stamp,
     }
-}
-
-// SHA-256 (FIPS 180-4) of a reply.
-fn digest_of(reply: &Bytes) -> Digest
-    ensures { result ≡ record { 0 = sha256 reply.now } }
-{
-    let mut hasher = Sha256::new();
-    hasher.update(reply.as_slice());
-    Digest(hasher.finalize())
 }
 
 /// A response, and the checkpoint that goes with it where the snapshot has this digest.
@@ -58,7 +48,7 @@ fn spec_at(view: View, place: Place, entry: &Entry, head: Digest, reply: &Bytes)
         view,
         place,
         head,
-        reply: digest_of(reply),
+        reply: answers_digest(reply),
         client: entry.client,
         stamp: entry.stamp,
     }

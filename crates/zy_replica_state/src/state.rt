@@ -1,4 +1,4 @@
-ghost use Rattle.std.specs.Prelude.{◌≡◌, ◌≤◌, ◌<◌, ◌^◌, length, [], replicate, None, is_some, IfOk};
+ghost use Rattle.std.specs.Prelude.{◌≡◌, ◌≤◌, ◌<◌, ◌^◌, length, [], None, is_some, IfOk};
 ghost use Rattle.std.specs.List.{list_any};
 ghost use Rattle.sha2.specs.Sha256.{sha256};
 ghost use Rattle.zy_base.specs.declared.ids.Party.TheVariants as parties;
@@ -39,7 +39,7 @@ pub struct Core<M: Machine> {
     pub(crate) orders: Admission,
     pub(crate) board: Checkpoints,
     pub(crate) hole: Option<Signed<Hole>>,
-    pub(crate) specs: Vec<Option<Signed<Spec>>>,
+    pub(crate) specs: Items<Signed<Spec>>,
     pub(crate) pending: Vec<Option<Pending>>,
     pub(crate) locals: Items<Signed<Local>>,
     pub(crate) hate: Option<Signed<Hate>>,
@@ -100,7 +100,7 @@ impl<M: Machine> Model for Core<M> {
       orders = r.orders;
       board = r.board;
       hole = r.hole;
-      specs = r.specs.items;
+      specs = r.specs;
       pending = r.pending.items;
       locals = r.locals;
       hate = r.hate;
@@ -119,7 +119,7 @@ impl<M: Machine> Model for Core<M> {
       orders = r.orders;
       board = r.board;
       hole = r.hole;
-      specs = r.specs.items;
+      specs = r.specs;
       pending = r.pending.items;
       locals = r.locals;
       hate = r.hate;
@@ -158,16 +158,6 @@ fn empty_history<M: Machine>(alloc: Global, k: u64) -> Result<(Exec<M>, Checkpoi
     Ok((exec, board))
 }
 
-// Room for the last response to each client, and for the request of each that waits.
-fn empty_rooms(alloc: Global) -> Result<(Vec<Option<Signed<Spec>>>, Vec<Option<Pending>>), Want>
-    ensures specs { IfOk result (λ r. r.0.items ≡ replicate 64 None) }
-    ensures pending { IfOk result (λ r. r.1.items ≡ replicate 64 None) }
-{
-    let specs = nothing(alloc)?;
-    let pending = nothing(alloc)?;
-    Ok((specs, pending))
-}
-
 impl<M: Machine> Core<M> {
     ghost use Rattle.zy_table.specs.State.{start_of, stood_of, timers_of, waits};
 
@@ -188,26 +178,32 @@ impl<M: Machine> Core<M> {
         requires most { k ≤ 32 }
         ensures { IfOk result (λ r. r ≡ start_of M.rules k me counts directory sealer) }
     {
-        let (specs, pending) = empty_rooms(alloc)?;
+        let pending = nothing(alloc)?;
         let (exec, board) = empty_history(alloc, k)?;
         let views = ViewMachine::start(alloc, counts, me, k)?;
         Ok(Core {
             alloc,
             me,
             counts,
+            sealer: sealer.beside(&directory),
             directory,
-            sealer,
             views,
             exec,
             orders: Admission::start(alloc),
             board,
             hole: None,
-            specs,
+            specs: Items::new(alloc),
             pending,
             locals: Items::new(alloc),
             hate: None,
             fetches: Items::new(alloc),
         })
+    }
+
+    /// What it checked and signed is known from now on to all that share its store of signatures.
+    pub fn take_in(&self) {
+        self.directory.take_in();
+        self.sealer.take_in();
     }
 
     /// Whether it takes part in its view, and which that is.
@@ -240,7 +236,7 @@ impl<M: Machine> Core<M> {
         self.exec.head()
     }
 
-    /// The number of the leaf that signs next.
+    /// The number of its next signature.
     pub fn key_next(&self) -> u32
         ensures { result ≡ self.now.sealer.key.next }
     {

@@ -11,7 +11,7 @@ ghost use Rattle.zy_change.specs.Fit.{IsAccepted, IsCertified, IsFit, IsKeptBega
 ghost use Rattle.zy_change.specs.Views as views;
 ghost use Rattle.zy_table.specs.Sending.{CanBeSent};
 ghost use Rattle.zy_table.specs.declared.deeds.AnyFrame.TheVariants as sent;
-ghost use Rattle.zy_table.specs.State.{own_view, leaves_of, spent};
+ghost use Rattle.zy_table.specs.State.{own_view, signs_left, spent};
 ghost use Rattle.zy_table.specs.Leaving.{report_of, sealed_change, without_waiting, left_with};
 ghost use Rattle.zy_replica_state.specs.Ready.{IsReady, IsWaitingReady};
 
@@ -60,7 +60,7 @@ impl<M: Machine> Core<M> {
 
     /// The report, signed for a later view.
     pub fn seal_change(self, view: View) -> Result<(Core<M>, Signed<Change>), Want>
-        requires leaf { 1 ≤ leaves_of self }
+        requires left { 1 ≤ signs_left self }
         requires above { own_view self < view.0 }
         requires range { view.0 < 2 ^ 62 }
         ensures core { IfOk result (λ r. r.0 ≡ spent self) }

@@ -7,7 +7,7 @@ use Rattle.zy_base.specs.declared.ids.View.{View}
 use Rattle.zy_parts.specs.declared.reports.Fetch.{Fetch}
 use Rattle.zy_parts.specs.declared.signed.Signed.{Signed}
 use Rattle.zy_cert.specs.Equal.{same_fetch}
-use Rattle.zy_table.specs.State.{State, leaves_of, own_view}
+use Rattle.zy_table.specs.State.{State, signs_left, own_view}
 use Rattle.zy_table.specs.Deeds.{Going}
 use Rattle.zy_table.specs.Leaving.{leave_alone}
 use Rattle.zy_table.specs.Beginning.{arrive}
@@ -28,12 +28,12 @@ module _ {S : Type 0} (R : Rules S) (view : View) (g : Going S) where
   unfolding leave_alone
   arrived_fetches = stays (λ s. s.fetches) refl
 
-  -- a leave spends a leaf
-  pub arrived_leaves : (more : ℕ) → (if nat_lt (own_view g.state) view.0 then 1 else 0) + more ≤ leaves_of g.state → more ≤ leaves_of (arrive R view g).state
+  -- a leave spends a signature
+  pub arrived_left : (more : ℕ) → (if nat_lt (own_view g.state) view.0 then 1 else 0) + more ≤ signs_left g.state → more ≤ signs_left (arrive R view g).state
   unfolding leave_alone
-  arrived_leaves more enough = by (nat_lt (own_view g.state) view.0) enough
+  arrived_left more enough = by (nat_lt (own_view g.state) view.0) enough
     where
-      by : (b : Bool) → (if b then 1 else 0) + more ≤ leaves_of g.state → more ≤ leaves_of (if b then leave_alone R view g else g).state
+      by : (b : Bool) → (if b then 1 else 0) + more ≤ signs_left g.state → more ≤ signs_left (if b then leave_alone R view g else g).state
       by true enough = omega (arith, enough)
       by false enough = omega (arith, enough)
 

@@ -6,7 +6,7 @@ use Rattle.zy_parts.specs.declared.reports.Told.{Told}
 use Rattle.zy_evidence.specs.Reading.{stretch_of}
 use Rattle.zy_vframes.specs.declared.frame.ViewCert.{ViewCert}
 use Rattle.zy_change.specs.declared.kept.Chosen.{Chosen}
-use Rattle.zy_table.specs.State.{State, leaves_of}
+use Rattle.zy_table.specs.State.{State, signs_left}
 use Rattle.zy_table.specs.declared.deeds.Act.TheVariants.{Adopts}
 use Rattle.zy_table.specs.declared.deeds.Got.{Got}
 use Rattle.zy_table.specs.Deeds.{Going, act}
@@ -35,10 +35,10 @@ module _ {S : Type 0} (R : Rules S) (cert : ViewCert) (chosen : Chosen) (told : 
       by false = taken_interval (stretch_of told) place.0 s.kept
 
 -- so there are as many leaves then
-pub begun_leaves : {S : Type 0} (R : Rules S) (cert : ViewCert) (chosen : Chosen) (told : Told) (g : Going S)
-    → length (checkpoints_between g.state.kept.interval (begin_view R cert chosen told g).state.board.stable.place.0 chosen.place.0) ≤ leaves_of g.state
-    → length (checkpoints_between (begin_view R cert chosen told g).state.kept.interval (begin_view R cert chosen told g).state.board.stable.place.0 chosen.place.0) ≤ leaves_of (begin_view R cert chosen told g).state
-begun_leaves R cert chosen told g enough = rw (begun_interval R cert chosen told chosen.place g.state, begun_sealer R cert chosen told chosen.place g.state) enough
+pub begun_left : {S : Type 0} (R : Rules S) (cert : ViewCert) (chosen : Chosen) (told : Told) (g : Going S)
+    → length (checkpoints_between g.state.kept.interval (begin_view R cert chosen told g).state.board.stable.place.0 chosen.place.0) ≤ signs_left g.state
+    → length (checkpoints_between (begin_view R cert chosen told g).state.kept.interval (begin_view R cert chosen told g).state.board.stable.place.0 chosen.place.0) ≤ signs_left (begin_view R cert chosen told g).state
+begun_left R cert chosen told g enough = rw (begun_interval R cert chosen told chosen.place g.state, begun_sealer R cert chosen told chosen.place g.state) enough
 
 pub begun_with : {S : Type 0} (R : Rules S) (cert : ViewCert) (chosen : Chosen) (told : Told) (g : Going S) (s : State S) (common : Place) (gots : List Got) → s ≡ active_by cert chosen (with_history R told chosen.place g.state)
     → common.0 ≡ common_with (stretch_of told) chosen.place.0 g.state.kept → gots ≡ gots_of R (stretch_of told) chosen.place.0 g.state.kept

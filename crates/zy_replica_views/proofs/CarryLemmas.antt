@@ -29,7 +29,7 @@ use Rattle.zy_table.specs.declared.deeds.To.TheVariants.{All as ToAll}
 use Rattle.zy_table.specs.declared.deeds.Body.{Body}
 use Rattle.zy_table.specs.declared.deeds.Body.TheVariants as bodies
 use Rattle.zy_table.specs.declared.deeds.Act.TheVariants.{Says}
-use Rattle.zy_table.specs.State.{State, leaves_of, spent, stood_of}
+use Rattle.zy_table.specs.State.{State, signs_left, spent, stood_of}
 use Rattle.zy_table.specs.Deeds.{Going, act, send_view}
 use Rattle.zy_table.specs.Leaving.{left_with, sealed_change, sealed_new, leave_alone, give_new, accept}
 use Rattle.zy_replica_views.specs.Carrying.{leave_if, sealed_began, give}
@@ -88,9 +88,9 @@ kept_same core sealed a own began is same = rw (is, same) refl
 -- ---- it is given and confirmed
 
 module _ {S : Type 0} (R : Rules S) (g after : Going S) (view : View) (chosen : Chosen) (new : Signed New) (is : after ≡ give_new R (sealed_new g.state view) g) (new_is : new ≡ sealed_new g.state view) where
-  pub given_leaf : 2 ≤ leaves_of g.state → 1 ≤ leaves_of after.state
+  pub given_left : 2 ≤ signs_left g.state → 1 ≤ signs_left after.state
   unfolding give_new
-  given_leaf leaves = rw is (omega arith)
+  given_left left = rw is (omega arith)
 
   given_views : after.state.views ≡ g.state.views
   unfolding give_new
@@ -118,11 +118,11 @@ fewer_signs None (Some view) n few = omega arith
 fewer_signs (Some view) None n few = few
 fewer_signs (Some view) (Some other) n few = omega arith
 
-left_signs : {S : Type 0} (R : Rules S) (g : Going S) (leave gather : Option View) → signs_for leave gather ≤ leaves_of g.state → signs_for None gather ≤ leaves_of (leave_if R leave g).state
+left_signs : {S : Type 0} (R : Rules S) (g : Going S) (leave gather : Option View) → signs_for leave gather ≤ signs_left g.state → signs_for None gather ≤ signs_left (leave_if R leave g).state
 unfolding leave_alone
 left_signs R g None gather few = few
 left_signs R g (Some view) None few = omega arith
 left_signs R g (Some view) (Some other) few = omega arith
 
-pub signs_left : {S : Type 0} (R : Rules S) (g left : Going S) (leave gather : Option View) → left ≡ leave_if R leave g → signs_for leave gather ≤ leaves_of g.state → signs_for None gather ≤ leaves_of left.state
-signs_left {S = S} R g left leave gather is few = subst (λ (x : Going S). signs_for None gather ≤ leaves_of x.state) (sym is) (left_signs R g leave gather few)
+pub rest_left : {S : Type 0} (R : Rules S) (g left : Going S) (leave gather : Option View) → left ≡ leave_if R leave g → signs_for leave gather ≤ signs_left g.state → signs_for None gather ≤ signs_left left.state
+rest_left {S = S} R g left leave gather is few = subst (λ (x : Going S). signs_for None gather ≤ signs_left x.state) (sym is) (left_signs R g leave gather few)

@@ -31,7 +31,7 @@ use Rattle.zy_change.specs.Owing.{adoption_by, nothing, provider_in, refused as 
 use Rattle.zy_change.proofs.JudgingLemmas.{accepted}
 use Rattle.zy_change.specs.Confirming.{cert_compared, cert_judged, is_over, view_cert_owes}
 use Rattle.zy_change.specs.Judging.{chosen_in}
-use Rattle.zy_table.specs.State.{State, leaves_of, own_view}
+use Rattle.zy_table.specs.State.{State, signs_left, own_view}
 use Rattle.zy_table.specs.Deeds.{Outcome, begin, refused}
 use Rattle.zy_table.specs.Adopting.{verdict_of}
 use Rattle.zy_table.specs.Leaving.{goes}
@@ -153,7 +153,7 @@ module _ {S : Type 0} (R : Rules S) (s : State S) (cert : ViewCert) (owed : Owed
     module _ (chosen : Chosen) (is_chosen : (a : Adoption) → owed.adopt ≡ Some a → chosen ≡ a.chosen) (e : Ending) (same : ending_of R s 0 owed ≡ Ok e) where
       pub record Does : Type 0 where
         pub judged : (provider : Signed Change) → slice_get cert.new.stmt.changes chosen.provider ≡ Some provider → verdict_of R s.kept s.board.stable provider.stmt.told chosen.place chosen.head ≡ verdict_if (is_waiting e)
-        pub leaves : (provider : Signed Change) → slice_get cert.new.stmt.changes chosen.provider ≡ Some provider → signs_by s cert.new.stmt.view provider.stmt.told chosen.place (is_waiting e) ≤ leaves_of s
+        pub left : (provider : Signed Change) → slice_get cert.new.stmt.changes chosen.provider ≡ Some provider → signs_by s cert.new.stmt.view provider.stmt.told chosen.place (is_waiting e) ≤ signs_left s
         pub later : own_view s ≤ cert.new.stmt.view.0
         pub comes : (m : Outcome S) → adopt R cert chosen (begin s) ≡ goes m.answer (record { state = m.state; deeds = m.deeds }) → m ≡ finished R s (view_certificate R s cert)
 
@@ -171,7 +171,7 @@ module _ {S : Type 0} (R : Rules S) (s : State S) (cert : ViewCert) (owed : Owed
                 ∙ ap (λ (p : Signed Change). verdict_of R s.kept s.board.stable p.stmt.told a.chosen.place a.chosen.head) (sym one)
                 ∙ ap (λ (t : Told). verdict_of R s.kept s.board.stable t a.chosen.place a.chosen.head) by.told
                 ∙ does.judged ∙ ap verdict_if waits;
-            leaves = λ provider given.
+            left = λ provider given.
                 let one : by.provider ≡ provider = same_Some by.provider provider (sym by.given ∙ ap (λ (c : Chosen). slice_get cert.new.stmt.changes c.provider) (sym here) ∙ given) in
                 let counts : signs_by s cert.new.stmt.view provider.stmt.told chosen.place (is_waiting e) ≡ signs_by s a.view a.told a.chosen.place does.waits =
                 ap (λ (c : Chosen). signs_by s cert.new.stmt.view provider.stmt.told c.place (is_waiting e)) here

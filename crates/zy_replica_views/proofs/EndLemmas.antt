@@ -1,5 +1,5 @@
 -- A step that was judged to end so comes to its end, and so to the row.
-use Rattle.std.proofs.Common.{◌≡◌, ℕ, ◌+◌, ◌-◌, ◌^◌, ◌≤◌, nat_lt, nat_le, Bool, true, false, if◌then◌else◌, List, Option, Some, None, Ok, Err, refl, sym, ap, ◌∙◌, subst, arith}
+use Rattle.std.proofs.Common.{◌≡◌, ℕ, ◌+◌, ◌-◌, ◌≤◌, nat_lt, nat_le, Bool, true, false, if◌then◌else◌, List, Option, Some, None, Ok, Err, refl, sym, ap, ◌∙◌, subst, arith}
 use Rattle.std.specs.Prelude.{find, is_some, slice_get, IsSome}
 use Rattle.std.specs.Option.{ForSome}
 use Rattle.std.proofs.lemmas.Bool.{leb-true}
@@ -10,8 +10,7 @@ use Rattle.zy_base.specs.declared.cause.Cause.TheVariants as causes
 use Rattle.zy_base.specs.declared.ids.View.{View}
 use Rattle.zy_base.specs.declared.step.Answer.{Answer}
 use Rattle.zy_base.specs.declared.step.Answer.TheVariants.{Taken, Held, Refused}
-use Rattle.zy_lms.specs.Height.{levels_of}
-use Rattle.zy_seal.specs.Sealing.{SealerState}
+use Rattle.zy_seal.specs.Sealing.{SealerState, signatures_by, left_of}
 use Rattle.zy_parts.specs.declared.signed.Signed.{Signed}
 use Rattle.zy_parts.specs.declared.reports.Change.{Change}
 use Rattle.zy_parts.specs.declared.reports.Fetch.{Fetch}
@@ -27,7 +26,7 @@ use Rattle.zy_change.specs.declared.owed.Owed.{Owed}
 use Rattle.zy_change.specs.Views.{Views, certificate, certificate_if}
 use Rattle.zy_table.specs.declared.deeds.Verdict.{Verdict}
 use Rattle.zy_table.specs.declared.deeds.Verdict.TheVariants as verdicts
-use Rattle.zy_table.specs.State.{State, leaves_of, own_view}
+use Rattle.zy_table.specs.State.{State, signs_left, own_view}
 use Rattle.zy_table.specs.Deeds.{Going, Outcome, ends, refused}
 use Rattle.zy_table.specs.Adopting.{verdict_of}
 use Rattle.zy_table.specs.Leaving.{Attempt, goes}
@@ -91,16 +90,16 @@ module _ {S : Type 0} (R : Rules S) (s : State S) (signs : ℕ) (owed : Owed) (e
       ap (λ (k : Kept S). verdict_of R k end.state.board.stable a.told a.chosen.place a.chosen.head) is.far.kept
       ∙ ap (λ (c : Check). verdict_of R s.kept c a.told a.chosen.place a.chosen.head) is.far.stable
 
-  pub leaves_then : leaves_of end.state ≡ leaves_of s - signs
-  leaves_then =
-      let left : leaves_of end.state ≡ 2 ^ levels_of s.sealer.key.height - (s.sealer.key.next + signs) = ap (λ (sealer : SealerState). 2 ^ levels_of sealer.key.height - sealer.key.next) is.far.sealer in
+  pub left_then : signs_left end.state ≡ signs_left s - signs
+  left_then =
+      let left : signs_left end.state ≡ signatures_by s.sealer.key.height - (s.sealer.key.next + signs) = ap (λ (sealer : SealerState). left_of sealer) is.far.sealer in
       omega (arith, left)
 
   module _ (adopting : Attempt S) where
     -- ---- a refusal
 
-    spent_refused : (n : ℕ) (attempt : Attempt S) (e : Ending) (cause : Cause) → unless_spent n (leaves_of s) e ≡ Err cause → counted s n attempt ≡ refused cause s
-    spent_refused n attempt e cause = by (nat_le n (leaves_of s))
+    spent_refused : (n : ℕ) (attempt : Attempt S) (e : Ending) (cause : Cause) → unless_spent n (signs_left s) e ≡ Err cause → counted s n attempt ≡ refused cause s
+    spent_refused n attempt e cause = by (nat_le n (signs_left s))
       where
         by : (b : Bool) → (if b then Ok e else Err causes.KeySpent) ≡ Err cause → (if b then outcome_of s attempt else refused causes.KeySpent s) ≡ refused cause s
         by true same = absurd cc
@@ -127,22 +126,22 @@ module _ {S : Type 0} (R : Rules S) (s : State S) (signs : ℕ) (owed : Owed) (e
 
     -- ---- a step that goes on
 
-    within : (n : ℕ) (x e : Ending) → unless_spent n (leaves_of s) x ≡ Ok e → (nat_le n (leaves_of s) ≡ true) × (e ≡ x)
-    within n x e = by (nat_le n (leaves_of s))
+    within : (n : ℕ) (x e : Ending) → unless_spent n (signs_left s) x ≡ Ok e → (nat_le n (signs_left s) ≡ true) × (e ≡ x)
+    within n x e = by (nat_le n (signs_left s))
       where
         by : (b : Bool) → (if b then Ok x else Err causes.KeySpent) ≡ Ok e → (b ≡ true) × (e ≡ x)
         by true same = (refl, cc)
         by false same = absurd cc
 
-    counts_in : (n : ℕ) (attempt : Attempt S) → nat_le n (leaves_of s) ≡ true → counted s n attempt ≡ outcome_of s attempt
+    counts_in : (n : ℕ) (attempt : Attempt S) → nat_le n (signs_left s) ≡ true → counted s n attempt ≡ outcome_of s attempt
     counts_in n attempt few = rw few refl
 
-    -- with an adoption, of which there are leaves for all that it signs
+    -- with an adoption, with enough signatures left for all that it signs
     pub record Adopts (a : Adoption) (e : Ending) (o : Outcome S) : Type 0 where
       pub waits : Bool
       pub ends_so : e ≡ ending_if waits
       pub judged : verdict_on R s a ≡ verdict_if waits
-      pub enough : signs + signs_by end.state a.view a.told a.chosen.place waits ≤ leaves_of s
+      pub enough : signs + signs_by end.state a.view a.told a.chosen.place waits ≤ signs_left s
       pub comes : o ≡ outcome_of s adopting
 
     verdict_adopts : (a : Adoption) (verdict : Verdict) → verdict_on R s a ≡ verdict → (e : Ending) → ending_by s signs owed.leave a verdict ≡ Ok e → Adopts a e (ended_as s signs a verdict end adopting)
@@ -215,12 +214,12 @@ module _ {S : Type 0} (R : Rules S) (s : State S) (signs : ℕ) (owed : Owed) (e
     judged_there =
         ap (λ (t : Told). verdict_of R end.state.kept end.state.board.stable t a.chosen.place a.chosen.head) entry.told ∙ same_verdict a ∙ does.judged
 
-    signs_there : signs_by end.state entry.cert.new.stmt.view entry.provider.stmt.told a.chosen.place does.waits ≤ leaves_of end.state
+    signs_there : signs_by end.state entry.cert.new.stmt.view entry.provider.stmt.told a.chosen.place does.waits ≤ signs_left end.state
     signs_there =
         let same : signs_by end.state entry.cert.new.stmt.view entry.provider.stmt.told a.chosen.place does.waits ≡ signs_by end.state a.view a.told a.chosen.place does.waits =
         ap (λ (v : View). signs_by end.state v entry.provider.stmt.told a.chosen.place does.waits) entry.view ∙ ap (λ (t : Told). signs_by end.state a.view t a.chosen.place does.waits) entry.told in
         let few = does.enough in
-        omega (arith, same, leaves_then, few)
+        omega (arith, same, left_then, few)
 
     can_certify : CanCertify R does.waits end
     can_certify =
@@ -233,7 +232,7 @@ module _ {S : Type 0} (R : Rules S) (s : State S) (signs : ℕ) (owed : Owed) (e
               let own = is.view in
               omega (arith, view, later, own);
           judged = for_kept (λ x c. verdict_of R end.state.kept end.state.board.stable c.stmt.told x.chosen.place x.chosen.head ≡ verdict_if does.waits) judged_there;
-          leaves = for_kept (λ x c. signs_by end.state x.new.stmt.view c.stmt.told x.chosen.place does.waits ≤ leaves_of end.state) signs_there;
+          left = for_kept (λ x c. signs_by end.state x.new.stmt.view c.stmt.told x.chosen.place does.waits ≤ signs_left end.state) signs_there;
         }
 
     -- what the view that begins comes to

@@ -16,9 +16,8 @@ use Rattle.zy_base.specs.declared.ids.ReplicaId.{ReplicaId}
 use Rattle.zy_base.specs.declared.ids.View.{View}
 use Rattle.zy_base.specs.declared.step.Answer.{Answer}
 use Rattle.zy_base.specs.declared.step.Answer.TheVariants.{Taken, Held, Refused}
-use Rattle.zy_lms.specs.Height.{levels_of}
 use Rattle.zy_lms.specs.Lms.{signature_of}
-use Rattle.zy_seal.specs.Sealing.{SealerState, sealed_by, spent_one}
+use Rattle.zy_seal.specs.Sealing.{SealerState, sealed_by, spent_one, signatures_by}
 use Rattle.zy_parts.specs.Numbers as numbers
 use Rattle.zy_parts.specs.Signing.{text_of}
 use Rattle.zy_parts.specs.Reports.{began_fields, change_fields}
@@ -48,7 +47,7 @@ use Rattle.zy_table.specs.declared.deeds.Act.{Act}
 use Rattle.zy_table.specs.declared.deeds.Act.TheVariants.{Says}
 use Rattle.zy_table.specs.declared.deeds.Body.TheVariants as bodies
 use Rattle.zy_table.specs.declared.deeds.Remark.{Remark}
-use Rattle.zy_table.specs.State.{State, own_view, leaves_of, stood_of}
+use Rattle.zy_table.specs.State.{State, own_view, signs_left, stood_of}
 use Rattle.zy_table.specs.Deeds.{Going, Outcome, begin, ends, refused}
 use Rattle.zy_table.specs.Leaving.{Attempt, goes, report_of, sealed_change, concluded, is_overspent}
 use Rattle.zy_table.specs.Leaving as rows
@@ -65,7 +64,7 @@ for_none P = λ x is. absurd cc
 pub for_some : {A : Type 0} (x : A) (P : A → Type 0) → P x → ForSome (Some x) P
 for_some x P holds = λ y is. let e : x ≡ y = cc in subst P e holds
 
--- the signatures that a replica makes; that of the report is its next leaf's
+-- the signatures that a replica makes; that of the report is its next one
 abbrev pub pens_of : {S : Type 0} → State S → Pens
 pens_of s =
     record {
@@ -540,27 +539,27 @@ module _ {S : Type 0} (R : Rules S) where
   -- ---- the leaves are counted before anything is signed
 
   pub counted_first : (s : State S) (signs : ℕ) (sealer : SealerState) (after : Outcome S) → IsSigner s → sealer ≡ spent_many signs s.sealer
-      → (if is_overspent sealer then refused causes.KeySpent s else after) ≡ (if nat_le signs (leaves_of s) then after else refused causes.KeySpent s)
-  counted_first s signs sealer after signer spends = turned (nat_le signs (leaves_of s)) refl
+      → (if is_overspent sealer then refused causes.KeySpent s else after) ≡ (if nat_le signs (signs_left s) then after else refused causes.KeySpent s)
+  counted_first s signs sealer after signer spends = turned (nat_le signs (signs_left s)) refl
     where
-      over : is_overspent sealer ≡ nat_lt (2 ^ levels_of s.sealer.key.height) (s.sealer.key.next + signs)
+      over : is_overspent sealer ≡ nat_lt (signatures_by s.sealer.key.height) (s.sealer.key.next + signs)
       over = ap is_overspent spends
 
-      turned : (b : Bool) → nat_le signs (leaves_of s) ≡ b → (if is_overspent sealer then refused causes.KeySpent s else after) ≡ (if b then after else refused causes.KeySpent s)
+      turned : (b : Bool) → nat_le signs (signs_left s) ≡ b → (if is_overspent sealer then refused causes.KeySpent s else after) ≡ (if b then after else refused causes.KeySpent s)
       turned true is =
           let few = leb-true _ _ is in
           let within = signer.within in
-          let e : nat_lt (2 ^ levels_of s.sealer.key.height) (s.sealer.key.next + signs) ≡ false = le-ltb _ _ (omega (arith, few, within)) in
+          let e : nat_lt (signatures_by s.sealer.key.height) (s.sealer.key.next + signs) ≡ false = le-ltb _ _ (omega (arith, few, within)) in
           rw (over, e) refl
       turned false is =
           let many = leb-false _ _ is in
           let within = signer.within in
-          let e : nat_lt (2 ^ levels_of s.sealer.key.height) (s.sealer.key.next + signs) ≡ true = lt-ltb _ _ (omega (arith, many, within)) in
+          let e : nat_lt (signatures_by s.sealer.key.height) (s.sealer.key.next + signs) ≡ true = lt-ltb _ _ (omega (arith, many, within)) in
           rw (over, e) refl
 
   module _ (s : State S) (g : Going S) (owed : Owed) (more : ℕ) (signer : IsSigner s) (so_far : g.state.sealer ≡ spent_many more s.sealer) (spends : (carried R owed g).state.sealer ≡ spent_many owed.signs g.state.sealer) where
     abbrev counted : Outcome S → Type 0
-    counted after = (if is_overspent (carried R owed g).state.sealer then refused causes.KeySpent s else after) ≡ (if nat_le (more + owed.signs) (leaves_of s) then after else refused causes.KeySpent s)
+    counted after = (if is_overspent (carried R owed g).state.sealer then refused causes.KeySpent s else after) ≡ (if nat_le (more + owed.signs) (signs_left s) then after else refused causes.KeySpent s)
 
     judged_first : (after : Outcome S) → counted after
     judged_first after =

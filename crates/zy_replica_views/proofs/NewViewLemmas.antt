@@ -19,7 +19,7 @@ use Rattle.zy_change.specs.Owing.{Onward, Pens, accept as accept_owed, accepting
 use Rattle.zy_change.specs.Views.{certificate_of, is_accepted, leads}
 use Rattle.zy_change.specs.Confirming.{is_over, new_view_judged, new_view_owes}
 use Rattle.zy_change.specs.Judging.{chosen_in}
-use Rattle.zy_table.specs.State.{State, leaves_of, own_view}
+use Rattle.zy_table.specs.State.{State, signs_left, own_view}
 use Rattle.zy_table.specs.Deeds.{Going, Outcome, begin, refused}
 use Rattle.zy_table.specs.Leaving.{accept, leave_alone, report_of}
 use Rattle.zy_table.specs.Beginning.{arrive, certify, finished}
@@ -141,9 +141,9 @@ module _ {S : Type 0} (R : Rules S) (s : State S) (new : Signed New) (owed : Owe
         by true = refl
         by false = refl
 
-    -- the leaves that it takes
-    pub confirm_leaves : (e : Ending) → ending_of R s 0 owed ≡ Ok e → one_if (nat_lt (own_view s) new.stmt.view.0) + 1 ≤ leaves_of s
-    confirm_leaves e same = let all = signs_within R s (0 + owed.signs) owed e same in let signs = arrival.signs chosen some in omega (arith, all, signs)
+    -- the signatures that it takes
+    pub confirm_left : (e : Ending) → ending_of R s 0 owed ≡ Ok e → one_if (nat_lt (own_view s) new.stmt.view.0) + 1 ≤ signs_left s
+    confirm_left e same = let all = signs_within R s (0 + owed.signs) owed e same in let signs = arrival.signs chosen some in omega (arith, all, signs)
 
     module _ (ready : IsReady s) (signer : IsSigner s) where
       new_end : IsEnd s owed.signs owed (confirmed R s new chosen)
@@ -206,11 +206,11 @@ for_all Q (Err e) is = tt
 -- ---- a view is left for
 
 module _ {S : Type 0} (R : Rules S) (view : View) (g : Going S) where
-  pub arrived_leaves : one_if (nat_lt (own_view g.state) view.0) + 1 ≤ leaves_of g.state → 1 ≤ leaves_of (arrive R view g).state
+  pub arrived_left : one_if (nat_lt (own_view g.state) view.0) + 1 ≤ signs_left g.state → 1 ≤ signs_left (arrive R view g).state
   unfolding leave_alone
-  arrived_leaves = by (nat_lt (own_view g.state) view.0)
+  arrived_left = by (nat_lt (own_view g.state) view.0)
     where
-      by : (b : Bool) → one_if b + 1 ≤ leaves_of g.state → 1 ≤ leaves_of (if b then leave_alone R view g else g).state
+      by : (b : Bool) → one_if b + 1 ≤ signs_left g.state → 1 ≤ signs_left (if b then leave_alone R view g else g).state
       by true few = omega (arith, few)
       by false few = few
 

@@ -36,7 +36,7 @@ use Rattle.zy_change.specs.declared.kept.Waiting.{Waiting}
 use Rattle.zy_change.specs.Fit.{IsCertified, IsFit}
 use Rattle.zy_table.specs.declared.deeds.Act.TheVariants.{Adopts}
 use Rattle.zy_table.specs.declared.deeds.Got.{Got}
-use Rattle.zy_table.specs.State.{State, leaves_of}
+use Rattle.zy_table.specs.State.{State, signs_left}
 use Rattle.zy_table.specs.Deeds.{act, begin, ends, refused}
 use Rattle.zy_table.specs.Adopting.{checkpoints_between, common_with, gots_of, taken_over}
 use Rattle.zy_table.specs.Leaving.{goes}
@@ -217,16 +217,16 @@ module _ {S : Type 0} (R : Rules S) (s : State S) (cert : ViewCert) (chosen : Ch
       ∙ ap (λ (n : ℕ). length (checkpoints_between from.kept.interval n chosen.place.0)) from_stable
       ∙ ap (λ (n : ℕ). length (checkpoints_between n told.stable_place.0 chosen.place.0)) from_interval
 
-  -- it takes as many leaves
-  begun_leaves : length (checkpoints_between s.kept.interval told.stable_place.0 chosen.place.0) ≤ leaves_of s → length (checkpoints_between begun.kept.interval begun.board.stable.place.0 chosen.place.0) ≤ leaves_of begun
-  begun_leaves few =
-      subst (λ (x : State S). length (checkpoints_between x.kept.interval x.board.stable.place.0 chosen.place.0) ≤ leaves_of x) (sym with_is)
-      (subst (λ (n : ℕ). length (checkpoints_between (taken_over (stretch_of told) chosen.place.0 from.kept).interval n chosen.place.0) ≤ leaves_of from) (sym from_stable)
-      (subst (λ (n : ℕ). length (checkpoints_between n told.stable_place.0 chosen.place.0) ≤ leaves_of from) (sym (taken_interval (stretch_of told) chosen.place.0 from.kept ∙ from_interval)) few))
+  -- it takes as many signatures
+  begun_left : length (checkpoints_between s.kept.interval told.stable_place.0 chosen.place.0) ≤ signs_left s → length (checkpoints_between begun.kept.interval begun.board.stable.place.0 chosen.place.0) ≤ signs_left begun
+  begun_left few =
+      subst (λ (x : State S). length (checkpoints_between x.kept.interval x.board.stable.place.0 chosen.place.0) ≤ signs_left x) (sym with_is)
+      (subst (λ (n : ℕ). length (checkpoints_between (taken_over (stretch_of told) chosen.place.0 from.kept).interval n chosen.place.0) ≤ signs_left from) (sym from_stable)
+      (subst (λ (n : ℕ). length (checkpoints_between n told.stable_place.0 chosen.place.0) ≤ signs_left from) (sym (taken_interval (stretch_of told) chosen.place.0 from.kept ∙ from_interval)) few))
 
-  pub begun_enough : (core : State S) (place : Place) → core ≡ begun → place ≡ chosen.place → length (checkpoints_between s.kept.interval told.stable_place.0 chosen.place.0) ≤ leaves_of s
-      → length (checkpoints_between core.kept.interval core.board.stable.place.0 place.0) ≤ leaves_of core
-  begun_enough core place is place_is few = rw (is, place_is) (begun_leaves few)
+  pub begun_enough : (core : State S) (place : Place) → core ≡ begun → place ≡ chosen.place → length (checkpoints_between s.kept.interval told.stable_place.0 chosen.place.0) ≤ signs_left s
+      → length (checkpoints_between core.kept.interval core.board.stable.place.0 place.0) ≤ signs_left core
+  begun_enough core place is place_is few = rw (is, place_is) (begun_left few)
 
   pub begun_up : (core : State S) (view : View) (place common : Place) (gots : List Got) → core ≡ begun → view ≡ cert.new.stmt.view → place ≡ chosen.place → common.0 ≡ common_with (stretch_of told) chosen.place.0 from.kept → gots ≡ gots_of R (stretch_of told) chosen.place.0 from.kept
       → respond_up_to R place.0 (act (Adopts view common gots) (begin core)) ≡ take_up R cert chosen told (begin from)
@@ -236,10 +236,10 @@ module _ {S : Type 0} (R : Rules S) (s : State S) (cert : ViewCert) (chosen : Ch
       (ap (λ (n : ℕ). respond_up_to R chosen.place.0 (act (Adopts cert.new.stmt.view (record { 0 = n }) (gots_of R (stretch_of told) chosen.place.0 from.kept)) (begin begun))) common_is)
 
   -- the leaves are counted before
-  pub installed_in : (n : ℕ) → n ≡ length (checkpoints_between s.kept.interval told.stable_place.0 chosen.place.0) → nat_le n (leaves_of s) ≡ true
+  pub installed_in : (n : ℕ) → n ≡ length (checkpoints_between s.kept.interval told.stable_place.0 chosen.place.0) → nat_le n (signs_left s) ≡ true
       → ends Taken (take_up R cert chosen told (begin from)) ≡ counted s (signs_taken from told chosen.place) (goes Taken (take_up R cert chosen told (begin from)))
-  installed_in n is few = let e : nat_le (signs_taken from told chosen.place) (leaves_of s) ≡ true = ap (λ (m : ℕ). nat_le m (leaves_of s)) (from_signs ∙ sym is) ∙ few in rw e refl
+  installed_in n is few = let e : nat_le (signs_taken from told chosen.place) (signs_left s) ≡ true = ap (λ (m : ℕ). nat_le m (signs_left s)) (from_signs ∙ sym is) ∙ few in rw e refl
 
-  pub installed_spent : (n : ℕ) → n ≡ length (checkpoints_between s.kept.interval told.stable_place.0 chosen.place.0) → nat_le n (leaves_of s) ≡ false
+  pub installed_spent : (n : ℕ) → n ≡ length (checkpoints_between s.kept.interval told.stable_place.0 chosen.place.0) → nat_le n (signs_left s) ≡ false
       → refused causes.KeySpent s ≡ counted s (signs_taken from told chosen.place) (goes Taken (take_up R cert chosen told (begin from)))
-  installed_spent n is many = let e : nat_le (signs_taken from told chosen.place) (leaves_of s) ≡ false = ap (λ (m : ℕ). nat_le m (leaves_of s)) (from_signs ∙ sym is) ∙ many in rw e refl
+  installed_spent n is many = let e : nat_le (signs_taken from told chosen.place) (signs_left s) ≡ false = ap (λ (m : ℕ). nat_le m (signs_left s)) (from_signs ∙ sym is) ∙ many in rw e refl

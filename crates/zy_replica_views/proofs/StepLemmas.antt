@@ -1,5 +1,5 @@
 -- A step that owes what can make a replica leave comes to the row, as it was judged.
-use Rattle.std.proofs.Common.{◌≡◌, ◌≤◌, ◌+◌, ◌-◌, ◌^◌, ℕ, Option, Some, None, Ok, Err, refl, sym, ap, ◌∙◌, arith}
+use Rattle.std.proofs.Common.{◌≡◌, ◌≤◌, ◌+◌, ◌-◌, ℕ, Option, Some, None, Ok, Err, refl, sym, ap, ◌∙◌, arith}
 use Rattle.std.specs.Prelude.{nat_le, if◌then◌else◌, Bool, true, false}
 use Rattle.std.specs.Option.{ForSome}
 use Rattle.std.proofs.lemmas.Bool.{leb-true}
@@ -9,13 +9,12 @@ use Rattle.zy_base.specs.declared.cause.Cause.TheVariants as causes
 use Rattle.zy_base.specs.declared.ids.View.{View}
 use Rattle.zy_base.specs.declared.step.Answer.{Answer}
 use Rattle.zy_base.specs.declared.step.Answer.TheVariants.{Taken, Held, Refused}
-use Rattle.zy_lms.specs.Height.{levels_of}
-use Rattle.zy_seal.specs.Sealing.{SealerState}
+use Rattle.zy_seal.specs.Sealing.{SealerState, signatures_by, left_of}
 use Rattle.zy_change.specs.declared.owed.Adoption.{Adoption}
 use Rattle.zy_change.specs.declared.owed.Owed.{Owed}
 use Rattle.zy_table.specs.declared.deeds.Verdict.{Verdict}
 use Rattle.zy_table.specs.declared.deeds.Verdict.TheVariants as verdicts
-use Rattle.zy_table.specs.State.{State, leaves_of}
+use Rattle.zy_table.specs.State.{State, signs_left}
 use Rattle.zy_table.specs.Deeds.{Going, Outcome, refused}
 use Rattle.zy_table.specs.Leaving.{Attempt}
 use Rattle.zy_table.specs.Beginning.{certify, finished}
@@ -29,31 +28,31 @@ use Rattle.zy_replica_views.specs.Entering.{CanEnd, EndsAs, IsStep, ending_as, e
 use Rattle.zy_replica_views.proofs.CarriedLemmas.{carried_keeps, takes_up}
 use Rattle.zy_replica_views.proofs.EndLemmas.{AreEntries, IsEnd, ends_as, ends_can, ends_refused}
 
--- ---- what goes on signs no more than there are leaves
+-- ---- what goes on signs no more than is left
 
 module _ {S : Type 0} (R : Rules S) (s : State S) (signs : ℕ) (owed : Owed) (e : Ending) where
-  enough : (n : ℕ) (x : Ending) → unless_spent n (leaves_of s) x ≡ Ok e → n ≤ leaves_of s
-  enough n x = by (nat_le n (leaves_of s)) refl
+  enough : (n : ℕ) (x : Ending) → unless_spent n (signs_left s) x ≡ Ok e → n ≤ signs_left s
+  enough n x = by (nat_le n (signs_left s)) refl
     where
-      by : (b : Bool) → nat_le n (leaves_of s) ≡ b → (if b then Ok x else Err causes.KeySpent) ≡ Ok e → n ≤ leaves_of s
+      by : (b : Bool) → nat_le n (signs_left s) ≡ b → (if b then Ok x else Err causes.KeySpent) ≡ Ok e → n ≤ signs_left s
       by true few same = leb-true _ _ few
       by false many same = absurd cc
 
-  by_verdict : (a : Adoption) (verdict : Verdict) → ending_by s signs owed.leave a verdict ≡ Ok e → signs ≤ leaves_of s
+  by_verdict : (a : Adoption) (verdict : Verdict) → ending_by s signs owed.leave a verdict ≡ Ok e → signs ≤ signs_left s
   by_verdict a (verdicts.Refuse cause) same = absurd cc
   by_verdict a verdicts.Take same = let few = enough (signs + signs_taken s a.told a.chosen.place) Begins same in omega (arith, few)
   by_verdict a verdicts.Wait same = let few = enough (signs + signs_after s owed.leave a) Waits same in omega (arith, few)
 
-  by_adopt : (adopt : Option Adoption) → ending_with R s signs owed.leave adopt ≡ Ok e → signs ≤ leaves_of s
+  by_adopt : (adopt : Option Adoption) → ending_with R s signs owed.leave adopt ≡ Ok e → signs ≤ signs_left s
   by_adopt None same = enough signs Rests same
   by_adopt (Some a) same = by_verdict a (verdict_on R s a) same
 
-  by_answer : (answer : Answer) → ending_as R s signs owed answer ≡ Ok e → signs ≤ leaves_of s
+  by_answer : (answer : Answer) → ending_as R s signs owed answer ≡ Ok e → signs ≤ signs_left s
   by_answer (Refused cause) same = absurd cc
   by_answer Taken same = by_adopt owed.adopt same
   by_answer Held same = by_adopt owed.adopt same
 
-  pub signs_within : ending_as R s signs owed owed.answer ≡ Ok e → signs ≤ leaves_of s
+  pub signs_within : ending_as R s signs owed owed.answer ≡ Ok e → signs ≤ signs_left s
   signs_within same = by_answer owed.answer same
 
 -- ---- a step
@@ -93,10 +92,10 @@ module _ {S : Type 0} (R : Rules S) (s : State S) (more : ℕ) (attempt : Attemp
 
   module _ (e : Ending) (same : ending_of R s more owed ≡ Ok e) where
     -- there are leaves for what is owed
-    pub step_leaves : owed.signs ≤ leaves_of g.state
-    step_leaves =
+    pub step_left : owed.signs ≤ signs_left g.state
+    step_left =
         let all = signs_within R s (more + owed.signs) owed e same in
-        let left : leaves_of g.state ≡ 2 ^ levels_of s.sealer.key.height - (s.sealer.key.next + more) = ap (λ (sealer : SealerState). 2 ^ levels_of sealer.key.height - sealer.key.next) step.so_far.sealer in
+        let left : signs_left g.state ≡ signatures_by s.sealer.key.height - (s.sealer.key.next + more) = ap (λ (sealer : SealerState). left_of sealer) step.so_far.sealer in
         omega (arith, all, left)
 
     pub step_can : CanEnd R e end

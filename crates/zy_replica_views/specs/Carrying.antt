@@ -17,7 +17,7 @@ use Rattle.zy_change.specs.declared.kept.Accepted.{Accepted}
 use Rattle.zy_change.specs.declared.kept.Chosen.{Chosen}
 use Rattle.zy_change.specs.declared.owed.Owed.{Owed}
 use Rattle.zy_change.specs.Views.{with_change, began_for}
-use Rattle.zy_table.specs.State.{State, leaves_of}
+use Rattle.zy_table.specs.State.{State, signs_left}
 use Rattle.zy_table.specs.Deeds.{Going, Outcome, refused, ends}
 use Rattle.zy_table.specs.Leaving.{Attempt, goes, leave_alone, accept, give_new, sealed_new}
 use Rattle.zy_table.specs.Changes.{send_cert}
@@ -63,7 +63,7 @@ attempted R owed g = attempted_as R owed.answer owed g
 -- where enough leaves are left for all that the step signs
 abbrev pub ended : {S : Type 0} → Rules S → State S → ℕ → Answer → Owed → Going S → Outcome S
 ended R s signs answer owed g =
-    if nat_le signs (leaves_of s) then ends answer (carried R owed g) else refused causes.KeySpent s
+    if nat_le signs (signs_left s) then ends answer (carried R owed g) else refused causes.KeySpent s
 
 abbrev pub concluded_as : {S : Type 0} → Rules S → State S → ℕ → Answer → Owed → Going S → Outcome S
 concluded_as R s signs (Refused cause) owed g = refused cause s

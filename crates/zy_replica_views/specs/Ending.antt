@@ -21,7 +21,7 @@ use Rattle.zy_change.specs.Owing.{Pens}
 use Rattle.zy_change.specs.Confirming.{new_view_owes, began_owes, view_cert_owes}
 use Rattle.zy_table.specs.declared.deeds.Verdict.{Verdict}
 use Rattle.zy_table.specs.declared.deeds.Verdict.TheVariants as verdicts
-use Rattle.zy_table.specs.State.{State, leaves_of}
+use Rattle.zy_table.specs.State.{State, signs_left}
 use Rattle.zy_table.specs.Deeds.{Going, Outcome, begin, refused, ends}
 use Rattle.zy_table.specs.Adopting.{verdict_of}
 use Rattle.zy_table.specs.Leaving.{Attempt, accept, goes}
@@ -35,14 +35,14 @@ use Rattle.zy_replica_views.specs.Signing.{CanTake, signs_taken, signs_waiting}
 abbrev pub verdict_on : {S : Type 0} → Rules S → State S → Adoption → Verdict
 verdict_on R s a = verdict_of R s.kept s.board.stable a.told a.chosen.place a.chosen.head
 
--- a step whose leaves were counted
+-- a step whose signatures were counted
 abbrev pub outcome_of : {S : Type 0} → State S → Attempt S → Outcome S
 outcome_of s (Err cause) = refused cause s
 outcome_of s (Ok end) = ends end.0 end.1
 
 -- that signs so many statements
 abbrev pub counted : {S : Type 0} → State S → ℕ → Attempt S → Outcome S
-counted s signs attempt = if nat_le signs (leaves_of s) then outcome_of s attempt else refused causes.KeySpent s
+counted s signs attempt = if nat_le signs (signs_left s) then outcome_of s attempt else refused causes.KeySpent s
 
 -- A step that began at a state, has come to its end but for the adoption, and signs so many statements until then. With
 -- the adoption it comes to this.

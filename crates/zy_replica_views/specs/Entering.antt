@@ -23,7 +23,7 @@ use Rattle.zy_change.specs.Fit.{IsAccepted}
 use Rattle.zy_change.specs.Views.{certificate}
 use Rattle.zy_table.specs.declared.deeds.Verdict.{Verdict}
 use Rattle.zy_table.specs.declared.deeds.Verdict.TheVariants as verdicts
-use Rattle.zy_table.specs.State.{State, leaves_of, own_view}
+use Rattle.zy_table.specs.State.{State, signs_left, own_view}
 use Rattle.zy_table.specs.Deeds.{Going, Outcome, ends}
 use Rattle.zy_table.specs.Adopting.{verdict_of}
 use Rattle.zy_table.specs.Leaving.{Attempt, goes}
@@ -47,17 +47,17 @@ abbrev pub signs_after : {S : Type 0} → State S → Option View → Adoption �
 signs_after s leave a =
     (if nat_lt (view_after s leave) a.view.0 then 1 else 0) + (if is_some (fetch_said s (wanted_of a.told)) then 0 else 1)
 
--- there have to be leaves for all that the step signs
+-- enough signatures have to be left for all that the step signs
 abbrev pub unless_spent : ℕ → ℕ → Ending → Result Ending Cause
-unless_spent signs leaves ending = if nat_le signs leaves then Ok ending else Err causes.KeySpent
+unless_spent signs left ending = if nat_le signs left then Ok ending else Err causes.KeySpent
 
 abbrev pub ending_by : {S : Type 0} → State S → ℕ → Option View → Adoption → Verdict → Result Ending Cause
 ending_by s signs leave a (verdicts.Refuse cause) = Err cause
-ending_by s signs leave a verdicts.Take = unless_spent (signs + signs_taken s a.told a.chosen.place) (leaves_of s) TakesUp
-ending_by s signs leave a verdicts.Wait = unless_spent (signs + signs_after s leave a) (leaves_of s) Waits
+ending_by s signs leave a verdicts.Take = unless_spent (signs + signs_taken s a.told a.chosen.place) (signs_left s) TakesUp
+ending_by s signs leave a verdicts.Wait = unless_spent (signs + signs_after s leave a) (signs_left s) Waits
 
 abbrev pub ending_with : {S : Type 0} → Rules S → State S → ℕ → Option View → Option Adoption → Result Ending Cause
-ending_with R s signs leave None = unless_spent signs (leaves_of s) Rests
+ending_with R s signs leave None = unless_spent signs (signs_left s) Rests
 ending_with R s signs leave (Some a) = ending_by s signs leave a (verdict_on R s a)
 
 abbrev pub ending_as : {S : Type 0} → Rules S → State S → ℕ → Owed → Answer → Result Ending Cause
@@ -109,14 +109,14 @@ is_waiting TakesUp = false
 is_waiting Waits = true
 
 -- The new view that was confirmed can begin, or its certificate wait: enough confirmations of it are kept, its choice was
--- judged so, and there are leaves for what that signs.
+-- judged so, and enough signatures are left for what that signs.
 pub record CanCertify {S : Type 0} (R : Rules S) (waits : Bool) (g : Going S) : Type 0 where
   pub enough : IsSome (certificate g.state.views)
   pub later : (cert : ViewCert) → certificate g.state.views ≡ Some cert → own_view g.state ≤ cert.new.stmt.view.0
   pub judged : (cert : ViewCert) (chosen : Chosen) (provider : Signed Change) → g.state.views.accepted ≡ Some (record { new = cert.new; chosen = chosen }) → slice_get cert.new.stmt.changes chosen.provider ≡ Some provider
       → verdict_of R g.state.kept g.state.board.stable provider.stmt.told chosen.place chosen.head ≡ (if waits then verdicts.Wait else verdicts.Take)
-  pub leaves : (cert : ViewCert) (chosen : Chosen) (provider : Signed Change) → g.state.views.accepted ≡ Some (record { new = cert.new; chosen = chosen }) → slice_get cert.new.stmt.changes chosen.provider ≡ Some provider
-      → signs_by g.state cert.new.stmt.view provider.stmt.told chosen.place waits ≤ leaves_of g.state
+  pub left : (cert : ViewCert) (chosen : Chosen) (provider : Signed Change) → g.state.views.accepted ≡ Some (record { new = cert.new; chosen = chosen }) → slice_get cert.new.stmt.changes chosen.provider ≡ Some provider
+      → signs_by g.state cert.new.stmt.view provider.stmt.told chosen.place waits ≤ signs_left g.state
 
 abbrev pub CanEnd : {S : Type 0} → Rules S → Ending → Going S → Type 0
 CanEnd R Rests g = Unit {0}

@@ -6,8 +6,7 @@ use Rattle.zy_base.specs.Machine.{Rules}
 use Rattle.zy_base.specs.declared.ids.Party.TheVariants.{Replica}
 use Rattle.zy_base.specs.declared.ids.View.{View}
 use Rattle.zy_base.specs.declared.step.Answer.TheVariants.{Taken}
-use Rattle.zy_lms.specs.Height.{levels_of}
-use Rattle.zy_seal.specs.Sealing.{SealerState}
+use Rattle.zy_seal.specs.Sealing.{SealerState, signatures_by}
 use Rattle.zy_parts.specs.declared.signed.Signed.{Signed}
 use Rattle.zy_parts.specs.declared.reports.Change.{Change}
 use Rattle.zy_choose.specs.declared.choice.Choice.TheVariants as choices
@@ -24,7 +23,7 @@ use Rattle.zy_table.specs.Leaving.{Attempt, report_of}
 use Rattle.zy_table.specs.Beginning.{begun, certify, confirms}
 use Rattle.zy_replica_views.specs.Carrying.{leave_if, carried, attempted}
 
--- with so many leaves spent
+-- with so many signatures spent
 abbrev pub spent_many : ℕ → SealerState → SealerState
 spent_many count sealer = record sealer { key = record sealer.key { next = sealer.key.next + count } }
 
@@ -92,7 +91,7 @@ IsChangeOwed s vote owed = (pens : Pens) → owed ≡ change_owes s.views vote (
 abbrev pub SignsAsItself : {S : Type 0} → State S → Type 0
 SignsAsItself s = s.sealer.me ≡ Replica s.views.me
 
--- it signs as itself, by a leaf that it has or the one behind the last
+-- it signs as itself, by a signature that it has left or the one behind the last
 pub record IsSigner {S : Type 0} (s : State S) : Type 0 where
   pub by : SignsAsItself s
-  pub within : s.sealer.key.next ≤ 2 ^ levels_of s.sealer.key.height
+  pub within : s.sealer.key.next ≤ signatures_by s.sealer.key.height

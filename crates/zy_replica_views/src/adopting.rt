@@ -11,7 +11,7 @@ ghost use Rattle.zy_change.specs.Views.{certificate};
 ghost use Rattle.zy_table.specs.Sending.{CanBeSent};
 ghost use Rattle.zy_table.specs.declared.deeds.AnyFrame.TheVariants as sent;
 ghost use Rattle.zy_table.specs.declared.deeds.Verdict.TheVariants as verdicts;
-ghost use Rattle.zy_table.specs.State.{leaves_of, own_view};
+ghost use Rattle.zy_table.specs.State.{signs_left, own_view};
 ghost use Rattle.zy_table.specs.Adopting.{verdict_of};
 ghost use Rattle.zy_table.specs.Leaving.{goes};
 ghost use Rattle.zy_table.specs.Beginning.{adopt as adopting, certify as certifying};
@@ -37,7 +37,7 @@ pub fn adopt<M: Machine>(
     requires sends { CanBeSent (sent.View (frames.ViewCert cert)) }
     requires later { own_view progress.state ≤ cert.new.stmt.view.0 }
     requires judged { (provider : Signed Change) → slice_get cert.new.stmt.changes chosen.provider ≡ Some provider → verdict_of M.rules progress.state.kept progress.state.board.stable provider.stmt.told chosen.place chosen.head ≡ (if waits then verdicts.Wait else verdicts.Take) }
-    requires leaves { (provider : Signed Change) → slice_get cert.new.stmt.changes chosen.provider ≡ Some provider → signs_by progress.state cert.new.stmt.view provider.stmt.told chosen.place waits ≤ leaves_of progress.state }
+    requires left { (provider : Signed Change) → slice_get cert.new.stmt.changes chosen.provider ≡ Some provider → signs_by progress.state cert.new.stmt.view provider.stmt.told chosen.place waits ≤ signs_left progress.state }
     ensures { IfOk result (λ m. adopting M.rules cert chosen progress ≡ goes m.answer (record { state = m.state; deeds = m.deeds })) }
 {
     let _own = view_of(&progress.core);
@@ -75,7 +75,7 @@ pub fn certify<M: Machine>(progress: Progress<M>, waits: bool) -> Result<Moved<M
     requires enough { IsSome (certificate progress.state.views) }
     requires later { (cert : Certificate) → certificate progress.state.views ≡ Some cert → own_view progress.state ≤ cert.new.stmt.view.0 }
     requires judged { (cert : Certificate) (chosen : Choice) (provider : Signed Change) → progress.state.views.accepted ≡ Some (record { new = cert.new; chosen = chosen }) → slice_get cert.new.stmt.changes chosen.provider ≡ Some provider → verdict_of M.rules progress.state.kept progress.state.board.stable provider.stmt.told chosen.place chosen.head ≡ (if waits then verdicts.Wait else verdicts.Take) }
-    requires leaves { (cert : Certificate) (chosen : Choice) (provider : Signed Change) → progress.state.views.accepted ≡ Some (record { new = cert.new; chosen = chosen }) → slice_get cert.new.stmt.changes chosen.provider ≡ Some provider → signs_by progress.state cert.new.stmt.view provider.stmt.told chosen.place waits ≤ leaves_of progress.state }
+    requires left { (cert : Certificate) (chosen : Choice) (provider : Signed Change) → progress.state.views.accepted ≡ Some (record { new = cert.new; chosen = chosen }) → slice_get cert.new.stmt.changes chosen.provider ≡ Some provider → signs_by progress.state cert.new.stmt.view provider.stmt.told chosen.place waits ≤ signs_left progress.state }
     ensures { IfOk result (λ m. certifying M.rules m.answer progress ≡ goes m.answer (record { state = m.state; deeds = m.deeds })) }
 {
     let Progress { core, deeds } = progress;

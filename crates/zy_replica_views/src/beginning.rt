@@ -8,7 +8,7 @@ ghost use Rattle.zy_change.specs.Fit.{IsCertified};
 ghost use Rattle.zy_table.specs.Sending.{CanBeSent};
 ghost use Rattle.zy_table.specs.declared.deeds.AnyFrame.TheVariants as sent;
 ghost use Rattle.zy_table.specs.declared.deeds.Verdict.TheVariants.{Take};
-ghost use Rattle.zy_table.specs.State.{leaves_of, own_view};
+ghost use Rattle.zy_table.specs.State.{signs_left, own_view};
 ghost use Rattle.zy_table.specs.Adopting.{checkpoints_between, verdict_of};
 ghost use Rattle.zy_table.specs.Beginning.{begin_view as beginning, take_up as taking_up};
 
@@ -52,7 +52,7 @@ pub fn take_up<M: Machine>(
     requires sends { CanBeSent (sent.View (frames.ViewCert cert)) }
     requires later { own_view progress.state ≤ cert.new.stmt.view.0 }
     requires takes { (provider : Signed Change) → slice_get cert.new.stmt.changes chosen.provider ≡ Some provider → verdict_of M.rules progress.state.kept progress.state.board.stable provider.stmt.told chosen.place chosen.head ≡ Take }
-    requires leaves { (provider : Signed Change) → slice_get cert.new.stmt.changes chosen.provider ≡ Some provider → length (checkpoints_between progress.state.kept.interval (beginning M.rules cert chosen provider.stmt.told progress).state.board.stable.place.0 chosen.place.0) ≤ leaves_of progress.state }
+    requires left { (provider : Signed Change) → slice_get cert.new.stmt.changes chosen.provider ≡ Some provider → length (checkpoints_between progress.state.kept.interval (beginning M.rules cert chosen provider.stmt.told progress).state.board.stable.place.0 chosen.place.0) ≤ signs_left progress.state }
     ensures { (provider : Signed Change) → slice_get cert.new.stmt.changes chosen.provider ≡ Some provider → IfOk result (λ g. g ≡ taking_up M.rules cert chosen provider.stmt.told progress) }
 {
     let place = chosen.place;

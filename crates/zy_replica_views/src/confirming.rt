@@ -10,7 +10,7 @@ ghost use Rattle.zy_change.specs.declared.owed.Adoption.{Adoption};
 ghost use Rattle.zy_change.specs.Fit.{IsAccepted, IsCertified, IsFit, IsKeptBegan};
 ghost use Rattle.zy_table.specs.Sending.{CanBeSent};
 ghost use Rattle.zy_table.specs.declared.deeds.AnyFrame.TheVariants as sent;
-ghost use Rattle.zy_table.specs.State.{leaves_of, own_view};
+ghost use Rattle.zy_table.specs.State.{signs_left, own_view};
 ghost use Rattle.zy_table.specs.Beginning.{arrive as arriving, finished};
 ghost use Rattle.zy_table.specs.Leaving.{accept as accepting};
 ghost use Rattle.zy_replica_state.specs.Ready.{IsReady};
@@ -50,7 +50,7 @@ fn confirm<M: Machine>(
 ) -> Result<Progress<M>, Want>
     requires accepted { IsAccepted progress.state.views.counts progress.state.views.interval (record { new = new; chosen = chosen }) }
     requires sends { CanBeSent (sent.View (frames.NewView new)) }
-    requires leaves { (if nat_lt (own_view progress.state) new.stmt.view.0 then 1 else 0) + 1 ≤ leaves_of progress.state }
+    requires left { (if nat_lt (own_view progress.state) new.stmt.view.0 then 1 else 0) + 1 ≤ signs_left progress.state }
     ensures { IfOk result (λ g. g ≡ accepting M.rules (record { new = new; chosen = chosen }) (arriving M.rules new.stmt.view progress)) }
 {
     let view = new.stmt.view;

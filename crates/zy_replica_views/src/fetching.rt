@@ -5,7 +5,7 @@ ghost use Rattle.zy_base.specs.declared.ids.Place.{Place as PlaceThere};
 ghost use Rattle.zy_parts.specs.Reports.{IsFetchInRange};
 ghost use Rattle.zy_parts.specs.declared.reports.Change.{Change};
 ghost use Rattle.zy_parts.specs.declared.signed.Signed.{Signed as IsSigned};
-ghost use Rattle.zy_vframes.specs.ViewFrames.{greatest_snapshot};
+ghost use Rattle.zy_chain.specs.Sizes.{greatest_snapshot};
 ghost use Rattle.zy_vframes.specs.declared.frame.ViewFrame.TheVariants as frames;
 ghost use Rattle.zy_check.specs.States.{IsFaultOf, fetch_cause, frame_cause};
 ghost use Rattle.zy_exec.specs.Showing.{point_in};
@@ -15,7 +15,7 @@ ghost use Rattle.zy_change.specs.declared.kept.Waiting.{Waiting};
 ghost use Rattle.zy_change.specs.Fit.{IsFit};
 ghost use Rattle.zy_table.specs.Adopting.{checkpoints_between};
 ghost use Rattle.zy_table.specs.Sending.{CanBeSent};
-ghost use Rattle.zy_table.specs.State.{leaves_of};
+ghost use Rattle.zy_table.specs.State.{signs_left};
 ghost use Rattle.zy_table.specs.declared.deeds.AnyFrame.TheVariants as sent;
 ghost use Rattle.zy_table.specs.Beginning.{finished, take_up, wanted_of};
 ghost use Rattle.zy_table.specs.Deeds.{begin, ends};
@@ -69,7 +69,7 @@ pub fn fetch<M: Machine>(core: Core<M>, vote: &Signed<Fetch>) -> Result<Moved<M>
     requires { IsFetchInRange vote.now.stmt }
     ensures { IfOk result (λ m. m ≡ finished M.rules core (fetch_row M.rules core vote.now)) }
 {
-    let can_sign = core.has_leaves(0);
+    let can_sign = core.can_sign(0);
     prove!(can_sign);
     match state_frame(&core, &vote.stmt) {
         Ok(frame) => Ok(
@@ -185,7 +185,7 @@ fn begin_from<M: Machine>(
     requires view { (w : Waiting) (provider : IsSigned Change) → IsAwaited core.views.waiting w provider → view ≡ w.cert.new.stmt.view }
     requires place { (w : Waiting) (provider : IsSigned Change) → IsAwaited core.views.waiting w provider → place ≡ w.chosen.place }
     requires small { place.0 < 2 ^ 62 }
-    requires leaves { (w : Waiting) (provider : IsSigned Change) → IsAwaited core.views.waiting w provider → length (checkpoints_between core.kept.interval provider.stmt.told.stable_place.0 w.chosen.place.0) ≤ leaves_of core }
+    requires left { (w : Waiting) (provider : IsSigned Change) → IsAwaited core.views.waiting w provider → length (checkpoints_between core.kept.interval provider.stmt.told.stable_place.0 w.chosen.place.0) ≤ signs_left core }
     ensures { (w : Waiting) (provider : IsSigned Change) → IsAwaited core.views.waiting w provider → IfOk result (λ m. m ≡ ends Taken (take_up M.rules w.cert w.chosen provider.stmt.told (begin (installed M.rules exec.base provider.stmt.told core)))) }
 {
     let (core, common, gots) = core.install(exec)?;
@@ -200,7 +200,7 @@ fn install_counted<M: Machine>(core: Core<M>, exec: Exec<M>) -> Result<Moved<M>,
     ensures { (w : Waiting) (provider : IsSigned Change) → IsAwaited core.views.waiting w provider → IfOk result (λ m. m ≡ installed_as M.rules core w provider.stmt.told exec) }
 {
     let (view, place, signs) = awaited(&core);
-    if core.has_leaves(signs) {
+    if core.can_sign(signs) {
         begin_from(core, exec, view, place)
     } else {
         core.not_heard(exec, Cause::KeySpent)

@@ -3,7 +3,7 @@
 ghost use Rattle.std.specs.Prelude.{◌≡◌, ◌+◌, ◌<◌, nat_le, length, true, IfOk};
 ghost use Rattle.std.specs.Option.{ForSome};
 ghost use Rattle.zy_parts.specs.Reports.{IsToldInRange};
-ghost use Rattle.zy_table.specs.State.{leaves_of};
+ghost use Rattle.zy_table.specs.State.{signs_left};
 ghost use Rattle.zy_table.specs.Adopting.{checkpoints_between};
 ghost use Rattle.zy_replica_state.specs.Ready.{IsReady};
 ghost use Rattle.zy_replica_views.specs.Follows.{IsSigner};
@@ -31,7 +31,7 @@ pub enum Ending {
 }
 
 /// How a step that owes this ends, where so many statements are signed besides; or why it is refused: its own cause, the
-/// cause against what is to be adopted, or `KeySpent` where there are fewer leaves than it signs in all.
+/// cause against what is to be adopted, or `KeySpent` where there are fewer signatures left than it makes in all.
 pub fn judge_owed<M: Machine>(
     core: &Core<M>,
     owed: &Owed,
@@ -56,7 +56,7 @@ pub(crate) fn is_signer<M: Machine>(core: &Core<M>) -> bool
     ensures signer { IsSigner core.now }
     ensures ready { IsReady core.now }
 {
-    core.has_leaves(0)
+    core.can_sign(0)
 }
 
 fn judge_end<M: Machine>(
@@ -118,19 +118,19 @@ fn unless_spent<M: Machine>(
     besides: u64,
     ending: Ending,
 ) -> Result<Ending, Cause>
-    ensures { result ≡ counted (more + signs + besides) (leaves_of core.now) ending }
+    ensures { result ≡ counted (more + signs + besides) (signs_left core.now) ending }
 {
-    if fits(core.leaves() as u64, more, signs, besides) {
+    if fits(core.signs_left() as u64, more, signs, besides) {
         Ok(ending)
     } else {
         Err(Cause::KeySpent)
     }
 }
 
-fn fits(leaves: u64, more: u64, signs: u64, besides: u64) -> bool
-    ensures { result ≡ nat_le (more + signs + besides) leaves }
+fn fits(left: u64, more: u64, signs: u64, besides: u64) -> bool
+    ensures { result ≡ nat_le (more + signs + besides) left }
 {
-    more <= leaves && signs <= leaves - more && besides <= leaves - more - signs
+    more <= left && signs <= left - more && besides <= left - more - signs
 }
 
 // The checkpoints of what is taken up, above what is stable then.

@@ -14,7 +14,7 @@ ghost use Rattle.zy_table.specs.declared.deeds.AnyFrame.TheVariants as any;
 ghost use Rattle.zy_table.specs.declared.deeds.To.TheVariants as tos;
 ghost use Rattle.zy_table.specs.declared.deeds.Act.TheVariants as acts;
 ghost use Rattle.zy_table.specs.declared.deeds.Body.TheVariants as bodies;
-ghost use Rattle.zy_table.specs.State.{own_view, leaves_of, spent, stood_of};
+ghost use Rattle.zy_table.specs.State.{own_view, signs_left, spent, stood_of};
 ghost use Rattle.zy_table.specs.Deeds.{act as acting, send_view as sending_view};
 ghost use Rattle.zy_table.specs.Leaving.{left_with, leave_alone as left_alone, sealed_change, sealed_new, give_new as given_new, accept as accepting};
 ghost use Rattle.zy_table.specs.Changes.{send_cert as sending_cert};
@@ -43,7 +43,7 @@ fn view_of<M: Machine>(core: &Core<M>) -> View
 
 // The report is signed and kept, and what waits in the own view is dropped. Beside it the signed report.
 fn leave_core<M: Machine>(core: Core<M>, view: View) -> Result<(Core<M>, Signed<Change>), Want>
-    requires leaf { 1 ≤ leaves_of core }
+    requires left { 1 ≤ signs_left core }
     requires above { own_view core < view.0 }
     requires range { view.0 < 2 ^ 62 }
     ensures core { IfOk result (λ r. r.0 ≡ spent (left_with view (sealed_change core view) core)) }
@@ -83,7 +83,7 @@ fn tell_change<M: Machine>(
 /// It leaves for a later view: its report is signed, kept and sent to all, and what waits in its own view is dropped.
 #[tactic(auto, unfolding(zy_table::specs::Leaving::leave_alone))]
 pub fn leave_alone<M: Machine>(progress: Progress<M>, view: View) -> Result<Progress<M>, Want>
-    requires leaf { 1 ≤ leaves_of progress.state }
+    requires left { 1 ≤ signs_left progress.state }
     requires above { own_view progress.state < view.0 }
     requires range { view.0 < 2 ^ 62 }
     ensures { IfOk result (λ g. g ≡ left_alone M.rules view progress) }
@@ -102,7 +102,7 @@ pub fn leave_alone<M: Machine>(progress: Progress<M>, view: View) -> Result<Prog
 
 // The reports that are kept for a view, signed by its primary.
 fn seal_new<M: Machine>(core: Core<M>, view: View) -> Result<(Core<M>, Signed<New>), Want>
-    requires leaf { 1 ≤ leaves_of core }
+    requires left { 1 ≤ signs_left core }
     requires gathers { is_gathering core.views view.0 ≡ true }
     ensures core { IfOk result (λ r. r.0 ≡ spent core) }
     ensures new { IfOk result (λ r. r.1 ≡ sealed_new core view) }
@@ -138,7 +138,7 @@ fn give_new<M: Machine>(
     progress: Progress<M>,
     view: View,
 ) -> Result<(Progress<M>, Signed<New>), Want>
-    requires leaf { 1 ≤ leaves_of progress.state }
+    requires left { 1 ≤ signs_left progress.state }
     requires gathers { is_gathering progress.state.views view.0 ≡ true }
     ensures progress { IfOk result (λ r. r.0 ≡ given_new M.rules (sealed_new progress.state view) progress) }
     ensures new { IfOk result (λ r. r.1 ≡ sealed_new progress.state view) }
@@ -179,7 +179,7 @@ fn seal_began<M: Machine>(
     core: Core<M>,
     accepted: &Accepted,
 ) -> Result<(Core<M>, Signed<Began>), Want>
-    requires leaf { 1 ≤ leaves_of core }
+    requires left { 1 ≤ signs_left core }
     requires accepted { IsAccepted core.views.counts core.views.interval accepted.now }
     requires place { accepted.now.chosen.place.0 < 2 ^ 62 }
     ensures core { IfOk result (λ r. r.0 ≡ spent core) }
@@ -218,7 +218,7 @@ fn accept_core<M: Machine>(
     core: Core<M>,
     accepted: Accepted,
 ) -> Result<(Core<M>, Signed<Began>), Want>
-    requires leaf { 1 ≤ leaves_of core }
+    requires left { 1 ≤ signs_left core }
     requires accepted { IsAccepted core.views.counts core.views.interval accepted }
     requires sends { CanBeSent (any.View (frames.NewView accepted.new)) }
     requires place { accepted.chosen.place.0 < 2 ^ 62 }
@@ -254,7 +254,7 @@ fn tell_began<M: Machine>(progress: Progress<M>, began: Signed<Began>) -> Result
 /// this view in another way is dropped.
 #[tactic(auto, unfolding(zy_table::specs::Leaving::accept))]
 pub fn accept<M: Machine>(progress: Progress<M>, accepted: Accepted) -> Result<Progress<M>, Want>
-    requires leaf { 1 ≤ leaves_of progress.state }
+    requires left { 1 ≤ signs_left progress.state }
     requires accepted { IsAccepted progress.state.views.counts progress.state.views.interval accepted }
     requires sends { CanBeSent (any.View (frames.NewView accepted.new)) }
     requires place { accepted.chosen.place.0 < 2 ^ 62 }
@@ -273,7 +273,7 @@ pub fn accept<M: Machine>(progress: Progress<M>, accepted: Accepted) -> Result<P
 // The reports that are kept for a view are given, and this choice out of them is confirmed.
 #[tactic(auto, unfolding(crate::specs::Carrying::give))]
 fn give<M: Machine>(progress: Progress<M>, view: View, chosen: Chosen) -> Result<Progress<M>, Want>
-    requires leaves { 2 ≤ leaves_of progress.state }
+    requires left { 2 ≤ signs_left progress.state }
     requires place { chosen.place.0 < 2 ^ 62 }
     requires gathers { is_gathering progress.state.views view.0 ≡ true }
     requires chosen { IsChosenIn progress view chosen }
@@ -288,7 +288,7 @@ fn give<M: Machine>(progress: Progress<M>, view: View, chosen: Chosen) -> Result
 fn leave_if<M: Machine>(progress: Progress<M>, leave: Option<View>) -> Result<Progress<M>, Want>
     requires above { ForSome leave (λ view. own_view progress.state < view.0) }
     requires below { ForSome leave (λ view. view.0 < 2 ^ 62) }
-    requires leaf { signs_for leave None ≤ leaves_of progress.state }
+    requires left { signs_for leave None ≤ signs_left progress.state }
     ensures { IfOk result (λ g. g ≡ left_if M.rules leave progress) }
 {
     match leave {
@@ -302,7 +302,7 @@ fn give_if<M: Machine>(
     gather: Option<View>,
     confirm: Option<Chosen>,
 ) -> Result<Progress<M>, Want>
-    requires leaves { signs_for None gather ≤ leaves_of progress.state }
+    requires left { signs_for None gather ≤ signs_left progress.state }
     requires place { ForSome confirm (λ chosen. chosen.place.0 < 2 ^ 62) }
     requires gathers { ForSome gather (λ view. is_gathering progress.state.views view.0 ≡ true) }
     requires chosen { ForSome gather (λ view. ForSome confirm (IsChosenIn progress view)) }
@@ -346,7 +346,7 @@ fn send_if<M: Machine>(progress: Progress<M>, send: Option<ReplicaId>) -> Result
 /// What is owed is carried out, but for an adoption: the leave, the new view with its confirmation, and the kept
 /// certificate for who is behind. There are leaves for all of it.
 pub fn carry_out<M: Machine>(progress: Progress<M>, owed: &Owed) -> Result<Progress<M>, Want>
-    requires leaves { owed.now.signs ≤ leaves_of progress.state }
+    requires left { owed.now.signs ≤ signs_left progress.state }
     requires can { CanCarry M.rules owed.now progress }
     requires in_range { IsOwedInRange owed.now }
     ensures { IfOk result (λ g. g ≡ carried M.rules owed.now progress) }

@@ -35,7 +35,7 @@ pub fn changes_follow<M: Machine>()
     ensures { (s : State M.State) (vote : Signed Change) (owed : Owed) → SignsAsItself s → IsReplica vote.by → IsChangeOwed s vote owed → Follows M.rules (change M.rules s vote) owed (begin (kept_unless owed.send vote s)) }
 {}
 
-/// The leaves that a step spends can be counted before anything is signed: those that it spent so far, and what it owes.
+/// The signatures that a step spends can be counted before anything is signed: those that it spent so far, and what it owes.
 pub fn conclusions<M: Machine>()
     ensures { (s : State M.State) (attempt : Attempt M.State) (owed : Owed) (g : Going M.State) (more : ℕ) → IsSigner s → g.state.sealer ≡ spent_many more s.sealer → Follows M.rules attempt owed g → concluded s attempt ≡ carried_out M.rules s (more + owed.signs) owed g }
 {}

@@ -1,21 +1,19 @@
 //! The checkpoints of a history that was taken up are answered anew.
 
 ghost use Rattle.std.specs.Prelude.{◌≡◌, ◌≤◌, ◌<◌, ◌+◌, ◌%◌, ◌^◌, nat_eq, if◌then◌else◌, length, false, Some, None, IfOk, IfSome};
-ghost use Rattle.zy_base.specs.declared.ids.Party.TheVariants as parties;
 ghost use Rattle.zy_parts.specs.Signing.{IsSignedInRange};
 ghost use Rattle.zy_parts.specs.Statements.{IsSpecInRange};
 ghost use Rattle.zy_frames.specs.declared.frame.Frame.TheVariants as frames;
 ghost use Rattle.zy_exec.specs.Kept.{reply_in};
-ghost use Rattle.zy_table.specs.declared.deeds.To.TheVariants as tos;
-ghost use Rattle.zy_table.specs.State.{is_leaving, leaves_of};
-ghost use Rattle.zy_table.specs.Deeds.{send};
+ghost use Rattle.zy_table.specs.State.{is_leaving, signs_left};
+ghost use Rattle.zy_table.specs.Deeds.{send, to_clients};
 ghost use Rattle.zy_table.specs.Gathering.{own_at};
 ghost use Rattle.zy_table.specs.Adopting.{checkpoints_between};
 ghost use Rattle.zy_table.specs.Beginning.{respond_alone as responding, respond_to as responding_to, respond_up_to as responding_up_to};
+ghost use Rattle.zy_chain.specs.Answers.{FitsAnswers};
 
 use zy_base::{Bytes, Machine, Place, Want};
 use zy_parts::{Signed, Spec};
-use zy_replica_normal::keep_own_spec;
 use zy_replica_state::{Core, Progress, bytes_copy, signed_copy};
 use zy_table::OwnCheckpoint;
 
@@ -25,14 +23,13 @@ fn respond_alone<M: Machine>(
     own: &OwnCheckpoint,
     reply: Bytes,
 ) -> Result<Progress<M>, Want>
-    requires leaf { 1 ≤ leaves_of progress.state }
+    requires left { 1 ≤ signs_left progress.state }
     requires spec { IsSpecInRange own.now.spec }
-    requires client { own.now.spec.client.0 < 64 }
-    requires reply { length reply ≤ 1100 }
+    requires reply { FitsAnswers reply }
     ensures { IfOk result (λ g. g ≡ responding M.rules own.now reply progress) }
 {
     let (said, signed) = progress.sign_spec(own.spec)?;
-    let kept = keep_own_spec(said, own, &signed)?;
+    let kept = said.keep_own_spec(own, &signed)?;
     let told = send_alone(kept, &signed, &reply)?;
     told.share_spec(signed, reply, None)
 }
@@ -43,8 +40,8 @@ fn send_alone<M: Machine>(
     reply: &Bytes,
 ) -> Result<Progress<M>, Want>
     requires spec { IsSignedInRange IsSpecInRange signed.now }
-    requires reply { length reply.now ≤ 1100 }
-    ensures { IfOk result (λ g. g ≡ send (tos.One (parties.Client signed.now.stmt.client)) (frames.SpecResponse signed.now reply.now None) progress) }
+    requires reply { FitsAnswers reply.now }
+    ensures { IfOk result (λ g. g ≡ send (to_clients signed.now.stmt) (frames.SpecResponse signed.now reply.now None) progress) }
 {
     let signed = signed_copy(signed)?;
     let reply = bytes_copy(reply)?;
@@ -67,9 +64,8 @@ fn respond_own<M: Machine>(
     own: &OwnCheckpoint,
     place: Place,
 ) -> Result<Progress<M>, Want>
-    requires leaf { 1 ≤ leaves_of progress.state }
+    requires left { 1 ≤ signs_left progress.state }
     requires spec { IsSpecInRange own.now.spec }
-    requires client { own.now.spec.client.0 < 64 }
     ensures { IfOk result (λ g. g ≡ responding_to M.rules (Some own.now) (reply_in M.rules progress.state.kept place.0) progress) }
 {
     match reply_copy(&progress.core, place)? {
@@ -80,7 +76,7 @@ fn respond_own<M: Machine>(
 
 // What the own history has at a place, if it has come so far.
 fn respond_at<M: Machine>(progress: Progress<M>, place: Place) -> Result<Progress<M>, Want>
-    requires leaf { 1 ≤ leaves_of progress.state }
+    requires left { 1 ≤ signs_left progress.state }
     requires active { is_leaving progress.state ≡ false }
     ensures { IfOk result (λ g. g ≡ responding_to M.rules (own_at M.rules progress.state place.0) (reply_in M.rules progress.state.kept place.0) progress) }
 {
@@ -96,7 +92,7 @@ fn respond_at<M: Machine>(progress: Progress<M>, place: Place) -> Result<Progres
 pub fn respond_up_to<M: Machine>(progress: Progress<M>, place: Place) -> Result<Progress<M>, Want>
     requires place { place.0 < 2 ^ 62 }
     requires active { is_leaving progress.state ≡ false }
-    requires leaves { length (checkpoints_between progress.state.kept.interval progress.state.board.stable.place.0 place.0) ≤ leaves_of progress.state }
+    requires left { length (checkpoints_between progress.state.kept.interval progress.state.board.stable.place.0 place.0) ≤ signs_left progress.state }
     ensures { IfOk result (λ g. g ≡ responding_up_to M.rules place.0 progress) }
 {
     // With its view comes what holds of every replica: its stable place isn't past its history.
@@ -115,7 +111,7 @@ fn respond_if<M: Machine>(
     is_checkpoint: bool,
     place: Place,
 ) -> Result<Progress<M>, Want>
-    requires leaf { (if is_checkpoint then 1 else 0) ≤ leaves_of progress.state }
+    requires left { (if is_checkpoint then 1 else 0) ≤ signs_left progress.state }
     requires active { is_leaving progress.state ≡ false }
     ensures { IfOk result (λ g. g ≡ (if is_checkpoint then responding_to M.rules (own_at M.rules progress.state place.0) (reply_in M.rules progress.state.kept place.0) progress else progress)) }
 {

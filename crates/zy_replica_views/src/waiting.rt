@@ -13,7 +13,7 @@ ghost use Rattle.zy_seal.specs.Sealing.{sealed_by};
 ghost use Rattle.zy_change.specs.Fit.{IsCertified, IsFit};
 ghost use Rattle.zy_table.specs.declared.deeds.Act.TheVariants as acts;
 ghost use Rattle.zy_table.specs.declared.deeds.Body.TheVariants as bodies;
-ghost use Rattle.zy_table.specs.State.{leaves_of, own_view, spent, stood_of};
+ghost use Rattle.zy_table.specs.State.{signs_left, own_view, spent, stood_of};
 ghost use Rattle.zy_table.specs.Deeds.{act as acting};
 ghost use Rattle.zy_replica_state.specs.Ready.{IsReady, IsWaitingReady};
 ghost use Rattle.zy_table.specs.Beginning.{arrive as arriving, ask_each as asking_each, asked_of as those_asked, fetch_said, fetch_to as fetching, send_to_each as sent_to_each, wait_for as waiting_for, wanted_of as wanted};
@@ -41,9 +41,9 @@ fn is_below<M: Machine>(core: &Core<M>, view: View) -> bool
     view_of(core) < view
 }
 
-/// A view above the own one is left for; no reports are collected for it. There is a leaf where it is.
+/// A view above the own one is left for; no reports are collected for it. A signature is left where it is.
 pub fn arrive<M: Machine>(progress: Progress<M>, view: View) -> Result<Progress<M>, Want>
-    requires leaf { (if nat_lt (own_view progress.state) view.0 then 1 else 0) ≤ leaves_of progress.state }
+    requires left { (if nat_lt (own_view progress.state) view.0 then 1 else 0) ≤ signs_left progress.state }
     requires range { view.0 < 2 ^ 62 }
     ensures { IfOk result (λ g. g ≡ arriving M.rules view progress) }
 {
@@ -154,7 +154,7 @@ fn sign_fetch<M: Machine>(
     progress: Progress<M>,
     fetch: Fetch,
 ) -> Result<(Progress<M>, Signed<Fetch>), Want>
-    requires leaf { 1 ≤ leaves_of progress.state }
+    requires left { 1 ≤ signs_left progress.state }
     requires range { IsFetchInRange fetch }
     ensures progress { IfOk result (λ r. r.0 ≡ acting (acts.Says (record { body = bodies.Fetch fetch; stood = stood_of M.rules progress.state })) (record progress { state = record (spent progress.state) { fetches = progress.state.fetches ++ sealed_by numbers.fetch fetch_fields progress.state.sealer fetch ∷ [] } })) }
     ensures said { IfOk result (λ r. r.1 ≡ sealed_by numbers.fetch fetch_fields progress.state.sealer fetch) }
@@ -177,7 +177,7 @@ fn fetch_for<M: Machine>(
     progress: Progress<M>,
     fetch: Fetch,
 ) -> Result<(Progress<M>, Signed<Fetch>), Want>
-    requires leaf { (if is_some (fetch_said progress.state fetch) then 0 else 1) ≤ leaves_of progress.state }
+    requires left { (if is_some (fetch_said progress.state fetch) then 0 else 1) ≤ signs_left progress.state }
     requires range { IsFetchInRange fetch }
     ensures asks { (parties : List Party) → IfOk result (λ r. sent_to_each r.1 parties r.0 ≡ asking_each M.rules fetch (fetch_said progress.state fetch) parties progress) }
     ensures range { IfOk result (λ r. IsSignedInRange IsFetchInRange r.1) }
@@ -188,13 +188,13 @@ fn fetch_for<M: Machine>(
     }
 }
 
-// It is asked of each of these. There is a leaf where it wasn't asked for yet.
+// It is asked of each of these. A signature is left where it wasn't asked for yet.
 fn ask_each<M: Machine>(
     progress: Progress<M>,
     fetch: Fetch,
     asked: &[Party],
 ) -> Result<Progress<M>, Want>
-    requires leaf { (if is_some (fetch_said progress.state fetch) then 0 else 1) ≤ leaves_of progress.state }
+    requires left { (if is_some (fetch_said progress.state fetch) then 0 else 1) ≤ signs_left progress.state }
     requires range { IsFetchInRange fetch }
     ensures { IfOk result (λ g. g ≡ asking_each M.rules fetch (fetch_said progress.state fetch) asked.now progress) }
 {
@@ -230,7 +230,7 @@ pub fn wait_for<M: Machine>(
 ) -> Result<Progress<M>, Want>
     requires certified { IsCertified progress.state.views.counts progress.state.views.interval cert chosen }
     requires ready { IsWaitingReady (record { cert = cert; chosen = chosen }) }
-    requires leaves { (provider : IsSigned Change) → slice_get cert.new.stmt.changes chosen.provider ≡ Some provider → (if nat_lt (own_view progress.state) cert.new.stmt.view.0 then 1 else 0) + (if is_some (fetch_said progress.state (wanted provider.stmt.told)) then 0 else 1) ≤ leaves_of progress.state }
+    requires left { (provider : IsSigned Change) → slice_get cert.new.stmt.changes chosen.provider ≡ Some provider → (if nat_lt (own_view progress.state) cert.new.stmt.view.0 then 1 else 0) + (if is_some (fetch_said progress.state (wanted provider.stmt.told)) then 0 else 1) ≤ signs_left progress.state }
     ensures { (provider : IsSigned Change) → slice_get cert.new.stmt.changes chosen.provider ≡ Some provider → IfOk result (λ g. g ≡ waiting_for M.rules cert chosen provider.stmt.told progress) }
 {
     let arrived = arrive(progress, cert.new.stmt.view)?;

@@ -12,7 +12,7 @@ text_line name value = name ++ codes " = " ++ 34 ∷ value ++ 34 ∷ 10 ∷ []
 abbrev pub number_line : List ℕ → ℕ → List ℕ
 number_line name value = name ++ codes " = " ++ decimal value ++ 10 ∷ []
 
--- the party, its own seed and identifier, the levels of its tree and the type of its one-time keys; no leaf and no
+-- the party, its own seed and identifier, the levels of its tree and the type of its one-time keys; no signature and no
 -- stamp is spent; and the public key
 unfoldable pub key_lines : Party → List ℕ → List ℕ → ℕ → ℕ → List ℕ → List ℕ
 key_lines party seed id height ots public =

@@ -11,7 +11,7 @@ use std::alloc::Global;
 use zy_base::{Bytes, Party, Stamp, Want};
 use zy_tuple::party_text_put;
 
-/// Where a client's key and stamps go on: `key next N stamp T` with a line feed. N is the next leaf of the key.
+/// Where a client's key and stamps go on: `key next N stamp T` with a line feed. N is the number of the key's next signature.
 pub fn key_line(alloc: Global, next: u32, stamp: Stamp) -> Result<Bytes, Want>
     ensures { IfOk result (λ line. line ≡ lines.key_line next stamp) }
 {
@@ -22,7 +22,7 @@ pub fn key_line(alloc: Global, next: u32, stamp: Stamp) -> Result<Bytes, Want>
     Ok(Bytes::from(line))
 }
 
-/// The secret file of a party's key of which no leaf is spent: its own seed and identifier, the levels of its tree
+/// The secret file of a party's key of which no signature is spent: its own seed and identifier, the levels of its tree
 /// (5 or 10), the LM-OTS type of its one-time keys, and its public key (RFC 8554 section 5.3).
 #[tactic(auto, unfolding(crate::specs::KeyFile::key_lines))]
 pub fn key_lines(

@@ -1,1 +1,2 @@
 pub mod SealedLemmas
+pub mod SignatureLemmas

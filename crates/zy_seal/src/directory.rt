@@ -1,17 +1,20 @@
-ghost use Rattle.std.specs.Prelude.{◌≡◌, ◌↔◌, ℕ, List, Option, option_copied, None, Some};
-ghost use Rattle.zy_lms.specs.Lms.{Verifies};
+ghost use Rattle.std.specs.Prelude.{◌≡◌, ◌↔◌, ℕ, List, Option, option_copied, None, Some, IsTrue};
+ghost use Rattle.zy_lms.specs.Lms.{Verifies, verified};
 
+use crate::known::Known;
 use std::alloc::{AllocError, Global};
 use std::marker::Model;
 use zy_base::{ClientId, Party, ReplicaId};
 use zy_lms::verify;
 
-/// The public keys of a group: LMS type, LM-OTS type, identifier and root (RFC 8554, section 5.3).
+/// The public keys of a group: LMS type, LM-OTS type, identifier and root (RFC 8554, section 5.3). What it knows beside, which no clause
+/// sees, spares checks that were made already.
 #[derive(Drop)]
 pub struct Directory {
     alloc: Global,
     replicas: Vec<[u8; 56]>,
     clients: Vec<[u8; 56]>,
+    known: Known,
 }
 
 impl Model for Directory {
@@ -25,11 +28,13 @@ impl Model for Directory {
 impl Clone for Directory {
     ghost is_clone = { λ a b. b ≡ a };
 
+    /// Both stand beside one store.
     fn clone(&self) -> Result<Directory, AllocError> {
         Ok(Directory {
             alloc: self.alloc,
             replicas: Vec::from_slice(self.alloc, &self.replicas)?,
             clients: Vec::from_slice(self.alloc, &self.clients)?,
+            known: self.known.beside(),
         })
     }
 }
@@ -56,7 +61,40 @@ impl Directory {
             alloc,
             replicas,
             clients,
+            known: Known::nothing(alloc),
         }
+    }
+
+    /// The same keys, beside a store of the signatures that this process checks and makes, if there is memory for it. Its copies share it.
+    pub fn with_store(mut self) -> Directory
+        ensures { result ≡ self }
+    {
+        self.known = Known::open(self.alloc);
+        self
+    }
+
+    /// Keeps for all that share the store what was checked since by this directory.
+    pub fn take_in(&self) {
+        self.known.take_in();
+    }
+
+    pub(crate) fn known(&self) -> &Known {
+        &self.known
+    }
+
+    // What is known to verify isn't checked again.
+    fn verifies(&self, key: &[u8; 56], text: &[u8], sig: &[u8]) -> bool
+        ensures value { result ≡ verified key.now text.now sig.now }
+        ensures meaning { IsTrue result ↔ Verifies key.now text.now sig.now }
+    {
+        if self.known.has(key, text, sig) {
+            return true;
+        }
+        let verifies = verify(key, text, sig);
+        if verifies {
+            self.known.keep(key, text, sig);
+        }
+        verifies
     }
 
     pub fn key(&self, by: Party) -> Option<&[u8; 56]>
@@ -72,7 +110,7 @@ impl Directory {
 ghost use Rattle.zy_seal.specs.Keys.{key_of};
 ghost use Rattle.zy_seal.specs.Checking.{answer_of};
 
-/// Whether the party signed the text. Takes no memory.
+/// Whether the party signed the text. Needs no memory: what verified is kept where there is some.
 pub fn check(directory: &Directory, by: Party, text: &[u8], sig: &[u8]) -> SealAnswer
     ensures value { result ≡ answer_of directory.now by text.now sig.now }
     ensures unknown { (result ≡ SealAnswer.UnknownParty) ↔ (key_of directory.now by ≡ None) }
@@ -81,7 +119,7 @@ pub fn check(directory: &Directory, by: Party, text: &[u8], sig: &[u8]) -> SealA
     match directory.key(by) {
         None => SealAnswer::UnknownParty,
         Some(key) => {
-            if verify(key, text, sig) {
+            if directory.verifies(key, text, sig) {
                 SealAnswer::Yes
             } else {
                 SealAnswer::BadSignature

@@ -1,18 +1,20 @@
-ghost use Rattle.std.specs.Prelude.{◌≡◌, ◌-◌, ◌^◌, ◌≤◌, ◌↔◌, IfOk, OnOk, OnErr, IsErrOf};
-ghost use Rattle.zy_lms.specs.Height.{levels_of};
+ghost use Rattle.std.specs.Prelude.{◌≡◌, ◌≤◌, ◌↔◌, IfOk, OnOk, OnErr, IsErrOf};
 ghost use Rattle.zy_lms.specs.KeyState.{IsKey};
+ghost use Rattle.zy_seal.specs.Sealing.{signatures_by, left_of};
 ghost use Rattle.zy_seal.specs.declared.sealer.SealFault.TheVariants.{KeySpent};
 
+use crate::Directory;
+use crate::known::Known;
 use std::alloc::Global;
 use std::marker::Model;
 use zy_base::{Party, Want};
 use zy_lms::{LmsKey, SignFault};
 use zy_parts::{Signed, Statement, signed_text};
 
-/// Why a statement isn't signed. No leaf is spent then.
+/// Why a statement isn't signed. No signature is spent then.
 #[derive(Clone, Copy, Debug, PartialEq, Eq)]
 pub enum SealFault {
-    /// The key has no leaf left.
+    /// The key has no signature left.
     KeySpent,
     Want,
 }
@@ -33,6 +35,7 @@ pub struct Sealer {
     alloc: Global,
     me: Party,
     key: LmsKey,
+    known: Known,
 }
 
 impl Model for Sealer {
@@ -50,28 +53,50 @@ impl Sealer {
     pub fn new(alloc: Global, me: Party, key: LmsKey) -> Sealer
         ensures { result ≡ record { me = me; key = key } }
     {
-        Sealer { alloc, me, key }
+        Sealer {
+            alloc,
+            me,
+            key,
+            known: Known::nothing(alloc),
+        }
     }
 
-    /// The statement with the own signature on its signed text, by the next leaf, which signs nothing else.
+    /// The same party, beside the directory's store, if it has one: what it signs needn't be checked there.
+    pub fn beside(mut self, directory: &Directory) -> Sealer
+        ensures { result ≡ self }
+    {
+        self.known = directory.known().beside();
+        self
+    }
+
+    /// Keeps for all that share the store what was signed since.
+    pub fn take_in(&self) {
+        self.known.take_in();
+    }
+
+    /// The statement with the own signature on its signed text, by the key's next signature.
     pub fn seal<S: Statement>(&mut self, stmt: S) -> Result<Signed<S>, SealFault>
         requires { S.in_range stmt }
         ensures value { IfOk result (λ s. s ≡ sealed_by S.its_number S.spelling self.old stmt) }
         ensures sealed { IfOk result (IsSealed S.its_number S.spelling self.old stmt) }
         ensures spent_one { OnOk result (self.new ≡ spent_one self.old) }
-        ensures spent { IsErrOf result SealFault.KeySpent ↔ (self.old.key.next ≡ 2 ^ levels_of self.old.key.height) }
+        ensures spent { IsErrOf result SealFault.KeySpent ↔ (self.old.key.next ≡ signatures_by self.old.key.height) }
         ensures unchanged { OnErr result (self.new ≡ self.old) }
     {
         if self.left() == 0 {
             return Err(SealFault::KeySpent);
         }
         let text = signed_text(self.alloc, self.me, &stmt)?;
+        let public = self.key.public();
         match self.key.sign(text.as_slice()) {
-            Ok(sig) => Ok(Signed {
-                by: self.me,
-                stmt,
-                sig,
-            }),
+            Ok(sig) => {
+                self.known.keep(&public, text.as_slice(), sig.as_slice());
+                Ok(Signed {
+                    by: self.me,
+                    stmt,
+                    sig,
+                })
+            }
             Err(SignFault::Spent) => Err(SealFault::KeySpent),
             Err(SignFault::Want) => Err(SealFault::Want),
         }
@@ -84,16 +109,16 @@ impl Sealer {
         self.me
     }
 
-    /// How many leaves have not signed yet.
+    /// How many statements the key can still sign.
     pub fn left(&self) -> u32
-        ensures left { result ≡ 2 ^ levels_of self.now.key.height - self.now.key.next }
-        ensures within { self.now.key.next ≤ 2 ^ levels_of self.now.key.height }
+        ensures left { result ≡ left_of self.now }
+        ensures within { self.now.key.next ≤ signatures_by self.now.key.height }
         ensures key { IsKey self.now.key }
     {
         self.key.left()
     }
 
-    /// The number of the leaf that signs next.
+    /// The number of the next signature.
     pub fn next_leaf(&self) -> u32
         ensures { result ≡ self.now.key.next }
     {

@@ -25,7 +25,7 @@ use Rattle.zy_parts.specs.declared.statements.Local.{Local}
 use Rattle.zy_parts.specs.declared.statements.Order.{Order}
 use Rattle.zy_seal.specs.Screening.{screen}
 use Rattle.zy_table.specs.ClientRows.{ask, ask_or_commit, ask_while, certified_in, client_step, completed_if, count_local, decoded_as, evidence_by, hear, hear_response, is_by_primary, is_for, keep, keep_unless, local_beside, local_while, respond, respond_while, response_cause, run_out, run_out_while, timer, told, unless, view_decoded, vote_on}
-use Rattle.zy_table.specs.ClientState.{ClientOutcome, ClientState, leaves_of, refused}
+use Rattle.zy_table.specs.ClientState.{ClientOutcome, ClientState, signs_left, refused}
 use Rattle.zy_table.specs.Roles.{is_replica}
 use Rattle.zy_table.specs.declared.client.Commit.{Commit}
 use Rattle.zy_table.specs.declared.client.Response.{Response}
@@ -53,7 +53,7 @@ module _ (s : ClientState) where
 
   ask_stays_while : (waiting : Option (Signed Ask)) (op : List ℕ) → Stays (ask_while s waiting op)
   ask_stays_while (Some waiting) op = refuses (causes.Waiting waiting.stmt.stamp)
-  ask_stays_while None op = tested (nat_le 1 (leaves_of s)) _ _ (λ cause is. absurd cc) (refuses causes.KeySpent)
+  ask_stays_while None op = tested (nat_le 1 (signs_left s)) _ _ (λ cause is. absurd cc) (refuses causes.KeySpent)
 
   pub ask_stays : (op : List ℕ) → Stays (ask s op)
   unfolding ask

@@ -16,7 +16,7 @@ use Rattle.zy_base.specs.declared.step.Event.{Event}
 use Rattle.zy_base.specs.declared.step.Event.TheVariants.{Heard, Timer}
 use Rattle.zy_base.specs.declared.step.TimerKind.{TimerKind}
 use Rattle.zy_base.specs.declared.step.TimerKind.TheVariants as timers
-use Rattle.zy_admit.specs.Judging.{entry_of, judge_in, same_digest}
+use Rattle.zy_admit.specs.Judging.{entry_of, judge_in, same_digest, ordered_entry, asking}
 use Rattle.zy_admit.specs.Orders.{orders_from, stored_in}
 use Rattle.zy_admit.specs.declared.judging.Admit.{Admit}
 use Rattle.zy_admit.specs.declared.judging.Admit.TheVariants as admits
@@ -58,10 +58,10 @@ use Rattle.zy_table.specs.Holes.{fill_hole, fill_with}
 use Rattle.zy_table.specs.Leaving.{Attempt, concluded, is_overspent}
 use Rattle.zy_table.specs.Misbehaviour.{pom, tell_all}
 use Rattle.zy_table.specs.Orders.{owes_hole, position_of}
-use Rattle.zy_table.specs.Requests.{forward, is_behind, new_request, request, request_after, request_at_backup, respond_as, said_already}
+use Rattle.zy_table.specs.Requests.{forward, is_behind, new_request, request, request_after, request_at_backup, respond_as}
 use Rattle.zy_table.specs.Roles.{in_role, view_cause}
 use Rattle.zy_table.specs.Running.{signs_of, spec_of}
-use Rattle.zy_table.specs.State.{State, is_leaving, is_primary, leaves_of, own_view, pending_of, spec_to, window_of}
+use Rattle.zy_table.specs.State.{State, is_leaving, is_primary, signs_left, own_view, pending_of, window_of, spec_said}
 use Rattle.zy_table.specs.Whole.{commit_in_view, decoded_as, hear_plain, hear_view, is_view_frame_in_role, order_judged, plain_row, timer, unless, view_decoded, view_row, whole_step}
 use Rattle.zy_table.specs.declared.kept.OwnCheckpoint.{OwnCheckpoint}
 use Rattle.zy_table.specs.declared.kept.Pending.{Pending}
@@ -86,18 +86,18 @@ module _ {S : Type 0} (R : Rules S) (s : State S) where
   unless_stays None o stays = stays
   unless_stays (Some cause) o stays = refuses cause
 
-  -- what is signed takes leaves
-  with_leaves : (b : Bool) (x : Outcome S) → Stays x → Stays (if b then x else refused causes.KeySpent s)
-  with_leaves b x stays = tested b x (refused causes.KeySpent s) stays (refuses causes.KeySpent)
+  -- what is signed takes signatures
+  with_left : (b : Bool) (x : Outcome S) → Stays x → Stays (if b then x else refused causes.KeySpent s)
+  with_left b x stays = tested b x (refused causes.KeySpent s) stays (refuses causes.KeySpent)
 
   -- ---- requests
 
   respond_stays : (said : Option (Signed Spec)) (spec : Spec) (known : Known) → Stays (respond_as R s said spec known)
-  respond_stays None spec known = with_leaves (nat_le 1 (leaves_of s)) _ (λ cause is. absurd cc)
+  respond_stays None spec known = with_left (nat_le 1 (signs_left s)) _ (λ cause is. absurd cc)
   respond_stays (Some signed) spec known = λ cause is. absurd cc
 
   forward_stays : (ask : Signed Ask) → Stays (forward R s ask)
-  forward_stays ask = with_leaves (nat_le 1 (leaves_of s)) _ (λ cause is. absurd cc)
+  forward_stays ask = with_left (nat_le 1 (signs_left s)) _ (λ cause is. absurd cc)
 
   backup_stays : (ask : Signed Ask) (pending : Option Pending) → Stays (request_at_backup R s ask pending)
   backup_stays ask None = forward_stays ask
@@ -106,21 +106,21 @@ module _ {S : Type 0} (R : Rules S) (s : State S) where
   new_stays : (ask : Signed Ask) → Stays (new_request R s ask)
   new_stays ask =
       tested (is_primary s) _ _
-      (tested (nat_lt (last_place s.kept) (window_of s)) _ _ (with_leaves (nat_le (signs_of R s ask + 1) (leaves_of s)) _ (λ cause is. absurd cc)) (refuses (causes.WindowFull (record { 0 = window_of s }))))
-      (backup_stays ask (pending_of s (entry_of ask).client))
+      (tested (nat_lt (last_place s.kept) (window_of s)) _ _ (with_left (nat_le (signs_of R s (entry_of ask) + 1) (signs_left s)) _ (λ cause is. absurd cc)) (refuses (causes.WindowFull (record { 0 = window_of s }))))
+      (backup_stays ask (pending_of s (asking ask.by)))
 
   after_known : (ask : Signed Ask) (known : Option Known) → Stays (request_after R s ask known)
   after_known ask None = new_stays ask
   after_known ask (Some known) =
-      let spec = spec_of (own_view s) ask known in
+      let spec = spec_of (own_view s) (entry_of ask) known in
       tested (nat_lt ask.stmt.stamp.0 known.stamp.0) _ _ (refuses causes.OldStamp)
-      (tested (nat_eq ask.stmt.stamp.0 known.stamp.0) _ _ (respond_stays (said_already (spec_to s spec.client) spec) spec known) (new_stays ask))
+      (tested (nat_eq ask.stmt.stamp.0 known.stamp.0) _ _ (respond_stays (spec_said s spec) spec known) (new_stays ask))
 
   request_stays : (ask : Signed Ask) → Stays (request R s ask)
   unfolding request
   request_stays ask =
       tested (is_leaving s) _ _ (refuses causes.NotActive)
-      (tested (is_behind ask (pending_of s (entry_of ask).client)) _ _ (refuses causes.OldStamp) (after_known ask (known_in R s.kept (entry_of ask).client.0)))
+      (tested (is_behind ask (pending_of s (asking ask.by))) _ _ (refuses causes.OldStamp) (after_known ask (known_in R s.kept (asking ask.by).0)))
 
   again_stays : (by : Party) (kept : Option OrderFrame) → Stays (order_again s by kept)
   again_stays by None = refuses causes.OldPlace
@@ -135,12 +135,12 @@ module _ {S : Type 0} (R : Rules S) (s : State S) where
   confirm_stays : (confirmed : Signed Confirm) (ask : Signed Ask) → Stays (confirm R s confirmed ask)
   unfolding confirm
   confirm_stays confirmed ask =
-      tested (same_digest confirmed.stmt.request (digest_of_entry (entry_of ask))) _ _ (confirm_known confirmed.by ask (known_in R s.kept (entry_of ask).client.0)) (refuses causes.Unmatched)
+      tested (same_digest confirmed.stmt.request (digest_of_entry (entry_of ask))) _ _ (confirm_known confirmed.by ask (known_in R s.kept (asking ask.by).0)) (refuses causes.Unmatched)
 
   -- ---- commit certificates
 
   commit_own : (specs : List (Signed Spec)) (client : ClientId) (local : Local) (said : Option (Signed Local)) (own : Option OwnCheckpoint) → Stays (commit_as R s specs client local said own)
-  commit_own specs client local said own = with_leaves (nat_le (locals_owed said + checks_owed (with_certificate s local.place specs) own true) (leaves_of s)) _ (λ cause is. absurd cc)
+  commit_own specs client local said own = with_left (nat_le (locals_owed said + checks_owed (with_certificate s local.place specs) own true) (signs_left s)) _ (λ cause is. absurd cc)
 
   commit_with : (specs : List (Signed Spec)) (client : ClientId) (local : Local) (own : Option Digest) → Stays (commit_beside R s specs client local own)
   commit_with specs client local None = refuses (causes.Behind local.place)
@@ -165,7 +165,7 @@ module _ {S : Type 0} (R : Rules S) (s : State S) where
 
   kept_stays : (own : Option OwnCheckpoint) (answer : Kept) (board : Board) → Stays (kept_as R s own answer board)
   kept_stays own answers.Held board = λ cause is. absurd cc
-  kept_stays own (answers.Kept number) board = with_leaves (nat_le (checks_owed (with_board s board) own false) (leaves_of s)) _ (λ cause is. absurd cc)
+  kept_stays own (answers.Kept number) board = with_left (nat_le (checks_owed (with_board s board) own false) (signs_left s)) _ (λ cause is. absurd cc)
   kept_stays own (answers.Refused cause) board = refuses cause
 
   response_stays : (vote : Signed Spec) → Stays (response R s vote)
@@ -205,15 +205,15 @@ module _ {S : Type 0} (R : Rules S) (s : State S) where
   judged_stays both admits.Evidence =
       let stored = stored_in s.orders both.order.stmt.place.0 in
       finished_stays (tell_all R s both.order stored) (order_ends R s both.order stored)
-  judged_stays both admits.Next = with_leaves (nat_le (signs_of R s both.ask) (leaves_of s)) _ (λ cause is. absurd cc)
-  judged_stays both admits.Held = tested (owes_hole s) _ _ (with_leaves (nat_le 1 (leaves_of s)) _ (λ cause is. absurd cc)) (λ cause is. absurd cc)
+  judged_stays both admits.Next = with_left (nat_le (signs_of R s (ordered_entry both)) (signs_left s)) _ (λ cause is. absurd cc)
+  judged_stays both admits.Held = tested (owes_hole s) _ _ (with_left (nat_le 1 (signs_left s)) _ (λ cause is. absurd cc)) (λ cause is. absurd cc)
   judged_stays both (admits.Refused cause) = refuses cause
 
   -- ---- frames
 
   plain_stays : (frame : Frame) → Stays (plain_row R s frame)
   plain_stays (frames.Request ask) = request_stays ask
-  plain_stays (frames.Order both) = unless_stays (view_cause s both.order.stmt.view.0) _ (judged_stays both (judge_in s.orders both.order.stmt both.ask (position_of R s both)))
+  plain_stays (frames.Order both) = unless_stays (view_cause s both.order.stmt.view.0) _ (judged_stays both (judge_in s.orders both.order.stmt (ordered_entry both) (position_of R s both)))
   plain_stays (frames.SpecResponse spec reply with_order) = unless_stays (view_cause s spec.stmt.view.0) _ (response_stays spec)
   plain_stays (frames.Commit specs) = certificate_stays specs
   plain_stays (frames.LocalCommit local) = refuses causes.WrongRole

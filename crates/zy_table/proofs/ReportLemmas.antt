@@ -17,7 +17,7 @@ use Rattle.zy_base.specs.declared.ids.Place.{Place}
 use Rattle.zy_base.specs.declared.ids.ReplicaId.{ReplicaId}
 use Rattle.zy_base.specs.declared.ids.View.{View}
 use Rattle.zy_base.specs.declared.ids.Party.TheVariants.{Replica}
-use Rattle.zy_chain.specs.Entries.{IsEntryInRange}
+use Rattle.zy_chain.specs.Entries.{IsEntryInRange, IsOfClients}
 use Rattle.zy_chain.specs.Heads.{head_from}
 use Rattle.zy_chain.specs.Stretch.{Mark, Stretch, end_of, head_in, with_entry, from_place}
 use Rattle.zy_chain.specs.declared.entry.Entry.{Entry}
@@ -266,7 +266,7 @@ module _ {S : Type 0} (s : State S) (is : TellsTrue s) where
 -- ---- one entry more, and fewer
 
 module _ {S : Type 0} (s : State S) (is : TellsTrue s) where
-  pub longer-true : (e : Entry) → IsJoined s → s.orders.base ≡ s.kept.base.place → s.kept.interval ≤ 32 → last_place s.kept < window_of s → e.client.0 < 64 → IsEntryInRange e → TellsTrue (record s { kept = longer s.kept e })
+  pub longer-true : (e : Entry) → IsJoined s → s.orders.base ≡ s.kept.base.place → s.kept.interval ≤ 32 → last_place s.kept < window_of s → IsOfClients e → IsEntryInRange e → TellsTrue (record s { kept = longer s.kept e })
   longer-true e joined base most room client in_range =
       let was = parts s.views (report_of s) is in
       let itself = was.itself in
@@ -294,7 +294,7 @@ module _ {S : Type 0} (s : State S) (is : TellsTrue s) where
           stable = record { view = itself.stable.view; multiple = itself.stable.multiple };
           entries = record {
             few = few;
-            clients = All-append (λ x. x.client.0 < 64) s.kept.entries (e ∷ []) itself.entries.clients (All-cons (λ (x : Entry). x.client.0 < 64) e [] client (All-nil (λ (x : Entry). x.client.0 < 64)));
+            clients = All-append IsOfClients s.kept.entries (e ∷ []) itself.entries.clients (All-cons IsOfClients e [] client (All-nil IsOfClients));
             end = omega (arith, many, room, joined.place);
           };
           began = fits-longer spine e (began_of (report_of s)) itself.began;
@@ -532,7 +532,7 @@ module _ {S : Type 0} (R : Rules S) (s : State S) (own : Check) (joined : IsJoin
           };
           itself = record {
             stable = record { view = omega (arith, view); multiple = ap (λ (k : ℕ). place % k) joined.interval ∙ here.multiple };
-            entries = record { few = omega (arith, many, itself.entries.few); clients = All-drop (λ x. x.client.0 < 64) above s.kept.entries itself.entries.clients; end = end };
+            entries = record { few = omega (arith, many, itself.entries.few); clients = All-drop IsOfClients above s.kept.entries itself.entries.clients; end = end };
             began = subst (λ (x : Stretch). Fits x (began_of (report_of s))) part (fits-settled spine place (began_of (report_of s)) higher within itself.began);
             spec = subst (λ (x : Stretch). IfSome (spec_of (report_of s).specs) (Fits x)) part (IfSome_then (spec_of (report_of s).specs) itself.spec (λ m. fits-settled spine place m higher within));
           };

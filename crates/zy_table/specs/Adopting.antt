@@ -1,6 +1,6 @@
 -- How a replica takes up the history with which a view begins: it judges it, goes back to where both are one, and executes
 -- what the report of the provider has above that.
-use Rattle.std.specs.Prelude.{ℕ, zero, suc, ◌+◌, ◌-◌, ◌%◌, ◌≤◌, nat_eq, nat_lt, nat_le, Bool, false, if◌then◌else◌, List, [], ◌∷◌, ◌++◌, length, filter, Option, Some, None}
+use Rattle.std.specs.Prelude.{ℕ, zero, suc, ◌+◌, ◌-◌, ◌%◌, nat_eq, nat_lt, nat_le, Bool, false, if◌then◌else◌, List, [], ◌∷◌, ◌++◌, filter, Option, Some, None}
 use Rattle.std.specs.List.{range_with_len, slice_range}
 use Rattle.zy_base.specs.Machine.{Rules}
 use Rattle.zy_base.specs.declared.cause.Cause.TheVariants as causes
@@ -20,6 +20,7 @@ use Rattle.zy_table.specs.declared.deeds.Got.{Got}
 use Rattle.zy_table.specs.declared.deeds.Verdict.{Verdict}
 use Rattle.zy_table.specs.declared.deeds.Verdict.TheVariants.{Take, Wait, Refuse}
 use Rattle.zy_table.specs.Gathering.{state_in}
+use Rattle.zy_chain.specs.Answers.{FitsAnswers}
 
 -- ---- the verdict: whether the history that the report gives up to a place, which has this head there, can be taken up
 
@@ -101,7 +102,7 @@ gots_of R told place k =
 -- what is gained can be kept as texts
 pub record IsGotInRange (got : Got) : Type 0 where
   pub entry : IsEntryInRange got.entry
-  pub reply : length got.reply ≤ 1100
+  pub reply : FitsAnswers got.reply
 
 -- ---- the checkpoints of it
 

@@ -4,7 +4,6 @@ use Rattle.std.specs.Prelude.{ℕ, nat_lt, Bool, true, false, if◌then◌else�
 use Rattle.std.specs.List.{list_any}
 use Rattle.zy_base.specs.Machine.{Rules}
 use Rattle.zy_base.specs.declared.ids.Party.{Party}
-use Rattle.zy_base.specs.declared.ids.Party.TheVariants.{Client}
 use Rattle.zy_base.specs.declared.ids.Place.{Place}
 use Rattle.zy_base.specs.declared.ids.View.{View}
 use Rattle.zy_base.specs.declared.step.Answer.{Answer}
@@ -41,11 +40,12 @@ use Rattle.zy_table.specs.declared.deeds.Verdict.{Verdict}
 use Rattle.zy_table.specs.declared.deeds.Verdict.TheVariants as verdicts
 use Rattle.zy_table.specs.declared.kept.OwnCheckpoint.{OwnCheckpoint}
 use Rattle.zy_table.specs.State.{State, own_view, spent, stood_of, with_spec}
-use Rattle.zy_table.specs.Deeds.{Going, Outcome, act, others, send}
+use Rattle.zy_table.specs.Deeds.{Going, Outcome, act, others, send, to_clients}
 use Rattle.zy_table.specs.Gathering.{own_at, settled_at, with_own_spec}
 use Rattle.zy_table.specs.Running.{sealed_spec}
 use Rattle.zy_table.specs.Adopting.{verdict_of, common_with, taken_over, gots_of, checkpoints_between}
 use Rattle.zy_table.specs.Leaving.{Attempt, goes, concluded, leave_alone}
+use Rattle.zy_chain.specs.Answers.{Answers}
 
 -- ---- the history that is taken up
 
@@ -81,15 +81,15 @@ begin_view R cert chosen told g =
 -- ---- its checkpoints are answered anew
 
 -- a response is signed, kept, and sent to the client and to all; no order goes with it
-abbrev pub respond_alone : {S : Type 0} → Rules S → OwnCheckpoint → List ℕ → Going S → Going S
+abbrev pub respond_alone : {S : Type 0} → Rules S → OwnCheckpoint → Answers → Going S → Going S
 respond_alone R own reply g =
     let signed = sealed_spec g.state own.spec in
     send All (frames.SpecResponse signed reply None)
-    (send (One (Client own.spec.client)) (frames.SpecResponse signed reply None)
+    (send (to_clients own.spec) (frames.SpecResponse signed reply None)
     (act (Says (record { body = bodies.Spec own.spec; stood = stood_of R g.state }))
     (record g { state = with_own_spec (with_spec (spent g.state) signed) own signed })))
 
-abbrev pub respond_to : {S : Type 0} → Rules S → Option OwnCheckpoint → Option (List ℕ) → Going S → Going S
+abbrev pub respond_to : {S : Type 0} → Rules S → Option OwnCheckpoint → Option Answers → Going S → Going S
 respond_to R None reply g = g
 respond_to R (Some own) None g = g
 respond_to R (Some own) (Some reply) g = respond_alone R own reply g
@@ -199,6 +199,6 @@ abbrev pub begun : {S : Type 0} → Rules S → Attempt S → Attempt S
 begun R (Err cause) = Err cause
 begun R (Ok end) = if list_any confirms end.1.deeds.acts then certify R end.0 end.1 else Ok end
 
--- Then the leaves are judged.
+-- Then the signatures left are judged.
 abbrev pub finished : {S : Type 0} → Rules S → State S → Attempt S → Outcome S
 finished R s attempt = concluded s (begun R attempt)

@@ -11,7 +11,7 @@ use Rattle.zy_check.specs.declared.kept.Kept.TheVariants as answers
 use Rattle.zy_check.specs.Board.{Board, with_spec, with_check}
 use Rattle.zy_check.specs.Judging.{judge_spec, judge_check}
 use Rattle.zy_table.specs.declared.kept.OwnCheckpoint.{OwnCheckpoint}
-use Rattle.zy_table.specs.State.{State, leaves_of}
+use Rattle.zy_table.specs.State.{State, signs_left}
 use Rattle.zy_table.specs.Deeds.{Outcome, refused, ends, begin}
 use Rattle.zy_table.specs.Gathering.{own_at, checks_owed, gather_at}
 
@@ -21,7 +21,7 @@ with_board s board = record s { board = board }
 -- a statement is kept beside the own one of its place, and what is kept there is looked through
 abbrev pub gathered : {S : Type 0} → Rules S → State S → Option OwnCheckpoint → Board → Outcome S
 gathered R s own board =
-    if nat_le (checks_owed (with_board s board) own false) (leaves_of s)
+    if nat_le (checks_owed (with_board s board) own false) (signs_left s)
     then ends Taken (gather_at R own false (begin (with_board s board)))
     else refused causes.KeySpent s
 

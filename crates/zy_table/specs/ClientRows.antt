@@ -1,7 +1,6 @@
 -- What a client makes of an event.
 use Rattle.std.specs.Prelude.{ℕ, ◌+◌, ◌%◌, nat_lt, nat_le, nat_eq, ◌&&◌, Bool, true, false, if◌then◌else◌, List, [], ◌∷◌, ◌++◌, take, count_by, slice_set, slice_index_or, unwrap_or, Option, Some, None, Result, Ok, Err}
 use Rattle.std.specs.List.{find, filter_map, list_any}
-use Rattle.sha2.specs.Sha256.{sha256}
 use Rattle.zy_base.specs.declared.frame_fault.FrameFault.{FrameFault}
 use Rattle.zy_base.specs.declared.frame_fault.FrameFault.TheVariants as faults
 use Rattle.zy_base.specs.declared.cause.Cause.{Cause}
@@ -14,9 +13,9 @@ use Rattle.zy_base.specs.declared.step.Event.{Event}
 use Rattle.zy_base.specs.declared.step.Event.TheVariants.{Heard, Timer}
 use Rattle.zy_base.specs.declared.step.TimerKind.{TimerKind}
 use Rattle.zy_base.specs.declared.step.TimerKind.TheVariants as timers
-use Rattle.zy_chain.specs.Entries.{digest_of_request}
+use Rattle.zy_chain.specs.Entries.{digest_of_entry}
 use Rattle.zy_parts.specs.Numbers as numbers
-use Rattle.zy_parts.specs.Statements.{ask_fields}
+use Rattle.zy_parts.specs.Statements.{ask_fields, entry_of}
 use Rattle.zy_parts.specs.declared.signed.Signed.{Signed}
 use Rattle.zy_parts.specs.declared.statements.Ask.{Ask}
 use Rattle.zy_parts.specs.declared.statements.Local.{Local}
@@ -43,7 +42,8 @@ use Rattle.zy_table.specs.declared.client.Commit.{Commit}
 use Rattle.zy_table.specs.declared.client.Done.{Done}
 use Rattle.zy_table.specs.declared.client.Path.TheVariants.{Fast, Slow}
 use Rattle.zy_table.specs.declared.client.Response.{Response}
-use Rattle.zy_table.specs.ClientState.{ClientState, ClientOutcome, no_responses, leaves_of, refused, taken}
+use Rattle.zy_table.specs.ClientState.{ClientState, ClientOutcome, no_responses, signs_left, refused, taken}
+use Rattle.zy_chain.specs.Answers.{digest_of_answers, Answers}
 
 -- ---- asking
 
@@ -63,7 +63,7 @@ asked s ask =
 
 abbrev pub ask_while : ClientState → Option (Signed Ask) → List ℕ → ClientOutcome
 ask_while s (Some waiting) op = refused (causes.Waiting waiting.stmt.stamp) s
-ask_while s None op = if nat_le 1 (leaves_of s) then asked s (next_ask s op) else refused causes.KeySpent s
+ask_while s None op = if nat_le 1 (signs_left s) then asked s (next_ask s op) else refused causes.KeySpent s
 
 -- a new request
 unfoldable pub ask : ClientState → List ℕ → ClientOutcome
@@ -77,7 +77,7 @@ is_own_order s waiting spec order =
     nat_eq order.view.0 spec.view.0
     && (nat_eq order.place.0 spec.place.0
     && (same_digest order.head spec.head
-    && same_digest order.request (digest_of_request s.me waiting.stmt.stamp waiting.stmt.op)))
+    && same_digest order.request (digest_of_entry (entry_of s.me waiting.stmt))))
 
 abbrev pub is_own_order_if : ClientState → Signed Ask → Spec → Option (Signed Order) → Bool
 is_own_order_if s waiting spec None = true
@@ -97,7 +97,7 @@ response_cause s waiting id r =
     if nat_eq r.spec.stmt.client.0 s.me.0
     then (if nat_lt r.spec.stmt.stamp.0 waiting.stmt.stamp.0 then Some causes.OldStamp
     else (if nat_lt waiting.stmt.stamp.0 r.spec.stmt.stamp.0 then Some causes.Unmatched
-    else (if same_digest (record { 0 = sha256 r.reply }) r.spec.stmt.reply
+    else (if same_digest (digest_of_answers r.reply) r.spec.stmt.reply
     then (if is_own_order_if s waiting r.spec.stmt r.order
     then (if is_repeated (kept_of s id) r.spec.stmt then Some causes.Repeat else None)
     else Some causes.Unmatched)
@@ -115,6 +115,10 @@ agrees spec (Some kept) = same_spec kept.spec.stmt spec
 abbrev pub agreeing : ClientState → Spec → ℕ
 agreeing s spec = count_by (agrees spec) s.responses
 
+-- what the client finds for itself in the answers to its request
+abbrev pub own_reply : Answers → List ℕ
+own_reply answers = answers
+
 -- what the client counts as complete by a response that has enough equals
 abbrev pub done_of : Response → Done
 done_of r =
@@ -124,7 +128,7 @@ done_of r =
       place = r.spec.stmt.place;
       head = r.spec.stmt.head;
       path = Fast;
-      reply = r.reply;
+      reply = own_reply r.reply;
     }
 
 abbrev pub complete : ClientState → Response → ClientState
@@ -197,7 +201,7 @@ done_by commit =
       place = commit.spec.place;
       head = commit.spec.head;
       path = Slow;
-      reply = commit.reply;
+      reply = own_reply commit.reply;
     }
 
 abbrev pub complete_by : ClientState → Commit → ClientState
@@ -251,7 +255,7 @@ locals_for wanted spec (Some commit) =
     if same_spec commit.spec spec then commit.locals else record { count = wanted; votes = [] }
 
 -- the certificate goes to all replicas, and is kept with the reply
-abbrev pub send_commit : ClientState → Spec → List ℕ → ClientOutcome
+abbrev pub send_commit : ClientState → Spec → Answers → ClientOutcome
 send_commit s spec reply =
     record {
       answer = Taken;

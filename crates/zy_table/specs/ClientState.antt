@@ -1,5 +1,5 @@
 -- What a client is, as far as its answers tell, and what a step of it does.
-use Rattle.std.specs.Prelude.{ℕ, ◌-◌, ◌^◌, Bool, true, false, List, [], map, replicate, Option, Some, None}
+use Rattle.std.specs.Prelude.{ℕ, Bool, true, false, List, [], map, replicate, Option, Some, None}
 use Rattle.std.specs.List.{range_with_len}
 use Rattle.zy_base.specs.declared.counts.Counts.{Counts}
 use Rattle.zy_base.specs.declared.cause.Cause.{Cause}
@@ -12,9 +12,8 @@ use Rattle.zy_base.specs.declared.step.Answer.{Answer}
 use Rattle.zy_base.specs.declared.step.Answer.TheVariants.{Taken, Refused}
 use Rattle.zy_base.specs.declared.step.Spoken.{Spoken}
 use Rattle.zy_base.specs.declared.step.Timers.{Timers}
-use Rattle.zy_lms.specs.Height.{levels_of}
 use Rattle.zy_seal.specs.Keys.{Keys}
-use Rattle.zy_seal.specs.Sealing.{SealerState}
+use Rattle.zy_seal.specs.Sealing.{SealerState, left_of}
 use Rattle.zy_parts.specs.Numbers as numbers
 use Rattle.zy_parts.specs.Signing.{text_of}
 use Rattle.zy_parts.specs.Statements.{ask_fields}
@@ -69,8 +68,8 @@ client_start me counts keys sealer stamp =
     }
 
 -- how many requests it can still sign
-abbrev pub leaves_of : ClientState → ℕ
-leaves_of s = 2 ^ levels_of s.sealer.key.height - s.sealer.key.next
+abbrev pub signs_left : ClientState → ℕ
+signs_left s = left_of s.sealer
 
 abbrev pub is_waiting : Option (Signed Ask) → Bool
 is_waiting None = false

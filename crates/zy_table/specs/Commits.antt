@@ -27,7 +27,7 @@ use Rattle.zy_table.specs.declared.deeds.To.TheVariants.{One}
 use Rattle.zy_table.specs.declared.deeds.Body.TheVariants as bodies
 use Rattle.zy_table.specs.declared.deeds.Act.TheVariants.{Says}
 use Rattle.zy_table.specs.declared.kept.OwnCheckpoint.{OwnCheckpoint}
-use Rattle.zy_table.specs.State.{State, stood_of, leaves_of, spent}
+use Rattle.zy_table.specs.State.{State, stood_of, signs_left, spent}
 use Rattle.zy_table.specs.Deeds.{Going, Outcome, send, act, refused, ends, begin}
 use Rattle.zy_table.specs.Gathering.{own_at, with_certificate, checks_owed, gather_at}
 
@@ -65,7 +65,7 @@ give_local R client local (Some said) s = send_local client said (begin s)
 abbrev pub commit_as : {S : Type 0} → Rules S → State S → List (Signed Spec) → ClientId → Local → Option (Signed Local) → Option OwnCheckpoint → Outcome S
 commit_as R s specs client local said own =
     let certain = with_certificate s local.place specs in
-    if nat_le (locals_owed said + checks_owed certain own true) (leaves_of s)
+    if nat_le (locals_owed said + checks_owed certain own true) (signs_left s)
     then ends Taken (gather_at R own true (give_local R client local said certain))
     else refused causes.KeySpent s
 

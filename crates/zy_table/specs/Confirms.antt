@@ -13,7 +13,7 @@ use Rattle.zy_frames.specs.declared.frame.OrderFrame.{OrderFrame}
 use Rattle.zy_exec.specs.declared.known.Known.{Known}
 use Rattle.zy_exec.specs.Kept.{known_in}
 use Rattle.zy_admit.specs.Orders.{stored_in}
-use Rattle.zy_admit.specs.Judging.{same_digest, entry_of}
+use Rattle.zy_admit.specs.Judging.{same_digest, entry_of, asking}
 use Rattle.zy_table.specs.declared.deeds.To.TheVariants.{One}
 use Rattle.zy_table.specs.State.{State}
 use Rattle.zy_table.specs.Deeds.{Outcome, send, refused, ends, begin}
@@ -34,5 +34,5 @@ confirm_after R s by ask (Some known) =
 unfoldable pub confirm : {S : Type 0} → Rules S → State S → Signed Confirm → Signed Ask → Outcome S
 confirm R s confirmed ask =
     if same_digest confirmed.stmt.request (digest_of_entry (entry_of ask))
-    then confirm_after R s confirmed.by ask (known_in R s.kept (entry_of ask).client.0)
+    then confirm_after R s confirmed.by ask (known_in R s.kept (asking ask.by).0)
     else refused causes.Unmatched s

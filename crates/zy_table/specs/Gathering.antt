@@ -2,7 +2,6 @@
 -- interval: a commit certificate, its own checkpoint, and in the end a place that is stable.
 use Rattle.std.specs.Prelude.{ℕ, ◌+◌, nat_le, ◌&&◌, ◌||◌, not, Bool, true, false, if◌then◌else◌, List, length, take, filter, Option, Some, None, option_map, is_some}
 use Rattle.std.specs.List.{list_any}
-use Rattle.sha2.specs.Sha256.{sha256}
 use Rattle.zy_base.specs.Machine.{Rules}
 use Rattle.zy_base.specs.declared.ids.Digest.{Digest}
 use Rattle.zy_base.specs.declared.ids.Place.{Place}
@@ -31,6 +30,7 @@ use Rattle.zy_table.specs.declared.kept.OwnCheckpoint.{OwnCheckpoint}
 use Rattle.zy_change.specs.Views.{is_further}
 use Rattle.zy_table.specs.State.{State, own_view, stood_of, spent}
 use Rattle.zy_table.specs.Deeds.{Going, send, act}
+use Rattle.zy_chain.specs.Answers.{digest_of_answers, Answers}
 
 -- ---- what the own history says of a place
 
@@ -45,18 +45,18 @@ check_with spec state = record { view = spec.view; place = spec.place; head = sp
 abbrev pub own_with : Spec → Digest → OwnCheckpoint
 own_with spec state = record { spec = spec; check = check_with spec state }
 
-abbrev pub spec_at : ℕ → ℕ → Entry → Digest → List ℕ → Spec
+abbrev pub spec_at : ℕ → ℕ → Entry → Digest → Answers → Spec
 spec_at view place e head reply =
     record {
       view = record { 0 = view };
       place = record { 0 = place };
       head = head;
-      reply = record { 0 = sha256 reply };
+      reply = digest_of_answers reply;
       client = e.client;
       stamp = e.stamp;
     }
 
-abbrev pub own_from : ℕ → ℕ → Option Entry → Option Digest → Option (List ℕ) → Option Digest → Option OwnCheckpoint
+abbrev pub own_from : ℕ → ℕ → Option Entry → Option Digest → Option Answers → Option Digest → Option OwnCheckpoint
 own_from view place None head reply state = None
 own_from view place (Some e) None reply state = None
 own_from view place (Some e) (Some head) None state = None

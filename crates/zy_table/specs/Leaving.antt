@@ -7,7 +7,6 @@ use Rattle.zy_base.specs.declared.cause.Cause.TheVariants as causes
 use Rattle.zy_base.specs.declared.ids.View.{View}
 use Rattle.zy_base.specs.declared.step.Answer.{Answer}
 use Rattle.zy_base.specs.declared.step.Answer.TheVariants.{Taken}
-use Rattle.zy_lms.specs.Height.{levels_of}
 use Rattle.zy_parts.specs.Numbers as numbers
 use Rattle.zy_parts.specs.Reports.{change_fields, new_fields, began_fields}
 use Rattle.zy_parts.specs.declared.signed.Signed.{Signed}
@@ -19,7 +18,7 @@ use Rattle.zy_vframes.specs.declared.frame.ViewFrame.TheVariants as frames
 use Rattle.zy_choose.specs.declared.choice.Choice.{Choice}
 use Rattle.zy_choose.specs.declared.choice.Choice.TheVariants as choices
 use Rattle.zy_exec.specs.Kept.{last_place, stretch_of}
-use Rattle.zy_seal.specs.Sealing.{SealerState, sealed_by}
+use Rattle.zy_seal.specs.Sealing.{SealerState, sealed_by, signatures_by}
 use Rattle.zy_admit.specs.Orders.{orders_up_to}
 use Rattle.zy_change.specs.declared.kept.Accepted.{Accepted}
 use Rattle.zy_change.specs.declared.kept.Chosen.{Chosen}
@@ -33,18 +32,18 @@ use Rattle.zy_table.specs.Deeds.{Going, Outcome, refused, ends, send_view, act}
 
 -- ---- a step that may fail on its way
 
--- what it comes to, or why it is refused; it goes on past the last leaf of the key
+-- what it comes to, or why it is refused; it goes on past the last signature of the key
 abbrev pub Attempt : Type 0 → Type 0
 Attempt S = Result (Answer × Going S) Cause
 
 abbrev pub goes : {S : Type 0} → Answer → Going S → Attempt S
 goes answer g = Ok (answer, g)
 
--- more was signed than the key has leaves
+-- more was signed than the key gives signatures
 abbrev pub is_overspent : SealerState → Bool
-is_overspent sealer = nat_lt (2 ^ levels_of sealer.key.height) sealer.key.next
+is_overspent sealer = nat_lt (signatures_by sealer.key.height) sealer.key.next
 
--- the leaves are judged here alone, after every other cause against the step
+-- the signatures left are judged here alone, after every other cause against the step
 abbrev pub concluded : {S : Type 0} → State S → Attempt S → Outcome S
 concluded s (Err cause) = refused cause s
 concluded s (Ok end) = if is_overspent end.1.state.sealer then refused causes.KeySpent s else ends end.0 end.1

@@ -15,11 +15,11 @@ use Rattle.zy_admit.specs.declared.judging.Admit.{Admit}
 use Rattle.zy_admit.specs.declared.judging.Admit.TheVariants as admits
 use Rattle.zy_admit.specs.declared.judging.Position.{Position}
 use Rattle.zy_admit.specs.Orders.{stored_in, with_order, gap_above}
-use Rattle.zy_admit.specs.Judging.{entry_of}
+use Rattle.zy_admit.specs.Judging.{ordered_entry}
 use Rattle.zy_table.specs.declared.deeds.To.TheVariants.{One}
 use Rattle.zy_table.specs.declared.deeds.Body.TheVariants as bodies
 use Rattle.zy_table.specs.declared.deeds.Act.TheVariants.{Says}
-use Rattle.zy_table.specs.State.{State, own_view, primary_of, window_of, stood_of, leaves_of, spent}
+use Rattle.zy_table.specs.State.{State, own_view, primary_of, window_of, stood_of, signs_left, spent}
 use Rattle.zy_table.specs.Deeds.{Going, Outcome, send, act, refused, ends, begin}
 use Rattle.zy_table.specs.Running.{run, signs_of}
 
@@ -29,14 +29,14 @@ position_of R s frame =
       end = record { 0 = last_place s.kept };
       head = (now_of R s.kept).head;
       window = record { 0 = window_of s };
-      last = option_map (λ known. known.stamp) (known_in R s.kept (entry_of frame.ask).client.0);
+      last = option_map (λ known. known.stamp) (known_in R s.kept (ordered_entry frame).client.0);
     }
 
 -- ---- an order that is next
 
 abbrev pub take_order : {S : Type 0} → Rules S → State S → OrderFrame → Outcome S
 take_order R s frame =
-    if nat_le (signs_of R s frame.ask) (leaves_of s)
+    if nat_le (signs_of R s (ordered_entry frame)) (signs_left s)
     then ends Taken (run R frame (begin (record s { orders = with_order s.orders frame; hole = None })))
     else refused causes.KeySpent s
 
@@ -72,7 +72,7 @@ ask_for_missing R s =
 abbrev pub hold_order : {S : Type 0} → Rules S → State S → OrderFrame → Outcome S
 hold_order R s frame =
     if owes_hole s
-    then (if nat_le 1 (leaves_of s)
+    then (if nat_le 1 (signs_left s)
     then ends Held (ask_for_missing R (record s { orders = with_order s.orders frame }))
     else refused causes.KeySpent s)
     else ends Held (begin (record s { orders = with_order s.orders frame }))

@@ -1,7 +1,6 @@
 -- What a replica answers to a request.
 use Rattle.std.specs.Prelude.{◌+◌, nat_lt, nat_le, nat_eq, Bool, false, if◌then◌else◌, Option, Some, None, option_map}
 use Rattle.zy_base.specs.Machine.{Rules}
-use Rattle.zy_base.specs.declared.ids.Party.TheVariants.{Client}
 use Rattle.zy_base.specs.declared.cause.Cause.TheVariants as causes
 use Rattle.zy_base.specs.declared.step.Answer.TheVariants.{Taken}
 use Rattle.zy_chain.specs.Entries.{digest_of_entry}
@@ -18,62 +17,57 @@ use Rattle.zy_seal.specs.Sealing.{sealed_by}
 use Rattle.zy_exec.specs.declared.known.Known.{Known}
 use Rattle.zy_exec.specs.Kept.{last_place, known_in}
 use Rattle.zy_admit.specs.Orders.{stored_in, with_order}
-use Rattle.zy_admit.specs.Judging.{entry_of}
-use Rattle.zy_cert.specs.Equal.{same_spec}
+use Rattle.zy_admit.specs.Judging.{entry_of, asking}
 use Rattle.zy_table.specs.declared.deeds.To.TheVariants.{All, One}
 use Rattle.zy_table.specs.declared.deeds.Body.TheVariants as bodies
 use Rattle.zy_table.specs.declared.deeds.Act.TheVariants.{Says}
 use Rattle.zy_table.specs.declared.kept.Pending.{Pending}
-use Rattle.zy_table.specs.State.{State, own_view, is_leaving, is_primary, primary_of, window_of, stood_of, leaves_of, spent, spec_to, with_spec, pending_of, with_pending}
-use Rattle.zy_table.specs.Deeds.{Going, Outcome, send, act, refused, ends, begin}
+use Rattle.zy_table.specs.State.{State, own_view, is_leaving, is_primary, primary_of, window_of, stood_of, signs_left, spent, with_spec, pending_of, with_pending, spec_said}
+use Rattle.zy_table.specs.Deeds.{Going, Outcome, send, act, refused, ends, begin, to_clients}
 use Rattle.zy_table.specs.Running.{spec_of, next_known, sealed_spec, run, signs_of}
+use Rattle.zy_chain.specs.declared.entry.Entry.{Entry}
 
 -- ---- a request that was executed last
 
 -- the response with its order, where it is kept
 abbrev pub response_of : {S : Type 0} → State S → Signed Spec → Known → Going S → Going S
 response_of s signed known g =
-    send (One (Client signed.stmt.client))
+    send (to_clients signed.stmt)
     (frames.SpecResponse signed known.reply (option_map (λ o. o.order) (stored_in s.orders known.place.0))) g
 
--- the response is signed anew where it isn't the one that was signed last
+-- the response is signed anew where it isn't kept
 abbrev pub respond_anew : {S : Type 0} → Rules S → State S → Spec → Known → Outcome S
 respond_anew R s spec known =
-    if nat_le 1 (leaves_of s)
+    if nat_le 1 (signs_left s)
     then (let signed = sealed_spec s spec in
     ends Taken (response_of s signed known
     (act (Says (record { body = bodies.Spec spec; stood = stood_of R s })) (begin (with_spec (spent s) signed)))))
     else refused causes.KeySpent s
-
--- the response that was signed last, where it is this one
-abbrev pub said_already : Option (Signed Spec) → Spec → Option (Signed Spec)
-said_already None spec = None
-said_already (Some signed) spec = if same_spec signed.stmt spec then Some signed else None
 
 abbrev pub respond_as : {S : Type 0} → Rules S → State S → Option (Signed Spec) → Spec → Known → Outcome S
 respond_as R s None spec known = respond_anew R s spec known
 respond_as R s (Some signed) spec known = ends Taken (response_of s signed known (begin s))
 
 abbrev pub respond_with : {S : Type 0} → Rules S → State S → Spec → Known → Outcome S
-respond_with R s spec known = respond_as R s (said_already (spec_to s spec.client) spec) spec known
+respond_with R s spec known = respond_as R s (spec_said s spec) spec known
 
 abbrev pub respond_again : {S : Type 0} → Rules S → State S → Signed Ask → Known → Outcome S
-respond_again R s ask known = respond_with R s (spec_of (own_view s) ask known) known
+respond_again R s ask known = respond_with R s (spec_of (own_view s) (entry_of ask) known) known
 
 -- ---- a new request at the primary
 
-abbrev pub order_of : {S : Type 0} → Rules S → State S → Signed Ask → Order
-order_of R s ask =
+abbrev pub order_of : {S : Type 0} → Rules S → State S → Entry → Order
+order_of R s e =
     record {
       view = record { 0 = own_view s };
-      place = (next_known R s ask).place;
-      head = (next_known R s ask).head;
-      request = digest_of_entry (entry_of ask);
+      place = (next_known R s e).place;
+      head = (next_known R s e).head;
+      request = digest_of_entry e;
     }
 
 abbrev pub sealed_order : {S : Type 0} → Rules S → State S → Signed Ask → OrderFrame
 sealed_order R s ask =
-    record { order = sealed_by numbers.order order_fields s.sealer (order_of R s ask); ask = ask }
+    record { order = sealed_by numbers.order order_fields s.sealer (order_of R s (entry_of ask)); ask = ask }
 
 -- the order is signed, kept and sent to all
 abbrev pub ordered : {S : Type 0} → Rules S → State S → Signed Ask → Going S
@@ -83,10 +77,10 @@ ordered R s ask =
     (act (Says (record { body = bodies.Order o.order.stmt; stood = stood_of R s }))
     (begin (record (spent s) { orders = with_order s.orders o })))
 
--- and then run; the order wants a leaf too
+-- and then run; the order wants a signature too
 abbrev pub take_request : {S : Type 0} → Rules S → State S → Signed Ask → Outcome S
 take_request R s ask =
-    if nat_le (signs_of R s ask + 1) (leaves_of s) then ends Taken (run R (sealed_order R s ask) (ordered R s ask)) else refused causes.KeySpent s
+    if nat_le (signs_of R s (entry_of ask) + 1) (signs_left s) then ends Taken (run R (sealed_order R s ask) (ordered R s ask)) else refused causes.KeySpent s
 
 abbrev pub request_at_primary : {S : Type 0} → Rules S → State S → Signed Ask → Outcome S
 request_at_primary R s ask =
@@ -113,10 +107,10 @@ request_waits R s ask =
     let pending = sealed_confirm s ask in
     tell_primary s pending
     (act (Says (record { body = bodies.Confirm pending.confirm.stmt; stood = stood_of R s }))
-    (begin (with_pending (spent s) (entry_of ask).client (Some pending))))
+    (begin (with_pending (spent s) (asking ask.by) (Some pending))))
 
 abbrev pub forward : {S : Type 0} → Rules S → State S → Signed Ask → Outcome S
-forward R s ask = if nat_le 1 (leaves_of s) then ends Taken (request_waits R s ask) else refused causes.KeySpent s
+forward R s ask = if nat_le 1 (signs_left s) then ends Taken (request_waits R s ask) else refused causes.KeySpent s
 
 -- what was said of a request that waits already is sent again
 abbrev pub request_at_backup : {S : Type 0} → Rules S → State S → Signed Ask → Option Pending → Outcome S
@@ -126,7 +120,7 @@ request_at_backup R s ask (Some pending) =
 
 abbrev pub new_request : {S : Type 0} → Rules S → State S → Signed Ask → Outcome S
 new_request R s ask =
-    if is_primary s then request_at_primary R s ask else request_at_backup R s ask (pending_of s (entry_of ask).client)
+    if is_primary s then request_at_primary R s ask else request_at_backup R s ask (pending_of s (asking ask.by))
 
 -- ---- the row
 
@@ -144,5 +138,5 @@ is_behind ask (Some pending) = nat_lt ask.stmt.stamp.0 pending.ask.stmt.stamp.0
 unfoldable pub request : {S : Type 0} → Rules S → State S → Signed Ask → Outcome S
 request R s ask =
     if is_leaving s then refused causes.NotActive s
-    else (if is_behind ask (pending_of s (entry_of ask).client) then refused causes.OldStamp s
-    else request_after R s ask (known_in R s.kept (entry_of ask).client.0))
+    else (if is_behind ask (pending_of s (asking ask.by)) then refused causes.OldStamp s
+    else request_after R s ask (known_in R s.kept (asking ask.by).0))

@@ -1,69 +1,67 @@
 -- Running an order: its entry is executed and answered in the same step, and then the orders that were held for it.
-use Rattle.std.specs.Prelude.{ℕ, ◌+◌, nat_lt, nat_le, ◌&&◌, Bool, false, if◌then◌else◌, List, [], ◌∷◌, Option, Some, None, option_map}
-use Rattle.sha2.specs.Sha256.{sha256}
+use Rattle.std.specs.Prelude.{ℕ, ◌+◌, nat_lt, nat_le, ◌&&◌, Bool, false, if◌then◌else◌, List, [], ◌∷◌, Option, Some, None}
 use Rattle.zy_base.specs.Machine.{Rules}
 use Rattle.zy_base.specs.declared.ids.Digest.{Digest}
 use Rattle.zy_base.specs.declared.ids.Stamp.{Stamp}
-use Rattle.zy_base.specs.declared.ids.Party.TheVariants.{Client}
 use Rattle.zy_chain.specs.Entries.{digest_of_entry}
 use Rattle.zy_chain.specs.declared.entry.Entry.{Entry}
 use Rattle.zy_chain.specs.Heads.{head_after}
 use Rattle.zy_parts.specs.Numbers as numbers
 use Rattle.zy_parts.specs.Statements.{spec_fields}
 use Rattle.zy_parts.specs.declared.signed.Signed.{Signed}
-use Rattle.zy_parts.specs.declared.statements.Ask.{Ask}
 use Rattle.zy_parts.specs.declared.statements.Order.{Order}
 use Rattle.zy_parts.specs.declared.statements.Spec.{Spec}
 use Rattle.zy_frames.specs.declared.frame.OrderFrame.{OrderFrame}
 use Rattle.zy_frames.specs.declared.frame.Frame.TheVariants as frames
 use Rattle.zy_seal.specs.Sealing.{sealed_by}
 use Rattle.zy_exec.specs.declared.known.Known.{Known}
-use Rattle.zy_exec.specs.Replay.{known_of}
-use Rattle.zy_exec.specs.Kept.{longer, last_place, now_of, known_in}
+use Rattle.zy_exec.specs.Replay.{known_of, is_new_to}
+use Rattle.zy_exec.specs.Kept.{longer, last_place, now_of}
 use Rattle.zy_exec.specs.Shots.{snapshot_in}
 use Rattle.zy_admit.specs.Orders.{without_order, slots_above}
-use Rattle.zy_admit.specs.Judging.{same_digest, entry_of, newer}
-use Rattle.zy_table.specs.declared.deeds.To.TheVariants.{All, One}
+use Rattle.zy_admit.specs.Judging.{same_digest, ordered_entry}
+use Rattle.zy_table.specs.declared.deeds.To.TheVariants.{All}
 use Rattle.zy_table.specs.declared.deeds.Body.TheVariants as bodies
 use Rattle.zy_table.specs.declared.deeds.Got.{Got}
 use Rattle.zy_table.specs.declared.deeds.Act.TheVariants.{Says, Gains}
 use Rattle.zy_table.specs.declared.kept.Pending.{Pending}
-use Rattle.zy_table.specs.State.{State, own_view, stood_of, leaves_of, spent, with_spec, pending_of, with_pending}
-use Rattle.zy_table.specs.Deeds.{Going, send, act}
+use Rattle.zy_table.specs.State.{State, own_view, stood_of, signs_left, spent, with_spec, pending_of, with_pending}
+use Rattle.zy_table.specs.Deeds.{Going, send, act, to_clients}
 use Rattle.zy_table.specs.Gathering.{state_in, own_with, with_own_spec, gather, signs_with}
+use Rattle.zy_chain.specs.Answers.{Answers, digest_of_answers}
 
 -- what an executed entry is answered with
-abbrev pub spec_of : ℕ → Signed Ask → Known → Spec
-spec_of view ask known =
+abbrev pub spec_of : ℕ → Entry → Known → Spec
+spec_of view e known =
     record {
       view = record { 0 = view };
       place = known.place;
       head = known.head;
-      reply = record { 0 = sha256 known.reply };
-      client = (entry_of ask).client;
+      reply = digest_of_answers known.reply;
+      client = e.client;
       stamp = known.stamp;
     }
 
--- what is known of a request that is executed next
-abbrev pub next_known : {S : Type 0} → Rules S → State S → Signed Ask → Known
-next_known R s ask = known_of R (now_of R s.kept) (entry_of ask)
+-- what is known of an entry that is executed next
+abbrev pub next_known : {S : Type 0} → Rules S → State S → Entry → Known
+next_known R s e = known_of R (now_of R s.kept) e
 
 -- what is gained by an entry that is executed on a head
-abbrev pub got_from : Digest → Signed Ask → Known → Option (List ℕ) → Got
-got_from before ask known snapshot =
+abbrev pub got_from : Digest → Entry → Known → Option (List ℕ) → Got
+got_from before e known snapshot =
     record {
       place = known.place;
       before = before;
-      entry = entry_of ask;
+      entry = e;
       head = known.head;
       reply = known.reply;
       snapshot = snapshot;
     }
 
-abbrev pub got_of : {S : Type 0} → Rules S → State S → Signed Ask → Got
-got_of R s ask =
-    let known = next_known R s ask in
-    got_from (now_of R s.kept).head ask known (snapshot_in R (longer s.kept (entry_of ask)) known.place.0)
+abbrev pub got_of : {S : Type 0} → Rules S → State S → Entry → Got
+got_of R s e =
+    let known = next_known R s e in
+    got_from (now_of R s.kept).head e known (snapshot_in R (longer s.kept e) known.place.0)
 
 -- a request that waits still, where one of its client with this stamp was executed
 abbrev pub still_pending : Stamp → Option Pending → Option Pending
@@ -75,24 +73,24 @@ abbrev pub without_pending : {S : Type 0} → State S → Entry → State S
 without_pending s e = with_pending s e.client (still_pending e.stamp (pending_of s e.client))
 
 -- the history gets the entry, and its request waits no longer
-abbrev pub executed : {S : Type 0} → Rules S → Signed Ask → Going S → Going S
-executed R ask g =
-    act (Gains (got_of R g.state ask))
-    (record g { state = without_pending (record g.state { kept = longer g.state.kept (entry_of ask) }) (entry_of ask) })
+abbrev pub executed : {S : Type 0} → Rules S → Entry → Going S → Going S
+executed R e g =
+    act (Gains (got_of R g.state e))
+    (record g { state = without_pending (record g.state { kept = longer g.state.kept e }) e })
 
 -- the response that is signed
 abbrev pub sealed_spec : {S : Type 0} → State S → Spec → Signed Spec
 sealed_spec s spec = sealed_by numbers.spec spec_fields s.sealer spec
 
 -- it is kept as the last one, and sent to the client with its order
-abbrev pub respond : {S : Type 0} → Rules S → Signed Order → Signed Spec → List ℕ → Going S → Going S
+abbrev pub respond : {S : Type 0} → Rules S → Signed Order → Signed Spec → Answers → Going S → Going S
 respond R order signed reply g =
-    send (One (Client signed.stmt.client)) (frames.SpecResponse signed reply (Some order))
+    send (to_clients signed.stmt) (frames.SpecResponse signed reply (Some order))
     (act (Says (record { body = bodies.Spec signed.stmt; stood = stood_of R g.state }))
     (record g { state = with_spec (spent g.state) signed }))
 
 -- At a multiple of the interval it goes to all as well, it is kept with those of others, and what is kept is looked through.
-abbrev pub share : {S : Type 0} → Rules S → Signed Order → Signed Spec → List ℕ → Option Digest → Going S → Going S
+abbrev pub share : {S : Type 0} → Rules S → Signed Order → Signed Spec → Answers → Option Digest → Going S → Going S
 share R order signed reply None g = g
 share R order signed reply (Some state) g =
     let own = own_with signed.stmt state in
@@ -100,7 +98,7 @@ share R order signed reply (Some state) g =
     gather R own false (record told { state = with_own_spec told.state own signed })
 
 -- the answer to an entry that was executed: the response, and what goes with it at a multiple of the interval
-abbrev pub answered : {S : Type 0} → Rules S → Signed Order → Spec → List ℕ → Going S → Going S
+abbrev pub answered : {S : Type 0} → Rules S → Signed Order → Spec → Answers → Going S → Going S
 answered R order spec reply g =
     let signed = sealed_spec g.state spec in
     share R order signed reply (state_in R g.state.kept spec.place.0) (respond R order signed reply g)
@@ -108,28 +106,28 @@ answered R order spec reply g =
 -- one order: its entry is executed, and then answered
 unfoldable pub run_one : {S : Type 0} → Rules S → OrderFrame → Going S → Going S
 run_one R o g =
-    answered R o.order (spec_of (own_view g.state) o.ask (next_known R g.state o.ask)) (next_known R g.state o.ask).reply
-    (executed R o.ask g)
+    let e = ordered_entry o in
+    answered R o.order (spec_of (own_view g.state) e (next_known R g.state e)) (next_known R g.state e).reply (executed R e g)
 
 -- how many statements that signs
-abbrev pub signs_of : {S : Type 0} → Rules S → State S → Signed Ask → ℕ
-signs_of R s ask =
-    let spec = spec_of (own_view s) ask (next_known R s ask) in
-    signs_with s spec (state_in R (longer s.kept (entry_of ask)) spec.place.0)
+abbrev pub signs_of : {S : Type 0} → Rules S → State S → Entry → ℕ
+signs_of R s e =
+    let spec = spec_of (own_view s) e (next_known R s e) in
+    signs_with s spec (state_in R (longer s.kept e) spec.place.0)
 
 -- the order has the head and the stamp that the next one has to have
 abbrev pub fits_end : {S : Type 0} → Rules S → State S → OrderFrame → Bool
 fits_end R s o =
-    same_digest o.order.stmt.head (head_after (now_of R s.kept).head (digest_of_entry (entry_of o.ask)))
-    && newer o.ask.stmt.stamp (option_map (λ known. known.stamp) (known_in R s.kept (entry_of o.ask).client.0))
+    let e = ordered_entry o in
+    same_digest o.order.stmt.head (head_after (now_of R s.kept).head (digest_of_entry e)) && is_new_to (now_of R s.kept).known e
 
--- the orders that are held in the next slots, as long as leaves are left; one that doesn't fit is dropped
+-- the orders that are held in the next slots, as long as signatures are left; one that doesn't fit is dropped
 unfoldable pub run_held : {S : Type 0} → Rules S → List (Option OrderFrame) → Going S → Going S
 run_held R [] g = g
 run_held R (None ∷ slots) g = g
 run_held R (Some o ∷ slots) g =
     if fits_end R g.state o
-    then (if nat_le (signs_of R g.state o.ask) (leaves_of g.state) then run_held R slots (run_one R o g) else g)
+    then (if nat_le (signs_of R g.state (ordered_entry o)) (signs_left g.state) then run_held R slots (run_one R o g) else g)
     else record g { state = record g.state { orders = without_order g.state.orders (last_place g.state.kept + 1) } }
 
 -- an order that is next, and those that were held for it

@@ -1,6 +1,6 @@
 -- What a replica is, as far as its answers tell.
-use Rattle.std.specs.Prelude.{ℕ, ◌+◌, ◌-◌, ◌*◌, ◌%◌, ◌^◌, min, nat_eq, ◌||◌, Bool, true, false, List, [], slice_index_or, slice_set, replicate, Option, Some, None, is_some}
-use Rattle.std.specs.List.{list_any}
+use Rattle.std.specs.Prelude.{ℕ, ◌+◌, ◌-◌, ◌*◌, ◌%◌, ◌^◌, min, nat_eq, ◌||◌, Bool, true, false, List, [], slice_index_or, slice_set, replicate, Option, None, is_some, not, filter, ◌∷◌, ◌++◌}
+use Rattle.std.specs.List.{list_any, find}
 use Rattle.zy_base.specs.Machine.{Rules}
 use Rattle.zy_base.specs.declared.counts.Counts.{Counts}
 use Rattle.zy_base.specs.declared.ids.ReplicaId.{ReplicaId}
@@ -11,9 +11,8 @@ use Rattle.zy_base.specs.declared.step.Mode.{Mode}
 use Rattle.zy_base.specs.declared.step.Mode.TheVariants.{Active, Leaving}
 use Rattle.zy_base.specs.declared.step.Stood.{Stood}
 use Rattle.zy_base.specs.declared.step.Timers.{Timers}
-use Rattle.zy_lms.specs.Height.{levels_of}
 use Rattle.zy_seal.specs.Keys.{Keys}
-use Rattle.zy_seal.specs.Sealing.{SealerState, spent_one}
+use Rattle.zy_seal.specs.Sealing.{SealerState, spent_one, left_of}
 use Rattle.zy_parts.specs.declared.signed.Signed.{Signed}
 use Rattle.zy_parts.specs.declared.statements.Spec.{Spec}
 use Rattle.zy_parts.specs.declared.statements.Hate.{Hate}
@@ -30,6 +29,7 @@ use Rattle.zy_check.specs.Board as boards
 use Rattle.zy_change.specs.Views.{Views}
 use Rattle.zy_change.specs.Views as views
 use Rattle.zy_table.specs.declared.kept.Pending.{Pending}
+use Rattle.zy_cert.specs.Equal.{same_spec}
 
 pub record State (S : Type 0) : Type 0 where
   pub me : ReplicaId
@@ -47,8 +47,8 @@ pub record State (S : Type 0) : Type 0 where
   pub board : Board
   -- what it asked the primary for last
   pub hole : Option (Signed Hole)
-  -- its last response to each client
-  pub specs : List (Option (Signed Spec))
+  -- its own responses that may be asked for again: the last one to each client
+  pub specs : List (Signed Spec)
   -- for each client the request that waits for its order
   pub pending : List (Option Pending)
   -- the local commits that it said, from the stable place on
@@ -71,7 +71,7 @@ start_of R interval me counts keys sealer =
       orders = no_orders 0;
       board = boards.start_of interval (digest_of_snapshot (snapshot_of R (origin R)));
       hole = None;
-      specs = replicate 64 None;
+      specs = [];
       pending = replicate 64 None;
       locals = [];
       hate = None;
@@ -105,19 +105,24 @@ abbrev pub stood_of : {S : Type 0} → Rules S → State S → Stood
 stood_of R s = record { mode = s.views.mode; length = record { 0 = last_place s.kept }; head = (now_of R s.kept).head }
 
 -- how many statements it can still sign
-abbrev pub leaves_of : {S : Type 0} → State S → ℕ
-leaves_of s = 2 ^ levels_of s.sealer.key.height - s.sealer.key.next
+abbrev pub signs_left : {S : Type 0} → State S → ℕ
+signs_left s = left_of s.sealer
 
--- with one leaf spent
+-- with one signature spent
 abbrev pub spent : {S : Type 0} → State S → State S
 spent s = record s { sealer = spent_one s.sealer }
 
--- the own last response to a client
-abbrev pub spec_to : {S : Type 0} → State S → ClientId → Option (Signed Spec)
-spec_to s client = slice_index_or s.specs client.0 None
+-- the own response that says this, where it is kept
+abbrev pub spec_said : {S : Type 0} → State S → Spec → Option (Signed Spec)
+spec_said s spec = find (λ said. same_spec said.stmt spec) s.specs
 
+-- a response stays beside a later one, unless both are to one client
+abbrev pub is_beside : Spec → Signed Spec → Bool
+is_beside later said = not (nat_eq said.stmt.client.0 later.client.0)
+
+-- with one more response
 abbrev pub with_spec : {S : Type 0} → State S → Signed Spec → State S
-with_spec s spec = record s { specs = slice_set s.specs spec.stmt.client.0 (Some spec) }
+with_spec s signed = record s { specs = filter (is_beside signed.stmt) s.specs ++ signed ∷ [] }
 
 -- a client's request that waits for its order
 abbrev pub pending_of : {S : Type 0} → State S → ClientId → Option Pending

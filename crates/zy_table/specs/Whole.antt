@@ -27,7 +27,7 @@ use Rattle.zy_vframes.specs.ViewFrames as views
 use Rattle.zy_vframes.specs.Parts as view_parts
 use Rattle.zy_seal.specs.Screening.{screen}
 use Rattle.zy_admit.specs.Orders.{stored_in}
-use Rattle.zy_admit.specs.Judging.{judge_in}
+use Rattle.zy_admit.specs.Judging.{judge_in, ordered_entry}
 use Rattle.zy_admit.specs.declared.judging.Admit.{Admit}
 use Rattle.zy_admit.specs.declared.judging.Admit.TheVariants as admits
 use Rattle.zy_table.specs.State.{State}
@@ -95,7 +95,7 @@ order_judged R s both admits.Held = order_as R s both admits.Held
 order_judged R s both (admits.Refused cause) = order_as R s both (admits.Refused cause)
 
 abbrev pub order : {S : Type 0} → Rules S → State S → OrderFrame → Outcome S
-order R s both = order_judged R s both (judge_in s.orders both.order.stmt both.ask (position_of R s both))
+order R s both = order_judged R s both (judge_in s.orders both.order.stmt (ordered_entry both) (position_of R s both))
 
 abbrev pub plain_row : {S : Type 0} → Rules S → State S → Frame → Outcome S
 plain_row R s (frames.Request ask) = request R s ask

@@ -22,8 +22,8 @@ is_hosted (Ok (Command.Node group secret id turns)) = true
 is_hosted (Ok (Command.Ask group secret id turns op)) = true
 is_hosted (Ok (Command.Serve group secret id turns journal)) = true
 
--- what a node's turns and an ask's come to over files that are told, at the address of their group's file; other commands hear and
--- send nothing, and ask for no address
+-- what a node's turns and an ask's come to over files that are told, at the address of their group's file; other commands but `serve`
+-- hear and send nothing, and ask for no address
 abbrev pub IsHosted : Option Held → Result Command ℕ → Exit → Surroundings → Surroundings → Option (List ℕ) → Option (List ℕ) → Type 0
 IsHosted told (Err word) exit from to old new = to ≡ from
 IsHosted told (Ok (Command.Space script)) exit from to old new = to ≡ from
@@ -62,7 +62,7 @@ AreSpent (Ok (Command.Ask group secret id turns op)) exit before after = TookAll
 AreSpent (Ok (Command.Serve group secret id turns journal)) exit before after = TookAll turns exit before after
 
 -- a node and an ask ask for an address of their party, once and before anything is sent or heard, where their files are in order and
--- can be read; no other command asks for one
+-- can be read; `serve` asks likewise, where its journal is in order too; no other command asks for one
 abbrev pub AreBound : Result Command ℕ → Exit → Standing → BindCalls → BindCalls → Type 0
 AreBound (Err word) exit start before after = after ≡ before
 AreBound (Ok (Command.Space script)) exit start before after = after ≡ before

@@ -74,7 +74,8 @@ pub fn zyzzyva<R: Threads + Sync, F: Files, S: Sink, L: Link, C: Clock, D: Disk>
         → (result ≡ Exit.Done) ⊎ (result ≡ Exit.Want)) }
 
     // Over files that are told, a node and an ask send and hear what the run of their turns does, and write what it comes to;
-    // after a fault of the link nothing is written, and a front of it was sent. Other commands touch neither link nor clock.
+    // after a fault of the link nothing is written, and a front of it was sent. Of `serve` a disk decides too, and `kept` says it.
+    // Other commands touch neither link nor clock.
     ensures hosted { IsHosted (F.held files.old) (command_of (texts words.now)) result
         (record { outside = record { mail = L.mail link.old; receives = L.receives link.old; moments = C.moments clock.old }; binding = L.binding link.old })
         (record { outside = record { mail = L.mail link.new; receives = L.receives link.new; moments = C.moments clock.new }; binding = L.binding link.new })
@@ -82,8 +83,8 @@ pub fn zyzzyva<R: Threads + Sync, F: Files, S: Sink, L: Link, C: Clock, D: Disk>
     ensures alone { (is_hosted (command_of (texts words.now)) ≡ false) → (link.new ≡ link.old) × (clock.new ≡ clock.old) }
 
     // A node and an ask ask for an address once, as their party, where all their files are in order, and before they send and hear:
-    // the link stood then as at the start. Over files that are told it is the one of the group's file (above). No other command asks
-    // for one.
+    // the link stood then as at the start. Over files that are told it is the one of the group's file (above). `serve` asks for its
+    // own likewise, where its journal is in order too. No other command asks for one.
     ensures bound { AreBound (command_of (texts words.now)) result (record { receives = L.receives link.old; mail = L.mail link.old }) (L.binding link.old) (L.binding link.new) }
 
     // Turns are spent only where all were taken, over any files.

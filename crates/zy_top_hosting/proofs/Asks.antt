@@ -15,7 +15,7 @@ use Rattle.zy_node.specs.declared.fault.AskFault.{AskFault}
 use Rattle.zy_parts.specs.declared.signed.Signed.{Signed}
 use Rattle.zy_parts.specs.declared.statements.Ask.{Ask}
 use Rattle.zy_table.specs.ClientRows.{ask, ask_while, asked as asked_row, next_ask}
-use Rattle.zy_table.specs.ClientState.{ClientState, leaves_of, refused}
+use Rattle.zy_table.specs.ClientState.{ClientState, signs_left, refused}
 use Rattle.zy_top_words.specs.declared.exit.Exit.{Exit}
 use Rattle.zy_top_hosting.specs.Calls.{IsTelling, MayAsk}
 use Rattle.zy_top_hosting.specs.Hosted.{IsAsking, IsIdle, ask_verdict, is_cut}
@@ -26,13 +26,13 @@ pub may_ask : (s : ClientState) (op : List ℕ) (cause : Cause) → MayAsk s →
 unfolding ask
 may_ask s op cause may is = by s.waiting may.free is
   where
-    leaf : (b : Bool) → b ≡ true → refusal_of (if b then asked_row s (next_ask s op) else refused causes.KeySpent s).answer ≡ Some cause → ⊥
-    leaf true left is = cc
-    leaf false left is = cc
+    signs : (b : Bool) → b ≡ true → refusal_of (if b then asked_row s (next_ask s op) else refused causes.KeySpent s).answer ≡ Some cause → ⊥
+    signs true left is = cc
+    signs false left is = cc
 
     by : (waiting : Option (Signed Ask)) → waiting ≡ None → refusal_of (ask_while s waiting op).answer ≡ Some cause → ⊥
     by (Some waiting) free is = cc
-    by None free is = leaf (nat_le 1 (leaves_of s)) (le-leb 1 (leaves_of s) (omega (arith, may.leaf))) is
+    by None free is = signs (nat_le 1 (signs_left s)) (le-leb 1 (signs_left s) (omega (arith, may.left))) is
 
 module _ (start : ClientState) (op : List ℕ) (most : ℕ) (a b : Option Mail) (receives : ℕ) (moments : Option (List ℕ)) (to : Outside) (bound : StaysAsTold a b) where
   asked_from : (r : Result Asked AskFault) → IsAskedFor start op most r (at b receives moments) to → IsAskedFor start op most r (at a receives moments) to

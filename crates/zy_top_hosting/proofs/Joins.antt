@@ -2,28 +2,18 @@
 use Rattle.std.proofs.Common.{◌≡◌, ◌≢◌, inl, inr, ℕ, ◌+◌, true, false, cond, List, [], ◌∷◌, ◌++◌, length, map, drop, refl, sym, ◌∙◌, ap, subst, arith, append_assoc, length-append, length-drop}
 use Rattle.std.proofs.lemmas.Bool.{cases_Bool, cases_eq}
 use Rattle.std.proofs.lemmas.List.{drop_at, drop-drop}
-use Rattle.std.specs.Int.{w32, to_be_bytes}
 use Rattle.std.specs.List.{AllByRecursion}
 use Rattle.zy_base.specs.declared.ids.Digest.{Digest}
 use Rattle.zy_base.specs.declared.step.Event.{Event}
 use Rattle.zy_journal.specs.Disk.{StandsAt}
 use Rattle.zy_journal.specs.Journal.{HasRecord, Holds, IsMarked, IsPiece, StandsFor, block_of, blocks, head_of, is_blank, mark_of, opened}
 use Rattle.zy_journal.proofs.Begins.{opened_used}
-use Rattle.zy_journal.proofs.Lists.{first_is, length-block, length-head, one_list, same_front, same_length, shut_blank, tail_is, used_holds}
+use Rattle.zy_journal.proofs.Lists.{first_is, length-block, length-head, one_list, same_block, shut_blank, used_holds}
 use Rattle.zy_node.specs.Events.{event_bytes}
 use Rattle.zy_node.specs.Recovering.{AreListed, IsBroken, IsBrokenAt}
 
 opened_blank : (identity : Digest) (file : List ℕ) → is_blank file ≡ true → opened identity file ≡ head_of identity ++ (0 ∷ drop 42 file)
 opened_blank identity file blank = ap (λ b. cond b (head_of identity ++ (0 ∷ drop 42 file)) file) blank
-
--- a block at the front tells its record
-same_block : (p q x y : List ℕ) → IsPiece p → IsPiece q → block_of p ++ x ≡ block_of q ++ y → (p ≡ q) × (x ≡ y)
-same_block p q x y fits fits' e =
-    let behind : to_be_bytes w32 (length p) ++ (p ++ x) ≡ to_be_bytes w32 (length q) ++ (q ++ y) =
-    sym (append_assoc (to_be_bytes w32 (length p)) p x) ∙ tail_is 1 1 _ _ e ∙ append_assoc (to_be_bytes w32 (length q)) q y in
-    let parts = same_front (to_be_bytes w32 (length p)) (to_be_bytes w32 (length q)) (p ++ x) (q ++ y) refl behind in
-    let size : length p ≡ length q = same_length (length p) (length q) (omega (arith, fits.1)) (omega (arith, fits'.1)) parts.0 in
-    same_front p q x y size parts.1
 
 -- ---- the head
 

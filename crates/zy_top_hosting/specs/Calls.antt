@@ -1,9 +1,8 @@
 -- What the parts of a node's command and of an ask's give.
-use Rattle.std.specs.Prelude.{◌≡◌, ℕ, ◌<◌, ◌≤◌, ◌+◌, ◌^◌, Bool, true, false, IsTrue, List, Option, None, Result, Ok, Err, ⊤}
+use Rattle.std.specs.Prelude.{◌≡◌, ℕ, ◌<◌, ◌≤◌, ◌+◌, Bool, true, false, IsTrue, List, Option, None, Result, Ok, Err, ⊤}
 use Rattle.zy_edge.specs.Faults.{IsCounted}
-use Rattle.zy_lms.specs.Height.{levels_of}
 use Rattle.zy_group.specs.declared.secret.Secret.{Secret}
-use Rattle.zy_table.specs.ClientState.{ClientState, leaves_of}
+use Rattle.zy_table.specs.ClientState.{ClientState, signs_left}
 use Rattle.zy_top_words.specs.Ends.{IsAnswer, IsWritten, Verdict, is_write_fault}
 use Rattle.zy_top_words.specs.declared.exit.Exit.{Exit}
 use Rattle.zy_top_words.specs.declared.exit.Exit.TheVariants as exits
@@ -11,6 +10,7 @@ use Rattle.zy_top_hosting.specs.Files.{Replica, Seat}
 use Rattle.zy_top_hosting.specs.declared.files.Told.{Told}
 use Rattle.zy_top_hosting.specs.declared.seat.NodeSeat.{NodeSeat}
 use Rattle.zy_top_hosting.specs.declared.seat.AskSeat.{AskSeat}
+use Rattle.zy_seal.specs.Sealing.{signatures_by}
 
 -- what was judged, or how it is refused, or a file could not be read, or memory was wanted
 abbrev pub IsJudged : {A : Type 0} → Result A Exit → Result A Exit → Type 0
@@ -24,9 +24,9 @@ abbrev pub value_in : {A : Type 0} → Result (Told A) Exit → Result A Exit
 value_in (Ok told) = Ok told.value
 value_in (Err exit) = Err exit
 
--- so many leaves are left of its key
-abbrev pub Leaves : ℕ → Secret → Type 0
-Leaves left secret = secret.next + left ≤ 2 ^ levels_of secret.height
+-- so many signatures are left of its key
+abbrev pub HasLeft : ℕ → Secret → Type 0
+HasLeft left secret = secret.next + left ≤ signatures_by secret.height
 
 -- the party is what the files tell, and so is its address
 abbrev pub node_in : Result NodeSeat Exit → Result (Seat Replica) Exit
@@ -37,10 +37,10 @@ abbrev pub asker_in : Result AskSeat Exit → Result (Seat ClientState) Exit
 asker_in (Ok seat) = Ok (record { core = seat.client; address = seat.address })
 asker_in (Err exit) = Err exit
 
--- the client may ask: nothing waits, and its key has a leaf
+-- the client may ask: nothing waits, and its key has a signature left
 pub record MayAsk (client : ClientState) : Type 0 where
   pub free : client.waiting ≡ None
-  pub leaf : 0 < leaves_of client
+  pub left : 0 < signs_left client
 
 -- ---- what is written at the end
 

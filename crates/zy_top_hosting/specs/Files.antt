@@ -66,7 +66,7 @@ abbrev pub node_start : ReplicaId → List ℕ → List ℕ → Result (Seat Rep
 node_start id group secret =
     and_then (judged text_node_group group) (λ group. and_then (judged (text_secret 0) secret) (node_of id group))
 
--- ---- an ask, whose key has a leaf left
+-- ---- an ask, whose key has a signature left
 
 abbrev pub client_of : ClientId → AskGroup → Stamp → KeyState → ClientState
 client_of id group stamp key =

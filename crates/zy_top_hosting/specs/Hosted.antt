@@ -28,7 +28,7 @@ use Rattle.zy_top_hosting.specs.Lines.{completion_line, state_digest}
 
 -- ---- what is written
 
--- where a replica stands, and its key's next leaf
+-- where a replica stands, and its key's next signature
 abbrev pub node_text : {S : Type 0} → Rules S → ReplicaId → State S → List ℕ
 node_text R id s = replica_line id (Some (stood_of R s)) (state_digest R s) ++ key_line s.sealer.key.next (record { 0 = 0 })
 
@@ -48,7 +48,7 @@ next_text s = key_line s.sealer.key.next s.stamp
 abbrev pub ask_verdict : ClientId → Asked → Verdict
 ask_verdict id (asked.Done s) = Verdict.Report (completion_text id s.done ++ next_text s)
 ask_verdict id (asked.Spent s) = Verdict.Broke (next_text s) exits.TurnsSpent
--- which never comes, since the key has a leaf left
+-- which never comes, since the key has a signature left
 ask_verdict id (asked.Refused s cause) = Verdict.Refused (exits.Group 16)
 
 -- ---- how it ends

@@ -6,7 +6,7 @@ ghost use Rattle.zy_edge.specs.Files.{content_of};
 ghost use Rattle.zy_group.specs.Members.{AreMembers, IsNodeGroup, text_ask_group, text_node_group};
 ghost use Rattle.zy_group.specs.Secret.{text_secret};
 ghost use Rattle.zy_top_words.specs.Calls.{IsReading, stops_reading};
-ghost use Rattle.zy_top_hosting.specs.Calls.{IsJudged, Leaves, MayAsk, asker_in, node_in, value_in};
+ghost use Rattle.zy_top_hosting.specs.Calls.{HasLeft, IsJudged, MayAsk, asker_in, node_in, value_in};
 ghost use Rattle.zy_top_hosting.specs.Files.{asker_start, judged, node_start};
 
 use crate::seat::{AskSeat, NodeSeat, ask_seat, node_seat};
@@ -52,7 +52,7 @@ pub(crate) fn read_asker<F: Files>(
 ) -> Result<AskSeat, Exit>
     ensures told { IfSome (F.held files.old) (λ held. IsJudged (asker_start id (content_of held group.now) (content_of held secret.now)) (asker_in result)) }
     ensures party { IfOk result (λ seat. seat.address.party ≡ parties.Client id) }
-    ensures leaf { IfOk result (λ seat. MayAsk seat.client) }
+    ensures left { IfOk result (λ seat. MayAsk seat.client) }
     ensures exit { IsReading result }
     ensures count { IsCounted (stops_reading result) (F.faults files.old) (F.faults files.new) }
     ensures held { F.held files.new ≡ F.held files.old }
@@ -93,7 +93,7 @@ fn ask_group<F: Files>(alloc: Global, name: &str, files: &mut F) -> Result<AskGr
     Ok(read_ask_group(alloc, &text)?)
 }
 
-/// A party's secret, of whose key so many leaves have to be left. `Exit::Group` for the first field that fails.
+/// A party's secret, of whose key so many signatures have to be left. `Exit::Group` for the first field that fails.
 pub(crate) fn secret_of<F: Files>(
     alloc: Global,
     name: &str,
@@ -103,7 +103,7 @@ pub(crate) fn secret_of<F: Files>(
     requires { left ≤ 1 }
     ensures told { IfSome (F.held files.old) (λ held. IsJudged (judged (text_secret left) (content_of held name.now)) (value_in result)) }
     ensures text { IfOk result (λ told. IfSome (F.held files.old) (λ held. told.text.items ≡ content_of held name.now)) }
-    ensures leaves { IfOk result (λ told. Leaves left told.value) }
+    ensures enough { IfOk result (λ told. HasLeft left told.value) }
     ensures stamp { IfOk result (λ told. told.value.stamp ≤ 2 ^ 61) }
     ensures exit { IsReading result }
     ensures count { IsCounted (stops_reading result) (F.faults files.old) (F.faults files.new) }

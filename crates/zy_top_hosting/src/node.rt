@@ -19,7 +19,7 @@ use zy_replica::Replica;
 use zy_space::Space;
 use zy_top_words::Exit;
 
-/// Runs a replica of the group for so many turns, and writes where it stands then and the next leaf of its key. The names
+/// Runs a replica of the group for so many turns, and writes where it stands then and the next signature of its key. The names
 /// are those of the group's file and of its secret's.
 pub fn run_node<F: Files, S: Sink, L: Link, C: Clock>(
     alloc: Global,

@@ -3,7 +3,7 @@ ghost use Rattle.std.specs.Prelude.{◌≡◌, ◌<◌, ◌≤◌, ◌^◌, fals
 ghost use Rattle.zy_base.specs.declared.ids.Party.TheVariants as parties;
 ghost use Rattle.zy_group.specs.Members.{AreMembers, IsNodeGroup};
 ghost use Rattle.zy_top_words.specs.Calls.{IsReading, stops_reading};
-ghost use Rattle.zy_top_hosting.specs.Calls.{IsJudged, Leaves, MayAsk, asker_in, node_in};
+ghost use Rattle.zy_top_hosting.specs.Calls.{IsJudged, HasLeft, MayAsk, asker_in, node_in};
 ghost use Rattle.zy_top_hosting.specs.Files.{asker_of, client_of, node_of, replica_of};
 
 use std::alloc::Global;
@@ -40,7 +40,7 @@ pub(crate) fn node_seat(
     secret: &Secret,
 ) -> Result<NodeSeat, Exit>
     requires group { IsNodeGroup group }
-    requires leaves { Leaves 0 secret.now }
+    requires left { HasLeft 0 secret.now }
     ensures judged { IsJudged (node_of id group secret.now) (node_in result) }
     ensures party { IfOk result (λ seat. seat.address.party ≡ parties.Replica id) }
     ensures exit { IsReading result }
@@ -68,7 +68,14 @@ fn replica_of(
     let NodeGroup { k, members } = group;
     let AskGroup { f, keys, port: _ } = members;
     let sealer = Sealer::new(alloc, Party::Replica(id), key);
-    Replica::start(alloc, plain_counts(f), id, u64::from(k), sealer, keys)
+    Replica::start(
+        alloc,
+        plain_counts(f),
+        id,
+        u64::from(k),
+        sealer,
+        keys.with_store(),
+    )
 }
 
 /// The client of the group that the secret is of.
@@ -79,11 +86,11 @@ pub(crate) fn ask_seat(
     secret: &Secret,
 ) -> Result<AskSeat, Exit>
     requires group { AreMembers group }
-    requires leaves { Leaves 1 secret.now }
+    requires left { HasLeft 1 secret.now }
     requires stamp { secret.now.stamp ≤ 2 ^ 61 }
     ensures judged { IsJudged (asker_of id group secret.now) (asker_in result) }
     ensures party { IfOk result (λ seat. seat.address.party ≡ parties.Client id) }
-    ensures leaf { IfOk result (λ seat. MayAsk seat.client) }
+    ensures left { IfOk result (λ seat. MayAsk seat.client) }
     ensures exit { IsReading result }
     ensures read { stops_reading result ≡ false }
 {
@@ -109,5 +116,5 @@ fn client_of(
 {
     let AskGroup { f, keys, port: _ } = group;
     let sealer = Sealer::new(alloc, Party::Client(id), key);
-    Client::start(alloc, plain_counts(f), id, sealer, keys, stamp)
+    Client::start(alloc, plain_counts(f), id, sealer, keys.with_store(), stamp)
 }

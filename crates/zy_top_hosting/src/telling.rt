@@ -48,7 +48,7 @@ fn is_fast(path: Path) -> bool
     }
 }
 
-/// Tells where a replica stands whose turns are taken, and the next leaf of its key: `Exit::TurnsSpent`, unless the sink
+/// Tells where a replica stands whose turns are taken, and the next number of its key: `Exit::TurnsSpent`, unless the sink
 /// fails or memory is wanted.
 pub(crate) fn tell_node<S: Sink>(
     alloc: Global,

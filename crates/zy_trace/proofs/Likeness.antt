@@ -55,7 +55,7 @@ module _ {S : Type 0} (R : Rules S) where
   happened_like : (event : WorldEvent) (w : World S) (t : Told) (rest : Rest S) (more : World S → Told → Trace S) → AreLike rest more → (h : Happened S)
       → IsLike (goes_on h rest) t.events (then_on (happened R event w t h) more)
   happened_like event w t rest more like (Happened.Goes v note) =
-      let after = telling.followed R v (telling.actor w event) (telling.next_leaf w (telling.actor w event)) note (telling.answer_in R w event) t in
+      let after = telling.followed R v (telling.actor w event) (telling.key_next w (telling.actor w event)) note (telling.answer_in R w event) t in
       like_one_more (v ∷ (rest v).worlds) note (rest v) t.events (t.events + 1) (more v after) refl (like v after)
   happened_like event w t rest more like (Happened.Breaks broken) = (refl, omega arith)
 

@@ -9,7 +9,7 @@ use Rattle.zy_table.specs.State.{State}
 use Rattle.zy_top.specs.Verdict.{what_broke}
 use Rattle.zy_top.specs.declared.running.Stop as stops
 use Rattle.zy_top_words.specs.declared.exit.Broken.{Broken}
-use Rattle.zy_trace.specs.Telling.{Told, Trace, answer_in, actor, cut, flow_on, followed, happened, next_leaf, seated, then_on, trace, trace_delivery, trace_event, trace_flow, trace_line}
+use Rattle.zy_trace.specs.Telling.{Told, Trace, answer_in, actor, cut, flow_on, followed, happened, key_next, seated, then_on, trace, trace_delivery, trace_event, trace_flow, trace_line}
 use Rattle.zy_trace.specs.Tracing.{IsTraced}
 use Rattle.zy_world.specs.Answers.{answer_of, ask_answer, heard_answer, timer_answer}
 use Rattle.zy_world.specs.Shown.{Seated, Shown, numbered}
@@ -62,7 +62,7 @@ module _ {S : Type 0} where
   -- ---- an event
 
   pub event_goes : (R : Rules S) (event : WorldEvent) (g v : World S) (note : Note) (t now : Told) (s : Shown S) → happens R g event ≡ Goes v note
-      → now ≡ followed R v (actor g event) (next_leaf g (actor g event)) note (answer_in R g event) t → Shows v s → IsTraced (trace_event R event g t) now (Ok s)
+      → now ≡ followed R v (actor g event) (key_next g (actor g event)) note (answer_in R g event) t → Shows v s → IsTraced (trace_event R event g t) now (Ok s)
   event_goes R event g v note t now s goes told shows = (v, ap (happened R event g t) goes ∙ ap (Trace.Goes v) (sym told), shows)
 
   pub event_breaks : (R : Rules S) (event : WorldEvent) (g : World S) (broken : events.Broken) (what : Broken) (t now : Told) → happens R g event ≡ Breaks broken → what ≡ what_broke broken

@@ -65,11 +65,11 @@ saying_name says.View = codes "view"
 saying_name says.Began = codes "began"
 saying_name says.Fetch = codes "fetch"
 
--- Who signed, what it says, and the view and the place of which it speaks. A signature begins with the number of its leaf; one that
+-- Who signed, what it says, and the view and the place of which it speaks. A signature begins with its number; one that
 -- is too short for that is passed over.
 abbrev pub stated : Party → List ℕ → Saying → Option ℕ → Option ℕ → Option Statement
 stated by sig saying view place =
-    if nat_lt (length sig) 4 then None else Some (record { by = by; leaf = number_at sig 0; saying = saying; view = view; place = place })
+    if nat_lt (length sig) 4 then None else Some (record { by = by; spent = number_at sig 0; saying = saying; view = view; place = place })
 
 abbrev pub order_stated : Signed Order → Option Statement
 order_stated order = stated order.by order.sig says.Order (Some order.stmt.view.0) (Some order.stmt.place.0)

@@ -74,21 +74,21 @@ answer_line number by (Some Taken) = act_line number (codes " taken ") by
 answer_line number by (Some Held) = act_line number (codes " held ") by
 answer_line number by (Some (Refused cause)) = []
 
--- a statement is told as signed where the party signed it, by a leaf from this one on
+-- a statement is told as signed where the party signed it, by a signature from this number on
 abbrev pub is_signed_by : Option Party → ℕ → Statement → Bool
-is_signed_by None leaf statement = false
-is_signed_by (Some party) leaf statement = same_party party statement.by && nat_le leaf statement.leaf
+is_signed_by None unspent statement = false
+is_signed_by (Some party) unspent statement = same_party party statement.by && nat_le unspent statement.spent
 
 abbrev pub signs_line : ℕ → Option Party → Statement → List ℕ
 signs_line number by statement =
-    act_front number (codes " signs ") by ++ 32 ∷ decimal statement.leaf ++ 32 ∷ saying_name statement.saying ++ 10 ∷ []
+    act_front number (codes " signs ") by ++ 32 ∷ decimal statement.spent ++ 32 ∷ saying_name statement.saying ++ 10 ∷ []
 
 abbrev pub signing_line : ℕ → Option Party → ℕ → Statement → List ℕ
-signing_line number by leaf statement = if is_signed_by by leaf statement then signs_line number by statement else []
+signing_line number by unspent statement = if is_signed_by by unspent statement then signs_line number by statement else []
 
 -- and then the leaves from the next one on
-abbrev pub leaf_behind : Option Party → ℕ → Statement → ℕ
-leaf_behind by leaf statement = if is_signed_by by leaf statement then statement.leaf + 1 else leaf
+abbrev pub unspent_behind : Option Party → ℕ → Statement → ℕ
+unspent_behind by unspent statement = if is_signed_by by unspent statement then statement.spent + 1 else unspent
 
 -- whom a frame is for, and of what view and place its first statement speaks
 abbrev pub speaks_text : Party → Option ℕ → Option ℕ → List ℕ
@@ -106,9 +106,9 @@ timers_text timers =
     if timers.request then (if timers.change then codes "request,change" else codes "request")
     else (if timers.change then codes "change" else (if timers.answer then codes "answer" else codes "-"))
 
--- the next leaf of its key, and the timers that are to run
+-- the number of its key's next signature, and the timers that are to run
 abbrev pub ready_text : ℕ → Timers → List ℕ
-ready_text leaf timers = codes " leaf " ++ decimal leaf ++ codes " timers " ++ timers_text timers ++ 10 ∷ []
+ready_text unspent timers = codes " leaf " ++ decimal unspent ++ codes " timers " ++ timers_text timers ++ 10 ∷ []
 
 -- mode and view, the history, the stable place
 abbrev pub stood_text : Stood → Place → List ℕ

@@ -29,7 +29,7 @@ use Rattle.zy_world_law.specs.declared.event.WorldEvent.{WorldEvent}
 use Rattle.zy_world_law.specs.declared.event.WorldEvent.TheVariants as happenings
 use Rattle.zy_world_law.specs.declared.note.Note.{Note}
 use Rattle.zy_trace.specs.Frames.{kind_name, statement_in}
-use Rattle.zy_trace.specs.Lines.{act_line, answer_line, ask_line, broken_line, client_stands, frame_line, leaf_behind, replica_stands, sends_line, signing_line, timer_line}
+use Rattle.zy_trace.specs.Lines.{act_line, answer_line, ask_line, broken_line, client_stands, frame_line, unspent_behind, replica_stands, sends_line, signing_line, timer_line}
 use Rattle.zy_trace.specs.declared.statement.Statement.{Statement}
 
 -- ---- whom a line and an event concern
@@ -64,19 +64,19 @@ state_at w id = option_map (λ x. x.state) (replica_at w id)
 abbrev pub client_state_at : {S : Type 0} → World S → ℕ → Option ClientState
 client_state_at w id = option_map (λ x. x.state) (client_at w id)
 
-abbrev pub replica_leaf : {S : Type 0} → Option (State S) → ℕ
-replica_leaf None = 0
-replica_leaf (Some s) = s.sealer.key.next
+abbrev pub replica_next : {S : Type 0} → Option (State S) → ℕ
+replica_next None = 0
+replica_next (Some s) = s.sealer.key.next
 
-abbrev pub client_leaf : Option ClientState → ℕ
-client_leaf None = 0
-client_leaf (Some s) = s.sealer.key.next
+abbrev pub client_next : Option ClientState → ℕ
+client_next None = 0
+client_next (Some s) = s.sealer.key.next
 
--- the next leaf of a correct party's key, else 0
-abbrev pub next_leaf : {S : Type 0} → World S → Option Party → ℕ
-next_leaf w None = 0
-next_leaf w (Some (parties.Replica id)) = replica_leaf (state_at w id.0)
-next_leaf w (Some (parties.Client id)) = client_leaf (client_state_at w id.0)
+-- the number of the next signature of a correct party's key, else 0
+abbrev pub key_next : {S : Type 0} → World S → Option Party → ℕ
+key_next w None = 0
+key_next w (Some (parties.Replica id)) = replica_next (state_at w id.0)
+key_next w (Some (parties.Client id)) = client_next (client_state_at w id.0)
 
 -- what the correct party answers that the event brings to a step
 abbrev pub seated : {S : Type 0} → World S → Seated S
@@ -116,23 +116,23 @@ head_line w senders before (lines.Unmute party) = act_line before (codes " unmut
 
 -- a frame that was sent, behind the statement that was signed for it
 abbrev pub stated_lines : ℕ → Option Party → ℕ → ℕ → Mail → Statement → List ℕ
-stated_lines number by leaf frame mail statement =
-    signing_line number by leaf statement ++ sends_line number by frame (kind_name mail.bytes) mail.to statement.view statement.place
+stated_lines number by unspent frame mail statement =
+    signing_line number by unspent statement ++ sends_line number by frame (kind_name mail.bytes) mail.to statement.view statement.place
 
 abbrev pub sent_lines : ℕ → Option Party → ℕ → ℕ → Mail → Option Statement → List ℕ
-sent_lines number by leaf frame mail None = sends_line number by frame (kind_name mail.bytes) mail.to None None
-sent_lines number by leaf frame mail (Some statement) = stated_lines number by leaf frame mail statement
+sent_lines number by unspent frame mail None = sends_line number by frame (kind_name mail.bytes) mail.to None None
+sent_lines number by unspent frame mail (Some statement) = stated_lines number by unspent frame mail statement
 
-abbrev pub leaf_after : Option Party → ℕ → Option Statement → ℕ
-leaf_after by leaf None = leaf
-leaf_after by leaf (Some statement) = leaf_behind by leaf statement
+abbrev pub unspent_after : Option Party → ℕ → Option Statement → ℕ
+unspent_after by unspent None = unspent
+unspent_after by unspent (Some statement) = unspent_behind by unspent statement
 
 -- the frames that an event sent, of which the first has this number
 unfoldable pub frames_lines : ℕ → Option Party → ℕ → ℕ → List Mail → List ℕ
-frames_lines number by leaf frame [] = []
-frames_lines number by leaf frame (mail ∷ more) =
-    sent_lines number by leaf frame mail (statement_in mail.bytes)
-    ++ frames_lines number by (leaf_after by leaf (statement_in mail.bytes)) (frame + 1) more
+frames_lines number by unspent frame [] = []
+frames_lines number by unspent frame (mail ∷ more) =
+    sent_lines number by unspent frame mail (statement_in mail.bytes)
+    ++ frames_lines number by (unspent_after by unspent (statement_in mail.bytes)) (frame + 1) more
 
 -- where a party stands
 abbrev pub party_line : {S : Type 0} → Rules S → World S → ℕ → Option Party → List ℕ
@@ -147,13 +147,13 @@ stand_line R w number by (Some Taken) = party_line R w number by
 stand_line R w number by (Some Held) = party_line R w number by
 stand_line R w number by (Some (Refused cause)) = []
 
--- The event led to this world. This party acted by it, whose next leaf was this one, and so many frames were sent before: what it
+-- The event led to this world. This party acted by it, whose next signature had this number, and so many frames were sent before: what it
 -- answered, what the report has of the event, the frames that were sent, and where the party stands.
 abbrev pub event_lines : {S : Type 0} → Rules S → World S → ℕ → Option Party → ℕ → ℕ → Note → Option Answer → List ℕ
-event_lines R w number by leaf sent note answer =
+event_lines R w number by unspent sent note answer =
     answer_line number by answer
     ++ (note_line number note
-    ++ (frames_lines number by leaf (sent + 1) (drop sent w.bag)
+    ++ (frames_lines number by unspent (sent + 1) (drop sent w.bag)
     ++ stand_line R w number by answer))
 
 -- ---- a run
@@ -173,9 +173,9 @@ headed w line t = record t { text = t.text ++ head_line w t.senders t.events lin
 
 -- an event led to this world
 abbrev pub followed : {S : Type 0} → Rules S → World S → Option Party → ℕ → Note → Option Answer → Told → Told
-followed R w by leaf note answer t =
+followed R w by unspent note answer t =
     record {
-      text = t.text ++ event_lines R w (t.events + 1) by leaf (length t.senders) note answer;
+      text = t.text ++ event_lines R w (t.events + 1) by unspent (length t.senders) note answer;
       events = t.events + 1;
       senders = t.senders ++ replicate (length w.bag - length t.senders) by;
     }
@@ -195,7 +195,7 @@ then_on (Goes w t) more = more w t
 then_on (Breaks broken t) more = Breaks broken t
 
 abbrev pub happened : {S : Type 0} → Rules S → WorldEvent → World S → Told → Happened S → Trace S
-happened R event w t (Happened.Goes v note) = Goes v (followed R v (actor w event) (next_leaf w (actor w event)) note (answer_in R w event) t)
+happened R event w t (Happened.Goes v note) = Goes v (followed R v (actor w event) (key_next w (actor w event)) note (answer_in R w event) t)
 happened R event w t (Happened.Breaks broken) = Breaks broken (cut (what_broke broken) t)
 
 abbrev pub trace_event : {S : Type 0} → Rules S → WorldEvent → World S → Told → Trace S

@@ -138,12 +138,12 @@ pub(crate) fn put_answer(
     }
 }
 
-/// The party signed it, by a leaf from this one on.
-fn is_signed_by(by: Option<Party>, leaf: u64, statement: Statement) -> bool
-    ensures { result ≡ spelled.is_signed_by by leaf statement }
+/// The party signed it, by a signature from this number on.
+fn is_signed_by(by: Option<Party>, unspent: u64, statement: Statement) -> bool
+    ensures { result ≡ spelled.is_signed_by by unspent statement }
 {
     match by {
-        Some(party) => party == statement.by && leaf <= u64::from(statement.leaf),
+        Some(party) => party == statement.by && unspent <= u64::from(statement.spent),
         None => false,
     }
 }
@@ -154,12 +154,12 @@ pub(crate) fn put_signing(
     out: &mut Vec<u8>,
     number: u64,
     by: Option<Party>,
-    leaf: u64,
+    unspent: u64,
     statement: Statement,
 ) -> Result<(), Want>
-    ensures { OnOk result (out.new.items ≡ out.old.items ++ spelled.signing_line number by leaf statement) }
+    ensures { OnOk result (out.new.items ≡ out.old.items ++ spelled.signing_line number by unspent statement) }
 {
-    if is_signed_by(by, leaf, statement) {
+    if is_signed_by(by, unspent, statement) {
         put_signs(alloc, out, number, by, statement)
     } else {
         Ok(())
@@ -176,21 +176,21 @@ fn put_signs(
     ensures { OnOk result (out.new.items ≡ out.old.items ++ spelled.signs_line number by statement) }
 {
     put_act(alloc, out, number, b" signs ", by)?;
-    put_number(alloc, out, b" ", u64::from(statement.leaf))?;
+    put_number(alloc, out, b" ", u64::from(statement.spent))?;
     out.push(b' ')?;
     out.extend_from_slice(saying_name(statement.saying).as_bytes())?;
     out.push(b'\n')?;
     Ok(())
 }
 
-/// The first leaf that wasn't told as spent, behind this statement.
-pub(crate) fn leaf_behind(by: Option<Party>, leaf: u64, statement: Statement) -> u64
-    ensures { result ≡ spelled.leaf_behind by leaf statement }
+/// The first number that wasn't told as spent, behind this statement.
+pub(crate) fn unspent_behind(by: Option<Party>, unspent: u64, statement: Statement) -> u64
+    ensures { result ≡ spelled.unspent_behind by unspent statement }
 {
-    if is_signed_by(by, leaf, statement) {
-        u64::from(statement.leaf) + 1
+    if is_signed_by(by, unspent, statement) {
+        u64::from(statement.spent) + 1
     } else {
-        leaf
+        unspent
     }
 }
 
@@ -296,11 +296,11 @@ fn waiting_text(waiting: Option<Stamp>) -> &'static [u8]
     }
 }
 
-/// The next leaf of its key, and the timers that are to run.
-fn put_ready(alloc: Global, out: &mut Vec<u8>, leaf: u32, timers: Timers) -> Result<(), Want>
-    ensures { OnOk result (out.new.items ≡ out.old.items ++ spelled.ready_text leaf timers) }
+/// The number of its key's next signature, and the timers that are to run.
+fn put_ready(alloc: Global, out: &mut Vec<u8>, unspent: u32, timers: Timers) -> Result<(), Want>
+    ensures { OnOk result (out.new.items ≡ out.old.items ++ spelled.ready_text unspent timers) }
 {
-    put_number(alloc, out, b" leaf ", u64::from(leaf))?;
+    put_number(alloc, out, b" leaf ", u64::from(unspent))?;
     out.extend_from_slice(b" timers ")?;
     out.extend_from_slice(timers_text(timers))?;
     out.push(b'\n')?;

@@ -132,7 +132,7 @@ fn trace_event<M: Machine>(
     ensures count { trace.new.events ≤ trace.old.events + 1 }
 {
     let by = actor(&world, &event);
-    let leaf = next_leaf(&world, by);
+    let unspent = key_next(&world, by);
     match world.step(event) {
         Ok(
             WorldStepped {
@@ -141,7 +141,7 @@ fn trace_event<M: Machine>(
                 answer,
             },
         ) => {
-            trace.follow(alloc, &world, by, leaf, &note, answer)?;
+            trace.follow(alloc, &world, by, unspent, &note, answer)?;
             Ok(world)
         }
         Err(WorldFault::Forged(_)) => {
@@ -172,19 +172,19 @@ fn actor<M: Machine>(world: &World<M>, event: &WorldEvent) -> Option<Party>
     }
 }
 
-/// The next leaf of a correct party's key, else 0.
-fn next_leaf<M: Machine>(world: &World<M>, party: Option<Party>) -> u32
-    ensures { (g : Whole M.State) → Shows g world.now → result ≡ traces.next_leaf g party }
+/// The number of the next signature of a correct party's key, else 0.
+fn key_next<M: Machine>(world: &World<M>, party: Option<Party>) -> u32
+    ensures { (g : Whole M.State) → Shows g world.now → result ≡ traces.key_next g party }
 {
     match party {
-        Some(Party::Replica(id)) => replica_leaf(world.replica(id)),
-        Some(Party::Client(id)) => client_leaf(world.client(id)),
+        Some(Party::Replica(id)) => replica_next(world.replica(id)),
+        Some(Party::Client(id)) => client_next(world.client(id)),
         None => 0,
     }
 }
 
-fn replica_leaf<M: Machine>(replica: Option<&Replica<M>>) -> u32
-    ensures { result ≡ traces.replica_leaf (option_copied replica.entry) }
+fn replica_next<M: Machine>(replica: Option<&Replica<M>>) -> u32
+    ensures { result ≡ traces.replica_next (option_copied replica.entry) }
 {
     match replica {
         Some(replica) => replica.key_next(),
@@ -192,8 +192,8 @@ fn replica_leaf<M: Machine>(replica: Option<&Replica<M>>) -> u32
     }
 }
 
-fn client_leaf(client: Option<&Client>) -> u32
-    ensures { result ≡ traces.client_leaf (option_copied client.entry) }
+fn client_next(client: Option<&Client>) -> u32
+    ensures { result ≡ traces.client_next (option_copied client.entry) }
 {
     match client {
         Some(client) => client.key_next(),

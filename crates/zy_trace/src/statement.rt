@@ -29,12 +29,12 @@ pub(crate) enum Saying {
     Fetch,
 }
 
-/// A signed statement: who signed it, by which leaf of the key, what it says, and the view and the place that it speaks of. Of a wish
+/// A signed statement: who signed it, the number of the signature, what it says, and the view and the place that it speaks of. Of a wish
 /// for orders the place is the first.
 #[derive(Clone, Copy)]
 pub(crate) struct Statement {
     pub(crate) by: Party,
-    pub(crate) leaf: u32,
+    pub(crate) spent: u32,
     pub(crate) saying: Saying,
     pub(crate) view: Option<u64>,
     pub(crate) place: Option<u64>,
@@ -176,7 +176,7 @@ fn view_stated(new: &Signed<New>) -> Option<Statement>
     stated(new.by, &new.sig, Saying::View, Some(new.stmt.view.0), None)
 }
 
-/// An LMS signature begins with the number of the leaf that signed (RFC 8554 section 5.4).
+/// A signature begins with its number (RFC 8554 section 5.4).
 fn stated(
     by: Party,
     sig: &Bytes,
@@ -192,7 +192,7 @@ fn stated(
     }
     Some(Statement {
         by,
-        leaf: u32_at(sig, 0),
+        spent: u32_at(sig, 0),
         saying,
         view,
         place,

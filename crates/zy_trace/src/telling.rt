@@ -9,8 +9,8 @@ ghost use Rattle.zy_world.specs.Shows.{Shows};
 ghost use Rattle.zy_world_law.specs.World.{World as Whole, mail_at};
 
 use crate::lines::{
-    leaf_behind, put_act_line, put_answer, put_ask, put_broken, put_client, put_frame_line,
-    put_replica, put_sends, put_signing, put_timer,
+    put_act_line, put_answer, put_ask, put_broken, put_client, put_frame_line, put_replica,
+    put_sends, put_signing, put_timer, unspent_behind,
 };
 use crate::statement::{Statement, kind_name, statement_in};
 use std::alloc::Global;
@@ -130,19 +130,19 @@ impl Trace {
         put_frame_line(alloc, &mut self.text, number, act, frame, kind, from, to)
     }
 
-    /// An event led to this world, by which this party acted, whose next leaf was this one.
+    /// An event led to this world, by which this party acted, whose next signature had this number.
     pub(crate) fn follow<M: Machine>(
         &mut self,
         alloc: Global,
         world: &World<M>,
         by: Option<Party>,
-        leaf: u32,
+        unspent: u32,
         note: &Note,
         answer: Option<Answer>,
     ) -> Result<(), Want>
         requires { self.old.events + 1 < 2 ^ 64 }
         ensures text { (g : Whole M.State) → Shows g world.now → OnOk result (self.new.text.items ≡
-            self.old.text.items ++ traces.event_lines M.rules g (self.old.events + 1) by leaf (length self.old.senders.items) note.now answer) }
+            self.old.text.items ++ traces.event_lines M.rules g (self.old.events + 1) by unspent (length self.old.senders.items) note.now answer) }
         ensures events { OnOk result (self.new.events ≡ self.old.events + 1) }
         ensures senders { (g : Whole M.State) → Shows g world.now → OnOk result (self.new.senders.items ≡
             self.old.senders.items ++ replicate (length g.bag - length self.old.senders.items) by) }
@@ -152,7 +152,15 @@ impl Trace {
         let known = self.senders.len();
         put_answer(alloc, &mut self.text, number, by, answer)?;
         put_note(alloc, &mut self.text, number, note)?;
-        put_frames(alloc, &mut self.text, world, number, by, leaf, known as u64)?;
+        put_frames(
+            alloc,
+            &mut self.text,
+            world,
+            number,
+            by,
+            unspent,
+            known as u64,
+        )?;
         put_stand(alloc, &mut self.text, world, number, by, answer)?;
         fill(&mut self.senders, world.sent() as usize, by)?;
         self.events = number;
@@ -225,19 +233,19 @@ fn put_note(alloc: Global, out: &mut Vec<u8>, number: u64, note: &Note) -> Resul
     Ok(())
 }
 
-/// The frames behind so many, with the statements that were signed for them by leaves from this one on.
+/// The frames behind so many, with the statements that were signed for them by signatures from this number on.
 fn put_frames<M: Machine>(
     alloc: Global,
     out: &mut Vec<u8>,
     world: &World<M>,
     number: u64,
     by: Option<Party>,
-    leaf: u32,
+    unspent: u32,
     sent: u64,
 ) -> Result<(), Want>
-    ensures { (g : Whole M.State) → Shows g world.now → OnOk result (out.new.items ≡ out.old.items ++ traces.frames_lines number by leaf (sent + 1) (drop sent g.bag)) }
+    ensures { (g : Whole M.State) → Shows g world.now → OnOk result (out.new.items ≡ out.old.items ++ traces.frames_lines number by unspent (sent + 1) (drop sent g.bag)) }
 {
-    let mut next = u64::from(leaf);
+    let mut next = u64::from(unspent);
     for before in sent..world.sent() {
         let Some(mail) = world.mail(before + 1) else {
             return Ok(());
@@ -247,25 +255,25 @@ fn put_frames<M: Machine>(
     Ok(())
 }
 
-/// A frame that was sent, behind a statement that was signed for it by a leaf from this one on. Gives the next leaf that wasn't told.
+/// A frame that was sent, behind a statement that was signed for it by a signature from this number on. Gives the next number that wasn't told.
 fn put_frame(
     alloc: Global,
     out: &mut Vec<u8>,
     number: u64,
     by: Option<Party>,
-    leaf: u64,
+    unspent: u64,
     frame: u64,
     mail: &Mail,
 ) -> Result<u64, Want>
-    ensures text { OnOk result (out.new.items ≡ out.old.items ++ traces.sent_lines number by leaf frame mail.now (statement_in mail.now.bytes)) }
-    ensures leaf { IfOk result (λ next. next ≡ traces.leaf_after by leaf (statement_in mail.now.bytes)) }
+    ensures text { OnOk result (out.new.items ≡ out.old.items ++ traces.sent_lines number by unspent frame mail.now (statement_in mail.now.bytes)) }
+    ensures unspent { IfOk result (λ next. next ≡ traces.unspent_after by unspent (statement_in mail.now.bytes)) }
 {
     match statement_in(alloc, mail.bytes.as_slice())? {
-        Some(statement) => put_stated(alloc, out, number, by, leaf, frame, mail, statement),
+        Some(statement) => put_stated(alloc, out, number, by, unspent, frame, mail, statement),
         None => {
             let kind = kind_name(mail.bytes.as_slice());
             put_sends(alloc, out, number, by, frame, kind, mail.to, None, None)?;
-            Ok(leaf)
+            Ok(unspent)
         }
     }
 }
@@ -275,19 +283,19 @@ fn put_stated(
     out: &mut Vec<u8>,
     number: u64,
     by: Option<Party>,
-    leaf: u64,
+    unspent: u64,
     frame: u64,
     mail: &Mail,
     statement: Statement,
 ) -> Result<u64, Want>
-    ensures text { OnOk result (out.new.items ≡ out.old.items ++ traces.stated_lines number by leaf frame mail.now statement) }
-    ensures leaf { IfOk result (λ next. next ≡ spelled.leaf_behind by leaf statement) }
+    ensures text { OnOk result (out.new.items ≡ out.old.items ++ traces.stated_lines number by unspent frame mail.now statement) }
+    ensures unspent { IfOk result (λ next. next ≡ spelled.unspent_behind by unspent statement) }
 {
     let kind = kind_name(mail.bytes.as_slice());
     let Statement { view, place, .. } = statement;
-    put_signing(alloc, out, number, by, leaf, statement)?;
+    put_signing(alloc, out, number, by, unspent, statement)?;
     put_sends(alloc, out, number, by, frame, kind, mail.to, view, place)?;
-    Ok(leaf_behind(by, leaf, statement))
+    Ok(unspent_behind(by, unspent, statement))
 }
 
 /// Where the party stands that took or held what came.

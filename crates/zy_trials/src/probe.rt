@@ -7,6 +7,7 @@ use std::alloc::Global;
 use zy_base::{Bytes, ClientId, Event, Items, Outgoing, Party, TimerKind, Timers, Want};
 use zy_edge::{MemClock, MemLink};
 use zy_node::{Core, Host, Moved};
+use zy_pieces::MAX_DATAGRAM;
 
 /// The one that it sends to.
 pub(crate) const PEER: Party = Party::Client(ClientId(7));
@@ -74,7 +75,8 @@ pub(crate) fn turned(
     link: &mut MemLink,
     clock: &mut MemClock,
 ) -> Result<Host<Probe>, Want> {
-    match host.turn(link, clock) {
+    let mut room = [0; MAX_DATAGRAM];
+    match host.turn(&mut room, link, clock) {
         Ok(host) => Ok(host),
         Err(_) => Err(Want),
     }

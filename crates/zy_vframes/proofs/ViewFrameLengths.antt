@@ -5,7 +5,7 @@ use Rattle.std.proofs.lemmas.List.{length-append}
 use Rattle.zy_wire.specs.Kind.{frame_limit}
 use Rattle.zy_wire.specs.Spelling.{Spelling, pair, converted, bytes_of}
 use Rattle.zy_wire.specs.Fields.{u62, digest, list, optional, FitsList}
-use Rattle.zy_wire.proofs.Lengths.{IsAtMost, u62-at_most, word32-at_most, digest-at_most, sized16-at_most, pair-at_most, converted-at_most, optional-at_most, list-at_most}
+use Rattle.zy_wire.proofs.Lengths.{IsAtMost, u62-at_most, word32-at_most, digest-at_most, pair-at_most, converted-at_most, optional-at_most, list-at_most}
 use Rattle.zy_chain.specs.Fields.{entry_fields}
 use Rattle.zy_parts.specs.declared.signed.Signed.{Signed}
 use Rattle.zy_parts.specs.declared.statements.Spec.{Spec}
@@ -19,17 +19,42 @@ use Rattle.zy_parts.proofs.Lengths.{signed-at_most, spec-at_most, check-at_most}
 use Rattle.zy_vframes.specs.declared.frame.ViewCert.{ViewCert}
 use Rattle.zy_vframes.specs.declared.frame.ViewFrame.{ViewFrame}
 use Rattle.zy_vframes.specs.declared.frame.ViewFrame.TheVariants as frames
-use Rattle.zy_vframes.specs.ViewFrames.{view_certificate, state, greatest_snapshot, fields_of, spelling, FitsFrame, IsShort, IsShortCertificate, IsShortReport, IsShortNew, IsWithinLimits}
+use Rattle.zy_vframes.specs.ViewFrames.{view_certificate, state, fields_of, spelling, FitsFrame, IsShort, IsShortCertificate, IsShortReport, IsShortNew, IsWithinLimits}
+use Rattle.zy_parts.specs.Sizes.{signed_size, spec_size, check_size}
+use Rattle.zy_chain.specs.Sizes.{entry_size, greatest_snapshot}
+use Rattle.zy_chain.proofs.Lengths.{entry-at_most}
 
-entry-at_most : IsAtMost entry_fields 1114
-unfolding entry_fields
-entry-at_most = converted-at_most _ _ _ _ (pair-at_most _ _ _ _ word32-at_most (pair-at_most _ _ _ _ (u62-at_most 0) (sized16-at_most 1100)))
+-- ---- how many bytes the parts have at most
 
-began-at_most : IsAtMost began_fields 48
+abbrev began_size : ℕ
+began_size = 8 + (8 + 32)
+
+abbrev fetch_size : ℕ
+fetch_size = 8 + 32
+
+-- a report of at most nine replicas' statements: the last view, its beginning with the statements that prove it, the longest
+-- certificate, the stable checkpoint with its proof, and the entries
+abbrev report_size : ℕ
+report_size =
+    8 + (8 + (32 + (2 + 9 * signed_size began_size + (1 + (2 + 9 * signed_size spec_size) + (8 + (8 + (32 + (32 + (2 + 9 * signed_size check_size + (2 + 64 * entry_size))))))))))
+
+abbrev change_size : ℕ
+change_size = signed_size (8 + report_size)
+
+abbrev new_size : ℕ
+new_size = signed_size (8 + (2 + 9 * change_size))
+
+abbrev begans_size : ℕ
+begans_size = 2 + 16 * signed_size began_size
+
+abbrev state_size : ℕ
+state_size = 8 + (4 + greatest_snapshot)
+
+began-at_most : IsAtMost began_fields began_size
 unfolding began_fields
 began-at_most = converted-at_most _ _ _ _ (pair-at_most _ _ _ _ (u62-at_most 1) (pair-at_most _ _ _ _ (u62-at_most 0) digest-at_most))
 
-fetch-at_most : IsAtMost fetch_fields 40
+fetch-at_most : IsAtMost fetch_fields fetch_size
 unfolding fetch_fields
 fetch-at_most = converted-at_most _ _ _ _ (pair-at_most _ _ _ _ (u62-at_most 1) digest-at_most)
 
@@ -54,7 +79,7 @@ short_report =
     (λ t. (t.last_view.0, (t.began_place.0, (t.began_head, (t.began, (t.specs, (t.stable_view.0, (t.stable_place.0, (t.stable_head, (t.state, (t.checks, t.entries)))))))))))
     (pair (u62 0) (pair (u62 0) (pair digest (pair (list 0 9 (signed began_fields)) (pair (optional (list 1 9 (signed spec_fields))) (pair (u62 0) (pair (u62 0) (pair digest (pair digest (pair (list 0 9 (signed check_fields)) (list 0 64 entry_fields)))))))))))
 
-short_report-at_most : IsAtMost short_report 294786
+short_report-at_most : IsAtMost short_report report_size
 unfolding short_report
 short_report-at_most =
     converted-at_most _ _ _ _
@@ -107,7 +132,7 @@ report-shorter t fits short = (
 short_change : Spelling Change
 short_change = converted (λ x. record { view = record { 0 = x.0 }; told = x.1 }) (λ s. (s.view.0, s.told)) (pair (u62 1) short_report)
 
-short_change-at_most : IsAtMost (signed short_change) 302993
+short_change-at_most : IsAtMost (signed short_change) change_size
 unfolding short_change
 short_change-at_most = signed-at_most _ _ (converted-at_most _ _ _ _ (pair-at_most _ _ _ _ (u62-at_most 1) short_report-at_most))
 
@@ -115,14 +140,14 @@ change-shorter : (c : Signed Change) → (signed change_fields).Fits c → IsSho
 unfolding change_fields short_change signed
 change-shorter c fits short = (fits.0, ((fits.1.0.0, report-shorter c.stmt.told fits.1.0.1 short), fits.1.1))
 
-change-len : (c : Signed Change) → (signed change_fields).Fits c → IsShortReport c.stmt.told → length ((signed change_fields).spell c) ≤ 302993
+change-len : (c : Signed Change) → (signed change_fields).Fits c → IsShortReport c.stmt.told → length ((signed change_fields).spell c) ≤ change_size
 unfolding change_fields short_change signed told_fields short_report
 change-len c fits short = short_change-at_most.fits c (change-shorter c fits short)
 
 short_new : Spelling New
 short_new = converted (λ x. record { view = record { 0 = x.0 }; changes = x.1 }) (λ s. (s.view.0, s.changes)) (pair (u62 1) (list 1 9 (signed short_change)))
 
-short_new-at_most : IsAtMost (signed short_new) 2735146
+short_new-at_most : IsAtMost (signed short_new) new_size
 unfolding short_new
 short_new-at_most = signed-at_most _ _ (converted-at_most _ _ _ _ (pair-at_most _ _ _ _ (u62-at_most 1) (list-at_most _ _ short_change-at_most 1 9)))
 
@@ -134,24 +159,24 @@ new-shorter : (n : Signed New) → (signed new_fields).Fits n → IsShortNew n �
 unfolding new_fields short_new signed
 new-shorter n fits short = (fits.0, ((fits.1.0.0, changes-shorter n.stmt.changes fits.1.0.1 short.changes short.reports), fits.1.1))
 
-new-len : (n : Signed New) → (signed new_fields).Fits n → IsShortNew n → length ((signed new_fields).spell n) ≤ 2735146
+new-len : (n : Signed New) → (signed new_fields).Fits n → IsShortNew n → length ((signed new_fields).spell n) ≤ new_size
 unfolding new_fields short_new change_fields short_change signed told_fields short_report
 new-len n fits short = short_new-at_most.fits n (new-shorter n fits short)
 
 -- ---- frames
 
-begans-at_most : IsAtMost (list 1 16 (signed began_fields)) 131954
+begans-at_most : IsAtMost (list 1 16 (signed began_fields)) begans_size
 begans-at_most = list-at_most _ _ (signed-at_most _ _ began-at_most) 1 16
 
-view_certificate-len : (f : ViewCert) → view_certificate.Fits f → IsShortNew f.new → length (view_certificate.spell f) ≤ 2867100
+view_certificate-len : (f : ViewCert) → view_certificate.Fits f → IsShortNew f.new → length (view_certificate.spell f) ≤ new_size + begans_size
 view_certificate-len f fits short =
     omega (arith, length-append ((signed new_fields).spell f.new) ((list 1 16 (signed began_fields)).spell f.begans), new-len f.new fits.0 short, begans-at_most.fits f.begans fits.1)
 
-state-len : (place : ℕ) (snapshot : List ℕ) → state.Fits (place, snapshot) → length snapshot ≤ greatest_snapshot → length (state.spell (place, snapshot)) ≤ 2373874
+state-len : (place : ℕ) (snapshot : List ℕ) → state.Fits (place, snapshot) → length snapshot ≤ greatest_snapshot → length (state.spell (place, snapshot)) ≤ state_size
 state-len place snapshot fits short =
     omega (arith, length-append (bytes_of w64 place) (bytes_of w32 (length snapshot) ++ snapshot), length-append (bytes_of w32 (length snapshot)) snapshot, (u62-at_most 0).fits place fits.0, word32-at_most.fits (length snapshot) (omega (arith, fits.1)))
 
-fields-len : (f : ViewFrame) → FitsFrame f → IsWithinLimits f → length (fields_of f) ≤ 2867100
+fields-len : (f : ViewFrame) → FitsFrame f → IsWithinLimits f → length (fields_of f) ≤ new_size + begans_size
 unfolding fields_of FitsFrame
 fields-len (frames.ViewChange change) fits within = omega (arith, change-len change fits within)
 fields-len (frames.NewView new) fits within = omega (arith, new-len new fits within)

@@ -14,6 +14,7 @@ use Rattle.zy_parts.specs.Reports.{change_fields, IsChangeInRange, new_fields, I
 use Rattle.zy_parts.specs.Signing.{signed, IsSignedInRange}
 use Rattle.zy_vframes.specs.declared.frame.ViewCert.{ViewCert}
 use Rattle.zy_vframes.specs.declared.frame.ViewFrame.{ViewFrame}
+use Rattle.zy_chain.specs.Sizes.{greatest_snapshot}
 use Rattle.zy_vframes.specs.declared.frame.ViewFrame.TheVariants as frames
 
 -- ---- the fields of each kind in a row
@@ -90,10 +91,6 @@ frame_in bytes = framed_in frame_at bytes
 -- the most statements in a certificate, and the most reports from which a view begins
 abbrev pub greatest_quorum : ℕ
 greatest_quorum = 9
-
--- the most bytes of a snapshot, with 64 clients' records and a state of the machine
-abbrev pub greatest_snapshot : ℕ
-greatest_snapshot = 2373862
 
 abbrev pub IsShort : {A : Type 0} → List A → Type 0
 IsShort list = length list ≤ greatest_quorum

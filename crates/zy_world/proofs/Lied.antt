@@ -1,5 +1,5 @@
 -- What liars and forgers sign.
-use Rattle.std.proofs.Common.{◌≡◌, ℕ, ◌+◌, ◌-◌, ◌^◌, ◌<◌, ◌≤◌, Bool, true, false, ◌&&◌, List, [], ◌∷◌, length, Option, Some, None, refl, sym, ap, ap₂, ◌∙◌, subst, arith}
+use Rattle.std.proofs.Common.{◌≡◌, ℕ, ◌+◌, ◌-◌, ◌<◌, ◌≤◌, Bool, true, false, ◌&&◌, List, [], ◌∷◌, length, Option, Some, None, refl, sym, ap, ap₂, ◌∙◌, subst, arith}
 use Rattle.std.specs.Prelude.{slice_get, slice_set, option_map, nat_eq, nat_lt, if◌then◌else◌}
 use Rattle.std.specs.List.{list_all}
 use Rattle.std.specs.Option.{option_and_then}
@@ -9,15 +9,14 @@ use Rattle.zy_base.specs.declared.cause.Cause.TheVariants as causes
 use Rattle.zy_base.specs.declared.ids.Party.{Party}
 use Rattle.zy_base.specs.declared.ids.Party.TheVariants as parties
 use Rattle.zy_frames.specs.Frames.{frame_in}
-use Rattle.zy_lms.specs.Height.{levels_of}
 use Rattle.zy_parts.specs.declared.signed.Signed.{Signed}
 use Rattle.zy_parts.specs.declared.statements.Ask.{Ask}
-use Rattle.zy_seal.specs.Sealing.{SealerState, spent_one}
+use Rattle.zy_seal.specs.Sealing.{SealerState, spent_one, signatures_by}
 use Rattle.zy_table.specs.Sending.{copies, spelling_of}
 use Rattle.zy_world.specs.Shown.{Shown, Seated, Keyed, seat_of, is_seated, is_liar_seat, is_correct_seat, key_in, with_key, requests_in}
 use Rattle.zy_world.specs.Shows.{Shows, ShowsKeys}
 use Rattle.zy_world.specs.Tale.{if_replica}
-use Rattle.zy_world_law.specs.Events.{Happened, no_subject, lie, forge, leaves_in, spent}
+use Rattle.zy_world_law.specs.Events.{Happened, no_subject, lie, forge, signatures_in, spent}
 use Rattle.zy_world_law.specs.Events.Happened.{Goes}
 use Rattle.zy_world_law.specs.Liars.{Telling, by_replica, last_of, request_read, requests_at}
 use Rattle.zy_world_law.specs.Setup.{Setup, sealer_of}
@@ -42,7 +41,7 @@ module _ {S : Type 0} (g : World S) (v : Shown S) (s : Shows g v) where
   pub all_there : (to : List Party) → are_parties g to ≡ list_all (λ party. is_seated (seat_of v.seats party)) to
   all_there to = let tests : is_party g ≡ (λ party. is_seated (seat_of v.seats party)) = λ j party. is_there party j in ap (λ (p : Party → Bool). list_all p to) tests
 
--- ---- a liar signs by its next leaf
+-- ---- a liar signs with its next signature
 
 module _ (xs : List (Option SealerState)) (at : ℕ) (key new : SealerState) (there : correct_in (slice_get xs at) ≡ Some key) where
   key_at : (j : ℕ) (b : Bool) → nat_eq j at ≡ b → correct_in (slice_get (slice_set xs at (Some new)) j) ≡ (if b then Some new else correct_in (slice_get xs j))
@@ -66,37 +65,37 @@ same_is (parties.Client a) (parties.Client b) same = let n : a.0 ≡ b.0 = eqb-t
 same_is (parties.Replica a) (parties.Client b) same = absurd cc
 same_is (parties.Client a) (parties.Replica b) same = absurd cc
 
-module _ {S : Type 0} (seats : Seated S) (setup : Setup) (leaves : Party → ℕ) (k : Keyed) (shows : ShowsKeys seats setup leaves k) (liar : Party) (lies : is_liar_seat (seat_of seats liar) ≡ true)
-    (left : leaves liar < 2 ^ levels_of setup.height) where
-  abbrev leaf_at : Bool → Party → ℕ
-  leaf_at same other = if same then leaves other + 1 else leaves other
+module _ {S : Type 0} (seats : Seated S) (setup : Setup) (used : Party → ℕ) (k : Keyed) (shows : ShowsKeys seats setup used k) (liar : Party) (lies : is_liar_seat (seat_of seats liar) ≡ true)
+    (left : used liar < signatures_by setup.height) where
+  abbrev used_at : Bool → Party → ℕ
+  used_at same other = if same then used other + 1 else used other
 
-  key_of_other : (other : Party) (b : Bool) → same_party other liar ≡ b → key_in k other ≡ Some (sealer_of setup other (leaves other))
-      → (if b then Some (spent_one (sealer_of setup liar (leaves liar))) else key_in k other) ≡ Some (sealer_of setup other (leaf_at b other))
-  key_of_other other true same has = ap (λ (p : Party). Some (sealer_of setup p (leaves p + 1))) (sym (same_is other liar same))
+  key_of_other : (other : Party) (b : Bool) → same_party other liar ≡ b → key_in k other ≡ Some (sealer_of setup other (used other))
+      → (if b then Some (spent_one (sealer_of setup liar (used liar))) else key_in k other) ≡ Some (sealer_of setup other (used_at b other))
+  key_of_other other true same has = ap (λ (p : Party). Some (sealer_of setup p (used p + 1))) (sym (same_is other liar same))
   key_of_other other false differs has = has
 
-  leaf_within : (other : Party) (b : Bool) → same_party other liar ≡ b → leaves other ≤ 2 ^ levels_of setup.height → leaf_at b other ≤ 2 ^ levels_of setup.height
-  leaf_within other true same within = let like : leaves other ≡ leaves liar = ap leaves (same_is other liar same) in omega (arith, like, left)
-  leaf_within other false differs within = within
+  used_within : (other : Party) (b : Bool) → same_party other liar ≡ b → used other ≤ signatures_by setup.height → used_at b other ≤ signatures_by setup.height
+  used_within other true same within = let like : used other ≡ used liar = ap used (same_is other liar same) in omega (arith, like, left)
+  used_within other false differs within = within
 
-  keys_spent : ShowsKeys seats setup (λ other. if same_party other liar then leaves other + 1 else leaves other) (with_key k liar (Some (spent_one (sealer_of setup liar (leaves liar)))))
+  keys_spent : ShowsKeys seats setup (λ other. if same_party other liar then used other + 1 else used other) (with_key k liar (Some (spent_one (sealer_of setup liar (used liar)))))
   keys_spent =
       record {
-        keys = λ other is. key_now k liar (sealer_of setup liar (leaves liar)) (spent_one (sealer_of setup liar (leaves liar))) (shows.keys liar lies) other
+        keys = λ other is. key_now k liar (sealer_of setup liar (used liar)) (spent_one (sealer_of setup liar (used liar))) (shows.keys liar lies) other
             ∙ key_of_other other (same_party other liar) refl (shows.keys other is);
-        within = λ other is. leaf_within other (same_party other liar) refl (shows.within other is);
+        within = λ other is. used_within other (same_party other liar) refl (shows.within other is);
       }
 
-pub shows_spent : {S : Type 0} (g : World S) (v : Shown S) (liar : Party) (keys : Keyed) → Shows g v → is_liar_seat (seat_of v.seats liar) ≡ true → g.leaves liar < leaves_in g
-    → keys ≡ with_key v.liars liar (Some (spent_one (sealer_of g.setup liar (g.leaves liar)))) → Shows (spent g liar) (record v { liars = keys })
+pub shows_spent : {S : Type 0} (g : World S) (v : Shown S) (liar : Party) (keys : Keyed) → Shows g v → is_liar_seat (seat_of v.seats liar) ≡ true → g.used liar < signatures_in g
+    → keys ≡ with_key v.liars liar (Some (spent_one (sealer_of g.setup liar (g.used liar)))) → Shows (spent g liar) (record v { liars = keys })
 shows_spent {S = S} g v liar keys s lies left is =
     record {
       setup = s.setup;
       keys = s.keys;
       seats = s.seats;
-      liars = subst (λ (k : Keyed). ShowsKeys v.seats g.setup (λ other. if same_party other liar then g.leaves other + 1 else g.leaves other) k) (sym is)
-          (keys_spent v.seats g.setup g.leaves v.liars s.liars liar lies left);
+      liars = subst (λ (k : Keyed). ShowsKeys v.seats g.setup (λ other. if same_party other liar then g.used other + 1 else g.used other) k) (sym is)
+          (keys_spent v.seats g.setup g.used v.liars s.liars liar lies left);
       mails = s.mails;
       past = s.past;
       mutes = s.mutes;
@@ -123,22 +122,22 @@ module _ {S : Type 0} (w : World S) (liar : Party) (to : List Party) (told : Opt
   sent_by bytes = Goes (with_sent (spent w liar) (copies bytes to)) notes.Quiet
 
   abbrev frame : List ℕ
-  frame = spelling_of (telling (sealer_of w.setup liar (w.leaves liar)))
+  frame = spelling_of (telling (sealer_of w.setup liar (w.used liar)))
 
-  lie_tried : (left : Bool) → nat_lt (w.leaves liar) (leaves_in w) ≡ left → lie w liar to told ≡ (if left then sent_by frame else Goes w (notes.Refused None causes.KeySpent))
+  lie_tried : (left : Bool) → nat_lt (w.used liar) (signatures_in w) ≡ left → lie w liar to told ≡ (if left then sent_by frame else Goes w (notes.Refused None causes.KeySpent))
   lie_tried left has =
       ap (lie w liar to) tells ∙ ap₂ (λ (b c : Bool). if b then (if c then sent_by frame else Goes w (notes.Refused None causes.KeySpent)) else no_subject w) is has
 
-  pub lie_sent : (bytes : List ℕ) → w.leaves liar < leaves_in w → bytes ≡ frame → lie w liar to told ≡ Goes (with_sent (spent w liar) (copies bytes to)) notes.Quiet
-  lie_sent bytes left spelled = lie_tried true (lt-ltb (w.leaves liar) (leaves_in w) left) ∙ ap sent_by (sym spelled)
+  pub lie_sent : (bytes : List ℕ) → w.used liar < signatures_in w → bytes ≡ frame → lie w liar to told ≡ Goes (with_sent (spent w liar) (copies bytes to)) notes.Quiet
+  lie_sent bytes left spelled = lie_tried true (lt-ltb (w.used liar) (signatures_in w) left) ∙ ap sent_by (sym spelled)
 
-  pub lie_unsent : leaves_in w ≤ w.leaves liar → lie w liar to told ≡ Goes w (notes.Refused None causes.KeySpent)
-  lie_unsent used = lie_tried false (le-ltb (w.leaves liar) (leaves_in w) used)
+  pub lie_unsent : signatures_in w ≤ w.used liar → lie w liar to told ≡ Goes w (notes.Refused None causes.KeySpent)
+  lie_unsent used = lie_tried false (le-ltb (w.used liar) (signatures_in w) used)
 
 pub forge_sent : {S : Type 0} (w : World S) (party : Party) (to : List Party) (telling : Telling) (bytes : List ℕ) → (is_correct w party && are_parties w to) ≡ true
-    → bytes ≡ spelling_of (telling (sealer_of w.setup party (leaves_in w - 1))) → forge w party to (Some telling) ≡ Goes (with_sent w (copies bytes to)) notes.Quiet
+    → bytes ≡ spelling_of (telling (sealer_of w.setup party (signatures_in w - 1))) → forge w party to (Some telling) ≡ Goes (with_sent w (copies bytes to)) notes.Quiet
 forge_sent w party to telling bytes is spelled =
-    ap (λ (b : Bool). if b then Goes (with_sent w (copies (spelling_of (telling (sealer_of w.setup party (leaves_in w - 1)))) to)) notes.Quiet else no_subject w) is
+    ap (λ (b : Bool). if b then Goes (with_sent w (copies (spelling_of (telling (sealer_of w.setup party (signatures_in w - 1)))) to)) notes.Quiet else no_subject w) is
     ∙ ap (λ (l : List ℕ). Goes (with_sent w (copies l to)) notes.Quiet) (sym spelled)
 
 -- ---- the requests of a history

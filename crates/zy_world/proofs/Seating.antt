@@ -8,8 +8,8 @@ use Rattle.zy_world_setup.proofs.ListLemmas.{any_number}
 
 -- ---- one seat, and one key
 
-pub liar_leaves : {A : Type 0} (lies : Bool) (x : A) → lies ≡ true → None ≡ (if lies then None else Some x)
-liar_leaves lies x is = rw is refl
+pub liar_seated : {A : Type 0} (lies : Bool) (x : A) → lies ≡ true → None ≡ (if lies then None else Some x)
+liar_seated lies x is = rw is refl
 
 pub liar_signs : {A : Type 0} (lies : Bool) (x y : A) → lies ≡ true → x ≡ y → Some x ≡ (if lies then Some y else None)
 liar_signs lies x y is same = rw (is, same) refl

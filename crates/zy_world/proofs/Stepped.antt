@@ -25,8 +25,8 @@ use Rattle.zy_world.proofs.ShownSeats.{replica_shown, client_shown}
 -- ---- seats of which none changed its kind
 
 module _ {S : Type 0} (before after : Seated S) (same : (party : Party) → seat_of after party ≡ seat_of before party) where
-  pub keys_same : (setup : Setup) (leaves : Party → ℕ) (k : Keyed) → ShowsKeys before setup leaves k → ShowsKeys after setup leaves k
-  keys_same setup leaves k shows =
+  pub keys_same : (setup : Setup) (used : Party → ℕ) (k : Keyed) → ShowsKeys before setup used k → ShowsKeys after setup used k
+  keys_same setup used k shows =
       record {
         keys = λ party lies. shows.keys party (ap is_liar_seat (sym (same party)) ∙ lies);
         within = λ party lies. shows.within party (ap is_liar_seat (sym (same party)) ∙ lies);
@@ -82,7 +82,7 @@ shows_replica {S = S} g v id x y more seats told s there says is said =
             ∙ ap (λ (l : List (Option (State S))). slice_set l id.0 (Some y.state)) s.seats.of_replicas ∙ ap (λ (t : Seated S). t.replicas) (sym is);
         of_clients = s.seats.of_clients ∙ ap (λ (t : Seated S). t.clients) (sym is);
       };
-      liars = keys_same v.seats seats same g.setup g.leaves v.liars s.liars;
+      liars = keys_same v.seats seats same g.setup g.used v.liars s.liars;
       mails = s.mails;
       past = past_same v.seats seats same v.mutes v.bag s.past;
       mutes = subst (λ (n : ℕ). ShowsMutes n (length g.clients) g.muted v.mutes) (sym (length-set g.replicas id.0 (Some y))) s.mutes;
@@ -133,7 +133,7 @@ shows_client {S = S} g v id x y more seats told s there says is said =
         of_clients = map-set (option_map state) g.clients id.0 (Some y)
             ∙ ap (λ (l : List (Option ClientState)). slice_set l id.0 (Some y.state)) s.seats.of_clients ∙ ap (λ (t : Seated S). t.clients) (sym is);
       };
-      liars = keys_same v.seats seats same g.setup g.leaves v.liars s.liars;
+      liars = keys_same v.seats seats same g.setup g.used v.liars s.liars;
       mails = s.mails;
       past = past_same v.seats seats same v.mutes v.bag s.past;
       mutes = subst (λ (n : ℕ). ShowsMutes (length g.replicas) n g.muted v.mutes) (sym (length-set g.clients id.0 (Some y))) s.mutes;

@@ -26,7 +26,7 @@ pub record Seated (S : Type 0) : Type 0 where
   pub replicas : List (Option (State S))
   pub clients : List (Option ClientState)
 
--- the keys of the liars, each at its next leaf, none where a party doesn't lie
+-- the keys of the liars, each at its next signature, none where a party doesn't lie
 pub record Keyed : Type 0 where
   pub replicas : List (Option SealerState)
   pub clients : List (Option SealerState)

@@ -1,16 +1,16 @@
 -- What a liar or a forger is told to sign.
-use Rattle.std.specs.Prelude.{◌≡◌, ◌≢◌, ℕ, ◌≤◌, ◌^◌, ◌&&◌, Bool, true, false, if◌then◌else◌, List, length, Option, Some, None}
+use Rattle.std.specs.Prelude.{◌≡◌, ◌≢◌, ℕ, ◌&&◌, Bool, true, false, if◌then◌else◌, List, Option, Some, None}
 use Rattle.std.specs.List.{list_all}
 use Rattle.zy_base.specs.declared.ids.Party.{Party}
 use Rattle.zy_base.specs.declared.ids.Party.TheVariants as parties
-use Rattle.zy_lms.specs.Height.{levels_of}
-use Rattle.zy_seal.specs.Sealing.{spent_one}
+use Rattle.zy_seal.specs.Sealing.{spent_one, signatures_by}
 use Rattle.zy_world_setup.specs.Telling.{IsOrderable, IsTellable, IsToldBy, telling_of}
 use Rattle.zy_world.specs.Shown.{Seated, Keyed, seat_of, is_seated, is_liar_seat, is_correct_seat, with_key}
 use Rattle.zy_world.specs.declared.tale.Tale.{Tale}
 use Rattle.zy_world.specs.declared.tale.Tale.TheVariants.{Order, Spec, Statement}
 use Rattle.zy_world_law.specs.Liars.{Telling, order_told, spec_told, is_short}
 use Rattle.zy_world_law.specs.Setup.{Setup, sealer_of}
+use Rattle.zy_chain.specs.Answers.{FitsAnswers}
 
 abbrev pub told_in : Tale → Option Telling
 told_in (Order view asks) = order_told view asks
@@ -20,7 +20,7 @@ told_in (Statement statement) = Some (telling_of statement)
 -- it can be spelled
 abbrev pub IsTale : Tale → Type 0
 IsTale (Order view asks) = IsOrderable view asks
-IsTale (Spec view asks reply) = IsOrderable view asks × (length reply ≤ 1100)
+IsTale (Spec view asks reply) = IsOrderable view asks × FitsAnswers reply
 IsTale (Statement statement) = IsTellable statement
 
 -- only the frame of a statement can be too long
@@ -38,22 +38,22 @@ is_short_tale setup party (Statement statement) = is_short setup party (telling_
 abbrev pub told_by : Setup → Party → Tale → Option Telling
 told_by setup party tale = if is_short_tale setup party tale then told_in tale else None
 
--- A liar whose key stands at this leaf signed these bytes: they aren't too long, and the leaf was there and is spent.
-pub record IsSigned (setup : Setup) (liar : Party) (leaf : ℕ) (tale : Tale) (old new : Keyed) (bytes : List ℕ) : Type 0 where
+-- A liar whose key stands at this number signed these bytes: they aren't too long, and a signature was left and is spent.
+pub record IsSigned (setup : Setup) (liar : Party) (number : ℕ) (tale : Tale) (old new : Keyed) (bytes : List ℕ) : Type 0 where
   pub short : is_short_tale setup liar tale ≡ true
-  pub told : IsToldBy (told_in tale) (sealer_of setup liar leaf) (Some bytes)
-  pub left : leaf ≢ 2 ^ levels_of setup.height
-  pub spent : new ≡ with_key old liar (Some (spent_one (sealer_of setup liar leaf)))
+  pub told : IsToldBy (told_in tale) (sealer_of setup liar number) (Some bytes)
+  pub left : number ≢ signatures_by setup.height
+  pub spent : new ≡ with_key old liar (Some (spent_one (sealer_of setup liar number)))
 
--- or they would be too long, and no leaf is spent
+-- or they would be too long, and no signature is spent
 abbrev pub IsAnswered : Setup → Party → ℕ → Tale → Keyed → Keyed → Option (List ℕ) → Type 0
-IsAnswered setup liar leaf tale old new None = (is_short_tale setup liar tale ≡ false) × (new ≡ old)
-IsAnswered setup liar leaf tale old new (Some bytes) = IsSigned setup liar leaf tale old new bytes
+IsAnswered setup liar number tale old new None = (is_short_tale setup liar tale ≡ false) × (new ≡ old)
+IsAnswered setup liar number tale old new (Some bytes) = IsSigned setup liar number tale old new bytes
 
--- or they wouldn't, and no leaf is left
-pub record IsSpent (setup : Setup) (liar : Party) (leaf : ℕ) (tale : Tale) (old new : Keyed) : Type 0 where
+-- or they wouldn't, and no signature is left
+pub record IsSpent (setup : Setup) (liar : Party) (number : ℕ) (tale : Tale) (old new : Keyed) : Type 0 where
   pub short : is_short_tale setup liar tale ≡ true
-  pub spent : leaf ≡ 2 ^ levels_of setup.height
+  pub spent : number ≡ signatures_by setup.height
   pub same : new ≡ old
 
 -- only replicas sign what is said of a history

@@ -240,10 +240,11 @@ impl<M: Machine> World<M> {
         self
     }
 
-    // The replica takes the seat of this number.
+    // The replica takes the seat of this number. What it checked and signed beside others is known to all from now on.
     fn seated(mut self, id: ReplicaId, replica: Replica<M>) -> World<M>
         ensures { result ≡ with_replicas (λ xs. slice_set xs id.0 (Some replica)) self }
     {
+        replica.take_in();
         put_in(&mut self.seats.replicas, id.0 as usize, replica);
         self
     }

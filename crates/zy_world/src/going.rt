@@ -106,6 +106,7 @@ impl<M: Machine> World<M> {
         match self.said.forger(&self.directory, frame)? {
             Some(by) => Err(WorldFault::Forged(by)),
             None => {
+                self.directory.take_in();
                 self.texts.keep_frame(frame)?;
                 Ok(self)
             }

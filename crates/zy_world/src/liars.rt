@@ -1,6 +1,5 @@
-ghost use Rattle.std.specs.Prelude.{◌≡◌, ◌≢◌, ◌^◌, ◌↔◌, ℕ, true, None, Some, Err, IfOk, IfNone, OnOk, IsErrOf};
-ghost use Rattle.zy_lms.specs.Height.{levels_of};
-ghost use Rattle.zy_seal.specs.Sealing.{SealerState, spent_one};
+ghost use Rattle.std.specs.Prelude.{◌≡◌, ◌≢◌, ◌↔◌, ℕ, true, None, Some, Err, IfOk, IfNone, OnOk, IsErrOf};
+ghost use Rattle.zy_seal.specs.Sealing.{SealerState, spent_one, signatures_by};
 ghost use Rattle.zy_seal.specs.declared.sealer.SealFault.TheVariants.{KeySpent};
 ghost use Rattle.zy_world_setup.specs.Telling.{IsToldBy};
 ghost use Rattle.zy_world.specs.Tale.{IsAnswered, IsSpent, IsTale, is_statement, told_in};
@@ -15,7 +14,7 @@ use zy_base::{Bytes, ClientId, Party, ReplicaId};
 use zy_seal::{SealFault, Sealer};
 use zy_world_setup::Setup;
 
-/// The keys of the liars, each at its next leaf, none where a party doesn't lie.
+/// The keys of the liars, each at its next signature, none where a party doesn't lie.
 #[derive(Drop)]
 pub(crate) struct Liars {
     pub(crate) replicas: Vec<Option<Sealer>>,
@@ -52,8 +51,8 @@ impl Liars {
         }
     }
 
-    /// A liar signs by its next leaf. `None` exactly where the frame would be too long, whether a leaf is left or not; none is
-    /// spent then. Else `KeySpent` where no leaf is left.
+    /// A liar signs with its next signature. `None` exactly where the frame would be too long, whether a signature is left or not; none is
+    /// spent then. Else `KeySpent` where no signature is left.
     pub(crate) fn sign(
         &mut self,
         alloc: Global,
@@ -62,8 +61,8 @@ impl Liars {
         tale: Tale,
     ) -> Result<Option<Bytes>, SealFault>
         requires { IsTale tale }
-        ensures told { (leaf : ℕ) → key_in self.old liar ≡ Some (sealer_of setup.now liar leaf) → IfOk result (IsAnswered setup.now liar leaf tale self.old self.new) }
-        ensures spent { (leaf : ℕ) → key_in self.old liar ≡ Some (sealer_of setup.now liar leaf) → result ≡ Err KeySpent → IsSpent setup.now liar leaf tale self.old self.new }
+        ensures told { (number : ℕ) → key_in self.old liar ≡ Some (sealer_of setup.now liar number) → IfOk result (IsAnswered setup.now liar number tale self.old self.new) }
+        ensures spent { (number : ℕ) → key_in self.old liar ≡ Some (sealer_of setup.now liar number) → result ≡ Err KeySpent → IsSpent setup.now liar number tale self.old self.new }
     {
         let short = tale.is_short(alloc, setup)?;
         if short {
@@ -73,7 +72,7 @@ impl Liars {
         }
     }
 
-    // Signs by the next leaf, however long the frame is.
+    // Signs with the next signature, however long the frame is.
     fn sign_next(
         &mut self,
         alloc: Global,
@@ -84,8 +83,8 @@ impl Liars {
         ensures frame { (key : SealerState) → key_in self.old liar ≡ Some key → IfOk result (IsToldBy (told_in tale) key) }
         ensures long { IfOk result (λ bytes. IfNone bytes (is_statement tale ≡ true)) }
         ensures spent_one { (key : SealerState) → key_in self.old liar ≡ Some key → OnOk result (self.new ≡ with_key self.old liar (Some (spent_one key))) }
-        ensures left { (key : SealerState) → key_in self.old liar ≡ Some key → OnOk result (key.key.next ≢ 2 ^ levels_of key.key.height) }
-        ensures spent { (key : SealerState) → key_in self.old liar ≡ Some key → result ≡ Err KeySpent → key.key.next ≡ 2 ^ levels_of key.key.height }
+        ensures left { (key : SealerState) → key_in self.old liar ≡ Some key → OnOk result (key.key.next ≢ signatures_by key.key.height) }
+        ensures spent { (key : SealerState) → key_in self.old liar ≡ Some key → result ≡ Err KeySpent → key.key.next ≡ signatures_by key.key.height }
         ensures same { (key : SealerState) → key_in self.old liar ≡ Some key → result ≡ Err KeySpent → self.new ≡ self.old }
     {
         match self.take(liar) {
@@ -106,10 +105,11 @@ impl Liars {
         ensures frame { IfOk result (IsToldBy (told_in tale) key) }
         ensures long { IfOk result (λ bytes. IfNone bytes (is_statement tale ≡ true)) }
         ensures spent_one { OnOk result (self.new ≡ with_key self.old liar (Some (spent_one key))) }
-        ensures spent { IsErrOf result SealFault.KeySpent ↔ (key.key.next ≡ 2 ^ levels_of key.key.height) }
+        ensures spent { IsErrOf result SealFault.KeySpent ↔ (key.key.next ≡ signatures_by key.key.height) }
         ensures unchanged { IsErrOf result SealFault.KeySpent → self.new ≡ with_key self.old liar (Some key) }
     {
         let told = tale.frame(alloc, &mut key);
+        key.take_in();
         self.put(liar, key);
         told
     }

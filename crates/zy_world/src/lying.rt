@@ -1,9 +1,8 @@
 //! What liars and forgers sign, and bytes that are sent as they are.
 
-ghost use Rattle.std.specs.Prelude.{◌≡◌, ◌≤◌, ◌-◌, ◌^◌, ◌&&◌, true, length, Some, None, IfOk, IfSome};
+ghost use Rattle.std.specs.Prelude.{◌≡◌, ◌-◌, ◌&&◌, true, length, Some, None, IfOk, IfSome};
 ghost use Rattle.std.specs.Option.{option_and_then};
 ghost use Rattle.std.specs.List.{AllByRecursion};
-ghost use Rattle.zy_lms.specs.Height.{levels_of};
 ghost use Rattle.zy_parts.specs.Signing.{IsSignedInRange};
 ghost use Rattle.zy_parts.specs.Statements.{IsAskInRange};
 ghost use Rattle.zy_world.specs.Answered.{GoesTo};
@@ -18,13 +17,15 @@ ghost use Rattle.zy_world_law.specs.Setup.{sealer_of};
 ghost use Rattle.zy_world_law.specs.declared.note.Note.TheVariants.{Quiet};
 ghost use Rattle.zy_world_law.specs.Liars.{by_replica, if_short, order_told, spec_told, requests_at, statement_told};
 ghost use Rattle.zy_world_law.specs.World.{World as Whole, are_parties, is_correct, is_liar, with_sent};
+ghost use Rattle.zy_seal.specs.Sealing.{signatures_by};
+ghost use Rattle.zy_chain.specs.Answers.{FitsAnswers};
 
 use crate::World;
 use crate::going::Noted;
 use crate::tale::Tale;
 use zy_base::{Bytes, Cause, Items, Machine, Party, View, Want};
 use zy_parts::{Ask, Signed};
-use zy_seal::SealFault;
+use zy_seal::{SealFault, signature_count};
 use zy_world_law::Note;
 use zy_world_setup::{Tellable, read_statement, sealer_at};
 
@@ -56,7 +57,7 @@ impl<M: Machine> World<M> {
         reply: Bytes,
     ) -> Result<Noted<M>, Want>
         requires history { IsHistoryTold view asks.now }
-        requires reply { length reply ≤ 1100 }
+        requires reply { FitsAnswers reply }
         ensures { (g : Whole M.State) → Shows g self → IfOk result (λ r. GoesTo (lie g liar to.now (by_replica liar (option_and_then (spec_told view reply) (requests_at g asks.now)))) r.note r.world) }
     {
         match self.requests_of(liar, asks)? {
@@ -80,7 +81,7 @@ impl<M: Machine> World<M> {
         }
     }
 
-    /// Whoever made a correct party's key anew signs a statement by its last leaf.
+    /// Whoever made a correct party's key anew signs a statement with its last signature.
     pub(crate) fn forge_statement(
         self,
         party: Party,
@@ -122,7 +123,7 @@ impl<M: Machine> World<M> {
         }
     }
 
-    // A liar signs by its next leaf.
+    // A liar signs with its next signature.
     fn lie(self, liar: Party, to: &Items<Party>, tale: Tale) -> Result<Noted<M>, Want>
         requires { IsTale tale }
         ensures { (g : Whole M.State) → Shows g self → IfOk result (λ r. GoesTo (lie g liar to.now (told_by g.setup liar tale)) r.note r.world) }
@@ -170,7 +171,7 @@ impl<M: Machine> World<M> {
         self.seats.is_correct(party) && self.seats.are_seated(to.as_slice())
     }
 
-    // Signs by the party's last leaf, and sends the frame, unless it is longer than a frame may be.
+    // Signs with the party's last signature, and sends the frame, unless it is longer than a frame may be.
     fn forges(self, party: Party, to: &Items<Party>, statement: Tellable) -> Result<Noted<M>, Want>
         requires { IsTellable statement }
         ensures { (g : Whole M.State) → Shows g self → (is_correct g party && are_parties g to.now) ≡ true → IfOk result (λ r. GoesTo (forge g party to.now (if_short g.setup party (Some (telling_of statement)))) r.note r.world) }
@@ -181,13 +182,13 @@ impl<M: Machine> World<M> {
         }
     }
 
-    // The frame under the party's key, made anew, by its last leaf.
-    #[tactic(auto, using(crate::proofs::Lies::has_leaves))]
+    // The frame under the party's key, made anew, with its last signature.
+    #[tactic(auto, using(zy_seal::proofs::SignatureLemmas::least_signatures))]
     fn forged(&self, party: Party, statement: Tellable) -> Result<Option<Bytes>, Want>
         requires { IsTellable statement }
-        ensures { IfOk result (IsEncoded (telling_of statement (sealer_of self.now.setup party (2 ^ levels_of self.now.setup.height - 1)))) }
+        ensures { IfOk result (IsEncoded (telling_of statement (sealer_of self.now.setup party (signatures_by self.now.setup.height - 1)))) }
     {
-        let last = self.setup.height.leaf_count() - 1;
+        let last = signature_count(self.setup.height) - 1;
         let mut sealer = sealer_at(self.alloc, &self.setup, party, last)?;
         match statement.frame(self.alloc, &mut sealer) {
             Ok(bytes) => Ok(bytes),

@@ -179,6 +179,7 @@ impl<M: Machine> Seats<M> {
         ensures state { OnOk result (self.new ≡ with_replica self.old id.0 (Some (whole_step M.rules replica event).state)) }
     {
         let stepped = replica.step(event)?;
+        stepped.replica.take_in();
         put_in(&mut self.replicas, id.0 as usize, stepped.replica);
         Ok(ReplicaStep {
             answer: stepped.answer,
@@ -236,6 +237,7 @@ impl<M: Machine> Seats<M> {
         ensures state { OnOk result (self.new ≡ with_client self.old id.0 (Some stepped.client)) }
     {
         let done = done_now(&stepped.client, waited)?;
+        stepped.client.take_in();
         put_in(&mut self.clients, id.0 as usize, stepped.client);
         Ok(ClientStep {
             answer: stepped.answer,

@@ -23,7 +23,7 @@ use zy_seal::{Directory, Sealer};
 use zy_world_setup::{KeptTexts, Keyring, SaidTexts, Setup};
 
 impl<M: Machine> World<M> {
-    /// The world before its first event: each key at its leaf 0, each client at the stamp 0, and nothing sent.
+    /// The world before its first event: each key at its signature 0, each client at the stamp 0, and nothing sent.
     pub fn start(alloc: Global, setup: Setup) -> Result<World<M>, Want>
         requires { IsStart setup }
         ensures { IfOk result (λ world. Shows (start_of_world M.rules setup) world) }
@@ -140,7 +140,7 @@ fn seat_replica<M: Machine>(
     ensures keys { OnOk result (row.new.keys.items ≡ row.old.keys.items ++ replica_key setup.now id.0 ∷ []) }
 {
     if setup.liars.contains(&id) {
-        return row.leave(sealer);
+        return row.leave(sealer.beside(directory));
     }
     row.seat(Replica::start(
         alloc,
@@ -184,7 +184,7 @@ fn seat_client(
     ensures keys { OnOk result (row.new.keys.items ≡ row.old.keys.items ++ client_key setup.now id.0 ∷ []) }
 {
     if setup.lying_clients.contains(&id) {
-        return row.leave(sealer);
+        return row.leave(sealer.beside(directory));
     }
     row.seat(Client::start(
         alloc,

@@ -1,7 +1,6 @@
-ghost use Rattle.std.specs.Prelude.{◌≡◌, ◌↔◌, ◌^◌, true, IfOk, IfNone, OnOk, IsErrOf};
+ghost use Rattle.std.specs.Prelude.{◌≡◌, ◌↔◌, true, IfOk, IfNone, OnOk, IsErrOf};
 ghost use Rattle.zy_base.specs.declared.ids.Party.{Party as Somebody};
-ghost use Rattle.zy_lms.specs.Height.{levels_of};
-ghost use Rattle.zy_seal.specs.Sealing.{spent_one};
+ghost use Rattle.zy_seal.specs.Sealing.{spent_one, signatures_by};
 ghost use Rattle.zy_world_setup.specs.Telling.{IsToldBy};
 ghost use Rattle.zy_world.specs.Tale.{IsTale, is_short_tale, is_statement, told_in};
 
@@ -41,8 +40,8 @@ impl Tale {
         }
     }
 
-    /// The frame, signed by the next leaf. `None` where it is longer than a frame may be; the leaf is spent then too.
-    /// `KeySpent` exactly where no leaf is left.
+    /// The frame, signed with the next signature. `None` where it is longer than a frame may be; the signature is spent then too.
+    /// `KeySpent` exactly where no signature is left.
     pub(crate) fn frame(
         self,
         alloc: Global,
@@ -52,7 +51,7 @@ impl Tale {
         ensures frame { IfOk result (IsToldBy (told_in self) sealer.old) }
         ensures long { IfOk result (λ bytes. IfNone bytes (is_statement self ≡ true)) }
         ensures spent_one { OnOk result (sealer.new ≡ spent_one sealer.old) }
-        ensures spent { IsErrOf result SealFault.KeySpent ↔ (sealer.old.key.next ≡ 2 ^ levels_of sealer.old.key.height) }
+        ensures spent { IsErrOf result SealFault.KeySpent ↔ (sealer.old.key.next ≡ signatures_by sealer.old.key.height) }
         ensures unchanged { IsErrOf result SealFault.KeySpent → sealer.new ≡ sealer.old }
     {
         match self {

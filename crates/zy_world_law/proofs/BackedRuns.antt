@@ -38,7 +38,7 @@ use Rattle.zy_table.specs.declared.deeds.AnyFrame.{AnyFrame}
 use Rattle.zy_table.specs.declared.deeds.AnyFrame.TheVariants.{Plain, View}
 use Rattle.zy_tuple.specs.Bytes.{op_bytes, reply_bytes}
 use Rattle.zy_world_law.specs.Backed.{IsKeptBacked, hate_text}
-use Rattle.zy_world_law.specs.Events.{Happened, ask_in, bring, bring_to_client, bring_to_replica, client_goes, client_note, client_stepped, client_timer, client_timer_in, completed_by, deliver, forge, go_with, happens, leaves_in, lie, replica_goes, replica_note, replica_timer, replica_timer_in, stepped, timer_of, unless_forged, with_client, with_done, with_replica}
+use Rattle.zy_world_law.specs.Events.{Happened, ask_in, bring, bring_to_client, bring_to_replica, client_goes, client_note, client_stepped, client_timer, client_timer_in, completed_by, deliver, forge, go_with, happens, signatures_in, lie, replica_goes, replica_note, replica_timer, replica_timer_in, stepped, timer_of, unless_forged, with_client, with_done, with_replica}
 use Rattle.zy_world_law.specs.Events.Happened.{Goes, Breaks}
 use Rattle.zy_world_law.specs.Faithful.{PassesSaid}
 use Rattle.zy_world_law.specs.Good.{IsGood}
@@ -105,9 +105,9 @@ module _ {S : Type 0} (ok : S → Type 0) where
   Keeps (Goes v note) = KeepsSaid ok v
   Keeps (Breaks broken) = Unit {0}
 
-  -- other frames, leaves and marks
-  other : (w : World S) → KeepsSaid ok w → (leaves : Party → ℕ) (bag : List Mail) (muted : Party → Bool) → KeepsSaid ok (record w { leaves = leaves; bag = bag; muted = muted })
-  other w is leaves bag muted = record { replicas = is.replicas; clients = is.clients }
+  -- other frames, signatures and marks
+  other : (w : World S) → KeepsSaid ok w → (used : Party → ℕ) (bag : List Mail) (muted : Party → Bool) → KeepsSaid ok (record w { used = used; bag = bag; muted = muted })
+  other w is used bag muted = record { replicas = is.replicas; clients = is.clients }
 
 module _ {S : Type 0} (R : Rules S) (ok : S → Type 0) (keep : KeepLaws ok R) (w : World S) (good : IsGood R w) (is : KeepsSaid ok w) where
   -- ---- a replica
@@ -229,11 +229,11 @@ module _ {S : Type 0} (R : Rules S) (ok : S → Type 0) (keep : KeepLaws ok R) (
   lies : (liar : Party) (to : List Party) (telling : Option Telling) → Keeps ok (lie w liar to telling)
   lies liar to None = is
   lies liar to (Some telling) =
-      by_test (Keeps ok) (is_liar w liar && are_parties w to) _ _ (λ may. by_test (Keeps ok) (nat_lt (w.leaves liar) (leaves_in w)) _ _ (λ left. other ok w is _ _ w.muted) (λ none. is)) (λ may_not. is)
+      by_test (Keeps ok) (is_liar w liar && are_parties w to) _ _ (λ may. by_test (Keeps ok) (nat_lt (w.used liar) (signatures_in w)) _ _ (λ left. other ok w is _ _ w.muted) (λ none. is)) (λ may_not. is)
 
   forges : (party : Party) (to : List Party) (telling : Option Telling) → Keeps ok (forge w party to telling)
   forges party to None = is
-  forges party to (Some telling) = by_test (Keeps ok) (is_correct w party && are_parties w to) _ _ (λ may. other ok w is w.leaves _ w.muted) (λ may_not. is)
+  forges party to (Some telling) = by_test (Keeps ok) (is_correct w party && are_parties w to) _ _ (λ may. other ok w is w.used _ w.muted) (λ may_not. is)
 
 -- ---- a delivery
 
@@ -243,10 +243,10 @@ module _ {S : Type 0} (R : Rules S) (ok : S → Type 0) (keep : KeepLaws ok R) (
     marked = record w { bag = bag }
 
     marked_good : IsGood R marked
-    marked_good = bag_good R w w.leaves bag w.muted good
+    marked_good = bag_good R w w.used bag w.muted good
 
     marked_kept : KeepsSaid ok marked
-    marked_kept = other ok w is w.leaves bag w.muted
+    marked_kept = other ok w is w.used bag w.muted
 
     unless : (forger : Option Party) → forger_in w bytes ≡ forger → (h : Happened S) → (forger_in w bytes ≡ None → Keeps ok h) → Keeps ok (unless_forged forger h)
     unless None none h keeps = keeps none
@@ -286,7 +286,7 @@ module _ {S : Type 0} (R : Rules S) (ok : S → Type 0) (keep : KeepLaws ok R) (
   event_keeps (events.Order liar view asks to) = lies R ok keep w good is liar to (by_replica liar (option_and_then (order_told view) (requests_at w asks)))
   event_keeps (events.Spec liar view asks to reply) = lies R ok keep w good is liar to (by_replica liar (option_and_then (spec_told view reply) (requests_at w asks)))
   event_keeps (events.Statement liar bytes to) = lies R ok keep w good is liar to (if_short w.setup liar (statement_told bytes))
-  event_keeps (events.Raw bytes to) = by_test (Keeps ok) (are_parties w to) _ _ (λ may. other ok w is w.leaves _ w.muted) (λ may_not. is)
+  event_keeps (events.Raw bytes to) = by_test (Keeps ok) (are_parties w to) _ _ (λ may. other ok w is w.used _ w.muted) (λ may_not. is)
   event_keeps (events.Forge party bytes to) = forges R ok keep w good is party to (if_short w.setup party (statement_told bytes))
 
 -- ---- runs
@@ -314,8 +314,8 @@ module _ {S : Type 0} (R : Rules S) (ok : S → Type 0) (held : HeldLaw) (steps 
 
   marks : (rest : Rest S) → AreKept rest → (w : World S) → IsGood R w → KeepsSaid ok w → (bag : List Mail) (muted : Party → Bool) → AllByRecursion (KeepsSaid ok) (comes_to (record w { bag = bag; muted = muted }) rest).worlds
   marks rest kept w good is bag muted =
-      let after : KeepsSaid ok (record w { bag = bag; muted = muted }) = other ok w is w.leaves bag muted in
-      (after, kept (record w { bag = bag; muted = muted }) (bag_good R w w.leaves bag muted good) after)
+      let after : KeepsSaid ok (record w { bag = bag; muted = muted }) = other ok w is w.used bag muted in
+      (after, kept (record w { bag = bag; muted = muted }) (bag_good R w w.used bag muted good) after)
 
   drops : (rest : Rest S) → AreKept rest → (w : World S) → IsGood R w → KeepsSaid ok w → (number : ℕ) (o : Option Mail) → AllByRecursion (KeepsSaid ok) (comes_to (dropped_if w number o) rest).worlds
   drops rest kept w good is number None = (is, kept w good is)

@@ -1,4 +1,4 @@
--- What is sent, the marks of frames, muted parties and the leaves of liars are nothing to a good world.
+-- What is sent, the marks of frames, muted parties and the signatures of liars are nothing to a good world.
 use Rattle.std.proofs.Common.{ℕ, Bool, List, [], ◌∷◌, Option, Some, None}
 use Rattle.std.specs.Prelude.{IfSome}
 use Rattle.std.specs.List.{AllByRecursion}
@@ -10,9 +10,9 @@ use Rattle.zy_table.specs.declared.client.Response.{Response}
 use Rattle.zy_world_law.specs.Good.{IsGood, IsTied, IsClientTied, IsBackedBy, IsDone, IsOrderBacked}
 use Rattle.zy_world_law.specs.World.{World, Replica, Client, Completed, Mail}
 
-module _ {S : Type 0} (R : Rules S) (w : World S) (leaves : Party → ℕ) (bag : List Mail) (muted : Party → Bool) where
+module _ {S : Type 0} (R : Rules S) (w : World S) (used : Party → ℕ) (bag : List Mail) (muted : Party → Bool) where
   abbrev w' : World S
-  w' = record w { leaves = leaves; bag = bag; muted = muted }
+  w' = record w { used = used; bag = bag; muted = muted }
 
   tied_same : (id : ℕ) (x : Replica S) → IsTied R w id x → IsTied R w' id x
   tied_same id x t = record { ready = t.ready; works = t.works; keys = t.keys; spelled = t.spelled }

@@ -3,7 +3,7 @@ use Rattle.std.proofs.Common.{◌≡◌, inl, inr, ℕ, nat_lt, Bool, true, fals
 use Rattle.std.specs.Prelude.{All, map, if◌then◌else◌}
 use Rattle.std.proofs.lemmas.Bool.{ltb-false}
 use Rattle.zy_cert.specs.Equal.{digest-equal}
-use Rattle.zy_admit.specs.Judging.{judge_in, same_digest}
+use Rattle.zy_admit.specs.Judging.{judge_in, same_digest, ordered_entry}
 use Rattle.zy_admit.specs.Orders.{stored_in}
 use Rattle.zy_admit.specs.declared.judging.Admit.{Admit}
 use Rattle.zy_admit.specs.declared.judging.Admit.TheVariants as admits
@@ -72,7 +72,7 @@ module _ {S : Type 0} (R : Rules S) (s : State S) where
 module _ {S : Type 0} (R : Rules S) (laws : StepLaws R) (interval : ℕ) (texts : Texts) (w : law.World) (r : ℕ) (s : State S) (h : List Entry) (ready : IsReady R interval w r s h) (kept : IsWorldOf R interval w texts) where
   -- ---- frames of normal operation
 
-  judged_just : (Excuse : Cause → Type 0) (both : OrderFrame) (a : Admit) → a ≡ judge_in s.orders both.order.stmt both.ask (position_of R s both) → Just R s Excuse (order_judged R s both a)
+  judged_just : (Excuse : Cause → Type 0) (both : OrderFrame) (a : Admit) → a ≡ judge_in s.orders both.order.stmt (ordered_entry both) (position_of R s both) → Just R s Excuse (order_judged R s both a)
   judged_just Excuse both admits.Evidence is =
       let stored = stored_in s.orders both.order.stmt.place.0 in
       finish_just R s Excuse (tell_all R s both.order stored) (order_ends R s both.order stored)

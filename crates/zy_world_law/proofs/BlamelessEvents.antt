@@ -39,7 +39,7 @@ use Rattle.zy_vframes.specs.Parts.{parts_of}
 use Rattle.zy_vframes.specs.ViewFrames as views
 use Rattle.zy_vframes.specs.declared.frame.ViewFrame.{ViewFrame}
 use Rattle.zy_world_law.specs.Blame.{IsBlameless, IsOfFrame, IsOfSnapshot, frame_brought}
-use Rattle.zy_world_law.specs.Events.{Broken, Happened, ask_in, bring, bring_to_client, bring_to_replica, client_goes, client_note, client_stepped, client_timer, client_timer_in, completed_by, deliver, forge, go_with, happens, history_of, leaves_in, lie, replica_goes, replica_note, replica_timer, replica_timer_in, stepped, timer_of, unless_forged, with_client, with_done, with_replica}
+use Rattle.zy_world_law.specs.Events.{Broken, Happened, ask_in, bring, bring_to_client, bring_to_replica, client_goes, client_note, client_stepped, client_timer, client_timer_in, completed_by, deliver, forge, go_with, happens, history_of, signatures_in, lie, replica_goes, replica_note, replica_timer, replica_timer_in, stepped, timer_of, unless_forged, with_client, with_done, with_replica}
 use Rattle.zy_world_law.specs.Events.Happened.{Breaks, Goes}
 use Rattle.zy_world_law.specs.Good.{IsGood, IsKept}
 use Rattle.zy_world_law.specs.Honest.{forger_in}
@@ -211,7 +211,7 @@ module _ {S : Type 0} (R : Rules S) (laws : StepLaws R) where
     hears : (bag : List Mail) (id : ReplicaId) (x : Replica S) → replica_at w id.0 ≡ Some x → (bytes : List ℕ) (forger : Option Party) → forger_in w bytes ≡ forger
         → TellsJust (ByFrame (any_frame_in bytes)) (unless_forged forger (replica_goes (record w { bag = bag }) id x (texts_in bytes) (Heard bytes) (whole_step R x.state (Heard bytes))))
     hears bag id x seat bytes None none =
-        replica_just (ByFrame (any_frame_in bytes)) (record w { bag = bag }) (bag_good R w w.leaves bag w.muted good) id x (texts_in bytes) (Heard bytes)
+        replica_just (ByFrame (any_frame_in bytes)) (record w { bag = bag }) (bag_good R w w.used bag w.muted good) id x (texts_in bytes) (Heard bytes)
         (λ more kept good1.
         subst (λ (o : Option (Replica S)). Just R x.state (λ (cause : Cause). IsOfFrame R o (any_frame_in bytes) cause) (whole_step R x.state (Heard bytes))) (sym seat)
         (heard_just R laws (record w { bag = bag; texts = more }) good1 id.0 x seat bytes none kept))
@@ -284,7 +284,7 @@ module _ {S : Type 0} (R : Rules S) (laws : StepLaws R) where
     lies : (liar : Party) (to : List Party) (telling : Option Telling) → TellsJust NoFrame (lie w liar to telling)
     lies liar to None = unnamed NoFrame w causes.NoSubject
     lies liar to (Some telling) =
-        tested NoFrame (is_liar w liar && are_parties w to) _ _ (tested NoFrame (nat_lt (w.leaves liar) (leaves_in w)) _ _ (quiet NoFrame _) (unnamed NoFrame w causes.KeySpent)) (unnamed NoFrame w causes.NoSubject)
+        tested NoFrame (is_liar w liar && are_parties w to) _ _ (tested NoFrame (nat_lt (w.used liar) (signatures_in w)) _ _ (quiet NoFrame _) (unnamed NoFrame w causes.KeySpent)) (unnamed NoFrame w causes.NoSubject)
 
     forges : (party : Party) (to : List Party) (telling : Option Telling) → TellsJust NoFrame (forge w party to telling)
     forges party to None = unnamed NoFrame w causes.NoSubject

@@ -4,12 +4,10 @@ use Rattle.std.specs.Prelude.{slice_get, if◌then◌else◌}
 use Rattle.std.specs.List.{AllByRecursion}
 use Rattle.std.proofs.lemmas.List.{length-append}
 use Rattle.std.proofs.lemmas.Option.{slice_get_within}
-use Rattle.sha2.specs.Sha256.{sha256}
 use Rattle.std.proofs.lemmas.Nat.{from_be_bytes-to_be_bytes_4}
 use Rattle.zy_base.specs.Machine.{Rules}
 use Rattle.zy_base.specs.declared.counts.Counts.{Counts}
 use Rattle.zy_base.specs.declared.ids.ClientId.{ClientId}
-use Rattle.zy_base.specs.declared.ids.Digest.{Digest}
 use Rattle.zy_base.specs.declared.ids.Party.{Party}
 use Rattle.zy_base.specs.declared.ids.Party.TheVariants as parties
 use Rattle.zy_base.specs.declared.step.Event.{Event}
@@ -21,7 +19,7 @@ use Rattle.zy_law.specs.Completed.IsCompleted.{fast, slow}
 use Rattle.zy_law.specs.Said.{IsVouched, IsBacked}
 use Rattle.zy_law.specs.World.{Statement}
 use Rattle.zy_law_normal.proofs.Backing.{all_from, signed_backed}
-use Rattle.zy_law_normal.specs.Acts.{spec_statement}
+use Rattle.zy_law_normal.specs.Acts.{spec_statement, answer_told}
 use Rattle.zy_law_normal.specs.Tied.{IsVouchedBy}
 use Rattle.zy_parts.specs.Numbers as numbers
 use Rattle.zy_parts.specs.Signing.{text_of}
@@ -49,6 +47,7 @@ use Rattle.zy_world_law.proofs.KeptOrHeard.{IsSame}
 use Rattle.zy_world_law.proofs.Seats.{seat_of}
 use Rattle.zy_law_normal.proofs.Goes.{all_of_both}
 use Rattle.zy_world_law.proofs.Vouched.{text_vouched}
+use Rattle.zy_chain.specs.Answers.{digest_of_answers}
 
 -- ---- what a response to a client that there may be says
 
@@ -108,11 +107,11 @@ module _ {S : Type 0} (R : Rules S) (w : World S) (good : IsGood R w) (id : Clie
   -- ---- completions
 
   -- what the law reads of a response to this client, with a reply that has its digest
-  told_is : (spec : Spec) (reply : List ℕ) (d : Done) → spec.client.0 ≡ id.0 → record { 0 = sha256 reply } ≡ spec.reply → d.view ≡ spec.view → d.place ≡ spec.place → d.head ≡ spec.head → d.stamp ≡ spec.stamp → d.reply ≡ reply
+  told_is : (spec : Spec) (reply : List ℕ) (d : Done) → spec.client.0 ≡ id.0 → digest_of_answers reply ≡ spec.reply → d.view ≡ spec.view → d.place ≡ spec.place → d.head ≡ spec.head → d.stamp ≡ spec.stamp → d.reply ≡ reply
       → spec_statement spec ≡ Statement.Spec (completion_of (record { client = id; done = d })).view (completion_of (record { client = id; done = d })).mark (completion_of (record { client = id; done = d })).answer
   told_is spec reply d client digest view place head stamp told =
       λ i. Statement.Spec (sym view i).0 (record { place = (sym place i).0; head = sym head i })
-      (record { client = client i; stamp = (sym stamp i).0; reply = (sym digest ∙ ap (λ (l : List ℕ). let d : Digest = record { 0 = sha256 l } in d) (sym told)) i })
+      (answer_told (client i) (sym stamp i).0 ((sym digest ∙ ap digest_of_answers (sym told)) i))
 
   pub fast_completed : (waiting : Signed Ask) (c : IsCompleteFast t waiting) → IsCompleted (seen R w) (completion_of (record { client = id; done = done_of c.response }))
   fast_completed waiting c =

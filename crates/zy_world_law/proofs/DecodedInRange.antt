@@ -13,6 +13,7 @@ use Rattle.zy_law_steps.proofs.DecodedFrames.{fault_gives, framed_gives, or_give
 use Rattle.zy_law_views.specs.Told.{spec_spelled}
 use Rattle.zy_wire.specs.Fields.{FitsList, bytes16, digest, u62}
 use Rattle.zy_wire.specs.Spelling.{pair}
+use Rattle.zy_chain.specs.Answers.{answers_fields}
 
 -- a response with its client's number as it is spelled
 abbrev pub FitsSpelled : Spec → Type 0
@@ -58,8 +59,8 @@ order_gives =
 
 response_gives : Gives spec_response.at (λ x. IsSignedRead FitsSpelled x.0 × Unit {0})
 response_gives =
-    pair_gives (signed spec_fields) (pair (bytes16 1100) ordered) (IsSignedRead FitsSpelled) (λ x. Unit {0})
-    (read_gives spec_fields FitsSpelled spec_gives) (all_give (pair (bytes16 1100) ordered).at)
+    pair_gives (signed spec_fields) (pair answers_fields ordered) (IsSignedRead FitsSpelled) (λ x. Unit {0})
+    (read_gives spec_fields FitsSpelled spec_gives) (all_give (pair answers_fields ordered).at)
 
 commit_gives : Gives commit.at (FitsList (IsSignedRead FitsSpelled) 1 16)
 commit_gives = counted_gives (signed spec_fields) (IsSignedRead FitsSpelled) (read_gives spec_fields FitsSpelled spec_gives) 1 16

@@ -1,6 +1,6 @@
 -- What is decoded of a frame of a change of view can be spelled again, whatever the bytes are, where what is signed in it is by replicas
 -- and its reports tell entries of clients that there may be.
-use Rattle.std.proofs.Common.{◌≡◌, ℕ, zero, suc, ◌<◌, Bool, true, List, [], ◌∷◌, length, map, get_or, Option, Some, None, Ok, arith}
+use Rattle.std.proofs.Common.{◌≡◌, ℕ, zero, suc, Bool, true, List, [], ◌∷◌, length, map, get_or, Option, Some, None, Ok, arith}
 use Rattle.std.specs.Prelude.{All, option_map}
 use Rattle.std.specs.List.{list_all}
 use Rattle.std.specs.Int.{w32}
@@ -31,12 +31,13 @@ use Rattle.zy_law_views.specs.Told.{change_spelled, new_spelled, spec_spelled, t
 use Rattle.zy_wire.specs.Fields.{FitsList, FitsOptional, bytes16, digest, list, u62}
 use Rattle.zy_wire.specs.Spelling.{Spelling, pair, word, word_at}
 use Rattle.zy_world_law.proofs.DecodedInRange.{FitsSpelled}
+use Rattle.zy_chain.specs.Entries.{IsOfClients}
 
 -- ---- what is read
 
 -- an entry, but for its client's number
 abbrev pub IsEntryRead : Entry → Type 0
-IsEntryRead e = e.client.0 < 64 → entry_fields.Fits e
+IsEntryRead e = IsOfClients e → entry_fields.Fits e
 
 entry_gives : Gives entry_fields.at IsEntryRead
 unfolding entry_fields
@@ -138,7 +139,7 @@ certificate_fits : (specs : Option (List (Signed Spec))) → are_specs_in_role s
 certificate_fits None roles is = tt
 certificate_fits (Some specs) roles is = mapped_fits spec_fields FitsSpelled 1 16 specs roles is spec_spelled (λ spec fits. fits)
 
-told_fits : (t : Told) → is_told_in_role t ≡ true → All (λ e. e.client.0 < 64) t.entries → IsToldRead t → told_fields.Fits (told_spelled t)
+told_fits : (t : Told) → is_told_in_role t ≡ true → All IsOfClients t.entries → IsToldRead t → told_fields.Fits (told_spelled t)
 unfolding told_fields
 told_fits t roles clients (last_view, (began_place, (began_head, (began, (specs, (stable_view, (stable_place, (stable_head, (digest_is, (checks, entries)))))))))) =
     let first = and_parts (list_all is_by_replica t.began) _ roles in

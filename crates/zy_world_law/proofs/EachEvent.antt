@@ -33,7 +33,7 @@ use Rattle.zy_table.specs.Roles.{is_primary_of}
 use Rattle.zy_table.specs.declared.client.Response.{Response}
 use Rattle.zy_table.specs.declared.deeds.AnyFrame.{AnyFrame}
 use Rattle.zy_table.specs.declared.deeds.AnyFrame.TheVariants.{Plain}
-use Rattle.zy_world_law.specs.Events.{Happened, Broken, unless_forged, ask_in, deliver, bring, bring_to_replica, bring_to_client, timer_of, replica_timer_in, client_timer_in, replica_timer, client_timer, lie, forge, happens, replica_goes, client_goes, leaves_in}
+use Rattle.zy_world_law.specs.Events.{Happened, Broken, unless_forged, ask_in, deliver, bring, bring_to_replica, bring_to_client, timer_of, replica_timer_in, client_timer_in, replica_timer, client_timer, lie, forge, happens, replica_goes, client_goes, signatures_in}
 use Rattle.zy_world_law.specs.Events.Happened.{Goes, Breaks}
 use Rattle.zy_world_law.specs.Good.{IsGood, IsBackedBy, IsKept, IsOrderBacked}
 use Rattle.zy_world_law.specs.Honest.{forger_in}
@@ -174,7 +174,7 @@ module _ {S : Type 0} (R : Rules S) (law : HeldLaw) (steps : StepLaws R) where
     from_marked bag h goes v note is = let after = goes v note is in record { good = after.good; texts = after.texts; more = after.more; done = after.done }
 
     marked_good : (bag : List Mail) → IsGood R (record w { bag = bag })
-    marked_good bag = bag_good R w w.leaves bag w.muted good
+    marked_good bag = bag_good R w w.used bag w.muted good
 
     marks : (bag : List Mail) → IsAfter R w (record w { bag = bag })
     marks bag = record { good = marked_good bag; texts = λ d text was. was; more = []; done = sym (append-nil w.done) }
@@ -229,21 +229,21 @@ module _ {S : Type 0} (R : Rules S) (law : HeldLaw) (steps : StepLaws R) where
 
     -- ---- lies
 
-    sends : (leaves : Party → ℕ) (bag : List Mail) (note : Note) → GoesGood w (Goes (record w { leaves = leaves; bag = bag }) note)
-    sends leaves bag note =
-        stays_as w (record w { leaves = leaves; bag = bag }) note (record { good = bag_good R w leaves bag w.muted good; texts = λ d text was. was; more = []; done = sym (append-nil w.done) })
+    sends : (used : Party → ℕ) (bag : List Mail) (note : Note) → GoesGood w (Goes (record w { used = used; bag = bag }) note)
+    sends used bag note =
+        stays_as w (record w { used = used; bag = bag }) note (record { good = bag_good R w used bag w.muted good; texts = λ d text was. was; more = []; done = sym (append-nil w.done) })
 
     lies : (liar : Party) (to : List Party) (telling : Option Telling) → GoesGood w (lie w liar to telling)
     lies liar to None = stays w _ good
     lies liar to (Some telling) =
         by_test w (is_liar w liar && are_parties w to) _ _
-        (by_test w (nat_lt (w.leaves liar) (leaves_in w)) _ _ (sends _ _ notes.Quiet) (stays w _ good))
+        (by_test w (nat_lt (w.used liar) (signatures_in w)) _ _ (sends _ _ notes.Quiet) (stays w _ good))
         (stays w _ good)
 
     forges : (party : Party) (to : List Party) (telling : Option Telling) → GoesGood w (forge w party to telling)
     forges party to None = stays w _ good
     forges party to (Some telling) =
-        by_test w (is_correct w party && are_parties w to) _ _ (sends w.leaves _ notes.Quiet) (stays w _ good)
+        by_test w (is_correct w party && are_parties w to) _ _ (sends w.used _ notes.Quiet) (stays w _ good)
 
     pub event_good : (event : WorldEvent) → GoesGood w (happens R w event)
     unfolding happens
@@ -253,5 +253,5 @@ module _ {S : Type 0} (R : Rules S) (law : HeldLaw) (steps : StepLaws R) where
     event_good (events.Order liar view asks to) = lies liar to (by_replica liar (option_and_then (order_told view) (requests_at w asks)))
     event_good (events.Spec liar view asks to reply) = lies liar to (by_replica liar (option_and_then (spec_told view reply) (requests_at w asks)))
     event_good (events.Statement liar bytes to) = lies liar to (if_short w.setup liar (statement_told bytes))
-    event_good (events.Raw bytes to) = by_test w (are_parties w to) _ _ (sends w.leaves _ notes.Quiet) (stays w _ good)
+    event_good (events.Raw bytes to) = by_test w (are_parties w to) _ _ (sends w.used _ notes.Quiet) (stays w _ good)
     event_good (events.Forge party bytes to) = forges party to (if_short w.setup party (statement_told bytes))

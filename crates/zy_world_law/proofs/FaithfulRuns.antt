@@ -187,7 +187,7 @@ module _ {S : Type 0} (R : Rules S) (ok : S → Type 0) (held : HeldLaw) (steps 
     heard = mail_heard w is number mail there
 
     marked_good : IsGood R marked
-    marked_good = bag_good R w w.leaves marked.bag w.muted good
+    marked_good = bag_good R w w.used marked.bag w.muted good
 
     marked_fair : IsFaithful ok marked
     marked_fair = with_mail w is number (record mail { delivered = true }) heard
@@ -268,11 +268,11 @@ module _ {S : Type 0} (R : Rules S) (ok : S → Type 0) (held : HeldLaw) (steps 
   drops rest faithfully w good is number None there = comes rest faithfully w good is
   drops rest faithfully w good is number (Some mail) there =
       let dropped : Mail = record mail { dropped = true } in
-      comes rest faithfully (with_mail_at w number dropped) (bag_good R w w.leaves (with_mail_at w number dropped).bag w.muted good) (with_mail w is number dropped (mail_heard w is number mail there))
+      comes rest faithfully (with_mail_at w number dropped) (bag_good R w w.used (with_mail_at w number dropped).bag w.muted good) (with_mail w is number dropped (mail_heard w is number mail there))
 
   mutes_if : (rest : Rest S) → Faithfully rest → (w : World S) → IsGood R w → IsFaithful ok w → (muted : Party → Bool) (b : Bool)
       → IsUnforged (comes_to (if b then record w { muted = muted } else w) rest).end × AllByRecursion (IsFaithful ok) (comes_to (if b then record w { muted = muted } else w) rest).worlds
-  mutes_if rest faithfully w good is muted true = comes rest faithfully (record w { muted = muted }) (bag_good R w w.leaves w.bag muted good) (with_muted w is muted)
+  mutes_if rest faithfully w good is muted true = comes rest faithfully (record w { muted = muted }) (bag_good R w w.used w.bag muted good) (with_muted w is muted)
   mutes_if rest faithfully w good is muted false = comes rest faithfully w good is
 
   -- ---- lines

@@ -87,7 +87,7 @@ module _ {S : Type 0} (R : Rules S) (steps : StepLaws R) (w : World S) (good : I
       (all_of_rest (IsKept k.texts') texts (step_texts o.deeds.acts) k.keeping.kept) in
       let w2 : World S = with_replica w1 id (stepped k.texts' event x o) in
       let good2 : IsGood R w2 = replica_good R steps.back w1 good1 id x at event fine.history o fine.step in
-      let good3 : IsGood R (with_sent w2 (outgoing_of o.state.me.0 o.state.counts.n o.deeds.sent)) = bag_good R w2 w2.leaves _ w2.muted good2 in
+      let good3 : IsGood R (with_sent w2 (outgoing_of o.state.me.0 o.state.counts.n o.deeds.sent)) = bag_good R w2 w2.used _ w2.muted good2 in
       subst (λ (u : World S). IsAfter R w u) k.world (record { good = good3; texts = k.keeping.stay; more = []; done = sym (append-nil w.done) })
 
 module _ {S : Type 0} (R : Rules S) (w : World S) (good : IsGood R w) where
@@ -110,7 +110,7 @@ module _ {S : Type 0} (R : Rules S) (w : World S) (good : IsGood R w) where
       let w2 : World S = with_client w1 id (client_stepped x o) in
       let good2 : IsGood R w2 = client_good R w1 good1 id x at o same holds backed1 committed1 in
       let w3 : World S = with_sent w2 (client_outgoing o.state.counts.n o.sent) in
-      let good3 : IsGood R w3 = bag_good R w2 w2.leaves _ w2.muted good2 in
+      let good3 : IsGood R w3 = bag_good R w2 w2.used _ w2.muted good2 in
       let seat : client_at w3 id.0 ≡ Some (client_stepped x o) = own_seat R w1 good1 id x at o same holds backed1 committed1 in
       let is_done : (d : Done) → done ≡ Some d → IsDone R w3 (record { client = id; done = d }) =
       λ d told.

@@ -1,6 +1,6 @@
 -- A frame of a change of view that isn't forged is honest: what is signed in it was said by its signer, or that lies, and what it brings is
 -- kept.
-use Rattle.std.proofs.Common.{◌≡◌, ◌<◌, ℕ, true, List, [], ◌∷◌, ◌++◌, map, Option, Some, None, refl, sym, subst}
+use Rattle.std.proofs.Common.{◌≡◌, ℕ, true, List, [], ◌∷◌, ◌++◌, map, Option, Some, None, refl, sym, subst}
 use Rattle.std.specs.Prelude.{All}
 use Rattle.std.specs.List.{AllByRecursion, flat_map, list_all}
 use Rattle.std.proofs.lemmas.Bool.{and_parts}
@@ -11,7 +11,7 @@ use Rattle.zy_base.specs.declared.ids.Digest.{Digest}
 use Rattle.zy_base.specs.declared.ids.Party.{Party}
 use Rattle.zy_base.specs.declared.ids.Party.TheVariants.{Client, Replica}
 use Rattle.zy_law_views.specs.Frames.{AreLinksBrought, IsBroughtKept, IsHonestFrame}
-use Rattle.zy_chain.specs.Entries.{digest_of_entry}
+use Rattle.zy_chain.specs.Entries.{digest_of_entry, IsOfClients}
 use Rattle.zy_chain.specs.Fields.{entry-in_range, entry_fields}
 use Rattle.zy_chain.specs.Heads.{head_after}
 use Rattle.zy_chain.specs.declared.entry.Entry.{Entry}
@@ -101,7 +101,7 @@ frame_by counts (frames.State place snapshot) role = tt
 -- ---- what it brings
 
 module _ {S : Type 0} (R : Rules S) (w : World S) where
-  links_brought : (head : Digest) (entries : List Entry) → AllByRecursion (λ e. e.client.0 < 64 → entry_fields.Fits e) entries → AllByRecursion (λ e. e.client.0 < 64) entries → AllByRecursion (IsKept w.texts) (entry_texts head entries)
+  links_brought : (head : Digest) (entries : List Entry) → AllByRecursion (λ e. IsOfClients e → entry_fields.Fits e) entries → AllByRecursion IsOfClients entries → AllByRecursion (IsKept w.texts) (entry_texts head entries)
       → AreKept (is_link w.texts) next_head head entries
   links_brought head [] fits clients kept = tt
   links_brought head (e ∷ entries) fits clients kept = (
@@ -112,7 +112,7 @@ module _ {S : Type 0} (R : Rules S) (w : World S) where
   report_brought : (c : Signed Change) → IsToldRead c.stmt.told → AllByRecursion (IsKept w.texts) (report_texts c) → AreLinksBrought (seen R w) c
   report_brought c (a, (b, (d, (e, (f, (g, (h, (i, (j, (k, entries)))))))))) kept clients =
       let told = c.stmt.told in
-      links_brought told.stable_head told.entries (all_listed (λ (e : Entry). e.client.0 < 64 → entry_fields.Fits e) told.entries entries.each) (all_listed (λ (e : Entry). e.client.0 < 64) told.entries clients) kept
+      links_brought told.stable_head told.entries (all_listed (λ (e : Entry). IsOfClients e → entry_fields.Fits e) told.entries entries.each) (all_listed IsOfClients told.entries clients) kept
 
   reports_brought : (list : List (Signed Change)) → AllByRecursion (λ c. IsToldRead c.stmt.told) list → AllByRecursion (IsKept w.texts) (flat_map report_texts list) → AllByRecursion (AreLinksBrought (seen R w)) list
   reports_brought [] read kept = tt

@@ -33,7 +33,7 @@ use Rattle.zy_table.specs.ClientRows.{ask, ask_while, asked, next_ask, kept_of, 
 use Rattle.zy_vframes.specs.Parts as view_parts
 use Rattle.zy_vframes.specs.ViewFrames as views
 use Rattle.zy_vframes.specs.declared.frame.ViewFrame.{ViewFrame}
-use Rattle.zy_table.specs.ClientState.{ClientState, ClientOutcome, leaves_of, refused, is_waiting}
+use Rattle.zy_table.specs.ClientState.{ClientState, ClientOutcome, signs_left, refused, is_waiting}
 use Rattle.zy_table.specs.Roles.{is_replica}
 use Rattle.zy_table.specs.declared.client.Commit.{Commit}
 use Rattle.zy_table.specs.declared.client.Done.{Done}
@@ -288,19 +288,19 @@ waits_incomplete : (s t : ClientState) (b : Bool) → (if b then (if true then N
 waits_incomplete s t true = refl
 waits_incomplete s t false = refl
 
-with_leaf : (s : ClientState) (op : List ℕ) (leaf : Bool) → IsAsked s (if leaf then asked s (next_ask s op) else refused causes.KeySpent s)
-with_leaf s op true =
+with_left : (s : ClientState) (op : List ℕ) (number : Bool) → IsAsked s (if number then asked s (next_ask s op) else refused causes.KeySpent s)
+with_left s op true =
     record {
       same = record { me = refl; counts = refl; keys = refl };
       kept = λ at q is. absurd (none_filled s.counts.n at q is);
       committed = λ waiting c waits held. absurd cc;
       incomplete = waits_incomplete s (asked s (next_ask s op)).state (is_waiting s.waiting);
     }
-with_leaf s op false = record { same = record { me = refl; counts = refl; keys = refl }; kept = λ at q is. is; committed = λ waiting c waits held. (waits, held); incomplete = stays_incomplete s (is_waiting s.waiting) }
+with_left s op false = record { same = record { me = refl; counts = refl; keys = refl }; kept = λ at q is. is; committed = λ waiting c waits held. (waits, held); incomplete = stays_incomplete s (is_waiting s.waiting) }
 
 asks_while : (s : ClientState) (wait : Option (Signed Ask)) (op : List ℕ) → IsAsked s (ask_while s wait op)
 asks_while s (Some waiting) op = record { same = record { me = refl; counts = refl; keys = refl }; kept = λ at q is. is; committed = λ waiting c waits held. (waits, held); incomplete = stays_incomplete s (is_waiting s.waiting) }
-asks_while s None op = with_leaf s op (nat_le 1 (leaves_of s))
+asks_while s None op = with_left s op (nat_le 1 (signs_left s))
 
 pub ask_comes : (s : ClientState) (op : List ℕ) → IsAsked s (ask s op)
 unfolding ask

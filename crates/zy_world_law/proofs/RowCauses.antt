@@ -1,7 +1,7 @@
 -- Why a frame of normal operation is refused: for what blames nobody, or because a checkpoint tells another snapshot than the own.
 use Rattle.std.proofs.Common.{◌≡◌, ◌⊎◌, inl, inr, ℕ, ◌+◌, nat_eq, nat_lt, Bool, true, false, List, [], ◌∷◌, Option, Some, None, Ok, Err, refl, sym, ◌∙◌, subst}
 use Rattle.std.specs.Prelude.{◌%◌, Result, if◌then◌else◌, nat_le, option_map}
-use Rattle.zy_admit.specs.Judging.{entry_of, judge_beside, judge_fresh, newer, same_digest, same_order}
+use Rattle.zy_admit.specs.Judging.{entry_of, judge_beside, judge_fresh, same_digest, same_order, ordered_entry, asking}
 use Rattle.zy_admit.specs.Orders.{orders_from, stored_in}
 use Rattle.zy_admit.specs.declared.judging.Admit.{Admit}
 use Rattle.zy_admit.specs.declared.judging.Admit.TheVariants as admits
@@ -22,7 +22,7 @@ use Rattle.zy_cert.specs.Equal as certs
 use Rattle.zy_cert.specs.Equal.{digest-equal, same_spec}
 use Rattle.zy_cert.specs.Points.{point_of_spec}
 use Rattle.zy_cert.specs.Signers.{has_signer}
-use Rattle.zy_chain.specs.Entries.{digest_of_entry}
+use Rattle.zy_chain.specs.Entries.{digest_of_entry, newer}
 use Rattle.zy_chain.specs.Heads.{head_after}
 use Rattle.zy_chain.specs.Stretch.{head_in}
 use Rattle.zy_check.specs.Board as boards
@@ -50,10 +50,10 @@ use Rattle.zy_table.specs.Deeds.{Outcome, refused}
 use Rattle.zy_table.specs.Gathering.{checks_owed, own_at, with_certificate}
 use Rattle.zy_table.specs.Holes.{fill_hole, fill_with}
 use Rattle.zy_table.specs.Orders.{order_as, owes_hole}
-use Rattle.zy_table.specs.Requests.{is_behind, new_request, request, request_after, request_at_backup, respond_as, said_already}
+use Rattle.zy_table.specs.Requests.{is_behind, new_request, request, request_after, request_at_backup, respond_as}
 use Rattle.zy_table.specs.Roles.{view_cause}
 use Rattle.zy_table.specs.Running.{signs_of, spec_of}
-use Rattle.zy_table.specs.State.{State, is_leaving, is_primary, leaves_of, own_view, pending_of, spec_to, window_of}
+use Rattle.zy_table.specs.State.{State, is_leaving, is_primary, signs_left, own_view, pending_of, window_of, spec_said}
 use Rattle.zy_table.specs.Whole.{commit_in_view, unless}
 use Rattle.zy_table.specs.declared.kept.OwnCheckpoint.{OwnCheckpoint}
 use Rattle.zy_table.specs.declared.kept.Pending.{Pending}
@@ -111,31 +111,31 @@ module _ {S : Type 0} (R : Rules S) (s : State S) where
     -- ---- requests
 
     waits : (ask : Signed Ask) (pending : Option Pending) → Just Excuse (request_at_backup R s ask pending)
-    waits ask None = tested (nat_le 1 (leaves_of s)) _ _ taken (free causes.KeySpent refl)
-    waits ask (Some pending) = tested (nat_eq ask.stmt.stamp.0 pending.ask.stmt.stamp.0) _ _ taken (tested (nat_le 1 (leaves_of s)) _ _ taken (free causes.KeySpent refl))
+    waits ask None = tested (nat_le 1 (signs_left s)) _ _ taken (free causes.KeySpent refl)
+    waits ask (Some pending) = tested (nat_eq ask.stmt.stamp.0 pending.ask.stmt.stamp.0) _ _ taken (tested (nat_le 1 (signs_left s)) _ _ taken (free causes.KeySpent refl))
 
     new_just : (ask : Signed Ask) → Just Excuse (new_request R s ask)
     new_just ask =
         tested (is_primary s) _ _
-        (tested (nat_lt (last_place s.kept) (window_of s)) _ _ (tested (nat_le (signs_of R s ask + 1) (leaves_of s)) _ _ taken (free causes.KeySpent refl)) (free (causes.WindowFull (record { 0 = window_of s })) refl))
-        (waits ask (pending_of s (entry_of ask).client))
+        (tested (nat_lt (last_place s.kept) (window_of s)) _ _ (tested (nat_le (signs_of R s (entry_of ask) + 1) (signs_left s)) _ _ taken (free causes.KeySpent refl)) (free (causes.WindowFull (record { 0 = window_of s })) refl))
+        (waits ask (pending_of s (asking ask.by)))
 
     responds : (said : Option (Signed Spec)) (spec : Spec) (known : Known) → Just Excuse (respond_as R s said spec known)
-    responds None spec known = tested (nat_le 1 (leaves_of s)) _ _ taken (free causes.KeySpent refl)
+    responds None spec known = tested (nat_le 1 (signs_left s)) _ _ taken (free causes.KeySpent refl)
     responds (Some signed) spec known = taken
 
     after_known : (ask : Signed Ask) (known : Option Known) → Just Excuse (request_after R s ask known)
     after_known ask None = new_just ask
     after_known ask (Some known) =
-        let spec = spec_of (own_view s) ask known in
+        let spec = spec_of (own_view s) (entry_of ask) known in
         tested (nat_lt ask.stmt.stamp.0 known.stamp.0) _ _ (free causes.OldStamp refl)
-        (tested (nat_eq ask.stmt.stamp.0 known.stamp.0) _ _ (responds (said_already (spec_to s spec.client) spec) spec known) (new_just ask))
+        (tested (nat_eq ask.stmt.stamp.0 known.stamp.0) _ _ (responds (spec_said s spec) spec known) (new_just ask))
 
     pub request_just : (ask : Signed Ask) → Just Excuse (request R s ask)
     unfolding request
     request_just ask =
         tested (is_leaving s) _ _ (free causes.NotActive refl)
-        (tested (is_behind ask (pending_of s (entry_of ask).client)) _ _ (free causes.OldStamp refl) (after_known ask (known_in R s.kept (entry_of ask).client.0)))
+        (tested (is_behind ask (pending_of s (asking ask.by))) _ _ (free causes.OldStamp refl) (after_known ask (known_in R s.kept (asking ask.by).0)))
 
     again : (by : Party) (kept : Option OrderFrame) → Just Excuse (order_again s by kept)
     again by None = free causes.OldPlace refl
@@ -150,7 +150,7 @@ module _ {S : Type 0} (R : Rules S) (s : State S) where
     pub confirm_just : (confirmed : Signed Confirm) (ask : Signed Ask) → Just Excuse (confirm R s confirmed ask)
     unfolding confirm
     confirm_just confirmed ask =
-        tested (same_digest confirmed.stmt.request (digest_of_entry (entry_of ask))) _ _ (confirm_known confirmed.by ask (known_in R s.kept (entry_of ask).client.0)) (free causes.Unmatched refl)
+        tested (same_digest confirmed.stmt.request (digest_of_entry (entry_of ask))) _ _ (confirm_known confirmed.by ask (known_in R s.kept (asking ask.by).0)) (free causes.Unmatched refl)
 
     -- ---- orders
 
@@ -163,7 +163,7 @@ module _ {S : Type 0} (R : Rules S) (s : State S) where
     admit_tested : (b : Bool) (x y : Admit) → IsFreeAdmit x → IsFreeAdmit y → IsFreeAdmit (if b then x else y)
     admit_tested b x y one other = by_test IsFreeAdmit b x y (λ is. one) (λ is. other)
 
-    fresh_free : (order : Order) (ask : Signed Ask) (now : Position) → IsFreeAdmit (judge_fresh order ask now)
+    fresh_free : (order : Order) (ask : Signed Ask) (now : Position) → IsFreeAdmit (judge_fresh order (entry_of ask) now)
     fresh_free order ask now =
         admit_tested (nat_le order.place.0 now.end.0) _ _ refl
         (admit_tested (nat_lt now.window.0 order.place.0) _ _ refl
@@ -171,13 +171,13 @@ module _ {S : Type 0} (R : Rules S) (s : State S) where
         (admit_tested (nat_lt (now.end.0 + 1) order.place.0) _ _ tt
         (admit_tested (same_digest order.head (head_after now.head (digest_of_entry (entry_of ask)))) _ _ (admit_tested (newer ask.stmt.stamp now.last) _ _ tt refl) refl)) refl))
 
-    pub admit_free : (stored : Option OrderFrame) (order : Order) (ask : Signed Ask) (now : Position) → IsFreeAdmit (judge_beside stored order ask now)
+    pub admit_free : (stored : Option OrderFrame) (order : Order) (ask : Signed Ask) (now : Position) → IsFreeAdmit (judge_beside stored order (entry_of ask) now)
     admit_free None order ask now = fresh_free order ask now
     admit_free (Some kept) order ask now = admit_tested (same_order kept.order.stmt order) _ _ refl tt
 
     pub order_as_just : (o : OrderFrame) (a : Admit) → IsFreeAdmit a → Just Excuse (order_as R s o a)
-    order_as_just o admits.Next is = tested (nat_le (signs_of R s o.ask) (leaves_of s)) _ _ taken (free causes.KeySpent refl)
-    order_as_just o admits.Held is = tested (owes_hole s) _ _ (tested (nat_le 1 (leaves_of s)) _ _ keeps_waiting (free causes.KeySpent refl)) keeps_waiting
+    order_as_just o admits.Next is = tested (nat_le (signs_of R s (ordered_entry o)) (signs_left s)) _ _ taken (free causes.KeySpent refl)
+    order_as_just o admits.Held is = tested (owes_hole s) _ _ (tested (nat_le 1 (signs_left s)) _ _ keeps_waiting (free causes.KeySpent refl)) keeps_waiting
     order_as_just o (admits.Refused cause) is = free cause is
     order_as_just o admits.Evidence is = free causes.Unmatched refl
 
@@ -187,7 +187,7 @@ module _ {S : Type 0} (R : Rules S) (s : State S) where
     committed specs client local None = free (causes.Behind local.place) refl
     committed specs client local (Some own) =
         tested (same_digest own local.head) _ _
-        (tested (nat_le (locals_owed (local_said s local) + checks_owed (with_certificate s local.place specs) (own_at R s local.place.0) true) (leaves_of s)) _ _ taken (free causes.KeySpent refl))
+        (tested (nat_le (locals_owed (local_said s local) + checks_owed (with_certificate s local.place specs) (own_at R s local.place.0) true) (signs_left s)) _ _ taken (free causes.KeySpent refl))
         (free (causes.OtherHistory own local.head) refl)
 
     commit_point : (specs : List (Signed Spec)) (client : ClientId) (point : Result (View × Place × Digest) Cause) → certified same_spec point_of_spec s.counts.cert specs ≡ point → Just Excuse (commit_judged R s specs client point)
@@ -244,7 +244,7 @@ module _ {S : Type 0} (R : Rules S) (s : State S) where
 
     kept_just : (own : Option OwnCheckpoint) (answer : Kept) (board : Board) → IsFreeKept answer → Just Excuse (kept_as R s own answer board)
     kept_just own answers.Held board is = keeps_waiting
-    kept_just own (answers.Kept number) board is = tested (nat_le (checks_owed (with_board s board) own false) (leaves_of s)) _ _ taken (free causes.KeySpent refl)
+    kept_just own (answers.Kept number) board is = tested (nat_le (checks_owed (with_board s board) own false) (signs_left s)) _ _ taken (free causes.KeySpent refl)
     kept_just own (answers.Refused cause) board is = refused_just Excuse cause is
 
     spec_free : (list : List (Signed Spec)) (vote : Signed Spec) (own : Option Spec) → IsFreeKept (beside_spec list vote own)

@@ -54,7 +54,7 @@ module _ {S : Type 0} (R : Rules S) (law : HeldLaw) (steps : StepLaws R) where
   -- ---- marks
 
   marked : (w : World S) → IsGood R w → (bag : List Mail) (muted : Party → Bool) → IsAfter R w (record w { bag = bag; muted = muted })
-  marked w good bag muted = record { good = bag_good R w w.leaves bag muted good; texts = λ d text was. was; more = []; done = sym (append-nil w.done) }
+  marked w good bag muted = record { good = bag_good R w w.used bag muted good; texts = λ d text was. was; more = []; done = sym (append-nil w.done) }
 
   dropped : (w : World S) → IsGood R w → (number : ℕ) (o : Option Mail) → IsAfter R w (dropped_if w number o)
   dropped w good number None = after_itself R law steps w good

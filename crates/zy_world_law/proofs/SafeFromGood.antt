@@ -1,6 +1,6 @@
 -- A good world is safe, and the agreed list only grows.
 use Rattle.std.proofs.Common.{◌≡◌, inl, inr, ℕ, zero, suc, ◌+◌, ◌-◌, ◌≤◌, true, false, List, [], ◌∷◌, ◌++◌, length, map, take, drop, Option, Some, None, refl, sym, ap, ◌∙◌, subst, arith}
-use Rattle.std.specs.Prelude.{slice_get, option_map, unwrap_or, is_none, Contains, All}
+use Rattle.std.specs.Prelude.{slice_get, option_map, is_none, Contains, All}
 use Rattle.std.specs.List.{AllByRecursion}
 use Rattle.std.proofs.lemmas.Bool.{cases_lt}
 use Rattle.std.proofs.lemmas.List.{take-append-drop, length-take-le}
@@ -13,7 +13,7 @@ use Rattle.zy_base.specs.declared.ids.Stamp.{Stamp}
 use Rattle.zy_chain.specs.Heads.{empty_head}
 use Rattle.zy_chain.specs.declared.entry.Entry.{Entry}
 use Rattle.zy_exec.proofs.HistoryLemmas.{stands_leads}
-use Rattle.zy_exec.specs.Replay.{origin, along, answer_at}
+use Rattle.zy_exec.specs.Replay.{origin, along, answer_at, answers_of}
 use Rattle.zy_law.proofs.CompletedLemmas.{completed_fixed, agreed_list, agreed_asked, agreed_grows, completed_result}
 use Rattle.zy_law.proofs.GrownLemmas.{AreKept-more}
 use Rattle.zy_law.proofs.HistoryLemmas.{AreKept-take}
@@ -27,7 +27,7 @@ use Rattle.zy_law.specs.Said.{Moment}
 use Rattle.zy_law.specs.World as law
 use Rattle.zy_law_normal.proofs.Backing.{all_from}
 use Rattle.zy_law_normal.proofs.Records.{answer_longer}
-use Rattle.zy_law_normal.specs.Tied.{next_head}
+use Rattle.zy_law_normal.specs.Tied.{next_head, Agrees}
 use Rattle.zy_world_law.specs.Events.{history_of}
 use Rattle.zy_world_law.specs.Good.{IsGood, IsDone, IsKept}
 use Rattle.zy_world_law.specs.Safe.{IsSafe, IsResult, IsAgreed, IsReplay, HasStable, Grows, completion_of, completions_of, mark_of}
@@ -39,6 +39,7 @@ use Rattle.zy_world_law.proofs.KeptTexts.{stay_kept}
 use Rattle.zy_world_law.proofs.OwnStable.{stable_backed, stable_own}
 use Rattle.zy_world_law.proofs.OneText.{one_kept_text, link_of, link_is}
 use Rattle.zy_world_law.proofs.ToldSteps.{map_append}
+use Rattle.zy_law_views.proofs.Responding.{true_reply}
 
 correct_seat : {S : Type 0} (o : Option (Replica S)) → is_none o ≡ false → (x : Replica S) × (o ≡ Some x)
 correct_seat None is = absurd cc
@@ -50,9 +51,13 @@ replied R list zero e at = absurd (omega (arith, at.first))
 replied {S} R list (suc before) e at =
     let here : before ≡ suc before - 1 = omega arith in
     let there : slice_get list before ≡ Some e = ap (λ (n : ℕ). slice_get list n) here ∙ at.there in (
-      R.reply (along R (origin R) (take before list)).state e.client e.op,
-      ap (λ (o : Option Entry). option_map (λ (d : Entry). R.reply (along R (origin R) (take before list)).state d.client d.op) o) there,
+      answers_of R (along R (origin R) (take before list)).state e,
+      ap (λ (o : Option Entry). option_map (λ (d : Entry). answers_of R (along R (origin R) (take before list)).state d) o) there,
     )
+
+-- what a response tells is one value, out of which each part can be read
+parts_told : (a b c d : ℕ) (x y : List ℕ) → a ∷ b ∷ x ≡ c ∷ d ∷ y → (a ≡ c) × ((b ≡ d) × (x ≡ y))
+parts_told a b c d x y same = let client : a ≡ c = cc in let stamp : b ≡ d = cc in let told : x ≡ y = cc in (client, (stamp, told))
 
 answer_front : {S : Type 0} (R : Rules S) (list : List Entry) (place : ℕ) → place ≤ length list → answer_at R (take place list) place ≡ answer_at R list place
 answer_front R list place within =
@@ -98,8 +103,12 @@ module _ {S : Type 0} (R : Rules S) (w : World S) (good : IsGood R w) where
         let a = is.answer in
         let within : place ≤ length list = is.passes.within in
         let (reply, answer) = replied R list place a.entry a.last in
-        let client : a.entry.client ≡ c.client = ap (λ (n : ℕ). let id : ClientId = record { 0 = n } in id) a.client in
-        let stamp : a.entry.stamp ≡ c.done.stamp = ap (λ (n : ℕ). let t : Stamp = record { 0 = n } in t) a.stamp in
+        -- the response tells whose entry it is, and what it is answered with
+        let agrees : Agrees R v = record { next = refl; digest = refl; reply = refl; state = refl } in
+        let (same_client, (same_stamp, told)) = parts_told a.entry.client.0 a.entry.stamp.0 c.client.0 c.done.stamp.0 (sha256 reply) (sha256 c.done.reply)
+        (ap (λ (d : Digest). d.0) (sym (true_reply R v agrees list place a.entry reply within a.last answer) ∙ a.reply)) in
+        let client : a.entry.client ≡ c.client = ap (λ (n : ℕ). let id : ClientId = record { 0 = n } in id) same_client in
+        let stamp : a.entry.stamp ≡ c.done.stamp = ap (λ (n : ℕ). let t : Stamp = record { 0 = n } in t) same_stamp in
         let seat : client_at w a.entry.client.0 ≡ Some done.client = ap (λ (n : ClientId). client_at w n.0) client ∙ done.correct in
         -- some correct replica's history has the mark, with the same entries up to it
         let known : IsKnown v (c.done.view.0 + 1) (mark_of c) = fixed_known v good.lawful c.done.view.0 (mark_of c) (completed_fixed v good.lawful (completion_of c) done.completed) in
@@ -111,9 +120,6 @@ module _ {S : Type 0} (R : Rules S) (w : World S) (good : IsGood R w) where
         let there : answer_at R t.stand.history place ≡ Some reply =
         sym (answer_front R t.stand.history place known.passes.within) ∙ ap (λ (l : List Entry). answer_at R l place) same ∙ answer_front R list place within ∙ answer in
         let kept : IsKept w.texts reply = (good.kept.kept.histories t).replies place reply there in
-        let told : sha256 reply ≡ sha256 c.done.reply =
-        ap (λ (o : Option (List ℕ)). sha256 (unwrap_or o [])) (sym answer ∙ sym (answer_front R list place within) ∙ ap (λ (n : ℕ). answer_at R (take place list) n) (sym (length-take-le place list within)))
-        ∙ ap (λ (d : Digest). d.0) a.reply in
         let one : reply ≡ c.done.reply = one_kept_text w.texts reply c.done.reply kept done.reply told in
         record {
           passes = record { within = within; head = is.passes.head };

@@ -1,5 +1,5 @@
 -- What an event makes of a world.
-use Rattle.std.specs.Prelude.{ℕ, ◌+◌, ◌-◌, ◌^◌, nat_lt, ◌&&◌, if◌then◌else◌, List, [], ◌++◌, length, map, slice_get, slice_set, Option, Some, None, option_map, unwrap_or, option_to_list, Result, Ok, Err}
+use Rattle.std.specs.Prelude.{ℕ, ◌+◌, ◌-◌, nat_lt, ◌&&◌, if◌then◌else◌, List, [], ◌++◌, length, map, slice_get, slice_set, Option, Some, None, option_map, unwrap_or, option_to_list, Result, Ok, Err}
 use Rattle.std.specs.Option.{option_and_then}
 use Rattle.zy_base.specs.Machine.{Rules}
 use Rattle.zy_base.specs.declared.cause.Cause.TheVariants as causes
@@ -18,7 +18,6 @@ use Rattle.zy_base.specs.declared.step.TimerKind.TheVariants as timers
 use Rattle.zy_chain.specs.declared.entry.Entry.{Entry}
 use Rattle.zy_law.specs.World.{Stand}
 use Rattle.zy_law_normal.specs.Acts.{stands_in}
-use Rattle.zy_lms.specs.Height.{levels_of}
 use Rattle.zy_table.specs.ClientRows.{ask, client_step}
 use Rattle.zy_table.specs.ClientState.{ClientState, ClientOutcome, client_outgoing, spoken_of, is_waiting}
 use Rattle.zy_table.specs.Deeds.{Outcome, outgoing_of, said_from}
@@ -35,6 +34,7 @@ use Rattle.zy_world_law.specs.World.{World, Replica, Client, Remark, Mail, Texts
 use Rattle.zy_world_law.specs.declared.event.WorldEvent.{WorldEvent}
 use Rattle.zy_world_law.specs.declared.event.WorldEvent.TheVariants as events
 use Rattle.zy_world_law.specs.declared.note.Note.{Note}
+use Rattle.zy_seal.specs.Sealing.{signatures_by}
 use Rattle.zy_world_law.specs.declared.note.Note.TheVariants as notes
 
 -- An event that isn't honest shows a signature of this party that it didn't make, or a digest of two texts.
@@ -186,30 +186,30 @@ timer_of R w (parties.Client id) kind = client_timer_in w id kind (slice_get w.c
 
 -- ---- lies
 
--- how many leaves a key has
-abbrev pub leaves_in : {S : Type 0} → World S → ℕ
-leaves_in w = 2 ^ levels_of w.setup.height
+-- how many signatures a key gives
+abbrev pub signatures_in : {S : Type 0} → World S → ℕ
+signatures_in w = signatures_by w.setup.height
 
--- with one leaf of a liar spent
+-- with one signature of a liar spent
 abbrev pub spent : {S : Type 0} → World S → Party → World S
-spent w liar = record w { leaves = λ other. if same_party other liar then w.leaves other + 1 else w.leaves other }
+spent w liar = record w { used = λ other. if same_party other liar then w.used other + 1 else w.used other }
 
--- a liar signs a frame by its next leaf, for some parties
+-- a liar signs a frame with its next signature, for some parties
 abbrev pub lie : {S : Type 0} → World S → Party → List Party → Option Telling → Happened S
 lie w liar to None = no_subject w
 lie w liar to (Some telling) =
     if is_liar w liar && are_parties w to
-    then (if nat_lt (w.leaves liar) (leaves_in w)
-    then Goes (with_sent (spent w liar) (copies (spelling_of (telling (sealer_of w.setup liar (w.leaves liar)))) to)) notes.Quiet
+    then (if nat_lt (w.used liar) (signatures_in w)
+    then Goes (with_sent (spent w liar) (copies (spelling_of (telling (sealer_of w.setup liar (w.used liar)))) to)) notes.Quiet
     else Goes w (notes.Refused None causes.KeySpent))
     else no_subject w
 
--- whoever made a correct party's key anew signs a frame by its last leaf
+-- whoever made a correct party's key anew signs a frame with its last signature
 abbrev pub forge : {S : Type 0} → World S → Party → List Party → Option Telling → Happened S
 forge w party to None = no_subject w
 forge w party to (Some telling) =
     if is_correct w party && are_parties w to
-    then Goes (with_sent w (copies (spelling_of (telling (sealer_of w.setup party (leaves_in w - 1)))) to)) notes.Quiet
+    then Goes (with_sent w (copies (spelling_of (telling (sealer_of w.setup party (signatures_in w - 1)))) to)) notes.Quiet
     else no_subject w
 
 abbrev pub raw : {S : Type 0} → World S → List ℕ → List Party → Happened S

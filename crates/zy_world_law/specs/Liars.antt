@@ -1,7 +1,6 @@
 -- What liars sign.
 use Rattle.std.specs.Prelude.{ℕ, ◌-◌, ◌==◌, nat_le, Bool, if◌then◌else◌, List, [], ◌∷◌, length, map, slice_get, Option, Some, None, option_map, Result, Ok, Err}
 use Rattle.std.specs.Option.{option_and_then}
-use Rattle.sha2.specs.Sha256.{sha256}
 use Rattle.zy_base.specs.declared.frame_fault.FrameFault.{FrameFault}
 use Rattle.zy_base.specs.declared.ids.Party.{Party}
 use Rattle.zy_base.specs.declared.ids.Party.TheVariants as parties
@@ -30,6 +29,7 @@ use Rattle.zy_wire.specs.Kind.{frame_limit}
 use Rattle.zy_wire.specs.Spelling.{Spelling, whole}
 use Rattle.zy_world_law.specs.Setup.{Setup, sealer_of}
 use Rattle.zy_world_law.specs.World.{World, mail_at}
+use Rattle.zy_chain.specs.Answers.{digest_of_answers}
 
 -- a frame as whoever signs it makes it
 abbrev pub Telling : Type 0
@@ -69,7 +69,7 @@ spec_of view reply asks last =
       view = view;
       place = record { 0 = length asks };
       head = head_of (map entry_of asks);
-      reply = record { 0 = sha256 reply };
+      reply = digest_of_answers reply;
       client = (entry_of last).client;
       stamp = (entry_of last).stamp;
     }
@@ -119,8 +119,8 @@ statement_told (number ∷ fields) = statement_numbered number fields
 
 -- ---- how long a frame may be
 
--- A party's frame is no longer than a frame may be. All leaves sign at the same length, so this is judged by the first one, and is
--- so whether a leaf is left or not.
+-- A party's frame is no longer than a frame may be. All signatures are of one length, so this is judged by the first one, and is
+-- so whether a signature is left or not.
 abbrev pub is_short : Setup → Party → Telling → Bool
 is_short setup party telling = nat_le (length (spelling_of (telling (sealer_of setup party 0)))) frame_limit
 

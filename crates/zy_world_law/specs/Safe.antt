@@ -1,7 +1,6 @@
 -- Safe worlds: all completions are the machine's answers along one list of requests, which every correct replica replays.
 use Rattle.std.specs.Prelude.{◌≡◌, ◌⊎◌, ℕ, List, [], ◌∷◌, map, Some, Contains}
 use Rattle.std.specs.List.{AllByRecursion}
-use Rattle.sha2.specs.Sha256.{sha256}
 use Rattle.zy_base.specs.Machine.{Rules}
 use Rattle.zy_chain.specs.Stretch.{Mark}
 use Rattle.zy_chain.specs.declared.entry.Entry.{Entry}
@@ -12,12 +11,13 @@ use Rattle.zy_law.specs.Completed.{Completion, IsAgreedList, IsCompleted}
 use Rattle.zy_law.specs.Histories.{Passes, IsEntryAt, IsFront}
 use Rattle.zy_law.specs.Said.{IsBacked}
 use Rattle.zy_law.specs.World as law_world
-use Rattle.zy_law_normal.specs.Acts.{check_statement}
+use Rattle.zy_law_normal.specs.Acts.{check_statement, answer_told}
 use Rattle.zy_law_normal.specs.Tied.{next_head, IsCheckpointOf}
 use Rattle.zy_parts.specs.declared.statements.Check.{Check}
 use Rattle.zy_world_law.specs.Events.{history_of}
 use Rattle.zy_world_law.specs.Seen.{seen, asked_by}
 use Rattle.zy_world_law.specs.World.{World, Replica, Client, Completed, replica_at, client_at}
+use Rattle.zy_chain.specs.Answers.{digest_of_answers}
 
 abbrev pub mark_of : Completed → Mark
 mark_of c = record { place = c.done.place.0; head = c.done.head }
@@ -28,7 +28,7 @@ completion_of c =
     record {
       view = c.done.view.0;
       mark = mark_of c;
-      answer = record { client = c.client.0; stamp = c.done.stamp.0; reply = record { 0 = sha256 c.done.reply } };
+      answer = answer_told c.client.0 c.done.stamp.0 (digest_of_answers c.done.reply);
     }
 
 abbrev pub completions_of : {S : Type 0} → World S → List Completion

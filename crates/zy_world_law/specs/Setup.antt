@@ -34,13 +34,13 @@ pub record IsSetup (s : Setup) : Type 0 where
   pub least_interval : 0 < s.interval
   pub greatest_interval : s.interval ≤ 32
 
--- a party's key, derived from the seed, whose next leaf is this one
+-- a party's key, derived from the seed, whose next signature has this number
 abbrev pub key_of_party : Setup → Party → ℕ → KeyState
-key_of_party s party leaf =
-    record { seed = seed_of s.seed party; id = id_of s.seed party; height = s.height; ots = s.ots; next = leaf }
+key_of_party s party number =
+    record { seed = seed_of s.seed party; id = id_of s.seed party; height = s.height; ots = s.ots; next = number }
 
 abbrev pub sealer_of : Setup → Party → ℕ → SealerState
-sealer_of s party leaf = record { me = party; key = key_of_party s party leaf }
+sealer_of s party number = record { me = party; key = key_of_party s party number }
 
 abbrev pub public_key_of : Setup → Party → List ℕ
 public_key_of s party = public_of (key_of_party s party 0)

@@ -49,8 +49,8 @@ pub record World (S : Type 0) : Type 0 where
   -- by their numbers; none where a party lies
   pub replicas : List (Option (Replica S))
   pub clients : List (Option Client)
-  -- the next leaf of each party that lies
-  pub leaves : Party → ℕ
+  -- the number of the next signature of each party that lies
+  pub used : Party → ℕ
   -- every frame that was sent, in order; none is taken out
   pub bag : List Mail
   pub muted : Party → Bool
@@ -168,14 +168,14 @@ seats n lying starts = map (λ id. if list_any (nat_eq id) lying then None else 
 abbrev pub first_texts : Texts
 first_texts d = if same_digest d empty_head then Some [] else None
 
--- each key begins at its leaf 0, each client at the stamp 0, and nothing was sent
+-- each key begins at its signature 0, each client at the stamp 0, and nothing was sent
 abbrev pub start : {S : Type 0} → Rules S → Setup → World S
 start R setup =
     record {
       setup = setup;
       replicas = seats setup.counts.n setup.liars (starting_replica R setup);
       clients = seats setup.clients setup.lying_clients (starting_client setup);
-      leaves = λ party. 0;
+      used = λ party. 0;
       bag = [];
       muted = λ party. false;
       done = [];

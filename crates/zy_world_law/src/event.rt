@@ -46,7 +46,7 @@ pub enum WorldEvent {
         bytes: Bytes,
         to: Items<Party>,
     },
-    /// A statement is signed under a correct party's key, made anew, by its last leaf.
+    /// A statement is signed under a correct party's key, made anew, with its last signature.
     Forge {
         party: Party,
         bytes: Bytes,

@@ -1,28 +1,17 @@
 -- How long the frames of statements are.
-use Rattle.std.proofs.Common.{◌≡◌, ℕ, ◌+◌, ◌-◌, ◌≤◌, ◌^◌, Bool, true, false, List, ◌∷◌, ◌++◌, length, refl, sym, ap, ◌∙◌, arith}
+use Rattle.std.proofs.Common.{◌≡◌, ℕ, ◌+◌, ◌-◌, ◌≤◌, Bool, true, false, ◌∷◌, ◌++◌, length, refl, sym, ap, ◌∙◌, arith}
 use Rattle.std.specs.Prelude.{nat_le}
 use Rattle.std.proofs.lemmas.Bool.{le-leb, lt-leb, leb-true, leb-false}
 use Rattle.std.proofs.lemmas.List.{length-append}
-use Rattle.std.specs.Int.{w16, w32, to_be_bytes}
-use Rattle.std.specs.List.{concat}
+use Rattle.std.specs.Int.{w16}
 use Rattle.zy_base.specs.declared.ids.Party.{Party}
 use Rattle.zy_frames.specs.Frames as plain
-use Rattle.zy_lms.proofs.TreeLemmas.{length-path_from}
-use Rattle.zy_lms.specs.Height.{levels_of, type_number_of}
-use Rattle.zy_lms.specs.KeyState.{KeyState}
-use Rattle.zy_lms.specs.Lms.{signature_len_of, signature_of}
-use Rattle.zy_lms.specs.Tree.{path_from}
-use Rattle.zy_lms.specs.declared.height.Height.{Height}
-use Rattle.zy_lms.specs.declared.height.Height.TheVariants.{H5, H10}
-use Rattle.zy_ots.proofs.OneTimeLemmas.{Verifies-signature}
-use Rattle.zy_ots.specs.OneTime as one_time
-use Rattle.zy_ots.specs.declared.ots_type.OtsType.{OtsType}
-use Rattle.zy_ots.specs.declared.ots_type.OtsType.TheVariants.{W4, W8}
+use Rattle.zy_lms.specs.Lms.{signature_of}
 use Rattle.zy_parts.specs.Numbers as numbers
 use Rattle.zy_parts.specs.Reports.{change_fields, new_fields, began_fields, fetch_fields}
 use Rattle.zy_parts.specs.Signing.{signed, text_of}
 use Rattle.zy_parts.specs.Statements.{ask_fields, local_fields, hole_fields, hate_fields, check_fields}
-use Rattle.zy_seal.specs.Sealing.{SealerState, sealed_by}
+use Rattle.zy_seal.specs.Sealing.{SealerState, sealed_by, signature_size}
 use Rattle.zy_table.specs.Sending.{spelling_of}
 use Rattle.zy_vframes.specs.ViewFrames as views
 use Rattle.zy_wire.specs.Fields.{party_bytes}
@@ -31,31 +20,8 @@ use Rattle.zy_wire.specs.Spelling.{Spelling, bytes_of}
 use Rattle.zy_world_setup.specs.Telling.{fields_told, telling_of}
 use Rattle.zy_world_law.specs.Setup.{Setup, sealer_of}
 use Rattle.zy_world_setup.specs.declared.tellable.Tellable.{Tellable}
+use Rattle.zy_seal.proofs.SignatureLemmas.{few_bytes, signature_long}
 use Rattle.zy_world_setup.specs.declared.tellable.Tellable.TheVariants as tellables
-
-pub few_bytes : (height : Height) (ots : OtsType) → signature_len_of height ots ≤ 2508
-few_bytes H5 W4 = omega arith
-few_bytes H5 W8 = omega arith
-few_bytes H10 W4 = omega arith
-few_bytes H10 W8 = omega arith
-
--- whichever the leaf and the text
-signature_long : (k : KeyState) (text : List ℕ) → length (signature_of k text) ≡ signature_len_of k.height k.ots
-unfolding signature_of
-signature_long k text =
-    let h = levels_of k.height in
-    let one = one_time.signature_of k.ots k.id k.next k.seed text in
-    let type = to_be_bytes w32 (type_number_of k.height) in
-    let path = concat (path_from k.ots k.id k.seed h 0 h (2 ^ h + k.next)) in
-    let q = to_be_bytes w32 k.next in
-    omega (
-      arith,
-      length-append q one,
-      length-append (q ++ one) type,
-      length-append ((q ++ one) ++ type) path,
-      (Verifies-signature k.ots k.id k.next k.seed text).0.0,
-      length-path_from k.ots k.id k.seed h 0 h (2 ^ h + k.next),
-    )
 
 party_long : (party : Party) → length (party_bytes party) ≡ 5
 unfolding party_bytes bytes_of
@@ -66,7 +32,7 @@ unfolding bytes_of
 two_long n = refl
 
 frame_long : {A : Type 0} (number kind : ℕ) (fields : Spelling A) (sealer : SealerState) (stmt : A)
-    → length (frame_version ∷ kind ∷ (signed fields).spell (sealed_by number fields sealer stmt)) ≡ length (fields.spell stmt) + 9 + signature_len_of sealer.key.height sealer.key.ots
+    → length (frame_version ∷ kind ∷ (signed fields).spell (sealed_by number fields sealer stmt)) ≡ length (fields.spell stmt) + 9 + signature_size sealer.key.height sealer.key.ots
 unfolding signed
 frame_long number kind fields sealer stmt =
     let sig = signature_of sealer.key (text_of number fields sealer.me stmt) in
@@ -82,7 +48,7 @@ frame_long number kind fields sealer stmt =
       signature_long sealer.key (text_of number fields sealer.me stmt),
     )
 
-pub told_long : (told : Tellable) (sealer : SealerState) → length (spelling_of (telling_of told sealer)) ≡ length (fields_told told) + 9 + signature_len_of sealer.key.height sealer.key.ots
+pub told_long : (told : Tellable) (sealer : SealerState) → length (spelling_of (telling_of told sealer)) ≡ length (fields_told told) + 9 + signature_size sealer.key.height sealer.key.ots
 unfolding plain.fields_of views.fields_of
 told_long (tellables.Ask ask) sealer = frame_long numbers.ask 1 ask_fields sealer ask
 told_long (tellables.Local local) sealer = frame_long numbers.local 5 local_fields sealer local
@@ -103,10 +69,10 @@ room_left few others most within = by (nat_le few (most - others)) refl
     by false is = let long = leb-false few (most - others) is in sym (lt-leb (few + others) most (omega (arith, long, within)))
 
 -- where others are all bytes but those of the fields
-pub short_is : (told : Tellable) (setup : Setup) (party : Party) (leaf fields others : ℕ) → fields ≡ length (fields_told told) → others ≡ 9 + signature_len_of setup.height setup.ots
-    → nat_le fields (frame_limit - others) ≡ nat_le (length (spelling_of (telling_of told (sealer_of setup party leaf)))) frame_limit
-short_is told setup party leaf fields others is_fields is_others =
+pub short_is : (told : Tellable) (setup : Setup) (party : Party) (number fields others : ℕ) → fields ≡ length (fields_told told) → others ≡ 9 + signature_size setup.height setup.ots
+    → nat_le fields (frame_limit - others) ≡ nat_le (length (spelling_of (telling_of told (sealer_of setup party number)))) frame_limit
+short_is told setup party number fields others is_fields is_others =
     let few = few_bytes setup.height setup.ots in
-    let long = told_long told (sealer_of setup party leaf) in
-    let all : fields + others ≡ length (spelling_of (telling_of told (sealer_of setup party leaf))) = omega (arith, is_fields, is_others, long) in
+    let long = told_long told (sealer_of setup party number) in
+    let all : fields + others ≡ length (spelling_of (telling_of told (sealer_of setup party number))) = omega (arith, is_fields, is_others, long) in
     room_left fields others frame_limit (omega (arith, few, is_others)) ∙ ap (λ (n : ℕ). nat_le n frame_limit) all

@@ -21,7 +21,7 @@ pub record IsStart (s : Setup) : Type 0 where
   pub lying_clients : AreNumbersBelow s.clients s.lying_clients
   pub seed : length s.seed ≡ 32
 
--- each replica with its key at leaf 0, in the order of the numbers
+-- each replica with its key at signature 0, in the order of the numbers
 abbrev pub replica_sealers : Setup → List SealerState
 replica_sealers s = map (λ id. sealer_of s (Replica (record { 0 = id })) 0) (range_with_len 0 s.counts.n)
 

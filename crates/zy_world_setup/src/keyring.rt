@@ -1,7 +1,7 @@
-ghost use Rattle.std.specs.Prelude.{◌≡◌, ◌≤◌, ◌++◌, ◌∷◌, ◌^◌, [], IfOk, OnOk};
-ghost use Rattle.zy_lms.specs.Height.{levels_of};
+ghost use Rattle.std.specs.Prelude.{◌≡◌, ◌≤◌, ◌++◌, ◌∷◌, [], IfOk, OnOk};
 ghost use Rattle.zy_world_setup.specs.Starting.{client_sealers, replica_sealers};
 ghost use Rattle.zy_world_law.specs.Setup.{key_of_party, keys_of, public_key_of, sealer_of};
+ghost use Rattle.zy_seal.specs.Sealing.{signatures_by};
 
 use crate::setup::Setup;
 use std::alloc::Global;
@@ -9,32 +9,32 @@ use zy_base::{ClientId, Party, ReplicaId, Want};
 use zy_lms::LmsKey;
 use zy_seal::{Directory, Sealer, party_id, party_seed};
 
-/// The party with its key, derived from the seed, whose next leaf is this one. Its tree is built.
-pub fn sealer_at(alloc: Global, setup: &Setup, party: Party, leaf: u32) -> Result<Sealer, Want>
-    requires { leaf ≤ 2 ^ levels_of setup.now.height }
-    ensures { IfOk result (λ sealer. sealer ≡ sealer_of setup.now party leaf) }
+/// The party with its key, derived from the seed, whose next signature has this number. Its tree is built.
+pub fn sealer_at(alloc: Global, setup: &Setup, party: Party, number: u32) -> Result<Sealer, Want>
+    requires { number ≤ signatures_by setup.now.height }
+    ensures { IfOk result (λ sealer. sealer ≡ sealer_of setup.now party number) }
 {
-    let key = key_at(alloc, setup, party, leaf)?;
+    let key = key_at(alloc, setup, party, number)?;
     Ok(Sealer::new(alloc, party, key))
 }
 
-fn key_at(alloc: Global, setup: &Setup, party: Party, leaf: u32) -> Result<LmsKey, Want>
-    requires { leaf ≤ 2 ^ levels_of setup.now.height }
-    ensures { IfOk result (λ key. key ≡ key_of_party setup.now party leaf) }
+fn key_at(alloc: Global, setup: &Setup, party: Party, number: u32) -> Result<LmsKey, Want>
+    requires { number ≤ signatures_by setup.now.height }
+    ensures { IfOk result (λ key. key ≡ key_of_party setup.now party number) }
 {
     let seed = party_seed(&setup.seed, party);
     let id = party_id(&setup.seed, party);
-    LmsKey::make(alloc, &seed, &id, setup.height, setup.ots, leaf)
+    LmsKey::make(alloc, &seed, &id, setup.height, setup.ots, number)
 }
 
 /// The keys of all parties.
 #[derive(Drop)]
 pub struct Keyring {
-    /// Each replica with its key at leaf 0, by their numbers.
+    /// Each replica with its key at signature 0, by their numbers.
     pub replicas: Vec<Sealer>,
     /// Each client likewise.
     pub clients: Vec<Sealer>,
-    /// Their public keys.
+    /// Their public keys, with one store of signatures for all that copy them.
     pub directory: Directory,
 }
 
@@ -50,12 +50,12 @@ impl Keyring {
         Ok(Keyring {
             replicas: replicas.sealers,
             clients: clients.sealers,
-            directory: Directory::new(alloc, replicas.public, clients.public),
+            directory: Directory::new(alloc, replicas.public, clients.public).with_store(),
         })
     }
 }
 
-// Parties with their keys at leaf 0, and their public keys.
+// Parties with their keys at signature 0, and their public keys.
 #[derive(Drop)]
 struct Keys {
     sealers: Vec<Sealer>,

@@ -1,28 +1,26 @@
-ghost use Rattle.std.specs.Prelude.{◌≡◌, ◌⊎◌, ◌↔◌, ◌≤◌, ◌^◌, length, map, Some, IfOk, OnOk, IsErrOf};
+ghost use Rattle.std.specs.Prelude.{◌≡◌, ◌⊎◌, ◌↔◌, ◌≤◌, length, map, Some, IfOk, OnOk, IsErrOf};
 ghost use Rattle.std.specs.List.{AllByRecursion};
-ghost use Rattle.sha2.specs.Sha256.{sha256};
 ghost use Rattle.zy_admit.specs.Judging.{entry_of};
 ghost use Rattle.zy_chain.specs.Heads.{head_of};
-ghost use Rattle.zy_lms.specs.Height.{levels_of};
 ghost use Rattle.zy_parts.specs.Signing.{IsSignedInRange};
 ghost use Rattle.zy_parts.specs.Statements.{IsAskInRange, IsOrderInRange, IsSpecInRange};
-ghost use Rattle.zy_seal.specs.Sealing.{spent_one};
+ghost use Rattle.zy_seal.specs.Sealing.{spent_one, signatures_by};
 ghost use Rattle.zy_seal.specs.declared.sealer.SealFault.{SealFault};
 ghost use Rattle.zy_world_setup.specs.Telling.{IsOrderable, IsToldBy};
 ghost use Rattle.zy_world_law.specs.Liars.{last_of, order_of, order_told, spec_of, spec_told};
+ghost use Rattle.zy_chain.specs.Answers.{FitsAnswers};
 
 use crate::frames::encoded;
-use sha2::{Digest as Hasher, Sha256};
 use std::alloc::Global;
 use zy_admit::{client_of, request_digest_of};
 use zy_base::{Bytes, Digest, Place, View, Want};
-use zy_chain::{EMPTY_HEAD, next_head};
+use zy_chain::{EMPTY_HEAD, answers_digest, next_head};
 use zy_frames::{Frame, OrderFrame};
 use zy_parts::{Ask, Order, Signed, Spec};
 use zy_seal::{SealFault, Sealer};
 
 /// The order of a liar whose history is that of these requests, as the frame that has the last of them. `KeySpent` exactly
-/// where no leaf is left.
+/// where no signature is left.
 pub fn order_frame(
     alloc: Global,
     sealer: &mut Sealer,
@@ -32,9 +30,9 @@ pub fn order_frame(
     requires { IsOrderable view asks.now }
     ensures frame { IfOk result (λ bytes. IsToldBy (order_told view asks.now) sealer.old (Some bytes)) }
     ensures spent_one { OnOk result (sealer.new ≡ spent_one sealer.old) }
-    ensures spent { IsErrOf result SealFault.KeySpent ↔ (sealer.old.key.next ≡ 2 ^ levels_of sealer.old.key.height) }
+    ensures spent { IsErrOf result SealFault.KeySpent ↔ (sealer.old.key.next ≡ signatures_by sealer.old.key.height) }
     ensures unchanged { IsErrOf result SealFault.KeySpent → sealer.new ≡ sealer.old }
-    // After `Want` the leaf may be spent.
+    // After `Want` the signature may be spent.
     ensures want { IsErrOf result SealFault.Want → (sealer.new ≡ sealer.old) ⊎ (sealer.new ≡ spent_one sealer.old) }
 {
     let last = last_of(asks);
@@ -44,7 +42,7 @@ pub fn order_frame(
 }
 
 /// The speculative response of a liar whose history is that of these requests, with this reply of at most 1,100 bytes and no
-/// order. `KeySpent` exactly where no leaf is left.
+/// order. `KeySpent` exactly where no signature is left.
 pub fn spec_frame(
     alloc: Global,
     sealer: &mut Sealer,
@@ -53,12 +51,12 @@ pub fn spec_frame(
     reply: Bytes,
 ) -> Result<Bytes, SealFault>
     requires asks { IsOrderable view asks.now }
-    requires reply { length reply ≤ 1100 }
+    requires reply { FitsAnswers reply }
     ensures frame { IfOk result (λ bytes. IsToldBy (spec_told view reply asks.now) sealer.old (Some bytes)) }
     ensures spent_one { OnOk result (sealer.new ≡ spent_one sealer.old) }
-    ensures spent { IsErrOf result SealFault.KeySpent ↔ (sealer.old.key.next ≡ 2 ^ levels_of sealer.old.key.height) }
+    ensures spent { IsErrOf result SealFault.KeySpent ↔ (sealer.old.key.next ≡ signatures_by sealer.old.key.height) }
     ensures unchanged { IsErrOf result SealFault.KeySpent → sealer.new ≡ sealer.old }
-    // After `Want` the leaf may be spent.
+    // After `Want` the signature may be spent.
     ensures want { IsErrOf result SealFault.Want → (sealer.new ≡ sealer.old) ⊎ (sealer.new ≡ spent_one sealer.old) }
 {
     let last = last_of(asks);
@@ -103,7 +101,7 @@ fn spec_of(view: View, reply: &Bytes, asks: &[Signed<Ask>], last: &Signed<Ask>) 
         view,
         place: Place(asks.len() as u64),
         head: head_of(asks),
-        reply: reply_digest(reply),
+        reply: answers_digest(reply),
         client: client_of(last.by),
         stamp: last.stmt.stamp,
     }
@@ -119,15 +117,6 @@ fn head_of(asks: &[Signed<Ask>]) -> Digest
         head = next_head(&head, &request_digest_of(ask));
     }
     head
-}
-
-// SHA-256 (FIPS 180-4) of a reply.
-fn reply_digest(reply: &Bytes) -> Digest
-    ensures { result ≡ record { 0 = sha256 reply.now } }
-{
-    let mut hasher = Sha256::new();
-    hasher.update(reply.as_slice());
-    Digest(hasher.finalize())
 }
 
 fn copied(ask: &Signed<Ask>) -> Result<Signed<Ask>, Want>

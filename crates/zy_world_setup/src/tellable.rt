@@ -1,11 +1,9 @@
-ghost use Rattle.std.specs.Prelude.{◌≡◌, ◌⊎◌, ◌↔◌, ◌^◌, ◌≤◌, ℕ, length, nat_le, IfOk, OnOk, IsErrOf, option_map};
+ghost use Rattle.std.specs.Prelude.{◌≡◌, ◌⊎◌, ◌↔◌, ℕ, length, nat_le, IfOk, OnOk, IsErrOf, option_map};
 ghost use Rattle.std.specs.Option.{ForSome};
 ghost use Rattle.std.specs.Result.{result_ok};
 ghost use Rattle.zy_base.specs.declared.ids.Party.{Party as Speaker};
-ghost use Rattle.zy_lms.specs.Height.{levels_of};
-ghost use Rattle.zy_lms.specs.Lms.{signature_len_of};
 ghost use Rattle.zy_frames.specs.Frames.{IsFrameInRange};
-ghost use Rattle.zy_seal.specs.Sealing.{spent_one};
+ghost use Rattle.zy_seal.specs.Sealing.{spent_one, signatures_by};
 ghost use Rattle.zy_seal.specs.declared.sealer.SealFault.{SealFault};
 ghost use Rattle.zy_world_setup.specs.Telling.{IsEncoded, IsTellable, fields_told, telling_of};
 ghost use Rattle.zy_table.specs.Sending.{spelling_of};
@@ -22,7 +20,7 @@ use std::alloc::Global;
 use zy_base::{Bytes, Want};
 use zy_frames::Frame;
 use zy_parts::{Ask, Began, Change, Check, Fetch, Hate, Hole, Local, New, Statement};
-use zy_seal::{SealFault, Sealer};
+use zy_seal::{SealFault, Sealer, signature_len};
 use zy_vframes::ViewFrame;
 use zy_wire::{Cut, GetFault, MAX_FRAME, Put, Spelled};
 
@@ -94,13 +92,13 @@ fn read_whole<S: Spelled>(alloc: Global, bytes: &[u8]) -> Result<S, GetFault>
 }
 
 impl Tellable {
-    /// Whether the frame with the statement, signed by any leaf of a key of this setup, is no longer than a frame may be.
+    /// Whether the frame with the statement, with any signature of a key of this setup, is no longer than a frame may be.
     pub fn is_short(&self, alloc: Global, setup: &Setup) -> Result<bool, Want>
         requires { IsTellable self.now }
-        ensures { IfOk result (λ short. (party : Speaker) (leaf : ℕ) → short ≡ nat_le (length (spelling_of (telling_of self.now (sealer_of setup.now party leaf)))) frame_limit) }
+        ensures { IfOk result (λ short. (party : Speaker) (number : ℕ) → short ≡ nat_le (length (spelling_of (telling_of self.now (sealer_of setup.now party number)))) frame_limit) }
     {
         // Beside the fields and the signature: the version, the kind, the signer, and the signature's length.
-        let others = 9 + signature_len(setup);
+        let others = 9 + signature_len(setup.height, setup.ots);
         let fields = self.fields_len(alloc)?;
         Ok(fields <= MAX_FRAME - others)
     }
@@ -123,15 +121,15 @@ impl Tellable {
         }
     }
 
-    /// The frame with the statement, signed by the next leaf. `None` where it is longer than a frame may be; the leaf is spent
-    /// then too. `KeySpent` exactly where no leaf is left.
+    /// The frame with the statement, signed with the next signature. `None` where it is longer than a frame may be; the signature is spent
+    /// then too. `KeySpent` exactly where no signature is left.
     pub fn frame(self, alloc: Global, sealer: &mut Sealer) -> Result<Option<Bytes>, SealFault>
         requires { IsTellable self }
         ensures frame { IfOk result (IsEncoded (telling_of self sealer.old)) }
         ensures spent_one { OnOk result (sealer.new ≡ spent_one sealer.old) }
-        ensures spent { IsErrOf result SealFault.KeySpent ↔ (sealer.old.key.next ≡ 2 ^ levels_of sealer.old.key.height) }
+        ensures spent { IsErrOf result SealFault.KeySpent ↔ (sealer.old.key.next ≡ signatures_by sealer.old.key.height) }
         ensures unchanged { IsErrOf result SealFault.KeySpent → sealer.new ≡ sealer.old }
-        // After `Want` the leaf may be spent.
+        // After `Want` the signature may be spent.
         ensures want { IsErrOf result SealFault.Want → (sealer.new ≡ sealer.old) ⊎ (sealer.new ≡ spent_one sealer.old) }
     {
         match self {
@@ -162,15 +160,6 @@ fn spelled_len<S: Spelled>(alloc: Global, value: &S) -> Result<usize, Want>
     let mut out = Put::new(alloc);
     value.put(&mut out)?;
     Ok(out.len())
-}
-
-// The length of each signature under this setup's keys (RFC 8554, section 5.4).
-#[tactic(auto, using(crate::proofs::FrameLengths::few_bytes))]
-fn signature_len(setup: &Setup) -> usize
-    ensures len { result ≡ signature_len_of setup.now.height setup.now.ots }
-    ensures few { result ≤ 2508 }
-{
-    8 + setup.ots.signature_len() + 32 * setup.height.levels()
 }
 
 // No frame of normal operation is too long.

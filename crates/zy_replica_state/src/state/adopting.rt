@@ -24,6 +24,7 @@ ghost use Rattle.zy_table.specs.Adopting.{IsGotInRange, common_with, gots_of, ta
 ghost use Rattle.zy_table.specs.Beginning.{active_by, settled_as, with_history};
 ghost use Rattle.zy_replica_state.specs.Adopting.{CanAdopt, CanInstall};
 ghost use Rattle.zy_replica_state.specs.Ready.{IsWaitingReady};
+ghost use Rattle.zy_chain.specs.Entries.{IsOfClients};
 
 use super::parts::Parts;
 use crate::Core;
@@ -51,7 +52,7 @@ impl<M: Machine> Parts<M> {
     // above that.
     fn taken_over(mut self, told: &Told, place: Place) -> Result<(Parts<M>, Place, Gains), Want>
         requires range { IsToldInRange told.now }
-        requires clients { All (λ e. e.client.0 < 64) told.now.entries }
+        requires clients { All IsOfClients told.now.entries }
         requires end { place.0 ≤ end_of (stretch_of told.now) }
         requires place { place.0 < 2 ^ 62 }
         requires base { self.kept.base.place ≤ common_with (stretch_of told.now) place.0 self.kept }

@@ -26,7 +26,7 @@ pub(super) struct Work<M: Machine> {
     pub(super) exec: Exec<M>,
     pub(super) orders: Admission,
     pub(super) board: Checkpoints,
-    pub(super) specs: Vec<Option<Signed<Spec>>>,
+    pub(super) specs: Items<Signed<Spec>>,
     pub(super) pending: Vec<Option<Pending>>,
     pub(super) locals: Items<Signed<Local>>,
 }

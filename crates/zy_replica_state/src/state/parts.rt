@@ -27,7 +27,7 @@ pub(super) struct Parts<M: Machine> {
     pub(super) orders: Admission,
     pub(super) board: Checkpoints,
     pub(super) hole: Option<Signed<Hole>>,
-    pub(super) specs: Vec<Option<Signed<Spec>>>,
+    pub(super) specs: Items<Signed<Spec>>,
     pub(super) pending: Vec<Option<Pending>>,
     pub(super) locals: Items<Signed<Local>>,
     pub(super) hate: Option<Signed<Hate>>,
@@ -88,7 +88,7 @@ impl<M: Machine> Model for Parts<M> {
       orders = r.orders;
       board = r.board;
       hole = r.hole;
-      specs = r.specs.items;
+      specs = r.specs;
       pending = r.pending.items;
       locals = r.locals;
       hate = r.hate;

@@ -23,7 +23,7 @@ use zy_space::Space;
 use zy_top_words::Exit;
 
 /// Runs a replica of the group for so many turns from where its journal leaves it, stores what isn't refused of each turn
-/// before anything of it is sent, and writes where the replica stands then and the next leaf of its key. The names are
+/// before anything of it is sent, and writes where the replica stands then and its key's next number. The names are
 /// those of the group's file, of its secret's, and of the journal, which is made where the file is blank.
 pub fn run_serve<F: Files, S: Sink, L: Link, C: Clock, D: Disk>(
     alloc: Global,

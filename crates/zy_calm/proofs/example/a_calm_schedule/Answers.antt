@@ -1,14 +1,13 @@
-use Rattle.std.proofs.Common.{◌≡◌, ℕ, ◌*◌, ◌≤◌, ◌^◌, true, List, [], length, refl, ap, ◌∙◌, arith}
+use Rattle.std.proofs.Common.{◌≡◌, ℕ, ◌*◌, ◌≤◌, true, List, [], length, refl, ap, ◌∙◌, arith}
 use Rattle.std.specs.List.{filter, list_any, range_with_len}
 use Rattle.std.specs.Prelude.{nat_eq, not, ◌&&◌}
-use Rattle.zy_lms.specs.Height.{levels_of}
 use Rattle.zy_lms.specs.declared.height.Height.{Height}
-use Rattle.zy_lms.specs.declared.height.Height.TheVariants.{H5, H10}
+use Rattle.zy_seal.proofs.SignatureLemmas.{least_signatures}
+use Rattle.zy_seal.specs.Sealing.{signatures_by}
 use Rattle.zy_calm.proofs.example.a_calm_schedule.Goals as goal
 
-deep : (h : Height) → 3 * 1 ≤ 2 ^ levels_of h
-deep H5 = omega arith
-deep H10 = omega arith
+lasting : (h : Height) → 3 * 1 ≤ signatures_by h
+lasting h = omega (arith, least_signatures h)
 
 -- how many of so many are live, where these lie
 abbrev live_count : ℕ → List ℕ → ℕ
@@ -26,6 +25,6 @@ returns c s op setup four fast none honest clients interval short =
       primary = ap (λ (l : List ℕ). not (list_any (nat_eq 0) l) && true) none;
       enough = omega (arith, fast, live);
       short = interval;
-      leaves = deep s.height;
+      signatures = lasting s.height;
       each = (record { client = clients; honest = ap (list_any (nat_eq 0)) honest; op = short; flow = eight; again = eight }, tt);
     }

@@ -28,8 +28,8 @@ returns-in-Ok-Err g c =
     subst (λ (o : Outcome g.row.M-State.Denot). IfOk c.refused.result (λ (m : Outcome g.row.M-State.Denot). m ≡ o))
     (sym (own_refused R p c.args.said c.requires.said c.requires.new more c.args.owed step c.requires.leaves c.in-Ok-Err.cause refuses)) c.refused.ensures
 
-pub carry_and_ask-requires-clause-leaf : goal.carry_and_ask-requires-clause-leaf
-carry_and_ask-requires-clause-leaf g c =
+pub carry_and_ask-requires-clause-left : goal.carry_and_ask-requires-clause-left
+carry_and_ask-requires-clause-left g c =
     let R = g.M.Machine.rules in
     let p = c.args.progress in
     let more = c.signs.result in

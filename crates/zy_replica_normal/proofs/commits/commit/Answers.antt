@@ -13,7 +13,7 @@ use Rattle.zy_cert.specs.Equal.{same_spec}
 use Rattle.zy_cert.specs.Points.{point_of_spec}
 use Rattle.zy_table.specs.Deeds.{Outcome}
 use Rattle.zy_table.specs.Commits.{commit_judged}
-use Rattle.zy_replica_normal.proofs.CommitLemmas.{below, certified_ready, commit_behind, commit_is, last_is, not_below, own_certificate}
+use Rattle.zy_replica_normal.proofs.CommitLemmas.{below, certified_ready, commit_behind, commit_is, commit_old, last_is, not_below, own_certificate}
 use Rattle.zy_replica_normal.proofs.commits.commit.Goals as goal
 
 pub commit_judged-requires-clause-local : goal.commit_judged-requires-clause-local
@@ -51,3 +51,10 @@ returns-then-lt-2 g c =
     subst (λ (o : Outcome g.row.M-State.Denot). IfOk c.not_heard-then-lt-2.result (λ (m : Outcome g.row.M-State.Denot). m ≡ o))
     (commit_behind g.M.Machine.rules c.args.core c.args.first c.args.specs old behind)
     c.not_heard-then-lt-2.ensures
+
+pub returns-then-lt : goal.returns-then-lt
+returns-then-lt g c =
+    let old : nat_lt c.args.first.place.0 c.args.core.orders.base ≡ true = rw (sym c.stable.ensures.place) (below _ _ (sym c.lt.ensures ∙ c.if-lt.true)) in
+    subst (λ (o : Outcome g.row.M-State.Denot). IfOk c.not_heard.result (λ (m : Outcome g.row.M-State.Denot). m ≡ o))
+    (commit_old g.M.Machine.rules c.args.core c.args.first c.args.specs old)
+    c.not_heard.ensures

@@ -1,12 +1,12 @@
 use Rattle.std.proofs.Common.{true, arith}
-use Rattle.zy_replica_normal.proofs.CommitLemmas.{given_owes, given_keeps, given_last, given_leaves}
+use Rattle.zy_replica_normal.proofs.CommitLemmas.{given_owes, given_keeps, given_last, given_left}
 use Rattle.zy_replica_normal.proofs.commits.give_and_gather.Goals as goal
 
-pub gather_at-requires-clause-leaf : goal.gather_at-requires-clause-leaf
-gather_at-requires-clause-leaf g c =
+pub gather_at-requires-clause-left : goal.gather_at-requires-clause-left
+gather_at-requires-clause-left g c =
     let R = g.M.Machine.rules in
-    rw (c.in_ok-progress.ensures, given_owes R c.args.client c.args.local c.args.said c.args.core c.args.own true, given_leaves R c.args.client c.args.local c.args.said c.args.core)
-    (omega (arith, c.requires.leaves))
+    rw (c.in_ok-progress.ensures, given_owes R c.args.client c.args.local c.args.said c.args.core c.args.own true, given_left R c.args.client c.args.local c.args.said c.args.core)
+    (omega (arith, c.requires.left))
 
 pub gather_at-requires-clause-own : goal.gather_at-requires-clause-own
 gather_at-requires-clause-own g c =

@@ -7,10 +7,10 @@ use Rattle.zy_table.specs.State.{State}
 use Rattle.zy_replica_normal.proofs.RunLemmas.{signs_alike}
 use Rattle.zy_replica_normal.proofs.orders.accept_and_run.Goals as goal
 
-pub run_all-requires-clause-leaf : goal.run_all-requires-clause-leaf
-run_all-requires-clause-leaf g c =
+pub run_all-requires-clause-left : goal.run_all-requires-clause-left
+run_all-requires-clause-left g c =
     rw (c.begin.ensures, c.in_ok-accept.ensures, signs_alike g.M.Machine.rules c.args.core c.args.core.sealer (with_order c.args.core.orders c.args.frame.now) None c.args.frame.now.ask)
-    c.requires.leaf
+    c.requires.left
 
 pub returns : goal.returns
 returns g c =

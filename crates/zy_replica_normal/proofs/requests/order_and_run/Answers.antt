@@ -4,13 +4,13 @@ use Rattle.zy_frames.specs.declared.frame.OrderFrame.{OrderFrame}
 use Rattle.zy_table.specs.Deeds.{Going, Outcome, ends}
 use Rattle.zy_table.specs.Requests.{sealed_order}
 use Rattle.zy_table.specs.Running.{run}
-use Rattle.zy_replica_normal.proofs.RunLemmas.{ordered_signs, ordered_leaves}
+use Rattle.zy_replica_normal.proofs.RunLemmas.{ordered_signs, ordered_left}
 use Rattle.zy_replica_normal.proofs.requests.order_and_run.Goals as goal
 
-pub run_all-ran-requires-clause-leaf : goal.run_all-ran-requires-clause-leaf
-run_all-ran-requires-clause-leaf g c =
+pub run_all-ran-requires-clause-left : goal.run_all-ran-requires-clause-left
+run_all-ran-requires-clause-left g c =
     let R = g.M.Machine.rules in
-    rw (c.in_ok-progress.ensures.progress, c.in_ok-progress.ensures.order, ordered_signs R c.args.core c.args.ask) (ordered_leaves R c.args.core c.args.ask c.requires.leaves)
+    rw (c.in_ok-progress.ensures.progress, c.in_ok-progress.ensures.order, ordered_signs R c.args.core c.args.ask) (ordered_left R c.args.core c.args.ask c.requires.left)
 
 pub returns : goal.returns
 returns g c =

@@ -2,16 +2,16 @@ use Rattle.std.proofs.Common.{◌≡◌, ◌≤◌, Option, subst, sym, ◌∙�
 use Rattle.std.specs.Prelude.{IfOk}
 use Rattle.zy_base.specs.declared.ids.Digest.{Digest}
 use Rattle.zy_table.specs.Deeds.{Going}
-use Rattle.zy_table.specs.State.{leaves_of}
+use Rattle.zy_table.specs.State.{signs_left}
 use Rattle.zy_table.specs.Gathering.{state_in, signs_with}
 use Rattle.zy_replica_normal.proofs.SignLemmas.{signs_few}
 use Rattle.zy_replica_normal.proofs.AnswerLemmas.{answered_none}
 use Rattle.zy_replica_normal.proofs.running.answer.Goals as goal
 
-pub respond-requires-clause-leaf : goal.respond-requires-clause-leaf
-respond-requires-clause-leaf g c =
+pub respond-requires-clause-left : goal.respond-requires-clause-left
+respond-requires-clause-left g c =
     let few = signs_few c.args.progress.state c.args.spec (state_in g.M.Machine.rules c.args.progress.state.kept c.args.spec.place.0) in
-    omega (arith, few.0, c.requires.leaf)
+    omega (arith, few.0, c.requires.left)
 
 pub returns-in-None : goal.returns-in-None
 returns-in-None g c =
@@ -21,6 +21,6 @@ returns-in-None g c =
 pub answer_all-requires-clause-state : goal.answer_all-requires-clause-state
 answer_all-requires-clause-state g c = sym c.state_at.ensures ∙ c.in-Some.is
 
-pub answer_all-requires-clause-leaf : goal.answer_all-requires-clause-leaf
-answer_all-requires-clause-leaf g c =
-    subst (λ (state : Option Digest). signs_with c.args.progress.state c.args.spec state ≤ leaves_of c.args.progress.state) (sym c.state_at.ensures ∙ c.in-Some.is) c.requires.leaf
+pub answer_all-requires-clause-left : goal.answer_all-requires-clause-left
+answer_all-requires-clause-left g c =
+    subst (λ (state : Option Digest). signs_with c.args.progress.state c.args.spec state ≤ signs_left c.args.progress.state) (sym c.state_at.ensures ∙ c.in-Some.is) c.requires.left

@@ -11,7 +11,7 @@ use Rattle.zy_table.specs.State.{own_view}
 use Rattle.zy_table.specs.Deeds.{Going}
 use Rattle.zy_exec.specs.Kept.{last_place}
 use Rattle.zy_replica_normal.proofs.GatherLemmas.{all_active}
-use Rattle.zy_replica_normal.proofs.AnswerLemmas.{ran_above, ran_within, ran_view, ran_head, ran_board, ran_signer, ran_leaf, ran_answered}
+use Rattle.zy_replica_normal.proofs.AnswerLemmas.{ran_above, ran_within, ran_view, ran_head, ran_board, ran_signer, ran_left, ran_answered}
 use Rattle.zy_replica_normal.proofs.running.run_one.Goals as goal
 
 pub answer-requires-clause-above : goal.answer-requires-clause-above
@@ -34,8 +34,8 @@ answer-requires-clause-board g c = ran_board g.M.Machine.rules c.args.progress c
 pub answer-requires-clause-signer : goal.answer-requires-clause-signer
 answer-requires-clause-signer g c = ran_signer g.M.Machine.rules c.args.progress c.args.frame.now c.in_ok-ran.ran c.view-own_view.result.0 c.in_ok-ran.known c.spec_of-spec.result c.in_ok-ran.ensures.progress (c.view-own_view.ensures.view ∙ ap (λ (x : Going g.row.M-State.Denot). own_view x.state) c.progress.view_is) c.in_ok-ran.ensures.known c.spec_of-spec.ensures (subst (λ (x : Going g.row.M-State.Denot). x.state.sealer.me ≡ Replica x.state.me) c.progress.view_is c.view-own_view.ensures.ready.signer)
 
-pub answer-requires-clause-leaf : goal.answer-requires-clause-leaf
-answer-requires-clause-leaf g c = ran_leaf g.M.Machine.rules c.args.progress c.args.frame.now c.in_ok-ran.ran c.view-own_view.result.0 c.in_ok-ran.known c.spec_of-spec.result c.in_ok-ran.ensures.progress (c.view-own_view.ensures.view ∙ ap (λ (x : Going g.row.M-State.Denot). own_view x.state) c.progress.view_is) c.in_ok-ran.ensures.known c.spec_of-spec.ensures c.requires.leaf
+pub answer-requires-clause-left : goal.answer-requires-clause-left
+answer-requires-clause-left g c = ran_left g.M.Machine.rules c.args.progress c.args.frame.now c.in_ok-ran.ran c.view-own_view.result.0 c.in_ok-ran.known c.spec_of-spec.result c.in_ok-ran.ensures.progress (c.view-own_view.ensures.view ∙ ap (λ (x : Going g.row.M-State.Denot). own_view x.state) c.progress.view_is) c.in_ok-ran.ensures.known c.spec_of-spec.ensures c.requires.left
 
 pub returns-clause-progress : goal.returns-clause-progress
 returns-clause-progress g c =

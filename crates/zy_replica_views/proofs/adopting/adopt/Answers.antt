@@ -3,7 +3,7 @@ use Rattle.zy_base.specs.declared.step.Answer.TheVariants.{Taken, Held}
 use Rattle.zy_change.proofs.AcceptedLemmas.{accepted_provider}
 use Rattle.zy_change.specs.Fit.{IsFit}
 use Rattle.zy_table.specs.declared.deeds.Verdict.TheVariants.{Take, Wait}
-use Rattle.zy_table.specs.State.{leaves_of}
+use Rattle.zy_table.specs.State.{signs_left}
 use Rattle.zy_table.specs.Deeds.{Going, Outcome}
 use Rattle.zy_table.specs.Adopting.{checkpoints_between, verdict_of}
 use Rattle.zy_table.specs.Leaving.{goes}
@@ -24,18 +24,18 @@ wait_for-requires-clause-ready g c =
           omega (arith, above);
     }
 
-pub wait_for-requires-clause-leaves : goal.wait_for-requires-clause-leaves
-wait_for-requires-clause-leaves g c = λ p there.
+pub wait_for-requires-clause-left : goal.wait_for-requires-clause-left
+wait_for-requires-clause-left g c = λ p there.
     let s = c.args.progress.state in
-    subst (λ (b : Bool). signs_by s c.args.cert.new.stmt.view p.stmt.told c.args.chosen.place b ≤ leaves_of s) c.if-waits.true (c.requires.leaves p there)
+    subst (λ (b : Bool). signs_by s c.args.cert.new.stmt.view p.stmt.told c.args.chosen.place b ≤ signs_left s) c.if-waits.true (c.requires.left p there)
 
 pub take_up-requires-clause-takes : goal.take_up-requires-clause-takes
 take_up-requires-clause-takes g c = λ p there.
     let s = c.args.progress.state in
     subst (λ (b : Bool). verdict_of g.M.Machine.rules s.kept s.board.stable p.stmt.told c.args.chosen.place c.args.chosen.head ≡ (if b then Wait else Take)) c.if-waits.false (c.requires.judged p there)
 
-pub take_up-requires-clause-leaves : goal.take_up-requires-clause-leaves
-take_up-requires-clause-leaves g c = λ p there.
+pub take_up-requires-clause-left : goal.take_up-requires-clause-left
+take_up-requires-clause-left g c = λ p there.
     let R = g.M.Machine.rules in
     let s = c.args.progress.state in
     let takes = subst (λ (b : Bool). verdict_of R s.kept s.board.stable p.stmt.told c.args.chosen.place c.args.chosen.head ≡ (if b then Wait else Take)) c.if-waits.false (c.requires.judged p there) in
@@ -44,8 +44,8 @@ take_up-requires-clause-leaves g c = λ p there.
     let ready = subst (λ (x : Going g.row.M-State.Denot). IsReady x.state) same c.view_of-own.ensures.ready in
     let fit = subst (λ (x : Going g.row.M-State.Denot). IsFit x.state.views) same c.view_of-own.ensures.fit in
     let can = can_take R s ready fit c.args.cert c.args.chosen c.requires.certified c.requires.later p there takes in
-    let signs = subst (λ (b : Bool). signs_by s c.args.cert.new.stmt.view p.stmt.told c.args.chosen.place b ≤ leaves_of s) c.if-waits.false (c.requires.leaves p there) in
-    subst (λ (stable : ℕ). length (checkpoints_between s.kept.interval stable c.args.chosen.place.0) ≤ leaves_of s) (sym (begun_stable R c.args.progress c.args.cert c.args.chosen p.stmt.told can)) signs
+    let signs = subst (λ (b : Bool). signs_by s c.args.cert.new.stmt.view p.stmt.told c.args.chosen.place b ≤ signs_left s) c.if-waits.false (c.requires.left p there) in
+    subst (λ (stable : ℕ). length (checkpoints_between s.kept.interval stable c.args.chosen.place.0) ≤ signs_left s) (sym (begun_stable R c.args.progress c.args.cert c.args.chosen p.stmt.told can)) signs
 
 pub returns-in_ok-wait_for : goal.returns-in_ok-wait_for
 returns-in_ok-wait_for g c =

@@ -2,7 +2,7 @@ use Rattle.std.proofs.Common.{◌≡◌, ℕ, ◌≤◌, if◌then◌else◌, re
 use Rattle.zy_change.proofs.AcceptedLemmas.{accepted_provider}
 use Rattle.zy_change.specs.Views.{certificate}
 use Rattle.zy_table.specs.declared.deeds.Verdict.TheVariants.{Take, Wait}
-use Rattle.zy_table.specs.State.{State, leaves_of, own_view}
+use Rattle.zy_table.specs.State.{State, signs_left, own_view}
 use Rattle.zy_table.specs.Deeds.{Going}
 use Rattle.zy_table.specs.Adopting.{verdict_of}
 use Rattle.zy_table.specs.Beginning.{adopt}
@@ -38,8 +38,8 @@ adopt-requires-clause-judged g c = λ p there.
     ∙ ap (λ (x : Going g.row.M-State.Denot). verdict_of R x.state.kept x.state.board.stable p.stmt.told chosen.place chosen.head) c.progress.view_is in
     verdict ∙ c.requires.judged c.in-Ok.cert chosen p accepted there
 
-pub adopt-requires-clause-leaves : goal.adopt-requires-clause-leaves
-adopt-requires-clause-leaves g c = λ p there.
+pub adopt-requires-clause-left : goal.adopt-requires-clause-left
+adopt-requires-clause-left g c = λ p there.
     let s : State g.row.M-State.Denot = c.progress.inside.core in
     let view = c.in-Ok.cert.new.stmt.view in
     let place = c.in-Ok.chosen.place in
@@ -49,11 +49,11 @@ adopt-requires-clause-leaves g c = λ p there.
     ap (λ (x : State g.row.M-State.Denot). signs_by x view p.stmt.told place waits) c.in-Ok.ensures.core
     ∙ out_signs s view p.stmt.told place waits
     ∙ ap (λ (x : Going g.row.M-State.Denot). signs_by x.state view p.stmt.told place waits) c.progress.view_is in
-    let leaves : leaves_of c.in-Ok.core ≡ leaves_of c.args.progress.state =
-    ap (λ (x : State g.row.M-State.Denot). leaves_of x) c.in-Ok.ensures.core
-    ∙ out_stays (λ x. leaves_of x) s refl waits
-    ∙ ap (λ (x : Going g.row.M-State.Denot). leaves_of x.state) c.progress.view_is in
-    rw (signs, leaves) (c.requires.leaves c.in-Ok.cert c.in-Ok.chosen p accepted there)
+    let same_left : signs_left c.in-Ok.core ≡ signs_left c.args.progress.state =
+    ap (λ (x : State g.row.M-State.Denot). signs_left x) c.in-Ok.ensures.core
+    ∙ out_stays (λ x. signs_left x) s refl waits
+    ∙ ap (λ (x : Going g.row.M-State.Denot). signs_left x.state) c.progress.view_is in
+    rw (signs, same_left) (c.requires.left c.in-Ok.cert c.in-Ok.chosen p accepted there)
 
 pub returns-in-Ok : goal.returns-in-Ok
 returns-in-Ok g c =

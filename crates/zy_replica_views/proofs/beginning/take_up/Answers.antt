@@ -3,8 +3,8 @@ use Rattle.zy_change.proofs.AcceptedLemmas.{accepted_provider}
 use Rattle.zy_table.specs.Adopting.{checkpoints_between}
 use Rattle.zy_table.specs.Beginning.{respond_up_to, take_up}
 use Rattle.zy_table.specs.Deeds.{Going}
-use Rattle.zy_table.specs.State.{is_leaving, leaves_of}
-use Rattle.zy_replica_views.proofs.BeginLemmas.{begun_leaves}
+use Rattle.zy_table.specs.State.{is_leaving, signs_left}
+use Rattle.zy_replica_views.proofs.BeginLemmas.{begun_left}
 use Rattle.zy_replica_views.proofs.beginning.take_up.Goals as goal
 
 pub respond_up_to-requires : goal.respond_up_to-requires
@@ -18,8 +18,8 @@ respond_up_to-requires g c =
     record {
       place = c.requires.certified.place;
       active = ap (λ (x : Going g.row.M-State.Denot). is_leaving x.state) is;
-      leaves = subst (λ (x : Going g.row.M-State.Denot). length (checkpoints_between x.state.kept.interval x.state.board.stable.place.0 chosen.place.0) ≤ leaves_of x.state) (sym is)
-          (begun_leaves R cert chosen provided.0.stmt.told c.args.progress (c.requires.leaves provided.0 provided.1));
+      left = subst (λ (x : Going g.row.M-State.Denot). length (checkpoints_between x.state.kept.interval x.state.board.stable.place.0 chosen.place.0) ≤ signs_left x.state) (sym is)
+          (begun_left R cert chosen provided.0.stmt.told c.args.progress (c.requires.left provided.0 provided.1));
     }
 
 pub returns : goal.returns

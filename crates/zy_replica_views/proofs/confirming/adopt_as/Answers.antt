@@ -7,7 +7,7 @@ use Rattle.zy_table.specs.Beginning.{adopt, finished}
 use Rattle.zy_table.specs.Confirming.{view_certificate}
 use Rattle.zy_table.specs.Deeds.{Going, Outcome}
 use Rattle.zy_table.specs.Leaving.{goes}
-use Rattle.zy_table.specs.State.{leaves_of, own_view}
+use Rattle.zy_table.specs.State.{signs_left, own_view}
 use Rattle.zy_replica_views.proofs.CertifiedLemmas.{cert_adopts, cert_does, chosen_all}
 use Rattle.zy_replica_views.proofs.EndLemmas.{verdict_if}
 use Rattle.zy_replica_views.proofs.ShortLemmas.{sends_some}
@@ -35,13 +35,13 @@ adopt-requires-clause-judged g c = λ provider given.
     let does = cert_does R c.args.core c.args.cert c.args.owed c.requires.owed c.requires.signers c.requires.range.0 c.requires.ready c.requires.signer chosen c.chosen_of-chosen.ensures c.args.ending c.requires.judged in
     ap (λ (x : Going g.row.M-State.Denot). verdict_of R x.state.kept x.state.board.stable provider.stmt.told chosen.place chosen.head) c.begin.ensures ∙ does.judged provider given ∙ ap verdict_if (sym c.is_waiting.ensures)
 
-pub adopt-requires-clause-leaves : goal.adopt-requires-clause-leaves
-adopt-requires-clause-leaves g c = λ provider given.
+pub adopt-requires-clause-left : goal.adopt-requires-clause-left
+adopt-requires-clause-left g c = λ provider given.
     let R = g.M.Machine.rules in
     let chosen = c.chosen_of-chosen.result in
     let does = cert_does R c.args.core c.args.cert c.args.owed c.requires.owed c.requires.signers c.requires.range.0 c.requires.ready c.requires.signer chosen c.chosen_of-chosen.ensures c.args.ending c.requires.judged in
-    subst (λ (x : Going g.row.M-State.Denot). signs_by x.state c.args.cert.new.stmt.view provider.stmt.told chosen.place c.is_waiting.result ≤ leaves_of x.state) (sym c.begin.ensures)
-    (subst (λ waits. signs_by c.args.core c.args.cert.new.stmt.view provider.stmt.told chosen.place waits ≤ leaves_of c.args.core) (sym c.is_waiting.ensures) (does.leaves provider given))
+    subst (λ (x : Going g.row.M-State.Denot). signs_by x.state c.args.cert.new.stmt.view provider.stmt.told chosen.place c.is_waiting.result ≤ signs_left x.state) (sym c.begin.ensures)
+    (subst (λ waits. signs_by c.args.core c.args.cert.new.stmt.view provider.stmt.told chosen.place waits ≤ signs_left c.args.core) (sym c.is_waiting.ensures) (does.left provider given))
 
 pub returns : goal.returns
 returns g c =

@@ -1,14 +1,14 @@
 use Rattle.std.proofs.Common.{◌≤◌, sym, subst}
 use Rattle.zy_table.specs.Deeds.{Going}
-use Rattle.zy_table.specs.State.{leaves_of}
+use Rattle.zy_table.specs.State.{signs_left}
 use Rattle.zy_change.proofs.AcceptedLemmas.{accepted_place}
 use Rattle.zy_change.specs.Fit.{IsAccepted}
-use Rattle.zy_replica_views.proofs.NewViewLemmas.{arrived_group, arrived_leaves}
+use Rattle.zy_replica_views.proofs.NewViewLemmas.{arrived_group, arrived_left}
 use Rattle.zy_replica_views.proofs.confirming.confirm.Goals as goal
 
-pub accept-requires-clause-leaf : goal.accept-requires-clause-leaf
-accept-requires-clause-leaf g c =
-    subst (λ (x : Going g.row.M-State.Denot). 1 ≤ leaves_of x.state) (sym c.in-Ok.ensures) (arrived_leaves g.M.Machine.rules c.args.new.stmt.view c.args.progress c.requires.leaves)
+pub accept-requires-clause-left : goal.accept-requires-clause-left
+accept-requires-clause-left g c =
+    subst (λ (x : Going g.row.M-State.Denot). 1 ≤ signs_left x.state) (sym c.in-Ok.ensures) (arrived_left g.M.Machine.rules c.args.new.stmt.view c.args.progress c.requires.left)
 
 pub accept-requires-clause-accepted : goal.accept-requires-clause-accepted
 accept-requires-clause-accepted g c =

@@ -1,22 +1,23 @@
 use Rattle.std.proofs.Common.{◌≡◌, ◌≤◌, ◌+◌, nat_lt, if◌then◌else◌, IfOk, sym, ap, ◌∙◌, subst}
 use Rattle.std.proofs.lemmas.Result.{IfOk-weaker}
+use Rattle.zy_change.specs.Fit.{IsAccepted}
 use Rattle.zy_table.specs.Beginning.{arrive, finished}
 use Rattle.zy_table.specs.Confirming.{new_view}
 use Rattle.zy_table.specs.Deeds.{Going, Outcome}
 use Rattle.zy_table.specs.Leaving.{accept}
-use Rattle.zy_table.specs.State.{leaves_of, own_view}
+use Rattle.zy_table.specs.State.{signs_left, own_view}
 use Rattle.zy_replica_views.specs.Entering.{CanEnd, EndsAs}
-use Rattle.zy_replica_views.proofs.NewViewLemmas.{confirm_leaves, confirms_some, new_can, new_comes}
+use Rattle.zy_replica_views.proofs.NewViewLemmas.{confirm_left, confirms_some, new_can, new_comes}
 use Rattle.zy_replica_views.proofs.ShortLemmas.{accepted_sends}
 use Rattle.zy_replica_views.proofs.confirming.confirm_as.Goals as goal
 
 pub unreachable-requires : goal.unreachable-requires
 unreachable-requires g c = confirms_some g.M.Machine.rules c.args.core c.args.new c.args.owed c.requires.owed c.requires.accepted c.requires.signer c.in-None.is c.args.ending c.requires.judged
 
-pub confirm-requires-clause-leaves : goal.confirm-requires-clause-leaves
-confirm-requires-clause-leaves g c =
-    subst (λ (x : Going g.row.M-State.Denot). (if nat_lt (own_view x.state) c.args.new.stmt.view.0 then 1 else 0) + 1 ≤ leaves_of x.state) (sym c.begin.ensures)
-    (confirm_leaves g.M.Machine.rules c.args.core c.args.new c.args.owed c.requires.owed c.requires.accepted c.in-Some.chosen c.in-Some.is c.args.ending c.requires.judged)
+pub confirm-requires-clause-left : goal.confirm-requires-clause-left
+confirm-requires-clause-left g c =
+    subst (λ (x : Going g.row.M-State.Denot). (if nat_lt (own_view x.state) c.args.new.stmt.view.0 then 1 else 0) + 1 ≤ signs_left x.state) (sym c.begin.ensures)
+    (confirm_left g.M.Machine.rules c.args.core c.args.new c.args.owed c.requires.owed c.requires.accepted c.in-Some.chosen c.in-Some.is c.args.ending c.requires.judged)
 
 pub end-requires : goal.end-requires
 end-requires g c =
@@ -35,3 +36,8 @@ returns g c =
 
 pub confirm-requires-clause-sends : goal.confirm-requires-clause-sends
 confirm-requires-clause-sends g c = accepted_sends c.args.core c.args.new c.args.owed c.in-Some.chosen c.requires.owed c.in-Some.is c.requires.accepted
+
+pub confirm-requires-clause-accepted : goal.confirm-requires-clause-accepted
+confirm-requires-clause-accepted g c =
+    subst (λ (x : Going g.row.M-State.Denot). IsAccepted x.state.views.counts x.state.views.interval (record { new = c.args.new; chosen = c.in-Some.chosen })) (sym c.begin.ensures)
+    (c.requires.accepted c.in-Some.chosen c.in-Some.is)

@@ -3,13 +3,13 @@ use Rattle.std.proofs.lemmas.Result.{IfOk-weaker}
 use Rattle.zy_table.specs.Deeds.{Going, Outcome}
 use Rattle.zy_table.specs.Beginning.{finished}
 use Rattle.zy_replica_views.specs.Entering.{CanEnd, EndsAs}
-use Rattle.zy_replica_views.proofs.StepLemmas.{step_can, step_ends, step_leaves}
+use Rattle.zy_replica_views.proofs.StepLemmas.{step_can, step_ends, step_left}
 use Rattle.zy_replica_views.proofs.ending.carry.Goals as goal
 
-pub carry_out-carried-requires-clause-leaves : goal.carry_out-carried-requires-clause-leaves
-carry_out-carried-requires-clause-leaves g c =
+pub carry_out-carried-requires-clause-left : goal.carry_out-carried-requires-clause-left
+carry_out-carried-requires-clause-left g c =
     let j = c.requires.judged in
-    step_leaves g.M.Machine.rules j.before j.more j.attempt c.args.owed c.args.progress j.step c.args.ending j.ends
+    step_left g.M.Machine.rules j.before j.more j.attempt c.args.owed c.args.progress j.step c.args.ending j.ends
 
 pub end-requires : goal.end-requires
 end-requires g c =

@@ -3,7 +3,7 @@ use Rattle.zy_base.specs.declared.step.Answer.TheVariants.{Taken}
 use Rattle.zy_table.specs.Adopting.{checkpoints_between}
 use Rattle.zy_table.specs.Beginning.{respond_up_to}
 use Rattle.zy_table.specs.Deeds.{Going, act, ends}
-use Rattle.zy_table.specs.State.{State, is_leaving, leaves_of}
+use Rattle.zy_table.specs.State.{State, is_leaving, signs_left}
 use Rattle.zy_table.specs.declared.deeds.Act.TheVariants.{Adopts}
 use Rattle.zy_replica_views.proofs.StateLemmas.{begun_enough, begun_up}
 use Rattle.zy_replica_views.proofs.fetching.begin_from.Goals as goal
@@ -23,15 +23,15 @@ respond_up_to-requires-clause-active g c =
     ap (λ (x : Going g.row.M-State.Denot). is_leaving x.state) (c.in_ok-begun.ensures ∙ ap (act (Adopts c.args.view c.in_ok-core.common c.in_ok-core.gots)) c.begin.ensures)
     ∙ ap (λ (x : State g.row.M-State.Denot). is_leaving x) (c.in_ok-core.ensures.core a.w a.provider a.is.waits a.is.given)
 
-pub respond_up_to-requires-clause-leaves : goal.respond_up_to-requires-clause-leaves
-respond_up_to-requires-clause-leaves g c =
+pub respond_up_to-requires-clause-left : goal.respond_up_to-requires-clause-left
+respond_up_to-requires-clause-left g c =
     let R = g.M.Machine.rules in
     let a = c.requires.awaits in
     let can = c.requires.shown a.w a.provider a.is in
     let few = begun_enough R c.args.core a.w.cert a.w.chosen a.provider.stmt.told c.args.exec.base can.stable c.in_ok-core.core c.args.place
-    (c.in_ok-core.ensures.core a.w a.provider a.is.waits a.is.given) (c.requires.place a.w a.provider a.is) (c.requires.leaves a.w a.provider a.is) in
+    (c.in_ok-core.ensures.core a.w a.provider a.is.waits a.is.given) (c.requires.place a.w a.provider a.is) (c.requires.left a.w a.provider a.is) in
     let there = c.in_ok-begun.ensures ∙ ap (act (Adopts c.args.view c.in_ok-core.common c.in_ok-core.gots)) c.begin.ensures in
-    subst (λ (x : Going g.row.M-State.Denot). length (checkpoints_between x.state.kept.interval x.state.board.stable.place.0 c.args.place.0) ≤ leaves_of x.state) (sym there) few
+    subst (λ (x : Going g.row.M-State.Denot). length (checkpoints_between x.state.kept.interval x.state.board.stable.place.0 c.args.place.0) ≤ signs_left x.state) (sym there) few
 
 pub returns : goal.returns
 returns g c = λ w provider aw.

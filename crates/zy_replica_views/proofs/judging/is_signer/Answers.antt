@@ -6,6 +6,6 @@ use Rattle.zy_replica_views.proofs.judging.is_signer.Goals as goal
 pub returns-clause-signer : goal.returns-clause-signer
 returns-clause-signer g c =
     record {
-      by = c.has_leaves.ensures.ready.signer ∙ ap (λ (id : ReplicaId). Replica id) (sym c.has_leaves.ensures.ready.views.me);
-      within = c.has_leaves.ensures.within;
+      by = c.can_sign.ensures.ready.signer ∙ ap (λ (id : ReplicaId). Replica id) (sym c.can_sign.ensures.ready.views.me);
+      within = c.can_sign.ensures.within;
     }

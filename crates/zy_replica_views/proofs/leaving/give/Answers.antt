@@ -1,12 +1,12 @@
 use Rattle.std.proofs.Common.{◌≡◌, subst}
 use Rattle.std.specs.Prelude.{IfOk}
 use Rattle.zy_table.specs.Deeds.{Going}
-use Rattle.zy_replica_views.proofs.CarryLemmas.{given_leaf, given_accepted, given_all}
+use Rattle.zy_replica_views.proofs.CarryLemmas.{given_left, given_accepted, given_all}
 use Rattle.zy_replica_views.proofs.leaving.give.Goals as goal
 
-pub accept-requires-clause-leaf : goal.accept-requires-clause-leaf
-accept-requires-clause-leaf g c =
-    given_leaf g.M.Machine.rules c.args.progress c.in_ok-progress.progress c.args.view c.args.chosen c.in_ok-progress.new c.in_ok-progress.ensures.progress c.in_ok-progress.ensures.new c.requires.leaves
+pub accept-requires-clause-left : goal.accept-requires-clause-left
+accept-requires-clause-left g c =
+    given_left g.M.Machine.rules c.args.progress c.in_ok-progress.progress c.args.view c.args.chosen c.in_ok-progress.new c.in_ok-progress.ensures.progress c.in_ok-progress.ensures.new c.requires.left
 
 pub accept-requires-clause-accepted : goal.accept-requires-clause-accepted
 accept-requires-clause-accepted g c =

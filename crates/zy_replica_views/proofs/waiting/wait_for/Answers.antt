@@ -3,17 +3,17 @@ use Rattle.std.specs.Prelude.{is_some}
 use Rattle.zy_base.specs.declared.ids.Party.{Party}
 use Rattle.zy_parts.specs.declared.reports.Fetch.{Fetch}
 use Rattle.zy_change.proofs.AcceptedLemmas.{accepted_provider}
-use Rattle.zy_table.specs.State.{State, leaves_of}
+use Rattle.zy_table.specs.State.{State, signs_left}
 use Rattle.zy_table.specs.Deeds.{Going}
 use Rattle.zy_table.specs.Beginning.{arrive, ask_each, asked_of, fetch_said, kept_waiting, wait_for, wanted_of}
-use Rattle.zy_replica_views.proofs.ArriveLemmas.{arrived_fetches, arrived_group, arrived_interval, arrived_leaves, find_said}
+use Rattle.zy_replica_views.proofs.ArriveLemmas.{arrived_fetches, arrived_group, arrived_interval, arrived_left, find_said}
 use Rattle.zy_replica_views.proofs.waiting.wait_for.Goals as goal
 
-pub arrive-requires-clause-leaf : goal.arrive-requires-clause-leaf
-arrive-requires-clause-leaf g c =
+pub arrive-requires-clause-left : goal.arrive-requires-clause-left
+arrive-requires-clause-left g c =
     let v = c.args.progress.state.views in
     let (p, there, head) = accepted_provider v.counts v.interval (record { new = c.args.cert.new; chosen = c.args.chosen }) c.requires.certified.accepted in
-    let both = c.requires.leaves p there in
+    let both = c.requires.left p there in
     omega (arith, both)
 
 pub wanted_by-requires-clause-certified : goal.wanted_by-requires-clause-certified
@@ -34,8 +34,8 @@ wait-core-requires-clause-certified g c =
     let interval = ap (λ (x : Going g.row.M-State.Denot). x.state.views.interval) at ∙ arrived_interval R view c.args.progress in
     rw (group, interval) c.requires.certified
 
-pub ask_each-requires-clause-leaf : goal.ask_each-requires-clause-leaf
-ask_each-requires-clause-leaf g c =
+pub ask_each-requires-clause-left : goal.ask_each-requires-clause-left
+ask_each-requires-clause-left g c =
     let R = g.M.Machine.rules in
     let s = c.args.progress.state in
     let view = c.args.cert.new.stmt.view in
@@ -43,10 +43,10 @@ ask_each-requires-clause-leaf g c =
     let h : Going g.row.M-State.Denot = arrive R view c.args.progress in
     let at : c.arrived.inside.core ≡ h.state = ap (λ (x : Going g.row.M-State.Denot). x.state) (c.arrived.view_is ∙ c.in_ok-arrived.ensures) in
     let want = wanted_of p.stmt.told in
-    let left : (if is_some (fetch_said s want) then 0 else 1) ≤ leaves_of h.state = arrived_leaves R view c.args.progress _ (c.requires.leaves p there) in
+    let left : (if is_some (fetch_said s want) then 0 else 1) ≤ signs_left h.state = arrived_left R view c.args.progress _ (c.requires.left p there) in
     let said = find_said (c.wait-core.result.fetches) s.fetches want (ap (λ (x : State g.row.M-State.Denot). x.fetches) c.wait-core.ensures ∙ ap (λ (x : State g.row.M-State.Denot). x.fetches) at ∙ arrived_fetches R view c.args.progress) in
-    let leaves : leaves_of c.wait-core.result ≡ leaves_of h.state = ap (λ (x : State g.row.M-State.Denot). leaves_of x) c.wait-core.ensures ∙ ap (λ (x : State g.row.M-State.Denot). leaves_of x) at in
-    rw (c.in_ok-fetch.ensures.wanted p there, said, leaves) left
+    let same_left : signs_left c.wait-core.result ≡ signs_left h.state = ap (λ (x : State g.row.M-State.Denot). signs_left x) c.wait-core.ensures ∙ ap (λ (x : State g.row.M-State.Denot). signs_left x) at in
+    rw (c.in_ok-fetch.ensures.wanted p there, said, same_left) left
 
 pub returns : goal.returns
 unfolding wait_for

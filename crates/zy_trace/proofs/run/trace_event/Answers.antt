@@ -3,7 +3,7 @@ use Rattle.std.proofs.lemmas.Result.{err_from_is_err_and}
 use Rattle.zy_top_words.specs.declared.exit.Broken.TheVariants as broken
 use Rattle.zy_trace.proofs.Steps.{answer_is, event_breaks, event_goes, told_same}
 use Rattle.zy_trace.proofs.run.trace_event.Goals as goal
-use Rattle.zy_trace.specs.Telling.{actor, answer_in, cut, followed, next_leaf}
+use Rattle.zy_trace.specs.Telling.{actor, answer_in, cut, followed, key_next}
 use Rattle.zy_trace.specs.Tracing.{told_of}
 use Rattle.zy_world_law.specs.Events as events
 
@@ -13,10 +13,10 @@ returns-in_ok-follow-in-Ok-clause-traced g c whole shows =
     let event = c.args.event in
     let goes = c.in-Ok.ensures.goes whole shows in
     let by = c.actor-by.ensures whole shows in
-    let leaf = c.next_leaf-leaf.ensures whole shows in
+    let unspent = c.key_next-unspent.ensures whole shows in
     let answer : c.in-Ok.field-0.answer ≡ answer_in R whole event = c.in-Ok.ensures.answer ∙ answer_is R whole c.args.world event shows in
-    let told : told_of c.follow.new.self ≡ followed R goes.0 (actor whole event) (next_leaf whole (actor whole event)) c.in-Ok.field-0.note (answer_in R whole event) (told_of c.args.trace.now) =
-    told_same _ _ _ _ _ _ (rw (leaf, by, answer) at (c.in_ok-follow-in-Ok.ensures.text goes.0 goes.2)) c.in_ok-follow-in-Ok.ensures.events (rw by at (c.in_ok-follow-in-Ok.ensures.senders goes.0 goes.2)) in
+    let told : told_of c.follow.new.self ≡ followed R goes.0 (actor whole event) (key_next whole (actor whole event)) c.in-Ok.field-0.note (answer_in R whole event) (told_of c.args.trace.now) =
+    told_same _ _ _ _ _ _ (rw (unspent, by, answer) at (c.in_ok-follow-in-Ok.ensures.text goes.0 goes.2)) c.in_ok-follow-in-Ok.ensures.events (rw by at (c.in_ok-follow-in-Ok.ensures.senders goes.0 goes.2)) in
     event_goes R event whole goes.0 c.in-Ok.field-0.note (told_of c.args.trace.now) (told_of c.follow.new.self) c.in-Ok.field-0.world goes.1 told goes.2
 
 pub returns-in_err-follow-in-Ok-clause-traced : goal.returns-in_err-follow-in-Ok-clause-traced

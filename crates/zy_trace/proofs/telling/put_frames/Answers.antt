@@ -9,7 +9,7 @@ returns-in_default g c whole shows =
 pub loop-before-preserved : goal.loop-before-preserved
 loop-before-preserved g c whole shows =
     frames_on whole _ _ _ c.args.number c.args.by c.loop-before.next _ c.loop-before.before c.in-Some.mail.now (sym (c.mail.ensures whole shows) ∙ ap option_copied c.in-Some.is)
-    c.in_ok-next.ensures.text c.in_ok-next.ensures.leaf (c.loop-before.invariant whole shows)
+    c.in_ok-next.ensures.text c.in_ok-next.ensures.unspent (c.loop-before.invariant whole shows)
 
 pub returns : goal.returns
 returns g c whole shows =

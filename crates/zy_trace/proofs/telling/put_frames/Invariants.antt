@@ -9,4 +9,4 @@ abbrev pub invariant-loop-before : goal.invariant-loop-before
 invariant-loop-before g l =
     (whole : World g.row.M-State.Denot) → Shows whole l.world
     → l.out.items ++ frames_lines l.number l.by l.next (l.before + 1) (drop l.before whole.bag)
-    ≡ l.initial.out.items ++ frames_lines l.number l.by l.leaf (l.sent + 1) (drop l.sent whole.bag)
+    ≡ l.initial.out.items ++ frames_lines l.number l.by l.unspent (l.sent + 1) (drop l.sent whole.bag)

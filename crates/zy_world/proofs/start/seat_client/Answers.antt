@@ -7,7 +7,7 @@ use Rattle.zy_seal.specs.Keys.{Keys}
 use Rattle.zy_seal.specs.Sealing.{SealerState}
 use Rattle.zy_table.specs.ClientState.{ClientState, client_start}
 use Rattle.zy_world_law.specs.Setup.{Setup, sealer_of}
-use Rattle.zy_world.proofs.Seating.{among, liar_leaves, liar_signs, correct_sits, correct_keeps}
+use Rattle.zy_world.proofs.Seating.{among, liar_seated, liar_signs, correct_sits, correct_keeps}
 use Rattle.zy_world.proofs.start.seat_client.Goals as goal
 
 pub returns-then-contains : goal.returns-then-contains
@@ -17,9 +17,9 @@ returns-then-contains c =
     (ap (λ (v : Setup). v.lying_clients) c.setup.view_is) c.if-contains.true in
     record {
       seats = subst (λ (seat : Option (ClientState)). OnOk c.leave.result (c.leave.new.self.seats.items ≡ c.args.row.now.seats.items ++ seat ∷ []))
-          (liar_leaves (list_any (nat_eq c.args.id.0) s.lying_clients) _ lies) c.leave.ensures.seats;
+          (liar_seated (list_any (nat_eq c.args.id.0) s.lying_clients) _ lies) c.leave.ensures.seats;
       keys = subst (λ (key : Option SealerState). OnOk c.leave.result (c.leave.new.self.keys.items ≡ c.args.row.now.keys.items ++ key ∷ []))
-          (liar_signs (list_any (nat_eq c.args.id.0) s.lying_clients) c.args.sealer (sealer_of s (parties.Client c.args.id) 0) lies c.requires) c.leave.ensures.keys;
+          (liar_signs (list_any (nat_eq c.args.id.0) s.lying_clients) c.beside.result (sealer_of s (parties.Client c.args.id) 0) lies (c.beside.ensures ∙ c.requires)) c.leave.ensures.keys;
     }
 
 pub returns : goal.returns

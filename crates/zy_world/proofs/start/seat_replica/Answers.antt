@@ -7,7 +7,7 @@ use Rattle.zy_seal.specs.Keys.{Keys}
 use Rattle.zy_seal.specs.Sealing.{SealerState}
 use Rattle.zy_table.specs.State.{State, start_of}
 use Rattle.zy_world_law.specs.Setup.{Setup, sealer_of}
-use Rattle.zy_world.proofs.Seating.{among, liar_leaves, liar_signs, correct_sits, correct_keeps}
+use Rattle.zy_world.proofs.Seating.{among, liar_seated, liar_signs, correct_sits, correct_keeps}
 use Rattle.zy_world.proofs.start.seat_replica.Goals as goal
 
 pub returns-then-contains : goal.returns-then-contains
@@ -17,9 +17,9 @@ returns-then-contains g c =
     (ap (λ (v : Setup). v.liars) c.setup.view_is) c.if-contains.true in
     record {
       seats = subst (λ (seat : Option (State g.row.M-State.Denot)). OnOk c.leave.result (c.leave.new.self.seats.items ≡ c.args.row.now.seats.items ++ seat ∷ []))
-          (liar_leaves (list_any (nat_eq c.args.id.0) s.liars) _ lies) c.leave.ensures.seats;
+          (liar_seated (list_any (nat_eq c.args.id.0) s.liars) _ lies) c.leave.ensures.seats;
       keys = subst (λ (key : Option SealerState). OnOk c.leave.result (c.leave.new.self.keys.items ≡ c.args.row.now.keys.items ++ key ∷ []))
-          (liar_signs (list_any (nat_eq c.args.id.0) s.liars) c.args.sealer (sealer_of s (parties.Replica c.args.id) 0) lies c.requires.sealer) c.leave.ensures.keys;
+          (liar_signs (list_any (nat_eq c.args.id.0) s.liars) c.beside.result (sealer_of s (parties.Replica c.args.id) 0) lies (c.beside.ensures ∙ c.requires.sealer)) c.leave.ensures.keys;
     }
 
 pub returns : goal.returns

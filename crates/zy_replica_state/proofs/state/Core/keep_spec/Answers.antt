@@ -1,5 +1,13 @@
-use Rattle.zy_replica_state.proofs.ReadyLemmas.{ready_specs}
+use Rattle.zy_table.specs.State.{is_beside}
+use Rattle.zy_replica_state.proofs.ReadyLemmas.{ready_beside, ready_specs}
 use Rattle.zy_replica_state.proofs.state.Core.keep_spec.Goals as goal
 
 pub invariant_of-self : goal.invariant_of-self
-invariant_of-self g c = ready_specs _ c.self.invariant c.args.spec.stmt.client.0 c.args.spec c.requires.range
+invariant_of-self g c =
+    rw (c.in-Ok.ensures.ok, c.specs_beside.ensures, c.replace-said.ensures.value)
+    (ready_specs _ c.self.invariant (is_beside c.args.spec.stmt) c.args.spec c.requires)
+
+pub invariant_of-self-in-Err-1 : goal.invariant_of-self-in-Err-1
+invariant_of-self-in-Err-1 g c =
+    rw (c.in-Err.ensures.err, c.specs_beside.ensures, c.replace-said.ensures.value)
+    (ready_beside _ c.self.invariant (is_beside c.args.spec.stmt))

@@ -1,4 +1,5 @@
 use Rattle.std.proofs.Common.{◌≡◌, List, ℕ, refl, ap, subst, ◌∙◌}
+use Rattle.zy_lms.proofs.VerifiedLemmas.{Decides-verified}
 use Rattle.zy_lms.specs.Lms.{Verifies, public_of}
 use Rattle.zy_parts.specs.Signing.{text_of}
 use Rattle.zy_seal.specs.Sealing.{SealerState}
@@ -18,3 +19,9 @@ returns-in-Ok-clause-sealed g c =
       verifies = subst (λ (s : SealerState). Verifies (public_of s.key) (text_of number fields s.me c.args.stmt) c.in-Ok.sig) c.self.view_is own;
       short = is_short (public_of c.self.inside.key) c.as_slice.result.now c.in-Ok.sig c.in-Ok.ensures.verifies;
     }
+
+pub keep-requires : goal.keep-requires
+keep-requires g c =
+    rw (c.public-public.ensures, c.as_slice-in-Ok.ensures.value, c.as_slice-in-Ok-2.ensures.value)
+    ((Decides-verified (public_of c.self.inside.key) c.in_ok-text.text c.in-Ok.sig).1
+    (subst (λ (text : List ℕ). Verifies (public_of c.self.inside.key) text c.in-Ok.sig) c.as_slice.ensures.value c.in-Ok.ensures.verifies))
