@@ -9,6 +9,7 @@ use Rattle.zy_base.specs.Machine.{Rules}
 use Rattle.zy_base.specs.declared.ids.Party.{Party}
 use Rattle.zy_base.specs.declared.ids.Party.TheVariants.{Replica}
 use Rattle.zy_base.specs.declared.step.Answer.TheVariants.{Taken}
+use Rattle.zy_base.specs.declared.step.Stood.{Stood}
 use Rattle.zy_parts.specs.Numbers as numbers
 use Rattle.zy_parts.specs.Signing.{IsSignedInRange}
 use Rattle.zy_parts.specs.Statements.{IsHateInRange, hate_fields}
@@ -75,12 +76,9 @@ module _ {S : Type 0} (R : Rules S) (g : Going S) where
   spends_so_far said more is = said_spends said ∙ ap (λ n. spent_many n s.sealer) (sym is)
 
   -- said for the first time: what is signed is kept, said and sent
-  abbrev own : Signed Hate
-  own = sealed_by numbers.hate hate_fields s.sealer (hate_now s)
-
-  pub said_first : (core : State S) (signed : Signed Hate) → core ≡ record (spent s) { hate = Some own } → signed ≡ own
-      → send All (frames.Hate signed) (act (Says (record { body = bodies.Hate signed.stmt; stood = stood_of R core })) (record { state = core; deeds = g.deeds })) ≡ say_hate R None g
-  said_first core signed kept sealed = rw (kept, sealed) refl
+  pub said_first : (core : State S) (signed copy : Signed Hate) (hate : Hate) (stood : Stood) → core ≡ spent s → hate ≡ hate_now s → signed ≡ sealed_by numbers.hate hate_fields s.sealer hate → copy ≡ signed → stood ≡ stood_of R s
+      → send All (frames.Hate signed) (act (Says (record { body = bodies.Hate hate; stood = stood })) (record { state = record core { hate = Some copy }; deeds = g.deeds })) ≡ say_hate R None g
+  said_first core signed copy hate stood spends now sealed same stands = rw (same, sealed, now, spends, stands) refl
 
   pub group_stays : (said : Option (Signed Hate)) → (say_hate R said g).state.counts ≡ s.counts
   group_stays None = refl

@@ -1,5 +1,5 @@
 -- The steps of the rows in which a replica leaves its view.
-use Rattle.std.proofs.Common.{◌≡◌, ◌<◌, ℕ, false, [], Option, Some, None, refl, arith}
+use Rattle.std.proofs.Common.{◌≡◌, ◌<◌, ℕ, false, [], Option, Some, None, refl, subst, arith}
 use Rattle.zy_base.specs.Machine.{Rules}
 use Rattle.zy_base.specs.declared.ids.Party.TheVariants.{Replica}
 use Rattle.zy_base.specs.declared.ids.ReplicaId.{ReplicaId}
@@ -128,3 +128,10 @@ module _ {S : Type 0} (R : Rules S) (g : Going S) (signer : IsSigner g.state) (r
         follows = own_follows R g said owed own signer.by owes;
         enters = can;
       }
+
+-- the same, of the state as it lies in the step
+pub own_judged : {S : Type 0} (R : Rules S) (g : Going S) (owed : Owed) → g.deeds.acts ≡ [] → (t : State S) → t ≡ g.state → (more : ℕ) → more ≡ signs_of (own_hate t)
+    → IsSigner t → IsReady t → IsOwnOwed t owed → CanAll t owed → IsStep R g.state more (hate_from R g) owed (counted R g (own_hate g.state))
+own_judged {S = S} R g owed silent t same more is signer ready owes can =
+    own_step R g (subst (λ (x : State S). IsSigner x) same signer) (subst (λ (x : State S). IsReady x) same ready) owed (subst (λ (x : State S). CanAll x owed) same can) silent (own_hate g.state) more
+    (subst (λ (x : State S). more ≡ signs_of (own_hate x)) same is) refl (subst (λ (x : State S). IsOwnOwed x owed) same owes)

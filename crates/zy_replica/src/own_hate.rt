@@ -41,17 +41,15 @@ fn say_hate<M: Machine>(progress: Progress<M>) -> Result<Progress<M>, Want>
     ensures { IfOk result (λ g. g ≡ said_as M.rules (own_of progress.state) progress) }
 {
     if let Some(said) = own_hate(&progress.core) {
-        let copy = signed_copy(said)?;
-        return progress.send(To::All, Frame::Hate(copy));
+        let again = signed_copy(said)?;
+        return progress.send(To::All, Frame::Hate(again));
     }
-    let (hate, stood) = (
-        Hate {
-            view: progress.core.view(),
-        },
-        progress.core.stood(),
-    );
-    let (Progress { core, deeds }, signed) = progress.seal(hate)?;
-    let core = core.keep_hate(signed_copy(&signed)?);
+    let Progress { core, deeds } = progress;
+    let stood = core.stood();
+    let hate = Hate { view: core.view() };
+    let (core, signed) = core.seal(hate)?;
+    let copy = signed_copy(&signed)?;
+    let core = core.keep_hate(copy);
     let said = Progress { core, deeds }.says(Body::Hate(hate), stood)?;
     said.send(To::All, Frame::Hate(signed))
 }

@@ -11,7 +11,7 @@ returns-in-Some g c =
     let s = c.args.core in
     let frame = stored_in s.orders c.args.order.stmt.place.0 in
     subst (λ (x : Attempt g.row.M-State.Denot). IfOk c.blame.result (λ (m : Outcome g.row.M-State.Denot). m ≡ finished g.M.Machine.rules s x))
-    (sym (told_both g.M.Machine.rules s c.args.order c.in-Some.kept frame (sym c.in_ok-order_at.ensures.order ∙ c.in-Some.is)))
+    (sym (told_both g.M.Machine.rules s c.args.order c.in-Some.kept frame (sym c.in_ok-kept.ensures.order ∙ c.in-Some.is)))
     c.blame.ensures
 
 pub returns-in-None : goal.returns-in-None
@@ -19,5 +19,5 @@ returns-in-None g c =
     let s = c.args.core in
     let frame = stored_in s.orders c.args.order.stmt.place.0 in
     subst (λ (x : Attempt g.row.M-State.Denot). IfOk c.not_heard.result (λ (m : Outcome g.row.M-State.Denot). m ≡ finished g.M.Machine.rules s x))
-    (sym (told_none g.M.Machine.rules s c.args.order frame (sym c.in_ok-order_at.ensures.order ∙ c.in-None.is)))
+    (sym (told_none g.M.Machine.rules s c.args.order frame (sym c.in_ok-kept.ensures.order ∙ c.in-None.is)))
     c.not_heard.ensures
