@@ -19,7 +19,7 @@ use Rattle.zy_frames.specs.declared.frame.Frame.TheVariants as frames
 use Rattle.zy_seal.specs.Sealing.{sealed_by}
 use Rattle.zy_evidence.specs.Reading.{number_of_party}
 use Rattle.zy_change.specs.declared.owed.Owed.{Owed}
-use Rattle.zy_change.specs.Owing.{nothing}
+use Rattle.zy_change.specs.Owing.{hate_owes_of, nothing}
 use Rattle.zy_change.specs.Views.{Views, is_hated_by, with_hate}
 use Rattle.zy_table.specs.declared.deeds.Act.TheVariants.{Says}
 use Rattle.zy_table.specs.declared.deeds.Body.TheVariants as bodies
@@ -27,9 +27,9 @@ use Rattle.zy_table.specs.declared.deeds.To.TheVariants.{All}
 use Rattle.zy_table.specs.State.{State, own_view, spent, stood_of}
 use Rattle.zy_table.specs.Deeds.{Going, act, send}
 use Rattle.zy_table.specs.Beginning.{confirms}
-use Rattle.zy_table.specs.Leaving.{Attempt, goes}
+use Rattle.zy_table.specs.Leaving.{Attempt, goes, report_of}
 use Rattle.zy_table.specs.Hates.{own_hate, hate_for, hate_now, say_hate, count_own, hate_counted, hate_from, with_hate_of}
-use Rattle.zy_replica_views.specs.Follows.{Follows, SignsAsItself, IsCountedOwed, spent_many}
+use Rattle.zy_replica_views.specs.Follows.{Follows, SignsAsItself, IsCountedOwed, IsHateOwed, spent_many}
 use Rattle.zy_replica_views.proofs.FollowLemmas.{counted_follows, for_none, none_spent, taken}
 use Rattle.zy_replica.specs.Judging.{IsOwnOwed, OwesOwn, signs_of}
 
@@ -55,6 +55,25 @@ hate_for_some P view (Some said) all = by (nat_eq said.stmt.view.0 view)
 
 pub said_in_range : {S : Type 0} (s : State S) → ForSome s.hate (IsSignedInRange IsHateInRange) → ForSome (own_hate s) (IsSignedInRange IsHateInRange)
 said_in_range s all = hate_for_some (IsSignedInRange IsHateInRange) (own_view s) s.hate all
+
+-- ---- the own hate, whatever its signature will be
+
+abbrev hate_of : ℕ → Hate
+hate_of view = record { view = record { 0 = view } }
+
+pub is_now : {S : Type 0} (s : State S) (hate : Hate) → hate.view.0 ≡ own_view s → hate ≡ hate_now s
+is_now s hate is = ap hate_of is
+
+pub owes_nothing : {S : Type 0} (s : State S) (owed : Owed) → is_hated_by s.views (Replica s.me) ≡ true → owed ≡ nothing → IsOwnOwed s owed
+owes_nothing s owed old is = subst (λ (b : Bool). OwesOwn s b owed) (sym old) is
+
+pub owes_hate : {S : Type 0} (s : State S) (own : Signed Hate) (owed : Owed) → is_hated_by s.views (Replica s.me) ≡ false → own.by ≡ Replica s.me → own.stmt ≡ hate_now s → IsHateOwed s own owed → IsOwnOwed s owed
+owes_hate s own owed new by now owes =
+    subst (λ (b : Bool). OwesOwn s b owed) (sym new)
+    (λ vote by_me says pens.
+    owes pens
+    ∙ ap (λ (party : Party). hate_owes_of s.views party own.stmt.view (report_of s) pens) (by ∙ sym by_me)
+    ∙ ap (λ (hate : Hate). hate_owes_of s.views vote.by hate.view (report_of s) pens) (now ∙ sym says))
 
 -- a hate that is counted already is counted again to no effect
 hated_again : (v : Views) (by : Party) → is_hated_by v by ≡ true → with_hate by v ≡ v

@@ -10,7 +10,7 @@ use Rattle.zy_table.specs.declared.deeds.To.TheVariants.{All}
 use Rattle.zy_table.specs.State.{State}
 use Rattle.zy_table.specs.Deeds.{Going, act, send}
 use Rattle.zy_table.specs.Hates.{hate_now, own_hate, say_hate}
-use Rattle.zy_replica.proofs.OwnHateLemmas.{said_first}
+use Rattle.zy_replica.proofs.OwnHateLemmas.{is_now, said_first}
 use Rattle.zy_replica.proofs.own_hate.say_hate.Goals as goal
 
 pub send-requires : goal.send-requires
@@ -22,7 +22,7 @@ returns g c =
     let s = c.progress.inside.core in
     let deeds = c.progress.inside.deeds in
     let hate : Hate = record { view = c.view.result } in
-    let now : hate ≡ hate_now s = ap (λ n. record { view = record { 0 = n } }) c.view.ensures.view in
+    let now : hate ≡ hate_now s = is_now s hate c.view.ensures.view in
     let says = λ (core : State g.row.M-State.Denot). act (Says (record { body = bodies.Hate hate; stood = c.stood-stood.result })) (record { state = core; deeds = deeds }) in
     let first = said_first R (record { state = s; deeds = deeds }) c.in_ok-core.core c.in_ok-core.signed c.in_ok-copy.copy hate c.stood-stood.result c.in_ok-core.ensures.core now c.in_ok-core.ensures.value c.in_ok-copy.ensures c.stood-stood.ensures in
     subst (λ (x : Going g.row.M-State.Denot). IfOk c.send.result (λ (m : Going g.row.M-State.Denot). m ≡ x))
