@@ -198,8 +198,13 @@ fn respond<M: Machine>(
     requires reply { FitsAnswers reply }
     ensures { IfOk result (λ g. g ≡ respond_with M.rules order (sealed_by numbers.spec spec_fields progress.state.sealer spec) reply progress) }
 {
-    let (progress, signed) = progress.sign_spec(spec)?;
-    progress.send_spec(signed, reply, Some(order))
+    match progress.sign_spec(spec) {
+        Ok((progress, signed)) => progress.send_spec(signed, reply, Some(order)),
+        Err(want) => {
+            drop((order, reply));
+            Err(want)
+        }
+    }
 }
 
 // The same, with copies. Beside it the response.
