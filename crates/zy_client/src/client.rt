@@ -77,7 +77,6 @@ impl Client {
     ghost use Rattle.zy_table.specs.ClientState.{client_start, timers_of};
 
     /// A client that has not asked yet; its first request has the stamp after the given one.
-    #[tactic(auto, using(zy_seal::proofs::SignatureLemmas::few_signatures))]
     pub fn start(
         alloc: Global,
         counts: Counts,
