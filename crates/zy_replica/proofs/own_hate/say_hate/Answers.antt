@@ -25,9 +25,9 @@ returns g c =
     let now : hate ≡ hate_now s = is_now s hate c.view.ensures.view in
     let says = λ (core : State g.row.M-State.Denot). act (Says (record { body = bodies.Hate hate; stood = c.stood-stood.result })) (record { state = core; deeds = deeds }) in
     let first = said_first R (record { state = s; deeds = deeds }) c.in_ok-core.core c.in_ok-core.signed c.in_ok-copy.copy hate c.stood-stood.result c.in_ok-core.ensures.core now c.in_ok-core.ensures.value c.in_ok-copy.ensures c.stood-stood.ensures in
-    subst (λ (x : Going g.row.M-State.Denot). IfOk c.send.result (λ (m : Going g.row.M-State.Denot). m ≡ x))
+    subst (λ (x : Going g.row.M-State.Denot). IfOk c.send-2.result (λ (m : Going g.row.M-State.Denot). m ≡ x))
     (ap (send All (frames.Hate c.in_ok-core.signed)) (c.in_ok-said.ensures ∙ ap says c.keep_hate-core.ensures)
     ∙ first
-    ∙ ap (λ (o : Option (Signed Hate)). say_hate R o (record { state = s; deeds = deeds })) c.in-None.ensures.said
+    ∙ ap (λ (o : Option (Signed Hate)). say_hate R o (record { state = s; deeds = deeds })) c.in_default.ensures.said
     ∙ ap (λ (x : Going g.row.M-State.Denot). say_hate R (own_hate x.state) x) c.progress.view_is)
-    c.send.ensures
+    c.send-2.ensures
