@@ -163,7 +163,7 @@ module _ {S : Type 0} (R : Rules S) where
   refusal : (cause : Cause) (g : Going S) → Row (Err cause) (owing.refused cause) g
   refusal cause g = (refused_follows cause g, refl)
 
-  taken : (g : Going S) → Row (goes Taken g) nothing g
+  pub taken : (g : Going S) → Row (goes Taken g) nothing g
   taken g = (
     record {
       same = refl;
