@@ -13,7 +13,7 @@ use Rattle.sha2.specs.Sha256.{sha256}
 use Rattle.zy_chain.specs.Entries.{digest_of_entry, digest_of_request}
 use Rattle.zy_chain.specs.Heads.{head_after}
 use Rattle.zy_chain.specs.declared.entry.Entry.{Entry}
-use Rattle.zy_lms.specs.KeyState.{IsKey}
+use Rattle.zy_lms.specs.Hss.{IsHssKey, hss_public_of}
 use Rattle.zy_lms.specs.Lms.{public_of}
 use Rattle.zy_parts.specs.Signing.{part_of, signed}
 use Rattle.zy_parts.specs.declared.signed.Part.{Part}
@@ -71,11 +71,11 @@ module _ (s : Setup) where
   known_key (Client id) inside = get_map (λ n. public_key_of s (Client (record { 0 = n }))) 0 s.clients id.0 inside ∙ ap (λ (n : ℕ). Some (public_key_of s (Client (record { 0 = n })))) (let e : 0 + id.0 ≡ id.0 = omega arith in e)
 
   module _ (party : Party) (used : ℕ) (left : used < signatures_by s.height) where
-    same_key : public_key_of s party ≡ public_of (key_of_party s party used)
-    unfolding public_of
+    same_key : public_key_of s party ≡ hss_public_of (key_of_party s party used)
+    unfolding hss_public_of public_of
     same_key = refl
 
-    is_key : IsKey (key_of_party s party used)
+    is_key : IsHssKey (key_of_party s party used)
     is_key =
         record {
           id_len = length-take-le 16 (sha256 (2 ∷ s.seed ++ party_bytes party)) (omega (arith, length-sha256 (2 ∷ s.seed ++ party_bytes party)));

@@ -38,12 +38,14 @@ const MEMBERS: [Field; 4] = [
     ("port", "port", "5000"),
 ];
 
-/// The first eight bytes of the keys of these six parties, where a row has no others.
+/// What stands before the last 48 bytes of the keys of these six parties, where a row has nothing else: the number of levels, if it is
+/// told, and two types.
 const TYPES: &str =
     "0000000500000003 0000000600000004 0000000500000003 0000000500000003 0000000600000004 0000000500000003";
 
 /// The fields of a secret file.
-const SECRET: [Field; 6] = [
+const SECRET: [Field; 7] = [
+    ("version", "version", ""),
     ("seed", "seed", ZEROS),
     ("id", "id", "\"0123456789abcdef0123456789ABCDEF\""),
     ("height", "height", "5"),
@@ -89,7 +91,7 @@ fn ask(alloc: Global, row: &Row) -> io::Result<String> {
     }
 }
 
-/// What a secret file says, of whose key so many leaves must be `left`.
+/// What a secret file says, of whose leaves or signatures so many must be `left`.
 pub(crate) fn secrets(alloc: Global, row: &Row) -> io::Result<String> {
     let left = row.number("left")?;
     if left > 1 {
@@ -155,7 +157,7 @@ fn with_keys(alloc: Global, row: &Row, fields: &[u8]) -> io::Result<Vec<u8>> {
     Ok(file)
 }
 
-/// The line of keys with these types, each with 96 times the digit that is its number.
+/// The line of keys that begin with these words, each with 96 times the digit that is its number.
 fn keys(alloc: Global, types: &str) -> io::Result<String> {
     let mut line = String::from_str(alloc, "keys = [")?;
     let mut number = 0u8;
@@ -219,7 +221,8 @@ fn put_public(text: &mut String, keys: &Directory, name: &str) -> io::Result<()>
 
 fn secret_text(alloc: Global, secret: &Secret) -> io::Result<String> {
     Ok(format!(in alloc;
-        "seed {} id {} height {:?} ots {:?} next {} stamp {}",
+        "version {:?} seed {} id {} height {:?} ots {:?} next {} stamp {}",
+        secret.version,
         Hex(&secret.seed),
         Hex(&secret.id),
         secret.height,

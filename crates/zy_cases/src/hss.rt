@@ -1,7 +1,8 @@
 //! The tables of keys of two levels, which sign by one leaf after another of one lower key after another, and of their signatures.
 
 use crate::cases::Scene;
-use crate::lms::{height, key_of};
+use crate::lms;
+use crate::lms::height;
 use crate::ots::ots_type;
 use crate::text::{fault_text, plain_text, sha_text};
 use crate::words::Row;
@@ -42,7 +43,7 @@ impl HssKeys {
 impl Scene for HssKeys {
     fn step(&mut self, alloc: Global, row: &Row) -> io::Result<String> {
         match row.call()? {
-            "begin" => self.begin(alloc, made(alloc, row)?),
+            "begin" => self.begin(alloc, key_of(alloc, row)?),
             "migrate" => self.begin(alloc, migrated(alloc, row)?),
             call => match &mut self.key {
                 Some(key) => signed(alloc, key, call, row.bytes("message")?),
@@ -53,7 +54,7 @@ impl Scene for HssKeys {
 }
 
 /// The key that the words `seed`, `id`, `height`, `type` and `number` make.
-fn made(alloc: Global, row: &Row) -> io::Result<HssKey> {
+pub(crate) fn key_of(alloc: Global, row: &Row) -> io::Result<HssKey> {
     let seed = row.array("seed")?;
     let id = row.array("id")?;
     let (height, ots) = (height(row)?, ots_type(row)?);
@@ -66,7 +67,7 @@ fn made(alloc: Global, row: &Row) -> io::Result<HssKey> {
 
 /// The same of an LMS key at the word `leaf`.
 fn migrated(alloc: Global, row: &Row) -> io::Result<HssKey> {
-    match HssKey::migrate(key_of(alloc, row)?) {
+    match HssKey::migrate(lms::key_of(alloc, row)?) {
         Ok(key) => Ok(key),
         Err((_, want)) => Err(lacking(want)),
     }

@@ -111,21 +111,21 @@ fn short(alloc: Global, bytes: &[u8]) -> io::Result<String> {
     plain_text(alloc, &short)
 }
 
-/// A party whose next leaf is this one, of 32.
-fn sealer(alloc: Global, party: Party, leaf: u32) -> io::Result<Sealer> {
-    if leaf > 32 {
+/// A party whose next signature has this number, of 1,024.
+fn sealer(alloc: Global, party: Party, number: u32) -> io::Result<Sealer> {
+    if number > 1024 {
         return Err(not_a_line());
     }
     let setup = setup(alloc)?;
-    sealer_at(alloc, &setup, party, leaf).map_err(lacking)
+    sealer_at(alloc, &setup, party, number).map_err(lacking)
 }
 
-/// A party signs a statement: whether each part of its frame verifies, and the next leaf.
+/// A party signs a statement: whether each part of its frame verifies, and the number of the next signature.
 fn frame(alloc: Global, directory: &Directory, row: &Row) -> io::Result<String> {
     let party = row.party("party")?;
-    let leaf = row.number32("leaf")?;
+    let number = row.number32("number")?;
     let statement = tellable(alloc, row.bytes("bytes")?)?;
-    let mut sealer = sealer(alloc, party, leaf)?;
+    let mut sealer = sealer(alloc, party, number)?;
     match statement.frame(alloc, &mut sealer) {
         Ok(Some(frame)) => frame_text(alloc, directory, frame.as_slice(), sealer.next_leaf()),
         Err(SealFault::KeySpent) => spent_text(alloc, sealer.next_leaf()),
@@ -133,13 +133,13 @@ fn frame(alloc: Global, directory: &Directory, row: &Row) -> io::Result<String> 
     }
 }
 
-fn spent_text(alloc: Global, leaf: u32) -> io::Result<String> {
-    Ok(format!(in alloc; "Err KeySpent leaf {leaf}")?)
+fn spent_text(alloc: Global, next: u32) -> io::Result<String> {
+    Ok(format!(in alloc; "Err KeySpent next {next}")?)
 }
 
-fn frame_text(alloc: Global, directory: &Directory, frame: &[u8], leaf: u32) -> io::Result<String> {
+fn frame_text(alloc: Global, directory: &Directory, frame: &[u8], next: u32) -> io::Result<String> {
     let verifies = verifies(alloc, directory, frame)?;
-    Ok(format!(in alloc; "verifies {verifies} leaf {leaf}")?)
+    Ok(format!(in alloc; "verifies {verifies} next {next}")?)
 }
 
 fn verifies(alloc: Global, directory: &Directory, bytes: &[u8]) -> io::Result<bool> {
@@ -156,7 +156,7 @@ fn parts_verify(alloc: Global, directory: &Directory, frame: &Frame) -> io::Resu
     Ok(screen_parts(directory, &parts).is_none())
 }
 
-/// The bytes of the frame in which a party tells a statement by its first leaf.
+/// The bytes of the frame in which a party tells a statement by its first signature.
 fn told(alloc: Global, party: Party, statement: &[u8]) -> io::Result<Bytes> {
     let statement = tellable(alloc, statement)?;
     let mut sealer = sealer(alloc, party, 0)?;
@@ -201,7 +201,7 @@ fn asked(alloc: Global, bytes: &[u8]) -> io::Result<Signed<Ask>>
     }
 }
 
-/// The order of the primary whose history is one request: the frame's length, the next leaf, and the head in it.
+/// The order of the primary whose history is one request: the frame's length, the number of the next signature, and the head in it.
 fn order(alloc: Global, row: &Row) -> io::Result<String> {
     let ask = asked(alloc, row.bytes("request")?)?;
     let mut liar = sealer(alloc, PRIMARY, 0)?;
@@ -211,12 +211,12 @@ fn order(alloc: Global, row: &Row) -> io::Result<String> {
     }
 }
 
-fn order_text(alloc: Global, frame: &[u8], leaf: u32) -> io::Result<String> {
+fn order_text(alloc: Global, frame: &[u8], next: u32) -> io::Result<String> {
     let head = MaybeHex(frame.get(23..55));
-    Ok(format!(in alloc; "length {} leaf {leaf} head {head}", frame.len())?)
+    Ok(format!(in alloc; "length {} next {next} head {head}", frame.len())?)
 }
 
-/// The response of the primary to one request: the next leaf, and the head and the reply's digest in the frame.
+/// The response of the primary to one request: the number of the next signature, and the head and the reply's digest in the frame.
 fn response(alloc: Global, row: &Row) -> io::Result<String> {
     let reply = row.bytes("reply")?;
     if reply.len() > 1100 {
@@ -243,10 +243,10 @@ fn responded(
     }
 }
 
-fn response_text(alloc: Global, frame: &[u8], leaf: u32) -> io::Result<String> {
+fn response_text(alloc: Global, frame: &[u8], next: u32) -> io::Result<String> {
     let head = MaybeHex(frame.get(23..55));
     let reply = MaybeHex(frame.get(55..87));
-    Ok(format!(in alloc; "leaf {leaf} head {head} reply {reply}")?)
+    Ok(format!(in alloc; "next {next} head {head} reply {reply}")?)
 }
 
 /// Who forged the frame in which client 0 tells a request, before and after it is known that the client `said` the signed text. The

@@ -1,7 +1,7 @@
 //! The table of parties that sign statements, and of the directory by which these are checked.
 
 use crate::cases::Scene;
-use crate::lms::key_of;
+use crate::hss::key_of;
 use crate::ots::signature_text;
 use crate::text::{PartyText, fault_text};
 use crate::words::Row;
@@ -56,7 +56,7 @@ fn sealer_text(alloc: Global, sealer: &Sealer) -> io::Result<String> {
     )?)
 }
 
-/// The next leaf and how many are left, after the statement is sealed, and the signature's length and SHA-256.
+/// The number of the next signature and how many are left, after the statement is sealed, and the signature's length and SHA-256.
 fn seal(alloc: Global, sealer: &mut Sealer, view: View) -> io::Result<String> {
     if view.0 >= 1 << 62 {
         return Err(not_a_line());
@@ -90,7 +90,7 @@ fn knowing(alloc: Global, row: &Row) -> io::Result<Directory> {
     Ok(directory)
 }
 
-fn one_key(alloc: Global, key: [u8; 56]) -> Result<Vec<[u8; 56]>, AllocError> {
+fn one_key(alloc: Global, key: [u8; 60]) -> Result<Vec<[u8; 60]>, AllocError> {
     Ok(vec![in alloc; key]?)
 }
 

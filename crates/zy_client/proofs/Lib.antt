@@ -3,3 +3,4 @@ mod CertificateLemmas
 mod EvidenceLemmas
 mod HeldLemmas
 mod RefusedLemmas
+mod StartLemmas

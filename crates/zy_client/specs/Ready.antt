@@ -22,8 +22,8 @@ pub record IsKeepable (r : Response) : Type 0 where
 pub record IsReady (s : ClientState) : Type 0 where
   -- it signs as itself
   pub signer : s.sealer.me ≡ Client s.me
-  -- each request raises the stamp by one and spends a signature, of which a key gives at most 1,024
-  pub stamp : s.stamp.0 + signs_left s ≤ 2 ^ 61 + 2 ^ 10
+  -- each request raises the stamp by one and spends a signature, of which a key gives at most 1,048,576
+  pub stamp : s.stamp.0 + signs_left s ≤ 2 ^ 61 + 2 ^ 20
   pub waiting : ForSome s.waiting (IsSignedInRange IsAskInRange)
   pub responses : length s.responses ≡ s.counts.n
   pub kept : AllByRecursion (λ slot. ForSome slot IsKeepable) s.responses

@@ -4,10 +4,11 @@
 ghost use Rattle.std.specs.Prelude.{◌≡◌, ◌≤◌, ◌<◌, length, IfOk};
 
 use crate::words::{Names, labelled, lacking, not_a_line, number_of, party, value, word_of};
+use sha2::{Digest, Sha256};
 use std::alloc::Global;
 use std::io;
 use zy_base::Party;
-use zy_lms::{Height, LmsKey};
+use zy_lms::{Height, HssKey};
 use zy_ots::{OtsType, ots_sign_onto};
 use zy_seal::{Directory, Sealer, party_id, party_seed};
 
@@ -17,12 +18,14 @@ const STATEMENTS: [&str; 12] = [
     "fetch",
 ];
 
-/// Whose key it is in a group whose seed is zero, the leaf that signs, the public key and the leaf's path.
+/// Whose key it is in a group whose seed is zero, the leaf of its first lower key that signs, the public key, what stands before the
+/// lower signature, and the leaf's path.
 #[derive(Drop)]
 pub(crate) struct Key {
     owner: Party,
     leaf: u32,
-    public: [u8; 56],
+    public: [u8; 60],
+    signed: Vec<u8>,
     path: Vec<u8>,
 }
 
@@ -30,7 +33,8 @@ pub(crate) struct Key {
 pub(crate) fn read_key(alloc: Global, names: &Names, words: &str) -> io::Result<Key> {
     let (owner, rest) = word_of(words)?;
     let (leaf, rest) = word_of(rest)?;
-    let (public, path) = word_of(rest)?;
+    let (public, rest) = word_of(rest)?;
+    let (signed, path) = word_of(rest)?;
     let owner = party(owner)?;
     let leaf = leaf_of(leaf)?;
     let public = public_key(alloc, names, public)?;
@@ -38,35 +42,36 @@ pub(crate) fn read_key(alloc: Global, names: &Names, words: &str) -> io::Result<
         owner,
         leaf,
         public,
+        signed: value(alloc, names, signed)?,
         path: value(alloc, names, path)?,
     })
 }
 
-fn public_key(alloc: Global, names: &Names, word: &str) -> io::Result<[u8; 56]> {
+fn public_key(alloc: Global, names: &Names, word: &str) -> io::Result<[u8; 60]> {
     let bytes = value(alloc, names, word)?;
-    <[u8; 56]>::try_from(bytes.as_slice()).map_err(|_| not_a_line())
+    <[u8; 60]>::try_from(bytes.as_slice()).map_err(|_| not_a_line())
 }
 
-/// A leaf, or the number of leaves where none is left.
+/// The number of a signature, counted by lower leaves, or how many there are where none is left.
 pub(crate) fn leaf_of(word: &str) -> io::Result<u32>
-    ensures { IfOk result (λ leaf. leaf ≤ 32) }
+    ensures { IfOk result (λ leaf. leaf ≤ 1024) }
 {
     let leaf = labelled(word, "leaf")?;
-    if leaf > 32 {
+    if leaf > 1024 {
         return Err(not_a_line());
     }
     Ok(leaf as u32)
 }
 
 impl Key {
-    /// What signs for this party, next by this leaf.
+    /// What signs for this party, next with this number.
     pub(crate) fn sealer(&self, alloc: Global, me: Party, leaf: u32) -> io::Result<Sealer>
-        requires { leaf ≤ 32 }
+        requires { leaf ≤ 1024 }
         ensures { IfOk result (λ s. s.me ≡ me) }
     {
         let seed = party_seed(&[0; 32], self.owner);
         let id = party_id(&[0; 32], self.owner);
-        match LmsKey::make(alloc, &seed, &id, Height::H5, OtsType::W4, leaf) {
+        match HssKey::make(alloc, &seed, &id, Height::H5, OtsType::W4, leaf) {
             Ok(key) => Ok(Sealer::new(alloc, me, key)),
             Err(want) => Err(lacking(want)),
         }
@@ -85,14 +90,26 @@ impl Key {
 
     fn signature(&self, alloc: Global, text: &[u8]) -> io::Result<Vec<u8>> {
         let mut signature = Vec::new(alloc);
+        signature.extend_from_slice(&self.signed)?;
         signature.extend_from_slice(&self.leaf.to_be_bytes())?;
-        let seed = party_seed(&[0; 32], self.owner);
-        let id = party_id(&[0; 32], self.owner);
+        let top = party_seed(&[0; 32], self.owner);
+        let seed = first_lower(3, &top);
+        let mut id = [0; 16];
+        id.copy_from_slice(&first_lower(4, &top)[..16]);
         match ots_sign_onto(signature, OtsType::W4, &id, self.leaf, &seed, text) {
             Ok(signature) => joined(signature, &self.path),
             Err(want) => Err(lacking(want)),
         }
     }
+}
+
+/// What the first lower key is made from: SHA-256 of a byte, the top key's seed and the top leaf 0.
+fn first_lower(purpose: u8, seed: &[u8; 32]) -> [u8; 32] {
+    let mut hasher = Sha256::new();
+    hasher.update(&[purpose]);
+    hasher.update(seed);
+    hasher.update(&[0; 4]);
+    hasher.finalize()
 }
 
 fn joined(mut bytes: Vec<u8>, more: &[u8]) -> io::Result<Vec<u8>> {

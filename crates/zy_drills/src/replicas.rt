@@ -32,7 +32,7 @@ fn start(
     apart: u64,
     leaf: u32,
 ) -> io::Result<Replica<Space>>
-    requires { leaf ≤ 32 }
+    requires { leaf ≤ 1024 }
 {
     let counts = Counts::plain(1).ok_or_else(not_a_line)?;
     if u64::from(me.0) >= counts.n || counts.n < 4 || apart < 4 || apart > 32 {

@@ -5,17 +5,18 @@
 //!
 //! | line | what it names |
 //! |---|---|
-//! | `key PARTY leaf:N PUBLIC PATH` | nothing: from here on all sign by this leaf of this party's key |
+//! | `key PARTY leaf:N PUBLIC SIGNED PATH` | nothing: from here on all sign by this leaf of this party's first lower key |
 //! | `let NAME VALUE` | the bytes |
 //! | `say NAME PARTY KIND FIELDS` | a statement with its signature |
 //! | `say NAME PARTY KIND FIELDS as PARTY` | the same with a signature on the text of the other party |
 //! | `sent NAME length:N DIGEST` | a frame that is sent, by its length and its SHA-256 (FIPS 180-4) |
 //!
-//! A key is that of its party in a group whose seed is zero. Its public key and the path of the leaf (RFC 8554, section
-//! 5.4), behind the LMS type, are given.
+//! A key is that of its party in a group whose seed is zero. Its public key is given, what stands in a signature before the lower
+//! one (RFC 8554, section 6.2: the number of signed keys, the first of the top key's signatures, and the lower public key), and the
+//! path of the leaf behind the LMS type (section 5.4).
 //!
 //! These begin anew, with a replica of a group of four or with a client of it, whose own key is the one of the last `key`
-//! and signs next by the leaf that is given:
+//! and signs next with the number that is given:
 //!
 //! | line | who begins |
 //! |---|---|
@@ -165,7 +166,7 @@ fn put_spelled(alloc: Global, bytes: &mut Vec<u8>, part: &str) -> io::Result<()>
 /// The version of frames, and a kind.
 fn put_frame(bytes: &mut Vec<u8>, kind: &str) -> io::Result<()> {
     let number = number_of(&FRAMES, kind)?;
-    Ok(bytes.extend_from_slice(&[1, number])?)
+    Ok(bytes.extend_from_slice(&[2, number])?)
 }
 
 fn put_hex(alloc: Global, bytes: &mut Vec<u8>, digits: &str) -> io::Result<()> {

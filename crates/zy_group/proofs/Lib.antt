@@ -1,3 +1,4 @@
 pub mod DifferentLemmas
 pub mod KeysLemmas
 pub mod TextLaws
+pub mod CountLemmas

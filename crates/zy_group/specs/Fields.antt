@@ -1,6 +1,7 @@
 -- The fields of group and secret files: what a key of a table must hold.
-use Rattle.std.specs.Prelude.{ℕ, ℤ, pos, negsuc, ◌==◌, ◌&&◌, ◌-◌, ◌^◌, nat_le, nat_eq, if◌then◌else◌, List, [], ◌∷◌, ◌++◌, length, codes, Option, Some, None, is_some, option_and_then, Result, Ok, Err}
+use Rattle.std.specs.Prelude.{ℕ, ℤ, pos, negsuc, ◌==◌, ◌&&◌, ◌-◌, ◌^◌, nat_le, nat_eq, if◌then◌else◌, List, [], ◌∷◌, ◌++◌, length, codes, Option, Some, None, is_some, option_and_then, option_map, Result, Ok, Err}
 use Rattle.std.specs.List.{list_any}
+use Rattle.std.specs.Int.{w32, to_be_bytes}
 use Rattle.toml.specs.Data.{Data, Members, Items, no_items, item, get_member, as_integer, as_str, as_array}
 use Rattle.hex.specs.Hex.{decode_sized}
 use Rattle.hex.specs.declared.error.FromHexError.{FromHexError}
@@ -10,8 +11,10 @@ use Rattle.zy_ots.specs.OtsType.{type_with}
 use Rattle.zy_ots.specs.Coef as words
 use Rattle.zy_lms.specs.declared.height.Height.{Height}
 use Rattle.zy_lms.specs.declared.height.Height.TheVariants.{H5, H10}
-use Rattle.zy_lms.specs.Height.{height_with}
+use Rattle.zy_lms.specs.Height.{height_with, levels_of}
 use Rattle.zy_seal.specs.Sealing.{signatures_by}
+use Rattle.zy_group.specs.declared.secret.Version.{Version}
+use Rattle.zy_group.specs.declared.secret.Version.TheVariants.{OneLevel, TwoLevels}
 
 -- ---- numbers
 
@@ -78,13 +81,25 @@ ots_at table = ots_of (get_member (codes "ots") table)
 
 -- ---- public keys
 
--- an LMS public key whose types are spoken here (RFC 8554, section 5.3): four bytes tell its LMS type, four its LM-OTS type
+-- a public key of two levels, whose types are spoken here (RFC 8554, sections 5.3 and 6.1): four bytes tell the levels, four the LMS
+-- type of the top key, four its LM-OTS type
 abbrev pub of_spoken_types : List ℕ → Option (List ℕ)
 of_spoken_types key =
-    if is_some (height_with (words.number_at key 0)) && is_some (type_with (words.number_at key 4)) then Some key else None
+    if (words.number_at key 0 == 2) && (is_some (height_with (words.number_at key 4)) && is_some (type_with (words.number_at key 8)))
+    then Some key else None
+
+-- 60 bytes, or the 56 of the top key alone, before which stands the number of levels
+abbrev pub with_levels : Option (List ℕ) → Option (List ℕ) → Option (List ℕ)
+with_levels (Some key) top = Some key
+with_levels None None = None
+with_levels None (Some top) = Some (to_be_bytes w32 2 ++ top)
+
+-- a text of two hexadecimal digits for each of these bytes
+abbrev pub key_in : List ℕ → Option (List ℕ)
+key_in text = with_levels (decoded (decode_sized text 60)) (decoded (decode_sized text 56))
 
 abbrev pub key_of : Data → Option (List ℕ)
-key_of value = option_and_then (λ text. option_and_then of_spoken_types (decoded (decode_sized text 56))) (as_str value)
+key_of value = option_and_then (λ text. option_and_then of_spoken_types (key_in text)) (as_str value)
 
 -- those found before, and a key for each value
 unfoldable pub keys_from : List (List ℕ) → Items → Option (List (List ℕ))
@@ -107,13 +122,25 @@ keys_at count table = option_and_then (keys_in count) (get_member (codes "keys")
 abbrev pub told_ots_at : Members → Option OtsType
 told_ots_at table = option_and_then type_with (number_at 3 4 (codes "ots") table)
 
--- `next`: the number of the next signature, with so many left at least
-abbrev pub next_at : Height → ℕ → Members → Option ℕ
-next_at height left table = number_at 0 (signatures_by height - left) (codes "next") table
-
 abbrev pub number_or : ℕ → ℕ → ℕ → Option Data → Option ℕ
 number_or absent low high None = Some absent
 number_or absent low high (Some value) = number_of low high value
+
+-- `version`: 1 or 2, and 1 where it is missing
+abbrev pub version_of : ℕ → Version
+version_of n = if n == 1 then OneLevel else TwoLevels
+
+abbrev pub version_at : Members → Option Version
+version_at table = option_map version_of (number_or 1 1 2 (get_member (codes "version") table))
+
+-- what `next` counts in a file of this version: the leaves of one tree, or the signatures of two levels of them
+abbrev pub count_by : Version → Height → ℕ
+count_by OneLevel height = 2 ^ levels_of height
+count_by TwoLevels height = signatures_by height
+
+-- `next`: the number of the next of them, with so many left at least
+abbrev pub next_at : Version → Height → ℕ → Members → Option ℕ
+next_at version height left table = number_at 0 (count_by version height - left) (codes "next") table
 
 -- `stamp`: the last one that was used, and 0 where it is missing
 abbrev pub stamp_at : Members → Option ℕ

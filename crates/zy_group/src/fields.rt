@@ -1,11 +1,11 @@
 // One reader for each kind of field.
-ghost use Rattle.std.specs.Prelude.{◌≡◌, ◌≤◌, ◌+◌, ◌^◌, [], IfOk, IfSome, Some, length, option_map};
+ghost use Rattle.std.specs.Prelude.{◌≡◌, ◌≤◌, ◌+◌, ◌++◌, ◌^◌, [], IfOk, IfSome, Some, length, option_map};
+ghost use Rattle.std.specs.Int.{w32, to_be_bytes};
 ghost use Rattle.toml.specs.Data.{get_member};
 ghost use Rattle.toml.specs.View.{view, array_view, table_view};
-ghost use Rattle.zy_group.specs.Fields.{number_of, number_at, different_from, numbers_at, text_at, bytes_at, height_at, ots_at, of_spoken_types, key_of, keys_from, so_many, keys_in, keys_at, told_ots_at, next_at, number_or, stamp_at};
-ghost use Rattle.zy_seal.specs.Sealing.{signatures_by};
+ghost use Rattle.zy_group.specs.Fields.{number_of, number_at, different_from, numbers_at, text_at, bytes_at, height_at, ots_at, of_spoken_types, key_in, key_of, keys_from, so_many, keys_in, keys_at, told_ots_at, count_by, next_at, number_or, stamp_at, version_of, version_at};
 
-use crate::Numbers;
+use crate::{Numbers, Version};
 use hex::FromHex;
 use std::alloc::Global;
 use toml::value::Array;
@@ -14,6 +14,9 @@ use zy_base::Want;
 use zy_lms::Height;
 use zy_ots::{OtsType, u32_at};
 use zy_seal::signature_count;
+
+/// The number that a public key of two levels begins with.
+const LEVELS: u32 = 2;
 
 /// The integer, if it is from `low` to `high`.
 fn long_of(value: &Value, low: u64, high: u64) -> Option<u64>
@@ -174,26 +177,52 @@ pub(crate) fn told_ots_at(table: &Table) -> Option<OtsType>
 
 // ---- public keys
 
-/// The key, if its LMS type and its LM-OTS type are spoken here.
-fn of_spoken_types(key: [u8; 56]) -> Option<[u8; 56]>
+/// The key, if it is one of two levels, and the LMS type and the LM-OTS type of its top key are spoken here.
+fn of_spoken_types(key: [u8; 60]) -> Option<[u8; 60]>
     ensures { result ≡ of_spoken_types key }
 {
-    Height::from_number(u32_at(&key, 0))?;
-    OtsType::from_number(u32_at(&key, 4))?;
+    if u32_at(&key, 0) != LEVELS {
+        return None;
+    }
+    Height::from_number(u32_at(&key, 4))?;
+    OtsType::from_number(u32_at(&key, 8))?;
     Some(key)
 }
 
-/// The public key in a text of 112 hexadecimal digits.
-fn key_of(value: &Value) -> Option<[u8; 56]>
+/// The public key in a text of 120 hexadecimal digits, or in one of 112 without the number of levels.
+fn key_in(text: &str) -> Option<[u8; 60]>
+    ensures { result ≡ key_in text.now }
+{
+    match <[u8; 60] as FromHex>::from_hex(text) {
+        Ok(key) => Some(key),
+        Err(_) => match <[u8; 56] as FromHex>::from_hex(text) {
+            Ok(top) => Some(with_levels(&top)),
+            Err(_) => None,
+        },
+    }
+}
+
+/// The number of levels, and the top key.
+fn with_levels(top: &[u8; 56]) -> [u8; 60]
+    ensures { result ≡ to_be_bytes w32 2 ++ top.now }
+{
+    let mut key = [0u8; 60];
+    key[..4].copy_from_slice(&LEVELS.to_be_bytes());
+    key[4..].copy_from_slice(top);
+    key
+}
+
+/// The public key in a text.
+fn key_of(value: &Value) -> Option<[u8; 60]>
     ensures { result ≡ key_of (view value.now) }
 {
     let text = value.as_str()?;
-    let key = <[u8; 56] as FromHex>::from_hex(text).ok()?;
+    let key = key_in(text)?;
     of_spoken_types(key)
 }
 
 /// A public key for each value.
-fn keys_from(alloc: Global, array: &Array) -> Result<Option<Vec<[u8; 56]>>, Want>
+fn keys_from(alloc: Global, array: &Array) -> Result<Option<Vec<[u8; 60]>>, Want>
     ensures { IfOk result (λ keys. option_map (λ keys. keys.items) keys ≡ keys_from [] (array_view array.now)) }
 {
     let mut keys = Vec::new(alloc);
@@ -211,7 +240,7 @@ pub(crate) fn keys_at(
     alloc: Global,
     table: &Table,
     count: usize,
-) -> Result<Option<Vec<[u8; 56]>>, Want>
+) -> Result<Option<Vec<[u8; 60]>>, Want>
     ensures is { IfOk result (λ keys. option_map (λ keys. keys.items) keys ≡ keys_at count (table_view table.now)) }
     ensures count { IfOk result (λ keys. IfSome keys (λ keys. length keys.items ≡ count)) }
 {
@@ -232,13 +261,47 @@ pub(crate) fn keys_at(
 
 // ---- where a key and a client stand
 
-/// The number of the next signature, under `next`: at least so many are left.
-pub(crate) fn next_at(table: &Table, height: Height, left: u32) -> Option<u32>
-    requires { left ≤ 1 }
-    ensures is { result ≡ next_at height left (table_view table.now) }
-    ensures most { IfSome result (λ next. next + left ≤ signatures_by height) }
+/// The version 1 or 2 under `version`, and 1 where it is missing.
+pub(crate) fn version_at(table: &Table) -> Option<Version>
+    ensures { result ≡ version_at (table_view table.now) }
 {
-    let last = signature_count(height) - left;
+    match value_at(table, "version") {
+        None => Some(Version::OneLevel),
+        Some(value) => match number_of(value, 1, 2) {
+            Some(number) => Some(version_of(number)),
+            None => None,
+        },
+    }
+}
+
+fn version_of(number: u8) -> Version
+    ensures { result ≡ version_of number }
+{
+    if number == 1 {
+        Version::OneLevel
+    } else {
+        Version::TwoLevels
+    }
+}
+
+/// How many leaves or signatures a file of this version counts.
+fn count_by(version: Version, height: Height) -> u32
+    ensures count { result ≡ count_by version height }
+    ensures some { 1 ≤ result }
+{
+    match version {
+        Version::OneLevel => height.leaf_count(),
+        Version::TwoLevels => signature_count(height),
+    }
+}
+
+/// The number of the next leaf or signature, under `next`: at least so many are left.
+pub(crate) fn next_at(table: &Table, version: Version, height: Height, left: u32) -> Option<u32>
+    requires { left ≤ 1 }
+    ensures is { result ≡ next_at version height left (table_view table.now) }
+    ensures most { IfSome result (λ next. next + left ≤ count_by version height) }
+{
+    let last = count_by(version, height) - left;
     let next = long_at(table, "next", 0, u64::from(last))?;
     Some(next as u32)
 }

@@ -17,4 +17,4 @@ pub use members::{AskGroup, NodeGroup, read_ask_group, read_node_group};
 pub use numbers::Numbers;
 pub use own::own_key;
 pub use replay::{ReplayGroup, read_replay_group};
-pub use secret::{Secret, read_secret};
+pub use secret::{Secret, Version, read_secret};

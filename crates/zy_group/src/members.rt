@@ -111,7 +111,7 @@ fn common(alloc: Global, table: &Table, f: u8) -> Result<AskGroup, GroupFault>
 }
 
 /// The first so many are the replicas'.
-fn parted(alloc: Global, mut keys: Vec<[u8; 56]>, n: usize) -> Result<Directory, Want>
+fn parted(alloc: Global, mut keys: Vec<[u8; 60]>, n: usize) -> Result<Directory, Want>
     requires { n ≤ length keys.items }
     ensures { IfOk result (λ parts. parts ≡ record { replicas = take n keys.items; clients = drop n keys.items }) }
 {

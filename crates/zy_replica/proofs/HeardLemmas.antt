@@ -23,11 +23,8 @@ use Rattle.zy_change.specs.Owing.{Pens}
 use Rattle.zy_change.specs.Owing as owing
 use Rattle.zy_change.specs.Views.{Views, own_view, has_begun, is_from, slot_of}
 use Rattle.zy_table.specs.State.{State}
-use Rattle.zy_replica_views.specs.Carrying.{kept_unless}
-use Rattle.zy_replica_views.specs.Follows.{spent_many}
 use Rattle.zy_replica_views.specs.Entering.{ending_as, ending_of}
 use Rattle.zy_replica_views.specs.declared.judging.Ending.{Ending}
-use Rattle.zy_replica.proofs.JudgedLemmas.{none_spent}
 
 -- ---- one that is kept breaks no rule
 
@@ -75,9 +72,3 @@ module _ (v : Views) (vote : Signed Change) (told : Told) (pens : Pens) (replica
 -- the signatures don't matter
 abbrev pub no_pens : Pens
 no_pens = record { change = λ c. []; new = λ n. []; began = λ b. [] }
-
--- ---- it is kept before anything is signed
-
-pub kept_unspent : {S : Type 0} (send : Option ReplicaId) (vote : Signed Change) (s : State S) → (kept_unless send vote s).sealer ≡ spent_many 0 s.sealer
-kept_unspent None vote s = none_spent s.sealer
-kept_unspent (Some id) vote s = none_spent s.sealer

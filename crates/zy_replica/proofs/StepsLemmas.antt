@@ -1,5 +1,5 @@
 -- The steps of the rows in which a replica leaves its view.
-use Rattle.std.proofs.Common.{◌≡◌, ◌<◌, ℕ, false, [], Option, Some, None, refl, arith}
+use Rattle.std.proofs.Common.{◌≡◌, ◌<◌, ℕ, false, [], Option, Some, None, refl, subst, arith}
 use Rattle.zy_base.specs.Machine.{Rules}
 use Rattle.zy_base.specs.declared.ids.Party.TheVariants.{Replica}
 use Rattle.zy_base.specs.declared.ids.ReplicaId.{ReplicaId}
@@ -11,7 +11,6 @@ use Rattle.zy_frames.specs.declared.frame.Frame.TheVariants as frames
 use Rattle.zy_evidence.specs.Reading.{IsReplica}
 use Rattle.zy_change.specs.declared.owed.Owed.{Owed}
 use Rattle.zy_change.specs.Owing.{next_view}
-use Rattle.zy_change.specs.Views.{is_hated_by}
 use Rattle.zy_table.specs.declared.deeds.To.TheVariants.{All}
 use Rattle.zy_table.specs.State.{State, own_view}
 use Rattle.zy_table.specs.Deeds.{Going, begin, send}
@@ -19,14 +18,13 @@ use Rattle.zy_table.specs.Leaving.{leave}
 use Rattle.zy_table.specs.Hates.{hate, hate_from, own_hate, say_hate, with_hate_of}
 use Rattle.zy_table.specs.Changes.{change}
 use Rattle.zy_replica_state.specs.Ready.{IsReady}
-use Rattle.zy_replica_views.proofs.FollowLemmas.{change_follows, hate_follows, leave_follows}
+use Rattle.zy_replica_views.proofs.FollowLemmas.{change_follows, hate_follows, leave_follows, none_spent}
 use Rattle.zy_replica_views.specs.Carrying.{kept_unless}
 use Rattle.zy_replica_views.specs.Follows.{IsChangeOwed, IsHateOwed, IsLeaveOwed, IsSigner}
 use Rattle.zy_replica_views.specs.Ending.{IsSoFar}
 use Rattle.zy_replica_views.specs.Entering.{IsStep}
-use Rattle.zy_replica.specs.Judging.{CanAll, signs_of}
-use Rattle.zy_replica.proofs.JudgedLemmas.{none_spent}
-use Rattle.zy_replica.proofs.OwnHateLemmas.{IsOwnOwed, first_follows, said_only, spends_so_far}
+use Rattle.zy_replica.specs.Judging.{CanAll, IsOwnOwed, signs_of}
+use Rattle.zy_replica.proofs.OwnHateLemmas.{own_follows, said_only, spends_so_far}
 
 -- the own hate, said and counted
 abbrev pub counted : {S : Type 0} → Rules S → Going S → Option (Signed Hate) → Going S
@@ -117,9 +115,9 @@ module _ {S : Type 0} (R : Rules S) (g : Going S) (signer : IsSigner g.state) (r
   own_same None = refl
   own_same (Some one) = refl
 
-  pub own_step : g.deeds.acts ≡ [] → (said : Option (Signed Hate)) (more : ℕ) → more ≡ signs_of said → said ≡ own_hate s → is_hated_by s.views (Replica s.me) ≡ false → IsOwnOwed s owed
+  pub own_step : g.deeds.acts ≡ [] → (said : Option (Signed Hate)) (more : ℕ) → more ≡ signs_of said → said ≡ own_hate s → IsOwnOwed s owed
       → IsStep R s more (hate_from R g) owed (counted R g said)
-  own_step silent said more is own new owes =
+  own_step silent said more is own owes =
       record {
         signer = signer;
         ready = ready;
@@ -127,6 +125,13 @@ module _ {S : Type 0} (R : Rules S) (g : Going S) (signer : IsSigner g.state) (r
         fetches = own_fetches said;
         view = own_same said;
         unconfirmed = said_only R g silent said;
-        follows = first_follows R g said owed own new signer.by owes;
+        follows = own_follows R g said owed own signer.by owes;
         enters = can;
       }
+
+-- the same, of the state as it lies in the step
+pub own_judged : {S : Type 0} (R : Rules S) (g : Going S) (owed : Owed) → g.deeds.acts ≡ [] → (t : State S) → t ≡ g.state → (more : ℕ) → more ≡ signs_of (own_hate t)
+    → IsSigner t → IsReady t → IsOwnOwed t owed → CanAll t owed → IsStep R g.state more (hate_from R g) owed (counted R g (own_hate g.state))
+own_judged {S = S} R g owed silent t same more is signer ready owes can =
+    own_step R g (subst (λ (x : State S). IsSigner x) same signer) (subst (λ (x : State S). IsReady x) same ready) owed (subst (λ (x : State S). CanAll x owed) same can) silent (own_hate g.state) more
+    (subst (λ (x : State S). more ≡ signs_of (own_hate x)) same is) refl (subst (λ (x : State S). IsOwnOwed x owed) same owes)

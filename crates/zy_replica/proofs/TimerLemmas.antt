@@ -43,9 +43,9 @@ use Rattle.zy_replica_views.specs.Entering.{IsStep, ending_as, ending_by, ending
 use Rattle.zy_replica_views.specs.declared.judging.Ending.{Ending}
 use Rattle.zy_replica_views.specs.declared.judging.Ending.TheVariants.{Rests, TakesUp, Waits}
 use Rattle.zy_parts.specs.declared.statements.Hate.{Hate}
-use Rattle.zy_replica.proofs.JudgedLemmas.{begun_rests}
+use Rattle.zy_replica_views.proofs.FollowLemmas.{quiet}
 use Rattle.zy_replica.proofs.OwnHateLemmas.{again_is, counted_first, said_only}
-use Rattle.zy_replica.specs.Judging.{LeavesToEnter, asked, asked_if}
+use Rattle.zy_replica.specs.Judging.{IsOwnOwed, LeavesToEnter, OwesOwn, asked, asked_if}
 
 -- ---- a hate of the own view is taken, or refused with the cause
 
@@ -115,7 +115,7 @@ pub only_asked : {S : Type 0} (R : Rules S) (s : State S) (g : Going S) → list
 only_asked {S = S} R s g none =
     let after = ask_for_hole g.state.views.mode g.state.hole g in
     let too : list_any confirms after.deeds.acts ≡ false = ap (λ (acts : List Act). list_any confirms acts) (asked_acts g.state.views.mode g.state.hole g) ∙ none in
-    ap (λ (a : Attempt S). asked (concluded s a)) (begun_rests R g none) ∙ taken_asked s g ∙ ap (concluded s) (sym (begun_rests R after too))
+    ap (λ (a : Attempt S). asked (concluded s a)) (quiet R Taken g none) ∙ taken_asked s g ∙ ap (concluded s) (sym (quiet R Taken after too))
 
 -- ---- where it left its view, nothing is asked for
 
@@ -215,6 +215,13 @@ some_adopted : (o : Option Adoption) → (o ≡ None) ⊎ ((a : Adoption) × (o 
 some_adopted None = inl refl
 some_adopted (Some a) = inr (a, refl)
 
+spent_is : (signs has : ℕ) (x e : Ending) → unless_spent signs has x ≡ Ok e → x ≡ e
+spent_is signs has x e = by (nat_le signs has)
+  where
+    by : (b : Bool) → (if b then Ok x else Err causes.KeySpent) ≡ Ok e → x ≡ e
+    by true same = let is : x ≡ e = cc in is
+    by false same = absurd cc
+
 module _ {S : Type 0} (R : Rules S) (s : State S) (more : ℕ) (owed : Owed) (g : Going S) (step : IsStep R s more (hate_counted R g) owed g) (leaves : LeavesToEnter s owed) where
   abbrev attempt : Attempt S
   attempt = hate_counted R g
@@ -246,13 +253,6 @@ module _ {S : Type 0} (R : Rules S) (s : State S) (more : ℕ) (owed : Owed) (g 
   Ended None e = e ≡ Rests
   Ended (Some a) e = (o : Outcome S) → asked_if e o ≡ o
 
-  spent_is : (signs has : ℕ) (x e : Ending) → unless_spent signs has x ≡ Ok e → x ≡ e
-  spent_is signs has x e = by (nat_le signs has)
-    where
-      by : (b : Bool) → (if b then Ok x else Err causes.KeySpent) ≡ Ok e → x ≡ e
-      by true same = let is : x ≡ e = cc in is
-      by false same = absurd cc
-
   by_verdict : (signs : ℕ) (a : Adoption) (verdict : Verdict) (e : Ending) → ending_by s signs owed.leave a verdict ≡ Ok e → (o : Outcome S) → asked_if e o ≡ o
   by_verdict signs a (verdicts.Refuse cause) e same o = absurd cc
   by_verdict signs a verdicts.Take e same o = subst (λ (x : Ending). asked_if x o ≡ o) (spent_is _ _ TakesUp e same) refl
@@ -280,37 +280,47 @@ module _ {S : Type 0} (R : Rules S) (s : State S) (more : ℕ) (owed : Owed) (g 
 
 -- ---- the own hate
 
-pub repeat_asked : {S : Type 0} (R : Rules S) (g : Going S) (said : Option (Signed Hate)) → g.deeds.acts ≡ [] → said ≡ own_hate g.state → is_hated_by g.state.views (Replica g.state.me) ≡ true
+repeat_asked : {S : Type 0} (R : Rules S) (g : Going S) (said : Option (Signed Hate)) → g.deeds.acts ≡ [] → said ≡ own_hate g.state → is_hated_by g.state.views (Replica g.state.me) ≡ true
     → asked (finished R g.state (hate_from R g)) ≡ finished R g.state (then_ask (hate_from R g))
 repeat_asked {S = S} R g said silent own old =
     let is = again_is R g said own old in
     ap (λ (a : Attempt S). asked (finished R g.state a)) is ∙ only_asked R g.state (say_hate R said g) (said_only R g silent said) ∙ ap (λ (a : Attempt S). finished R g.state (then_ask a)) (sym is)
 
-module _ {S : Type 0} (R : Rules S) (g : Going S) (said : Option (Signed Hate)) (own : said ≡ own_hate g.state) (new : is_hated_by g.state.views (Replica g.state.me) ≡ false) where
+module _ {S : Type 0} (R : Rules S) (g : Going S) (silent : g.deeds.acts ≡ []) (said : Option (Signed Hate)) (own : said ≡ own_hate g.state) where
   abbrev s : State S
   s = g.state
 
   abbrev counted : Going S
   counted = with_hate_of (Replica s.me) (say_hate R said g)
 
-  own_first : hate_from R g ≡ hate_counted R counted
+  own_first : is_hated_by s.views (Replica s.me) ≡ false → hate_from R g ≡ hate_counted R counted
   unfolding hate_from
-  own_first = ap (λ (o : Option (Signed Hate)). count_own R (say_hate R o g)) (sym own) ∙ counted_first R g said new
+  own_first new = ap (λ (o : Option (Signed Hate)). count_own R (say_hate R o g)) (sym own) ∙ counted_first R g said new
 
   module _ (more : ℕ) (owed : Owed) (step : IsStep R s more (hate_from R g) owed counted) (leaves : LeavesToEnter s owed) where
-    counted_step : IsStep R s more (hate_counted R counted) owed counted
-    counted_step = subst (λ (a : Attempt S). IsStep R s more a owed counted) own_first step
+    first_step : is_hated_by s.views (Replica s.me) ≡ false → IsStep R s more (hate_counted R counted) owed counted
+    first_step new = subst (λ (a : Attempt S). IsStep R s more a owed counted) (own_first new) step
 
     pub own_refused : (cause : Cause) → finished R s (hate_from R g) ≡ refused cause s → finished R s (then_ask (hate_from R g)) ≡ refused cause s
-    own_refused cause is =
-        ap (λ (a : Attempt S). finished R s (then_ask a)) own_first
-        ∙ first_refused R s more owed counted counted_step leaves cause (ap (finished R s) (sym own_first) ∙ is)
+    own_refused cause is = by (is_hated_by s.views (Replica s.me)) refl
+      where
+        by : (b : Bool) → is_hated_by s.views (Replica s.me) ≡ b → finished R s (then_ask (hate_from R g)) ≡ refused cause s
+        by true old = sym (repeat_asked R g said silent own old) ∙ ap (λ (o : Outcome S). asked o) is
+        by false new =
+            ap (λ (a : Attempt S). finished R s (then_ask a)) (own_first new)
+            ∙ first_refused R s more owed counted (first_step new) leaves cause (ap (finished R s) (sym (own_first new)) ∙ is)
 
-    pub own_asked : (e : Ending) → ending_of R s more owed ≡ Ok e → asked_if e (finished R s (hate_from R g)) ≡ finished R s (then_ask (hate_from R g))
-    own_asked e same =
-        ap (λ (a : Attempt S). asked_if e (finished R s a)) own_first
-        ∙ first_asked R s more owed counted counted_step leaves e same
-        ∙ ap (λ (a : Attempt S). finished R s (then_ask a)) (sym own_first)
+    pub own_asked : IsOwnOwed s owed → (e : Ending) → ending_of R s more owed ≡ Ok e → asked_if e (finished R s (hate_from R g)) ≡ finished R s (then_ask (hate_from R g))
+    own_asked owes e same = by (is_hated_by s.views (Replica s.me)) refl owes
+      where
+        by : (b : Bool) → is_hated_by s.views (Replica s.me) ≡ b → OwesOwn s b owed → asked_if e (finished R s (hate_from R g)) ≡ finished R s (then_ask (hate_from R g))
+        by true old none =
+            let rests = spent_is _ _ Rests e (subst (λ (o : Owed). ending_of R s more o ≡ Ok e) none same) in
+            ap (λ (x : Ending). asked_if x (finished R s (hate_from R g))) (sym rests) ∙ repeat_asked R g said silent own old
+        by false new is =
+            ap (λ (a : Attempt S). asked_if e (finished R s a)) (own_first new)
+            ∙ first_asked R s more owed counted (first_step new) leaves e same
+            ∙ ap (λ (a : Attempt S). finished R s (then_ask a)) (sym (own_first new))
 
 -- unless it is refused
 pub going_asked : {S : Type 0} (answer : Answer) (g : Going S) → (answer ≡ Taken) ⊎ (answer ≡ Held) → ends answer (ask_for_hole g.state.views.mode g.state.hole g) ≡ asked (ends answer g)

@@ -46,13 +46,8 @@ pub(crate) fn ask_for_hole<M: Machine>(progress: Progress<M>) -> Result<Progress
     ensures { IfOk result (λ g. g ≡ asked_for progress.state.views.mode progress.state.hole progress) }
 {
     let mode = progress.core.mode();
-    match hole_of(&progress.core) {
-        Ok(hole) => send_hole(progress, mode, hole),
-        Err(want) => {
-            drop(progress);
-            Err(want)
-        }
-    }
+    let hole = hole_of(&progress.core)?;
+    send_hole(progress, mode, hole)
 }
 
 // Unless the step is refused.

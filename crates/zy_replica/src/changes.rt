@@ -72,29 +72,6 @@ fn carry_change<M: Machine>(
     carry(core.begin(), owed, ending)
 }
 
-fn change_owing<M: Machine>(
-    core: Core<M>,
-    vote: Signed<Change>,
-    owed: Owed,
-) -> Result<Moved<M>, Want>
-    requires replica { IsReplica vote.by }
-    requires member { number_of_party vote.by < core.counts.n }
-    requires range { IsSignedInRange IsChangeInRange vote }
-    requires owed { IsChangeOwed core vote owed }
-    requires in_range { IsOwedInRange owed }
-    requires enters { CanAll core owed }
-    ensures { IfOk result (λ m. m ≡ finished M.rules core (change_row M.rules core vote)) }
-{
-    match judge_owed(&core, &owed, 0) {
-        Ok(Err(cause)) => core.not_heard((vote, owed), cause),
-        Ok(Ok(ending)) => carry_change(core, vote, owed, ending),
-        Err(want) => {
-            drop((core, vote, owed));
-            Err(want)
-        }
-    }
-}
-
 /// Another's report, all signatures in it verified. Its signer is a replica of the group. With one more report for later
 /// views than can lie the replica leaves for the least of these views; as the primary of its next view it gives the new
 /// view once it has enough reports for it.
@@ -104,11 +81,9 @@ pub fn change<M: Machine>(core: Core<M>, vote: Signed<Change>) -> Result<Moved<M
     requires range { IsSignedInRange IsChangeInRange vote }
     ensures { IfOk result (λ m. m ≡ finished M.rules core (change_row M.rules core vote)) }
 {
-    match owed_by_change(&core, &vote) {
-        Ok(owed) => change_owing(core, vote, owed),
-        Err(want) => {
-            drop(vote);
-            Err(want)
-        }
+    let owed = owed_by_change(&core, &vote)?;
+    match judge_owed(&core, &owed, 0)? {
+        Ok(ending) => carry_change(core, vote, owed, ending),
+        Err(cause) => Ok(core.refused(cause)),
     }
 }

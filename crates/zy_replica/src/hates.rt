@@ -72,34 +72,15 @@ fn carry_hate<M: Machine>(
     carry(count_hate(core.begin(), vote), owed, ending)
 }
 
-fn hate_owing<M: Machine>(core: Core<M>, vote: Signed<Hate>, owed: Owed) -> Result<Moved<M>, Want>
-    requires member { number_of_party vote.by < core.counts.n }
-    requires owed { IsHateOwed core vote owed }
-    requires in_range { IsOwedInRange owed }
-    requires enters { CanAll core owed }
-    ensures { IfOk result (λ m. m ≡ finished M.rules core (hate_row M.rules core vote)) }
-{
-    match judge_owed(&core, &owed, 0) {
-        Ok(Err(cause)) => core.not_heard((vote, owed), cause),
-        Ok(Ok(ending)) => carry_hate(core, vote, owed, ending),
-        Err(want) => {
-            drop((core, vote, owed));
-            Err(want)
-        }
-    }
-}
-
 /// Another's hate, whose signature is verified. Its signer is a replica of the group. It is counted, and with one more
 /// than can lie the replica leaves.
 pub fn hate<M: Machine>(core: Core<M>, vote: Signed<Hate>) -> Result<Moved<M>, Want>
     requires { number_of_party vote.by < core.counts.n }
     ensures { IfOk result (λ m. m ≡ finished M.rules core (hate_row M.rules core vote)) }
 {
-    match owed_by_hate(&core, &vote) {
-        Ok(owed) => hate_owing(core, vote, owed),
-        Err(want) => {
-            drop(vote);
-            Err(want)
-        }
+    let owed = owed_by_hate(&core, &vote)?;
+    match judge_owed(&core, &owed, 0)? {
+        Ok(ending) => carry_hate(core, vote, owed, ending),
+        Err(cause) => Ok(core.refused(cause)),
     }
 }

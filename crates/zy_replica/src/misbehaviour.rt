@@ -53,22 +53,6 @@ fn owed_by_leave<M: Machine>(core: &Core<M>) -> Result<Owed, Want>
 
 // ---- told by another
 
-fn leave_owing<M: Machine>(core: Core<M>, owed: Owed) -> Result<Moved<M>, Want>
-    requires owed { IsLeaveOwed core (view_after core.views) owed }
-    requires in_range { IsOwedInRange owed }
-    requires enters { CanAll core owed }
-    ensures { IfOk result (λ m. m ≡ finished M.rules core (leave M.rules (view_after core.views) (begin core))) }
-{
-    match judge_owed(&core, &owed, 0) {
-        Ok(Err(cause)) => core.not_heard(owed, cause),
-        Ok(Ok(ending)) => carry(core.begin(), owed, ending),
-        Err(want) => {
-            drop((core, owed));
-            Err(want)
-        }
-    }
-}
-
 fn blamed<M: Machine>(core: Core<M>, misbehaved: Result<View, Cause>) -> Result<Moved<M>, Want>
     ensures { IfOk result (λ m. m ≡ finished M.rules core (blamed_by M.rules core misbehaved)) }
 {
@@ -76,7 +60,10 @@ fn blamed<M: Machine>(core: Core<M>, misbehaved: Result<View, Cause>) -> Result<
         Err(cause) => Ok(core.refused(cause)),
         Ok(_) => {
             let owed = owed_by_leave(&core)?;
-            leave_owing(core, owed)
+            match judge_owed(&core, &owed, 0)? {
+                Ok(ending) => carry(core.begin(), owed, ending),
+                Err(cause) => Ok(core.refused(cause)),
+            }
         }
     }
 }
@@ -102,7 +89,7 @@ pub fn pom<M: Machine>(
 
 // ---- by an order that differs from the kept one of its place
 
-// All are told of both orders, what the leave owes is carried out, and the step ends.
+// All are told of the kept order and of the other, what the leave owes is carried out, and the step ends.
 fn carry_blame<M: Machine>(
     core: Core<M>,
     order: Signed<Order>,
@@ -116,36 +103,8 @@ fn carry_blame<M: Machine>(
     requires in_range { IsOwedInRange owed }
     ensures { (s : State M.State) (more : ℕ) (attempt : Attempt M.State) → IsStep M.rules s more attempt owed (sending tos.All (frames.Pom kept order) (begin core)) → ending_of M.rules s more owed ≡ Ok ending → IfOk result (λ m. m ≡ finished M.rules s attempt) }
 {
-    match core.begin().send(To::All, Frame::Pom(kept, order)) {
-        Ok(progress) => carry(progress, owed, ending),
-        Err(want) => {
-            drop(owed);
-            Err(want)
-        }
-    }
-}
-
-fn blame_owing<M: Machine>(
-    core: Core<M>,
-    order: Signed<Order>,
-    kept: Signed<Order>,
-    owed: Owed,
-) -> Result<Moved<M>, Want>
-    requires order { IsSignedInRange IsOrderInRange order }
-    requires kept { IsSignedInRange IsOrderInRange kept }
-    requires owed { IsLeaveOwed core (view_after core.views) owed }
-    requires in_range { IsOwedInRange owed }
-    requires enters { CanAll core owed }
-    ensures { IfOk result (λ m. m ≡ finished M.rules core (leave M.rules (view_after core.views) (sending tos.All (frames.Pom kept order) (begin core)))) }
-{
-    match judge_owed(&core, &owed, 0) {
-        Ok(Err(cause)) => core.not_heard((order, kept, owed), cause),
-        Ok(Ok(ending)) => carry_blame(core, order, kept, owed, ending),
-        Err(want) => {
-            drop((core, order, kept, owed));
-            Err(want)
-        }
-    }
+    let told = core.begin().send(To::All, Frame::Pom(kept, order))?;
+    carry(told, owed, ending)
 }
 
 fn blame<M: Machine>(
@@ -157,12 +116,10 @@ fn blame<M: Machine>(
     requires kept { IsSignedInRange IsOrderInRange kept }
     ensures { IfOk result (λ m. m ≡ finished M.rules core (leave M.rules (view_after core.views) (sending tos.All (frames.Pom kept order) (begin core)))) }
 {
-    match owed_by_leave(&core) {
-        Ok(owed) => blame_owing(core, order, kept, owed),
-        Err(want) => {
-            drop((order, kept));
-            Err(want)
-        }
+    let owed = owed_by_leave(&core)?;
+    match judge_owed(&core, &owed, 0)? {
+        Ok(ending) => carry_blame(core, order, kept, owed, ending),
+        Err(cause) => Ok(core.refused(cause)),
     }
 }
 
@@ -171,13 +128,9 @@ fn tell_all<M: Machine>(core: Core<M>, order: Signed<Order>) -> Result<Moved<M>,
     requires { IsSignedInRange IsOrderInRange order }
     ensures { IfOk result (λ m. m ≡ finished M.rules core (told_all M.rules core order (stored_in core.orders order.stmt.place.0))) }
 {
-    match core.order_at(order.stmt.place) {
-        Ok(Some(kept)) => blame(core, order, kept),
-        Ok(None) => core.not_heard(order, Cause::Unmatched),
-        Err(want) => {
-            drop(order);
-            Err(want)
-        }
+    match core.order_at(order.stmt.place)? {
+        Some(kept) => blame(core, order, kept),
+        None => core.not_heard(order, Cause::Unmatched),
     }
 }
 

@@ -30,20 +30,8 @@ pub(crate) fn finish<M: Machine>(moved: Moved<M>) -> Result<Stepped<M>, Want>
     let Progress { core, deeds } = progress;
     let Deeds { sent, acts } = deeds;
     let (alloc, me) = (core.allocator(), core.me());
-    let out = match sendings(alloc, me, core.counts().n, sent) {
-        Ok(out) => out,
-        Err(want) => {
-            drop(acts);
-            return Err(want);
-        }
-    };
-    let (said, got) = match told(alloc, me, acts) {
-        Ok(told) => told,
-        Err(want) => {
-            drop(out);
-            return Err(want);
-        }
-    };
+    let out = sendings(alloc, me, core.counts().n, sent)?;
+    let (said, got) = told(alloc, me, acts)?;
     let timers = core.timers();
     Ok(Stepped {
         replica: Replica { core },

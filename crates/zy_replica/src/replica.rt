@@ -70,10 +70,8 @@ impl<M: Machine> Replica<M> {
         requires most { k ≤ 32 }
         ensures { IfOk result (λ r. r ≡ start_of M.rules k me counts directory sealer) }
     {
-        match Core::start(alloc, counts, me, k, sealer, directory) {
-            Ok(core) => Ok(Replica { core }),
-            Err(want) => Err(want),
-        }
+        let core = Core::start(alloc, counts, me, k, sealer, directory)?;
+        Ok(Replica { core })
     }
 
     /// What an event makes of the replica: the whole answer table, for every frame and timer. After a refusal all is as

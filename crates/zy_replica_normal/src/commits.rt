@@ -44,13 +44,8 @@ fn seal_local<M: Machine>(core: Core<M>, local: Local) -> Result<(Core<M>, Signe
 {
     let (core, signed) = core.seal(local)?;
     let copy = signed_copy(&signed)?;
-    match core.keep_local(copy) {
-        Ok(core) => Ok((core, signed)),
-        Err(want) => {
-            drop(signed);
-            Err(want)
-        }
-    }
+    let core = core.keep_local(copy)?;
+    Ok((core, signed))
 }
 
 // It is signed, kept and sent to the client.
@@ -61,13 +56,8 @@ fn say_local<M: Machine>(core: Core<M>, client: ClientId, local: Local) -> Resul
 {
     let stood = core.stood();
     let (core, signed) = seal_local(core, local)?;
-    match core.begin().says(Body::Local(local), stood) {
-        Ok(progress) => progress.send_local(client, signed),
-        Err(want) => {
-            drop(signed);
-            Err(want)
-        }
-    }
+    let progress = core.begin().says(Body::Local(local), stood)?;
+    progress.send_local(client, signed)
 }
 
 // How many statements are signed for a local commit. Beside it a copy where it was said before.
@@ -157,16 +147,9 @@ fn commit_beside<M: Machine>(
     if own != local.head {
         return core.not_heard(specs, Cause::OtherHistory(own, local.head));
     }
-    match core.local_said(&local) {
-        Ok(said) => {
-            let own = core.own_at(local.place);
-            commit_as(core, specs, client, local, said, own)
-        }
-        Err(want) => {
-            drop(specs);
-            Err(want)
-        }
-    }
+    let said = core.local_said(&local)?;
+    let own = core.own_at(local.place);
+    commit_as(core, specs, client, local, said, own)
 }
 
 // Beside what the responses certify.

@@ -27,13 +27,8 @@ fn seal_check<M: Machine>(core: Core<M>, own: &Check) -> Result<(Core<M>, Signed
 {
     let (core, signed) = core.seal(*own)?;
     let copy = signed_copy(&signed)?;
-    match core.keep_own_check(own, copy) {
-        Ok(core) => Ok((core, signed)),
-        Err(want) => {
-            drop(signed);
-            Err(want)
-        }
-    }
+    let core = core.keep_own_check(own, copy)?;
+    Ok((core, signed))
 }
 
 // It is signed, kept and sent to all.
@@ -44,20 +39,9 @@ fn say_check<M: Machine>(progress: Progress<M>, own: &Check) -> Result<Progress<
 {
     let Progress { core, deeds } = progress;
     let stood = core.stood();
-    let (core, signed) = match seal_check(core, own) {
-        Ok(sealed) => sealed,
-        Err(want) => {
-            drop(deeds);
-            return Err(want);
-        }
-    };
-    match (Progress { core, deeds }).says(Body::Check(*own), stood) {
-        Ok(progress) => progress.send_check(signed),
-        Err(want) => {
-            drop(signed);
-            Err(want)
-        }
-    }
+    let (core, signed) = seal_check(core, own)?;
+    let progress = Progress { core, deeds }.says(Body::Check(*own), stood)?;
+    progress.send_check(signed)
 }
 
 fn say_check_if<M: Machine>(
@@ -89,13 +73,8 @@ fn keep_certificate_at<M: Machine>(
     ensures last { IfOk result (λ g. g.state.views.last_view ≡ progress.state.views.last_view) }
 {
     let Progress { core, deeds } = progress;
-    match core.keep_certificate_at(own) {
-        Ok(core) => Ok(Progress { core, deeds }),
-        Err(want) => {
-            drop(deeds);
-            Err(want)
-        }
-    }
+    let core = core.keep_certificate_at(own)?;
+    Ok(Progress { core, deeds })
 }
 
 fn settle_own<M: Machine>(progress: Progress<M>, own: &OwnCheckpoint) -> Result<Progress<M>, Want>
@@ -103,13 +82,8 @@ fn settle_own<M: Machine>(progress: Progress<M>, own: &OwnCheckpoint) -> Result<
     ensures { IfOk result (λ g. g ≡ own_settled M.rules own.now.check progress) }
 {
     let Progress { core, deeds } = progress;
-    match core.settle_own(own) {
-        Ok(core) => Ok(Progress { core, deeds }),
-        Err(want) => {
-            drop(deeds);
-            Err(want)
-        }
-    }
+    let core = core.settle_own(own)?;
+    Ok(Progress { core, deeds })
 }
 
 // All of it, at a place of which the own history says this.

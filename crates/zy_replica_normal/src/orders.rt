@@ -116,13 +116,8 @@ fn ask_for_missing<M: Machine>(core: Core<M>) -> Result<Progress<M>, Want>
     let stood = core.stood();
     let to = To::One(core.primary());
     let (core, signed) = seal_hole(core)?;
-    match core.begin().says(Body::Hole(signed.stmt), stood) {
-        Ok(progress) => progress.send_hole(to, signed),
-        Err(want) => {
-            drop(signed);
-            Err(want)
-        }
-    }
+    let progress = core.begin().says(Body::Hole(signed.stmt), stood)?;
+    progress.send_hole(to, signed)
 }
 
 // An order that is held.

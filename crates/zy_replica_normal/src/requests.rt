@@ -55,13 +55,8 @@ fn send_response<M: Machine>(
     requires known { IsKnownInRange known }
     ensures { IfOk result (λ g. g ≡ response_of progress.state spec known progress) }
 {
-    match progress.core.order_at(known.place) {
-        Ok(order) => progress.send_spec(spec, known.reply, order),
-        Err(want) => {
-            drop((spec, known));
-            Err(want)
-        }
-    }
+    let order = progress.core.order_at(known.place)?;
+    progress.send_spec(spec, known.reply, order)
 }
 
 fn sign_response<M: Machine>(core: Core<M>, spec: Spec, known: Known) -> Result<Progress<M>, Want>
@@ -70,13 +65,8 @@ fn sign_response<M: Machine>(core: Core<M>, spec: Spec, known: Known) -> Result<
     requires known { IsKnownInRange known }
     ensures { IfOk result (λ g. g ≡ response_of core (sealed_by numbers.spec spec_fields core.sealer spec) known (acting (acts.Says (record { body = bodies.Spec spec; stood = stood_of M.rules core })) (begin (with_spec (spent core) (sealed_by numbers.spec spec_fields core.sealer spec))))) }
 {
-    match core.begin().sign_spec(spec) {
-        Ok((progress, signed)) => send_response(progress, signed, known),
-        Err(want) => {
-            drop(known);
-            Err(want)
-        }
-    }
+    let (progress, signed) = core.begin().sign_spec(spec)?;
+    send_response(progress, signed, known)
 }
 
 // The response is signed anew.
@@ -147,13 +137,8 @@ fn seal_order<M: Machine>(core: Core<M>, ask: Signed<Ask>) -> Result<(Core<M>, O
     ensures next { IfOk result (λ r. r.1.order.stmt.place.0 ≡ last_place core.kept + 1) }
 {
     let order = order_of(&core, &ask);
-    match core.seal(order) {
-        Ok((core, order)) => Ok((core, OrderFrame { order, ask })),
-        Err(want) => {
-            drop(ask);
-            Err(want)
-        }
-    }
+    let (core, order) = core.seal(order)?;
+    Ok((core, OrderFrame { order, ask }))
 }
 
 // The order is signed, kept and sent to all.
@@ -167,13 +152,8 @@ fn order<M: Machine>(core: Core<M>, ask: Signed<Ask>) -> Result<(Progress<M>, Or
 {
     let stood = core.stood();
     let (core, frame) = seal_order(core, ask)?;
-    match say_order(core, &frame, stood) {
-        Ok(progress) => Ok((progress, frame)),
-        Err(want) => {
-            drop(frame);
-            Err(want)
-        }
-    }
+    let progress = say_order(core, &frame, stood)?;
+    Ok((progress, frame))
 }
 
 // The order that was signed is kept, and sent to all. Beside it what stood before.
@@ -258,13 +238,8 @@ fn seal_confirm<M: Machine>(core: Core<M>, ask: Signed<Ask>) -> Result<(Core<M>,
     ensures ready { IfOk result (λ r. IsPendingReady r.1) }
 {
     let confirm = confirm_of(&core, &ask);
-    match core.seal(confirm) {
-        Ok((core, confirm)) => Ok((core, Pending { confirm, ask })),
-        Err(want) => {
-            drop(ask);
-            Err(want)
-        }
-    }
+    let (core, confirm) = core.seal(confirm)?;
+    Ok((core, Pending { confirm, ask }))
 }
 
 // A request that waits from now on. Beside it what stood before.
@@ -293,13 +268,8 @@ fn request_waits<M: Machine>(core: Core<M>, ask: Signed<Ask>) -> Result<Progress
 {
     let (stood, primary, client) = (core.stood(), core.primary(), client_of(ask.by));
     let (core, pending) = seal_confirm(core, ask)?;
-    match say_confirm(core, client, &pending, stood) {
-        Ok(progress) => progress.send_pending(primary, pending),
-        Err(want) => {
-            drop(pending);
-            Err(want)
-        }
-    }
+    let progress = say_confirm(core, client, &pending, stood)?;
+    progress.send_pending(primary, pending)
 }
 
 fn forward<M: Machine>(core: Core<M>, ask: Signed<Ask>) -> Result<Moved<M>, Want>
@@ -364,13 +334,8 @@ fn new_request<M: Machine>(core: Core<M>, ask: Signed<Ask>) -> Result<Moved<M>, 
     if core.is_primary() {
         return request_at_primary(core, ask);
     }
-    match waiting_of(&core, client_of(ask.by)) {
-        Ok(pending) => request_at_backup(core, ask, pending),
-        Err(want) => {
-            drop(ask);
-            Err(want)
-        }
-    }
+    let pending = waiting_of(&core, client_of(ask.by))?;
+    request_at_backup(core, ask, pending)
 }
 
 // ---- the row
@@ -438,11 +403,6 @@ pub fn hear_request<M: Machine>(core: Core<M>, ask: Signed<Ask>) -> Result<Moved
     if is_behind(&core, &ask) {
         return core.not_heard(ask, Cause::OldStamp);
     }
-    match core.known_of(client_of(ask.by)) {
-        Ok(known) => request_after(core, ask, known),
-        Err(want) => {
-            drop(ask);
-            Err(want)
-        }
-    }
+    let known = core.known_of(client_of(ask.by))?;
+    request_after(core, ask, known)
 }

@@ -107,13 +107,8 @@ fn run_in<M: Machine>(
     ensures range { IfOk result (λ r. IsKnownInRange r.1) }
 {
     let Progress { core, deeds } = progress;
-    match run_ask(core, ask) {
-        Ok((core, known)) => Ok((Progress { core, deeds }, known)),
-        Err(want) => {
-            drop(deeds);
-            Err(want)
-        }
-    }
+    let (core, known) = run_ask(core, ask)?;
+    Ok((Progress { core, deeds }, known))
 }
 
 fn gains<M: Machine>(
@@ -145,13 +140,8 @@ fn execute<M: Machine>(
 {
     let before = progress.core.head();
     let (progress, known) = run_in(progress, ask)?;
-    match gains(progress, before, ask, &known) {
-        Ok(progress) => Ok((progress, known)),
-        Err(want) => {
-            drop(known);
-            Err(want)
-        }
-    }
+    let progress = gains(progress, before, ask, &known)?;
+    Ok((progress, known))
 }
 
 // ---- how many statements that signs
@@ -233,13 +223,8 @@ fn respond_by_copy<M: Machine>(
     ensures range { IfOk result (λ r. IsSignedInRange IsSpecInRange r.1) }
 {
     let (progress, signed) = progress.sign_spec(spec)?;
-    match send_copy(progress, order, &signed, reply) {
-        Ok(progress) => Ok((progress, signed)),
-        Err(want) => {
-            drop(signed);
-            Err(want)
-        }
-    }
+    let progress = send_copy(progress, order, &signed, reply)?;
+    Ok((progress, signed))
 }
 
 fn send_copy<M: Machine>(
@@ -435,13 +420,8 @@ fn can_run_in<M: Machine>(
     ensures fits { IfOk result (λ r. r.1 ≡ nat_le (signs_for M.rules progress.state (entry_asked ask.now)) (signs_left progress.state)) }
 {
     let Progress { core, deeds } = progress;
-    match can_run(core, ask, 0) {
-        Ok((core, can_run)) => Ok((Progress { core, deeds }, can_run)),
-        Err(want) => {
-            drop(deeds);
-            Err(want)
-        }
-    }
+    let (core, can_run) = can_run(core, ask, 0)?;
+    Ok((Progress { core, deeds }, can_run))
 }
 
 fn drop_next<M: Machine>(progress: Progress<M>) -> Progress<M>

@@ -16,7 +16,7 @@ use Rattle.zy_base.specs.declared.ids.ReplicaId.{ReplicaId}
 use Rattle.zy_base.specs.declared.ids.View.{View}
 use Rattle.zy_base.specs.declared.step.Answer.{Answer}
 use Rattle.zy_base.specs.declared.step.Answer.TheVariants.{Taken, Held, Refused}
-use Rattle.zy_lms.specs.Lms.{signature_of}
+use Rattle.zy_lms.specs.Hss.{hss_signature_of}
 use Rattle.zy_seal.specs.Sealing.{SealerState, sealed_by, spent_one, signatures_by}
 use Rattle.zy_parts.specs.Numbers as numbers
 use Rattle.zy_parts.specs.Signing.{text_of}
@@ -68,7 +68,7 @@ for_some x P holds = λ y is. let e : x ≡ y = cc in subst P e holds
 abbrev pub pens_of : {S : Type 0} → State S → Pens
 pens_of s =
     record {
-      change = λ c. signature_of s.sealer.key (text_of numbers.change change_fields s.sealer.me c);
+      change = λ c. hss_signature_of s.sealer.key (text_of numbers.change change_fields s.sealer.me c);
       new = λ n. [];
       began = λ b. [];
     }
@@ -163,7 +163,7 @@ module _ {S : Type 0} (R : Rules S) where
   refusal : (cause : Cause) (g : Going S) → Row (Err cause) (owing.refused cause) g
   refusal cause g = (refused_follows cause g, refl)
 
-  taken : (g : Going S) → Row (goes Taken g) nothing g
+  pub taken : (g : Going S) → Row (goes Taken g) nothing g
   taken g = (
     record {
       same = refl;
@@ -362,7 +362,7 @@ module _ {S : Type 0} (R : Rules S) where
   sealed_same : (s : State S) (view : View) → SignsAsItself s → signed_by s.views (pens_of s).change (change_to view (report_of s)) ≡ sealed_change s view
   sealed_same s view signer =
       let change = change_to view (report_of s) in
-      let sig = signature_of s.sealer.key (text_of numbers.change change_fields s.sealer.me change) in
+      let sig = hss_signature_of s.sealer.key (text_of numbers.change change_fields s.sealer.me change) in
       ap (λ (by : Party). record { by = by; stmt = change; sig = sig }) (sym signer)
 
   pub views_left : (g : Going S) (view : View) → SignsAsItself g.state → left view (with_change (signed_by g.state.views (pens_of g.state).change (change_to view (report_of g.state))) g.state.views) ≡ (rows.leave_alone R view g).state.views

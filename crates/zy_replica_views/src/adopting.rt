@@ -79,11 +79,6 @@ pub fn certify<M: Machine>(progress: Progress<M>, waits: bool) -> Result<Moved<M
     ensures { IfOk result (λ m. certifying M.rules m.answer progress ≡ goes m.answer (record { state = m.state; deeds = m.deeds })) }
 {
     let Progress { core, deeds } = progress;
-    match certificate_out(core, waits) {
-        Ok((core, cert, chosen)) => adopt(Progress { core, deeds }, cert, chosen, waits),
-        Err(want) => {
-            drop(deeds);
-            Err(want)
-        }
-    }
+    let (core, cert, chosen) = certificate_out(core, waits)?;
+    adopt(Progress { core, deeds }, cert, chosen, waits)
 }

@@ -32,13 +32,8 @@ pub fn begin_view<M: Machine>(
 {
     let Progress { core, deeds } = progress;
     let view = cert.new.stmt.view;
-    match core.begin_view(cert, chosen) {
-        Ok((core, common, gots)) => Progress { core, deeds }.adopts(view, common, gots),
-        Err(want) => {
-            drop(deeds);
-            Err(want)
-        }
-    }
+    let (core, common, gots) = core.begin_view(cert, chosen)?;
+    Progress { core, deeds }.adopts(view, common, gots)
 }
 
 /// The same, and its checkpoints above the stable place are answered anew. There are leaves for that.

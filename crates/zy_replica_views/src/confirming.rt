@@ -54,13 +54,8 @@ fn confirm<M: Machine>(
     ensures { IfOk result (λ g. g ≡ accepting M.rules (record { new = new; chosen = chosen }) (arriving M.rules new.stmt.view progress)) }
 {
     let view = new.stmt.view;
-    match arrive(progress, view) {
-        Ok(arrived) => accept(arrived, Accepted { new, chosen }),
-        Err(want) => {
-            drop(new);
-            Err(want)
-        }
-    }
+    let arrived = arrive(progress, view)?;
+    accept(arrived, Accepted { new, chosen })
 }
 
 // Its choice is confirmed, and the step ends as it was judged.
@@ -86,21 +81,6 @@ fn confirm_as<M: Machine>(
     }
 }
 
-fn new_owing<M: Machine>(core: Core<M>, new: Signed<New>, owed: Owed) -> Result<Moved<M>, Want>
-    requires owed { IsNewOwed core new owed }
-    requires accepted { Accepts core new owed }
-    ensures { IfOk result (λ m. m ≡ finished M.rules core (new_view_row M.rules core new)) }
-{
-    match judge_owed(&core, &owed, 0) {
-        Ok(Ok(ending)) => confirm_as(core, new, owed, ending),
-        Ok(Err(cause)) => core.not_heard((new, owed), cause),
-        Err(want) => {
-            drop((new, owed));
-            Err(want)
-        }
-    }
-}
-
 /// The new view of its primary, all signatures in it verified. The replica leaves for its view where that is above the own
 /// one, and confirms the choice out of its reports; the view begins at once where enough others confirmed it already.
 pub fn new_view<M: Machine>(core: Core<M>, new: Signed<New>) -> Result<Moved<M>, Want>
@@ -108,12 +88,10 @@ pub fn new_view<M: Machine>(core: Core<M>, new: Signed<New>) -> Result<Moved<M>,
     requires range { IsSignedInRange IsNewInRange new }
     ensures { IfOk result (λ m. m ≡ finished M.rules core (new_view_row M.rules core new)) }
 {
-    match owed_by_new(&core, &new) {
-        Ok(owed) => new_owing(core, new, owed),
-        Err(want) => {
-            drop(new);
-            Err(want)
-        }
+    let owed = owed_by_new(&core, &new)?;
+    match judge_owed(&core, &owed, 0)? {
+        Ok(ending) => confirm_as(core, new, owed, ending),
+        Err(cause) => Ok(core.refused(cause)),
     }
 }
 
@@ -131,26 +109,26 @@ fn keep_vote<M: Machine>(core: Core<M>, vote: Signed<Began>) -> Core<M>
     core.keep_began(vote)
 }
 
-fn vote_owing<M: Machine>(core: Core<M>, vote: Signed<Began>, owed: Owed) -> Result<Moved<M>, Want>
+// It is kept, and the step ends as it was judged.
+fn keep_as<M: Machine>(
+    core: Core<M>,
+    vote: Signed<Began>,
+    owed: Owed,
+    ending: Ending,
+) -> Result<Moved<M>, Want>
     requires replica { IsReplica vote.by }
     requires member { number_of_party vote.by < core.counts.n }
     requires range { IsSignedInRange IsBeganInRange vote }
     requires owed { IsBeganOwed core vote owed }
     requires fit { IsFit core.views }
+    requires ready { IsReady core }
+    requires signer { IsSigner core }
+    requires judged { ending_of M.rules core 0 owed ≡ Ok ending }
     ensures { IfOk result (λ m. m ≡ finished M.rules core (confirmation_row M.rules core vote)) }
 {
-    match judge_owed(&core, &owed, 0) {
-        Ok(Ok(ending)) => {
-            let answer = owed.answer;
-            drop(owed);
-            end(keep_vote(core, vote).begin(), answer, ending)
-        }
-        Ok(Err(cause)) => core.not_heard((vote, owed), cause),
-        Err(want) => {
-            drop((vote, owed));
-            Err(want)
-        }
-    }
+    let answer = owed.answer;
+    drop(owed);
+    end(keep_vote(core, vote).begin(), answer, ending)
 }
 
 // What a confirmation owes. Beside it what holds of every replica.
@@ -171,12 +149,10 @@ pub fn confirmation<M: Machine>(core: Core<M>, vote: Signed<Began>) -> Result<Mo
     requires range { IsSignedInRange IsBeganInRange vote }
     ensures { IfOk result (λ m. m ≡ finished M.rules core (confirmation_row M.rules core vote)) }
 {
-    match owed_by_vote(&core, &vote) {
-        Ok(owed) => vote_owing(core, vote, owed),
-        Err(want) => {
-            drop(vote);
-            Err(want)
-        }
+    let owed = owed_by_vote(&core, &vote)?;
+    match judge_owed(&core, &owed, 0)? {
+        Ok(ending) => keep_as(core, vote, owed, ending),
+        Err(cause) => Ok(core.refused(cause)),
     }
 }
 
@@ -229,23 +205,6 @@ fn adopt_as<M: Machine>(
     adopt(core.begin(), cert, chosen, is_waiting(ending))
 }
 
-fn cert_owing<M: Machine>(core: Core<M>, cert: ViewCert, owed: Owed) -> Result<Moved<M>, Want>
-    requires signers { All (λ c. IsReplica c.by) cert.new.stmt.changes }
-    requires range { IsFrameInRange (frames.ViewCert cert) }
-    requires owed { IsCertOwed core cert owed }
-    requires certified { IfSome owed.adopt (λ a. IsCertified core.views.counts core.views.interval cert a.chosen) }
-    ensures { IfOk result (λ m. m ≡ finished M.rules core (certificate_row M.rules core cert)) }
-{
-    match judge_owed(&core, &owed, 0) {
-        Ok(Ok(ending)) => adopt_as(core, cert, owed, ending),
-        Ok(Err(cause)) => core.not_heard((cert, owed), cause),
-        Err(want) => {
-            drop((cert, owed));
-            Err(want)
-        }
-    }
-}
-
 /// A view certificate, all signatures in it verified: its view begins with its choice, or it waits for the snapshot on
 /// which that stands.
 pub fn view_certificate<M: Machine>(core: Core<M>, cert: ViewCert) -> Result<Moved<M>, Want>
@@ -253,11 +212,9 @@ pub fn view_certificate<M: Machine>(core: Core<M>, cert: ViewCert) -> Result<Mov
     requires range { IsFrameInRange (frames.ViewCert cert) }
     ensures { IfOk result (λ m. m ≡ finished M.rules core (certificate_row M.rules core cert)) }
 {
-    match owed_by_cert(&core, &cert) {
-        Ok(owed) => cert_owing(core, cert, owed),
-        Err(want) => {
-            drop(cert);
-            Err(want)
-        }
+    let owed = owed_by_cert(&core, &cert)?;
+    match judge_owed(&core, &owed, 0)? {
+        Ok(ending) => adopt_as(core, cert, owed, ending),
+        Err(cause) => Ok(core.refused(cause)),
     }
 }

@@ -52,13 +52,8 @@ fn leave_core<M: Machine>(core: Core<M>, view: View) -> Result<(Core<M>, Signed<
 {
     let (core, change) = core.seal_change(view)?;
     let copy = signed_change_copy(&change)?;
-    match core.left_with(view, copy) {
-        Ok(core) => Ok((core, change)),
-        Err(want) => {
-            drop(change);
-            Err(want)
-        }
-    }
+    let core = core.left_with(view, copy)?;
+    Ok((core, change))
 }
 
 // The report is said, and goes to all.
@@ -71,13 +66,8 @@ fn tell_change<M: Machine>(
 {
     let stood = progress.core.stood();
     let stmt = change_copy(&change.stmt)?;
-    match progress.says(Body::Change(stmt), stood) {
-        Ok(progress) => progress.send_view(To::All, ViewFrame::ViewChange(change)),
-        Err(want) => {
-            drop(change);
-            Err(want)
-        }
-    }
+    let progress = progress.says(Body::Change(stmt), stood)?;
+    progress.send_view(To::All, ViewFrame::ViewChange(change))
 }
 
 /// It leaves for a later view: its report is signed, kept and sent to all, and what waits in its own view is dropped.
@@ -89,13 +79,8 @@ pub fn leave_alone<M: Machine>(progress: Progress<M>, view: View) -> Result<Prog
     ensures { IfOk result (λ g. g ≡ left_alone M.rules view progress) }
 {
     let Progress { core, deeds } = progress;
-    match leave_core(core, view) {
-        Ok((core, change)) => tell_change(Progress { core, deeds }, change),
-        Err(want) => {
-            drop(deeds);
-            Err(want)
-        }
-    }
+    let (core, change) = leave_core(core, view)?;
+    tell_change(Progress { core, deeds }, change)
 }
 
 // ---- the new view
@@ -123,13 +108,9 @@ fn tell_new<M: Machine>(progress: Progress<M>, new: &Signed<New>) -> Result<Prog
     let alloc = progress.core.allocator();
     let stood = progress.core.stood();
     let stmt = new_copy(alloc, &new.stmt)?;
-    match progress.says(Body::New(stmt), stood) {
-        Ok(progress) => {
-            let copy = signed_new_copy(alloc, new)?;
-            progress.send_view(To::All, ViewFrame::NewView(copy))
-        }
-        Err(want) => Err(want),
-    }
+    let progress = progress.says(Body::New(stmt), stood)?;
+    let copy = signed_new_copy(alloc, new)?;
+    progress.send_view(To::All, ViewFrame::NewView(copy))
 }
 
 // The reports that are kept for a view are signed and sent to all. Beside it the signed new view.
@@ -146,20 +127,9 @@ fn give_new<M: Machine>(
     ensures sends { IfOk result (λ r. CanBeSent (any.View (frames.NewView r.1))) }
 {
     let Progress { core, deeds } = progress;
-    let (core, new) = match seal_new(core, view) {
-        Ok(sealed) => sealed,
-        Err(want) => {
-            drop(deeds);
-            return Err(want);
-        }
-    };
-    match tell_new(Progress { core, deeds }, &new) {
-        Ok(progress) => Ok((progress, new)),
-        Err(want) => {
-            drop(new);
-            Err(want)
-        }
-    }
+    let (core, new) = seal_new(core, view)?;
+    let progress = tell_new(Progress { core, deeds }, &new)?;
+    Ok((progress, new))
 }
 
 // ---- its confirmation
@@ -203,13 +173,8 @@ fn keep_accepted<M: Machine>(
     ensures core { IfOk result (λ r. r.0 ≡ record core { views = with_new accepted own core.views }) }
     ensures began { IfOk result (λ r. r.1 ≡ own) }
 {
-    match signed_copy(&own) {
-        Ok(copy) => Ok((core.accept(accepted, own), copy)),
-        Err(want) => {
-            drop((accepted, own));
-            Err(want)
-        }
-    }
+    let copy = signed_copy(&own)?;
+    Ok((core.accept(accepted, own), copy))
 }
 
 // The choice of a new view is confirmed: the confirmation is signed, and kept with the new view. Beside it the
@@ -226,13 +191,8 @@ fn accept_core<M: Machine>(
     ensures began { IfOk result (λ r. r.1 ≡ sealed_began core accepted) }
     ensures range { IfOk result (λ r. IsSignedInRange IsBeganInRange r.1) }
 {
-    match seal_began(core, &accepted) {
-        Ok((core, own)) => keep_accepted(core, accepted, own),
-        Err(want) => {
-            drop(accepted);
-            Err(want)
-        }
-    }
+    let (core, own) = seal_began(core, &accepted)?;
+    keep_accepted(core, accepted, own)
 }
 
 // The confirmation is said, and goes to all.
@@ -241,13 +201,8 @@ fn tell_began<M: Machine>(progress: Progress<M>, began: Signed<Began>) -> Result
     ensures { IfOk result (λ g. g ≡ sending_view tos.All (frames.ViewConfirm began) (acting (acts.Says (record { body = bodies.Began began.stmt; stood = stood_of M.rules progress.state })) progress)) }
 {
     let stood = progress.core.stood();
-    match progress.says(Body::Began(began.stmt), stood) {
-        Ok(progress) => progress.send_view(To::All, ViewFrame::ViewConfirm(began)),
-        Err(want) => {
-            drop(began);
-            Err(want)
-        }
-    }
+    let progress = progress.says(Body::Began(began.stmt), stood)?;
+    progress.send_view(To::All, ViewFrame::ViewConfirm(began))
 }
 
 /// A new view is accepted: the confirmation of its choice is signed, kept with it, and sent to all. What others confirm of
@@ -261,13 +216,8 @@ pub fn accept<M: Machine>(progress: Progress<M>, accepted: Accepted) -> Result<P
     ensures { IfOk result (λ g. g ≡ accepting M.rules accepted progress) }
 {
     let Progress { core, deeds } = progress;
-    match accept_core(core, accepted) {
-        Ok((core, began)) => tell_began(Progress { core, deeds }, began),
-        Err(want) => {
-            drop(deeds);
-            Err(want)
-        }
-    }
+    let (core, began) = accept_core(core, accepted)?;
+    tell_began(Progress { core, deeds }, began)
 }
 
 // The reports that are kept for a view are given, and this choice out of them is confirmed.

@@ -120,13 +120,8 @@ fn send_to_each<M: Machine>(
     ensures { IfOk result (λ g. g ≡ sent_to_each said.now asked.now progress) }
 {
     let Progress { core, mut deeds } = progress;
-    match push_each(&mut deeds.sent, said, asked) {
-        Ok(()) => Ok(Progress { core, deeds }),
-        Err(want) => {
-            drop((core, deeds));
-            Err(want)
-        }
-    }
+    push_each(&mut deeds.sent, said, asked)?;
+    Ok(Progress { core, deeds })
 }
 
 // It is kept for good, and said.
@@ -140,13 +135,8 @@ fn keep_fetch<M: Machine>(
 {
     let fetch = said.stmt;
     let Progress { core, deeds } = progress;
-    match core.keep_fetch(said) {
-        Ok(core) => Progress { core, deeds }.says(Body::Fetch(fetch), stood),
-        Err(want) => {
-            drop(deeds);
-            Err(want)
-        }
-    }
+    let core = core.keep_fetch(said)?;
+    Progress { core, deeds }.says(Body::Fetch(fetch), stood)
 }
 
 // It is signed, kept and said.
@@ -163,13 +153,8 @@ fn sign_fetch<M: Machine>(
     let stood = progress.core.stood();
     let (progress, said) = progress.seal(fetch)?;
     let copy = signed_copy(&said)?;
-    match keep_fetch(progress, copy, stood) {
-        Ok(progress) => Ok((progress, said)),
-        Err(want) => {
-            drop(said);
-            Err(want)
-        }
-    }
+    let progress = keep_fetch(progress, copy, stood)?;
+    Ok((progress, said))
 }
 
 // What was said before, or is said now.

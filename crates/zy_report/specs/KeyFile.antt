@@ -12,11 +12,12 @@ text_line name value = name ++ codes " = " ++ 34 ∷ value ++ 34 ∷ 10 ∷ []
 abbrev pub number_line : List ℕ → ℕ → List ℕ
 number_line name value = name ++ codes " = " ++ decimal value ++ 10 ∷ []
 
--- the party, its own seed and identifier, the levels of its tree and the type of its one-time keys; no signature and no
--- stamp is spent; and the public key
+-- the file's version, the party, its own seed and identifier, the levels of each tree and the type of its one-time keys; no signature
+-- and no stamp is spent; and the public key
 unfoldable pub key_lines : Party → List ℕ → List ℕ → ℕ → ℕ → List ℕ → List ℕ
 key_lines party seed id height ots public =
-    text_line (codes "party") (party_text party)
+    number_line (codes "version") 2
+    ++ text_line (codes "party") (party_text party)
     ++ text_line (codes "seed") (encode_lower seed)
     ++ text_line (codes "id") (encode_lower id)
     ++ number_line (codes "height") height

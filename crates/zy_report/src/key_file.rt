@@ -22,8 +22,8 @@ pub fn key_line(alloc: Global, next: u32, stamp: Stamp) -> Result<Bytes, Want>
     Ok(Bytes::from(line))
 }
 
-/// The secret file of a party's key of which no signature is spent: its own seed and identifier, the levels of its tree
-/// (5 or 10), the LM-OTS type of its one-time keys, and its public key (RFC 8554 section 5.3).
+/// The secret file of a party's key of two levels of which no signature is spent: the file's version, its own seed and identifier, the
+/// levels of each tree (5 or 10), the LM-OTS type of its one-time keys, and its public key (RFC 8554 section 6.1).
 #[tactic(auto, unfolding(crate::specs::KeyFile::key_lines))]
 pub fn key_lines(
     alloc: Global,
@@ -37,6 +37,7 @@ pub fn key_lines(
     ensures { IfOk result (λ text. text ≡ file.key_lines party seed.now id.now height ots public.now) }
 {
     let mut text = Vec::new(alloc);
+    put_setting(alloc, &mut text, b"version", 2)?;
     put_party(alloc, &mut text, party)?;
     put_text(alloc, &mut text, b"seed", seed)?;
     put_text(alloc, &mut text, b"id", id)?;

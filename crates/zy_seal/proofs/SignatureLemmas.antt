@@ -1,38 +1,56 @@
--- How many signatures a key gives, and how long each of them is, whichever it is and whatever it signs.
-use Rattle.std.proofs.Common.{◌≡◌, ℕ, ◌+◌, ◌≤◌, ◌^◌, List, ◌++◌, length, arith}
-use Rattle.std.proofs.lemmas.List.{length-append}
-use Rattle.std.specs.Int.{w32, to_be_bytes}
+-- How many signatures a key gives, how long each of them is, whichever it is and whatever it signs, and which number it tells.
+use Rattle.std.proofs.Common.{◌≡◌, ℕ, ◌+◌, ◌*◌, ◌<◌, ◌≤◌, ◌^◌, ◌/◌, ◌%◌, List, [], ◌++◌, ◌∷◌, length, length-drop, take, drop, Some, refl, sym, ap, ◌∙◌, arith}
+use Rattle.std.specs.Prelude.{option_and_then}
+use Rattle.std.proofs.lemmas.Bool.{le-leb, lt-ltb}
+use Rattle.std.proofs.lemmas.List.{length-append, length-take-le, append_assoc, drop-append-le, drop_at, take-append-le, take-take, drop-drop}
+use Rattle.std.specs.Int.{w32, to_be_bytes, from_be_bytes}
 use Rattle.std.specs.List.{concat}
+use Rattle.sha2.specs.Sha256.{sha256}
+use Rattle.sha2.proofs.Facts256.{length-sha256}
 use Rattle.zy_ots.proofs.OneTimeLemmas.{Verifies-signature}
+use Rattle.zy_ots.specs.Coef.{number_at}
 use Rattle.zy_ots.specs.OneTime as one_time
+use Rattle.zy_ots.specs.OtsType as ots_types
 use Rattle.zy_ots.specs.declared.ots_type.OtsType.{OtsType}
 use Rattle.zy_ots.specs.declared.ots_type.OtsType.TheVariants.{W4, W8}
+use Rattle.zy_lms.proofs.HssLemmas.{lower_leaf_is, lower_within, top_leaf_is, top_within}
+use Rattle.zy_lms.proofs.LmsLemmas.{VerifiesAs-signature}
 use Rattle.zy_lms.proofs.TreeLemmas.{length-path_from}
+use Rattle.zy_lms.proofs.VerifiedLemmas.{height_with-number, type_with-number}
 use Rattle.zy_lms.specs.declared.height.Height.{Height}
 use Rattle.zy_lms.specs.declared.height.Height.TheVariants.{H5, H10}
 use Rattle.zy_lms.specs.Height.{levels_of, type_number_of}
-use Rattle.zy_lms.specs.KeyState.{KeyState}
-use Rattle.zy_lms.specs.Lms.{signature_of}
+use Rattle.zy_lms.specs.Hss.{hss_signature_of, id_under, key_under, lower_leaf, top_leaf}
+use Rattle.zy_lms.specs.KeyState.{KeyState, at_leaf}
+use Rattle.zy_lms.specs.Lms.{VerifiesAs, public_of, signature_of, signature_len_of}
 use Rattle.zy_lms.specs.Tree.{path_from}
-use Rattle.zy_seal.specs.Sealing.{signatures_by, signature_size}
+use Rattle.zy_seal.specs.Sealing.{height_told, number_of_leaves, number_there, number_told, ots_told, signatures_by, signature_size}
 
-pub least_signatures : (height : Height) → 32 ≤ signatures_by height
+pub least_signatures : (height : Height) → 1024 ≤ signatures_by height
 least_signatures H5 = omega arith
 least_signatures H10 = omega arith
 
-pub few_signatures : (height : Height) → signatures_by height ≤ 1024
+pub few_signatures : (height : Height) → signatures_by height ≤ 1048576
 few_signatures H5 = omega arith
 few_signatures H10 = omega arith
 
-pub few_bytes : (height : Height) (ots : OtsType) → signature_size height ots ≤ 2508
+pub few_bytes : (height : Height) (ots : OtsType) → signature_size height ots ≤ 5076
 few_bytes H5 W4 = omega arith
 few_bytes H5 W8 = omega arith
 few_bytes H10 W4 = omega arith
 few_bytes H10 W8 = omega arith
 
-pub signature_long : (k : KeyState) (text : List ℕ) → length (signature_of k text) ≡ signature_size k.height k.ots
+pub few_level_bytes : (height : Height) (ots : OtsType) → signature_len_of height ots ≤ 2508
+few_level_bytes H5 W4 = omega arith
+few_level_bytes H5 W8 = omega arith
+few_level_bytes H10 W4 = omega arith
+few_level_bytes H10 W8 = omega arith
+
+-- ---- how long a signature is
+
+level_long : (k : KeyState) (text : List ℕ) → length (signature_of k text) ≡ signature_len_of k.height k.ots
 unfolding signature_of
-signature_long k text =
+level_long k text =
     let h = levels_of k.height in
     let one = one_time.signature_of k.ots k.id k.next k.seed text in
     let type = to_be_bytes w32 (type_number_of k.height) in
@@ -47,6 +65,120 @@ signature_long k text =
       length-path_from k.ots k.id k.seed h 0 h (2 ^ h + k.next),
     )
 
+some_leaf : (height : Height) → 0 < 2 ^ levels_of height
+some_leaf H5 = omega arith
+some_leaf H10 = omega arith
+
+lower_public_long : (k : KeyState) (q : ℕ) → length (public_of (key_under k q)) ≡ 56
+lower_public_long k q =
+    let long = length-sha256 (4 ∷ k.seed ++ to_be_bytes w32 q) in
+    let sized : length (id_under k.seed q) ≡ 16 = length-take-le 16 (sha256 (4 ∷ k.seed ++ to_be_bytes w32 q)) (omega (arith, long)) in
+    (VerifiesAs-signature (key_under k q) [] sized (some_leaf k.height)).key_len
+
+pub signature_long : (k : KeyState) (text : List ℕ) → length (hss_signature_of k text) ≡ signature_size k.height k.ots
+unfolding hss_signature_of
+signature_long k text =
+    let first = to_be_bytes w32 1 in
+    let lower = key_under k (top_leaf k) in
+    let public = public_of lower in
+    let top = signature_of (at_leaf k (top_leaf k)) public in
+    let last = signature_of (at_leaf lower (lower_leaf k)) text in
+    let four : length first ≡ 4 = refl in
+    omega (
+      arith,
+      length-append top public,
+      length-append first (top ++ public),
+      length-append (first ++ (top ++ public)) last,
+      four,
+      level_long (at_leaf k (top_leaf k)) public,
+      level_long (at_leaf lower (lower_leaf k)) text,
+      lower_public_long k (top_leaf k),
+    )
+
 -- far shorter than a statement allows
-pub signature_short : (k : KeyState) (text : List ℕ) → length (signature_of k text) ≤ 8192
+pub signature_short : (k : KeyState) (text : List ℕ) → length (hss_signature_of k text) ≤ 8192
 signature_short k text = omega (arith, signature_long k text, few_bytes k.height k.ots)
+
+-- ---- which number it tells
+
+pub leaves_fit : (height : Height) (top lower : ℕ) → top < 2 ^ levels_of height → lower < 2 ^ levels_of height
+    → top * 2 ^ levels_of height + lower < 2 ^ 32
+leaves_fit H5 top lower below under = omega arith
+leaves_fit H10 top lower below under = omega arith
+
+number_there-Some : (bytes : List ℕ) (place : ℕ) → place + 4 ≤ length bytes → number_there bytes place ≡ Some (number_at bytes place)
+number_there-Some bytes place long = rw (le-leb (place + 4) (length bytes) long) refl
+
+-- a number within a part is that of the whole behind what stands before the part
+number_at-part : (before part after : List ℕ) (i : ℕ) → i + 4 ≤ length part → number_at (before ++ (part ++ after)) (length before + i) ≡ number_at part i
+number_at-part before part after i inside =
+    ap (λ (s : List ℕ). from_be_bytes w32 (take 4 s))
+    (sym (drop-drop i (length before) (before ++ (part ++ after)))
+    ∙ ap (drop i) (drop_at before (part ++ after) (length before) refl)
+    ∙ drop-append-le i part after (omega arith))
+    ∙ ap (from_be_bytes w32) (take-append-le 4 (drop i part) after (room i part inside))
+  where
+    room : (i : ℕ) (s : List ℕ) → i + 4 ≤ length s → 4 ≤ length (drop i s)
+    room i s inside = omega (arith, length-drop i s)
+
+leaves_number : (height : Height) (n : ℕ) → n < signatures_by height
+    → number_of_leaves (2 ^ levels_of height) (n / 2 ^ levels_of height) (n % 2 ^ levels_of height) ≡ Some n
+leaves_number height n left =
+    rw (lt-ltb (n / 2 ^ levels_of height) (2 ^ levels_of height) (top_within height n left), lt-ltb (n % 2 ^ levels_of height) (2 ^ levels_of height) (lower_within height n))
+    (ap (λ (m : ℕ). Some m) (whole height n))
+  where
+    whole : (height : Height) (n : ℕ) → n / 2 ^ levels_of height * 2 ^ levels_of height + n % 2 ^ levels_of height ≡ n
+    whole H5 n = omega arith
+    whole H10 n = omega arith
+
+module _ (k : KeyState) (text : List ℕ) (sized : length k.id ≡ 16) (left : k.next < signatures_by k.height) where
+  abbrev sig : List ℕ
+  sig = hss_signature_of k text
+
+  abbrev lower : KeyState
+  lower = key_under k (top_leaf k)
+
+  abbrev top : List ℕ
+  top = signature_of (at_leaf k (top_leaf k)) (public_of lower)
+
+  abbrev last : List ℕ
+  last = signature_of (at_leaf lower (lower_leaf k)) text
+
+  top_verifies : VerifiesAs k.height k.ots (public_of (at_leaf k (top_leaf k))) (public_of lower) top
+  top_verifies = VerifiesAs-signature (at_leaf k (top_leaf k)) (public_of lower) sized (top_within k.height k.next left)
+
+  parts : sig ≡ to_be_bytes w32 1 ++ (top ++ (public_of lower ++ last))
+  unfolding hss_signature_of
+  parts =
+      append_assoc (to_be_bytes w32 1) (top ++ public_of lower) last
+      ∙ ap (λ (behind : List ℕ). to_be_bytes w32 1 ++ behind) (append_assoc top (public_of lower) last)
+
+  in_top : (i : ℕ) → i + 4 ≤ length top → number_at sig (4 + i) ≡ number_at top i
+  in_top i inside = ap (λ (s : List ℕ). number_at s (4 + i)) parts ∙ number_at-part (to_be_bytes w32 1) top (public_of lower ++ last) i inside
+
+  ots_is : ots_told sig ≡ Some k.ots
+  ots_is =
+      let long = signature_long k text in
+      let len = top_verifies.len in
+      let there : number_there sig 8 ≡ Some (number_at sig 8) = number_there-Some sig 8 (omega (arith, long)) in
+      let number : number_at sig 8 ≡ ots_types.number_of k.ots =
+      in_top 4 (omega (arith, len)) ∙ sym (ap (from_be_bytes w32) (take-take 4 (ots_types.signature_len_of k.ots) (drop 4 top) (omega arith))) ∙ top_verifies.ots_form.1 in
+      ap (option_and_then ots_types.type_with) there ∙ type_with-number (number_at sig 8) k.ots number
+
+  height_is : height_told sig k.ots ≡ Some k.height
+  height_is =
+      let long = signature_long k text in
+      let len = top_verifies.len in
+      let place = 8 + ots_types.signature_len_of k.ots in
+      let there : number_there sig place ≡ Some (number_at sig place) = number_there-Some sig place (omega (arith, long)) in
+      let here : place ≡ 4 + (4 + ots_types.signature_len_of k.ots) = omega arith in
+      let number : number_at sig place ≡ type_number_of k.height =
+      ap (number_at sig) here ∙ in_top (4 + ots_types.signature_len_of k.ots) (omega (arith, len)) ∙ top_verifies.type in
+      ap (option_and_then _) there ∙ height_with-number (number_at sig place) k.height number
+
+  pub number_is : number_told sig ≡ Some k.next
+  number_is =
+      let long = signature_long k text in
+      let place = 60 + signature_len_of k.height k.ots in
+      let there : number_there sig place ≡ Some (number_at sig place) = number_there-Some sig place (omega (arith, long)) in
+      rw (ots_is, height_is, there, top_leaf_is k text sized left, lower_leaf_is k text sized left) (leaves_number k.height k.next left)

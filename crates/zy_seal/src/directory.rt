@@ -1,19 +1,19 @@
 ghost use Rattle.std.specs.Prelude.{◌≡◌, ◌↔◌, ℕ, List, Option, option_copied, None, Some, IsTrue};
-ghost use Rattle.zy_lms.specs.Lms.{Verifies, verified};
+ghost use Rattle.zy_lms.specs.Hss.{HssVerifies, hss_verified};
 
 use crate::known::Known;
 use std::alloc::{AllocError, Global};
 use std::marker::Model;
 use zy_base::{ClientId, Party, ReplicaId};
-use zy_lms::verify;
+use zy_lms::hss_verify;
 
-/// The public keys of a group: LMS type, LM-OTS type, identifier and root (RFC 8554, section 5.3). What it knows beside, which no clause
+/// The public keys of a group, each of two levels: their number, and the top LMS key (RFC 8554, section 6.1). What it knows beside, which no clause
 /// sees, spares checks that were made already.
 #[derive(Drop)]
 pub struct Directory {
     alloc: Global,
-    replicas: Vec<[u8; 56]>,
-    clients: Vec<[u8; 56]>,
+    replicas: Vec<[u8; 60]>,
+    clients: Vec<[u8; 60]>,
     known: Known,
 }
 
@@ -54,7 +54,7 @@ impl Directory {
     ghost use Rattle.zy_seal.specs.Keys.{key_of};
 
     /// The keys in the order of the parties' numbers. Takes no memory: a copy takes it from `alloc`.
-    pub fn new(alloc: Global, replicas: Vec<[u8; 56]>, clients: Vec<[u8; 56]>) -> Directory
+    pub fn new(alloc: Global, replicas: Vec<[u8; 60]>, clients: Vec<[u8; 60]>) -> Directory
         ensures { result ≡ record { replicas = replicas.items; clients = clients.items } }
     {
         Directory {
@@ -83,21 +83,21 @@ impl Directory {
     }
 
     // What is known to verify isn't checked again.
-    fn verifies(&self, key: &[u8; 56], text: &[u8], sig: &[u8]) -> bool
-        ensures value { result ≡ verified key.now text.now sig.now }
-        ensures meaning { IsTrue result ↔ Verifies key.now text.now sig.now }
+    fn verifies(&self, key: &[u8; 60], text: &[u8], sig: &[u8]) -> bool
+        ensures value { result ≡ hss_verified key.now text.now sig.now }
+        ensures meaning { IsTrue result ↔ HssVerifies key.now text.now sig.now }
     {
         if self.known.has(key, text, sig) {
             return true;
         }
-        let verifies = verify(key, text, sig);
+        let verifies = hss_verify(key, text, sig);
         if verifies {
             self.known.keep(key, text, sig);
         }
         verifies
     }
 
-    pub fn key(&self, by: Party) -> Option<&[u8; 56]>
+    pub fn key(&self, by: Party) -> Option<&[u8; 60]>
         ensures { option_copied result ≡ key_of self.now by }
     {
         match by {
@@ -114,7 +114,7 @@ ghost use Rattle.zy_seal.specs.Checking.{answer_of};
 pub fn check(directory: &Directory, by: Party, text: &[u8], sig: &[u8]) -> SealAnswer
     ensures value { result ≡ answer_of directory.now by text.now sig.now }
     ensures unknown { (result ≡ SealAnswer.UnknownParty) ↔ (key_of directory.now by ≡ None) }
-    ensures yes { (result ≡ SealAnswer.Yes) ↔ ((key : List ℕ) × (key_of directory.now by ≡ Some key) × Verifies key text.now sig.now) }
+    ensures yes { (result ≡ SealAnswer.Yes) ↔ ((key : List ℕ) × (key_of directory.now by ≡ Some key) × HssVerifies key text.now sig.now) }
 {
     match directory.key(by) {
         None => SealAnswer::UnknownParty,

@@ -1,7 +1,7 @@
 //! What one party knows to verify: what its process keeps, and what it checked or signed itself since.
 
 ghost use Rattle.std.specs.Prelude.{IsTrue};
-ghost use Rattle.zy_lms.specs.Lms.{verified};
+ghost use Rattle.zy_lms.specs.Hss.{hss_verified};
 
 use crate::store::{Checked, Store};
 use std::alloc::Global;
@@ -58,8 +58,8 @@ impl Known {
     }
 
     /// Whether the signature is known to verify.
-    pub(crate) fn has(&self, key: &[u8; 56], text: &[u8], sig: &[u8]) -> bool
-        ensures { IsTrue result → IsTrue (verified key.now text.now sig.now) }
+    pub(crate) fn has(&self, key: &[u8; 60], text: &[u8], sig: &[u8]) -> bool
+        ensures { IsTrue result → IsTrue (hss_verified key.now text.now sig.now) }
     {
         match &self.store {
             Some(store) => is_kept(store, key, text, sig) || is_fresh(&self.fresh, key, text, sig),
@@ -68,8 +68,8 @@ impl Known {
     }
 
     /// Where there is no memory for it, it isn't known later.
-    pub(crate) fn keep(&self, key: &[u8; 56], text: &[u8], sig: &[u8])
-        requires { IsTrue (verified key.now text.now sig.now) }
+    pub(crate) fn keep(&self, key: &[u8; 60], text: &[u8], sig: &[u8])
+        requires { IsTrue (hss_verified key.now text.now sig.now) }
     {
         if self.store.is_none() {
             return;
@@ -95,8 +95,8 @@ impl Known {
     }
 }
 
-fn is_kept(store: &RwLock<Store>, key: &[u8; 56], text: &[u8], sig: &[u8]) -> bool
-    ensures { IsTrue result → IsTrue (verified key.now text.now sig.now) }
+fn is_kept(store: &RwLock<Store>, key: &[u8; 60], text: &[u8], sig: &[u8]) -> bool
+    ensures { IsTrue result → IsTrue (hss_verified key.now text.now sig.now) }
 {
     match store.try_read() {
         Some(store) => store.has(key, text, sig),
@@ -104,8 +104,8 @@ fn is_kept(store: &RwLock<Store>, key: &[u8; 56], text: &[u8], sig: &[u8]) -> bo
     }
 }
 
-fn is_fresh(fresh: &RefCell<Vec<Checked>>, key: &[u8; 56], text: &[u8], sig: &[u8]) -> bool
-    ensures { IsTrue result → IsTrue (verified key.now text.now sig.now) }
+fn is_fresh(fresh: &RefCell<Vec<Checked>>, key: &[u8; 60], text: &[u8], sig: &[u8]) -> bool
+    ensures { IsTrue result → IsTrue (hss_verified key.now text.now sig.now) }
 {
     match fresh.try_borrow() {
         Ok(fresh) => some_is(&fresh, key, text, sig),
@@ -113,8 +113,8 @@ fn is_fresh(fresh: &RefCell<Vec<Checked>>, key: &[u8; 56], text: &[u8], sig: &[u
     }
 }
 
-fn some_is(all: &[Checked], key: &[u8; 56], text: &[u8], sig: &[u8]) -> bool
-    ensures { IsTrue result → IsTrue (verified key.now text.now sig.now) }
+fn some_is(all: &[Checked], key: &[u8; 60], text: &[u8], sig: &[u8]) -> bool
+    ensures { IsTrue result → IsTrue (hss_verified key.now text.now sig.now) }
 {
     all.iter().any(|checked| checked.is_of(key, text, sig))
 }

@@ -1,4 +1,4 @@
-//! Signed statements: a party signs with its own LMS key (RFC 8554), and anyone checks by a directory of public keys.
+//! Signed statements: a party signs with its own key of two levels of LMS keys (RFC 8554), and anyone checks by a directory of public keys.
 #![tactic(auto)]
 
 mod derived;

@@ -1,5 +1,5 @@
 ghost use Rattle.std.specs.Prelude.{◌≡◌, ◌≤◌, ◌↔◌, IfOk, OnOk, OnErr, IsErrOf};
-ghost use Rattle.zy_lms.specs.KeyState.{IsKey};
+ghost use Rattle.zy_lms.specs.Hss.{IsHssKey};
 ghost use Rattle.zy_seal.specs.Sealing.{signatures_by, left_of};
 ghost use Rattle.zy_seal.specs.declared.sealer.SealFault.TheVariants.{KeySpent};
 
@@ -8,7 +8,7 @@ use crate::known::Known;
 use std::alloc::Global;
 use std::marker::Model;
 use zy_base::{Party, Want};
-use zy_lms::{LmsKey, SignFault};
+use zy_lms::{HssKey, SignFault};
 use zy_parts::{Signed, Statement, signed_text};
 
 /// Why a statement isn't signed. No signature is spent then.
@@ -34,7 +34,7 @@ impl From<Want> for SealFault {
 pub struct Sealer {
     alloc: Global,
     me: Party,
-    key: LmsKey,
+    key: HssKey,
     known: Known,
 }
 
@@ -50,7 +50,7 @@ impl Sealer {
     ghost use Rattle.zy_seal.specs.Sealing.{IsSealed, sealed_by, spent_one};
 
     /// Takes no memory. What is sealed takes it from `alloc`.
-    pub fn new(alloc: Global, me: Party, key: LmsKey) -> Sealer
+    pub fn new(alloc: Global, me: Party, key: HssKey) -> Sealer
         ensures { result ≡ record { me = me; key = key } }
     {
         Sealer {
@@ -113,7 +113,7 @@ impl Sealer {
     pub fn left(&self) -> u32
         ensures left { result ≡ left_of self.now }
         ensures within { self.now.key.next ≤ signatures_by self.now.key.height }
-        ensures key { IsKey self.now.key }
+        ensures key { IsHssKey self.now.key }
     {
         self.key.left()
     }

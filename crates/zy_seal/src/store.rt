@@ -2,7 +2,7 @@
 
 ghost use Rattle.std.specs.Prelude.{◌≡◌, IsTrue, true};
 ghost use Rattle.std.proofs.Props.{props};
-ghost use Rattle.zy_lms.specs.Lms.{verified};
+ghost use Rattle.zy_lms.specs.Hss.{hss_verified};
 
 use crate::signature_number;
 use indexmap::IndexMap;
@@ -19,20 +19,20 @@ const BESIDE: usize = 256;
 /// A signature of a text that verifies under a key.
 #[derive(Drop)]
 pub(crate) struct Checked {
-    key: [u8; 56],
+    key: [u8; 60],
     text: Bytes,
     sig: Bytes,
-    ghost verifies: { verified key text sig ≡ true } by { Prim.hlevel props },
+    ghost verifies: { hss_verified key text sig ≡ true } by { Prim.hlevel props },
 }
 
 impl Checked {
     pub(crate) fn new(
         alloc: Global,
-        key: &[u8; 56],
+        key: &[u8; 60],
         text: &[u8],
         sig: &[u8],
     ) -> Result<Checked, Want>
-        requires { IsTrue (verified key.now text.now sig.now) }
+        requires { IsTrue (hss_verified key.now text.now sig.now) }
     {
         Ok(Checked {
             key: *key,
@@ -42,8 +42,8 @@ impl Checked {
     }
 
     /// Whether it is the signature of this text under this key. All is compared, byte by byte.
-    pub(crate) fn is_of(&self, key: &[u8; 56], text: &[u8], sig: &[u8]) -> bool
-        ensures { IsTrue result → IsTrue (verified key.now text.now sig.now) }
+    pub(crate) fn is_of(&self, key: &[u8; 60], text: &[u8], sig: &[u8]) -> bool
+        ensures { IsTrue result → IsTrue (hss_verified key.now text.now sig.now) }
     {
         self.sig.as_slice() == sig && self.text.as_slice() == text && self.key == *key
     }
@@ -59,7 +59,7 @@ impl Checked {
     }
 }
 
-// Where a signature is looked for: at the identifier of its key and the number that it tells, by which an honest key signs one text alone.
+// Where a signature is looked for: at the identifier of its top key and the number that it tells, by which an honest key signs one text alone.
 #[derive(Clone, Copy, PartialEq, Eq, Hash)]
 struct Slot {
     id: [u8; 16],
@@ -67,9 +67,9 @@ struct Slot {
 }
 
 impl Slot {
-    fn of(key: &[u8; 56], sig: &[u8]) -> Slot {
+    fn of(key: &[u8; 60], sig: &[u8]) -> Slot {
         let mut id = [0; 16];
-        id.copy_from_slice(&key[8..24]);
+        id.copy_from_slice(&key[12..28]);
         Slot {
             id,
             number: signature_number(sig),
@@ -98,8 +98,8 @@ impl Store {
         }
     }
 
-    pub(crate) fn has(&self, key: &[u8; 56], text: &[u8], sig: &[u8]) -> bool
-        ensures { IsTrue result → IsTrue (verified key.now text.now sig.now) }
+    pub(crate) fn has(&self, key: &[u8; 60], text: &[u8], sig: &[u8]) -> bool
+        ensures { IsTrue result → IsTrue (hss_verified key.now text.now sig.now) }
     {
         let slot = Slot::of(key, sig);
         has_at(&self.young, &slot, key, text, sig) || has_at(&self.old, &slot, key, text, sig)
@@ -124,11 +124,11 @@ impl Store {
 fn has_at(
     part: &IndexMap<Slot, Checked>,
     slot: &Slot,
-    key: &[u8; 56],
+    key: &[u8; 60],
     text: &[u8],
     sig: &[u8],
 ) -> bool
-    ensures { IsTrue result → IsTrue (verified key.now text.now sig.now) }
+    ensures { IsTrue result → IsTrue (hss_verified key.now text.now sig.now) }
 {
     match part.get(slot) {
         Some(checked) => checked.is_of(key, text, sig),

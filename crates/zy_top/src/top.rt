@@ -37,7 +37,7 @@ use zy_top_words::{Command, Exit, OpFault, command_of, op_read_alone, read_file,
 /// world of four replicas, and writes what it came to in numbers and the agreed list.
 ///
 /// `node GROUP SECRET PARTY TURNS` runs a replica of a group by its secret file for so many turns on the link, and writes where it
-/// stands then and the next leaf of its key. `ask GROUP SECRET PARTY TURNS OP` asks for an operation as a client of a group by its
+/// stands then and the next signature of its key. `ask GROUP SECRET PARTY TURNS OP` asks for an operation as a client of a group by its
 /// secret file, takes turns until the request is complete, at most so many, and writes the completion, if it came, and where the
 /// client's key and stamps go on.
 ///

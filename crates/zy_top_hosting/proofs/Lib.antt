@@ -9,3 +9,4 @@ mod Opening
 mod Turning
 mod Keeping
 mod Exits
+mod Seats

@@ -1,6 +1,7 @@
 -- What the parts of a node's command and of an ask's give.
 use Rattle.std.specs.Prelude.{◌≡◌, ℕ, ◌<◌, ◌≤◌, ◌+◌, Bool, true, false, IsTrue, List, Option, None, Result, Ok, Err, ⊤}
 use Rattle.zy_edge.specs.Faults.{IsCounted}
+use Rattle.zy_group.specs.Fields.{count_by}
 use Rattle.zy_group.specs.declared.secret.Secret.{Secret}
 use Rattle.zy_table.specs.ClientState.{ClientState, signs_left}
 use Rattle.zy_top_words.specs.Ends.{IsAnswer, IsWritten, Verdict, is_write_fault}
@@ -10,7 +11,6 @@ use Rattle.zy_top_hosting.specs.Files.{Replica, Seat}
 use Rattle.zy_top_hosting.specs.declared.files.Told.{Told}
 use Rattle.zy_top_hosting.specs.declared.seat.NodeSeat.{NodeSeat}
 use Rattle.zy_top_hosting.specs.declared.seat.AskSeat.{AskSeat}
-use Rattle.zy_seal.specs.Sealing.{signatures_by}
 
 -- what was judged, or how it is refused, or a file could not be read, or memory was wanted
 abbrev pub IsJudged : {A : Type 0} → Result A Exit → Result A Exit → Type 0
@@ -26,7 +26,7 @@ value_in (Err exit) = Err exit
 
 -- so many signatures are left of its key
 abbrev pub HasLeft : ℕ → Secret → Type 0
-HasLeft left secret = secret.next + left ≤ signatures_by secret.height
+HasLeft left secret = secret.next + left ≤ count_by secret.version secret.height
 
 -- the party is what the files tell, and so is its address
 abbrev pub node_in : Result NodeSeat Exit → Result (Seat Replica) Exit

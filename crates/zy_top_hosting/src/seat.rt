@@ -11,7 +11,7 @@ use zy_base::{ClientId, Party, ReplicaId, Stamp, Want};
 use zy_client::Client;
 use zy_edge::Address;
 use zy_group::{AskGroup, NodeGroup, Secret, own_key, plain_counts};
-use zy_lms::LmsKey;
+use zy_lms::HssKey;
 use zy_replica::Replica;
 use zy_seal::Sealer;
 use zy_space::Space;
@@ -59,7 +59,7 @@ fn replica_of(
     alloc: Global,
     id: ReplicaId,
     group: NodeGroup,
-    key: LmsKey,
+    key: HssKey,
 ) -> Result<Replica<Space>, Want>
     requires group { IsNodeGroup group }
     requires member { id.0 < length group.members.keys.replicas }
@@ -107,7 +107,7 @@ fn client_of(
     alloc: Global,
     id: ClientId,
     group: AskGroup,
-    key: LmsKey,
+    key: HssKey,
     stamp: Stamp,
 ) -> Result<Client, Want>
     requires group { AreMembers group }

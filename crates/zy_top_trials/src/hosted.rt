@@ -183,12 +183,14 @@ fn the_first_field_that_fails_ends_an_ask(rt: HostRuntime) -> Result<(), Fail> {
     Ok(())
 }
 
-/// A party with a secret whose last line is this, and the field that fails then: 16 where a client's key has no leaf left, 18
-/// where the secret isn't the party's or the party isn't of the group.
+/// A party with a secret whose last lines are these, and the field that fails then: 16 where a client's key has no signature left, 18
+/// where the secret isn't the party's or the party isn't of the group, 19 where there is no such version.
 type KeyRow = (Party, &'static [&'static str; 4], &'static str, u8);
 
-const WRONG_KEYS: [KeyRow; 6] = [
+const WRONG_KEYS: [KeyRow; 8] = [
     (CLIENT_3, &SECRET_OF_CLIENT, "next = 32", 16),
+    (CLIENT_3, &SECRET_OF_CLIENT, "version = 2\nnext = 1024", 16),
+    (REPLICA_0, &SECRET_OF_REPLICA, "version = 3\nnext = 0", 19),
     (REPLICA_0, &SECRET_OF_CLIENT, "next = 32", 18),
     (CLIENT_3, &SECRET_OF_REPLICA, "next = 31", 18),
     (
@@ -230,10 +232,11 @@ fn a_key_is_its_party_s_and_has_a_leaf(rt: HostRuntime) -> Result<(), Fail> {
 /// A number of turns, the call of the link that fails, how the run ends then, and what is written.
 type TurnsRow = (u32, u64, Exit, &'static str);
 
-/// Where the replica stands, and the next leaf of its key and its stamp, which it has none of.
+/// Where the replica stands, and the number of its key's next signature, the first behind the leaves that an older secret tells as used,
+/// and its stamp, which it has none of.
 const STANDING: &str =
     "r0 active 0 length 0 head 0000000000000000000000000000000000000000000000000000000000000000 \
-    state baf00e0b9e04a2563ee664311136c4f84d22d5790ea9171c344e6093d6b0bd12\nkey next 7 stamp 0\n";
+    state baf00e0b9e04a2563ee664311136c4f84d22d5790ea9171c344e6093d6b0bd12\nkey next 224 stamp 0\n";
 
 const ASKED: &str = "key next 1 stamp 1\n";
 

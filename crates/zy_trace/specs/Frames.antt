@@ -1,14 +1,14 @@
 -- What a trace tells of a frame: its kind, and the statement that it holds first.
-use Rattle.std.specs.Prelude.{ℕ, nat_lt, ◌==◌, if◌then◌else◌, List, length, codes, slice_get, Option, Some, None}
+use Rattle.std.specs.Prelude.{ℕ, ◌==◌, if◌then◌else◌, List, codes, slice_get, Option, Some, None, option_map}
 use Rattle.std.specs.Option.{option_and_then}
 use Rattle.zy_base.specs.declared.ids.Party.{Party}
 use Rattle.zy_frames.specs.declared.frame.Frame.{Frame}
 use Rattle.zy_frames.specs.declared.frame.Frame.TheVariants as frames
-use Rattle.zy_ots.specs.Coef.{number_at}
 use Rattle.zy_parts.specs.declared.reports.New.{New}
 use Rattle.zy_parts.specs.declared.signed.Signed.{Signed}
 use Rattle.zy_parts.specs.declared.statements.Order.{Order}
 use Rattle.zy_parts.specs.declared.statements.Spec.{Spec}
+use Rattle.zy_seal.specs.Sealing.{number_told}
 use Rattle.zy_table.specs.declared.deeds.AnyFrame.{AnyFrame}
 use Rattle.zy_table.specs.declared.deeds.AnyFrame.TheVariants.{Plain, View}
 use Rattle.zy_vframes.specs.declared.frame.ViewFrame.{ViewFrame}
@@ -65,41 +65,39 @@ saying_name says.View = codes "view"
 saying_name says.Began = codes "began"
 saying_name says.Fetch = codes "fetch"
 
--- Who signed, what it says, and the view and the place of which it speaks. A signature begins with its number; one that
--- is too short for that is passed over.
-abbrev pub stated : Party → List ℕ → Saying → Option ℕ → Option ℕ → Option Statement
-stated by sig saying view place =
-    if nat_lt (length sig) 4 then None else Some (record { by = by; spent = number_at sig 0; saying = saying; view = view; place = place })
+-- who is said to have signed, the number that the signature tells, what it says, and the view and the place of which it speaks
+abbrev pub stated : Party → List ℕ → Saying → Option ℕ → Option ℕ → Statement
+stated by sig saying view place = record { by = by; spent = number_told sig; saying = saying; view = view; place = place }
 
-abbrev pub order_stated : Signed Order → Option Statement
+abbrev pub order_stated : Signed Order → Statement
 order_stated order = stated order.by order.sig says.Order (Some order.stmt.view.0) (Some order.stmt.place.0)
 
-abbrev pub response_stated : Signed Spec → Option Statement
+abbrev pub response_stated : Signed Spec → Statement
 response_stated spec = stated spec.by spec.sig says.Response (Some spec.stmt.view.0) (Some spec.stmt.place.0)
 
-abbrev pub view_stated : Signed New → Option Statement
+abbrev pub view_stated : Signed New → Statement
 view_stated new = stated new.by new.sig says.View (Some new.stmt.view.0) None
 
 -- in a frame of normal operation
 abbrev pub plain_statement : Frame → Option Statement
-plain_statement (frames.Request ask) = stated ask.by ask.sig says.Ask None None
-plain_statement (frames.Order both) = order_stated both.order
-plain_statement (frames.SpecResponse spec reply with_order) = response_stated spec
-plain_statement (frames.Commit specs) = option_and_then response_stated (slice_get specs 0)
-plain_statement (frames.LocalCommit local) = stated local.by local.sig says.Local (Some local.stmt.view.0) (Some local.stmt.place.0)
-plain_statement (frames.ConfirmReq confirm ask) = stated confirm.by confirm.sig says.Confirm (Some confirm.stmt.view.0) None
-plain_statement (frames.FillHole hole) = stated hole.by hole.sig says.Hole (Some hole.stmt.view.0) (Some hole.stmt.from.0)
-plain_statement (frames.Hate hate) = stated hate.by hate.sig says.Hate (Some hate.stmt.view.0) None
-plain_statement (frames.Pom first second) = order_stated first
-plain_statement (frames.Checkpoint check) = stated check.by check.sig says.Checkpoint (Some check.stmt.view.0) (Some check.stmt.place.0)
+plain_statement (frames.Request ask) = Some (stated ask.by ask.sig says.Ask None None)
+plain_statement (frames.Order both) = Some (order_stated both.order)
+plain_statement (frames.SpecResponse spec reply with_order) = Some (response_stated spec)
+plain_statement (frames.Commit specs) = option_map response_stated (slice_get specs 0)
+plain_statement (frames.LocalCommit local) = Some (stated local.by local.sig says.Local (Some local.stmt.view.0) (Some local.stmt.place.0))
+plain_statement (frames.ConfirmReq confirm ask) = Some (stated confirm.by confirm.sig says.Confirm (Some confirm.stmt.view.0) None)
+plain_statement (frames.FillHole hole) = Some (stated hole.by hole.sig says.Hole (Some hole.stmt.view.0) (Some hole.stmt.from.0))
+plain_statement (frames.Hate hate) = Some (stated hate.by hate.sig says.Hate (Some hate.stmt.view.0) None)
+plain_statement (frames.Pom first second) = Some (order_stated first)
+plain_statement (frames.Checkpoint check) = Some (stated check.by check.sig says.Checkpoint (Some check.stmt.view.0) (Some check.stmt.place.0))
 
 -- in one of a change of view
 abbrev pub view_statement : ViewFrame → Option Statement
-view_statement (views.ViewChange change) = stated change.by change.sig says.Report (Some change.stmt.view.0) None
-view_statement (views.NewView new) = view_stated new
-view_statement (views.ViewConfirm began) = stated began.by began.sig says.Began (Some began.stmt.view.0) (Some began.stmt.place.0)
-view_statement (views.ViewCert certificate) = view_stated certificate.new
-view_statement (views.Fetch fetch) = stated fetch.by fetch.sig says.Fetch None (Some fetch.stmt.place.0)
+view_statement (views.ViewChange change) = Some (stated change.by change.sig says.Report (Some change.stmt.view.0) None)
+view_statement (views.NewView new) = Some (view_stated new)
+view_statement (views.ViewConfirm began) = Some (stated began.by began.sig says.Began (Some began.stmt.view.0) (Some began.stmt.place.0))
+view_statement (views.ViewCert certificate) = Some (view_stated certificate.new)
+view_statement (views.Fetch fetch) = Some (stated fetch.by fetch.sig says.Fetch None (Some fetch.stmt.place.0))
 view_statement (views.State place snapshot) = None
 
 abbrev pub frame_statement : AnyFrame → Option Statement

@@ -1,6 +1,6 @@
 -- The lines of a trace. Each ends with a line feed (10), and begins with the number of its event; a dash stands where there is nothing
 -- to name.
-use Rattle.std.specs.Prelude.{ℕ, ◌+◌, nat_le, ◌&&◌, Bool, false, if◌then◌else◌, List, [], ◌∷◌, ◌++◌, codes, Option, Some, None, option_map}
+use Rattle.std.specs.Prelude.{ℕ, ◌+◌, nat_le, if◌then◌else◌, List, [], ◌∷◌, ◌++◌, codes, Option, Some, None, option_map}
 use Rattle.std.specs.Fmt.{decimal}
 use Rattle.hex.specs.Hex.{encode_lower}
 use Rattle.zy_base.specs.Machine.{Rules}
@@ -23,6 +23,7 @@ use Rattle.zy_table.specs.State.{State, stood_of, timers_of}
 use Rattle.zy_top_words.specs.declared.exit.Broken.{Broken}
 use Rattle.zy_top_words.specs.declared.exit.Broken.TheVariants as broken
 use Rattle.zy_trace.specs.Frames.{saying_name}
+use Rattle.zy_trace.specs.declared.statement.Saying.{Saying}
 use Rattle.zy_trace.specs.declared.statement.Statement.{Statement}
 use Rattle.zy_tuple.specs.Parties.{party_text}
 use Rattle.zy_tuple.specs.Texts.{op_text}
@@ -74,21 +75,31 @@ answer_line number by (Some Taken) = act_line number (codes " taken ") by
 answer_line number by (Some Held) = act_line number (codes " held ") by
 answer_line number by (Some (Refused cause)) = []
 
--- a statement is told as signed where the party signed it, by a signature from this number on
-abbrev pub is_signed_by : Option Party → ℕ → Statement → Bool
-is_signed_by None unspent statement = false
-is_signed_by (Some party) unspent statement = same_party party statement.by && nat_le unspent statement.spent
+-- the number of a signature, where it is from this one on
+abbrev pub from_unspent : ℕ → Option ℕ → Option ℕ
+from_unspent unspent None = None
+from_unspent unspent (Some spent) = if nat_le unspent spent then Some spent else None
 
-abbrev pub signs_line : ℕ → Option Party → Statement → List ℕ
-signs_line number by statement =
-    act_front number (codes " signs ") by ++ 32 ∷ decimal statement.spent ++ 32 ∷ saying_name statement.saying ++ 10 ∷ []
+-- a statement is told as signed where the party signed it, by a signature from this number on: the number of that
+abbrev pub signed_with : Option Party → ℕ → Statement → Option ℕ
+signed_with None unspent statement = None
+signed_with (Some party) unspent statement = if same_party party statement.by then from_unspent unspent statement.spent else None
+
+abbrev pub signs_line : ℕ → Option Party → Saying → Option ℕ → List ℕ
+signs_line number by saying None = []
+signs_line number by saying (Some spent) =
+    act_front number (codes " signs ") by ++ 32 ∷ decimal spent ++ 32 ∷ saying_name saying ++ 10 ∷ []
 
 abbrev pub signing_line : ℕ → Option Party → ℕ → Statement → List ℕ
-signing_line number by unspent statement = if is_signed_by by unspent statement then signs_line number by statement else []
+signing_line number by unspent statement = signs_line number by statement.saying (signed_with by unspent statement)
 
--- and then the leaves from the next one on
+-- and then the signatures from the next one on
+abbrev pub behind : ℕ → Option ℕ → ℕ
+behind unspent None = unspent
+behind unspent (Some spent) = spent + 1
+
 abbrev pub unspent_behind : Option Party → ℕ → Statement → ℕ
-unspent_behind by unspent statement = if is_signed_by by unspent statement then statement.spent + 1 else unspent
+unspent_behind by unspent statement = behind unspent (signed_with by unspent statement)
 
 -- whom a frame is for, and of what view and place its first statement speaks
 abbrev pub speaks_text : Party → Option ℕ → Option ℕ → List ℕ

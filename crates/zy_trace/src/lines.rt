@@ -1,12 +1,12 @@
 // The lines of a trace that need no world.
-ghost use Rattle.std.specs.Prelude.{◌≡◌, ◌++◌, OnOk, option_copied};
+ghost use Rattle.std.specs.Prelude.{◌≡◌, ◌++◌, OnOk, Some, option_copied};
 ghost use Rattle.zy_report.specs.Lines.{mode_text};
 ghost use Rattle.zy_schedule.specs.Texts.{kind_text};
 ghost use Rattle.zy_trace.specs.Lines as spelled;
 ghost use Rattle.zy_tuple.specs.Values.{IsOp};
 
 use crate::parts::{put_act, put_hex, put_maybe, put_name, put_number};
-use crate::statement::{Statement, saying_name};
+use crate::statement::{Saying, Statement, saying_name};
 use std::alloc::Global;
 use zy_base::{
     Answer, ClientId, Machine, Mode, Party, Place, Stamp, Stood, TimerKind, Timers, Want,
@@ -138,13 +138,25 @@ pub(crate) fn put_answer(
     }
 }
 
-/// The party signed it, by a signature from this number on.
-fn is_signed_by(by: Option<Party>, unspent: u64, statement: Statement) -> bool
-    ensures { result ≡ spelled.is_signed_by by unspent statement }
+/// The number of the signature, if the party signed it by one from this number on.
+fn signed_with(by: Option<Party>, unspent: u64, statement: Statement) -> Option<u32>
+    ensures { result ≡ spelled.signed_with by unspent statement }
 {
-    match by {
-        Some(party) => party == statement.by && unspent <= u64::from(statement.spent),
-        None => false,
+    if by? == statement.by {
+        from_unspent(unspent, statement.spent)
+    } else {
+        None
+    }
+}
+
+fn from_unspent(unspent: u64, spent: Option<u32>) -> Option<u32>
+    ensures { result ≡ spelled.from_unspent unspent spent }
+{
+    let spent = spent?;
+    if unspent <= u64::from(spent) {
+        Some(spent)
+    } else {
+        None
     }
 }
 
@@ -159,10 +171,9 @@ pub(crate) fn put_signing(
 ) -> Result<(), Want>
     ensures { OnOk result (out.new.items ≡ out.old.items ++ spelled.signing_line number by unspent statement) }
 {
-    if is_signed_by(by, unspent, statement) {
-        put_signs(alloc, out, number, by, statement)
-    } else {
-        Ok(())
+    match signed_with(by, unspent, statement) {
+        Some(spent) => put_signs(alloc, out, number, by, spent, statement.saying),
+        None => Ok(()),
     }
 }
 
@@ -171,14 +182,15 @@ fn put_signs(
     out: &mut Vec<u8>,
     number: u64,
     by: Option<Party>,
-    statement: Statement,
+    spent: u32,
+    saying: Saying,
 ) -> Result<(), Want>
-    ensures { OnOk result (out.new.items ≡ out.old.items ++ spelled.signs_line number by statement) }
+    ensures { OnOk result (out.new.items ≡ out.old.items ++ spelled.signs_line number by saying (Some spent)) }
 {
     put_act(alloc, out, number, b" signs ", by)?;
-    put_number(alloc, out, b" ", u64::from(statement.spent))?;
+    put_number(alloc, out, b" ", u64::from(spent))?;
     out.push(b' ')?;
-    out.extend_from_slice(saying_name(statement.saying).as_bytes())?;
+    out.extend_from_slice(saying_name(saying).as_bytes())?;
     out.push(b'\n')?;
     Ok(())
 }
@@ -187,10 +199,9 @@ fn put_signs(
 pub(crate) fn unspent_behind(by: Option<Party>, unspent: u64, statement: Statement) -> u64
     ensures { result ≡ spelled.unspent_behind by unspent statement }
 {
-    if is_signed_by(by, unspent, statement) {
-        u64::from(statement.spent) + 1
-    } else {
-        unspent
+    match signed_with(by, unspent, statement) {
+        Some(spent) => u64::from(spent) + 1,
+        None => unspent,
     }
 }
 

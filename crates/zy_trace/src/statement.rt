@@ -1,13 +1,12 @@
 // What a trace tells of a frame: its kind, and the statement that it holds first.
-ghost use Rattle.std.specs.Prelude.{◌≡◌, IfOk, slice_get};
-ghost use Rattle.std.specs.Option.{option_and_then};
+ghost use Rattle.std.specs.Prelude.{◌≡◌, IfOk, option_map, slice_get};
 ghost use Rattle.zy_trace.specs.Frames as frames;
 
 use std::alloc::Global;
 use zy_base::{Bytes, Party, Want};
 use zy_frames::{Frame, OrderFrame};
-use zy_ots::u32_at;
 use zy_parts::{New, Order, Signed, Spec};
+use zy_seal::signature_number;
 use zy_table::AnyFrame;
 use zy_vframes::{ViewCert, ViewFrame};
 use zy_world_setup::read_frame;
@@ -29,12 +28,12 @@ pub(crate) enum Saying {
     Fetch,
 }
 
-/// A signed statement: who signed it, the number of the signature, what it says, and the view and the place that it speaks of. Of a wish
-/// for orders the place is the first.
+/// A signed statement: who is said to have signed it, the number that the signature tells, what it says, and the view and the place that
+/// it speaks of. Of a wish for orders the place is the first.
 #[derive(Clone, Copy)]
 pub(crate) struct Statement {
     pub(crate) by: Party,
-    pub(crate) spent: u32,
+    pub(crate) spent: Option<u32>,
     pub(crate) saying: Saying,
     pub(crate) view: Option<u64>,
     pub(crate) place: Option<u64>,
@@ -63,46 +62,46 @@ fn plain_statement(frame: &Frame) -> Option<Statement>
     ensures { result ≡ frames.plain_statement frame.now }
 {
     match frame {
-        Frame::Request(ask) => stated(ask.by, &ask.sig, Saying::Ask, None, None),
-        Frame::Order(OrderFrame { order, .. }) => order_stated(order),
-        Frame::SpecResponse { spec, .. } => response_stated(spec),
+        Frame::Request(ask) => Some(stated(ask.by, &ask.sig, Saying::Ask, None, None)),
+        Frame::Order(OrderFrame { order, .. }) => Some(order_stated(order)),
+        Frame::SpecResponse { spec, .. } => Some(response_stated(spec)),
         Frame::Commit(specs) => first_response(specs.as_slice()),
-        Frame::LocalCommit(local) => stated(
+        Frame::LocalCommit(local) => Some(stated(
             local.by,
             &local.sig,
             Saying::Local,
             Some(local.stmt.view.0),
             Some(local.stmt.place.0),
-        ),
-        Frame::ConfirmReq { confirm, .. } => stated(
+        )),
+        Frame::ConfirmReq { confirm, .. } => Some(stated(
             confirm.by,
             &confirm.sig,
             Saying::Confirm,
             Some(confirm.stmt.view.0),
             None,
-        ),
-        Frame::FillHole(hole) => stated(
+        )),
+        Frame::FillHole(hole) => Some(stated(
             hole.by,
             &hole.sig,
             Saying::Hole,
             Some(hole.stmt.view.0),
             Some(hole.stmt.from.0),
-        ),
-        Frame::Hate(hate) => stated(
+        )),
+        Frame::Hate(hate) => Some(stated(
             hate.by,
             &hate.sig,
             Saying::Hate,
             Some(hate.stmt.view.0),
             None,
-        ),
-        Frame::Pom(first, _) => order_stated(first),
-        Frame::Checkpoint(check) => stated(
+        )),
+        Frame::Pom(first, _) => Some(order_stated(first)),
+        Frame::Checkpoint(check) => Some(stated(
             check.by,
             &check.sig,
             Saying::Checkpoint,
             Some(check.stmt.view.0),
             Some(check.stmt.place.0),
-        ),
+        )),
     }
 }
 
@@ -110,34 +109,34 @@ fn view_statement(frame: &ViewFrame) -> Option<Statement>
     ensures { result ≡ frames.view_statement frame.now }
 {
     match frame {
-        ViewFrame::ViewChange(change) => stated(
+        ViewFrame::ViewChange(change) => Some(stated(
             change.by,
             &change.sig,
             Saying::Report,
             Some(change.stmt.view.0),
             None,
-        ),
-        ViewFrame::NewView(new) => view_stated(new),
-        ViewFrame::ViewConfirm(began) => stated(
+        )),
+        ViewFrame::NewView(new) => Some(view_stated(new)),
+        ViewFrame::ViewConfirm(began) => Some(stated(
             began.by,
             &began.sig,
             Saying::Began,
             Some(began.stmt.view.0),
             Some(began.stmt.place.0),
-        ),
-        ViewFrame::ViewCert(ViewCert { new, .. }) => view_stated(new),
-        ViewFrame::Fetch(fetch) => stated(
+        )),
+        ViewFrame::ViewCert(ViewCert { new, .. }) => Some(view_stated(new)),
+        ViewFrame::Fetch(fetch) => Some(stated(
             fetch.by,
             &fetch.sig,
             Saying::Fetch,
             None,
             Some(fetch.stmt.place.0),
-        ),
+        )),
         ViewFrame::State { .. } => None,
     }
 }
 
-fn order_stated(order: &Signed<Order>) -> Option<Statement>
+fn order_stated(order: &Signed<Order>) -> Statement
     ensures { result ≡ frames.order_stated order.now }
 {
     stated(
@@ -149,7 +148,7 @@ fn order_stated(order: &Signed<Order>) -> Option<Statement>
     )
 }
 
-fn response_stated(spec: &Signed<Spec>) -> Option<Statement>
+fn response_stated(spec: &Signed<Spec>) -> Statement
     ensures { result ≡ frames.response_stated spec.now }
 {
     stated(
@@ -162,41 +161,36 @@ fn response_stated(spec: &Signed<Spec>) -> Option<Statement>
 }
 
 fn first_response(specs: &[Signed<Spec>]) -> Option<Statement>
-    ensures { result ≡ option_and_then frames.response_stated (slice_get specs.now 0) }
+    ensures { result ≡ option_map frames.response_stated (slice_get specs.now 0) }
 {
     match specs.first() {
-        Some(spec) => response_stated(spec),
+        Some(spec) => Some(response_stated(spec)),
         None => None,
     }
 }
 
-fn view_stated(new: &Signed<New>) -> Option<Statement>
+fn view_stated(new: &Signed<New>) -> Statement
     ensures { result ≡ frames.view_stated new.now }
 {
     stated(new.by, &new.sig, Saying::View, Some(new.stmt.view.0), None)
 }
 
-/// A signature begins with its number (RFC 8554 section 5.4).
 fn stated(
     by: Party,
     sig: &Bytes,
     saying: Saying,
     view: Option<u64>,
     place: Option<u64>,
-) -> Option<Statement>
+) -> Statement
     ensures { result ≡ frames.stated by sig.now saying view place }
 {
-    let sig = sig.as_slice();
-    if sig.len() < 4 {
-        return None;
-    }
-    Some(Statement {
+    Statement {
         by,
-        spent: u32_at(sig, 0),
+        spent: signature_number(sig.as_slice()),
         saying,
         view,
         place,
-    })
+    }
 }
 
 pub(crate) fn saying_name(saying: Saying) -> &'static str

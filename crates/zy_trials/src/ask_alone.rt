@@ -20,7 +20,7 @@ enum End {
     Want,
 }
 
-/// The next leaf and the stamp of a client that is left.
+/// The number of the next signature and the stamp of a client that is left.
 type Left = Option<(u32, Stamp)>;
 
 /// A client whose key is at a leaf, over a link of which this call fails, for so many turns; how it ends, the next leaf and
@@ -69,18 +69,18 @@ const ROWS: [Alone; 6] = [
         ..SPENT
     },
     Alone {
-        shows: "the last leaf signs",
-        next: 31,
+        shows: "the last signature is given",
+        next: 1023,
         turns: 1,
-        left: Some((32, Stamp(1))),
+        left: Some((1024, Stamp(1))),
         ..SPENT
     },
     Alone {
-        shows: "no leaf is left",
-        next: 32,
+        shows: "no signature is left",
+        next: 1024,
         failing: 1,
         end: End::Refused(Cause::KeySpent),
-        left: Some((32, Stamp(0))),
+        left: Some((1024, Stamp(0))),
         sent: 0,
         ..SPENT
     },
@@ -106,7 +106,7 @@ fn silent_link(alloc: Global, failing: u64) -> Result<MemLink, Fail> {
 }
 
 fn asked_over(alloc: Global, row: &Alone, link: &mut MemLink) -> Result<(End, Left), Fail> {
-    let client = client_at(alloc, row.next.min(32), no_keys(alloc)?)?;
+    let client = client_at(alloc, row.next.min(1024), no_keys(alloc)?)?;
     let op = lock_operation(alloc)?;
     let mut clock = MemClock::new(alloc, Vec::from_slice(alloc, &[0])?);
     Ok(end_of(ask_over(alloc, client, op, link, &mut clock, row.turns)))

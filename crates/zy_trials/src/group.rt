@@ -6,7 +6,7 @@ use std::alloc::Global;
 use std::test::Fail;
 use zy_base::{Bytes, ClientId, Counts, Party, ReplicaId, Stamp, Want};
 use zy_client::Client;
-use zy_lms::{Height, LmsKey};
+use zy_lms::{Height, HssKey};
 use zy_node::Node;
 use zy_ots::OtsType;
 use zy_replica::Replica;
@@ -27,25 +27,25 @@ pub(crate) fn lock_operation(alloc: Global) -> Result<Bytes, Want>
     Bytes::from_slice(alloc, &LOCK)
 }
 
-fn key(alloc: Global, party: Party, next: u32) -> Result<LmsKey, Want>
-    requires { next ≤ 32 }
+fn key(alloc: Global, party: Party, next: u32) -> Result<HssKey, Want>
+    requires { next ≤ 1024 }
 {
     let (seed, id) = (party_seed(&[0; 32], party), party_id(&[0; 32], party));
-    LmsKey::make(alloc, &seed, &id, Height::H5, OtsType::W4, next)
+    HssKey::make(alloc, &seed, &id, Height::H5, OtsType::W4, next)
 }
 
-fn public(alloc: Global, party: Party) -> Result<[u8; 56], Want> {
+fn public(alloc: Global, party: Party) -> Result<[u8; 60], Want> {
     Ok(key(alloc, party, 0)?.public())
 }
 
-fn replica_key(alloc: Global, id: u8) -> Result<[u8; 56], Want> {
+fn replica_key(alloc: Global, id: u8) -> Result<[u8; 60], Want> {
     public(alloc, Party::Replica(ReplicaId(id)))
 }
 
 fn directory_of(
     alloc: Global,
-    replicas: &[[u8; 56]; 4],
-    clients: &[[u8; 56]; 1],
+    replicas: &[[u8; 60]; 4],
+    clients: &[[u8; 60]; 1],
 ) -> Result<Directory, Want>
     ensures replicas { IfOk result (λ d. length d.replicas ≤ 4) }
     ensures clients { IfOk result (λ d. length d.clients ≤ 64) }
@@ -60,7 +60,7 @@ pub(crate) fn no_keys(alloc: Global) -> Result<Directory, Want>
     ensures replicas { IfOk result (λ d. length d.replicas ≤ 4) }
     ensures clients { IfOk result (λ d. length d.clients ≤ 64) }
 {
-    directory_of(alloc, &[[0; 56]; 4], &[[0; 56]])
+    directory_of(alloc, &[[0; 60]; 4], &[[0; 60]])
 }
 
 /// The public keys of all.
@@ -77,9 +77,9 @@ pub(crate) fn directory(alloc: Global) -> Result<Directory, Want>
     directory_of(alloc, &replicas, &[public(alloc, ASKER)?])
 }
 
-/// The client, whose key is at this leaf.
+/// The client, whose next signature has this number.
 pub(crate) fn client_at(alloc: Global, next: u32, directory: Directory) -> Result<Client, Fail>
-    requires { next ≤ 32 }
+    requires { next ≤ 1024 }
 {
     let counts = Counts::plain(1).ok_or("one may lie")?;
     let sealer = Sealer::new(alloc, ASKER, key(alloc, ASKER, next)?);

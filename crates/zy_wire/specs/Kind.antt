@@ -5,7 +5,7 @@ use Rattle.zy_base.specs.declared.frame_fault.FrameFault.TheVariants.{Short, Ver
 
 -- the byte that each frame begins with
 abbrev pub frame_version : ℕ
-frame_version = 1
+frame_version = 2
 
 -- the most bytes that a frame may have
 abbrev pub frame_limit : ℕ

@@ -4,7 +4,7 @@ ghost use Rattle.zy_wire.specs.Kind.{kind_in};
 use zy_base::FrameFault;
 
 /// The version byte that each frame begins with.
-pub const VERSION: u8 = 1;
+pub const VERSION: u8 = 2;
 
 /// The most bytes that a frame may have.
 pub const MAX_FRAME: usize = 4_194_304;
@@ -13,7 +13,7 @@ pub const MAX_FRAME: usize = 4_194_304;
 pub const MAX_KIND: u8 = 16;
 
 /// The kind of a frame, from 1 to 16, by its first two bytes. `TooLong` above 4,194,304 bytes; `Short` without a first
-/// byte; `Version` where that isn't 1; `Short` without a second byte; `Kind` where that is no kind.
+/// byte; `Version` where that isn't 2; `Short` without a second byte; `Kind` where that is no kind.
 pub fn kind_of(bytes: &[u8]) -> Result<u8, FrameFault>
     ensures { result ≡ kind_in bytes.now }
 {

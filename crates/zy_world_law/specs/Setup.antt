@@ -7,7 +7,7 @@ use Rattle.zy_base.specs.declared.ids.Party.TheVariants.{Replica, Client}
 use Rattle.zy_ots.specs.declared.ots_type.OtsType.{OtsType}
 use Rattle.zy_lms.specs.declared.height.Height.{Height}
 use Rattle.zy_lms.specs.KeyState.{KeyState}
-use Rattle.zy_lms.specs.Lms.{public_of}
+use Rattle.zy_lms.specs.Hss.{hss_public_of}
 use Rattle.zy_seal.specs.Derived.{seed_of, id_of}
 use Rattle.zy_seal.specs.Keys.{Keys}
 use Rattle.zy_seal.specs.Sealing.{SealerState}
@@ -43,7 +43,7 @@ abbrev pub sealer_of : Setup → Party → ℕ → SealerState
 sealer_of s party number = record { me = party; key = key_of_party s party number }
 
 abbrev pub public_key_of : Setup → Party → List ℕ
-public_key_of s party = public_of (key_of_party s party 0)
+public_key_of s party = hss_public_of (key_of_party s party 0)
 
 -- the public keys of all parties
 unfoldable pub keys_of : Setup → Keys

@@ -6,7 +6,7 @@ use Rattle.std.proofs.lemmas.List.{length-append}
 use Rattle.std.specs.Int.{w16}
 use Rattle.zy_base.specs.declared.ids.Party.{Party}
 use Rattle.zy_frames.specs.Frames as plain
-use Rattle.zy_lms.specs.Lms.{signature_of}
+use Rattle.zy_lms.specs.Hss.{hss_signature_of}
 use Rattle.zy_parts.specs.Numbers as numbers
 use Rattle.zy_parts.specs.Reports.{change_fields, new_fields, began_fields, fetch_fields}
 use Rattle.zy_parts.specs.Signing.{signed, text_of}
@@ -35,7 +35,7 @@ frame_long : {A : Type 0} (number kind : ℕ) (fields : Spelling A) (sealer : Se
     → length (frame_version ∷ kind ∷ (signed fields).spell (sealed_by number fields sealer stmt)) ≡ length (fields.spell stmt) + 9 + signature_size sealer.key.height sealer.key.ots
 unfolding signed
 frame_long number kind fields sealer stmt =
-    let sig = signature_of sealer.key (text_of number fields sealer.me stmt) in
+    let sig = hss_signature_of sealer.key (text_of number fields sealer.me stmt) in
     let spelled = fields.spell stmt in
     let behind = bytes_of w16 (length sig) ++ sig in
     omega (

@@ -6,10 +6,10 @@ ghost use Rattle.zy_seal.specs.Sealing.{signatures_by};
 use crate::setup::Setup;
 use std::alloc::Global;
 use zy_base::{ClientId, Party, ReplicaId, Want};
-use zy_lms::LmsKey;
+use zy_lms::HssKey;
 use zy_seal::{Directory, Sealer, party_id, party_seed};
 
-/// The party with its key, derived from the seed, whose next signature has this number. Its tree is built.
+/// The party with its key, derived from the seed, whose next signature has this number. Its top tree is built.
 pub fn sealer_at(alloc: Global, setup: &Setup, party: Party, number: u32) -> Result<Sealer, Want>
     requires { number ≤ signatures_by setup.now.height }
     ensures { IfOk result (λ sealer. sealer ≡ sealer_of setup.now party number) }
@@ -18,13 +18,13 @@ pub fn sealer_at(alloc: Global, setup: &Setup, party: Party, number: u32) -> Res
     Ok(Sealer::new(alloc, party, key))
 }
 
-fn key_at(alloc: Global, setup: &Setup, party: Party, number: u32) -> Result<LmsKey, Want>
+fn key_at(alloc: Global, setup: &Setup, party: Party, number: u32) -> Result<HssKey, Want>
     requires { number ≤ signatures_by setup.now.height }
     ensures { IfOk result (λ key. key ≡ key_of_party setup.now party number) }
 {
     let seed = party_seed(&setup.seed, party);
     let id = party_id(&setup.seed, party);
-    LmsKey::make(alloc, &seed, &id, setup.height, setup.ots, number)
+    HssKey::make(alloc, &seed, &id, setup.height, setup.ots, number)
 }
 
 /// The keys of all parties.
@@ -39,7 +39,7 @@ pub struct Keyring {
 }
 
 impl Keyring {
-    /// Each party's tree is built once.
+    /// Each party's top tree is built once.
     pub fn of(alloc: Global, setup: &Setup) -> Result<Keyring, Want>
         ensures replicas { IfOk result (λ keys. keys.replicas.items ≡ replica_sealers setup.now) }
         ensures clients { IfOk result (λ keys. keys.clients.items ≡ client_sealers setup.now) }
@@ -59,7 +59,7 @@ impl Keyring {
 #[derive(Drop)]
 struct Keys {
     sealers: Vec<Sealer>,
-    public: Vec<[u8; 56]>,
+    public: Vec<[u8; 60]>,
 }
 
 impl Keys {

@@ -17,7 +17,7 @@ pub struct Setup {
     pub lying_clients: Vec<ClientId>,
     /// What the keys of all parties are derived from.
     pub seed: [u8; 32],
-    /// The height of each party's tree.
+    /// The height of each party's trees.
     pub height: Height,
     /// The type of each party's one-time keys.
     pub ots: OtsType,

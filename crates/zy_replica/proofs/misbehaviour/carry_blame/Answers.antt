@@ -7,10 +7,10 @@ use Rattle.zy_replica.proofs.misbehaviour.carry_blame.Goals as goal
 
 pub carry-requires-clause-judged : goal.carry-requires-clause-judged
 carry-requires-clause-judged g c =
-    let sent = c.in-Ok.ensures ∙ ap (send All (frames.Pom c.args.kept c.args.order)) c.begin.ensures in
+    let sent = c.in_ok-told.ensures ∙ ap (send All (frames.Pom c.args.kept c.args.order)) c.begin.ensures in
     subst (λ (x : Going g.row.M-State.Denot). IsJudged g.M.Machine.rules c.args.owed c.args.ending x) (sym sent) c.requires.judged
 
-pub returns-in-Ok : goal.returns-in-Ok
-returns-in-Ok g c = λ s more attempt step same.
-    let sent = c.in-Ok.ensures ∙ ap (send All (frames.Pom c.args.kept c.args.order)) c.begin.ensures in
+pub returns : goal.returns
+returns g c = λ s more attempt step same.
+    let sent = c.in_ok-told.ensures ∙ ap (send All (frames.Pom c.args.kept c.args.order)) c.begin.ensures in
     c.carry.ensures s more attempt (subst (λ (x : Going g.row.M-State.Denot). IsStep g.M.Machine.rules s more attempt c.args.owed x) (sym sent) step) same

@@ -19,13 +19,13 @@ pub commit_as-requires-clause-certificate : goal.commit_as-requires-clause-certi
 commit_as-requires-clause-certificate g c =
     c.requires.certificate (c.in-Some.is ∙ ap (λ (d : Digest). Some d) ((digest-equal c.in-Some.own c.args.local.head).0 (is_true _ (sym c.ne.ensures ∙ c.if-ne.false))))
 
-pub returns-in-Ok : goal.returns-in-Ok
-returns-in-Ok g c =
+pub returns : goal.returns
+returns g c =
     let R = g.M.Machine.rules in
     let same : same_digest c.in-Some.own c.args.local.head ≡ true = is_true _ (sym c.ne.ensures ∙ c.if-ne.false) in
     subst (λ (o : Option Digest). IfOk c.commit_as.result (λ (m : Outcome g.row.M-State.Denot). m ≡ commit_beside R c.args.core c.args.specs c.args.client c.args.local o)) (sym c.in-Some.is)
     (rw same
     (subst (λ (o : Outcome g.row.M-State.Denot). IfOk c.commit_as.result (λ (m : Outcome g.row.M-State.Denot). m ≡ o))
-    (ap (λ (said : Option (Signed Local)). commit_as R c.args.core c.args.specs c.args.client c.args.local said c.own_at-own.result) c.in-Ok.ensures.said
+    (ap (λ (said : Option (Signed Local)). commit_as R c.args.core c.args.specs c.args.client c.args.local said c.own_at-own.result) c.in_ok-said.ensures.said
     ∙ ap (λ (own : Option OwnCheckpoint). commit_as R c.args.core c.args.specs c.args.client c.args.local (local_said c.args.core c.args.local) own) c.own_at-own.ensures.own)
     c.commit_as.ensures))

@@ -12,14 +12,14 @@ use Rattle.zy_table.specs.Deeds.{Going, act, begin}
 use Rattle.zy_table.specs.State.{State, stood_of}
 use Rattle.zy_replica_normal.proofs.commits.say_local.Goals as goal
 
-pub returns-in-Ok : goal.returns-in-Ok
-returns-in-Ok g c =
+pub returns : goal.returns
+returns g c =
     let said = sealed_by numbers.local local_fields c.args.core.sealer c.args.local in
     let begun = c.begin.ensures ∙ ap (λ (s : State g.row.M-State.Denot). begin s) c.in_ok-core.ensures.core in
     subst (λ (x : Going g.row.M-State.Denot). IfOk c.send_local.result (λ (m : Going g.row.M-State.Denot). m ≡ x))
-    (ap (λ (x : Signed Local). send_local c.args.client x c.in-Ok.progress) c.in_ok-core.ensures.local
+    (ap (λ (x : Signed Local). send_local c.args.client x c.in_ok-progress.progress) c.in_ok-core.ensures.local
     ∙ ap (send_local c.args.client said)
-    (c.in-Ok.ensures
+    (c.in_ok-progress.ensures
     ∙ ap (λ (s : Stood). act (Says (record { body = bodies.Local c.args.local; stood = s })) c.begin.result) c.stood-stood.ensures
     ∙ ap (act (Says (record { body = bodies.Local c.args.local; stood = stood_of g.M.Machine.rules c.args.core }))) begun))
     c.send_local.ensures

@@ -14,17 +14,17 @@ use Rattle.zy_table.specs.Gathering.{say_check}
 use Rattle.zy_table.specs.State.{State, stood_of}
 use Rattle.zy_replica_normal.proofs.gathering.say_check.Goals as goal
 
-pub returns-in-Ok-says : goal.returns-in-Ok-says
-returns-in-Ok-says g c =
+pub returns : goal.returns
+returns g c =
     let R = g.M.Machine.rules in
     let own = c.args.own.now in
     let core = c.progress.inside.core in
     let deeds = c.progress.inside.deeds in
     subst (λ (p : Going g.row.M-State.Denot). IfOk c.send_check.result (λ (m : Going g.row.M-State.Denot). m ≡ say_check R own p)) c.progress.view_is
     (subst (λ (x : Going g.row.M-State.Denot). IfOk c.send_check.result (λ (m : Going g.row.M-State.Denot). m ≡ x))
-    (ap (λ (signed : Signed Check). send All (frames.Checkpoint signed) c.in-Ok-says.progress) c.in-Ok.ensures.check
+    (ap (λ (signed : Signed Check). send All (frames.Checkpoint signed) c.in_ok-progress.progress) c.in_ok-core.ensures.check
     ∙ ap (send All (frames.Checkpoint (sealed_by numbers.check check_fields core.sealer own)))
-    (c.in-Ok-says.ensures
-    ∙ ap (λ (stood : Stood). act (Says (record { body = bodies.Check own; stood = stood })) (record { state = c.in-Ok.sealed.0; deeds = deeds })) c.stood-stood.ensures
-    ∙ ap (λ (s : State g.row.M-State.Denot). act (Says (record { body = bodies.Check own; stood = stood_of R core })) (record { state = s; deeds = deeds })) c.in-Ok.ensures.core))
+    (c.in_ok-progress.ensures
+    ∙ ap (λ (stood : Stood). act (Says (record { body = bodies.Check own; stood = stood })) (record { state = c.in_ok-core.core; deeds = deeds })) c.stood-stood.ensures
+    ∙ ap (λ (s : State g.row.M-State.Denot). act (Says (record { body = bodies.Check own; stood = stood_of R core })) (record { state = s; deeds = deeds })) c.in_ok-core.ensures.core))
     c.send_check.ensures)

@@ -10,11 +10,11 @@ pub begin_view-requires-clause-takes : goal.begin_view-requires-clause-takes
 begin_view-requires-clause-takes g c = λ provider there.
     subst (λ (x : Going g.row.M-State.Denot). verdict_of g.M.Machine.rules x.state.kept x.state.board.stable provider.stmt.told c.args.chosen.place c.args.chosen.head ≡ Take) (sym c.progress.view_is) (c.requires.takes provider there)
 
-pub returns-in-Ok : goal.returns-in-Ok
-returns-in-Ok g c = λ provider there.
+pub returns : goal.returns
+returns g c = λ provider there.
     let R = g.M.Machine.rules in
     let before : Going g.row.M-State.Denot = record { state = c.progress.inside.core; deeds = c.progress.inside.deeds } in
     let same =
-    begun_with R c.args.cert c.args.chosen provider.stmt.told before c.in-Ok.core c.in-Ok.common c.in-Ok.gots (c.in-Ok.ensures.core provider there) (c.in-Ok.ensures.common provider there) (c.in-Ok.ensures.gained provider there)
+    begun_with R c.args.cert c.args.chosen provider.stmt.told before c.in_ok-core.core c.in_ok-core.common c.in_ok-core.gots (c.in_ok-core.ensures.core provider there) (c.in_ok-core.ensures.common provider there) (c.in_ok-core.ensures.gained provider there)
     ∙ ap (begin_view R c.args.cert c.args.chosen provider.stmt.told) c.progress.view_is in
     subst (λ (x : Going g.row.M-State.Denot). IfOk c.adopts.result (λ (end : Going g.row.M-State.Denot). end ≡ x)) same c.adopts.ensures

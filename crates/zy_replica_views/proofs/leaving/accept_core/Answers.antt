@@ -6,7 +6,7 @@ use Rattle.zy_table.specs.State.{State}
 use Rattle.zy_replica_views.proofs.CarryLemmas.{kept_same}
 use Rattle.zy_replica_views.proofs.leaving.accept_core.Goals as goal
 
-pub returns-in-Ok-clause-core : goal.returns-in-Ok-clause-core
-returns-in-Ok-clause-core g c =
-    let same = kept_same c.args.core c.in-Ok.core c.args.accepted c.in-Ok.own _ c.in-Ok.ensures.core c.in-Ok.ensures.began in
+pub returns-clause-core : goal.returns-clause-core
+returns-clause-core g c =
+    let same = kept_same c.args.core c.in_ok-core.core c.args.accepted c.in_ok-core.own _ c.in_ok-core.ensures.core c.in_ok-core.ensures.began in
     subst (λ (s : State g.row.M-State.Denot). IfOk c.keep_accepted.result (λ (r : State g.row.M-State.Denot × Signed Began). r.0 ≡ s)) same c.keep_accepted.ensures.core

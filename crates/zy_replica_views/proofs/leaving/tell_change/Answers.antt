@@ -7,9 +7,9 @@ use Rattle.zy_table.specs.Deeds.{Going}
 use Rattle.zy_replica_views.proofs.CarryLemmas.{told_all}
 use Rattle.zy_replica_views.proofs.leaving.tell_change.Goals as goal
 
-pub returns-in-Ok : goal.returns-in-Ok
-returns-in-Ok g c =
+pub returns : goal.returns
+returns g c =
     let same =
-    told_all g.M.Machine.rules c.args.progress c.in-Ok.progress (frames.ViewChange c.args.change) (bodies.Change c.in_ok-stmt.stmt) (bodies.Change c.args.change.stmt) c.stood-stood.result c.in-Ok.ensures (ap bodies.Change (c.in_ok-stmt.ensures))
+    told_all g.M.Machine.rules c.args.progress c.in_ok-progress.progress (frames.ViewChange c.args.change) (bodies.Change c.in_ok-stmt.stmt) (bodies.Change c.args.change.stmt) c.stood-stood.result c.in_ok-progress.ensures (ap bodies.Change (c.in_ok-stmt.ensures))
     (c.stood-stood.ensures ∙ ap (λ (x : Going g.row.M-State.Denot). stood_of g.M.Machine.rules x.state) c.progress.view_is) in
     subst (λ (x : Going g.row.M-State.Denot). IfOk c.send_view.result (λ (end : Going g.row.M-State.Denot). end ≡ x)) same c.send_view.ensures

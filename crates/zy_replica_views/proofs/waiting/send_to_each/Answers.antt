@@ -7,6 +7,6 @@ use Rattle.zy_replica_views.proofs.waiting.send_to_each.Goals as goal
 
 pub invariant_of-result : goal.invariant_of-result
 invariant_of-result g c = record {
-  frames = subst (AllByRecursion (λ (one : Sent). CanBeSent one.frame)) (sym c.in-Ok.ensures) (fetched_too c.args.said.now c.requires c.progress.inside.deeds.sent c.args.asked.now c.progress.invariant.frames);
+  frames = subst (AllByRecursion (λ (one : Sent). CanBeSent one.frame)) (sym c.in_ok-push_each.ensures) (fetched_too c.args.said.now c.requires c.progress.inside.deeds.sent c.args.asked.now c.progress.invariant.frames);
   acts = c.progress.invariant.acts;
 }
