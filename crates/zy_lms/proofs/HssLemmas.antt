@@ -1,5 +1,5 @@
 -- A signature of two levels verifies under the key's public key, and tells both leaves.
-use Rattle.std.proofs.Common.{arith, ◌≡◌, ◌≤◌, ◌<◌, ◌++◌, ◌∷◌, [], length, ℕ, ◌+◌, ◌*◌, ◌/◌, ◌%◌, ◌^◌, List, take, drop, sym, ◌∙◌, ap, subst, refl, length-append, append_assoc}
+use Rattle.std.proofs.Common.{arith, ◌≡◌, ◌≤◌, ◌<◌, ◌++◌, ◌∷◌, [], length, ℕ, ◌+◌, ◌*◌, ◌/◌, ◌%◌, ◌^◌, List, take, drop, ◌∙◌, ap, subst, refl, length-append, append_assoc}
 use Rattle.std.specs.Int.{w32, to_be_bytes, from_be_bytes}
 use Rattle.std.proofs.lemmas.List.{take_at, drop_at, length-take-le, take-append-le}
 use Rattle.sha2.specs.Sha256.{sha256}
@@ -10,7 +10,7 @@ use Rattle.zy_lms.specs.declared.height.Height.{Height}
 use Rattle.zy_lms.specs.declared.height.Height.TheVariants.{H5, H10}
 use Rattle.zy_lms.specs.Height.{levels_of, signatures_of}
 use Rattle.zy_lms.specs.KeyState.{KeyState, at_leaf}
-use Rattle.zy_lms.specs.Lms.{public_of, signature_of, signature_len_of, leaf_of, VerifiesAs}
+use Rattle.zy_lms.specs.Lms.{public_of, signature_of, signature_len_of, VerifiesAs}
 use Rattle.zy_lms.specs.Hss.{HssVerifies, hss_public_of, hss_signature_of, id_under, key_under, lower_leaf, lower_leaf_in, signed_key_in, signed_key_of, top_leaf, top_leaf_in}
 use Rattle.zy_lms.proofs.LmsLemmas.{leaf_is, VerifiesAs-signature}
 

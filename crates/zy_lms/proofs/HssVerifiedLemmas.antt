@@ -5,13 +5,9 @@ use Rattle.std.specs.Prelude.{Bool, true, false, Option, Some, None, ◌==◌, �
 use Rattle.std.proofs.lemmas.Bool.{and_left, and_parts, and_right, false_from_ne_true, false≢true, ne_eqb}
 use Rattle.std.proofs.lemmas.Bool.Decides.{Decides-eqb, Decides-and}
 use Rattle.std.proofs.lemmas.List.{take_at, drop_at, length-take, take-append-drop}
-use Rattle.zy_ots.specs.declared.ots_type.OtsType.{OtsType}
-use Rattle.zy_ots.specs.OtsType.{type_with}
 use Rattle.zy_ots.specs.Coef.{number_at}
-use Rattle.zy_lms.specs.declared.height.Height.{Height}
-use Rattle.zy_lms.specs.Height.{height_with}
-use Rattle.zy_lms.specs.Lms.{Verifies, VerifiesAs, verified, signature_len_of}
-use Rattle.zy_lms.specs.Hss.{HssVerifies, hss_verified, len_under, len_with, verified_below, verified_in_parts}
+use Rattle.zy_lms.specs.Lms.{Verifies, verified, signature_len_of}
+use Rattle.zy_lms.specs.Hss.{HssVerifies, hss_verified, len_under, verified_below, verified_in_parts}
 use Rattle.zy_lms.proofs.VerifiedLemmas.{Decides-verified, height_with-number, type_with-number}
 
 -- what isn't as long as a public key verifies nothing

@@ -4,4 +4,5 @@ pub mod LmsLemmas
 pub mod FillLemmas
 pub mod VerifiedLemmas
 pub mod HssLemmas
+pub mod HssSizes
 pub mod HssVerifiedLemmas

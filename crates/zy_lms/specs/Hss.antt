@@ -1,6 +1,6 @@
 -- Two levels of LMS keys: HSS with L = 2 (RFC 8554, section 6). Each leaf of the top key signs the public key of a lower key, whose
 -- leaves sign messages. Such a key is seen as its top key, whose `next` counts the signatures of both levels.
-use Rattle.std.specs.Prelude.{◌≡◌, ℕ, ◌+◌, ◌/◌, ◌%◌, ◌^◌, ◌<◌, ◌≤◌, ◌==◌, ◌&&◌, Bool, false, Option, Some, None, List, ◌∷◌, ◌++◌, length, take, drop}
+use Rattle.std.specs.Prelude.{◌≡◌, ℕ, ◌+◌, ◌/◌, ◌%◌, ◌^◌, ◌≤◌, ◌==◌, ◌&&◌, Bool, false, Option, Some, None, List, ◌∷◌, ◌++◌, length, take, drop}
 use Rattle.std.specs.Int.{w32, to_be_bytes}
 use Rattle.sha2.specs.Sha256.{sha256}
 use Rattle.zy_ots.specs.declared.ots_type.OtsType.{OtsType}

@@ -1,9 +1,11 @@
 //! A client on the network: it asks, and takes turns until its request is complete.
 
-ghost use Rattle.std.specs.Prelude.{◌≡◌, ◌≤◌, length};
+ghost use Rattle.std.specs.Prelude.{◌≡◌, ◌≤◌, OnErr, OnOk, length};
 ghost use Rattle.zy_edge.specs.Faults.{IsCounted};
 ghost use Rattle.zy_node.specs.Asking.{AskerRunsTo, AskerTurnsTo, AsksAs, BeginsAs, WaitsAs, ask_result, is_ask_fault};
 ghost use Rattle.zy_node.specs.Clients.{client_rules};
+ghost use Rattle.zy_node.specs.Told.{Sends, SendsFront};
+ghost use Rattle.zy_node.specs.Turn.{all_parcels};
 
 use crate::asker::{Asked, Asker, Begun};
 use crate::cores::is_refused;
@@ -12,7 +14,7 @@ use crate::host::Host;
 use crate::sending::send_all;
 use crate::{Core, Moved};
 use std::alloc::Global;
-use zy_base::{Answer, Bytes, Event, Timers, Want};
+use zy_base::{Answer, Bytes, Event, Party, Timers, Want};
 use zy_client::{Client, ClientStepped};
 use zy_edge::{Clock, Link};
 use zy_pieces::MAX_DATAGRAM;
@@ -41,7 +43,7 @@ impl Asker {
         match answer {
             Answer::Refused(cause) => Ok(Begun::Refused(client, cause)),
             Answer::Taken | Answer::Held => {
-                send_all(alloc, link, out.as_slice())?;
+                send_request(alloc, link, out.as_slice())?;
                 Ok(Begun::Waiting(Asker {
                     host: Host::new(alloc, client),
                 }))
@@ -104,6 +106,22 @@ impl Asker {
             Ok(Asked::Spent(client))
         }
     }
+}
+
+// Owns no client: its caller drops its own where a call fails.
+fn send_request<L: Link>(
+    alloc: Global,
+    link: &mut L,
+    out: &[(Party, Bytes)],
+) -> Result<(), AskFault>
+    ensures ok { OnOk result (Sends (all_parcels out.now) (L.mail link.old) (L.mail link.new)) }
+    ensures err { OnErr result (SendsFront (all_parcels out.now) (L.mail link.old) (L.mail link.new)) }
+    ensures receives { L.receives link.new ≡ L.receives link.old }
+    ensures binding { L.binding link.new ≡ L.binding link.old }
+    ensures count { IsCounted (is_ask_fault result) (L.faults link.old) (L.faults link.new) }
+{
+    send_all(alloc, link, out)?;
+    Ok(())
 }
 
 fn asker_of(hosted: Result<Host<Client>, NodeFault<Host<Client>>>) -> Result<Asker, AskFault>

@@ -1,5 +1,5 @@
 -- No frame of these kinds that is within a group's limits is too long.
-use Rattle.std.proofs.Common.{◌≡◌, ℕ, ◌+◌, ◌*◌, ◌≤◌, List, [], ◌∷◌, ◌++◌, length, All, Option, Some, None, get_or, arith}
+use Rattle.std.proofs.Common.{ℕ, ◌+◌, ◌≤◌, List, ◌++◌, length, All, Option, Some, None, get_or, arith}
 use Rattle.std.specs.Int.{w32, w64}
 use Rattle.std.proofs.lemmas.List.{length-append}
 use Rattle.zy_wire.specs.Kind.{frame_limit}
@@ -20,35 +20,9 @@ use Rattle.zy_vframes.specs.declared.frame.ViewCert.{ViewCert}
 use Rattle.zy_vframes.specs.declared.frame.ViewFrame.{ViewFrame}
 use Rattle.zy_vframes.specs.declared.frame.ViewFrame.TheVariants as frames
 use Rattle.zy_vframes.specs.ViewFrames.{view_certificate, state, fields_of, spelling, FitsFrame, IsShort, IsShortCertificate, IsShortReport, IsShortNew, IsWithinLimits}
-use Rattle.zy_parts.specs.Sizes.{signed_size, spec_size, check_size}
-use Rattle.zy_chain.specs.Sizes.{entry_size, greatest_snapshot}
+use Rattle.zy_vframes.specs.Sizes.{began_size, begans_size, change_size, fetch_size, new_size, report_size, state_size}
+use Rattle.zy_chain.specs.Sizes.{greatest_snapshot}
 use Rattle.zy_chain.proofs.Lengths.{entry-at_most}
-
--- ---- how many bytes the parts have at most
-
-abbrev began_size : ℕ
-began_size = 8 + (8 + 32)
-
-abbrev fetch_size : ℕ
-fetch_size = 8 + 32
-
--- a report of at most nine replicas' statements: the last view, its beginning with the statements that prove it, the longest
--- certificate, the stable checkpoint with its proof, and the entries
-abbrev report_size : ℕ
-report_size =
-    8 + (8 + (32 + (2 + 9 * signed_size began_size + (1 + (2 + 9 * signed_size spec_size) + (8 + (8 + (32 + (32 + (2 + 9 * signed_size check_size + (2 + 64 * entry_size))))))))))
-
-abbrev change_size : ℕ
-change_size = signed_size (8 + report_size)
-
-abbrev new_size : ℕ
-new_size = signed_size (8 + (2 + 9 * change_size))
-
-abbrev begans_size : ℕ
-begans_size = 2 + 16 * signed_size began_size
-
-abbrev state_size : ℕ
-state_size = 8 + (4 + greatest_snapshot)
 
 began-at_most : IsAtMost began_fields began_size
 unfolding began_fields

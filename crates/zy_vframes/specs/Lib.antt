@@ -1,3 +1,4 @@
 pub mod ViewFrames
 pub mod Parts
+pub mod Sizes
 pub mod ViewFrameLaws

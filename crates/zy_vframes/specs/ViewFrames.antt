@@ -1,5 +1,5 @@
 -- The six frames of a view change as bytes.
-use Rattle.std.specs.Prelude.{◌≡◌, ℕ, ◌^◌, ◌≤◌, List, length, All, Option, Some, None, Result, Err, ◌==◌, if◌then◌else◌}
+use Rattle.std.specs.Prelude.{ℕ, ◌≤◌, List, length, All, Option, Some, None, Result, Err, ◌==◌, if◌then◌else◌}
 use Rattle.zy_base.specs.declared.frame_fault.FrameFault.{FrameFault}
 use Rattle.zy_base.specs.declared.frame_fault.FrameFault.TheVariants.{Kind}
 use Rattle.zy_wire.specs.Spelling.{Spelling, pair, converted, made}

@@ -1,20 +1,22 @@
 // What the files of a replica tell.
-ghost use Rattle.std.specs.Prelude.{◌≡◌, IfOk, IfSome, length};
+ghost use Rattle.std.specs.Prelude.{◌≡◌, IfOk, IfSome, false, length};
 ghost use Rattle.zy_base.specs.declared.ids.Party.TheVariants as parties;
 ghost use Rattle.zy_edge.specs.Faults.{IsCounted};
 ghost use Rattle.zy_edge.specs.Files.{content_of};
+ghost use Rattle.zy_group.specs.Members.{IsNodeGroup};
 ghost use Rattle.zy_top_hosting.specs.KeptFiles.{kept_in};
 ghost use Rattle.zy_top_hosting.specs.Identity as identity;
-ghost use Rattle.zy_top_hosting.specs.Calls.{IsJudged};
-ghost use Rattle.zy_top_hosting.specs.Files.{node_start};
+ghost use Rattle.zy_top_hosting.specs.Calls.{HasLeft, IsJudged};
+ghost use Rattle.zy_top_hosting.specs.Files.{node_of, node_start};
 ghost use Rattle.zy_top_words.specs.Calls.{IsReading, stops_reading};
 
-use crate::files::{node_group, secret_of};
+use crate::files::{Told, node_group, secret_of};
 use crate::seat::{NodeSeat, node_seat};
 use crate::serving::identity::identity_of;
 use std::alloc::Global;
 use zy_base::{Digest, ReplicaId};
 use zy_edge::Files;
+use zy_group::{NodeGroup, Secret};
 use zy_top_words::Exit;
 
 /// A replica in its place, and whose journal it goes on from.
@@ -42,6 +44,25 @@ pub(crate) fn read_kept<F: Files>(
 {
     let group = node_group(alloc, group, files)?;
     let secret = secret_of(alloc, secret, 0, files)?;
+    kept_seat(alloc, id, group, &secret)
+}
+
+// The same, where both files are read.
+fn kept_seat(
+    alloc: Global,
+    id: ReplicaId,
+    group: Told<NodeGroup>,
+    secret: &Told<Secret>,
+) -> Result<KeptSeat, Exit>
+    requires group { IsNodeGroup group.value }
+    requires left { HasLeft 0 secret.now.value }
+    ensures judged { IsJudged (node_of id group.value secret.now.value) (kept_in result) }
+    ensures identity { IfOk result (λ kept. kept.identity ≡ identity.identity_of id group.text.items secret.now.text.items) }
+    ensures size { IfOk result (λ kept. length kept.identity.0 ≡ 32) }
+    ensures party { IfOk result (λ kept. kept.seat.address.party ≡ parties.Replica id) }
+    ensures exit { IsReading result }
+    ensures read { stops_reading result ≡ false }
+{
     let identity = identity_of(id, &group.text, &secret.text);
     let seat = node_seat(alloc, id, group.value, &secret.value)?;
     Ok(KeptSeat { seat, identity })

@@ -38,6 +38,10 @@ pub anew_from-requires-clause-proof : goal.anew_from-requires-clause-proof
 anew_from-requires-clause-proof g c =
     let can = c.taken_waiting-parts.ensures.can c.told_in-told.result.now c.told_in-told.ensures in can.proof
 
+pub active_by-requires : goal.active_by-requires
+active_by-requires g c =
+    rw (c.in-Ok.ensures, c.in_ok-parts.ensures.parts, c.with_exec.ensures, c.taken_waiting-parts.ensures.parts) c.taken_waiting-parts.ensures.certified
+
 pub together-requires : goal.together-requires
 together-requires g c =
     let told = c.told_in-told.result.now in
