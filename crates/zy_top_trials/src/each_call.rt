@@ -172,8 +172,9 @@ fn served(alloc: Global, datagram: &Bytes, failing: u64) -> Result<(Exit, bool, 
     Ok((exit, taken.is_empty(), is_ordered))
 }
 
-// Its address, twenty receives, the order to three backups and the response to the client.
-const CALLS: u64 = 25;
+// Its address, twenty receives, the order to three backups and the response to the client. These have two signatures of 4,756 bytes
+// each, so they are cut into two datagrams.
+const CALLS: u64 = 29;
 
 #[test]
 fn each_call_of_its_link_ends_a_node(rt: HostRuntime) -> Result<(), Fail> {
@@ -220,12 +221,12 @@ fn each_call_of_its_disk_ends_a_replica_that_has_sent_nothing(rt: HostRuntime) -
     Ok(())
 }
 
-// The order goes to three backups, and the response to the client.
+// The order goes to three backups, and the response to the client, each in two datagrams.
 #[test]
 fn a_replica_that_stored_its_request_sends(rt: HostRuntime) -> Result<(), Fail> {
     let request = request(rt.alloc())?;
     let end = stored(rt.alloc(), &request, DISK_CALLS + 1)?;
-    assert_eq!(rt; end, (Exit::TurnsSpent, 4));
+    assert_eq!(rt; end, (Exit::TurnsSpent, 8));
     Ok(())
 }
 
