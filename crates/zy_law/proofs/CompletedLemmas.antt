@@ -14,7 +14,7 @@ use Rattle.zy_law.specs.World.Statement.{Spec}
 use Rattle.zy_law.specs.Said.{Moment, At, IsBacked}
 use Rattle.zy_law.specs.Lawful.{IsLawful, IsTrueAnswer, AreAskedFor}
 use Rattle.zy_law.specs.Lists.{IsListOf, Extends}
-use Rattle.zy_law.specs.Completed.{Completion, IsCompleted, further, agreed_mark, IsAgreedList, IsResultOf}
+use Rattle.zy_law.specs.Completed.{Completion, AreItemsOnce, IsCompleted, further, agreed_mark, IsAgreedList, IsResultOf}
 use Rattle.zy_law.specs.Completed.IsCompleted.{fast, slow}
 use Rattle.zy_law.proofs.HistoryLemmas.{Passes-origin}
 use Rattle.zy_law.proofs.ListLemmas.{one_list, list_passed, Extends-origin, Extends-passed}
@@ -22,7 +22,7 @@ use Rattle.zy_law.proofs.QuorumLemmas.{All_at, one_said}
 use Rattle.zy_law.proofs.OneView.{IsQuorum, held_at, fixed_held, one_of_quorum}
 use Rattle.zy_law.proofs.OneView.IsQuorum.{certificate, everyone}
 use Rattle.zy_law.proofs.FixedForGood.{fixed_extends}
-use Rattle.zy_law.proofs.EntriesAskedFor.{entry_shared, take_front, AreAskedFor-front, AreAskedFor-none, all_asked_for}
+use Rattle.zy_law.proofs.EntriesAskedFor.{entry_shared, take_front, AreAskedFor-front, AreAskedFor-none, AreAskedFor-once, all_asked_for}
 
 All_front : {A : Type 0} (P : A → Type 0) (xs ys : List A) → All P (xs ++ ys) → All P xs
 All_front P xs ys all i d within =
@@ -110,6 +110,9 @@ module _ (w : World) (lawful : IsLawful w) where
   agreed_asked cs list all is =
       let one = settled_list (agreed_mark cs) (agreed_settled cs all) in
       subst (λ (l : List Entry). AreAskedFor w 0 l) (one_list w lawful (agreed_mark cs) one.0 list one.1 is) one.2
+
+  pub agreed_once : (cs : List Completion) (list : List Entry) → All (IsCompleted w) cs → IsAgreedList w cs list → AreItemsOnce list
+  agreed_once cs list all is = AreAskedFor-once w list (agreed_asked cs list all is)
 
   pub agreed_grows : (cs more : List Completion) (near far : List Entry) → All (IsCompleted w) (cs ++ more) → IsAgreedList w cs near → IsAgreedList w (cs ++ more) far
       → IsFront near far

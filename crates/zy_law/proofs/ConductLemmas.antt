@@ -3,6 +3,7 @@ use Rattle.std.proofs.Common.{◌≡◌, ℕ, ◌+◌, Bool, List, [], ◌∷◌
 use Rattle.std.specs.Prelude.{Contains, slice_get}
 use Rattle.zy_base.specs.declared.ids.Digest.{Digest}
 use Rattle.zy_chain.specs.declared.entry.Entry.{Entry}
+use Rattle.zy_chain.specs.declared.item.Item.{Item}
 use Rattle.zy_chain.specs.Stretch.{Mark}
 use Rattle.zy_law.specs.Conduct.{AreReportsFormed, HistoryStaysWhileLeaving, IsActive, IsConduct, IsGiven, NewsAreGiven, SaidOnce, SaidWhileActive}
 use Rattle.zy_law.specs.Formed.{IsFormedStart, IsInOrder}
@@ -147,7 +148,7 @@ module _ (w : World) (conduct : IsConduct w) (r : ℕ) (x : Spoken) (may : MaySa
 
 -- ---- nothing more is said
 
-module _ (w : World) (conduct : IsConduct w) (asked : ℕ → List Entry) (past : ℕ → List Stand) (kept : Digest → Entry → Bool) (asks : (q : ℕ) (e : Entry) → Contains (w.asked q) e → Contains (asked q) e)
+module _ (w : World) (conduct : IsConduct w) (asked : ℕ → List Item) (past : ℕ → List Stand) (kept : Digest → Entry → Bool) (asks : (q : ℕ) (i : Item) → Contains (w.asked q) i → Contains (asked q) i)
     (stands : (q i : ℕ) (b : Stand) → Stood w q i b → slice_get (past q) i ≡ Some b) where
   abbrev more : World
   more = grown w asked w.said past kept
@@ -185,13 +186,13 @@ pub standing_conduct : (w : World) (r : ℕ) (b : Stand) → IsConduct w → May
 standing_conduct w r b conduct may = silent_conduct w conduct w.asked (with_last w.past r b) w.kept (λ q e has. has) (λ q i s at. with_last-kept w.past r b q i s at) (standing_lawful w conduct.lawful r b may)
 
 -- more is asked and kept
-pub more_conduct : (w : World) (asked : ℕ → List Entry) (kept : Digest → Entry → Bool) → IsConduct w → ((q : ℕ) (e : Entry) → Contains (w.asked q) e → Contains (asked q) e) → MayKeep w kept
+pub more_conduct : (w : World) (asked : ℕ → List Item) (kept : Digest → Entry → Bool) → IsConduct w → ((q : ℕ) (i : Item) → Contains (w.asked q) i → Contains (asked q) i) → MayKeep w kept
     → IsConduct (grown w asked w.said w.past kept)
 more_conduct w asked kept conduct asks may = silent_conduct w conduct asked w.past kept asks (λ q i s at. at) (more_lawful w conduct.lawful asked kept asks may)
 
-pub asking_conduct : (w : World) (client : ℕ) (e : Entry) → IsConduct w → IsConduct (after_asking w client e)
-asking_conduct w client e conduct =
-    more_conduct w (with_last w.asked client e) w.kept conduct (λ q d has. with_last-contains w.asked client e q d has) (record { more = λ h d is. is; one_text = conduct.lawful.one_text })
+pub asking_conduct : (w : World) (client : ℕ) (i : Item) → IsConduct w → IsConduct (after_asking w client i)
+asking_conduct w client i conduct =
+    more_conduct w (with_last w.asked client i) w.kept conduct (λ q k has. with_last-contains w.asked client i q k has) (record { more = λ h d is. is; one_text = conduct.lawful.one_text })
 
 pub keeping_conduct : (w : World) (kept : Digest → Entry → Bool) → IsConduct w → MayKeep w kept → IsConduct (after_keeping w kept)
 keeping_conduct w kept conduct may = more_conduct w w.asked kept conduct (λ q d has. has) may

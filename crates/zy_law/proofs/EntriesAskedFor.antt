@@ -1,15 +1,20 @@
 -- Each correct history was taken entry by entry: each entry was asked for, and is newer than all before of its client.
-use Rattle.std.proofs.Common.{◌≡◌, ℕ, zero, suc, ◌+◌, ◌-◌, ◌<◌, ◌≤◌, inl, inr, List, [], ◌∷◌, ◌++◌, length, take, drop, refl, sym, ap, ◌∙◌, subst, arith}
+use Rattle.std.proofs.Common.{◌≡◌, ◌≢◌, ℕ, zero, suc, ◌+◌, ◌-◌, ◌<◌, ◌≤◌, inl, inr, List, [], ◌∷◌, ◌++◌, length, take, drop, Some, refl, sym, ap, ◌∙◌, subst, arith}
 use Rattle.std.specs.Prelude.{slice_get}
+use Rattle.std.specs.List.{AllPairs}
 use Rattle.std.proofs.lemmas.Bool.{cases_lt}
 use Rattle.std.proofs.lemmas.List.{length-take-le, take-append-drop, take_all}
-use Rattle.std.proofs.lemmas.Option.{slice_get_within, same_Some}
+use Rattle.std.proofs.lemmas.Option.{get_or_from_slice_get, slice_get_within, same_Some}
+use Rattle.zy_base.specs.declared.ids.Stamp.{Stamp}
 use Rattle.zy_chain.specs.declared.entry.Entry.{Entry}
-use Rattle.zy_law.specs.Histories.{IsFront, IsEntryAt, mark_of_all}
+use Rattle.zy_chain.specs.declared.item.Item.{Item}
+use Rattle.zy_law.specs.Histories.{IsFront, IsEntryAt, IsItemAt, mark_of_all}
 use Rattle.zy_law.specs.World.{Stand, World}
 use Rattle.zy_law.specs.Said.{IsCorrect, Stood, Moment}
+use Rattle.zy_law.specs.Completed.{AreItemsOnce}
 use Rattle.zy_law.specs.Lawful.{IsLawful, IsNext, IsAskedFor, AreAskedFor}
 use Rattle.zy_law.proofs.HistoryLemmas.{Passes-itself}
+use Rattle.zy_law.proofs.QuorumLemmas.{All_at}
 use Rattle.zy_law.proofs.PastLemmas.{stand_at, next_view}
 use Rattle.zy_law.proofs.ListLemmas.{passed_fronts}
 use Rattle.zy_law.proofs.BeganOnce.{begin_safe}
@@ -40,6 +45,13 @@ entry_shorter xs ys place e front within at =
       there = sym (ap (λ (l : List Entry). slice_get l (place - 1)) front.1 ∙ slice_get-append xs front.0 (place - 1) (omega arith)) ∙ at.there;
     }
 
+pub item_longer : (xs ys : List Entry) (place index : ℕ) (i : Item) → IsFront xs ys → IsItemAt xs place index i → IsItemAt ys place index i
+item_longer xs ys place index i front at = record { entry = at.entry; there = entry_longer xs ys place at.entry front at.there; first = at.first; item = at.item }
+
+pub item_shorter : (xs ys : List Entry) (place index : ℕ) (i : Item) → IsFront xs ys → place ≤ length xs → IsItemAt ys place index i → IsItemAt xs place index i
+item_shorter xs ys place index i front within at =
+    record { entry = at.entry; there = entry_shorter xs ys place at.entry front within at.there; first = at.first; item = at.item }
+
 pub take_front : (n : ℕ) (xs : List Entry) → IsFront (take n xs) xs
 take_front n xs = (drop n xs, sym (take-append-drop n xs))
 
@@ -50,10 +62,16 @@ entry_shared place xs ys e same at =
     let here = entry_shorter (take place xs) xs place e (take_front place xs) within at in
     entry_longer (take place ys) ys place e (take_front place ys) (subst (λ (l : List Entry). IsEntryAt l place e) same here)
 
+-- two items of one entry are of different clients
+apart : (items : List Item) (index number : ℕ) (i k : Item) → AllPairs (λ a b. a.client ≢ b.client) items → index < number → slice_get items index ≡ Some i → slice_get items number ≡ Some k → i.client ≢ k.client
+apart items index number i k different before first second same =
+    different index number i before (slice_get_within items number k second)
+    (ap (λ (j : Item). j.client) (get_or_from_slice_get items index i i first) ∙ same ∙ sym (ap (λ (j : Item). j.client) (get_or_from_slice_get items number k i second)))
+
 module _ (w : World) where
   asked_shorter : (xs ys : List Entry) (place : ℕ) (e : Entry) → IsFront xs ys → place ≤ length xs → IsAskedFor w ys place e → IsAskedFor w xs place e
   asked_shorter xs ys place e front within asked =
-      record { asked = asked.asked; newer = λ earlier d before at same. asked.newer earlier d before (entry_longer xs ys earlier d front at) same }
+      record { different = asked.different; asked = asked.asked; newer = λ earlier index k before at. asked.newer earlier index k before (item_longer xs ys earlier index k front at) }
 
   pub AreAskedFor-front : (xs ys : List Entry) → IsFront xs ys → AreAskedFor w 0 ys → AreAskedFor w 0 xs
   AreAskedFor-front xs ys front all place e after at =
@@ -70,9 +88,44 @@ module _ (w : World) where
         | inr within ↦
             let here = old place e after (entry_shorter xs ys place e front within at) in
             record {
+              different = here.different;
               asked = here.asked;
-              newer = λ earlier d before was same. here.newer earlier d before (entry_shorter xs ys earlier d front (omega arith) was) same;
+              newer = λ earlier index k before was. here.newer earlier index k before (item_shorter xs ys earlier index k front (omega arith) was);
             }
+      ]
+
+  -- an item's stamp is above that of its client's item in an earlier entry
+  pub newer_in : (xs : List Entry) → AreAskedFor w 0 xs → (place other index number : ℕ) (i k : Item) → place < other → IsItemAt xs place index i → IsItemAt xs other number k
+      → i.client ≡ k.client → i.stamp.0 < k.stamp.0
+  newer_in xs all place other index number i k before first second same =
+      All_at (λ (j : Item). i.client ≡ j.client → i.stamp.0 < j.stamp.0) second.entry.items (number - 1) k second.item
+      ((all other second.entry second.there.first second.there).newer place index i before first) same
+
+  -- a client has one item in an entry
+  one_index : (xs : List Entry) → AreAskedFor w 0 xs → (place other index number : ℕ) (i k : Item) → place ≡ other → IsItemAt xs place index i → IsItemAt xs other number k
+      → i.client ≡ k.client → index ≡ number
+  one_index xs all place other index number i k same first second clients =
+      let entries : second.entry ≡ first.entry = same_Some second.entry first.entry (sym second.there.there ∙ ap (λ (n : ℕ). slice_get xs (n - 1)) (sym same) ∙ first.there.there) in
+      let here : slice_get first.entry.items (number - 1) ≡ Some k = ap (λ (e : Entry). slice_get e.items (number - 1)) (sym entries) ∙ second.item in
+      let different = (all place first.entry first.there.first first.there).different in
+      elim (cases_lt index number) [
+        | inl before ↦ absurd (apart first.entry.items (index - 1) (number - 1) i k different (omega (arith, first.first, second.first)) first.item here clients)
+        | inr least ↦ elim (cases_lt number index) [
+          | inl behind ↦ absurd (apart first.entry.items (number - 1) (index - 1) k i different (omega (arith, first.first, second.first)) here first.item (sym clients))
+          | inr most ↦ omega arith
+        ]
+      ]
+
+  -- no client and stamp stand in two items of such a list
+  pub AreAskedFor-once : (xs : List Entry) → AreAskedFor w 0 xs → AreItemsOnce xs
+  AreAskedFor-once xs all place other index number i k first second clients stamps =
+      let stamp : i.stamp.0 ≡ k.stamp.0 = ap (λ (t : Stamp). t.0) stamps in
+      elim (cases_lt place other) [
+        | inl before ↦ absurd (omega (arith, stamp, newer_in xs all place other index number i k before first second clients))
+        | inr least ↦ elim (cases_lt other place) [
+          | inl behind ↦ absurd (omega (arith, stamp, newer_in xs all other place number index k i behind second first (sym clients)))
+          | inr most ↦ let same : place ≡ other = omega arith in (same, one_index xs all place other index number i k same first second clients)
+        ]
       ]
 
 module _ (w : World) (lawful : IsLawful w) where

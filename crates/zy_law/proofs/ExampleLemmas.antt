@@ -1,14 +1,17 @@
 -- The small world is lawful, act by act.
-use Rattle.std.proofs.Common.{◌≡◌, ℕ, zero, suc, ◌+◌, ◌-◌, ◌%◌, ◌<◌, ◌≤◌, Bool, true, false, not, leb, ltb, ◌&&◌, ◌⊎◌, inl, inr, List, [], ◌∷◌, ◌++◌, length, take, drop, get_or, Some, refl, sym, ap, ◌∙◌, subst, arith, lit<, lit≤}
-use Rattle.std.specs.Prelude.{All, Contains, count_by, slice_get}
-use Rattle.std.specs.List.{list_all}
+use Rattle.std.proofs.Common.{◌≡◌, ◌≢◌, ℕ, zero, suc, ◌+◌, ◌-◌, ◌%◌, ◌<◌, ◌≤◌, Bool, true, false, not, leb, ltb, ◌&&◌, ◌⊎◌, inl, inr, List, [], ◌∷◌, ◌++◌, length, take, drop, get_or, Some, refl, sym, ap, ◌∙◌, subst, append_assoc, arith, lit<, lit≤}
+use Rattle.std.specs.Prelude.{All, Contains, count_by, flat_map, slice_get}
+use Rattle.std.specs.List.{AllPairs, list_all}
 use Rattle.std.proofs.lemmas.Bool.{and_parts, and_right, leb-true, ltb-true, false_from_ne_true}
 use Rattle.std.proofs.lemmas.List.{take_at, drop_at}
 use Rattle.std.proofs.lemmas.List.Elements.{All-nil, All-cons, All-head, All-tail}
+use Rattle.std.proofs.lemmas.List.Kept.{AllPairs-cons}
 use Rattle.std.proofs.lemmas.List.Sums.{sum_by-cons}
 use Rattle.std.proofs.lemmas.Option.{same_Some, slice_get_within}
+use Rattle.zy_base.specs.declared.ids.ClientId.{ClientId}
 use Rattle.zy_base.specs.declared.ids.Digest.{Digest}
 use Rattle.zy_chain.specs.declared.entry.Entry.{Entry}
+use Rattle.zy_chain.specs.declared.item.Item.{Item}
 use Rattle.zy_chain.specs.Heads.{empty_head}
 use Rattle.zy_chain.specs.Stretch.{Mark}
 use Rattle.zy_choose.specs.Marks.{has_mark}
@@ -24,11 +27,12 @@ use Rattle.zy_law.specs.World.{Answer, Statement, Spoken, Stand, World}
 use Rattle.zy_law.specs.World.Statement.{Order, Spec, Local, Check, Began, Change, New}
 use Rattle.zy_law.specs.Said.{Says, Stood, HasSaid, IsVouched, IsBacked}
 use Rattle.zy_law.specs.Reports.{IsProven, IsValidReport, IsValidNew}
-use Rattle.zy_law.specs.Lawful.{IsVote, IsTrueResponse, IsTrueAnswer, IsTrueVote, IsOrdered, IsAskedFor, AreAskedFor}
+use Rattle.zy_law.specs.Lawful.{IsVote, IsTrueResponse, IsTrueAnswer, IsTrueVote, IsOrdered, IsAsked, IsAskedFor, AreAskedFor}
 use Rattle.zy_law.specs.Steps.{IsStart, MaySay, MayStand, AllMay, after_acts}
-use Rattle.zy_law.specs.Example.{next_text, text_of, first_entry, second_entry, first_mark, second_mark, first_answer, second_answer, before_all, primary_acts, backup_acts, answered, leave_acts, left, reports, report_of, says, begin_acts, confirmed, move_acts, example}
+use Rattle.zy_law.specs.Example.{next_text, text_of, text_of_item, item_of, first_asked, first_entry, second_entry, first_mark, second_mark, first_answer, second_answer, before_all, primary_acts, backup_acts, answered, leave_acts, left, reports, report_of, says, begin_acts, confirmed, move_acts, example}
 use Rattle.zy_law.proofs.CountLemmas.{bit}
 use Rattle.zy_law.proofs.ConductLemmas.{acts_conduct, start_conduct}
+use Rattle.zy_law.proofs.QuorumLemmas.{All_at}
 use Rattle.zy_chain.specs.Entries.{IsOfClients}
 
 -- ---- tests of what was said
@@ -190,23 +194,54 @@ entry_of_two (suc (suc (suc place))) e at = absurd (past_two place e at.there)
         let within = slice_get_within (first_entry ∷ second_entry ∷ []) (suc (suc (suc place)) - 1) e there in
         omega arith
 
-module _ (w : World) (asks : w.asked 0 ≡ first_entry ∷ second_entry ∷ []) where
+-- the items of an entry are of different clients
+abbrev AreOfDifferent : List Item → Type 0
+AreOfDifferent items = AllPairs (λ i k. i.client ≢ k.client) items
+
+different_none : AreOfDifferent []
+different_none i j d before within = absurd (omega arith)
+
+different_one : (i : Item) → AreOfDifferent (i ∷ [])
+different_one i = AllPairs-cons (λ (a b : Item). a.client ≢ b.client) i [] (All-nil (λ (b : Item). i.client ≢ b.client)) different_none
+
+different_two : AreOfDifferent (item_of 0 1 ∷ item_of 1 1 ∷ [])
+different_two =
+    let apart : (item_of 0 1).client ≢ (item_of 1 1).client = λ same. absurd (omega (arith, ap (λ (c : ClientId). c.0) same)) in
+    AllPairs-cons (λ (a b : Item). a.client ≢ b.client) (item_of 0 1) (item_of 1 1 ∷ [])
+    (All-cons (λ (b : Item). (item_of 0 1).client ≢ b.client) (item_of 1 1) [] apart (All-nil (λ (b : Item). (item_of 0 1).client ≢ b.client))) (different_one (item_of 1 1))
+
+-- both items of the first entry have the first stamp
+first_stamps : All (λ (k : Item). k.stamp.0 < 2) first_entry.items
+first_stamps =
+    All-cons (λ (k : Item). k.stamp.0 < 2) (item_of 0 1) (item_of 1 1 ∷ []) (lit< tt)
+    (All-cons (λ (k : Item). k.stamp.0 < 2) (item_of 1 1) [] (lit< tt) (All-nil (λ (k : Item). k.stamp.0 < 2)))
+
+module _ (w : World) (asks : w.asked ≡ first_asked) where
+  asked_by : (client : ℕ) (i : Item) → client ≡ i.client.0 → Contains (first_asked client) i → IsAsked w i
+  asked_by client i of has = inr (subst (λ (c : ℕ). Contains (w.asked c) i) of (subst (λ (f : ℕ → List Item). Contains (f client) i) (sym asks) has))
+
   asked_first : IsAskedFor w (first_entry ∷ []) 1 first_entry
   asked_first =
       record {
-        asked = inr (subst (λ (l : List Entry). Contains l first_entry) (sym asks) (0, lit< tt, refl));
-        newer = λ earlier d before at same. absurd (omega (arith, at.first));
+        different = different_two;
+        asked =
+            All-cons (IsAsked w) (item_of 0 1) (item_of 1 1 ∷ []) (asked_by 0 (item_of 0 1) refl (0, lit< tt, refl))
+            (All-cons (IsAsked w) (item_of 1 1) [] (asked_by 1 (item_of 1 1) refl (0, lit< tt, refl)) (All-nil (IsAsked w)));
+        newer = λ earlier index k before at. absurd (omega (arith, at.there.first));
       }
 
   asked_second : IsAskedFor w (first_entry ∷ second_entry ∷ []) 2 second_entry
   asked_second =
       record {
-        asked = inr (subst (λ (l : List Entry). Contains l second_entry) (sym asks) (1, lit< tt, refl));
-        newer = λ earlier d before at same.
-            elim (entry_of_two earlier d at) [
-              | inl is ↦ subst (λ (z : Entry). z.stamp.0 < 2) is.1 (lit< tt)
+        different = different_one (item_of 0 2);
+        asked = All-cons (IsAsked w) (item_of 0 2) [] (asked_by 0 (item_of 0 2) refl (1, lit< tt, refl)) (All-nil (IsAsked w));
+        newer = λ earlier index k before at.
+            let below : k.stamp.0 < 2 =
+            elim (entry_of_two earlier at.entry at.there) [
+              | inl is ↦ All_at (λ (i : Item). i.stamp.0 < 2) first_entry.items (index - 1) k (ap (λ (z : Entry). slice_get z.items (index - 1)) is.1 ∙ at.item) first_stamps
               | inr is ↦ absurd (omega (arith, is.0))
-            ];
+            ] in
+            All-cons (λ (i : Item). k.client ≡ i.client → k.stamp.0 < i.stamp.0) (item_of 0 2) [] (λ same. below) (All-nil (λ (i : Item). k.client ≡ i.client → k.stamp.0 < i.stamp.0));
       }
 
   asked_one : AreAskedFor w 0 (first_entry ∷ [])
@@ -257,18 +292,37 @@ second_ordered passes there digest = record { passes = passes; entry = second_en
 
 -- ---- the start
 
+item_one : (i j : Item) (g h : List ℕ) → text_of_item i ++ g ≡ text_of_item j ++ h → (i ≡ j) × (g ≡ h)
+item_one i j g h same =
+    let client : i.client.0 ≡ j.client.0 = cc in
+    let stamp : i.stamp.0 ≡ j.stamp.0 = cc in
+    let long : length i.op ≡ length j.op = cc in
+    let rest : i.op ++ g ≡ j.op ++ h = cc in
+    let op : i.op ≡ j.op = sym (take_at i.op g (length i.op) refl) ∙ ap (λ (l : List ℕ). take (length i.op) l) rest ∙ take_at j.op h (length i.op) (sym long) in
+    let item : ℕ → ℕ → List ℕ → Item = λ c s o. record { client = record { 0 = c }; stamp = record { 0 = s }; op = o } in (
+      ap (λ (c : ℕ). item c i.stamp.0 i.op) client ∙ ap (λ (s : ℕ). item j.client.0 s i.op) stamp ∙ ap (λ (o : List ℕ). item j.client.0 j.stamp.0 o) op,
+      sym (drop_at i.op g (length i.op) refl) ∙ ap (λ (l : List ℕ). drop (length i.op) l) rest ∙ drop_at j.op h (length i.op) (sym long),
+    )
+
+items_one : (is js : List Item) (g h : List ℕ) → length is ≡ length js → flat_map text_of_item is ++ g ≡ flat_map text_of_item js ++ h → (is ≡ js) × (g ≡ h)
+items_one [] [] g h long same = (refl, same)
+items_one [] (j ∷ js) g h long same = absurd (omega arith)
+items_one (i ∷ is) [] g h long same = absurd (omega arith)
+items_one (i ∷ is) (j ∷ js) g h long same =
+    let one = item_one i j (flat_map text_of_item is ++ g) (flat_map text_of_item js ++ h)
+    (sym (append_assoc (text_of_item i) (flat_map text_of_item is) g) ∙ same ∙ append_assoc (text_of_item j) (flat_map text_of_item js) h) in
+    let rest = items_one is js g h (omega arith) one.1 in
+    (ap (λ (x : Item). x ∷ is) one.0 ∙ ap (λ (l : List Item). j ∷ l) rest.0, rest.1)
+
 text_one : (h k : Digest) (d e : Entry) → next_text h d ≡ next_text k e → (h ≡ k) × (d ≡ e)
 text_one h k d e same =
     let texts : text_of d ++ h.0 ≡ text_of e ++ k.0 = ap (λ (x : Digest). x.0) same in
-    let client : d.client.0 ≡ e.client.0 = cc in
-    let stamp : d.stamp.0 ≡ e.stamp.0 = cc in
-    let long : length d.op ≡ length e.op = cc in
-    let rest : d.op ++ h.0 ≡ e.op ++ k.0 = cc in
-    let op : d.op ≡ e.op = sym (take_at d.op h.0 (length d.op) refl) ∙ ap (λ (l : List ℕ). take (length d.op) l) rest ∙ take_at e.op k.0 (length d.op) (sym long) in
-    let head : h.0 ≡ k.0 = sym (drop_at d.op h.0 (length d.op) refl) ∙ ap (λ (l : List ℕ). drop (length d.op) l) rest ∙ drop_at e.op k.0 (length d.op) (sym long) in
+    let long : length d.items ≡ length e.items = cc in
+    let rest : flat_map text_of_item d.items ++ h.0 ≡ flat_map text_of_item e.items ++ k.0 = cc in
+    let one = items_one d.items e.items h.0 k.0 long rest in
     let digest : List ℕ → Digest = λ x. record { 0 = x } in
-    let entry : ℕ → ℕ → List ℕ → Entry = λ c s o. record { client = record { 0 = c }; stamp = record { 0 = s }; op = o } in
-    (ap digest head, ap (λ (c : ℕ). entry c d.stamp.0 d.op) client ∙ ap (λ (s : ℕ). entry e.client.0 s d.op) stamp ∙ ap (λ (o : List ℕ). entry e.client.0 e.stamp.0 o) op)
+    let entry : List Item → Entry = λ items. record { items = items } in
+    (ap digest one.1, ap entry one.0)
 
 starts : IsStart before_all
 starts =
@@ -375,6 +429,14 @@ report_proven {w} r three backed =
       stable_later = λ positive. absurd (omega arith);
     }
 
+first_clients : IsOfClients first_entry
+first_clients =
+    All-cons (λ (i : Item). i.client.0 < 64) (item_of 0 1) (item_of 1 1 ∷ []) (lit< tt)
+    (All-cons (λ (i : Item). i.client.0 < 64) (item_of 1 1) [] (lit< tt) (All-nil (λ (i : Item). i.client.0 < 64)))
+
+second_clients : IsOfClients second_entry
+second_clients = All-cons (λ (i : Item). i.client.0 < 64) (item_of 0 2) [] (lit< tt) (All-nil (λ (i : Item). i.client.0 < 64))
+
 -- the reports are in order
 in_order : {next : Digest → Entry → Digest} {interval : ℕ} (r : ℕ) → next ≡ next_text → interval ≡ 2 → IsInOrder next interval (report_of r)
 in_order {next} {interval} r is apart =
@@ -383,7 +445,7 @@ in_order {next} {interval} r is apart =
     (record {
       multiple = omega arith;
       few = lit≤ tt;
-      clients = All-cons IsOfClients first_entry (second_entry ∷ []) (lit< tt) (All-cons IsOfClients second_entry [] (lit< tt) (All-nil IsOfClients));
+      clients = All-cons IsOfClients first_entry (second_entry ∷ []) first_clients (All-cons IsOfClients second_entry [] second_clients (All-nil IsOfClients));
       end = omega arith;
       began = record { within = lit≤ tt; shared = λ above. record { above = lit≤ tt; below = lit≤ tt; head = refl } };
       spec = record { within = lit≤ tt; shared = λ above. record { above = lit≤ tt; below = lit≤ tt; head = refl } };

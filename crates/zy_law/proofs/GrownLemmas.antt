@@ -7,6 +7,7 @@ use Rattle.std.proofs.lemmas.List.Elements.{All-weaker, Contains-append_left}
 use Rattle.std.proofs.lemmas.Option.{same_Some}
 use Rattle.zy_base.specs.declared.ids.Digest.{Digest}
 use Rattle.zy_chain.specs.declared.entry.Entry.{Entry}
+use Rattle.zy_chain.specs.declared.item.Item.{Item}
 use Rattle.zy_chain.specs.Heads.{empty_head}
 use Rattle.zy_chain.specs.Stretch.{Mark}
 use Rattle.zy_choose.specs.Reports.{PlainReport}
@@ -16,7 +17,7 @@ use Rattle.zy_law.specs.Histories.{AreKept}
 use Rattle.zy_law.specs.Reports.{IsProven, IsValidReport, IsValidNew}
 use Rattle.zy_law.specs.World.{Answer, Statement, Spoken, Stand, World}
 use Rattle.zy_law.specs.Said.{IsCorrect, Says, HasSaid, IsVouched, IsBacked}
-use Rattle.zy_law.specs.Lawful.{StoodAt, IsTrueResponse, IsTrueVote, IsTrueCheck, IsTrueReport, IsChosenStart, IsOrdered, AreAskedFor}
+use Rattle.zy_law.specs.Lawful.{StoodAt, IsTrueResponse, IsTrueVote, IsTrueCheck, IsTrueReport, IsChosenStart, IsOrdered, IsAsked, AreAskedFor}
 use Rattle.zy_law.specs.Lists.{IsListOf}
 use Rattle.zy_law.specs.Completed.{Completion, IsCompleted}
 use Rattle.zy_law.specs.Completed.IsCompleted.{fast, slow}
@@ -120,12 +121,12 @@ AreKept-more kept more next keeps h [] all = tt
 AreKept-more kept more next keeps h (x ∷ xs) all = (keeps h x all.0, AreKept-more kept more next keeps (next h x) xs all.1)
 
 -- a list that was read back from the kept texts still is
-pub list_grown : (w : World) (asked : ℕ → List Entry) (said : ℕ → List Spoken) (past : ℕ → List Stand) (kept : Digest → Entry → Bool) → ((h : Digest) (e : Entry) → w.kept h e ≡ true → kept h e ≡ true)
+pub list_grown : (w : World) (asked : ℕ → List Item) (said : ℕ → List Spoken) (past : ℕ → List Stand) (kept : Digest → Entry → Bool) → ((h : Digest) (e : Entry) → w.kept h e ≡ true → kept h e ≡ true)
     → (m : Mark) (list : List Entry) → IsListOf w m list → IsListOf (grown w asked said past kept) m list
 list_grown w asked said past kept keeps m list is = record { long = is.long; head = is.head; texts = AreKept-more w.kept kept w.next keeps empty_head list is.texts }
 
-module _ (w : World) (asked : ℕ → List Entry) (said : ℕ → List Spoken) (past : ℕ → List Stand) (kept : Digest → Entry → Bool)
-    (asks : (q : ℕ) (e : Entry) → Contains (w.asked q) e → Contains (asked q) e)
+module _ (w : World) (asked : ℕ → List Item) (said : ℕ → List Spoken) (past : ℕ → List Stand) (kept : Digest → Entry → Bool)
+    (asks : (q : ℕ) (i : Item) → Contains (w.asked q) i → Contains (asked q) i)
     (says : (q i : ℕ) (x : Spoken) → slice_get (w.said q) i ≡ Some x → slice_get (said q) i ≡ Some x)
     (stands : (q i : ℕ) (b : Stand) → slice_get (w.past q) i ≡ Some b → slice_get (past q) i ≡ Some b) where
   pub correct_grown : (r : ℕ) → IsCorrect w r → IsCorrect (grown w asked said past kept) r
@@ -230,14 +231,18 @@ module _ (w : World) (asked : ℕ → List Entry) (said : ℕ → List Spoken) (
   pub ordered_grown : (history : List Entry) (m : Mark) (request : Digest) → IsOrdered w history m request → IsOrdered (grown w asked said past kept) history m request
   ordered_grown history m request o = record { passes = o.passes; entry = o.entry; there = o.there; digest = o.digest }
 
-  asked_or : (q : ℕ) (e : Entry) → (w.lying q ≡ true) ⊎ Contains (w.asked q) e → (w.lying q ≡ true) ⊎ Contains (asked q) e
-  asked_or q e (inl lies) = inl lies
-  asked_or q e (inr has) = inr (asks q e has)
+  item_asked_grown : (i : Item) → IsAsked w i → IsAsked (grown w asked said past kept) i
+  item_asked_grown i (inl lies) = inl lies
+  item_asked_grown i (inr has) = inr (asks i.client.0 i has)
 
   pub asked_grown : (after : ℕ) (history : List Entry) → AreAskedFor w after history → AreAskedFor (grown w asked said past kept) after history
   asked_grown after history all place e beyond at =
       let own = all place e beyond at in
-      record { asked = asked_or e.client.0 e own.asked; newer = own.newer }
+      record {
+        different = own.different;
+        asked = All-weaker (IsAsked w) (IsAsked (grown w asked said past kept)) item_asked_grown e.items own.asked;
+        newer = own.newer;
+      }
 
   pub completed_grown : (c : Completion) → IsCompleted w c → IsCompleted (grown w asked said past kept) c
   completed_grown c (fast b) = fast (backed_grown _ _ b)

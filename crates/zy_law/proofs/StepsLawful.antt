@@ -4,6 +4,7 @@ use Rattle.std.specs.Prelude.{Contains, slice_get}
 use Rattle.std.proofs.lemmas.Option.{slice_get_within}
 use Rattle.zy_base.specs.declared.ids.Digest.{Digest}
 use Rattle.zy_chain.specs.declared.entry.Entry.{Entry}
+use Rattle.zy_chain.specs.declared.item.Item.{Item}
 use Rattle.zy_chain.specs.Heads.{empty_head}
 use Rattle.zy_chain.specs.Stretch.{Mark}
 use Rattle.zy_choose.specs.Reports.{PlainReport}
@@ -324,7 +325,7 @@ module _ (w : World) (lawful : IsLawful w) (r : ℕ) (b : Stand) (may : MayStand
 
 -- ---- more is asked and kept
 
-module _ (w : World) (lawful : IsLawful w) (asked : ℕ → List Entry) (kept : Digest → Entry → Bool) (asks : (q : ℕ) (e : Entry) → Contains (w.asked q) e → Contains (asked q) e) (may : MayKeep w kept) where
+module _ (w : World) (lawful : IsLawful w) (asked : ℕ → List Item) (kept : Digest → Entry → Bool) (asks : (q : ℕ) (i : Item) → Contains (w.asked q) i → Contains (asked q) i) (may : MayKeep w kept) where
   as_before : (q : ℕ) → IsCorrect (grown w asked w.said w.past kept) q → IsCorrect w q
   as_before q correct = record { within = correct.within; honest = correct.honest }
 
@@ -381,9 +382,9 @@ module _ (w : World) (lawful : IsLawful w) (asked : ℕ → List Entry) (kept : 
             (lawful.asked_for q number s t (as_before q correct) at_s at_t same);
       }
 
-pub asking_lawful : (w : World) (client : ℕ) (e : Entry) → IsLawful w → IsLawful (after_asking w client e)
-asking_lawful w client e lawful =
-    more_lawful w lawful (with_last w.asked client e) w.kept (λ q d has. with_last-contains w.asked client e q d has) (record { more = λ h d is. is; one_text = lawful.one_text })
+pub asking_lawful : (w : World) (client : ℕ) (i : Item) → IsLawful w → IsLawful (after_asking w client i)
+asking_lawful w client i lawful =
+    more_lawful w lawful (with_last w.asked client i) w.kept (λ q k has. with_last-contains w.asked client i q k has) (record { more = λ h d is. is; one_text = lawful.one_text })
 
 pub keeping_lawful : (w : World) (kept : Digest → Entry → Bool) → IsLawful w → MayKeep w kept → IsLawful (after_keeping w kept)
 keeping_lawful w kept lawful may = more_lawful w lawful w.asked kept (λ q d has. has) may

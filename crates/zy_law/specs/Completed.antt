@@ -1,15 +1,16 @@
 -- What clients count as complete, and the one list of all completions.
-use Rattle.std.specs.Prelude.{ℕ, nat_lt, List, fold, if◌then◌else◌}
+use Rattle.std.specs.Prelude.{◌≡◌, ℕ, nat_lt, List, fold, if◌then◌else◌}
 use Rattle.zy_chain.specs.declared.entry.Entry.{Entry}
+use Rattle.zy_chain.specs.declared.item.Item.{Item}
 use Rattle.zy_chain.specs.Stretch.{Mark}
-use Rattle.zy_law.specs.Histories.{Passes, origin}
+use Rattle.zy_law.specs.Histories.{IsItemAt, Passes, origin}
 use Rattle.zy_law.specs.Lawful.{IsTrueAnswer}
 use Rattle.zy_law.specs.Lists.{IsListOf}
 use Rattle.zy_law.specs.Said.{IsBacked}
 use Rattle.zy_law.specs.World.{Answer, World}
 use Rattle.zy_law.specs.World.Statement.{Spec, Local}
 
--- a request that its client counts as complete: the view and the mark of its responses, and what they answer
+-- a request that its client counts as complete: the view and the mark of its responses, and what they answer the entry with
 pub record Completion : Type 0 where
   pub view : ℕ
   pub mark : Mark
@@ -33,7 +34,13 @@ agreed_mark completions = fold further origin completions
 abbrev pub IsAgreedList : World → List Completion → List Entry → Type 0
 IsAgreedList w completions list = IsListOf w (agreed_mark completions) list
 
--- a completion is of the list: the list passes its mark, and the entry there is answered as was told
+-- a completion is of the list: the list passes its mark, and the items of the entry there are answered as was told
 pub record IsResultOf (w : World) (list : List Entry) (c : Completion) : Type 0 where
   pub passes : Passes w.next list c.mark
   pub answer : IsTrueAnswer w list c.mark c.answer
+
+-- no client and stamp stand in two items of the list
+abbrev pub AreItemsOnce : List Entry → Type 0
+AreItemsOnce list =
+    (place other index number : ℕ) (i k : Item) → IsItemAt list place index i → IsItemAt list other number k → i.client ≡ k.client → i.stamp ≡ k.stamp
+    → (place ≡ other) × (index ≡ number)

@@ -1,10 +1,11 @@
--- A small lawful world: four replicas, of which the last lies. In view 0 two entries are ordered and answered, the first
--- fast and the second slow; then the correct replicas leave for view 1 and begin it with both.
-use Rattle.std.specs.Prelude.{ℕ, true, false, nat_eq, List, [], ◌∷◌, ◌++◌, length, Some}
+-- A small lawful world: four replicas, of which the last lies. In view 0 an entry of two items and one of one are ordered and
+-- answered, the first fast and the second slow; then the correct replicas leave for view 1 and begin it with both.
+use Rattle.std.specs.Prelude.{ℕ, zero, suc, true, false, nat_eq, List, [], ◌∷◌, ◌++◌, length, flat_map, Some}
 use Rattle.std.proofs.Common.{lit<, lit≤}
 use Rattle.zy_base.specs.declared.counts.Counts.{Counts}
 use Rattle.zy_base.specs.declared.ids.Digest.{Digest}
 use Rattle.zy_chain.specs.declared.entry.Entry.{Entry}
+use Rattle.zy_chain.specs.declared.item.Item.{Item}
 use Rattle.zy_chain.specs.Heads.{empty_head}
 use Rattle.zy_chain.specs.Stretch.{Mark}
 use Rattle.zy_choose.specs.Reports.{PlainReport}
@@ -45,19 +46,25 @@ four =
 
 -- ---- a digest that is the text itself, so that no two texts share one
 
+abbrev pub text_of_item : Item → List ℕ
+text_of_item i = i.client.0 ∷ i.stamp.0 ∷ length i.op ∷ i.op
+
 abbrev pub text_of : Entry → List ℕ
-text_of e = e.client.0 ∷ e.stamp.0 ∷ length e.op ∷ e.op
+text_of e = length e.items ∷ flat_map text_of_item e.items
 
 abbrev pub next_text : Digest → Entry → Digest
 next_text head e = record { 0 = text_of e ++ head.0 }
 
--- ---- two entries of client 0
+-- ---- two entries: of clients 0 and 1, and of client 0 again
+
+abbrev pub item_of : ℕ → ℕ → Item
+item_of client stamp = record { client = record { 0 = client }; stamp = record { 0 = stamp }; op = [] }
 
 abbrev pub first_entry : Entry
-first_entry = record { client = record { 0 = 0 }; stamp = record { 0 = 1 }; op = [] }
+first_entry = record { items = item_of 0 1 ∷ item_of 1 1 ∷ [] }
 
 abbrev pub second_entry : Entry
-second_entry = record { client = record { 0 = 0 }; stamp = record { 0 = 2 }; op = [] }
+second_entry = record { items = item_of 0 2 ∷ [] }
 
 abbrev pub first_mark : Mark
 first_mark = record { place = 1; head = next_text empty_head first_entry }
@@ -71,8 +78,9 @@ first_answer = record { reply = record { 0 = 1 ∷ [] } }
 abbrev pub second_answer : Answer
 second_answer = record { reply = record { 0 = 2 ∷ [] } }
 
-abbrev pub first_asked : ℕ → List Entry
-first_asked client = first_entry ∷ second_entry ∷ []
+abbrev pub first_asked : ℕ → List Item
+first_asked zero = item_of 0 1 ∷ item_of 0 2 ∷ []
+first_asked (suc other) = item_of 1 1 ∷ []
 
 abbrev pub before_all : World
 before_all =

@@ -2,6 +2,7 @@
 use Rattle.std.specs.Prelude.{◌≡◌, ℕ, ◌<◌, ◌≤◌, ◌-◌, Bool, true, List, [], ◌∷◌, ◌++◌, length, take, fold, slice_get, Some}
 use Rattle.zy_base.specs.declared.ids.Digest.{Digest}
 use Rattle.zy_chain.specs.declared.entry.Entry.{Entry}
+use Rattle.zy_chain.specs.declared.item.Item.{Item}
 use Rattle.zy_chain.specs.Heads.{empty_head}
 use Rattle.zy_chain.specs.Stretch.{Mark}
 
@@ -26,6 +27,13 @@ IsFront near far = (more : List Entry) × (far ≡ near ++ more)
 pub record IsEntryAt (history : List Entry) (place : ℕ) (e : Entry) : Type 0 where
   pub first : 0 < place
   pub there : slice_get history (place - 1) ≡ Some e
+
+-- the item stands in the entry at the place; the first item of an entry is 1
+pub record IsItemAt (history : List Entry) (place index : ℕ) (i : Item) : Type 0 where
+  pub entry : Entry
+  pub there : IsEntryAt history place entry
+  pub first : 0 < index
+  pub item : slice_get entry.items (index - 1) ≡ Some i
 
 -- the text of each link from a head on is kept: which head and which entry led to the next head
 abbrev pub AreKept : (Digest → Entry → Bool) → (Digest → Entry → Digest) → Digest → List Entry → Type 0

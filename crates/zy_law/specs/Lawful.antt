@@ -1,14 +1,16 @@
 -- Lawful conduct: what the correct replicas of a world keep, and what holds of the world besides.
-use Rattle.std.specs.Prelude.{◌≡◌, ◌⊎◌, ℕ, ◌+◌, ◌%◌, ◌<◌, ◌≤◌, true, List, [], length, take, drop, Option, Some, None, Contains}
+use Rattle.std.specs.Prelude.{◌≡◌, ◌≢◌, ◌⊎◌, ℕ, ◌+◌, ◌%◌, ◌<◌, ◌≤◌, true, List, [], length, take, drop, Option, Some, None, All, Contains}
+use Rattle.std.specs.List.{AllPairs}
 use Rattle.zy_base.specs.declared.ids.Digest.{Digest}
 use Rattle.zy_chain.specs.declared.entry.Entry.{Entry}
+use Rattle.zy_chain.specs.declared.item.Item.{Item}
 use Rattle.zy_chain.specs.Heads.{empty_head}
 use Rattle.zy_chain.specs.Stretch.{Mark}
 use Rattle.zy_choose.specs.Choice.{IsChoice}
 use Rattle.zy_choose.specs.Reports.{PlainReport}
 use Rattle.zy_law.specs.Counting.{count_below}
 use Rattle.zy_law.specs.Fixed.{IsCertified}
-use Rattle.zy_law.specs.Histories.{Passes, IsFront, IsEntryAt, AreKept, HaveOneText, mark_of_all}
+use Rattle.zy_law.specs.Histories.{Passes, IsFront, IsEntryAt, IsItemAt, AreKept, HaveOneText, mark_of_all}
 use Rattle.zy_law.specs.Reports.{IsProven, IsValidNew}
 use Rattle.zy_law.specs.Said.{IsCorrect, Says, Stood, Moment, IsBacked}
 use Rattle.zy_law.specs.World.{Answer, Statement, Spoken, Stand, World}
@@ -40,7 +42,7 @@ pub record StoodAt (w : World) (r when view : ℕ) (m : Mark) : Type 0 where
 
 -- ---- the nine rules of conduct, each of every correct replica
 
--- there is an entry at the mark's place, and it is answered as the history up to there tells
+-- there is an entry at the mark's place, and its items are answered as the history up to there tells
 pub record IsTrueAnswer (w : World) (history : List Entry) (m : Mark) (a : Answer) : Type 0 where
   pub entry : Entry
   pub last : IsEntryAt history m.place entry
@@ -51,7 +53,7 @@ pub record IsTrueResponse (w : World) (r when view : ℕ) (m : Mark) (a : Answer
   pub answer : IsTrueAnswer w at.stand.history m a
 
 -- 1. True responses: a speculative response is said while active in its view, of the own history up to a place, with the
--- answer to the entry there.
+-- answers to the entry there.
 abbrev pub TrueResponses : World → Type 0
 TrueResponses w =
     (r number : ℕ) (x : Spoken) (view : ℕ) (m : Mark) (a : Answer) → IsCorrect w r → Says w r number x → x.what ≡ Spec view m a
@@ -130,7 +132,7 @@ ViewsBeginByCertificate w =
     (r number : ℕ) (a b : Stand) → IsCorrect w r → Stood w r number a → Stood w r (number + 1) b → a.view < b.view
     → IsBacked w w.counts.cert (Began b.view (mark_of_all w.next b.history))
 
--- the history passes the order's mark, and its entry there is the request
+-- the history passes the order's mark, and its entry there is the one that was ordered
 pub record IsOrdered (w : World) (history : List Entry) (m : Mark) (request : Digest) : Type 0 where
   pub passes : Passes w.next history m
   pub entry : Entry
@@ -147,10 +149,16 @@ pub record OneOrderPerPlace (w : World) : Type 0 where
   pub ordered_entries : (r number at : ℕ) (x : Spoken) (b : Stand) (m : Mark) (request : Digest) → IsCorrect w r → Says w r number x → Stood w r at b
       → x.what ≡ Order b.view m request → m.place ≤ length b.history → IsOrdered w b.history m request
 
--- the entry's client asked for it or lies, and its stamp is above those of the client's earlier entries
+-- the item's client asked for it, or lies
+abbrev pub IsAsked : World → Item → Type 0
+IsAsked w i = (w.lying i.client.0 ≡ true) ⊎ Contains (w.asked i.client.0) i
+
+-- the items of the entry are of different clients; each was asked for, and its stamp is above those of its client's items in
+-- earlier entries
 pub record IsAskedFor (w : World) (history : List Entry) (place : ℕ) (e : Entry) : Type 0 where
-  pub asked : (w.lying e.client.0 ≡ true) ⊎ Contains (w.asked e.client.0) e
-  pub newer : (earlier : ℕ) (d : Entry) → earlier < place → IsEntryAt history earlier d → d.client ≡ e.client → d.stamp.0 < e.stamp.0
+  pub different : AllPairs (λ i k. i.client ≢ k.client) e.items
+  pub asked : All (IsAsked w) e.items
+  pub newer : (earlier index : ℕ) (k : Item) → earlier < place → IsItemAt history earlier index k → All (λ i. k.client ≡ i.client → k.stamp.0 < i.stamp.0) e.items
 
 -- so each entry past a place
 abbrev pub AreAskedFor : World → ℕ → List Entry → Type 0

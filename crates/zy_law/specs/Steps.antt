@@ -2,6 +2,7 @@
 use Rattle.std.specs.Prelude.{◌≡◌, ℕ, ◌+◌, ◌%◌, ◌<◌, ◌≤◌, Bool, true, nat_eq, if◌then◌else◌, List, [], ◌∷◌, ◌++◌, length, slice_get, Some, Contains}
 use Rattle.zy_base.specs.declared.ids.Digest.{Digest}
 use Rattle.zy_chain.specs.declared.entry.Entry.{Entry}
+use Rattle.zy_chain.specs.declared.item.Item.{Item}
 use Rattle.zy_chain.specs.Heads.{empty_head}
 use Rattle.zy_chain.specs.Stretch.{Mark}
 use Rattle.zy_choose.specs.Reports.{PlainReport}
@@ -16,7 +17,7 @@ use Rattle.zy_law.specs.World.Statement.{Order, Spec, Local, Check, Began, Chang
 -- ---- the world after an act
 
 -- the world with other lists of what was asked, said, stood and kept
-abbrev pub grown : World → (ℕ → List Entry) → (ℕ → List Spoken) → (ℕ → List Stand) → (Digest → Entry → Bool) → World
+abbrev pub grown : World → (ℕ → List Item) → (ℕ → List Spoken) → (ℕ → List Stand) → (Digest → Entry → Bool) → World
 grown w asked said past kept =
     record {
       counts = w.counts;
@@ -43,15 +44,15 @@ after_saying w r x = grown w w.asked (with_last w.said r x) w.past w.kept
 abbrev pub after_standing : World → ℕ → Stand → World
 after_standing w r b = grown w w.asked w.said (with_last w.past r b) w.kept
 
-abbrev pub after_asking : World → ℕ → Entry → World
-after_asking w client e = grown w (with_last w.asked client e) w.said w.past w.kept
+abbrev pub after_asking : World → ℕ → Item → World
+after_asking w client i = grown w (with_last w.asked client i) w.said w.past w.kept
 
 abbrev pub after_keeping : World → (Digest → Entry → Bool) → World
 after_keeping w kept = grown w w.asked w.said w.past kept
 
 -- the lists of a later world: nothing that was asked, said, stood or kept is gone
-pub record IsGrown (w : World) (asked : ℕ → List Entry) (said : ℕ → List Spoken) (past : ℕ → List Stand) (kept : Digest → Entry → Bool) : Type 0 where
-  pub asks : (q : ℕ) (e : Entry) → Contains (w.asked q) e → Contains (asked q) e
+pub record IsGrown (w : World) (asked : ℕ → List Item) (said : ℕ → List Spoken) (past : ℕ → List Stand) (kept : Digest → Entry → Bool) : Type 0 where
+  pub asks : (q : ℕ) (i : Item) → Contains (w.asked q) i → Contains (asked q) i
   pub says : (q number : ℕ) (x : Spoken) → Says w q number x → slice_get (said q) number ≡ Some x
   pub stands : (q number : ℕ) (b : Stand) → Stood w q number b → slice_get (past q) number ≡ Some b
   pub keeps : (h : Digest) (e : Entry) → w.kept h e ≡ true → kept h e ≡ true

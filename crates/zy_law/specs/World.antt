@@ -3,18 +3,19 @@ use Rattle.std.specs.Prelude.{ℕ, Bool, List}
 use Rattle.zy_base.specs.declared.counts.Counts.{Counts}
 use Rattle.zy_base.specs.declared.ids.Digest.{Digest}
 use Rattle.zy_chain.specs.declared.entry.Entry.{Entry}
+use Rattle.zy_chain.specs.declared.item.Item.{Item}
 use Rattle.zy_chain.specs.Stretch.{Mark}
 use Rattle.zy_choose.specs.Reports.{PlainReport}
 
--- what a speculative response answers with, told by a digest
+-- what a speculative response answers the items of an entry with, told by a digest
 pub record Answer : Type 0 where
   pub reply : Digest
 
 -- What a replica signs, as far as safety rests on it. Two statements are equal where all their fields are.
 pub data Statement : Type 0 where
-  -- a primary's order in a view: the mark of the history with the request, and the request's digest
+  -- a primary's order in a view: the mark of the history with the entry, and the entry's digest
   Order : ℕ → Mark → Digest → Statement
-  -- a speculative response in a view: the history up to a mark was executed, and its last entry was answered
+  -- a speculative response in a view: the history up to a mark was executed, and the items of its last entry were answered
   Spec : ℕ → Mark → Answer → Statement
   -- a local commit in a view: a commit certificate for the history up to a mark is held
   Local : ℕ → Mark → Statement
@@ -47,7 +48,7 @@ pub record World : Type 0 where
   pub liar : ℕ → Bool
   pub lying : ℕ → Bool
   -- what each client asked for
-  pub asked : ℕ → List Entry
+  pub asked : ℕ → List Item
   -- what each replica said, in order
   pub said : ℕ → List Spoken
   -- where each replica stood: one for each change of its active view or its history, in order
@@ -56,7 +57,7 @@ pub record World : Type 0 where
   pub next : Digest → Entry → Digest
   -- the digest of an entry
   pub digest : Entry → Digest
-  -- what the last entry of a history is answered with, told by a digest
+  -- what the items of a history's last entry are answered with, told by a digest
   pub reply : List Entry → Digest
   -- the digest of the snapshot where a history leads
   pub state : List Entry → Digest

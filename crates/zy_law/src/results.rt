@@ -3,24 +3,28 @@ ghost use Rattle.zy_base.specs.declared.ids.Digest.{Digest};
 ghost use Rattle.zy_chain.specs.declared.entry.Entry.{Entry};
 ghost use Rattle.zy_chain.specs.Stretch.{Mark, Stretch};
 ghost use Rattle.zy_choose.specs.Marks.{Has};
-ghost use Rattle.zy_law.specs.Completed.{Completion, IsAgreedList, IsCompleted, IsResultOf};
+ghost use Rattle.zy_law.specs.Completed.{Completion, AreItemsOnce, IsAgreedList, IsCompleted, IsResultOf};
 ghost use Rattle.zy_law.specs.Histories.{AreKept, IsFront};
 ghost use Rattle.zy_law.specs.Lawful.{AreAskedFor, IsLawful};
 ghost use Rattle.zy_law.specs.Said.{At, HasSaid, IsBacked, IsCorrect, Moment};
 ghost use Rattle.zy_law.specs.World.Statement.{Check, Order};
 ghost use Rattle.zy_law.specs.World.{World};
 
-/// Each correct history was taken entry by entry: each was asked for by its client, or that client lies, and its stamp
-/// is above those of the client's entries before. So no client and stamp stand in it twice.
+/// Each correct history was taken entry by entry: the items of an entry are of different clients, each was asked for by
+/// its client, or that client lies, and its stamp is above those of the client's items before. So no client and stamp
+/// stand in it twice.
 pub fn histories()
-    ensures { (w : World) (t : Moment w) → IsLawful w → AreAskedFor w 0 t.stand.history }
+    ensures asked { (w : World) (t : Moment w) → IsLawful w → AreAskedFor w 0 t.stand.history }
+    ensures once { (w : World) (t : Moment w) → IsLawful w → AreItemsOnce t.stand.history }
 {}
 
-/// All completions are of one list, which only grows: each has its request there, with the reply that its client was told.
+/// All completions are of one list, which only grows: each has its entry there, with the answers that its client was told.
+/// No client and stamp stand in the list twice.
 pub fn completions()
     ensures listed { (w : World) (completions : List Completion) → IsLawful w → All (IsCompleted w) completions → (list : List Entry) × IsAgreedList w completions list }
     ensures results { (w : World) (completions : List Completion) (list : List Entry) → IsLawful w → All (IsCompleted w) completions → IsAgreedList w completions list → All (IsResultOf w list) completions }
     ensures asked { (w : World) (completions : List Completion) (list : List Entry) → IsLawful w → All (IsCompleted w) completions → IsAgreedList w completions list → AreAskedFor w 0 list }
+    ensures once { (w : World) (completions : List Completion) (list : List Entry) → IsLawful w → All (IsCompleted w) completions → IsAgreedList w completions list → AreItemsOnce list }
     ensures grows { (w : World) (completions more : List Completion) (near far : List Entry) → IsLawful w → All (IsCompleted w) (completions ++ more) → IsAgreedList w completions near → IsAgreedList w (completions ++ more) far → IsFront near far }
 {}
 

@@ -1,6 +1,7 @@
 ghost use Rattle.std.specs.Prelude.{ℕ, Bool, List};
 ghost use Rattle.zy_base.specs.declared.ids.Digest.{Digest};
 ghost use Rattle.zy_chain.specs.declared.entry.Entry.{Entry};
+ghost use Rattle.zy_chain.specs.declared.item.Item.{Item};
 ghost use Rattle.zy_chain.specs.Stretch.{Mark};
 ghost use Rattle.zy_law.specs.Completed.{Completion, IsCompleted};
 ghost use Rattle.zy_law.specs.Fixed.{IsFixed};
@@ -16,10 +17,10 @@ pub fn stays_lawful()
     ensures start { (w : World) → IsStart w → IsLawful w }
     ensures saying { (w : World) (r : ℕ) (x : Spoken) → IsLawful w → MaySay w r x → IsLawful (after_saying w r x) }
     ensures standing { (w : World) (r : ℕ) (b : Stand) → IsLawful w → MayStand w r b → IsLawful (after_standing w r b) }
-    ensures asking { (w : World) (client : ℕ) (e : Entry) → IsLawful w → IsLawful (after_asking w client e) }
+    ensures asking { (w : World) (client : ℕ) (i : Item) → IsLawful w → IsLawful (after_asking w client i) }
     ensures keeping { (w : World) (kept : Digest → Entry → Bool) → IsLawful w → MayKeep w kept → IsLawful (after_keeping w kept) }
-    ensures completed { (w : World) (asked : ℕ → List Entry) (said : ℕ → List Spoken) (past : ℕ → List Stand) (kept : Digest → Entry → Bool) (c : Completion) → IsGrown w asked said past kept → IsCompleted w c → IsCompleted (grown w asked said past kept) c }
-    ensures fixed { (w : World) (asked : ℕ → List Entry) (said : ℕ → List Spoken) (past : ℕ → List Stand) (kept : Digest → Entry → Bool) (view : ℕ) (m : Mark) → IsGrown w asked said past kept → IsFixed w view m → IsFixed (grown w asked said past kept) view m }
-    ensures listed { (w : World) (asked : ℕ → List Entry) (said : ℕ → List Spoken) (past : ℕ → List Stand) (kept : Digest → Entry → Bool) (m : Mark) (list : List Entry) → IsGrown w asked said past kept → IsListOf w m list → IsListOf (grown w asked said past kept) m list }
+    ensures completed { (w : World) (asked : ℕ → List Item) (said : ℕ → List Spoken) (past : ℕ → List Stand) (kept : Digest → Entry → Bool) (c : Completion) → IsGrown w asked said past kept → IsCompleted w c → IsCompleted (grown w asked said past kept) c }
+    ensures fixed { (w : World) (asked : ℕ → List Item) (said : ℕ → List Spoken) (past : ℕ → List Stand) (kept : Digest → Entry → Bool) (view : ℕ) (m : Mark) → IsGrown w asked said past kept → IsFixed w view m → IsFixed (grown w asked said past kept) view m }
+    ensures listed { (w : World) (asked : ℕ → List Item) (said : ℕ → List Spoken) (past : ℕ → List Stand) (kept : Digest → Entry → Bool) (m : Mark) (list : List Entry) → IsGrown w asked said past kept → IsListOf w m list → IsListOf (grown w asked said past kept) m list }
     ensures acts { (w : World) (r : ℕ) (acts : List Act) → IsLawful w → AllMay w r acts → IsLawful (after_acts w r acts) }
 {}
