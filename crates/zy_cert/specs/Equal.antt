@@ -4,10 +4,8 @@ use Rattle.std.specs.Prelude.{Bool, nat_eq, ◌&&◌}
 use Rattle.std.specs.Bool.{Decides}
 use Rattle.std.specs.Cmp.Lexicographic.{pointwise, bytes_decides}
 use Rattle.std.proofs.lemmas.Bool.Decides.{Decides-eqb, Decides-and, Decides-like}
-use Rattle.zy_base.specs.declared.ids.ClientId.{ClientId}
 use Rattle.zy_base.specs.declared.ids.Digest.{Digest}
 use Rattle.zy_base.specs.declared.ids.Place.{Place}
-use Rattle.zy_base.specs.declared.ids.Stamp.{Stamp}
 use Rattle.zy_base.specs.declared.ids.View.{View}
 use Rattle.zy_parts.specs.declared.statements.Order.{Order}
 use Rattle.zy_parts.specs.declared.statements.Spec.{Spec}
@@ -31,12 +29,6 @@ view-equal a b = Decides-like _ (λ e. ap (λ n. record { 0 = n }) e) (λ e. ap 
 pub place-equal : (a b : Place) → Decides (nat_eq a.0 b.0) (a ≡ b)
 place-equal a b = Decides-like _ (λ e. ap (λ n. record { 0 = n }) e) (λ e. ap (λ (v : Place). v.0) e) (Decides-eqb a.0 b.0)
 
-client-equal : (a b : ClientId) → Decides (nat_eq a.0 b.0) (a ≡ b)
-client-equal a b = Decides-like _ (λ e. ap (λ n. record { 0 = n }) e) (λ e. ap (λ (v : ClientId). v.0) e) (Decides-eqb a.0 b.0)
-
-stamp-equal : (a b : Stamp) → Decides (nat_eq a.0 b.0) (a ≡ b)
-stamp-equal a b = Decides-like _ (λ e. ap (λ n. record { 0 = n }) e) (λ e. ap (λ (v : Stamp). v.0) e) (Decides-eqb a.0 b.0)
-
 -- ---- statements
 
 abbrev pub same_order : Order → Order → Bool
@@ -50,14 +42,14 @@ order-equal x y =
     (Decides-and _ _ (view-equal x.view y.view) (Decides-and _ _ (place-equal x.place y.place) (Decides-and _ _ (digest-equal x.head y.head) (digest-equal x.request y.request))))
 
 abbrev pub same_spec : Spec → Spec → Bool
-same_spec x y = nat_eq x.view.0 y.view.0 && (nat_eq x.place.0 y.place.0 && (same_digest x.head y.head && (same_digest x.reply y.reply && (nat_eq x.client.0 y.client.0 && nat_eq x.stamp.0 y.stamp.0))))
+same_spec x y = nat_eq x.view.0 y.view.0 && (nat_eq x.place.0 y.place.0 && (same_digest x.head y.head && same_digest x.answers y.answers))
 
 pub spec-equal : (x y : Spec) → Decides (same_spec x y) (x ≡ y)
 spec-equal x y =
     Decides-like _
-    (λ e. let same : ◌≡◌ {A = Spec} (record { view = x.view; place = x.place; head = x.head; reply = x.reply; client = x.client; stamp = x.stamp }) (record { view = y.view; place = y.place; head = y.head; reply = y.reply; client = y.client; stamp = y.stamp }) = cc in same)
-    (λ e. (ap (λ (s : Spec). s.view) e, (ap (λ (s : Spec). s.place) e, (ap (λ (s : Spec). s.head) e, (ap (λ (s : Spec). s.reply) e, (ap (λ (s : Spec). s.client) e, ap (λ (s : Spec). s.stamp) e))))))
-    (Decides-and _ _ (view-equal x.view y.view) (Decides-and _ _ (place-equal x.place y.place) (Decides-and _ _ (digest-equal x.head y.head) (Decides-and _ _ (digest-equal x.reply y.reply) (Decides-and _ _ (client-equal x.client y.client) (stamp-equal x.stamp y.stamp))))))
+    (λ e. let same : ◌≡◌ {A = Spec} (record { view = x.view; place = x.place; head = x.head; answers = x.answers }) (record { view = y.view; place = y.place; head = y.head; answers = y.answers }) = cc in same)
+    (λ e. (ap (λ (s : Spec). s.view) e, (ap (λ (s : Spec). s.place) e, (ap (λ (s : Spec). s.head) e, ap (λ (s : Spec). s.answers) e))))
+    (Decides-and _ _ (view-equal x.view y.view) (Decides-and _ _ (place-equal x.place y.place) (Decides-and _ _ (digest-equal x.head y.head) (digest-equal x.answers y.answers))))
 
 abbrev pub same_local : Local → Local → Bool
 same_local x y = nat_eq x.view.0 y.view.0 && (nat_eq x.place.0 y.place.0 && same_digest x.head y.head)

@@ -5,7 +5,7 @@ ghost use Rattle.zy_chain.specs.Entries.{IsOfClients};
 
 use crate::{Report, ReportRule};
 use zy_base::{Digest, Place};
-use zy_chain::Spine;
+use zy_chain::{Entry, Spine};
 
 /// Whether a report keeps the rules that it keeps or breaks by itself, under an interval between snapshots; else the
 /// first rule that it breaks. Takes no memory.
@@ -51,12 +51,18 @@ fn are_clients_known(spine: &Spine) -> bool
 {
     for place in spine.base().0..spine.end().0 {
         if let Some(entry) = spine.entry_at(Place(place + 1))
-            && entry.client.0 >= 64
+            && !is_of_clients(entry)
         {
             return false;
         }
     }
     true
+}
+
+fn is_of_clients(entry: &Entry) -> bool
+    ensures { IsTrue result ↔ IsOfClients entry.now }
+{
+    entry.items.as_slice().iter().all(|item| item.client.0 < 64)
 }
 
 fn fits(spine: &Spine, mark: &(Place, Digest)) -> bool

@@ -4,6 +4,7 @@ use Rattle.std.specs.Prelude.{IfSome}
 use Rattle.std.specs.Bool.{Decides}
 use Rattle.std.proofs.lemmas.Bool.{cond-true, cond-false}
 use Rattle.std.proofs.lemmas.Bool.Decides.{Decides-and, Decides-eqb, Decides-like, Decides-ltb, Decides-or, leb_tells}
+use Rattle.zy_chain.specs.declared.entry.Entry.{Entry}
 use Rattle.zy_chain.specs.Stretch.{Mark, Stretch, end_of}
 use Rattle.zy_parts.specs.declared.reports.Told.{Told}
 use Rattle.zy_choose.specs.Marks.{Has, link}
@@ -12,9 +13,12 @@ use Rattle.zy_choose.specs.declared.report.ReportRule.{ReportRule}
 use Rattle.zy_choose.specs.declared.report.ReportRule.TheVariants as itself
 use Rattle.zy_choose.proofs.MarkLemmas.{has_mark-Has, Has-has_mark}
 use Rattle.zy_evidence.specs.Reading.{began_of, spec_of, stretch_of, read_by}
-use Rattle.zy_evidence.specs.Rules.{is_stable_in_order, are_entries_in_range, fits, fits_if, rule_of_itself}
+use Rattle.zy_evidence.specs.Rules.{is_stable_in_order, is_of_clients, are_entries_in_range, fits, fits_if, rule_of_itself}
 use Rattle.zy_evidence.proofs.TestLemmas.{at_most, all_of, refuted, Clear, all_kept, and_first}
 use Rattle.zy_chain.specs.Entries.{IsOfClients}
+
+of_clients : (e : Entry) → Decides (is_of_clients e) (IsOfClients e)
+of_clients e = all_of (λ i. nat_lt i.client.0 64) (λ i. i.client.0 < 64) (λ i. Decides-ltb i.client.0 64) e.items
 
 module _ (interval : ℕ) (id : ℕ) (t : Told) where
   in_order : Decides (is_stable_in_order interval t) (IsStableInOrder interval (read_by id t))
@@ -26,7 +30,7 @@ module _ (interval : ℕ) (id : ℕ) (t : Told) where
   in_range =
       Decides-like _ (λ h. record { few = h.0; clients = h.1.0; end = h.1.1 }) (λ r. (r.few, (r.clients, r.end)))
       (Decides-and _ _ (at_most (length t.entries) (2 * interval))
-      (Decides-and _ _ (all_of (λ e. nat_lt e.client.0 64) IsOfClients (λ e. Decides-ltb e.client.0 64) t.entries) (Decides-ltb (end_of (stretch_of t)) (2 ^ 62))))
+      (Decides-and _ _ (all_of is_of_clients IsOfClients of_clients t.entries) (Decides-ltb (end_of (stretch_of t)) (2 ^ 62))))
 
 fitting : (s : Stretch) (m : Mark) → Decides (fits s m) (Fits s m)
 fitting s m =

@@ -6,6 +6,7 @@ use Rattle.zy_base.specs.declared.counts.Counts.{Counts}
 use Rattle.zy_base.specs.declared.ids.Digest.{Digest}
 use Rattle.zy_base.specs.declared.ids.Place.{Place}
 use Rattle.zy_base.specs.declared.ids.View.{View}
+use Rattle.zy_chain.specs.declared.entry.Entry.{Entry}
 use Rattle.zy_chain.specs.Heads.{empty_head}
 use Rattle.zy_chain.specs.Stretch.{Mark, Stretch, end_of}
 use Rattle.zy_parts.specs.declared.signed.Signed.{Signed}
@@ -97,9 +98,13 @@ rule_of_proofs counts c =
 abbrev pub is_stable_in_order : ℕ → Told → Bool
 is_stable_in_order interval t = nat_le t.stable_view.0 t.last_view.0 && nat_eq (t.stable_place.0 % interval) 0
 
+-- its items are of clients that a group may have
+abbrev pub is_of_clients : Entry → Bool
+is_of_clients e = list_all (λ i. nat_lt i.client.0 64) e.items
+
 abbrev pub are_entries_in_range : ℕ → Told → Bool
 are_entries_in_range interval t =
-    nat_le (length t.entries) (2 * interval) && (list_all (λ e. nat_lt e.client.0 64) t.entries && nat_lt (end_of (stretch_of t)) (2 ^ 62))
+    nat_le (length t.entries) (2 * interval) && (list_all is_of_clients t.entries && nat_lt (end_of (stretch_of t)) (2 ^ 62))
 
 -- a mark isn't past the end, and is below the base or of the same history
 abbrev pub fits : Stretch → Mark → Bool
