@@ -1,8 +1,10 @@
 -- The ten frames of normal operation as bytes.
 use Rattle.std.specs.Prelude.{◌≡◌, ℕ, List, [], ◌∷◌, map, Option, Some, None, Result, Err, ◌==◌, if◌then◌else◌, ◌+◌, ◌*◌}
 use Rattle.zy_base.specs.declared.frame_fault.FrameFault.{FrameFault}
+use Rattle.zy_base.specs.declared.ids.ClientId.{ClientId}
 use Rattle.zy_base.specs.declared.frame_fault.FrameFault.TheVariants.{Kind}
-use Rattle.zy_wire.specs.Spelling.{Spelling, pair, converted, made}
+use Rattle.std.specs.Int.{w32}
+use Rattle.zy_wire.specs.Spelling.{Spelling, word, pair, converted, made}
 use Rattle.zy_wire.specs.Fields.{list, optional, FitsList, FitsOptional}
 use Rattle.zy_wire.specs.Framing.{frame_bytes, framed_in}
 use Rattle.zy_parts.specs.declared.signed.Signed.{Signed}
@@ -14,10 +16,12 @@ use Rattle.zy_parts.specs.declared.statements.Confirm.{Confirm}
 use Rattle.zy_parts.specs.Statements.{ask_fields, IsAskInRange, order_fields, IsOrderInRange, spec_fields, IsSpecInRange, local_fields, IsLocalInRange, confirm_fields, IsConfirmInRange, hole_fields, IsHoleInRange, hate_fields, IsHateInRange, check_fields, IsCheckInRange}
 use Rattle.zy_parts.specs.Numbers as numbers
 use Rattle.zy_parts.specs.Signing.{signed, IsSignedInRange, part_of}
+use Rattle.zy_parts.specs.Asks.{asks_fields, AreAsksInRange, entry_of_asks}
 use Rattle.zy_frames.specs.declared.frame.OrderFrame.{OrderFrame}
 use Rattle.zy_frames.specs.declared.frame.Frame.{Frame}
+use Rattle.zy_chain.specs.declared.entry.Entry.{Entry}
 use Rattle.zy_chain.specs.Answers.{Answers, answers_fields, FitsAnswers}
-use Rattle.zy_parts.specs.Sizes.{order_size, ask_size, spec_size, confirm_size, signed_size}
+use Rattle.zy_parts.specs.Sizes.{order_size, ask_size, asks_size, spec_size, confirm_size, signed_size}
 use Rattle.zy_chain.specs.Sizes.{answers_size}
 use Rattle.zy_frames.specs.declared.frame.Frame.TheVariants as frames
 
@@ -27,7 +31,7 @@ abbrev pub request : Spelling (Signed Ask)
 request = signed ask_fields
 
 abbrev pub order : Spelling OrderFrame
-order = converted (λ x. record { order = x.0; ask = x.1 }) (λ f. (f.order, f.ask)) (pair (signed order_fields) (signed ask_fields))
+order = converted (λ x. record { order = x.0; asks = x.1 }) (λ f. (f.order, f.asks)) (pair (signed order_fields) asks_fields)
 
 abbrev pub ordered : Spelling (Option (Signed Order))
 ordered = optional (signed order_fields)
@@ -35,8 +39,8 @@ ordered = optional (signed order_fields)
 abbrev pub spec_response : Spelling (Signed Spec × (Answers × Option (Signed Order)))
 spec_response = pair (signed spec_fields) (pair answers_fields ordered)
 
-abbrev pub commit : Spelling (List (Signed Spec))
-commit = list 1 16 (signed spec_fields)
+abbrev pub commit : Spelling (ℕ × List (Signed Spec))
+commit = pair (word w32) (list 1 16 (signed spec_fields))
 
 abbrev pub confirm_request : Spelling (Signed Confirm × Signed Ask)
 confirm_request = pair (signed confirm_fields) (signed ask_fields)
@@ -47,13 +51,13 @@ misbehaviour = pair (signed order_fields) (signed order_fields)
 -- ---- how many bytes they have at most
 
 abbrev pub order_frame_size : ℕ
-order_frame_size = signed_size order_size + signed_size ask_size
+order_frame_size = signed_size order_size + asks_size
 
 abbrev pub spec_response_size : ℕ
 spec_response_size = signed_size spec_size + (answers_size + (1 + signed_size order_size))
 
 abbrev pub commit_size : ℕ
-commit_size = 2 + 16 * signed_size spec_size
+commit_size = 4 + (2 + 16 * signed_size spec_size)
 
 abbrev pub confirm_request_size : ℕ
 confirm_request_size = signed_size confirm_size + signed_size ask_size
@@ -63,15 +67,15 @@ misbehaviour_size = signed_size order_size + signed_size order_size
 
 -- the version, the kind and the fields of the longest: no frame of these kinds has more
 abbrev pub greatest_frame : ℕ
-greatest_frame = 2 + commit_size
+greatest_frame = 2 + order_frame_size
 
 -- ---- a frame
 
 abbrev pub kind_of_frame : Frame → ℕ
 kind_of_frame (frames.Request ask) = 1
 kind_of_frame (frames.Order both) = 2
-kind_of_frame (frames.SpecResponse spec reply with_order) = 3
-kind_of_frame (frames.Commit specs) = 4
+kind_of_frame (frames.SpecResponse spec answers with_order) = 3
+kind_of_frame (frames.Commit client specs) = 4
 kind_of_frame (frames.LocalCommit local) = 5
 kind_of_frame (frames.ConfirmReq confirm ask) = 6
 kind_of_frame (frames.FillHole hole) = 7
@@ -82,8 +86,8 @@ kind_of_frame (frames.Checkpoint check) = 10
 unfoldable pub fields_of : Frame → List ℕ
 fields_of (frames.Request ask) = request.spell ask
 fields_of (frames.Order both) = order.spell both
-fields_of (frames.SpecResponse spec reply with_order) = spec_response.spell (spec, (reply, with_order))
-fields_of (frames.Commit specs) = commit.spell specs
+fields_of (frames.SpecResponse spec answers with_order) = spec_response.spell (spec, (answers, with_order))
+fields_of (frames.Commit client specs) = commit.spell (client.0, specs)
 fields_of (frames.LocalCommit local) = (signed local_fields).spell local
 fields_of (frames.ConfirmReq confirm ask) = confirm_request.spell (confirm, ask)
 fields_of (frames.FillHole hole) = (signed hole_fields).spell hole
@@ -99,8 +103,8 @@ spelling f = frame_bytes kind_of_frame fields_of f
 unfoldable pub FitsFrame : Frame → Type 0
 FitsFrame (frames.Request ask) = request.Fits ask
 FitsFrame (frames.Order both) = order.Fits both
-FitsFrame (frames.SpecResponse spec reply with_order) = spec_response.Fits (spec, (reply, with_order))
-FitsFrame (frames.Commit specs) = commit.Fits specs
+FitsFrame (frames.SpecResponse spec answers with_order) = spec_response.Fits (spec, (answers, with_order))
+FitsFrame (frames.Commit client specs) = commit.Fits (client.0, specs)
 FitsFrame (frames.LocalCommit local) = (signed local_fields).Fits local
 FitsFrame (frames.ConfirmReq confirm ask) = confirm_request.Fits (confirm, ask)
 FitsFrame (frames.FillHole hole) = (signed hole_fields).Fits hole
@@ -111,9 +115,9 @@ FitsFrame (frames.Checkpoint check) = (signed check_fields).Fits check
 -- what a frame may hold, beside what its types say
 abbrev pub IsFrameInRange : Frame → Type 0
 IsFrameInRange (frames.Request ask) = IsSignedInRange IsAskInRange ask
-IsFrameInRange (frames.Order both) = IsSignedInRange IsOrderInRange both.order × IsSignedInRange IsAskInRange both.ask
-IsFrameInRange (frames.SpecResponse spec reply with_order) = IsSignedInRange IsSpecInRange spec × FitsAnswers reply × FitsOptional (IsSignedInRange IsOrderInRange) with_order
-IsFrameInRange (frames.Commit specs) = FitsList (IsSignedInRange IsSpecInRange) 1 16 specs
+IsFrameInRange (frames.Order both) = IsSignedInRange IsOrderInRange both.order × AreAsksInRange both.asks
+IsFrameInRange (frames.SpecResponse spec answers with_order) = IsSignedInRange IsSpecInRange spec × FitsAnswers answers × FitsOptional (IsSignedInRange IsOrderInRange) with_order
+IsFrameInRange (frames.Commit client specs) = FitsList (IsSignedInRange IsSpecInRange) 1 16 specs
 IsFrameInRange (frames.LocalCommit local) = IsSignedInRange IsLocalInRange local
 IsFrameInRange (frames.ConfirmReq confirm ask) = IsSignedInRange IsConfirmInRange confirm × IsSignedInRange IsAskInRange ask
 IsFrameInRange (frames.FillHole hole) = IsSignedInRange IsHoleInRange hole
@@ -129,7 +133,7 @@ frame_at kind bytes =
     if kind == 1 then made frames.Request request bytes
     else (if kind == 2 then made frames.Order order bytes
     else (if kind == 3 then made (λ x. frames.SpecResponse x.0 x.1.0 x.1.1) spec_response bytes
-    else (if kind == 4 then made frames.Commit commit bytes
+    else (if kind == 4 then made (λ x. frames.Commit (record { 0 = x.0 }) x.1) commit bytes
     else (if kind == 5 then made frames.LocalCommit (signed local_fields) bytes
     else (if kind == 6 then made (λ x. frames.ConfirmReq x.0 x.1) confirm_request bytes
     else (if kind == 7 then made frames.FillHole (signed hole_fields) bytes
@@ -151,12 +155,31 @@ part_of_optional (Some order) = part_of numbers.order order_fields order ∷ []
 -- what is signed in a frame, from the left
 abbrev pub parts_of : Frame → List Part
 parts_of (frames.Request ask) = part_of numbers.ask ask_fields ask ∷ []
-parts_of (frames.Order both) = part_of numbers.order order_fields both.order ∷ part_of numbers.ask ask_fields both.ask ∷ []
-parts_of (frames.SpecResponse spec reply with_order) = part_of numbers.spec spec_fields spec ∷ part_of_optional with_order
-parts_of (frames.Commit specs) = map (part_of numbers.spec spec_fields) specs
+parts_of (frames.Order both) = part_of numbers.order order_fields both.order ∷ map (part_of numbers.ask ask_fields) both.asks
+parts_of (frames.SpecResponse spec answers with_order) = part_of numbers.spec spec_fields spec ∷ part_of_optional with_order
+parts_of (frames.Commit client specs) = map (part_of numbers.spec spec_fields) specs
 parts_of (frames.LocalCommit local) = part_of numbers.local local_fields local ∷ []
 parts_of (frames.ConfirmReq confirm ask) = part_of numbers.confirm confirm_fields confirm ∷ part_of numbers.ask ask_fields ask ∷ []
 parts_of (frames.FillHole hole) = part_of numbers.hole hole_fields hole ∷ []
 parts_of (frames.Hate hate) = part_of numbers.hate hate_fields hate ∷ []
 parts_of (frames.Pom first second) = part_of numbers.order order_fields first ∷ part_of numbers.order order_fields second ∷ []
 parts_of (frames.Checkpoint check) = part_of numbers.check check_fields check ∷ []
+
+-- the client that a frame names beside those that sign its parts
+abbrev pub named_in : Frame → Option ClientId
+named_in (frames.Request ask) = None
+named_in (frames.Order both) = None
+named_in (frames.SpecResponse spec answers with_order) = None
+named_in (frames.Commit client specs) = Some client
+named_in (frames.LocalCommit local) = None
+named_in (frames.ConfirmReq confirm ask) = None
+named_in (frames.FillHole hole) = None
+named_in (frames.Hate hate) = None
+named_in (frames.Pom first second) = None
+named_in (frames.Checkpoint check) = None
+
+-- ---- the entry of an order
+
+-- The entry that an order's frame brings. An order is for an entry, wherever it is judged, run, counted or told.
+abbrev pub entry_in : OrderFrame → Entry
+entry_in both = entry_of_asks both.asks

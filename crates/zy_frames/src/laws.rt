@@ -3,7 +3,7 @@ ghost use Rattle.zy_wire.specs.Kind.{frame_limit};
 ghost use Rattle.zy_frames.specs.declared.frame.Frame.{Frame};
 ghost use Rattle.zy_frames.specs.Frames.{FitsFrame, IsFrameInRange, spelling, greatest_frame};
 
-/// A frame that has a spelling is in range and far from too long: no spelling of these kinds has more than 132,660
+/// A frame that has a spelling is in range and far from too long: no spelling of these kinds has more than 147,819
 /// bytes. No frame's spelling begins another's.
 pub fn frames()
     ensures in_range { (f : Frame) → FitsFrame f → IsFrameInRange f }

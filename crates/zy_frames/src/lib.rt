@@ -10,5 +10,5 @@ mod part_list;
 pub use coding::{decode, encode};
 pub use frame::{Frame, OrderFrame};
 pub use laws::frames;
-pub use part_list::parts;
+pub use part_list::{named, parts};
 pub use zy_wire::{EncodeFault, GetFault as DecodeFault};

@@ -1,7 +1,7 @@
 -- How many bytes the statements have at most that frames of normal operation carry.
 use Rattle.std.proofs.Common.{ℕ}
 use Rattle.zy_wire.specs.Spelling.{Spelling}
-use Rattle.zy_wire.proofs.Lengths.{IsAtMost, u62-at_most, word32-at_most, digest-at_most, party-at_most, sized16-at_most, pair-at_most, converted-at_most}
+use Rattle.zy_wire.proofs.Lengths.{IsAtMost, u62-at_most, digest-at_most, party-at_most, sized16-at_most, pair-at_most, converted-at_most}
 use Rattle.zy_parts.specs.Statements.{ask_fields, order_fields, spec_fields, local_fields, confirm_fields, hole_fields, hate_fields, check_fields}
 use Rattle.zy_parts.specs.Signing.{signed}
 use Rattle.zy_parts.specs.Sizes.{ask_size, order_size, spec_size, local_size, confirm_size, hole_size, hate_size, check_size, signed_size}
@@ -16,7 +16,7 @@ order-at_most = converted-at_most _ _ _ _ (pair-at_most _ _ _ _ (u62-at_most 0) 
 
 pub spec-at_most : IsAtMost spec_fields spec_size
 unfolding spec_fields
-spec-at_most = converted-at_most _ _ _ _ (pair-at_most _ _ _ _ (u62-at_most 0) (pair-at_most _ _ _ _ (u62-at_most 1) (pair-at_most _ _ _ _ digest-at_most (pair-at_most _ _ _ _ digest-at_most (pair-at_most _ _ _ _ word32-at_most (u62-at_most 0))))))
+spec-at_most = converted-at_most _ _ _ _ (pair-at_most _ _ _ _ (u62-at_most 0) (pair-at_most _ _ _ _ (u62-at_most 1) (pair-at_most _ _ _ _ digest-at_most digest-at_most)))
 
 pub local-at_most : IsAtMost local_fields local_size
 unfolding local_fields

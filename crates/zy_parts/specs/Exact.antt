@@ -1,10 +1,10 @@
 -- Each statement's spelling is exact, and what has a spelling is in range.
 use Rattle.std.proofs.Common.{◌≡◌, ℕ, Some, None, Bool, true, false, cond, ltb, refl, subst, arith}
-use Rattle.std.specs.Int.{w16, w32}
+use Rattle.std.specs.Int.{w16}
 use Rattle.std.proofs.lemmas.Bool.{ltb-false, le-ltb}
 use Rattle.zy_wire.specs.Spelling.{Spelling, IsExact, pair}
 use Rattle.zy_wire.specs.Fields.{u62}
-use Rattle.zy_wire.proofs.Parts.{pair-exact, converted-exact, refined-exact, word-exact, wide16, wide32}
+use Rattle.zy_wire.proofs.Parts.{pair-exact, converted-exact, refined-exact, wide16}
 use Rattle.zy_wire.proofs.Laws.{u62-exact, digest-exact, sized-exact, party-exact}
 use Rattle.zy_parts.specs.Statements.{hole_of, ask_fields, IsAskInRange, order_fields, IsOrderInRange, spec_fields, IsSpecInRange, local_fields, IsLocalInRange, confirm_fields, IsConfirmInRange, hole_fields, IsHoleInRange, hate_fields, IsHateInRange, check_fields, IsCheckInRange}
 use Rattle.zy_parts.specs.Signing.{signed, IsSignedInRange}
@@ -36,11 +36,11 @@ order-in_range s fits = (fits.0, fits.1.0)
 
 pub spec-exact : IsExact spec_fields
 unfolding spec_fields
-spec-exact = converted-exact _ _ _ (pair-exact _ _ (u62-exact 0) (pair-exact _ _ (u62-exact 1) (pair-exact _ _ digest-exact (pair-exact _ _ digest-exact (pair-exact _ _ (word-exact w32 wide32) (u62-exact 0)))))) (λ s. refl) (λ x. refl)
+spec-exact = converted-exact _ _ _ (pair-exact _ _ (u62-exact 0) (pair-exact _ _ (u62-exact 1) (pair-exact _ _ digest-exact digest-exact))) (λ s. refl) (λ x. refl)
 
 pub spec-in_range : (s : Spec) → spec_fields.Fits s → IsSpecInRange s
 unfolding spec_fields
-spec-in_range s fits = (fits.0, fits.1.0, fits.1.1.1.1.1)
+spec-in_range s fits = (fits.0, fits.1.0)
 
 pub local-exact : IsExact local_fields
 unfolding local_fields

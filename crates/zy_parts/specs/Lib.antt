@@ -4,4 +4,6 @@ pub mod Signing
 pub mod Exact
 pub mod Reports
 pub mod ReportsExact
+pub mod Asks
+pub mod AsksExact
 pub mod Sizes

@@ -3,12 +3,13 @@ use Rattle.std.specs.Prelude.{ℕ, ◌≤◌, List, ◌∷◌, ◌++◌, length}
 use Rattle.zy_base.specs.declared.ids.Party.{Party}
 use Rattle.zy_wire.specs.Spelling.{Spelling, pair, converted}
 use Rattle.zy_wire.specs.Fields.{party, party_bytes, bytes16}
+use Rattle.zy_wire.specs.Kind.{text_version}
 use Rattle.zy_parts.specs.declared.signed.Signed.{Signed}
 use Rattle.zy_parts.specs.declared.signed.Part.{Part}
 
--- the bytes 5a 59, the byte 1, the statement's number, the signer and the fields
+-- the bytes 5a 59, the byte 2, the statement's number, the signer and the fields
 unfoldable pub text_of : {S : Type 0} → ℕ → Spelling S → Party → S → List ℕ
-text_of number fields by stmt = 0x5a ∷ 0x59 ∷ 1 ∷ number ∷ (party_bytes by ++ fields.spell stmt)
+text_of number fields by stmt = 0x5a ∷ 0x59 ∷ text_version ∷ number ∷ (party_bytes by ++ fields.spell stmt)
 
 -- what a signature is over
 abbrev pub part_of : {S : Type 0} → ℕ → Spelling S → Signed S → Part

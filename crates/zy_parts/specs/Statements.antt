@@ -1,10 +1,7 @@
 -- The fields of each statement in order, and what they may hold beside what their types say.
 use Rattle.std.specs.Prelude.{ℕ, ◌^◌, ◌<◌, ◌≤◌, length, Option, Some, None, nat_lt, if◌then◌else◌}
-use Rattle.std.specs.Int.{w32}
-use Rattle.zy_wire.specs.Spelling.{Spelling, pair, converted, refined, word}
+use Rattle.zy_wire.specs.Spelling.{Spelling, pair, converted, refined}
 use Rattle.zy_wire.specs.Fields.{u62, digest, bytes16}
-use Rattle.zy_base.specs.declared.ids.ClientId.{ClientId}
-use Rattle.zy_chain.specs.declared.entry.Entry.{Entry}
 use Rattle.zy_parts.specs.declared.statements.Ask.{Ask}
 use Rattle.zy_parts.specs.declared.statements.Order.{Order}
 use Rattle.zy_parts.specs.declared.statements.Spec.{Spec}
@@ -31,10 +28,10 @@ abbrev pub IsOrderInRange : Order → Type 0
 IsOrderInRange s = IsU62 0 s.view.0 × IsU62 1 s.place.0
 
 unfoldable pub spec_fields : Spelling Spec
-spec_fields = converted (λ x. record { view = record { 0 = x.0 }; place = record { 0 = x.1.0 }; head = x.1.1.0; reply = x.1.1.1.0; client = record { 0 = x.1.1.1.1.0 }; stamp = record { 0 = x.1.1.1.1.1 } }) (λ s. (s.view.0, (s.place.0, (s.head, (s.reply, (s.client.0, s.stamp.0)))))) (pair (u62 0) (pair (u62 1) (pair digest (pair digest (pair (word w32) (u62 0))))))
+spec_fields = converted (λ x. record { view = record { 0 = x.0 }; place = record { 0 = x.1.0 }; head = x.1.1.0; answers = x.1.1.1 }) (λ s. (s.view.0, (s.place.0, (s.head, s.answers)))) (pair (u62 0) (pair (u62 1) (pair digest digest)))
 
 abbrev pub IsSpecInRange : Spec → Type 0
-IsSpecInRange s = IsU62 0 s.view.0 × IsU62 1 s.place.0 × IsU62 0 s.stamp.0
+IsSpecInRange s = IsU62 0 s.view.0 × IsU62 1 s.place.0
 
 unfoldable pub local_fields : Spelling Local
 local_fields = converted (λ x. record { view = record { 0 = x.0 }; place = record { 0 = x.1.0 }; head = x.1.1 }) (λ s. (s.view.0, (s.place.0, s.head))) (pair (u62 0) (pair (u62 1) digest))
@@ -69,7 +66,3 @@ check_fields = converted (λ x. record { view = record { 0 = x.0 }; place = reco
 
 abbrev pub IsCheckInRange : Check → Type 0
 IsCheckInRange s = IsU62 0 s.view.0 × IsU62 1 s.place.0
-
--- the entry of a history that a client's ask stands for
-abbrev pub entry_of : ClientId → Ask → Entry
-entry_of client ask = record { client = client; stamp = ask.stamp; op = ask.op }

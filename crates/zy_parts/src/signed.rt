@@ -5,7 +5,7 @@ ghost use Rattle.zy_parts.specs.Exact.{signed-exact, signed-in_range};
 use crate::Statement;
 use std::alloc::Global;
 use zy_base::{Bytes, Party, Want};
-use zy_wire::{Cut, GetFault, Put, Spelled};
+use zy_wire::{Cut, GetFault, Put, Spelled, TEXT_VERSION};
 
 /// A statement with its signer and the signature, of at most 8,192 bytes, on its signed text.
 #[derive(Clone, Debug, Drop)]
@@ -50,14 +50,14 @@ impl<S: Statement> Spelled for Signed<S> {
     }
 }
 
-/// The bytes that are signed: `5a 59`, the byte 1, the statement's number, the signer as a party, and the fields.
+/// The bytes that are signed: `5a 59`, the byte 2, the statement's number, the signer as a party, and the fields.
 #[tactic(auto, unfolding(crate::specs::Signing::text_of))]
 pub fn signed_text<S: Statement>(alloc: Global, by: Party, stmt: &S) -> Result<Bytes, Want>
     requires { S.in_range stmt.now }
     ensures { IfOk result (λ b. b ≡ text_of S.its_number S.spelling by stmt.now) }
 {
     let mut out = Put::new(alloc);
-    out.raw(&[0x5a, 0x59, 1, S::number()])?;
+    out.raw(&[0x5a, 0x59, TEXT_VERSION, S::number()])?;
     out.party(by)?;
     stmt.put(&mut out)?;
     Ok(out.done())

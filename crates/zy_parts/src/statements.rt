@@ -1,13 +1,10 @@
-ghost use Rattle.zy_chain.specs.Entries.{IsEntryInRange};
 ghost use Rattle.zy_parts.specs.Numbers as numbers;
-ghost use Rattle.std.specs.Prelude.{◌≡◌, IfOk};
-ghost use Rattle.zy_parts.specs.Statements.{ask_fields, IsAskInRange, entry_of, order_fields, IsOrderInRange, spec_fields, IsSpecInRange, local_fields, IsLocalInRange, confirm_fields, IsConfirmInRange, hole_fields, IsHoleInRange, hate_fields, IsHateInRange, check_fields, IsCheckInRange};
+ghost use Rattle.zy_parts.specs.Statements.{ask_fields, IsAskInRange, order_fields, IsOrderInRange, spec_fields, IsSpecInRange, local_fields, IsLocalInRange, confirm_fields, IsConfirmInRange, hole_fields, IsHoleInRange, hate_fields, IsHateInRange, check_fields, IsCheckInRange};
 ghost use Rattle.zy_parts.specs.Exact.{ask-exact, ask-in_range, order-exact, order-in_range, spec-exact, spec-in_range, local-exact, local-in_range, confirm-exact, confirm-in_range, hole-exact, hole-in_range, hate-exact, hate-in_range, check-exact, check-in_range};
 
 use crate::Statement;
 use std::alloc::Global;
-use zy_base::{Bytes, ClientId, Digest, FrameFault, Place, Stamp, View, Want};
-use zy_chain::Entry;
+use zy_base::{Bytes, Digest, FrameFault, Place, Stamp, View, Want};
 use zy_wire::{Cut, GetFault, Put, Spelled};
 
 /// A client's request: a stamp that rises with each of its requests, and an operation of at most 1,100 bytes.
@@ -26,16 +23,13 @@ pub struct Order {
     pub request: Digest,
 }
 
-/// A speculative response: the history up to a place was executed, and the entry there, of this client and stamp, has a
-/// reply with this digest.
+/// A speculative response: the history up to a place was executed, and the entry there has answers with this digest.
 #[derive(Clone, Copy, Debug, PartialEq, Eq)]
 pub struct Spec {
     pub view: View,
     pub place: Place,
     pub head: Digest,
-    pub reply: Digest,
-    pub client: ClientId,
-    pub stamp: Stamp,
+    pub answers: Digest,
 }
 
 /// A local commit: a commit certificate for the history up to a place is held.
@@ -46,7 +40,7 @@ pub struct Local {
     pub head: Digest,
 }
 
-/// A backup asks the primary of a view to order a request, by the digest of its entry.
+/// A backup asks the primary of a view to order a request, by the digest of the entry of it alone.
 #[derive(Clone, Copy, Debug, PartialEq, Eq)]
 pub struct Confirm {
     pub view: View,
@@ -100,21 +94,6 @@ impl Spelled for Ask {
         };
         *cut = ahead;
         Ok(ask)
-    }
-}
-
-impl Ask {
-    /// The entry of a history that it stands for where this client asks.
-    pub fn entry(&self, client: ClientId) -> Result<Entry, Want>
-        requires { IsAskInRange self.now }
-        ensures value { IfOk result (λ e. e ≡ entry_of client self.now) }
-        ensures in_range { IfOk result IsEntryInRange }
-    {
-        Ok(Entry {
-            client,
-            stamp: self.stamp,
-            op: self.op.clone()?,
-        })
     }
 }
 
@@ -179,9 +158,7 @@ impl Spelled for Spec {
         out.u64(self.view.0)?;
         out.u64(self.place.0)?;
         out.digest(&self.head)?;
-        out.digest(&self.reply)?;
-        out.u32(self.client.0)?;
-        out.u64(self.stamp.0)
+        out.digest(&self.answers)
     }
 
     #[tactic(auto, unfolding(crate::specs::Statements::spec_fields))]
@@ -191,9 +168,7 @@ impl Spelled for Spec {
             view: View(ahead.u62(0)?),
             place: Place(ahead.u62(1)?),
             head: ahead.digest()?,
-            reply: ahead.digest()?,
-            client: ClientId(ahead.u32()?),
-            stamp: Stamp(ahead.u62(0)?),
+            answers: ahead.digest()?,
         };
         *cut = ahead;
         Ok(spec)

@@ -22,7 +22,7 @@ pub fn decode(alloc: Global, bytes: &[u8]) -> Result<ViewFrame, DecodeFault>
 }
 
 /// The one spelling of a frame: the version, the kind and the fields. `TooLong` exactly where it has more than
-/// 4,194,304 bytes, which none has whose certificates and reports are of at most nine replicas and whose snapshot is one
+/// 8,388,608 bytes, which none has whose certificates and reports are of at most nine replicas and whose snapshot is one
 /// of a replica.
 pub fn encode(alloc: Global, frame: &ViewFrame) -> Result<Bytes, EncodeFault>
     requires { IsFrameInRange frame.now }
