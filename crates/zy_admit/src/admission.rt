@@ -1,9 +1,8 @@
 ghost use Rattle.std.specs.Prelude.{◌≡◌, [], ◌∷◌, ◌++◌, ◌+◌, ◌<◌, ◌≤◌, ◌^◌, ◌-◌, length, slice_index_or, option_copied, option_map, IfOk, OnOk, OnErr, IfErr, None};
-ghost use Rattle.zy_chain.specs.Entries.{IsEntryInRange};
-ghost use Rattle.zy_parts.specs.Signing.{IsSignedInRange};
-ghost use Rattle.zy_parts.specs.Statements.{IsAskInRange, IsOrderInRange};
+ghost use Rattle.zy_parts.specs.Asks.{AreAsksInRange, entry_of_asks};
+ghost use Rattle.zy_parts.specs.Statements.{IsOrderInRange};
 ghost use Rattle.zy_admit.specs.Orders.{no_orders, stored_in, with_order, without_order, orders_above, orders_up_to, gap_above, filled, orders_from};
-ghost use Rattle.zy_admit.specs.Judging.{judge_in, entry_of};
+ghost use Rattle.zy_admit.specs.Judging.{judge_in};
 
 use crate::judging::judge_new;
 use crate::queue::{drop_front, fill_up_to, first_filled};
@@ -113,16 +112,17 @@ impl Admission {
         }
     }
 
-    /// What is due to an order: it is next, held, refused, or evidence against the primary. Takes no memory.
-    pub fn judge(&self, order: &Order, ask: &Signed<Ask>, now: &Position) -> Admit
+    /// What is due to an order of these requests: it is next, held, refused, or evidence against the primary. Takes no
+    /// memory.
+    pub fn judge(&self, order: &Order, asks: &[Signed<Ask>], now: &Position) -> Admit
         requires order { IsOrderInRange order.now }
-        requires ask { IsSignedInRange IsAskInRange ask.now }
-        ensures { result ≡ judge_in self.now order.now (entry_of ask.now) now.now }
+        requires asks { AreAsksInRange asks.now }
+        ensures { result ≡ judge_in self.now order.now (entry_of_asks asks.now) now.now }
     {
         match self.stored(order.place) {
             Some(kept) if kept.order.stmt == *order => Admit::Refused(Cause::Repeat),
             Some(_) => Admit::Evidence,
-            None => judge_new(order, ask, now),
+            None => judge_new(order, asks, now),
         }
     }
 

@@ -6,4 +6,4 @@ mod judging;
 mod queue;
 
 pub use admission::Admission;
-pub use judging::{Admit, Position, client_of, is_newer, request_digest_of};
+pub use judging::{Admit, Position, asks_digest, is_newer, request_digest_of};
