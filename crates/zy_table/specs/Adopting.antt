@@ -1,18 +1,21 @@
 -- How a replica takes up the history with which a view begins: it judges it, goes back to where both are one, and executes
 -- what the report of the provider has above that.
-use Rattle.std.specs.Prelude.{ℕ, zero, suc, ◌+◌, ◌-◌, ◌%◌, nat_eq, nat_lt, nat_le, Bool, false, if◌then◌else◌, List, [], ◌∷◌, ◌++◌, filter, Option, Some, None}
+use Rattle.std.specs.Prelude.{ℕ, zero, suc, ◌+◌, ◌-◌, ◌%◌, nat_eq, nat_lt, nat_le, Bool, false, if◌then◌else◌, List, [], ◌∷◌, ◌++◌, filter, length, ◌≤◌, Option, Some, None}
 use Rattle.std.specs.List.{range_with_len, slice_range}
 use Rattle.zy_base.specs.Machine.{Rules}
 use Rattle.zy_base.specs.declared.cause.Cause.TheVariants as causes
 use Rattle.zy_base.specs.declared.ids.Digest.{Digest}
 use Rattle.zy_base.specs.declared.ids.Place.{Place}
 use Rattle.zy_chain.specs.declared.entry.Entry.{Entry}
-use Rattle.zy_chain.specs.Entries.{IsEntryInRange}
+use Rattle.zy_chain.specs.Answers.{bytes_of_answers}
+use Rattle.zy_chain.specs.Entries.{IsEntryInRange, digest_of_entry}
+use Rattle.zy_chain.specs.Heads.{head_after}
+use Rattle.zy_chain.specs.Sizes.{answers_size}
 use Rattle.zy_chain.specs.Stretch.{Stretch, head_in}
 use Rattle.zy_parts.specs.declared.reports.Told.{Told}
 use Rattle.zy_parts.specs.declared.statements.Check.{Check}
 use Rattle.zy_exec.specs.Kept.{Kept, stretch_of, now_of, longer, back_to}
-use Rattle.zy_exec.specs.Replay.{known_of}
+use Rattle.zy_exec.specs.Replay.{answers_of}
 use Rattle.zy_exec.specs.Shots.{snapshot_in}
 use Rattle.zy_evidence.specs.Reading as reports
 use Rattle.zy_cert.specs.Equal.{same_digest}
@@ -20,7 +23,6 @@ use Rattle.zy_table.specs.declared.deeds.Got.{Got}
 use Rattle.zy_table.specs.declared.deeds.Verdict.{Verdict}
 use Rattle.zy_table.specs.declared.deeds.Verdict.TheVariants.{Take, Wait, Refuse}
 use Rattle.zy_table.specs.Gathering.{state_in}
-use Rattle.zy_chain.specs.Answers.{FitsAnswers}
 
 -- ---- the verdict: whether the history that the report gives up to a place, which has this head there, can be taken up
 
@@ -78,16 +80,17 @@ taken_over told place k =
 
 -- ---- what is gained
 
+-- by an entry that is executed next
 abbrev pub got_next : {S : Type 0} → Rules S → Kept S → Entry → Got
 got_next R k e =
-    let known = known_of R (now_of R k) e in
+    let now = now_of R k in
     record {
-      place = known.place;
-      before = (now_of R k).head;
+      place = record { 0 = now.place + 1 };
+      before = now.head;
       entry = e;
-      head = known.head;
-      reply = known.reply;
-      snapshot = snapshot_in R (longer k e) known.place.0;
+      head = head_after now.head (digest_of_entry e);
+      reply = bytes_of_answers (answers_of R now e);
+      snapshot = snapshot_in R (longer k e) (now.place + 1);
     }
 
 abbrev pub gots_along : {S : Type 0} → Rules S → Kept S → List Entry → List Got
@@ -102,7 +105,7 @@ gots_of R told place k =
 -- what is gained can be kept as texts
 pub record IsGotInRange (got : Got) : Type 0 where
   pub entry : IsEntryInRange got.entry
-  pub reply : FitsAnswers got.reply
+  pub reply : length got.reply ≤ answers_size
 
 -- ---- the checkpoints of it
 

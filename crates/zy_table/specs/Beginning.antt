@@ -21,7 +21,7 @@ use Rattle.zy_vframes.specs.declared.frame.ViewFrame.TheVariants as view_frames
 use Rattle.zy_cert.specs.Equal.{same_fetch}
 use Rattle.zy_cert.specs.Signers.{has_signer}
 use Rattle.zy_seal.specs.Sealing.{sealed_by}
-use Rattle.zy_exec.specs.Kept.{Kept, reply_in}
+use Rattle.zy_exec.specs.Kept.{Kept, answers_in}
 use Rattle.zy_admit.specs.Orders.{no_orders}
 use Rattle.zy_check.specs.Board.{cleared}
 use Rattle.zy_evidence.specs.Reading.{stretch_of}
@@ -80,25 +80,25 @@ begin_view R cert chosen told g =
 
 -- ---- its checkpoints are answered anew
 
--- a response is signed, kept, and sent to the client and to all; no order goes with it
+-- a response is signed, kept, and sent to the entry's clients and to all; no order goes with it
 abbrev pub respond_alone : {S : Type 0} → Rules S → OwnCheckpoint → Answers → Going S → Going S
-respond_alone R own reply g =
+respond_alone R own answers g =
     let signed = sealed_spec g.state own.spec in
-    send All (frames.SpecResponse signed reply None)
-    (send (to_clients own.spec) (frames.SpecResponse signed reply None)
+    send All (frames.SpecResponse signed answers None)
+    (send (to_clients answers) (frames.SpecResponse signed answers None)
     (act (Says (record { body = bodies.Spec own.spec; stood = stood_of R g.state }))
-    (record g { state = with_own_spec (with_spec (spent g.state) signed) own signed })))
+    (record g { state = with_own_spec (with_spec R (spent g.state) signed) own signed })))
 
 abbrev pub respond_to : {S : Type 0} → Rules S → Option OwnCheckpoint → Option Answers → Going S → Going S
-respond_to R None reply g = g
+respond_to R None answers g = g
 respond_to R (Some own) None g = g
-respond_to R (Some own) (Some reply) g = respond_alone R own reply g
+respond_to R (Some own) (Some answers) g = respond_alone R own answers g
 
 -- what the own history has at these places, one after the other
 abbrev pub respond_at : {S : Type 0} → Rules S → List ℕ → Going S → Going S
 respond_at R [] g = g
 respond_at R (place ∷ places) g =
-    respond_at R places (respond_to R (own_at R g.state place) (reply_in R g.state.kept place) g)
+    respond_at R places (respond_to R (own_at R g.state place) (answers_in R g.state.kept place) g)
 
 -- those above the stable place, as far as the choice
 abbrev pub respond_up_to : {S : Type 0} → Rules S → ℕ → Going S → Going S

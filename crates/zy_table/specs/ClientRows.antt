@@ -1,6 +1,6 @@
 -- What a client makes of an event.
-use Rattle.std.specs.Prelude.{ℕ, ◌+◌, ◌%◌, nat_lt, nat_le, nat_eq, ◌&&◌, Bool, true, false, if◌then◌else◌, List, [], ◌∷◌, ◌++◌, take, count_by, slice_set, slice_index_or, unwrap_or, Option, Some, None, Result, Ok, Err}
-use Rattle.std.specs.List.{find, filter_map, list_any}
+use Rattle.std.specs.Prelude.{ℕ, ◌+◌, ◌%◌, nat_lt, nat_le, nat_eq, ◌&&◌, Bool, true, false, if◌then◌else◌, List, [], ◌∷◌, ◌++◌, take, count_by, slice_get, slice_set, slice_index_or, unwrap_or, option_map, Option, Some, None, Result, Ok, Err}
+use Rattle.std.specs.List.{find, filter_map, list_any, position}
 use Rattle.zy_base.specs.declared.frame_fault.FrameFault.{FrameFault}
 use Rattle.zy_base.specs.declared.frame_fault.FrameFault.TheVariants as faults
 use Rattle.zy_base.specs.declared.cause.Cause.{Cause}
@@ -13,9 +13,10 @@ use Rattle.zy_base.specs.declared.step.Event.{Event}
 use Rattle.zy_base.specs.declared.step.Event.TheVariants.{Heard, Timer}
 use Rattle.zy_base.specs.declared.step.TimerKind.{TimerKind}
 use Rattle.zy_base.specs.declared.step.TimerKind.TheVariants as timers
-use Rattle.zy_chain.specs.Entries.{digest_of_entry}
+use Rattle.zy_chain.specs.Answers.{Answers, digest_of_answers}
+use Rattle.zy_base.specs.declared.ids.ClientId.{ClientId}
 use Rattle.zy_parts.specs.Numbers as numbers
-use Rattle.zy_parts.specs.Statements.{ask_fields, entry_of}
+use Rattle.zy_parts.specs.Statements.{ask_fields}
 use Rattle.zy_parts.specs.declared.signed.Signed.{Signed}
 use Rattle.zy_parts.specs.declared.statements.Ask.{Ask}
 use Rattle.zy_parts.specs.declared.statements.Local.{Local}
@@ -40,10 +41,11 @@ use Rattle.zy_table.specs.declared.deeds.To.TheVariants.{All, One}
 use Rattle.zy_table.specs.Roles.{is_replica, is_primary_of}
 use Rattle.zy_table.specs.declared.client.Commit.{Commit}
 use Rattle.zy_table.specs.declared.client.Done.{Done}
+use Rattle.zy_table.specs.declared.client.OwnAnswer.{OwnAnswer}
+use Rattle.zy_table.specs.declared.client.Path.{Path}
 use Rattle.zy_table.specs.declared.client.Path.TheVariants.{Fast, Slow}
 use Rattle.zy_table.specs.declared.client.Response.{Response}
 use Rattle.zy_table.specs.ClientState.{ClientState, ClientOutcome, no_responses, signs_left, refused, taken}
-use Rattle.zy_chain.specs.Answers.{digest_of_answers, Answers}
 
 -- ---- asking
 
@@ -71,17 +73,25 @@ ask s op = ask_while s s.waiting op
 
 -- ---- a speculative response
 
--- the order is that of the response, and for the client's own request
-abbrev pub is_own_order : ClientState → Signed Ask → Spec → Order → Bool
-is_own_order s waiting spec order =
-    nat_eq order.view.0 spec.view.0
-    && (nat_eq order.place.0 spec.place.0
-    && (same_digest order.head spec.head
-    && same_digest order.request (digest_of_entry (entry_of s.me waiting.stmt))))
+-- the answer to the client's own request: the first that is for it, with its number among the answers, from 1
+abbrev pub own_at : Answers → Option ℕ → Option OwnAnswer
+own_at answers None = None
+own_at answers (Some at) = option_map (λ a. record { index = at + 1; stamp = a.stamp; reply = a.reply }) (slice_get answers at)
 
-abbrev pub is_own_order_if : ClientState → Signed Ask → Spec → Option (Signed Order) → Bool
-is_own_order_if s waiting spec None = true
-is_own_order_if s waiting spec (Some order) = is_own_order s waiting spec order.stmt
+abbrev pub own_in : ClientId → Answers → Option OwnAnswer
+own_in me answers = own_at answers (position (λ a. nat_eq a.client.0 me.0) answers)
+
+-- the answers are those of which the response tells the digest
+abbrev pub are_told : Answers → Spec → Bool
+are_told answers spec = same_digest (digest_of_answers answers) spec.answers
+
+-- the order is that of the response
+abbrev pub is_order_of : Spec → Order → Bool
+is_order_of spec order = nat_eq order.view.0 spec.view.0 && (nat_eq order.place.0 spec.place.0 && same_digest order.head spec.head)
+
+abbrev pub is_order_of_if : Spec → Option (Signed Order) → Bool
+is_order_of_if spec None = true
+is_order_of_if spec (Some order) = is_order_of spec order.stmt
 
 -- a response of this view or a greater one is kept already
 abbrev pub is_repeated : Option Response → Spec → Bool
@@ -91,18 +101,16 @@ is_repeated (Some kept) spec = nat_le spec.view.0 kept.spec.stmt.view.0
 abbrev pub kept_of : ClientState → ℕ → Option Response
 kept_of s id = slice_index_or s.responses id None
 
--- why a response to the waiting request isn't kept
-abbrev pub response_cause : ClientState → Signed Ask → ℕ → Response → Option Cause
-response_cause s waiting id r =
-    if nat_eq r.spec.stmt.client.0 s.me.0
-    then (if nat_lt r.spec.stmt.stamp.0 waiting.stmt.stamp.0 then Some causes.OldStamp
-    else (if nat_lt waiting.stmt.stamp.0 r.spec.stmt.stamp.0 then Some causes.Unmatched
-    else (if same_digest (digest_of_answers r.reply) r.spec.stmt.reply
-    then (if is_own_order_if s waiting r.spec.stmt r.order
+-- why a response to the waiting request isn't kept, whose answers are told by it or not
+abbrev pub response_cause : ClientState → Signed Ask → ℕ → Bool → Response → Option Cause
+response_cause s waiting id told r =
+    if nat_lt r.own.stamp.0 waiting.stmt.stamp.0 then Some causes.OldStamp
+    else (if nat_lt waiting.stmt.stamp.0 r.own.stamp.0 then Some causes.Unmatched
+    else (if told
+    then (if is_order_of_if r.spec.stmt r.order
     then (if is_repeated (kept_of s id) r.spec.stmt then Some causes.Repeat else None)
     else Some causes.Unmatched)
-    else Some causes.Unmatched)))
-    else Some causes.Unmatched
+    else Some causes.Unmatched))
 
 abbrev pub keep : ClientState → ℕ → Response → ClientState
 keep s id r = record s { responses = slice_set s.responses id (Some r) }
@@ -115,21 +123,23 @@ agrees spec (Some kept) = same_spec kept.spec.stmt spec
 abbrev pub agreeing : ClientState → Spec → ℕ
 agreeing s spec = count_by (agrees spec) s.responses
 
--- what the client finds for itself in the answers to its request
-abbrev pub own_reply : Answers → List ℕ
-own_reply answers = answers
-
--- what the client counts as complete by a response that has enough equals
-abbrev pub done_of : Response → Done
-done_of r =
+-- what the client counts as complete, with its own answer among those that a response tells of
+abbrev pub done_with : Path → Spec → OwnAnswer → Done
+done_with path spec own =
     record {
-      stamp = r.spec.stmt.stamp;
-      view = r.spec.stmt.view;
-      place = r.spec.stmt.place;
-      head = r.spec.stmt.head;
-      path = Fast;
-      reply = own_reply r.reply;
+      stamp = own.stamp;
+      view = spec.view;
+      place = spec.place;
+      index = own.index;
+      head = spec.head;
+      path = path;
+      answers = spec.answers;
+      reply = own.reply;
     }
+
+-- by a response that has enough equals
+abbrev pub done_of : Response → Done
+done_of r = done_with Fast r.spec.stmt r.own
 
 abbrev pub complete : ClientState → Response → ClientState
 complete s r = record s { known_view = r.spec.stmt.view; waiting = None; done = Some (done_of r) }
@@ -178,13 +188,21 @@ keep_unless None s id r =
     let kept = keep s id r in
     told (evidence_by kept r.order) (completed_if kept r)
 
-abbrev pub respond_while : ClientState → Option (Signed Ask) → ℕ → Response → ClientOutcome
-respond_while s None id r = refused causes.Finished s
-respond_while s (Some waiting) id r = keep_unless (response_cause s waiting id r) s id r
+-- with the own answer that is found in the answers
+abbrev pub respond_by : ClientState → Signed Ask → ℕ → Bool → Signed Spec → Option (Signed Order) → Option OwnAnswer → ClientOutcome
+respond_by s waiting id told spec order None = refused causes.Unmatched s
+respond_by s waiting id told spec order (Some own) =
+    let r : Response = record { spec = spec; own = own; order = order } in
+    keep_unless (response_cause s waiting id told r) s id r
+
+abbrev pub respond_while : ClientState → Option (Signed Ask) → ℕ → Signed Spec → Answers → Option (Signed Order) → ClientOutcome
+respond_while s None id spec answers order = refused causes.Finished s
+respond_while s (Some waiting) id spec answers order =
+    respond_by s waiting id (are_told answers spec.stmt) spec order (own_in s.me answers)
 
 -- a response of the replica with this number
-unfoldable pub respond : ClientState → ℕ → Response → ClientOutcome
-respond s id r = respond_while s s.waiting id r
+unfoldable pub respond : ClientState → ℕ → Signed Spec → Answers → Option (Signed Order) → ClientOutcome
+respond s id spec answers order = respond_while s s.waiting id spec answers order
 
 -- ---- a local commit
 
@@ -194,15 +212,7 @@ is_for spec local = nat_eq local.view.0 spec.view.0 && (nat_eq local.place.0 spe
 
 -- what the client counts as complete by local commits of a certificate
 abbrev pub done_by : Commit → Done
-done_by commit =
-    record {
-      stamp = commit.spec.stamp;
-      view = commit.spec.view;
-      place = commit.spec.place;
-      head = commit.spec.head;
-      path = Slow;
-      reply = own_reply commit.reply;
-    }
+done_by commit = done_with Slow commit.spec commit.own
 
 abbrev pub complete_by : ClientState → Commit → ClientState
 complete_by s commit = record s { known_view = commit.spec.view; waiting = None; commit = None; done = Some (done_by commit) }
@@ -254,13 +264,13 @@ locals_for wanted spec None = record { count = wanted; votes = [] }
 locals_for wanted spec (Some commit) =
     if same_spec commit.spec spec then commit.locals else record { count = wanted; votes = [] }
 
--- the certificate goes to all replicas, and is kept with the reply
-abbrev pub send_commit : ClientState → Spec → Answers → ClientOutcome
-send_commit s spec reply =
+-- the certificate goes to all replicas in the client's name, and is kept with the own answer
+abbrev pub send_commit : ClientState → Spec → OwnAnswer → ClientOutcome
+send_commit s spec own =
     record {
       answer = Taken;
-      state = record s { commit = Some (record { spec = spec; reply = reply; locals = locals_for s.counts.local spec s.commit }) };
-      sent = record { to = All; frame = Plain (frames.Commit (certificate_of s spec)) } ∷ [];
+      state = record s { commit = Some (record { spec = spec; own = own; locals = locals_for s.counts.local spec s.commit }) };
+      sent = record { to = All; frame = Plain (frames.Commit s.me (certificate_of s spec)) } ∷ [];
       said = [];
     }
 
@@ -270,7 +280,7 @@ ask_all s waiting = record { answer = Taken; state = s; sent = record { to = All
 
 abbrev pub ask_or_commit : ClientState → Signed Ask → Option Response → ClientOutcome
 ask_or_commit s waiting None = ask_all s waiting
-ask_or_commit s waiting (Some r) = send_commit s r.spec.stmt r.reply
+ask_or_commit s waiting (Some r) = send_commit s r.spec.stmt r.own
 
 abbrev pub run_out_while : ClientState → Option (Signed Ask) → ClientOutcome
 run_out_while s None = taken s
@@ -287,16 +297,17 @@ is_by_primary s None = true
 is_by_primary s (Some order) = is_primary_of s.counts order.stmt.view.0 order.by
 
 -- of a client only responses and local commits are heard, each from a replica
-abbrev pub hear_response : ClientState → Response → Party → ClientOutcome
-hear_response s r (Client id) = refused causes.WrongRole s
-hear_response s r (Replica id) = if is_by_primary s r.order then respond s id.0 r else refused causes.WrongRole s
+abbrev pub hear_response : ClientState → Signed Spec → Answers → Option (Signed Order) → Party → ClientOutcome
+hear_response s spec answers order (Client id) = refused causes.WrongRole s
+hear_response s spec answers order (Replica id) =
+    if is_by_primary s order then respond s id.0 spec answers order else refused causes.WrongRole s
 
 abbrev pub hear : ClientState → Frame → ClientOutcome
-hear s (frames.SpecResponse spec reply order) = hear_response s (record { spec = spec; reply = reply; order = order }) spec.by
+hear s (frames.SpecResponse spec answers order) = hear_response s spec answers order spec.by
 hear s (frames.LocalCommit local) = if is_replica local.by then count_local s local else refused causes.WrongRole s
 hear s (frames.Request ask) = refused causes.WrongRole s
 hear s (frames.Order both) = refused causes.WrongRole s
-hear s (frames.Commit specs) = refused causes.WrongRole s
+hear s (frames.Commit client specs) = refused causes.WrongRole s
 hear s (frames.ConfirmReq confirm ask) = refused causes.WrongRole s
 hear s (frames.FillHole hole) = refused causes.WrongRole s
 hear s (frames.Hate hate) = refused causes.WrongRole s
@@ -309,12 +320,12 @@ unless (Some cause) s outcome = refused cause s
 
 abbrev pub decoded : ClientState → Result Frame FrameFault → ClientOutcome
 decoded s (Err fault) = refused (causes.NotFrame fault) s
-decoded s (Ok frame) = unless (screen s.keys (plain.parts_of frame)) s (hear s frame)
+decoded s (Ok frame) = unless (screen s.keys (plain.named_in frame) (plain.parts_of frame)) s (hear s frame)
 
 -- it has no part in a change of view
 abbrev pub view_decoded : ClientState → Result ViewFrame FrameFault → ClientOutcome
 view_decoded s (Err fault) = refused (causes.NotFrame fault) s
-view_decoded s (Ok frame) = unless (screen s.keys (view_parts.parts_of frame)) s (refused causes.WrongRole s)
+view_decoded s (Ok frame) = unless (screen s.keys None (view_parts.parts_of frame)) s (refused causes.WrongRole s)
 
 -- what is no frame of normal operation by its kind may be one of a view change
 abbrev pub decoded_as : ClientState → List ℕ → Result Frame FrameFault → ClientOutcome

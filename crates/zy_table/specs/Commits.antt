@@ -82,9 +82,9 @@ commit_judged R s specs client (Err cause) = refused cause s
 commit_judged R s specs client (Ok point) =
     commit_beside R s specs client (local_at point) (head_in (stretch_of s.kept) point.1.0)
 
--- these are the responses, the first of them first
-unfoldable pub commit : {S : Type 0} → Rules S → State S → Spec → List (Signed Spec) → Outcome S
-commit R s first specs =
+-- a client's certificate of these responses, the first of them first
+unfoldable pub commit : {S : Type 0} → Rules S → State S → ClientId → Spec → List (Signed Spec) → Outcome S
+commit R s client first specs =
     if nat_lt first.place.0 s.orders.base then refused causes.OldPlace s
     else (if nat_lt (last_place s.kept) first.place.0 then refused (causes.Behind first.place) s
-    else commit_judged R s specs first.client (certified same_spec point_of_spec s.counts.cert specs))
+    else commit_judged R s specs client (certified same_spec point_of_spec s.counts.cert specs))

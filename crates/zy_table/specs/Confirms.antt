@@ -5,6 +5,7 @@ use Rattle.zy_base.specs.declared.cause.Cause.TheVariants as causes
 use Rattle.zy_base.specs.declared.ids.Party.{Party}
 use Rattle.zy_base.specs.declared.step.Answer.TheVariants.{Taken}
 use Rattle.zy_chain.specs.Entries.{digest_of_entry}
+use Rattle.zy_parts.specs.Asks.{asking}
 use Rattle.zy_parts.specs.declared.signed.Signed.{Signed}
 use Rattle.zy_parts.specs.declared.statements.Ask.{Ask}
 use Rattle.zy_parts.specs.declared.statements.Confirm.{Confirm}
@@ -13,11 +14,11 @@ use Rattle.zy_frames.specs.declared.frame.OrderFrame.{OrderFrame}
 use Rattle.zy_exec.specs.declared.known.Known.{Known}
 use Rattle.zy_exec.specs.Kept.{known_in}
 use Rattle.zy_admit.specs.Orders.{stored_in}
-use Rattle.zy_admit.specs.Judging.{same_digest, entry_of, asking}
+use Rattle.zy_admit.specs.Judging.{same_digest}
 use Rattle.zy_table.specs.declared.deeds.To.TheVariants.{One}
 use Rattle.zy_table.specs.State.{State}
 use Rattle.zy_table.specs.Deeds.{Outcome, send, refused, ends, begin}
-use Rattle.zy_table.specs.Requests.{request}
+use Rattle.zy_table.specs.Requests.{entry_of, request}
 
 -- the order that it has for it, where that is kept
 abbrev pub order_again : {S : Type 0} → State S → Party → Option OrderFrame → Outcome S

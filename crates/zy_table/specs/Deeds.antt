@@ -3,21 +3,21 @@ use Rattle.std.specs.Prelude.{ℕ, ◌+◌, nat_eq, true, false, if◌then◌els
 use Rattle.std.specs.List.{range_with_len}
 use Rattle.zy_base.specs.declared.cause.Cause.{Cause}
 use Rattle.zy_base.specs.declared.ids.Party.{Party}
-use Rattle.zy_base.specs.declared.ids.Party.TheVariants.{Replica, Client}
+use Rattle.zy_base.specs.declared.ids.Party.TheVariants.{Replica}
 use Rattle.zy_base.specs.declared.step.Answer.{Answer}
 use Rattle.zy_base.specs.declared.step.Answer.TheVariants.{Refused}
 use Rattle.zy_base.specs.declared.step.Spoken.{Spoken}
+use Rattle.zy_chain.specs.Answers.{Answers, clients_in}
 use Rattle.zy_parts.specs.Numbers as numbers
 use Rattle.zy_parts.specs.Signing.{text_of}
 use Rattle.zy_parts.specs.Statements.{order_fields, spec_fields, local_fields, confirm_fields, hole_fields, hate_fields, check_fields}
 use Rattle.zy_parts.specs.Reports.{change_fields, new_fields, began_fields, fetch_fields}
-use Rattle.zy_parts.specs.declared.statements.Spec.{Spec}
 use Rattle.zy_frames.specs.declared.frame.Frame.{Frame}
 use Rattle.zy_vframes.specs.declared.frame.ViewFrame.{ViewFrame}
 use Rattle.zy_table.specs.declared.deeds.AnyFrame.{AnyFrame}
 use Rattle.zy_table.specs.declared.deeds.AnyFrame.TheVariants.{Plain, View}
 use Rattle.zy_table.specs.declared.deeds.To.{To}
-use Rattle.zy_table.specs.declared.deeds.To.TheVariants.{One}
+use Rattle.zy_table.specs.declared.deeds.To.TheVariants.{Each}
 use Rattle.zy_table.specs.declared.deeds.Sent.{Sent}
 use Rattle.zy_table.specs.declared.deeds.Body.{Body}
 use Rattle.zy_table.specs.declared.deeds.Body.TheVariants as bodies
@@ -49,9 +49,9 @@ send_view to frame g = send_any to (View frame) g
 abbrev pub act : {S : Type 0} → Act → Going S → Going S
 act done g = record g { deeds = record g.deeds { acts = g.deeds.acts ++ done ∷ [] } }
 
--- to each client of the entry that a response answers
-abbrev pub to_clients : Spec → To
-to_clients spec = One (Client spec.client)
+-- to each client that is answered, in order
+abbrev pub to_clients : Answers → To
+to_clients answers = Each (clients_in answers)
 
 -- what a step made of its event
 pub record Outcome (S : Type 0) : Type 0 where

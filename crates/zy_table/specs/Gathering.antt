@@ -6,8 +6,7 @@ use Rattle.zy_base.specs.Machine.{Rules}
 use Rattle.zy_base.specs.declared.ids.Digest.{Digest}
 use Rattle.zy_base.specs.declared.ids.Place.{Place}
 use Rattle.zy_base.specs.declared.ids.Party.TheVariants.{Replica}
-use Rattle.zy_chain.specs.Stretch.{entry_in, head_in}
-use Rattle.zy_chain.specs.declared.entry.Entry.{Entry}
+use Rattle.zy_chain.specs.Stretch.{head_in}
 use Rattle.zy_parts.specs.Numbers as numbers
 use Rattle.zy_parts.specs.Statements.{check_fields}
 use Rattle.zy_parts.specs.declared.signed.Signed.{Signed}
@@ -15,7 +14,7 @@ use Rattle.zy_parts.specs.declared.statements.Spec.{Spec}
 use Rattle.zy_parts.specs.declared.statements.Check.{Check}
 use Rattle.zy_frames.specs.declared.frame.Frame.TheVariants as frames
 use Rattle.zy_seal.specs.Sealing.{sealed_by}
-use Rattle.zy_exec.specs.Kept.{Kept, stretch_of, reply_in, settled}
+use Rattle.zy_exec.specs.Kept.{Kept, stretch_of, answers_in, settled}
 use Rattle.zy_exec.specs.Shots.{snapshot_in, digest_of_snapshot}
 use Rattle.zy_admit.specs.Orders.{orders_above}
 use Rattle.zy_cert.specs.Equal.{same_spec, same_check}
@@ -45,29 +44,21 @@ check_with spec state = record { view = spec.view; place = spec.place; head = sp
 abbrev pub own_with : Spec → Digest → OwnCheckpoint
 own_with spec state = record { spec = spec; check = check_with spec state }
 
-abbrev pub spec_at : ℕ → ℕ → Entry → Digest → Answers → Spec
-spec_at view place e head reply =
-    record {
-      view = record { 0 = view };
-      place = record { 0 = place };
-      head = head;
-      reply = digest_of_answers reply;
-      client = e.client;
-      stamp = e.stamp;
-    }
+-- the response that the entry of a place is answered with
+abbrev pub spec_at : ℕ → ℕ → Digest → Answers → Spec
+spec_at view place head answers =
+    record { view = record { 0 = view }; place = record { 0 = place }; head = head; answers = digest_of_answers answers }
 
-abbrev pub own_from : ℕ → ℕ → Option Entry → Option Digest → Option Answers → Option Digest → Option OwnCheckpoint
-own_from view place None head reply state = None
-own_from view place (Some e) None reply state = None
-own_from view place (Some e) (Some head) None state = None
-own_from view place (Some e) (Some head) (Some reply) None = None
-own_from view place (Some e) (Some head) (Some reply) (Some state) = Some (own_with (spec_at view place e head reply) state)
+abbrev pub own_from : ℕ → ℕ → Option Digest → Option Answers → Option Digest → Option OwnCheckpoint
+own_from view place None answers state = None
+own_from view place (Some head) None state = None
+own_from view place (Some head) (Some answers) None = None
+own_from view place (Some head) (Some answers) (Some state) = Some (own_with (spec_at view place head answers) state)
 
 -- what it says of a multiple of the interval above the stable place, as far as the history has come
 abbrev pub own_at : {S : Type 0} → Rules S → State S → ℕ → Option OwnCheckpoint
 own_at R s place =
-    own_from (own_view s) place (entry_in (stretch_of s.kept) place) (head_in (stretch_of s.kept) place) (reply_in R s.kept place)
-    (state_in R s.kept place)
+    own_from (own_view s) place (head_in (stretch_of s.kept) place) (answers_in R s.kept place) (state_in R s.kept place)
 
 -- ---- the certificate
 

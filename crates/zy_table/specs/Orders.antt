@@ -1,12 +1,16 @@
 -- What a replica answers to an order.
-use Rattle.std.specs.Prelude.{ℕ, ◌+◌, nat_le, nat_eq, Bool, true, false, if◌then◌else◌, Option, Some, None, option_map, is_some, unwrap_or}
+use Rattle.std.specs.Prelude.{ℕ, ◌+◌, nat_le, nat_eq, Bool, true, false, if◌then◌else◌, map, Option, Some, None, option_map, is_some, unwrap_or}
 use Rattle.zy_base.specs.Machine.{Rules}
 use Rattle.zy_base.specs.declared.cause.Cause.TheVariants as causes
 use Rattle.zy_base.specs.declared.step.Answer.TheVariants.{Taken, Held}
+use Rattle.zy_base.specs.declared.ids.Stamp.{Stamp}
+use Rattle.zy_parts.specs.Asks.{asking}
 use Rattle.zy_parts.specs.Numbers as numbers
 use Rattle.zy_parts.specs.Statements.{hole_fields}
 use Rattle.zy_parts.specs.declared.signed.Signed.{Signed}
+use Rattle.zy_parts.specs.declared.statements.Ask.{Ask}
 use Rattle.zy_parts.specs.declared.statements.Hole.{Hole}
+use Rattle.zy_frames.specs.Frames.{entry_in}
 use Rattle.zy_frames.specs.declared.frame.OrderFrame.{OrderFrame}
 use Rattle.zy_frames.specs.declared.frame.Frame.TheVariants as frames
 use Rattle.zy_seal.specs.Sealing.{sealed_by}
@@ -15,7 +19,6 @@ use Rattle.zy_admit.specs.declared.judging.Admit.{Admit}
 use Rattle.zy_admit.specs.declared.judging.Admit.TheVariants as admits
 use Rattle.zy_admit.specs.declared.judging.Position.{Position}
 use Rattle.zy_admit.specs.Orders.{stored_in, with_order, gap_above}
-use Rattle.zy_admit.specs.Judging.{ordered_entry}
 use Rattle.zy_table.specs.declared.deeds.To.TheVariants.{One}
 use Rattle.zy_table.specs.declared.deeds.Body.TheVariants as bodies
 use Rattle.zy_table.specs.declared.deeds.Act.TheVariants.{Says}
@@ -23,20 +26,24 @@ use Rattle.zy_table.specs.State.{State, own_view, primary_of, window_of, stood_o
 use Rattle.zy_table.specs.Deeds.{Going, Outcome, send, act, refused, ends, begin}
 use Rattle.zy_table.specs.Running.{run, signs_of}
 
+-- the stamp of the last entry of a request's client
+abbrev pub last_stamp : {S : Type 0} → Rules S → State S → Signed Ask → Option Stamp
+last_stamp R s ask = option_map (λ known. known.stamp) (known_in R s.kept (asking ask.by).0)
+
 abbrev pub position_of : {S : Type 0} → Rules S → State S → OrderFrame → Position
 position_of R s frame =
     record {
       end = record { 0 = last_place s.kept };
       head = (now_of R s.kept).head;
       window = record { 0 = window_of s };
-      last = option_map (λ known. known.stamp) (known_in R s.kept (ordered_entry frame).client.0);
+      last = map (last_stamp R s) frame.asks;
     }
 
 -- ---- an order that is next
 
 abbrev pub take_order : {S : Type 0} → Rules S → State S → OrderFrame → Outcome S
 take_order R s frame =
-    if nat_le (signs_of R s (ordered_entry frame)) (signs_left s)
+    if nat_le (signs_of R s (entry_in frame)) (signs_left s)
     then ends Taken (run R frame (begin (record s { orders = with_order s.orders frame; hole = None })))
     else refused causes.KeySpent s
 

@@ -1,9 +1,12 @@
 -- What a replica answers to a request.
-use Rattle.std.specs.Prelude.{◌+◌, nat_lt, nat_le, nat_eq, Bool, false, if◌then◌else◌, Option, Some, None, option_map}
+use Rattle.std.specs.Prelude.{◌+◌, nat_lt, nat_le, nat_eq, Bool, false, if◌then◌else◌, [], ◌∷◌, Option, Some, None, option_map}
 use Rattle.zy_base.specs.Machine.{Rules}
 use Rattle.zy_base.specs.declared.cause.Cause.TheVariants as causes
 use Rattle.zy_base.specs.declared.step.Answer.TheVariants.{Taken}
-use Rattle.zy_chain.specs.Entries.{digest_of_entry}
+use Rattle.zy_chain.specs.Entries.{digest_of_entry, single}
+use Rattle.zy_base.specs.declared.ids.ClientId.{ClientId}
+use Rattle.zy_base.specs.declared.ids.Party.TheVariants.{Client}
+use Rattle.zy_parts.specs.Asks.{asking, item_of}
 use Rattle.zy_parts.specs.Numbers as numbers
 use Rattle.zy_parts.specs.Statements.{order_fields, confirm_fields}
 use Rattle.zy_parts.specs.declared.signed.Signed.{Signed}
@@ -17,57 +20,58 @@ use Rattle.zy_seal.specs.Sealing.{sealed_by}
 use Rattle.zy_exec.specs.declared.known.Known.{Known}
 use Rattle.zy_exec.specs.Kept.{last_place, known_in}
 use Rattle.zy_admit.specs.Orders.{stored_in, with_order}
-use Rattle.zy_admit.specs.Judging.{entry_of, asking}
 use Rattle.zy_table.specs.declared.deeds.To.TheVariants.{All, One}
 use Rattle.zy_table.specs.declared.deeds.Body.TheVariants as bodies
 use Rattle.zy_table.specs.declared.deeds.Act.TheVariants.{Says}
 use Rattle.zy_table.specs.declared.kept.Pending.{Pending}
 use Rattle.zy_table.specs.State.{State, own_view, is_leaving, is_primary, primary_of, window_of, stood_of, signs_left, spent, with_spec, pending_of, with_pending, spec_said}
-use Rattle.zy_table.specs.Deeds.{Going, Outcome, send, act, refused, ends, begin, to_clients}
-use Rattle.zy_table.specs.Running.{spec_of, next_known, sealed_spec, run, signs_of}
+use Rattle.zy_table.specs.Deeds.{Going, Outcome, send, act, refused, ends, begin}
+use Rattle.zy_table.specs.Running.{spec_of, next_spec, sealed_spec, run, signs_of}
 use Rattle.zy_chain.specs.declared.entry.Entry.{Entry}
 
 -- ---- a request that was executed last
 
--- the response with its order, where it is kept
-abbrev pub response_of : {S : Type 0} → State S → Signed Spec → Known → Going S → Going S
-response_of s signed known g =
-    send (to_clients signed.stmt)
-    (frames.SpecResponse signed known.reply (option_map (λ o. o.order) (stored_in s.orders known.place.0))) g
+-- the response with its order, where it is kept, to this client alone
+abbrev pub response_of : {S : Type 0} → State S → ClientId → Signed Spec → Known → Going S → Going S
+response_of s client signed known g =
+    send (One (Client client))
+    (frames.SpecResponse signed known.answers (option_map (λ o. o.order) (stored_in s.orders known.place.0))) g
 
 -- the response is signed anew where it isn't kept
-abbrev pub respond_anew : {S : Type 0} → Rules S → State S → Spec → Known → Outcome S
-respond_anew R s spec known =
+abbrev pub respond_anew : {S : Type 0} → Rules S → State S → ClientId → Spec → Known → Outcome S
+respond_anew R s client spec known =
     if nat_le 1 (signs_left s)
     then (let signed = sealed_spec s spec in
-    ends Taken (response_of s signed known
-    (act (Says (record { body = bodies.Spec spec; stood = stood_of R s })) (begin (with_spec (spent s) signed)))))
+    ends Taken (response_of s client signed known
+    (act (Says (record { body = bodies.Spec spec; stood = stood_of R s })) (begin (with_spec R (spent s) signed)))))
     else refused causes.KeySpent s
 
-abbrev pub respond_as : {S : Type 0} → Rules S → State S → Option (Signed Spec) → Spec → Known → Outcome S
-respond_as R s None spec known = respond_anew R s spec known
-respond_as R s (Some signed) spec known = ends Taken (response_of s signed known (begin s))
+abbrev pub respond_as : {S : Type 0} → Rules S → State S → ClientId → Option (Signed Spec) → Spec → Known → Outcome S
+respond_as R s client None spec known = respond_anew R s client spec known
+respond_as R s client (Some signed) spec known = ends Taken (response_of s client signed known (begin s))
 
-abbrev pub respond_with : {S : Type 0} → Rules S → State S → Spec → Known → Outcome S
-respond_with R s spec known = respond_as R s (spec_said s spec) spec known
+abbrev pub respond_again : {S : Type 0} → Rules S → State S → ClientId → Known → Outcome S
+respond_again R s client known =
+    let spec = spec_of (own_view s) known in
+    respond_as R s client (spec_said s spec) spec known
 
-abbrev pub respond_again : {S : Type 0} → Rules S → State S → Signed Ask → Known → Outcome S
-respond_again R s ask known = respond_with R s (spec_of (own_view s) (entry_of ask) known) known
+-- ---- a new request at the primary, which orders it alone
 
--- ---- a new request at the primary
+abbrev pub entry_of : Signed Ask → Entry
+entry_of ask = single (item_of ask)
 
 abbrev pub order_of : {S : Type 0} → Rules S → State S → Entry → Order
 order_of R s e =
     record {
       view = record { 0 = own_view s };
-      place = (next_known R s e).place;
-      head = (next_known R s e).head;
+      place = (next_spec R s e).place;
+      head = (next_spec R s e).head;
       request = digest_of_entry e;
     }
 
 abbrev pub sealed_order : {S : Type 0} → Rules S → State S → Signed Ask → OrderFrame
 sealed_order R s ask =
-    record { order = sealed_by numbers.order order_fields s.sealer (order_of R s (entry_of ask)); ask = ask }
+    record { order = sealed_by numbers.order order_fields s.sealer (order_of R s (entry_of ask)); asks = ask ∷ [] }
 
 -- the order is signed, kept and sent to all
 abbrev pub ordered : {S : Type 0} → Rules S → State S → Signed Ask → Going S
@@ -128,7 +132,7 @@ abbrev pub request_after : {S : Type 0} → Rules S → State S → Signed Ask �
 request_after R s ask None = new_request R s ask
 request_after R s ask (Some known) =
     if nat_lt ask.stmt.stamp.0 known.stamp.0 then refused causes.OldStamp s
-    else (if nat_eq ask.stmt.stamp.0 known.stamp.0 then respond_again R s ask known else new_request R s ask)
+    else (if nat_eq ask.stmt.stamp.0 known.stamp.0 then respond_again R s (asking ask.by) known else new_request R s ask)
 
 -- a newer request of the client waits
 abbrev pub is_behind : Signed Ask → Option Pending → Bool

@@ -34,9 +34,9 @@ is_order_of_primary counts (Some order) = is_primary_of counts order.stmt.view.0
 -- The signers are those that may say such a thing, and the replica is one that hears it.
 abbrev pub in_role : {S : Type 0} → State S → Frame → Bool
 in_role s (frames.Request ask) = is_client ask.by
-in_role s (frames.Order both) = is_primary_of s.counts both.order.stmt.view.0 both.order.by && is_client both.ask.by
-in_role s (frames.SpecResponse spec reply with_order) = is_replica spec.by && is_order_of_primary s.counts with_order
-in_role s (frames.Commit specs) = list_all (λ spec. is_replica spec.by) specs
+in_role s (frames.Order both) = is_primary_of s.counts both.order.stmt.view.0 both.order.by && list_all (λ ask. is_client ask.by) both.asks
+in_role s (frames.SpecResponse spec answers with_order) = is_replica spec.by && is_order_of_primary s.counts with_order
+in_role s (frames.Commit client specs) = list_all (λ spec. is_replica spec.by) specs
 in_role s (frames.LocalCommit local) = false
 in_role s (frames.ConfirmReq confirm ask) =
     is_replica confirm.by && (is_client ask.by && is_primary_of s.counts confirm.stmt.view.0 (Replica s.me))

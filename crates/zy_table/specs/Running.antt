@@ -1,124 +1,105 @@
 -- Running an order: its entry is executed and answered in the same step, and then the orders that were held for it.
-use Rattle.std.specs.Prelude.{ℕ, ◌+◌, nat_lt, nat_le, ◌&&◌, Bool, false, if◌then◌else◌, List, [], ◌∷◌, Option, Some, None}
+use Rattle.std.specs.Prelude.{ℕ, ◌+◌, nat_lt, nat_le, ◌&&◌, Bool, false, if◌then◌else◌, List, [], ◌∷◌, fold, Option, Some, None}
 use Rattle.zy_base.specs.Machine.{Rules}
 use Rattle.zy_base.specs.declared.ids.Digest.{Digest}
 use Rattle.zy_base.specs.declared.ids.Stamp.{Stamp}
+use Rattle.zy_chain.specs.Answers.{Answers}
 use Rattle.zy_chain.specs.Entries.{digest_of_entry}
 use Rattle.zy_chain.specs.declared.entry.Entry.{Entry}
+use Rattle.zy_chain.specs.declared.item.Item.{Item}
 use Rattle.zy_chain.specs.Heads.{head_after}
 use Rattle.zy_parts.specs.Numbers as numbers
 use Rattle.zy_parts.specs.Statements.{spec_fields}
 use Rattle.zy_parts.specs.declared.signed.Signed.{Signed}
 use Rattle.zy_parts.specs.declared.statements.Order.{Order}
 use Rattle.zy_parts.specs.declared.statements.Spec.{Spec}
+use Rattle.zy_frames.specs.Frames.{entry_in}
 use Rattle.zy_frames.specs.declared.frame.OrderFrame.{OrderFrame}
 use Rattle.zy_frames.specs.declared.frame.Frame.TheVariants as frames
 use Rattle.zy_seal.specs.Sealing.{sealed_by}
 use Rattle.zy_exec.specs.declared.known.Known.{Known}
-use Rattle.zy_exec.specs.Replay.{known_of, is_new_to}
+use Rattle.zy_exec.specs.Replay.{answers_of, is_new_to}
 use Rattle.zy_exec.specs.Kept.{longer, last_place, now_of}
-use Rattle.zy_exec.specs.Shots.{snapshot_in}
 use Rattle.zy_admit.specs.Orders.{without_order, slots_above}
-use Rattle.zy_admit.specs.Judging.{same_digest, ordered_entry}
+use Rattle.zy_admit.specs.Judging.{same_digest}
 use Rattle.zy_table.specs.declared.deeds.To.TheVariants.{All}
 use Rattle.zy_table.specs.declared.deeds.Body.TheVariants as bodies
-use Rattle.zy_table.specs.declared.deeds.Got.{Got}
 use Rattle.zy_table.specs.declared.deeds.Act.TheVariants.{Says, Gains}
 use Rattle.zy_table.specs.declared.kept.Pending.{Pending}
 use Rattle.zy_table.specs.State.{State, own_view, stood_of, signs_left, spent, with_spec, pending_of, with_pending}
 use Rattle.zy_table.specs.Deeds.{Going, send, act, to_clients}
-use Rattle.zy_table.specs.Gathering.{state_in, own_with, with_own_spec, gather, signs_with}
-use Rattle.zy_chain.specs.Answers.{Answers, digest_of_answers}
+use Rattle.zy_table.specs.Adopting.{got_next}
+use Rattle.zy_table.specs.Gathering.{state_in, spec_at, own_with, with_own_spec, gather, signs_with}
 
--- what an executed entry is answered with
-abbrev pub spec_of : ℕ → Entry → Known → Spec
-spec_of view e known =
-    record {
-      view = record { 0 = view };
-      place = known.place;
-      head = known.head;
-      reply = digest_of_answers known.reply;
-      client = e.client;
-      stamp = known.stamp;
-    }
+-- the response to a client's last entry
+abbrev pub spec_of : ℕ → Known → Spec
+spec_of view known = spec_at view known.place.0 known.head known.answers
 
--- what is known of an entry that is executed next
-abbrev pub next_known : {S : Type 0} → Rules S → State S → Entry → Known
-next_known R s e = known_of R (now_of R s.kept) e
+-- what an entry that is executed next is answered with, and the response that says so
+abbrev pub next_answers : {S : Type 0} → Rules S → State S → Entry → Answers
+next_answers R s e = answers_of R (now_of R s.kept) e
 
--- what is gained by an entry that is executed on a head
-abbrev pub got_from : Digest → Entry → Known → Option (List ℕ) → Got
-got_from before e known snapshot =
-    record {
-      place = known.place;
-      before = before;
-      entry = e;
-      head = known.head;
-      reply = known.reply;
-      snapshot = snapshot;
-    }
-
-abbrev pub got_of : {S : Type 0} → Rules S → State S → Entry → Got
-got_of R s e =
-    let known = next_known R s e in
-    got_from (now_of R s.kept).head e known (snapshot_in R (longer s.kept e) known.place.0)
+abbrev pub next_spec : {S : Type 0} → Rules S → State S → Entry → Spec
+next_spec R s e =
+    let now = now_of R s.kept in
+    spec_at (own_view s) (now.place + 1) (head_after now.head (digest_of_entry e)) (next_answers R s e)
 
 -- a request that waits still, where one of its client with this stamp was executed
 abbrev pub still_pending : Stamp → Option Pending → Option Pending
 still_pending stamp None = None
 still_pending stamp (Some pending) = if nat_lt stamp.0 pending.ask.stmt.stamp.0 then Some pending else None
 
--- without the client's request that waited, where it isn't newer
-abbrev pub without_pending : {S : Type 0} → State S → Entry → State S
-without_pending s e = with_pending s e.client (still_pending e.stamp (pending_of s e.client))
+-- without the request of an item's client that waited, where it isn't newer
+abbrev pub without_pending : {S : Type 0} → State S → Item → State S
+without_pending s i = with_pending s i.client (still_pending i.stamp (pending_of s i.client))
 
--- the history gets the entry, and its request waits no longer
+-- the history gets the entry, and the requests of its clients wait no longer
 abbrev pub executed : {S : Type 0} → Rules S → Entry → Going S → Going S
 executed R e g =
-    act (Gains (got_of R g.state e))
-    (record g { state = without_pending (record g.state { kept = longer g.state.kept e }) e })
+    act (Gains (got_next R g.state.kept e))
+    (record g { state = fold without_pending (record g.state { kept = longer g.state.kept e }) e.items })
 
 -- the response that is signed
 abbrev pub sealed_spec : {S : Type 0} → State S → Spec → Signed Spec
 sealed_spec s spec = sealed_by numbers.spec spec_fields s.sealer spec
 
--- it is kept as the last one, and sent to the client with its order
+-- it is kept as the last one, and sent to the entry's clients with its order
 abbrev pub respond : {S : Type 0} → Rules S → Signed Order → Signed Spec → Answers → Going S → Going S
-respond R order signed reply g =
-    send (to_clients signed.stmt) (frames.SpecResponse signed reply (Some order))
+respond R order signed answers g =
+    send (to_clients answers) (frames.SpecResponse signed answers (Some order))
     (act (Says (record { body = bodies.Spec signed.stmt; stood = stood_of R g.state }))
-    (record g { state = with_spec (spent g.state) signed }))
+    (record g { state = with_spec R (spent g.state) signed }))
 
 -- At a multiple of the interval it goes to all as well, it is kept with those of others, and what is kept is looked through.
 abbrev pub share : {S : Type 0} → Rules S → Signed Order → Signed Spec → Answers → Option Digest → Going S → Going S
-share R order signed reply None g = g
-share R order signed reply (Some state) g =
+share R order signed answers None g = g
+share R order signed answers (Some state) g =
     let own = own_with signed.stmt state in
-    let told = send All (frames.SpecResponse signed reply (Some order)) g in
+    let told = send All (frames.SpecResponse signed answers (Some order)) g in
     gather R own false (record told { state = with_own_spec told.state own signed })
 
 -- the answer to an entry that was executed: the response, and what goes with it at a multiple of the interval
 abbrev pub answered : {S : Type 0} → Rules S → Signed Order → Spec → Answers → Going S → Going S
-answered R order spec reply g =
+answered R order spec answers g =
     let signed = sealed_spec g.state spec in
-    share R order signed reply (state_in R g.state.kept spec.place.0) (respond R order signed reply g)
+    share R order signed answers (state_in R g.state.kept spec.place.0) (respond R order signed answers g)
 
 -- one order: its entry is executed, and then answered
 unfoldable pub run_one : {S : Type 0} → Rules S → OrderFrame → Going S → Going S
 run_one R o g =
-    let e = ordered_entry o in
-    answered R o.order (spec_of (own_view g.state) e (next_known R g.state e)) (next_known R g.state e).reply (executed R e g)
+    let e = entry_in o in
+    answered R o.order (next_spec R g.state e) (next_answers R g.state e) (executed R e g)
 
 -- how many statements that signs
 abbrev pub signs_of : {S : Type 0} → Rules S → State S → Entry → ℕ
 signs_of R s e =
-    let spec = spec_of (own_view s) e (next_known R s e) in
+    let spec = next_spec R s e in
     signs_with s spec (state_in R (longer s.kept e) spec.place.0)
 
--- the order has the head and the stamp that the next one has to have
+-- the order has the head and the stamps that the next one has to have
 abbrev pub fits_end : {S : Type 0} → Rules S → State S → OrderFrame → Bool
 fits_end R s o =
-    let e = ordered_entry o in
+    let e = entry_in o in
     same_digest o.order.stmt.head (head_after (now_of R s.kept).head (digest_of_entry e)) && is_new_to (now_of R s.kept).known e
 
 -- the orders that are held in the next slots, as long as signatures are left; one that doesn't fit is dropped
@@ -127,7 +108,7 @@ run_held R [] g = g
 run_held R (None ∷ slots) g = g
 run_held R (Some o ∷ slots) g =
     if fits_end R g.state o
-    then (if nat_le (signs_of R g.state (ordered_entry o)) (signs_left g.state) then run_held R slots (run_one R o g) else g)
+    then (if nat_le (signs_of R g.state (entry_in o)) (signs_left g.state) then run_held R slots (run_one R o g) else g)
     else record g { state = record g.state { orders = without_order g.state.orders (last_place g.state.kept + 1) } }
 
 -- an order that is next, and those that were held for it

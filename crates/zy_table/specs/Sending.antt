@@ -2,10 +2,11 @@
 use Rattle.std.specs.Prelude.{ℕ, List, [], ◌∷◌, map}
 use Rattle.std.specs.List.{flat_map}
 use Rattle.zy_base.specs.declared.ids.Party.{Party}
+use Rattle.zy_base.specs.declared.ids.Party.TheVariants.{Client}
 use Rattle.zy_frames.specs.Frames as plain
 use Rattle.zy_vframes.specs.ViewFrames as views
 use Rattle.zy_table.specs.declared.deeds.To.{To}
-use Rattle.zy_table.specs.declared.deeds.To.TheVariants.{All, One}
+use Rattle.zy_table.specs.declared.deeds.To.TheVariants.{All, One, Each}
 use Rattle.zy_table.specs.declared.deeds.AnyFrame.{AnyFrame}
 use Rattle.zy_table.specs.declared.deeds.AnyFrame.TheVariants.{Plain, View}
 use Rattle.zy_table.specs.declared.deeds.Sent.{Sent}
@@ -23,6 +24,7 @@ CanBeSent (View frame) = views.IsFrameInRange frame × views.IsWithinLimits fram
 abbrev pub receivers : List Party → To → List Party
 receivers all All = all
 receivers all (One party) = party ∷ []
+receivers all (Each clients) = map Client clients
 
 -- a frame for each of some parties
 abbrev pub copies : List ℕ → List Party → List (Party × List ℕ)

@@ -1,5 +1,5 @@
 -- What a replica is, as far as its answers tell.
-use Rattle.std.specs.Prelude.{ℕ, ◌+◌, ◌-◌, ◌*◌, ◌%◌, ◌^◌, min, nat_eq, ◌||◌, Bool, true, false, List, [], slice_index_or, slice_set, replicate, Option, None, is_some, not, filter, ◌∷◌, ◌++◌}
+use Rattle.std.specs.Prelude.{ℕ, ◌+◌, ◌-◌, ◌*◌, ◌%◌, ◌^◌, min, nat_eq, ◌&&◌, ◌||◌, Bool, true, false, List, [], slice_index_or, slice_set, replicate, Option, None, is_some, not, filter, ◌∷◌, ◌++◌}
 use Rattle.std.specs.List.{list_any, find}
 use Rattle.zy_base.specs.Machine.{Rules}
 use Rattle.zy_base.specs.declared.counts.Counts.{Counts}
@@ -19,6 +19,7 @@ use Rattle.zy_parts.specs.declared.statements.Hate.{Hate}
 use Rattle.zy_parts.specs.declared.statements.Hole.{Hole}
 use Rattle.zy_parts.specs.declared.statements.Local.{Local}
 use Rattle.zy_parts.specs.declared.reports.Fetch.{Fetch}
+use Rattle.zy_exec.specs.declared.known.Known.{Known}
 use Rattle.zy_exec.specs.Replay.{origin}
 use Rattle.zy_exec.specs.Kept.{Kept, last_place, now_of}
 use Rattle.zy_exec.specs.Shots.{digest_of_snapshot}
@@ -47,7 +48,7 @@ pub record State (S : Type 0) : Type 0 where
   pub board : Board
   -- what it asked the primary for last
   pub hole : Option (Signed Hole)
-  -- its own responses that may be asked for again: the last one to each client
+  -- its own responses that may be asked for again: those of the last entry of each client
   pub specs : List (Signed Spec)
   -- for each client the request that waits for its order
   pub pending : List (Option Pending)
@@ -116,13 +117,22 @@ spent s = record s { sealer = spent_one s.sealer }
 abbrev pub spec_said : {S : Type 0} → State S → Spec → Option (Signed Spec)
 spec_said s spec = find (λ said. same_spec said.stmt spec) s.specs
 
--- a response stays beside a later one, unless both are to one client
-abbrev pub is_beside : Spec → Signed Spec → Bool
-is_beside later said = not (nat_eq said.stmt.client.0 later.client.0)
+-- this is the last entry of its client
+abbrev pub stands_at : ℕ → Option Known → Bool
+stands_at place None = false
+stands_at place (Some known) = nat_eq known.place.0 place
+
+-- some client's last entry stands at a place
+abbrev pub is_last_of_some : {S : Type 0} → Rules S → Kept S → ℕ → Bool
+is_last_of_some R k place = list_any (stands_at place) (now_of R k).known
+
+-- a response stays beside a later one of another place, as long as some client may ask for it again
+abbrev pub stays_beside : {S : Type 0} → Rules S → Kept S → Spec → Signed Spec → Bool
+stays_beside R k later said = not (nat_eq said.stmt.place.0 later.place.0) && is_last_of_some R k said.stmt.place.0
 
 -- with one more response
-abbrev pub with_spec : {S : Type 0} → State S → Signed Spec → State S
-with_spec s signed = record s { specs = filter (is_beside signed.stmt) s.specs ++ signed ∷ [] }
+abbrev pub with_spec : {S : Type 0} → Rules S → State S → Signed Spec → State S
+with_spec R s signed = record s { specs = filter (stays_beside R s.kept signed.stmt) s.specs ++ signed ∷ [] }
 
 -- a client's request that waits for its order
 abbrev pub pending_of : {S : Type 0} → State S → ClientId → Option Pending

@@ -3,6 +3,7 @@ use Rattle.std.specs.Prelude.{ℕ, ◌&&◌, Bool, true, if◌then◌else◌, Li
 use Rattle.std.specs.List.{list_all}
 use Rattle.zy_base.specs.Machine.{Rules}
 use Rattle.zy_base.specs.declared.counts.Counts.{Counts}
+use Rattle.zy_base.specs.declared.ids.ClientId.{ClientId}
 use Rattle.zy_base.specs.declared.frame_fault.FrameFault.{FrameFault}
 use Rattle.zy_base.specs.declared.frame_fault.FrameFault.TheVariants as faults
 use Rattle.zy_base.specs.declared.cause.Cause.{Cause}
@@ -21,13 +22,14 @@ use Rattle.zy_frames.specs.declared.frame.Frame.{Frame}
 use Rattle.zy_frames.specs.declared.frame.OrderFrame.{OrderFrame}
 use Rattle.zy_frames.specs.declared.frame.Frame.TheVariants as frames
 use Rattle.zy_frames.specs.Frames as plain
+use Rattle.zy_frames.specs.Frames.{entry_in}
 use Rattle.zy_vframes.specs.declared.frame.ViewFrame.{ViewFrame}
 use Rattle.zy_vframes.specs.declared.frame.ViewFrame.TheVariants as view_frames
 use Rattle.zy_vframes.specs.ViewFrames as views
 use Rattle.zy_vframes.specs.Parts as view_parts
 use Rattle.zy_seal.specs.Screening.{screen}
 use Rattle.zy_admit.specs.Orders.{stored_in}
-use Rattle.zy_admit.specs.Judging.{judge_in, ordered_entry}
+use Rattle.zy_admit.specs.Judging.{judge_in}
 use Rattle.zy_admit.specs.declared.judging.Admit.{Admit}
 use Rattle.zy_admit.specs.declared.judging.Admit.TheVariants as admits
 use Rattle.zy_table.specs.State.{State}
@@ -82,9 +84,9 @@ unless None s outcome = outcome
 unless (Some cause) s outcome = refused cause s
 
 -- a commit certificate of the own view, by its first response
-abbrev pub commit_in_view : {S : Type 0} → Rules S → State S → List (Signed Spec) → Outcome S
-commit_in_view R s [] = refused (causes.TooFew 0) s
-commit_in_view R s (first ∷ others) = unless (view_cause s first.stmt.view.0) s (commit R s first.stmt (first ∷ others))
+abbrev pub commit_in_view : {S : Type 0} → Rules S → State S → ClientId → List (Signed Spec) → Outcome S
+commit_in_view R s client [] = refused (causes.TooFew 0) s
+commit_in_view R s client (first ∷ others) = unless (view_cause s first.stmt.view.0) s (commit R s client first.stmt (first ∷ others))
 
 -- an order that differs from the kept one of its place is told to all, and the view is left
 abbrev pub order_judged : {S : Type 0} → Rules S → State S → OrderFrame → Admit → Outcome S
@@ -95,13 +97,13 @@ order_judged R s both admits.Held = order_as R s both admits.Held
 order_judged R s both (admits.Refused cause) = order_as R s both (admits.Refused cause)
 
 abbrev pub order : {S : Type 0} → Rules S → State S → OrderFrame → Outcome S
-order R s both = order_judged R s both (judge_in s.orders both.order.stmt (ordered_entry both) (position_of R s both))
+order R s both = order_judged R s both (judge_in s.orders both.order.stmt (entry_in both) (position_of R s both))
 
 abbrev pub plain_row : {S : Type 0} → Rules S → State S → Frame → Outcome S
 plain_row R s (frames.Request ask) = request R s ask
 plain_row R s (frames.Order both) = unless (view_cause s both.order.stmt.view.0) s (order R s both)
-plain_row R s (frames.SpecResponse spec reply with_order) = unless (view_cause s spec.stmt.view.0) s (response R s spec)
-plain_row R s (frames.Commit specs) = commit_in_view R s specs
+plain_row R s (frames.SpecResponse spec answers with_order) = unless (view_cause s spec.stmt.view.0) s (response R s spec)
+plain_row R s (frames.Commit client specs) = commit_in_view R s client specs
 plain_row R s (frames.LocalCommit local) = refused causes.WrongRole s
 plain_row R s (frames.ConfirmReq confirmed ask) = unless (view_cause s confirmed.stmt.view.0) s (confirm R s confirmed ask)
 plain_row R s (frames.FillHole hole) = unless (view_cause s hole.stmt.view.0) s (fill_hole s hole)
@@ -128,13 +130,13 @@ hear_view R s frame =
 
 abbrev pub view_decoded : {S : Type 0} → Rules S → State S → Result ViewFrame FrameFault → Outcome S
 view_decoded R s (Err fault) = refused (causes.NotFrame fault) s
-view_decoded R s (Ok frame) = unless (screen s.keys (view_parts.parts_of frame)) s (hear_view R s frame)
+view_decoded R s (Ok frame) = unless (screen s.keys None (view_parts.parts_of frame)) s (hear_view R s frame)
 
 -- what is no frame of normal operation by its kind may be one of a view change
 abbrev pub decoded_as : {S : Type 0} → Rules S → State S → List ℕ → Result Frame FrameFault → Outcome S
 decoded_as R s bytes (Err faults.Kind) = view_decoded R s (views.frame_in bytes)
 decoded_as R s bytes (Err fault) = refused (causes.NotFrame fault) s
-decoded_as R s bytes (Ok frame) = unless (screen s.keys (plain.parts_of frame)) s (hear_plain R s frame)
+decoded_as R s bytes (Ok frame) = unless (screen s.keys (plain.named_in frame) (plain.parts_of frame)) s (hear_plain R s frame)
 
 abbrev pub timer : {S : Type 0} → Rules S → State S → TimerKind → Outcome S
 timer R s timers.Request = finished R s (on_request_timer R s s.views.mode)

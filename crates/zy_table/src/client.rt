@@ -9,30 +9,42 @@ pub enum Path {
     Slow,
 }
 
-/// A request that is complete: its stamp, where it stands, and its reply.
+/// A request that is complete: its stamp, where it stands, its number among the requests there from 1, and its reply,
+/// beside the digest of all answers that were given there.
 #[derive(Clone, Debug, Drop)]
 pub struct Done {
     pub stamp: Stamp,
     pub view: View,
     pub place: Place,
+    pub index: u8,
     pub head: Digest,
     pub path: Path,
+    pub answers: Digest,
     pub reply: Bytes,
 }
 
-/// A replica's speculative response as a client keeps it.
+/// What a client finds for itself among the answers at a place: the number of its request there from 1, the stamp, and
+/// the reply.
+#[derive(Clone, Debug, Drop)]
+pub struct OwnAnswer {
+    pub index: u8,
+    pub stamp: Stamp,
+    pub reply: Bytes,
+}
+
+/// A replica's speculative response as a client keeps it, with its own answer.
 #[derive(Clone, Debug, Drop)]
 pub struct Response {
     pub spec: Signed<Spec>,
-    pub reply: Bytes,
+    pub own: OwnAnswer,
     pub order: Option<Signed<Order>>,
 }
 
-/// The commit certificate that a client sent: what its responses say, the reply of the first of them, and the local
-/// commits to it.
+/// The commit certificate that a client sent: what its responses say, the own answer in the first of them, and the
+/// local commits to it.
 #[derive(Debug, Drop)]
 pub struct Commit {
     pub spec: Spec,
-    pub reply: Bytes,
+    pub own: OwnAnswer,
     pub locals: Votes<Local>,
 }

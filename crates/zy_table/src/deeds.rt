@@ -1,15 +1,17 @@
-use zy_base::{Bytes, Cause, Digest, Items, Party, Place, Stood, View};
+use zy_base::{Bytes, Cause, ClientId, Digest, Items, Party, Place, Stood, View};
 use zy_chain::Entry;
 use zy_frames::Frame;
 use zy_parts::{Began, Change, Check, Confirm, Fetch, Hate, Hole, Local, New, Order, Spec};
 use zy_vframes::ViewFrame;
 
 /// To whom a frame goes.
-#[derive(Clone, Copy, Debug, PartialEq, Eq)]
+#[derive(Clone, Debug, Drop)]
 pub enum To {
     /// To all other replicas, in rising number.
     All,
     One(Party),
+    /// To each of these clients, in order.
+    Each(Items<ClientId>),
 }
 
 /// A frame of normal operation, or one of a view change.
@@ -49,8 +51,8 @@ pub struct Remark {
     pub stood: Stood,
 }
 
-/// An entry that a step executed: its place, the heads before and after it, its reply, and at a checkpoint the
-/// snapshot there.
+/// An entry that a step executed: its place, the heads before and after it, the bytes of its answers, and at a
+/// checkpoint the snapshot there.
 #[derive(Clone, Debug, Drop)]
 pub struct Got {
     pub place: Place,

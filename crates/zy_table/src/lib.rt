@@ -8,7 +8,7 @@ mod kept;
 mod laws;
 mod sending;
 
-pub use client::{Commit, Done, Path, Response};
+pub use client::{Commit, Done, OwnAnswer, Path, Response};
 pub use deeds::{Act, AnyFrame, Body, Deeds, Gains, Got, Remark, Sent, To, Verdict};
 pub use kept::{OwnCheckpoint, Pending};
 pub use laws::{one_place, refused_steps, rests, stays};

@@ -1,12 +1,13 @@
-ghost use Rattle.std.specs.Prelude.{◌≡◌, ◌++◌, OnOk, IfOk};
+ghost use Rattle.std.specs.Prelude.{◌≡◌, ◌++◌, map, OnOk, IfOk};
 ghost use Rattle.std.specs.List.{AllByRecursion};
+ghost use Rattle.zy_base.specs.declared.ids.Party.TheVariants as parties;
 ghost use Rattle.zy_frames.specs.Frames as plain;
 ghost use Rattle.zy_vframes.specs.ViewFrames as views;
 ghost use Rattle.zy_table.specs.Sending.{CanBeSent, spelling_of, copies, sendings_of, outgoing_to};
 
 use crate::{AnyFrame, Sent, To};
 use std::alloc::Global;
-use zy_base::{Bytes, Items, Outgoing, Party, Want};
+use zy_base::{Bytes, ClientId, Items, Outgoing, Party, Want};
 use zy_frames::{EncodeFault, Frame};
 use zy_vframes::ViewFrame;
 
@@ -27,9 +28,10 @@ fn send(alloc: Global, all: &[Party], sent: &Sent, out: &mut Outgoing) -> Result
     ensures { OnOk result (out.new ≡ out.old ++ sendings_of all.now sent.now) }
 {
     let bytes = encoded(alloc, &sent.frame)?;
-    match sent.to {
+    match &sent.to {
         To::All => copy_to(all, &bytes, out),
-        To::One(party) => out.push((party, bytes)),
+        To::One(party) => out.push((*party, bytes)),
+        To::Each(clients) => copy_to_clients(clients.as_slice(), &bytes, out),
     }
 }
 
@@ -71,6 +73,15 @@ fn copy_to(to: &[Party], bytes: &Bytes, out: &mut Outgoing) -> Result<(), Want>
 {
     for party in to {
         out.push((*party, bytes.clone()?))?;
+    }
+    Ok(())
+}
+
+fn copy_to_clients(clients: &[ClientId], bytes: &Bytes, out: &mut Outgoing) -> Result<(), Want>
+    ensures { OnOk result (out.new ≡ out.old ++ copies bytes.now (map parties.Client clients.now)) }
+{
+    for client in clients {
+        out.push((Party::Client(*client), bytes.clone()?))?;
     }
     Ok(())
 }
