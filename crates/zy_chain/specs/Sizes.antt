@@ -1,12 +1,20 @@
 -- How many bytes the parts of a history have at most as fields of frames, and what a frame brings of a snapshot.
 use Rattle.std.specs.Prelude.{ℕ, ◌+◌, ◌*◌}
 
--- the client, the stamp, and the operation behind its length
+-- an item without its operation: the client, the stamp, and the operation's length
+abbrev pub item_head_size : ℕ
+item_head_size = 4 + (8 + 2)
+
+-- the items behind their count, whose operations have at most 8,192 bytes together
 abbrev pub entry_size : ℕ
-entry_size = 4 + (8 + (2 + 1100))
+entry_size = 2 + (16 * item_head_size + 8192)
+
+-- the client, the stamp, and the reply behind its length
+abbrev pub answered_size : ℕ
+answered_size = 4 + (8 + (2 + 1100))
 
 abbrev pub answers_size : ℕ
-answers_size = 2 + 1100
+answers_size = 2 + 16 * answered_size
 
 -- what is known of a client: its number, the stamp, the place, the head and the answers
 abbrev pub record_size : ℕ

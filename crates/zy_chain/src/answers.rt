@@ -1,14 +1,31 @@
-ghost use Rattle.std.specs.Prelude.{◌≡◌};
-ghost use Rattle.zy_chain.specs.Answers.{digest_of_answers};
+ghost use Rattle.std.specs.Prelude.{◌≡◌, IfOk};
 
-use sha2::{Digest as Hasher, Sha256};
-use zy_base::{Bytes, Digest};
+use std::alloc::AllocError;
+use zy_base::{Bytes, ClientId, Items, Stamp, Want};
 
-/// SHA-256 (FIPS 180-4) of what an entry is answered with. Takes no memory.
-pub fn answers_digest(answers: &Bytes) -> Digest
-    ensures { result ≡ digest_of_answers answers.now }
+/// What an item of an entry is answered with: the client, the stamp and at most 1,100 bytes of reply.
+#[derive(Debug, Drop, PartialEq, Eq)]
+pub struct Answered {
+    pub client: ClientId,
+    pub stamp: Stamp,
+    pub reply: Bytes,
+}
+
+impl Clone for Answered {
+    ghost is_clone = { λ a b. b ≡ a };
+
+    fn clone(&self) -> Result<Answered, AllocError> {
+        Ok(Answered {
+            client: self.client,
+            stamp: self.stamp,
+            reply: self.reply.clone()?,
+        })
+    }
+}
+
+/// Another copy of answers.
+pub fn answers_copy(answers: &Items<Answered>) -> Result<Items<Answered>, Want>
+    ensures { IfOk result (λ copy. copy ≡ answers.now) }
 {
-    let mut hasher = Sha256::new();
-    hasher.update(answers.as_slice());
-    Digest(hasher.finalize())
+    Ok(answers.clone()?)
 }

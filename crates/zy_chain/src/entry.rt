@@ -1,36 +1,42 @@
-ghost use Rattle.std.specs.Prelude.{◌≡◌, ◌≤◌, IfOk, length};
-ghost use Rattle.zy_chain.specs.Entries.{IsEntryInRange, bytes_of_entry, digest_of_entry, digest_of_request};
+ghost use Rattle.std.specs.Prelude.{◌≡◌, IfOk};
+ghost use Rattle.zy_chain.specs.Entries.{IsEntryInRange, bytes_of_entry, digest_of_entry};
 ghost use Rattle.zy_chain.specs.Heads.{head_after};
 
+use crate::Item;
+use crate::digests::items_digest;
 use sha2::{Digest as Hasher, Sha256};
-use std::alloc::Global;
-use zy_base::{Bytes, ClientId, Digest, Stamp, Want};
+use std::alloc::{AllocError, Global};
+use zy_base::{Bytes, Digest, Items, Want};
+use zy_wire::{Put, Spelled};
 
-/// One operation of a history: whose it is, its stamp among that client's, below 2^62, and its bytes, at most 1,100.
-#[derive(Clone, Debug, Drop, PartialEq, Eq)]
+/// What stands at one place of a history: 1 to 16 operations of different clients, of at most 8,192 bytes together.
+#[derive(Debug, Drop)]
 pub struct Entry {
-    pub client: ClientId,
-    pub stamp: Stamp,
-    pub op: Bytes,
+    pub items: Items<Item>,
+}
+
+impl Clone for Entry {
+    ghost is_clone = { λ a b. b ≡ a };
+
+    fn clone(&self) -> Result<Entry, AllocError> {
+        Ok(Entry {
+            items: self.items.clone()?,
+        })
+    }
 }
 
 /// The head of the empty history.
 pub const EMPTY_HEAD: Digest = Digest([0; 32]);
 
-/// The one spelling of an entry: the client in four bytes, the stamp in eight, and the operation behind its length
-/// in two, each number high byte first.
-#[tactic(auto, unfolding(crate::specs::Entries::bytes_of_request))]
+/// The one spelling of an entry: the number of its items in two bytes, and for each the client in four, the stamp in
+/// eight, and the operation behind its length in two, each number high byte first.
 pub fn entry_bytes(alloc: Global, e: &Entry) -> Result<Bytes, Want>
     requires { IsEntryInRange e.now }
     ensures { IfOk result (λ b. b ≡ bytes_of_entry e.now) }
 {
-    let op = e.op.as_slice();
-    let mut bytes = Vec::with_capacity(alloc, 14 + op.len())?;
-    bytes.extend_from_slice(&e.client.0.to_be_bytes())?;
-    bytes.extend_from_slice(&e.stamp.0.to_be_bytes())?;
-    bytes.extend_from_slice(&(op.len() as u16).to_be_bytes())?;
-    bytes.extend_from_slice(op)?;
-    Ok(Bytes::from(bytes))
+    let mut out = Put::new(alloc);
+    e.put(&mut out)?;
+    Ok(out.done())
 }
 
 /// SHA-256 (FIPS 180-4) of the entry's bytes. Takes no memory.
@@ -38,20 +44,7 @@ pub fn entry_digest(e: &Entry) -> Digest
     requires { IsEntryInRange e.now }
     ensures { result ≡ digest_of_entry e.now }
 {
-    request_digest(e.client, e.stamp, e.op.as_slice())
-}
-
-/// The digest of the entry that a client's request stands for, at most 1,100 bytes of operation. Takes no memory.
-pub fn request_digest(client: ClientId, stamp: Stamp, op: &[u8]) -> Digest
-    requires { length op.now ≤ 1100 }
-    ensures { result ≡ digest_of_request client stamp op.now }
-{
-    let mut hasher = Sha256::new();
-    hasher.update(&client.0.to_be_bytes());
-    hasher.update(&stamp.0.to_be_bytes());
-    hasher.update(&(op.len() as u16).to_be_bytes());
-    hasher.update(op);
-    Digest(hasher.finalize())
+    items_digest(e.items.as_slice())
 }
 
 /// SHA-256 of a head followed by the digest of the next entry: the head with that entry. Takes no memory.

@@ -1,10 +1,55 @@
-ghost use Rattle.zy_chain.specs.Entries.{IsEntryInRange};
-ghost use Rattle.zy_chain.specs.Fields.{entry_fields, entry-exact, entry-in_range};
+ghost use Rattle.std.specs.Prelude.{◌≡◌, IfOk, refl};
+ghost use Rattle.zy_chain.specs.Entries.{IsNextItem, IsEntryInRange};
+ghost use Rattle.zy_chain.specs.Answers.{IsAnsweredInRange};
+ghost use Rattle.zy_chain.specs.Fields.{item_fields, item_after, item-succession, item-exact, item-in_range, entry_fields, entry-exact, entry-in_range, answered_fields, answered-exact, answered-in_range};
 
-use crate::Entry;
+use crate::{Answered, Entry, Item, has_client, room_behind};
 use std::alloc::Global;
-use zy_base::{Bytes, ClientId, Stamp, Want};
-use zy_wire::{Cut, GetFault, Put, Spelled};
+use zy_base::{Bytes, ClientId, FrameFault, Stamp, Want};
+use zy_wire::{Cut, GetFault, Put, Spelled, Successive, get_successive, put_list};
+
+const MAX_OP: usize = 1100;
+
+impl Spelled for Item {
+    ghost spelling = { item_fields };
+
+    ghost in_range = { IsNextItem [] };
+
+    ghost exact = { item-exact };
+
+    ghost fits_in_range = { item-in_range };
+
+    #[tactic(auto, unfolding(crate::specs::Fields::item_after))]
+    fn put(&self, out: &mut Put) -> Result<(), Want> {
+        out.u32(self.client.0)?;
+        out.u64(self.stamp.0)?;
+        out.bytes16(self.op.as_slice())
+    }
+
+    fn get(alloc: Global, cut: &mut Cut<'_>) -> Result<Item, GetFault> {
+        Item::get_after(alloc, cut, &[])
+    }
+}
+
+impl Successive for Item {
+    ghost after = { item_after };
+
+    ghost succession = { item-succession };
+
+    #[tactic(auto, unfolding(crate::specs::Fields::item_after))]
+    fn get_after(alloc: Global, cut: &mut Cut<'_>, before: &[Item]) -> Result<Item, GetFault> {
+        let mut ahead = cut.ahead();
+        let client = ClientId(ahead.u32()?);
+        if has_client(before, client) {
+            return Err(GetFault::Frame(FrameFault::Range));
+        }
+        let stamp = Stamp(ahead.u62(0)?);
+        let op = ahead.bytes16(MAX_OP.min(room_behind(before)))?;
+        let op = Bytes::from_slice(alloc, op)?;
+        *cut = ahead;
+        Ok(Item { client, stamp, op })
+    }
+}
 
 impl Spelled for Entry {
     ghost spelling = { entry_fields };
@@ -17,20 +62,42 @@ impl Spelled for Entry {
 
     #[tactic(auto, unfolding(crate::specs::Fields::entry_fields))]
     fn put(&self, out: &mut Put) -> Result<(), Want> {
-        out.u32(self.client.0)?;
-        out.u64(self.stamp.0)?;
-        out.bytes16(self.op.as_slice())
+        put_list(&self.items, out)
     }
 
     #[tactic(auto, unfolding(crate::specs::Fields::entry_fields))]
     fn get(alloc: Global, cut: &mut Cut<'_>) -> Result<Entry, GetFault> {
+        Ok(Entry {
+            items: get_successive(alloc, cut, 1, 16)?,
+        })
+    }
+}
+
+impl Spelled for Answered {
+    ghost spelling = { answered_fields };
+
+    ghost in_range = { IsAnsweredInRange };
+
+    ghost exact = { answered-exact };
+
+    ghost fits_in_range = { answered-in_range };
+
+    #[tactic(auto, unfolding(crate::specs::Fields::answered_fields))]
+    fn put(&self, out: &mut Put) -> Result<(), Want> {
+        out.u32(self.client.0)?;
+        out.u64(self.stamp.0)?;
+        out.bytes16(self.reply.as_slice())
+    }
+
+    #[tactic(auto, unfolding(crate::specs::Fields::answered_fields))]
+    fn get(alloc: Global, cut: &mut Cut<'_>) -> Result<Answered, GetFault> {
         let mut ahead = cut.ahead();
-        let entry = Entry {
+        let answered = Answered {
             client: ClientId(ahead.u32()?),
             stamp: Stamp(ahead.u62(0)?),
-            op: Bytes::from_slice(alloc, ahead.bytes16(1100)?)?,
+            reply: Bytes::from_slice(alloc, ahead.bytes16(1100)?)?,
         };
         *cut = ahead;
-        Ok(entry)
+        Ok(answered)
     }
 }

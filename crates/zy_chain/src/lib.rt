@@ -1,11 +1,17 @@
-//! Histories: entries as bytes, their digests, and the heads of lists of them.
+//! Histories: entries as bytes, what they are answered with, their digests, and the heads of lists of them.
 #![tactic(auto)]
 
 mod answers;
+mod counting;
+mod digests;
 mod entry;
 mod fields;
+mod item;
 mod spine;
 
-pub use answers::answers_digest;
-pub use entry::{EMPTY_HEAD, Entry, entry_bytes, entry_digest, next_head, request_digest};
+pub use answers::{Answered, answers_copy};
+pub use counting::{MAX_LOAD, has_client, has_client_twice, room_behind};
+pub use digests::{answers_digest, items_digest, request_digest};
+pub use entry::{EMPTY_HEAD, Entry, entry_bytes, entry_digest, next_head};
+pub use item::{AsItem, Item};
 pub use spine::Spine;

@@ -5,3 +5,4 @@ pub mod KindLaws
 pub mod Lengths
 pub mod Loop
 pub mod FramingLaws
+pub mod SuccessiveLaws

@@ -1,12 +1,12 @@
 -- The fields that statements and frames are made of.
-use Rattle.std.specs.Prelude.{◌≡◌, ℕ, zero, suc, ◌+◌, ◌^◌, ◌<◌, ◌≤◌, List, ◌++◌, length, Option, Some, None, Result, Ok, All, nat_lt, if◌then◌else◌}
+use Rattle.std.specs.Prelude.{◌≡◌, ℕ, zero, suc, ◌+◌, ◌^◌, ◌<◌, ◌≤◌, List, [], ◌++◌, length, Option, Some, None, Result, Ok, All, nat_lt, if◌then◌else◌}
 use Rattle.std.specs.Int.{Width, w8, w16, w32, w64}
 use Rattle.std.specs.List.{flat_map}
 use Rattle.zy_base.specs.declared.frame_fault.FrameFault.{FrameFault}
 use Rattle.zy_base.specs.declared.ids.Digest.{Digest}
 use Rattle.zy_base.specs.declared.ids.Party.{Party}
 use Rattle.zy_base.specs.declared.ids.Party.TheVariants.{Replica, Client}
-use Rattle.zy_wire.specs.Spelling.{Spelling, ◌>>=◌, word, exactly, exactly_at, pair, refined, number, number_at, counted, repeated, bytes_of}
+use Rattle.zy_wire.specs.Spelling.{Spelling, ◌>>=◌, word, exactly, exactly_at, pair, refined, number, number_at, counted, repeated, bytes_of, successive_at, AreSuccessive}
 
 -- a view, a place or a stamp, from the least one that is allowed
 abbrev pub u62 : ℕ → Spelling ℕ
@@ -71,6 +71,22 @@ list_at min max S bytes = (counted w16 min (max + 1) (repeated S) length).at byt
 
 abbrev pub list : {A : Type 0} → ℕ → ℕ → Spelling A → Spelling (List A)
 list min max S = record { spell = list_bytes S.spell; at = list_at min max S; Fits = FitsList S.Fits min max }
+
+-- from min to max items of one kind behind their count, each of which may be what those before it allow
+pub record FitsSuccessive {A : Type 0} (Fits : List A → A → Type 0) (min max : ℕ) (xs : List A) : Type 0 where
+  pub least : min ≤ length xs
+  pub most : length xs ≤ max
+  pub each : AreSuccessive Fits [] xs
+
+unfoldable pub successive_list_at : {A : Type 0} → ℕ → ℕ → (List A → Spelling A) → List ℕ → Result (List A × List ℕ) FrameFault
+successive_list_at min max after bytes = number_at w16 min (max + 1) bytes >>= λ n. successive_at after n.0 [] n.1
+
+abbrev pub successive_list : {A : Type 0} → ℕ → ℕ → (A → List ℕ) → (List A → Spelling A) → Spelling (List A)
+successive_list min max spell after = record {
+  spell = list_bytes spell;
+  at = successive_list_at min max after;
+  Fits = FitsSuccessive (λ before. (after before).Fits) min max;
+}
 
 -- a flag of 0 or 1, and behind 1 the field
 abbrev pub flagged_at : {A : Type 0} → Spelling A → ℕ → List ℕ → Result (Option A × List ℕ) FrameFault

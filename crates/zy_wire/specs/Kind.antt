@@ -5,11 +5,15 @@ use Rattle.zy_base.specs.declared.frame_fault.FrameFault.TheVariants.{Short, Ver
 
 -- the byte that each frame begins with
 abbrev pub frame_version : ℕ
-frame_version = 2
+frame_version = 3
+
+-- the byte behind 5a 59 in each text that is signed
+abbrev pub text_version : ℕ
+text_version = 2
 
 -- the most bytes that a frame may have
 abbrev pub frame_limit : ℕ
-frame_limit = 4194304
+frame_limit = 8388608
 
 -- kinds are numbered from 1 to this
 abbrev pub greatest_kind : ℕ

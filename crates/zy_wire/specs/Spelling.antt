@@ -113,6 +113,28 @@ repeated S n = record {
   Fits = λ xs. (length xs ≡ n) × AllByRecursion S.Fits xs;
 }
 
+-- so many of one kind, of which each is spelled as those before it allow, behind some that stand already
+abbrev pub successive_at : {A : Type 0} → (List A → Spelling A) → ℕ → List A → List ℕ → Result (List A × List ℕ) FrameFault
+successive_at after zero before bytes = Ok (before, bytes)
+successive_at after (suc n) before bytes = (after before).at bytes >>= λ next. successive_at after n (before ++ next.0 ∷ []) next.1
+
+-- each is right behind those before it
+abbrev pub AreSuccessive : {A : Type 0} → (List A → A → Type 0) → List A → List A → Type 0
+AreSuccessive Fits before [] = Unit {0}
+AreSuccessive Fits before (x ∷ xs) = Fits before x × AreSuccessive Fits (before ++ x ∷ []) xs
+
+abbrev pub successive : {A : Type 0} → (A → List ℕ) → (List A → Spelling A) → ℕ → Spelling (List A)
+successive spell after n = record {
+  spell = flat_map spell;
+  at = successive_at after n [];
+  Fits = λ xs. (length xs ≡ n) × AreSuccessive (λ before. (after before).Fits) [] xs;
+}
+
+-- Whatever stands before, what is read was spelled so and is read again, and it has the same bytes.
+pub record IsSuccession {A : Type 0} (spell : A → List ℕ) (after : List A → Spelling A) : Type 0 where
+  pub exact : (before : List A) → IsExact (after before)
+  pub same : (before : List A) (x : A) → (after before).spell x ≡ spell x
+
 -- ---- a value of one of several kinds, behind the number of its kind
 
 -- What is read as a kind is of that kind and was spelled so, and what was spelled is read as its kind again.

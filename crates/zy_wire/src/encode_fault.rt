@@ -6,7 +6,7 @@ use zy_base::Want;
 /// Why a value was not encoded.
 #[derive(Clone, Copy, Debug, PartialEq, Eq)]
 pub enum EncodeFault {
-    /// It has more than 4,194,304 bytes.
+    /// It has more than 8,388,608 bytes.
     TooLong,
     /// Want of memory.
     Want,

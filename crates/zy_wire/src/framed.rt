@@ -67,7 +67,7 @@ fn read<F: Framed>(alloc: Global, bytes: &[u8]) -> Result<F, GetFault>
 }
 
 /// The one spelling of a value: the version, the kind and the fields. `TooLong` exactly where it has more than
-/// 4,194,304 bytes.
+/// 8,388,608 bytes.
 pub fn encode<F: Framed>(alloc: Global, value: &F) -> Result<Bytes, EncodeFault>
     requires { F.in_range value.now }
     ensures ok { IfOk result (λ b. (b ≡ frame_bytes F.kind_of F.fields_of value.now) × (length b ≤ frame_limit)) }

@@ -1,0 +1,36 @@
+ghost use Rattle.std.specs.Prelude.{◌≡◌, ◌-◌, map};
+ghost use Rattle.zy_chain.specs.Entries.{has_client, has_client_twice, load_of};
+
+use crate::AsItem;
+use zy_base::ClientId;
+
+/// The bytes that the operations of one entry may have together.
+pub const MAX_LOAD: usize = 8192;
+
+/// Whether an item is the client's.
+pub fn has_client<T: AsItem>(items: &[T], client: ClientId) -> bool
+    ensures { result ≡ has_client (map T.item items.now) client }
+{
+    items.iter().any(|item| item.client().0 == client.0)
+}
+
+/// Whether two items are one client's: each is compared with those behind it.
+pub fn has_client_twice<T: AsItem>(items: &[T]) -> bool
+    ensures { result ≡ has_client_twice (map T.item items.now) }
+{
+    let mut rest = items;
+    while let [first, behind @ ..] = rest {
+        if has_client(behind, first.client()) {
+            return true;
+        }
+        rest = behind;
+    }
+    false
+}
+
+/// The bytes that the operation of one more item may have behind these, beside its own limit.
+pub fn room_behind<T: AsItem>(items: &[T]) -> usize
+    ensures { result ≡ 8192 - load_of (map T.item items.now) }
+{
+    items.iter().fold(MAX_LOAD, |room, item| room.saturating_sub(item.op().len()))
+}
