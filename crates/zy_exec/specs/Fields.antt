@@ -21,7 +21,7 @@ row-exact =
 
 pub row-in_range : (r : Row) → row_fields.Fits r → IsRowInRange r
 unfolding row_fields
-row-in_range r fits = record { stamp = fits.1.0.1; place_least = fits.1.1.0.0; place_most = fits.1.1.0.1; reply = fits.1.1.1.1 }
+row-in_range r fits = record { stamp = fits.1.0.1; place_least = fits.1.1.0.0; place_most = fits.1.1.0.1; answers = fits.1.1.1.1 }
 
 pub snapshot-exact : IsExact snapshot_fields
 unfolding snapshot_fields

@@ -48,7 +48,15 @@ point_before R k place = along R k.base (take (place - k.base.place - 1) k.entri
 
 -- the answers to the entry of a place
 abbrev pub reply_in : {S : Type 0} → Rules S → Kept S → ℕ → Option Answers
-reply_in R k place = option_map (λ e. answers_of R (point_before R k place).state e) (entry_in (stretch_of k) place)
+reply_in R k place = option_map (answers_of R (point_before R k place)) (entry_in (stretch_of k) place)
+
+-- how many items the entries have, and those above a place
+abbrev pub items_in : List Entry → ℕ
+items_in [] = 0
+items_in (e ∷ entries) = length e.items + items_in entries
+
+abbrev pub items_above : {S : Type 0} → ℕ → Kept S → ℕ
+items_above place k = items_in (drop (place - k.base.place) k.entries)
 
 -- what is known of a client's last entry
 abbrev pub known_in : {S : Type 0} → Rules S → Kept S → ℕ → Option Known

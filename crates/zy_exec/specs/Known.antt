@@ -7,4 +7,4 @@ pub record IsKnownInRange (k : Known) : Type 0 where
   pub stamp : k.stamp.0 < 2 ^ 62
   pub place_least : 1 ≤ k.place.0
   pub place_most : k.place.0 < 2 ^ 62
-  pub reply : FitsAnswers k.reply
+  pub answers : FitsAnswers k.answers

@@ -7,7 +7,7 @@ use Rattle.zy_wire.specs.Fields.{u62, digest, bytes32, list}
 use Rattle.zy_exec.specs.declared.known.Known.{Known}
 use Rattle.zy_exec.specs.declared.row.Row.{Row}
 use Rattle.zy_exec.specs.Replay.{Point}
-use Rattle.zy_chain.specs.Answers.{answers_fields}
+use Rattle.zy_chain.specs.Fields.{answers_fields}
 use Rattle.zy_chain.specs.Sizes.{greatest_state}
 
 -- the clients that are known, counted from a number on, with what is known
@@ -20,8 +20,8 @@ listed client (Some k ∷ known) = record { client = record { 0 = client }; know
 unfoldable pub row_fields : Spelling Row
 row_fields =
     converted
-    (λ x. record { client = record { 0 = x.0 }; known = record { stamp = record { 0 = x.1.0 }; place = record { 0 = x.1.1.0 }; head = x.1.1.1.0; reply = x.1.1.1.1 } })
-    (λ r. (r.client.0, (r.known.stamp.0, (r.known.place.0, (r.known.head, r.known.reply)))))
+    (λ x. record { client = record { 0 = x.0 }; known = record { stamp = record { 0 = x.1.0 }; place = record { 0 = x.1.1.0 }; head = x.1.1.1.0; answers = x.1.1.1.1 } })
+    (λ r. (r.client.0, (r.known.stamp.0, (r.known.place.0, (r.known.head, r.known.answers)))))
     (pair (word w32) (pair (u62 0) (pair (u62 1) (pair digest answers_fields))))
 
 -- the known clients behind their count in two bytes, and the state behind its length in four

@@ -1,89 +1,134 @@
 -- Inner forms, which only private contracts and representations cite: what an execution keeps for each entry above the
 -- base, so that it can go back.
-use Rattle.std.specs.Prelude.{◌≡◌, ℕ, ◌+◌, ◌-◌, ◌<◌, ◌≤◌, nat_le, if◌then◌else◌, List, [], ◌∷◌, ◌++◌, length, slice_set, slice_index_or, slice_get, Option, Some, None, option_map}
+use Rattle.std.specs.Prelude.{◌≡◌, ℕ, ◌+◌, ◌<◌, List, [], ◌∷◌, ◌++◌, length, map, slice_set, slice_index_or, Option, Some, None}
 use Rattle.std.specs.List.{AllByRecursion}
 use Rattle.zy_base.specs.Machine.{Rules}
+use Rattle.zy_base.specs.declared.ids.Digest.{Digest}
 use Rattle.zy_base.specs.declared.ids.Place.{Place}
+use Rattle.zy_chain.specs.declared.answers.Answered.{Answered}
 use Rattle.zy_chain.specs.declared.entry.Entry.{Entry}
+use Rattle.zy_chain.specs.declared.item.Item.{Item}
+use Rattle.zy_chain.specs.Answers.{Answers, FitsAnswers}
+use Rattle.zy_chain.specs.Heads.{head_after}
+use Rattle.zy_chain.specs.Entries.{digest_of_entry}
 use Rattle.zy_chain.specs.Stretch.{Stretch}
 use Rattle.zy_exec.specs.declared.known.Known.{Known}
+use Rattle.zy_exec.specs.declared.known.Slot.{Slot}
 use Rattle.zy_exec.specs.declared.known.Done.{Done}
 use Rattle.zy_exec.specs.Known.{IsKnownInRange}
-use Rattle.zy_exec.specs.Replay.{Point, known_of, step, along}
-use Rattle.zy_chain.specs.Entries.{IsOfClients}
+use Rattle.zy_exec.specs.Replay.{Point, answers_from, answers_of, state_from, step, along}
+
+-- ---- the machine's earlier states
+
+-- the state before each item, of some items and of entries
+abbrev pub passed : {S : Type 0} → Rules S → S → List Item → List S
+passed R state [] = []
+passed R state (i ∷ items) = state ∷ passed R (R.next state i.client i.op) items
+
+abbrev pub states_from : {S : Type 0} → Rules S → Point S → List Entry → List S
+states_from R p [] = []
+states_from R p (e ∷ entries) = passed R p.state e.items ++ states_from R (step R p e) entries
 
 -- the oldest of the earlier states, or the state
 abbrev pub oldest_state : {S : Type 0} → List S → S → S
 oldest_state [] state = state
 oldest_state (earlier ∷ states) state = earlier
 
--- the point at the base
-abbrev pub base_of : {S : Type 0} → Stretch → List S → S → List (Option Known) → Point S
-base_of s trail state known =
-    record { place = s.base.place; head = s.base.head; state = oldest_state trail state; known = known }
+-- the machine went back so many items
+pub record IsBack {S : Type 0} (count : ℕ) (trail : List S) (state : S) (trail' : List S) (state' : S) : Type 0 where
+  pub later : List S
+  pub many : length later ≡ count
+  pub path : trail ++ state ∷ [] ≡ trail' ++ state' ∷ later
 
--- the state before each entry
-abbrev pub states_from : {S : Type 0} → Rules S → Point S → List Entry → List S
-states_from R p [] = []
-states_from R p (e ∷ entries) = p.state ∷ states_from R (step R p e) entries
+-- ---- what is known of clients
 
--- for each client the place of its last entry, from those before the base on
-abbrev pub placed : List (Option Place) → Entry → ℕ → List (Option Place)
-placed last e place = slice_set last e.client.0 (Some (record { 0 = place }))
+-- slots are put in place in order
+abbrev pub put_slots : List (Option Known) → List Slot → List (Option Known)
+put_slots known [] = known
+put_slots known (s ∷ slots) = put_slots (slice_set known s.client.0 s.known) slots
 
-abbrev pub last_from : ℕ → List (Option Place) → List Entry → List (Option Place)
-last_from place last [] = last
-last_from place last (e ∷ entries) = last_from (place + 1) (placed last e (place + 1)) entries
+-- and this is what stood there before each
+abbrev pub replaced : List (Option Known) → List Slot → List Slot
+replaced known [] = []
+replaced known (s ∷ slots) =
+    record { client = s.client; known = slice_index_or known s.client.0 None } ∷ replaced (slice_set known s.client.0 s.known) slots
 
--- for each entry what is known of it, and the place of its client's earlier entry
-abbrev pub done_from : {S : Type 0} → Rules S → Point S → List (Option Place) → List Entry → List Done
-done_from R p last [] = []
-done_from R p last (e ∷ entries) =
-    record { client = e.client; known = known_of R p e; earlier = slice_index_or last e.client.0 None }
-    ∷ done_from R (step R p e) (placed last e (p.place + 1)) entries
+-- put in place from the last one on, which leads back
+abbrev pub unwound : List Slot → List (Option Known) → List (Option Known)
+unwound [] known = known
+unwound (s ∷ slots) known = slice_set (unwound slots known) s.client.0 s.known
 
--- what is known of a client: where its last entry stands above the base, what is kept of that entry, and else what
--- was known at the base. A place up to the base means the base.
-abbrev pub known_above : List Done → ℕ → Option Known
-known_above done index = option_map (λ (d : Done). d.known) (slice_get done index)
+abbrev pub unwound_all : List Done → List (Option Known) → List (Option Known)
+unwound_all [] known = known
+unwound_all (d ∷ done) known = unwound d.slots (unwound_all done known)
 
-abbrev pub known_at : ℕ → List (Option Known) → List Done → ℕ → Option Place → Option Known
-known_at base base_known done client None = slice_index_or base_known client None
-known_at base base_known done client (Some place) = if nat_le place.0 base then slice_index_or base_known client None else known_above done (place.0 - base - 1)
+-- the slots of an entry's clients, by its answers
+abbrev pub slot_of : Place → Digest → Answers → Answered → Slot
+slot_of place head answers a =
+    record { client = a.client; known = Some (record { stamp = a.stamp; place = place; head = head; answers = answers }) }
 
--- the last of what is kept is gone, and its client's earlier entry is the last one again
-pub record IsPopped (done done' : List Done) (last last' : List (Option Place)) : Type 0 where
+abbrev pub slots_of : Place → Digest → Answers → List Slot
+slots_of place head answers = map (slot_of place head answers) answers
+
+-- what is kept of an entry that is run next, and of each entry
+abbrev pub done_next : {S : Type 0} → Rules S → Point S → Entry → Done
+done_next R p e =
+    record {
+      answers = answers_of R p e;
+      slots = replaced p.known (slots_of (record { 0 = p.place + 1 }) (head_after p.head (digest_of_entry e)) (answers_of R p e));
+    }
+
+abbrev pub done_from : {S : Type 0} → Rules S → Point S → List Entry → List Done
+done_from R p [] = []
+done_from R p (e ∷ entries) = done_next R p e ∷ done_from R (step R p e) entries
+
+-- ---- steps of the parts
+
+-- an entry was run at a place with a head
+pub record HasRun {S : Type 0} (R : Rules S) (items : List Item) (place : Place) (head : Digest) (state state' : S) (trail trail' : List S) (known known' : List (Option Known)) (done done' : List Done) : Type 0 where
+  pub state_is : state' ≡ state_from R state items
+  pub trail_is : trail' ≡ trail ++ passed R state items
+  pub known_is : known' ≡ put_slots known (slots_of place head (answers_from R state items))
+  pub done_is : done' ≡ done ++ record { answers = answers_from R state items; slots = replaced known (slots_of place head (answers_from R state items)) } ∷ []
+
+-- the last of what is kept is gone, and its clients' records are as before it, which had so many items
+pub record IsPopped (done done' : List Done) (known known' : List (Option Known)) (count : ℕ) : Type 0 where
   pub popped : Done
   pub done_was : done ≡ done' ++ popped ∷ []
-  pub last_now : last' ≡ slice_set last popped.client.0 popped.earlier
+  pub known_is : known' ≡ unwound popped.slots known
+  pub count_is : count ≡ length popped.answers
 
--- the first of what is kept is gone, and is what was known at the base
-pub record IsSettled (done done' : List Done) (base_known base_known' : List (Option Known)) : Type 0 where
+-- the first of what is kept is gone, which had so many items
+pub record IsSettled (done done' : List Done) (count : ℕ) : Type 0 where
   pub first : Done
   pub done_was : done ≡ first ∷ done'
-  pub known_now : base_known' ≡ slice_set base_known first.client.0 (Some first.known)
+  pub count_is : count ≡ length first.answers
+
+-- ---- ranges
+
+abbrev pub IsRecordInRange : Option Known → Type 0
+IsRecordInRange None = Unit {0}
+IsRecordInRange (Some k) = IsKnownInRange k
+
+abbrev pub IsSlotInRange : Slot → Type 0
+IsSlotInRange s = (s.client.0 < 64) × IsRecordInRange s.known
 
 abbrev pub IsDoneInRange : Done → Type 0
-IsDoneInRange d = (d.client.0 < 64) × IsKnownInRange d.known
+IsDoneInRange d = FitsAnswers d.answers × AllByRecursion IsSlotInRange d.slots
 
-abbrev pub IsBaseInRange : Option Known → Type 0
-IsBaseInRange None = Unit {0}
-IsBaseInRange (Some k) = IsKnownInRange k
+-- ---- the whole
 
--- places of clients' last entries that aren't above the base
-pub record IsBefore (base : ℕ) (before : List (Option Place)) : Type 0 where
-  pub all_clients : length before ≡ 64
-  pub below : (client : ℕ) (place : Place) → slice_index_or before client None ≡ Some place → place.0 ≤ base
+-- the point at the base
+abbrev pub base_of : {S : Type 0} → Stretch → List S → S → List Done → List (Option Known) → Point S
+base_of s trail state done known =
+    record { place = s.base.place; head = s.base.head; state = oldest_state trail state; known = unwound_all done known }
 
--- the machine, and what is kept of the entries above the base, are what replay gives
-pub record IsReplayed {S : Type 0} (R : Rules S) (base : Point S) (entries : List Entry) (state : S) (trail : List S) (done : List Done) (last : List (Option Place)) : Type 0 where
+-- the machine, the clients' records, and what is kept of the entries above the base, are what replay gives
+pub record IsReplayed {S : Type 0} (R : Rules S) (base : Point S) (entries : List Entry) (state : S) (trail : List S) (done : List Done) (known : List (Option Known)) : Type 0 where
   pub state_is : state ≡ (along R base entries).state
   pub trail_is : trail ≡ states_from R base entries
-  pub before : List (Option Place)
-  pub is_before : IsBefore base.place before
-  pub done_is : done ≡ done_from R base before entries
-  pub last_is : last ≡ last_from base.place before entries
-  pub clients : AllByRecursion IsOfClients entries
-  pub all_clients : length base.known ≡ 64
-  pub in_range : AllByRecursion IsDoneInRange done
-  pub base_in_range : AllByRecursion IsBaseInRange base.known
+  pub done_is : done ≡ done_from R base entries
+  pub known_is : known ≡ (along R base entries).known
+  pub all_clients : length known ≡ 64
+  pub known_in_range : AllByRecursion IsRecordInRange known
+  pub done_in_range : AllByRecursion IsDoneInRange done

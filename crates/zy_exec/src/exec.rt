@@ -8,7 +8,7 @@ ghost use Rattle.zy_exec.specs.Replay.{Point, origin, step, answers_of};
 ghost use Rattle.zy_exec.specs.Snapshot.{snapshot_of};
 ghost use Rattle.zy_exec.specs.Shots.{snapshot_in, digest_of_snapshot, shot_in};
 ghost use Rattle.zy_exec.specs.Installed.{IsShown, IsInstalled};
-ghost use Rattle.zy_exec.specs.Kept.{Kept, stretch_of, last_place, now_of, longer, back_to, settled, reply_in, known_in};
+ghost use Rattle.zy_exec.specs.Kept.{Kept, stretch_of, last_place, now_of, longer, back_to, settled, items_in, items_above, reply_in, known_in};
 ghost use Rattle.zy_chain.specs.Answers.{FitsAnswers};
 ghost use Rattle.zy_chain.specs.Sizes.{greatest_snapshot};
 
@@ -20,8 +20,8 @@ use std::alloc::Global;
 use std::collections::VecDeque;
 use std::marker::Model;
 use std::sync::ledger::Ledger;
-use zy_base::{Bytes, ClientId, Digest, Machine, Place, Steps, Want};
-use zy_chain::{Entry, Spine};
+use zy_base::{Bytes, ClientId, Digest, Items, Machine, Place, Steps, Want};
+use zy_chain::{Answered, Entry, Spine};
 
 /// The execution of a history: the entries above a base, the machine at their end, what leads back to the base, and the
 /// snapshots from the base to the end. Contracts see the base, as the point that the history reaches there, and the
@@ -130,25 +130,25 @@ impl<M: Machine> Exec<M> {
         self.track.entry_at(place)
     }
 
-    /// The reply to the entry that leads to a place. `None` exactly outside base + 1 to end.
-    pub fn reply_at(&self, place: Place) -> Option<&Bytes>
+    /// The answers to the entry that leads to a place. `None` exactly outside base + 1 to end.
+    pub fn reply_at(&self, place: Place) -> Option<&Items<Answered>>
         ensures reply { option_copied result ≡ reply_in M.rules self.now place.0 }
-        ensures short { IfSome result (λ reply. FitsAnswers reply.now) }
+        ensures short { IfSome result (λ answers. FitsAnswers answers.now) }
     {
         self.track.reply_at(place)
     }
 
-    /// How many replies are kept: as many as there are places from the base to the end.
+    /// How many entries' answers are kept: as many as there are places from the base to the end.
     pub fn replies(&self) -> u64
         ensures { self.now.base.place + result ≡ last_place self.now }
     {
         self.track.replies()
     }
 
-    /// How many records to go back by are kept, each with the machine's state before an entry: as many as there are places
-    /// from the base to the end.
+    /// How many records to go back by are kept, each with the machine's state before an item: as many as the entries from
+    /// the base to the end have items.
     pub fn records(&self) -> u64
-        ensures { self.now.base.place + result ≡ last_place self.now }
+        ensures { result ≡ items_in self.now.entries }
     {
         self.track.records()
     }
@@ -163,13 +163,13 @@ impl<M: Machine> Exec<M> {
 
     /// Runs an entry: the history gets it, and its answers are given. `Err` comes for want of memory alone: then the entry
     /// comes back, and all is as it was.
-    pub fn run(&mut self, e: Entry) -> Result<Bytes, (Entry, Want)>
+    pub fn run(&mut self, e: Entry) -> Result<Items<Answered>, (Entry, Want)>
         requires room { last_place self.old < 2 ^ 62 - 1 }
         requires client { IsOfClients e }
         requires entry { IsEntryInRange e }
         ensures after { OnOk result (self.new ≡ longer self.old e) }
         ensures now { OnOk result (now_of M.rules self.new ≡ step M.rules (now_of M.rules self.old) e) }
-        ensures reply { IfOk result (λ reply. reply ≡ answers_of M.rules (now_of M.rules self.old).state e) }
+        ensures answers { IfOk result (λ answers. answers ≡ answers_of M.rules (now_of M.rules self.old) e) }
         ensures short { IfOk result FitsAnswers }
         ensures err { OnErr result (self.new ≡ self.old) }
         ensures entry { IfErr result (λ refused. refused.0 ≡ e) }
@@ -177,11 +177,11 @@ impl<M: Machine> Exec<M> {
         if let Err(_) = self.shots.reserve(1) {
             return Err((e, Want));
         }
-        let reply = self.track.run(e)?;
+        let answers = self.track.run(e)?;
         match self.track.shot() {
             Ok(shot) => {
                 self.shots.push_back_reserved(shot);
-                Ok(reply)
+                Ok(answers)
             }
             Err(want) => Err((self.track.unrun_last(), want)),
         }
@@ -206,12 +206,12 @@ impl<M: Machine> Exec<M> {
     }
 
     /// Goes back to a place: the entries above it are as if they had never been run. It can't fail, takes no memory,
-    /// and adds at most one step for each of these entries.
+    /// and adds at most one step for each item of these entries.
     pub fn rollback<L: Ledger>(&mut self, place: Place, steps: &mut Steps<L>)
         requires above { self.old.base.place ≤ place.0 }
         requires below { place.0 ≤ last_place self.old }
         ensures after { self.new ≡ back_to place.0 self.old }
-        ensures cost { steps.new + place.0 ≤ steps.old + last_place self.old }
+        ensures cost { steps.new ≤ steps.old + items_above place.0 self.old }
     {
         self.track.rollback(place, steps);
         let above = (place.0 - self.track.base().0) as usize;
@@ -250,7 +250,7 @@ impl<M: Machine> Exec<M> {
         shot_after(&self.shots, (place.0 - self.track.base().0) as usize)
     }
 
-    /// The snapshot at a place, of at most 2,373,862 bytes. `None` exactly outside base to end, and between the multiples of
+    /// The snapshot at a place, of at most 3,444,198 bytes. `None` exactly outside base to end, and between the multiples of
     /// the interval.
     pub fn snapshot_at(&self, place: Place) -> Option<&Bytes>
         ensures snapshot { option_copied result ≡ snapshot_in M.rules self.now place.0 }
@@ -272,7 +272,7 @@ impl<M: Machine> Exec<M> {
         }
     }
 
-    /// The snapshot at the end: what is known of each client, and the machine's state. At most 2,373,862 bytes.
+    /// The snapshot at the end: what is known of each client, and the machine's state. At most 3,444,198 bytes.
     pub fn snapshot(&self) -> Result<Bytes, Want>
         ensures bytes { IfOk result (λ bytes. bytes ≡ snapshot_of M.rules (now_of M.rules self.now)) }
         ensures short { IfOk result (λ bytes. length bytes ≤ greatest_snapshot) }

@@ -7,6 +7,7 @@ mod known;
 mod laws;
 mod machine;
 mod row;
+mod running;
 mod shot;
 mod snapshot;
 mod track;

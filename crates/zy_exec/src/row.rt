@@ -5,8 +5,8 @@ ghost use Rattle.zy_exec.specs.Fields.{IsRowInRange, row-exact, row-in_range};
 
 use crate::known::Known;
 use std::alloc::Global;
-use zy_base::{Bytes, ClientId, Place, Stamp, Want};
-use zy_wire::{Cut, GetFault, Put, Spelled};
+use zy_base::{ClientId, Place, Stamp, Want};
+use zy_wire::{Cut, GetFault, Put, Spelled, get_list, put_list};
 
 /// A client's part of a snapshot: its number, and what is known of its last entry.
 #[derive(Debug, Drop)]
@@ -26,7 +26,7 @@ pub fn put_row(out: &mut Put, client: ClientId, known: &Known) -> Result<(), Wan
     out.u64(known.stamp.0)?;
     out.u64(known.place.0)?;
     out.digest(&known.head)?;
-    out.bytes16(known.reply.as_slice())
+    put_list(&known.answers, out)
 }
 
 impl Spelled for Row {
@@ -51,7 +51,7 @@ impl Spelled for Row {
                 stamp: Stamp(ahead.u62(0)?),
                 place: Place(ahead.u62(1)?),
                 head: ahead.digest()?,
-                reply: Bytes::from_slice(alloc, ahead.bytes16(1100)?)?,
+                answers: get_list(alloc, &mut ahead, 1, 16)?,
             },
         };
         *cut = ahead;

@@ -2,31 +2,30 @@ ghost use Rattle.std.specs.Prelude.{◌≡◌, ◌+◌, ◌-◌, ◌*◌, ◌<�
 ghost use Rattle.std.specs.List.{flat_map};
 ghost use Rattle.zy_chain.specs.declared.entry.Entry.{Entry};
 ghost use Rattle.zy_chain.specs.Entries.{IsEntryInRange, IsOfClients};
-ghost use Rattle.zy_chain.specs.Stretch.{head_in, entry_in};
+ghost use Rattle.zy_chain.specs.Stretch.{Stretch, head_in, entry_in, with_entry};
 ghost use Rattle.zy_exec.specs.declared.install_fault.InstallFault.TheVariants.{NotState};
 ghost use Rattle.zy_exec.specs.Known.{IsKnownInRange};
 ghost use Rattle.zy_exec.specs.Replay.{Point, origin, along, step, answers_of};
 ghost use Rattle.zy_exec.specs.Snapshot.{listed, row_fields, snapshot_of};
 ghost use Rattle.zy_exec.specs.Shots.{shot_of, IsShort};
 ghost use Rattle.zy_exec.specs.Installed.{IsShown, IsInstalled};
-ghost use Rattle.zy_exec.specs.Kept.{Kept, stretch_of, last_place, now_of, longer, back_to, settled, reply_in, known_in, StandsFor};
+ghost use Rattle.zy_exec.specs.Kept.{Kept, stretch_of, last_place, now_of, longer, back_to, settled, items_in, items_above, reply_in, known_in};
 ghost use Rattle.zy_chain.specs.Answers.{FitsAnswers};
 ghost use Rattle.zy_chain.specs.Sizes.{greatest_snapshot, record_size};
 
 use crate::install_fault::InstallFault;
-use crate::known::{
-    Done, Known, index_above, known_at, nothing, pop_done, push_done, reply_done, settle_done,
-};
-use crate::machine::{apply, take_back};
+use crate::known::{Done, Known, answers_done, index_above, known_at, nothing, pop_done, settle_done};
+use crate::machine::{forget_items, take_back, undo_items};
 use crate::row::put_row;
+use crate::running::run_entry;
 use crate::shot::Shot;
 use crate::snapshot::read_snapshot;
 use std::alloc::Global;
 use std::collections::VecDeque;
 use std::marker::Model;
 use std::sync::ledger::Ledger;
-use zy_base::{Bytes, ClientId, Digest, Machine, Place, Steps, Want};
-use zy_chain::{EMPTY_HEAD, Entry, Spine};
+use zy_base::{Bytes, ClientId, Digest, Items, Machine, Place, Steps, Want};
+use zy_chain::{Answered, EMPTY_HEAD, Entry, Spine};
 use zy_wire::Put;
 
 /// The execution of a history without its snapshots: the entries above a base, the machine at their end, and what leads
@@ -36,12 +35,10 @@ pub struct Track<M: Machine> {
     interval: u64,
     spine: Spine,
     machine: M,
-    // what was known of each client at the base
-    base_known: Vec<Option<Known>>,
+    // what is known of each client at the end
+    known: Vec<Option<Known>>,
     // what is kept of each entry above the base
     done: VecDeque<Done>,
-    // where each client's last entry stands: a place up to the base, or none, means what was known at the base
-    last: Vec<Option<Place>>,
 }
 
 impl<M: Machine> Model for Track<M> {
@@ -53,13 +50,35 @@ impl<M: Machine> Model for Track<M> {
 
     ghost view = { λ x. record {
       interval = x.interval;
-      base = base_of x.spine (M.trail x.machine) (M.state x.machine) x.base_known.items;
+      base = base_of x.spine (M.trail x.machine) (M.state x.machine) x.done.items x.known.items;
       entries = x.spine.entries;
     } };
 
     ghost invariant = { λ x.
-        IsReplayed M.rules (base_of x.spine (M.trail x.machine) (M.state x.machine) x.base_known.items) x.spine.entries
-        (M.state x.machine) (M.trail x.machine) x.done.items x.last.items };
+        IsReplayed M.rules (base_of x.spine (M.trail x.machine) (M.state x.machine) x.done.items x.known.items) x.spine.entries
+        (M.state x.machine) (M.trail x.machine) x.done.items x.known.items };
+}
+
+// The last entry of a stretch.
+fn last_entry(spine: &Spine) -> &Entry
+    requires { 0 < length spine.now.entries }
+    ensures { (s : Stretch) (e : Entry) → spine.now ≡ with_entry s e → result.now ≡ e }
+{
+    match spine.entry_at(spine.end()) {
+        Some(e) => e,
+        None => unreachable!(),
+    }
+}
+
+// The last entry of a stretch, taken out again.
+fn pop_last(spine: &mut Spine) -> Entry
+    requires { 0 < length spine.old.entries }
+    ensures { (s : Stretch) (e : Entry) → spine.old ≡ with_entry s e → (spine.new ≡ s) × (result ≡ e) }
+{
+    match spine.pop() {
+        Some(e) => e,
+        None => unreachable!(),
+    }
 }
 
 impl<M: Machine> Track<M> {
@@ -73,9 +92,8 @@ impl<M: Machine> Track<M> {
             interval: k,
             spine: Spine::new(alloc, Place(0), EMPTY_HEAD),
             machine,
-            base_known: nothing(alloc)?,
+            known: nothing(alloc)?,
             done: VecDeque::new(alloc),
-            last: nothing(alloc)?,
         })
     }
 
@@ -131,18 +149,18 @@ impl<M: Machine> Track<M> {
         self.spine.entry_at(place)
     }
 
-    /// The reply to the entry that leads to a place. `None` exactly outside base + 1 to end.
-    pub fn reply_at(&self, place: Place) -> Option<&Bytes>
+    /// The answers to the entry that leads to a place. `None` exactly outside base + 1 to end.
+    pub fn reply_at(&self, place: Place) -> Option<&Items<Answered>>
         ensures reply { option_copied result ≡ reply_in M.rules self.now place.0 }
-        ensures short { IfSome result (λ reply. FitsAnswers reply.now) }
+        ensures short { IfSome result (λ answers. FitsAnswers answers.now) }
     {
         if place.0 <= self.spine.base().0 {
             return None;
         }
-        reply_done(&self.done, index_above(self.spine.base(), place))
+        answers_done(&self.done, index_above(self.spine.base(), place))
     }
 
-    /// How many replies are kept, each with its client's earlier place.
+    /// How many entries' answers are kept, each with its clients' earlier records.
     pub fn replies(&self) -> u64
         ensures { self.now.base.place + result ≡ last_place self.now }
     {
@@ -151,7 +169,7 @@ impl<M: Machine> Track<M> {
 
     /// How many earlier states the machine can go back to.
     pub fn records(&self) -> u64
-        ensures { self.now.base.place + result ≡ last_place self.now }
+        ensures { result ≡ items_in self.now.entries }
     {
         self.machine.trail_len()
     }
@@ -161,48 +179,34 @@ impl<M: Machine> Track<M> {
         ensures known { option_copied result ≡ known_in M.rules self.now client.0 }
         ensures in_range { IfSome result (λ known. IsKnownInRange known.now) }
     {
-        known_at(
-            self.spine.base(),
-            &self.base_known,
-            &self.done,
-            &self.last,
-            client.0 as usize,
-        )
+        known_at(&self.known, client.0 as usize)
     }
 
     /// Runs an entry: the history gets it, and its answers are given. `Err` comes for want of memory alone: then the entry
     /// comes back, and all is as it was.
-    pub fn run(&mut self, e: Entry) -> Result<Bytes, (Entry, Want)>
+    pub fn run(&mut self, e: Entry) -> Result<Items<Answered>, (Entry, Want)>
         requires room { last_place self.old < 2 ^ 62 - 1 }
         requires client { IsOfClients e }
         requires entry { IsEntryInRange e }
         ensures after { OnOk result (self.new ≡ longer self.old e) }
         ensures now { OnOk result (now_of M.rules self.new ≡ step M.rules (now_of M.rules self.old) e) }
-        ensures reply { IfOk result (λ reply. reply ≡ answers_of M.rules (now_of M.rules self.old).state e) }
+        ensures answers { IfOk result (λ answers. answers ≡ answers_of M.rules (now_of M.rules self.old) e) }
         ensures short { IfOk result FitsAnswers }
         ensures err { OnErr result (self.new ≡ self.old) }
         ensures entry { IfErr result (λ refused. refused.0 ≡ e) }
     {
-        if let Err(_) = self.done.reserve(1) {
-            return Err((e, Want));
+        self.spine.push(e)?;
+        match run_entry(
+            &mut self.machine,
+            &mut self.known,
+            &mut self.done,
+            last_entry(&self.spine),
+            self.spine.end(),
+            self.spine.head(),
+        ) {
+            Ok(answers) => Ok(answers),
+            Err(want) => Err((pop_last(&mut self.spine), want)),
         }
-        let (kept, reply) = match apply(&mut self.machine, e.client, e.op.as_slice()) {
-            Ok(replies) => replies,
-            Err(want) => return Err((e, want)),
-        };
-        let (client, stamp) = (e.client, e.stamp);
-        if let Err(refused) = self.spine.push(e) {
-            take_back(&mut self.machine);
-            return Err(refused);
-        }
-        let known = Known {
-            stamp,
-            place: self.spine.end(),
-            head: self.spine.head(),
-            reply: kept,
-        };
-        push_done(&mut self.done, &mut self.last, client, known);
-        Ok(reply)
     }
 
     /// Takes the last entry out again, as if it had never been run. `None` exactly where no entry is kept. Takes no
@@ -217,8 +221,8 @@ impl<M: Machine> Track<M> {
         match self.spine.pop() {
             None => None,
             Some(e) => {
-                pop_done(&mut self.done, &mut self.last);
-                take_back(&mut self.machine);
+                let count = pop_done(&mut self.known, &mut self.done);
+                take_back(&mut self.machine, count);
                 Some(e)
             }
         }
@@ -239,20 +243,20 @@ impl<M: Machine> Track<M> {
     fn step_back<L: Ledger>(&mut self, steps: &mut Steps<L>)
         requires { 0 < length self.old.entries }
         ensures after { self.new ≡ back_to (last_place self.old - 1) self.old }
-        ensures cost { steps.new ≤ steps.old + 1 }
+        ensures cost { steps.new + items_in self.new.entries ≤ steps.old + items_in self.old.entries }
     {
-        pop_done(&mut self.done, &mut self.last);
-        self.machine.undo(steps);
+        let count = pop_done(&mut self.known, &mut self.done);
+        undo_items(&mut self.machine, count, steps);
         self.spine.cut_above(Place(self.spine.end().0 - 1));
     }
 
     /// Goes back to a place: the entries above it are as if they had never been run. It can't fail, takes no memory,
-    /// and adds at most one step for each of these entries.
+    /// and adds at most one step for each item of these entries.
     pub fn rollback<L: Ledger>(&mut self, place: Place, steps: &mut Steps<L>)
         requires above { self.old.base.place ≤ place.0 }
         requires below { place.0 ≤ last_place self.old }
         ensures after { self.new ≡ back_to place.0 self.old }
-        ensures cost { steps.new + place.0 ≤ steps.old + last_place self.old }
+        ensures cost { steps.new ≤ steps.old + items_above place.0 self.old }
     {
         while self.end().0 > place.0 {
             self.step_back(steps);
@@ -261,7 +265,7 @@ impl<M: Machine> Track<M> {
 
     /// Where its memory comes from.
     pub fn allocator(&self) -> Global {
-        *self.base_known.allocator()
+        *self.known.allocator()
     }
 
     // How many clients there may be.
@@ -269,7 +273,7 @@ impl<M: Machine> Track<M> {
         ensures all { result ≡ length (now_of M.rules self.now).known }
         ensures many { result ≡ 64 }
     {
-        self.base_known.len() as u32
+        self.known.len() as u32
     }
 
     // How many clients are known.
@@ -300,7 +304,7 @@ impl<M: Machine> Track<M> {
         Ok(())
     }
 
-    /// The snapshot at the end: what is known of each client, and the machine's state. At most 2,373,862 bytes.
+    /// The snapshot at the end: what is known of each client, and the machine's state. At most 3,444,198 bytes.
     #[tactic(auto, unfolding(crate::specs::Snapshot::snapshot_of, crate::specs::Snapshot::snapshot_fields, zy_wire::specs::Fields::list_bytes, zy_wire::specs::Spelling::bytes_of))]
     pub fn snapshot(&self) -> Result<Bytes, Want>
         ensures bytes { IfOk result (λ bytes. bytes ≡ snapshot_of M.rules (now_of M.rules self.now)) }
@@ -332,8 +336,8 @@ impl<M: Machine> Track<M> {
         requires some { 0 < length self.old.entries }
         ensures { self.new ≡ settled M.rules next.0 self.old }
     {
-        settle_done(&mut self.done, &mut self.base_known);
-        self.machine.forget();
+        let count = settle_done(&mut self.done);
+        forget_items(&mut self.machine, count);
         self.spine.cut_below(next);
     }
 
@@ -350,16 +354,14 @@ impl<M: Machine> Track<M> {
         ensures ok { IfOk result (λ track. IsInstalled M.IsState M.rules interval place.0 head bytes.now track) }
         ensures not_state { IsErrOf result NotState → (p : Point M.State) → IsShown M.IsState p → snapshot_of M.rules p ≡ bytes.now → ⊥ }
     {
-        let (base_known, state) = read_snapshot(alloc, bytes)?;
-        let last = nothing(alloc)?;
+        let (known, state) = read_snapshot(alloc, bytes)?;
         let machine = M::restore(alloc, state)?;
         Ok(Track {
             interval,
             spine: Spine::new(alloc, place, head),
             machine,
-            base_known,
+            known,
             done: VecDeque::new(alloc),
-            last,
         })
     }
 }
