@@ -1,13 +1,16 @@
-ghost use Rattle.std.specs.Prelude.{◌≡◌, ◌<◌, ◌^◌, false, IfOk, map, min};
+ghost use Rattle.std.specs.Prelude.{◌≡◌, ◌<◌, ◌^◌, false, IfOk, map};
 ghost use Rattle.zy_chain.specs.Entries.{IsEntryInRange, has_client_twice};
-ghost use Rattle.zy_parts.specs.Asks.{asking, item_of, entry_of_asks, room_behind, ask_behind, AreAsksInRange};
+ghost use Rattle.zy_parts.specs.Asks.{asking, item_of, entry_of_asks, ask_behind, AreAsksInRange};
 ghost use Rattle.zy_parts.specs.AsksExact.{ask-succession};
 
 use crate::{Ask, Signed};
 use std::alloc::Global;
 use zy_base::{Bytes, ClientId, Items, Party, Stamp, Want};
-use zy_chain::{AsItem, Entry, Item};
+use zy_chain::{AsItem, Entry, Item, room_behind};
 use zy_wire::{Cut, GetFault, Successive};
+
+// The most bytes that an operation may have.
+const MAX_OP: usize = 1100;
 
 /// The number of the client that signed a request.
 pub fn client_of(by: Party) -> ClientId
@@ -61,17 +64,6 @@ impl AsItem for Signed<Ask> {
     }
 }
 
-// The most bytes that the operation of a request behind these may have.
-fn room_behind(before: &[Signed<Ask>]) -> usize
-    ensures { result ≡ min 1100 (room_behind before.now) }
-{
-    let mut room: usize = 8192;
-    for ask in before {
-        room = room.saturating_sub(ask.stmt.op.len());
-    }
-    room.min(1100)
-}
-
 impl Successive for Signed<Ask> {
     ghost after = { ask_behind };
 
@@ -83,11 +75,10 @@ impl Successive for Signed<Ask> {
         cut: &mut Cut<'_>,
         before: &[Signed<Ask>],
     ) -> Result<Signed<Ask>, GetFault> {
-        let room = room_behind(before);
         let mut ahead = cut.ahead();
         let by = ahead.party()?;
         let stamp = Stamp(ahead.u62(0)?);
-        let op = Bytes::from_slice(alloc, ahead.bytes16(room)?)?;
+        let op = Bytes::from_slice(alloc, ahead.bytes16(MAX_OP.min(room_behind(before)))?)?;
         let sig = Bytes::from_slice(alloc, ahead.bytes16(8192)?)?;
         *cut = ahead;
         Ok(Signed {
