@@ -1,9 +1,11 @@
 -- What a client holds, and what a completion rests on.
 use Rattle.std.specs.Prelude.{◌≡◌, ℕ, ◌+◌, ◌≤◌, List, [], ◌∷◌, ◌++◌, length, Some, Ok}
 use Rattle.std.specs.List.{AllByRecursion}
+use Rattle.zy_base.specs.declared.ids.ClientId.{ClientId}
 use Rattle.zy_base.specs.declared.ids.Party.TheVariants.{Replica}
 use Rattle.zy_base.specs.declared.step.Event.{Event}
 use Rattle.zy_base.specs.declared.step.Event.TheVariants.{Heard}
+use Rattle.zy_chain.specs.Answers.{Answers, digest_of_answers}
 use Rattle.zy_parts.specs.Numbers as numbers
 use Rattle.zy_parts.specs.Signing.{part_of}
 use Rattle.zy_parts.specs.Statements.{spec_fields, local_fields}
@@ -21,18 +23,24 @@ use Rattle.zy_cert.specs.Votes.{AreVotes}
 use Rattle.zy_table.specs.declared.client.Commit.{Commit}
 use Rattle.zy_table.specs.declared.client.Response.{Response}
 use Rattle.zy_table.specs.ClientState.{ClientState}
-use Rattle.zy_table.specs.ClientRows.{kept_of, agreeing, done_of, done_by, locals_for}
-use Rattle.zy_chain.specs.Answers.{digest_of_answers}
+use Rattle.zy_table.specs.declared.client.OwnAnswer.{OwnAnswer}
+use Rattle.zy_table.specs.ClientRows.{kept_of, agreeing, done_of, done_by, locals_for, own_in}
 
 -- ---- responses
 
--- a response to the client's request by the replica with this number, which signed it, and a reply that has its digest
+-- the answer to a client's own request among answers of which a response tells the digest
+pub record IsOwnAnswer (me : ClientId) (spec : Spec) (own : OwnAnswer) : Type 0 where
+  pub answers : Answers
+  pub told : digest_of_answers answers ≡ spec.answers
+  pub found : own_in me answers ≡ Some own
+
+-- a response to the client's request by the replica with this number, which signed it, and the own answer among those
+-- that have the digest that it tells
 pub record IsHeldBy (s : ClientState) (waiting : Signed Ask) (id : ℕ) (r : Response) : Type 0 where
   pub by : r.spec.by ≡ Replica (record { 0 = id })
   pub signed : answer_to s.keys (part_of numbers.spec spec_fields r.spec) ≡ Yes
-  pub client : r.spec.stmt.client.0 ≡ s.me.0
-  pub stamp : r.spec.stmt.stamp.0 ≡ waiting.stmt.stamp.0
-  pub reply : digest_of_answers r.reply ≡ r.spec.stmt.reply
+  pub stamp : r.own.stamp.0 ≡ waiting.stmt.stamp.0
+  pub own : IsOwnAnswer s.me r.spec.stmt r.own
 
 -- each response that is kept is such a one, of the replica of its slot
 abbrev pub AreHeld : ClientState → Signed Ask → Type 0
@@ -51,12 +59,11 @@ pub record IsCounted (keys : Keys) (spec : Spec) (vote : Signed Local) : Type 0 
   pub signed : answer_to keys (part_of numbers.local local_fields vote) ≡ Yes
   pub point : point_of_local vote.stmt ≡ point_of_spec spec
 
--- a certificate of responses to the client's request, the reply that has their digest, and local commits to it, no two
--- of one replica
+-- a certificate of responses to the client's request, the own answer among those that they tell of, and local commits to
+-- it, no two of one replica
 pub record IsCommitHeld (s : ClientState) (waiting : Signed Ask) (commit : Commit) : Type 0 where
-  pub client : commit.spec.client.0 ≡ s.me.0
-  pub stamp : commit.spec.stamp.0 ≡ waiting.stmt.stamp.0
-  pub reply : digest_of_answers commit.reply ≡ commit.spec.reply
+  pub stamp : commit.own.stamp.0 ≡ waiting.stmt.stamp.0
+  pub own : IsOwnAnswer s.me commit.spec commit.own
   pub wanted : commit.locals.count ≡ s.counts.local
   pub votes : AreVotes commit.locals.votes
   pub counted : AllByRecursion (IsCounted s.keys commit.spec) commit.locals.votes
@@ -83,7 +90,7 @@ pub data CommitComes (s : ClientState) (event : Event) (commit : Commit) : Type 
       → commit ≡ record before { locals = record before.locals { votes = before.locals.votes ++ vote ∷ [] } } → CommitComes s event commit
   -- it is made of a kept response that has enough equals
   certifies : (id : ℕ) (r : Response) → kept_of s id ≡ Some r → s.counts.cert ≤ agreeing s r.spec.stmt
-      → commit ≡ record { spec = r.spec.stmt; reply = r.reply; locals = locals_for s.counts.local r.spec.stmt s.commit } → CommitComes s event commit
+      → commit ≡ record { spec = r.spec.stmt; own = r.own; locals = locals_for s.counts.local r.spec.stmt s.commit } → CommitComes s event commit
 
 -- ---- completions
 

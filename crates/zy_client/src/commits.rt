@@ -11,13 +11,13 @@ ghost use Rattle.zy_table.specs.ClientRows.{is_for as is_for_row, done_by as don
 use crate::Client;
 use crate::asking::signed_copy;
 use crate::moved::Moved;
-use crate::responses::agreeing;
+use crate::responses::{agreeing, done_with, own_copy};
 use std::alloc::Global;
-use zy_base::{Bytes, Cause, Items, Want};
+use zy_base::{Cause, Items, Want};
 use zy_cert::{Vote, Votes};
 use zy_frames::Frame;
 use zy_parts::{Ask, Local, Signed, Spec};
-use zy_table::{Commit, Done, Path, Response, To};
+use zy_table::{Commit, Done, OwnAnswer, Path, Response, To};
 
 // Local commits.
 impl Client {
@@ -70,7 +70,7 @@ impl Client {
         self
     }
 
-    // The request is complete with the certificate's reply.
+    // The request is complete with the own answer of the certificate.
     fn complete_by(mut self, commit: Commit) -> Client
         ensures { result ≡ complete_by_row self commit }
     {
@@ -98,8 +98,8 @@ impl Client {
                     self.ask_all(request)
                 }
                 Some(first) => {
-                    let (spec, reply) = told_in(first)?;
-                    self.send_commit(spec, reply)
+                    let (spec, own) = told_in(first)?;
+                    self.send_commit(spec, own)
                 }
             },
         }
@@ -133,35 +133,34 @@ impl Client {
         }
     }
 
-    fn send_commit(self, spec: Spec, reply: Bytes) -> Result<Moved, Want>
+    fn send_commit(self, spec: Spec, own: OwnAnswer) -> Result<Moved, Want>
         requires { self.counts.cert ≤ agreeing self spec }
-        ensures { IfOk result (λ m. m ≡ send_commit_row self spec reply) }
+        ensures { IfOk result (λ m. m ≡ send_commit_row self spec own) }
     {
         let frame = self.certificate(&spec)?;
         let said = Vec::new(self.alloc);
-        self.certifies(spec, reply).sends(To::All, frame, said)
+        self.certifies(spec, own).sends(To::All, frame, said)
     }
 
-    // The certificate of the first responses that are equal to one.
+    // The own certificate of the first responses that are equal to one.
     fn certificate(&self, spec: &Spec) -> Result<Frame, Want>
         requires { self.now.counts.cert ≤ agreeing self.now spec.now }
-        ensures value { IfOk result (λ frame. frame ≡ frames.Commit (certificate_of self.now spec.now)) }
+        ensures value { IfOk result (λ frame. frame ≡ frames.Commit self.now.me (certificate_of self.now spec.now)) }
         ensures range { IfOk result IsFrameInRange }
     {
-        let list = first_equal(self.alloc, &self.responses, spec, self.counts.cert)?;
-        Ok(Frame::Commit(list))
+        let specs = first_equal(self.alloc, &self.responses, spec, self.counts.cert)?;
+        Ok(Frame::Commit {
+            client: self.me,
+            specs,
+        })
     }
 
     // A certificate takes the place of the last one.
-    fn certifies(mut self, spec: Spec, reply: Bytes) -> Client
-        ensures { result ≡ record self { commit = Some (record { spec = spec; reply = reply; locals = locals_for_row self.counts.local spec self.commit }) } }
+    fn certifies(mut self, spec: Spec, own: OwnAnswer) -> Client
+        ensures { result ≡ record self { commit = Some (record { spec = spec; own = own; locals = locals_for_row self.counts.local spec self.commit }) } }
     {
         let locals = locals_for(self.alloc, self.counts.local, &spec, self.commit.take());
-        self.commit = Some(Commit {
-            spec,
-            reply,
-            locals,
-        });
+        self.commit = Some(Commit { spec, own, locals });
         self
     }
 
@@ -186,23 +185,16 @@ fn is_for(spec: &Spec, local: &Local) -> bool
 fn done_by(commit: Commit) -> Done
     ensures { result ≡ done_by_row commit }
 {
-    let spec = commit.spec;
-    Done {
-        stamp: spec.stamp,
-        view: spec.view,
-        place: spec.place,
-        head: spec.head,
-        path: Path::Slow,
-        reply: commit.reply,
-    }
+    let Commit { spec, own, .. } = commit;
+    done_with(Path::Slow, &spec, own)
 }
 
-// What a response says, with a copy of its reply.
-fn told_in(response: &Response) -> Result<(Spec, Bytes), Want>
+// What a response says, with a copy of the own answer.
+fn told_in(response: &Response) -> Result<(Spec, OwnAnswer), Want>
     ensures spec { IfOk result (λ told. told.0 ≡ response.now.spec.stmt) }
-    ensures reply { IfOk result (λ told. told.1 ≡ response.now.reply) }
+    ensures own { IfOk result (λ told. told.1 ≡ response.now.own) }
 {
-    Ok((response.spec.stmt, response.reply.clone()?))
+    Ok((response.spec.stmt, own_copy(&response.own)?))
 }
 
 // The first so many that are equal to one, by replica number.

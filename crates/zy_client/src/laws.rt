@@ -12,9 +12,9 @@ ghost use Rattle.zy_table.specs.ClientRows.{ask, client_step};
 ghost use Rattle.zy_table.specs.declared.client.Commit.{Commit};
 ghost use Rattle.zy_client.specs.Held.{Holds, CommitComes, IsComplete};
 
-/// What a client holds while a request waits are responses to it, each of another replica, which signed it, with a
-/// reply that has its digest; and where it sent a certificate, that of such a response, with local commits at its
-/// point, each of another replica, which signed it. A certificate is made of a response of which as many equals are
+/// What a client holds while a request waits are responses to it, each of another replica, which signed it, with the
+/// own answer among those of which it tells the digest; and where it sent a certificate, that of such a response, with
+/// local commits at its point, each of another replica, which signed it. A certificate is made of a response of which as many equals are
 /// kept as it takes. A step that ends the waiting counts the request as complete, by enough responses that are equal in
 /// all fields or by enough local commits to the certificate.
 pub fn held_responses()

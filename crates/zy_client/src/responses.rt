@@ -1,58 +1,73 @@
 ghost use Rattle.std.specs.Prelude.{◌≡◌, ◌<◌, count_by, slice_index_or, slice_set, option_copied, None, Some, IfOk, List, ℕ};
-ghost use Rattle.zy_parts.specs.Statements.{IsAskInRange};
+ghost use Rattle.zy_chain.specs.Answers.{FitsAnswers};
+ghost use Rattle.zy_wire.specs.Fields.{FitsOptional};
+ghost use Rattle.zy_parts.specs.Statements.{IsOrderInRange, IsSpecInRange};
 ghost use Rattle.zy_parts.specs.Signing.{IsSignedInRange};
-ghost use Rattle.zy_table.specs.ClientRows.{response_cause, is_own_order_if, is_repeated, kept_of, keep as keep_row, agrees, agreeing, done_of, completed_if, keep_unless, respond as respond_row};
+ghost use Rattle.zy_parts.specs.declared.signed.Signed.{Signed};
+ghost use Rattle.zy_parts.specs.declared.statements.Ask.{Ask};
+ghost use Rattle.zy_table.specs.ClientRows.{are_told, own_in, response_cause, is_order_of_if, is_repeated, kept_of, keep as keep_row, agrees, agreeing, done_of, done_with, completed_if, keep_unless, respond as respond_row};
 ghost use Rattle.zy_cert.specs.Equal.{same_spec};
 ghost use Rattle.zy_client.specs.Ready.{IsKeepable};
 
 use crate::Client;
 use crate::moved::Moved;
-use zy_base::{Cause, ReplicaId, Want};
-use zy_chain::{answers_digest, request_digest};
-use zy_parts::{Ask, Order, Signed, Spec};
-use zy_table::{Done, Path, Response};
+use zy_base::{Cause, ClientId, Items, ReplicaId, Want};
+use zy_chain::{Answered, answers_digest};
+use zy_parts::{Order, Signed, Spec};
+use zy_table::{Done, OwnAnswer, Path, Response};
 
 impl Client {
     // A response of the replica with this number.
     #[tactic(auto, unfolding(zy_table::specs::ClientRows::respond))]
-    pub(crate) fn responds(self, id: ReplicaId, response: Response) -> Result<Moved, Want>
-        requires { IsKeepable response }
-        ensures { IfOk result (λ m. m ≡ respond_row self id.0 response) }
+    pub(crate) fn responds(
+        self,
+        id: ReplicaId,
+        spec: Signed<Spec>,
+        answers: Items<Answered>,
+        order: Option<Signed<Order>>,
+    ) -> Result<Moved, Want>
+        requires spec { IsSignedInRange IsSpecInRange spec }
+        requires answers { FitsAnswers answers }
+        requires order { FitsOptional (IsSignedInRange IsOrderInRange) order }
+        ensures { IfOk result (λ m. m ≡ respond_row self id.0 spec answers order) }
     {
-        let cause = match &self.waiting {
-            None => Some(Cause::Finished),
-            Some(waiting) => self.cause_against(waiting, id, &response),
-        };
-        match cause {
+        if self.waiting.is_none() {
+            return Ok(self.refused(Cause::Finished));
+        }
+        let told = are_told(&answers, &spec.stmt);
+        match own_answer(self.me, answers) {
+            None => Ok(self.refused(Cause::Unmatched)),
+            Some(own) => self.responds_with(id, told, Response { spec, own, order }),
+        }
+    }
+
+    // A response with the own answer in it, whose answers are told by it or not.
+    fn responds_with(self, id: ReplicaId, told: bool, response: Response) -> Result<Moved, Want>
+        requires { IsKeepable response }
+        ensures { IfOk result (λ m. (waiting : Signed Ask) → self.waiting ≡ Some waiting → m ≡ keep_unless (response_cause self waiting id.0 told response) self id.0 response) }
+    {
+        match self.cause_against(id, told, &response) {
             Some(cause) => Ok(self.refused(cause)),
             None => self.keep(id, response),
         }
     }
 
     // Why a response to the waiting request isn't kept.
-    fn cause_against(
-        &self,
-        waiting: &Signed<Ask>,
-        id: ReplicaId,
-        response: &Response,
-    ) -> Option<Cause>
-        requires { IsSignedInRange IsAskInRange waiting.now }
-        ensures { result ≡ response_cause self.now waiting.now id.0 response.now }
+    fn cause_against(&self, id: ReplicaId, told: bool, response: &Response) -> Option<Cause>
+        ensures { (waiting : Signed Ask) → self.now.waiting ≡ Some waiting → result ≡ response_cause self.now waiting id.0 told response.now }
     {
+        let waiting = self.waiting.as_ref()?;
         let spec = &response.spec.stmt;
-        if spec.client != self.me {
-            return Some(Cause::Unmatched);
-        }
-        if spec.stamp < waiting.stmt.stamp {
+        if response.own.stamp < waiting.stmt.stamp {
             return Some(Cause::OldStamp);
         }
-        if spec.stamp > waiting.stmt.stamp {
+        if response.own.stamp > waiting.stmt.stamp {
             return Some(Cause::Unmatched);
         }
-        if answers_digest(&response.reply) != spec.reply {
+        if !told {
             return Some(Cause::Unmatched);
         }
-        if !self.is_own_order_if(waiting, spec, &response.order) {
+        if !is_order_of_if(spec, &response.order) {
             return Some(Cause::Unmatched);
         }
         if self.has_one_of(id, spec) {
@@ -69,29 +84,6 @@ impl Client {
         match self.responses.get(id.0 as usize) {
             Some(Some(response)) => Some(response),
             _ => None,
-        }
-    }
-
-    // Where there is an order, it is that of the response, and for the own request.
-    fn is_own_order_if(
-        &self,
-        waiting: &Signed<Ask>,
-        spec: &Spec,
-        order: &Option<Signed<Order>>,
-    ) -> bool
-        requires { IsSignedInRange IsAskInRange waiting.now }
-        ensures { result ≡ is_own_order_if self.now waiting.now spec.now order.now }
-    {
-        match order {
-            None => true,
-            Some(order) => {
-                let order = &order.stmt;
-                order.view == spec.view
-                    && order.place == spec.place
-                    && order.head == spec.head
-                    && order.request
-                        == request_digest(self.me, waiting.stmt.stamp, waiting.stmt.op.as_slice())
-            }
         }
     }
 
@@ -159,18 +151,74 @@ impl Client {
     }
 }
 
+// The answers are those of which the response tells the digest.
+fn are_told(answers: &Items<Answered>, spec: &Spec) -> bool
+    ensures { result ≡ are_told answers.now spec.now }
+{
+    answers_digest(answers) == spec.answers
+}
+
+// The answer to the own request, with its number among the answers.
+fn own_answer(me: ClientId, answers: Items<Answered>) -> Option<OwnAnswer>
+    requires { FitsAnswers answers }
+    ensures { result ≡ own_in me answers }
+{
+    let at = answers
+        .as_slice()
+        .iter()
+        .position(|answered| answered.client == me)?;
+    let Answered { stamp, reply, .. } = answers.into_vec().swap_remove(at);
+    Some(OwnAnswer {
+        index: at as u8 + 1,
+        stamp,
+        reply,
+    })
+}
+
+// Where there is an order, it is that of the response.
+fn is_order_of_if(spec: &Spec, order: &Option<Signed<Order>>) -> bool
+    ensures { result ≡ is_order_of_if spec.now order.now }
+{
+    match order {
+        None => true,
+        Some(order) => {
+            let order = &order.stmt;
+            order.view == spec.view && order.place == spec.place && order.head == spec.head
+        }
+    }
+}
+
 // The completion that a response brings, where enough are equal to it.
 fn done_of(response: &Response) -> Result<Done, Want>
     ensures { IfOk result (λ done. done ≡ done_of response.now) }
 {
-    let spec = &response.spec.stmt;
-    Ok(Done {
-        stamp: spec.stamp,
+    let own = own_copy(&response.own)?;
+    Ok(done_with(Path::Fast, &response.spec.stmt, own))
+}
+
+// A completion, with the own answer among those that a response tells of.
+pub(crate) fn done_with(path: Path, spec: &Spec, own: OwnAnswer) -> Done
+    ensures { result ≡ done_with path spec.now own }
+{
+    Done {
+        stamp: own.stamp,
         view: spec.view,
         place: spec.place,
+        index: own.index,
         head: spec.head,
-        path: Path::Fast,
-        reply: response.reply.clone()?,
+        path,
+        answers: spec.answers,
+        reply: own.reply,
+    }
+}
+
+pub(crate) fn own_copy(own: &OwnAnswer) -> Result<OwnAnswer, Want>
+    ensures { IfOk result (λ copy. copy ≡ own.now) }
+{
+    Ok(OwnAnswer {
+        index: own.index,
+        stamp: own.stamp,
+        reply: own.reply.clone()?,
     })
 }
 

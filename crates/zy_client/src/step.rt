@@ -1,9 +1,12 @@
 ghost use Rattle.std.specs.Prelude.{◌≡◌, ◌≤◌, length, map, IfOk, Ok, Err, if◌then◌else◌};
 ghost use Rattle.std.specs.List.{AllByRecursion};
-ghost use Rattle.zy_frames.specs.Frames.{IsFrameInRange, frame_in, parts_of};
+ghost use Rattle.zy_chain.specs.Answers.{FitsAnswers};
+ghost use Rattle.zy_wire.specs.Fields.{FitsOptional};
+ghost use Rattle.zy_parts.specs.Signing.{IsSignedInRange};
+ghost use Rattle.zy_frames.specs.Frames.{IsFrameInRange, frame_in, named_in, parts_of};
 ghost use Rattle.zy_table.specs.Sending.{CanBeSent};
 ghost use Rattle.zy_seal.specs.Screening.{screen};
-ghost use Rattle.zy_parts.specs.Statements.{IsAskInRange};
+ghost use Rattle.zy_parts.specs.Statements.{IsAskInRange, IsOrderInRange, IsSpecInRange};
 ghost use Rattle.zy_table.specs.ClientState.{spoken_of, all_replicas, client_outgoing};
 ghost use Rattle.zy_base.specs.declared.cause.Cause.{Cause};
 ghost use Rattle.zy_base.specs.declared.cause.Cause.TheVariants as causes;
@@ -12,7 +15,6 @@ ghost use Rattle.zy_table.specs.Roles.{is_replica};
 ghost use Rattle.zy_table.specs.ClientState.{refused};
 ghost use Rattle.zy_table.specs.ClientRows.{ask as ask_row, hear as hear_row, hear_response as hear_response_row, is_by_primary, count_local, decoded, timer as timer_row, decoded_as, view_decoded, client_step};
 ghost use Rattle.zy_vframes.specs.ViewFrames as views;
-ghost use Rattle.zy_client.specs.Ready.{IsKeepable};
 ghost use Rattle.zy_client.specs.Stepped.{IsStepped, IsUnchanged};
 
 use crate::moved::Moved;
@@ -22,10 +24,11 @@ use zy_base::{
     Bytes, Cause, ClientId, Event, FrameFault, Items, Outgoing, Party, ReplicaId, Said, Spoken,
     TimerKind, Want,
 };
-use zy_frames::{DecodeFault, Frame, decode, parts};
-use zy_parts::{Ask, Local, Order, Signed, signed_text};
+use zy_chain::Answered;
+use zy_frames::{DecodeFault, Frame, decode, named, parts};
+use zy_parts::{Ask, Local, Order, Signed, Spec, signed_text};
 use zy_seal::screen_parts;
-use zy_table::{Response, Sent, outgoing};
+use zy_table::{Sent, outgoing};
 use zy_vframes::ViewFrame;
 
 impl Client {
@@ -108,7 +111,7 @@ impl Client {
         ensures { IfOk result (λ m. m ≡ view_decoded self (Ok frame.now)) }
     {
         let parts = zy_vframes::parts(self.alloc, frame)?;
-        match screen_parts(&self.directory, &parts) {
+        match screen_parts(&self.directory, None, &parts) {
             Some(cause) => Ok(self.refused(cause)),
             None => Ok(self.refused(Cause::WrongRole)),
         }
@@ -124,13 +127,13 @@ impl Client {
         }
     }
 
-    // Why a part of the frame isn't taken.
+    // Why a part of the frame, or the client that it names, isn't taken.
     fn screened(&self, frame: &Frame) -> Result<Option<Cause>, Want>
         requires { IsFrameInRange frame.now }
-        ensures { IfOk result (λ cause. cause ≡ screen self.now.keys (parts_of frame.now)) }
+        ensures { IfOk result (λ cause. cause ≡ screen self.now.keys (named_in frame.now) (parts_of frame.now)) }
     {
         let parts = parts(self.alloc, frame)?;
-        Ok(screen_parts(&self.directory, &parts))
+        Ok(screen_parts(&self.directory, named(frame), &parts))
     }
 
     // A frame whose parts are verified.
@@ -139,14 +142,15 @@ impl Client {
         ensures { IfOk result (λ m. m ≡ hear_row self frame) }
     {
         match frame {
-            Frame::SpecResponse { spec, reply, order } => {
-                let by = spec.by;
-                self.hear_response(Response { spec, reply, order }, by)
-            }
+            Frame::SpecResponse {
+                spec,
+                answers,
+                order,
+            } => self.hear_response(spec, answers, order),
             Frame::LocalCommit(local) => self.hear_local(local),
             Frame::Request(_) => Ok(self.refused(Cause::WrongRole)),
             Frame::Order(_) => Ok(self.refused(Cause::WrongRole)),
-            Frame::Commit(_) => Ok(self.refused(Cause::WrongRole)),
+            Frame::Commit { .. } => Ok(self.refused(Cause::WrongRole)),
             Frame::ConfirmReq { .. } => Ok(self.refused(Cause::WrongRole)),
             Frame::FillHole(_) => Ok(self.refused(Cause::WrongRole)),
             Frame::Hate(_) => Ok(self.refused(Cause::WrongRole)),
@@ -155,15 +159,22 @@ impl Client {
         }
     }
 
-    fn hear_response(self, response: Response, by: Party) -> Result<Moved, Want>
-        requires { IsKeepable response }
-        ensures { IfOk result (λ m. m ≡ hear_response_row self response by) }
+    fn hear_response(
+        self,
+        spec: Signed<Spec>,
+        answers: Items<Answered>,
+        order: Option<Signed<Order>>,
+    ) -> Result<Moved, Want>
+        requires spec { IsSignedInRange IsSpecInRange spec }
+        requires answers { FitsAnswers answers }
+        requires order { FitsOptional (IsSignedInRange IsOrderInRange) order }
+        ensures { IfOk result (λ m. m ≡ hear_response_row self spec answers order spec.by) }
     {
-        match by {
+        match spec.by {
             Party::Client(_) => Ok(self.refused(Cause::WrongRole)),
             Party::Replica(id) => {
-                if self.is_by_primary(&response.order) {
-                    self.responds(id, response)
+                if self.is_by_primary(&order) {
+                    self.responds(id, spec, answers, order)
                 } else {
                     Ok(self.refused(Cause::WrongRole))
                 }

@@ -21,7 +21,7 @@ use Rattle.zy_vframes.specs.declared.frame.ViewFrame.TheVariants as view_frames
 use Rattle.zy_cert.specs.Equal.{same_fetch}
 use Rattle.zy_cert.specs.Signers.{has_signer}
 use Rattle.zy_seal.specs.Sealing.{sealed_by}
-use Rattle.zy_exec.specs.Kept.{Kept, answers_in}
+use Rattle.zy_exec.specs.Kept.{Kept, reply_in}
 use Rattle.zy_admit.specs.Orders.{no_orders}
 use Rattle.zy_check.specs.Board.{cleared}
 use Rattle.zy_evidence.specs.Reading.{stretch_of}
@@ -98,7 +98,7 @@ respond_to R (Some own) (Some answers) g = respond_alone R own answers g
 abbrev pub respond_at : {S : Type 0} → Rules S → List ℕ → Going S → Going S
 respond_at R [] g = g
 respond_at R (place ∷ places) g =
-    respond_at R places (respond_to R (own_at R g.state place) (answers_in R g.state.kept place) g)
+    respond_at R places (respond_to R (own_at R g.state place) (reply_in R g.state.kept place) g)
 
 -- those above the stable place, as far as the choice
 abbrev pub respond_up_to : {S : Type 0} → Rules S → ℕ → Going S → Going S

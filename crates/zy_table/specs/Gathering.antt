@@ -14,7 +14,7 @@ use Rattle.zy_parts.specs.declared.statements.Spec.{Spec}
 use Rattle.zy_parts.specs.declared.statements.Check.{Check}
 use Rattle.zy_frames.specs.declared.frame.Frame.TheVariants as frames
 use Rattle.zy_seal.specs.Sealing.{sealed_by}
-use Rattle.zy_exec.specs.Kept.{Kept, stretch_of, answers_in, settled}
+use Rattle.zy_exec.specs.Kept.{Kept, stretch_of, reply_in, settled}
 use Rattle.zy_exec.specs.Shots.{snapshot_in, digest_of_snapshot}
 use Rattle.zy_admit.specs.Orders.{orders_above}
 use Rattle.zy_cert.specs.Equal.{same_spec, same_check}
@@ -58,7 +58,7 @@ own_from view place (Some head) (Some answers) (Some state) = Some (own_with (sp
 -- what it says of a multiple of the interval above the stable place, as far as the history has come
 abbrev pub own_at : {S : Type 0} → Rules S → State S → ℕ → Option OwnCheckpoint
 own_at R s place =
-    own_from (own_view s) place (head_in (stretch_of s.kept) place) (answers_in R s.kept place) (state_in R s.kept place)
+    own_from (own_view s) place (head_in (stretch_of s.kept) place) (reply_in R s.kept place) (state_in R s.kept place)
 
 -- ---- the certificate
 
