@@ -1,5 +1,5 @@
 -- How many bytes entries and answers have at most as fields of frames.
-use Rattle.std.proofs.Common.{◌≡◌, ℕ, ◌+◌, ◌*◌, ◌≤◌, List, [], ◌∷◌, ◌++◌, length, arith, refl}
+use Rattle.std.proofs.Common.{◌≡◌, ℕ, ◌+◌, ◌*◌, ◌≤◌, List, [], ◌∷◌, ◌++◌, length, arith}
 use Rattle.std.specs.Int.{w16, w32, w64}
 use Rattle.std.specs.List.{flat_map}
 use Rattle.std.proofs.lemmas.List.{length-append}
@@ -18,15 +18,26 @@ use Rattle.zy_chain.proofs.ItemLemmas.{load_within}
 
 item_len : (i : Item) → length (item_fields.spell i) ≡ 14 + length i.op
 unfolding item_after
-item_len i = ?
+item_len i =
+    let stamp = bytes_of w64 i.stamp.0 in
+    let len = bytes_of w16 (length i.op) in
+    omega (arith, length-append (bytes_of w32 i.client.0) (stamp ++ (len ++ i.op)), length-append stamp (len ++ i.op), length-append len i.op, bytes_of-len w32 i.client.0 wide32, bytes_of-len w64 i.stamp.0 wide64, bytes_of-len w16 (length i.op) wide16)
 
-items_len : (items : List Item) → length (flat_map item_fields.spell items) ≡ length items * 14 + load_of items
-items_len [] = ?
-items_len (i ∷ items) = ?
+items_len : (items : List Item) → length (flat_map item_fields.spell items) ≡ 14 * length items + load_of items
+items_len [] = omega arith
+items_len (i ∷ items) =
+    rw (flat_map-cons item_fields.spell i items)
+    (omega (arith, length-append (item_fields.spell i) (flat_map item_fields.spell items), item_len i, items_len items, sum_by-cons (λ (j : Item). length j.op) i items))
+
+entry_len : (e : Entry) → entry_fields.Fits e → length (entry_fields.spell e) ≤ entry_size
+unfolding entry_fields list_bytes
+entry_len e fits =
+    let range = entry-in_range e fits in
+    let count = bytes_of w16 (length e.items) in
+    omega (arith, length-append count (flat_map item_fields.spell e.items), bytes_of-len w16 (length e.items) wide16, items_len e.items, range.most, load_within [] e.items (omega arith) range.each)
 
 pub entry-at_most : IsAtMost entry_fields entry_size
-unfolding entry_fields list_bytes
-entry-at_most = record { fits = λ e fits. ? }
+entry-at_most = record { fits = entry_len }
 
 pub answered-at_most : IsAtMost answered_fields answered_size
 unfolding answered_fields

@@ -1,7 +1,8 @@
-ghost use Rattle.std.specs.Prelude.{◌≡◌, IfOk, refl};
-ghost use Rattle.zy_chain.specs.Entries.{IsNextItem, IsEntryInRange};
+ghost use Rattle.std.specs.Prelude.{◌≡◌, ◌-◌, min, [], IfOk};
+ghost use Rattle.zy_wire.specs.Reading.{ReadsBy};
+ghost use Rattle.zy_chain.specs.Entries.{IsNextItem, IsEntryInRange, load_of};
 ghost use Rattle.zy_chain.specs.Answers.{IsAnsweredInRange};
-ghost use Rattle.zy_chain.specs.Fields.{item_fields, item_after, item-succession, item-exact, item-in_range, entry_fields, entry-exact, entry-in_range, answered_fields, answered-exact, answered-in_range};
+ghost use Rattle.zy_chain.specs.Fields.{client_after, IsNewClient, item_fields, item_after, item-succession, item-exact, item-in_range, entry_fields, entry-exact, entry-in_range, answered_fields, answered-exact, answered-in_range};
 
 use crate::{Answered, Entry, Item, has_client, room_behind};
 use std::alloc::Global;
@@ -39,16 +40,35 @@ impl Successive for Item {
     #[tactic(auto, unfolding(crate::specs::Fields::item_after))]
     fn get_after(alloc: Global, cut: &mut Cut<'_>, before: &[Item]) -> Result<Item, GetFault> {
         let mut ahead = cut.ahead();
-        let client = ClientId(ahead.u32()?);
-        if has_client(before, client) {
-            return Err(GetFault::Frame(FrameFault::Range));
-        }
-        let stamp = Stamp(ahead.u62(0)?);
-        let op = ahead.bytes16(MAX_OP.min(room_behind(before)))?;
-        let op = Bytes::from_slice(alloc, op)?;
+        let item = Item {
+            client: get_client(&mut ahead, before)?,
+            stamp: Stamp(ahead.u62(0)?),
+            op: Bytes::from_slice(alloc, ahead.bytes16(op_limit(before))?)?,
+        };
         *cut = ahead;
-        Ok(Item { client, stamp, op })
+        Ok(item)
     }
+}
+
+// Reads a client: `Range` where one of the items is its.
+fn get_client(cut: &mut Cut<'_>, before: &[Item]) -> Result<ClientId, FrameFault>
+    ensures read { ReadsBy (λ c. c.0) (client_after before.now) cut.old result cut.new }
+    ensures in_range { IfOk result (λ c. IsNewClient before.now c.0) }
+{
+    let mut ahead = cut.ahead();
+    let client = ClientId(ahead.u32()?);
+    if has_client(before, client) {
+        return Err(FrameFault::Range);
+    }
+    *cut = ahead;
+    Ok(client)
+}
+
+// How long an operation may be behind these.
+fn op_limit(before: &[Item]) -> usize
+    ensures { result ≡ min 1100 (8192 - load_of before.now) }
+{
+    MAX_OP.min(room_behind(before))
 }
 
 impl Spelled for Entry {

@@ -31,7 +31,7 @@ fields_of datagram = record {
 
 -- the pieces of the longest frame
 abbrev pub most_pieces : ℕ
-most_pieces = 512
+most_pieces = 1024
 
 -- every piece but the last has 8,192 bytes, and the last has no more
 abbrev pub fits : Piece → Bool

@@ -7,7 +7,7 @@ use sha2::{Digest as Hasher, Sha256};
 use std::alloc::Global;
 use zy_base::{Bytes, Digest, Want};
 
-/// The datagrams of a frame of 1 to 4,194,304 bytes, one for each piece, in order.
+/// The datagrams of a frame of 1 to 8,388,608 bytes, one for each piece, in order.
 #[tactic(auto, using(crate::proofs::CutLemmas::rounded_up))]
 pub fn cut(alloc: Global, frame: &[u8]) -> Result<Vec<Bytes>, Want>
     requires some_byte { 1 ≤ length frame.now }

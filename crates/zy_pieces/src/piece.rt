@@ -7,8 +7,8 @@ use zy_base::Digest;
 
 /// The bytes in each piece but the last.
 pub const MAX_PAYLOAD: usize = 8192;
-/// The pieces of the longest frame, of 4,194,304 bytes.
-pub const MAX_PIECES: u16 = 512;
+/// The pieces of the longest frame, of 8,388,608 bytes.
+pub const MAX_PIECES: u16 = 1024;
 /// The bytes of the longest datagram.
 pub const MAX_DATAGRAM: usize = HEADER_LEN + MAX_PAYLOAD;
 
@@ -19,7 +19,7 @@ pub(crate) const HEADER_LEN: usize = 37;
 /// Why a datagram isn't taken.
 #[derive(Clone, Copy, Debug, PartialEq, Eq)]
 pub enum PieceFault {
-    /// It is shorter than 38 bytes, its first byte isn't the version, there are no pieces or more than 512, or the
+    /// It is shorter than 38 bytes, its first byte isn't the version, there are no pieces or more than 1,024, or the
     /// piece has too few bytes or too many for its place.
     Header,
     /// The piece's place isn't below the number of pieces.

@@ -13,7 +13,7 @@ use Rattle.zy_wire.proofs.Parts.{IsWide, wide8, wide16, wide32, wide64}
 pub record IsAtMost {A : Type 0} (S : Spelling A) (most : ℕ) : Type 0 where
   pub fits : (x : A) → S.Fits x → length (S.spell x) ≤ most
 
-bytes_of-len : (w : Width) (n : ℕ) → IsWide w → length (bytes_of w n) ≡ byte_len w
+pub bytes_of-len : (w : Width) (n : ℕ) → IsWide w → length (bytes_of w n) ≡ byte_len w
 unfolding bytes_of
 bytes_of-len w n wide = wide.len n
 
