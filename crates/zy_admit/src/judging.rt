@@ -84,12 +84,10 @@ fn judge_next(order: &Order, asks: &[Signed<Ask>], now: &Position, request: &Dig
 fn are_newer(asks: &[Signed<Ask>], last: &[Option<Stamp>]) -> bool
     ensures { result ≡ are_newer (entry_of_asks asks.now).items last.now }
 {
-    let (mut asks, mut last) = (asks, last);
-    while let ([ask, other_asks @ ..], [stamp, other_stamps @ ..]) = (asks, last) {
+    for (ask, stamp) in asks.iter().zip(last) {
         if !is_newer(ask.stmt.stamp, *stamp) {
             return false;
         }
-        (asks, last) = (other_asks, other_stamps);
     }
     true
 }
