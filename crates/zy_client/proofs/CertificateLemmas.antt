@@ -52,7 +52,7 @@ taken_fit (suc count) [] all = tt
 taken_fit (suc count) (x ∷ xs) all = (all.0, taken_fit count xs all.1)
 
 -- where so many are equal, the certificate can be sent
-pub certificate_fits : (s : ClientState) (spec : Spec) → IsReady s → s.counts.cert ≤ agreeing s spec → IsFrameInRange (frames.Commit (certificate_of s spec))
+pub certificate_fits : (s : ClientState) (spec : Spec) → IsReady s → s.counts.cert ≤ agreeing s spec → IsFrameInRange (frames.Commit s.me (certificate_of s spec))
 certificate_fits s spec ready enough =
     let many = equals_many spec s.responses in
     let len = length-take-le s.counts.cert (filter_map (equal_in spec) s.responses) (omega (arith, many, enough)) in

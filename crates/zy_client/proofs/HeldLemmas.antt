@@ -29,9 +29,9 @@ use Rattle.zy_parts.specs.declared.statements.Order.{Order}
 use Rattle.zy_parts.specs.declared.statements.Spec.{Spec}
 use Rattle.zy_frames.specs.declared.frame.Frame.{Frame}
 use Rattle.zy_frames.specs.declared.frame.Frame.TheVariants as frames
-use Rattle.zy_frames.specs.Frames.{frame_in, parts_of}
+use Rattle.zy_frames.specs.Frames.{frame_in, named_in, parts_of}
 use Rattle.zy_seal.specs.declared.directory.SealAnswer.{SealAnswer}
-use Rattle.zy_seal.specs.declared.directory.SealAnswer.TheVariants as answers
+use Rattle.zy_seal.specs.declared.directory.SealAnswer.TheVariants as seals
 use Rattle.zy_seal.specs.Keys.{Keys}
 use Rattle.zy_seal.specs.Sealing.{SealerState}
 use Rattle.zy_seal.specs.Screening.{screen, answer_to, is_unknown, is_bad}
@@ -43,17 +43,18 @@ use Rattle.zy_cert.specs.declared.votes.Vote.{Vote}
 use Rattle.zy_cert.specs.declared.votes.Vote.TheVariants.{Counted, Full, Repeat, Mixed}
 use Rattle.zy_table.specs.Roles.{is_replica}
 use Rattle.zy_table.specs.declared.client.Commit.{Commit}
+use Rattle.zy_table.specs.declared.client.OwnAnswer.{OwnAnswer}
 use Rattle.zy_table.specs.declared.client.Response.{Response}
 use Rattle.zy_table.specs.ClientState.{ClientState, client_start, signs_left, refused}
-use Rattle.zy_table.specs.ClientRows.{ask, ask_while, asked, next_ask, kept_of, response_cause, is_own_order_if, is_repeated, keep, agreeing, completed_if, evidence_by, told, keep_unless, complete, respond, respond_while, is_for, complete_by, vote_on, local_beside, local_while, count_local, is_certified, certified_in, locals_for, send_commit, ask_or_commit, run_out, run_out_while, is_by_primary, hear_response, hear, unless, decoded, decoded_as, view_decoded, client_step}
+use Rattle.zy_table.specs.ClientRows.{ask, ask_while, asked, next_ask, kept_of, are_told, own_in, response_cause, is_order_of_if, is_repeated, keep, agreeing, completed_if, evidence_by, told, keep_unless, complete, respond, respond_by, respond_while, is_for, complete_by, vote_on, local_beside, local_while, count_local, is_certified, certified_in, locals_for, send_commit, ask_or_commit, run_out, run_out_while, is_by_primary, hear_response, hear, unless, decoded, decoded_as, view_decoded, client_step}
 use Rattle.zy_vframes.specs.Parts as view_parts
 use Rattle.zy_vframes.specs.ViewFrames as views
 use Rattle.zy_vframes.specs.declared.frame.ViewFrame.{ViewFrame}
-use Rattle.zy_client.specs.Held.{IsHeldBy, AreHeld, IsCounted, IsCommitHeld, HoldsCommit, Holds, IsHeardLocal, CommitComes, IsComplete}
+use Rattle.zy_client.specs.Held.{IsOwnAnswer, IsHeldBy, AreHeld, IsCounted, IsCommitHeld, HoldsCommit, Holds, IsHeardLocal, CommitComes, IsComplete}
 use Rattle.zy_client.specs.Held.CommitComes.{stays as from_before, counts as from_vote, certifies as from_responses}
 use Rattle.zy_client.specs.Held.IsComplete.{fast, slow}
 use Rattle.zy_client.proofs.PollLemmas.{pushed, counts as counts_vote, fills as fills_votes, votes_pushed}
-use Rattle.zy_chain.specs.Answers.{digest_of_answers}
+use Rattle.zy_chain.specs.Answers.{Answers, digest_of_answers}
 
 -- ---- slots
 
@@ -114,7 +115,7 @@ data Comes (s : ClientState) (event : Event) (after : ClientState) : Type 0 wher
   keeps : (waiting : Signed Ask) → s.waiting ≡ Some waiting → Keeps s waiting after → Comes s event after
   votes : (commit : Commit) (vote : Signed Local) → Votes s event commit vote → after ≡ counted s commit vote → Comes s event after
   ends : (commit : Commit) (vote : Signed Local) → Votes s event commit vote → length commit.locals.votes + 1 ≡ commit.locals.count → after ≡ complete_by s commit → Comes s event after
-  sends : (waiting : Signed Ask) → s.waiting ≡ Some waiting → (id : ℕ) (r : Response) → Certifies s id r → after ≡ (send_commit s r.spec.stmt r.reply).state → Comes s event after
+  sends : (waiting : Signed Ask) → s.waiting ≡ Some waiting → (id : ℕ) (r : Response) → Certifies s id r → after ≡ (send_commit s r.spec.stmt r.own).state → Comes s event after
 
 -- ---- responses
 
@@ -125,10 +126,10 @@ first_clear : (p : Bool) (q : Bool) → p || q ≡ false → p ≡ false
 first_clear true q is = cc
 first_clear false q is = refl
 
-neither : (answer : SealAnswer) → is_unknown answer ≡ false → is_bad answer ≡ false → answer ≡ answers.Yes
-neither answers.Yes known good = refl
-neither answers.UnknownParty known good = cc
-neither answers.BadSignature known good = cc
+neither : (answer : SealAnswer) → is_unknown answer ≡ false → is_bad answer ≡ false → answer ≡ seals.Yes
+neither seals.Yes known good = refl
+neither seals.UnknownParty known good = cc
+neither seals.BadSignature known good = cc
 
 screen_in : (unknown bad : Bool) → (if unknown then Some causes.UnknownParty else (if bad then Some causes.BadSignature else None)) ≡ None → (unknown ≡ false) × (bad ≡ false)
 screen_in true bad is = cc
@@ -136,10 +137,10 @@ screen_in false true is = cc
 screen_in false false is = (refl, refl)
 
 -- where nothing is found against some parts, the first of them verifies
-verified_first : (keys : Keys) (part : Part) (parts : List Part) → screen keys (part ∷ parts) ≡ None → answer_to keys part ≡ answers.Yes
-verified_first keys part parts is =
+verified_first : (keys : Keys) (named : Option ClientId) (part : Part) (parts : List Part) → screen keys named (part ∷ parts) ≡ None → answer_to keys part ≡ seals.Yes
+verified_first keys named part parts is =
     let clear = screen_in _ _ is in
-    neither (answer_to keys part) (first_clear _ _ clear.0) (first_clear _ _ clear.1)
+    neither (answer_to keys part) (first_clear _ _ (first_clear _ _ clear.0)) (first_clear _ _ clear.1)
 
 taken_if : (b : Bool) (rest : Option Cause) (cause : Cause) → (if b then rest else Some cause) ≡ None → (b ≡ true) × (rest ≡ None)
 taken_if true rest cause is = (refl, is)
@@ -149,54 +150,62 @@ taken_unless : (b : Bool) (cause : Cause) (rest : Option Cause) → (if b then S
 taken_unless true cause rest is = cc
 taken_unless false cause rest is = (refl, is)
 
--- a response against which there is no cause is one to the request, and its reply has its digest
-cause_free : (s : ClientState) (waiting : Signed Ask) (id : ℕ) (r : Response) → r.spec.by ≡ Replica (record { 0 = id })
-    → answer_to s.keys (part_of numbers.spec spec_fields r.spec) ≡ answers.Yes → response_cause s waiting id r ≡ None → IsHeldBy s waiting id r
-cause_free s waiting id r by signed is =
+same_told : (a b : Digest) → same_digest a b ≡ true → a ≡ b
+same_told a b same = ap (λ (bytes : List ℕ). let digest : Digest = record { 0 = bytes } in digest) (same_text a.0 b.0 (sym same))
+
+-- a response against which there is no cause is one to the request, and its answers have the digest that it tells
+cause_free : (s : ClientState) (waiting : Signed Ask) (id : ℕ) (answers : Answers) (r : Response) → r.spec.by ≡ Replica (record { 0 = id })
+    → answer_to s.keys (part_of numbers.spec spec_fields r.spec) ≡ seals.Yes → own_in s.me answers ≡ Some r.own → response_cause s waiting id (are_told answers r.spec.stmt) r ≡ None → IsHeldBy s waiting id r
+cause_free s waiting id answers r by signed found is =
     let spec = r.spec.stmt in
-    let by_order : Option Cause = if is_own_order_if s waiting spec r.order then (if is_repeated (kept_of s id) spec then Some causes.Repeat else None) else Some causes.Unmatched in
-    let by_reply : Option Cause = if same_digest (digest_of_answers r.reply) spec.reply then by_order else Some causes.Unmatched in
-    let by_late : Option Cause = if nat_lt waiting.stmt.stamp.0 spec.stamp.0 then Some causes.Unmatched else by_reply in
-    let by_stamp : Option Cause = if nat_lt spec.stamp.0 waiting.stmt.stamp.0 then Some causes.OldStamp else by_late in
-    let own = taken_if (nat_eq spec.client.0 s.me.0) by_stamp causes.Unmatched is in
-    let early = taken_unless (nat_lt spec.stamp.0 waiting.stmt.stamp.0) causes.OldStamp by_late own.1 in
-    let late = taken_unless (nat_lt waiting.stmt.stamp.0 spec.stamp.0) causes.Unmatched by_reply early.1 in
-    let told = taken_if (same_digest (digest_of_answers r.reply) spec.reply) by_order causes.Unmatched late.1 in
+    let by_order : Option Cause = if is_order_of_if spec r.order then (if is_repeated (kept_of s id) spec then Some causes.Repeat else None) else Some causes.Unmatched in
+    let by_told : Option Cause = if are_told answers spec then by_order else Some causes.Unmatched in
+    let by_late : Option Cause = if nat_lt waiting.stmt.stamp.0 r.own.stamp.0 then Some causes.Unmatched else by_told in
+    let early = taken_unless (nat_lt r.own.stamp.0 waiting.stmt.stamp.0) causes.OldStamp by_late is in
+    let late = taken_unless (nat_lt waiting.stmt.stamp.0 r.own.stamp.0) causes.Unmatched by_told early.1 in
+    let told = taken_if (are_told answers spec) by_order causes.Unmatched late.1 in
     let least = ltb-false _ _ early.0 in
     let most = ltb-false _ _ late.0 in
     record {
       by = by;
       signed = signed;
-      client = eqb-true _ _ own.0;
       stamp = omega (arith, least, most);
-      reply = ap (λ (bytes : List ℕ). let digest : Digest = record { 0 = bytes } in digest) (same_text (digest_of_answers r.reply).0 r.spec.stmt.reply.0 (sym told.0));
+      own = record { answers = answers; told = same_told (digest_of_answers answers) spec.answers told.0; found = found };
     }
 
 module _ (s : ClientState) (event : Event) where
   -- a response of this replica, which signed it
-  responds : (wait : Option (Signed Ask)) → s.waiting ≡ wait → (id : ℕ) (r : Response) → r.spec.by ≡ Replica (record { 0 = id })
-      → answer_to s.keys (part_of numbers.spec spec_fields r.spec) ≡ answers.Yes → Comes s event (respond_while s wait id r).state
-  responds None waits id r by signed = same refl
-  responds (Some waiting) waits id r by signed = kept (response_cause s waiting id r) refl
-    where
-      kept : (cause : Option Cause) → response_cause s waiting id r ≡ cause → Comes s event (keep_unless cause s id r).state
-      kept (Some cause) is = same refl
-      kept None is = keeps waiting waits (record { id = id; response = r; held = cause_free s waiting id r by signed is; evidence = evidence_by (keep s id r) r.order; filled = refl })
+  module _ (id : ℕ) (spec : Signed Spec) (answers : Answers) (order : Option (Signed Order)) (by : spec.by ≡ Replica (record { 0 = id }))
+      (signed : answer_to s.keys (part_of numbers.spec spec_fields spec) ≡ seals.Yes) where
+    responds_by : (waiting : Signed Ask) → s.waiting ≡ Some waiting → (own : Option OwnAnswer) → own_in s.me answers ≡ own → Comes s event (respond_by s waiting id (are_told answers spec.stmt) spec order own).state
+    responds_by waiting waits None found = same refl
+    responds_by waiting waits (Some own) found = kept (response_cause s waiting id (are_told answers spec.stmt) r) refl
+      where
+        r : Response
+        r = record { spec = spec; own = own; order = order }
 
-  hears_response : (r : Response) (by : Party) → r.spec.by ≡ by
-      → answer_to s.keys (part_of numbers.spec spec_fields r.spec) ≡ answers.Yes → Comes s event (hear_response s r by).state
+        kept : (cause : Option Cause) → response_cause s waiting id (are_told answers spec.stmt) r ≡ cause → Comes s event (keep_unless cause s id r).state
+        kept (Some cause) is = same refl
+        kept None is = keeps waiting waits (record { id = id; response = r; held = cause_free s waiting id answers r by signed found is; evidence = evidence_by (keep s id r) r.order; filled = refl })
+
+    responds : (wait : Option (Signed Ask)) → s.waiting ≡ wait → Comes s event (respond_while s wait id spec answers order).state
+    responds None waits = same refl
+    responds (Some waiting) waits = responds_by waiting waits (own_in s.me answers) refl
+
+  hears_response : (spec : Signed Spec) (answers : Answers) (order : Option (Signed Order)) (by : Party) → spec.by ≡ by
+      → answer_to s.keys (part_of numbers.spec spec_fields spec) ≡ seals.Yes → Comes s event (hear_response s spec answers order by).state
   unfolding respond
-  hears_response r (Client id) by signed = same refl
-  hears_response r (Replica id) by signed = heard (is_by_primary s r.order)
+  hears_response spec answers order (Client id) by signed = same refl
+  hears_response spec answers order (Replica id) by signed = heard (is_by_primary s order)
     where
-      heard : (primary : Bool) → Comes s event (if primary then respond s id.0 r else refused causes.WrongRole s).state
-      heard true = responds s.waiting refl id.0 r by signed
+      heard : (primary : Bool) → Comes s event (if primary then respond s id.0 spec answers order else refused causes.WrongRole s).state
+      heard true = responds id.0 spec answers order by signed s.waiting refl
       heard false = same refl
 
   -- ---- local commits
 
   module _ (bytes : List ℕ) (is_event : event ≡ Heard bytes) (vote : Signed Local) (frame : frame_in bytes ≡ Ok (frames.LocalCommit vote))
-      (signed : answer_to s.keys (part_of numbers.local local_fields vote) ≡ answers.Yes) (id : ℕ) (by : vote.by ≡ Replica (record { 0 = id })) where
+      (signed : answer_to s.keys (part_of numbers.local local_fields vote) ≡ seals.Yes) (id : ℕ) (by : vote.by ≡ Replica (record { 0 = id })) where
     votes_on : (commit : Commit) → s.commit ≡ Some commit → IsHeardLocal s event commit.spec vote → (answer : Vote) → vote_answer same_local commit.locals vote ≡ answer
         → Comes s event (vote_on s commit vote answer).state
     votes_on commit held heard Repeat is = same refl
@@ -230,7 +239,7 @@ module _ (s : ClientState) (event : Event) where
     counts_local (Some waiting) = beside s.commit refl
 
   hears_local : (bytes : List ℕ) → event ≡ Heard bytes → (vote : Signed Local) → frame_in bytes ≡ Ok (frames.LocalCommit vote)
-      → answer_to s.keys (part_of numbers.local local_fields vote) ≡ answers.Yes → (by : Party) → vote.by ≡ by
+      → answer_to s.keys (part_of numbers.local local_fields vote) ≡ seals.Yes → (by : Party) → vote.by ≡ by
       → Comes s event (if is_replica by then count_local s vote else refused causes.WrongRole s).state
   unfolding count_local
   hears_local bytes is_event vote frame signed (Client id) by = same refl
@@ -239,13 +248,13 @@ module _ (s : ClientState) (event : Event) where
   -- ---- frames
 
   -- a frame whose parts verify
-  hears : (bytes : List ℕ) → event ≡ Heard bytes → (frame : Frame) → frame_in bytes ≡ Ok frame → screen s.keys (parts_of frame) ≡ None → Comes s event (hear s frame).state
-  hears bytes is_event (frames.SpecResponse spec reply order) is clear =
-      hears_response (record { spec = spec; reply = reply; order = order }) spec.by refl (verified_first s.keys _ _ clear)
-  hears bytes is_event (frames.LocalCommit local) is clear = hears_local bytes is_event local is (verified_first s.keys (part_of numbers.local local_fields local) [] clear) local.by refl
+  hears : (bytes : List ℕ) → event ≡ Heard bytes → (frame : Frame) → frame_in bytes ≡ Ok frame → screen s.keys (named_in frame) (parts_of frame) ≡ None → Comes s event (hear s frame).state
+  hears bytes is_event (frames.SpecResponse spec answers order) is clear =
+      hears_response spec answers order spec.by refl (verified_first s.keys None _ _ clear)
+  hears bytes is_event (frames.LocalCommit local) is clear = hears_local bytes is_event local is (verified_first s.keys None (part_of numbers.local local_fields local) [] clear) local.by refl
   hears bytes is_event (frames.Request ask) is clear = same refl
   hears bytes is_event (frames.Order both) is clear = same refl
-  hears bytes is_event (frames.Commit specs) is clear = same refl
+  hears bytes is_event (frames.Commit client specs) is clear = same refl
   hears bytes is_event (frames.ConfirmReq confirm ask) is clear = same refl
   hears bytes is_event (frames.FillHole hole) is clear = same refl
   hears bytes is_event (frames.Hate hate) is clear = same refl
@@ -254,9 +263,9 @@ module _ (s : ClientState) (event : Event) where
 
   hears_bytes : (bytes : List ℕ) → event ≡ Heard bytes → (read : Result Frame FrameFault) → frame_in bytes ≡ read → Comes s event (decoded s read).state
   hears_bytes bytes is_event (Err fault) is = same refl
-  hears_bytes bytes is_event (Ok frame) is = screened (screen s.keys (parts_of frame)) refl
+  hears_bytes bytes is_event (Ok frame) is = screened (screen s.keys (named_in frame) (parts_of frame)) refl
     where
-      screened : (cause : Option Cause) → screen s.keys (parts_of frame) ≡ cause → Comes s event (unless cause s (hear s frame)).state
+      screened : (cause : Option Cause) → screen s.keys (named_in frame) (parts_of frame) ≡ cause → Comes s event (unless cause s (hear s frame)).state
       screened (Some cause) clear = same refl
       screened None clear = hears bytes is_event frame is clear
 
@@ -275,7 +284,7 @@ module _ (s : ClientState) (event : Event) where
 -- frames of a change of view leave all as it was
 hears_view : (s : ClientState) (event : Event) (read : Result ViewFrame FrameFault) → Comes s event (view_decoded s read).state
 hears_view s event (Err fault) = same refl
-hears_view s event (Ok frame) = screened (screen s.keys (view_parts.parts_of frame))
+hears_view s event (Ok frame) = screened (screen s.keys None (view_parts.parts_of frame))
   where
     screened : (cause : Option Cause) → Comes s event (unless cause s (refused causes.WrongRole s)).state
     screened (Some cause) = same refl
@@ -299,15 +308,17 @@ comes s (Timer timers.Change) = same refl
 
 -- ---- what it then holds
 
+carried_own : (s t : ClientState) (spec : Spec) (own : OwnAnswer) → s.me ≡ t.me → IsOwnAnswer s.me spec own → IsOwnAnswer t.me spec own
+carried_own s t spec own me is = subst (λ (c : ClientId). IsOwnAnswer c spec own) me is
+
 -- what is held is told by the request, the keys and the client's number alone
 carried : (s t : ClientState) (waiting : Signed Ask) (id : ℕ) (r : Response) → s.keys ≡ t.keys → s.me ≡ t.me → IsHeldBy s waiting id r → IsHeldBy t waiting id r
 carried s t waiting id r keys me held =
     record {
       by = held.by;
-      signed = subst (λ (k : Keys). answer_to k (part_of numbers.spec spec_fields r.spec) ≡ answers.Yes) keys held.signed;
-      client = held.client ∙ ap (λ (c : ClientId). c.0) me;
+      signed = subst (λ (k : Keys). answer_to k (part_of numbers.spec spec_fields r.spec) ≡ seals.Yes) keys held.signed;
       stamp = held.stamp;
-      reply = held.reply;
+      own = carried_own s t r.spec.stmt r.own me held.own;
     }
 
 -- one more response is kept
@@ -322,9 +333,8 @@ kept_hold s waiting id r new old at q is =
 carried_commit : (s t : ClientState) (waiting : Signed Ask) (commit : Commit) → s.keys ≡ t.keys → s.me ≡ t.me → s.counts ≡ t.counts → IsCommitHeld s waiting commit → IsCommitHeld t waiting commit
 carried_commit s t waiting commit keys me counts held =
     record {
-      client = held.client ∙ ap (λ (c : ClientId). c.0) me;
       stamp = held.stamp;
-      reply = held.reply;
+      own = carried_own s t commit.spec commit.own me held.own;
       wanted = held.wanted ∙ ap (λ (c : Counts). c.local) counts;
       votes = held.votes;
       counted = subst (λ (k : Keys). AllByRecursion (IsCounted k commit.spec) commit.locals.votes) keys held.counted;
@@ -393,9 +403,8 @@ voted_holds s event commit vote v holds =
           let before = holds.commit w commit is v.held in
           subst (λ (c : Commit). IsCommitHeld (counted s commit vote) w c) (same_Some (record commit { locals = pushed commit.locals vote }) after held)
           (record {
-            client = before.client;
             stamp = before.stamp;
-            reply = before.reply;
+            own = before.own;
             wanted = before.wanted;
             votes = votes_pushed commit.locals vote v.after before.votes;
             counted = and_one (IsCounted s.keys commit.spec) commit.locals.votes vote before.counted v.heard.counted;
@@ -426,17 +435,17 @@ locals_on s waiting waits holds spec (Some commit) held = if_same (same_spec com
     if_same false is = no_locals s spec
 
 -- a certificate was sent
-sent_holds : (s : ClientState) (waiting : Signed Ask) → s.waiting ≡ Some waiting → (id : ℕ) (r : Response) → Certifies s id r → Holds s → Holds (send_commit s r.spec.stmt r.reply).state
+sent_holds : (s : ClientState) (waiting : Signed Ask) → s.waiting ≡ Some waiting → (id : ℕ) (r : Response) → Certifies s id r → Holds s → Holds (send_commit s r.spec.stmt r.own).state
 sent_holds s waiting waits id r certified holds =
-    let t : ClientState = (send_commit s r.spec.stmt r.reply).state in
+    let t : ClientState = (send_commit s r.spec.stmt r.own).state in
     record {
       responses = λ w is at q kept. carried s t w at q refl refl (holds.responses w is at q kept);
       commit = λ w after is held.
           let own = holds.responses w is id r certified.kept in
           let locals = locals_on s waiting waits holds.commit r.spec.stmt s.commit refl in
           subst (λ (c : Commit). IsCommitHeld t w c)
-          (same_Some (record { spec = r.spec.stmt; reply = r.reply; locals = locals_for s.counts.local r.spec.stmt s.commit }) after held)
-          (record { client = own.client; stamp = own.stamp; reply = own.reply; wanted = locals.wanted; votes = locals.votes; counted = locals.counted });
+          (same_Some (record { spec = r.spec.stmt; own = r.own; locals = locals_for s.counts.local r.spec.stmt s.commit }) after held)
+          (record { stamp = own.stamp; own = own.own; wanted = locals.wanted; votes = locals.votes; counted = locals.counted });
     }
 
 pub steps_hold : (s : ClientState) (event : Event) → Holds s → Holds (client_step s event).state
@@ -469,7 +478,7 @@ steps_commit s event commit held = from (comes s event)
     from (ends before vote v full is) = absurd (let none : None ≡ Some commit = sym (ap (λ (x : ClientState). x.commit) is) ∙ held in cc)
     from (sends waiting waits id r c is) =
         from_responses id r c.kept c.enough
-        (sym (same_Some (record { spec = r.spec.stmt; reply = r.reply; locals = locals_for s.counts.local r.spec.stmt s.commit }) commit (sym (ap (λ (x : ClientState). x.commit) is) ∙ held)))
+        (sym (same_Some (record { spec = r.spec.stmt; own = r.own; locals = locals_for s.counts.local r.spec.stmt s.commit }) commit (sym (ap (λ (x : ClientState). x.commit) is) ∙ held)))
 
 -- ---- the request is complete where it waits no more
 
@@ -528,4 +537,4 @@ steps_complete s event waiting holds waits ended = from (comes s event)
         (sym (told_waiting k.evidence (completed_if (keep s k.id k.response) k.response)) ∙ sym (ap (λ (x : ClientState). x.waiting) k.filled) ∙ ended)))
     from (votes commit vote v is) = still (counted s commit vote) is refl
     from (ends commit vote v full is) = subst (λ (x : ClientState). IsComplete s event x waiting) (sym is) (voted_completes s event waiting waits commit vote v full holds)
-    from (sends w wait id r c is) = still (send_commit s r.spec.stmt r.reply).state is refl
+    from (sends w wait id r c is) = still (send_commit s r.spec.stmt r.own).state is refl

@@ -23,11 +23,14 @@ use Rattle.zy_parts.specs.declared.signed.Signed.{Signed}
 use Rattle.zy_parts.specs.declared.statements.Ask.{Ask}
 use Rattle.zy_parts.specs.declared.statements.Local.{Local}
 use Rattle.zy_parts.specs.declared.statements.Order.{Order}
+use Rattle.zy_parts.specs.declared.statements.Spec.{Spec}
+use Rattle.zy_chain.specs.Answers.{Answers}
 use Rattle.zy_seal.specs.Screening.{screen}
-use Rattle.zy_table.specs.ClientRows.{ask, ask_or_commit, ask_while, certified_in, client_step, completed_if, count_local, decoded_as, evidence_by, hear, hear_response, is_by_primary, is_for, keep, keep_unless, local_beside, local_while, respond, respond_while, response_cause, run_out, run_out_while, timer, told, unless, view_decoded, vote_on}
+use Rattle.zy_table.specs.ClientRows.{are_told, own_in, respond_by, ask, ask_or_commit, ask_while, certified_in, client_step, completed_if, count_local, decoded_as, evidence_by, hear, hear_response, is_by_primary, is_for, keep, keep_unless, local_beside, local_while, respond, respond_while, response_cause, run_out, run_out_while, timer, told, unless, view_decoded, vote_on}
 use Rattle.zy_table.specs.ClientState.{ClientOutcome, ClientState, signs_left, refused}
 use Rattle.zy_table.specs.Roles.{is_replica}
 use Rattle.zy_table.specs.declared.client.Commit.{Commit}
+use Rattle.zy_table.specs.declared.client.OwnAnswer.{OwnAnswer}
 use Rattle.zy_table.specs.declared.client.Response.{Response}
 use Rattle.zy_vframes.specs.Parts.{parts_of}
 use Rattle.zy_vframes.specs.ViewFrames as views
@@ -69,17 +72,23 @@ module _ (s : ClientState) where
   keep_stays (Some cause) id r = refuses cause
   keep_stays None id r = let kept = keep s id r in told_stays (evidence_by kept r.order) (completed_if kept r)
 
-  respond_stays_while : (waiting : Option (Signed Ask)) (id : ℕ) (r : Response) → Stays (respond_while s waiting id r)
-  respond_stays_while None id r = refuses causes.Finished
-  respond_stays_while (Some waiting) id r = keep_stays (response_cause s waiting id r) id r
+  respond_stays_by : (waiting : Signed Ask) (id : ℕ) (told : Bool) (spec : Signed Spec) (order : Option (Signed Order)) (own : Option OwnAnswer) → Stays (respond_by s waiting id told spec order own)
+  respond_stays_by waiting id told spec order None = refuses causes.Unmatched
+  respond_stays_by waiting id told spec order (Some own) =
+      let r : Response = record { spec = spec; own = own; order = order } in
+      keep_stays (response_cause s waiting id told r) id r
 
-  respond_stays : (id : ℕ) (r : Response) → Stays (respond s id r)
+  respond_stays_while : (waiting : Option (Signed Ask)) (id : ℕ) (spec : Signed Spec) (answers : Answers) (order : Option (Signed Order)) → Stays (respond_while s waiting id spec answers order)
+  respond_stays_while None id spec answers order = refuses causes.Finished
+  respond_stays_while (Some waiting) id spec answers order = respond_stays_by waiting id (are_told answers spec.stmt) spec order (own_in s.me answers)
+
+  respond_stays : (id : ℕ) (spec : Signed Spec) (answers : Answers) (order : Option (Signed Order)) → Stays (respond s id spec answers order)
   unfolding respond
-  respond_stays id r = respond_stays_while s.waiting id r
+  respond_stays id spec answers order = respond_stays_while s.waiting id spec answers order
 
-  response_stays : (r : Response) (by : Party) → Stays (hear_response s r by)
-  response_stays r (Client id) = refuses causes.WrongRole
-  response_stays r (Replica id) = tested (is_by_primary s r.order) _ _ (respond_stays id.0 r) (refuses causes.WrongRole)
+  response_stays : (spec : Signed Spec) (answers : Answers) (order : Option (Signed Order)) (by : Party) → Stays (hear_response s spec answers order by)
+  response_stays spec answers order (Client id) = refuses causes.WrongRole
+  response_stays spec answers order (Replica id) = tested (is_by_primary s order) _ _ (respond_stays id.0 spec answers order) (refuses causes.WrongRole)
 
   -- ---- a local commit
 
@@ -123,11 +132,11 @@ module _ (s : ClientState) where
   -- ---- frames, and events
 
   hear_stays : (frame : Frame) → Stays (hear s frame)
-  hear_stays (frames.SpecResponse spec reply order) = response_stays (record { spec = spec; reply = reply; order = order }) spec.by
+  hear_stays (frames.SpecResponse spec answers order) = response_stays spec answers order spec.by
   hear_stays (frames.LocalCommit local) = tested (is_replica local.by) _ _ (local_stays local) (refuses causes.WrongRole)
   hear_stays (frames.Request ask) = refuses causes.WrongRole
   hear_stays (frames.Order both) = refuses causes.WrongRole
-  hear_stays (frames.Commit specs) = refuses causes.WrongRole
+  hear_stays (frames.Commit client specs) = refuses causes.WrongRole
   hear_stays (frames.ConfirmReq confirm ask) = refuses causes.WrongRole
   hear_stays (frames.FillHole hole) = refuses causes.WrongRole
   hear_stays (frames.Hate hate) = refuses causes.WrongRole
@@ -136,7 +145,7 @@ module _ (s : ClientState) where
 
   view_stays : (read : Result ViewFrame FrameFault) → Stays (view_decoded s read)
   view_stays (Err fault) = refuses (causes.NotFrame fault)
-  view_stays (Ok frame) = unless_stays (screen s.keys (parts_of frame)) _ (refuses causes.WrongRole)
+  view_stays (Ok frame) = unless_stays (screen s.keys None (parts_of frame)) _ (refuses causes.WrongRole)
 
   decoded_stays : (bytes : List ℕ) (read : Result Frame FrameFault) → Stays (decoded_as s bytes read)
   decoded_stays bytes (Err faults.Kind) = view_stays (views.frame_in bytes)
@@ -145,7 +154,7 @@ module _ (s : ClientState) where
   decoded_stays bytes (Err faults.TooLong) = refuses (causes.NotFrame faults.TooLong)
   decoded_stays bytes (Err faults.Trailing) = refuses (causes.NotFrame faults.Trailing)
   decoded_stays bytes (Err faults.Range) = refuses (causes.NotFrame faults.Range)
-  decoded_stays bytes (Ok frame) = unless_stays (screen s.keys (plain.parts_of frame)) _ (hear_stays frame)
+  decoded_stays bytes (Ok frame) = unless_stays (screen s.keys (plain.named_in frame) (plain.parts_of frame)) _ (hear_stays frame)
 
   pub step_stays : (event : Event) → Stays (client_step s event)
   unfolding client_step

@@ -2,6 +2,7 @@ pub mod AttemptAnswers
 pub mod BeginningLemmas
 pub mod ClientRefusals
 pub mod Owed
+pub mod OwnLemmas
 pub mod RangeLemmas
 pub mod Refusals
 pub mod ReportLemmas

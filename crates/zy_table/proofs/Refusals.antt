@@ -16,7 +16,7 @@ use Rattle.zy_base.specs.declared.step.Event.{Event}
 use Rattle.zy_base.specs.declared.step.Event.TheVariants.{Heard, Timer}
 use Rattle.zy_base.specs.declared.step.TimerKind.{TimerKind}
 use Rattle.zy_base.specs.declared.step.TimerKind.TheVariants as timers
-use Rattle.zy_admit.specs.Judging.{entry_of, judge_in, same_digest, ordered_entry, asking}
+use Rattle.zy_admit.specs.Judging.{judge_in, same_digest}
 use Rattle.zy_admit.specs.Orders.{orders_from, stored_in}
 use Rattle.zy_admit.specs.declared.judging.Admit.{Admit}
 use Rattle.zy_admit.specs.declared.judging.Admit.TheVariants as admits
@@ -32,9 +32,11 @@ use Rattle.zy_check.specs.declared.kept.Kept.TheVariants as answers
 use Rattle.zy_exec.specs.Kept.{known_in, last_place, stretch_of}
 use Rattle.zy_exec.specs.declared.known.Known.{Known}
 use Rattle.zy_frames.specs.Frames as plain
+use Rattle.zy_frames.specs.Frames.{entry_in}
 use Rattle.zy_frames.specs.declared.frame.Frame.{Frame}
 use Rattle.zy_frames.specs.declared.frame.Frame.TheVariants as frames
 use Rattle.zy_frames.specs.declared.frame.OrderFrame.{OrderFrame}
+use Rattle.zy_parts.specs.Asks.{asking}
 use Rattle.zy_parts.specs.declared.signed.Signed.{Signed}
 use Rattle.zy_parts.specs.declared.statements.Ask.{Ask}
 use Rattle.zy_parts.specs.declared.statements.Check.{Check}
@@ -58,7 +60,7 @@ use Rattle.zy_table.specs.Holes.{fill_hole, fill_with}
 use Rattle.zy_table.specs.Leaving.{Attempt, concluded, is_overspent}
 use Rattle.zy_table.specs.Misbehaviour.{pom, tell_all}
 use Rattle.zy_table.specs.Orders.{owes_hole, position_of}
-use Rattle.zy_table.specs.Requests.{forward, is_behind, new_request, request, request_after, request_at_backup, respond_as}
+use Rattle.zy_table.specs.Requests.{entry_of, forward, is_behind, new_request, request, request_after, request_at_backup, respond_as}
 use Rattle.zy_table.specs.Roles.{in_role, view_cause}
 use Rattle.zy_table.specs.Running.{signs_of, spec_of}
 use Rattle.zy_table.specs.State.{State, is_leaving, is_primary, signs_left, own_view, pending_of, window_of, spec_said}
@@ -92,9 +94,9 @@ module _ {S : Type 0} (R : Rules S) (s : State S) where
 
   -- ---- requests
 
-  respond_stays : (said : Option (Signed Spec)) (spec : Spec) (known : Known) → Stays (respond_as R s said spec known)
-  respond_stays None spec known = with_left (nat_le 1 (signs_left s)) _ (λ cause is. absurd cc)
-  respond_stays (Some signed) spec known = λ cause is. absurd cc
+  respond_stays : (client : ClientId) (said : Option (Signed Spec)) (spec : Spec) (known : Known) → Stays (respond_as R s client said spec known)
+  respond_stays client None spec known = with_left (nat_le 1 (signs_left s)) _ (λ cause is. absurd cc)
+  respond_stays client (Some signed) spec known = λ cause is. absurd cc
 
   forward_stays : (ask : Signed Ask) → Stays (forward R s ask)
   forward_stays ask = with_left (nat_le 1 (signs_left s)) _ (λ cause is. absurd cc)
@@ -112,9 +114,9 @@ module _ {S : Type 0} (R : Rules S) (s : State S) where
   after_known : (ask : Signed Ask) (known : Option Known) → Stays (request_after R s ask known)
   after_known ask None = new_stays ask
   after_known ask (Some known) =
-      let spec = spec_of (own_view s) (entry_of ask) known in
+      let spec = spec_of (own_view s) known in
       tested (nat_lt ask.stmt.stamp.0 known.stamp.0) _ _ (refuses causes.OldStamp)
-      (tested (nat_eq ask.stmt.stamp.0 known.stamp.0) _ _ (respond_stays (spec_said s spec) spec known) (new_stays ask))
+      (tested (nat_eq ask.stmt.stamp.0 known.stamp.0) _ _ (respond_stays (asking ask.by) (spec_said s spec) spec known) (new_stays ask))
 
   request_stays : (ask : Signed Ask) → Stays (request R s ask)
   unfolding request
@@ -151,15 +153,15 @@ module _ {S : Type 0} (R : Rules S) (s : State S) where
   commit_at specs client (Err cause) = refuses cause
   commit_at specs client (Ok point) = commit_with specs client (local_at point) (head_in (stretch_of s.kept) point.1.0)
 
-  commit_stays : (first : Spec) (specs : List (Signed Spec)) → Stays (commit R s first specs)
+  commit_stays : (client : ClientId) (first : Spec) (specs : List (Signed Spec)) → Stays (commit R s client first specs)
   unfolding commit
-  commit_stays first specs =
+  commit_stays client first specs =
       tested (nat_lt first.place.0 s.orders.base) _ _ (refuses causes.OldPlace)
-      (tested (nat_lt (last_place s.kept) first.place.0) _ _ (refuses (causes.Behind first.place)) (commit_at specs first.client (certified same_spec point_of_spec s.counts.cert specs)))
+      (tested (nat_lt (last_place s.kept) first.place.0) _ _ (refuses (causes.Behind first.place)) (commit_at specs client (certified same_spec point_of_spec s.counts.cert specs)))
 
-  certificate_stays : (specs : List (Signed Spec)) → Stays (commit_in_view R s specs)
-  certificate_stays [] = refuses (causes.TooFew 0)
-  certificate_stays (first ∷ others) = unless_stays (view_cause s first.stmt.view.0) _ (commit_stays first.stmt (first ∷ others))
+  certificate_stays : (client : ClientId) (specs : List (Signed Spec)) → Stays (commit_in_view R s client specs)
+  certificate_stays client [] = refuses (causes.TooFew 0)
+  certificate_stays client (first ∷ others) = unless_stays (view_cause s first.stmt.view.0) _ (commit_stays client first.stmt (first ∷ others))
 
   -- ---- responses and checkpoints
 
@@ -205,7 +207,7 @@ module _ {S : Type 0} (R : Rules S) (s : State S) where
   judged_stays both admits.Evidence =
       let stored = stored_in s.orders both.order.stmt.place.0 in
       finished_stays (tell_all R s both.order stored) (order_ends R s both.order stored)
-  judged_stays both admits.Next = with_left (nat_le (signs_of R s (ordered_entry both)) (signs_left s)) _ (λ cause is. absurd cc)
+  judged_stays both admits.Next = with_left (nat_le (signs_of R s (entry_in both)) (signs_left s)) _ (λ cause is. absurd cc)
   judged_stays both admits.Held = tested (owes_hole s) _ _ (with_left (nat_le 1 (signs_left s)) _ (λ cause is. absurd cc)) (λ cause is. absurd cc)
   judged_stays both (admits.Refused cause) = refuses cause
 
@@ -213,9 +215,9 @@ module _ {S : Type 0} (R : Rules S) (s : State S) where
 
   plain_stays : (frame : Frame) → Stays (plain_row R s frame)
   plain_stays (frames.Request ask) = request_stays ask
-  plain_stays (frames.Order both) = unless_stays (view_cause s both.order.stmt.view.0) _ (judged_stays both (judge_in s.orders both.order.stmt (ordered_entry both) (position_of R s both)))
-  plain_stays (frames.SpecResponse spec reply with_order) = unless_stays (view_cause s spec.stmt.view.0) _ (response_stays spec)
-  plain_stays (frames.Commit specs) = certificate_stays specs
+  plain_stays (frames.Order both) = unless_stays (view_cause s both.order.stmt.view.0) _ (judged_stays both (judge_in s.orders both.order.stmt (entry_in both) (position_of R s both)))
+  plain_stays (frames.SpecResponse spec answers with_order) = unless_stays (view_cause s spec.stmt.view.0) _ (response_stays spec)
+  plain_stays (frames.Commit client specs) = certificate_stays client specs
   plain_stays (frames.LocalCommit local) = refuses causes.WrongRole
   plain_stays (frames.ConfirmReq confirmed ask) = unless_stays (view_cause s confirmed.stmt.view.0) _ (confirm_stays confirmed ask)
   plain_stays (frames.FillHole hole) = unless_stays (view_cause s hole.stmt.view.0) _ (hole_stays hole)
@@ -239,7 +241,7 @@ module _ {S : Type 0} (R : Rules S) (s : State S) where
 
   view_decoded_stays : (read : Result ViewFrame FrameFault) → Stays (view_decoded R s read)
   view_decoded_stays (Err fault) = refuses (causes.NotFrame fault)
-  view_decoded_stays (Ok frame) = unless_stays (screen s.keys (parts_of frame)) _ (hear_view_stays frame)
+  view_decoded_stays (Ok frame) = unless_stays (screen s.keys None (parts_of frame)) _ (hear_view_stays frame)
 
   decoded_stays : (bytes : List ℕ) (read : Result Frame FrameFault) → Stays (decoded_as R s bytes read)
   decoded_stays bytes (Err faults.Kind) = view_decoded_stays (views.frame_in bytes)
@@ -248,7 +250,7 @@ module _ {S : Type 0} (R : Rules S) (s : State S) where
   decoded_stays bytes (Err faults.TooLong) = refuses (causes.NotFrame faults.TooLong)
   decoded_stays bytes (Err faults.Trailing) = refuses (causes.NotFrame faults.Trailing)
   decoded_stays bytes (Err faults.Range) = refuses (causes.NotFrame faults.Range)
-  decoded_stays bytes (Ok frame) = unless_stays (screen s.keys (plain.parts_of frame)) _ (hear_stays frame)
+  decoded_stays bytes (Ok frame) = unless_stays (screen s.keys (plain.named_in frame) (plain.parts_of frame)) _ (hear_stays frame)
 
   -- ---- timers, and events
 

@@ -1,5 +1,5 @@
 -- Running an order: its entry is executed and answered in the same step, and then the orders that were held for it.
-use Rattle.std.specs.Prelude.{ℕ, ◌+◌, nat_lt, nat_le, ◌&&◌, Bool, false, if◌then◌else◌, List, [], ◌∷◌, fold, Option, Some, None}
+use Rattle.std.specs.Prelude.{ℕ, ◌+◌, nat_lt, nat_le, ◌&&◌, Bool, false, if◌then◌else◌, List, [], ◌∷◌, fold, slice_set, slice_index_or, Option, Some, None}
 use Rattle.zy_base.specs.Machine.{Rules}
 use Rattle.zy_base.specs.declared.ids.Digest.{Digest}
 use Rattle.zy_base.specs.declared.ids.Stamp.{Stamp}
@@ -26,7 +26,7 @@ use Rattle.zy_table.specs.declared.deeds.To.TheVariants.{All}
 use Rattle.zy_table.specs.declared.deeds.Body.TheVariants as bodies
 use Rattle.zy_table.specs.declared.deeds.Act.TheVariants.{Says, Gains}
 use Rattle.zy_table.specs.declared.kept.Pending.{Pending}
-use Rattle.zy_table.specs.State.{State, own_view, stood_of, signs_left, spent, with_spec, pending_of, with_pending}
+use Rattle.zy_table.specs.State.{State, own_view, stood_of, signs_left, spent, with_spec}
 use Rattle.zy_table.specs.Deeds.{Going, send, act, to_clients}
 use Rattle.zy_table.specs.Adopting.{got_next}
 use Rattle.zy_table.specs.Gathering.{state_in, spec_at, own_with, with_own_spec, gather, signs_with}
@@ -49,15 +49,19 @@ abbrev pub still_pending : Stamp → Option Pending → Option Pending
 still_pending stamp None = None
 still_pending stamp (Some pending) = if nat_lt stamp.0 pending.ask.stmt.stamp.0 then Some pending else None
 
--- without the request of an item's client that waited, where it isn't newer
-abbrev pub without_pending : {S : Type 0} → State S → Item → State S
-without_pending s i = with_pending s i.client (still_pending i.stamp (pending_of s i.client))
+-- the requests that wait still, once an item was executed: that of its client only where it is newer
+abbrev pub pending_after : List (Option Pending) → Item → List (Option Pending)
+pending_after pending i = slice_set pending i.client.0 (still_pending i.stamp (slice_index_or pending i.client.0 None))
+
+-- without the requests that wait no longer, once the entry was executed
+abbrev pub without_pending : {S : Type 0} → State S → Entry → State S
+without_pending s e = record s { pending = fold pending_after s.pending e.items }
 
 -- the history gets the entry, and the requests of its clients wait no longer
 abbrev pub executed : {S : Type 0} → Rules S → Entry → Going S → Going S
 executed R e g =
     act (Gains (got_next R g.state.kept e))
-    (record g { state = fold without_pending (record g.state { kept = longer g.state.kept e }) e.items })
+    (record g { state = without_pending (record g.state { kept = longer g.state.kept e }) e })
 
 -- the response that is signed
 abbrev pub sealed_spec : {S : Type 0} → State S → Spec → Signed Spec
