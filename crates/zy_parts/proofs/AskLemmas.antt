@@ -1,8 +1,11 @@
--- Requests in a row: each by itself, their bytes, and the entry that they stand for.
-use Rattle.std.proofs.Common.{◌≡◌, ◌≤◌, ◌<◌, ◌^◌, ◌∷◌, ◌++◌, List, [], Bool, true, false, ◌||◌, map, All, subst, sym, ap, ◌∙◌, refl, append_assoc, arith}
-use Rattle.std.specs.List.{AllByRecursion}
-use Rattle.std.proofs.lemmas.List.{map-append}
+-- Requests in a row: each by itself, the bytes that they have, and the entry that they stand for.
+use Rattle.std.proofs.Common.{◌≡◌, ℕ, ◌+◌, ◌≤◌, ◌<◌, ◌^◌, ◌∷◌, ◌++◌, List, [], Bool, false, ◌||◌, nat_eq, length, map, All, subst, sym, ap, ◌∙◌, refl, append_assoc, arith}
+use Rattle.std.specs.List.{AllByRecursion, list_any}
+use Rattle.std.proofs.lemmas.Bool.{or_parts, or_from}
+use Rattle.std.proofs.lemmas.Bool.Decides.{nat_tests}
+use Rattle.std.proofs.lemmas.List.{map-append, length-map}
 use Rattle.std.proofs.lemmas.List.Elements.{All-from_recursion, recursion_from_All}
+use Rattle.std.proofs.lemmas.List.Folds.{list_any-append}
 use Rattle.zy_wire.specs.Spelling.{AreSuccessive}
 use Rattle.zy_wire.proofs.SuccessiveLaws.{AreSuccessive-all}
 use Rattle.zy_chain.specs.declared.item.Item.{Item}
@@ -33,15 +36,22 @@ asks-fit asks range fits = record { least = range.least; most = range.most; each
 
 different : (before : List Item) (i : Item) (behind : List Item) → has_client_twice (before ++ i ∷ behind) ≡ false → has_client before i.client ≡ false
 different [] i behind once = refl
-different (b ∷ before) i behind once = ?
+different (b ∷ before) i behind once =
+    let parts = or_parts (has_client (before ++ i ∷ behind) b.client) (has_client_twice (before ++ i ∷ behind)) once in
+    let split = list_any-append (λ (j : Item). nat_eq j.client.0 b.client.0) before (i ∷ behind) in
+    let none = or_parts (has_client before b.client) (has_client (i ∷ behind) b.client) (sym split ∙ parts.0) in
+    let other = or_parts (nat_eq i.client.0 b.client.0) (has_client behind b.client) none.1 in
+    let turned : nat_eq b.client.0 i.client.0 ≡ false = grind (arith, nat_tests, other.0) in
+    or_from (nat_eq b.client.0 i.client.0) (has_client before i.client) turned (different before i behind parts.1)
 
 next_items : (before asks : List (Signed Ask)) → AreSuccessive IsNextAsk before asks → AllByRecursion (λ a. (asking a.by).0 < 2 ^ 32) asks → has_client_twice (map item_of before ++ map item_of asks) ≡ false
     → AreNextItems (map item_of before) (map item_of asks)
 next_items before [] next small once = tt
 next_items before (a ∷ asks) next small once =
-    let regrouped : map item_of before ++ item_of a ∷ map item_of asks ≡ map item_of (before ++ a ∷ []) ++ map item_of asks = ? in
-    let others = next_items (before ++ a ∷ []) asks next.1 small.1 (subst (λ (all : List Item). has_client_twice all ≡ false) regrouped once) in
-    (
+    let pushed : map item_of (before ++ a ∷ []) ≡ map item_of before ++ item_of a ∷ [] = map-append item_of before (a ∷ []) in
+    let regrouped : map item_of before ++ item_of a ∷ map item_of asks ≡ map item_of (before ++ a ∷ []) ++ map item_of asks =
+    sym (append_assoc (map item_of before) (item_of a ∷ []) (map item_of asks)) ∙ ap (λ (front : List Item). front ++ map item_of asks) (sym pushed) in
+    let others = next_items (before ++ a ∷ []) asks next.1 small.1 (subst (λ (all : List Item). has_client_twice all ≡ false) regrouped once) in (
       record {
         client = small.0;
         different = different (map item_of before) (item_of a) (map item_of asks) once;
@@ -49,9 +59,11 @@ next_items before (a ∷ asks) next small once =
         op = next.0.alone.0.1;
         load = next.0.room;
       },
-      subst (λ (front : List Item). AreNextItems front (map item_of asks)) (map-append item_of before (a ∷ [])) others
+      subst (λ (front : List Item). AreNextItems front (map item_of asks)) pushed others,
     )
 
 -- of different clients
 pub entry-in_range : (asks : List (Signed Ask)) → AreAsksInRange asks → All (λ a. (asking a.by).0 < 2 ^ 32) asks → has_client_twice (map item_of asks) ≡ false → IsEntryInRange (entry_of_asks asks)
-entry-in_range asks range small once = record { least = ?; most = ?; each = next_items [] asks range.each (recursion_from_All _ asks small) once }
+entry-in_range asks range small once =
+    let as_many : length (map item_of asks) ≡ length asks = length-map item_of asks in
+    record { least = omega (arith, range.least); most = omega (arith, range.most); each = next_items [] asks range.each (recursion_from_All _ asks small) once }

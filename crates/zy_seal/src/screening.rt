@@ -9,11 +9,7 @@ use zy_parts::Part;
 /// Why the parts of a frame are refused: first `UnknownParty`, where some signer or the client that the frame names has
 /// no key in the directory, then `BadSignature`, where some signature doesn't verify. Each signature is verified once.
 /// Takes no memory.
-pub fn screen_parts(
-    directory: &Directory,
-    named: Option<ClientId>,
-    parts: &[Part],
-) -> Option<Cause>
+pub fn screen_parts(directory: &Directory, named: Option<ClientId>, parts: &[Part]) -> Option<Cause>
     ensures { result ≡ screen directory.now named parts.now }
 {
     if some_unknown(directory, parts) || is_stranger(directory, named) {
