@@ -1,5 +1,5 @@
 -- What the rows of normal operation can come to. What holds of each of these outcomes holds of each row's.
-use Rattle.std.proofs.Common.{◌≡◌, ℕ, ◌+◌, ◌≤◌, Bool, true, false, List, [], ◌∷◌, Option, Some, None, refl, sym, ap, ◌∙◌, arith, inl, inr, ltb-false, lt-ltb}
+use Rattle.std.proofs.Common.{◌≡◌, ℕ, ◌+◌, ◌≤◌, Bool, true, false, ◌&&◌, List, [], ◌∷◌, Option, Some, None, refl, sym, ap, ◌∙◌, arith, inl, inr, ltb-false, lt-ltb}
 use Rattle.std.specs.Prelude.{option_map, nat_le, nat_lt, nat_eq, if◌then◌else◌, Result, Ok, Err}
 use Rattle.std.proofs.lemmas.Bool.{cases_lt, eqb-false}
 use Rattle.zy_base.specs.Machine.{Rules}
@@ -9,8 +9,10 @@ use Rattle.zy_base.specs.declared.ids.Digest.{Digest}
 use Rattle.zy_base.specs.declared.ids.Party.{Party}
 use Rattle.zy_base.specs.declared.ids.Place.{Place}
 use Rattle.zy_base.specs.declared.ids.View.{View}
+use Rattle.zy_chain.specs.Answers.{Answers}
 use Rattle.zy_chain.specs.Entries.{digest_of_entry, newer}
 use Rattle.zy_chain.specs.Stretch.{head_in}
+use Rattle.zy_chain.specs.declared.entry.Entry.{Entry}
 use Rattle.zy_cert.proofs.CertificateLemmas.{certified-taken}
 use Rattle.zy_cert.specs.Certificates.{IsCertificate, certified}
 use Rattle.zy_cert.specs.Equal.{same_spec, spec-equal, digest-equal}
@@ -23,11 +25,12 @@ use Rattle.zy_check.specs.Board.{Board, specs_at, checks_at}
 use Rattle.zy_check.specs.Judging.{is_refused, judge_spec, judge_check}
 use Rattle.zy_check.specs.declared.kept.Kept.{Kept}
 use Rattle.zy_check.specs.declared.kept.Kept.TheVariants as answers
-use Rattle.zy_admit.specs.Judging.{entry_of, same_digest, asking}
+use Rattle.zy_admit.specs.Judging.{same_digest}
 use Rattle.zy_admit.specs.Orders.{with_order, stored_in}
 use Rattle.zy_frames.specs.declared.frame.Frame.{Frame}
 use Rattle.zy_frames.specs.declared.frame.Frame.TheVariants as frames
 use Rattle.zy_frames.specs.declared.frame.OrderFrame.{OrderFrame}
+use Rattle.zy_parts.specs.Asks.{asking}
 use Rattle.zy_parts.specs.Numbers as numbers
 use Rattle.zy_parts.specs.Statements.{spec_fields}
 use Rattle.zy_parts.specs.declared.signed.Signed.{Signed}
@@ -48,7 +51,7 @@ use Rattle.zy_table.specs.Deeds.{Outcome, begin, refused, ends, act}
 use Rattle.zy_admit.specs.Orders.{orders_from}
 use Rattle.zy_table.specs.Gathering.{checks_owed, gather_at, own_at}
 use Rattle.zy_table.specs.Holes.{fill_with, fill_hole}
-use Rattle.zy_table.specs.Requests.{respond_as, sealed_order, ordered, request_at_primary, request_waits, forward, request_at_backup, tell_primary, new_request, request_after, is_behind, request, response_of}
+use Rattle.zy_table.specs.Requests.{entry_of, respond_as, sealed_order, ordered, request_at_primary, request_waits, forward, request_at_backup, tell_primary, new_request, request_after, is_behind, request, response_of}
 use Rattle.zy_table.specs.Roles.{view_cause}
 use Rattle.zy_table.specs.Running.{run, signs_of, spec_of}
 use Rattle.zy_table.specs.State.{State, own_view, is_leaving, is_primary, window_of, stood_of, signs_left, spent, with_spec, pending_of, spec_said}
@@ -75,17 +78,21 @@ stamp_above a b from other =
 
 -- ---- outcomes
 
-abbrev pub responded : {S : Type 0} → Rules S → State S → Spec → Known → Outcome S
-responded R s spec known =
+abbrev pub responded : {S : Type 0} → Rules S → State S → ClientId → Spec → Known → Outcome S
+responded R s client spec known =
     let signed = sealed_by numbers.spec spec_fields s.sealer spec in
-    ends Taken (response_of s signed known (act (Says (record { body = bodies.Spec spec; stood = stood_of R s })) (begin (with_spec (spent s) signed))))
+    ends Taken (response_of s client signed known (act (Says (record { body = bodies.Spec spec; stood = stood_of R s })) (begin (with_spec R (spent s) signed))))
 
 abbrev pub with_held : {S : Type 0} → State S → OrderFrame → State S
 with_held s o = record s { orders = with_order s.orders o }
 
--- the order of a request, and an order, come with a stamp above the one that is known
-abbrev pub IsNew : {S : Type 0} → Rules S → State S → Signed Ask → Type 0
-IsNew R s ask = is_new_to (now_of R s.kept).known (entry_of ask) ≡ true
+-- each item of an entry has a stamp above the one that is known of its client
+abbrev pub IsNew : {S : Type 0} → Rules S → State S → Entry → Type 0
+IsNew R s e = is_new_to (now_of R s.kept).known e ≡ true
+
+-- so a request's alone
+pub new_alone : {S : Type 0} (R : Rules S) (s : State S) (ask : Signed Ask) → newer ask.stmt.stamp (option_map (λ (known : Known). known.stamp) (known_in R s.kept (asking ask.by).0)) ≡ true → IsNew R s (entry_of ask)
+new_alone R s ask new = ap (λ (b : Bool). b && true) new
 
 -- so many statements can still be signed
 abbrev pub CanSign : {S : Type 0} → State S → ℕ → Type 0
@@ -99,7 +106,7 @@ pub record IsOwnCommit {S : Type 0} (s : State S) (specs : List (Signed Spec)) (
 
 -- a response or a checkpoint that comes is kept, as the first of its signer for its place
 pub data IsPut {S : Type 0} (s : State S) (Heard : Frame → Type 0) (board : Board) : Type 0 where
-  new_spec : (vote : Signed Spec) (reply : List ℕ) (with_order : Option (Signed OrderStatement)) → Heard (frames.SpecResponse vote reply with_order)
+  new_spec : (vote : Signed Spec) (answers : Answers) (with_order : Option (Signed OrderStatement)) → Heard (frames.SpecResponse vote answers with_order)
       → has_signer vote.by (specs_at s.board vote.stmt.place.0) ≡ false → board ≡ put_in.with_spec s.board vote → IsPut s Heard board
   new_check : (vote : Signed Check) → Heard (frames.Checkpoint vote) → has_signer vote.by (checks_at s.board vote.stmt.place.0) ≡ false → board ≡ put_in.with_check s.board vote → IsPut s Heard board
 
@@ -107,10 +114,10 @@ pub data IsPut {S : Type 0} (s : State S) (Heard : Frame → Type 0) (board : Bo
 pub record Cases {S : Type 0} (R : Rules S) (s : State S) (Heard : Frame → Type 0) (P : Outcome S → Type 0) : Type 0 where
   pub refuses : (cause : Cause) → P (refused cause s)
   pub stays : (sent : List Sent) → P (record { answer = Taken; state = s; deeds = record { sent = sent; acts = [] } })
-  pub responds : (ask : Signed Ask) (known : Known) → known_in R s.kept (asking ask.by).0 ≡ Some known → CanSign s 1 → P (responded R s (spec_of (own_view s) (entry_of ask) known) known)
-  pub orders : (ask : Signed Ask) → Heard (frames.Request ask) → is_primary s ≡ true → IsNew R s ask → CanSign s (signs_of R s (entry_of ask) + 1) → P (ends Taken (run R (sealed_order R s ask) (ordered R s ask)))
+  pub responds : (ask : Signed Ask) (known : Known) → known_in R s.kept (asking ask.by).0 ≡ Some known → CanSign s 1 → P (responded R s (asking ask.by) (spec_of (own_view s) known) known)
+  pub orders : (ask : Signed Ask) → Heard (frames.Request ask) → is_primary s ≡ true → IsNew R s (entry_of ask) → CanSign s (signs_of R s (entry_of ask) + 1) → P (ends Taken (run R (sealed_order R s ask) (ordered R s ask)))
   pub waits : (ask : Signed Ask) → CanSign s 1 → P (ends Taken (request_waits R s ask))
-  pub commits : (specs : List (Signed Spec)) (client : ClientId) (local : Local) (said : Option (Signed Local)) (held : Option Certificate) → Heard (frames.Commit specs) → IsOwnCommit s specs local
+  pub commits : (specs : List (Signed Spec)) (client : ClientId) (local : Local) (said : Option (Signed Local)) (held : Option Certificate) → Heard (frames.Commit client specs) → IsOwnCommit s specs local
       → IsFurthest local.place specs s.views.specs held → CanSign s (locals_owed said + checks_owed (holding s held) (own_at R s local.place.0) true)
       → P (ends Taken (gather_at R (own_at R s local.place.0) true (give_local R client local said (holding s held))))
   pub keeps : (board : Board) → IsPut s Heard board → P (ends Held (begin (with_board s board)))
@@ -122,11 +129,11 @@ pub record Cases {S : Type 0} (R : Rules S) (s : State S) (Heard : Frame → Typ
 module _ {S : Type 0} (R : Rules S) (s : State S) (Heard : Frame → Type 0) (P : Outcome S → Type 0) (of : Cases R s Heard P) where
   -- ---- REQUEST
 
-  respond_as_case : (ask : Signed Ask) (known : Known) (signed : Option (Signed Spec)) → known_in R s.kept (asking ask.by).0 ≡ Some known → P (respond_as R s signed (spec_of (own_view s) (entry_of ask) known) known)
+  respond_as_case : (ask : Signed Ask) (known : Known) (signed : Option (Signed Spec)) → known_in R s.kept (asking ask.by).0 ≡ Some known → P (respond_as R s (asking ask.by) signed (spec_of (own_view s) known) known)
   respond_as_case ask known None is = by_test P (nat_le 1 (signs_left s)) _ _ (of.responds ask known is) (λ none. of.refuses causes.KeySpent)
-  respond_as_case ask known (Some signed) is = of.stays (response_of s signed known (begin s)).deeds.sent
+  respond_as_case ask known (Some signed) is = of.stays (response_of s (asking ask.by) signed known (begin s)).deeds.sent
 
-  primary_case : (ask : Signed Ask) → Heard (frames.Request ask) → is_primary s ≡ true → IsNew R s ask → P (request_at_primary R s ask)
+  primary_case : (ask : Signed Ask) → Heard (frames.Request ask) → is_primary s ≡ true → IsNew R s (entry_of ask) → P (request_at_primary R s ask)
   primary_case ask heard primary new =
       by_test P (nat_lt (last_place s.kept) (window_of s)) _ _
       (λ room. by_test P (nat_le (signs_of R s (entry_of ask) + 1) (signs_left s)) _ _ (of.orders ask heard primary new) (λ none. of.refuses causes.KeySpent))
@@ -142,20 +149,20 @@ module _ {S : Type 0} (R : Rules S) (s : State S) (Heard : Frame → Type 0) (P 
       (λ same. of.stays (tell_primary s pending (begin s)).deeds.sent)
       (λ other. forward_case ask)
 
-  new_request_case : (ask : Signed Ask) → Heard (frames.Request ask) → IsNew R s ask → P (new_request R s ask)
+  new_request_case : (ask : Signed Ask) → Heard (frames.Request ask) → IsNew R s (entry_of ask) → P (new_request R s ask)
   new_request_case ask heard new =
       by_test P (is_primary s) _ _ (λ primary. primary_case ask heard primary new) (λ backup. backup_case ask (pending_of s (asking ask.by)))
 
   request_after_case : (ask : Signed Ask) (known : Option Known) → known_in R s.kept (asking ask.by).0 ≡ known → Heard (frames.Request ask) → P (request_after R s ask known)
   request_after_case ask None is heard =
-      new_request_case ask heard (ap (λ (o : Option Known). newer ask.stmt.stamp (option_map (λ (known : Known). known.stamp) o)) is)
+      new_request_case ask heard (new_alone R s ask (ap (λ (o : Option Known). newer ask.stmt.stamp (option_map (λ (known : Known). known.stamp) o)) is))
   request_after_case ask (Some known) is heard =
       by_test P (nat_lt ask.stmt.stamp.0 known.stamp.0) _ _
       (λ old. of.refuses causes.OldStamp)
       (λ from. by_test P (nat_eq ask.stmt.stamp.0 known.stamp.0) _ _
-      (λ same. respond_as_case ask known (spec_said s (spec_of (own_view s) (entry_of ask) known)) is)
-      (λ other. new_request_case ask heard
-      (ap (λ (o : Option Known). newer ask.stmt.stamp (option_map (λ (k : Known). k.stamp) o)) is ∙ stamp_above known.stamp.0 ask.stmt.stamp.0 from other)))
+      (λ same. respond_as_case ask known (spec_said s (spec_of (own_view s) known)) is)
+      (λ other. new_request_case ask heard (new_alone R s ask
+      (ap (λ (o : Option Known). newer ask.stmt.stamp (option_map (λ (k : Known). k.stamp) o)) is ∙ stamp_above known.stamp.0 ask.stmt.stamp.0 from other))))
 
   request_case : (ask : Signed Ask) → Heard (frames.Request ask) → P (request R s ask)
   unfolding request
@@ -188,7 +195,7 @@ module _ {S : Type 0} (R : Rules S) (s : State S) (Heard : Frame → Type 0) (P 
 
   -- ---- COMMIT
 
-  commit_as_case : (specs : List (Signed Spec)) (client : ClientId) (local : Local) (said : Option (Signed Local)) → Heard (frames.Commit specs) → IsOwnCommit s specs local
+  commit_as_case : (specs : List (Signed Spec)) (client : ClientId) (local : Local) (said : Option (Signed Local)) → Heard (frames.Commit client specs) → IsOwnCommit s specs local
       → P (commit_as R s specs client local said (own_at R s local.place.0))
   commit_as_case specs client local said heard own =
       let mine : Option OwnCheckpoint = own_at R s local.place.0 in
@@ -203,7 +210,7 @@ module _ {S : Type 0} (R : Rules S) (s : State S) (Heard : Frame → Type 0) (P 
   same_head : (own head : Digest) → same_digest own head ≡ true → own ≡ head
   same_head own head is = (digest-equal own head).0 is
 
-  commit_beside_case : (specs : List (Signed Spec)) (client : ClientId) (local : Local) (own : Option Digest) → Heard (frames.Commit specs) → local.view.0 ≡ own_view s
+  commit_beside_case : (specs : List (Signed Spec)) (client : ClientId) (local : Local) (own : Option Digest) → Heard (frames.Commit client specs) → local.view.0 ≡ own_view s
       → certified same_spec point_of_spec s.counts.cert specs ≡ Ok (local.view, local.place, local.head) → head_in (stretch_of s.kept) local.place.0 ≡ own → P (commit_beside R s specs client local own)
   commit_beside_case specs client local None heard view proves is = of.refuses (causes.Behind local.place)
   commit_beside_case specs client local (Some own) heard view proves is =
@@ -212,7 +219,7 @@ module _ {S : Type 0} (R : Rules S) (s : State S) (Heard : Frame → Type 0) (P 
       (record { view = view; proves = proves; own = is ∙ ap (λ (d : Digest). Some d) (same_head own local.head same) }))
       (λ other. of.refuses (causes.OtherHistory own local.head))
 
-  commit_judged_case : (specs : List (Signed Spec)) (client : ClientId) (point : Result (View × Place × Digest) Cause) → Heard (frames.Commit specs)
+  commit_judged_case : (specs : List (Signed Spec)) (client : ClientId) (point : Result (View × Place × Digest) Cause) → Heard (frames.Commit client specs)
       → ((p : View × Place × Digest) → point ≡ Ok p → p.0.0 ≡ own_view s) → certified same_spec point_of_spec s.counts.cert specs ≡ point → P (commit_judged R s specs client point)
   commit_judged_case specs client (Err cause) heard view is = of.refuses cause
   commit_judged_case specs client (Ok point) heard view is =
@@ -225,12 +232,12 @@ module _ {S : Type 0} (R : Rules S) (s : State S) (Heard : Frame → Type 0) (P 
       let one : first.stmt ≡ is.stmt = is.equal 0 first (omega arith) in
       ap (λ (spec : Spec). spec.view.0) one ∙ ap (λ (q : View × Place × Digest). q.0.0) is.located
 
-  commit_case : (first : Signed Spec) (others : List (Signed Spec)) → Heard (frames.Commit (first ∷ others)) → first.stmt.view.0 ≡ own_view s → P (commit R s first.stmt (first ∷ others))
+  commit_case : (client : ClientId) (first : Signed Spec) (others : List (Signed Spec)) → Heard (frames.Commit client (first ∷ others)) → first.stmt.view.0 ≡ own_view s → P (commit R s client first.stmt (first ∷ others))
   unfolding commit
-  commit_case first others heard view =
+  commit_case client first others heard view =
       by_test P (nat_lt first.stmt.place.0 s.orders.base) _ _ (λ old. of.refuses causes.OldPlace)
       (λ above. by_test P (nat_lt (last_place s.kept) first.stmt.place.0) _ _ (λ behind. of.refuses (causes.Behind first.stmt.place))
-      (λ inside. commit_judged_case (first ∷ others) first.stmt.client (certified same_spec point_of_spec s.counts.cert (first ∷ others)) heard
+      (λ inside. commit_judged_case (first ∷ others) client (certified same_spec point_of_spec s.counts.cert (first ∷ others)) heard
       (λ p is. sym (first_view first others p is) ∙ view) refl))
 
   -- ---- SPEC-RESPONSE and CHECKPOINT
@@ -241,11 +248,11 @@ module _ {S : Type 0} (R : Rules S) (s : State S) (Heard : Frame → Type 0) (P 
       by_test P (nat_le (checks_owed (with_board s board) (own_at R s place) false) (signs_left s)) _ _ (λ left. of.gathers place board (put refl) left) (λ none. of.refuses causes.KeySpent)
   kept_case place (answers.Refused cause) board put = of.refuses cause
 
-  response_case : (vote : Signed Spec) (reply : List ℕ) (with_order : Option (Signed OrderStatement)) → Heard (frames.SpecResponse vote reply with_order) → P (response R s vote)
+  response_case : (vote : Signed Spec) (answers : Answers) (with_order : Option (Signed OrderStatement)) → Heard (frames.SpecResponse vote answers with_order) → P (response R s vote)
   unfolding response
   response_case vote reply with_order heard =
       let own : Option Spec = option_map (λ (o : OwnCheckpoint). o.spec) (own_at R s vote.stmt.place.0) in
-      kept_case vote.stmt.place.0 (judge_spec s.board vote own) (put_in.with_spec s.board vote) (λ kept. IsPut.new_spec vote reply with_order heard (spec-new s.board vote own kept) refl)
+      kept_case vote.stmt.place.0 (judge_spec s.board vote own) (put_in.with_spec s.board vote) (λ kept. IsPut.new_spec vote answers with_order heard (spec-new s.board vote own kept) refl)
 
   checkpoint_case : (vote : Signed Check) → Heard (frames.Checkpoint vote) → P (checkpoint R s vote)
   unfolding checkpoint
@@ -280,15 +287,15 @@ module _ {S : Type 0} (R : Rules S) (s : State S) (Heard : Frame → Type 0) (P 
   current_view : (view : ℕ) → view_cause s view ≡ None → view ≡ own_view s
   current_view view is = view_is view (own_view s) (is_leaving s) is
 
-  commit_in_view_case : (specs : List (Signed Spec)) → Heard (frames.Commit specs) → P (commit_in_view R s specs)
-  commit_in_view_case [] heard = of.refuses (causes.TooFew 0)
-  commit_in_view_case (first ∷ others) heard =
-      unless_case (view_cause s first.stmt.view.0) (commit R s first.stmt (first ∷ others)) (λ current. commit_case first others heard (current_view first.stmt.view.0 current))
+  commit_in_view_case : (client : ClientId) (specs : List (Signed Spec)) → Heard (frames.Commit client specs) → P (commit_in_view R s client specs)
+  commit_in_view_case client [] heard = of.refuses (causes.TooFew 0)
+  commit_in_view_case client (first ∷ others) heard =
+      unless_case (view_cause s first.stmt.view.0) (commit R s client first.stmt (first ∷ others)) (λ current. commit_case client first others heard (current_view first.stmt.view.0 current))
 
   pub row_case : (frame : Frame) → IsNormal frame → Heard frame → P (plain_row R s frame)
   row_case (frames.Request ask) normal heard = request_case ask heard
-  row_case (frames.SpecResponse spec reply with_order) normal heard = unless_case (view_cause s spec.stmt.view.0) (response R s spec) (λ current. response_case spec reply with_order heard)
-  row_case (frames.Commit specs) normal heard = commit_in_view_case specs heard
+  row_case (frames.SpecResponse spec answers with_order) normal heard = unless_case (view_cause s spec.stmt.view.0) (response R s spec) (λ current. response_case spec answers with_order heard)
+  row_case (frames.Commit client specs) normal heard = commit_in_view_case client specs heard
   row_case (frames.LocalCommit local) normal heard = of.refuses causes.WrongRole
   row_case (frames.ConfirmReq confirmed ask) normal heard =
       unless_case (view_cause s confirmed.stmt.view.0) (confirm R s confirmed ask) (λ current. confirm_case confirmed ask (of.confirms confirmed ask heard))

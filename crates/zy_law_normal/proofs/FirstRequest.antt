@@ -2,7 +2,6 @@
 use Rattle.std.proofs.Common.{◌≡◌, ℕ, ◌%◌, ◌<◌, ◌≤◌, Bool, true, false, List, [], Option, None, refl, ap, ◌∙◌, arith, lt-ltb, le-leb}
 use Rattle.std.proofs.Math.Nat.{mod-eq_of_lt}
 use Rattle.std.specs.Prelude.{nat_eq, nat_lt, if◌then◌else◌}
-use Rattle.zy_admit.specs.Judging.{entry_of, asking}
 use Rattle.zy_base.specs.Machine.{Rules}
 use Rattle.zy_base.specs.declared.cause.Cause.TheVariants as causes
 use Rattle.zy_base.specs.declared.counts.Counts.{Counts}
@@ -14,12 +13,13 @@ use Rattle.zy_law.specs.Steps as law
 use Rattle.zy_law_normal.specs.Acts.{law_acts}
 use Rattle.zy_law_normal.specs.Example.{first_acts}
 use Rattle.zy_law_normal.proofs.Records.{none_of}
+use Rattle.zy_parts.specs.Asks.{asking}
 use Rattle.zy_parts.specs.declared.signed.Signed.{Signed}
 use Rattle.zy_parts.specs.declared.statements.Ask.{Ask}
 use Rattle.zy_seal.specs.Keys.{Keys}
 use Rattle.zy_seal.specs.Sealing.{SealerState}
 use Rattle.zy_table.specs.Deeds.{Outcome, refused}
-use Rattle.zy_table.specs.Requests.{request, request_after, request_at_primary, request_at_backup, is_behind, new_request, take_request}
+use Rattle.zy_table.specs.Requests.{entry_of, request, request_after, request_at_primary, request_at_backup, is_behind, new_request, take_request}
 use Rattle.zy_table.specs.Running.{run_one, run_held}
 use Rattle.zy_table.specs.State.{State, start_of, is_primary, signs_left, pending_of, window_of}
 use Rattle.zy_table.specs.declared.kept.Pending.{Pending}

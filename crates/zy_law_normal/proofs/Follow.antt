@@ -4,10 +4,12 @@ use Rattle.std.proofs.lemmas.List.{length-drop, length-take}
 use Rattle.zy_base.specs.Machine.{Rules}
 use Rattle.zy_base.specs.declared.ids.Digest.{Digest}
 use Rattle.zy_base.specs.declared.ids.Place.{Place}
+use Rattle.zy_chain.specs.Answers.{Answers}
 use Rattle.zy_change.specs.Views.{is_further}
 use Rattle.zy_change.specs.declared.kept.Certificate.{Certificate}
 use Rattle.zy_exec.proofs.ReplayLemmas.{place-along}
 use Rattle.zy_exec.specs.Kept.{Kept, last_place, settled}
+use Rattle.zy_frames.specs.Frames.{entry_in}
 use Rattle.zy_frames.specs.declared.frame.Frame.{Frame}
 use Rattle.zy_frames.specs.declared.frame.OrderFrame.{OrderFrame}
 use Rattle.zy_law_normal.proofs.Committed.{holding}
@@ -18,11 +20,10 @@ use Rattle.zy_parts.specs.declared.statements.Order.{Order}
 use Rattle.zy_parts.specs.declared.statements.Spec.{Spec}
 use Rattle.zy_table.specs.Deeds.{Going, send}
 use Rattle.zy_table.specs.Gathering.{keep_certificate, certificate_at, owes_check, say_check, say_check_if, settled_at, settle_with, proof_at, gather, gather_at, own_with, with_own_spec, state_in}
-use Rattle.zy_table.specs.Running.{executed, next_known, respond, run_one, sealed_spec, share, spec_of}
-use Rattle.zy_table.specs.State.{State, own_view}
+use Rattle.zy_table.specs.Running.{executed, next_answers, next_spec, respond, run_one, sealed_spec, share}
+use Rattle.zy_table.specs.State.{State}
 use Rattle.zy_table.specs.declared.deeds.To.{To}
 use Rattle.zy_table.specs.declared.kept.OwnCheckpoint.{OwnCheckpoint}
-use Rattle.zy_admit.specs.Judging.{ordered_entry}
 
 -- with another state
 abbrev pub in_state : {S : Type 0} → Going S → State S → Going S
@@ -30,7 +31,7 @@ in_state g s = record g { state = s }
 
 pub record Keeps {S : Type 0} (R : Rules S) (P : Going S → Type 0) : Type 0 where
   pub sends : (g : Going S) (to : To) (frame : Frame) → P g → P (send to frame g)
-  pub responds : (g : Going S) (order : Signed Order) (signed : Signed Spec) (reply : List ℕ) → P g → P (respond R order signed reply g)
+  pub responds : (g : Going S) (order : Signed Order) (signed : Signed Spec) (answers : Answers) → P g → P (respond R order signed answers g)
   pub owns : (g : Going S) (own : OwnCheckpoint) (signed : Signed Spec) → P g → P (in_state g (with_own_spec g.state own signed))
   pub holds : (g : Going S) (held : Option Certificate) → P g → P (in_state g (holding g.state held))
   pub checks : (g : Going S) (check : Check) → P g → P (say_check R check g)
@@ -65,21 +66,21 @@ module _ {S : Type 0} (R : Rules S) (P : Going S → Type 0) (keeps : Keeps R P)
   gather_at_keeps None brought g is = is
   gather_at_keeps (Some own) brought g is = gather_keeps own brought g is
 
-  share_keeps : (order : Signed Order) (signed : Signed Spec) (reply : List ℕ) (state : Option Digest) (g : Going S) → P g → P (share R order signed reply state g)
-  share_keeps order signed reply None g is = is
-  share_keeps order signed reply (Some state) g is =
+  share_keeps : (order : Signed Order) (signed : Signed Spec) (answers : Answers) (state : Option Digest) (g : Going S) → P g → P (share R order signed answers state g)
+  share_keeps order signed answers None g is = is
+  share_keeps order signed answers (Some state) g is =
       let told : Going S = send _ _ g in
       gather_keeps (own_with signed.stmt state) false (in_state told (with_own_spec told.state (own_with signed.stmt state) signed))
       (keeps.owns told (own_with signed.stmt state) signed (keeps.sends g _ _ is))
 
   -- an executed entry is answered
-  pub one_keeps : (o : OrderFrame) (g : Going S) → P (executed R (ordered_entry o) g) → P (run_one R o g)
+  pub one_keeps : (o : OrderFrame) (g : Going S) → P (executed R (entry_in o) g) → P (run_one R o g)
   unfolding run_one
   one_keeps o g is =
-      let done : Going S = executed R (ordered_entry o) g in
-      let known = next_known R g.state (ordered_entry o) in
-      let signed : Signed Spec = sealed_spec done.state (spec_of (own_view g.state) (ordered_entry o) known) in
-      share_keeps o.order signed known.reply (state_in R done.state.kept signed.stmt.place.0) (respond R o.order signed known.reply done) (keeps.responds done o.order signed known.reply is)
+      let done : Going S = executed R (entry_in o) g in
+      let answers = next_answers R g.state (entry_in o) in
+      let signed : Signed Spec = sealed_spec done.state (next_spec R g.state (entry_in o)) in
+      share_keeps o.order signed answers (state_in R done.state.kept signed.stmt.place.0) (respond R o.order signed answers done) (keeps.responds done o.order signed answers is)
 
 -- ---- wherever the base moves to, what is kept ends there and stands for the same histories
 

@@ -2,7 +2,6 @@
 use Rattle.std.proofs.Common.{◌+◌, ◌-◌, true, false, List, [], ◌∷◌, ◌++◌, Option, Some, None, refl, sym, subst}
 use Rattle.std.specs.Prelude.{nat_le}
 use Rattle.std.specs.List.{AllByRecursion}
-use Rattle.zy_admit.specs.Judging.{ordered_entry}
 use Rattle.zy_admit.specs.Orders.{slots_above}
 use Rattle.zy_admit.specs.declared.judging.Admit.{Admit}
 use Rattle.zy_admit.specs.declared.judging.Admit.TheVariants as admits
@@ -10,6 +9,7 @@ use Rattle.zy_base.specs.Machine.{Rules}
 use Rattle.zy_base.specs.declared.ids.ClientId.{ClientId}
 use Rattle.zy_change.specs.declared.kept.Certificate.{Certificate}
 use Rattle.zy_exec.specs.Kept.{last_place}
+use Rattle.zy_frames.specs.Frames.{entry_in}
 use Rattle.zy_frames.specs.declared.frame.Frame.{Frame}
 use Rattle.zy_frames.specs.declared.frame.OrderFrame.{OrderFrame}
 use Rattle.zy_law.specs.World.{World}
@@ -24,10 +24,11 @@ use Rattle.zy_parts.specs.declared.signed.Signed.{Signed}
 use Rattle.zy_parts.specs.declared.statements.Local.{Local}
 use Rattle.zy_table.specs.Checkpoints.{with_board}
 use Rattle.zy_table.specs.Commits.{give_local}
+use Rattle.zy_table.specs.Adopting.{got_next}
 use Rattle.zy_table.specs.Deeds.{Going, Outcome, begin, gains_in}
 use Rattle.zy_table.specs.Requests.{ordered, sealed_order}
 use Rattle.zy_table.specs.Gathering.{own_at}
-use Rattle.zy_table.specs.Running.{got_of, run_one, run_held, run, fits_end, signs_of}
+use Rattle.zy_table.specs.Running.{run_one, run_held, run, fits_end, signs_of}
 use Rattle.zy_table.specs.State.{State, signs_left}
 use Rattle.zy_table.specs.Orders.{order_as, owes_hole}
 use Rattle.zy_table.specs.Whole.{plain_row}
@@ -53,16 +54,16 @@ module _ {S : Type 0} (R : Rules S) (w : World) where
   gained_kept =
       record {
         sends = λ g to frame all. all;
-        responds = λ g order signed reply all. gained_said g.deeds.acts _ all;
+        responds = λ g order signed answers all. gained_said g.deeds.acts _ all;
         owns = λ g own signed all. all;
         holds = λ g held all. all;
         checks = λ g check all. gained_said g.deeds.acts _ all;
         settles = λ g place proof all. all;
       }
 
-  one_gained : (o : OrderFrame) (g : Going S) → MayRun w (ordered_entry o) → AreGained g.deeds.acts → AreGained (run_one R o g).deeds.acts
+  one_gained : (o : OrderFrame) (g : Going S) → MayRun w (entry_in o) → AreGained g.deeds.acts → AreGained (run_one R o g).deeds.acts
   one_gained o g may all =
-      one_keeps R (λ g. AreGained g.deeds.acts) gained_kept o g (gained_more g.deeds.acts (got_of R g.state (ordered_entry o)) all (record { run = may; head = refl }))
+      one_keeps R (λ g. AreGained g.deeds.acts) gained_kept o g (gained_more g.deeds.acts (got_next R g.state.kept (entry_in o)) all (record { run = may; head = refl }))
 
   held_gained : (slots : List (Option OrderFrame)) (g : Going S) → AllByRecursion (MaySlotRun w) slots → AreGained g.deeds.acts → AreGained (run_held R slots g).deeds.acts
   unfolding run_held
@@ -70,12 +71,12 @@ module _ {S : Type 0} (R : Rules S) (w : World) where
   held_gained (None ∷ slots) g may all = all
   held_gained (Some o ∷ slots) g may all =
       by_test (λ (g' : Going S). AreGained g'.deeds.acts) (fits_end R g.state o) _ _
-      (λ fits. by_test (λ (g' : Going S). AreGained g'.deeds.acts) (nat_le (signs_of R g.state (ordered_entry o)) (signs_left g.state)) _ _
+      (λ fits. by_test (λ (g' : Going S). AreGained g'.deeds.acts) (nat_le (signs_of R g.state (entry_in o)) (signs_left g.state)) _ _
       (λ left. held_gained slots (run_one R o g) may.1 (one_gained o g may.0 all))
       (λ none. all))
       (λ differs. all)
 
-  run_gained : (o : OrderFrame) (g : Going S) → AllByRecursion (MaySlotRun w) g.state.orders.slots → MayRun w (ordered_entry o) → AreGained g.deeds.acts → AreGained (run R o g).deeds.acts
+  run_gained : (o : OrderFrame) (g : Going S) → AllByRecursion (MaySlotRun w) g.state.orders.slots → MayRun w (entry_in o) → AreGained g.deeds.acts → AreGained (run R o g).deeds.acts
   run_gained o g slots may all =
       held_gained (slots_above (last_place g.state.kept + 1) g.state.orders) (run_one R o g) (slots_from w (last_place g.state.kept + 1 - g.state.orders.base) g.state.orders.slots slots) (one_gained o g may all)
 
@@ -105,9 +106,9 @@ module _ {S : Type 0} (R : Rules S) (w : World) where
     pub row_gained : (frame : Frame) → IsNormal frame → MayFrameRun w frame → Gained (plain_row R s frame)
     row_gained frame normal may = row_case R s (MayFrameRun w) Gained cases frame normal may
 
-    pub order_gained : (o : OrderFrame) → MayRun w (ordered_entry o) → (a : Admit) → Gained (order_as R s o a)
+    pub order_gained : (o : OrderFrame) → MayRun w (entry_in o) → (a : Admit) → Gained (order_as R s o a)
     order_gained o may admits.Next =
-        by_test Gained (nat_le (signs_of R s (ordered_entry o)) (signs_left s)) _ _ (λ left. run_gained o (begin (record (with_held s o) { hole = None })) (slots_put w s.orders o slots may) may tt) (λ none. tt)
+        by_test Gained (nat_le (signs_of R s (entry_in o)) (signs_left s)) _ _ (λ left. run_gained o (begin (record (with_held s o) { hole = None })) (slots_put w s.orders o slots may) may tt) (λ none. tt)
     order_gained o may admits.Held = by_test Gained (owes_hole s) _ _ (λ owes. by_test Gained (nat_le 1 (signs_left s)) _ _ (λ left. tt) (λ none. tt)) (λ asked. tt)
     order_gained o may (admits.Refused cause) = tt
     order_gained o may admits.Evidence = tt

@@ -1,8 +1,8 @@
 -- What is kept to be run, with one more order.
 use Rattle.std.proofs.Common.{ℕ, ◌+◌, ◌-◌, List, [], ◌∷◌, ◌++◌, length, drop, replicate, set, zero, suc, Option, Some, None}
 use Rattle.std.specs.List.{AllByRecursion}
-use Rattle.zy_admit.specs.Judging.{ordered_entry}
 use Rattle.zy_admit.specs.Orders.{Orders, with_order}
+use Rattle.zy_frames.specs.Frames.{entry_in}
 use Rattle.zy_frames.specs.declared.frame.OrderFrame.{OrderFrame}
 use Rattle.zy_law.specs.World.{World}
 use Rattle.zy_law_normal.specs.Tied.{MayRun, MaySlotRun}
@@ -24,7 +24,7 @@ slots_free w [] zero all = tt
 slots_free w [] (suc n) all = (tt, slots_free w [] n tt)
 slots_free w (first ∷ slots) n all = (all.0, slots_free w slots n all.1)
 
-pub slots_put : (v : World) (orders : Orders) (o : OrderFrame) → AllByRecursion (MaySlotRun v) orders.slots → MayRun v (ordered_entry o) → AllByRecursion (MaySlotRun v) (with_order orders o).slots
+pub slots_put : (v : World) (orders : Orders) (o : OrderFrame) → AllByRecursion (MaySlotRun v) orders.slots → MayRun v (entry_in o) → AllByRecursion (MaySlotRun v) (with_order orders o).slots
 slots_put v orders o all may =
     let at = o.order.stmt.place.0 - orders.base - 1 in
     slots_with v (orders.slots ++ replicate (at + 1 - length orders.slots) None) at (Some o) (slots_free v orders.slots (at + 1 - length orders.slots) all) may

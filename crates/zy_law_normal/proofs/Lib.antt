@@ -2,6 +2,7 @@ pub mod Records
 pub mod Own
 pub mod Backing
 pub mod Goes
+pub mod Apart
 pub mod OneEntry
 pub mod Committed
 pub mod KeptVotes

@@ -1,15 +1,16 @@
 -- What a replica says of a place is what its history has there.
 use Rattle.std.proofs.Common.{◌≡◌, ℕ, ◌+◌, ◌-◌, ◌%◌, ◌<◌, ◌≤◌, Bool, true, false, ◌||◌, List, [], ◌∷◌, length, take, drop, zero, suc, Option, Some, None, refl, sym, ap, ◌∙◌, subst, arith}
-use Rattle.std.specs.Prelude.{slice_get, option_map, nat_eq, nat_le, nat_lt, if◌then◌else◌}
+use Rattle.std.specs.Prelude.{slice_get, option_map, nat_eq, nat_lt, if◌then◌else◌}
 use Rattle.std.specs.List.{AllByRecursion}
 use Rattle.std.proofs.lemmas.Bool.{or_parts, ltb-false}
 use Rattle.std.proofs.lemmas.Option.{same_Some}
 use Rattle.zy_base.specs.Machine.{Rules}
 use Rattle.zy_base.specs.declared.ids.Digest.{Digest}
 use Rattle.zy_chain.specs.declared.entry.Entry.{Entry}
+use Rattle.zy_chain.specs.Answers.{Answers}
 use Rattle.zy_chain.specs.Heads.{head_of}
 use Rattle.zy_chain.specs.Places.{head_at}
-use Rattle.zy_chain.specs.Stretch.{head_in, entry_in, end_of}
+use Rattle.zy_chain.specs.Stretch.{head_in, end_of}
 use Rattle.zy_exec.proofs.HistoryLemmas.{stands_after, stands_end, stands_head}
 use Rattle.zy_exec.specs.Kept.{Kept, StandsFor, last_place, reply_in, stretch_of}
 use Rattle.zy_exec.specs.Replay.{Point, origin, along}
@@ -20,7 +21,6 @@ use Rattle.zy_parts.specs.declared.statements.Spec.{Spec}
 use Rattle.zy_table.specs.Gathering.{own_at, own_from, own_with, check_with, spec_at, state_in}
 use Rattle.zy_table.specs.State.{State, own_view}
 use Rattle.zy_table.specs.declared.kept.OwnCheckpoint.{OwnCheckpoint}
-use Rattle.zy_chain.specs.Entries.{IsOfClients}
 
 -- ---- lists and tests
 
@@ -73,15 +73,6 @@ module _ {S : Type 0} (R : Rules S) (k : Kept S) (h : List Entry) (stands : Stan
       let leads : along R (origin R) (take place h) ≡ p = sym (stands_after R k h n stands ∙ ap (λ (m : ℕ). along R (origin R) (take m h)) at) in
       (above, (ltb-false (last_place k) place range.1, ap (λ (q : Point S). digest_of_snapshot (snapshot_of R q)) leads ∙ due (nat_eq (p.place % k.interval) 0) (snapshot_of R p) state there.1))
 
-  entry_told : (b : Bool) (e : Entry) → (if b then None else slice_get k.entries (place - k.base.place - 1)) ≡ Some e → AllByRecursion IsOfClients h → IsOfClients e
-  entry_told true e is clients = absurd cc
-  entry_told false e is clients =
-      at_of IsOfClients (drop k.base.place h) (place - k.base.place - 1) e (all_drop IsOfClients k.base.place h clients)
-      (ap (λ (es : List Entry). slice_get es (place - k.base.place - 1)) (sym stands.others) ∙ is)
-
-  pub client_told : (e : Entry) → entry_in (stretch_of k) place ≡ Some e → AllByRecursion IsOfClients h → IsOfClients e
-  client_told e is clients = entry_told (nat_le place k.base.place) e is clients
-
 -- ---- what is said of it
 
 -- a response in a view, and the digest of the snapshot, are those of the history at the response's place
@@ -91,23 +82,20 @@ pub record IsOwnOf {S : Type 0} (R : Rules S) (view : ℕ) (k : Kept S) (h : Lis
   pub below : spec.place.0 ≤ last_place k
   pub head : head_of (take spec.place.0 h) ≡ spec.head
   pub state_is : state_of R (take spec.place.0 h) ≡ state
-  pub client : spec.client.0 < 64
 
 pub own_checkpoint : {S : Type 0} (R : Rules S) (view : ℕ) (k : Kept S) (h : List Entry) (spec : Spec) (state : Digest) → StandsFor R k h → IsOwnOf R view k h spec state → IsCheckpointOf R h (check_with spec state)
 own_checkpoint R view k h spec state stands own = record { within = omega (arith, own.below, stands_end R k h stands); head = own.head; state = own.state_is }
 
 -- nothing is said of a place, or what is kept has there
 module _ {S : Type 0} (R : Rules S) (s : State S) (place : ℕ) (Q : Option OwnCheckpoint → Type 0) (none : Q None)
-    (some : (e : Entry) (head : Digest) (reply : List ℕ) (state : Digest) → entry_in (stretch_of s.kept) place ≡ Some e → head_in (stretch_of s.kept) place ≡ Some head → state_in R s.kept place ≡ Some state
-    → Q (Some (own_with (spec_at (own_view s) place e head reply) state))) where
-  by_parts : (e : Option Entry) (head : Option Digest) (reply : Option (List ℕ)) (state : Option Digest) → entry_in (stretch_of s.kept) place ≡ e → head_in (stretch_of s.kept) place ≡ head
-      → state_in R s.kept place ≡ state → Q (own_from (own_view s) place e head reply state)
-  by_parts None head reply state at head_is state_is = none
-  by_parts (Some e) None reply state at head_is state_is = none
-  by_parts (Some e) (Some head) None state at head_is state_is = none
-  by_parts (Some e) (Some head) (Some reply) None at head_is state_is = none
-  by_parts (Some e) (Some head) (Some reply) (Some state) at head_is state_is = some e head reply state at head_is state_is
+    (some : (head : Digest) (answers : Answers) (state : Digest) → head_in (stretch_of s.kept) place ≡ Some head → state_in R s.kept place ≡ Some state
+    → Q (Some (own_with (spec_at (own_view s) place head answers) state))) where
+  by_parts : (head : Option Digest) (answers : Option Answers) (state : Option Digest) → head_in (stretch_of s.kept) place ≡ head → state_in R s.kept place ≡ state
+      → Q (own_from (own_view s) place head answers state)
+  by_parts None answers state head_is state_is = none
+  by_parts (Some head) None state head_is state_is = none
+  by_parts (Some head) (Some answers) None head_is state_is = none
+  by_parts (Some head) (Some answers) (Some state) head_is state_is = some head answers state head_is state_is
 
   pub kept_case : Q (own_at R s place)
-  kept_case =
-      by_parts (entry_in (stretch_of s.kept) place) (head_in (stretch_of s.kept) place) (reply_in R s.kept place) (state_in R s.kept place) refl refl refl
+  kept_case = by_parts (head_in (stretch_of s.kept) place) (reply_in R s.kept place) (state_in R s.kept place) refl refl

@@ -6,7 +6,7 @@ use Rattle.zy_chain.specs.declared.entry.Entry.{Entry}
 use Rattle.zy_evidence.specs.Reading.{read, read_by}
 use Rattle.zy_law.specs.Steps as law
 use Rattle.zy_law.specs.Steps.Act.{Say, Move}
-use Rattle.zy_law.specs.World.{Spoken, Stand, Statement, World, Answer}
+use Rattle.zy_law.specs.World.{Spoken, Stand, Statement, World}
 use Rattle.zy_law.specs.World.Statement.{Other}
 use Rattle.zy_parts.specs.declared.reports.Began.{Began}
 use Rattle.zy_parts.specs.declared.reports.Change.{Change}
@@ -23,20 +23,15 @@ use Rattle.zy_table.specs.declared.deeds.Body.{Body}
 use Rattle.zy_table.specs.declared.deeds.Body.TheVariants as bodies
 use Rattle.zy_table.specs.declared.deeds.Got.{Got}
 use Rattle.zy_table.specs.declared.deeds.Remark.{Remark}
-use Rattle.zy_base.specs.declared.ids.Digest.{Digest}
 
 -- ---- what the law reads in a statement
 
 abbrev pub order_statement : Order → Statement
 order_statement order = Statement.Order order.view.0 (record { place = order.place.0; head = order.head }) order.request
 
--- whose request is answered, and the digest of the answers, as one value
-abbrev pub answer_told : ℕ → ℕ → Digest → Answer
-answer_told client stamp answers = record { reply = record { 0 = client ∷ stamp ∷ answers.0 } }
-
 abbrev pub spec_statement : Spec → Statement
 spec_statement spec =
-    Statement.Spec spec.view.0 (record { place = spec.place.0; head = spec.head }) (answer_told spec.client.0 spec.stamp.0 spec.reply)
+    Statement.Spec spec.view.0 (record { place = spec.place.0; head = spec.head }) (record { reply = spec.answers })
 
 abbrev pub local_statement : Local → Statement
 local_statement local = Statement.Local local.view.0 (record { place = local.place.0; head = local.head })

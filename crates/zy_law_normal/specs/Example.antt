@@ -9,16 +9,15 @@ use Rattle.zy_law.specs.Steps as law
 use Rattle.zy_law.specs.Steps.Act.{Say, Move}
 use Rattle.zy_law.specs.World.Statement.{Order, Spec}
 use Rattle.zy_law.specs.World.{Answer}
-use Rattle.zy_exec.specs.Replay.{answers_of}
+use Rattle.zy_exec.specs.Replay.{origin, answers_of}
 use Rattle.zy_chain.specs.Answers.{digest_of_answers}
-use Rattle.zy_law_normal.specs.Acts.{answer_told}
 
 -- the history of one entry
 abbrev pub first_mark : Entry → Mark
 first_mark e = record { place = 1; head = head_of (e ∷ []) }
 
 abbrev pub first_answer : {S : Type 0} → Rules S → Entry → Answer
-first_answer R e = answer_told e.client.0 e.stamp.0 (digest_of_answers (answers_of R R.initial e))
+first_answer R e = record { reply = digest_of_answers (answers_of R (origin R) e) }
 
 -- the order, at the stand with the empty history; the stand with the entry; the response, there
 abbrev pub first_acts : {S : Type 0} → Rules S → Entry → List law.Act

@@ -1,15 +1,14 @@
 -- How a replica's state is tied to what it said and where it stood.
-use Rattle.std.specs.Prelude.{◌≡◌, ◌⊎◌, ℕ, ◌+◌, ◌≤◌, true, false, List, [], length, take, All, Option, Some, None, Contains}
+use Rattle.std.specs.Prelude.{◌≡◌, ℕ, ◌+◌, ◌≤◌, false, List, [], length, take, All, Option, Some, None}
 use Rattle.std.specs.List.{AllByRecursion}
 use Rattle.zy_base.specs.Machine.{Rules}
 use Rattle.zy_base.specs.declared.ids.Digest.{Digest}
 use Rattle.zy_base.specs.declared.ids.Party.{Party}
 use Rattle.zy_base.specs.declared.ids.Party.TheVariants.{Replica, Client}
-use Rattle.zy_chain.specs.Entries.{IsEntryInRange, digest_of_entry, IsOfClients}
+use Rattle.zy_chain.specs.Entries.{IsEntryInRange, IsOfClients, digest_of_entry, has_client_twice}
 use Rattle.zy_chain.specs.Heads.{head_after, head_of}
 use Rattle.zy_chain.specs.Stretch.{Mark}
 use Rattle.zy_chain.specs.declared.entry.Entry.{Entry}
-use Rattle.zy_admit.specs.Judging.{entry_of, ordered_entry}
 use Rattle.zy_change.specs.declared.kept.Certificate.{Certificate}
 use Rattle.zy_check.specs.Board.{Round}
 use Rattle.zy_check.specs.Votes.{IsRising}
@@ -17,9 +16,11 @@ use Rattle.zy_exec.specs.Kept.{StandsFor}
 use Rattle.zy_exec.specs.Replay.{origin, along, answer_at}
 use Rattle.zy_exec.specs.Shots.{digest_of_snapshot}
 use Rattle.zy_exec.specs.Snapshot.{snapshot_of}
+use Rattle.zy_frames.specs.Frames.{entry_in}
 use Rattle.zy_frames.specs.declared.frame.Frame.{Frame}
 use Rattle.zy_frames.specs.declared.frame.Frame.TheVariants as frames
 use Rattle.zy_frames.specs.declared.frame.OrderFrame.{OrderFrame}
+use Rattle.zy_law.specs.Lawful.{IsAsked}
 use Rattle.zy_law.specs.Said.{Says, Stood, IsVouched}
 use Rattle.zy_law.specs.World.{Spoken, Statement, World}
 use Rattle.zy_law.specs.World.Statement.{Order, Change}
@@ -27,25 +28,23 @@ use Rattle.zy_choose.specs.Reports.{PlainReport}
 use Rattle.zy_parts.specs.declared.signed.Signed.{Signed}
 use Rattle.zy_parts.specs.declared.statements.Check.{Check}
 use Rattle.zy_parts.specs.declared.statements.Spec.{Spec}
+use Rattle.zy_table.specs.Requests.{entry_of}
 use Rattle.zy_table.specs.State.{State, own_view, is_leaving}
 use Rattle.zy_table.specs.declared.deeds.Got.{Got}
 use Rattle.zy_chain.specs.Answers.{digest_of_answers, Answers}
-use Rattle.zy_chain.specs.Places.{entry_at}
-use Rattle.zy_law_normal.specs.Acts.{answer_told}
 
 -- ---- heads, digests and replies of the law
 
 abbrev pub next_head : Digest → Entry → Digest
 next_head head e = head_after head (digest_of_entry e)
 
--- what a response says of a history's last entry
-abbrev pub reply_told : Option Entry → Option Answers → Digest
-reply_told None answers = record { 0 = [] }
-reply_told (Some e) None = record { 0 = [] }
-reply_told (Some e) (Some answers) = (answer_told e.client.0 e.stamp.0 (digest_of_answers answers)).reply
+-- what a response tells of the answers to a history's last entry
+abbrev pub reply_told : Option Answers → Digest
+reply_told None = record { 0 = [] }
+reply_told (Some answers) = digest_of_answers answers
 
 abbrev pub last_reply : {S : Type 0} → Rules S → List Entry → Digest
-last_reply R history = reply_told (entry_at history (length history)) (answer_at R history (length history))
+last_reply R history = reply_told (answer_at R history (length history))
 
 -- the digest of the snapshot where a history leads
 abbrev pub state_of : {S : Type 0} → Rules S → List Entry → Digest
@@ -60,15 +59,19 @@ pub record Agrees {S : Type 0} (R : Rules S) (w : World) : Type 0 where
 
 -- ---- what may run
 
--- an entry in its ranges, whose client asked for it or lies
+-- an entry in its ranges, each item of which its client asked for, or the client lies
 pub record MayRun (w : World) (e : Entry) : Type 0 where
-  pub client : IsOfClients e
+  pub clients : IsOfClients e
   pub range : IsEntryInRange e
-  pub asked : (w.lying e.client.0 ≡ true) ⊎ Contains (w.asked e.client.0) e
+  pub asked : All (IsAsked w) e.items
 
 abbrev pub MaySlotRun : World → Option OrderFrame → Type 0
 MaySlotRun w None = Unit {0}
-MaySlotRun w (Some o) = MayRun w (ordered_entry o)
+MaySlotRun w (Some o) = MayRun w (entry_in o)
+
+-- an entry that is judged first: it may run where no two of its items are of one client
+abbrev pub MayRunUnmixed : World → Entry → Type 0
+MayRunUnmixed w e = has_client_twice e.items ≡ false → MayRun w e
 
 -- ---- what may be counted
 
@@ -132,10 +135,10 @@ IsNormal (frames.Hate vote) = ⊥
 IsNormal (frames.Pom first second) = ⊥
 IsNormal _ = Unit {0}
 
--- the request of a frame may be run
+-- what is asked for in a frame may be run
 abbrev pub MayFrameRun : World → Frame → Type 0
 MayFrameRun w (frames.Request ask) = MayRun w (entry_of ask)
-MayFrameRun w (frames.Order both) = MayRun w (ordered_entry both)
+MayFrameRun w (frames.Order both) = MayRunUnmixed w (entry_in both)
 MayFrameRun w (frames.ConfirmReq confirm ask) = MayRun w (entry_of ask)
 MayFrameRun w _ = Unit {0}
 

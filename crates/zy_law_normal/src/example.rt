@@ -1,5 +1,4 @@
 ghost use Rattle.std.specs.Prelude.{◌≡◌, ◌<◌, ◌≤◌, [], true, ℕ};
-ghost use Rattle.zy_admit.specs.Judging.{entry_of};
 ghost use Rattle.zy_base.specs.declared.counts.Counts.{Counts};
 ghost use Rattle.zy_base.specs.declared.ids.ReplicaId.{ReplicaId};
 ghost use Rattle.zy_law_normal.specs.Acts.{law_acts};
@@ -8,7 +7,7 @@ ghost use Rattle.zy_parts.specs.declared.signed.Signed.{Signed};
 ghost use Rattle.zy_parts.specs.declared.statements.Ask.{Ask};
 ghost use Rattle.zy_seal.specs.Keys.{Keys};
 ghost use Rattle.zy_seal.specs.Sealing.{SealerState};
-ghost use Rattle.zy_table.specs.Requests.{request};
+ghost use Rattle.zy_table.specs.Requests.{entry_of, request};
 ghost use Rattle.zy_table.specs.State.{is_primary, signs_left, start_of};
 
 use zy_base::Machine;
