@@ -1,13 +1,15 @@
--- Each correct history was taken entry by entry: each entry was asked for, and is newer than all before of its client.
-use Rattle.std.proofs.Common.{◌≡◌, ◌≢◌, ℕ, zero, suc, ◌+◌, ◌-◌, ◌<◌, ◌≤◌, inl, inr, List, [], ◌∷◌, ◌++◌, length, take, drop, Some, refl, sym, ap, ◌∙◌, subst, arith}
+-- Each correct history was taken entry by entry: the items of each were asked for, and each is newer than all before of its client.
+use Rattle.std.proofs.Common.{◌≡◌, ◌≢◌, ℕ, zero, suc, ◌+◌, ◌-◌, ◌<◌, ◌≤◌, Bool, true, false, eqb, ◌||◌, inl, inr, List, [], ◌∷◌, ◌++◌, length, take, drop, Some, refl, sym, ap, ◌∙◌, subst, arith}
 use Rattle.std.specs.Prelude.{slice_get}
-use Rattle.std.specs.List.{AllPairs}
-use Rattle.std.proofs.lemmas.Bool.{cases_lt}
+use Rattle.std.proofs.lemmas.Bool.{cases_lt, or_parts}
+use Rattle.std.proofs.lemmas.Bool.Decides.{nat_tests}
 use Rattle.std.proofs.lemmas.List.{length-take-le, take-append-drop, take_all}
-use Rattle.std.proofs.lemmas.Option.{get_or_from_slice_get, slice_get_within, same_Some}
+use Rattle.std.proofs.lemmas.Option.{slice_get_within, same_Some}
+use Rattle.zy_base.specs.declared.ids.ClientId.{ClientId}
 use Rattle.zy_base.specs.declared.ids.Stamp.{Stamp}
 use Rattle.zy_chain.specs.declared.entry.Entry.{Entry}
 use Rattle.zy_chain.specs.declared.item.Item.{Item}
+use Rattle.zy_chain.specs.Entries.{has_client, has_client_twice}
 use Rattle.zy_law.specs.Histories.{IsFront, IsEntryAt, IsItemAt, mark_of_all}
 use Rattle.zy_law.specs.World.{Stand, World}
 use Rattle.zy_law.specs.Said.{IsCorrect, Stood, Moment}
@@ -62,11 +64,32 @@ entry_shared place xs ys e same at =
     let here = entry_shorter (take place xs) xs place e (take_front place xs) within at in
     entry_longer (take place ys) ys place e (take_front place ys) (subst (λ (l : List Entry). IsEntryAt l place e) same here)
 
--- two items of one entry are of different clients
-apart : (items : List Item) (index number : ℕ) (i k : Item) → AllPairs (λ a b. a.client ≢ b.client) items → index < number → slice_get items index ≡ Some i → slice_get items number ≡ Some k → i.client ≢ k.client
-apart items index number i k different before first second same =
-    different index number i before (slice_get_within items number k second)
-    (ap (λ (j : Item). j.client) (get_or_from_slice_get items index i i first) ∙ same ∙ sym (ap (λ (j : Item). j.client) (get_or_from_slice_get items number k i second)))
+-- ---- items of one entry
+
+one_number : (n : ℕ) → eqb n n ≡ true
+one_number n = grind (arith, nat_tests)
+
+or_true : (b : Bool) → (b || true) ≡ true
+or_true true = refl
+or_true false = refl
+
+client_at : (items : List Item) (number : ℕ) (k : Item) → slice_get items number ≡ Some k → has_client items k.client ≡ true
+client_at [] number k at = absurd cc
+client_at (j ∷ items) zero k at = subst (λ (x : Item). has_client (j ∷ items) x.client ≡ true) (same_Some j k at) (rw (one_number j.client.0) refl)
+client_at (j ∷ items) (suc number) k at = rw (client_at items number k at) (or_true (eqb j.client.0 k.client.0))
+
+-- two of them are of different clients
+apart : (items : List Item) (index number : ℕ) (i k : Item) → has_client_twice items ≡ false → index < number → slice_get items index ≡ Some i → slice_get items number ≡ Some k → i.client ≢ k.client
+apart [] index number i k once before first second same = absurd cc
+apart (j ∷ items) index zero i k once before first second same = absurd (omega arith)
+apart (j ∷ items) zero (suc number) i k once before first second same =
+    let none : has_client items j.client ≡ false = (or_parts (has_client items j.client) (has_client_twice items) once).0 in
+    let there : has_client items k.client ≡ true = client_at items number k second in
+    let clients : j.client ≡ k.client = ap (λ (x : Item). x.client) (same_Some j i first) ∙ same in
+    let here : has_client items j.client ≡ true = ap (λ (c : ClientId). has_client items c) clients ∙ there in
+    absurd (cc (none, here))
+apart (j ∷ items) (suc index) (suc number) i k once before first second same =
+    apart items index number i k (or_parts (has_client items j.client) (has_client_twice items) once).1 (omega arith) first second same
 
 module _ (w : World) where
   asked_shorter : (xs ys : List Entry) (place : ℕ) (e : Entry) → IsFront xs ys → place ≤ length xs → IsAskedFor w ys place e → IsAskedFor w xs place e

@@ -1,14 +1,12 @@
 -- The small world is lawful, act by act.
-use Rattle.std.proofs.Common.{◌≡◌, ◌≢◌, ℕ, zero, suc, ◌+◌, ◌-◌, ◌%◌, ◌<◌, ◌≤◌, Bool, true, false, not, leb, ltb, ◌&&◌, ◌⊎◌, inl, inr, List, [], ◌∷◌, ◌++◌, length, take, drop, get_or, Some, refl, sym, ap, ◌∙◌, subst, append_assoc, arith, lit<, lit≤}
+use Rattle.std.proofs.Common.{◌≡◌, ℕ, zero, suc, ◌+◌, ◌-◌, ◌%◌, ◌<◌, ◌≤◌, Bool, true, false, not, leb, ltb, ◌&&◌, ◌⊎◌, inl, inr, List, [], ◌∷◌, ◌++◌, length, take, drop, get_or, Some, refl, sym, ap, ◌∙◌, subst, append_assoc, arith, lit<, lit≤}
 use Rattle.std.specs.Prelude.{All, Contains, count_by, flat_map, slice_get}
-use Rattle.std.specs.List.{AllPairs, list_all}
+use Rattle.std.specs.List.{list_all}
 use Rattle.std.proofs.lemmas.Bool.{and_parts, and_right, leb-true, ltb-true, false_from_ne_true}
 use Rattle.std.proofs.lemmas.List.{take_at, drop_at}
 use Rattle.std.proofs.lemmas.List.Elements.{All-nil, All-cons, All-head, All-tail}
-use Rattle.std.proofs.lemmas.List.Kept.{AllPairs-cons}
 use Rattle.std.proofs.lemmas.List.Sums.{sum_by-cons}
 use Rattle.std.proofs.lemmas.Option.{same_Some, slice_get_within}
-use Rattle.zy_base.specs.declared.ids.ClientId.{ClientId}
 use Rattle.zy_base.specs.declared.ids.Digest.{Digest}
 use Rattle.zy_chain.specs.declared.entry.Entry.{Entry}
 use Rattle.zy_chain.specs.declared.item.Item.{Item}
@@ -194,22 +192,6 @@ entry_of_two (suc (suc (suc place))) e at = absurd (past_two place e at.there)
         let within = slice_get_within (first_entry ∷ second_entry ∷ []) (suc (suc (suc place)) - 1) e there in
         omega arith
 
--- the items of an entry are of different clients
-abbrev AreOfDifferent : List Item → Type 0
-AreOfDifferent items = AllPairs (λ i k. i.client ≢ k.client) items
-
-different_none : AreOfDifferent []
-different_none i j d before within = absurd (omega arith)
-
-different_one : (i : Item) → AreOfDifferent (i ∷ [])
-different_one i = AllPairs-cons (λ (a b : Item). a.client ≢ b.client) i [] (All-nil (λ (b : Item). i.client ≢ b.client)) different_none
-
-different_two : AreOfDifferent (item_of 0 1 ∷ item_of 1 1 ∷ [])
-different_two =
-    let apart : (item_of 0 1).client ≢ (item_of 1 1).client = λ same. absurd (omega (arith, ap (λ (c : ClientId). c.0) same)) in
-    AllPairs-cons (λ (a b : Item). a.client ≢ b.client) (item_of 0 1) (item_of 1 1 ∷ [])
-    (All-cons (λ (b : Item). (item_of 0 1).client ≢ b.client) (item_of 1 1) [] apart (All-nil (λ (b : Item). (item_of 0 1).client ≢ b.client))) (different_one (item_of 1 1))
-
 -- both items of the first entry have the first stamp
 first_stamps : All (λ (k : Item). k.stamp.0 < 2) first_entry.items
 first_stamps =
@@ -223,7 +205,7 @@ module _ (w : World) (asks : w.asked ≡ first_asked) where
   asked_first : IsAskedFor w (first_entry ∷ []) 1 first_entry
   asked_first =
       record {
-        different = different_two;
+        different = refl;
         asked =
             All-cons (IsAsked w) (item_of 0 1) (item_of 1 1 ∷ []) (asked_by 0 (item_of 0 1) refl (0, lit< tt, refl))
             (All-cons (IsAsked w) (item_of 1 1) [] (asked_by 1 (item_of 1 1) refl (0, lit< tt, refl)) (All-nil (IsAsked w)));
@@ -233,7 +215,7 @@ module _ (w : World) (asks : w.asked ≡ first_asked) where
   asked_second : IsAskedFor w (first_entry ∷ second_entry ∷ []) 2 second_entry
   asked_second =
       record {
-        different = different_one (item_of 0 2);
+        different = refl;
         asked = All-cons (IsAsked w) (item_of 0 2) [] (asked_by 0 (item_of 0 2) refl (1, lit< tt, refl)) (All-nil (IsAsked w));
         newer = λ earlier index k before at.
             let below : k.stamp.0 < 2 =

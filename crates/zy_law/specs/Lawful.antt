@@ -1,9 +1,9 @@
 -- Lawful conduct: what the correct replicas of a world keep, and what holds of the world besides.
-use Rattle.std.specs.Prelude.{◌≡◌, ◌≢◌, ◌⊎◌, ℕ, ◌+◌, ◌%◌, ◌<◌, ◌≤◌, true, List, [], length, take, drop, Option, Some, None, All, Contains}
-use Rattle.std.specs.List.{AllPairs}
+use Rattle.std.specs.Prelude.{◌≡◌, ◌⊎◌, ℕ, ◌+◌, ◌%◌, ◌<◌, ◌≤◌, true, false, List, [], length, take, drop, Option, Some, None, All, Contains}
 use Rattle.zy_base.specs.declared.ids.Digest.{Digest}
 use Rattle.zy_chain.specs.declared.entry.Entry.{Entry}
 use Rattle.zy_chain.specs.declared.item.Item.{Item}
+use Rattle.zy_chain.specs.Entries.{has_client_twice}
 use Rattle.zy_chain.specs.Heads.{empty_head}
 use Rattle.zy_chain.specs.Stretch.{Mark}
 use Rattle.zy_choose.specs.Choice.{IsChoice}
@@ -156,7 +156,7 @@ IsAsked w i = (w.lying i.client.0 ≡ true) ⊎ Contains (w.asked i.client.0) i
 -- the items of the entry are of different clients; each was asked for, and its stamp is above those of its client's items in
 -- earlier entries
 pub record IsAskedFor (w : World) (history : List Entry) (place : ℕ) (e : Entry) : Type 0 where
-  pub different : AllPairs (λ i k. i.client ≢ k.client) e.items
+  pub different : has_client_twice e.items ≡ false
   pub asked : All (IsAsked w) e.items
   pub newer : (earlier index : ℕ) (k : Item) → earlier < place → IsItemAt history earlier index k → All (λ i. k.client ≡ i.client → k.stamp.0 < i.stamp.0) e.items
 
