@@ -7,7 +7,7 @@ use Rattle.zy_table.specs.declared.deeds.Act.{Act}
 use Rattle.zy_table.specs.declared.deeds.Got.{Got}
 use Rattle.zy_law_views.specs.Texts.{IsKept, Texts}
 
--- the link of an entry that is gained is kept, and so is what it leads to: its reply, and a snapshot that is due there
+-- the link of an entry that is gained is kept, and so is what it leads to: its answers, and a snapshot that is due there
 pub record IsGainKept (w : World) (texts : Texts) (got : Got) : Type 0 where
   pub link : w.kept got.before got.entry ≡ true
   pub reply : IsKept texts got.reply

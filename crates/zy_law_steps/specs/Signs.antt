@@ -9,8 +9,12 @@ use Rattle.zy_base.specs.declared.step.Event.{Event}
 use Rattle.zy_base.specs.declared.step.Event.TheVariants.{Heard, Timer}
 use Rattle.zy_base.specs.declared.step.Spoken.{Spoken}
 use Rattle.zy_admit.specs.Orders.{Orders}
+use Rattle.zy_chain.specs.Answers.{Answers, FitsAnswers}
+use Rattle.zy_chain.specs.Entries.{IsItemInRange}
+use Rattle.zy_chain.specs.declared.entry.Entry.{Entry}
 use Rattle.zy_change.specs.Views.{Views, is_hated_by, own_view}
 use Rattle.zy_check.specs.Board.{Board}
+use Rattle.zy_exec.specs.Kept.{Kept}
 use Rattle.zy_exec.specs.Replay.{Point}
 use Rattle.zy_exec.specs.declared.known.Known.{Known}
 use Rattle.zy_frames.specs.Frames as plain
@@ -18,6 +22,7 @@ use Rattle.zy_frames.specs.declared.frame.Frame.{Frame}
 use Rattle.zy_frames.specs.declared.frame.Frame.TheVariants as frames
 use Rattle.zy_frames.specs.declared.frame.OrderFrame.{OrderFrame}
 use Rattle.zy_law_normal.specs.Tied.{IsRoundOf}
+use Rattle.zy_parts.specs.Asks.{asks_fields}
 use Rattle.zy_parts.specs.Numbers as numbers
 use Rattle.zy_parts.specs.Reports.{began_fields, change_fields, fetch_fields, new_fields}
 use Rattle.zy_parts.specs.Signing.{signed, text_of}
@@ -58,9 +63,9 @@ use Rattle.zy_vframes.specs.declared.frame.ViewFrame.{ViewFrame}
 use Rattle.zy_vframes.specs.declared.frame.ViewFrame.TheVariants as views
 use Rattle.zy_wire.specs.Fields.{FitsList}
 use Rattle.zy_wire.specs.Spelling.{Spelling}
-use Rattle.zy_chain.specs.Answers.{FitsAnswers}
 
--- what is to hold of each kind, of a report and of a new view without what is inside
+-- what is to hold of each kind, of a report and of a new view without what is inside; and of the requests of an order together, of
+-- an entry that is kept, and of answers
 pub record Signs : Type 1 where
   pub ask : Signed Ask → Type 0
   pub order : Signed Order → Type 0
@@ -74,11 +79,14 @@ pub record Signs : Type 1 where
   pub new : Signed New → Type 0
   pub began : Signed Began → Type 0
   pub fetch : Signed Fetch → Type 0
+  pub asks : List (Signed Ask) → Type 0
+  pub entry : Entry → Type 0
+  pub answers : Answers → Type 0
 
 -- ---- what is inside others
 
 abbrev pub OfOrder : Signs → OrderFrame → Type 0
-OfOrder F o = F.order o.order × F.ask o.ask
+OfOrder F o = F.order o.order × F.asks o.asks
 
 abbrev pub OfPending : Signs → Pending → Type 0
 OfPending F p = F.confirm p.confirm × F.ask p.ask
@@ -100,8 +108,8 @@ OfCert F cert = OfNew F cert.new × FitsList F.began 1 16 cert.begans
 abbrev pub OfFrame : Signs → Frame → Type 0
 OfFrame F (frames.Request ask) = F.ask ask
 OfFrame F (frames.Order both) = OfOrder F both
-OfFrame F (frames.SpecResponse spec reply with_order) = F.spec spec × FitsAnswers reply × IfSome with_order F.order
-OfFrame F (frames.Commit specs) = FitsList F.spec 1 16 specs
+OfFrame F (frames.SpecResponse spec answers with_order) = F.spec spec × F.answers answers × IfSome with_order F.order
+OfFrame F (frames.Commit client specs) = FitsList F.spec 1 16 specs
 OfFrame F (frames.LocalCommit local) = F.local local
 OfFrame F (frames.ConfirmReq confirm ask) = F.confirm confirm × F.ask ask
 OfFrame F (frames.FillHole hole) = F.hole hole
@@ -147,14 +155,18 @@ OfOrders F o = AllByRecursion (λ slot. IfSome slot (OfOrder F)) o.slots
 abbrev pub OfBoard : Signs → Board → Type 0
 OfBoard F b = IsRoundOf F.spec F.check b.near × IsRoundOf F.spec F.check b.far × All F.check b.proof
 
--- No reply that it kept is longer than a frame may hold, and its state is one that a machine may have.
-pub record IsShort {S : Type 0} (is_state : S → Type 0) (p : Point S) : Type 0 where
+-- It holds of all answers that are known at a point, and its state is one that a machine may have.
+pub record OfPoint {S : Type 0} (is_state : S → Type 0) (F : Signs) (p : Point S) : Type 0 where
   pub state : is_state p.state
-  pub known : AllByRecursion (λ slot. IfSome slot (λ (known : Known). FitsAnswers known.reply)) p.known
+  pub known : AllByRecursion (λ slot. IfSome slot (λ (known : Known). F.answers known.answers)) p.known
 
--- the snapshots that it fetched, and where what it keeps of its history begins; and it signs as itself
+-- where what it keeps of its history begins, and the entries above that
+abbrev pub OfKept : {S : Type 0} → (S → Type 0) → Signs → Kept S → Type 0
+OfKept is_state F k = OfPoint is_state F k.base × AllByRecursion F.entry k.entries
+
+-- the snapshots that it fetched, and its history; and it signs as itself
 abbrev pub OfBase : {S : Type 0} → (S → Type 0) → Signs → State S → Type 0
-OfBase is_state F s = AllByRecursion F.fetch s.fetches × IsShort is_state s.kept.base × (s.sealer.me ≡ Replica s.me)
+OfBase is_state F s = AllByRecursion F.fetch s.fetches × OfKept is_state F s.kept × (s.sealer.me ≡ Replica s.me)
 
 abbrev pub OfState : {S : Type 0} → (S → Type 0) → Signs → State S → Type 0
 OfState is_state F s =
@@ -198,8 +210,8 @@ OfHeard F (Timer kind) = Unit {0}
 -- the same, where each part of the frame verifies under these keys
 abbrev pub OfVerified : Signs → Keys → Event → Type 0
 OfVerified F keys (Heard bytes) =
-    ((frame : Frame) → plain.frame_in bytes ≡ Ok frame → screen keys (plain.parts_of frame) ≡ None → OfFrame F frame)
-    × ((frame : ViewFrame) → plain.frame_in bytes ≡ Err faults.Kind → view_frames.frame_in bytes ≡ Ok frame → screen keys (view_parts.parts_of frame) ≡ None → OfViewFrame F frame)
+    ((frame : Frame) → plain.frame_in bytes ≡ Ok frame → screen keys (plain.named_in frame) (plain.parts_of frame) ≡ None → OfFrame F frame)
+    × ((frame : ViewFrame) → plain.frame_in bytes ≡ Err faults.Kind → view_frames.frame_in bytes ≡ Ok frame → screen keys None (view_parts.parts_of frame) ≡ None → OfViewFrame F frame)
 OfVerified F keys (Timer kind) = Unit {0}
 
 -- ---- a client
@@ -221,9 +233,17 @@ OfAsks F me asks = AllByRecursion (λ ask. (sealer : SealerState) → sealer.me 
 
 -- ---- of the texts that are signed
 
+-- an entry whose answers can be spelled
+abbrev pub IsAnswerable : Entry → Type 0
+IsAnswerable e = FitsList IsItemInRange 1 16 e.items
+
 -- A signed statement can be spelled, and this holds of its signer and the text that is signed.
 abbrev pub OfText : {A : Type 0} → (Party → List ℕ → Bool) → ℕ → Spelling A → Signed A → Type 0
 OfText p number fields x = (signed fields).Fits x × (p x.by (text_of number fields x.by x.stmt) ≡ true)
+
+-- This holds of the signer and the text that is signed, whether it can be spelled or not.
+abbrev pub OfTextAlone : {A : Type 0} → (Party → List ℕ → Bool) → ℕ → Spelling A → Signed A → Type 0
+OfTextAlone p number fields x = p x.by (text_of number fields x.by x.stmt) ≡ true
 
 abbrev pub OfTexts : (Party → List ℕ → Bool) → Signs
 OfTexts p =
@@ -240,11 +260,10 @@ OfTexts p =
       new = OfText p numbers.new new_fields;
       began = OfText p numbers.began began_fields;
       fetch = OfText p numbers.fetch fetch_fields;
+      asks = λ asks. asks_fields.Fits asks × AllByRecursion (OfTextAlone p numbers.ask ask_fields) asks;
+      entry = IsAnswerable;
+      answers = FitsAnswers;
     }
-
--- This holds of the signer and the text that is signed, whether it can be spelled or not.
-abbrev pub OfTextAlone : {A : Type 0} → (Party → List ℕ → Bool) → ℕ → Spelling A → Signed A → Type 0
-OfTextAlone p number fields x = p x.by (text_of number fields x.by x.stmt) ≡ true
 
 abbrev pub OfTextsAlone : (Party → List ℕ → Bool) → Signs
 OfTextsAlone p =
@@ -261,6 +280,9 @@ OfTextsAlone p =
       new = OfTextAlone p numbers.new new_fields;
       began = OfTextAlone p numbers.began began_fields;
       fetch = OfTextAlone p numbers.fetch fetch_fields;
+      asks = AllByRecursion (OfTextAlone p numbers.ask ask_fields);
+      entry = λ e. Unit {0};
+      answers = λ answers. Unit {0};
     }
 
 -- each statement that is said passes
@@ -278,6 +300,6 @@ DoPass p parts = AllByRecursion (λ part. p part.by part.text ≡ true) parts
 -- and of the frame that the bytes are read as, where each part of it verifies under these keys
 abbrev pub DoVerifiedPass : (Party → List ℕ → Bool) → Keys → Event → Type 0
 DoVerifiedPass p keys (Heard bytes) =
-    ((frame : Frame) → plain.frame_in bytes ≡ Ok frame → screen keys (plain.parts_of frame) ≡ None → DoPass p (plain.parts_of frame))
-    × ((frame : ViewFrame) → plain.frame_in bytes ≡ Err faults.Kind → view_frames.frame_in bytes ≡ Ok frame → screen keys (view_parts.parts_of frame) ≡ None → DoPass p (view_parts.parts_of frame))
+    ((frame : Frame) → plain.frame_in bytes ≡ Ok frame → screen keys (plain.named_in frame) (plain.parts_of frame) ≡ None → DoPass p (plain.parts_of frame))
+    × ((frame : ViewFrame) → plain.frame_in bytes ≡ Err faults.Kind → view_frames.frame_in bytes ≡ Ok frame → screen keys None (view_parts.parts_of frame) ≡ None → DoPass p (view_parts.parts_of frame))
 DoVerifiedPass p keys (Timer kind) = Unit {0}

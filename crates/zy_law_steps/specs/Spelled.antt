@@ -23,12 +23,10 @@ use Rattle.zy_table.specs.declared.deeds.Act.{Act}
 use Rattle.zy_table.specs.declared.deeds.Act.TheVariants.{Says, Gains, Adopts}
 use Rattle.zy_table.specs.declared.deeds.Body.{Body}
 use Rattle.zy_table.specs.declared.deeds.Body.TheVariants as bodies
-use Rattle.zy_law_views.specs.Told.{change_spelled, new_spelled, spec_spelled, with_stmt}
 use Rattle.zy_wire.specs.Fields.{FitsList, FitsOptional, IsParty}
 
 -- ---- what is said
 
--- What can be spelled, of a report with the clients' numbers as they are spelled.
 abbrev pub FitsBody : Body → Type 0
 FitsBody (bodies.Order order) = order_fields.Fits order
 FitsBody (bodies.Spec spec) = spec_fields.Fits spec
@@ -37,8 +35,8 @@ FitsBody (bodies.Confirm confirm) = confirm_fields.Fits confirm
 FitsBody (bodies.Hole hole) = hole_fields.Fits hole
 FitsBody (bodies.Hate hate) = hate_fields.Fits hate
 FitsBody (bodies.Check check) = check_fields.Fits check
-FitsBody (bodies.Change change) = change_fields.Fits (change_spelled change)
-FitsBody (bodies.New new) = new_fields.Fits (new_spelled new)
+FitsBody (bodies.Change change) = change_fields.Fits change
+FitsBody (bodies.New new) = new_fields.Fits new
 FitsBody (bodies.Began began) = began_fields.Fits began
 FitsBody (bodies.Fetch fetch) = fetch_fields.Fits fetch
 
@@ -51,9 +49,9 @@ FitAll (Adopts view common gots ∷ acts) = FitAll acts
 
 -- ---- what others said, with its signer and its signature
 
--- a response, with its client's number as it is spelled
+-- a response
 abbrev pub IsSpecSpelled : Signed Spec → Type 0
-IsSpecSpelled vote = (signed spec_fields).Fits (with_stmt spec_spelled vote)
+IsSpecSpelled vote = (signed spec_fields).Fits vote
 
 -- a checkpoint
 abbrev pub IsCheckSpelled : Signed Check → Type 0
@@ -63,15 +61,15 @@ IsCheckSpelled vote = (signed check_fields).Fits vote
 abbrev pub IsBeganSpelled : Signed Began → Type 0
 IsBeganSpelled vote = (signed began_fields).Fits vote
 
--- a report, with the clients' numbers as they are spelled
+-- a report
 abbrev pub IsChangeSpelled : Signed Change → Type 0
-IsChangeSpelled vote = (signed change_fields).Fits (with_stmt change_spelled vote)
+IsChangeSpelled vote = (signed change_fields).Fits vote
 
 -- ---- what a replica keeps
 
 -- a new view's reports, and the confirmation of what is chosen out of them
 pub record IsChoiceSpelled (new : New) (chosen : Chosen) : Type 0 where
-  pub reports : new_fields.Fits (new_spelled new)
+  pub reports : new_fields.Fits new
   pub began : began_fields.Fits (began_for new.view chosen)
 
 -- a new view that was accepted

@@ -4,6 +4,7 @@ ghost use Rattle.zy_base.specs.declared.ids.Digest.{Digest};
 ghost use Rattle.zy_base.specs.declared.ids.ReplicaId.{ReplicaId};
 ghost use Rattle.zy_base.specs.declared.ids.Party.TheVariants.{Replica};
 ghost use Rattle.zy_chain.specs.declared.entry.Entry.{Entry};
+ghost use Rattle.zy_chain.specs.declared.item.Item.{Item};
 ghost use Rattle.zy_law.specs.Lawful.{IsLawful};
 ghost use Rattle.zy_law.specs.Said.{IsCorrect};
 ghost use Rattle.zy_law.specs.Steps.{IsGrown, IsStart, grown};
@@ -26,5 +27,5 @@ pub fn works_begin<M: Machine>()
     ensures ready { (interval r : ℕ) (w : World) (me : ReplicaId) (counts : Counts) (keys : Keys) (sealer : SealerState) → 0 < interval → w.interval ≡ interval → IsLawful w → IsStart w → Agrees M.rules w → IsCorrect w r → me.0 ≡ r → counts ≡ w.counts → sealer.me ≡ Replica me → IsReady M.rules interval w r (start_of M.rules interval me counts keys sealer) [] }
     ensures start { (interval r : ℕ) (w : World) (me : ReplicaId) (counts : Counts) (keys : Keys) (sealer : SealerState) → IsStart w → IsCorrect w r → me.0 ≡ r → counts ≡ w.counts → IsAtWork interval w r (start_of M.rules interval me counts keys sealer) }
     ensures world { (interval : ℕ) (texts : Texts) (w : World) → IsStart w → Agrees M.rules w → AreLinks w texts → IsWorldOf M.rules interval w texts }
-    ensures grows { (interval r : ℕ) (w : World) (s : State M.State) (asked : ℕ → List Entry) (said : ℕ → List Spoken) (past : ℕ → List Stand) (kept : Digest → Entry → Bool) → IsGrown w asked said past kept → said r ≡ w.said r → past r ≡ w.past r → IsAtWork interval w r s → IsAtWork interval (grown w asked said past kept) r s }
+    ensures grows { (interval r : ℕ) (w : World) (s : State M.State) (asked : ℕ → List Item) (said : ℕ → List Spoken) (past : ℕ → List Stand) (kept : Digest → Entry → Bool) → IsGrown w asked said past kept → said r ≡ w.said r → past r ≡ w.past r → IsAtWork interval w r s → IsAtWork interval (grown w asked said past kept) r s }
 {}

@@ -28,7 +28,7 @@ use Rattle.zy_law_views.proofs.SignedSlots.{signed_more}
 use Rattle.zy_law_views.proofs.TiedGrown.{has_said_last, held_said, held_stood, own_said, parts_said, parts_stood}
 use Rattle.zy_law_views.specs.Held.{IsHeldPart, IsVouchedBy, mark_at}
 use Rattle.zy_law_views.specs.Tied.{IsTied}
-use Rattle.zy_law_views.specs.Told.{check_told, order_told, response_told}
+use Rattle.zy_law_views.specs.Told.{check_told, order_told, spec_told}
 use Rattle.zy_law_views.specs.Cores.{core_of}
 use Rattle.zy_law_views.specs.Work.{IsAtWork, IsRoundHeld, IsSlotSigned, IsWorkTied, Workplace, last_long, workplace_of}
 use Rattle.zy_law_normal.specs.Acts.{answer_told}
@@ -57,7 +57,7 @@ own_held w r y by me correct signer is =
     subst (λ (p : Party). IsVouchedBy (after_saying w r y) y.what p) (sym signer) (subst (λ (n : ℕ). IsVouched (after_saying w r y) y.what n) (sym is) itself)
 
 -- a response to a client that there may be is spelled as it was said
-pub told_alike : (spec : Spec) → spec.client.0 < 64 → Statement.Spec spec.view.0 (mark_at spec.place spec.head) (answer_told spec.client.0 spec.stamp.0 spec.reply) ≡ response_told spec
+pub told_alike : (spec : Spec) → spec.client.0 < 64 → Statement.Spec spec.view.0 (mark_at spec.place spec.head) (answer_told spec.client.0 spec.stamp.0 spec.reply) ≡ spec_told spec
 told_alike spec small =
     ap (λ (n : ℕ). Statement.Spec spec.view.0 (mark_at spec.place spec.head) (answer_told n spec.stamp.0 spec.reply))
     (sym (from_be_bytes-to_be_bytes_4 spec.client.0 (omega arith)))
@@ -72,11 +72,11 @@ may_there w r b e may = record { client = may.client; range = may.range; asked =
 
 round_said : (w : World) (r : ℕ) (y : Spoken) (round : Round) → IsRoundHeld w round → IsRoundHeld (after_saying w r y) round
 round_said w r y round is =
-    record { specs = parts_said w r y response_told round.specs is.specs; specs_rise = is.specs_rise; checks = parts_said w r y check_told round.checks is.checks; checks_rise = is.checks_rise }
+    record { specs = parts_said w r y spec_told round.specs is.specs; specs_rise = is.specs_rise; checks = parts_said w r y check_told round.checks is.checks; checks_rise = is.checks_rise }
 
 round_stood : (w : World) (r : ℕ) (b : Stand) (round : Round) → IsRoundHeld w round → IsRoundHeld (after_standing w r b) round
 round_stood w r b round is =
-    record { specs = parts_stood w r b response_told round.specs is.specs; specs_rise = is.specs_rise; checks = parts_stood w r b check_told round.checks is.checks; checks_rise = is.checks_rise }
+    record { specs = parts_stood w r b spec_told round.specs is.specs; specs_rise = is.specs_rise; checks = parts_stood w r b check_told round.checks is.checks; checks_rise = is.checks_rise }
 
 -- its orders are of places up to a bound, if what it says is
 pub work_said : (interval : ℕ) (w : World) (r : ℕ) (y : Spoken) (low high : ℕ) (p : Workplace) → low ≤ high → ((m : Mark) (request : Digest) → y.what ≡ Statement.Order p.view.0 m request → m.place ≤ high)
@@ -173,7 +173,7 @@ work_begins R interval w r bound b p t list is tied me counts spaced orders near
     let slots = ap (λ (o : Orders). o.slots) orders in
     let none : length t.orders.slots ≡ 0 = ap (λ (l : List (Option OrderFrame)). length l) slots in
     let place = tied.grounded.place in
-    let kept : IsRoundHeld after no_round = none_kept (IsHeldPart after response_told) (IsHeldPart after check_told) in
+    let kept : IsRoundHeld after no_round = none_kept (IsHeldPart after spec_told) (IsHeldPart after check_told) in
     record {
       me = ap (λ (id : ReplicaId). id.0) me ∙ is.me;
       counts = counts ∙ is.counts;

@@ -16,7 +16,7 @@ use Rattle.zy_vframes.specs.Parts.{parts_of_certificate, parts_of_change, parts_
 use Rattle.zy_wire.specs.Fields.{FitsList, FitsOptional}
 use Rattle.zy_wire.specs.Spelling.{Spelling}
 use Rattle.zy_law_views.specs.Held.{AreLinksKept, AreProofsHeld, IsHeldChange, IsHeldPart, IsHonestPart, IsVouchedBy}
-use Rattle.zy_law_views.specs.Told.{began_told, change_spelled, check_told, new_spelled, response_told, spec_spelled, statement_in, told_spelled, with_stmt}
+use Rattle.zy_law_views.specs.Told.{began_told, change_spelled, check_told, new_spelled, spec_told, spec_spelled, statement_in, told_spelled, with_stmt}
 use Rattle.zy_law_views.proofs.Lists.{all_flat, all_left, all_right, all_under}
 use Rattle.zy_law_views.proofs.ReadBack.{began_back, change_back, check_back, spec_back}
 
@@ -39,12 +39,12 @@ module _ (w : World) where
   response_fits specs fit k d within = (all_under (signed spec_fields).Fits (with_stmt spec_spelled) specs fit k d within).1.0
 
   certificate_held : (told : Option (List (Signed Spec))) → ((specs : List (Signed Spec)) → told ≡ Some specs → All (λ x. spec_fields.Fits (spec_spelled x.stmt)) specs)
-      → All (IsHonestPart w) (parts_of_certificate told) → (specs : List (Signed Spec)) → told ≡ Some specs → All (IsHeldPart w response_told) specs
+      → All (IsHonestPart w) (parts_of_certificate told) → (specs : List (Signed Spec)) → told ≡ Some specs → All (IsHeldPart w spec_told) specs
   certificate_held None fit honest specs is = absurd cc
   certificate_held (Some list) fit honest specs is =
       let same : list ≡ specs = cc in
-      subst (λ (l : List (Signed Spec)). All (IsHeldPart w response_told) l) same
-      (list_held numbers.spec spec_fields response_told (λ s. spec_fields.Fits (spec_spelled s)) (λ x fits. spec_back (number_of_party x.by) x.by x.stmt fits) list (fit list refl) honest)
+      subst (λ (l : List (Signed Spec)). All (IsHeldPart w spec_told) l) same
+      (list_held numbers.spec spec_fields spec_told (λ s. spec_fields.Fits (spec_spelled s)) (λ x fits. spec_back (number_of_party x.by) x.by x.stmt fits) list (fit list refl) honest)
 
   -- what can be spelled of a report
   record IsToldFit (t : Told) : Type 0 where
@@ -83,7 +83,7 @@ module _ (w : World) where
   unfolding change_fields
   change_told_fits c fits = fits.1
 
-  pub change_held : (c : Signed Change) → change_fields.Fits (change_spelled c.stmt) → AreLinksKept w c → All (IsHonestPart w) (parts_of_change c) → IsHeldChange w c
+  pub change_held : (c : Signed Change) → change_fields.Fits c.stmt → AreLinksKept w c → All (IsHonestPart w) (parts_of_change c) → IsHeldChange w c
   change_held c fits links honest =
       record {
         signer = subst (λ (s : Statement). IsVouchedBy w s c.by) (change_back (number_of_party c.by) c.by c.stmt fits) (honest 0 (part_of numbers.change change_fields c) (omega arith));
@@ -91,11 +91,11 @@ module _ (w : World) where
         links = links;
       }
 
-  pub changes_fit : (n : New) → new_fields.Fits (new_spelled n) → All (λ c. change_fields.Fits (change_spelled c.stmt)) n.changes
+  pub changes_fit : (n : New) → new_fields.Fits (new_spelled n) → All (λ c. change_fields.Fits c.stmt) n.changes
   unfolding new_fields signed
   changes_fit n fits k d within = (all_under (signed change_fields).Fits (with_stmt change_spelled) n.changes fits.1.each k d within).1.0
 
-  pub changes_held : (n : Signed New) → new_fields.Fits (new_spelled n.stmt) → All (AreLinksKept w) n.stmt.changes → All (IsHonestPart w) (parts_of_new n) → All (IsHeldChange w) n.stmt.changes
+  pub changes_held : (n : Signed New) → new_fields.Fits n.stmt → All (AreLinksKept w) n.stmt.changes → All (IsHonestPart w) (parts_of_new n) → All (IsHeldChange w) n.stmt.changes
   changes_held n fits links honest k d within =
       change_held (get_or n.stmt.changes k d) (changes_fit n.stmt fits k d within) (links k d within)
       (all_flat (IsHonestPart w) parts_of_change n.stmt.changes (λ i e small. honest (suc i) e (omega arith)) k d within)

@@ -33,7 +33,7 @@ use Rattle.zy_law.specs.World.{World}
 use Rattle.zy_parts.specs.declared.signed.Signed.{Signed}
 use Rattle.zy_parts.specs.declared.statements.Spec.{Spec}
 use Rattle.zy_law_views.specs.Held.{AreProofsHeld, IsHeldPart, mark_at}
-use Rattle.zy_law_views.specs.Told.{response_told}
+use Rattle.zy_law_views.specs.Told.{spec_told}
 use Rattle.zy_law_views.specs.Tied.{Core, IsAhead, IsCommitHeld, IsFarEnough, IsTied, change_by, told_by}
 use Rattle.zy_law_views.proofs.ProvenReports.{report_in_order, report_proven}
 
@@ -56,11 +56,11 @@ some_cert : (w : World) → 0 < w.counts.cert
 some_cert w = omega (arith, w.counts.sound.two_certificates, w.counts.sound.certificate_in_reach)
 
 module _ (w : World) (last : View) (history : List Entry) where
-  commit_proven : (o : Option Certificate) → IfSome o (IsCommitHeld w last history) → (specs : List (Signed Spec)) → specs_in o ≡ Some specs → IsSpecProven w.counts last specs × All (IsHeldPart w response_told) specs
+  commit_proven : (o : Option Certificate) → IfSome o (IsCommitHeld w last history) → (specs : List (Signed Spec)) → specs_in o ≡ Some specs → IsSpecProven w.counts last specs × All (IsHeldPart w spec_told) specs
   commit_proven None is specs at = absurd cc
   commit_proven (Some held) is specs at =
       let same : held.specs ≡ specs = cc in
-      subst (λ (l : List (Signed Spec)). IsSpecProven w.counts last l × All (IsHeldPart w response_told) l) same (record { place = held.place; head = is.head; certificate = is.certificate }, is.held)
+      subst (λ (l : List (Signed Spec)). IsSpecProven w.counts last l × All (IsHeldPart w spec_told) l) same (record { place = held.place; head = is.head; certificate = is.certificate }, is.held)
 
   commit_passes : (o : Option Certificate) → IfSome o (IsCommitHeld w last history) → IfSome (spec_of (specs_in o)) (Passes w.next history)
   commit_passes None is = tt

@@ -30,7 +30,7 @@ use Rattle.zy_parts.specs.declared.signed.Signed.{Signed}
 use Rattle.zy_parts.specs.declared.statements.Check.{Check}
 use Rattle.zy_parts.specs.declared.statements.Spec.{Spec}
 use Rattle.zy_law_views.specs.Held.{mark_at, IsHeldPart, IsCertOf, AreProofsHeld, IsHeldChange, IsProperNew}
-use Rattle.zy_law_views.specs.Told.{began_told, change_told, check_told, response_told, spec_spelled}
+use Rattle.zy_law_views.specs.Told.{began_told, change_told, check_told, spec_told, spec_spelled}
 use Rattle.zy_law_views.proofs.Backing.{cert_backed, certificate_held, number_differs, vouched_number}
 use Rattle.zy_law_normal.specs.Acts.{answer_told}
 
@@ -66,14 +66,14 @@ module _ (w : World) where
       subst (λ (s : Digest). IsCertOf w check_told count (check_at s p) list) (state_is count list p state some is states)
       (subst (λ (q : Point). IsCertOf w check_told count (check_at is.stmt.state q) list) is.located (certificate_held w check_told point_of_check count list p is held))
 
-  pub spec_certified : (list : List (Signed Spec)) (p : Point) → IsCertificate point_of_spec w.counts.cert list p → All (IsHeldPart w response_told) list → IsCertified w p.0.0 (mark_at p.1 p.2)
+  pub spec_certified : (list : List (Signed Spec)) (p : Point) → IsCertificate point_of_spec w.counts.cert list p → All (IsHeldPart w spec_told) list → IsCertified w p.0.0 (mark_at p.1 p.2)
   spec_certified list p is held =
       subst (λ (q : Point). IsCertified w q.0.0 (mark_at q.1 q.2)) is.located
-      (answer_in is.stmt, cert_backed w response_told w.counts.cert (response_told is.stmt) list (certificate_held w response_told point_of_spec w.counts.cert list p is held))
+      (answer_in is.stmt, cert_backed w spec_told w.counts.cert (spec_told is.stmt) list (certificate_held w spec_told point_of_spec w.counts.cert list p is held))
 
   -- ---- a report
 
-  first_certified : (view : View) (list : List (Signed Spec)) → IsSpecProven w.counts view list → All (IsHeldPart w response_told) list → IfSome (mark_of_first list) (IsCertified w view.0)
+  first_certified : (view : View) (list : List (Signed Spec)) → IsSpecProven w.counts view list → All (IsHeldPart w spec_told) list → IfSome (mark_of_first list) (IsCertified w view.0)
   first_certified view [] is held = tt
   first_certified view (first ∷ others) is held =
       let cert = is.certificate in
@@ -81,7 +81,7 @@ module _ (w : World) where
       subst (λ (q : Point). IsCertified w view.0 (mark_at q.1 q.2)) (sym here) (spec_certified (first ∷ others) (view, is.place, is.head) cert held)
 
   spec_proven : (view : View) (told : Option (List (Signed Spec))) → ((specs : List (Signed Spec)) → told ≡ Some specs → IsSpecProven w.counts view specs)
-      → ((specs : List (Signed Spec)) → told ≡ Some specs → All (IsHeldPart w response_told) specs) → IfSome (spec_of told) (IsCertified w view.0)
+      → ((specs : List (Signed Spec)) → told ≡ Some specs → All (IsHeldPart w spec_told) specs) → IfSome (spec_of told) (IsCertified w view.0)
   spec_proven view None is held = tt
   spec_proven view (Some specs) is held = first_certified view specs (is specs refl) (held specs refl)
 

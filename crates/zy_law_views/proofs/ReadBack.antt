@@ -28,7 +28,7 @@ use Rattle.zy_parts.specs.declared.statements.Spec.{Spec}
 use Rattle.zy_wire.proofs.Parts.{wide8, wide32, whole_again}
 use Rattle.zy_wire.specs.Fields.{u62, digest, bytes16, party_bytes, party_fields, list_bytes, optional_bytes}
 use Rattle.zy_wire.specs.Spelling.{Spelling, IsBytes, IsExact, bytes_of, whole}
-use Rattle.zy_law_views.specs.Told.{order_told, spec_told, local_told, check_told, began_told, change_told, new_told, told, statement_in, number_spelled, spec_spelled, with_stmt, told_spelled, change_spelled, new_spelled, response_told}
+use Rattle.zy_law_views.specs.Told.{order_told, spec_told, local_told, check_told, began_told, change_told, new_told, told, statement_in, number_spelled, spec_spelled, with_stmt, told_spelled, change_spelled, new_spelled, spec_told}
 
 five : (by : Party) → length (party_bytes by) ≡ 5
 unfolding party_bytes bytes_of
@@ -135,7 +135,7 @@ reads_same (c ∷ changes) = λ i. read_same (number_of_party c.by) c.stmt.told 
 
 -- ---- so they are read back
 
-pub spec_back : (r : ℕ) (by : Party) (spec : Spec) → spec_fields.Fits (spec_spelled spec) → statement_in r (text_of numbers.spec spec_fields by spec) ≡ response_told spec
+pub spec_back : (r : ℕ) (by : Party) (spec : Spec) → spec_fields.Fits (spec_spelled spec) → statement_in r (text_of numbers.spec spec_fields by spec) ≡ spec_told spec
 unfolding statement_in text_of
 spec_back r by spec fits = told_back numbers.spec spec_fields spec-exact by spec spec_told (spec_spelled spec) fits (spec_same spec)
 

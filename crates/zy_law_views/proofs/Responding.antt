@@ -43,7 +43,7 @@ use Rattle.zy_law_views.proofs.InView.{says_response}
 use Rattle.zy_law_views.proofs.RunningOn.{kept_passes}
 use Rattle.zy_law_views.specs.Held.{IsHeldPart, IsVouchedBy}
 use Rattle.zy_law_views.specs.Tied.{Core, IsTied, said_now}
-use Rattle.zy_law_views.specs.Told.{check_told, response_told}
+use Rattle.zy_law_views.specs.Told.{check_told, spec_told}
 use Rattle.zy_law_views.proofs.AtWork.{own_held, told_alike, work_board, works_said}
 use Rattle.zy_law_views.proofs.Leaves.{IsOnWay, said_more}
 use Rattle.zy_law_views.specs.Cores.{core_of}
@@ -167,12 +167,12 @@ module _ {S : Type 0} (R : Rules S) (interval : ℕ) (w : World) (r : ℕ) (s : 
         let y : Spoken = said_now is.way.world r (spec_statement own.spec) in
         let after : World = after_saying is.way.world r y in
         let still = works_said interval is.way.world r y g.state (λ v m request told. absurd cc) work in
-        let held : IsHeldPart after response_told signed =
+        let held : IsHeldPart after spec_told signed =
         subst (λ (t : Statement). IsVouchedBy after t signed.by) (told_alike own.spec (client_small g.state.kept place e entry_there tied.grounded.clients))
         (own_held is.way.world r y signed.by g.state.views.me is.way.correct is.way.signer tied.standing.me) in
-        let rounds : AreKeptOf (IsHeldPart after response_told) (IsHeldPart after check_told) (after_spec (without_others g.state.board own.spec own.check) signed (Some own.spec)) =
-        after_spec_kept (IsHeldPart after response_told) (IsHeldPart after check_told) (without_others g.state.board own.spec own.check) signed (Some own.spec)
-        (without_others_kept (IsHeldPart after response_told) (IsHeldPart after check_told) g.state.board own.spec own.check (record { near = still.near; far = still.far })) held in
+        let rounds : AreKeptOf (IsHeldPart after spec_told) (IsHeldPart after check_told) (after_spec (without_others g.state.board own.spec own.check) signed (Some own.spec)) =
+        after_spec_kept (IsHeldPart after spec_told) (IsHeldPart after check_told) (without_others g.state.board own.spec own.check) signed (Some own.spec)
+        (without_others_kept (IsHeldPart after spec_told) (IsHeldPart after check_told) g.state.board own.spec own.check (record { near = still.near; far = still.far })) held in
         work_board interval after r _ (workplace_of g.state) (after_spec (without_others g.state.board own.spec own.check) signed (Some own.spec)) still rounds.near rounds.far)
 
     responded : IsInView (respond_to R (own_at R g.state place) (reply_in R g.state.kept place) g)

@@ -33,7 +33,7 @@ use Rattle.zy_law_views.proofs.ProvenReports.{spec_certified}
 use Rattle.zy_law_views.proofs.TieKept.{may_run, tied_at_start, tied_holding, tied_run, tied_settled}
 use Rattle.zy_law_views.specs.Held.{IsHeldPart, IsVouchedBy, mark_at}
 use Rattle.zy_law_views.specs.Tied.{Core, IsCommitHeld, IsFarEnough, IsGrounded, IsTied, SaysLawfully, ran_with, said_now, settled_with}
-use Rattle.zy_law_views.specs.Told.{check_told, response_told}
+use Rattle.zy_law_views.specs.Told.{check_told, spec_told}
 use Rattle.zy_law_views.proofs.AtWork.{told_alike}
 use Rattle.zy_law_views.proofs.Changing.{IsStage, Setting, all_three, apart, correct_one, others_stand, said_stage, start, three_differ, with_core, world_of}
 use Rattle.zy_law_views.proofs.FirstEntry.{first_linked, first_runs, one_link}
@@ -229,7 +229,7 @@ module _ {S : Type 0} (R : Rules S) where
   lies : (w : World) (s : Statement) → w.liar 3 ≡ true → 3 < w.counts.n → IsVouchedBy w s (Replica (id_of 3))
   lies w s liar within = record { within = within; said = inl liar }
 
-  alike : response ≡ response_told spec_1
+  alike : response ≡ spec_told spec_1
   alike = told_alike spec_1 (omega arith)
 
   certificate_1 : IsCertificate point_of_spec 3 specs_1 (view_0, place_1, head_1)
@@ -243,14 +243,14 @@ module _ {S : Type 0} (R : Rules S) where
       }
 
   -- wherever the two said so first
-  held_in : (w : World) → w.counts.n ≡ 4 → w.liar 3 ≡ true → slice_get (w.said 0) 0 ≡ Some (said_now world_2 0 response) → slice_get (w.said 1) 0 ≡ Some (said_now world_3 1 response) → All (IsHeldPart w response_told) specs_1
+  held_in : (w : World) → w.counts.n ≡ 4 → w.liar 3 ≡ true → slice_get (w.said 0) 0 ≡ Some (said_now world_2 0 response) → slice_get (w.said 1) 0 ≡ Some (said_now world_3 1 response) → All (IsHeldPart w spec_told) specs_1
   held_in w four liar first second =
-      all_three (IsHeldPart w response_told) (spec_by 0) (spec_by 1) (spec_by 3)
-      (vouched w 0 0 (said_now world_2 0 response) (response_told spec_1) (omega (arith, four)) first alike)
-      (vouched w 1 0 (said_now world_3 1 response) (response_told spec_1) (omega (arith, four)) second alike)
-      (lies w (response_told spec_1) liar (omega (arith, four)))
+      all_three (IsHeldPart w spec_told) (spec_by 0) (spec_by 1) (spec_by 3)
+      (vouched w 0 0 (said_now world_2 0 response) (spec_told spec_1) (omega (arith, four)) first alike)
+      (vouched w 1 0 (said_now world_3 1 response) (spec_told spec_1) (omega (arith, four)) second alike)
+      (lies w (spec_told spec_1) liar (omega (arith, four)))
 
-  held_4 : All (IsHeldPart world_4 response_told) specs_1
+  held_4 : All (IsHeldPart world_4 spec_told) specs_1
   held_4 = held_in world_4 refl refl refl refl
 
   commit_4 : IsCommitHeld world_4 view_0 list_1 cert_1
@@ -293,7 +293,7 @@ module _ {S : Type 0} (R : Rules S) where
       says_stage setting_4 world_4 (start R 1 setting_4) stage_held 0 (omega arith) checkpoint
       (says_checkpoint R 1 world_4 stage_held.lawful 0 (stage_held.correct 0 (omega arith)) (start R 1 setting_4 0) list_1 (stage_held.tied 0 (omega arith)) view_0 refl m_1 (state_of R list_1) (passes_there world_4 refl) certified_4 far_1 refl)
 
-  held_5 : All (IsHeldPart world_5 response_told) specs_1
+  held_5 : All (IsHeldPart world_5 spec_told) specs_1
   held_5 = held_in world_5 refl refl refl refl
 
   stage_6 : IsStage R 1 setting_4 world_6 (start R 1 setting_4)

@@ -27,7 +27,7 @@ use Rattle.zy_parts.specs.declared.reports.Told.{Told}
 use Rattle.zy_parts.specs.declared.signed.Signed.{Signed}
 use Rattle.zy_law_views.specs.Held.{AreProofsHeld, IsCertOf, IsHeldChange, IsHeldPart, IsProperNew, IsVouchedBy}
 use Rattle.zy_law_views.specs.Tied.{Core, HasGone, IsAcceptedTied, IsBegun, IsChosenNew, IsCommitHeld, IsFarEnough, IsGrounded, IsHearing, IsKeptChange, IsQuiet, IsStanding, IsTied, IsWaitingTied, told_by}
-use Rattle.zy_law_views.specs.Told.{began_told, check_told, response_told}
+use Rattle.zy_law_views.specs.Told.{began_told, check_told, spec_told}
 
 module _ (w : World) (asked : ℕ → List Entry) (said : ℕ → List Spoken) (past : ℕ → List Stand) (kept : Digest → Entry → Bool)
     (asks : (q : ℕ) (e : Entry) → Contains (w.asked q) e → Contains (asked q) e)
@@ -51,7 +51,7 @@ module _ (w : World) (asked : ℕ → List Entry) (said : ℕ → List Spoken) (
   proofs_more t held =
       record {
         began = parts_more began_told t.began held.began;
-        specs = λ specs is. parts_more response_told specs (held.specs specs is);
+        specs = λ specs is. parts_more spec_told specs (held.specs specs is);
         checks = parts_more check_told t.checks held.checks;
       }
 
@@ -98,7 +98,7 @@ module _ (w : World) (asked : ℕ → List Entry) (said : ℕ → List Spoken) (
 
   pub commit_more : (last : View) (history : List Entry) (o : Option Certificate) → IfSome o (IsCommitHeld w last history) → IfSome o (IsCommitHeld more last history)
   commit_more last history None is = tt
-  commit_more last history (Some held) is = record { head = is.head; certificate = is.certificate; held = parts_more response_told held.specs is.held; passes = record { within = is.passes.within; head = is.passes.head } }
+  commit_more last history (Some held) is = record { head = is.head; certificate = is.certificate; held = parts_more spec_told held.specs is.held; passes = record { within = is.passes.within; head = is.passes.head } }
 
   module _ {S : Type 0} (R : Rules S) (interval r : ℕ) (c : Core S) (history : List Entry) where
     pub grounded_more : IsGrounded interval w c → IsGrounded interval more c

@@ -3,6 +3,7 @@ use Rattle.std.specs.Prelude.{◌≡◌, ℕ, ◌-◌, ◌<◌, List, [], ◌++�
 use Rattle.std.specs.List.{slice_range}
 use Rattle.zy_base.specs.Machine.{Rules}
 use Rattle.zy_base.specs.declared.ids.Digest.{Digest}
+use Rattle.zy_chain.specs.Answers.{Answers, bytes_of_answers}
 use Rattle.zy_chain.specs.Heads.{head_of}
 use Rattle.zy_chain.specs.Stretch.{Mark, Stretch, head_in}
 use Rattle.zy_chain.specs.declared.entry.Entry.{Entry}
@@ -22,9 +23,9 @@ pub record Matches {S : Type 0} (R : Rules S) (w : World) : Type 0 where
   pub next : w.next ≡ link
   pub state : (history : List Entry) → w.state history ≡ digest_of_snapshot (snapshot_of R (along R (origin R) history))
 
--- the replies along a history, and its snapshots at the multiples of the interval, are kept
+-- the answers along a history, and its snapshots at the multiples of the interval, are kept
 pub record IsHistoryKept {S : Type 0} (R : Rules S) (interval : ℕ) (texts : Texts) (history : List Entry) : Type 0 where
-  pub replies : (place : ℕ) (reply : List ℕ) → answer_at R history place ≡ Some reply → IsKept texts reply
+  pub answers : (place : ℕ) (answers : Answers) → answer_at R history place ≡ Some answers → IsKept texts (bytes_of_answers answers)
   pub snapshots : (place : ℕ) (snapshot : List ℕ) → 0 < place → snapshot_at R interval history place ≡ Some snapshot → IsKept texts snapshot
 
 -- the texts of a world: those of the law's links, and what correct histories lead to
@@ -53,7 +54,7 @@ pub record HaveBoth (a b : Stretch) (place : ℕ) (head : Digest) : Type 0 where
   pub first : head_in a place ≡ Some head
   pub second : head_in b place ≡ Some head
 
--- What is kept stands for this history: the mark's list, which can be read back, and whose replies and snapshots are kept.
+-- What is kept stands for this history: the mark's list, which can be read back, and whose answers and snapshots are kept.
 pub record IsAdopted {S : Type 0} (R : Rules S) (interval : ℕ) (texts : Texts) (w : World) (m : Mark) (k : Kept S) (history : List Entry) : Type 0 where
   pub list : IsListOf w m history
   pub read : list_in texts m.place m.head ≡ Some history

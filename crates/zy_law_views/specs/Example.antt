@@ -5,15 +5,17 @@ use Rattle.zy_base.specs.declared.ids.View.{View}
 use Rattle.zy_base.specs.declared.ids.Digest.{Digest}
 use Rattle.zy_base.specs.Machine.{Rules}
 use Rattle.zy_cert.specs.Equal.{same_digest}
+use Rattle.zy_chain.specs.Answers.{bytes_of_answers}
 use Rattle.zy_chain.specs.Entries.{bytes_of_entry, digest_of_entry}
 use Rattle.zy_chain.specs.Heads.{empty_head}
 use Rattle.zy_chain.specs.declared.entry.Entry.{Entry}
+use Rattle.zy_chain.specs.declared.item.Item.{Item}
 use Rattle.zy_chain.specs.Stretch.{Mark}
 use Rattle.zy_choose.specs.Marks.{link}
 use Rattle.zy_evidence.specs.Reading.{stretch_of}
 use Rattle.zy_exec.specs.Replay.{along, origin, answers_of}
 use Rattle.zy_exec.specs.Snapshot.{snapshot_of}
-use Rattle.zy_law.specs.Example.{first_entry, four}
+use Rattle.zy_law.specs.Example.{first_entry, four, item_of}
 use Rattle.zy_law.specs.Lawful.{IsLawful}
 use Rattle.zy_law.specs.Said.{Stood}
 use Rattle.zy_law.specs.World.{Stand, World}
@@ -26,7 +28,7 @@ use Rattle.zy_law_views.specs.Texts.{IsKept, Texts, link_text}
 use Rattle.zy_law_views.specs.Tied.{Core, core_at_start}
 
 -- what was asked for, where the replicas stood, and which texts are kept
-abbrev pub small_world : ℕ → (ℕ → List Entry) → (ℕ → List Stand) → (Digest → Entry → Bool) → World
+abbrev pub small_world : ℕ → (ℕ → List Item) → (ℕ → List Stand) → (Digest → Entry → Bool) → World
 small_world interval asked past kept =
     record {
       counts = four;
@@ -50,12 +52,21 @@ first_stand = record { view = 0; history = [] }
 abbrev pub silent_world : ℕ → World
 silent_world interval = small_world interval (λ client. []) (λ r. first_stand ∷ []) (λ head e. false)
 
--- Client 0 asked for one entry, and the text of the link to it is kept.
+-- Clients 0 and 1 asked for the items of one entry, and the text of the link to it is kept.
+abbrev pub is_asked_of : ℕ → Item → Bool
+is_asked_of client i = nat_eq i.client.0 client && (nat_eq i.stamp.0 1 && nat_eq (length i.op) 0)
+
+abbrev pub are_first : List Item → Bool
+are_first [] = false
+are_first (i ∷ []) = false
+are_first (i ∷ k ∷ []) = is_asked_of 0 i && is_asked_of 1 k
+are_first (i ∷ k ∷ l ∷ items) = false
+
 abbrev pub is_first_link : Digest → Entry → Bool
-is_first_link head e = same_digest head empty_head && (nat_eq e.client.0 0 && (nat_eq e.stamp.0 1 && nat_eq (length e.op) 0))
+is_first_link head e = same_digest head empty_head && are_first e.items
 
 abbrev pub asked_world : ℕ → World
-asked_world interval = small_world interval (λ client. first_entry ∷ []) (λ r. first_stand ∷ []) is_first_link
+asked_world interval = small_world interval (λ client. item_of client 1 ∷ []) (λ r. first_stand ∷ []) is_first_link
 
 abbrev pub id_of : ℕ → ReplicaId
 id_of r = record { 0 = r }
@@ -76,11 +87,11 @@ first_place = record { place = 1; head = link empty_head first_entry }
 abbrev pub first_snapshot : {S : Type 0} → Rules S → List ℕ
 first_snapshot R = snapshot_of R (along R (origin R) (first_entry ∷ []))
 
--- the texts of the entry, of its link, of its reply, and of the snapshot where it leads
+-- the texts of the entry, of its link, of its answers, and of the snapshot where it leads
 pub record AreFirstKept {S : Type 0} (R : Rules S) (texts : Texts) : Type 0 where
   pub entry : IsKept texts (bytes_of_entry first_entry)
   pub link_kept : IsKept texts (link_text empty_head first_entry)
-  pub reply : IsKept texts (answers_of R R.initial first_entry)
+  pub answers : IsKept texts (bytes_of_answers (answers_of R (origin R) first_entry))
   pub snapshot : IsKept texts (first_snapshot R)
 
 -- In a lawful world of four replicas with f = 1, the history of the entry is chosen out of a proper new view, whose provider has it in

@@ -15,16 +15,15 @@ use Rattle.zy_vframes.specs.declared.frame.ViewFrame.TheVariants as frames
 use Rattle.zy_vframes.specs.Parts.{parts_of}
 use Rattle.zy_law_views.specs.Held.{AreLinksKept, IsHonestPart}
 use Rattle.zy_law_views.specs.Texts.{IsKept, Texts}
-use Rattle.zy_law_views.specs.Told.{change_spelled, new_spelled}
 use Rattle.zy_law_views.specs.Steps.{history_from}
 use Rattle.zy_chain.specs.Entries.{IsOfClients}
 
 -- what is signed in it can be read back out of its texts
 abbrev pub IsSpelled : ViewFrame → Type 0
-IsSpelled (frames.ViewChange change) = change_fields.Fits (change_spelled change.stmt)
-IsSpelled (frames.NewView new) = new_fields.Fits (new_spelled new.stmt)
+IsSpelled (frames.ViewChange change) = change_fields.Fits change.stmt
+IsSpelled (frames.NewView new) = new_fields.Fits new.stmt
 IsSpelled (frames.ViewConfirm began) = began_fields.Fits began.stmt
-IsSpelled (frames.ViewCert cert) = new_fields.Fits (new_spelled cert.new.stmt) × All (λ began. began_fields.Fits began.stmt) cert.begans
+IsSpelled (frames.ViewCert cert) = new_fields.Fits cert.new.stmt × All (λ began. began_fields.Fits began.stmt) cert.begans
 IsSpelled (frames.Fetch fetch) = Unit {0}
 IsSpelled (frames.State place snapshot) = Unit {0}
 
@@ -64,4 +63,4 @@ history_read texts s history (Ok frame) outcome = history_heard texts s history 
 -- A frame whose signatures are verified, and whose signers have their roles, is honest.
 abbrev pub IsHonestlyRead : {S : Type 0} → World → Texts → State S → Result ViewFrame FrameFault → Type 0
 IsHonestlyRead w texts s read =
-    (frame : ViewFrame) → read ≡ Ok frame → screen s.keys (parts_of frame) ≡ None → is_view_frame_in_role s.counts frame ≡ true → IsHonestFrame w texts frame
+    (frame : ViewFrame) → read ≡ Ok frame → screen s.keys None (parts_of frame) ≡ None → is_view_frame_in_role s.counts frame ≡ true → IsHonestFrame w texts frame

@@ -19,7 +19,7 @@ use Rattle.zy_parts.specs.declared.reports.Told.{Told}
 use Rattle.zy_parts.specs.declared.signed.Part.{Part}
 use Rattle.zy_parts.specs.declared.signed.Signed.{Signed}
 use Rattle.zy_parts.specs.declared.statements.Spec.{Spec}
-use Rattle.zy_law_views.specs.Told.{statement_in, response_told, check_told, began_told, change_told}
+use Rattle.zy_law_views.specs.Told.{statement_in, spec_told, check_told, began_told, change_told}
 
 abbrev pub mark_at : Place → Digest → Mark
 mark_at place head = record { place = place.0; head = head }
@@ -47,7 +47,7 @@ pub record IsCertOf {S : Type 0} (w : World) (say : S → Statement) (count : �
 -- what a report shows of others' statements is held
 pub record AreProofsHeld (w : World) (t : Told) : Type 0 where
   pub began : All (IsHeldPart w began_told) t.began
-  pub specs : (specs : List (Signed Spec)) → t.specs ≡ Some specs → All (IsHeldPart w response_told) specs
+  pub specs : (specs : List (Signed Spec)) → t.specs ≡ Some specs → All (IsHeldPart w spec_told) specs
   pub checks : All (IsHeldPart w check_told) t.checks
 
 -- the links of its entries are kept

@@ -40,7 +40,7 @@ use Rattle.zy_parts.specs.declared.signed.Signed.{Signed}
 use Rattle.zy_parts.specs.declared.statements.Check.{Check}
 use Rattle.zy_vframes.specs.declared.frame.ViewCert.{ViewCert}
 use Rattle.zy_law_views.specs.Held.{IsHeldChange, IsHeldPart, IsProperNew, mark_at}
-use Rattle.zy_law_views.specs.Told.{began_told, check_told, response_told}
+use Rattle.zy_law_views.specs.Told.{began_told, check_told, spec_told}
 use Rattle.zy_chain.specs.Entries.{IsOfClients}
 
 -- what a replica keeps that its reports and its views rest on
@@ -154,7 +154,7 @@ pub record IsGrounded {S : Type 0} (interval : ℕ) (w : World) (c : Core S) : T
 pub record IsCommitHeld (w : World) (last : View) (history : List Entry) (own : Certificate) : Type 0 where
   pub head : Digest
   pub certificate : IsCertificate point_of_spec w.counts.cert own.specs (last, own.place, head)
-  pub held : All (IsHeldPart w response_told) own.specs
+  pub held : All (IsHeldPart w spec_told) own.specs
   pub passes : Passes w.next history (mark_at own.place head)
 
 -- a commit certificate is held, of this place or a further one

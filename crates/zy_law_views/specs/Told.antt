@@ -1,6 +1,5 @@
 -- What the law of safety reads in what a replica signs: a statement, and a signed text.
-use Rattle.std.specs.Int.{w32, to_be_bytes, from_be_bytes}
-use Rattle.std.specs.Prelude.{ℕ, ◌==◌, if◌then◌else◌, List, map, drop, slice_index, option_map, Result, Ok, Err}
+use Rattle.std.specs.Prelude.{ℕ, ◌==◌, if◌then◌else◌, List, map, drop, slice_index, Result, Ok, Err}
 use Rattle.zy_base.specs.declared.frame_fault.FrameFault.{FrameFault}
 use Rattle.zy_evidence.specs.Reading.{read, read_by}
 use Rattle.zy_law.specs.World.{Statement}
@@ -11,14 +10,11 @@ use Rattle.zy_parts.specs.Statements.{order_fields, spec_fields, local_fields, c
 use Rattle.zy_parts.specs.declared.reports.Began.{Began}
 use Rattle.zy_parts.specs.declared.reports.Change.{Change}
 use Rattle.zy_parts.specs.declared.reports.New.{New}
-use Rattle.zy_parts.specs.declared.reports.Told.{Told}
-use Rattle.zy_parts.specs.declared.signed.Signed.{Signed}
 use Rattle.zy_parts.specs.declared.statements.Check.{Check}
 use Rattle.zy_parts.specs.declared.statements.Local.{Local}
 use Rattle.zy_parts.specs.declared.statements.Order.{Order}
 use Rattle.zy_parts.specs.declared.statements.Spec.{Spec}
 use Rattle.zy_wire.specs.Spelling.{Spelling, whole}
-use Rattle.zy_law_normal.specs.Acts.{answer_told}
 
 -- ---- a statement
 
@@ -26,8 +22,7 @@ abbrev pub order_told : Order → Statement
 order_told order = Statement.Order order.view.0 (record { place = order.place.0; head = order.head }) order.request
 
 abbrev pub spec_told : Spec → Statement
-spec_told spec =
-    Statement.Spec spec.view.0 (record { place = spec.place.0; head = spec.head }) (answer_told spec.client.0 spec.stamp.0 spec.reply)
+spec_told spec = Statement.Spec spec.view.0 (record { place = spec.place.0; head = spec.head }) (record { reply = spec.answers })
 
 abbrev pub local_told : Local → Statement
 local_told local = Statement.Local local.view.0 (record { place = local.place.0; head = local.head })
@@ -68,27 +63,3 @@ statement_in r text =
     else (if number_of text == numbers.new then told_in new_fields new_told text
     else (if number_of text == numbers.began then told_in began_fields began_told text
     else Other))))))
-
--- ---- as it is spelled: of the number of a response's client 32 bits stand in a text
-
-abbrev pub number_spelled : ℕ → ℕ
-number_spelled n = from_be_bytes w32 (to_be_bytes w32 n)
-
-abbrev pub spec_spelled : Spec → Spec
-spec_spelled spec = record spec { client = record { 0 = number_spelled spec.client.0 } }
-
-abbrev pub with_stmt : {S : Type 0} → (S → S) → Signed S → Signed S
-with_stmt f signed = record signed { stmt = f signed.stmt }
-
-abbrev pub told_spelled : Told → Told
-told_spelled t = record t { specs = option_map (map (with_stmt spec_spelled)) t.specs }
-
-abbrev pub change_spelled : Change → Change
-change_spelled c = record c { told = told_spelled c.told }
-
-abbrev pub new_spelled : New → New
-new_spelled n = record n { changes = map (with_stmt change_spelled) n.changes }
-
--- what is read in a response's text
-abbrev pub response_told : Spec → Statement
-response_told spec = spec_told (spec_spelled spec)

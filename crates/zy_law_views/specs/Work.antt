@@ -12,7 +12,7 @@ use Rattle.zy_law_normal.specs.Tied.{IsRoundOf, MaySlotRun}
 use Rattle.zy_table.specs.State.{State}
 use Rattle.zy_law_views.specs.Held.{IsHeldPart}
 use Rattle.zy_law_views.specs.Tied.{AreOrdersUpTo}
-use Rattle.zy_law_views.specs.Told.{check_told, order_told, response_told}
+use Rattle.zy_law_views.specs.Told.{check_told, order_told, spec_told}
 
 pub record Workplace : Type 0 where
   pub me : ReplicaId
@@ -31,7 +31,7 @@ workplace_of s =
 
 -- what is kept of a place: of each signer one response and one checkpoint, which it said, or it lies
 abbrev pub IsRoundHeld : World → Round → Type 0
-IsRoundHeld w round = IsRoundOf (IsHeldPart w response_told) (IsHeldPart w check_told) round
+IsRoundHeld w round = IsRoundOf (IsHeldPart w spec_told) (IsHeldPart w check_told) round
 
 -- an order that is kept is one that its signer said, or that lies
 abbrev pub IsSlotSigned : World → Option OrderFrame → Type 0

@@ -5,6 +5,7 @@ ghost use Rattle.zy_base.specs.declared.ids.ReplicaId.{ReplicaId};
 ghost use Rattle.zy_base.specs.declared.ids.View.{View};
 ghost use Rattle.zy_base.specs.declared.step.Mode.TheVariants.{Active};
 ghost use Rattle.zy_chain.specs.declared.entry.Entry.{Entry};
+ghost use Rattle.zy_chain.specs.declared.item.Item.{Item};
 ghost use Rattle.zy_change.specs.Views.{Slots, with_specs};
 ghost use Rattle.zy_change.specs.declared.kept.Waiting.{Waiting};
 ghost use Rattle.zy_exec.specs.Kept.{last_place};
@@ -25,7 +26,7 @@ use zy_base::Machine;
 /// stand elsewhere, and more texts are kept.
 pub fn ties_begin<M: Machine>()
     ensures start { (interval r : ℕ) (w : World) (me : ReplicaId) (state : Digest) → 0 < interval → w.interval ≡ interval → IsStart w → IsCorrect w r → me.0 ≡ r → state ≡ w.state [] → IsTied M.rules interval w r (core_at_start M.rules interval w.counts me state) [] }
-    ensures grows { (interval r : ℕ) (w : World) (c : Core M.State) (history : List Entry) (asked : ℕ → List Entry) (said : ℕ → List Spoken) (past : ℕ → List Stand) (kept : Digest → Entry → Bool) → IsGrown w asked said past kept → said r ≡ w.said r → past r ≡ w.past r → IsTied M.rules interval w r c history → IsTied M.rules interval (grown w asked said past kept) r c history }
+    ensures grows { (interval r : ℕ) (w : World) (c : Core M.State) (history : List Entry) (asked : ℕ → List Item) (said : ℕ → List Spoken) (past : ℕ → List Stand) (kept : Digest → Entry → Bool) → IsGrown w asked said past kept → said r ≡ w.said r → past r ≡ w.past r → IsTied M.rules interval w r c history → IsTied M.rules interval (grown w asked said past kept) r c history }
 {}
 
 /// While a correct replica is active in a view it may stand there with one entry more that may run next, and is tied to the
