@@ -153,6 +153,7 @@ impl Client {
 
 // The answers are those of which the response tells the digest.
 fn are_told(answers: &Items<Answered>, spec: &Spec) -> bool
+    requires { FitsAnswers answers.now }
     ensures { result ≡ are_told answers.now spec.now }
 {
     answers_digest(answers) == spec.answers
