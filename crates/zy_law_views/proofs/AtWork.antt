@@ -1,10 +1,9 @@
 -- What a replica works with, as it says more and stands elsewhere.
-use Rattle.std.proofs.Common.{◌≡◌, inr, ℕ, zero, suc, ◌+◌, ◌<◌, ◌≤◌, Bool, cond, List, [], ◌∷◌, ◌++◌, length, fold, take, Option, Some, refl, sym, ap, ◌∙◌, subst, arith, eq-eqb}
+use Rattle.std.proofs.Common.{◌≡◌, inr, ℕ, zero, suc, ◌+◌, ◌≤◌, Bool, cond, List, [], ◌∷◌, ◌++◌, length, fold, take, Option, Some, refl, sym, ap, ◌∙◌, subst, arith, eq-eqb}
 use Rattle.std.specs.List.{AllByRecursion}
 use Rattle.std.specs.Prelude.{slice_get}
 use Rattle.std.proofs.lemmas.List.{length-take}
 use Rattle.std.proofs.lemmas.List.Sums.{fold-append}
-use Rattle.std.proofs.lemmas.Nat.{from_be_bytes-to_be_bytes_4}
 use Rattle.std.proofs.lemmas.Option.{same_Some}
 use Rattle.zy_base.specs.Machine.{Rules}
 use Rattle.zy_base.specs.declared.ids.Digest.{Digest}
@@ -22,16 +21,14 @@ use Rattle.zy_law.specs.World.{Spoken, Stand, Statement, World}
 use Rattle.zy_law_normal.proofs.KeptVotes.{none_kept}
 use Rattle.zy_law_normal.proofs.OneEntry.{slots_more}
 use Rattle.zy_law_normal.specs.Tied.{MayRun, MaySlotRun}
-use Rattle.zy_parts.specs.declared.statements.Spec.{Spec}
 use Rattle.zy_table.specs.State.{State}
 use Rattle.zy_law_views.proofs.SignedSlots.{signed_more}
 use Rattle.zy_law_views.proofs.TiedGrown.{has_said_last, held_said, held_stood, own_said, parts_said, parts_stood}
-use Rattle.zy_law_views.specs.Held.{IsHeldPart, IsVouchedBy, mark_at}
+use Rattle.zy_law_views.specs.Held.{IsHeldPart, IsVouchedBy}
 use Rattle.zy_law_views.specs.Tied.{IsTied}
 use Rattle.zy_law_views.specs.Told.{check_told, order_told, spec_told}
 use Rattle.zy_law_views.specs.Cores.{core_of}
 use Rattle.zy_law_views.specs.Work.{IsAtWork, IsRoundHeld, IsSlotSigned, IsWorkTied, Workplace, last_long, workplace_of}
-use Rattle.zy_law_normal.specs.Acts.{answer_told}
 
 -- ---- the last stand
 
@@ -56,19 +53,13 @@ own_held w r y by me correct signer is =
     let itself : IsVouched (after_saying w r y) y.what r = record { within = correct.within; said = inr (has_said_last w r y) } in
     subst (λ (p : Party). IsVouchedBy (after_saying w r y) y.what p) (sym signer) (subst (λ (n : ℕ). IsVouched (after_saying w r y) y.what n) (sym is) itself)
 
--- a response to a client that there may be is spelled as it was said
-pub told_alike : (spec : Spec) → spec.client.0 < 64 → Statement.Spec spec.view.0 (mark_at spec.place spec.head) (answer_told spec.client.0 spec.stamp.0 spec.reply) ≡ spec_told spec
-told_alike spec small =
-    ap (λ (n : ℕ). Statement.Spec spec.view.0 (mark_at spec.place spec.head) (answer_told n spec.stamp.0 spec.reply))
-    (sym (from_be_bytes-to_be_bytes_4 spec.client.0 (omega arith)))
-
 -- ---- as more is said, and where it stands elsewhere
 
 pub still_may : (w : World) (r : ℕ) (y : Spoken) (e : Entry) → MayRun w e → MayRun (after_saying w r y) e
-still_may w r y e may = record { client = may.client; range = may.range; asked = may.asked }
+still_may w r y e may = record { clients = may.clients; range = may.range; asked = may.asked }
 
 pub may_there : (w : World) (r : ℕ) (b : Stand) (e : Entry) → MayRun w e → MayRun (after_standing w r b) e
-may_there w r b e may = record { client = may.client; range = may.range; asked = may.asked }
+may_there w r b e may = record { clients = may.clients; range = may.range; asked = may.asked }
 
 round_said : (w : World) (r : ℕ) (y : Spoken) (round : Round) → IsRoundHeld w round → IsRoundHeld (after_saying w r y) round
 round_said w r y round is =

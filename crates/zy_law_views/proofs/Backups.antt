@@ -9,7 +9,6 @@ use Rattle.zy_base.specs.declared.ids.View.{View}
 use Rattle.zy_base.specs.declared.step.Answer.TheVariants.{Taken}
 use Rattle.zy_base.specs.declared.step.Mode.{Mode}
 use Rattle.zy_base.specs.declared.step.Mode.TheVariants.{Active, Leaving}
-use Rattle.zy_admit.specs.Judging.{entry_of, asking}
 use Rattle.zy_admit.specs.Orders.{orders_from}
 use Rattle.zy_chain.specs.Heads.{empty_head}
 use Rattle.zy_chain.specs.declared.entry.Entry.{Entry}
@@ -24,6 +23,7 @@ use Rattle.zy_law.specs.Said.{Moment}
 use Rattle.zy_law.specs.World.{World}
 use Rattle.zy_law_normal.proofs.Own.{by_test}
 use Rattle.zy_law_normal.proofs.Records.{IsLastOf, IsRecord, records}
+use Rattle.zy_parts.specs.Asks.{asking}
 use Rattle.zy_parts.specs.declared.signed.Signed.{Signed}
 use Rattle.zy_parts.specs.declared.statements.Ask.{Ask}
 use Rattle.zy_parts.specs.declared.statements.Hole.{Hole}
@@ -49,8 +49,6 @@ use Rattle.zy_law_views.proofs.Responding.{IsInView, speaks, true_reply, world_a
 use Rattle.zy_law_views.proofs.Taking.{ended}
 use Rattle.zy_law_views.specs.Steps.{IsLawfulStep, IsWorldOf}
 use Rattle.zy_chain.specs.Entries.{IsOfClients}
-use Rattle.zy_law_normal.specs.Acts.{answer_told}
-use Rattle.zy_chain.specs.Answers.{digest_of_answers}
 
 -- the clients of a history whose links are kept
 pub clients_of : (w : World) (texts : Texts) → AreLinks w texts → (head : Digest) (list : List Entry) → AreKept w.kept w.next head list → AllByRecursion IsOfClients list
@@ -72,7 +70,7 @@ module _ {S : Type 0} (R : Rules S) (interval : ℕ) (texts : Texts) (w : World)
   abbrev start : IsOnWay R interval w r s history ready (begin s)
   start = at_begin R interval w r s history ready
 
-  -- ---- the record of a client is that of its last entry
+  -- ---- the record of a client is that of its last item
 
   pub record_is : (client : ℕ) (known : Known) → known_in R s.kept client ≡ Some known → IsLastOf R history client known
   record_is client known is =
@@ -86,27 +84,26 @@ module _ {S : Type 0} (R : Rules S) (interval : ℕ) (texts : Texts) (w : World)
 
   module _ (ask : Signed Ask) (known : Known) (is : known_in R s.kept (asking ask.by).0 ≡ Some known) (view : View) (active : s.views.mode ≡ Active view) where
     abbrev pub spec : Spec
-    spec = spec_of (table.own_view s) (entry_of ask) known
+    spec = spec_of (table.own_view s) known
 
     abbrev pub signed : Signed Spec
     signed = sealed_spec s spec
 
     abbrev pub answered : Going S
-    answered = response_of s signed known (act (Says (record { body = bodies.Spec spec; stood = table.stood_of R s })) (begin (with_spec (spent s) signed)))
+    answered = response_of s (asking ask.by) signed known (act (Says (record { body = bodies.Spec spec; stood = table.stood_of R s })) (begin (with_spec R (spent s) signed)))
 
     pub answered_on : IsOnWay R interval w r s history ready answered
     answered_on =
-        let last = record_is (asking ask.by).0 known is in
+        let last = (record_is (asking ask.by).0 known is).answered in
         let within : known.place.0 ≤ length history = entry_within history known.place.0 last.entry last.there in
         let in_view : IsInView R interval w r s history ready kept.agrees view (begin s) = record { way = start; active = active } in
         (speaks R interval w r s history ready kept.agrees view (begin s) in_view spec answered refl
         (record { views = refl; kept = refl; stable = refl; proof = refl; signer = refl }) refl
-        (record { within = within; head = ap (λ (next : Digest → Entry → Digest). fold next empty_head (take known.place.0 history)) start.links ∙ last.head })
+        (record { within = within; head = ap (λ (next : Digest → Entry → Digest). fold next empty_head (take known.place.0 history)) start.links ∙ last.head_is })
         (record {
           entry = last.entry;
           last = last.there;
-          reply = true_reply R start.world (world_agrees R interval w r s history ready kept.agrees view (begin s) start) history known.place.0 last.entry known.reply within last.there last.reply
-              ∙ (λ i. (answer_told (last.client_is i) (last.stamp i).0 (digest_of_answers known.reply)).reply);
+          reply = true_reply R start.world (world_agrees R interval w r s history ready kept.agrees view (begin s) start) history known.place.0 known.answers within last.answers_are;
         })
         (works_said interval start.world r _ s (λ v m request told. absurd cc))).way
 

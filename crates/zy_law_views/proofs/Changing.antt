@@ -9,6 +9,7 @@ use Rattle.zy_base.specs.declared.ids.Party.TheVariants.{Replica}
 use Rattle.zy_cert.specs.Signers.{AreDifferent}
 use Rattle.zy_chain.specs.Entries.{digest_of_entry}
 use Rattle.zy_chain.specs.declared.entry.Entry.{Entry}
+use Rattle.zy_chain.specs.declared.item.Item.{Item}
 use Rattle.zy_change.specs.Choosing.{choice_of}
 use Rattle.zy_change.specs.Owing.{change_to}
 use Rattle.zy_change.specs.Views.{began_for, is_accepted, own_view, start_of}
@@ -100,7 +101,7 @@ last_of_three a b c first second third view (suc (suc (suc k)), r, within, there
 -- What three correct replicas of four have come to in view 0, of which none left it.
 pub record Setting (S : Type 0) : Type 0 where
   pub interval : ℕ
-  pub asked : ℕ → List Entry
+  pub asked : ℕ → List Item
   pub said : ℕ → List Spoken
   pub past : ℕ → List Stand
   pub kept : Digest → Entry → Bool

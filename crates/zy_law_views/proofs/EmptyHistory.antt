@@ -2,6 +2,7 @@
 use Rattle.std.proofs.Common.{◌≡◌, ℕ, zero, suc, ◌<◌, nat_lt, Bool, true, false, cond, List, [], length, take, None, Some, refl, arith}
 use Rattle.std.proofs.lemmas.Bool.{ltb-false}
 use Rattle.zy_base.specs.Machine.{Rules}
+use Rattle.zy_chain.specs.Answers.{Answers}
 use Rattle.zy_chain.specs.declared.entry.Entry.{Entry}
 use Rattle.zy_exec.specs.Replay.{along, answer_at, origin}
 use Rattle.zy_exec.specs.Shots.{snapshot_at, snapshot_due}
@@ -17,13 +18,13 @@ module _ {S : Type 0} (R : Rules S) where
       by true beyond told = absurd cc
       by false near told = let low = ltb-false _ _ near in absurd (omega arith)
 
-  no_answer : (place : ℕ) (text : List ℕ) → answer_at R [] place ≡ Some text → ⊥
-  no_answer zero text told = cc
-  no_answer (suc before) text told = cc
+  no_answer : (place : ℕ) (answers : Answers) → answer_at R [] place ≡ Some answers → ⊥
+  no_answer zero answers told = cc
+  no_answer (suc before) answers told = cc
 
   pub empty_kept : (interval : ℕ) (texts : Texts) → IsHistoryKept R interval texts []
   empty_kept interval texts =
       record {
-        replies = λ place text told. absurd (no_answer place text told);
+        answers = λ place answers told. absurd (no_answer place answers told);
         snapshots = λ place text some told. absurd (past_end interval [] place text some told);
       }

@@ -47,6 +47,7 @@ use Rattle.zy_law_views.specs.Work.{IsAtWork}
 use Rattle.zy_law_views.proofs.Responding.{IsInView, responds_at}
 use Rattle.zy_law_views.proofs.Worlds.{world_said, world_stood}
 use Rattle.zy_law_views.specs.Steps.{IsWorldOf}
+use Rattle.zy_chain.specs.Answers.{Answers}
 
 -- ---- what is answered doesn't rest on what was done before
 
@@ -64,7 +65,7 @@ module _ {S : Type 0} (R : Rules S) where
   nothing_apart : (t : State S) (d e : Deeds) → IsApart d e (going t d) (going t e)
   nothing_apart t d e = record { more = []; state = refl; first = sym (append-nil d.acts); second = sym (append-nil e.acts) }
 
-  one_apart : (t : State S) (d e : Deeds) (own : Option OwnCheckpoint) (reply : Option (List ℕ)) → IsApart d e (respond_to R own reply (going t d)) (respond_to R own reply (going t e))
+  one_apart : (t : State S) (d e : Deeds) (own : Option OwnCheckpoint) (reply : Option Answers) → IsApart d e (respond_to R own reply (going t d)) (respond_to R own reply (going t e))
   one_apart t d e None reply = nothing_apart t d e
   one_apart t d e (Some own) None = nothing_apart t d e
   one_apart t d e (Some own) (Some reply) = record { more = _; state = refl; first = refl; second = refl }
@@ -124,7 +125,7 @@ stand_runs w lawful r correct texts links b may = each [] b.history empty_head r
         let at : IsEntryAt b.history (length front + 1) e =
         record { first = omega arith; there = ap (λ (l : List Entry). slice_get l (length front + 1 - 1)) (sym whole) ∙ ap (slice_get (front ++ e ∷ rest)) low ∙ there_is front e rest } in
         let runs = (links head e kept.0).runnable in (
-          record { client = runs.client; range = runs.in_range; asked = (asked (length front + 1) e (omega arith) at).asked },
+          record { clients = runs.client; range = runs.in_range; asked = (asked (length front + 1) e (omega arith) at).asked },
           each (front ++ e ∷ []) rest (w.next head e) (append_assoc front (e ∷ []) rest ∙ whole) kept.1,
         )
 

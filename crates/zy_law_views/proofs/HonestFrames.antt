@@ -136,4 +136,4 @@ module _ {S : Type 0} (R : Rules S) (interval : ℕ) (texts : Texts) (w : World)
 
   pub read_lawful : (read : Result ViewFrame FrameFault) → IsHonestlyRead w texts s read → IsLawfulStep R interval texts w r s (history_read texts s history read (view_decoded R s read)) (view_decoded R s read)
   read_lawful (Err fault) honest = refuses R interval texts w r s history ready kept (causes.NotFrame fault)
-  read_lawful (Ok frame) honest = screened frame (screen s.keys (parts_of frame)) (λ verified role. honest frame refl verified role)
+  read_lawful (Ok frame) honest = screened frame (screen s.keys None (parts_of frame)) (λ verified role. honest frame refl verified role)

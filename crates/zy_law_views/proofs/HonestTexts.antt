@@ -1,6 +1,6 @@
 -- What is signed in a frame is held where each of its texts was said by its signer, or that lies.
 use Rattle.std.proofs.Common.{◌≡◌, ℕ, suc, List, ◌++◌, map, get_or, Option, Some, None, refl, subst, arith}
-use Rattle.std.specs.Prelude.{All, option_map}
+use Rattle.std.specs.Prelude.{All}
 use Rattle.zy_evidence.specs.Reading.{number_of_party}
 use Rattle.zy_law.specs.World.{Statement, World}
 use Rattle.zy_parts.specs.Numbers as numbers
@@ -16,7 +16,7 @@ use Rattle.zy_vframes.specs.Parts.{parts_of_certificate, parts_of_change, parts_
 use Rattle.zy_wire.specs.Fields.{FitsList, FitsOptional}
 use Rattle.zy_wire.specs.Spelling.{Spelling}
 use Rattle.zy_law_views.specs.Held.{AreLinksKept, AreProofsHeld, IsHeldChange, IsHeldPart, IsHonestPart, IsVouchedBy}
-use Rattle.zy_law_views.specs.Told.{began_told, change_spelled, check_told, new_spelled, spec_told, spec_spelled, statement_in, told_spelled, with_stmt}
+use Rattle.zy_law_views.specs.Told.{began_told, check_told, spec_told, statement_in}
 use Rattle.zy_law_views.proofs.Lists.{all_flat, all_left, all_right, all_under}
 use Rattle.zy_law_views.proofs.ReadBack.{began_back, change_back, check_back, spec_back}
 
@@ -34,38 +34,38 @@ module _ (w : World) where
 
   -- ---- a report's proofs
 
-  response_fits : (specs : List (Signed Spec)) → All (signed spec_fields).Fits (map (with_stmt spec_spelled) specs) → All (λ x. spec_fields.Fits (spec_spelled x.stmt)) specs
+  response_fits : (specs : List (Signed Spec)) → All (signed spec_fields).Fits specs → All (λ x. spec_fields.Fits x.stmt) specs
   unfolding signed
-  response_fits specs fit k d within = (all_under (signed spec_fields).Fits (with_stmt spec_spelled) specs fit k d within).1.0
+  response_fits specs fit k d within = (fit k d within).1.0
 
-  certificate_held : (told : Option (List (Signed Spec))) → ((specs : List (Signed Spec)) → told ≡ Some specs → All (λ x. spec_fields.Fits (spec_spelled x.stmt)) specs)
+  certificate_held : (told : Option (List (Signed Spec))) → ((specs : List (Signed Spec)) → told ≡ Some specs → All (λ x. spec_fields.Fits x.stmt) specs)
       → All (IsHonestPart w) (parts_of_certificate told) → (specs : List (Signed Spec)) → told ≡ Some specs → All (IsHeldPart w spec_told) specs
   certificate_held None fit honest specs is = absurd cc
   certificate_held (Some list) fit honest specs is =
       let same : list ≡ specs = cc in
       subst (λ (l : List (Signed Spec)). All (IsHeldPart w spec_told) l) same
-      (list_held numbers.spec spec_fields spec_told (λ s. spec_fields.Fits (spec_spelled s)) (λ x fits. spec_back (number_of_party x.by) x.by x.stmt fits) list (fit list refl) honest)
+      (list_held numbers.spec spec_fields spec_told spec_fields.Fits (λ x fits. spec_back (number_of_party x.by) x.by x.stmt fits) list (fit list refl) honest)
 
   -- what can be spelled of a report
   record IsToldFit (t : Told) : Type 0 where
     began : All (λ x. began_fields.Fits x.stmt) t.began
-    specs : (specs : List (Signed Spec)) → t.specs ≡ Some specs → All (λ x. spec_fields.Fits (spec_spelled x.stmt)) specs
+    specs : (specs : List (Signed Spec)) → t.specs ≡ Some specs → All (λ x. spec_fields.Fits x.stmt) specs
     checks : All (λ x. check_fields.Fits x.stmt) t.checks
 
-  option_fits : {A : Type 0} (Fits : A → Type 0) (f : A → A) (o : Option A) (x : A) → FitsOptional Fits (option_map f o) → o ≡ Some x → Fits (f x)
-  option_fits Fits f None x fits is = absurd cc
-  option_fits Fits f (Some y) x fits is = let same : y ≡ x = cc in subst (λ z. Fits (f z)) same fits
+  option_fits : {A : Type 0} (Fits : A → Type 0) (o : Option A) (x : A) → FitsOptional Fits o → o ≡ Some x → Fits x
+  option_fits Fits None x fits is = absurd cc
+  option_fits Fits (Some y) x fits is = let same : y ≡ x = cc in subst Fits same fits
 
-  told_fit : (t : Told) → told_fields.Fits (told_spelled t) → IsToldFit t
+  told_fit : (t : Told) → told_fields.Fits t → IsToldFit t
   unfolding told_fields signed
   told_fit t fits =
       record {
         began = λ k d within. (fits.1.1.1.0.each k d within).1.0;
-        specs = λ specs is. response_fits specs (option_fits (FitsList (signed spec_fields).Fits 1 16) (map (with_stmt spec_spelled)) t.specs specs fits.1.1.1.1.0 is).each;
+        specs = λ specs is. response_fits specs (option_fits (FitsList (signed spec_fields).Fits 1 16) t.specs specs fits.1.1.1.1.0 is).each;
         checks = λ k d within. (fits.1.1.1.1.1.1.1.1.1.0.each k d within).1.0;
       }
 
-  pub proofs_held : (t : Told) → told_fields.Fits (told_spelled t) → All (IsHonestPart w) (parts_of_told t) → AreProofsHeld w t
+  pub proofs_held : (t : Told) → told_fields.Fits t → All (IsHonestPart w) (parts_of_told t) → AreProofsHeld w t
   proofs_held t fits honest =
       let fit = told_fit t fits in
       let rest = all_right (IsHonestPart w) (map (part_of numbers.began began_fields) t.began) (parts_of_certificate t.specs ++ map (part_of numbers.check check_fields) t.checks) honest in
@@ -79,7 +79,7 @@ module _ (w : World) where
 
   -- ---- a report, and a new view
 
-  change_told_fits : (c : Change) → change_fields.Fits (change_spelled c) → told_fields.Fits (told_spelled c.told)
+  change_told_fits : (c : Change) → change_fields.Fits c → told_fields.Fits c.told
   unfolding change_fields
   change_told_fits c fits = fits.1
 
@@ -91,9 +91,9 @@ module _ (w : World) where
         links = links;
       }
 
-  pub changes_fit : (n : New) → new_fields.Fits (new_spelled n) → All (λ c. change_fields.Fits c.stmt) n.changes
+  pub changes_fit : (n : New) → new_fields.Fits n → All (λ c. change_fields.Fits c.stmt) n.changes
   unfolding new_fields signed
-  changes_fit n fits k d within = (all_under (signed change_fields).Fits (with_stmt change_spelled) n.changes fits.1.each k d within).1.0
+  changes_fit n fits k d within = (fits.1.each k d within).1.0
 
   pub changes_held : (n : Signed New) → new_fields.Fits n.stmt → All (AreLinksKept w) n.stmt.changes → All (IsHonestPart w) (parts_of_new n) → All (IsHeldChange w) n.stmt.changes
   changes_held n fits links honest k d within =

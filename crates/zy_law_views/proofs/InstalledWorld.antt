@@ -39,9 +39,10 @@ use Rattle.zy_law_views.specs.Tied.{Core, IsChosenNew}
 use Rattle.zy_law_views.proofs.Changing as changing
 use Rattle.zy_law_views.proofs.Changing.{last_of_three, begun_lawful, choice_known, is_6, is_7, may_stand, some_chosen, three_agreed}
 use Rattle.zy_law_views.proofs.EmptyHistory.{empty_kept, past_end}
-use Rattle.zy_law_views.proofs.FirstEntry.{first_linked, is_first}
+use Rattle.zy_law_views.proofs.FirstEntry.{first_linked, is_first, first_runnable}
 use Rattle.zy_law_views.proofs.Settled.{settled_setting, settled_stage}
 use Rattle.zy_law_views.specs.Example.{AreFirstKept, IsInstalledIn, first_place, first_snapshot, first_stand, is_first_link}
+use Rattle.zy_chain.specs.Answers.{Answers, bytes_of_answers}
 
 abbrev list_1 : List Entry
 list_1 = first_entry ∷ []
@@ -50,13 +51,14 @@ list_1 = first_entry ∷ []
 
 module _ {S : Type 0} (R : Rules S) (texts : Texts) (kept : AreFirstKept R texts) where
   one_kept : IsHistoryKept R 1 texts list_1
-  one_kept = record { replies = reply; snapshots = snapshot }
+  one_kept = record { answers = answered; snapshots = snapshot }
     where
-      reply : (place : ℕ) (text : List ℕ) → answer_at R list_1 place ≡ Some text → IsKept texts text
-      reply zero text told = absurd cc
-      reply (suc zero) text told =
-          subst (IsKept texts) (same_Some _ text (ap (λ (p : Point S). Some (answers_of R p.state first_entry)) (sym (along-nil R (origin R))) ∙ told)) kept.reply
-      reply (suc (suc before)) text told = absurd cc
+      answered : (place : ℕ) (answers : Answers) → answer_at R list_1 place ≡ Some answers → IsKept texts (bytes_of_answers answers)
+      answered zero answers told = absurd cc
+      answered (suc zero) answers told =
+          subst (λ (a : Answers). IsKept texts (bytes_of_answers a))
+          (same_Some (answers_of R (origin R) first_entry) answers (ap (λ (p : Point S). Some (answers_of R p first_entry)) (sym (along-nil R (origin R))) ∙ told)) kept.answers
+      answered (suc (suc before)) answers told = absurd cc
 
       due : (b : Bool) (text : List ℕ) → cond b (Some (first_snapshot R)) None ≡ Some text → IsKept texts text
       due true text told = subst (IsKept texts) (same_Some (first_snapshot R) text told) kept.snapshot
@@ -77,7 +79,7 @@ module _ {S : Type 0} (R : Rules S) (texts : Texts) (kept : AreFirstKept R texts
       let both = is_first head e linked in
       subst (λ (d : Digest). IsLink texts d e) (sym both.0)
       (subst (λ (x : Entry). IsLink texts empty_head x) (sym both.1)
-      (record { runnable = record { client = omega arith; in_range = record { stamp = omega arith; op = omega arith } }; entry = kept.entry; link = kept.link_kept }))
+      (record { runnable = first_runnable; entry = kept.entry; link = kept.link_kept }))
 
 -- ---- reports that end at place 1
 
@@ -200,7 +202,7 @@ module _ {S : Type 0} (R : Rules S) (chosen : Chosen)
         let tied = agreed.stage.tied 2 (omega arith) in
         may_stand R 1 (settled_setting R) (settled_stage R) chosen is 2 (omega arith) c tied
         (omega (arith, ap (λ (x : Core S). own_view x.views) agreed.third)) (omega (arith, ap (λ (x : Core S). x.views.last_view.0) agreed.third)) k list_1 list_there
-        (stands.stands list_1 (All-cons IsRunnable first_entry [] (record { client = omega arith; in_range = record { stamp = omega arith; op = omega arith } }) (All-nil IsRunnable)) refl refl refl)
+        (stands.stands list_1 (All-cons IsRunnable first_entry [] first_runnable (All-nil IsRunnable)) refl refl refl)
 
     abbrev world_7 : World
     world_7 = changing.world_7 R 1 (settled_setting R) (settled_stage R) chosen is 2 list_1 begins

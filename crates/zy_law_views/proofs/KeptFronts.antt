@@ -5,6 +5,7 @@ use Rattle.std.proofs.lemmas.Bool.{cond-false, cond-true, eq-eqb, le-ltb, ltb-fa
 use Rattle.std.proofs.lemmas.List.{drop-append-le, length-append, length-take, length-take-le, take-append-le, take-take}
 use Rattle.std.proofs.lemmas.Option.{slice_get_within}
 use Rattle.zy_base.specs.Machine.{Rules}
+use Rattle.zy_chain.specs.Answers.{Answers}
 use Rattle.zy_chain.specs.declared.entry.Entry.{Entry}
 use Rattle.zy_exec.proofs.ReplayLemmas.{place-along}
 use Rattle.zy_exec.specs.Kept.{Kept, StandsFor}
@@ -20,19 +21,19 @@ slice_take (suc n) i [] low = refl
 slice_take (suc n) zero (x ∷ xs) low = refl
 slice_take (suc n) (suc i) (x ∷ xs) low = slice_take n i xs (omega arith)
 
-mapped : {A B : Type 0} (f : A → B) (o : Option A) (y : B) → option_map f o ≡ Some y → (x : A) × (o ≡ Some x)
+pub mapped : {A B : Type 0} (f : A → B) (o : Option A) (y : B) → option_map f o ≡ Some y → (x : A) × (o ≡ Some x)
 mapped f None y is = absurd cc
 mapped f (Some x) y is = (x, refl)
 
 module _ {S : Type 0} (R : Rules S) (p : ℕ) (history : List Entry) where
-  replied : List Entry → Option Entry → Option (List ℕ)
-  replied front e = option_map (λ e. answers_of R (along R (origin R) front).state e) e
+  replied : List Entry → Option Entry → Option Answers
+  replied front e = option_map (λ e. answers_of R (along R (origin R) front) e) e
 
-  answer_front : (place : ℕ) (reply : List ℕ) → answer_at R (take p history) place ≡ Some reply → answer_at R history place ≡ Some reply
+  answer_front : (place : ℕ) (answers : Answers) → answer_at R (take p history) place ≡ Some answers → answer_at R history place ≡ Some answers
   unfolding replied
-  answer_front zero reply is = absurd cc
-  answer_front (suc before) reply is =
-      let one = mapped (λ (e : Entry). answers_of R (along R (origin R) (take before (take p history))).state e) (slice_get (take p history) before) reply is in
+  answer_front zero answers is = absurd cc
+  answer_front (suc before) answers is =
+      let one = mapped (λ (e : Entry). answers_of R (along R (origin R) (take before (take p history))) e) (slice_get (take p history) before) answers is in
       let inside : before < length (take p history) = slice_get_within (take p history) before one.0 one.1 in
       let low : before < p = omega (arith, length-take p history) in
       sym
@@ -57,7 +58,7 @@ module _ {S : Type 0} (R : Rules S) (p : ℕ) (history : List Entry) where
   pub front_kept : (interval : ℕ) (texts : Texts) → IsHistoryKept R interval texts history → IsHistoryKept R interval texts (take p history)
   front_kept interval texts kept =
       record {
-        replies = λ place reply is. kept.replies place reply (answer_front place reply is);
+        answers = λ place answers is. kept.answers place answers (answer_front place answers is);
         snapshots = λ place snapshot some is. kept.snapshots place snapshot some (snapshot_front interval place snapshot is);
       }
 

@@ -30,9 +30,8 @@ use Rattle.zy_parts.specs.declared.signed.Signed.{Signed}
 use Rattle.zy_parts.specs.declared.statements.Check.{Check}
 use Rattle.zy_parts.specs.declared.statements.Spec.{Spec}
 use Rattle.zy_law_views.specs.Held.{mark_at, IsHeldPart, IsCertOf, AreProofsHeld, IsHeldChange, IsProperNew}
-use Rattle.zy_law_views.specs.Told.{began_told, change_told, check_told, spec_told, spec_spelled}
+use Rattle.zy_law_views.specs.Told.{began_told, change_told, check_told, spec_told}
 use Rattle.zy_law_views.proofs.Backing.{cert_backed, certificate_held, number_differs, vouched_number}
-use Rattle.zy_law_normal.specs.Acts.{answer_told}
 
 abbrev Point : Type 0
 Point = View × Place × Digest
@@ -44,7 +43,7 @@ abbrev check_at : Digest → Point → Statement
 check_at state p = Statement.Check p.0.0 (mark_at p.1 p.2) state
 
 abbrev answer_in : Spec → Answer
-answer_in spec = answer_told (spec_spelled spec).client.0 spec.stamp.0 spec.reply
+answer_in spec = record { reply = spec.answers }
 
 module _ (w : World) where
   pub some_local : 0 < w.counts.local

@@ -7,8 +7,8 @@ use Rattle.std.proofs.lemmas.List.{length-append}
 use Rattle.std.proofs.lemmas.List.Sums.{fold-append}
 use Rattle.sha2.proofs.Facts256.{length-sha256}
 use Rattle.zy_base.specs.declared.ids.Digest.{Digest}
-use Rattle.zy_chain.specs.Entries.{bytes_of_entry, digest_of_entry, digest_of_request}
-use Rattle.zy_chain.specs.Fields.{entry_fields, entry-exact, entry-is_bytes}
+use Rattle.zy_chain.specs.Entries.{bytes_of_entry, digest_of_entry, digest_of_items}
+use Rattle.zy_chain.specs.Fields.{entry_fields, entry-exact, entry-fits, entry-is_bytes}
 use Rattle.zy_chain.specs.Heads.{empty_head, head_after}
 use Rattle.zy_chain.specs.declared.entry.Entry.{Entry}
 use Rattle.zy_choose.specs.Marks.{link}
@@ -32,12 +32,8 @@ heads_long head (e ∷ entries) long = heads_long (link head e) entries (head_lo
 -- ---- one link
 
 entry_again : (e : Entry) → IsRunnable e → entry_read (whole entry_fields (bytes_of_entry e)) ≡ Some e
-unfolding entry_fields
 entry_again e run =
-    let client = run.client in
-    let stamp = run.in_range.stamp in
-    ap (λ (bytes : List ℕ). entry_read (whole entry_fields bytes)) (sym (entry-is_bytes e))
-    ∙ ap entry_read (whole_again entry_fields entry-exact e (omega arith, ((omega arith, omega arith), run.in_range.op)))
+    ap (λ (bytes : List ℕ). entry_read (whole entry_fields bytes)) (sym (entry-is_bytes e)) ∙ ap entry_read (whole_again entry_fields entry-exact e (entry-fits e run.in_range))
 
 module _ (texts : Texts) where
   entry_found : (e : Entry) (d : Digest) (head : Digest) → IsLink texts head e → d ≡ digest_of (bytes_of_entry e) → entry_under texts d ≡ Some e
@@ -45,7 +41,7 @@ module _ (texts : Texts) where
       ap (entry_under texts) here ∙ ap (option_and_then (λ bytes. entry_read (whole entry_fields bytes))) is.entry ∙ entry_again e is.runnable
 
   digest_is : (e : Entry) → digest_of_entry e ≡ digest_of (bytes_of_entry e)
-  unfolding digest_of_request
+  unfolding digest_of_items
   digest_is e = refl
 
   link_is : (head : Digest) (e : Entry) → link head e ≡ digest_of (link_text head e)

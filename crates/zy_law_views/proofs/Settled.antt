@@ -17,7 +17,7 @@ use Rattle.zy_exec.proofs.ReplayLemmas.{head-along, place-along}
 use Rattle.zy_exec.specs.Kept.{Kept, settled}
 use Rattle.zy_exec.specs.Replay.{origin, answer_at}
 use Rattle.zy_law.proofs.StepsLawful.{standing_lawful, start_lawful}
-use Rattle.zy_law.specs.Example.{first_entry}
+use Rattle.zy_law.specs.Example.{first_entry, item_of}
 use Rattle.zy_law.specs.Fixed.{IsCertified}
 use Rattle.zy_law.specs.Histories.{Passes}
 use Rattle.zy_law.specs.Lawful.{IsLawful, IsTrueAnswer}
@@ -34,11 +34,9 @@ use Rattle.zy_law_views.proofs.TieKept.{may_run, tied_at_start, tied_holding, ti
 use Rattle.zy_law_views.specs.Held.{IsHeldPart, IsVouchedBy, mark_at}
 use Rattle.zy_law_views.specs.Tied.{Core, IsCommitHeld, IsFarEnough, IsGrounded, IsTied, SaysLawfully, ran_with, said_now, settled_with}
 use Rattle.zy_law_views.specs.Told.{check_told, spec_told}
-use Rattle.zy_law_views.proofs.AtWork.{told_alike}
 use Rattle.zy_law_views.proofs.Changing.{IsStage, Setting, all_three, apart, correct_one, others_stand, said_stage, start, three_differ, with_core, world_of}
 use Rattle.zy_law_views.proofs.FirstEntry.{first_linked, first_runs, one_link}
 use Rattle.zy_law_views.specs.Example.{first_stand, id_of, is_first_link}
-use Rattle.zy_law_normal.specs.Acts.{answer_told}
 use Rattle.zy_chain.specs.Answers.{digest_of_answers}
 
 module _ {S : Type 0} (R : Rules S) where
@@ -60,10 +58,10 @@ module _ {S : Type 0} (R : Rules S) where
   m_1 = mark_at place_1 head_1
 
   abbrev spec_1 : Spec
-  spec_1 = record { view = view_0; place = place_1; head = head_1; reply = digest_of_answers (unwrap_or (answer_at R list_1 1) []); client = first_entry.client; stamp = first_entry.stamp }
+  spec_1 = record { view = view_0; place = place_1; head = head_1; answers = digest_of_answers (unwrap_or (answer_at R list_1 1) []) }
 
   abbrev answer_1 : Answer
-  answer_1 = answer_told 0 1 spec_1.reply
+  answer_1 = record { reply = spec_1.answers }
 
   abbrev pub check_1 : Check
   check_1 = record { view = view_0; place = place_1; head = head_1; state = state_of R list_1 }
@@ -99,7 +97,7 @@ module _ {S : Type 0} (R : Rules S) where
   setting_with said past histories held keeps stable proof =
       record {
         interval = 1;
-        asked = λ client. list_1;
+        asked = λ client. item_of client 1 ∷ [];
         said = said;
         past = past;
         kept = is_first_link;
@@ -149,7 +147,7 @@ module _ {S : Type 0} (R : Rules S) where
 
   lawful_1 : IsLawful world_1
   lawful_1 = standing_lawful world_0 lawful_0 0 stand_1
-      (may_run R 1 world_0 lawful_0 0 (correct_one setting_0 0 (omega arith)) (core_0 0) [] (tied_0 0 (omega arith)) view_0 refl first_entry (first_runs 1 world_0 0 (core_0 0) (omega arith) (0, omega arith, refl) first_linked refl refl refl))
+      (may_run R 1 world_0 lawful_0 0 (correct_one setting_0 0 (omega arith)) (core_0 0) [] (tied_0 0 (omega arith)) view_0 refl first_entry (first_runs 1 world_0 0 (core_0 0) (omega arith) (0, omega arith, refl) (0, omega arith, refl) first_linked refl refl refl))
 
   abbrev setting_2 : Setting S
   setting_2 = setting_with (λ r. []) world_2.past ran_by (λ r. None) (λ r. kept_of (ran_by r)) (λ r. check_0) (λ r. [])
@@ -164,7 +162,7 @@ module _ {S : Type 0} (R : Rules S) where
   stage_2 =
       record {
         lawful = standing_lawful world_1 lawful_1 1 stand_1
-            (may_run R 1 world_1 lawful_1 1 correct_1 (core_0 1) [] tied_1 view_0 refl first_entry (first_runs 1 world_1 1 (core_0 1) (omega arith) (0, omega arith, refl) first_linked refl refl refl));
+            (may_run R 1 world_1 lawful_1 1 correct_1 (core_0 1) [] tied_1 view_0 refl first_entry (first_runs 1 world_1 1 (core_0 1) (omega arith) (0, omega arith, refl) (0, omega arith, refl) first_linked refl refl refl));
         links = refl;
         correct = correct_one setting_2;
         tied = at;
@@ -172,8 +170,8 @@ module _ {S : Type 0} (R : Rules S) where
     where
       at : (r : ℕ) → r < 3 → IsTied R 1 world_2 r (start R 1 setting_2 r) (setting_2.histories r)
       at zero small = others_stand R 1 world_1 1 0 stand_1 (ran_with first_entry (core_0 0)) list_1 refl
-          (tied_run R 1 world_0 lawful_0 0 (correct_one setting_0 0 small) (core_0 0) [] (tied_0 0 small) view_0 refl first_entry (first_runs 1 world_0 0 (core_0 0) (omega arith) (0, omega arith, refl) first_linked refl refl refl))
-      at (suc zero) small = tied_run R 1 world_1 lawful_1 1 correct_1 (core_0 1) [] tied_1 view_0 refl first_entry (first_runs 1 world_1 1 (core_0 1) (omega arith) (0, omega arith, refl) first_linked refl refl refl)
+          (tied_run R 1 world_0 lawful_0 0 (correct_one setting_0 0 small) (core_0 0) [] (tied_0 0 small) view_0 refl first_entry (first_runs 1 world_0 0 (core_0 0) (omega arith) (0, omega arith, refl) (0, omega arith, refl) first_linked refl refl refl))
+      at (suc zero) small = tied_run R 1 world_1 lawful_1 1 correct_1 (core_0 1) [] tied_1 view_0 refl first_entry (first_runs 1 world_1 1 (core_0 1) (omega arith) (0, omega arith, refl) (0, omega arith, refl) first_linked refl refl refl)
       at (suc (suc zero)) small = others_stand R 1 world_1 1 2 stand_1 (core_0 2) [] refl (others_stand R 1 world_0 0 2 stand_1 (core_0 2) [] refl (tied_0 2 small))
       at (suc (suc (suc r))) small = absurd (omega arith)
 
@@ -230,7 +228,7 @@ module _ {S : Type 0} (R : Rules S) where
   lies w s liar within = record { within = within; said = inl liar }
 
   alike : response ≡ spec_told spec_1
-  alike = told_alike spec_1 (omega arith)
+  alike = refl
 
   certificate_1 : IsCertificate point_of_spec 3 specs_1 (view_0, place_1, head_1)
   certificate_1 =

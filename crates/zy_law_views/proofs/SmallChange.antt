@@ -34,6 +34,7 @@ use Rattle.zy_law_views.proofs.Changing as changing
 use Rattle.zy_law_views.proofs.Changing.{last_of_three, IsStage, Setting, begun_lawful, choice_known, confirmed_start, correct_one, is_6, may_stand, others_stand, some_chosen, start, three_agreed, world_7, world_of}
 use Rattle.zy_law_views.proofs.FirstEntry.{first_linked, first_runs, one_link}
 use Rattle.zy_law_views.specs.Example.{asked_world, core_of_one, first_stand, id_of, is_first_link, silent_world}
+use Rattle.zy_chain.specs.declared.item.Item.{Item}
 
 -- ---- what is chosen out of three reports, of which two tell the empty history
 
@@ -54,7 +55,7 @@ no_mark anchor m r none base past = by (has_mark link r.stretch anchor) (has_mar
     by true true is = let has = has_mark-Has link r.stretch m is in let end = has.below in absurd (omega (arith, ap (λ (l : List Entry). length l) none))
 
 -- the first replica ran these, the others none
-abbrev small_setting : {S : Type 0} → Rules S → ℕ → Digest → List Entry → (ℕ → List Entry) → (ℕ → List Stand) → (Digest → Entry → Bool) → Setting S
+abbrev small_setting : {S : Type 0} → Rules S → ℕ → Digest → List Entry → (ℕ → List Item) → (ℕ → List Stand) → (Digest → Entry → Bool) → Setting S
 small_setting R interval state ran asked past kept =
     record {
       interval = interval;
@@ -71,7 +72,7 @@ small_setting R interval state ran asked past kept =
       proof = λ r. [];
     }
 
-module _ {S : Type 0} (R : Rules S) (interval : ℕ) (ran : List Entry) (asked : ℕ → List Entry) (past : ℕ → List Stand) (kept : Digest → Entry → Bool) (state : Digest) where
+module _ {S : Type 0} (R : Rules S) (interval : ℕ) (ran : List Entry) (asked : ℕ → List Item) (past : ℕ → List Stand) (kept : Digest → Entry → Bool) (state : Digest) where
   abbrev setting : Setting S
   setting = small_setting R interval state ran asked past kept
 
@@ -212,7 +213,7 @@ module _ {S : Type 0} (R : Rules S) (interval : ℕ) (some : 0 < interval) where
   start_tied r small = tied_at_start R interval r (asked_world interval) (id_of r) empty_head some refl (asked_starts interval) (correct_one asked_setting r small) refl refl
 
   runs : IsRunnableNext interval (asked_world interval) 0 (core 0) [] first_entry
-  runs = first_runs interval (asked_world interval) 0 (core 0) some (0, omega arith, refl) first_linked refl refl refl
+  runs = first_runs interval (asked_world interval) 0 (core 0) some (0, omega arith, refl) (0, omega arith, refl) first_linked refl refl refl
 
   abbrev one_stand : Stand
   one_stand = record { view = 0; history = ran_one }
@@ -224,7 +225,7 @@ module _ {S : Type 0} (R : Rules S) (interval : ℕ) (some : 0 < interval) where
   may = may_run R interval (asked_world interval) (start_lawful (asked_world interval) (asked_starts interval)) 0 (correct_one asked_setting 0 (omega arith)) (core 0) [] (start_tied 0 (omega arith)) (record { 0 = 0 }) refl first_entry runs
 
   abbrev ran_setting : Setting S
-  ran_setting = small_setting R interval empty_head ran_one (λ client. ran_one) ran_past is_first_link
+  ran_setting = small_setting R interval empty_head ran_one (asked_world interval).asked ran_past is_first_link
 
   ran_stage : IsStage R interval ran_setting (world_of ran_setting) (start R interval ran_setting)
   ran_stage =
@@ -246,7 +247,7 @@ module _ {S : Type 0} (R : Rules S) (interval : ℕ) (some : 0 < interval) where
   change_back =
       let stage = ran_stage in
       let (chosen, is) = some_chosen R interval ran_setting stage in
-      let may = begins R interval ran_one (λ client. ran_one) ran_past is_first_link empty_head stage chosen is in (
+      let may = begins R interval ran_one (asked_world interval).asked ran_past is_first_link empty_head stage chosen is in (
         world_7 R interval ran_setting stage chosen is 0 [] may,
         mark_at chosen.place chosen.head,
         begun_lawful R interval ran_setting stage chosen is 0 [] may,

@@ -115,7 +115,7 @@ module _ {S : Type 0} (R : Rules S) (interval : ℕ) (texts : Texts) (w : World)
         stands = stands_now;
         kept = kept_now;
         idle = way.idle;
-        back = λ e may. let run = subst (λ (u : World). MayRun u e) way.world_is may in record { client = run.client; range = run.range; asked = run.asked };
+        back = λ e may. let run = subst (λ (u : World). MayRun u e) way.world_is may in record { clients = run.clients; range = run.range; asked = run.asked };
       }
 
   -- as it is

@@ -11,6 +11,7 @@ use Rattle.zy_base.specs.declared.step.Mode.{Mode}
 use Rattle.zy_base.specs.declared.step.Mode.TheVariants.{Active, Leaving}
 use Rattle.zy_chain.specs.Stretch.{Mark}
 use Rattle.zy_chain.specs.declared.entry.Entry.{Entry}
+use Rattle.zy_chain.specs.declared.item.Item.{Item}
 use Rattle.zy_change.specs.Views.{Views}
 use Rattle.zy_change.specs.declared.kept.Accepted.{Accepted}
 use Rattle.zy_change.specs.declared.kept.Certificate.{Certificate}
@@ -29,8 +30,8 @@ use Rattle.zy_law_views.specs.Held.{AreProofsHeld, IsCertOf, IsHeldChange, IsHel
 use Rattle.zy_law_views.specs.Tied.{Core, HasGone, IsAcceptedTied, IsBegun, IsChosenNew, IsCommitHeld, IsFarEnough, IsGrounded, IsHearing, IsKeptChange, IsQuiet, IsStanding, IsTied, IsWaitingTied, told_by}
 use Rattle.zy_law_views.specs.Told.{began_told, check_told, spec_told}
 
-module _ (w : World) (asked : ℕ → List Entry) (said : ℕ → List Spoken) (past : ℕ → List Stand) (kept : Digest → Entry → Bool)
-    (asks : (q : ℕ) (e : Entry) → Contains (w.asked q) e → Contains (asked q) e)
+module _ (w : World) (asked : ℕ → List Item) (said : ℕ → List Spoken) (past : ℕ → List Stand) (kept : Digest → Entry → Bool)
+    (asks : (q : ℕ) (i : Item) → Contains (w.asked q) i → Contains (asked q) i)
     (says : (q i : ℕ) (x : Spoken) → slice_get (w.said q) i ≡ Some x → slice_get (said q) i ≡ Some x)
     (stands : (q i : ℕ) (b : Stand) → slice_get (w.past q) i ≡ Some b → slice_get (past q) i ≡ Some b)
     (keeps : (h : Digest) (e : Entry) → w.kept h e ≡ true → kept h e ≡ true) where
