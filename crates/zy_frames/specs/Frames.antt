@@ -20,7 +20,8 @@ use Rattle.zy_parts.specs.Asks.{asks_fields, AreAsksInRange, entry_of_asks}
 use Rattle.zy_frames.specs.declared.frame.OrderFrame.{OrderFrame}
 use Rattle.zy_frames.specs.declared.frame.Frame.{Frame}
 use Rattle.zy_chain.specs.declared.entry.Entry.{Entry}
-use Rattle.zy_chain.specs.Answers.{Answers, answers_fields, FitsAnswers}
+use Rattle.zy_chain.specs.Answers.{Answers, FitsAnswers}
+use Rattle.zy_chain.specs.Fields.{answers_fields}
 use Rattle.zy_parts.specs.Sizes.{order_size, ask_size, asks_size, spec_size, confirm_size, signed_size}
 use Rattle.zy_chain.specs.Sizes.{answers_size}
 use Rattle.zy_frames.specs.declared.frame.Frame.TheVariants as frames

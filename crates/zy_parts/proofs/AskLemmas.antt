@@ -14,7 +14,7 @@ use Rattle.zy_parts.specs.declared.signed.Signed.{Signed}
 use Rattle.zy_parts.specs.declared.statements.Ask.{Ask}
 use Rattle.zy_parts.specs.Statements.{ask_fields, IsAskInRange}
 use Rattle.zy_parts.specs.Signing.{signed, IsSignedInRange}
-use Rattle.zy_parts.specs.Asks.{asking, item_of, entry_of_asks, ask_within, ask_behind, asks_fields, IsNextAsk, AreAsksInRange}
+use Rattle.zy_parts.specs.Asks.{item_of, ask_within, ask_behind, asks_fields, IsNextAsk, AreAsksInRange}
 
 -- each by itself
 pub asks-alone : (asks : List (Signed Ask)) → AreAsksInRange asks → All (IsSignedInRange IsAskInRange) asks
@@ -44,7 +44,7 @@ different (b ∷ before) i behind once =
     let turned : nat_eq b.client.0 i.client.0 ≡ false = grind (arith, nat_tests, other.0) in
     or_from (nat_eq b.client.0 i.client.0) (has_client before i.client) turned (different before i behind parts.1)
 
-next_items : (before asks : List (Signed Ask)) → AreSuccessive IsNextAsk before asks → AllByRecursion (λ a. (asking a.by).0 < 2 ^ 32) asks → has_client_twice (map item_of before ++ map item_of asks) ≡ false
+next_items : (before asks : List (Signed Ask)) → AreSuccessive IsNextAsk before asks → AllByRecursion (λ i. i.client.0 < 2 ^ 32) (map item_of asks) → has_client_twice (map item_of before ++ map item_of asks) ≡ false
     → AreNextItems (map item_of before) (map item_of asks)
 next_items before [] next small once = tt
 next_items before (a ∷ asks) next small once =
@@ -63,7 +63,13 @@ next_items before (a ∷ asks) next small once =
     )
 
 -- of different clients
-pub entry-in_range : (asks : List (Signed Ask)) → AreAsksInRange asks → All (λ a. (asking a.by).0 < 2 ^ 32) asks → has_client_twice (map item_of asks) ≡ false → IsEntryInRange (entry_of_asks asks)
-entry-in_range asks range small once =
-    let as_many : length (map item_of asks) ≡ length asks = length-map item_of asks in
-    record { least = omega (arith, range.least); most = omega (arith, range.most); each = next_items [] asks range.each (recursion_from_All _ asks small) once }
+pub entry-in_range : (asks : List (Signed Ask)) (items : List Item) → items ≡ map item_of asks → All (λ i. i.client.0 < 2 ^ 32) items → AreAsksInRange asks → has_client_twice (map item_of asks) ≡ false
+    → IsEntryInRange (record { items = items })
+entry-in_range asks items same small range once =
+    let as_many : length items ≡ length asks = ap length same ∙ length-map item_of asks in
+    let clients : AllByRecursion (λ (i : Item). i.client.0 < 2 ^ 32) (map item_of asks) = subst (λ (l : List Item). AllByRecursion (λ (i : Item). i.client.0 < 2 ^ 32) l) same (recursion_from_All _ items small) in
+    record {
+      least = omega (arith, range.least);
+      most = omega (arith, range.most);
+      each = subst (λ (l : List Item). AreNextItems [] l) (sym same) (next_items [] asks range.each clients once);
+    }
