@@ -7,9 +7,12 @@ use Rattle.zy_base.specs.Machine.{Rules}
 use Rattle.zy_base.specs.declared.ids.Digest.{Digest}
 use Rattle.zy_base.specs.declared.ids.Place.{Place}
 use Rattle.zy_chain.specs.declared.entry.Entry.{Entry}
+use Rattle.zy_chain.specs.Answers.{Answers, bytes_of_answers}
+use Rattle.zy_chain.specs.Entries.{digest_of_entry}
+use Rattle.zy_chain.specs.Heads.{head_after}
 use Rattle.zy_chain.specs.Stretch.{Stretch}
 use Rattle.zy_exec.specs.Kept.{Kept, last_place, now_of, longer, back_to}
-use Rattle.zy_exec.specs.Replay.{Point, known_of, answers_of}
+use Rattle.zy_exec.specs.Replay.{Point, answers_of}
 use Rattle.zy_exec.specs.Shots.{snapshot_in}
 use Rattle.zy_exec.proofs.ReplayLemmas.{along-append}
 use Rattle.zy_table.specs.declared.deeds.Got.{Got}
@@ -52,21 +55,21 @@ module _ {S : Type 0} where
       ∙ sym (ap (gots_along R k) (take_more entries i e within))
 
   -- what is read after an entry was run is what is gained
-  pub got_is : (R : Rules S) (k after : Kept S) (e entry : Entry) (place : Place) (before head : Digest) (reply : List ℕ) (snapshot : Option (List ℕ)) → after ≡ longer k e → entry ≡ e
-      → place.0 ≡ (now_of R after).place → before ≡ (now_of R k).head → head ≡ (now_of R after).head → reply ≡ answers_of R (now_of R k).state e
+  pub got_is : (R : Rules S) (k after : Kept S) (e : Entry) (place : Place) (before head : Digest) (answers : Answers) (reply : List ℕ) (snapshot : Option (List ℕ)) → after ≡ longer k e
+      → place.0 ≡ (now_of R after).place → before ≡ (now_of R k).head → head ≡ (now_of R after).head → answers ≡ answers_of R (now_of R k) e → reply ≡ bytes_of_answers answers
       → snapshot ≡ snapshot_in R after place.0
-      → ◌≡◌ {A = Got} (record { place = place; before = before; entry = entry; head = head; reply = reply; snapshot = snapshot }) (got_next R k e)
-  got_is R k after e entry place before head reply snapshot after_is entry_is place_is before_is head_is reply_is snapshot_is =
-      let known = known_of R (now_of R k) e in
+      → ◌≡◌ {A = Got} (record { place = place; before = before; entry = e; head = head; reply = reply; snapshot = snapshot }) (got_next R k e)
+  got_is R k after e place before head answers reply snapshot after_is place_is before_is head_is answers_is reply_is snapshot_is =
       let now = ap (now_of R) after_is ∙ along-append R k.base k.entries e in
-      let number : place.0 ≡ known.place.0 = place_is ∙ ap (λ (p : Point S). p.place) now in
-      let here : place ≡ known.place = ap (λ (n : ℕ). let p : Place = record { 0 = n } in p) number in
-      let head_here : head ≡ known.head = head_is ∙ ap (λ (p : Point S). p.head) now in
-      let shot : snapshot ≡ snapshot_in R (longer k e) known.place.0 =
-      snapshot_is ∙ ap (λ (x : Kept S). snapshot_in R x place.0) after_is ∙ ap (snapshot_in R (longer k e)) number in
-      let reply_here : reply ≡ known.reply = reply_is in
-      let same : ◌≡◌ {A = Got} (record { place = place; before = before; entry = entry; head = head; reply = reply; snapshot = snapshot })
-      (record { place = known.place; before = (now_of R k).head; entry = e; head = known.head; reply = known.reply; snapshot = snapshot_in R (longer k e) known.place.0 }) =
+      let next : ℕ = (now_of R k).place + 1 in
+      let number : place.0 ≡ next = place_is ∙ ap (λ (p : Point S). p.place) now in
+      let there : Place = record { 0 = next } in
+      let here : place ≡ there = ap (λ (n : ℕ). let p : Place = record { 0 = n } in p) number in
+      let head_here : head ≡ head_after (now_of R k).head (digest_of_entry e) = head_is ∙ ap (λ (p : Point S). p.head) now in
+      let shot : snapshot ≡ snapshot_in R (longer k e) next = snapshot_is ∙ ap (λ (x : Kept S). snapshot_in R x place.0) after_is ∙ ap (snapshot_in R (longer k e)) number in
+      let reply_here : reply ≡ bytes_of_answers (answers_of R (now_of R k) e) = reply_is ∙ ap bytes_of_answers answers_is in
+      let same : ◌≡◌ {A = Got} (record { place = place; before = before; entry = e; head = head; reply = reply; snapshot = snapshot })
+      (record { place = there; before = (now_of R k).head; entry = e; head = head_after (now_of R k).head (digest_of_entry e); reply = bytes_of_answers (answers_of R (now_of R k) e); snapshot = snapshot_in R (longer k e) next }) =
       cc in
       same
 

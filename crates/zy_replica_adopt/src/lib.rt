@@ -2,10 +2,12 @@
 //! histories are one and on along the report of the replica that provides it.
 #![tactic(auto)]
 
+mod gaining;
 mod judging;
 mod laws;
 mod taking;
 
+pub use gaining::got_after;
 pub use judging::judge;
 pub use laws::{adoptions, checkpoints, verdicts};
 pub use taking::take_over;

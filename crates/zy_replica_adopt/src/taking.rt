@@ -4,18 +4,18 @@ ghost use Rattle.zy_chain.specs.Entries.{IsEntryInRange, IsOfClients};
 ghost use Rattle.zy_chain.specs.Stretch.{end_of, head_in};
 ghost use Rattle.zy_parts.specs.Reports.{IsToldInRange};
 ghost use Rattle.zy_exec.specs.Kept.{last_place, now_of, longer, back_to, stretch_of as own_stretch};
-ghost use Rattle.zy_exec.specs.Shots.{snapshot_in};
 ghost use Rattle.zy_evidence.specs.Reading.{stretch_of};
 ghost use Rattle.zy_table.specs.Adopting.{same_head, common_with, with_entries, taken_over, got_next, gots_along, gots_of, IsGotInRange};
 ghost use Rattle.zy_exec.specs.Installed.{IsRunnable};
 ghost use Rattle.zy_exec.specs.Replay.{answers_of};
 ghost use Rattle.zy_chain.specs.Answers.{FitsAnswers};
 
+use crate::gaining::got_after;
 use std::alloc::Global;
 use std::marker::Brand;
 use std::sync::ledger::{Blank, Ledger};
-use zy_base::{Bytes, Digest, Items, Machine, Place, Steps, Want};
-use zy_chain::{Entry, entry_digest, next_head};
+use zy_base::{Digest, Items, Machine, Place, Steps, Want};
+use zy_chain::{Answered, Entry, entry_digest, next_head};
 use zy_exec::Exec;
 use zy_parts::Told;
 use zy_table::{Gains, Got};
@@ -126,12 +126,12 @@ fn run_all<M: Machine>(alloc: Global, exec: &mut Exec<M>, entries: &[Entry]) -> 
 {
     let mut gots = Items::new(alloc);
     for entry in entries {
-        gots.push(run_one(exec, entry)?)?;
+        gots.push(run_one(alloc, exec, entry)?)?;
     }
     Ok(gots)
 }
 
-fn run_one<M: Machine>(exec: &mut Exec<M>, entry: &Entry) -> Result<Got, Want>
+fn run_one<M: Machine>(alloc: Global, exec: &mut Exec<M>, entry: &Entry) -> Result<Got, Want>
     requires room { last_place exec.old + 1 < 2 ^ 62 }
     requires runnable { IsRunnable entry.now }
     ensures exec { OnOk result (exec.new ≡ longer exec.old entry.now) }
@@ -139,29 +139,20 @@ fn run_one<M: Machine>(exec: &mut Exec<M>, entry: &Entry) -> Result<Got, Want>
     ensures range { IfOk result IsGotInRange }
 {
     let before = exec.head();
-    let reply = run_copy(exec, entry)?;
-    let entry = entry_copy(entry)?;
-    let place = exec.end();
-    let snapshot = snapshot_copy(exec, place)?;
-    Ok(Got {
-        place,
-        before,
-        entry,
-        head: exec.head(),
-        reply,
-        snapshot,
-    })
+    let answers = run_copy(exec, entry)?;
+    let copy = entry_copy(entry)?;
+    got_after(alloc, exec, before, copy, &answers)
 }
 
-fn run_copy<M: Machine>(exec: &mut Exec<M>, entry: &Entry) -> Result<Bytes, Want>
+fn run_copy<M: Machine>(exec: &mut Exec<M>, entry: &Entry) -> Result<Items<Answered>, Want>
     requires room { last_place exec.old + 1 < 2 ^ 62 }
     requires runnable { IsRunnable entry.now }
     ensures exec { OnOk result (exec.new ≡ longer exec.old entry.now) }
-    ensures reply { IfOk result (λ reply. reply ≡ answers_of M.rules (now_of M.rules exec.old).state entry.now) }
-    ensures short { IfOk result (λ reply. FitsAnswers reply) }
+    ensures answers { IfOk result (λ answers. answers ≡ answers_of M.rules (now_of M.rules exec.old) entry.now) }
+    ensures short { IfOk result FitsAnswers }
 {
     match exec.run(entry_copy(entry)?) {
-        Ok(reply) => Ok(reply),
+        Ok(answers) => Ok(answers),
         Err((_, want)) => Err(want),
     }
 }
@@ -170,14 +161,4 @@ fn entry_copy(entry: &Entry) -> Result<Entry, Want>
     ensures { IfOk result (λ copy. copy ≡ entry.now) }
 {
     Ok(entry.clone()?)
-}
-
-// The snapshot at a place, where there is one.
-fn snapshot_copy<M: Machine>(exec: &Exec<M>, place: Place) -> Result<Option<Bytes>, Want>
-    ensures { IfOk result (λ copy. copy ≡ snapshot_in M.rules exec.now place.0) }
-{
-    match exec.snapshot_at(place) {
-        Some(bytes) => Ok(Some(bytes.clone()?)),
-        None => Ok(None),
-    }
 }

@@ -203,11 +203,11 @@ module _ {S : Type 0} (s : State S) (r : IsReady s) (fit : IsFit s.views) (cert 
         }
 
     -- a view can begin with a history that stands on it
-    begins_at : (k : Kept S) → k.base.place ≡ stable_place → k.base.head ≡ told.stable_head → k.interval ≡ s.kept.interval → All IsEntryInRange k.entries → All IsOfClients k.entries
+    begins_at : (k : Kept S) → k.base.place ≡ stable_place → k.base.head ≡ told.stable_head → k.interval ≡ s.kept.interval → length k.base.known ≡ 64 → All IsEntryInRange k.entries → All IsOfClients k.entries
         → last_place k ≡ chosen.place.0 → Fits (record { base = record { place = stable_place; head = told.stable_head }; entries = k.entries }) (record { place = chosen.place.0; head = chosen.head })
         → CanBegin s cert chosen k (with_stable s.board told.checks)
     unfolding with_stable
-    begins_at k place head interval entries clients ends fits =
+    begins_at k place head interval known entries clients ends fits =
         let stable = well.itself.stable.view in
         let last = well.last in
         let for_view : c.stmt.view.0 ≡ cert.new.stmt.view.0 = ap (λ (v : View). v.0) given.0.view_is in
@@ -221,6 +221,7 @@ module _ {S : Type 0} (s : State S) (r : IsReady s) (fit : IsFit s.views) (cert 
           place = ap (λ (x : Check). x.place.0) told_is ∙ sym place;
           head = ap (λ (x : Check). x.head) told_is ∙ sym head;
           interval = interval;
+          known = known;
           board = with_stable-is s.board stable_place told.checks r.board told_multiple told_proof;
           board_interval = r.board_interval;
           view = omega (arith, view, for_view);
@@ -238,7 +239,7 @@ module _ {S : Type 0} (s : State S) (r : IsReady s) (fit : IsFit s.views) (cert 
 
   -- ---- what is installed
 
-  module _ (some : 0 < told.stable_place.0) (R : Rules S) (k : Kept S) (interval : k.interval ≡ s.kept.interval) (nothing : k.entries ≡ []) (place : k.base.place ≡ told.stable_place.0) (head : k.base.head ≡ told.stable_head) where
+  module _ (some : 0 < told.stable_place.0) (R : Rules S) (k : Kept S) (interval : k.interval ≡ s.kept.interval) (nothing : k.entries ≡ []) (knows : length k.base.known ≡ 64) (place : k.base.place ≡ told.stable_place.0) (head : k.base.head ≡ told.stable_head) where
     shared : IsShared report (stretch_of k) told.stable_place.0
     shared =
         record {
@@ -264,6 +265,7 @@ module _ {S : Type 0} (s : State S) (r : IsReady s) (fit : IsFit s.views) (cert 
         (base k shown_meets small known ∙ place)
         (ap (λ (p : Point S). p.head) (taken_base report chosen.place.0 k) ∙ head)
         (taken_interval report chosen.place.0 k ∙ interval)
+        (ap (λ (p : Point S). length p.known) (taken_base report chosen.place.0 k) ∙ knows)
         (taken_range k shown_meets small known)
         (taken_clients k shown_meets small known)
         (end k shown_meets small known)
@@ -403,6 +405,7 @@ module _ {S : Type 0} (s : State S) (r : IsReady s) (fit : IsFit s.views) (cert 
           place = r.board_stable ∙ sym now_base;
           head = r.board_head ∙ ap (λ (p : Point S). p.head) (sym (taken_base report chosen.place.0 s.kept));
           interval = taken_interval report chosen.place.0 s.kept;
+          known = ap (λ (p : Point S). length p.known) (taken_base report chosen.place.0 s.kept) ∙ r.all_known;
           board = r.board;
           board_interval = r.board_interval;
           view = omega arith;
@@ -450,6 +453,7 @@ module _ {S : Type 0} (s : State S) (r : IsReady s) (fit : IsFit s.views) (cert 
           (settled_place R now told.stable_place.0 settles_above settles_within)
           (head-along R now.base (take (told.stable_place.0 - now.base.place) now.entries) ∙ head_taken)
           (taken_interval report chosen.place.0 s.kept)
+          (length-known-along R now.base (take (told.stable_place.0 - now.base.place) now.entries) ∙ ap (λ (p : Point S). length p.known) (taken_base report chosen.place.0 s.kept) ∙ r.all_known)
           (All-drop IsEntryInRange (told.stable_place.0 - now.base.place) now.entries now_range)
           (All-drop IsOfClients (told.stable_place.0 - now.base.place) now.entries now_clients)
           (settled_end R now told.stable_place.0 settles_above settles_within ∙ now_end)
@@ -497,11 +501,11 @@ provided group interval cert chosen is =
 
 -- which a snapshot that was shown lets it install
 pub installs : {S : Type 0} (R : Rules S) (s : State S) → IsReady s → IsFit s.views → (w : Waiting) → s.views.waiting ≡ Some w → IsCertified s.views.counts s.views.interval w.cert w.chosen
-    → (k : Kept S) → k.interval ≡ s.kept.interval → k.entries ≡ []
+    → (k : Kept S) → k.interval ≡ s.kept.interval → k.entries ≡ [] → length k.base.known ≡ 64
     → ((c : Signed Change) → slice_get w.cert.new.stmt.changes w.chosen.provider ≡ Some c → (k.base.place ≡ c.stmt.told.stable_place.0) × (k.base.head ≡ c.stmt.told.stable_head))
     → (t : Told) → ((c : Signed Change) → slice_get w.cert.new.stmt.changes w.chosen.provider ≡ Some c → t ≡ c.stmt.told) → CanInstall R s w.cert w.chosen t k
-installs R s r fit w waits is k interval nothing shows t says =
+installs R s r fit w waits is k interval nothing knows shows t says =
     let (c, there, head) = accepted_provider s.views.counts s.views.interval (record { new = w.cert.new; chosen = w.chosen }) is.accepted in
     let ready : IsWaitingReady w = r.views.waiting w waits in
     let here = shows c there in
-    subst (λ (x : Told). CanInstall R s w.cert w.chosen x k) (sym (says c there)) (can_install s r fit w.cert w.chosen is c there (ready.proven c there) R k interval nothing here.0 here.1)
+    subst (λ (x : Told). CanInstall R s w.cert w.chosen x k) (sym (says c there)) (can_install s r fit w.cert w.chosen is c there (ready.proven c there) R k interval nothing knows here.0 here.1)

@@ -42,6 +42,7 @@ pub record CanBegin {S : Type 0} (s : State S) (cert : ViewCert) (chosen : Chose
   pub place : b.stable.place.0 ≡ k.base.place
   pub head : b.stable.head ≡ k.base.head
   pub interval : k.interval ≡ s.kept.interval
+  pub known : length k.base.known ≡ 64
   pub board : IsBoard b
   pub board_interval : b.interval ≡ s.kept.interval
   pub view : b.stable.view.0 ≤ cert.new.stmt.view.0
@@ -128,6 +129,7 @@ module _ {S : Type 0} (s : State S) (r : IsReady s) (fit : IsFit s.views) (cert 
         stable = can.place;
         least = subst (λ (n : ℕ). 4 ≤ n) (sym can.interval) r.least;
         most = subst (λ (n : ℕ). n ≤ 32) (sym can.interval) r.most;
+        all_known = can.known;
         board = cleared-is b can.board;
         board_interval = can.board_interval ∙ sym can.interval;
         board_stable = can.place;

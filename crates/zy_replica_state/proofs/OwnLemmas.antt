@@ -9,7 +9,8 @@ use Rattle.std.proofs.lemmas.Option.{same_Some, cond_some}
 use Rattle.zy_base.specs.Machine.{Rules}
 use Rattle.zy_base.specs.declared.ids.Digest.{Digest}
 use Rattle.zy_chain.specs.declared.entry.Entry.{Entry}
-use Rattle.zy_chain.specs.Stretch.{entry_in, head_in}
+use Rattle.zy_chain.specs.Answers.{Answers}
+use Rattle.zy_chain.specs.Stretch.{head_in}
 use Rattle.zy_exec.specs.Kept.{Kept, last_place, stretch_of, reply_in}
 use Rattle.zy_exec.specs.Replay.{along, origin}
 use Rattle.zy_exec.specs.Shots.{snapshot_due, snapshot_in, digest_of_snapshot}
@@ -66,9 +67,9 @@ first_snapshot R k base none = rw (base, none, along-nil R (origin R), zero-mod 
 
 -- ---- what is said of a place
 
-record IsOwnFrom (view place : ℕ) (entry : Option Entry) (head state : Option Digest) (own : OwnCheckpoint) : Type 0 where
-  pub first : Entry
-  pub entry_is : entry ≡ Some first
+record IsOwnFrom (view place : ℕ) (head : Option Digest) (answers : Option Answers) (state : Option Digest) (own : OwnCheckpoint) : Type 0 where
+  pub given : Answers
+  pub answers_is : answers ≡ Some given
   pub digest : Digest
   pub state_is : state ≡ Some digest
   pub view_is : own.check.view.0 ≡ view
@@ -77,20 +78,17 @@ record IsOwnFrom (view place : ℕ) (entry : Option Entry) (head state : Option 
   pub same_view : own.spec.view ≡ own.check.view
   pub same_place : own.spec.place ≡ own.check.place
   pub same_head : own.spec.head ≡ own.check.head
-  pub same_client : own.spec.client ≡ first.client
-  pub same_stamp : own.spec.stamp ≡ first.stamp
 
-own_parts : (view place : ℕ) (entry : Option Entry) (head : Option Digest) (reply : Option (List ℕ)) (state : Option Digest) (own : OwnCheckpoint)
-    → own_from view place entry head reply state ≡ Some own → IsOwnFrom view place entry head state own
-own_parts view place None head reply state own some = cc
-own_parts view place (Some e) None reply state own some = cc
-own_parts view place (Some e) (Some head) None state own some = cc
-own_parts view place (Some e) (Some head) (Some reply) None own some = cc
-own_parts view place (Some e) (Some head) (Some reply) (Some state) own some =
-    let is : own_with (spec_at view place e head reply) state ≡ own = same_Some _ _ some in
+own_parts : (view place : ℕ) (head : Option Digest) (answers : Option Answers) (state : Option Digest) (own : OwnCheckpoint)
+    → own_from view place head answers state ≡ Some own → IsOwnFrom view place head answers state own
+own_parts view place None answers state own some = cc
+own_parts view place (Some head) None state own some = cc
+own_parts view place (Some head) (Some answers) None own some = cc
+own_parts view place (Some head) (Some answers) (Some state) own some =
+    let is : own_with (spec_at view place head answers) state ≡ own = same_Some _ _ some in
     record {
-      first = e;
-      entry_is = refl;
+      given = answers;
+      answers_is = refl;
       digest = state;
       state_is = refl;
       view_is = ap (λ (o : OwnCheckpoint). o.check.view.0) (sym is);
@@ -99,13 +97,11 @@ own_parts view place (Some e) (Some head) (Some reply) (Some state) own some =
       same_view = subst (λ (o : OwnCheckpoint). o.spec.view ≡ o.check.view) is refl;
       same_place = subst (λ (o : OwnCheckpoint). o.spec.place ≡ o.check.place) is refl;
       same_head = subst (λ (o : OwnCheckpoint). o.spec.head ≡ o.check.head) is refl;
-      same_client = ap (λ (o : OwnCheckpoint). o.spec.client) (sym is);
-      same_stamp = ap (λ (o : OwnCheckpoint). o.spec.stamp) (sym is);
     }
 
-entry_above : (within : Bool) (rest : Option Entry) (e : Entry) → (if within then None else rest) ≡ Some e → within ≡ false
-entry_above true rest e some = cc
-entry_above false rest e some = refl
+answers_above : (f : Entry → Answers) (within : Bool) (rest : Option Entry) (answers : Answers) → option_map f (if within then None else rest) ≡ Some answers → within ≡ false
+answers_above f true rest answers some = cc
+answers_above f false rest answers some = refl
 
 -- while it is active, its own view is the last one
 pub own_is_last : {S : Type 0} (s : State S) → ((v : View) → s.views.mode ≡ Active v → s.views.last_view ≡ v) → is_leaving s ≡ false → (view : View) → view.0 ≡ own_view s → view ≡ s.views.last_view
@@ -117,19 +113,13 @@ own_is_last s active not_leaving view is = ap (λ (n : ℕ). record { 0 = n }) i
 
 module _ {S : Type 0} (R : Rules S) (s : State S) (place : ℕ) where
   pub own_place : ForSome (own_at R s place) (λ own. own.check.place ≡ record { 0 = place })
-  own_place own some = (own_parts (own_view s) place _ _ _ _ own some).place_is
-
-  -- its response is to an entry of the history
-  pub own_entry : (own : OwnCheckpoint) → own_at R s place ≡ Some own → (e : Entry) × (entry_in (stretch_of s.kept) place ≡ Some e) × (own.spec.client ≡ e.client) × (own.spec.stamp ≡ e.stamp)
-  own_entry own some =
-      let is = own_parts (own_view s) place _ _ _ _ own some in
-      (is.first, is.entry_is, is.same_client, is.same_stamp)
+  own_place own some = (own_parts (own_view s) place _ _ _ own some).place_is
 
   pub own_ready : ((v : View) → s.views.mode ≡ Active v → s.views.last_view ≡ v) → is_leaving s ≡ false → own_view s < 2 ^ 62 → last_place s.kept < 2 ^ 62 → ForSome (own_at R s place) (IsOwnReady s.kept s.views.last_view)
   own_ready active not_leaving view last own some =
-      let is = own_parts (own_view s) place _ _ _ _ own some in
+      let is = own_parts (own_view s) place _ _ _ own some in
       let shown = state_shown R s.kept place is.digest is.state_is in
-      let above : s.kept.base.place < place = leb-false place s.kept.base.place (entry_above _ _ is.first is.entry_is) in
+      let above : s.kept.base.place < place = leb-false place s.kept.base.place (answers_above _ _ _ is.given is.answers_is) in
       let at : own.check.place.0 ≡ place = ap (λ p. p.0) is.place_is in
       record {
         range = ((omega arith, omega (arith, is.view_is)), (omega (arith, at, above), omega (arith, at, shown.within)));
@@ -143,7 +133,7 @@ module _ {S : Type 0} (R : Rules S) (s : State S) (place : ℕ) where
         multiple = ap (λ (p : ℕ). p % s.kept.interval) at ∙ shown.multiple;
       }
 
-pub own_same : {S : Type 0} (R : Rules S) (s : State S) (place view : ℕ) (entry : Option Entry) (head : Option Digest) (reply : Option (List ℕ)) (state : Option Digest) → view ≡ own_view s
-    → entry ≡ entry_in (stretch_of s.kept) place → head ≡ head_in (stretch_of s.kept) place → reply ≡ reply_in R s.kept place → state ≡ state_in R s.kept place
-    → own_from view place entry head reply state ≡ own_at R s place
-own_same R s place view entry head reply state view_is entry_is head_is reply_is state_is = rw (view_is, entry_is, head_is, reply_is, state_is) refl
+pub own_same : {S : Type 0} (R : Rules S) (s : State S) (place view : ℕ) (head : Option Digest) (answers : Option Answers) (state : Option Digest) → view ≡ own_view s
+    → head ≡ head_in (stretch_of s.kept) place → answers ≡ reply_in R s.kept place → state ≡ state_in R s.kept place
+    → own_from view place head answers state ≡ own_at R s place
+own_same R s place view head answers state view_is head_is answers_is state_is = rw (view_is, head_is, answers_is, state_is) refl

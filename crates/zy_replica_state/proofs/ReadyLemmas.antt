@@ -24,7 +24,9 @@ use Rattle.zy_parts.specs.Reports.{change_fields}
 use Rattle.zy_parts.specs.declared.reports.Began.{Began}
 use Rattle.zy_evidence.specs.Reading.{number_of_party}
 use Rattle.zy_base.specs.declared.ids.Digest.{Digest}
+use Rattle.zy_exec.specs.declared.known.Known.{Known}
 use Rattle.zy_exec.specs.Replay.{Point, origin}
+use Rattle.zy_exec.proofs.ReplayLemmas.{length-known-along}
 use Rattle.zy_exec.specs.Shots.{digest_of_snapshot}
 use Rattle.zy_exec.specs.Snapshot.{snapshot_of}
 use Rattle.zy_chain.specs.declared.entry.Entry.{Entry}
@@ -117,6 +119,7 @@ start_ready R interval me counts keys sealer signer clients least most =
       stable = refl;
       least = least;
       most = most;
+      all_known = length-replicate {A = Option Known} 64 None;
       board = start-is interval (digest_of_snapshot (snapshot_of R (origin R))) least most;
       board_interval = refl;
       board_stable = refl;
@@ -167,6 +170,7 @@ module _ {S : Type 0} (s : State S) (r : IsReady s) where
         stable = r.stable;
         least = r.least;
         most = r.most;
+        all_known = r.all_known;
         board = r.board;
         board_interval = r.board_interval;
         board_stable = r.board_stable;
@@ -256,6 +260,7 @@ module _ {S : Type 0} (s : State S) (r : IsReady s) where
         stable = r.stable;
         least = r.least;
         most = r.most;
+        all_known = r.all_known;
         board = r.board;
         board_interval = r.board_interval;
         board_stable = r.board_stable;
@@ -403,6 +408,7 @@ ready_board s b r is stays ranges =
       stable = r.stable;
       least = r.least;
       most = r.most;
+      all_known = r.all_known;
       board = is;
       board_interval = stays.interval ∙ r.board_interval;
       board_stable = ap (λ (check : Check). check.place.0) stays.stable ∙ r.board_stable;
@@ -455,6 +461,7 @@ module _ {S : Type 0} (s : State S) (r : IsReady s) where
         stable = r.stable ∙ base;
         least = subst (λ (n : ℕ). 4 ≤ n) interval r.least;
         most = subst (λ (n : ℕ). n ≤ 32) interval r.most;
+        all_known = ap (λ (x : Point S). length x.known) (sym same) ∙ r.all_known;
         board = r.board;
         board_interval = r.board_interval ∙ interval;
         board_stable = r.board_stable ∙ base;
@@ -546,6 +553,7 @@ module _ {S : Type 0} (R : Rules S) (s : State S) (own : OwnCheckpoint) (proof :
         stable = sym there;
         least = r.least;
         most = r.most;
+        all_known = length-known-along R s.kept.base (take (place - s.kept.base.place) s.kept.entries) ∙ r.all_known;
         board = with_stable-is s.board place proof r.board (ap (λ (k : ℕ). place % k) r.board_interval ∙ here.multiple) proves;
         board_interval = stable_interval s.board proof ∙ r.board_interval;
         board_stable = stated_place s.board place proof proves ∙ sym there;
@@ -641,6 +649,7 @@ ready_orders s o r base short ready =
       stable = base ∙ r.stable;
       least = r.least;
       most = r.most;
+      all_known = r.all_known;
       board = r.board;
       board_interval = r.board_interval;
       board_stable = r.board_stable;

@@ -1,5 +1,5 @@
 -- What holds of every replica.
-use Rattle.std.specs.Prelude.{◌≡◌, ℕ, ◌≤◌, ◌<◌, ◌+◌, ◌%◌, ◌^◌, List, length, All, slice_get, Option, Some, Ok}
+use Rattle.std.specs.Prelude.{◌≡◌, ℕ, ◌≤◌, ◌<◌, ◌+◌, ◌%◌, ◌^◌, false, List, length, All, slice_get, Option, Some, Ok}
 use Rattle.std.specs.List.{AllByRecursion}
 use Rattle.std.specs.Option.{ForSome}
 use Rattle.zy_base.specs.declared.counts.Counts.{Counts}
@@ -9,6 +9,7 @@ use Rattle.zy_base.specs.declared.ids.Place.{Place}
 use Rattle.zy_base.specs.declared.ids.ReplicaId.{ReplicaId}
 use Rattle.zy_base.specs.declared.ids.View.{View}
 use Rattle.zy_base.specs.declared.step.Mode.TheVariants.{Active}
+use Rattle.zy_parts.specs.Asks.{asking, AreAsksInRange}
 use Rattle.zy_parts.specs.Signing.{IsSignedInRange}
 use Rattle.zy_parts.specs.Statements.{IsAskInRange, IsOrderInRange, IsSpecInRange, IsLocalInRange, IsConfirmInRange, IsHoleInRange, IsHateInRange, IsCheckInRange}
 use Rattle.zy_parts.specs.Reports.{IsChangeInRange, IsNewInRange, IsBeganInRange, IsFetchInRange}
@@ -19,13 +20,14 @@ use Rattle.zy_parts.specs.declared.statements.Spec.{Spec}
 use Rattle.zy_cert.specs.Certificates.{certified}
 use Rattle.zy_cert.specs.Equal.{same_spec}
 use Rattle.zy_cert.specs.Points.{point_of_spec}
+use Rattle.zy_frames.specs.Frames.{entry_in}
 use Rattle.zy_frames.specs.declared.frame.OrderFrame.{OrderFrame}
 use Rattle.zy_vframes.specs.declared.frame.ViewCert.{ViewCert}
 use Rattle.zy_vframes.specs.declared.frame.ViewFrame.TheVariants as frames
+use Rattle.zy_chain.specs.Entries.{IsOfClients, has_client_twice}
 use Rattle.zy_chain.specs.Stretch.{head_in}
 use Rattle.zy_exec.specs.Kept.{Kept, last_place, stretch_of}
 use Rattle.zy_seal.specs.Keys.{Keys}
-use Rattle.zy_admit.specs.Judging.{asking}
 use Rattle.zy_check.specs.Board.{Board, Round, IsBoard}
 use Rattle.zy_change.specs.declared.kept.Accepted.{Accepted}
 use Rattle.zy_change.specs.declared.kept.Waiting.{Waiting}
@@ -49,10 +51,18 @@ pub record IsAskReady (ask : Signed Ask) : Type 0 where
   pub range : IsSignedInRange IsAskInRange ask
   pub client : (asking ask.by).0 < 64
 
+-- an order that can be judged
+pub record IsOrderHeard (o : OrderFrame) : Type 0 where
+  pub order : IsSignedInRange IsOrderInRange o.order
+  pub asks : AreAsksInRange o.asks
+  pub clients : IsOfClients (entry_in o)
+
 -- an order that can be kept, sent and executed
 pub record IsOrderReady (o : OrderFrame) : Type 0 where
   pub order : IsSignedInRange IsOrderInRange o.order
-  pub ask : IsAskReady o.ask
+  pub asks : AreAsksInRange o.asks
+  pub clients : IsOfClients (entry_in o)
+  pub different : has_client_twice (entry_in o).items ≡ false
 
 abbrev pub IsSlotReady : Option OrderFrame → Type 0
 IsSlotReady slot = ForSome slot IsOrderReady
@@ -137,6 +147,7 @@ pub record IsReady {S : Type 0} (s : State S) : Type 0 where
   pub stable : s.orders.base ≡ s.kept.base.place
   pub least : 4 ≤ s.kept.interval
   pub most : s.kept.interval ≤ 32
+  pub all_known : length s.kept.base.known ≡ 64
   -- responses and checkpoints are kept above the same place
   pub board : IsBoard s.board
   pub board_interval : s.board.interval ≡ s.kept.interval

@@ -1,7 +1,8 @@
 //! The changes of a replica, one at a time.
 
-ghost use Rattle.std.specs.Prelude.{◌≡◌, ◌≤◌, ◌<◌, ◌+◌, ◌++◌, ◌∷◌, [], length, None, Option, Bool, IfOk, filter};
+ghost use Rattle.std.specs.Prelude.{◌≡◌, ◌≤◌, ◌<◌, ◌+◌, ◌++◌, ◌∷◌, [], length, None, Option, Bool, IfOk, filter, option_copied};
 ghost use Rattle.std.specs.Option.{ForSome};
+ghost use Rattle.zy_chain.specs.Answers.{FitsAnswers};
 ghost use Rattle.zy_chain.specs.Entries.{IsEntryInRange, IsOfClients};
 ghost use Rattle.zy_parts.specs.Signing.{IsSignedInRange};
 ghost use Rattle.zy_parts.specs.Statements.{IsHoleInRange, IsLocalInRange, IsSpecInRange, spec_fields};
@@ -11,8 +12,8 @@ ghost use Rattle.zy_chain.specs.declared.entry.Entry.{Entry};
 ghost use Rattle.zy_exec.specs.Kept.{Kept, longer, last_place, now_of};
 ghost use Rattle.zy_seal.specs.Sealing.{sealed_by};
 ghost use Rattle.zy_admit.specs.Orders.{with_order, without_order};
-ghost use Rattle.zy_table.specs.State.{window_of, signs_left, spent, with_spec as with_spec_of, pending_of as waiting_of, with_pending, is_beside};
-ghost use Rattle.zy_table.specs.Running.{still_pending as still_waiting};
+ghost use Rattle.zy_table.specs.State.{window_of, signs_left, spent, with_spec as with_spec_of, pending_of as waiting_of, with_pending, stands_at as stands, is_last_of_some as is_some_last, stays_beside as is_beside};
+ghost use Rattle.zy_table.specs.Running.{still_pending as still_waiting, without_pending};
 ghost use Rattle.zy_table.specs.declared.kept.OwnCheckpoint.{OwnCheckpoint};
 ghost use Rattle.zy_table.specs.Gathering.{with_certificate, checks_owed};
 ghost use Rattle.zy_change.specs.Fit.{IsTrueReport};
@@ -22,20 +23,22 @@ ghost use Rattle.zy_replica_state.specs.Ready.{IsKeptPending, IsOrderReady, IsOw
 use crate::Core;
 use crate::copies::{frame_copy, signed_copy};
 use std::mem;
-use zy_base::{Bytes, ClientId, Items, Machine, Place, Stamp, Want};
-use zy_chain::Entry;
+use zy_base::{ClientId, Items, Machine, Place, Stamp, Want};
+use zy_chain::{Answered, Entry};
+use zy_exec::{CLIENTS, Known};
 use zy_frames::OrderFrame;
 use zy_parts::{Hole, Local, Signed, Spec, Statement};
 use zy_seal::SealFault;
 use zy_table::Pending;
 
-// Without the responses that don't stay beside a later one.
-fn specs_beside(specs: Items<Signed<Spec>>, later: &Spec) -> Items<Signed<Spec>>
-    ensures { result ≡ filter (is_beside later.now) specs }
+// A client's last entry stands at a place.
+fn stands_at(known: Option<&Known>, place: Place) -> bool
+    ensures { result ≡ stands place.0 (option_copied known.entry) }
 {
-    let mut kept = specs.into_vec();
-    kept.retain(|said| said.stmt.client.0 != later.client.0);
-    Items::from(kept)
+    match known {
+        Some(known) => known.place == place,
+        None => false,
+    }
 }
 
 impl<M: Machine> Core<M> {
@@ -58,7 +61,7 @@ impl<M: Machine> Core<M> {
     pub fn seal_spec(self, spec: Spec) -> Result<(Core<M>, Signed<Spec>), Want>
         requires left { 1 ≤ signs_left self }
         requires spec { IsSpecInRange spec }
-        ensures core { IfOk result (λ r. r.0 ≡ with_spec_of (spent self) (sealed_by numbers.spec spec_fields self.sealer spec)) }
+        ensures core { IfOk result (λ r. r.0 ≡ with_spec_of M.rules (spent self) (sealed_by numbers.spec spec_fields self.sealer spec)) }
         ensures spec { IfOk result (λ r. r.1 ≡ sealed_by numbers.spec spec_fields self.sealer spec) }
         ensures range { IfOk result (λ r. IsSignedInRange IsSpecInRange r.1) }
     {
@@ -68,18 +71,18 @@ impl<M: Machine> Core<M> {
         Ok((core, signed))
     }
 
-    /// One entry more, with its reply.
-    pub fn run_entry(mut self, entry: Entry) -> Result<(Core<M>, Bytes), Want>
+    /// One entry more, with its answers.
+    pub fn run_entry(mut self, entry: Entry) -> Result<(Core<M>, Items<Answered>), Want>
         requires room { last_place self.kept < window_of self }
         requires client { IsOfClients entry }
         requires range { IsEntryInRange entry }
         ensures core { IfOk result (λ r. r.0 ≡ record self { kept = longer self.kept entry }) }
         ensures now { IfOk result (λ r. now_of M.rules r.0.kept ≡ one_entry M.rules (now_of M.rules self.kept) entry) }
-        ensures reply { IfOk result (λ r. r.1 ≡ answers_of M.rules (now_of M.rules self.kept).state entry) }
-        ensures short { IfOk result (λ r. length r.1 ≤ 1100) }
+        ensures answers { IfOk result (λ r. r.1 ≡ answers_of M.rules (now_of M.rules self.kept) entry) }
+        ensures short { IfOk result (λ r. FitsAnswers r.1) }
     {
         match self.exec.run(entry) {
-            Ok(reply) => Ok((self, reply)),
+            Ok(answers) => Ok((self, answers)),
             Err((_, want)) => Err(want),
         }
     }
@@ -93,13 +96,41 @@ impl<M: Machine> Core<M> {
         self
     }
 
+    // Some client's last entry stands at a place.
+    fn is_last_of_some(&self, place: Place) -> bool
+        ensures { result ≡ is_some_last M.rules self.now.kept place.0 }
+    {
+        for client in 0..CLIENTS {
+            if stands_at(self.exec.known(ClientId(client as u32)), place) {
+                return true;
+            }
+        }
+        false
+    }
+
+    // A response stays beside a later one.
+    fn stays_beside(&self, later: &Spec, said: &Signed<Spec>) -> bool
+        ensures { result ≡ is_beside M.rules self.now.kept later.now said.now }
+    {
+        said.stmt.place != later.place && self.is_last_of_some(said.stmt.place)
+    }
+
+    // Those of some responses that stay beside a later one.
+    fn specs_beside(&self, specs: Items<Signed<Spec>>, later: &Spec) -> Items<Signed<Spec>>
+        ensures { result ≡ filter (is_beside M.rules self.now.kept later.now) specs }
+    {
+        let mut kept = specs.into_vec();
+        kept.retain(|said| self.stays_beside(later, said));
+        Items::from(kept)
+    }
+
     // One response more.
     fn keep_spec(mut self, spec: Signed<Spec>) -> Result<Core<M>, Want>
         requires { IsSignedInRange IsSpecInRange spec }
-        ensures { IfOk result (λ r. r ≡ with_spec_of self spec) }
+        ensures { IfOk result (λ r. r ≡ with_spec_of M.rules self spec) }
     {
         let said = mem::replace(&mut self.specs, Items::new(self.alloc));
-        self.specs = specs_beside(said, &spec.stmt);
+        self.specs = self.specs_beside(said, &spec.stmt);
         match self.specs.push(spec) {
             Ok(()) => Ok(self),
             Err(want) => Err(want),
@@ -162,8 +193,20 @@ impl<M: Machine> Core<M> {
         self
     }
 
-    /// A client's request waits no longer, where one of the client with this stamp was executed.
-    pub fn drop_pending(self, client: ClientId, stamp: Stamp) -> Core<M>
+    /// The requests of an executed entry's clients wait no longer, where they aren't newer.
+    pub fn drop_pending(self, entry: &Entry) -> Core<M>
+        requires { IsOfClients entry.now }
+        ensures { result ≡ without_pending self entry.now }
+    {
+        let mut core = self;
+        for item in entry.items.as_slice() {
+            core = core.drop_pending_of(item.client, item.stamp);
+        }
+        core
+    }
+
+    // A client's request waits no longer, where one of the client with this stamp was executed.
+    fn drop_pending_of(self, client: ClientId, stamp: Stamp) -> Core<M>
         requires client { client.0 < 64 }
         ensures { result ≡ with_pending self client (still_waiting stamp (waiting_of self client)) }
     {

@@ -119,7 +119,6 @@ impl<M: Machine> Core<M> {
         own_from(
             self.view(),
             place,
-            self.exec.entry_at(place),
             self.exec.head_at(place),
             self.exec.reply_at(place),
             self.exec.snapshot_digest_at(place),

@@ -1,26 +1,13 @@
 //! What is copied, each by a function of its own: a copy costs the check more than what it is for.
 
 ghost use Rattle.std.specs.Prelude.{◌≡◌, IfOk};
-ghost use Rattle.zy_admit.specs.Judging.{entry_of as entry_asked};
 
-use zy_admit::client_of;
-use zy_base::{Bytes, Want};
-use zy_chain::Entry;
+use zy_base::{Bytes, Items, Want};
+use zy_chain::answers_copy;
 use zy_exec::Known;
 use zy_frames::OrderFrame;
 use zy_parts::{Ask, Signed};
 use zy_table::Pending;
-
-/// The entry that a request asks for.
-pub fn entry_of(ask: &Signed<Ask>) -> Result<Entry, Want>
-    ensures { IfOk result (λ e. e ≡ entry_asked ask.now) }
-{
-    Ok(Entry {
-        client: client_of(ask.by),
-        stamp: ask.stmt.stamp,
-        op: ask.stmt.op.clone()?,
-    })
-}
 
 /// A copy of bytes.
 pub fn bytes_copy(bytes: &Bytes) -> Result<Bytes, Want>
@@ -53,13 +40,19 @@ fn ask_copy(ask: &Signed<Ask>) -> Result<Signed<Ask>, Want>
     })
 }
 
-/// A copy of an order with its request.
+fn asks_copy(asks: &Items<Signed<Ask>>) -> Result<Items<Signed<Ask>>, Want>
+    ensures { IfOk result (λ copy. copy ≡ asks.now) }
+{
+    Ok(asks.clone()?)
+}
+
+/// A copy of an order with its requests.
 pub fn frame_copy(order: &OrderFrame) -> Result<OrderFrame, Want>
     ensures { IfOk result (λ copy. copy ≡ order.now) }
 {
     Ok(OrderFrame {
         order: signed_copy(&order.order)?,
-        ask: ask_copy(&order.ask)?,
+        asks: asks_copy(&order.asks)?,
     })
 }
 
@@ -81,6 +74,6 @@ pub(crate) fn known_copy(known: &Known) -> Result<Known, Want>
         stamp: known.stamp,
         place: known.place,
         head: known.head,
-        reply: bytes_copy(&known.reply)?,
+        answers: answers_copy(&known.answers)?,
     })
 }

@@ -13,7 +13,7 @@ mod responses;
 mod state;
 mod views;
 
-pub use copies::{bytes_copy, entry_of, frame_copy, pending_copy, signed_copy};
+pub use copies::{bytes_copy, frame_copy, pending_copy, signed_copy};
 pub use progress::{Moved, Progress};
-pub use responses::{own_with, spec_of};
+pub use responses::{own_with, spec_at, spec_of};
 pub use state::{Core, told_in};

@@ -17,12 +17,14 @@ ghost use Rattle.zy_table.specs.Commits.{send_local};
 ghost use Rattle.zy_table.specs.Gathering.{with_own_spec};
 ghost use Rattle.zy_table.specs.Adopting.{IsGotInRange};
 ghost use Rattle.zy_replica_state.specs.Ready.{IsActInRange, IsBodyInRange, IsOrderReady, IsPendingReady};
-ghost use Rattle.zy_chain.specs.Answers.{FitsAnswers};
+ghost use Rattle.zy_chain.specs.Answers.{FitsAnswers, clients_in as all_clients};
 
 use crate::Core;
 use crate::copies::{frame_copy, signed_copy};
+use std::alloc::Global;
 use std::marker::Model;
-use zy_base::{Answer, Bytes, Cause, ClientId, Items, Machine, Party, Place, Stood, View, Want};
+use zy_base::{Answer, Cause, ClientId, Items, Machine, Party, Place, Stood, View, Want};
+use zy_chain::Answered;
 use zy_frames::{Frame, OrderFrame};
 use zy_parts::{Check, Hole, Local, Order, Signed, Spec, Statement};
 use zy_table::{Act, AnyFrame, Body, Deeds, Gains, OwnCheckpoint, Pending, Remark, Sent, To};
@@ -60,6 +62,17 @@ impl<M: Machine> Model for Moved<M> {
     ghost Value = { Outcome M.State };
 
     ghost view = { λ m. record { answer = m.answer; state = m.progress.state; deeds = m.progress.deeds } };
+}
+
+// Whose the answers are, in order.
+fn clients_in(alloc: Global, answers: &[Answered]) -> Result<Items<ClientId>, Want>
+    ensures { IfOk result (λ clients. clients ≡ all_clients answers.now) }
+{
+    let mut clients = Items::new(alloc);
+    for answered in answers {
+        clients.push(answered.client)?;
+    }
+    Ok(clients)
 }
 
 impl<M: Machine> Core<M> {
@@ -152,7 +165,7 @@ impl<M: Machine> Progress<M> {
     pub fn sign_spec(self, spec: Spec) -> Result<(Progress<M>, Signed<Spec>), Want>
         requires left { 1 ≤ signs_left self.state }
         requires spec { IsSpecInRange spec }
-        ensures progress { IfOk result (λ r. r.0 ≡ acting (acts.Says (record { body = bodies.Spec spec; stood = stood_of M.rules self.state })) (record self { state = with_spec (spent self.state) (sealed_by numbers.spec spec_fields self.state.sealer spec) })) }
+        ensures progress { IfOk result (λ r. r.0 ≡ acting (acts.Says (record { body = bodies.Spec spec; stood = stood_of M.rules self.state })) (record self { state = with_spec M.rules (spent self.state) (sealed_by numbers.spec spec_fields self.state.sealer spec) })) }
         ensures spec { IfOk result (λ r. r.1 ≡ sealed_by numbers.spec spec_fields self.state.sealer spec) }
         ensures range { IfOk result (λ r. IsSignedInRange IsSpecInRange r.1) }
     {
@@ -188,7 +201,7 @@ impl<M: Machine> Progress<M> {
     fn seal_spec(self, spec: Spec) -> Result<(Progress<M>, Signed<Spec>), Want>
         requires left { 1 ≤ signs_left self.state }
         requires spec { IsSpecInRange spec }
-        ensures progress { IfOk result (λ r. r.0 ≡ record self { state = with_spec (spent self.state) (sealed_by numbers.spec spec_fields self.state.sealer spec) }) }
+        ensures progress { IfOk result (λ r. r.0 ≡ record self { state = with_spec M.rules (spent self.state) (sealed_by numbers.spec spec_fields self.state.sealer spec) }) }
         ensures spec { IfOk result (λ r. r.1 ≡ sealed_by numbers.spec spec_fields self.state.sealer spec) }
         ensures range { IfOk result (λ r. IsSignedInRange IsSpecInRange r.1) }
     {
@@ -230,7 +243,7 @@ impl<M: Machine> Progress<M> {
 
     // A frame of each kind is made where it is sent: nothing that can fail comes between.
 
-    /// An order with its request, to all.
+    /// An order with its requests, to all.
     pub fn send_order(self, order: &OrderFrame) -> Result<Progress<M>, Want>
         requires { IsOrderReady order.now }
         ensures { IfOk result (λ g. g ≡ sending tos.All (frames.Order order.now) self) }
@@ -239,7 +252,7 @@ impl<M: Machine> Progress<M> {
         self.send(To::All, Frame::Order(copy))
     }
 
-    /// An order with its request, to one.
+    /// An order with its requests, to one.
     pub fn send_order_to(self, to: Party, order: OrderFrame) -> Result<Progress<M>, Want>
         requires { IsOrderReady order }
         ensures { IfOk result (λ g. g ≡ sending (tos.One to) (frames.Order order) self) }
@@ -247,35 +260,43 @@ impl<M: Machine> Progress<M> {
         self.send(To::One(to), Frame::Order(order))
     }
 
-    /// A response, to its client.
+    /// A response.
     pub fn send_spec(
         self,
+        to: To,
         spec: Signed<Spec>,
-        reply: Bytes,
+        answers: Items<Answered>,
         order: Option<Signed<Order>>,
     ) -> Result<Progress<M>, Want>
         requires spec { IsSignedInRange IsSpecInRange spec }
-        requires reply { FitsAnswers reply }
+        requires answers { FitsAnswers answers }
         requires order { ForSome order (IsSignedInRange IsOrderInRange) }
-        ensures { IfOk result (λ g. g ≡ sending (to_clients spec.stmt) (frames.SpecResponse spec reply order) self) }
+        ensures { IfOk result (λ g. g ≡ sending to (frames.SpecResponse spec answers order) self) }
     {
-        let to = To::One(Party::Client(spec.stmt.client));
-        self.send(to, Frame::SpecResponse { spec, reply, order })
+        self.send(
+            to,
+            Frame::SpecResponse {
+                spec,
+                answers,
+                order,
+            },
+        )
     }
 
-    /// A response, to all.
-    pub fn share_spec(
+    /// A response, to each client that it answers, in order.
+    pub fn send_spec_to_clients(
         self,
         spec: Signed<Spec>,
-        reply: Bytes,
+        answers: Items<Answered>,
         order: Option<Signed<Order>>,
     ) -> Result<Progress<M>, Want>
         requires spec { IsSignedInRange IsSpecInRange spec }
-        requires reply { FitsAnswers reply }
+        requires answers { FitsAnswers answers }
         requires order { ForSome order (IsSignedInRange IsOrderInRange) }
-        ensures { IfOk result (λ g. g ≡ sending tos.All (frames.SpecResponse spec reply order) self) }
+        ensures { IfOk result (λ g. g ≡ sending (to_clients answers) (frames.SpecResponse spec answers order) self) }
     {
-        self.send(To::All, Frame::SpecResponse { spec, reply, order })
+        let clients = clients_in(self.core.alloc, answers.as_slice())?;
+        self.send_spec(To::Each(clients), spec, answers, order)
     }
 
     /// A checkpoint, to all.

@@ -226,7 +226,7 @@ impl<M: Machine> Core<M> {
         }
     }
 
-    /// A copy of the order that is kept at a place, with its request.
+    /// A copy of the order that is kept at a place, with its requests.
     pub fn frame_at(&self, place: Place) -> Result<Option<OrderFrame>, Want>
         ensures frame { IfOk result (λ frame. frame ≡ stored_in self.now.orders place.0) }
         ensures ready { IfOk result (λ frame. ForSome frame IsOrderReady) }

@@ -1,6 +1,6 @@
 //! How a view begins: the history of its choice is taken up, and what is kept of earlier views is dropped.
 
-ghost use Rattle.std.specs.Prelude.{◌≡◌, ◌<◌, ◌≤◌, ◌%◌, ◌^◌, nat_le, nat_lt, true, filter, [], slice_get, Some, IsSome, All, IfOk};
+ghost use Rattle.std.specs.Prelude.{◌≡◌, ◌<◌, ◌≤◌, ◌%◌, ◌^◌, nat_le, nat_lt, true, filter, [], length, slice_get, Some, IsSome, All, IfOk};
 ghost use Rattle.std.specs.List.{AllByRecursion};
 ghost use Rattle.zy_chain.specs.Stretch.{end_of};
 ghost use Rattle.zy_parts.specs.Reports.{IsToldInRange};
@@ -196,6 +196,7 @@ impl<M: Machine> Core<M> {
         requires waits { IsSome self.views.waiting }
         requires interval { exec.now.interval ≡ self.kept.interval }
         requires nothing { exec.now.entries ≡ [] }
+        requires known { length exec.now.base.known ≡ 64 }
         requires shown { (w : Awaited) (provider : IsSigned Report) → self.views.waiting ≡ Some w → slice_get w.cert.new.stmt.changes w.chosen.provider ≡ Some provider → (exec.now.base.place ≡ provider.stmt.told.stable_place.0) × (exec.now.base.head ≡ provider.stmt.told.stable_head) }
         ensures parts { result.0 ≡ record self { views = without_waiting self.views } }
         ensures waiting { self.views.waiting ≡ Some result.1 }
@@ -217,6 +218,7 @@ impl<M: Machine> Core<M> {
         requires waits { IsSome self.views.waiting }
         requires interval { exec.interval ≡ self.kept.interval }
         requires nothing { exec.entries ≡ [] }
+        requires known { length exec.base.known ≡ 64 }
         requires shown { (w : Awaited) (provider : IsSigned Report) → self.views.waiting ≡ Some w → slice_get w.cert.new.stmt.changes w.chosen.provider ≡ Some provider → (exec.base.place ≡ provider.stmt.told.stable_place.0) × (exec.base.head ≡ provider.stmt.told.stable_head) }
         ensures core { (w : Awaited) (provider : IsSigned Report) → self.views.waiting ≡ Some w → slice_get w.cert.new.stmt.changes w.chosen.provider ≡ Some provider → IfOk result (λ r. r.0 ≡ active_by w.cert w.chosen (with_history M.rules provider.stmt.told w.chosen.place (installed M.rules exec.base provider.stmt.told self))) }
         ensures common { (w : Awaited) (provider : IsSigned Report) → self.views.waiting ≡ Some w → slice_get w.cert.new.stmt.changes w.chosen.provider ≡ Some provider → IfOk result (λ r. r.1.0 ≡ common_with (stretch_of provider.stmt.told) w.chosen.place.0 (installed M.rules exec.base provider.stmt.told self).kept) }

@@ -1,4 +1,4 @@
-use Rattle.zy_table.specs.State.{is_beside}
+use Rattle.zy_table.specs.State.{stays_beside}
 use Rattle.zy_replica_state.proofs.ReadyLemmas.{ready_beside, ready_specs}
 use Rattle.zy_replica_state.proofs.state.Core.keep_spec.Goals as goal
 

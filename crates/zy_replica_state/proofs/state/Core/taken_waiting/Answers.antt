@@ -17,4 +17,4 @@ returns-clause-can g c = λ told says.
     let waits : s.views.waiting ≡ Some w = search rules in
     let certified : IsCertified s.views.counts s.views.interval w.cert w.chosen = search rules in
     let fit = subst IsFit (ap (λ (x : State g.row.M-State.Denot). x.views) c.self.view_is) c.view-own.ensures.fit in
-    installs g.M.Machine.rules s c.apart-parts.ensures.ready fit w waits certified c.args.exec.now c.requires.interval c.requires.nothing (λ provider there. c.requires.shown w provider waits there) told says
+    installs g.M.Machine.rules s c.apart-parts.ensures.ready fit w waits certified c.args.exec.now c.requires.interval c.requires.nothing c.requires.known (λ provider there. c.requires.shown w provider waits there) told says
