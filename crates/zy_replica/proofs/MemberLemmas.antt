@@ -34,18 +34,18 @@ head_known : (a b : Bool) → (a || b) ≡ false → a ≡ false
 head_known true b is = cc
 head_known false b is = refl
 
-pub hate_member : {S : Type 0} (s : State S) (vote : Signed Hate) → length s.keys.replicas ≤ s.counts.n → screen s.keys (plain.parts_of (frames.Hate vote)) ≡ None
+pub hate_member : {S : Type 0} (s : State S) (vote : Signed Hate) → length s.keys.replicas ≤ s.counts.n → screen s.keys None (plain.parts_of (frames.Hate vote)) ≡ None
     → in_role s (frames.Hate vote) ≡ true → number_of_party vote.by < s.counts.n
 hate_member s vote few verified role =
-    let known = head_known _ _ (screened s.keys (plain.parts_of (frames.Hate vote)) verified) in
+    let known = head_known _ _ (screened s.keys None (plain.parts_of (frames.Hate vote)) verified) in
     let below : number_of_party vote.by < length s.keys.replicas = replica_below s.keys vote.by _ _ role known in
     omega (arith, below, few)
 
-pub change_member : {S : Type 0} (s : State S) (vote : Signed Change) → length s.keys.replicas ≤ s.counts.n → screen s.keys (view_parts.parts_of (view_frames.ViewChange vote)) ≡ None
+pub change_member : {S : Type 0} (s : State S) (vote : Signed Change) → length s.keys.replicas ≤ s.counts.n → screen s.keys None (view_parts.parts_of (view_frames.ViewChange vote)) ≡ None
     → is_view_frame_in_role s.counts (view_frames.ViewChange vote) ≡ true → number_of_party vote.by < s.counts.n
 change_member s vote few verified role =
     let roles = and_parts (is_replica vote.by) (is_told_in_role vote.stmt.told) role in
-    let known = head_known _ _ (screened s.keys (view_parts.parts_of (view_frames.ViewChange vote)) verified) in
+    let known = head_known _ _ (screened s.keys None (view_parts.parts_of (view_frames.ViewChange vote)) verified) in
     let below : number_of_party vote.by < length s.keys.replicas = replica_below s.keys vote.by _ _ roles.0 known in
     omega (arith, below, few)
 
@@ -78,9 +78,9 @@ cert_signers counts cert role = new_all counts cert.new (and_parts (is_new_in_ro
 pub vote_signer : (counts : Counts) (vote : Signed Began) → is_view_frame_in_role counts (view_frames.ViewConfirm vote) ≡ true → IsReplica vote.by
 vote_signer counts vote role = is_one vote.by role
 
-pub vote_member : {S : Type 0} (s : State S) (vote : Signed Began) → length s.keys.replicas ≤ s.counts.n → screen s.keys (view_parts.parts_of (view_frames.ViewConfirm vote)) ≡ None
+pub vote_member : {S : Type 0} (s : State S) (vote : Signed Began) → length s.keys.replicas ≤ s.counts.n → screen s.keys None (view_parts.parts_of (view_frames.ViewConfirm vote)) ≡ None
     → is_view_frame_in_role s.counts (view_frames.ViewConfirm vote) ≡ true → number_of_party vote.by < s.counts.n
 vote_member s vote few verified role =
-    let known = head_known _ _ (screened s.keys (view_parts.parts_of (view_frames.ViewConfirm vote)) verified) in
+    let known = head_known _ _ (screened s.keys None (view_parts.parts_of (view_frames.ViewConfirm vote)) verified) in
     let below : number_of_party vote.by < length s.keys.replicas = replica_below s.keys vote.by _ _ role known in
     omega (arith, below, few)

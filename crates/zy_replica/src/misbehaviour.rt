@@ -15,8 +15,9 @@ ghost use Rattle.zy_table.specs.Beginning.{finished};
 ghost use Rattle.zy_table.specs.Misbehaviour.{blamed as blamed_by, pom as pom_row, tell_all as told_all};
 ghost use Rattle.zy_table.specs.Whole.{order_judged as judged_as, order as order_row};
 ghost use Rattle.zy_table.specs.Orders.{position_of};
-ghost use Rattle.zy_admit.specs.Judging.{judge_in, ordered_entry};
-ghost use Rattle.zy_replica_state.specs.Ready.{IsOrderReady};
+ghost use Rattle.zy_admit.specs.Judging.{judge_in};
+ghost use Rattle.zy_frames.specs.Frames.{entry_in};
+ghost use Rattle.zy_replica_state.specs.Ready.{IsOrderHeard};
 ghost use Rattle.zy_replica_views.specs.Follows.{IsLeaveOwed};
 ghost use Rattle.zy_replica_views.specs.Entering.{IsJudged, IsStep, ending_of};
 ghost use Rattle.zy_replica.specs.Judging.{CanAll};
@@ -140,27 +141,32 @@ fn order_judged<M: Machine>(
     admit: Admit,
 ) -> Result<Moved<M>, Want>
     requires active { is_leaving core ≡ false }
-    requires order { IsOrderReady frame }
-    requires judged { admit ≡ judge_in core.orders frame.order.stmt (ordered_entry frame) (position_of M.rules core frame) }
+    requires order { IsOrderHeard frame }
+    requires judged { admit ≡ judge_in core.orders frame.order.stmt (entry_in frame) (position_of M.rules core frame) }
     ensures { IfOk result (λ m. m ≡ judged_as M.rules core frame admit) }
 {
     match admit {
         Admit::Evidence => {
-            let OrderFrame { order, ask } = frame;
-            drop(ask);
+            let OrderFrame { order, asks } = frame;
+            drop(asks);
             tell_all(core, order)
         }
         admit => order_as(core, frame, admit),
     }
 }
 
-/// An order of the own view, both signatures verified. Where another order is kept of its place, all are told of both, and
+/// An order of the own view, all signatures verified. Where another order is kept of its place, all are told of both, and
 /// the replica leaves.
 pub fn order_or_blame<M: Machine>(core: Core<M>, frame: OrderFrame) -> Result<Moved<M>, Want>
     requires active { is_leaving core ≡ false }
-    requires order { IsOrderReady frame }
+    requires order { IsOrderHeard frame }
     ensures { IfOk result (λ m. m ≡ order_row M.rules core frame) }
 {
-    let admit = judge(&core, &frame);
-    order_judged(core, frame, admit)
+    match judge(&core, &frame) {
+        Ok(admit) => order_judged(core, frame, admit),
+        Err(want) => {
+            drop(frame);
+            Err(want)
+        }
+    }
 }

@@ -7,7 +7,7 @@ ghost use Rattle.zy_table.specs.Whole as whole;
 
 use zy_base::{Items, Machine, Party};
 use zy_frames::Frame;
-use zy_parts::{Change, New, Order, Signed, Spec, Told};
+use zy_parts::{Ask, Change, New, Order, Signed, Spec, Told};
 use zy_replica_state::Core;
 use zy_vframes::{ViewCert, ViewFrame};
 
@@ -27,6 +27,12 @@ fn is_by_replica(by: Party) -> bool
         Party::Client(_) => false,
         Party::Replica(_) => true,
     }
+}
+
+fn are_by_clients(asks: &[Signed<Ask>]) -> bool
+    ensures { result ≡ list_all (λ ask. is_client ask.by) asks.now }
+{
+    asks.iter().all(|ask| is_by_client(ask.by))
 }
 
 fn are_by_replicas<S>(list: &[Signed<S>]) -> bool
@@ -54,12 +60,13 @@ pub(crate) fn in_role<M: Machine>(core: &Core<M>, frame: &Frame) -> bool
     match frame {
         Frame::Request(ask) => is_by_client(ask.by),
         Frame::Order(both) => {
-            core.is_primary_of(both.order.stmt.view, both.order.by) && is_by_client(both.ask.by)
+            core.is_primary_of(both.order.stmt.view, both.order.by)
+                && are_by_clients(both.asks.as_slice())
         }
         Frame::SpecResponse { spec, order, .. } => {
             is_by_replica(spec.by) && is_order_of_primary(core, order)
         }
-        Frame::Commit(specs) => are_by_replicas(specs.as_slice()),
+        Frame::Commit { specs, .. } => are_by_replicas(specs.as_slice()),
         Frame::ConfirmReq { confirm, ask } => {
             is_by_replica(confirm.by)
                 && is_by_client(ask.by)

@@ -90,12 +90,13 @@ fn hears_plain<M: Machine>(core: Core<M>, frame: Frame) -> Result<Moved<M>, Want
 // What stands against the signatures of a frame.
 fn screens<M: Machine>(core: &Core<M>, frame: &Frame) -> Result<Option<Cause>, Want>
     requires { plain.IsFrameInRange frame.now }
-    ensures cause { IfOk result (λ cause. cause ≡ screen core.now.keys (plain.parts_of frame.now)) }
+    ensures cause { IfOk result (λ cause. cause ≡ screen core.now.keys (plain.named_in frame.now) (plain.parts_of frame.now)) }
     ensures replicas { IfOk result (λ cause. length core.now.keys.replicas ≤ core.now.counts.n) }
     ensures clients { IfOk result (λ cause. length core.now.keys.clients ≤ 64) }
 {
     let signed = zy_frames::parts(core.allocator(), frame)?;
-    Ok(screen_parts(core.directory(), &signed))
+    let named = zy_frames::named(frame);
+    Ok(screen_parts(core.directory(), named, &signed))
 }
 
 // A frame whose parts are verified.
@@ -103,7 +104,7 @@ fn hear_plain<M: Machine>(core: Core<M>, frame: Frame) -> Result<Moved<M>, Want>
     requires clients { length core.keys.clients ≤ 64 }
     requires replicas { length core.keys.replicas ≤ core.counts.n }
     requires range { plain.IsFrameInRange frame }
-    requires verified { screen core.keys (plain.parts_of frame) ≡ None }
+    requires verified { screen core.keys (plain.named_in frame) (plain.parts_of frame) ≡ None }
     ensures { IfOk result (λ m. m ≡ plain_heard M.rules core frame) }
 {
     if in_role(&core, &frame) {
@@ -117,15 +118,19 @@ fn plain_row<M: Machine>(core: Core<M>, frame: Frame) -> Result<Moved<M>, Want>
     requires clients { length core.keys.clients ≤ 64 }
     requires replicas { length core.keys.replicas ≤ core.counts.n }
     requires range { plain.IsFrameInRange frame }
-    requires verified { screen core.keys (plain.parts_of frame) ≡ None }
+    requires verified { screen core.keys (plain.named_in frame) (plain.parts_of frame) ≡ None }
     requires role { has_role core frame ≡ true }
     ensures { IfOk result (λ m. m ≡ plain_row_of M.rules core frame) }
 {
     match frame {
         Frame::Request(ask) => hear_request(core, ask),
         Frame::Order(both) => order_in_view(core, both),
-        Frame::SpecResponse { spec, reply, order } => response_in_view(core, spec, (reply, order)),
-        Frame::Commit(specs) => commit_in_view(core, specs),
+        Frame::SpecResponse {
+            spec,
+            answers,
+            order,
+        } => response_in_view(core, spec, (answers, order)),
+        Frame::Commit { client, specs } => commit_in_view(core, client, specs),
         Frame::LocalCommit(local) => core.not_heard(local, Cause::WrongRole),
         Frame::ConfirmReq { confirm, ask } => confirm_in_view(core, confirm, ask),
         Frame::FillHole(hole) => hole_in_view(core, hole),
@@ -139,7 +144,7 @@ fn plain_row<M: Machine>(core: Core<M>, frame: Frame) -> Result<Moved<M>, Want>
 fn order_in_view<M: Machine>(core: Core<M>, both: OrderFrame) -> Result<Moved<M>, Want>
     requires clients { length core.keys.clients ≤ 64 }
     requires range { plain.IsFrameInRange (frames.Order both) }
-    requires verified { screen core.keys (plain.parts_of (frames.Order both)) ≡ None }
+    requires verified { screen core.keys None (plain.parts_of (frames.Order both)) ≡ None }
     requires role { has_role core (frames.Order both) ≡ true }
     ensures { IfOk result (λ m. m ≡ plain_row_of M.rules core (frames.Order both)) }
 {
@@ -190,18 +195,18 @@ fn hears_view<M: Machine>(core: Core<M>, frame: ViewFrame) -> Result<Moved<M>, W
 // What stands against the signatures of a frame.
 fn view_screens<M: Machine>(core: &Core<M>, frame: &ViewFrame) -> Result<Option<Cause>, Want>
     requires { views.IsFrameInRange frame.now }
-    ensures cause { IfOk result (λ cause. cause ≡ screen core.now.keys (view_parts.parts_of frame.now)) }
+    ensures cause { IfOk result (λ cause. cause ≡ screen core.now.keys None (view_parts.parts_of frame.now)) }
     ensures replicas { IfOk result (λ cause. length core.now.keys.replicas ≤ core.now.counts.n) }
 {
     let parts = zy_vframes::parts(core.allocator(), frame)?;
-    Ok(screen_parts(core.directory(), &parts))
+    Ok(screen_parts(core.directory(), None, &parts))
 }
 
 // A frame whose parts are verified.
 fn hear_view<M: Machine>(core: Core<M>, frame: ViewFrame) -> Result<Moved<M>, Want>
     requires replicas { length core.keys.replicas ≤ core.counts.n }
     requires range { views.IsFrameInRange frame }
-    requires verified { screen core.keys (view_parts.parts_of frame) ≡ None }
+    requires verified { screen core.keys None (view_parts.parts_of frame) ≡ None }
     ensures { IfOk result (λ m. m ≡ view_heard M.rules core frame) }
 {
     if is_view_frame_in_role(&core, &frame) {
@@ -214,7 +219,7 @@ fn hear_view<M: Machine>(core: Core<M>, frame: ViewFrame) -> Result<Moved<M>, Wa
 fn view_row<M: Machine>(core: Core<M>, frame: ViewFrame) -> Result<Moved<M>, Want>
     requires replicas { length core.keys.replicas ≤ core.counts.n }
     requires range { views.IsFrameInRange frame }
-    requires verified { screen core.keys (view_parts.parts_of frame) ≡ None }
+    requires verified { screen core.keys None (view_parts.parts_of frame) ≡ None }
     requires role { has_view_role core.counts frame ≡ true }
     ensures { IfOk result (λ m. m ≡ view_row_of M.rules core frame) }
 {

@@ -10,4 +10,4 @@ mod taking;
 pub use gaining::got_after;
 pub use judging::judge;
 pub use laws::{adoptions, checkpoints, verdicts};
-pub use taking::take_over;
+pub use taking::{entry_copy, take_over};

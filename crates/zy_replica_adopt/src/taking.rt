@@ -157,7 +157,8 @@ fn run_copy<M: Machine>(exec: &mut Exec<M>, entry: &Entry) -> Result<Items<Answe
     }
 }
 
-fn entry_copy(entry: &Entry) -> Result<Entry, Want>
+/// A copy of an entry.
+pub fn entry_copy(entry: &Entry) -> Result<Entry, Want>
     ensures { IfOk result (λ copy. copy ≡ entry.now) }
 {
     Ok(entry.clone()?)

@@ -174,18 +174,19 @@ fn commit_judged<M: Machine>(
     }
 }
 
-// The row. Beside the responses what the first of them says.
+// The row. Beside the responses whose certificate they are, and what the first of them says.
 #[tactic(auto, unfolding(zy_table::specs::Commits::commit))]
 pub(crate) fn commit<M: Machine>(
     core: Core<M>,
+    client: ClientId,
     first: Spec,
     specs: Items<Signed<Spec>>,
 ) -> Result<Moved<M>, Want>
     requires active { is_leaving core ≡ false }
-    requires range { IsFrameInRange (frames.Commit specs) }
+    requires range { IsFrameInRange (frames.Commit client specs) }
     requires view { own_view core ≡ first.view.0 }
     requires first { IfOk (certified same_spec point_of_spec core.counts.cert specs) (λ point. point.0 ≡ first.view) }
-    ensures { IfOk result (λ m. m ≡ commit_row M.rules core first specs) }
+    ensures { IfOk result (λ m. m ≡ commit_row M.rules core client first specs) }
 {
     if first.place < core.stable() {
         return core.not_heard(specs, Cause::OldPlace);
@@ -194,5 +195,5 @@ pub(crate) fn commit<M: Machine>(
         return core.not_heard(specs, Cause::Behind(first.place));
     }
     let point = check_cert(core.counts().cert, specs.as_slice());
-    commit_judged(core, specs, first.client, point)
+    commit_judged(core, specs, client, point)
 }

@@ -1,7 +1,7 @@
 //! What the primary answers to a backup that waits for an order.
 
 ghost use Rattle.std.specs.Prelude.{◌≡◌, nat_eq, nat_lt, if◌then◌else◌, IfOk};
-ghost use Rattle.zy_admit.specs.Judging.{asking};
+ghost use Rattle.zy_parts.specs.Asks.{asking};
 ghost use Rattle.zy_admit.specs.Orders.{stored_in};
 ghost use Rattle.zy_base.specs.declared.cause.Cause.TheVariants as causes;
 ghost use Rattle.zy_exec.specs.Kept.{known_in};
@@ -11,9 +11,9 @@ ghost use Rattle.zy_table.specs.Confirms.{order_again as again, confirm_after as
 ghost use Rattle.zy_replica_state.specs.Ready.{IsAskReady};
 
 use crate::requests::{hear_request, is_older, is_same};
-use zy_admit::{client_of, request_digest_of};
+use zy_admit::request_digest_of;
 use zy_base::{Answer, Cause, Machine, Party, Place, Stamp, Want};
-use zy_parts::{Ask, Confirm, Signed};
+use zy_parts::{Ask, Confirm, Signed, client_of};
 use zy_replica_state::{Core, Moved};
 
 // The order that it has for it, where that is kept.

@@ -1,37 +1,52 @@
 //! What a replica answers to an order.
 
-ghost use Rattle.std.specs.Prelude.{◌≡◌, ◌≤◌, ◌<◌, ◌+◌, IfOk, is_some, if◌then◌else◌, true, false, Some, None};
+ghost use Rattle.std.specs.Prelude.{◌≡◌, ◌≤◌, ◌<◌, ◌+◌, IfOk, is_some, if◌then◌else◌, map, true, false, Some, None};
 ghost use Rattle.zy_exec.specs.Kept.{last_place};
-ghost use Rattle.zy_admit.specs.Judging.{judge_in, ordered_entry};
+ghost use Rattle.zy_admit.specs.Judging.{judge_in};
 ghost use Rattle.zy_admit.specs.Orders.{with_order};
 ghost use Rattle.zy_table.specs.State.{is_leaving, signs_left, window_of, spent};
 ghost use Rattle.zy_base.specs.declared.step.Answer.TheVariants as Answer;
 ghost use Rattle.zy_table.specs.Deeds.{ends, begin};
 ghost use Rattle.zy_table.specs.Running.{run, signs_of};
-ghost use Rattle.zy_table.specs.Orders.{position_of as position_for, take_order as taken, asked_from as asked_at, owes_hole as owes, hole_of as hole_for, ask_for_missing as asked, hold_order as held, order_as as answered_as};
+ghost use Rattle.zy_table.specs.Orders.{last_stamp, position_of as position_for, take_order as taken, asked_from as asked_at, owes_hole as owes, hole_of as hole_for, ask_for_missing as asked, hold_order as held, order_as as answered_as};
+ghost use Rattle.zy_frames.specs.Frames.{entry_in};
 ghost use Rattle.zy_parts.specs.Numbers as numbers;
 ghost use Rattle.zy_parts.specs.Signing.{IsSignedInRange};
 ghost use Rattle.zy_seal.specs.Sealing.{sealed_by};
 ghost use Rattle.zy_parts.specs.Statements.{IsHoleInRange, hole_fields};
-ghost use Rattle.zy_replica_state.specs.Ready.{IsOrderReady};
+ghost use Rattle.zy_replica_state.specs.Ready.{IsOrderHeard, IsOrderReady};
 
 use crate::running::{can_run, run_all};
-use zy_admit::{Admit, Position, client_of};
-use zy_base::{Answer, Cause, Machine, Place, Want};
+use zy_admit::{Admit, Position};
+use zy_base::{Answer, Cause, Items, Machine, Place, Stamp, Want};
 use zy_frames::OrderFrame;
-use zy_parts::{Hole, Signed};
+use zy_parts::{Ask, Hole, Signed, client_of};
 use zy_replica_state::{Core, Moved, Progress, signed_copy};
 use zy_table::{Body, To};
 
-fn position_of<M: Machine>(core: &Core<M>, frame: &OrderFrame) -> Position
-    ensures { result ≡ position_for M.rules core.now frame.now }
+// For each request the stamp of its client's last entry.
+fn last_stamps<M: Machine>(
+    core: &Core<M>,
+    asks: &[Signed<Ask>],
+) -> Result<Items<Option<Stamp>>, Want>
+    ensures { IfOk result (λ last. last ≡ map (last_stamp M.rules core.now) asks.now) }
 {
-    Position {
+    let mut last = Items::new(core.allocator());
+    for ask in asks {
+        last.push(core.last_stamp(client_of(ask.by)))?;
+    }
+    Ok(last)
+}
+
+fn position_of<M: Machine>(core: &Core<M>, frame: &OrderFrame) -> Result<Position, Want>
+    ensures { IfOk result (λ position. position ≡ position_for M.rules core.now frame.now) }
+{
+    Ok(Position {
         end: core.length(),
         head: core.head(),
         window: core.window(),
-        last: core.last_stamp(client_of(frame.ask.by)),
-    }
+        last: last_stamps(core, frame.asks.as_slice())?,
+    })
 }
 
 // The order is kept, and nothing is missing any more.
@@ -52,7 +67,7 @@ fn take_order<M: Machine>(core: Core<M>, frame: OrderFrame) -> Result<Moved<M>, 
     requires within { frame.order.stmt.place.0 ≤ window_of core }
     ensures { IfOk result (λ m. m ≡ taken M.rules core frame) }
 {
-    match can_run(core, &frame.ask, 0) {
+    match can_run(core, frame.asks.as_slice(), 0) {
         Ok((core, true)) => {
             let ran = accept_and_run(core, &frame);
             drop(frame);
@@ -68,7 +83,7 @@ fn take_order<M: Machine>(core: Core<M>, frame: OrderFrame) -> Result<Moved<M>, 
 
 fn accept_and_run<M: Machine>(core: Core<M>, frame: &OrderFrame) -> Result<Moved<M>, Want>
     requires active { is_leaving core ≡ false }
-    requires left { signs_of M.rules core (ordered_entry frame.now) ≤ signs_left core }
+    requires left { signs_of M.rules core (entry_in frame.now) ≤ signs_left core }
     requires order { IsOrderReady frame.now }
     requires above { last_place core.kept < frame.now.order.stmt.place.0 }
     requires within { frame.now.order.stmt.place.0 ≤ window_of core }
@@ -139,13 +154,13 @@ fn hold_order<M: Machine>(core: Core<M>, frame: OrderFrame) -> Result<Moved<M>, 
 }
 
 /// How an order is judged beside those that are kept and the own history.
-pub fn judge<M: Machine>(core: &Core<M>, frame: &OrderFrame) -> Admit
-    requires { IsOrderReady frame.now }
-    ensures { result ≡ judge_in core.now.orders frame.now.order.stmt (ordered_entry frame.now) (position_for M.rules core.now frame.now) }
+pub fn judge<M: Machine>(core: &Core<M>, frame: &OrderFrame) -> Result<Admit, Want>
+    requires { IsOrderHeard frame.now }
+    ensures { IfOk result (λ admit. admit ≡ judge_in core.now.orders frame.now.order.stmt (entry_in frame.now) (position_for M.rules core.now frame.now)) }
 {
-    let position = position_of(core, frame);
-    core.orders()
-        .judge(&frame.order.stmt, &frame.ask, &position)
+    let position = position_of(core, frame)?;
+    let asks = frame.asks.as_slice();
+    Ok(core.orders().judge(&frame.order.stmt, asks, &position))
 }
 
 /// An order of the own view that was judged so.
@@ -155,8 +170,8 @@ pub fn order_as<M: Machine>(
     admit: Admit,
 ) -> Result<Moved<M>, Want>
     requires active { is_leaving core ≡ false }
-    requires order { IsOrderReady frame }
-    requires judged { admit ≡ judge_in core.orders frame.order.stmt (ordered_entry frame) (position_for M.rules core frame) }
+    requires order { IsOrderHeard frame }
+    requires judged { admit ≡ judge_in core.orders frame.order.stmt (entry_in frame) (position_for M.rules core frame) }
     ensures { IfOk result (λ m. m ≡ answered_as M.rules core frame admit) }
 {
     match admit {

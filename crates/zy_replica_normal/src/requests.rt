@@ -1,8 +1,8 @@
 //! What a replica answers to a request.
 
-ghost use Rattle.std.specs.Prelude.{◌≡◌, ◌≤◌, ◌<◌, ◌+◌, nat_eq, nat_lt, if◌then◌else◌, false, Some, IfOk};
+ghost use Rattle.std.specs.Prelude.{◌≡◌, ◌≤◌, ◌<◌, ◌+◌, nat_eq, nat_lt, if◌then◌else◌, false, [], ◌∷◌, Some, IfOk};
 ghost use Rattle.std.specs.Option.{ForSome};
-ghost use Rattle.zy_admit.specs.Judging.{entry_of, asking};
+ghost use Rattle.zy_parts.specs.Asks.{asking};
 ghost use Rattle.zy_admit.specs.Orders.{with_order};
 ghost use Rattle.zy_parts.specs.Signing.{IsSignedInRange};
 ghost use Rattle.zy_parts.specs.Statements.{IsConfirmInRange, IsOrderInRange, IsSpecInRange, spec_fields};
@@ -15,21 +15,23 @@ ghost use Rattle.zy_seal.specs.Sealing.{sealed_by};
 ghost use Rattle.zy_table.specs.declared.deeds.To.TheVariants as tos;
 ghost use Rattle.zy_table.specs.declared.deeds.Act.TheVariants as acts;
 ghost use Rattle.zy_table.specs.declared.deeds.Body.TheVariants as bodies;
-ghost use Rattle.zy_table.specs.State.{is_leaving, signs_left, window_of, spent, stood_of, with_spec, with_pending, pending_of};
+ghost use Rattle.zy_table.specs.State.{is_leaving, signs_left, window_of, spent, stood_of, with_spec, with_pending, pending_of, spec_said};
 ghost use Rattle.zy_table.specs.Deeds.{ends, begin, act as acting, send as sending};
-ghost use Rattle.zy_table.specs.Running.{spec_of as spec_for, run, signs_of};
-ghost use Rattle.zy_table.specs.Requests.{response_of, respond_anew as anew, respond_with as answered_with, respond_again as answered_again, order_of as order_for, sealed_order as sealed, ordered as ordered_by, take_request as taken, request_at_primary as at_primary, confirm_of as confirm_for, sealed_confirm as confirmed, tell_primary as told_of, request_waits as waiting, forward as forwarded, request_at_backup as at_backup, new_request as fresh, request_after as after, is_behind as behind, request as request_row};
+ghost use Rattle.zy_table.specs.Running.{run, signs_of};
+ghost use Rattle.zy_table.specs.Requests.{entry_of, response_of, respond_anew as anew, respond_as as answered_as, respond_again as answered_again, order_of as order_for, sealed_order as sealed, ordered as ordered_by, take_request as taken, request_at_primary as at_primary, confirm_of as confirm_for, sealed_confirm as confirmed, tell_primary as told_of, request_waits as waiting, forward as forwarded, request_at_backup as at_backup, new_request as fresh, request_after as after, is_behind as behind, request as request_row};
 ghost use Rattle.zy_replica_state.specs.Ready.{IsAskReady, IsKeptPending, IsOrderReady, IsPendingReady};
 
 use crate::running::{can_run, run_all};
-use zy_admit::{client_of, request_digest_of};
-use zy_base::{Answer, Cause, ClientId, Machine, Place, Stamp, Stood, Want};
+use std::alloc::Global;
+use std::slice::from_ref;
+use zy_admit::request_digest_of;
+use zy_base::{Answer, Cause, ClientId, Items, Machine, Party, Place, Stamp, Stood, Want};
 use zy_chain::next_head;
 use zy_exec::Known;
 use zy_frames::OrderFrame;
-use zy_parts::{Ask, Confirm, Order, Signed, Spec};
+use zy_parts::{Ask, Confirm, Order, Signed, Spec, client_of};
 use zy_replica_state::{Core, Moved, Progress, pending_copy, spec_of};
-use zy_table::{Body, Pending};
+use zy_table::{Body, Pending, To};
 
 pub(crate) fn is_older(stamp: Stamp, last: Stamp) -> bool
     ensures { result ≡ nat_lt stamp.0 last.0 }
@@ -45,50 +47,69 @@ pub(crate) fn is_same(stamp: Stamp, last: Stamp) -> bool
 
 // ---- a request that was executed last
 
-// The response with its order, where it is kept.
+// The response with its order, where it is kept, to this client alone.
 fn send_response<M: Machine>(
     progress: Progress<M>,
+    client: ClientId,
     spec: Signed<Spec>,
     known: Known,
 ) -> Result<Progress<M>, Want>
     requires spec { IsSignedInRange IsSpecInRange spec }
     requires known { IsKnownInRange known }
-    ensures { IfOk result (λ g. g ≡ response_of progress.state spec known progress) }
+    ensures { IfOk result (λ g. g ≡ response_of progress.state client spec known progress) }
 {
     let order = progress.core.order_at(known.place)?;
-    progress.send_spec(spec, known.reply, order)
+    let to = To::One(Party::Client(client));
+    progress.send_spec(to, spec, known.answers, order)
 }
 
-fn sign_response<M: Machine>(core: Core<M>, spec: Spec, known: Known) -> Result<Progress<M>, Want>
+fn sign_response<M: Machine>(
+    core: Core<M>,
+    client: ClientId,
+    spec: Spec,
+    known: Known,
+) -> Result<Progress<M>, Want>
     requires left { 1 ≤ signs_left core }
     requires spec { IsSpecInRange spec }
     requires known { IsKnownInRange known }
-    ensures { IfOk result (λ g. g ≡ response_of core (sealed_by numbers.spec spec_fields core.sealer spec) known (acting (acts.Says (record { body = bodies.Spec spec; stood = stood_of M.rules core })) (begin (with_spec (spent core) (sealed_by numbers.spec spec_fields core.sealer spec))))) }
+    ensures { IfOk result (λ g. g ≡ response_of core client (sealed_by numbers.spec spec_fields core.sealer spec) known (acting (acts.Says (record { body = bodies.Spec spec; stood = stood_of M.rules core })) (begin (with_spec M.rules (spent core) (sealed_by numbers.spec spec_fields core.sealer spec))))) }
 {
     let (progress, signed) = core.begin().sign_spec(spec)?;
-    send_response(progress, signed, known)
+    send_response(progress, client, signed, known)
 }
 
 // The response is signed anew.
-fn respond_anew<M: Machine>(core: Core<M>, spec: Spec, known: Known) -> Result<Moved<M>, Want>
+fn respond_anew<M: Machine>(
+    core: Core<M>,
+    client: ClientId,
+    spec: Spec,
+    known: Known,
+) -> Result<Moved<M>, Want>
     requires spec { IsSpecInRange spec }
     requires known { IsKnownInRange known }
-    ensures { IfOk result (λ m. m ≡ anew M.rules core spec known) }
+    ensures { IfOk result (λ m. m ≡ anew M.rules core client spec known) }
 {
     if core.signs_left() == 0 {
         return core.not_heard(known, Cause::KeySpent);
     }
-    Ok(sign_response(core, spec, known)?.ends(Answer::Taken))
+    Ok(sign_response(core, client, spec, known)?.ends(Answer::Taken))
 }
 
-fn respond_with<M: Machine>(core: Core<M>, spec: Spec, known: Known) -> Result<Moved<M>, Want>
+fn respond_with<M: Machine>(
+    core: Core<M>,
+    client: ClientId,
+    spec: Spec,
+    known: Known,
+) -> Result<Moved<M>, Want>
     requires spec { IsSpecInRange spec }
     requires known { IsKnownInRange known }
-    ensures { IfOk result (λ m. m ≡ answered_with M.rules core spec known) }
+    ensures { IfOk result (λ m. m ≡ answered_as M.rules core client (spec_said core spec) spec known) }
 {
     match core.spec_said(&spec) {
-        Ok(None) => respond_anew(core, spec, known),
-        Ok(Some(said)) => Ok(send_response(core.begin(), said, known)?.ends(Answer::Taken)),
+        Ok(None) => respond_anew(core, client, spec, known),
+        Ok(Some(said)) => {
+            Ok(send_response(core.begin(), client, said, known)?.ends(Answer::Taken))
+        }
         Err(want) => {
             drop(known);
             Err(want)
@@ -98,18 +119,25 @@ fn respond_with<M: Machine>(core: Core<M>, spec: Spec, known: Known) -> Result<M
 
 fn respond_again<M: Machine>(
     core: Core<M>,
-    ask: &Signed<Ask>,
+    client: ClientId,
     known: Known,
 ) -> Result<Moved<M>, Want>
-    requires ask { IsAskReady ask.now }
-    requires known { IsKnownInRange known }
-    ensures { IfOk result (λ m. m ≡ answered_again M.rules core ask.now known) }
+    requires { IsKnownInRange known }
+    ensures { IfOk result (λ m. m ≡ answered_again M.rules core client known) }
 {
-    let spec = spec_of(core.view(), ask, &known);
-    respond_with(core, spec, known)
+    let spec = spec_of(core.view(), &known);
+    respond_with(core, client, spec, known)
 }
 
 // ---- a new request at the primary
+
+fn alone(alloc: Global, ask: Signed<Ask>) -> Result<Items<Signed<Ask>>, Want>
+    ensures { IfOk result (λ asks. asks ≡ ask ∷ []) }
+{
+    let mut asks = Items::new(alloc);
+    asks.push(ask)?;
+    Ok(asks)
+}
 
 fn order_of<M: Machine>(core: &Core<M>, ask: &Signed<Ask>) -> Order
     requires ask { IsAskReady ask.now }
@@ -137,8 +165,9 @@ fn seal_order<M: Machine>(core: Core<M>, ask: Signed<Ask>) -> Result<(Core<M>, O
     ensures next { IfOk result (λ r. r.1.order.stmt.place.0 ≡ last_place core.kept + 1) }
 {
     let order = order_of(&core, &ask);
+    let asks = alone(core.allocator(), ask)?;
     let (core, order) = core.seal(order)?;
-    Ok((core, OrderFrame { order, ask }))
+    Ok((core, OrderFrame { order, asks }))
 }
 
 // The order is signed, kept and sent to all.
@@ -181,7 +210,7 @@ fn take_request<M: Machine>(core: Core<M>, ask: Signed<Ask>) -> Result<Moved<M>,
     requires room { last_place core.kept < window_of core }
     ensures { IfOk result (λ m. m ≡ taken M.rules core ask) }
 {
-    match can_run(core, &ask, 1) {
+    match can_run(core, from_ref(&ask), 1) {
         Ok((core, true)) => order_and_run(core, ask),
         Ok((core, false)) => core.not_heard(ask, Cause::KeySpent),
         Err(want) => {
@@ -369,12 +398,12 @@ fn repeat_or_take<M: Machine>(
     requires active { is_leaving core ≡ false }
     requires ask { IsAskReady ask }
     requires known { IsKnownInRange known }
-    ensures { IfOk result (λ m. m ≡ (if nat_eq ask.stmt.stamp.0 known.stamp.0 then answered_again M.rules core ask known else fresh M.rules core ask)) }
+    ensures { IfOk result (λ m. m ≡ (if nat_eq ask.stmt.stamp.0 known.stamp.0 then answered_again M.rules core (asking ask.by) known else fresh M.rules core ask)) }
 {
     if is_same(ask.stmt.stamp, known.stamp) {
-        let again = respond_again(core, &ask, known);
+        let client = client_of(ask.by);
         drop(ask);
-        again
+        respond_again(core, client, known)
     } else {
         drop(known);
         new_request(core, ask)

@@ -12,15 +12,16 @@ use crate::checkpoints::{checkpoint, response};
 use crate::commits::commit;
 use crate::confirms::confirm;
 use crate::holes::fill_hole;
-use zy_base::{Bytes, Cause, Items, Machine, Want};
+use zy_base::{Cause, ClientId, Items, Machine, Want};
+use zy_chain::Answered;
 use zy_parts::{Ask, Check, Confirm, Hole, Order, Signed, Spec};
 use zy_replica_state::{Core, Moved};
 
-/// A response of the own view, its signature verified. The reply and the order beside it are the client's.
+/// A response of the own view, its signature verified. The answers and the order beside it are the clients'.
 pub fn response_in_view<M: Machine>(
     core: Core<M>,
     spec: Signed<Spec>,
-    beside: (Bytes, Option<Signed<Order>>),
+    beside: (Items<Answered>, Option<Signed<Order>>),
 ) -> Result<Moved<M>, Want>
     requires { IsSignedInRange IsSpecInRange spec }
     ensures { IfOk result (λ m. m ≡ row_of M.rules core (frames.SpecResponse spec beside.0 beside.1)) }
@@ -43,13 +44,14 @@ pub fn checkpoint_in_view<M: Machine>(core: Core<M>, check: Signed<Check>) -> Re
     }
 }
 
-/// A commit certificate of the own view, by its first response; the signatures are verified.
+/// A client's commit certificate of the own view, by its first response; the signatures are verified.
 pub fn commit_in_view<M: Machine>(
     core: Core<M>,
+    client: ClientId,
     specs: Items<Signed<Spec>>,
 ) -> Result<Moved<M>, Want>
-    requires { IsFrameInRange (frames.Commit specs) }
-    ensures { IfOk result (λ m. m ≡ committed_in_view M.rules core specs) }
+    requires { IsFrameInRange (frames.Commit client specs) }
+    ensures { IfOk result (λ m. m ≡ committed_in_view M.rules core client specs) }
 {
     let first = match specs.as_slice() {
         [] => return core.not_heard(specs, Cause::TooFew(0)),
@@ -57,7 +59,7 @@ pub fn commit_in_view<M: Machine>(
     };
     match core.view_cause(first.view) {
         Some(cause) => core.not_heard(specs, cause),
-        None => commit(core, first, specs),
+        None => commit(core, client, first, specs),
     }
 }
 

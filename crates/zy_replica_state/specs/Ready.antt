@@ -9,7 +9,7 @@ use Rattle.zy_base.specs.declared.ids.Place.{Place}
 use Rattle.zy_base.specs.declared.ids.ReplicaId.{ReplicaId}
 use Rattle.zy_base.specs.declared.ids.View.{View}
 use Rattle.zy_base.specs.declared.step.Mode.TheVariants.{Active}
-use Rattle.zy_parts.specs.Asks.{asking, AreAsksInRange}
+use Rattle.zy_parts.specs.Asks.{asking, entry_of_asks, AreAsksInRange}
 use Rattle.zy_parts.specs.Signing.{IsSignedInRange}
 use Rattle.zy_parts.specs.Statements.{IsAskInRange, IsOrderInRange, IsSpecInRange, IsLocalInRange, IsConfirmInRange, IsHoleInRange, IsHateInRange, IsCheckInRange}
 use Rattle.zy_parts.specs.Reports.{IsChangeInRange, IsNewInRange, IsBeganInRange, IsFetchInRange}
@@ -51,18 +51,22 @@ pub record IsAskReady (ask : Signed Ask) : Type 0 where
   pub range : IsSignedInRange IsAskInRange ask
   pub client : (asking ask.by).0 < 64
 
+-- requests that can be executed together
+pub record AreAsksReady (asks : List (Signed Ask)) : Type 0 where
+  pub range : AreAsksInRange asks
+  pub clients : IsOfClients (entry_of_asks asks)
+  pub different : has_client_twice (entry_of_asks asks).items ≡ false
+
 -- an order that can be judged
 pub record IsOrderHeard (o : OrderFrame) : Type 0 where
   pub order : IsSignedInRange IsOrderInRange o.order
-  pub asks : AreAsksInRange o.asks
+  pub range : AreAsksInRange o.asks
   pub clients : IsOfClients (entry_in o)
 
 -- an order that can be kept, sent and executed
 pub record IsOrderReady (o : OrderFrame) : Type 0 where
   pub order : IsSignedInRange IsOrderInRange o.order
-  pub asks : AreAsksInRange o.asks
-  pub clients : IsOfClients (entry_in o)
-  pub different : has_client_twice (entry_in o).items ≡ false
+  pub asks : AreAsksReady o.asks
 
 abbrev pub IsSlotReady : Option OrderFrame → Type 0
 IsSlotReady slot = ForSome slot IsOrderReady

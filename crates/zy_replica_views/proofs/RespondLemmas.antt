@@ -2,6 +2,7 @@
 use Rattle.std.proofs.Common.{◌≡◌, ℕ, suc, ◌+◌, ◌-◌, ◌%◌, ◌≤◌, nat_eq, Bool, true, false, if◌then◌else◌, List, ◌∷◌, length, filter, Option, Some, None, refl, sym, ◌∙◌, subst, arith}
 use Rattle.std.specs.List.{range_with_len}
 use Rattle.zy_base.specs.Machine.{Rules}
+use Rattle.zy_chain.specs.Answers.{Answers}
 use Rattle.zy_exec.specs.Kept.{reply_in}
 use Rattle.zy_table.specs.declared.kept.OwnCheckpoint.{OwnCheckpoint}
 use Rattle.zy_parts.specs.declared.signed.Signed.{Signed}
@@ -26,10 +27,10 @@ pub record IsAnswered {S : Type 0} (g after : Going S) : Type 0 where
   pub active : is_leaving after.state ≡ is_leaving g.state
   pub enough_left : signs_left g.state ≤ signs_left after.state + 1
 
-pub answered_to : {S : Type 0} (R : Rules S) (own : Option OwnCheckpoint) (reply : Option (List ℕ)) (g : Going S) → IsAnswered g (respond_to R own reply g)
-answered_to R None reply g = record { active = refl; enough_left = omega arith }
+pub answered_to : {S : Type 0} (R : Rules S) (own : Option OwnCheckpoint) (answers : Option Answers) (g : Going S) → IsAnswered g (respond_to R own answers g)
+answered_to R None answers g = record { active = refl; enough_left = omega arith }
 answered_to R (Some own) None g = record { active = refl; enough_left = omega arith }
-answered_to R (Some own) (Some reply) g = record { active = refl; enough_left = omega arith }
+answered_to R (Some own) (Some answers) g = record { active = refl; enough_left = omega arith }
 
 -- what is left to be answered comes to the same
 pub record IsLeft {S : Type 0} (R : Rules S) (interval at count : ℕ) (g end : Going S) : Type 0 where
@@ -76,8 +77,8 @@ left_at R interval at count rest g end one left =
     left_for (nat_eq (at % interval) 0) at (signs_left g.state) (due interval (at + 1) rest) here.enough_left
 
 -- one answer after the other
-pub alone_is : {S : Type 0} (R : Rules S) (own : OwnCheckpoint) (reply : List ℕ) (g said kept told : Going S) (signed : Signed Spec) → signed ≡ sealed_spec g.state own.spec
-    → said ≡ act (Says (record { body = bodies.Spec own.spec; stood = stood_of R g.state })) (record g { state = with_spec (spent g.state) (sealed_spec g.state own.spec) })
-    → kept ≡ record said { state = with_own_spec said.state own signed } → told ≡ send (to_clients signed.stmt) (frames.SpecResponse signed reply None) kept
-    → send ToAll (frames.SpecResponse signed reply None) told ≡ respond_alone R own reply g
-alone_is R own reply g said kept told signed sealed says keeps tells = rw (tells, keeps, says, sealed) refl
+pub alone_is : {S : Type 0} (R : Rules S) (own : OwnCheckpoint) (answers : Answers) (g said kept told : Going S) (signed : Signed Spec) → signed ≡ sealed_spec g.state own.spec
+    → said ≡ act (Says (record { body = bodies.Spec own.spec; stood = stood_of R g.state })) (record g { state = with_spec R (spent g.state) (sealed_spec g.state own.spec) })
+    → kept ≡ record said { state = with_own_spec said.state own signed } → told ≡ send (to_clients answers) (frames.SpecResponse signed answers None) kept
+    → send ToAll (frames.SpecResponse signed answers None) told ≡ respond_alone R own answers g
+alone_is R own answers g said kept told signed sealed says keeps tells = rw (tells, keeps, says, sealed) refl

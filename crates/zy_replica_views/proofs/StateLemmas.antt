@@ -75,6 +75,7 @@ module _ {S : Type 0} (IsState : S → Type 0) (R : Rules S) where
       record {
         interval = installed_is.interval_is ∙ same;
         nothing = installed_is.nothing_above;
+        known = installed_is.shown.all_clients;
         place = installed_is.place_is;
         head = installed_is.head_is;
         point = ap (point_in R told.stable_place told.stable_head) (sym installed_is.spelled)

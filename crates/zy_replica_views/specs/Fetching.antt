@@ -1,5 +1,5 @@
 -- Why a snapshot that comes isn't the one that a certificate waits for.
-use Rattle.std.specs.Prelude.{◌≡◌, ℕ, slice_get, List, [], Option, Some, None}
+use Rattle.std.specs.Prelude.{◌≡◌, ℕ, slice_get, List, [], length, Option, Some, None}
 use Rattle.zy_base.specs.Machine.{Rules}
 use Rattle.zy_base.specs.declared.cause.Cause.{Cause}
 use Rattle.zy_base.specs.declared.cause.Cause.TheVariants as causes
@@ -45,6 +45,7 @@ pub record Awaits (waiting : Option Waiting) : Type 0 where
 pub record IsShownAt {S : Type 0} (R : Rules S) (many : ℕ) (told : Told) (bytes : List ℕ) (k : Kept S) : Type 0 where
   pub interval : k.interval ≡ many
   pub nothing : k.entries ≡ []
+  pub known : length k.base.known ≡ 64
   pub place : k.base.place ≡ told.stable_place.0
   pub head : k.base.head ≡ told.stable_head
   pub point : point_in R told.stable_place told.stable_head bytes ≡ Some k.base
@@ -53,6 +54,7 @@ pub record IsShownAt {S : Type 0} (R : Rules S) (many : ℕ) (told : Told) (byte
 pub record CanShow {S : Type 0} (s : State S) (w : Waiting) (told : Told) (k : Kept S) : Type 0 where
   pub interval : k.interval ≡ s.kept.interval
   pub nothing : k.entries ≡ []
+  pub known : length k.base.known ≡ 64
   pub stable : IsStableShown s told k.base w.chosen
 
 -- what a step comes to with the snapshot that this execution shows

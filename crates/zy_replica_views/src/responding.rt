@@ -12,49 +12,50 @@ ghost use Rattle.zy_table.specs.Adopting.{checkpoints_between};
 ghost use Rattle.zy_table.specs.Beginning.{respond_alone as responding, respond_to as responding_to, respond_up_to as responding_up_to};
 ghost use Rattle.zy_chain.specs.Answers.{FitsAnswers};
 
-use zy_base::{Bytes, Machine, Place, Want};
+use zy_base::{Items, Machine, Place, Want};
+use zy_chain::{Answered, answers_copy};
 use zy_parts::{Signed, Spec};
-use zy_replica_state::{Core, Progress, bytes_copy, signed_copy};
-use zy_table::OwnCheckpoint;
+use zy_replica_state::{Core, Progress, signed_copy};
+use zy_table::{OwnCheckpoint, To};
 
-/// The response to the entry of a checkpoint is signed and kept, and goes to its client and to all. No order goes with it.
+/// The response to the entry of a checkpoint is signed and kept, and goes to its clients and to all. No order goes with it.
 fn respond_alone<M: Machine>(
     progress: Progress<M>,
     own: &OwnCheckpoint,
-    reply: Bytes,
+    answers: Items<Answered>,
 ) -> Result<Progress<M>, Want>
     requires left { 1 ≤ signs_left progress.state }
     requires spec { IsSpecInRange own.now.spec }
-    requires reply { FitsAnswers reply }
-    ensures { IfOk result (λ g. g ≡ responding M.rules own.now reply progress) }
+    requires answers { FitsAnswers answers }
+    ensures { IfOk result (λ g. g ≡ responding M.rules own.now answers progress) }
 {
     let (said, signed) = progress.sign_spec(own.spec)?;
     let kept = said.keep_own_spec(own, &signed)?;
-    let told = send_alone(kept, &signed, &reply)?;
-    told.share_spec(signed, reply, None)
+    let told = send_alone(kept, &signed, &answers)?;
+    told.send_spec(To::All, signed, answers, None)
 }
 
 fn send_alone<M: Machine>(
     progress: Progress<M>,
     signed: &Signed<Spec>,
-    reply: &Bytes,
+    answers: &Items<Answered>,
 ) -> Result<Progress<M>, Want>
     requires spec { IsSignedInRange IsSpecInRange signed.now }
-    requires reply { FitsAnswers reply.now }
-    ensures { IfOk result (λ g. g ≡ send (to_clients signed.now.stmt) (frames.SpecResponse signed.now reply.now None) progress) }
+    requires answers { FitsAnswers answers.now }
+    ensures { IfOk result (λ g. g ≡ send (to_clients answers.now) (frames.SpecResponse signed.now answers.now None) progress) }
 {
     let signed = signed_copy(signed)?;
-    let reply = bytes_copy(reply)?;
-    progress.send_spec(signed, reply, None)
+    let answers = answers_copy(answers)?;
+    progress.send_spec_to_clients(signed, answers, None)
 }
 
-fn reply_copy<M: Machine>(core: &Core<M>, place: Place) -> Result<Option<Bytes>, Want>
-    ensures reply { IfOk result (λ reply. reply ≡ reply_in M.rules core.now.kept place.0) }
-    ensures short { IfOk result (λ reply. IfSome reply (λ bytes. length bytes ≤ 1100)) }
+fn answers_at<M: Machine>(core: &Core<M>, place: Place) -> Result<Option<Items<Answered>>, Want>
+    ensures answers { IfOk result (λ answers. answers ≡ reply_in M.rules core.now.kept place.0) }
+    ensures short { IfOk result (λ answers. IfSome answers FitsAnswers) }
 {
     match core.exec().reply_at(place) {
         None => Ok(None),
-        Some(reply) => Ok(Some(bytes_copy(reply)?)),
+        Some(answers) => Ok(Some(answers_copy(answers)?)),
     }
 }
 
@@ -68,9 +69,9 @@ fn respond_own<M: Machine>(
     requires spec { IsSpecInRange own.now.spec }
     ensures { IfOk result (λ g. g ≡ responding_to M.rules (Some own.now) (reply_in M.rules progress.state.kept place.0) progress) }
 {
-    match reply_copy(&progress.core, place)? {
+    match answers_at(&progress.core, place)? {
         None => Ok(progress),
-        Some(reply) => respond_alone(progress, own, reply),
+        Some(answers) => respond_alone(progress, own, answers),
     }
 }
 
@@ -80,7 +81,7 @@ fn respond_at<M: Machine>(progress: Progress<M>, place: Place) -> Result<Progres
     requires active { is_leaving progress.state ≡ false }
     ensures { IfOk result (λ g. g ≡ responding_to M.rules (own_at M.rules progress.state place.0) (reply_in M.rules progress.state.kept place.0) progress) }
 {
-    // With its view comes what holds of every replica: its entries are of clients for which there is room.
+    // With its view comes what holds of every replica: how far its history goes.
     let _view = progress.core.view();
     match progress.core.own_at(place) {
         None => Ok(progress),

@@ -14,7 +14,7 @@ change-requires g c =
     record {
       replica = change_signer c.args.core c.in-ViewChange.vote role;
       member = change_member c.args.core c.in-ViewChange.vote c.requires.replicas
-          (subst (λ (f : ViewFrame). screen c.args.core.keys (parts_of f) ≡ None) frame c.requires.verified) role;
+          (subst (λ (f : ViewFrame). screen c.args.core.keys None (parts_of f) ≡ None) frame c.requires.verified) role;
       range = subst IsFrameInRange frame c.requires.range;
     }
 
@@ -33,7 +33,7 @@ confirmation-requires g c =
     record {
       replica = vote_signer c.args.core.counts c.in-ViewConfirm.vote role;
       member = vote_member c.args.core c.in-ViewConfirm.vote c.requires.replicas
-          (subst (λ (f : ViewFrame). screen c.args.core.keys (parts_of f) ≡ None) frame c.requires.verified) role;
+          (subst (λ (f : ViewFrame). screen c.args.core.keys None (parts_of f) ≡ None) frame c.requires.verified) role;
       range = subst IsFrameInRange frame c.requires.range;
     }
 

@@ -14,6 +14,9 @@ install-requires-clause-interval g c = let a = c.requires.awaits in (c.requires.
 pub install-requires-clause-nothing : goal.install-requires-clause-nothing
 install-requires-clause-nothing g c = let a = c.requires.awaits in (c.requires.shown a.w a.provider a.is).nothing
 
+pub install-requires-clause-known : goal.install-requires-clause-known
+install-requires-clause-known g c = let a = c.requires.awaits in (c.requires.shown a.w a.provider a.is).known
+
 pub install-requires-clause-shown : goal.install-requires-clause-shown
 install-requires-clause-shown g c = λ w provider waits given. let can = c.requires.shown w provider (record { waits = waits; given = given }) in (can.stable.place, can.stable.head)
 

@@ -12,6 +12,7 @@ install_counted-requires-clause-shown g c = λ w provider aw.
     record {
       interval = shows.interval;
       nothing = shows.nothing;
+      known = shows.known;
       stable = waiting_shown c.args.core c.requires.ready c.requires.fit w aw.waits provider aw.given g.M.Machine.rules c.snapshot_in.result.now c.in-Ok.exec shows;
     }
 
