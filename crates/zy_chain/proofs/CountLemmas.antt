@@ -1,17 +1,21 @@
 -- Counts over what stands for items.
-use Rattle.std.proofs.Common.{◌≡◌, ℕ, ◌+◌, ◌-◌, Bool, ◌||◌, eqb, List, [], ◌∷◌, ◌++◌, length, map, fold, refl, ap, ◌∙◌, arith}
-use Rattle.std.specs.List.{list_any, sum_by}
-use Rattle.std.proofs.lemmas.List.Sums.{sum_by-cons}
+use Rattle.std.proofs.Common.{◌≡◌, ℕ, ◌+◌, ◌<◌, Bool, ◌||◌, eqb, List, [], ◌∷◌, ◌++◌, length, take, get_or, map, refl, sym, ap, ◌∙◌}
+use Rattle.std.specs.List.{list_any}
+use Rattle.std.proofs.lemmas.List.{take_more, map-append}
 use Rattle.zy_base.specs.declared.ids.ClientId.{ClientId}
 use Rattle.zy_chain.specs.declared.item.Item.{Item}
 use Rattle.zy_chain.specs.Entries.{has_client, load_of}
+use Rattle.zy_chain.proofs.ItemLemmas.{load-push}
 
 module _ {X : Type 0} (item : X → Item) where
   pub has_client-map : (xs : List X) (client : ClientId) → has_client (map item xs) client ≡ list_any (λ x. eqb (item x).client.0 client.0) xs
   has_client-map [] client = refl
   has_client-map (x ∷ xs) client = ap (λ (b : Bool). eqb (item x).client.0 client.0 || b) (has_client-map xs client)
 
-  -- what is left is counted down operation by operation
-  pub room_left : (room : ℕ) (xs : List X) → fold (λ (left : ℕ) (x : X). left - length (item x).op) room xs ≡ room - load_of (map item xs)
-  room_left room [] = omega arith
-  room_left room (x ∷ xs) = room_left (room - length (item x).op) xs ∙ omega (arith, sum_by-cons (λ (i : Item). length i.op) (item x) (map item xs))
+  -- the load with one item more
+  pub load-more : (xs : List X) (i : ℕ) (x : X) → i < length xs → x ≡ get_or xs i x → load_of (map item (take (i + 1) xs)) ≡ load_of (map item (take i xs)) + length (item x).op
+  load-more xs i x within is =
+      let more : take (i + 1) xs ≡ take i xs ++ x ∷ [] = take_more xs i x within ∙ ap (λ (y : X). take i xs ++ y ∷ []) (sym is) in
+      ap (λ (l : List X). load_of (map item l)) more
+      ∙ ap load_of (map-append item (take i xs) (x ∷ []))
+      ∙ load-push (map item (take i xs)) (item x)

@@ -1,12 +1,12 @@
 -- What follows for the items of an entry, each of which is right behind those before it.
-use Rattle.std.proofs.Common.{◌≡◌, ℕ, ◌+◌, ◌-◌, ◌≤◌, Bool, true, false, ◌||◌, eqb, List, [], ◌∷◌, ◌++◌, length, map, fold, refl, sym, ap, ◌∙◌, arith}
-use Rattle.std.specs.List.{AllByRecursion, list_any, sum_by}
+use Rattle.std.proofs.Common.{◌≡◌, ℕ, ◌+◌, ◌≤◌, Bool, true, false, ◌||◌, eqb, List, [], ◌∷◌, ◌++◌, length, All, refl, ap, ◌∙◌, arith}
+use Rattle.std.specs.List.{AllByRecursion, list_any}
 use Rattle.std.proofs.lemmas.Bool.{eqb-true}
 use Rattle.std.proofs.lemmas.Bool.Decides.{nat_tests}
 use Rattle.std.proofs.lemmas.List.Folds.{list_any-append}
+use Rattle.std.proofs.lemmas.List.Elements.{All-from_recursion}
 use Rattle.std.proofs.lemmas.List.Sums.{sum_by-cons, sum_by-append}
 use Rattle.zy_base.specs.declared.ids.ClientId.{ClientId}
-use Rattle.zy_wire.specs.Spelling.{AreSuccessive}
 use Rattle.zy_wire.proofs.SuccessiveLaws.{AreSuccessive-all}
 use Rattle.zy_chain.specs.declared.item.Item.{Item}
 use Rattle.zy_chain.specs.declared.entry.Entry.{Entry}
@@ -72,3 +72,10 @@ first_in_range i range = record { client = range.client; different = refl; stamp
 
 pub single_in_range : (i : Item) → IsItemInRange i → IsEntryInRange (single i)
 single_in_range i range = record { least = omega arith; most = omega arith; each = (first_in_range i range, tt) }
+
+-- what calls that take the items of an entry ask of each
+pub ops_within : (e : Entry) → IsEntryInRange e → All (λ (i : Item). length i.op ≤ 1100) e.items
+ops_within e range = All-from_recursion _ e.items (AreSuccessive-all IsNextItem (λ i. length i.op ≤ 1100) (λ front i next. next.op) [] e.items range.each)
+
+pub each_first : (e : Entry) → IsEntryInRange e → All (IsNextItem []) e.items
+each_first e range = All-from_recursion _ e.items (AreSuccessive-all IsNextItem (IsNextItem []) (λ front i next. first_in_range i (next_in_range front i next)) [] e.items range.each)

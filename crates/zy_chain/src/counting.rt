@@ -1,4 +1,4 @@
-ghost use Rattle.std.specs.Prelude.{◌≡◌, ◌-◌, map};
+ghost use Rattle.std.specs.Prelude.{◌≡◌, ◌-◌, map, nat_eq};
 ghost use Rattle.zy_chain.specs.Entries.{has_client, has_client_twice, load_of};
 
 use crate::AsItem;
@@ -11,7 +11,13 @@ pub const MAX_LOAD: usize = 8192;
 pub fn has_client<T: AsItem>(items: &[T], client: ClientId) -> bool
     ensures { result ≡ has_client (map T.item items.now) client }
 {
-    items.iter().any(|item| item.client().0 == client.0)
+    items.iter().any(|item| is_of(item, client))
+}
+
+fn is_of<T: AsItem>(item: &T, client: ClientId) -> bool
+    ensures { result ≡ nat_eq (T.item item.now).client.0 client.0 }
+{
+    item.client().0 == client.0
 }
 
 /// Whether two items are one client's: each is compared with those behind it.
@@ -32,5 +38,9 @@ pub fn has_client_twice<T: AsItem>(items: &[T]) -> bool
 pub fn room_behind<T: AsItem>(items: &[T]) -> usize
     ensures { result ≡ 8192 - load_of (map T.item items.now) }
 {
-    items.iter().fold(MAX_LOAD, |room, item| room.saturating_sub(item.op().len()))
+    let mut room = MAX_LOAD;
+    for item in items {
+        room = room.saturating_sub(item.op().len());
+    }
+    room
 }
