@@ -88,14 +88,14 @@ own_checkpoint R view k h spec state stands own = record { within = omega (arith
 
 -- nothing is said of a place, or what is kept has there
 module _ {S : Type 0} (R : Rules S) (s : State S) (place : ℕ) (Q : Option OwnCheckpoint → Type 0) (none : Q None)
-    (some : (head : Digest) (answers : Answers) (state : Digest) → head_in (stretch_of s.kept) place ≡ Some head → state_in R s.kept place ≡ Some state
+    (some : (head : Digest) (answers : Answers) (state : Digest) → head_in (stretch_of s.kept) place ≡ Some head → reply_in R s.kept place ≡ Some answers → state_in R s.kept place ≡ Some state
     → Q (Some (own_with (spec_at (own_view s) place head answers) state))) where
-  by_parts : (head : Option Digest) (answers : Option Answers) (state : Option Digest) → head_in (stretch_of s.kept) place ≡ head → state_in R s.kept place ≡ state
+  by_parts : (head : Option Digest) (answers : Option Answers) (state : Option Digest) → head_in (stretch_of s.kept) place ≡ head → reply_in R s.kept place ≡ answers → state_in R s.kept place ≡ state
       → Q (own_from (own_view s) place head answers state)
-  by_parts None answers state head_is state_is = none
-  by_parts (Some head) None state head_is state_is = none
-  by_parts (Some head) (Some answers) None head_is state_is = none
-  by_parts (Some head) (Some answers) (Some state) head_is state_is = some head answers state head_is state_is
+  by_parts None answers state head_is told state_is = none
+  by_parts (Some head) None state head_is told state_is = none
+  by_parts (Some head) (Some answers) None head_is told state_is = none
+  by_parts (Some head) (Some answers) (Some state) head_is told state_is = some head answers state head_is told state_is
 
   pub kept_case : Q (own_at R s place)
-  kept_case = by_parts (head_in (stretch_of s.kept) place) (reply_in R s.kept place) (state_in R s.kept place) refl refl
+  kept_case = by_parts (head_in (stretch_of s.kept) place) (reply_in R s.kept place) (state_in R s.kept place) refl refl refl

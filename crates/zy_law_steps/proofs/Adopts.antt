@@ -47,6 +47,7 @@ use Rattle.zy_law_steps.proofs.Leaves.{IsEarly, arrives}
 use Rattle.zy_law_steps.proofs.Reports.{IsToldSpelled, change_there, new_view_in_range, told_spelled_in}
 use Rattle.zy_law_steps.proofs.SpelledRuns.{own_spec_spelled, with_own_spelled}
 use Rattle.zy_law_steps.proofs.Slots.{begans_later, changes_later, equal_kept}
+use Rattle.zy_chain.specs.Answers.{Answers}
 
 -- A view began, and no new view is accepted then; what it said and keeps can be spelled where its history stays in range.
 pub record HasBegunWell {S : Type 0} (g : Going S) : Type 0 where
@@ -132,7 +133,7 @@ module _ {S : Type 0} (R : Rules S) where
 
   -- ---- its checkpoints are answered anew
 
-  responds_to : (own : OwnCheckpoint) (reply : Option (List ℕ)) (g : Going S) → IsOwnSpelled own → IsGoing g → IsGoing (respond_to R (Some own) reply g)
+  responds_to : (own : OwnCheckpoint) (reply : Option Answers) (g : Going S) → IsOwnSpelled own → IsGoing g → IsGoing (respond_to R (Some own) reply g)
   responds_to own None g fits is = is
   responds_to own (Some reply) g fits is =
       let s : State S = g.state in
@@ -144,12 +145,12 @@ module _ {S : Type 0} (R : Rules S) where
             (record { signer = is.spelled.signer; views = is.spelled.views; history = is.spelled.history; board = is.spelled.board }) (own_spec_spelled s own.spec is.spelled fits.spec);
       }
 
-  still_kept : (own : Option OwnCheckpoint) (reply : Option (List ℕ)) (g : Going S) → (respond_to R own reply g).state.kept ≡ g.state.kept
+  still_kept : (own : Option OwnCheckpoint) (reply : Option Answers) (g : Going S) → (respond_to R own reply g).state.kept ≡ g.state.kept
   still_kept None reply g = refl
   still_kept (Some own) None g = refl
   still_kept (Some own) (Some reply) g = refl
 
-  still_accepted : (own : Option OwnCheckpoint) (reply : Option (List ℕ)) (g : Going S) → (respond_to R own reply g).state.views.accepted ≡ g.state.views.accepted
+  still_accepted : (own : Option OwnCheckpoint) (reply : Option Answers) (g : Going S) → (respond_to R own reply g).state.views.accepted ≡ g.state.views.accepted
   still_accepted None reply g = refl
   still_accepted (Some own) None g = refl
   still_accepted (Some own) (Some reply) g = refl

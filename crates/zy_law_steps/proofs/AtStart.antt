@@ -1,6 +1,6 @@
 -- A replica that begins is ready to work; and it is still, as others act, clients ask for more and more texts are kept.
-use Rattle.std.proofs.Common.{◌≡◌, ◌⊎◌, inl, inr, ℕ, zero, suc, ◌<◌, Bool, true, List, [], ◌∷◌, Some, refl, sym, ap, ◌∙◌, subst, arith}
-use Rattle.std.specs.Prelude.{Contains, slice_get}
+use Rattle.std.proofs.Common.{◌≡◌, inl, inr, ℕ, zero, suc, ◌<◌, Bool, List, [], ◌∷◌, Some, refl, sym, ap, ◌∙◌, subst, arith, get_or}
+use Rattle.std.specs.Prelude.{slice_get}
 use Rattle.std.proofs.lemmas.Option.{same_Some}
 use Rattle.zy_base.specs.Machine.{Rules}
 use Rattle.zy_base.specs.declared.counts.Counts.{Counts}
@@ -13,7 +13,7 @@ use Rattle.zy_exec.proofs.ReplayLemmas.{along-nil}
 use Rattle.zy_exec.specs.Replay.{Point, origin}
 use Rattle.zy_exec.specs.Shots.{digest_of_snapshot}
 use Rattle.zy_exec.specs.Snapshot.{snapshot_of}
-use Rattle.zy_law.specs.Lawful.{IsLawful}
+use Rattle.zy_law.specs.Lawful.{IsLawful, IsAsked}
 use Rattle.zy_law.specs.Said.{IsCorrect}
 use Rattle.zy_law.specs.Steps.{IsGrown, IsStart, grown}
 use Rattle.zy_law.specs.World.{Spoken, Stand, World}
@@ -30,12 +30,13 @@ use Rattle.zy_law_views.specs.Adopted.{IsHistoryKept}
 use Rattle.zy_law_views.specs.Held.{IsHeldPart}
 use Rattle.zy_law_views.specs.Texts.{AreLinks, Texts}
 use Rattle.zy_law_views.specs.Tied.{IsTied}
-use Rattle.zy_law_views.specs.Told.{check_told, order_told, response_told}
+use Rattle.zy_law_views.specs.Told.{check_told, order_told, spec_told}
 use Rattle.zy_law_views.specs.Cores.{core_of}
 use Rattle.zy_law_views.proofs.EmptyHistory.{empty_kept}
 use Rattle.zy_law_views.specs.Steps.{IsWorldOf}
 use Rattle.zy_law_views.specs.Rows.{IsReady}
 use Rattle.zy_law_views.specs.Work.{IsAtWork, IsRoundHeld, last_long}
+use Rattle.zy_chain.specs.declared.item.Item.{Item}
 
 module _ {S : Type 0} (R : Rules S) (interval r : ℕ) (w : World) (me : ReplicaId) (counts : Counts) (keys : Keys) (sealer : SealerState) where
   pub ready_at_start : 0 < interval → w.interval ≡ interval → IsLawful w → IsStart w → Agrees R w → IsCorrect w r → me.0 ≡ r → counts ≡ w.counts → sealer.me ≡ Replica me → IsReady R interval w r (start_of R interval me counts keys sealer) []
@@ -64,11 +65,11 @@ module _ {S : Type 0} (R : Rules S) (interval r : ℕ) (w : World) (me : Replica
         signed = tt;
         few = omega arith;
         end = omega arith;
-        near = none_kept (IsHeldPart w response_told) (IsHeldPart w check_told);
-        far = none_kept (IsHeldPart w response_told) (IsHeldPart w check_told);
+        near = none_kept (IsHeldPart w spec_told) (IsHeldPart w check_told);
+        far = none_kept (IsHeldPart w spec_told) (IsHeldPart w check_told);
       }
 
-pub work_grown : {S : Type 0} (interval r : ℕ) (w : World) (s : State S) (asked : ℕ → List Entry) (said : ℕ → List Spoken) (past : ℕ → List Stand) (kept : Digest → Entry → Bool) → IsGrown w asked said past kept
+pub work_grown : {S : Type 0} (interval r : ℕ) (w : World) (s : State S) (asked : ℕ → List Item) (said : ℕ → List Spoken) (past : ℕ → List Stand) (kept : Digest → Entry → Bool) → IsGrown w asked said past kept
     → said r ≡ w.said r → past r ≡ w.past r → IsAtWork interval w r s → IsAtWork interval (grown w asked said past kept) r s
 work_grown interval r w s asked said past kept more told stood is =
     record {
@@ -87,16 +88,16 @@ work_grown interval r w s asked said past kept more told stood is =
     }
   where
     may : (e : Entry) → MayRun w e → MayRun (grown w asked said past kept) e
-    may e run = record { client = run.client; range = run.range; asked = still e run.asked }
+    may e run = record { clients = run.clients; range = run.range; asked = λ k d within. still (get_or e.items k d) (run.asked k d within) }
       where
-        still : (e : Entry) → (w.lying e.client.0 ≡ true) ⊎ Contains (w.asked e.client.0) e → (w.lying e.client.0 ≡ true) ⊎ Contains (asked e.client.0) e
-        still e (inl lies) = inl lies
-        still e (inr asks) = inr (more.asks e.client.0 e asks)
+        still : (i : Item) → IsAsked w i → IsAsked (grown w asked said past kept) i
+        still i (inl lies) = inl lies
+        still i (inr asks) = inr (more.asks i.client.0 i asks)
 
     round : (b : Round) → IsRoundHeld w b → IsRoundHeld (grown w asked said past kept) b
     round b held =
         record {
-          specs = parts_more w asked said past kept more.asks more.says more.stands more.keeps response_told b.specs held.specs;
+          specs = parts_more w asked said past kept more.asks more.says more.stands more.keeps spec_told b.specs held.specs;
           specs_rise = held.specs_rise;
           checks = parts_more w asked said past kept more.asks more.says more.stands more.keeps check_told b.checks held.checks;
           checks_rise = held.checks_rise;

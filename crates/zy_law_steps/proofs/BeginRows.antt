@@ -43,7 +43,6 @@ use Rattle.zy_table.specs.State.{State}
 use Rattle.zy_vframes.specs.declared.frame.ViewCert.{ViewCert}
 use Rattle.zy_law_views.specs.Held.{IsHeldChange}
 use Rattle.zy_law_views.specs.Texts.{Texts}
-use Rattle.zy_law_views.specs.Told.{new_spelled}
 use Rattle.zy_law_views.specs.Rows.{IsReady}
 use Rattle.zy_law_views.proofs.Installing.{IsReading}
 use Rattle.zy_law_views.proofs.BeginningRows.{chosen_of}
@@ -77,12 +76,12 @@ module _ {S : Type 0} (R : Rules S) (interval : ℕ) (texts : Texts) (w : World)
   abbrev start : IsEarly (begin s)
   start = early R interval w r s history ready is
 
-  choice_spelled : (n : New) (chosen : Chosen) → All (IsHeldChange w) n.changes → new_fields.Fits (new_spelled n) → chosen_in s.views.counts s.views.interval n ≡ Ok chosen → IsChoiceSpelled n chosen
+  choice_spelled : (n : New) (chosen : Chosen) → All (IsHeldChange w) n.changes → new_fields.Fits n → chosen_in s.views.counts s.views.interval n ≡ Ok chosen → IsChoiceSpelled n chosen
   choice_spelled n chosen held fits told = chosen_spelled w ready.lawful ready.links interval n chosen (chosen_of R interval texts w r s history ready kept n chosen held told) fits
 
   -- ---- a new view
 
-  module _ (new : Signed New) (held : All (IsHeldChange w) new.stmt.changes) (fits : new_fields.Fits (new_spelled new.stmt)) where
+  module _ (new : Signed New) (held : All (IsHeldChange w) new.stmt.changes) (fits : new_fields.Fits new.stmt) where
     new_judged : (told : Result Chosen Cause) → chosen_in s.views.counts s.views.interval new.stmt ≡ told → IsFine (new_view_judged R s new told)
     new_judged (Err cause) told = tt
     new_judged (Ok chosen) told =
@@ -131,7 +130,7 @@ module _ {S : Type 0} (R : Rules S) (interval : ℕ) (texts : Texts) (w : World)
 
   -- ---- a view certificate
 
-  module _ (cert : ViewCert) (held : All (IsHeldChange w) cert.new.stmt.changes) (fits : new_fields.Fits (new_spelled cert.new.stmt)) (begans : AllByRecursion IsBeganSpelled cert.begans) where
+  module _ (cert : ViewCert) (held : All (IsHeldChange w) cert.new.stmt.changes) (fits : new_fields.Fits cert.new.stmt) (begans : AllByRecursion IsBeganSpelled cert.begans) where
     compared : (chosen : Chosen) → IsChoiceSpelled cert.new.stmt chosen → (told : Result (View × Place × Digest) Cause) → certified same_began point_of_began s.views.counts.cert cert.begans ≡ told → IsAdopted (certificate_compared R s cert chosen told)
     compared chosen choice (Err cause) told = tt
     compared chosen choice (Ok found) told = by (is_certified_at (cert.new.stmt.view, chosen.place, chosen.head) (Ok found))

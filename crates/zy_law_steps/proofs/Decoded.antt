@@ -1,7 +1,7 @@
 -- What is decoded can be spelled again, whatever the bytes are: what holds of all that a reader gives.
 use Rattle.std.proofs.Common.{◌≡◌, ℕ, zero, suc, ◌+◌, ◌<◌, ◌≤◌, ◌^◌, true, List, [], ◌∷◌, length, take, drop, Option, Some, None, Result, Ok, refl, ap, subst, arith, ltb, ltb-false, ltb-true}
 use Rattle.std.specs.List.{AllByRecursion}
-use Rattle.std.specs.Int.{Width, w8, w16, w32, to_be_bytes}
+use Rattle.std.specs.Int.{Width, w8, w16, w32}
 use Rattle.std.specs.Prelude.{nat_lt}
 use Rattle.std.proofs.lemmas.List.{length-take}
 use Rattle.zy_base.specs.declared.frame_fault.FrameFault.{FrameFault}
@@ -16,10 +16,9 @@ use Rattle.zy_parts.specs.Reports.{began_fields}
 use Rattle.zy_parts.specs.Statements.{IsU62, spec_fields, check_fields}
 use Rattle.zy_parts.specs.declared.signed.Signed.{Signed}
 use Rattle.zy_table.specs.Roles.{is_replica}
-use Rattle.zy_law_views.specs.Told.{number_spelled, spec_spelled}
-use Rattle.zy_wire.proofs.Parts.{bind_ok, guard_ok, ok_is, wide32}
+use Rattle.zy_wire.proofs.Parts.{bind_ok, guard_ok, ok_is}
 use Rattle.zy_wire.specs.Fields.{FitsList, FitsOptional, IsParty, flagged_at, optional, optional_at, u62, digest, digest_at, party, party_at, party_numbered, bytes16, bytes_at, list, list_at}
-use Rattle.zy_wire.specs.Spelling.{Spelling, IsBytes, ◌>>=◌, word, word_at, exactly, exactly_at, pair, made, or_range, within, number_at, repeated_at}
+use Rattle.zy_wire.specs.Spelling.{Spelling, ◌>>=◌, word, word_at, exactly, exactly_at, pair, made, or_range, within, number_at, repeated_at}
 
 abbrev pub Gives : {A : Type 0} → (List ℕ → Result (A × List ℕ) FrameFault) → (A → Type 0) → Type 0
 Gives {A} read P = (bytes : List ℕ) (x : A) (rest : List ℕ) → read bytes ≡ Ok (x, rest) → P x
@@ -148,27 +147,12 @@ module _ {A : Type 0} (S : Spelling A) (P : A → Type 0) (gives : Gives S.at P)
 pub u62_gives : (least : ℕ) → Gives (u62 least).at (IsU62 least)
 u62_gives least = number_gives least (2 ^ 62) _
 
--- a client's number is spelled with four bytes
-four_bytes : (n : ℕ) → IsBytes (to_be_bytes w32 n)
-four_bytes n zero = omega arith
-four_bytes n (suc zero) = omega arith
-four_bytes n (suc (suc zero)) = omega arith
-four_bytes n (suc (suc (suc zero))) = omega arith
-four_bytes n (suc (suc (suc (suc i)))) = omega arith
-
-spelled_small : (n : ℕ) → number_spelled n < 2 ^ 32
-spelled_small n = wide32.below (to_be_bytes w32 n) (four_bytes n)
-
-pub spec_gives : Gives spec_fields.at (λ spec. spec_fields.Fits (spec_spelled spec))
+pub spec_gives : Gives spec_fields.at spec_fields.Fits
 unfolding spec_fields
 spec_gives =
-    made_gives _ (pair (u62 0) (pair (u62 1) (pair digest (pair digest (pair (word w32) (u62 0)))))) _ (λ spec. spec_fields.Fits (spec_spelled spec))
-    (pair_gives (u62 0) (pair (u62 1) (pair digest (pair digest (pair (word w32) (u62 0))))) _ _ (u62_gives 0)
-    (pair_gives (u62 1) (pair digest (pair digest (pair (word w32) (u62 0)))) _ _ (u62_gives 1)
-    (pair_gives digest (pair digest (pair (word w32) (u62 0))) _ _ digest_gives
-    (pair_gives digest (pair (word w32) (u62 0)) _ _ digest_gives
-    (pair_gives (word w32) (u62 0) _ _ (all_give (word_at w32)) (u62_gives 0))))))
-    (λ x fits. (fits.0, (fits.1.0, (fits.1.1.0, (fits.1.1.1.0, (spelled_small x.1.1.1.1.0, fits.1.1.1.1.1))))))
+    made_gives _ (pair (u62 0) (pair (u62 1) (pair digest digest))) _ _
+    (pair_gives (u62 0) (pair (u62 1) (pair digest digest)) _ _ (u62_gives 0)
+    (pair_gives (u62 1) (pair digest digest) _ _ (u62_gives 1) (pair_gives digest digest _ _ digest_gives digest_gives))) (λ x fits. fits)
 
 pub check_gives : Gives check_fields.at check_fields.Fits
 unfolding check_fields
@@ -196,20 +180,17 @@ module _ {A : Type 0} (fields : Spelling A) where
       (pair_gives party (pair fields (bytes16 8192)) _ _ party_gives (pair_gives fields (bytes16 8192) _ _ gives (sized_gives w16 8192)))
       (λ x fits. fits)
 
-  pub signed_gives : (f : A → A) → Gives fields.at (λ x. fields.Fits (f x)) → Gives (signed fields).at (λ s. is_replica s.by ≡ true → (signed fields).Fits (record s { stmt = f s.stmt }))
+  pub signed_gives : Gives fields.at fields.Fits → Gives (signed fields).at (λ s. is_replica s.by ≡ true → (signed fields).Fits s)
   unfolding signed
-  signed_gives f gives =
-      made_gives _ (pair party (pair fields (bytes16 8192))) _ (λ s. is_replica s.by ≡ true → (signed fields).Fits (record s { stmt = f s.stmt }))
+  signed_gives gives =
+      made_gives _ (pair party (pair fields (bytes16 8192))) _ (λ s. is_replica s.by ≡ true → (signed fields).Fits s)
       (pair_gives party (pair fields (bytes16 8192)) _ _ party_gives (pair_gives fields (bytes16 8192) _ _ gives (sized_gives w16 8192)))
       (λ x fits replica. (fits.0 replica, fits.1))
 
   -- where the statement is known to fit
-  pub signature_gives : (f : A → A) → Gives (signed fields).at (λ s. is_replica s.by ≡ true → fields.Fits (f s.stmt) → (signed fields).Fits (record s { stmt = f s.stmt }))
+  pub signature_gives : Gives (signed fields).at (λ s. is_replica s.by ≡ true → fields.Fits s.stmt → (signed fields).Fits s)
   unfolding signed
-  signature_gives f =
-      made_gives _ (pair party (pair fields (bytes16 8192))) _ (λ s. is_replica s.by ≡ true → fields.Fits (f s.stmt) → (signed fields).Fits (record s { stmt = f s.stmt }))
+  signature_gives =
+      made_gives _ (pair party (pair fields (bytes16 8192))) _ (λ s. is_replica s.by ≡ true → fields.Fits s.stmt → (signed fields).Fits s)
       (pair_gives party (pair fields (bytes16 8192)) _ _ party_gives (pair_gives fields (bytes16 8192) _ _ (all_give fields.at) (sized_gives w16 8192)))
       (λ x sizes replica fits. (sizes.0 replica, (fits, sizes.1.1)))
-
-pub spec_spelled_gives : Gives (signed spec_fields).at (λ vote. is_replica vote.by ≡ true → (signed spec_fields).Fits (record vote { stmt = spec_spelled vote.stmt }))
-spec_spelled_gives = signed_gives spec_fields spec_spelled spec_gives

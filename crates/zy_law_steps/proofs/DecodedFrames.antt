@@ -17,15 +17,15 @@ use Rattle.zy_table.specs.Whole.{is_by_replica, is_view_frame_in_role}
 use Rattle.zy_vframes.specs.ViewFrames as views
 use Rattle.zy_vframes.specs.declared.frame.ViewFrame.{ViewFrame}
 use Rattle.zy_vframes.specs.declared.frame.ViewFrame.TheVariants as view_frames
-use Rattle.zy_law_views.specs.Told.{change_spelled}
 use Rattle.zy_wire.proofs.Parts.{bind_ok, ended_ok}
 use Rattle.zy_wire.specs.Fields.{list}
 use Rattle.zy_wire.specs.Framing.{framed_in}
 use Rattle.zy_wire.specs.Kind.{kind_in}
-use Rattle.zy_wire.specs.Spelling.{Spelling, ◌>>=◌, ended, made, pair}
+use Rattle.zy_wire.specs.Spelling.{Spelling, ◌>>=◌, ended, made, pair, word}
 use Rattle.zy_law_steps.specs.Spelled.{IsBeganSpelled, IsChangeSpelled, IsCheckSpelled, IsSpecSpelled}
-use Rattle.zy_law_steps.proofs.Decoded.{Gives, all_give, began_gives, check_gives, list_gives, made_gives, pair_gives, signature_gives, signed_gives, spec_spelled_gives}
+use Rattle.zy_law_steps.proofs.Decoded.{Gives, all_give, began_gives, check_gives, list_gives, made_gives, pair_gives, signature_gives, signed_gives, spec_gives}
 use Rattle.zy_chain.specs.Answers.{answers_fields}
+use Rattle.std.specs.Int.{w32}
 
 -- ---- either kind
 
@@ -57,8 +57,8 @@ module _ {A : Type 0} (P : Signed A → Type 0) where
 -- ---- frames of normal operation
 
 abbrev IsReadable : Frame → Type 0
-IsReadable (frames.SpecResponse spec reply with_order) = is_replica spec.by ≡ true → IsSpecSpelled spec
-IsReadable (frames.Commit specs) = AllByRecursion (λ spec. is_replica spec.by ≡ true → IsSpecSpelled spec) specs
+IsReadable (frames.SpecResponse spec answers with_order) = is_replica spec.by ≡ true → IsSpecSpelled spec
+IsReadable (frames.Commit client specs) = AllByRecursion (λ spec. is_replica spec.by ≡ true → IsSpecSpelled spec) specs
 IsReadable (frames.Checkpoint check) = is_replica check.by ≡ true → IsCheckSpelled check
 IsReadable _ = Unit {0}
 
@@ -67,28 +67,29 @@ unfolding plain.frame_at
 plain_gives kind =
     or_gives IsReadable _ _ _ (other_gives IsReadable frames.Request plain.request (λ x. tt))
     (or_gives IsReadable _ _ _ (other_gives IsReadable frames.Order plain.order (λ x. tt))
-    (or_gives IsReadable _ _ _ (made_gives (λ x. frames.SpecResponse x.0 x.1.0 x.1.1) plain.spec_response _ IsReadable (pair_gives (signed spec_fields) (pair answers_fields plain.ordered) _ _ spec_spelled_gives (all_give _)) (λ x fits. fits.0))
-    (or_gives IsReadable _ _ _ (made_gives frames.Commit plain.commit _ IsReadable (list_gives (signed spec_fields) _ spec_spelled_gives 1 16) (λ x fits. fits))
+    (or_gives IsReadable _ _ _ (made_gives (λ x. frames.SpecResponse x.0 x.1.0 x.1.1) plain.spec_response _ IsReadable (pair_gives (signed spec_fields) (pair answers_fields plain.ordered) _ _ (signed_gives spec_fields spec_gives) (all_give _)) (λ x fits. fits.0))
+    (or_gives IsReadable _ _ _ (made_gives (λ x. frames.Commit (record { 0 = x.0 }) x.1) plain.commit _ IsReadable
+    (pair_gives (word w32) (list 1 16 (signed spec_fields)) (λ x. Unit {0}) _ (all_give _) (list_gives (signed spec_fields) _ (signed_gives spec_fields spec_gives) 1 16)) (λ x fits. fits.1))
     (or_gives IsReadable _ _ _ (other_gives IsReadable frames.LocalCommit (signed local_fields) (λ x. tt))
     (or_gives IsReadable _ _ _ (other_gives IsReadable (λ x. frames.ConfirmReq x.0 x.1) plain.confirm_request (λ x. tt))
     (or_gives IsReadable _ _ _ (other_gives IsReadable frames.FillHole (signed hole_fields) (λ x. tt))
     (or_gives IsReadable _ _ _ (other_gives IsReadable frames.Hate (signed hate_fields) (λ x. tt))
     (or_gives IsReadable _ _ _ (other_gives IsReadable (λ x. frames.Pom x.0 x.1) plain.misbehaviour (λ x. tt))
-    (or_gives IsReadable _ _ _ (made_gives frames.Checkpoint (signed check_fields) _ IsReadable (signed_gives check_fields (λ x. x) check_gives) (λ x fits. fits))
+    (or_gives IsReadable _ _ _ (made_gives frames.Checkpoint (signed check_fields) _ IsReadable (signed_gives check_fields check_gives) (λ x fits. fits))
     (fault_gives IsReadable _))))))))))
 
 -- the responses and the checkpoint of a frame that is heard
 abbrev pub IsFrameSpelled : Frame → Type 0
-IsFrameSpelled (frames.SpecResponse spec reply with_order) = IsSpecSpelled spec
-IsFrameSpelled (frames.Commit specs) = AllByRecursion IsSpecSpelled specs
+IsFrameSpelled (frames.SpecResponse spec answers with_order) = IsSpecSpelled spec
+IsFrameSpelled (frames.Commit client specs) = AllByRecursion IsSpecSpelled specs
 IsFrameSpelled (frames.Checkpoint check) = IsCheckSpelled check
 IsFrameSpelled _ = Unit {0}
 
 in_its_role : {S : Type 0} (s : State S) (frame : Frame) → IsReadable frame → in_role s frame ≡ true → IsFrameSpelled frame
 in_its_role s (frames.Request ask) read role = tt
 in_its_role s (frames.Order both) read role = tt
-in_its_role s (frames.SpecResponse spec reply with_order) read role = read (and_parts (is_replica spec.by) _ role).0
-in_its_role s (frames.Commit specs) read role = each_by IsSpecSpelled specs read role
+in_its_role s (frames.SpecResponse spec answers with_order) read role = read (and_parts (is_replica spec.by) _ role).0
+in_its_role s (frames.Commit client specs) read role = each_by IsSpecSpelled specs read role
 in_its_role s (frames.LocalCommit local) read role = tt
 in_its_role s (frames.ConfirmReq confirm ask) read role = tt
 in_its_role s (frames.FillHole hole) read role = tt
@@ -102,7 +103,7 @@ frame_spelled s bytes frame is role = in_its_role s frame (framed_gives IsReadab
 -- ---- frames of a change of view
 
 abbrev IsViewReadable : ViewFrame → Type 0
-IsViewReadable (view_frames.ViewChange change) = is_replica change.by ≡ true → change_fields.Fits (change_spelled change.stmt) → IsChangeSpelled change
+IsViewReadable (view_frames.ViewChange change) = is_replica change.by ≡ true → change_fields.Fits change.stmt → IsChangeSpelled change
 IsViewReadable (view_frames.ViewConfirm began) = is_replica began.by ≡ true → IsBeganSpelled began
 IsViewReadable (view_frames.ViewCert cert) = AllByRecursion (λ began. is_replica began.by ≡ true → IsBeganSpelled began) cert.begans
 IsViewReadable _ = Unit {0}
@@ -110,7 +111,7 @@ IsViewReadable _ = Unit {0}
 view_gives : (kind : ℕ) → Gives (views.frame_at kind) IsViewReadable
 unfolding views.frame_at
 view_gives kind =
-    or_gives IsViewReadable _ _ _ (made_gives view_frames.ViewChange (signed change_fields) _ IsViewReadable (signature_gives change_fields change_spelled) (λ x fits. fits))
+    or_gives IsViewReadable _ _ _ (made_gives view_frames.ViewChange (signed change_fields) _ IsViewReadable (signature_gives change_fields) (λ x fits. fits))
     (or_gives IsViewReadable _ _ _ (other_gives IsViewReadable view_frames.NewView (signed new_fields) (λ x. tt))
     (or_gives IsViewReadable _ _ _ (made_gives view_frames.ViewConfirm (signed began_fields) _ IsViewReadable began_read (λ x fits. fits))
     (or_gives IsViewReadable _ _ _ (made_gives view_frames.ViewCert views.view_certificate _ IsViewReadable certificate_read (λ x fits. fits))
@@ -119,7 +120,7 @@ view_gives kind =
     (fault_gives IsViewReadable _))))))
   where
     began_read : Gives (signed began_fields).at (λ began. is_replica began.by ≡ true → IsBeganSpelled began)
-    began_read = signed_gives began_fields (λ x. x) began_gives
+    began_read = signed_gives began_fields began_gives
 
     certificate_read : Gives views.view_certificate.at (λ cert. AllByRecursion (λ began. is_replica began.by ≡ true → IsBeganSpelled began) cert.begans)
     certificate_read =
@@ -128,7 +129,7 @@ view_gives kind =
 
 -- the signer of a report, where the report fits, and the confirmations of a frame that is heard
 abbrev pub IsViewFrameSpelled : ViewFrame → Type 0
-IsViewFrameSpelled (view_frames.ViewChange change) = change_fields.Fits (change_spelled change.stmt) → IsChangeSpelled change
+IsViewFrameSpelled (view_frames.ViewChange change) = change_fields.Fits change.stmt → IsChangeSpelled change
 IsViewFrameSpelled (view_frames.ViewConfirm began) = IsBeganSpelled began
 IsViewFrameSpelled (view_frames.ViewCert cert) = AllByRecursion IsBeganSpelled cert.begans
 IsViewFrameSpelled _ = Unit {0}

@@ -11,7 +11,7 @@ use Rattle.zy_exec.proofs.HistoryLemmas.{stands_leads, stands_run}
 use Rattle.zy_exec.proofs.ReplayLemmas.{place-along}
 use Rattle.zy_exec.proofs.SettleLemmas.{stands_snapshot}
 use Rattle.zy_exec.specs.Kept.{Kept, StandsFor, longer, now_of}
-use Rattle.zy_exec.specs.Replay.{Point, along, answer_at, known_of, origin, answers_of}
+use Rattle.zy_exec.specs.Replay.{Point, along, answer_at, origin, answers_of}
 use Rattle.zy_exec.specs.Shots.{snapshot_at, snapshot_due, snapshot_in}
 use Rattle.zy_frames.specs.declared.frame.OrderFrame.{OrderFrame}
 use Rattle.zy_law_normal.proofs.Follow.{Keeps, one_keeps}
@@ -20,7 +20,7 @@ use Rattle.zy_law_normal.proofs.Own.{by_test}
 use Rattle.zy_law_normal.proofs.Records.{answer_longer, answer_pushed}
 use Rattle.zy_law.specs.World.{World}
 use Rattle.zy_table.specs.Deeds.{Going, gains_in}
-use Rattle.zy_table.specs.Running.{fits_end, got_of, run_held, run_one, signs_of}
+use Rattle.zy_table.specs.Running.{fits_end, run_held, run_one, signs_of}
 use Rattle.zy_table.specs.State.{signs_left}
 use Rattle.zy_table.specs.declared.deeds.Act.{Act}
 use Rattle.zy_table.specs.declared.deeds.Act.TheVariants.{Gains}
@@ -28,7 +28,9 @@ use Rattle.zy_table.specs.declared.deeds.Got.{Got}
 use Rattle.zy_law_views.specs.Adopted.{IsHistoryKept}
 use Rattle.zy_law_views.specs.Texts.{IsKept, Texts}
 use Rattle.zy_law_steps.specs.Gains.{AreGainsKept, IsGainKept}
-use Rattle.zy_admit.specs.Judging.{ordered_entry}
+use Rattle.zy_chain.specs.Answers.{Answers, bytes_of_answers}
+use Rattle.zy_table.specs.Adopting.{got_next}
+use Rattle.zy_frames.specs.Frames.{entry_in}
 
 -- ---- one entry more
 
@@ -40,20 +42,20 @@ module _ {S : Type 0} (R : Rules S) (texts : Texts) (k : Kept S) (history : List
   abbrev far : List Entry
   far = history ++ e ∷ []
 
-  past_end : (place : ℕ) (text : List ℕ) → answer_at R far place ≡ Some text → place ≤ length far
-  past_end zero text is = absurd cc
-  past_end (suc before) text is = by (slice_get far before) refl is
+  past_end : (place : ℕ) (answers : Answers) → answer_at R far place ≡ Some answers → place ≤ length far
+  past_end zero answers is = absurd cc
+  past_end (suc before) answers is = by (slice_get far before) refl is
     where
-      by : (o : Option Entry) → slice_get far before ≡ o → option_map (λ (d : Entry). answers_of R (along R (origin R) (take before far)).state d) o ≡ Some text → suc before ≤ length far
+      by : (o : Option Entry) → slice_get far before ≡ o → option_map (λ (d : Entry). answers_of R (along R (origin R) (take before far)) d) o ≡ Some answers → suc before ≤ length far
       by None there told = absurd cc
       by (Some d) there told = let inside = slice_get_within far before d there in omega arith
 
-  last_reply : (place : ℕ) (text : List ℕ) → place ≡ length history + 1 → answer_at R far place ≡ Some text → (known_of R (now_of R k) e).reply ≡ text
-  last_reply place text at is =
+  last_answers : (place : ℕ) (answers : Answers) → place ≡ length history + 1 → answer_at R far place ≡ Some answers → answers_of R (now_of R k) e ≡ answers
+  last_answers place answers at is =
       let end : place ≡ suc (length history) = omega arith in
-      let told : answer_at R far (suc (length history)) ≡ Some text = ap (answer_at R far) (sym end) ∙ is in
-      ap (λ (p : Point S). answers_of R p.state e) (stands_leads R k history stands)
-      ∙ same_Some (answers_of R (along R (origin R) history).state e) text (sym (answer_pushed R history e) ∙ told)
+      let told : answer_at R far (suc (length history)) ≡ Some answers = ap (answer_at R far) (sym end) ∙ is in
+      ap (λ (p : Point S). answers_of R p e) (stands_leads R k history stands)
+      ∙ same_Some (answers_of R (along R (origin R) history) e) answers (sym (answer_pushed R history e) ∙ told)
 
   -- the snapshot of an earlier place
   snapshot_before : (interval place : ℕ) → place ≤ length history → snapshot_at R interval far place ≡ snapshot_at R interval history place
@@ -71,17 +73,17 @@ module _ {S : Type 0} (R : Rules S) (texts : Texts) (k : Kept S) (history : List
       by true past is = absurd cc
       by false past is = ltb-false _ _ past
 
-  pub longer_kept : (interval : ℕ) → k.interval ≡ interval → IsHistoryKept R interval texts history → IsKept texts (known_of R (now_of R k) e).reply
+  pub longer_kept : (interval : ℕ) → k.interval ≡ interval → IsHistoryKept R interval texts history → IsKept texts (bytes_of_answers (answers_of R (now_of R k) e))
       → IfSome (snapshot_in R (longer k e) ((now_of R k).place + 1)) (IsKept texts) → IsHistoryKept R interval texts far
-  longer_kept interval spaced kept reply snapshot =
+  longer_kept interval spaced kept answered snapshot =
       let long : length far ≡ length history + 1 = length-append history (e ∷ []) in
       let end : (now_of R k).place ≡ length history = ends in
       record {
-        replies = λ place text is.
-            let inside = past_end place text is in
+        answers = λ place answers is.
+            let inside = past_end place answers is in
             elim (cases_lt (length history) place) [
-              | inr low ↦ kept.replies place text (sym (answer_longer R history (e ∷ []) place (omega arith)) ∙ is)
-              | inl high ↦ subst (IsKept texts) (last_reply place text (omega arith) is) reply
+              | inr low ↦ kept.answers place answers (sym (answer_longer R history (e ∷ []) place (omega arith)) ∙ is)
+              | inl high ↦ subst (λ (a : Answers). IsKept texts (bytes_of_answers a)) (last_answers place answers (omega arith) is) answered
             ];
         snapshots = λ place text some is.
             let inside = snapshot_within interval place text is in
@@ -115,16 +117,16 @@ module _ (w : World) (texts : Texts) where
     gains_before front =
         record {
           sends = λ g to frame front gains. front gains;
-          responds = λ g order signed reply front gains. front (gains_of_front g.deeds.acts _ gains);
+          responds = λ g order signed answers front gains. front (gains_of_front g.deeds.acts _ gains);
           owns = λ g own signed front gains. front gains;
           holds = λ g held front gains. front gains;
           checks = λ g check front gains. front (gains_of_front g.deeds.acts _ gains);
           settles = λ g place proof front gains. front gains;
         }
 
-    pub one_gains : (o : OrderFrame) (g : Going S) → AreGainsKept w texts (run_one R o g).deeds.acts → AreGainsKept w texts g.deeds.acts × IsGainKept w texts (got_of R g.state (ordered_entry o))
+    pub one_gains : (o : OrderFrame) (g : Going S) → AreGainsKept w texts (run_one R o g).deeds.acts → AreGainsKept w texts g.deeds.acts × IsGainKept w texts (got_next R g.state.kept (entry_in o))
     one_gains o g gains =
-        let got : Got = got_of R g.state (ordered_entry o) in
+        let got : Got = got_next R g.state.kept (entry_in o) in
         let gained : List Act = g.deeds.acts ++ Gains got ∷ [] in
         let moved : AreGainsKept w texts gained = one_keeps R (λ g'. AreGainsKept w texts g'.deeds.acts → AreGainsKept w texts gained) (gains_before gained) o g (λ gains. gains) gains in
         (gains_of_front g.deeds.acts (Gains got ∷ []) moved, gain_of_last g.deeds.acts got moved)
@@ -135,7 +137,7 @@ module _ (w : World) (texts : Texts) where
     held_gains (None ∷ slots) g = λ gains. gains
     held_gains (Some o ∷ slots) g =
         by_test (λ (g' : Going S). AreGainsKept w texts g'.deeds.acts → AreGainsKept w texts g.deeds.acts) (fits_end R g.state o) _ _
-        (λ fits. by_test (λ (g' : Going S). AreGainsKept w texts g'.deeds.acts → AreGainsKept w texts g.deeds.acts) (nat_le (signs_of R g.state (ordered_entry o)) (signs_left g.state)) _ _
+        (λ fits. by_test (λ (g' : Going S). AreGainsKept w texts g'.deeds.acts → AreGainsKept w texts g.deeds.acts) (nat_le (signs_of R g.state (entry_in o)) (signs_left g.state)) _ _
         (λ left gains. (one_gains o g (held_gains slots (run_one R o g) gains)).0)
         (λ none gains. gains))
         (λ differs gains. gains)

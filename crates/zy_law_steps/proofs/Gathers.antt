@@ -56,7 +56,7 @@ use Rattle.zy_law_views.proofs.TieKept.{tied_holding, tied_settled}
 use Rattle.zy_law_views.specs.Held.{IsHeldPart, mark_at}
 use Rattle.zy_law_views.specs.Texts.{Texts}
 use Rattle.zy_law_views.specs.Tied.{Core, IsCommitHeld, IsFarEnough, IsGrounded, IsTied, SaysLawfully, said_now, settled_with}
-use Rattle.zy_law_views.specs.Told.{check_told, response_told}
+use Rattle.zy_law_views.specs.Told.{check_told, spec_told}
 use Rattle.zy_law_views.proofs.AtWork.{own_held, work_board, work_said}
 use Rattle.zy_law_views.specs.Cores.{core_of}
 use Rattle.zy_law_steps.proofs.Working.{IsWorking, goes_as, last_view_is, own_view_is, says, standing}
@@ -171,7 +171,7 @@ module _ {S : Type 0} (R : Rules S) (interval : ℕ) (texts : Texts) (w : World)
       kept_backed : (specs : List (Signed Spec)) → certificate_at g.state spec ≡ Some specs
           → IsCommitHeld is.world g.state.views.last_view is.now (record { place = spec.place; specs = specs }) × IsCertified is.world view.0 (mark_in spec)
       kept_backed specs there =
-          let V : Signed Spec → Type 0 = IsHeldPart is.world response_told in
+          let V : Signed Spec → Type 0 = IsHeldPart is.world spec_told in
           let round = at_place V (IsHeldPart is.world check_told) g.state.board spec.place.0 (record { near = is.work.near; far = is.work.far }) in
           let first : AreFirst same_spec spec-equal V g.state.counts.cert spec specs =
           are_first same_spec spec-equal V g.state.counts.cert spec (specs_at g.state.board spec.place.0) specs round.specs_rise round.specs there in
@@ -203,8 +203,8 @@ module _ {S : Type 0} (R : Rules S) (interval : ℕ) (texts : Texts) (w : World)
           let says_it : SaysLawfully R interval is.world r (core_of g.state) is.now (statement_by r remark.body) =
           subst (λ (n : ℕ). SaysLawfully R interval is.world r (core_of g.state) is.now (Statement.Check n (mark_in spec) state)) views_are says_view in
           let work = work_said interval is.world r y (length is.now + 0) (length is.now + 0) (workplace_of g.state) (omega arith) (λ m request told. absurd cc) is.work in
-          let rounds : AreKeptOf (IsHeldPart after response_told) (IsHeldPart after check_told) (after_check g.state.board signed (Some check)) =
-          after_check_kept (IsHeldPart after response_told) (IsHeldPart after check_told) g.state.board signed (Some check) (record { near = work.near; far = work.far })
+          let rounds : AreKeptOf (IsHeldPart after spec_told) (IsHeldPart after check_told) (after_check g.state.board signed (Some check)) =
+          after_check_kept (IsHeldPart after spec_told) (IsHeldPart after check_told) g.state.board signed (Some check) (record { near = work.near; far = work.far })
           (own_held is.world r y signed.by g.state.views.me is.correct is.signer is.tied.standing.me) in
           let stays = after_check-stays g.state.board signed (Some check) in
           let stable = stays.stable in
@@ -228,7 +228,7 @@ module _ {S : Type 0} (R : Rules S) (interval : ℕ) (texts : Texts) (w : World)
     proven_grounded : (proof : List (Signed Check)) → proof_at g.state stable ≡ Some proof → IsGrounded interval is.world (settled_with R place stable proof (core_of g.state))
     proven_grounded proof there =
         let V : Signed Check → Type 0 = IsHeldPart is.world check_told in
-        let round = at_place (IsHeldPart is.world response_told) V g.state.board place (record { near = is.work.near; far = is.work.far }) in
+        let round = at_place (IsHeldPart is.world spec_told) V g.state.board place (record { near = is.work.near; far = is.work.far }) in
         let first : AreFirst same_check check-equal V g.state.counts.local stable proof =
         are_first same_check check-equal V g.state.counts.local stable (checks_at g.state.board place) proof round.checks_rise round.checks there in
         let many : length proof ≡ is.world.counts.local = first.many ∙ ap (λ (c : Counts). c.local) is.work.counts in
@@ -259,7 +259,7 @@ module _ {S : Type 0} (R : Rules S) (interval : ℕ) (texts : Texts) (w : World)
     settled_by None there = is
     settled_by (Some proof) there =
         let V : Signed Check → Type 0 = IsHeldPart is.world check_told in
-        let round = at_place (IsHeldPart is.world response_told) V g.state.board place (record { near = is.work.near; far = is.work.far }) in
+        let round = at_place (IsHeldPart is.world spec_told) V g.state.board place (record { near = is.work.near; far = is.work.far }) in
         let first : AreFirst same_check check-equal V g.state.counts.local stable proof =
         are_first same_check check-equal V g.state.counts.local stable (checks_at g.state.board place) proof round.checks_rise round.checks there in
         let sound = g.state.counts.sound in
@@ -267,7 +267,7 @@ module _ {S : Type 0} (R : Rules S) (interval : ℕ) (texts : Texts) (w : World)
         let is_it = with_stable_is g.state.board stable proof some first.all_equal in
         let core : Check → List (Signed Check) → Core S = λ c l. record { views = g.state.views; kept = settled R place g.state.kept; stable = c; proof = l } in
         let tied = tied_settled R interval is.world is.lawful r is.correct (core_of g.state) is.now is.tied place stable proof here.own.above here.own.below (proven_grounded proof there) in
-        let rounds = with_stable_kept (IsHeldPart is.world response_told) V g.state.board proof (record { near = is.work.near; far = is.work.far }) in
+        let rounds = with_stable_kept (IsHeldPart is.world spec_told) V g.state.board proof (record { near = is.work.near; far = is.work.far }) in
         let n = place - g.state.orders.base in
         let based = is.work.based in
         let at = settled_place R g.state.kept place here.own.above here.own.below in

@@ -31,7 +31,6 @@ use Rattle.zy_table.specs.State as table
 use Rattle.zy_law_views.proofs.LawfulChoice.{chosen_is}
 use Rattle.zy_law_views.specs.Held.{IsProperNew}
 use Rattle.zy_law_views.specs.Tied.{IsChosenNew}
-use Rattle.zy_law_views.specs.Told.{change_spelled, new_spelled}
 use Rattle.zy_law_views.proofs.Gathered.{gathered_proper}
 use Rattle.zy_law_views.proofs.Leaves.{IsOnWay, leave_on}
 use Rattle.zy_law_views.specs.Rows.{IsReady}
@@ -95,7 +94,7 @@ module _ {S : Type 0} (R : Rules S) where
           acts = fit_said g.deeds.acts _ is.going.acts fits;
           spelled = record {
             signer = spelled.signer;
-            views = left_spelled s.views view (sealed_change s view) spelled.views in_range.1 (sealed_fits numbers.change change_fields s.sealer stmt (change_spelled stmt) spelled.signer fits);
+            views = left_spelled s.views view (sealed_change s view) spelled.views in_range.1 (sealed_fits numbers.change change_fields s.sealer stmt spelled.signer fits);
             history = spelled.history;
             board = spelled.board;
           };
@@ -110,7 +109,7 @@ module _ {S : Type 0} (R : Rules S) where
       by true = leaves view g is in_range
       by false = is
 
-  gives : (new : Signed New) (g : Going S) → IsEarly g → new_fields.Fits (new_spelled new.stmt) → IsEarly (give_new R new g)
+  gives : (new : Signed New) (g : Going S) → IsEarly g → new_fields.Fits new.stmt → IsEarly (give_new R new g)
   unfolding give_new
   gives new g is fits =
       let spelled = is.going.spelled in
@@ -133,7 +132,7 @@ module _ {S : Type 0} (R : Rules S) where
           acts = fit_said g.deeds.acts _ is.going.acts choice.began;
           spelled = record {
             signer = spelled.signer;
-            views = accepted_spelled s.views a _ spelled.views choice (sealed_fits numbers.began began_fields s.sealer own own spelled.signer choice.began);
+            views = accepted_spelled s.views a _ spelled.views choice (sealed_fits numbers.began began_fields s.sealer own spelled.signer choice.began);
             history = spelled.history;
             board = spelled.board;
           };
@@ -158,7 +157,7 @@ module _ {S : Type 0} (R : Rules S) (interval : ℕ) (w : World) (r : ℕ) (s : 
     proper : IsProperNew way.world interval (new_of g.state.views view)
     proper = gathered_proper interval way.world g.state.views view way.tied.hearing way.tied.standing.counts enough
 
-    fits : new_fields.Fits (new_spelled (new_of g.state.views view))
+    fits : new_fields.Fits (new_of g.state.views view)
     fits = gathered_fits g.state.views view is.going.spelled.views.changes in_range enough
 
     given_fine : (choice : Choice) → choice_in g.state.views view.0 ≡ choice → IsFine (given R view choice g)

@@ -7,7 +7,6 @@ use Rattle.zy_base.specs.declared.cause.Cause.TheVariants as causes
 use Rattle.zy_base.specs.declared.ids.View.{View}
 use Rattle.zy_base.specs.declared.step.Mode.{Mode}
 use Rattle.zy_base.specs.declared.step.Mode.TheVariants.{Active, Leaving}
-use Rattle.zy_admit.specs.Judging.{entry_of, ordered_entry}
 use Rattle.zy_admit.specs.declared.judging.Admit.{Admit}
 use Rattle.zy_chain.specs.declared.entry.Entry.{Entry}
 use Rattle.zy_check.specs.Board.{Board}
@@ -17,7 +16,7 @@ use Rattle.zy_frames.specs.declared.frame.OrderFrame.{OrderFrame}
 use Rattle.zy_law.specs.World.{World}
 use Rattle.zy_law_normal.proofs.Cases.{Cases, IsPut, row_case}
 use Rattle.zy_law_normal.proofs.Own.{by_test}
-use Rattle.zy_law_normal.specs.Tied.{IsNormal, MayRun}
+use Rattle.zy_law_normal.specs.Tied.{IsNormal, MayRun, MayRunUnmixed}
 use Rattle.zy_parts.specs.declared.signed.Signed.{Signed}
 use Rattle.zy_parts.specs.declared.statements.Ask.{Ask}
 use Rattle.zy_parts.specs.declared.statements.Confirm.{Confirm}
@@ -25,13 +24,13 @@ use Rattle.zy_parts.specs.declared.statements.Spec.{Spec}
 use Rattle.zy_table.specs.Confirms.{confirm}
 use Rattle.zy_table.specs.Deeds.{Outcome, refused}
 use Rattle.zy_table.specs.Orders.{order_as, position_of}
-use Rattle.zy_table.specs.Requests.{request}
+use Rattle.zy_table.specs.Requests.{request, entry_of}
 use Rattle.zy_table.specs.Roles.{view_cause}
 use Rattle.zy_table.specs.State.{State, is_leaving, is_leaving_mode, own_view}
 use Rattle.zy_table.specs.Whole.{commit_in_view, order, plain_row, unless}
 use Rattle.zy_law_views.specs.Held.{IsHeldPart}
 use Rattle.zy_law_views.specs.Texts.{Texts}
-use Rattle.zy_law_views.specs.Told.{check_told, order_told, response_told}
+use Rattle.zy_law_views.specs.Told.{check_told, order_told, spec_told}
 use Rattle.zy_law_views.specs.Rows.{IsReady}
 use Rattle.zy_law_views.specs.Steps.{IsLawfulStep, IsWorldOf}
 use Rattle.zy_law_views.proofs.Admitted.{IsPlaced}
@@ -42,6 +41,8 @@ use Rattle.zy_law_steps.proofs.Rows.{Goes, done}
 use Rattle.zy_law_steps.specs.Heard.{IsFrameHeld}
 use Rattle.zy_law_views.specs.Work.{IsAtWork}
 use Rattle.zy_law_steps.specs.Gains.{AreGainsKept}
+use Rattle.zy_frames.specs.Frames.{entry_in}
+use Rattle.zy_base.specs.declared.ids.ClientId.{ClientId}
 
 pub unless_case : {S : Type 0} (s : State S) (P : Outcome S → Type 0) → ((cause : Cause) → P (refused cause s)) → (cause : Option Cause) (o : Outcome S) → (cause ≡ None → P o) → P (unless cause s o)
 unless_case s P refuses None o holds = holds refl
@@ -66,14 +67,14 @@ module _ {S : Type 0} (R : Rules S) (s : State S) (leaving : is_leaving s ≡ tr
   unfolding request
   request_refused ask = by_test IsRefused (is_leaving s) _ _ (λ is. refused_is causes.NotActive) (λ stays. absurd cc)
 
-  commit_refused : (specs : List (Signed Spec)) → IsRefused (commit_in_view R s specs)
-  commit_refused [] = refused_is (causes.TooFew 0)
-  commit_refused (first ∷ others) = out_of_view first.stmt.view.0 _
+  commit_refused : (client : ClientId) (specs : List (Signed Spec)) → IsRefused (commit_in_view R s client specs)
+  commit_refused client [] = refused_is (causes.TooFew 0)
+  commit_refused client (first ∷ others) = out_of_view first.stmt.view.0 _
 
   pub row_refused : (frame : Frame) → IsNormal frame → IsRefused (plain_row R s frame)
   row_refused (frames.Request ask) normal = request_refused ask
-  row_refused (frames.SpecResponse spec reply with_order) normal = out_of_view spec.stmt.view.0 _
-  row_refused (frames.Commit specs) normal = commit_refused specs
+  row_refused (frames.SpecResponse spec answers with_order) normal = out_of_view spec.stmt.view.0 _
+  row_refused (frames.Commit client specs) normal = commit_refused client specs
   row_refused (frames.LocalCommit local) normal = refused_is causes.WrongRole
   row_refused (frames.ConfirmReq confirmed ask) normal = out_of_view confirmed.stmt.view.0 _
   row_refused (frames.FillHole hole) normal = out_of_view hole.stmt.view.0 _
@@ -89,8 +90,8 @@ module _ {S : Type 0} (R : Rules S) (s : State S) (leaving : is_leaving s ≡ tr
 
 -- what brings votes alone
 abbrev IsVoteHeld : World → Frame → Type 0
-IsVoteHeld w (frames.SpecResponse spec reply with_order) = IsHeldPart w response_told spec
-IsVoteHeld w (frames.Commit specs) = All (IsHeldPart w response_told) specs
+IsVoteHeld w (frames.SpecResponse spec answers with_order) = IsHeldPart w spec_told spec
+IsVoteHeld w (frames.Commit client specs) = All (IsHeldPart w spec_told) specs
 IsVoteHeld w (frames.Checkpoint check) = IsHeldPart w check_told check
 IsVoteHeld w (frames.Request ask) = ⊥
 IsVoteHeld w (frames.Order both) = ⊥
@@ -122,15 +123,15 @@ module _ {S : Type 0} (R : Rules S) (interval : ℕ) (texts : Texts) (w : World)
     confirm_does : (confirmed : Signed Confirm) (ask : Signed Ask) → MayRun w (entry_of ask) → Does (confirm R s confirmed ask)
     confirm_does confirmed ask may = confirm_row R s Does run_cases ask (room_cases ask may) confirmed
 
-    admitted_does : (o : OrderFrame) → MayRun w (ordered_entry o) → IsHeldPart w order_told o.order → (a : Admit) → IsPlaced o.order.stmt o.ask (position_of R s o) a → Does (order_as R s o a)
+    admitted_does : (o : OrderFrame) → MayRunUnmixed w (entry_in o) → IsHeldPart w order_told o.order → (a : Admit) → IsPlaced o.order.stmt (entry_in o) (position_of R s o) a → Does (order_as R s o a)
     admitted_does o may held =
         order_admitted R s Does run_cases o
-        (λ new room. rows.takes R interval texts w r s h ready kept work view active o may held new room.above room.below)
-        (λ room. rows.asks R interval texts w r s h ready kept work view active o may held room.above room.below)
-        (λ room. rows.holds_order R interval texts w r s h ready kept work view active o may held room.above room.below)
+        (λ new room. rows.takes R interval texts w r s h ready kept work view active o (may room.different) held new room.above room.below)
+        (λ room. rows.asks R interval texts w r s h ready kept work view active o (may room.different) held room.above room.below)
+        (λ room. rows.holds_order R interval texts w r s h ready kept work view active o (may room.different) held room.above room.below)
 
     is_put : (board : Board) → IsPut s (IsVoteHeld w) board → IsPut s (IsFrameHeld w) board
-    is_put board (IsPut.new_spec vote reply with_order heard new is) = IsPut.new_spec vote reply with_order heard new is
+    is_put board (IsPut.new_spec vote answers with_order heard new is) = IsPut.new_spec vote answers with_order heard new is
     is_put board (IsPut.new_check vote heard new is) = IsPut.new_check vote heard new is
 
     vote_cases : Cases R s (IsVoteHeld w) Does
@@ -156,8 +157,8 @@ module _ {S : Type 0} (R : Rules S) (interval : ℕ) (texts : Texts) (w : World)
     row_does : (frame : Frame) → IsNormal frame → IsFrameHeld w frame → Does (plain_row R s frame)
     row_does (frames.Request ask) normal heard = request_does ask heard
     row_does (frames.ConfirmReq confirmed ask) normal heard = in_view confirmed.stmt.view.0 (confirm R s confirmed ask) (confirm_does confirmed ask heard)
-    row_does (frames.SpecResponse spec reply with_order) normal heard = votes_do (frames.SpecResponse spec reply with_order) tt heard
-    row_does (frames.Commit specs) normal heard = votes_do (frames.Commit specs) tt heard
+    row_does (frames.SpecResponse spec answers with_order) normal heard = votes_do (frames.SpecResponse spec answers with_order) tt heard
+    row_does (frames.Commit client specs) normal heard = votes_do (frames.Commit client specs) tt heard
     row_does (frames.Checkpoint check) normal heard = votes_do (frames.Checkpoint check) tt heard
     row_does (frames.LocalCommit local) normal heard = votes_do (frames.LocalCommit local) tt heard
     row_does (frames.FillHole hole) normal heard = votes_do (frames.FillHole hole) tt heard
@@ -188,5 +189,5 @@ module _ {S : Type 0} (R : Rules S) (interval : ℕ) (texts : Texts) (w : World)
     pub confirm_lawful : (confirmed : Signed Confirm) (ask : Signed Ask) → MayRun w (entry_of ask) → AreGainsKept w texts (confirm R s confirmed ask).deeds.acts → IsLawfulStep R interval texts w r s h (confirm R s confirmed ask)
     confirm_lawful confirmed ask may gains = done R interval texts w r s h ready kept work view active (confirm R s confirmed ask) (confirm_does view active confirmed ask may) gains
 
-    pub order_as_lawful : (o : OrderFrame) → MayRun w (ordered_entry o) → IsHeldPart w order_told o.order → (a : Admit) → IsPlaced o.order.stmt o.ask (position_of R s o) a → AreGainsKept w texts (order_as R s o a).deeds.acts → IsLawfulStep R interval texts w r s h (order_as R s o a)
+    pub order_as_lawful : (o : OrderFrame) → MayRunUnmixed w (entry_in o) → IsHeldPart w order_told o.order → (a : Admit) → IsPlaced o.order.stmt (entry_in o) (position_of R s o) a → AreGainsKept w texts (order_as R s o a).deeds.acts → IsLawfulStep R interval texts w r s h (order_as R s o a)
     order_as_lawful o may held a is gains = done R interval texts w r s h ready kept work view active (order_as R s o a) (admitted_does view active o may held a is) gains

@@ -33,11 +33,10 @@ use Rattle.zy_law_steps.proofs.DecodedFrames.{fault_gives, framed_gives, or_give
 use Rattle.zy_law_steps.specs.Signs.{DoPass, DoVerifiedPass, OfChange, OfFrame, OfHeard, OfNew, OfTextAlone, OfTextsAlone, OfTold, OfVerified, OfViewFrame, Signs}
 use Rattle.zy_chain.specs.Answers.{FitsAnswers, answers_fields}
 
--- ---- what is read has as many statements, and a reply as long, as a frame may have
+-- ---- what is read has as many statements as a frame may have
 
 abbrev HasFew : Frame → Type 0
-HasFew (frames.SpecResponse spec reply with_order) = FitsAnswers reply
-HasFew (frames.Commit specs) = FitsList (λ spec. Unit {0}) 1 16 specs
+HasFew (frames.Commit client specs) = FitsList (λ spec. Unit {0}) 1 16 specs
 HasFew _ = Unit {0}
 
 plain_gives : (kind : ℕ) → Gives (plain.frame_at kind) HasFew
@@ -45,8 +44,8 @@ unfolding plain.frame_at
 plain_gives kind =
     or_gives HasFew _ _ _ (other_gives HasFew frames.Request plain.request (λ x. tt))
     (or_gives HasFew _ _ _ (other_gives HasFew frames.Order plain.order (λ x. tt))
-    (or_gives HasFew _ _ _ (made_gives (λ x. frames.SpecResponse x.0 x.1.0 x.1.1) plain.spec_response _ HasFew response_read (λ x few. few))
-    (or_gives HasFew _ _ _ (made_gives frames.Commit plain.commit _ HasFew (counted_gives (signed spec_fields) (λ x. Unit {0}) (all_give _) 1 16) (λ x few. few))
+    (or_gives HasFew _ _ _ (other_gives HasFew (λ x. frames.SpecResponse x.0 x.1.0 x.1.1) plain.spec_response (λ x. tt))
+    (or_gives HasFew _ _ _ (made_gives (λ x. frames.Commit (record { 0 = x.0 }) x.1) plain.commit _ HasFew commit_read (λ x few. few.1))
     (or_gives HasFew _ _ _ (other_gives HasFew frames.LocalCommit (signed local_fields) (λ x. tt))
     (or_gives HasFew _ _ _ (other_gives HasFew (λ x. frames.ConfirmReq x.0 x.1) plain.confirm_request (λ x. tt))
     (or_gives HasFew _ _ _ (other_gives HasFew frames.FillHole (signed hole_fields) (λ x. tt))
@@ -55,11 +54,8 @@ plain_gives kind =
     (or_gives HasFew _ _ _ (other_gives HasFew frames.Checkpoint (signed check_fields) (λ x. tt))
     (fault_gives HasFew _))))))))))
   where
-    after_response : Gives (pair answers_fields plain.ordered).at (λ x. FitsAnswers x.0)
-    after_response bytes x rest e = (pair_gives answers_fields plain.ordered FitsAnswers (λ x. Unit {0}) (sized_gives w16 1100) (all_give _) bytes x rest e).0
-
-    response_read : Gives plain.spec_response.at (λ x. FitsAnswers x.1.0)
-    response_read bytes x rest e = (pair_gives (signed spec_fields) (pair answers_fields plain.ordered) (λ x. Unit {0}) (λ x. FitsAnswers x.0) (all_give _) after_response bytes x rest e).1
+    commit_read : Gives plain.commit.at (λ x. Unit {0} × FitsList (λ spec. Unit {0}) 1 16 x.1)
+    commit_read = pair_gives (word w32) (list 1 16 (signed spec_fields)) (λ x. Unit {0}) _ (all_give _) (counted_gives (signed spec_fields) (λ x. Unit {0}) (all_give _) 1 16)
 
 abbrev HasFewBegans : ViewFrame → Type 0
 HasFewBegans (view_frames.ViewCert cert) = FitsList (λ began. Unit {0}) 1 16 cert.begans
@@ -100,9 +96,9 @@ module _ (p : Party → List ℕ → Bool) where
 
   frame_back : (frame : Frame) → HasFew frame → DoPass p (plain.parts_of frame) → OfFrame F frame
   frame_back (frames.Request ask) few all = all.0
-  frame_back (frames.Order both) few all = (all.0, all.1.0)
-  frame_back (frames.SpecResponse spec reply with_order) few all = (all.0, few, order_alone with_order all.1)
-  frame_back (frames.Commit specs) few all = counted numbers.spec spec_fields specs few all
+  frame_back (frames.Order both) few all = (all.0, each numbers.ask ask_fields both.asks all.1)
+  frame_back (frames.SpecResponse spec answers with_order) few all = (all.0, tt, order_alone with_order all.1)
+  frame_back (frames.Commit client specs) few all = counted numbers.spec spec_fields specs few all
   frame_back (frames.LocalCommit local) few all = all.0
   frame_back (frames.ConfirmReq confirm ask) few all = (all.0, all.1.0)
   frame_back (frames.FillHole hole) few all = all.0

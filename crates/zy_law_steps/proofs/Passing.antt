@@ -1,7 +1,7 @@
 -- What holds of each signed statement that a replica heard and kept, and of those that it signs, holds on its way through a step of those that it
 -- keeps and sends.
 use Rattle.std.proofs.Common.{◌≡◌, ℕ, zero, suc, ◌+◌, ◌-◌, Bool, true, false, cond, List, [], ◌∷◌, ◌++◌, length, set, replicate, Option, Some, None, refl, sym, ◌∙◌, subst}
-use Rattle.std.specs.Prelude.{◌≤◌, All, IfSome, option_map, take, filter, if◌then◌else◌, nat_le, nat_lt, slice_index_or}
+use Rattle.std.specs.Prelude.{All, IfSome, option_map, take, filter, if◌then◌else◌, nat_le, nat_lt, slice_index_or, fold, slice_get}
 use Rattle.std.specs.List.{AllByRecursion, find}
 use Rattle.std.proofs.lemmas.List.Elements.{All-nil}
 use Rattle.zy_base.specs.Machine.{Rules}
@@ -12,7 +12,6 @@ use Rattle.zy_base.specs.declared.ids.Party.TheVariants.{Replica}
 use Rattle.zy_base.specs.declared.ids.Place.{Place}
 use Rattle.zy_base.specs.declared.ids.ReplicaId.{ReplicaId}
 use Rattle.zy_base.specs.declared.ids.Stamp.{Stamp}
-use Rattle.zy_admit.specs.Judging.{entry_of, ordered_entry, asking}
 use Rattle.zy_admit.specs.Orders.{slots_above, with_slot, without_order}
 use Rattle.zy_cert.specs.Equal.{check-equal, same_check, same_spec, spec-equal}
 use Rattle.zy_change.specs.Views.{is_further}
@@ -25,10 +24,10 @@ use Rattle.zy_law_normal.proofs.Goes.{all_of_both, all_of_front, all_of_rest}
 use Rattle.zy_law_normal.proofs.KeptVotes.{AreKeptOf, after_check_kept, after_spec_kept, are_first, at_place, none_kept, with_stable_kept, without_others_kept}
 use Rattle.zy_law_normal.proofs.Own.{all_drop, by_test}
 use Rattle.zy_base.specs.declared.ids.ClientId.{ClientId}
-use Rattle.zy_chain.specs.Stretch.{entry_in}
+use Rattle.zy_chain.specs.Stretch.{entry_in as stretch_entry}
 use Rattle.zy_chain.specs.declared.entry.Entry.{Entry}
-use Rattle.zy_exec.specs.Kept.{Kept, known_in, last_place, now_of, point_before, reply_in, stretch_of}
-use Rattle.zy_exec.specs.Replay.{Point, along, known_of, step, answers_of}
+use Rattle.zy_exec.specs.Kept.{Kept, known_in, last_place, now_of, point_before, reply_in, stretch_of, settled}
+use Rattle.zy_exec.specs.Replay.{Point, along, known_of, step, answers_of, answers_from, state_from}
 use Rattle.zy_exec.specs.declared.known.Known.{Known}
 use Rattle.zy_parts.specs.Numbers as numbers
 use Rattle.zy_parts.specs.Statements.{check_fields}
@@ -40,8 +39,8 @@ use Rattle.zy_parts.specs.declared.statements.Order.{Order}
 use Rattle.zy_parts.specs.declared.statements.Spec.{Spec}
 use Rattle.zy_table.specs.Deeds.{Going, act, send_any, to_clients}
 use Rattle.zy_table.specs.Gathering.{certificate_at, gather, gather_at, keep_certificate, own_with, owes_check, proof_at, say_check, say_check_if, settle_with, settled_at, state_in, with_certificate, with_own_spec}
-use Rattle.zy_table.specs.Running.{executed, fits_end, next_known, respond, run, run_held, run_one, sealed_spec, share, signs_of, spec_of, still_pending}
-use Rattle.zy_table.specs.State.{State, signs_left, own_view, spent, start_of, stood_of, with_spec, is_beside}
+use Rattle.zy_table.specs.Running.{executed, fits_end, respond, run, run_held, run_one, sealed_spec, share, signs_of, still_pending, next_answers, next_spec, pending_after}
+use Rattle.zy_table.specs.State.{State, signs_left, spent, start_of, stood_of, with_spec, stays_beside}
 use Rattle.zy_table.specs.declared.deeds.Act.TheVariants.{Says, Gains}
 use Rattle.zy_table.specs.declared.deeds.AnyFrame.{AnyFrame}
 use Rattle.zy_table.specs.declared.deeds.AnyFrame.TheVariants.{Plain}
@@ -53,8 +52,13 @@ use Rattle.zy_table.specs.declared.kept.OwnCheckpoint.{OwnCheckpoint}
 use Rattle.zy_table.specs.declared.kept.Pending.{Pending}
 use Rattle.zy_law_steps.proofs.Slots.{AreKept, filled, never_flagged}
 use Rattle.zy_parts.specs.declared.statements.Ask.{Ask}
-use Rattle.zy_law_steps.specs.Signs.{IsShort, OfAct, OfActs, OfAnyFrame, OfBoard, OfBody, OfChange, OfOrder, OfPending, OfSent, OfState, Signs}
-use Rattle.zy_chain.specs.Answers.{FitsAnswers}
+use Rattle.zy_law_steps.specs.Signs.{OfAct, OfActs, OfAnyFrame, OfBoard, OfBody, OfChange, OfOrder, OfPending, OfSent, OfState, Signs, OfPoint, OfKept}
+use Rattle.zy_chain.specs.Answers.{FitsAnswers, Answers}
+use Rattle.zy_parts.specs.Asks.{entry_of_asks}
+use Rattle.zy_frames.specs.Frames.{entry_in}
+use Rattle.zy_change.proofs.FitLemmas.{taken_there}
+use Rattle.zy_chain.specs.declared.item.Item.{Item}
+use Rattle.zy_parts.specs.declared.reports.Change.{Change}
 
 -- ---- lists
 
@@ -118,45 +122,70 @@ module _ (F : Signs) where
   unfolding with_stable
   stable_put b proof is all = let kept = with_stable_kept F.spec F.check b proof (kept_of b is) in (kept.near, kept.far, all)
 
--- ---- replies
+-- ---- answers
 
--- what a machine promises of its states
-pub record Laws {S : Type 0} (ok : S → Type 0) (R : Rules S) : Type 0 where
+-- what a machine promises of its states, and what follows of what is heard for the entries that are run, and their answers
+pub record Laws {S : Type 0} (ok : S → Type 0) (R : Rules S) (F : Signs) : Type 0 where
   pub starts : ok R.initial
   pub stays : (s : S) (client : ClientId) (op : List ℕ) → ok s → ok (R.next s client op)
-  pub short : (s : S) (client : ClientId) (op : List ℕ) → ok s → length (R.reply s client op) ≤ 1100
   pub reads : (bytes : List ℕ) (s : S) → R.read bytes ≡ Some s → ok s
+  pub answers : (s : S) (e : Entry) → ok s → F.entry e → F.answers (answers_from R s e.items)
+  pub shown : (answers : Answers) → FitsAnswers answers → F.answers answers
+  pub alone : (ask : Signed Ask) → F.ask ask → F.asks (ask ∷ [])
+  pub ordered : (asks : List (Signed Ask)) → F.asks asks → F.entry (entry_of_asks asks)
+  pub reported : (c : Signed Change) → F.change c → AllByRecursion F.entry c.stmt.told.entries
 
-abbrev pub IsShortKnown : Known → Type 0
-IsShortKnown known = FitsAnswers known.reply
+-- so of what is known of a client
+abbrev pub IsToldOf : Signs → Known → Type 0
+IsToldOf F known = F.answers known.answers
 
-module _ {S : Type 0} (R : Rules S) (ok : S → Type 0) (law : Laws ok R) where
-  pub along_short : (p : Point S) (es : List Entry) → IsShort ok p → IsShort ok (along R p es)
+module _ {S : Type 0} (R : Rules S) (ok : S → Type 0) (F : Signs) (law : Laws ok R F) where
+  stays_from : (items : List Item) (s : S) → ok s → ok (state_from R s items)
+  stays_from [] s is = is
+  stays_from (i ∷ items) s is = stays_from items (R.next s i.client i.op) (law.stays s i.client i.op is)
+
+  all_known : (known : Item → Known) → ((i : Item) → IsToldOf F (known i)) → (items : List Item) (all : List (Option Known)) → AreKept (IsToldOf F) all
+      → AreKept (IsToldOf F) (fold (λ (all : List (Option Known)) (i : Item). set all i.client.0 (Some (known i))) all items)
+  all_known known told [] all is = is
+  all_known known told (i ∷ items) all is = all_known known told items (set all i.client.0 (Some (known i))) (filled (IsToldOf F) all i.client.0 (known i) is (told i))
+
+  pub along_of : (p : Point S) (es : List Entry) → OfPoint ok F p → AllByRecursion F.entry es → OfPoint ok F (along R p es)
   unfolding along
-  along_short p [] is = is
-  along_short p (e ∷ es) is =
-      along_short (step R p e) es (record { state = law.stays p.state e.client e.op is.state; known = filled IsShortKnown p.known e.client.0 (known_of R p e) is.known (law.short p.state e.client e.op is.state) })
+  along_of p [] is all = is
+  along_of p (e ∷ es) is all =
+      along_of (step R p e) es
+      (record { state = stays_from e.items p.state is.state; known = all_known (known_of R p e) (λ i. law.answers p.state e is.state all.0) e.items p.known is.known }) all.1
 
-  pub now_short : (k : Kept S) → IsShort ok k.base → IsShort ok (now_of R k)
-  now_short k is = along_short k.base k.entries is
+  pub now_of_kept : (k : Kept S) → OfKept ok F k → OfPoint ok F (now_of R k)
+  now_of_kept k is = along_of k.base k.entries is.0 is.1
 
-  pub next_short : (s : State S) (ask : Signed Ask) → IsShort ok s.kept.base → IsShortKnown (next_known R s (entry_of ask))
-  next_short s ask is = law.short (now_of R s.kept).state (asking ask.by) (entry_of ask).op (now_short s.kept is).state
+  pub next_told : (s : State S) (e : Entry) → OfKept ok F s.kept → F.entry e → F.answers (next_answers R s e)
+  next_told s e is one = law.answers (now_of R s.kept).state e (now_of_kept s.kept is).state one
 
-  pub known_short : (k : Kept S) (client : ℕ) → IsShort ok k.base → IfSome (known_in R k client) IsShortKnown
-  known_short k client is = slot_at IsShortKnown (now_of R k).known client (now_short k is).known
+  pub known_told : (k : Kept S) (client : ℕ) → OfKept ok F k → IfSome (known_in R k client) (IsToldOf F)
+  known_told k client is = slot_at (IsToldOf F) (now_of R k).known client (now_of_kept k is).known
 
-  pub reply_short : (k : Kept S) (place : ℕ) → IsShort ok k.base → IfSome (reply_in R k place) (λ reply. FitsAnswers reply)
-  reply_short k place is = by (entry_in (stretch_of k) place)
+  listed_at : (list : List Entry) (i : ℕ) → AllByRecursion F.entry list → IfSome (slice_get list i) F.entry
+  listed_at [] i all = tt
+  listed_at (e ∷ list) zero all = all.0
+  listed_at (e ∷ list) (suc i) all = listed_at list i all.1
+
+  pub answers_told : (k : Kept S) (place : ℕ) → OfKept ok F k → IfSome (reply_in R k place) F.answers
+  answers_told k place is = by (stretch_entry (stretch_of k) place) there
     where
-      by : (o : Option Entry) → IfSome (option_map (λ (e : Entry). answers_of R (point_before R k place).state e) o) (λ reply. FitsAnswers reply)
-      by None = tt
-      by (Some e) = law.short (point_before R k place).state e.client e.op (along_short k.base (take (place - k.base.place - 1) k.entries) is).state
+      there : IfSome (stretch_entry (stretch_of k) place) F.entry
+      there = by_test (λ (o : Option Entry). IfSome o F.entry) (nat_le place k.base.place) _ _ (λ below. tt) (λ above. listed_at k.entries (place - k.base.place - 1) is.1)
+
+      by : (o : Option Entry) → IfSome o F.entry → IfSome (option_map (answers_of R (point_before R k place)) o) F.answers
+      by None one = tt
+      by (Some e) one =
+          let front = take (place - k.base.place - 1) k.entries in
+          law.answers (point_before R k place).state e (along_of k.base front is.0 (taken_there F.entry (place - k.base.place - 1) k.entries is.1)).state one
 
 -- ---- a replica that begins keeps nothing
 
-pub starts : {S : Type 0} (R : Rules S) (ok : S → Type 0) (law : Laws ok R) (F : Signs) (interval : ℕ) (me : ReplicaId) (counts : Counts) (keys : Keys) (sealer : SealerState) → sealer.me ≡ Replica me → OfState ok F (start_of R interval me counts keys sealer)
-starts R ok law F interval me counts keys sealer itself = (
+pub starts : {S : Type 0} (R : Rules S) (ok : S → Type 0) (F : Signs) (law : Laws ok R F) (interval : ℕ) (me : ReplicaId) (counts : Counts) (keys : Keys) (sealer : SealerState) → sealer.me ≡ Replica me → OfState ok F (start_of R interval me counts keys sealer)
+starts R ok F law interval me counts keys sealer itself = (
   (tt, tt, empty_slots (OfChange F) counts.n, empty_slots F.began counts.n, tt, tt, λ id is. absurd (never_flagged counts.n id.0 is)),
   tt,
   (none_kept F.spec F.check, none_kept F.spec F.check, All-nil F.check),
@@ -165,12 +194,12 @@ starts R ok law F interval me counts keys sealer itself = (
   empty_slots (OfPending F) 64,
   tt,
   tt,
-  (tt, record { state = law.starts; known = empty_slots IsShortKnown 64 }, itself),
+  (tt, (record { state = law.starts; known = empty_slots (IsToldOf F) 64 }, tt), itself),
 )
 
 -- ---- on its way
 
-module _ {S : Type 0} (R : Rules S) (ok : S → Type 0) (law : Laws ok R) (F : Signs) (me : Party) where
+module _ {S : Type 0} (R : Rules S) (ok : S → Type 0) (F : Signs) (law : Laws ok R F) (me : Party) where
   -- where it holds of all that was signed so far, something else is known, and it holds of all that is kept and sent
   abbrev pub Passes : Type 0 → Going S → Type 0
   Passes X g = OfActs F me g.deeds.acts → X × (g.state.sealer.me ≡ me) × OfState ok F g.state × OfSent F g.deeds.sent
@@ -195,17 +224,23 @@ module _ {S : Type 0} (R : Rules S) (ok : S → Type 0) (law : Laws ok R) (F : S
 
   -- ---- an order is run
 
-  runs_entry : (X : Type 0) (o : OrderFrame) (g : Going S) → Passes X g → Passes X (executed R (ordered_entry o) g)
-  runs_entry X o g is acts =
+  still : (stamp : Stamp) (pending : Option Pending) → IfSome pending (OfPending F) → IfSome (still_pending stamp pending) (OfPending F)
+  still stamp None one = tt
+  still stamp (Some pending) one = by_test (λ (o : Option Pending). IfSome o (OfPending F)) (nat_lt stamp.0 pending.ask.stmt.stamp.0) _ _ (λ newer. one) (λ older. tt)
+
+  still_all : (items : List Item) (pending : List (Option Pending)) → AreKept (OfPending F) pending → AreKept (OfPending F) (fold pending_after pending items)
+  still_all [] pending all = all
+  still_all (i ∷ items) pending all =
+      let own = slice_index_or pending i.client.0 None in
+      still_all items (pending_after pending i) (put (OfPending F) pending i.client.0 (still_pending i.stamp own) all (still i.stamp own (slot_at (OfPending F) pending i.client.0 all)))
+
+  runs_entry : (X : Type 0) (o : OrderFrame) (g : Going S) → (X → F.entry (entry_in o)) → Passes X g → Passes X (executed R (entry_in o) g)
+  runs_entry X o g tells is acts =
       let b = is (all_of_front (OfAct F me) g.deeds.acts (Gains _ ∷ []) acts) in
       let v = b.2 in
-      let client : ℕ = (ordered_entry o).client.0 in
-      let waits = still (ordered_entry o).stamp (slice_index_or g.state.pending client None) (slot_at (OfPending F) g.state.pending client v.5) in
-      (b.0, b.1, (v.0, v.1, v.2, v.3, v.4, put (OfPending F) g.state.pending client (still_pending (ordered_entry o).stamp (slice_index_or g.state.pending client None)) v.5 waits, v.6, v.7, v.8), b.3)
-    where
-      still : (stamp : Stamp) (pending : Option Pending) → IfSome pending (OfPending F) → IfSome (still_pending stamp pending) (OfPending F)
-      still stamp None one = tt
-      still stamp (Some pending) one = by_test (λ (o : Option Pending). IfSome o (OfPending F)) (nat_lt stamp.0 pending.ask.stmt.stamp.0) _ _ (λ newer. one) (λ older. tt)
+      let k = g.state.kept in
+      let longer_kept = (v.8.0, (v.8.1.0, all_of_both F.entry k.entries (entry_in o ∷ []) v.8.1.1 (tells b.0, tt)), v.8.2) in
+      (b.0, b.1, (v.0, v.1, v.2, v.3, v.4, still_all (entry_in o).items g.state.pending v.5, v.6, v.7, longer_kept), b.3)
 
   -- ---- what is kept at a place is looked through
 
@@ -245,6 +280,11 @@ module _ {S : Type 0} (R : Rules S) (ok : S → Type 0) (law : Laws ok R) (F : S
   says_check_if X false own g is = is
   says_check_if X true own g is = says_check X own g is
 
+  settled_kept : (k : Kept S) (place : ℕ) → OfKept ok F k → OfKept ok F (settled R place k)
+  settled_kept k place is =
+      let n = place - k.base.place in
+      (along_of R ok F law k.base (take n k.entries) is.0 (taken_there F.entry n k.entries is.1), all_drop F.entry n k.entries is.1)
+
   pub settled_of : (s : State S) (place : ℕ) (checks : List (Signed Check)) → OfState ok F s → All F.check checks → OfState ok F (settled_at R place checks s)
   settled_of s place checks v all = (
     v.0,
@@ -255,7 +295,7 @@ module _ {S : Type 0} (R : Rules S) (ok : S → Type 0) (law : Laws ok R) (F : S
     v.5,
     all_filtered F.local (λ said. nat_le place said.stmt.place.0) s.locals v.6,
     v.7,
-    (v.8.0, along_short R ok law s.kept.base (take (place - s.kept.base.place) s.kept.entries) v.8.1, v.8.2),
+    (v.8.0, settled_kept s.kept place v.8.1, v.8.2),
   )
 
   settles : (X : Type 0) (own : Check) (g : Going S) → Passes X g → Passes X (record g { state = settle_with R own.place.0 (proof_at g.state own) g.state })
@@ -286,38 +326,41 @@ module _ {S : Type 0} (R : Rules S) (ok : S → Type 0) (law : Laws ok R) (F : S
   keeps_own X own signed g tells is =
       turns X X (with_own_spec g.state own signed) g (λ x signer v. (x, signer, (v.0, v.1, spec_put F g.state.board own signed v.2 (tells x), v.3, v.4, v.5, v.6, v.7, v.8))) is
 
-  responds : (X : Type 0) (order : Signed Order) (spec : Spec) (reply : List ℕ) (g : Going S) → (X → F.order order) → (X → FitsAnswers reply) → Passes X g
-      → Passes (X × F.spec (sealed_spec g.state spec)) (respond R order (sealed_spec g.state spec) reply g)
-  responds X order spec reply g tells short is =
+  responds : (X : Type 0) (order : Signed Order) (spec : Spec) (answers : Answers) (g : Going S) → (X → F.order order) → (X → F.answers answers) → Passes X g
+      → Passes (X × F.spec (sealed_spec g.state spec)) (respond R order (sealed_spec g.state spec) answers g)
+  responds X order spec answers g tells told is =
       let signed : Signed Spec = sealed_spec g.state spec in
       let remark : Remark = record { body = bodies.Spec spec; stood = stood_of R g.state } in
-      let s : State S = with_spec (spent g.state) signed in
-      sends (X × F.spec signed) (to_clients spec) (Plain (frames.SpecResponse signed reply (Some order))) (act (Says remark) (record g { state = s })) (λ x state. (x.1, short x.0, tells x.0))
+      let s : State S = with_spec R (spent g.state) signed in
+      sends (X × F.spec signed) (to_clients answers) (Plain (frames.SpecResponse signed answers (Some order))) (act (Says remark) (record g { state = s })) (λ x state. (x.1, told x.0, tells x.0))
       (says X (X × F.spec signed) remark s g (λ x signer v said.
       let one : F.spec signed = said g.state.sealer signer in
-      ((x, one), signer, (v.0, v.1, v.2, v.3, one_more F.spec (is_beside spec) g.state.specs signed v.4 one, v.5, v.6, v.7, v.8))) is)
+      ((x, one), signer, (v.0, v.1, v.2, v.3, one_more F.spec (stays_beside R g.state.kept spec) g.state.specs signed v.4 one, v.5, v.6, v.7, v.8))) is)
 
-  shares : (X : Type 0) (order : Signed Order) (signed : Signed Spec) (reply : List ℕ) (state : Option Digest) (g : Going S) → (X → F.order order) → (X → F.spec signed) → (X → FitsAnswers reply) → Passes X g
-      → Passes X (share R order signed reply state g)
-  shares X order signed reply None g tells_order tells short is = is
-  shares X order signed reply (Some state) g tells_order tells short is =
-      let told : Going S = send_any Everyone (Plain (frames.SpecResponse signed reply (Some order))) g in
-      gathers X (own_with signed.stmt state) false (record told { state = with_own_spec told.state (own_with signed.stmt state) signed })
-      (keeps_own X (own_with signed.stmt state) signed told tells
-      (sends X Everyone (Plain (frames.SpecResponse signed reply (Some order))) g (λ x state. (tells x, short x, tells_order x)) is))
+  shares : (X : Type 0) (order : Signed Order) (signed : Signed Spec) (answers : Answers) (state : Option Digest) (g : Going S) → (X → F.order order) → (X → F.spec signed) → (X → F.answers answers) → Passes X g
+      → Passes X (share R order signed answers state g)
+  shares X order signed answers None g tells_order tells told is = is
+  shares X order signed answers (Some state) g tells_order tells told is =
+      let to_all : Going S = send_any Everyone (Plain (frames.SpecResponse signed answers (Some order))) g in
+      gathers X (own_with signed.stmt state) false (record to_all { state = with_own_spec to_all.state (own_with signed.stmt state) signed })
+      (keeps_own X (own_with signed.stmt state) signed to_all tells
+      (sends X Everyone (Plain (frames.SpecResponse signed answers (Some order))) g (λ x state. (tells x, told x, tells_order x)) is))
 
-  runs_one : (X : Type 0) (o : OrderFrame) (g : Going S) → (X → F.order o.order) → Passes X g → Passes X (run_one R o g)
+  runs_one : (X : Type 0) (o : OrderFrame) (g : Going S) → (X → OfOrder F o) → Passes X g → Passes X (run_one R o g)
   unfolding run_one
   runs_one X o g tells is =
-      let done : Going S = executed R (ordered_entry o) g in
-      let known = next_known R g.state (ordered_entry o) in
-      let spec : Spec = spec_of (own_view g.state) (ordered_entry o) known in
+      let e : Entry = entry_in o in
+      let done : Going S = executed R e g in
+      let answers : Answers = next_answers R g.state e in
+      let spec : Spec = next_spec R g.state e in
       let signed : Signed Spec = sealed_spec done.state spec in
-      let Z : Type 0 = X × IsShortKnown known in
+      let Z : Type 0 = X × F.answers answers in
       let Y : Type 0 = Z × F.spec signed in
+      let runs : X → F.entry e = λ x. law.ordered o.asks (tells x).1 in
       knows Y X (run_one R o g) (λ y state. y.0.0)
-      (shares Y o.order signed known.reply (state_in R done.state.kept spec.place.0) (respond R o.order signed known.reply done) (λ y. tells y.0.0) (λ y. y.1) (λ y. y.0.1)
-      (responds Z o.order spec known.reply done (λ z. tells z.0) (λ z. z.1) (runs_entry Z o g (knows X Z g (λ x state. (x, next_short R ok law g.state o.ask state.8.1)) is))))
+      (shares Y o.order signed answers (state_in R done.state.kept spec.place.0) (respond R o.order signed answers done) (λ y. (tells y.0.0).0) (λ y. y.1) (λ y. y.0.1)
+      (responds Z o.order spec answers done (λ z. (tells z.0).0) (λ z. z.1)
+      (runs_entry Z o g (λ z. runs z.0) (knows X Z g (λ x state. (x, next_told R ok F law g.state e state.8.1 (runs x))) is))))
 
   runs_held : (slots : List (Option OrderFrame)) (X : Type 0) (g : Going S) → (X → AreKept (OfOrder F) slots) → Passes X g → Passes X (run_held R slots g)
   unfolding run_held
@@ -325,11 +368,11 @@ module _ {S : Type 0} (R : Rules S) (ok : S → Type 0) (law : Laws ok R) (F : S
   runs_held (None ∷ slots) X g tells is = is
   runs_held (Some o ∷ slots) X g tells is =
       by_test (λ (h : Going S). Passes X h) (fits_end R g.state o) _ _
-      (λ fits. by_test (λ (h : Going S). Passes X h) (nat_le (signs_of R g.state (ordered_entry o)) (signs_left g.state)) _ _
-      (λ left. runs_held slots X (run_one R o g) (λ x. (tells x).1) (runs_one X o g (λ x. (tells x).0.0) is)) (λ none. is))
+      (λ fits. by_test (λ (h : Going S). Passes X h) (nat_le (signs_of R g.state (entry_in o)) (signs_left g.state)) _ _
+      (λ left. runs_held slots X (run_one R o g) (λ x. (tells x).1) (runs_one X o g (λ x. (tells x).0) is)) (λ none. is))
       (λ differs. turns X X (record g.state { orders = without_order g.state.orders (last_place g.state.kept + 1) }) g (λ x signer v. (x, signer, (v.0, put (OfOrder F) g.state.orders.slots (last_place g.state.kept + 1 - g.state.orders.base - 1) None v.1 tt, v.2, v.3, v.4, v.5, v.6, v.7, v.8))) is)
 
-  pub runs : (X : Type 0) (o : OrderFrame) (g : Going S) → (X → F.order o.order) → Passes X g → Passes X (run R o g)
+  pub runs : (X : Type 0) (o : OrderFrame) (g : Going S) → (X → OfOrder F o) → Passes X g → Passes X (run R o g)
   runs X o g tells is =
       let done : Going S = run_one R o g in
       let slots : List (Option OrderFrame) = slots_above (last_place g.state.kept + 1) g.state.orders in

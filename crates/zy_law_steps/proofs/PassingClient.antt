@@ -31,7 +31,7 @@ use Rattle.zy_parts.specs.declared.statements.Local.{Local}
 use Rattle.zy_parts.specs.declared.statements.Order.{Order}
 use Rattle.zy_parts.specs.declared.statements.Spec.{Spec}
 use Rattle.zy_seal.specs.Screening.{screen}
-use Rattle.zy_table.specs.ClientRows.{agreeing, agrees, ask, ask_or_commit, ask_while, certified_in, client_step, completed_if, contradicted, count_local, decoded_as, equal_in, evidence_by, evidence_with, hear, hear_response, is_blamed, is_by_primary, is_certified, is_for, keep, keep_unless, local_beside, local_while, order_in, respond, respond_while, response_cause, run_out, run_out_while, told, unless, view_decoded, vote_on}
+use Rattle.zy_table.specs.ClientRows.{agreeing, agrees, ask, ask_or_commit, ask_while, certified_in, client_step, completed_if, contradicted, count_local, decoded_as, equal_in, evidence_by, evidence_with, hear, hear_response, is_blamed, is_by_primary, is_certified, is_for, keep, keep_unless, local_beside, local_while, order_in, respond, respond_while, response_cause, run_out, run_out_while, told, unless, view_decoded, vote_on, are_told, own_in, respond_by}
 use Rattle.zy_table.specs.ClientState.{ClientOutcome, ClientState, signs_left, refused, taken}
 use Rattle.zy_table.specs.Roles.{is_replica}
 use Rattle.zy_table.specs.declared.client.Commit.{Commit}
@@ -42,6 +42,8 @@ use Rattle.zy_vframes.specs.declared.frame.ViewFrame.{ViewFrame}
 use Rattle.zy_law_steps.proofs.Passing.{empty_slots, found, put}
 use Rattle.zy_law_steps.proofs.Slots.{AreKept}
 use Rattle.zy_law_steps.specs.Signs.{OfAsks, OfClient, OfFrame, OfVerified, OfResponse, OfSent, Signs}
+use Rattle.zy_chain.specs.Answers.{Answers}
+use Rattle.zy_table.specs.declared.client.OwnAnswer.{OwnAnswer}
 
 -- there are as many equal responses as agree
 as_many : (spec : Spec) (slots : List (Option Response)) → length (filter_map (equal_in spec) slots) ≡ count_by (agrees spec) slots
@@ -125,9 +127,9 @@ module _ (F : Signs) (s : ClientState) (v : OfClient F s) where
   tells None t w none = (w, tt)
   tells (Some both) t w two = (w, ((two.0, two.1), tt))
 
-  responds : (waiting : Option (Signed Ask)) (id : ℕ) (r : Response) → OfResponse F r → Of (respond_while s waiting id r)
-  responds None id r heard = refuses causes.Finished
-  responds (Some waiting) id r heard = by (response_cause s waiting id r)
+  kept_unless : (id : ℕ) (r : Response) (cause : Option Cause) → OfResponse F r → Of (keep_unless cause s id r)
+  kept_unless id r (Some cause) heard = refuses cause
+  kept_unless id r None heard = tells (evidence_by kept r.order) (completed_if kept r) done (evidence kept r.order kept_is heard.1)
     where
       kept : ClientState
       kept = keep s id r
@@ -138,17 +140,24 @@ module _ (F : Signs) (s : ClientState) (v : OfClient F s) where
       done : OfClient F (completed_if kept r)
       done = by_test (OfClient F) (nat_le kept.counts.fast (agreeing kept r.spec.stmt)) _ _ (λ enough. (tt, kept_is.1, kept_is.2)) (λ few. kept_is)
 
-      by : (cause : Option Cause) → Of (keep_unless cause s id r)
-      by (Some cause) = refuses cause
-      by None = tells (evidence_by kept r.order) (completed_if kept r) done (evidence kept r.order kept_is heard.1)
+  responds_by : (waiting : Signed Ask) (id : ℕ) (told : Bool) (spec : Signed Spec) (order : Option (Signed Order)) (own : Option OwnAnswer) → F.spec spec → IfSome order F.order → Of (respond_by s waiting id told spec order own)
+  responds_by waiting id told spec order None heard ordered = refuses causes.Unmatched
+  responds_by waiting id told spec order (Some own) heard ordered =
+      let r : Response = record { spec = spec; own = own; order = order } in
+      kept_unless id r (response_cause s waiting id told r) (heard, ordered)
 
-  response : (id : ℕ) (r : Response) → OfResponse F r → Of (respond s id r)
+  responds : (waiting : Option (Signed Ask)) (id : ℕ) (spec : Signed Spec) (answers : Answers) (order : Option (Signed Order)) → F.spec spec → IfSome order F.order → Of (respond_while s waiting id spec answers order)
+  responds None id spec answers order heard ordered = refuses causes.Finished
+  responds (Some waiting) id spec answers order heard ordered = responds_by waiting id (are_told answers spec.stmt) spec order (own_in s.me answers) heard ordered
+
+  response : (id : ℕ) (spec : Signed Spec) (answers : Answers) (order : Option (Signed Order)) → F.spec spec → IfSome order F.order → Of (respond s id spec answers order)
   unfolding respond
-  response id r heard = responds s.waiting id r heard
+  response id spec answers order heard ordered = responds s.waiting id spec answers order heard ordered
 
-  hears_response : (r : Response) (by : Party) → OfResponse F r → Of (hear_response s r by)
-  hears_response r (Client id) heard = refuses causes.WrongRole
-  hears_response r (Replica id) heard = by_test Of (is_by_primary s r.order) _ _ (λ primary. response id.0 r heard) (λ other. refuses causes.WrongRole)
+  hears_response : (spec : Signed Spec) (answers : Answers) (order : Option (Signed Order)) (by : Party) → F.spec spec → IfSome order F.order → Of (hear_response s spec answers order by)
+  hears_response spec answers order (Client id) heard ordered = refuses causes.WrongRole
+  hears_response spec answers order (Replica id) heard ordered =
+      by_test Of (is_by_primary s order) _ _ (λ primary. response id.0 spec answers order heard ordered) (λ other. refuses causes.WrongRole)
 
   -- ---- local commits
 
@@ -209,11 +218,11 @@ module _ (F : Signs) (s : ClientState) (v : OfClient F s) where
   under (Some cause) o is = refuses cause
 
   frame_of : (frame : Frame) → OfFrame F frame → Of (hear s frame)
-  frame_of (frames.SpecResponse spec reply order) heard = hears_response (record { spec = spec; reply = reply; order = order }) spec.by (heard.0, heard.2)
+  frame_of (frames.SpecResponse spec answers order) heard = hears_response spec answers order spec.by heard.0 heard.2
   frame_of (frames.LocalCommit vote) heard = by_test Of (is_replica vote.by) _ _ (λ replica. local vote) (λ other. refuses causes.WrongRole)
   frame_of (frames.Request ask) heard = refuses causes.WrongRole
   frame_of (frames.Order both) heard = refuses causes.WrongRole
-  frame_of (frames.Commit specs) heard = refuses causes.WrongRole
+  frame_of (frames.Commit client specs) heard = refuses causes.WrongRole
   frame_of (frames.ConfirmReq confirm ask) heard = refuses causes.WrongRole
   frame_of (frames.FillHole hole) heard = refuses causes.WrongRole
   frame_of (frames.Hate hate) heard = refuses causes.WrongRole
@@ -222,10 +231,10 @@ module _ (F : Signs) (s : ClientState) (v : OfClient F s) where
 
   view_read : (read : Result ViewFrame FrameFault) → Of (view_decoded s read)
   view_read (Err fault) = refuses (causes.NotFrame fault)
-  view_read (Ok frame) = under (screen s.keys (view_parts.parts_of frame)) (refused causes.WrongRole s) (λ clear. refuses causes.WrongRole)
+  view_read (Ok frame) = under (screen s.keys None (view_parts.parts_of frame)) (refused causes.WrongRole s) (λ clear. refuses causes.WrongRole)
 
   read_as : (bytes : List ℕ) (read : Result Frame FrameFault) → plain.frame_in bytes ≡ read → OfVerified F s.keys (Heard bytes) → Of (decoded_as s bytes read)
-  read_as bytes (Ok frame) is heard = under (screen s.keys (plain.parts_of frame)) (hear s frame) (λ clear. frame_of frame (heard.0 frame is clear))
+  read_as bytes (Ok frame) is heard = under (screen s.keys (plain.named_in frame) (plain.parts_of frame)) (hear s frame) (λ clear. frame_of frame (heard.0 frame is clear))
   read_as bytes (Err faults.Kind) is heard = view_read (views.frame_in bytes)
   read_as bytes (Err faults.Short) is heard = refuses (causes.NotFrame faults.Short)
   read_as bytes (Err faults.Version) is heard = refuses (causes.NotFrame faults.Version)

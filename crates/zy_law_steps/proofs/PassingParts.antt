@@ -85,9 +85,9 @@ module _ (p : Party → List ℕ → Bool) where
 
   pub frame_passes : (frame : Frame) → OfFrame F frame → AllByRecursion Passes (plain.parts_of frame)
   frame_passes (frames.Request ask) is = (is.1, tt)
-  frame_passes (frames.Order both) is = (is.0.1, (is.1.1, tt))
-  frame_passes (frames.SpecResponse spec reply with_order) is = (is.0.1, order_alone with_order is.2)
-  frame_passes (frames.Commit specs) is = responses specs is.each
+  frame_passes (frames.Order both) is = (is.0.1, mapped (OfTextAlone p numbers.ask ask_fields) (part_of numbers.ask ask_fields) (λ x one. one) both.asks is.1.1)
+  frame_passes (frames.SpecResponse spec answers with_order) is = (is.0.1, order_alone with_order is.2)
+  frame_passes (frames.Commit client specs) is = responses specs is.each
   frame_passes (frames.LocalCommit local) is = (is.1, tt)
   frame_passes (frames.ConfirmReq confirm ask) is = (is.0.1, (is.1.1, tt))
   frame_passes (frames.FillHole hole) is = (is.1, tt)
@@ -134,8 +134,8 @@ module _ (p : Party → List ℕ → Bool) where
   unfolding plain.FitsFrame
   frame_fits (frames.Request ask) is = is.0
   frame_fits (frames.Order both) is = (is.0.0, is.1.0)
-  frame_fits (frames.SpecResponse spec reply with_order) is = (is.0.0, (is.1, order_fits with_order is.2))
-  frame_fits (frames.Commit specs) is = record { least = is.least; most = is.most; each = λ k d within. (is.each k d within).0 }
+  frame_fits (frames.SpecResponse spec answers with_order) is = (is.0.0, (answers-fits answers is.1, order_fits with_order is.2))
+  frame_fits (frames.Commit client specs) is = (COMMITCLIENT, record { least = is.least; most = is.most; each = λ k d within. (is.each k d within).0 })
   frame_fits (frames.LocalCommit local) is = is.0
   frame_fits (frames.ConfirmReq confirm ask) is = (is.0.0, is.1.0)
   frame_fits (frames.FillHole hole) is = is.0
@@ -176,8 +176,8 @@ module _ (p : Party → List ℕ → Bool) where
   unfolding view_frames.frame_at
   not_view (frames.Request ask) other rest is = absurd cc
   not_view (frames.Order both) other rest is = absurd cc
-  not_view (frames.SpecResponse spec reply with_order) other rest is = absurd cc
-  not_view (frames.Commit specs) other rest is = absurd cc
+  not_view (frames.SpecResponse spec answers with_order) other rest is = absurd cc
+  not_view (frames.Commit client specs) other rest is = absurd cc
   not_view (frames.LocalCommit local) other rest is = absurd cc
   not_view (frames.ConfirmReq confirm ask) other rest is = absurd cc
   not_view (frames.FillHole hole) other rest is = absurd cc

@@ -20,7 +20,7 @@ use Rattle.zy_base.specs.declared.step.Event.TheVariants.{Heard, Timer}
 use Rattle.zy_base.specs.declared.step.Mode.{Mode}
 use Rattle.zy_base.specs.declared.step.Mode.TheVariants.{Active, Leaving}
 use Rattle.zy_base.specs.declared.step.TimerKind.TheVariants as timers
-use Rattle.zy_admit.specs.Judging.{entry_of, judge_in, same_digest, ordered_entry, asking}
+use Rattle.zy_admit.specs.Judging.{judge_in, same_digest}
 use Rattle.zy_admit.specs.Orders.{Orders, orders_from, slots_above, stored_in, with_order}
 use Rattle.zy_admit.specs.Orders as orders
 use Rattle.zy_admit.specs.declared.judging.Admit.{Admit}
@@ -92,10 +92,10 @@ use Rattle.zy_table.specs.Holes.{fill_hole, fill_with, order_to}
 use Rattle.zy_table.specs.Leaving.{Attempt, concluded, is_overspent}
 use Rattle.zy_table.specs.Misbehaviour.{blamed, pom, tell_all}
 use Rattle.zy_table.specs.Orders.{ask_for_missing, hole_of, order_as, owes_hole, position_of}
-use Rattle.zy_table.specs.Requests.{is_behind, new_request, ordered, request, request_after, request_at_backup, request_waits, respond_as, response_of, sealed_confirm, sealed_order, tell_primary}
+use Rattle.zy_table.specs.Requests.{is_behind, new_request, ordered, request, request_after, request_at_backup, request_waits, respond_as, response_of, sealed_confirm, sealed_order, tell_primary, entry_of}
 use Rattle.zy_table.specs.Roles.{in_role, is_replica, view_cause}
 use Rattle.zy_table.specs.Running.{run, sealed_spec, signs_of, spec_of}
-use Rattle.zy_table.specs.State.{State, is_leaving, is_primary, signs_left, own_view, pending_of, primary_of, spent, stood_of, window_of, with_pending, with_spec as with_own, is_beside, spec_said}
+use Rattle.zy_table.specs.State.{State, is_leaving, is_primary, signs_left, own_view, pending_of, primary_of, spent, stood_of, window_of, with_pending, with_spec as with_own, spec_said}
 use Rattle.zy_table.specs.Whole.{commit_in_view, unless, decoded_as, hear_plain, hear_view, is_view_frame_in_role, order_judged, plain_row, view_decoded, view_row, whole_step}
 use Rattle.zy_table.specs.declared.deeds.Act.TheVariants.{Says}
 use Rattle.zy_table.specs.declared.deeds.AnyFrame.TheVariants.{Plain, View as Framed}
@@ -114,6 +114,8 @@ use Rattle.zy_law_steps.proofs.Passing.{IsShortKnown, Laws, Passes, known_short,
 use Rattle.zy_law_steps.proofs.PassingViews.{Ends, IsOf, accepts, adopts, arrives, begun_on, certifies_with, collects, ended, leaves}
 use Rattle.zy_law_steps.proofs.Slots.{AreKept, filled, flagged_now}
 use Rattle.zy_law_steps.specs.Signs.{OfBoard, OfCert, OfChange, OfFrame, OfHated, OfHateBy, OfNew, OfOrder, OfOrders, OfPending, OfSent, OfState, OfVerified, OfViewFrame, Signs}
+use Rattle.zy_parts.specs.Asks.{asking}
+use Rattle.zy_frames.specs.Frames.{entry_in}
 
 -- ---- kept orders
 
@@ -161,15 +163,15 @@ module _ (F : Signs) where
       let same : after_check b vote own ≡ with_check b vote = ap (λ (r : Bool). if r then b else with_check b vote) (ap is_refused is ∙ kept) in
       subst (OfBoard F) same (after.near, after.far, subst (λ (l : List (Signed Check)). All F.check l) (sym (after_check-stays b vote own).proof) v.2)
 
-module _ {S : Type 0} (R : Rules S) (ok : S → Type 0) (law : Laws ok R) (F : Signs) (me : Party) (s : State S) (signer : s.sealer.me ≡ me) (v : OfState ok F s) where
+module _ {S : Type 0} (R : Rules S) (ok : S → Type 0) (F : Signs) (law : Laws ok R F) (me : Party) (s : State S) (signer : s.sealer.me ≡ me) (v : OfState ok F s) where
   abbrev On : Going S → Type 0
-  On g = Passes R ok law F me (Unit {0}) g
+  On g = Passes R ok F law me (Unit {0}) g
 
   abbrev Of : Outcome S → Type 0
-  Of o = IsOf R ok law F me o
+  Of o = IsOf R ok F law me o
 
   abbrev End : Attempt S → Type 0
-  End attempt = Ends R ok law F me (Unit {0}) attempt
+  End attempt = Ends R ok F law me (Unit {0}) attempt
 
   start : On (begin s)
   start acts = (tt, signer, v, tt)
@@ -182,32 +184,32 @@ module _ {S : Type 0} (R : Rules S) (ok : S → Type 0) (law : Laws ok R) (F : S
   refuses cause acts = (signer, v, tt)
 
   comes : (g : Going S) → On g → Of (ends Taken g)
-  comes g is = ended R ok law F me (Unit {0}) Taken g is
+  comes g is = ended R ok F law me (Unit {0}) Taken g is
 
   holds : (g : Going S) → On g → Of (ends Held g)
-  holds g is = ended R ok law F me (Unit {0}) Held g is
+  holds g is = ended R ok F law me (Unit {0}) Held g is
 
   -- ---- REQUEST
 
-  again : (signed : Signed Spec) (known : Known) (g : Going S) → IsShortKnown known → F.spec signed → On g → On (response_of s signed known g)
-  again signed known g short one is =
-      sends R ok law F me (Unit {0}) (to_clients signed.stmt) (Plain (frames.SpecResponse signed known.reply (option_map (λ (o : OrderFrame). o.order) (stored_in s.orders known.place.0)))) g
+  again : (client : ClientId) (signed : Signed Spec) (known : Known) (g : Going S) → IsToldOf F known → F.spec signed → On g → On (response_of s client signed known g)
+  again client signed known g short one is =
+      sends R ok F law me (Unit {0}) (One (Client client)) (Plain (frames.SpecResponse signed known.answers (option_map (λ (o : OrderFrame). o.order) (stored_in s.orders known.place.0)))) g
       (λ x state. (one, short, order_alone F (stored_in s.orders known.place.0) (stored F s.orders known.place.0 v.1))) is
 
-  responds_as : (said : Option (Signed Spec)) (spec : Spec) (known : Known) → IsShortKnown known → IfSome said F.spec → Of (respond_as R s said spec known)
-  responds_as (Some signed) spec known short one = comes (response_of s signed known (begin s)) (again signed known (begin s) short one start)
-  responds_as None spec known short none =
+  responds_as : (client : ClientId) (said : Option (Signed Spec)) (spec : Spec) (known : Known) → IsToldOf F known → IfSome said F.spec → Of (respond_as R s client said spec known)
+  responds_as client (Some signed) spec known short one = comes (response_of s client signed known (begin s)) (again client signed known (begin s) short one start)
+  responds_as client None spec known short none =
       by_test Of (nat_le 1 (signs_left s)) _ _
       (λ left.
       let signed : Signed Spec = sealed_spec s spec in
       let remark : Remark = record { body = bodies.Spec spec; stood = stood_of R s } in
-      let t : State S = with_own (spent s) signed in
+      let t : State S = with_own R (spent s) signed in
       let g : Going S = act (Says remark) (begin t) in
-      let said : Passes R ok law F me (F.spec signed) g =
-      says R ok law F me (Unit {0}) (F.spec signed) remark t (begin s) (λ x by w to_say.
-      let one : F.spec signed = to_say s.sealer by in (one, by, (w.0, w.1, w.2, w.3, one_more F.spec (is_beside spec) s.specs signed w.4 one, w.5, w.6, w.7, w.8))) start in
-      ended R ok law F me (F.spec signed) Taken (response_of s signed known g)
-      (sends R ok law F me (F.spec signed) (to_clients spec) (Plain (frames.SpecResponse signed known.reply (option_map (λ (o : OrderFrame). o.order) (stored_in s.orders known.place.0)))) g
+      let said : Passes R ok F law me (F.spec signed) g =
+      says R ok F law me (Unit {0}) (F.spec signed) remark t (begin s) (λ x by w to_say.
+      let one : F.spec signed = to_say s.sealer by in (one, by, (w.0, w.1, w.2, w.3, one_more F.spec (stays_beside R s.kept spec) s.specs signed w.4 one, w.5, w.6, w.7, w.8))) start in
+      ended R ok F law me (F.spec signed) Taken (response_of s client signed known g)
+      (sends R ok F law me (F.spec signed) (One (Client client)) (Plain (frames.SpecResponse signed known.answers (option_map (λ (o : OrderFrame). o.order) (stored_in s.orders known.place.0)))) g
       (λ one state. (one, short, order_alone F (stored_in s.orders known.place.0) (stored F s.orders known.place.0 v.1))) said))
       (λ none. refuses causes.KeySpent)
 
@@ -217,15 +219,15 @@ module _ {S : Type 0} (R : Rules S) (ok : S → Type 0) (law : Laws ok R) (F : S
       let remark : Remark = record { body = bodies.Order o.order.stmt; stood = stood_of R s } in
       let t : State S = record (spent s) { orders = with_order s.orders o } in
       let Y : Type 0 = F.order o.order in
-      knows R ok law F me Y (Unit {0}) (run R o (ordered R s ask)) (λ y state. tt)
-      (runs R ok law F me Y o (ordered R s ask) (λ y. y)
-      (sends R ok law F me Y Everyone (Plain (frames.Order o)) (act (Says remark) (begin t)) (λ y state. (y, heard))
-      (says R ok law F me (Unit {0}) Y remark t (begin s) (λ x by w to_say.
+      knows R ok F law me Y (Unit {0}) (run R o (ordered R s ask)) (λ y state. tt)
+      (runs R ok F law me Y o (ordered R s ask) (λ y. (y, law.alone ask heard))
+      (sends R ok F law me Y Everyone (Plain (frames.Order o)) (act (Says remark) (begin t)) (λ y state. (y, law.alone ask heard))
+      (says R ok F law me (Unit {0}) Y remark t (begin s) (λ x by w to_say.
       let one : F.order o.order = to_say s.sealer by in
-      (one, by, (w.0, kept_filled (OfOrder F) s.orders.slots (o.order.stmt.place.0 - s.orders.base - 1) (Some o) w.1 (one, heard), w.2, w.3, w.4, w.5, w.6, w.7, w.8))) start)))
+      (one, by, (w.0, kept_filled (OfOrder F) s.orders.slots (o.order.stmt.place.0 - s.orders.base - 1) (Some o) w.1 (one, law.alone ask heard), w.2, w.3, w.4, w.5, w.6, w.7, w.8))) start)))
 
-  tells_primary : (X : Type 0) (pending : Pending) (g : Going S) → (X → OfPending F pending) → Passes R ok law F me X g → Passes R ok law F me X (tell_primary s pending g)
-  tells_primary X pending g tells is = sends R ok law F me X (One (primary_of s.counts (own_view s))) (Plain (frames.ConfirmReq pending.confirm pending.ask)) g (λ x state. tells x) is
+  tells_primary : (X : Type 0) (pending : Pending) (g : Going S) → (X → OfPending F pending) → Passes R ok F law me X g → Passes R ok F law me X (tell_primary s pending g)
+  tells_primary X pending g tells is = sends R ok F law me X (One (primary_of s.counts (own_view s))) (Plain (frames.ConfirmReq pending.confirm pending.ask)) g (λ x state. tells x) is
 
   waits : (ask : Signed Ask) → F.ask ask → On (request_waits R s ask)
   waits ask heard =
@@ -234,9 +236,9 @@ module _ {S : Type 0} (R : Rules S) (ok : S → Type 0) (law : Laws ok R) (F : S
       let client : ClientId = (asking ask.by) in
       let t : State S = with_pending (spent s) client (Some pending) in
       let Y : Type 0 = OfPending F pending in
-      knows R ok law F me Y (Unit {0}) (request_waits R s ask) (λ y state. tt)
+      knows R ok F law me Y (Unit {0}) (request_waits R s ask) (λ y state. tt)
       (tells_primary Y pending (act (Says remark) (begin t)) (λ y. y)
-      (says R ok law F me (Unit {0}) Y remark t (begin s) (λ x by w to_say.
+      (says R ok F law me (Unit {0}) Y remark t (begin s) (λ x by w to_say.
       let one : OfPending F pending = (to_say s.sealer by, heard) in
       (one, by, (w.0, w.1, w.2, w.3, w.4, filled (OfPending F) s.pending client.0 pending w.5 one, w.6, w.7, w.8))) start))
 
@@ -257,24 +259,24 @@ module _ {S : Type 0} (R : Rules S) (ok : S → Type 0) (law : Laws ok R) (F : S
       (λ full. refuses (causes.WindowFull (record { 0 = window_of s }))))
       (λ backup. at_backup ask (pending_of s (asking ask.by)) heard (slot_at (OfPending F) s.pending (asking ask.by).0 v.5))
 
-  after : (ask : Signed Ask) (known : Option Known) → IfSome known IsShortKnown → F.ask ask → Of (request_after R s ask known)
+  after : (ask : Signed Ask) (known : Option Known) → IfSome known (IsToldOf F) → F.ask ask → Of (request_after R s ask known)
   after ask None short heard = new_one ask heard
   after ask (Some known) short heard =
-      let spec : Spec = spec_of (own_view s) (entry_of ask) known in
+      let spec : Spec = spec_of (own_view s) known in
       by_test Of (nat_lt ask.stmt.stamp.0 known.stamp.0) _ _ (λ old. refuses causes.OldStamp)
       (λ from_it. by_test Of (nat_eq ask.stmt.stamp.0 known.stamp.0) _ _
-      (λ same. responds_as (spec_said s spec) spec known short (found F.spec (λ one. same_spec one.stmt spec) s.specs v.4))
+      (λ same. responds_as (asking ask.by) (spec_said s spec) spec known short (found F.spec (λ one. same_spec one.stmt spec) s.specs v.4))
       (λ newer. new_one ask heard))
 
   requests : (ask : Signed Ask) → F.ask ask → Of (request R s ask)
   unfolding request
   requests ask heard =
       by_test Of (is_leaving s) _ _ (λ leaves. refuses causes.NotActive)
-      (λ stays. by_test Of (is_behind ask (pending_of s (asking ask.by))) _ _ (λ old. refuses causes.OldStamp) (λ newer. after ask (known_in R s.kept (asking ask.by).0) (known_short R ok law s.kept (asking ask.by).0 v.8.1) heard))
+      (λ stays. by_test Of (is_behind ask (pending_of s (asking ask.by))) _ _ (λ old. refuses causes.OldStamp) (λ newer. after ask (known_in R s.kept (asking ask.by).0) (known_told R ok F law s.kept (asking ask.by).0 v.8.1) heard))
 
   by_again : (by : Party) (kept : Option OrderFrame) → IfSome kept (OfOrder F) → Of (order_again s by kept)
   by_again by None none = refuses causes.OldPlace
-  by_again by (Some o) one = comes (send_any (One by) (Plain (frames.Order o)) (begin s)) (sends R ok law F me (Unit {0}) (One by) (Plain (frames.Order o)) (begin s) (λ x state. one) start)
+  by_again by (Some o) one = comes (send_any (One by) (Plain (frames.Order o)) (begin s)) (sends R ok F law me (Unit {0}) (One by) (Plain (frames.Order o)) (begin s) (λ x state. one) start)
 
   confirm_known : (by : Party) (ask : Signed Ask) (known : Option Known) → F.ask ask → Of (confirm_after R s by ask known)
   confirm_known by ask None heard = requests ask heard
@@ -299,17 +301,17 @@ module _ {S : Type 0} (R : Rules S) (ok : S → Type 0) (law : Laws ok R) (F : S
       let remark : Remark = record { body = bodies.Hole (hole_of t); stood = stood_of R t } in
       let u : State S = record (spent t) { hole = Some signed } in
       let Y : Type 0 = F.hole signed in
-      knows R ok law F me Y (Unit {0}) (ask_for_missing R t) (λ y state. tt)
-      (sends R ok law F me Y (One (primary_of t.counts (own_view t))) (Plain (frames.FillHole signed)) (act (Says remark) (begin u)) (λ y state. y)
-      (says R ok law F me (Unit {0}) Y remark u (begin t) (λ x by' w' to_say.
+      knows R ok F law me Y (Unit {0}) (ask_for_missing R t) (λ y state. tt)
+      (sends R ok F law me Y (One (primary_of t.counts (own_view t))) (Plain (frames.FillHole signed)) (act (Says remark) (begin u)) (λ y state. y)
+      (says R ok F law me (Unit {0}) Y remark u (begin t) (λ x by' w' to_say.
       let one : F.hole signed = to_say t.sealer by' in (one, by', (w'.0, w'.1, w'.2, one, w'.4, w'.5, w'.6, w'.7, w'.8))) (begins_at t by w)))
 
   orders_as : (o : OrderFrame) (a : Admit) → OfOrder F o → Of (order_as R s o a)
   orders_as o admits.Next heard =
       let t : State S = record s { orders = with_order s.orders o; hole = None } in
       let w = with_held o heard in
-      by_test Of (nat_le (signs_of R s (ordered_entry o)) (signs_left s)) _ _
-      (λ left. comes (run R o (begin t)) (runs R ok law F me (Unit {0}) o (begin t) (λ x. heard.0) (begins_at t signer (w.0, w.1, w.2, tt, w.4, w.5, w.6, w.7, w.8)))) (λ none. refuses causes.KeySpent)
+      by_test Of (nat_le (signs_of R s (entry_in o)) (signs_left s)) _ _
+      (λ left. comes (run R o (begin t)) (runs R ok F law me (Unit {0}) o (begin t) (λ x. heard) (begins_at t signer (w.0, w.1, w.2, tt, w.4, w.5, w.6, w.7, w.8)))) (λ none. refuses causes.KeySpent)
   orders_as o admits.Held heard =
       let t : State S = record s { orders = with_order s.orders o } in
       by_test Of (owes_hole s) _ _
@@ -321,15 +323,15 @@ module _ {S : Type 0} (R : Rules S) (ok : S → Type 0) (law : Laws ok R) (F : S
   -- ---- COMMIT, FILL-HOLE
 
   gives_local : (client : ClientId) (local : Local) (said : Option (Signed Local)) (t : State S) → t.sealer.me ≡ me → OfState ok F t → IfSome said F.local → On (give_local R client local said t)
-  gives_local client local (Some said) t by w one = sends R ok law F me (Unit {0}) (One (Client client)) (Plain (frames.LocalCommit said)) (begin t) (λ x state. one) (begins_at t by w)
+  gives_local client local (Some said) t by w one = sends R ok F law me (Unit {0}) (One (Client client)) (Plain (frames.LocalCommit said)) (begin t) (λ x state. one) (begins_at t by w)
   gives_local client local None t by w none =
       let signed : Signed Local = sealed_by numbers.local local_fields t.sealer local in
       let remark : Remark = record { body = bodies.Local local; stood = stood_of R t } in
       let u : State S = record (spent t) { locals = t.locals ++ signed ∷ [] } in
       let Y : Type 0 = F.local signed in
-      knows R ok law F me Y (Unit {0}) (give_local R client local None t) (λ y state. tt)
-      (sends R ok law F me Y (One (Client client)) (Plain (frames.LocalCommit signed)) (act (Says remark) (begin u)) (λ y state. y)
-      (says R ok law F me (Unit {0}) Y remark u (begin t) (λ x by' w' to_say.
+      knows R ok F law me Y (Unit {0}) (give_local R client local None t) (λ y state. tt)
+      (sends R ok F law me Y (One (Client client)) (Plain (frames.LocalCommit signed)) (act (Says remark) (begin u)) (λ y state. y)
+      (says R ok F law me (Unit {0}) Y remark u (begin t) (λ x by' w' to_say.
       let one : F.local signed = to_say t.sealer by' in (one, by', (w'.0, w'.1, w'.2, w'.3, w'.4, w'.5, all_of_both F.local t.locals (signed ∷ []) w'.6 (one, tt), w'.7, w'.8))) (begins_at t by w)))
 
   commits_beside : (specs : List (Signed Spec)) (client : ClientId) (local : Local) (own : Option Digest) → All F.spec specs → Of (commit_beside R s specs client local own)
@@ -341,8 +343,8 @@ module _ {S : Type 0} (R : Rules S) (ok : S → Type 0) (law : Laws ok R) (F : S
       by_test Of (same_digest own local.head) _ _
       (λ same. by_test Of (nat_le (locals_owed said + checks_owed t (own_at R s local.place.0) true) (signs_left s)) _ _
       (λ left. comes (gather_at R (own_at R s local.place.0) true (give_local R client local said t))
-      (gathers_at R ok law F me (Unit {0}) (own_at R s local.place.0) true (give_local R client local said t)
-      (gives_local client local said t by (certified R ok law F me s local.place specs v heard) (found F.local (λ one. same_local one.stmt local) s.locals v.6))))
+      (gathers_at R ok F law me (Unit {0}) (own_at R s local.place.0) true (give_local R client local said t)
+      (gives_local client local said t by (certified R ok F law me s local.place specs v heard) (found F.local (λ one. same_local one.stmt local) s.locals v.6))))
       (λ none. refuses causes.KeySpent))
       (λ other. refuses (causes.OtherHistory own local.head))
 
@@ -350,12 +352,12 @@ module _ {S : Type 0} (R : Rules S) (ok : S → Type 0) (law : Laws ok R) (F : S
   commits_judged specs client (Err cause) heard = refuses cause
   commits_judged specs client (Ok point) heard = commits_beside specs client (local_at point) (head_in (stretch_of s.kept) point.1.0) heard
 
-  commits : (first : Spec) (specs : List (Signed Spec)) → All F.spec specs → Of (commit R s first specs)
+  commits : (client : ClientId) (first : Spec) (specs : List (Signed Spec)) → All F.spec specs → Of (commit R s client first specs)
   unfolding commit
-  commits first specs heard =
+  commits client first specs heard =
       by_test Of (nat_lt first.place.0 s.orders.base) _ _ (λ old. refuses causes.OldPlace)
       (λ above. by_test Of (nat_lt (last_place s.kept) first.place.0) _ _ (λ behind. refuses (causes.Behind first.place))
-      (λ within. commits_judged specs first.client (certified_in same_spec point_of_spec s.counts.cert specs) heard))
+      (λ within. commits_judged specs client (certified_in same_spec point_of_spec s.counts.cert specs) heard))
 
   fills_with : (hole : Signed Hole) (list : List OrderFrame) → AllByRecursion (OfOrder F) list → Of (fill_with s hole list)
   fills_with hole [] all = by_test Of (nat_le hole.stmt.to.0 (last_place s.kept)) _ _ (λ old. refuses causes.OldPlace) (λ behind. refuses (causes.Behind hole.stmt.to))
@@ -380,7 +382,7 @@ module _ {S : Type 0} (R : Rules S) (ok : S → Type 0) (law : Laws ok R) (F : S
   keeps_as own (answers.Kept number) board tells =
       by_test Of (nat_le (checks_owed (with_board s board) own false) (signs_left s)) _ _
       (λ left. comes (gather_at R own false (begin (with_board s board)))
-      (gathers_at R ok law F me (Unit {0}) own false (begin (with_board s board)) (begins_at (with_board s board) signer (v.0, v.1, tells refl, v.3, v.4, v.5, v.6, v.7, v.8)))) (λ none. refuses causes.KeySpent)
+      (gathers_at R ok F law me (Unit {0}) own false (begin (with_board s board)) (begins_at (with_board s board) signer (v.0, v.1, tells refl, v.3, v.4, v.5, v.6, v.7, v.8)))) (λ none. refuses causes.KeySpent)
   keeps_as own (answers.Refused cause) board tells = refuses cause
 
   response_kept : (vote : Signed Spec) → F.spec vote → Of (response R s vote)
@@ -401,19 +403,19 @@ module _ {S : Type 0} (R : Rules S) (ok : S → Type 0) (law : Laws ok R) (F : S
 
   concludes : (attempt : Attempt S) → End attempt → Of (concluded s attempt)
   concludes (Err cause) is = refuses cause
-  concludes (Ok end) is = by_test Of (is_overspent end.1.state.sealer) _ _ (λ over. refuses causes.KeySpent) (λ fits. ended R ok law F me (Unit {0}) end.0 end.1 is)
+  concludes (Ok end) is = by_test Of (is_overspent end.1.state.sealer) _ _ (λ over. refuses causes.KeySpent) (λ fits. ended R ok F law me (Unit {0}) end.0 end.1 is)
 
   finishes : (attempt : Attempt S) → End attempt → Of (finished R s attempt)
-  finishes attempt is = concludes (begun R attempt) (begun_on R ok law F me (Unit {0}) attempt is)
+  finishes attempt is = concludes (begun R attempt) (begun_on R ok F law me (Unit {0}) attempt is)
 
   -- ---- hates, and two orders of a primary
 
   hated : (g : Going S) → On g → End (hate_counted R g)
-  hated g is = by_test End (hated_by_many g.state.views) _ _ (λ many. leaves R ok law F me (Unit {0}) (next_view g.state.views) g is) (λ few. is)
+  hated g is = by_test End (hated_by_many g.state.views) _ _ (λ many. leaves R ok F law me (Unit {0}) (next_view g.state.views) g is) (λ few. is)
 
-  with_hate_by : (id : ReplicaId) (g : Going S) → Passes R ok law F me (HateOf F id g.state.views) g → On (with_hate_of (Replica id) g)
+  with_hate_by : (id : ReplicaId) (g : Going S) → Passes R ok F law me (HateOf F id g.state.views) g → On (with_hate_of (Replica id) g)
   with_hate_by id g is =
-      turns R ok law F me (HateOf F id g.state.views) (Unit {0}) (with_hate_of (Replica id) g).state g
+      turns R ok F law me (HateOf F id g.state.views) (Unit {0}) (with_hate_of (Replica id) g).state g
       (λ one by w. let x = w.0 in (tt, by, ((x.0, x.1, x.2, x.3, x.4, x.5, counted F g.state.views id one x.6), w.1, w.2, w.3, w.4, w.5, w.6, w.7, w.8))) is
 
   hates_by : (by : Party) (vote : Signed Hate) → is_replica by ≡ true → vote.by ≡ by → F.hate vote → End (hate_of R s by vote.stmt.view)
@@ -436,40 +438,40 @@ module _ {S : Type 0} (R : Rules S) (ok : S → Type 0) (law : Laws ok R) (F : S
   abbrev IsOwn : Going S → Signed Hate → Type 0
   IsOwn g hate = OfHateBy F (Replica g.state.me) hate × (hate.stmt.view.0 ≡ own_view g.state)
 
-  says_hate : (said : Option (Signed Hate)) (g : Going S) → Passes R ok law F me (IfSome said (IsOwn g)) g → Passes R ok law F me (HateOf F (say_hate R said g).state.me (say_hate R said g).state.views) (say_hate R said g)
+  says_hate : (said : Option (Signed Hate)) (g : Going S) → Passes R ok F law me (IfSome said (IsOwn g)) g → Passes R ok F law me (HateOf F (say_hate R said g).state.me (say_hate R said g).state.views) (say_hate R said g)
   says_hate (Some said) g known =
       let sent : Going S = say_hate R (Some said) g in
-      knows R ok law F me (IsOwn g said) (HateOf F g.state.me g.state.views) sent (λ own state. (said, own.0, own.1)) (sends R ok law F me (IsOwn g said) Everyone (Plain (frames.Hate said)) g (λ own state. own.0.1) known)
+      knows R ok F law me (IsOwn g said) (HateOf F g.state.me g.state.views) sent (λ own state. (said, own.0, own.1)) (sends R ok F law me (IsOwn g said) Everyone (Plain (frames.Hate said)) g (λ own state. own.0.1) known)
   says_hate None g known =
       let said : Signed Hate = sealed_by numbers.hate hate_fields g.state.sealer (hate_now g.state) in
       let remark : Remark = record { body = bodies.Hate said.stmt; stood = stood_of R g.state } in
       let t : State S = record (spent g.state) { hate = Some said } in
       let Y : Type 0 = IsOwn g said in
-      knows R ok law F me Y (HateOf F g.state.me g.state.views) (say_hate R None g) (λ own state. (said, own.0, own.1))
-      (sends R ok law F me Y Everyone (Plain (frames.Hate said)) (act (Says remark) (record g { state = t })) (λ own state. own.0.1)
-      (says R ok law F me (IfSome None (IsOwn g)) Y remark t g (λ x by w to_say.
+      knows R ok F law me Y (HateOf F g.state.me g.state.views) (say_hate R None g) (λ own state. (said, own.0, own.1))
+      (sends R ok F law me Y Everyone (Plain (frames.Hate said)) (act (Says remark) (record g { state = t })) (λ own state. own.0.1)
+      (says R ok F law me (IfSome None (IsOwn g)) Y remark t g (λ x by w to_say.
       let one : OfHateBy F (Replica g.state.me) said = (w.8.2, to_say g.state.sealer by) in ((one, refl), by, (w.0, w.1, w.2, w.3, w.4, w.5, w.6, one, w.8))) known))
 
-  counts_own : (g : Going S) → Passes R ok law F me (HateOf F g.state.me g.state.views) g → End (count_own R g)
+  counts_own : (g : Going S) → Passes R ok F law me (HateOf F g.state.me g.state.views) g → End (count_own R g)
   counts_own g is =
-      by_test End (is_hated_by g.state.views (Replica g.state.me)) _ _ (λ already. knows R ok law F me (HateOf F g.state.me g.state.views) (Unit {0}) g (λ own state. tt) is)
+      by_test End (is_hated_by g.state.views (Replica g.state.me)) _ _ (λ already. knows R ok F law me (HateOf F g.state.me g.state.views) (Unit {0}) g (λ own state. tt) is)
       (λ new. hated (with_hate_of (Replica g.state.me) g) (with_hate_by g.state.me g is))
 
   hates_from : (g : Going S) → On g → End (hate_from R g)
   unfolding hate_from
   hates_from g is =
       counts_own (say_hate R (own_hate g.state) g) (says_hate (own_hate g.state) g
-      (knows R ok law F me (Unit {0}) (IfSome (own_hate g.state) (IsOwn g)) g (λ x w. hate_of_view F (Replica g.state.me) (own_view g.state) g.state.hate w.7) is))
+      (knows R ok F law me (Unit {0}) (IfSome (own_hate g.state) (IsOwn g)) g (λ x w. hate_of_view F (Replica g.state.me) (own_view g.state) g.state.hate w.7) is))
 
-  asks_hole : (mode : Mode) (hole : Option (Signed Hole)) (g : Going S) → Passes R ok law F me (IfSome hole F.hole) g → On (ask_for_hole mode hole g)
+  asks_hole : (mode : Mode) (hole : Option (Signed Hole)) (g : Going S) → Passes R ok F law me (IfSome hole F.hole) g → On (ask_for_hole mode hole g)
   asks_hole (Active view) (Some hole) g is =
-      knows R ok law F me (F.hole hole) (Unit {0}) (ask_for_hole (Active view) (Some hole) g) (λ x state. tt) (sends R ok law F me (F.hole hole) Everyone (Plain (frames.FillHole hole)) g (λ x state. x) is)
-  asks_hole (Active view) None g is = knows R ok law F me (Unit {0}) (Unit {0}) g (λ x state. tt) is
-  asks_hole (Leaving view) hole g is = knows R ok law F me (IfSome hole F.hole) (Unit {0}) g (λ x state. tt) is
+      knows R ok F law me (F.hole hole) (Unit {0}) (ask_for_hole (Active view) (Some hole) g) (λ x state. tt) (sends R ok F law me (F.hole hole) Everyone (Plain (frames.FillHole hole)) g (λ x state. x) is)
+  asks_hole (Active view) None g is = knows R ok F law me (Unit {0}) (Unit {0}) g (λ x state. tt) is
+  asks_hole (Leaving view) hole g is = knows R ok F law me (IfSome hole F.hole) (Unit {0}) g (λ x state. tt) is
 
   asks_then : (attempt : Attempt S) → End attempt → End (then_ask attempt)
   asks_then (Err cause) is = tt
-  asks_then (Ok end) is = asks_hole end.1.state.views.mode end.1.state.hole end.1 (knows R ok law F me (Unit {0}) (IfSome end.1.state.hole F.hole) end.1 (λ x w. w.3) is)
+  asks_then (Ok end) is = asks_hole end.1.state.views.mode end.1.state.hole end.1 (knows R ok F law me (Unit {0}) (IfSome end.1.state.hole F.hole) end.1 (λ x w. w.3) is)
 
   request_timer : (mode : Mode) → End (on_request_timer R s mode)
   request_timer (Active view) = asks_then _ (by_test End (has_pending s) _ _ (λ waits. hates_from (begin s) start) (λ none. start))
@@ -481,7 +483,7 @@ module _ {S : Type 0} (R : Rules S) (ok : S → Type 0) (law : Laws ok R) (F : S
 
   sends_change : (o : Option (Signed Change)) → IfSome o (OfChange F) → On (change_again o (begin s))
   sends_change None is = start
-  sends_change (Some c) is = sends R ok law F me (Unit {0}) Everyone (Framed (view_frames.ViewChange c)) (begin s) (λ x state. is) start
+  sends_change (Some c) is = sends R ok F law me (Unit {0}) Everyone (Framed (view_frames.ViewChange c)) (begin s) (λ x state. is) start
 
   change_timer : (mode : Mode) → End (on_change_timer R s mode)
   change_timer (Active view) = start
@@ -491,7 +493,7 @@ module _ {S : Type 0} (R : Rules S) (ok : S → Type 0) (law : Laws ok R) (F : S
 
   blames : (view : Result View Cause) → End (blamed R s view)
   blames (Err cause) = tt
-  blames (Ok view) = leaves R ok law F me (Unit {0}) (next_view s.views) (begin s) start
+  blames (Ok view) = leaves R ok F law me (Unit {0}) (next_view s.views) (begin s) start
 
   misbehaves : (first second : Signed Order) → End (pom R s first second)
   unfolding pom
@@ -501,14 +503,14 @@ module _ {S : Type 0} (R : Rules S) (ok : S → Type 0) (law : Laws ok R) (F : S
   tells_all : (order : Signed Order) (kept : Option OrderFrame) → F.order order → IfSome kept (OfOrder F) → End (tell_all R s order kept)
   tells_all order None heard none = tt
   tells_all order (Some kept) heard one =
-      leaves R ok law F me (Unit {0}) (next_view s.views) (send_any Everyone (Plain (frames.Pom kept.order order)) (begin s))
-      (sends R ok law F me (Unit {0}) Everyone (Plain (frames.Pom kept.order order)) (begin s) (λ x state. (one.0, heard)) start)
+      leaves R ok F law me (Unit {0}) (next_view s.views) (send_any Everyone (Plain (frames.Pom kept.order order)) (begin s))
+      (sends R ok F law me (Unit {0}) Everyone (Plain (frames.Pom kept.order order)) (begin s) (λ x state. (one.0, heard)) start)
 
   -- ---- changes of view
 
   sends_cert : (by : Party) (cert : Option ViewCert) → IfSome cert (OfCert F) → On (send_cert by cert (begin s))
   sends_cert by None none = start
-  sends_cert by (Some cert) one = sends R ok law F me (Unit {0}) (One by) (Framed (view_frames.ViewCert cert)) (begin s) (λ x state. one) start
+  sends_cert by (Some cert) one = sends R ok F law me (Unit {0}) (One by) (Framed (view_frames.ViewCert cert)) (begin s) (λ x state. one) start
 
   with_report : (vote : Signed Change) → OfChange F vote → On (begin (record s { views = with_change vote s.views }))
   with_report vote heard =
@@ -519,8 +521,8 @@ module _ {S : Type 0} (R : Rules S) (ok : S → Type 0) (law : Laws ok R) (F : S
   change_by vote (Some rule) heard = tt
   change_by vote None heard =
       let g : Going S = begin (record s { views = with_change vote s.views }) in
-      by_test End (is_left_behind g.state.views) _ _ (λ behind. leaves R ok law F me (Unit {0}) (least_above g.state.views) g (with_report vote heard))
-      (λ level. by_test End (nat_eq vote.stmt.view.0 (own_view g.state)) _ _ (λ own. collects R ok law F me (Unit {0}) vote.stmt.view g (with_report vote heard)) (λ other. with_report vote heard))
+      by_test End (is_left_behind g.state.views) _ _ (λ behind. leaves R ok F law me (Unit {0}) (least_above g.state.views) g (with_report vote heard))
+      (λ level. by_test End (nat_eq vote.stmt.view.0 (own_view g.state)) _ _ (λ own. collects R ok F law me (Unit {0}) vote.stmt.view g (with_report vote heard)) (λ other. with_report vote heard))
 
   changes : (vote : Signed Change) → OfChange F vote → End (change R s vote)
   unfolding change
@@ -532,7 +534,7 @@ module _ {S : Type 0} (R : Rules S) (ok : S → Type 0) (law : Laws ok R) (F : S
   new_by : (new : Signed New) (chosen : Result Chosen Cause) → OfNew F new → End (new_view_judged R s new chosen)
   new_by new (Err cause) heard = tt
   new_by new (Ok chosen) heard =
-      accepts R ok law F me (Unit {0}) (record { new = new; chosen = chosen }) (arrive R new.stmt.view (begin s)) (λ x. heard) (arrives R ok law F me (Unit {0}) new.stmt.view (begin s) start)
+      accepts R ok F law me (Unit {0}) (record { new = new; chosen = chosen }) (arrive R new.stmt.view (begin s)) (λ x. heard) (arrives R ok F law me (Unit {0}) new.stmt.view (begin s) start)
 
   news : (new : Signed New) → OfNew F new → End (new_view R s new)
   unfolding new_view
@@ -549,7 +551,7 @@ module _ {S : Type 0} (R : Rules S) (ok : S → Type 0) (law : Laws ok R) (F : S
   beside vote own heard =
       let g : Going S = begin (with_confirmation vote s) in
       by_test End (not (digests_alike own.head vote.stmt.head)) _ _ (λ other. tt)
-      (λ alike. by_test End (same_began vote.stmt own) _ _ (λ same. certifies_with R ok law F me (Unit {0}) g.state.views.accepted Taken g refl (with_vote vote heard)) (λ differs. tt))
+      (λ alike. by_test End (same_began vote.stmt own) _ _ (λ same. certifies_with R ok F law me (Unit {0}) g.state.views.accepted Taken g refl (with_vote vote heard)) (λ differs. tt))
 
   confirmation_by : (vote : Signed Began) (accepted : Option Accepted) → F.began vote → End (confirmation_judged R s vote accepted)
   confirmation_by vote None heard = with_vote vote heard
@@ -564,7 +566,7 @@ module _ {S : Type 0} (R : Rules S) (ok : S → Type 0) (law : Laws ok R) (F : S
   compares : (cert : ViewCert) (chosen : Chosen) (point : Result (View × Place × Digest) Cause) → OfCert F cert → End (certificate_compared R s cert chosen point)
   compares cert chosen (Err cause) heard = tt
   compares cert chosen (Ok point) heard =
-      by_test End (is_certified_at (cert.new.stmt.view, chosen.place, chosen.head) (Ok point)) _ _ (λ same. adopts R ok law F me (Unit {0}) cert chosen (begin s) (λ x. heard) start) (λ other. tt)
+      by_test End (is_certified_at (cert.new.stmt.view, chosen.place, chosen.head) (Ok point)) _ _ (λ same. adopts R ok F law me (Unit {0}) cert chosen (begin s) (λ x. heard) start) (λ other. tt)
 
   certificate_by : (cert : ViewCert) (chosen : Result Chosen Cause) → OfCert F cert → End (certificate_judged R s cert chosen)
   certificate_by cert (Err cause) heard = tt
@@ -577,7 +579,7 @@ module _ {S : Type 0} (R : Rules S) (ok : S → Type 0) (law : Laws ok R) (F : S
 
   fetched : (vote : Signed Fetch) (against : Option Cause) → End (fetch_judged R s vote against)
   fetched vote (Some cause) = tt
-  fetched vote None = sends R ok law F me (Unit {0}) (One vote.by) (Framed (view_frames.State vote.stmt.place (snapshot_of R s.kept.base))) (begin s) (λ x state. tt) start
+  fetched vote None = sends R ok F law me (Unit {0}) (One vote.by) (Framed (view_frames.State vote.stmt.place (snapshot_of R s.kept.base))) (begin s) (λ x state. tt) start
 
   fetches : (vote : Signed Fetch) → End (fetch R s vote)
   unfolding fetch
@@ -587,7 +589,7 @@ module _ {S : Type 0} (R : Rules S) (ok : S → Type 0) (law : Laws ok R) (F : S
   installs x t bytes None shows cert checks = tt
   installs x t bytes (Some point) shows cert checks =
       let u : State S = record s { kept = record { interval = s.kept.interval; base = point; entries = [] } } in
-      adopts R ok law F me (Unit {0}) x.cert x.chosen (begin (installed R point t s)) (λ y. cert) (begins_at (installed R point t s) signer (settled_of R ok law F me u point.place t.checks (v.0, v.1, v.2, v.3, v.4, v.5, v.6, v.7, (v.8.0, shown_short R ok law t.stable_place t.stable_head bytes point shows, v.8.2)) checks))
+      adopts R ok F law me (Unit {0}) x.cert x.chosen (begin (installed R point t s)) (λ y. cert) (begins_at (installed R point t s) signer (settled_of R ok F law me u point.place t.checks (v.0, v.1, v.2, v.3, v.4, v.5, v.6, v.7, (v.8.0, (shown_of R ok F law t.stable_place t.stable_head bytes point shows, tt), v.8.2)) checks))
 
   state_by : (x : Waiting) (t : Told) (bytes : List ℕ) (against : Option Cause) → OfCert F x.cert → All F.check t.checks → End (state_judged R s x t bytes against)
   state_by x t bytes (Some cause) cert checks = tt
@@ -619,15 +621,15 @@ module _ {S : Type 0} (R : Rules S) (ok : S → Type 0) (law : Laws ok R) (F : S
   order_by o admits.Held heard = orders_as o admits.Held heard
   order_by o (admits.Refused cause) heard = orders_as o (admits.Refused cause) heard
 
-  in_view : (specs : List (Signed Spec)) → All F.spec specs → Of (commit_in_view R s specs)
-  in_view [] heard = refuses (causes.TooFew 0)
-  in_view (first ∷ others) heard = under (view_cause s first.stmt.view.0) _ (λ own. commits first.stmt (first ∷ others) heard)
+  in_view : (client : ClientId) (specs : List (Signed Spec)) → All F.spec specs → Of (commit_in_view R s client specs)
+  in_view client [] heard = refuses (causes.TooFew 0)
+  in_view client (first ∷ others) heard = under (view_cause s first.stmt.view.0) _ (λ own. commits client first.stmt (first ∷ others) heard)
 
   plain_of : (frame : Frame) → in_role s frame ≡ true → OfFrame F frame → Of (plain_row R s frame)
   plain_of (frames.Request ask) role heard = requests ask heard
-  plain_of (frames.Order both) role heard = under (view_cause s both.order.stmt.view.0) _ (λ own. order_by both (judge_in s.orders both.order.stmt (ordered_entry both) (position_of R s both)) heard)
-  plain_of (frames.SpecResponse spec reply with_order) role heard = under (view_cause s spec.stmt.view.0) _ (λ own. response_kept spec heard.0)
-  plain_of (frames.Commit specs) role heard = in_view specs heard.each
+  plain_of (frames.Order both) role heard = under (view_cause s both.order.stmt.view.0) _ (λ own. order_by both (judge_in s.orders both.order.stmt (entry_in both) (position_of R s both)) heard)
+  plain_of (frames.SpecResponse spec answers with_order) role heard = under (view_cause s spec.stmt.view.0) _ (λ own. response_kept spec heard.0)
+  plain_of (frames.Commit client specs) role heard = in_view client specs heard.each
   plain_of (frames.LocalCommit local) role heard = refuses causes.WrongRole
   plain_of (frames.ConfirmReq confirmed ask) role heard = under (view_cause s confirmed.stmt.view.0) _ (λ own. confirms_one confirmed ask heard.1)
   plain_of (frames.FillHole hole) role heard = under (view_cause s hole.stmt.view.0) _ (λ own. fills hole)
@@ -645,15 +647,15 @@ module _ {S : Type 0} (R : Rules S) (ok : S → Type 0) (law : Laws ok R) (F : S
 
   -- ---- events
 
-  view_read : (read : Result ViewFrame FrameFault) → ((frame : ViewFrame) → read ≡ Ok frame → screen s.keys (view_parts.parts_of frame) ≡ None → OfViewFrame F frame) → Of (view_decoded R s read)
+  view_read : (read : Result ViewFrame FrameFault) → ((frame : ViewFrame) → read ≡ Ok frame → screen s.keys None (view_parts.parts_of frame) ≡ None → OfViewFrame F frame) → Of (view_decoded R s read)
   view_read (Err fault) heard = refuses (causes.NotFrame fault)
   view_read (Ok frame) heard =
-      under (screen s.keys (view_parts.parts_of frame)) (hear_view R s frame)
+      under (screen s.keys None (view_parts.parts_of frame)) (hear_view R s frame)
       (λ clear. by_test Of (is_view_frame_in_role s.counts frame) _ _ (λ role. view_of frame (heard frame refl clear)) (λ wrong. refuses causes.WrongRole))
 
   read_as : (bytes : List ℕ) (read : Result Frame FrameFault) → plain.frame_in bytes ≡ read → OfVerified F s.keys (Heard bytes) → Of (decoded_as R s bytes read)
   read_as bytes (Ok frame) is heard =
-      under (screen s.keys (plain.parts_of frame)) (hear_plain R s frame) (λ clear. by_test Of (in_role s frame) _ _ (λ role. plain_of frame role (heard.0 frame is clear)) (λ wrong. refuses causes.WrongRole))
+      under (screen s.keys (plain.named_in frame) (plain.parts_of frame)) (hear_plain R s frame) (λ clear. by_test Of (in_role s frame) _ _ (λ role. plain_of frame role (heard.0 frame is clear)) (λ wrong. refuses causes.WrongRole))
   read_as bytes (Err faults.Kind) is heard = view_read (views.frame_in bytes) (λ frame read clear. heard.1 frame is read clear)
   read_as bytes (Err faults.Short) is heard = refuses (causes.NotFrame faults.Short)
   read_as bytes (Err faults.Version) is heard = refuses (causes.NotFrame faults.Version)

@@ -1,4 +1,4 @@
--- What a snapshot shows has short replies, and a state that a machine may have.
+-- What a snapshot shows has answers in range, and a state that a machine may have.
 use Rattle.std.proofs.Common.{◌≡◌, ℕ, Bool, true, false, List, [], ◌∷◌, replicate, Option, Some, None, Result, Ok, Err, refl, subst}
 use Rattle.std.specs.Int.{w16, w32}
 use Rattle.std.specs.List.{AllByRecursion}
@@ -20,46 +20,49 @@ use Rattle.zy_wire.specs.Spelling.{ended, pair, whole, word}
 use Rattle.zy_law_steps.proofs.Decoded.{Gives, all_give, list_gives, made_gives, pair_gives, sized_gives}
 use Rattle.zy_law_steps.proofs.Passing.{IsShortKnown, Laws, empty_slots}
 use Rattle.zy_law_steps.proofs.Slots.{AreKept, filled}
-use Rattle.zy_law_steps.specs.Signs.{IsShort}
 use Rattle.zy_chain.specs.Answers.{answers_fields}
 use Rattle.zy_chain.specs.Sizes.{greatest_state}
 
-row_gives : Gives row_fields.at (λ r. IsShortKnown r.known)
+answers_give : Gives answers_fields.at FitsAnswers
+answers_give bytes x rest read = answers-in_range x (answers-exact.XX)
+
+row_gives : Gives row_fields.at (λ r. FitsAnswers r.known.answers)
 unfolding row_fields
 row_gives =
-    made_gives _ (pair (word w32) (pair (u62 0) (pair (u62 1) (pair digest answers_fields)))) _ (λ r. IsShortKnown r.known)
+    made_gives _ (pair (word w32) (pair (u62 0) (pair (u62 1) (pair digest answers_fields)))) _ (λ r. FitsAnswers r.known.answers)
     (pair_gives (word w32) (pair (u62 0) (pair (u62 1) (pair digest answers_fields))) _ _ (all_give (word w32).at)
     (pair_gives (u62 0) (pair (u62 1) (pair digest answers_fields)) _ _ (all_give (u62 0).at)
     (pair_gives (u62 1) (pair digest answers_fields) _ _ (all_give (u62 1).at)
-    (pair_gives digest answers_fields _ _ (all_give digest.at) (sized_gives w16 1100)))))
-    (λ x short. short.1.1.1.1)
+    (pair_gives digest answers_fields _ _ (all_give digest.at) answers_give))))
+    (λ x fits. fits.1.1.1.1)
 
-snapshot_gives : Gives snapshot_fields.at (λ parts. AllByRecursion (λ r. IsShortKnown r.known) parts.0)
+snapshot_gives : Gives snapshot_fields.at (λ parts. AllByRecursion (λ r. FitsAnswers r.known.answers) parts.0)
 unfolding snapshot_fields
 snapshot_gives bytes x rest e =
-    (pair_gives (list 0 64 row_fields) (bytes32 greatest_state) (AllByRecursion (λ r. IsShortKnown r.known)) (λ x. Unit {0}) (list_gives row_fields _ row_gives 0 64) (all_give (bytes32 greatest_state).at) bytes x rest e).0
+    (pair_gives (list 0 64 row_fields) (bytes32 greatest_state) (AllByRecursion (λ r. FitsAnswers r.known.answers)) (λ x. Unit {0}) (list_gives row_fields _ row_gives 0 64) (all_give (bytes32 greatest_state).at) bytes x rest e).0
 
-rows_short : (known : List (Option Known)) (rows : List Row) → AreKept IsShortKnown known → AllByRecursion (λ r. IsShortKnown r.known) rows → AreKept IsShortKnown (with_rows known rows)
-rows_short known [] all each = all
-rows_short known (r ∷ rows) all each = rows_short (slice_set known r.client.0 (Some r.known)) rows (filled IsShortKnown known r.client.0 r.known all each.0) each.1
+module _ {S : Type 0} (R : Rules S) (ok : S → Type 0) (F : Signs) (law : Laws ok R F) where
+  rows_told : (known : List (Option Known)) (rows : List Row) → AreKept (IsToldOf F) known → AllByRecursion (λ r. FitsAnswers r.known.answers) rows → AreKept (IsToldOf F) (with_rows known rows)
+  rows_told known [] all each = all
+  rows_told known (r ∷ rows) all each =
+      rows_told (slice_set known r.client.0 (Some r.known)) rows (filled (IsToldOf F) known r.client.0 r.known all (law.shown r.known.answers each.0)) each.1
 
-module _ {S : Type 0} (R : Rules S) (ok : S → Type 0) (law : Laws ok R) where
-  pub shown_short : (place : Place) (head : Digest) (bytes : List ℕ) (point : Point S) → point_in R place head bytes ≡ Some point → IsShort ok point
+  pub shown_of : (place : Place) (head : Digest) (bytes : List ℕ) (point : Point S) → point_in R place head bytes ≡ Some point → OfPoint ok F point
   unfolding point_in
-  shown_short place head bytes point = of (whole snapshot_fields bytes) refl
+  shown_of place head bytes point = of (whole snapshot_fields bytes) refl
     where
-      by : (rises : Bool) (read : Option S) (rows : List Row) → ((s : S) → read ≡ Some s → ok s) → AllByRecursion (λ r. IsShortKnown r.known) rows
-          → (if rises then option_map (λ state. record { place = place.0; head = head; state = state; known = slots_of rows }) read else None) ≡ Some point → IsShort ok point
+      by : (rises : Bool) (read : Option S) (rows : List Row) → ((s : S) → read ≡ Some s → ok s) → AllByRecursion (λ r. FitsAnswers r.known.answers) rows
+          → (if rises then option_map (λ state. record { place = place.0; head = head; state = state; known = slots_of rows }) read else None) ≡ Some point → OfPoint ok F point
       by false read rows fine each is = absurd cc
       by true None rows fine each is = absurd cc
       by true (Some state) rows fine each is =
-          subst (λ (p : Point S). IsShort ok p) (same_Some _ point is)
-          (record { state = fine state refl; known = rows_short (replicate 64 None) rows (empty_slots IsShortKnown 64) each })
+          subst (λ (p : Point S). OfPoint ok F p) (same_Some _ point is)
+          (record { state = fine state refl; known = rows_told (replicate 64 None) rows (empty_slots (IsToldOf F) 64) each })
 
-      of : (read : Result (List Row × List ℕ) FrameFault) → whole snapshot_fields bytes ≡ read → point_of R place head read ≡ Some point → IsShort ok point
+      of : (read : Result (List Row × List ℕ) FrameFault) → whole snapshot_fields bytes ≡ read → point_of R place head read ≡ Some point → OfPoint ok F point
       of (Err fault) reads is = absurd cc
       of (Ok parts) reads is =
           let a = bind_ok (snapshot_fields.at bytes) (λ x. ended x.0 x.1) parts reads in
           let b = ended_ok a.0.0 a.0.1 parts a.2 in
-          let each = subst (λ (x : List Row × List ℕ). AllByRecursion (λ r. IsShortKnown r.known) x.0) b.0 (snapshot_gives bytes a.0.0 a.0.1 a.1) in
+          let each = subst (λ (x : List Row × List ℕ). AllByRecursion (λ r. FitsAnswers r.known.answers) x.0) b.0 (snapshot_gives bytes a.0.0 a.0.1 a.1) in
           by (is_rising 0 parts.0) (R.read parts.1) parts.0 (λ s read. law.reads parts.1 s read) each is

@@ -1,15 +1,14 @@
 -- What a replica and a client say can be spelled and passes a test, so it is of those texts, whichever signature it has.
-use Rattle.std.proofs.Common.{◌≡◌, ℕ, ◌+◌, ◌<◌, ◌≤◌, ◌^◌, Bool, true, List, [], ◌∷◌, length, map, Option, Some, None, refl, sym, ap, ◌∙◌, subst, arith}
-use Rattle.std.specs.Prelude.{All, IfSome, nat_le, option_map}
+use Rattle.std.proofs.Common.{◌≡◌, ℕ, ◌+◌, ◌<◌, ◌≤◌, ◌^◌, Bool, true, List, [], ◌∷◌, length, map, Option, Some, None, sym, subst, arith}
+use Rattle.std.specs.Prelude.{nat_le}
 use Rattle.std.proofs.lemmas.Bool.{leb-true}
 use Rattle.std.specs.List.{AllByRecursion}
 use Rattle.zy_base.specs.declared.ids.ClientId.{ClientId}
 use Rattle.zy_base.specs.declared.ids.Party.{Party}
 use Rattle.zy_base.specs.declared.ids.Party.TheVariants.{Client}
-use Rattle.zy_law_normal.proofs.Backing.{all_listed}
 use Rattle.zy_parts.specs.Numbers as numbers
 use Rattle.zy_parts.specs.Reports.{began_fields, change_fields, fetch_fields, new_fields}
-use Rattle.zy_parts.specs.Signing.{signed, text_of}
+use Rattle.zy_parts.specs.Signing.{text_of}
 use Rattle.zy_parts.specs.Statements.{ask_fields, check_fields, confirm_fields, hate_fields, hole_fields, local_fields, order_fields, spec_fields}
 use Rattle.zy_parts.specs.declared.reports.Change.{Change}
 use Rattle.zy_parts.specs.declared.reports.New.{New}
@@ -25,49 +24,23 @@ use Rattle.zy_table.specs.declared.deeds.Act.{Act}
 use Rattle.zy_table.specs.declared.deeds.Act.TheVariants.{Says, Gains, Adopts}
 use Rattle.zy_table.specs.declared.deeds.Body.{Body}
 use Rattle.zy_table.specs.declared.deeds.Body.TheVariants as bodies
-use Rattle.zy_law_views.specs.Told.{change_spelled, new_spelled, spec_spelled, with_stmt}
 use Rattle.zy_wire.specs.Fields.{IsParty}
 use Rattle.zy_wire.specs.Spelling.{Spelling}
-use Rattle.zy_law_steps.proofs.SaidBack.{same_spelled}
 use Rattle.zy_law_steps.proofs.Sizes.{sealed_fits}
-use Rattle.zy_law_steps.specs.Signs.{ArePassed, OfActs, OfAsks, OfBody, OfChange, OfText, OfTextAlone, OfTexts, OfTextsAlone, OfTold, Signs}
+use Rattle.zy_law_steps.specs.Signs.{ArePassed, OfActs, OfAsks, OfBody, OfText, OfTextAlone, OfTexts, OfTextsAlone, Signs}
 use Rattle.zy_law_steps.specs.Spelled.{FitAll, FitsBody}
 use Rattle.zy_seal.proofs.SignatureLemmas.{few_signatures}
-
--- ---- a report whose responses are spelled as they are is spelled as it is
-
-module _ {A : Type 0} (P : Signed A → Type 0) (f : A → A) (same : (x : Signed A) → P x → with_stmt f x ≡ x) where
-  map_same : (xs : List (Signed A)) → AllByRecursion P xs → map (with_stmt f) xs ≡ xs
-  map_same [] all = refl
-  map_same (x ∷ xs) all = ap (λ (y : Signed A). y ∷ map (with_stmt f) xs) (same x all.0) ∙ ap (λ (l : List (Signed A)). x ∷ l) (map_same xs all.1)
 
 module _ (p : Party → List ℕ → Bool) where
   abbrev F : Signs
   F = OfTexts p
-
-  response_same : (x : Signed Spec) → F.spec x → with_stmt spec_spelled x ≡ x
-  unfolding signed
-  response_same x is = ap (λ (s : Spec). record x { stmt = s }) (same_spelled x.stmt is.0.1.0)
-
-  responses_same : (o : Option (List (Signed Spec))) → IfSome o (All F.spec) → option_map (map (with_stmt spec_spelled)) o ≡ o
-  responses_same None is = refl
-  responses_same (Some specs) is = ap (λ (l : List (Signed Spec)). Some l) (map_same F.spec spec_spelled response_same specs (all_listed F.spec specs is))
-
-  report_same : (c : Change) → OfTold F c.told → change_spelled c ≡ c
-  report_same c is = ap (λ (o : Option (List (Signed Spec))). record c { told = record c.told { specs = o } }) (responses_same c.told.specs is.1)
-
-  change_same : (x : Signed Change) → OfChange F x → with_stmt change_spelled x ≡ x
-  change_same x is = ap (λ (c : Change). record x { stmt = c }) (report_same x.stmt is.1)
-
-  new_same : (n : New) → AllByRecursion (OfChange F) n.changes → new_spelled n ≡ n
-  new_same n all = ap (λ (l : List (Signed Change)). record n { changes = l }) (map_same (OfChange F) change_spelled change_same n.changes all)
 
   -- ---- a statement
 
   module _ (me : Party) (party : IsParty me) where
     seals : {A : Type 0} (number : ℕ) (fields : Spelling A) (stmt : A) → fields.Fits stmt → p me (text_of number fields me stmt) ≡ true → (sealer : SealerState) → sealer.me ≡ me → OfText p number fields (sealed_by number fields sealer stmt)
     seals number fields stmt fits passes sealer is = (
-      sealed_fits number fields sealer stmt stmt (subst IsParty (sym is) party) fits,
+      sealed_fits number fields sealer stmt (subst IsParty (sym is) party) fits,
       subst (λ (by : Party). p by (text_of number fields by stmt) ≡ true) (sym is) passes,
     )
 
@@ -79,8 +52,8 @@ module _ (p : Party → List ℕ → Bool) where
     body_passes (bodies.Hole hole) fits passes = seals numbers.hole hole_fields hole fits passes
     body_passes (bodies.Hate hate) fits passes = seals numbers.hate hate_fields hate fits passes
     body_passes (bodies.Check check) fits passes = seals numbers.check check_fields check fits passes
-    body_passes (bodies.Change change) fits passes = λ told. seals numbers.change change_fields change (subst change_fields.Fits (report_same change told) fits) passes
-    body_passes (bodies.New new) fits passes = λ changes. seals numbers.new new_fields new (subst new_fields.Fits (new_same new changes) fits) passes
+    body_passes (bodies.Change change) fits passes = λ told. seals numbers.change change_fields change fits passes
+    body_passes (bodies.New new) fits passes = λ changes. seals numbers.new new_fields new fits passes
     body_passes (bodies.Began began) fits passes = seals numbers.began began_fields began fits passes
     body_passes (bodies.Fetch fetch) fits passes = seals numbers.fetch fetch_fields fetch fits passes
 

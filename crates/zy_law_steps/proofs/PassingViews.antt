@@ -36,7 +36,7 @@ use Rattle.zy_table.specs.Deeds.{Going, Outcome, act, ends, send_any, send_view,
 use Rattle.zy_table.specs.Gathering.{own_at, with_own_spec}
 use Rattle.zy_table.specs.Leaving.{Attempt, accept, collect, give_new, given, leave, leave_alone, left_with, report_of, sealed_change, sealed_new}
 use Rattle.zy_table.specs.Running.{sealed_spec}
-use Rattle.zy_table.specs.State.{State, own_view, spent, stood_of, with_spec, is_beside}
+use Rattle.zy_table.specs.State.{State, own_view, spent, stood_of, with_spec}
 use Rattle.zy_table.specs.declared.deeds.Act.TheVariants.{Says}
 use Rattle.zy_table.specs.declared.deeds.AnyFrame.TheVariants.{Plain, View as Framed}
 use Rattle.zy_table.specs.declared.deeds.Body.TheVariants as bodies
@@ -55,15 +55,15 @@ use Rattle.zy_exec.specs.Kept.{Kept}
 use Rattle.zy_law_normal.proofs.Backing.{all_listed}
 use Rattle.zy_law_steps.proofs.Passing.{Laws, Passes, reply_short, empty_slots, found, knows, says, sends, settled_of, spec_put, turns, one_more}
 use Rattle.zy_law_steps.proofs.Slots.{begans_later, changes_later, equal_kept, filled, gathered_kept, never_flagged, others_dropped}
-use Rattle.zy_law_steps.specs.Signs.{IsShort, OfActs, OfAct, OfAnyFrame, OfCert, OfChange, OfNew, OfOrder, OfPending, OfSent, OfState, OfTold, Signs}
+use Rattle.zy_law_steps.specs.Signs.{OfActs, OfAct, OfAnyFrame, OfCert, OfChange, OfNew, OfOrder, OfPending, OfSent, OfState, OfTold, Signs}
 use Rattle.zy_chain.specs.Answers.{FitsAnswers}
 
-module _ {S : Type 0} (R : Rules S) (ok : S → Type 0) (law : Laws ok R) (F : Signs) (me : Party) where
+module _ {S : Type 0} (R : Rules S) (ok : S → Type 0) (F : Signs) (law : Laws ok R F) (me : Party) where
   abbrev On : Type 0 → Going S → Type 0
-  On X g = Passes R ok law F me X g
+  On X g = Passes R ok F law me X g
 
   abbrev pub Ends : Type 0 → Attempt S → Type 0
-  Ends X (Ok end) = Passes R ok law F me X end.1
+  Ends X (Ok end) = Passes R ok F law me X end.1
   Ends X (Err cause) = Unit {0}
 
   -- ---- it leaves
@@ -86,9 +86,9 @@ module _ {S : Type 0} (R : Rules S) (ok : S → Type 0) (law : Laws ok R) (F : S
       let after : State S = left_with view change g.state in
       let remark : Remark = record { body = bodies.Change change.stmt; stood = stood_of R after } in
       let Y : Type 0 = X × OfChange F change in
-      knows R ok law F me Y X (send_view Everyone (views.ViewChange change) (act (Says remark) (record g { state = spent after }))) (λ y state. y.0)
-      (sends R ok law F me Y Everyone (Framed (views.ViewChange change)) (act (Says remark) (record g { state = spent after })) (λ y state. y.1)
-      (says R ok law F me X Y remark (spent after) g
+      knows R ok F law me Y X (send_view Everyone (views.ViewChange change) (act (Says remark) (record g { state = spent after }))) (λ y state. y.0)
+      (sends R ok F law me Y Everyone (Framed (views.ViewChange change)) (act (Says remark) (record g { state = spent after })) (λ y state. y.1)
+      (says R ok F law me X Y remark (spent after) g
       (λ x signer v said.
       let one : OfChange F change = (said (told g.state v) g.state.sealer signer, told g.state v) in
       let w = v.0 in (
@@ -114,9 +114,9 @@ module _ {S : Type 0} (R : Rules S) (ok : S → Type 0) (law : Laws ok R) (F : S
       let remark : Remark = record { body = bodies.Began began.stmt; stood = stood_of R g.state } in
       let s : State S = record (spent g.state) { views = with_new a began g.state.views } in
       let Y : Type 0 = X × F.began began in
-      knows R ok law F me Y X (send_view Everyone (views.ViewConfirm began) (act (Says remark) (record g { state = s }))) (λ y state. y.0)
-      (sends R ok law F me Y Everyone (Framed (views.ViewConfirm began)) (act (Says remark) (record g { state = s })) (λ y state. y.1)
-      (says R ok law F me X Y remark s g
+      knows R ok F law me Y X (send_view Everyone (views.ViewConfirm began) (act (Says remark) (record g { state = s }))) (λ y state. y.0)
+      (sends R ok F law me Y Everyone (Framed (views.ViewConfirm began)) (act (Says remark) (record g { state = s })) (λ y state. y.1)
+      (says R ok F law me X Y remark s g
       (λ x signer v said.
       let one : F.began began = said g.state.sealer signer in
       let w = v.0 in
@@ -129,8 +129,8 @@ module _ {S : Type 0} (R : Rules S) (ok : S → Type 0) (law : Laws ok R) (F : S
       let new : Signed New = sealed_new g.state view in
       let remark : Remark = record { body = bodies.New new.stmt; stood = stood_of R g.state } in
       let Y : Type 0 = X × OfNew F new in
-      sends R ok law F me Y Everyone (Framed (views.NewView new)) (act (Says remark) (record g { state = spent g.state })) (λ y state. y.1)
-      (says R ok law F me X Y remark (spent g.state) g
+      sends R ok F law me Y Everyone (Framed (views.NewView new)) (act (Says remark) (record g { state = spent g.state })) (λ y state. y.1)
+      (says R ok F law me X Y remark (spent g.state) g
       (λ x signer v said.
       let all = gathered_kept (OfChange F) view.0 g.state.views.counts.change g.state.views.changes v.0.2 in
       ((x, (said all g.state.sealer signer, all)), signer, v)) is)
@@ -141,7 +141,7 @@ module _ {S : Type 0} (R : Rules S) (ok : S → Type 0) (law : Laws ok R) (F : S
       let new : Signed New = sealed_new g.state view in
       let a : Accepted = record { new = new; chosen = record { provider = provider; place = place; head = head } } in
       let Y : Type 0 = X × OfNew F new in
-      knows R ok law F me Y X (accept R a (give_new R new g)) (λ y state. y.0) (accepts Y a (give_new R new g) (λ y. y.1) (gives X view g is))
+      knows R ok F law me Y X (accept R a (give_new R new g)) (λ y state. y.0) (accepts Y a (give_new R new g) (λ y. y.1) (gives X view g is))
 
   pub collects : (X : Type 0) (view : View) (g : Going S) → On X g → Ends X (collect R view g)
   collects X view g is = by_test (Ends X) (is_gathering g.state.views view.0) _ _ (λ gathers. given_on X view (choice_in g.state.views view.0) g is) (λ few. is)
@@ -157,7 +157,7 @@ module _ {S : Type 0} (R : Rules S) (ok : S → Type 0) (law : Laws ok R) (F : S
 
   settled : (t : Told) (s : State S) → OfState ok F s → All F.check t.checks → (s.sealer.me ≡ me) → ((settled_as R t s).sealer.me ≡ me) × OfState ok F (settled_as R t s)
   settled t s v all signer =
-      by_test (λ (q : State S). (q.sealer.me ≡ me) × OfState ok F q) (nat_lt s.board.stable.place.0 t.stable_place.0) _ _ (λ past. (signer, settled_of R ok law F me s t.stable_place.0 t.checks v all)) (λ low. (signer, v))
+      by_test (λ (q : State S). (q.sealer.me ≡ me) × OfState ok F q) (nat_lt s.board.stable.place.0 t.stable_place.0) _ _ (λ past. (signer, settled_of R ok F law me s t.stable_place.0 t.checks v all)) (λ low. (signer, v))
 
   active : (cert : ViewCert) (chosen : Chosen) (s : State S) → OfState ok F s → OfCert F cert → OfState ok F (active_by cert chosen s)
   active cert chosen s v is =
@@ -174,50 +174,61 @@ module _ {S : Type 0} (R : Rules S) (ok : S → Type 0) (law : Laws ok R) (F : S
         v.8,
       )
 
-  over_short : (t : Stretch) (place : ℕ) (k : Kept S) → IsShort ok k.base → IsShort ok (taken_over t place k).base
-  unfolding taken_over
-  over_short t place k is = is
+  -- what is taken up of a report
+  abbrev Given : Told → Type 0
+  Given t = All F.check t.checks × AllByRecursion F.entry t.entries
 
-  begins : (X : Type 0) (cert : ViewCert) (chosen : Chosen) (t : Told) (g : Going S) → (X → OfCert F cert) → (X → All F.check t.checks) → On X g → On X (begin_view R cert chosen t g)
+  taken_of : (t : Told) (place : ℕ) (k : Kept S) → OfKept ok F k → AllByRecursion F.entry t.entries → OfKept ok F (taken_over (stretch_of t) place k)
+  unfolding taken_over
+  taken_of t place k is all =
+      let common = common_with (stretch_of t) place k in
+      let low = common - t.stable_place.0 in
+      let own = take (common - k.base.place) k.entries in
+      (is.0, all_of_both F.entry own _ (taken_there F.entry (common - k.base.place) k.entries is.1) (ranged t.entries low (place - t.stable_place.0) all))
+    where
+      ranged : (list : List Entry) (low high : ℕ) → AllByRecursion F.entry list → AllByRecursion F.entry (slice_range list low high)
+      ranged list low high all = taken_there F.entry (high - low) (drop low list) (all_drop F.entry low list all)
+
+  begins : (X : Type 0) (cert : ViewCert) (chosen : Chosen) (t : Told) (g : Going S) → (X → OfCert F cert) → (X → Given t) → On X g → On X (begin_view R cert chosen t g)
   begins X cert chosen t g tells checks is acts =
       let b = is (all_of_front (OfAct F me) g.deeds.acts (adoption_of R cert.new.stmt.view t chosen.place g.state.kept ∷ []) acts) in
       let s : State S = record g.state { kept = taken_over (stretch_of t) chosen.place.0 g.state.kept } in
       let v = b.2 in
-      let n = settled t s (v.0, v.1, v.2, v.3, v.4, v.5, v.6, v.7, (v.8.0, over_short (stretch_of t) chosen.place.0 g.state.kept v.8.1, v.8.2)) (checks b.0) b.1 in
+      let n = settled t s (v.0, v.1, v.2, v.3, v.4, v.5, v.6, v.7, (v.8.0, taken_of t chosen.place.0 g.state.kept v.8.1 (checks b.0).1, v.8.2)) (checks b.0).0 b.1 in
       (b.0, n.0, active cert chosen (settled_as R t s) n.1 (tells b.0), b.3)
 
-  alone : (X : Type 0) (own : OwnCheckpoint) (reply : List ℕ) (g : Going S) → (X → FitsAnswers reply) → On X g → On X (respond_alone R own reply g)
-  alone X own reply g short is =
+  alone : (X : Type 0) (own : OwnCheckpoint) (answers : Answers) (g : Going S) → (X → F.answers answers) → On X g → On X (respond_alone R own answers g)
+  alone X own answers g short is =
       let signed : Signed Spec = sealed_spec g.state own.spec in
       let remark : Remark = record { body = bodies.Spec own.spec; stood = stood_of R g.state } in
-      let responded : State S = with_spec (spent g.state) signed in
+      let responded : State S = with_spec R (spent g.state) signed in
       let Y : Type 0 = X × F.spec signed in
       let said : Going S = act (Says remark) (record g { state = with_own_spec responded own signed }) in
-      let told : Going S = send_any (to_clients own.spec) (Plain (frames.SpecResponse signed reply None)) said in
-      knows R ok law F me Y X (send_any Everyone (Plain (frames.SpecResponse signed reply None)) told) (λ y state. y.0)
-      (sends R ok law F me Y Everyone (Plain (frames.SpecResponse signed reply None)) told (λ y state. (y.1, short y.0, tt))
-      (sends R ok law F me Y (to_clients own.spec) (Plain (frames.SpecResponse signed reply None)) said (λ y state. (y.1, short y.0, tt))
-      (says R ok law F me X Y remark (with_own_spec responded own signed) g
+      let told : Going S = send_any (to_clients answers) (Plain (frames.SpecResponse signed answers None)) said in
+      knows R ok F law me Y X (send_any Everyone (Plain (frames.SpecResponse signed answers None)) told) (λ y state. y.0)
+      (sends R ok F law me Y Everyone (Plain (frames.SpecResponse signed answers None)) told (λ y state. (y.1, short y.0, tt))
+      (sends R ok F law me Y (to_clients answers) (Plain (frames.SpecResponse signed answers None)) said (λ y state. (y.1, short y.0, tt))
+      (says R ok F law me X Y remark (with_own_spec responded own signed) g
       (λ x signer v to_say.
       let one : F.spec signed = to_say g.state.sealer signer in
-      ((x, one), signer, (v.0, v.1, spec_put F g.state.board own signed v.2 one, v.3, one_more F.spec (is_beside own.spec) g.state.specs signed v.4 one, v.5, v.6, v.7, v.8))) is)))
+      ((x, one), signer, (v.0, v.1, spec_put F g.state.board own signed v.2 one, v.3, one_more F.spec (stays_beside R g.state.kept own.spec) g.state.specs signed v.4 one, v.5, v.6, v.7, v.8))) is)))
 
-  responds_to : (X : Type 0) (own : Option OwnCheckpoint) (reply : Option (List ℕ)) (g : Going S) → (X → IfSome reply (λ reply. FitsAnswers reply)) → On X g → On X (respond_to R own reply g)
-  responds_to X None reply g short is = is
+  responds_to : (X : Type 0) (own : Option OwnCheckpoint) (answers : Option Answers) (g : Going S) → (X → IfSome answers F.answers) → On X g → On X (respond_to R own answers g)
+  responds_to X None answers g short is = is
   responds_to X (Some own) None g short is = is
-  responds_to X (Some own) (Some reply) g short is = alone X own reply g short is
+  responds_to X (Some own) (Some answers) g short is = alone X own answers g short is
 
   responds_at : (X : Type 0) (places : List ℕ) (g : Going S) → On X g → On X (respond_at R places g)
   responds_at X [] g is = is
   responds_at X (place ∷ places) g is =
-      let reply : Option (List ℕ) = reply_in R g.state.kept place in
-      let h : Going S = respond_to R (own_at R g.state place) reply g in
-      let Y : Type 0 = X × IfSome reply (λ reply. FitsAnswers reply) in
+      let answers : Option Answers = reply_in R g.state.kept place in
+      let h : Going S = respond_to R (own_at R g.state place) answers g in
+      let Y : Type 0 = X × IfSome answers F.answers in
       responds_at X places h
-      (knows R ok law F me Y X h (λ y state. y.0)
-      (responds_to Y (own_at R g.state place) reply g (λ y. y.1) (knows R ok law F me X Y g (λ x state. (x, reply_short R ok law g.state.kept place state.8.1)) is)))
+      (knows R ok F law me Y X h (λ y state. y.0)
+      (responds_to Y (own_at R g.state place) answers g (λ y. y.1) (knows R ok F law me X Y g (λ x state. (x, answers_told R ok F law g.state.kept place state.8.1)) is)))
 
-  takes_up : (X : Type 0) (cert : ViewCert) (chosen : Chosen) (t : Told) (g : Going S) → (X → OfCert F cert) → (X → All F.check t.checks) → On X g → On X (take_up R cert chosen t g)
+  takes_up : (X : Type 0) (cert : ViewCert) (chosen : Chosen) (t : Told) (g : Going S) → (X → OfCert F cert) → (X → Given t) → On X g → On X (take_up R cert chosen t g)
   unfolding take_up
   takes_up X cert chosen t g tells checks is =
       let h : Going S = begin_view R cert chosen t g in
@@ -240,9 +251,9 @@ module _ {S : Type 0} (R : Rules S) (ok : S → Type 0) (law : Laws ok R) (F : S
       let remark : Remark = record { body = bodies.Fetch wanted; stood = stood_of R g.state } in
       let s : State S = record (spent g.state) { fetches = g.state.fetches ++ said ∷ [] } in
       let Y : Type 0 = X × F.fetch said in
-      knows R ok law F me Y X (send_to_each said parties (act (Says remark) (record g { state = s }))) (λ y state. y.0)
+      knows R ok F law me Y X (send_to_each said parties (act (Says remark) (record g { state = s }))) (λ y state. y.0)
       (to_each Y said parties (act (Says remark) (record g { state = s })) (λ y. y.1)
-      (says R ok law F me X Y remark s g
+      (says R ok F law me X Y remark s g
       (λ x signer v to_say.
       let one : F.fetch said = to_say g.state.sealer signer in
       ((x, one), signer, (v.0, v.1, v.2, v.3, v.4, v.5, v.6, v.7, (all_of_both F.fetch g.state.fetches (said ∷ []) v.8.0 (one, tt), v.8.1, v.8.2)))) is))
@@ -254,15 +265,15 @@ module _ {S : Type 0} (R : Rules S) (ok : S → Type 0) (law : Laws ok R) (F : S
       let k : Going S = kept_waiting cert chosen h in
       let wanted : Fetch = wanted_of t in
       let Y : Type 0 = X × IfSome (fetch_said k.state wanted) F.fetch in
-      knows R ok law F me Y X (ask_for R t k) (λ y state. y.0)
+      knows R ok F law me Y X (ask_for R t k) (λ y state. y.0)
       (asks_each Y wanted (fetch_said k.state wanted) (asked_of k.state t.checks) k (λ y. y.1)
-      (knows R ok law F me X Y k (λ x v. (x, found F.fetch _ k.state.fetches v.8.0))
-      (turns R ok law F me X X k.state h (λ x signer v. let w = v.0 in (x, signer, ((w.0, w.1, w.2, w.3, w.4, tells x, w.6), v.1, v.2, v.3, v.4, v.5, v.6, v.7, v.8)))
+      (knows R ok F law me X Y k (λ x v. (x, found F.fetch _ k.state.fetches v.8.0))
+      (turns R ok F law me X X k.state h (λ x signer v. let w = v.0 in (x, signer, ((w.0, w.1, w.2, w.3, w.4, tells x, w.6), v.1, v.2, v.3, v.4, v.5, v.6, v.7, v.8)))
       (arrives X cert.new.stmt.view g is))))
 
   -- ---- adopt, and certify
 
-  adopts_as : (X : Type 0) (cert : ViewCert) (chosen : Chosen) (t : Told) (verdict : Verdict) (g : Going S) → (X → OfCert F cert) → (X → All F.check t.checks) → On X g → Ends X (adopt_as R cert chosen t verdict g)
+  adopts_as : (X : Type 0) (cert : ViewCert) (chosen : Chosen) (t : Told) (verdict : Verdict) (g : Going S) → (X → OfCert F cert) → (X → Given t) → On X g → Ends X (adopt_as R cert chosen t verdict g)
   adopts_as X cert chosen t verdicts.Take g tells checks is = takes_up X cert chosen t g tells checks is
   adopts_as X cert chosen t verdicts.Wait g tells checks is = waits X cert chosen t g tells is
   adopts_as X cert chosen t (verdicts.Refuse cause) g tells checks is = tt
@@ -272,7 +283,7 @@ module _ {S : Type 0} (R : Rules S) (ok : S → Type 0) (law : Laws ok R) (F : S
   adopts_from X cert chosen None at g tells is = is
   adopts_from X cert chosen (Some p) at g tells is =
       adopts_as X cert chosen p.stmt.told (verdict_of R g.state.kept g.state.board.stable p.stmt.told chosen.place chosen.head) g tells
-      (λ x. (at_of (OfChange F) cert.new.stmt.changes chosen.provider p (tells x).0.1 at).1.2) is
+      (λ x. let given = at_of (OfChange F) cert.new.stmt.changes chosen.provider p (tells x).0.1 at in (given.1.2, law.reported p given.0)) is
 
   pub adopts : (X : Type 0) (cert : ViewCert) (chosen : Chosen) (g : Going S) → (X → OfCert F cert) → On X g → Ends X (adopt R cert chosen g)
   unfolding adopt
@@ -299,7 +310,7 @@ module _ {S : Type 0} (R : Rules S) (ok : S → Type 0) (law : Laws ok R) (F : S
       let Y : Type 0 = X × IfSome (certificate_of v a) (OfCert F) in
       forget X (IfSome (certificate_of v a) (OfCert F)) (adopt_if R (certificate_of v a) a.chosen answer g)
       (adopts_if Y (certificate_of v a) a.chosen answer g (λ y. y.1)
-      (knows R ok law F me X Y g
+      (knows R ok F law me X Y g
       (λ x w.
       let new : OfNew F a.new = subst (λ (o : Option Accepted). IfSome o (λ a. OfNew F a.new)) at w.0.4 in (
         x,
@@ -307,7 +318,7 @@ module _ {S : Type 0} (R : Rules S) (ok : S → Type 0) (law : Laws ok R) (F : S
       )) is))
     where
       forget : (X Z : Type 0) (attempt : Attempt S) → Ends (X × Z) attempt → Ends X attempt
-      forget X Z (Ok end) is = knows R ok law F me (X × Z) X end.1 (λ y state. y.0) is
+      forget X Z (Ok end) is = knows R ok F law me (X × Z) X end.1 (λ y state. y.0) is
       forget X Z (Err cause) is = tt
 
   pub begun_on : (X : Type 0) (attempt : Attempt S) → Ends X attempt → Ends X (begun R attempt)

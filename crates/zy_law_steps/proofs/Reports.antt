@@ -1,15 +1,14 @@
 -- A report, a new view and the choice out of it can be spelled, as far as what they are made from can be.
-use Rattle.std.proofs.Common.{◌≡◌, ℕ, ◌-◌, ◌<◌, ◌≤◌, true, List, length, map, take, Option, Some, None, ap, ◌∙◌, subst, arith}
-use Rattle.std.specs.Prelude.{All, ◌&&◌, nat_eq, nat_le, option_map, slice_get}
+use Rattle.std.proofs.Common.{◌≡◌, ℕ, ◌-◌, ◌<◌, ◌≤◌, true, length, map, take, Some, subst, arith}
+use Rattle.std.specs.Prelude.{All, ◌&&◌, nat_eq, nat_le, slice_get}
 use Rattle.std.proofs.lemmas.Bool.{leb-true}
 use Rattle.std.proofs.lemmas.List.{length-map, length-take-le}
 use Rattle.std.proofs.lemmas.List.Elements.{All-from_recursion}
-use Rattle.std.proofs.lemmas.Option.{slice_get-map}
 use Rattle.zy_base.specs.declared.ids.Digest.{Digest}
 use Rattle.zy_base.specs.declared.ids.View.{View}
 use Rattle.zy_chain.specs.Fields.{entry_fields}
 use Rattle.zy_change.specs.Owing.{change_to, new_of}
-use Rattle.zy_change.specs.Views.{Views, changes_for, specs_in}
+use Rattle.zy_change.specs.Views.{Views, changes_for}
 use Rattle.zy_change.specs.declared.kept.Chosen.{Chosen}
 use Rattle.zy_choose.specs.Choice.{provider_of}
 use Rattle.zy_choose.specs.Marks.{Has, has_mark, link}
@@ -19,38 +18,32 @@ use Rattle.zy_law.specs.Lawful.{IsLawful}
 use Rattle.zy_law.specs.World.{World}
 use Rattle.zy_parts.specs.Reports.{change_fields, new_fields, began_fields, told_fields}
 use Rattle.zy_parts.specs.Signing.{signed}
-use Rattle.zy_parts.specs.Statements.{IsU62, spec_fields}
+use Rattle.zy_parts.specs.Statements.{IsU62}
 use Rattle.zy_parts.specs.declared.reports.Change.{Change}
 use Rattle.zy_parts.specs.declared.reports.New.{New}
 use Rattle.zy_parts.specs.declared.reports.Told.{Told}
 use Rattle.zy_parts.specs.declared.signed.Signed.{Signed}
-use Rattle.zy_parts.specs.declared.statements.Spec.{Spec}
 use Rattle.zy_table.specs.Leaving.{report_of}
 use Rattle.zy_table.specs.State.{State}
 use Rattle.zy_law_views.proofs.AdoptedLists.{provider_formed, provider_has_it}
 use Rattle.zy_law_views.specs.Held.{IsProvidedBy, mark_at}
 use Rattle.zy_law_views.specs.Tied.{IsChosenNew}
-use Rattle.zy_law_views.specs.Told.{change_spelled, new_spelled, spec_spelled, told_spelled, with_stmt}
-use Rattle.zy_wire.specs.Fields.{FitsList, FitsOptional}
-use Rattle.zy_law_steps.specs.Spelled.{IsChangeSpelled, IsCheckSpelled, IsChoiceSpelled, IsSpecSpelled, IsSpelled}
+use Rattle.zy_wire.specs.Fields.{FitsList}
+use Rattle.zy_law_steps.specs.Spelled.{IsChangeSpelled, IsCheckSpelled, IsChoiceSpelled, IsSpelled}
 use Rattle.zy_law_steps.proofs.Sizes.{head_long}
-use Rattle.zy_law_steps.proofs.Slots.{AreKept, gathered_kept, list_under, position_within, there_is}
+use Rattle.zy_law_steps.proofs.Slots.{AreKept, gathered_kept, position_within, there_is}
 
 -- ---- the own report
 
-certificate_fits : (specs : Option (List (Signed Spec))) → FitsOptional (FitsList IsSpecSpelled 1 16) specs → FitsOptional (FitsList (signed spec_fields).Fits 1 16) (option_map (map (with_stmt spec_spelled)) specs)
-certificate_fits None fit = tt
-certificate_fits (Some specs) fit = list_under (signed spec_fields).Fits (with_stmt spec_spelled) 1 16 specs fit
-
-pub report_fits : {S : Type 0} (s : State S) → IsSpelled s → length s.kept.entries ≤ 64 → told_fields.Fits (told_spelled (report_of s))
+pub report_fits : {S : Type 0} (s : State S) → IsSpelled s → length s.kept.entries ≤ 64 → told_fields.Fits (report_of s)
 unfolding told_fields
 report_fits s is few =
     let v = is.views in
     let b = is.board in
     let entries : FitsList entry_fields.Fits 0 64 s.kept.entries = record { least = omega arith; most = few; each = All-from_recursion entry_fields.Fits s.kept.entries is.history.entries } in
-    (v.last, (v.began_place, (v.began_head, (v.began, (certificate_fits (specs_in s.views.specs) v.specs, (b.view, (b.place, (b.head, (b.state, (b.proof, entries))))))))))
+    (v.last, (v.began_place, (v.began_head, (v.began, (v.specs, (b.view, (b.place, (b.head, (b.state, (b.proof, entries))))))))))
 
-pub change_fits : (view : View) (told : Told) → IsU62 1 view.0 → told_fields.Fits (told_spelled told) → change_fields.Fits (change_spelled (change_to view told))
+pub change_fits : (view : View) (told : Told) → IsU62 1 view.0 → told_fields.Fits told → change_fields.Fits (change_to view told)
 unfolding change_fields
 change_fits view told in_range fits = (in_range, fits)
 
@@ -64,11 +57,11 @@ pub record IsToldSpelled (t : Told) : Type 0 where
   pub checks : FitsList IsCheckSpelled 0 16 t.checks
   pub entries : All entry_fields.Fits t.entries
 
-told_of_change : (c : Signed Change) → IsChangeSpelled c → told_fields.Fits (told_spelled c.stmt.told)
+told_of_change : (c : Signed Change) → IsChangeSpelled c → told_fields.Fits c.stmt.told
 unfolding signed change_fields
 told_of_change c fits = fits.1.0.1
 
-told_is : (t : Told) → told_fields.Fits (told_spelled t) → IsToldSpelled t
+told_is : (t : Told) → told_fields.Fits t → IsToldSpelled t
 unfolding told_fields
 told_is t fits =
     record {
@@ -84,20 +77,20 @@ told_spelled_in c fits = told_is c.stmt.told (told_of_change c fits)
 
 -- ---- a new view
 
-pub new_view_in_range : (n : New) → new_fields.Fits (new_spelled n) → IsU62 1 n.view.0
+pub new_view_in_range : (n : New) → new_fields.Fits n → IsU62 1 n.view.0
 unfolding new_fields
 new_view_in_range n fits = fits.0
 
-all_changes : (n : New) → new_fields.Fits (new_spelled n) → All (signed change_fields).Fits (map (with_stmt change_spelled) n.changes)
+all_changes : (n : New) → new_fields.Fits n → All (signed change_fields).Fits n.changes
 unfolding new_fields
 all_changes n fits = fits.1.each
 
-pub change_there : (n : New) → new_fields.Fits (new_spelled n) → (i : ℕ) (c : Signed Change) → slice_get n.changes i ≡ Some c → IsChangeSpelled c
+pub change_there : (n : New) → new_fields.Fits n → (i : ℕ) (c : Signed Change) → slice_get n.changes i ≡ Some c → IsChangeSpelled c
 change_there n fits i c is =
-    All_at (signed change_fields).Fits (map (with_stmt change_spelled) n.changes) i (with_stmt change_spelled c) (slice_get-map (with_stmt change_spelled) n.changes i ∙ ap (option_map (with_stmt change_spelled)) is) (all_changes n fits)
+    All_at (signed change_fields).Fits n.changes i c is (all_changes n fits)
 
 -- of the reports that a replica gathers
-pub gathered_fits : (v : Views) (view : View) → AreKept IsChangeSpelled v.changes → IsU62 1 view.0 → nat_le v.counts.change (length (changes_for view.0 v.changes)) ≡ true → new_fields.Fits (new_spelled (new_of v view))
+pub gathered_fits : (v : Views) (view : View) → AreKept IsChangeSpelled v.changes → IsU62 1 view.0 → nat_le v.counts.change (length (changes_for view.0 v.changes)) ≡ true → new_fields.Fits (new_of v view)
 unfolding new_fields
 gathered_fits v view all in_range enough =
     let sound = v.counts.sound in
@@ -105,8 +98,7 @@ gathered_fits v view all in_range enough =
     let many : length (take v.counts.change list) ≡ v.counts.change = length-take-le v.counts.change list (leb-true _ _ enough) in
     let kept = All-from_recursion IsChangeSpelled (take v.counts.change list) (gathered_kept IsChangeSpelled view.0 v.counts.change v.changes all) in (
       in_range,
-      list_under (signed change_fields).Fits (with_stmt change_spelled) 1 16 (take v.counts.change list)
-          (record { least = omega (arith, many, sound.local_and_change, sound.local_in_reach); most = omega (arith, many, sound.short_change); each = kept }),
+      record { least = omega (arith, many, sound.local_and_change, sound.local_in_reach); most = omega (arith, many, sound.short_change); each = kept },
     )
 
 -- ---- the choice
@@ -116,7 +108,7 @@ within_mark n chosen view is =
     let m = mark_at chosen.place chosen.head in
     omega (arith, position_within (λ r. (nat_eq r.last_view view) && has_mark link r.stretch m) (map read n.changes) chosen.provider is, length-map n.changes read)
 
-pub chosen_spelled : (w : World) → IsLawful w → w.next ≡ link → (interval : ℕ) (n : New) (chosen : Chosen) → IsChosenNew interval w n chosen → new_fields.Fits (new_spelled n) → IsChoiceSpelled n chosen
+pub chosen_spelled : (w : World) → IsLawful w → w.next ≡ link → (interval : ℕ) (n : New) (chosen : Chosen) → IsChosenNew interval w n chosen → new_fields.Fits n → IsChoiceSpelled n chosen
 unfolding began_fields
 chosen_spelled w lawful links interval n chosen is fits =
     let m = mark_at chosen.place chosen.head in

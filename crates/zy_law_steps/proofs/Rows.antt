@@ -12,7 +12,6 @@ use Rattle.zy_base.specs.declared.ids.Digest.{Digest}
 use Rattle.zy_base.specs.declared.ids.View.{View}
 use Rattle.zy_base.specs.declared.step.Answer.TheVariants.{Held, Taken}
 use Rattle.zy_base.specs.declared.step.Mode.TheVariants.{Active}
-use Rattle.zy_admit.specs.Judging.{entry_of, ordered_entry, asking}
 use Rattle.zy_admit.specs.Orders.{Orders, with_order}
 use Rattle.zy_cert.proofs.CertificateLemmas.{certified-taken}
 use Rattle.zy_cert.specs.Certificates.{IsCertificate, certified}
@@ -25,7 +24,7 @@ use Rattle.zy_change.specs.declared.kept.Certificate.{Certificate}
 use Rattle.zy_check.specs.Board as put_in
 use Rattle.zy_check.specs.Board.{Board, Round, Stays, height, put_check, put_spec, with_round}
 use Rattle.zy_exec.proofs.HistoryLemmas.{stands_end}
-use Rattle.zy_exec.specs.Kept.{Kept, known_in, last_place, stretch_of}
+use Rattle.zy_exec.specs.Kept.{Kept, known_in, last_place, stretch_of, now_of}
 use Rattle.zy_exec.specs.declared.known.Known.{Known}
 use Rattle.zy_frames.specs.declared.frame.OrderFrame.{OrderFrame}
 use Rattle.zy_law.proofs.HistoryLemmas.{mark_is}
@@ -40,7 +39,7 @@ use Rattle.zy_law_normal.proofs.Follow.{in_state}
 use Rattle.zy_law_normal.proofs.Going.{slots_put}
 use Rattle.zy_law_normal.proofs.KeptVotes.{AreKeptOf, with_check_kept, with_spec_kept}
 use Rattle.zy_law_normal.proofs.OneEntry.{AreOrdersOf, next_ordered, orders_of_longer, orders_of_said, place_now}
-use Rattle.zy_law_normal.proofs.Own.{client_told, head_told, kept_case, state_told}
+use Rattle.zy_law_normal.proofs.Own.{head_told, kept_case, state_told}
 use Rattle.zy_law_normal.specs.Acts.{statement_by}
 use Rattle.zy_law_normal.specs.Tied.{MayRun}
 use Rattle.zy_parts.specs.declared.signed.Signed.{Signed}
@@ -54,8 +53,8 @@ use Rattle.zy_table.specs.Commits.{give_local, say_local, send_local}
 use Rattle.zy_table.specs.Deeds.{Going, Outcome, begin, ends, refused}
 use Rattle.zy_table.specs.Gathering.{gather_at, own_at, own_with, spec_at}
 use Rattle.zy_table.specs.Orders.{ask_for_missing, hole_of}
-use Rattle.zy_table.specs.Requests.{order_of, ordered, request_waits, sealed_order}
-use Rattle.zy_table.specs.Running.{next_known, run, spec_of}
+use Rattle.zy_table.specs.Requests.{order_of, ordered, request_waits, sealed_order, entry_of}
+use Rattle.zy_table.specs.Running.{run, spec_of}
 use Rattle.zy_table.specs.State as table
 use Rattle.zy_table.specs.State.{State, is_primary, stood_of, window_of, with_spec}
 use Rattle.zy_table.specs.declared.deeds.Body.TheVariants as bodies
@@ -63,7 +62,6 @@ use Rattle.zy_table.specs.declared.deeds.Remark.{Remark}
 use Rattle.zy_table.specs.declared.deeds.Sent.{Sent}
 use Rattle.zy_table.specs.declared.kept.OwnCheckpoint.{OwnCheckpoint}
 use Rattle.zy_law_views.proofs.Adopting.{ends_lawfully}
-use Rattle.zy_law_views.proofs.Responding.{above_base}
 use Rattle.zy_law_views.specs.Steps.{IsLawfulStep, IsWorldOf}
 use Rattle.zy_law_views.proofs.InView.{says_commit, says_order, says_other}
 use Rattle.zy_law_views.proofs.ProvenReports.{spec_certified}
@@ -71,7 +69,7 @@ use Rattle.zy_law_views.proofs.RunningOn.{kept_passes}
 use Rattle.zy_law_views.specs.Held.{IsHeldPart, mark_at}
 use Rattle.zy_law_views.specs.Texts.{Texts}
 use Rattle.zy_law_views.specs.Tied.{AreOrdersUpTo, Core, IsCommitHeld, IsFarEnough, IsTied, SaysLawfully, said_now}
-use Rattle.zy_law_views.specs.Told.{check_told, order_told, response_told}
+use Rattle.zy_law_views.specs.Told.{check_told, order_told, spec_told}
 use Rattle.zy_law_views.proofs.AtWork.{last_of, own_held, still_may, work_board, work_said}
 use Rattle.zy_law_views.specs.Cores.{core_of}
 use Rattle.zy_law_views.specs.Rows.{IsReady}
@@ -79,11 +77,15 @@ use Rattle.zy_law_steps.proofs.Gathers.{IsHere, far_enough, gathers, holds, is_h
 use Rattle.zy_law_steps.proofs.Gained.{one_gains}
 use Rattle.zy_law_steps.proofs.Runs.{next_goes, one_goes, run_goes}
 use Rattle.zy_law_views.proofs.Backups.{answered_on, waits_on}
-use Rattle.zy_law_steps.proofs.Working.{IsWorking, begins, on_way, same_world, clients_now, goes_as, last_view_is, own_view_is, says, standing}
+use Rattle.zy_law_steps.proofs.Working.{IsWorking, begins, on_way, same_world, goes_as, last_view_is, own_view_is, says, standing}
 use Rattle.zy_law_steps.specs.Heard.{IsFrameHeld}
 use Rattle.zy_law_views.proofs.SignedSlots.{signed_put}
 use Rattle.zy_law_views.specs.Work.{IsAtWork, IsWorkTied, Workplace, last_long, workplace_of}
 use Rattle.zy_law_steps.specs.Gains.{AreGainsKept}
+use Rattle.zy_law_views.proofs.Responding.{answered_above}
+use Rattle.zy_chain.specs.Heads.{head_after}
+use Rattle.zy_parts.specs.Asks.{asking}
+use Rattle.zy_frames.specs.Frames.{entry_in}
 
 -- ---- what is kept, changed
 
@@ -118,7 +120,7 @@ pub record IsInWindow (interval : ℕ) (orders : Orders) (o : OrderFrame) : Type
   pub near : o.order.stmt.place.0 ≤ orders.base + 2 * interval
   pub low : o.order.stmt.place.0 < 2 ^ 62
 
-work_put : (interval : ℕ) (w : World) (r bound : ℕ) (p : Workplace) (o : OrderFrame) → IsWorkTied interval w r bound p → MayRun w (ordered_entry o) → IsHeldPart w order_told o.order → IsInWindow interval p.orders o
+work_put : (interval : ℕ) (w : World) (r bound : ℕ) (p : Workplace) (o : OrderFrame) → IsWorkTied interval w r bound p → MayRun w (entry_in o) → IsHeldPart w order_told o.order → IsInWindow interval p.orders o
     → IsWorkTied interval w r bound (record p { orders = with_order p.orders o })
 work_put interval w r bound p o is may held inside =
     record {
@@ -183,7 +185,7 @@ module _ {S : Type 0} (R : Rules S) (interval : ℕ) (texts : Texts) (w : World)
 
   -- ---- a request that was executed last, and one that waits
 
-  pub responds : (ask : Signed Ask) (known : Known) → known_in R s.kept (asking ask.by).0 ≡ Some known → Goes (responded R s (spec_of (table.own_view s) (entry_of ask) known) known)
+  pub responds : (ask : Signed Ask) (known : Known) → known_in R s.kept (asking ask.by).0 ≡ Some known → Goes (responded R s (asking ask.by) (spec_of (table.own_view s) known) known)
   responds ask known is gains = on_way R interval texts w r s h view ready kept work active _ (answered_on R interval texts w r s h ready kept ask known is view active) active
 
   pub waits : (ask : Signed Ask) → Goes (ends Taken (request_waits R s ask))
@@ -218,16 +220,16 @@ module _ {S : Type 0} (R : Rules S) (interval : ℕ) (texts : Texts) (w : World)
         far = omega (arith, in_window.above);
       }
 
-  puts : (o : OrderFrame) → MayRun w (ordered_entry o) → IsHeldPart w order_told o.order → IsInWindow interval s.orders o → (hole : Option (Signed Hole)) → Works (begin (record (with_held s o) { hole = hole }))
+  puts : (o : OrderFrame) → MayRun w (entry_in o) → IsHeldPart w order_told o.order → IsInWindow interval s.orders o → (hole : Option (Signed Hole)) → Works (begin (record (with_held s o) { hole = hole }))
   unfolding goes_as
   puts o may held in_window hole =
       goes_as R interval texts w r s h view 0 (begin s) start (begin (record (with_held s o) { hole = hole })) refl start.tied
-      (work_put interval start.world r (length start.now + 0) (workplace_of s) o start.work (start.may (ordered_entry o) may) (subst (λ (u : World). IsHeldPart u order_told o.order) (sym same_start) held) in_window) refl refl refl refl
+      (work_put interval start.world r (length start.now + 0) (workplace_of s) o start.work (start.may (entry_in o) may) (subst (λ (u : World). IsHeldPart u order_told o.order) (sym same_start) held) in_window) refl refl refl refl
 
-  pub holds_order : (o : OrderFrame) → MayRun w (ordered_entry o) → IsHeldPart w order_told o.order → last_place s.kept < o.order.stmt.place.0 → o.order.stmt.place.0 ≤ window_of s → Goes (ends Held (begin (with_held s o)))
+  pub holds_order : (o : OrderFrame) → MayRun w (entry_in o) → IsHeldPart w order_told o.order → last_place s.kept < o.order.stmt.place.0 → o.order.stmt.place.0 ≤ window_of s → Goes (ends Held (begin (with_held s o)))
   holds_order o may held above below gains = puts o may held (inside o above below) s.hole
 
-  pub asks : (o : OrderFrame) → MayRun w (ordered_entry o) → IsHeldPart w order_told o.order → last_place s.kept < o.order.stmt.place.0 → o.order.stmt.place.0 ≤ window_of s → Goes (ends Held (ask_for_missing R (with_held s o)))
+  pub asks : (o : OrderFrame) → MayRun w (entry_in o) → IsHeldPart w order_told o.order → last_place s.kept < o.order.stmt.place.0 → o.order.stmt.place.0 ≤ window_of s → Goes (ends Held (ask_for_missing R (with_held s o)))
   asks o may held above below gains =
       let s' : State S = with_held s o in
       let put = puts o may held (inside o above below) s.hole in
@@ -236,7 +238,7 @@ module _ {S : Type 0} (R : Rules S) (interval : ℕ) (texts : Texts) (w : World)
       says R interval texts w r s h view 0 (begin s') put remark 0 (ask_for_missing R s') refl (says_other R interval put.world put.lawful r put.correct (core_of s') put.now put.tied) refl refl
       (work_said interval put.world r y (length put.now + 0) (length put.now + 0) (workplace_of s') (omega arith) (λ m request told. absurd cc) put.work)
 
-  pub takes : (o : OrderFrame) → MayRun w (ordered_entry o) → IsHeldPart w order_told o.order → IsNew R s o.ask → last_place s.kept < o.order.stmt.place.0 → o.order.stmt.place.0 ≤ window_of s
+  pub takes : (o : OrderFrame) → MayRun w (entry_in o) → IsHeldPart w order_told o.order → IsNew R s (entry_in o) → last_place s.kept < o.order.stmt.place.0 → o.order.stmt.place.0 ≤ window_of s
       → Goes (ends Taken (run R o (begin (record (with_held s o) { hole = None }))))
   takes o may held new above below gains =
       let s' : State S = record (with_held s o) { hole = None } in
@@ -250,13 +252,13 @@ module _ {S : Type 0} (R : Rules S) (interval : ℕ) (texts : Texts) (w : World)
 
   -- ---- a primary's order
 
-  pub orders : (ask : Signed Ask) → MayRun w (entry_of ask) → is_primary s ≡ true → IsNew R s ask → last_place s.kept < window_of s → Goes (ends Taken (run R (sealed_order R s ask) (ordered R s ask)))
+  pub orders : (ask : Signed Ask) → MayRun w (entry_of ask) → is_primary s ≡ true → IsNew R s (entry_of ask) → last_place s.kept < window_of s → Goes (ends Taken (run R (sealed_order R s ask) (ordered R s ask)))
   unfolding says
   orders ask may primary new room gains =
       let e : Entry = entry_of ask in
       let there = standing R interval texts w r s h view 0 (begin s) start in
-      let m : Mark = record { place = (next_known R s (entry_of ask)).place.0; head = (next_known R s (entry_of ask)).head } in
-      let remark : Remark = record { body = bodies.Order (order_of R s (entry_of ask)); stood = stood_of R s } in
+      let m : Mark = record { place = (now_of R s.kept).place + 1; head = head_after (now_of R s.kept).head (digest_of_entry e) } in
+      let remark : Remark = record { body = bodies.Order (order_of R s e); stood = stood_of R s } in
       let y : Spoken = said_now start.world r (statement_by r remark.body) in
       let o : OrderFrame = sealed_order R s ask in
       let g : Going S = ordered R s ask in
@@ -298,7 +300,7 @@ module _ {S : Type 0} (R : Rules S) (interval : ℕ) (texts : Texts) (w : World)
   -- ---- a response or a checkpoint
 
   abbrev V : Signed Spec → Type 0
-  V = IsHeldPart start.world response_told
+  V = IsHeldPart start.world spec_told
 
   abbrev C : Signed Check → Type 0
   C = IsHeldPart start.world check_told
@@ -315,10 +317,10 @@ module _ {S : Type 0} (R : Rules S) (interval : ℕ) (texts : Texts) (w : World)
 
   -- what is kept then is held
   puts_board : (board : Board) → IsPut s (IsFrameHeld w) board → Works (begin (with_board s board))
-  puts_board board (IsPut.new_spec vote reply with_order heard new is) =
+  puts_board board (IsPut.new_spec vote answers with_order heard new is) =
       subst (λ (b : Board). Works (begin (with_board s b))) (sym is)
       (with_it (put_in.with_spec s.board vote)
-      (with_spec_kept V C s.board vote (record { near = start.work.near; far = start.work.far }) (subst (λ (u : World). IsHeldPart u response_told vote) (sym same_start) heard) new) (spec_stays s.board vote))
+      (with_spec_kept V C s.board vote (record { near = start.work.near; far = start.work.far }) (subst (λ (u : World). IsHeldPart u spec_told vote) (sym same_start) heard) new) (spec_stays s.board vote))
   puts_board board (IsPut.new_check vote heard new is) =
       subst (λ (b : Board). Works (begin (with_board s b))) (sym is)
       (with_it (put_in.with_check s.board vote)
@@ -331,19 +333,18 @@ module _ {S : Type 0} (R : Rules S) (interval : ℕ) (texts : Texts) (w : World)
   at_place g is place Q none some =
       let stands = is.tied.standing.stands in
       kept_case R g.state place Q none
-      (λ e head reply state at head_is state_is.
+      (λ head answers state head_is replied state_is.
       let told = state_told R g.state.kept is.now stands place state state_is in
-      some (spec_at (table.own_view g.state) place e head reply) state
-      (is_here R (table.own_view g.state) g.state.kept is.now (spec_at (table.own_view g.state) place e head reply) state
+      some (spec_at (table.own_view g.state) place head answers) state
+      (is_here R (table.own_view g.state) g.state.kept is.now (spec_at (table.own_view g.state) place head answers) state
       (record {
         view_is = refl;
         above = told.0;
         below = told.1.0;
         head = (head_told R g.state.kept is.now stands place head head_is).1;
         state_is = told.1.1;
-        client = client_told R g.state.kept is.now stands place e at (clients_now R interval texts w r s h view 0 g is);
       })
-      (above_base g.state.kept place e at) state_is)
+      (answered_above R g.state.kept place answers replied) state_is)
       refl head_is)
 
   pub keeps_board : (board : Board) → IsPut s (IsFrameHeld w) board → Goes (ends Held (begin (with_board s board)))
@@ -357,15 +358,15 @@ module _ {S : Type 0} (R : Rules S) (interval : ℕ) (texts : Texts) (w : World)
 
   -- ---- a commit certificate
 
-  module _ (specs : List (Signed Spec)) (local : Local) (held : Option Certificate) (heard : All (IsHeldPart w response_told) specs) (own : IsOwnCommit s specs local) (furthest : IsFurthest local.place specs s.views.specs held) where
+  module _ (specs : List (Signed Spec)) (local : Local) (held : Option Certificate) (heard : All (IsHeldPart w spec_told) specs) (own : IsOwnCommit s specs local) (furthest : IsFurthest local.place specs s.views.specs held) where
     abbrev m : Mark
     m = mark_at local.place local.head
 
     views_are : local.view.0 ≡ view.0
     views_are = own.view ∙ own_view_is R interval texts w r s h view 0 (begin s) start
 
-    heard_now : All (IsHeldPart start.world response_told) specs
-    heard_now = subst (λ (u : World). All (IsHeldPart u response_told) specs) (sym same_start) heard
+    heard_now : All (IsHeldPart start.world spec_told) specs
+    heard_now = subst (λ (u : World). All (IsHeldPart u spec_told) specs) (sym same_start) heard
 
     certificate : IsCertificate point_of_spec start.world.counts.cert specs (local.view, local.place, local.head)
     certificate =

@@ -10,14 +10,13 @@ use Rattle.zy_chain.specs.Entries.{digest_of_entry}
 use Rattle.zy_chain.specs.Heads.{head_after}
 use Rattle.zy_chain.specs.Stretch.{Mark}
 use Rattle.zy_chain.specs.declared.entry.Entry.{Entry}
-use Rattle.zy_admit.specs.Judging.{same_digest, ordered_entry}
+use Rattle.zy_admit.specs.Judging.{same_digest}
 use Rattle.zy_admit.specs.Orders.{slots_above, without_order}
 use Rattle.zy_check.proofs.JudgingLemmas.{after_spec-stays, without_others-stays}
 use Rattle.zy_check.specs.Board.{Board, without_others}
 use Rattle.zy_check.specs.Judging.{after_spec}
 use Rattle.zy_exec.proofs.ReplayLemmas.{place-along}
 use Rattle.zy_exec.specs.Kept.{last_place, longer, now_of}
-use Rattle.zy_exec.specs.declared.known.Known.{Known}
 use Rattle.zy_frames.specs.declared.frame.OrderFrame.{OrderFrame}
 use Rattle.zy_law.proofs.EntriesAskedFor.{entry_within}
 use Rattle.zy_law.specs.Steps.{after_saying}
@@ -25,10 +24,9 @@ use Rattle.zy_law.specs.World.{Answer, Spoken, Statement, World}
 use Rattle.zy_law_normal.proofs.Follow.{Keeps, end_settled, in_state, one_keeps}
 use Rattle.zy_law_normal.proofs.Going.{slots_from, slots_with}
 use Rattle.zy_law_normal.proofs.KeptVotes.{AreKeptOf, after_spec_kept, without_others_kept}
-use Rattle.zy_law_normal.proofs.OneEntry.{AreOrdersOf, fold_is, known_next, orders_of_longer}
+use Rattle.zy_law_normal.proofs.OneEntry.{AreOrdersOf, fold_is, orders_of_longer, answered_now}
 use Rattle.zy_law_normal.proofs.Own.{by_test, state_told}
-use Rattle.zy_law_normal.proofs.Records.{IsLastOf}
-use Rattle.zy_law_normal.specs.Acts.{statement_by, answer_told}
+use Rattle.zy_law_normal.specs.Acts.{statement_by}
 use Rattle.zy_law_normal.specs.Tied.{MayRun, MaySlotRun}
 use Rattle.zy_parts.specs.declared.signed.Signed.{Signed}
 use Rattle.zy_parts.specs.declared.statements.Check.{Check}
@@ -36,7 +34,7 @@ use Rattle.zy_parts.specs.declared.statements.Order.{Order}
 use Rattle.zy_parts.specs.declared.statements.Spec.{Spec}
 use Rattle.zy_table.specs.Deeds.{Going, send}
 use Rattle.zy_table.specs.Gathering.{check_with, own_with, state_in, with_own_spec}
-use Rattle.zy_table.specs.Running.{executed, fits_end, got_of, next_known, respond, run, run_held, run_one, sealed_spec, share, signs_of, spec_of}
+use Rattle.zy_table.specs.Running.{executed, fits_end, respond, run, run_held, run_one, sealed_spec, share, signs_of, next_answers, next_spec}
 use Rattle.zy_table.specs.State as table
 use Rattle.zy_table.specs.State.{State, signs_left, stood_of}
 use Rattle.zy_table.specs.declared.deeds.Body.TheVariants as bodies
@@ -44,11 +42,11 @@ use Rattle.zy_table.specs.declared.deeds.Remark.{Remark}
 use Rattle.zy_table.specs.declared.deeds.To.TheVariants.{All}
 use Rattle.zy_law_views.proofs.Responding.{true_reply}
 use Rattle.zy_law_views.proofs.InView.{says_response}
-use Rattle.zy_law_views.specs.Held.{IsHeldPart, IsVouchedBy, mark_at}
+use Rattle.zy_law_views.specs.Held.{IsHeldPart, mark_at}
 use Rattle.zy_law_views.specs.Texts.{Texts}
 use Rattle.zy_law_views.specs.Tied.{AreOrdersUpTo, Core, IsTied, SaysLawfully, said_now}
-use Rattle.zy_law_views.specs.Told.{check_told, response_told}
-use Rattle.zy_law_views.proofs.AtWork.{own_held, told_alike, work_board, work_said}
+use Rattle.zy_law_views.specs.Told.{check_told, spec_told}
+use Rattle.zy_law_views.proofs.AtWork.{own_held, work_board, work_said}
 use Rattle.zy_law_views.specs.Cores.{core_of}
 use Rattle.zy_law_steps.proofs.Gained.{held_gains, one_gains}
 use Rattle.zy_law_steps.proofs.Gathers.{IsHere, gathers, is_here}
@@ -57,7 +55,10 @@ use Rattle.zy_law_views.proofs.SignedSlots.{signed_with}
 use Rattle.zy_law_views.specs.Work.{workplace_of}
 use Rattle.zy_law_steps.specs.Gains.{AreGainsKept, IsGainKept}
 use Rattle.zy_exec.specs.Replay.{is_new_to}
-use Rattle.zy_chain.specs.Answers.{digest_of_answers}
+use Rattle.zy_law_normal.proofs.Records.{IsAnswered}
+use Rattle.zy_chain.specs.Answers.{Answers}
+use Rattle.zy_table.specs.Adopting.{got_next}
+use Rattle.zy_frames.specs.Frames.{entry_in}
 
 -- ---- where what is kept begins and ends
 
@@ -71,7 +72,7 @@ module _ {S : Type 0} (R : Rules S) where
   between low end =
       record {
         sends = λ g to frame is. record { above = is.above; ends = is.ends };
-        responds = λ g order signed reply is. record { above = is.above; ends = is.ends };
+        responds = λ g order signed answers is. record { above = is.above; ends = is.ends };
         owns = λ g own signed is. record { above = is.above; ends = is.ends };
         holds = λ g held is. record { above = is.above; ends = is.ends };
         checks = λ g check is. record { above = is.above; ends = is.ends };
@@ -84,7 +85,7 @@ module _ {S : Type 0} (R : Rules S) where
   one_further : (o : OrderFrame) (g : Going S) → IsBetween g.state.kept.base.place (last_place g.state.kept + 1) (run_one R o g)
   one_further o g =
       one_keeps R (IsBetween g.state.kept.base.place (last_place g.state.kept + 1)) (between g.state.kept.base.place (last_place g.state.kept + 1)) o g
-      (record { above = omega arith; ends = omega (arith, length-append g.state.kept.entries (ordered_entry o ∷ [])) })
+      (record { above = omega arith; ends = omega (arith, length-append g.state.kept.entries (entry_in o ∷ [])) })
 
 module _ {S : Type 0} (R : Rules S) (interval : ℕ) (texts : Texts) (w : World) (r : ℕ) (s : State S) (h : List Entry) (view : View) where
   abbrev Works : Going S → Type 0
@@ -92,16 +93,16 @@ module _ {S : Type 0} (R : Rules S) (interval : ℕ) (texts : Texts) (w : World)
 
   -- ---- the response at a multiple of the interval
 
-  shares : (order : Signed Order) (signed : Signed Spec) (reply : List ℕ) (g : Going S) (is : Works g) (state : Option Digest)
-      → ((told : Digest) → state ≡ Some told → IsHere R (table.own_view g.state) g.state.kept is.now signed.stmt told) → IsHeldPart is.world response_told signed → Works (share R order signed reply state g)
+  shares : (order : Signed Order) (signed : Signed Spec) (answers : Answers) (g : Going S) (is : Works g) (state : Option Digest)
+      → ((told : Digest) → state ≡ Some told → IsHere R (table.own_view g.state) g.state.kept is.now signed.stmt told) → IsHeldPart is.world spec_told signed → Works (share R order signed answers state g)
   unfolding goes_as
-  shares order signed reply g is None here held = is
-  shares order signed reply g is (Some state) here held =
+  shares order signed answers g is None here held = is
+  shares order signed answers g is (Some state) here held =
       let spec : Spec = signed.stmt in
       let check : Check = check_with spec state in
       let without = without_others-stays g.state.board spec check in
       let own = after_spec-stays (without_others g.state.board spec check) signed (Some spec) in
-      let V : Signed Spec → Type 0 = IsHeldPart is.world response_told in
+      let V : Signed Spec → Type 0 = IsHeldPart is.world spec_told in
       let C : Signed Check → Type 0 = IsHeldPart is.world check_told in
       let rounds : AreKeptOf V C (after_spec (without_others g.state.board spec check) signed (Some spec)) =
       after_spec_kept V C (without_others g.state.board spec check) signed (Some spec)
@@ -119,57 +120,50 @@ module _ {S : Type 0} (R : Rules S) (interval : ℕ) (texts : Texts) (w : World)
 
   -- ---- one order
 
-  module _ (more : ℕ) (g : Going S) (is : IsWorking R interval texts w r s h view more g) (o : OrderFrame) (may : MayRun w (ordered_entry o))
-      (new : is_new_to (now_of R g.state.kept).known (ordered_entry o) ≡ true)
-      (gain : IsGainKept w texts (got_of R g.state (ordered_entry o))) (of : AreOrdersOf is.world r (table.own_view g.state) (is.now ++ ordered_entry o ∷ []))
+  module _ (more : ℕ) (g : Going S) (is : IsWorking R interval texts w r s h view more g) (o : OrderFrame) (may : MayRun w (entry_in o))
+      (new : is_new_to (now_of R g.state.kept).known (entry_in o) ≡ true)
+      (gain : IsGainKept w texts (got_next R g.state.kept (entry_in o))) (of : AreOrdersOf is.world r (table.own_view g.state) (is.now ++ entry_in o ∷ []))
       (top : ℕ) (low : last_place g.state.kept < top) (near : top ≤ g.state.kept.base.place + 2 * interval) (in_range : top < 2 ^ 62) where
     pub one_goes : more ≤ 1 → Works (run_one R o g)
     unfolding run_one gains says
     one_goes few =
-        let e : Entry = ordered_entry o in
-        let done : Going S = executed R (ordered_entry o) g in
-        let moved : Works done = gains R interval texts w r s h view more g is o.ask may new gain of top low near in_range few in
+        let e : Entry = entry_in o in
+        let done : Going S = executed R e g in
+        let moved : Works done = gains R interval texts w r s h view more g is e may new gain of top low near in_range few in
         let far : List Entry = is.now ++ e ∷ [] in
-        let known : Known = next_known R g.state (ordered_entry o) in
-        let spec : Spec = spec_of (table.own_view g.state) (ordered_entry o) known in
-        let m : Mark = mark_at known.place known.head in
-        let a : Answer = answer_told e.client.0 known.stamp.0 spec.reply in
+        let answers : Answers = next_answers R g.state e in
+        let spec : Spec = next_spec R g.state e in
+        let m : Mark = mark_at spec.place spec.head in
+        let a : Answer = record { reply = spec.answers } in
         let remark : Remark = record { body = bodies.Spec spec; stood = stood_of R done.state } in
         let y : Spoken = said_now moved.world r (statement_by r remark.body) in
-        let last : IsLastOf R far e.client.0 known =
-        known_next R is.world r g.state is.now is.lawful is.kept.agrees is.correct (standing R interval texts w r s h view more g is) e in
-        let within : known.place.0 ≤ length far = entry_within far known.place.0 last.entry last.there in
+        let last : IsAnswered R far spec.place.0 spec.head answers =
+        answered_now R is.world r g.state is.now is.lawful is.kept.agrees is.correct (standing R interval texts w r s h view more g is) e in
+        let within : spec.place.0 ≤ length far = entry_within far spec.place.0 last.entry last.there in
         let there = standing R interval texts w r s h view 0 done moved in
         let says_view : SaysLawfully R interval moved.world r (core_of done.state) far (Statement.Spec view.0 m a) =
         says_response R interval moved.world moved.lawful r moved.correct (core_of done.state) far moved.tied view moved.active m a
-        (record { within = within; head = fold_is R moved.world r done.state far moved.lawful moved.kept.agrees moved.correct there (take known.place.0 far) ∙ last.head })
-        (record {
-          entry = last.entry;
-          last = last.there;
-          reply = true_reply R moved.world moved.kept.agrees far known.place.0 last.entry known.reply within last.there last.reply
-              ∙ (λ i. (answer_told (last.client_is i) (last.stamp i).0 (digest_of_answers known.reply)).reply);
-        }) in
+        (record { within = within; head = fold_is R moved.world r done.state far moved.lawful moved.kept.agrees moved.correct there (take spec.place.0 far) ∙ last.head_is })
+        (record { entry = last.entry; last = last.there; reply = true_reply R moved.world moved.kept.agrees far spec.place.0 answers within last.answers_are }) in
         let views : view.0 ≡ table.own_view g.state = sym (own_view_is R interval texts w r s h view more g is) in
         let says_it : SaysLawfully R interval moved.world r (core_of done.state) far (statement_by r remark.body) =
         subst (λ (n : ℕ). SaysLawfully R interval moved.world r (core_of done.state) far (Statement.Spec n m a)) views says_view in
         let signed : Signed Spec = sealed_spec done.state spec in
-        let after : Going S = respond R o.order signed known.reply done in
+        let after : Going S = respond R o.order signed answers done in
         let work = work_said interval moved.world r y (length far + 0) (length far + 0) (workplace_of done.state) (omega arith) (λ m request told. absurd cc) moved.work in
         let on : Works after = says R interval texts w r s h view 0 done moved remark 0 after refl says_it refl refl work in
-        let held : IsHeldPart (after_saying moved.world r y) response_told signed =
-        subst (λ (t : Statement). IsVouchedBy (after_saying moved.world r y) t signed.by) (told_alike spec may.client)
-        (own_held moved.world r y signed.by done.state.views.me moved.correct moved.signer moved.tied.standing.me) in
-        shares o.order signed known.reply after on (state_in R (longer g.state.kept e) known.place.0)
+        let held : IsHeldPart (after_saying moved.world r y) spec_told signed = own_held moved.world r y signed.by done.state.views.me moved.correct moved.signer moved.tied.standing.me in
+        shares o.order signed answers after on (state_in R (longer g.state.kept e) spec.place.0)
         (λ state told.
-        let at = state_told R (longer g.state.kept e) far moved.tied.standing.stands known.place.0 state told in
+        let at = state_told R (longer g.state.kept e) far moved.tied.standing.stands spec.place.0 state told in
         is_here R (table.own_view g.state) (longer g.state.kept e) far spec state
-        (record { view_is = refl; above = at.0; below = at.1.0; head = last.head; state_is = at.1.1; client = may.client })
+        (record { view_is = refl; above = at.0; below = at.1.0; head = last.head_is; state_is = at.1.1 })
         (omega (arith, place-along R g.state.kept.base g.state.kept.entries)) told)
         held
 
   -- where its orders are of places of its history
-  pub next_goes : (o : OrderFrame) (g : Going S) → Works g → MayRun w (ordered_entry o)
-      → is_new_to (now_of R g.state.kept).known (ordered_entry o) ≡ true → IsGainKept w texts (got_of R g.state (ordered_entry o))
+  pub next_goes : (o : OrderFrame) (g : Going S) → Works g → MayRun w (entry_in o)
+      → is_new_to (now_of R g.state.kept).known (entry_in o) ≡ true → IsGainKept w texts (got_next R g.state.kept (entry_in o))
       → (top : ℕ) → last_place g.state.kept < top → top ≤ g.state.kept.base.place + 2 * interval → top < 2 ^ 62 → Works (run_one R o g)
   next_goes o g is may new gain top low near in_range =
       let views : g.state.views.last_view.0 ≡ table.own_view g.state = sym (last_view_is R interval texts w r s h view 0 g is) ∙ sym (own_view_is R interval texts w r s h view 0 g is) in
@@ -177,7 +171,7 @@ module _ {S : Type 0} (R : Rules S) (interval : ℕ) (texts : Texts) (w : World)
       let up_to : AreOrdersUpTo is.world r (table.own_view g.state) (length is.now) =
       subst (λ (n : ℕ). AreOrdersUpTo is.world r (table.own_view g.state) n) all (subst (λ (v : ℕ). AreOrdersUpTo is.world r v (length is.now + 0)) views is.work.ordered) in
       one_goes 0 g is o may new gain
-      (orders_of_longer R is.world r g.state is.now is.lawful is.kept.agrees is.correct (standing R interval texts w r s h view 0 g is) (ordered_entry o) up_to)
+      (orders_of_longer R is.world r g.state is.now is.lawful is.kept.agrees is.correct (standing R interval texts w r s h view 0 g is) (entry_in o) up_to)
       top low near in_range (omega arith)
 
   -- ---- the orders that are held
@@ -190,9 +184,9 @@ module _ {S : Type 0} (R : Rules S) (interval : ℕ) (texts : Texts) (w : World)
   held_goes (Some o ∷ slots) g all is =
       by_test (λ (g' : Going S). AreGainsKept w texts g'.deeds.acts → (top : ℕ) → last_place g.state.kept + length (Some o ∷ slots) ≤ top → top ≤ g.state.kept.base.place + 2 * interval → top < 2 ^ 62 → Works g') (fits_end R g.state o) _ _
       (λ fits. by_test (λ (g' : Going S). AreGainsKept w texts g'.deeds.acts → (top : ℕ) → last_place g.state.kept + length (Some o ∷ slots) ≤ top → top ≤ g.state.kept.base.place + 2 * interval → top < 2 ^ 62 → Works g')
-      (nat_le (signs_of R g.state (ordered_entry o)) (signs_left g.state)) _ _
+      (nat_le (signs_of R g.state (entry_in o)) (signs_left g.state)) _ _
       (λ left gains top low near in_range.
-      let new = (and_parts (same_digest o.order.stmt.head (head_after (now_of R g.state.kept).head (digest_of_entry (ordered_entry o)))) (is_new_to (now_of R g.state.kept).known (ordered_entry o)) fits).1 in
+      let new = (and_parts (same_digest o.order.stmt.head (head_after (now_of R g.state.kept).head (digest_of_entry (entry_in o)))) (is_new_to (now_of R g.state.kept).known (entry_in o)) fits).1 in
       let gain = (one_gains w texts R o g (held_gains w texts R slots (run_one R o g) gains)).1 in
       held_goes slots (run_one R o g) all.1 (next_goes o g is all.0 new gain top (omega arith) near in_range) gains top
       (omega (arith, (one_further R o g).ends)) (omega (arith, (one_further R o g).above)) in_range)

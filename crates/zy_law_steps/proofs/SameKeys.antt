@@ -21,7 +21,7 @@ use Rattle.zy_base.specs.declared.step.Mode.{Mode}
 use Rattle.zy_base.specs.declared.step.Mode.TheVariants.{Active, Leaving}
 use Rattle.zy_base.specs.declared.step.TimerKind.{TimerKind}
 use Rattle.zy_base.specs.declared.step.TimerKind.TheVariants as timers
-use Rattle.zy_admit.specs.Judging.{judge_in, same_digest, ordered_entry}
+use Rattle.zy_admit.specs.Judging.{judge_in, same_digest}
 use Rattle.zy_admit.specs.Orders.{slots_above, stored_in}
 use Rattle.zy_admit.specs.declared.judging.Admit.{Admit}
 use Rattle.zy_admit.specs.declared.judging.Admit.TheVariants as admits
@@ -95,6 +95,7 @@ use Rattle.zy_vframes.specs.declared.frame.ViewFrame.TheVariants as view_frames
 use Rattle.zy_law_views.proofs.Admitted.{IsPlaced, placed}
 use Rattle.zy_law_views.proofs.Requested.{RunCases, order_admitted}
 use Rattle.zy_law_steps.proofs.NormalSteps.{unless_case}
+use Rattle.zy_frames.specs.Frames.{entry_in}
 
 module _ {S : Type 0} (R : Rules S) (s : State S) where
   pub record IsSame (t : State S) : Type 0 where
@@ -137,7 +138,7 @@ module _ {S : Type 0} (R : Rules S) (s : State S) where
   held_same (None ∷ slots) g is = is
   held_same (Some o ∷ slots) g is =
       by_test Same (fits_end R g.state o) _ _
-      (λ fits. by_test Same (nat_le (signs_of R g.state (ordered_entry o)) (signs_left g.state)) _ _ (λ left. held_same slots (run_one R o g) (one_same o g is)) (λ none. is))
+      (λ fits. by_test Same (nat_le (signs_of R g.state (entry_in o)) (signs_left g.state)) _ _ (λ left. held_same slots (run_one R o g) (one_same o g is)) (λ none. is))
       (λ differs. record { keys = is.keys; me = is.me; counts = is.counts; interval = is.interval })
 
   run_same : (o : OrderFrame) (g : Going S) → Same g → Same (run R o g)
@@ -443,35 +444,35 @@ module _ {S : Type 0} (R : Rules S) (s : State S) where
 
   -- ---- frames of normal operation
 
-  order_judged_same : (o : OrderFrame) (a : Admit) → IsPlaced o.order.stmt o.ask (position_of R s o) a → HasSame (order_judged R s o a)
+  order_judged_same : (o : OrderFrame) (a : Admit) → IsPlaced o.order.stmt (entry_in o) (position_of R s o) a → HasSame (order_judged R s o a)
   order_judged_same o a place = by a place
     where
-      as_it_is : (a : Admit) → IsPlaced o.order.stmt o.ask (position_of R s o) a → HasSame (order_as R s o a)
+      as_it_is : (a : Admit) → IsPlaced o.order.stmt (entry_in o) (position_of R s o) a → HasSame (order_as R s o a)
       as_it_is a place =
           order_admitted R s HasSame run_cases o (λ new room. takes o) (λ room. record { keys = refl; me = refl; counts = refl; interval = refl }) (λ room. record { keys = refl; me = refl; counts = refl; interval = refl }) a place
 
-      by : (a : Admit) → IsPlaced o.order.stmt o.ask (position_of R s o) a → HasSame (order_judged R s o a)
+      by : (a : Admit) → IsPlaced o.order.stmt (entry_in o) (position_of R s o) a → HasSame (order_judged R s o a)
       by admits.Evidence place = finishes (tell_all R s o.order (stored_in s.orders o.order.stmt.place.0)) (tells_all o.order (stored_in s.orders o.order.stmt.place.0))
       by admits.Next place = as_it_is admits.Next place
       by admits.Held place = as_it_is admits.Held place
       by (admits.Refused cause) place = as_it_is (admits.Refused cause) place
 
-  verified_same : (frame : Frame) → HasSame (plain_row R s frame) → HasSame (unless (screen s.keys (plain.parts_of frame)) s (hear_plain R s frame))
+  verified_same : (frame : Frame) → HasSame (plain_row R s frame) → HasSame (unless (screen s.keys (plain.named_in frame) (plain.parts_of frame)) s (hear_plain R s frame))
   verified_same frame same =
-      unless_case s HasSame refuses (screen s.keys (plain.parts_of frame)) (hear_plain R s frame) (λ verified. by_test HasSame (in_role s frame) (plain_row R s frame) (refused causes.WrongRole s) (λ role. same) (λ wrong. start))
+      unless_case s HasSame refuses (screen s.keys (plain.named_in frame) (plain.parts_of frame)) (hear_plain R s frame) (λ verified. by_test HasSame (in_role s frame) (plain_row R s frame) (refused causes.WrongRole s) (λ role. same) (λ wrong. start))
 
-  row_same : (frame : Frame) → IsNormal frame → HasSame (unless (screen s.keys (plain.parts_of frame)) s (hear_plain R s frame))
+  row_same : (frame : Frame) → IsNormal frame → HasSame (unless (screen s.keys (plain.named_in frame) (plain.parts_of frame)) s (hear_plain R s frame))
   row_same frame normal = verified_same frame (row_case R s AnyFrame HasSame cases frame normal tt)
 
-  frame_same : (frame : Frame) → HasSame (unless (screen s.keys (plain.parts_of frame)) s (hear_plain R s frame))
+  frame_same : (frame : Frame) → HasSame (unless (screen s.keys (plain.named_in frame) (plain.parts_of frame)) s (hear_plain R s frame))
   frame_same (frames.Order both) =
       verified_same (frames.Order both) (unless_case s HasSame refuses (view_cause s both.order.stmt.view.0) (order R s both)
-      (λ current. order_judged_same both (judge_in s.orders both.order.stmt (ordered_entry both) (position_of R s both)) (placed both.order.stmt both.ask (position_of R s both) s.orders)))
+      (λ current. order_judged_same both (judge_in s.orders both.order.stmt (entry_in both) (position_of R s both)) (placed both.order.stmt (entry_in both) (position_of R s both) s.orders)))
   frame_same (frames.Hate vote) = verified_same (frames.Hate vote) (finishes (hate R s vote) (hates vote))
   frame_same (frames.Pom first second) = verified_same (frames.Pom first second) (finishes (pom R s first second) (misbehaves first second))
   frame_same (frames.Request ask) = row_same (frames.Request ask) tt
-  frame_same (frames.SpecResponse spec reply with_order) = row_same (frames.SpecResponse spec reply with_order) tt
-  frame_same (frames.Commit specs) = row_same (frames.Commit specs) tt
+  frame_same (frames.SpecResponse spec answers with_order) = row_same (frames.SpecResponse spec answers with_order) tt
+  frame_same (frames.Commit client specs) = row_same (frames.Commit client specs) tt
   frame_same (frames.LocalCommit local) = row_same (frames.LocalCommit local) tt
   frame_same (frames.ConfirmReq confirmed ask) = row_same (frames.ConfirmReq confirmed ask) tt
   frame_same (frames.FillHole hole) = row_same (frames.FillHole hole) tt
@@ -480,7 +481,7 @@ module _ {S : Type 0} (R : Rules S) (s : State S) where
   view_same : (read : Result ViewFrame FrameFault) → HasSame (view_decoded R s read)
   view_same (Err fault) = start
   view_same (Ok frame) =
-      unless_case s HasSame refuses (screen s.keys (view_parts.parts_of frame)) (hear_view R s frame)
+      unless_case s HasSame refuses (screen s.keys None (view_parts.parts_of frame)) (hear_view R s frame)
       (λ verified. by_test HasSame (is_view_frame_in_role s.counts frame) (view_row R s frame) (refused causes.WrongRole s) (λ role. view_row_same frame) (λ wrong. start))
 
   decoded_same : (bytes : List ℕ) (read : Result Frame FrameFault) → HasSame (decoded_as R s bytes read)

@@ -2,8 +2,6 @@
 use Rattle.std.proofs.Common.{◌≡◌, ◌⊎◌, inl, inr, ℕ, zero, suc, ◌<◌, Bool, true, false, List, [], ◌∷◌, length, map, take, set, replicate, Option, Some, None, refl, ap, subst, arith}
 use Rattle.std.specs.List.{AllByRecursion, cons_option, filter_map, position}
 use Rattle.std.specs.Prelude.{IfSome, not, nat_eq, nat_le, slice_get, slice_index_or, ◌&&◌}
-use Rattle.std.proofs.lemmas.List.{length-map}
-use Rattle.std.proofs.lemmas.List.Elements.{All-map}
 use Rattle.std.proofs.lemmas.List.Quantifiers.{position-Some}
 use Rattle.zy_law_normal.proofs.Own.{by_test}
 use Rattle.zy_cert.specs.Equal.{same_began}
@@ -12,7 +10,6 @@ use Rattle.zy_change.specs.Views.{Slots, began_equal, began_past, change_for, ch
 use Rattle.zy_parts.specs.declared.reports.Began.{Began}
 use Rattle.zy_parts.specs.declared.reports.Change.{Change}
 use Rattle.zy_parts.specs.declared.signed.Signed.{Signed}
-use Rattle.zy_wire.specs.Fields.{FitsList}
 
 -- ---- slots
 
@@ -105,7 +102,3 @@ there_is (x ∷ xs) (suc i) within = there_is xs i (omega arith)
 pub position_within : {A : Type 0} (test : A → Bool) (xs : List A) (i : ℕ) → position test xs ≡ Some i → i < length xs
 position_within test [] i is = absurd cc
 position_within test (x ∷ xs) i is = let (within, passes, earlier) = position-Some test (x ∷ xs) i x is in within
-
-module _ {A B : Type 0} (P : B → Type 0) (f : A → B) (low high : ℕ) where
-  pub list_under : (xs : List A) → FitsList (λ x. P (f x)) low high xs → FitsList P low high (map f xs)
-  list_under xs fit = record { least = omega (arith, length-map xs f, fit.least); most = omega (arith, length-map xs f, fit.most); each = All-map P f xs fit.each }

@@ -1,28 +1,26 @@
 -- What a replica keeps and says can be spelled as it looks through what it keeps at a place.
-use Rattle.std.proofs.Common.{◌≡◌, ℕ, ◌-◌, ◌<◌, ◌≤◌, ◌^◌, Bool, true, false, List, [], ◌∷◌, ◌++◌, length, take, Option, Some, None, refl, sym, ap, ◌∙◌, subst, arith}
-use Rattle.std.specs.Prelude.{nat_le, nat_lt, ◌||◌, slice_get, option_map, if◌then◌else◌}
-use Rattle.std.proofs.lemmas.Bool.{leb-false}
-use Rattle.std.proofs.lemmas.Option.{same_Some, slice_get_within}
+use Rattle.std.proofs.Common.{◌≡◌, ℕ, ◌-◌, ◌<◌, ◌^◌, Bool, true, false, List, [], ◌∷◌, ◌++◌, length, take, Option, Some, None, refl, sym, ap, ◌∙◌, subst, arith}
+use Rattle.std.specs.Prelude.{nat_lt, ◌||◌, option_map}
+use Rattle.std.proofs.lemmas.Option.{same_Some}
 use Rattle.sha2.proofs.Facts256.{length-sha256}
 use Rattle.zy_base.specs.Machine.{Rules}
 use Rattle.zy_base.specs.declared.ids.Digest.{Digest}
 use Rattle.zy_base.specs.declared.ids.Place.{Place}
 use Rattle.zy_chain.specs.Fields.{entry_fields}
 use Rattle.zy_chain.specs.Heads.{head_from}
-use Rattle.zy_chain.specs.Stretch.{entry_in, head_in}
-use Rattle.zy_chain.specs.declared.entry.Entry.{Entry}
+use Rattle.zy_chain.specs.Stretch.{head_in}
 use Rattle.zy_cert.specs.Equal.{same_check, check-equal, same_spec, spec-equal}
 use Rattle.zy_change.specs.Views.{is_further, specs_in}
 use Rattle.zy_change.specs.declared.kept.Certificate.{Certificate}
 use Rattle.zy_check.proofs.JudgingLemmas.{after_check-stays}
 use Rattle.zy_check.specs.Board.{Board, Stays, checks_at, specs_at, with_stable}
 use Rattle.zy_exec.proofs.ReplayLemmas.{head-along}
-use Rattle.zy_exec.specs.Kept.{last_place, stretch_of}
+use Rattle.zy_exec.specs.Kept.{last_place, stretch_of, reply_in}
 use Rattle.zy_exec.specs.Shots.{digest_of_snapshot, snapshot_in}
 use Rattle.zy_law_normal.proofs.Committed.{holding}
 use Rattle.zy_law_normal.proofs.Follow.{in_state}
 use Rattle.zy_law_normal.proofs.KeptVotes.{AreKeptOf, after_check_kept, are_first, at_place, with_stable_kept}
-use Rattle.zy_law_normal.proofs.Own.{all_drop, at_of, by_test, kept_case, some_unless}
+use Rattle.zy_law_normal.proofs.Own.{all_drop, by_test, kept_case, some_unless}
 use Rattle.zy_parts.specs.Numbers as numbers
 use Rattle.zy_parts.specs.Signing.{signed}
 use Rattle.zy_parts.specs.Statements.{IsU62, check_fields, spec_fields}
@@ -38,7 +36,10 @@ use Rattle.zy_table.specs.declared.deeds.Remark.{Remark}
 use Rattle.zy_table.specs.declared.kept.OwnCheckpoint.{OwnCheckpoint}
 use Rattle.zy_wire.specs.Fields.{FitsList, FitsOptional}
 use Rattle.zy_law_steps.specs.Spelled.{FitAll, FitsBody, IsBoardSpelled, IsCheckSpelled, IsSpecSpelled, IsSpelled}
-use Rattle.zy_law_steps.proofs.Sizes.{head_long, sealed_fits}
+use Rattle.zy_law_steps.proofs.Sizes.{head_long, sealed_fits, answers_long}
+use Rattle.std.proofs.lemmas.Bool.{or_parts}
+use Rattle.zy_law_views.proofs.Responding.{answered_above}
+use Rattle.zy_chain.specs.Answers.{Answers}
 
 -- ---- acts
 
@@ -72,33 +73,25 @@ pub record IsOwnSpelled (own : OwnCheckpoint) : Type 0 where
   pub check : check_fields.Fits own.check
 
 module _ {S : Type 0} (R : Rules S) (s : State S) (is : IsSpelled s) (low : last_place s.kept < 2 ^ 62) (place : ℕ) where
-  -- above the base, and not past the end
-  entry_range : (b : Bool) (e : Entry) → nat_le place s.kept.base.place ≡ b → (if b then None else slice_get s.kept.entries (place - s.kept.base.place - 1)) ≡ Some e
-      → (1 ≤ place) × (place ≤ last_place s.kept) × entry_fields.Fits e
-  entry_range true e below there = absurd cc
-  entry_range false e past there =
-      let above = leb-false place s.kept.base.place past in
-      let within = slice_get_within s.kept.entries (place - s.kept.base.place - 1) e there in
-      (omega arith, omega arith, at_of entry_fields.Fits s.kept.entries (place - s.kept.base.place - 1) e is.history.entries there)
-
-  own_fits : (e : Entry) (head : Digest) (reply : List ℕ) (state : Digest) → entry_in (stretch_of s.kept) place ≡ Some e → head_in (stretch_of s.kept) place ≡ Some head → state_in R s.kept place ≡ Some state
-      → IsOwnSpelled (own_with (spec_at (own_view s) place e head reply) state)
-  unfolding spec_fields check_fields entry_fields
-  own_fits e head reply state at head_is state_is =
-      let range = entry_range (nat_le place s.kept.base.place) e refl at in
+  own_fits : (head : Digest) (answers : Answers) (state : Digest) → head_in (stretch_of s.kept) place ≡ Some head → reply_in R s.kept place ≡ Some answers → state_in R s.kept place ≡ Some state
+      → IsOwnSpelled (own_with (spec_at (own_view s) place head answers) state)
+  unfolding spec_fields check_fields
+  own_fits head answers state head_is replied state_is =
+      let above = answered_above R s.kept place answers replied in
       let told = some_unless (nat_lt place s.kept.base.place || nat_lt (last_place s.kept) place) (head_from s.kept.base.head (take (place - s.kept.base.place) s.kept.entries)) head head_is in
+      let below = ltb-false (last_place s.kept) place (or_parts (nat_lt place s.kept.base.place) (nat_lt (last_place s.kept) place) told.0).1 in
       let long = subst (λ (d : Digest). length d.0 ≡ 32) told.1 (head_long s.kept.base.head (take (place - s.kept.base.place) s.kept.entries) is.history.head) in
       let view : IsU62 0 (own_view s) = (omega arith, is.views.own) in
-      let there : IsU62 1 place = (range.0, omega (arith, range.1)) in
+      let there : IsU62 1 place = (omega arith, omega arith) in
       record {
-        spec = (view, (there, (long, (length-sha256 _, (range.2.0, range.2.1.0)))));
+        spec = (view, (there, (long, answers_long answers)));
         check = (view, (there, (long, state_long (snapshot_in R s.kept place) state state_is)));
       }
 
   pub own_spelled : (Q : Option OwnCheckpoint → Type 0) → Q None → ((own : OwnCheckpoint) → IsOwnSpelled own → Q (Some own)) → Q (own_at R s place)
   own_spelled Q none some =
       kept_case R s place Q none
-      (λ e head reply state at head_is state_is. some (own_with (spec_at (own_view s) place e head reply) state) (own_fits e head reply state at head_is state_is))
+      (λ head answers state head_is replied state_is. some (own_with (spec_at (own_view s) place head answers) state) (own_fits head answers state head_is replied state_is))
 
 -- ---- other responses and checkpoints are kept
 
@@ -196,7 +189,7 @@ module _ {S : Type 0} (R : Rules S) where
   said false own g fits is = is
   said true own g fits is =
       let s : State S = g.state in
-      let rounds = after_check_kept IsSpecSpelled IsCheckSpelled s.board _ (Some own) (rounds_of s.board is.spelled.board) (sealed_fits numbers.check check_fields s.sealer own own is.spelled.signer fits) in
+      let rounds = after_check_kept IsSpecSpelled IsCheckSpelled s.board _ (Some own) (rounds_of s.board is.spelled.board) (sealed_fits numbers.check check_fields s.sealer own is.spelled.signer fits) in
       let stays = after_check-stays s.board _ (Some own) in
       record {
         acts = fit_said g.deeds.acts _ is.acts fits;

@@ -9,7 +9,7 @@ use Rattle.zy_base.specs.declared.step.Event.{Event}
 use Rattle.zy_base.specs.declared.step.Event.TheVariants.{Heard, Timer}
 use Rattle.zy_base.specs.declared.step.TimerKind.{TimerKind}
 use Rattle.zy_base.specs.declared.step.TimerKind.TheVariants as timers
-use Rattle.zy_admit.specs.Judging.{judge_in, ordered_entry}
+use Rattle.zy_admit.specs.Judging.{judge_in}
 use Rattle.zy_admit.specs.Orders.{stored_in}
 use Rattle.zy_admit.specs.declared.judging.Admit.{Admit}
 use Rattle.zy_admit.specs.declared.judging.Admit.TheVariants as admits
@@ -21,7 +21,7 @@ use Rattle.zy_frames.specs.declared.frame.OrderFrame.{OrderFrame}
 use Rattle.zy_law.specs.World.{World}
 use Rattle.zy_law_normal.proofs.Cases.{row_case}
 use Rattle.zy_law_normal.proofs.Own.{by_test}
-use Rattle.zy_law_normal.specs.Tied.{IsNormal, MayRun}
+use Rattle.zy_law_normal.specs.Tied.{IsNormal, MayRunUnmixed}
 use Rattle.zy_parts.specs.Numbers as numbers
 use Rattle.zy_parts.specs.Reports.{began_fields}
 use Rattle.zy_parts.specs.Signing.{part_of}
@@ -64,6 +64,7 @@ use Rattle.zy_law_steps.proofs.DecodedFrames.{IsViewFrameSpelled, frame_spelled,
 use Rattle.zy_law_steps.proofs.SpelledGathers.{IsDone}
 use Rattle.zy_law_steps.proofs.ViewRows.{change_fine, change_timer_fine, finishes, finishes_leaving, hate_fine, order_fine, pom_fine, refuses, request_timer_fine}
 use Rattle.zy_law_steps.proofs.SpelledWorking.{Brings, asks, cases, holds, run_cases, takes}
+use Rattle.zy_frames.specs.Frames.{entry_in}
 
 module _ {S : Type 0} (R : Rules S) (interval : ℕ) (texts : Texts) (w : World) (r : ℕ) (s : State S) (h : List Entry) (ready : IsReady R interval w r s h) (kept : IsWorldOf R interval w texts) (work : IsAtWork interval w r s)
     (is : IsSpelled s) (reading : (bytes : List ℕ) → IsReading R bytes) where
@@ -73,42 +74,42 @@ module _ {S : Type 0} (R : Rules S) (interval : ℕ) (texts : Texts) (w : World)
   -- ---- frames of normal operation
 
   abbrev IsBroughtOnceVerified : Frame → Type 0
-  IsBroughtOnceVerified frame = screen s.keys (plain.parts_of frame) ≡ None → in_role s frame ≡ true → Brought frame
+  IsBroughtOnceVerified frame = screen s.keys (plain.named_in frame) (plain.parts_of frame) ≡ None → in_role s frame ≡ true → Brought frame
 
-  order_judged_done : (o : OrderFrame) → MayRun w (ordered_entry o) → (a : Admit) → IsPlaced o.order.stmt o.ask (position_of R s o) a → IsDone (order_judged R s o a)
+  order_judged_done : (o : OrderFrame) → MayRunUnmixed w (entry_in o) → (a : Admit) → IsPlaced o.order.stmt (entry_in o) (position_of R s o) a → IsDone (order_judged R s o a)
   order_judged_done o may a place = by a place
     where
-      as_it_is : (a : Admit) → IsPlaced o.order.stmt o.ask (position_of R s o) a → IsDone (order_as R s o a)
+      as_it_is : (a : Admit) → IsPlaced o.order.stmt (entry_in o) (position_of R s o) a → IsDone (order_as R s o a)
       as_it_is a place =
-          order_admitted R s IsDone (run_cases R interval texts w r s h ready kept work is) o (λ new room. takes R interval texts w r s h ready kept work is o may) (λ room. asks R interval texts w r s h ready kept work is o room)
+          order_admitted R s IsDone (run_cases R interval texts w r s h ready kept work is) o (λ new room. takes R interval texts w r s h ready kept work is o (may room.different)) (λ room. asks R interval texts w r s h ready kept work is o room)
           (λ room. holds R interval texts w r s h ready kept work is o) a place
 
-      by : (a : Admit) → IsPlaced o.order.stmt o.ask (position_of R s o) a → IsDone (order_judged R s o a)
+      by : (a : Admit) → IsPlaced o.order.stmt (entry_in o) (position_of R s o) a → IsDone (order_judged R s o a)
       by admits.Evidence place =
           let stored = stored_in s.orders o.order.stmt.place.0 in finishes_leaving R s is (tell_all R s o.order stored) (order_fine R interval w r s h ready is o.order stored)
       by admits.Next place = as_it_is admits.Next place
       by admits.Held place = as_it_is admits.Held place
       by (admits.Refused cause) place = as_it_is (admits.Refused cause) place
 
-  order_done : (o : OrderFrame) → MayRun w (ordered_entry o) → IsDone (order R s o)
-  order_done o may = order_judged_done o may (judge_in s.orders o.order.stmt (ordered_entry o) (position_of R s o)) (placed o.order.stmt o.ask (position_of R s o) s.orders)
+  order_done : (o : OrderFrame) → MayRunUnmixed w (entry_in o) → IsDone (order R s o)
+  order_done o may = order_judged_done o may (judge_in s.orders o.order.stmt (entry_in o) (position_of R s o)) (placed o.order.stmt (entry_in o) (position_of R s o) s.orders)
 
-  verified_done : (frame : Frame) → (screen s.keys (plain.parts_of frame) ≡ None → in_role s frame ≡ true → IsDone (plain_row R s frame)) → IsDone (unless (screen s.keys (plain.parts_of frame)) s (hear_plain R s frame))
+  verified_done : (frame : Frame) → (screen s.keys (plain.named_in frame) (plain.parts_of frame) ≡ None → in_role s frame ≡ true → IsDone (plain_row R s frame)) → IsDone (unless (screen s.keys (plain.named_in frame) (plain.parts_of frame)) s (hear_plain R s frame))
   verified_done frame done =
-      unless_case s IsDone (refuses R s is) (screen s.keys (plain.parts_of frame)) (hear_plain R s frame)
+      unless_case s IsDone (refuses R s is) (screen s.keys (plain.named_in frame) (plain.parts_of frame)) (hear_plain R s frame)
       (λ verified. by_test IsDone (in_role s frame) (plain_row R s frame) (refused causes.WrongRole s) (λ role. done verified role) (λ wrong. refuses R s is causes.WrongRole))
 
-  normal_done : (frame : Frame) → IsNormal frame → IsBroughtOnceVerified frame → IsDone (unless (screen s.keys (plain.parts_of frame)) s (hear_plain R s frame))
+  normal_done : (frame : Frame) → IsNormal frame → IsBroughtOnceVerified frame → IsDone (unless (screen s.keys (plain.named_in frame) (plain.parts_of frame)) s (hear_plain R s frame))
   normal_done frame normal brought = verified_done frame (λ verified role. row_case R s Brought IsDone (cases R interval texts w r s h ready kept work is) frame normal (brought verified role))
 
-  frame_done : (frame : Frame) → IsBroughtOnceVerified frame → IsDone (unless (screen s.keys (plain.parts_of frame)) s (hear_plain R s frame))
+  frame_done : (frame : Frame) → IsBroughtOnceVerified frame → IsDone (unless (screen s.keys (plain.named_in frame) (plain.parts_of frame)) s (hear_plain R s frame))
   frame_done (frames.Order both) brought =
       verified_done (frames.Order both) (λ verified role. unless_case s IsDone (refuses R s is) (view_cause s both.order.stmt.view.0) (order R s both) (λ current. order_done both (brought verified role).0.0))
   frame_done (frames.Hate vote) brought = verified_done (frames.Hate vote) (λ verified role. finishes_leaving R s is (hate R s vote) (hate_fine R interval w r s h ready is vote))
   frame_done (frames.Pom first second) brought = verified_done (frames.Pom first second) (λ verified role. finishes_leaving R s is (pom R s first second) (pom_fine R interval w r s h ready is first second))
   frame_done (frames.Request ask) brought = normal_done (frames.Request ask) tt brought
-  frame_done (frames.SpecResponse spec reply with_order) brought = normal_done (frames.SpecResponse spec reply with_order) tt brought
-  frame_done (frames.Commit specs) brought = normal_done (frames.Commit specs) tt brought
+  frame_done (frames.SpecResponse spec answers with_order) brought = normal_done (frames.SpecResponse spec answers with_order) tt brought
+  frame_done (frames.Commit client specs) brought = normal_done (frames.Commit client specs) tt brought
   frame_done (frames.LocalCommit local) brought = normal_done (frames.LocalCommit local) tt brought
   frame_done (frames.ConfirmReq confirmed ask) brought = normal_done (frames.ConfirmReq confirmed ask) tt brought
   frame_done (frames.FillHole hole) brought = normal_done (frames.FillHole hole) tt brought
@@ -149,7 +150,7 @@ module _ {S : Type 0} (R : Rules S) (interval : ℕ) (texts : Texts) (w : World)
   view_done : (bytes : List ℕ) (read : Result ViewFrame FrameFault) → views.frame_in bytes ≡ read → IsHonestlyRead w texts s read → IsDone (view_decoded R s read)
   view_done bytes (Err fault) is_read honest = refuses R s is (causes.NotFrame fault)
   view_done bytes (Ok frame) is_read honest =
-      unless_case s IsDone (refuses R s is) (screen s.keys (view_parts.parts_of frame)) (hear_view R s frame)
+      unless_case s IsDone (refuses R s is) (screen s.keys None (view_parts.parts_of frame)) (hear_view R s frame)
       (λ verified. hears_done frame (λ role. honest frame refl verified role) (λ role. view_frame_spelled s bytes frame is_read role))
 
   -- ---- an event

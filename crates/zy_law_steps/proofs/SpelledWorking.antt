@@ -4,15 +4,12 @@ use Rattle.std.specs.List.{AllByRecursion}
 use Rattle.std.specs.Prelude.{All, is_some, nat_le, position, unwrap_or}
 use Rattle.std.proofs.lemmas.List.{length-drop}
 use Rattle.std.proofs.lemmas.Option.{same_Some}
-use Rattle.sha2.proofs.Facts256.{length-sha256}
 use Rattle.zy_base.specs.Machine.{Rules}
 use Rattle.zy_base.specs.declared.ids.ClientId.{ClientId}
 use Rattle.zy_base.specs.declared.ids.Digest.{Digest}
 use Rattle.zy_base.specs.declared.ids.Place.{Place}
-use Rattle.zy_base.specs.declared.ids.Stamp.{Stamp}
 use Rattle.zy_base.specs.declared.ids.View.{View}
 use Rattle.zy_base.specs.declared.step.Answer.TheVariants.{Taken, Held}
-use Rattle.zy_admit.specs.Judging.{entry_of, ordered_entry, asking}
 use Rattle.zy_admit.specs.Orders.{gap_above, gap_in, slots_above, with_order}
 use Rattle.zy_cert.proofs.CertificateLemmas.{certified-taken}
 use Rattle.zy_cert.specs.Certificates.{IsCertificate}
@@ -25,23 +22,20 @@ use Rattle.zy_change.specs.declared.kept.Certificate.{Certificate}
 use Rattle.zy_check.specs.Board as put_in
 use Rattle.zy_check.specs.Board.{Board}
 use Rattle.zy_exec.proofs.HistoryLemmas.{stands_end}
-use Rattle.zy_exec.specs.Installed.{IsRunnable}
 use Rattle.zy_exec.specs.Kept.{known_in, last_place, now_of}
 use Rattle.zy_exec.specs.declared.known.Known.{Known}
 use Rattle.zy_frames.specs.declared.frame.Frame.{Frame}
 use Rattle.zy_frames.specs.declared.frame.Frame.TheVariants as frames
 use Rattle.zy_frames.specs.declared.frame.OrderFrame.{OrderFrame}
 use Rattle.zy_law.proofs.EntriesAskedFor.{entry_within}
-use Rattle.zy_law.specs.Said.{Moment}
 use Rattle.zy_law.specs.World.{World}
-use Rattle.zy_law_normal.proofs.Backing.{all_from, all_listed}
+use Rattle.zy_law_normal.proofs.Backing.{all_from}
 use Rattle.zy_law_normal.proofs.Cases.{Cases, IsOwnCommit, IsPut, responded, with_held}
 use Rattle.zy_law_normal.proofs.Committed.{IsFurthest, holding}
 use Rattle.zy_law_normal.proofs.Follow.{gather_at_keeps}
 use Rattle.zy_law_normal.proofs.Going.{slots_put}
 use Rattle.zy_law_normal.proofs.KeptVotes.{with_check_kept, with_spec_kept}
-use Rattle.zy_law_normal.proofs.Own.{at_of, by_test}
-use Rattle.zy_law_normal.proofs.Records.{IsLastOf}
+use Rattle.zy_law_normal.proofs.Own.{by_test}
 use Rattle.zy_law_normal.specs.Tied.{MayRun}
 use Rattle.zy_parts.specs.Signing.{signed}
 use Rattle.zy_parts.specs.Statements.{IsU62, confirm_fields, hole_fields, local_fields, order_fields, spec_fields}
@@ -54,10 +48,9 @@ use Rattle.zy_table.specs.Commits.{give_local, say_local, send_local}
 use Rattle.zy_table.specs.Deeds.{Going, begin, ends}
 use Rattle.zy_table.specs.Gathering.{gather_at, own_at}
 use Rattle.zy_table.specs.Orders.{ask_for_missing}
-use Rattle.zy_table.specs.Requests.{ordered, request_waits, sealed_order}
+use Rattle.zy_table.specs.Requests.{ordered, request_waits, sealed_order, entry_of}
 use Rattle.zy_table.specs.Running.{run, spec_of}
 use Rattle.zy_table.specs.State.{State, own_view, window_of}
-use Rattle.zy_law_views.proofs.ReadLists.{all_runnable}
 use Rattle.zy_law_views.specs.Texts.{Texts}
 use Rattle.zy_law_views.specs.Rows.{IsReady}
 use Rattle.zy_law_views.specs.Work.{IsAtWork}
@@ -72,7 +65,9 @@ use Rattle.zy_law_steps.specs.Spelled.{IsCheckSpelled, IsSpecSpelled, IsSpelled}
 use Rattle.zy_law_steps.proofs.DecodedFrames.{IsFrameSpelled}
 use Rattle.zy_law_steps.proofs.SpelledGathers.{IsDone, IsGoing, board_like, gathers, holding_spelled, own_spelled, rounds_of}
 use Rattle.zy_law_steps.proofs.SpelledRuns.{ends_there, next_place, run_further, runs}
-use Rattle.zy_law_steps.proofs.Sizes.{digest_long, head_long, next_long}
+use Rattle.zy_law_steps.proofs.Sizes.{digest_long, head_long, next_long, answers_long}
+use Rattle.zy_parts.specs.Asks.{asking}
+use Rattle.zy_frames.specs.Frames.{entry_in}
 
 -- how many places lie between is where the first order stands
 gap_at : (found : Option ℕ) (n : ℕ) → gap_in found ≡ Some n → (1 ≤ n) × (found ≡ Some n)
@@ -89,8 +84,8 @@ furthest_spelled s place specs held (IsFurthest.came same older) is fit =
 furthest_spelled s place specs held (IsFurthest.stays same from) is fit = subst (λ (o : Option Certificate). IsSpelled (holding s o)) (sym same) is
 
 with_board_spelled : {S : Type 0} (s : State S) (Brings : Frame → Type 0) → ((frame : Frame) → Brings frame → IsFrameSpelled frame) → (board : Board) → IsPut s Brings board → IsSpelled s → IsSpelled (with_board s board)
-with_board_spelled s Brings spelled board (IsPut.new_spec vote reply with_order heard new same) is =
-    let rounds = with_spec_kept IsSpecSpelled IsCheckSpelled s.board vote (rounds_of s.board is.board) (spelled (frames.SpecResponse vote reply with_order) heard) new in
+with_board_spelled s Brings spelled board (IsPut.new_spec vote answers with_order heard new same) is =
+    let rounds = with_spec_kept IsSpecSpelled IsCheckSpelled s.board vote (rounds_of s.board is.board) (spelled (frames.SpecResponse vote answers with_order) heard) new in
     let put = board_like s.board (put_in.with_spec s.board vote) is.board (spec_stays s.board vote) rounds in
     subst (λ (b : Board). IsSpelled (with_board s b)) (sym same) (record { signer = is.signer; views = is.views; history = is.history; board = put })
 with_board_spelled s Brings spelled board (IsPut.new_check vote heard new same) is =
@@ -111,23 +106,17 @@ module _ {S : Type 0} (R : Rules S) (interval : ℕ) (texts : Texts) (w : World)
 
   -- ---- a request that was executed last
 
-  known_fits : (ask : Signed Ask) (known : Known) → known_in R s.kept (asking ask.by).0 ≡ Some known → last_place s.kept < 2 ^ 62 → spec_fields.Fits (spec_of (own_view s) (entry_of ask) known)
+  known_fits : (ask : Signed Ask) (known : Known) → known_in R s.kept (asking ask.by).0 ≡ Some known → last_place s.kept < 2 ^ 62 → spec_fields.Fits (spec_of (own_view s) known)
   unfolding spec_fields
   known_fits ask known there low =
-      let standing = ready.tied.standing in
-      let last : IsLastOf R h (asking ask.by).0 known = record_is R interval texts w r s h ready kept (asking ask.by).0 known there in
+      let last = (record_is R interval texts w r s h ready kept (asking ask.by).0 known there).answered in
       let within = entry_within h known.place.0 last.entry last.there in
-      let end = stands_end R s.kept h standing.stands in
+      let end = stands_end R s.kept h ready.tied.standing.stands in
       let first = last.there.first in
-      let here : Moment w = record { by = r; correct = ready.correct; number = standing.number; stand = record { view = s.views.last_view.0; history = h }; stood = standing.stood } in
-      let all : AllByRecursion IsRunnable h = all_listed IsRunnable h (all_runnable texts w kept.kept.links w.next empty_head h (ready.lawful.texts here)) in
-      let run : IsRunnable last.entry = at_of IsRunnable h (known.place.0 - 1) last.entry all last.there.there in
-      let client : (asking ask.by).0 < 64 = subst (λ (n : ℕ). n < 64) last.client_is run.client in
-      let stamp : known.stamp.0 < 2 ^ 62 = subst (λ (t : Stamp). t.0 < 2 ^ 62) last.stamp run.in_range.stamp in
-      let head : length known.head.0 ≡ 32 = ap (λ (d : Digest). length d.0) (sym last.head) ∙ head_long empty_head (take known.place.0 h) refl in
-      ((omega arith, is.views.own), ((omega arith, omega arith), (head, (length-sha256 _, (omega arith, (omega arith, stamp))))))
+      let head : length known.head.0 ≡ 32 = ap (λ (d : Digest). length d.0) (sym last.head_is) ∙ head_long empty_head (take known.place.0 h) refl in
+      ((omega arith, is.views.own), ((omega arith, omega arith), (head, answers_long known.answers)))
 
-  responds : (ask : Signed Ask) (known : Known) → known_in R s.kept (asking ask.by).0 ≡ Some known → IsDone (responded R s (spec_of (own_view s) (entry_of ask) known) known)
+  responds : (ask : Signed Ask) (known : Known) → known_in R s.kept (asking ask.by).0 ≡ Some known → IsDone (responded R s (asking ask.by) (spec_of (own_view s) known) known)
   responds ask known there low = record { acts = (known_fits ask known there low, tt); spelled = same_spelled _ refl refl refl refl }
 
   -- ---- an order
@@ -137,7 +126,7 @@ module _ {S : Type 0} (R : Rules S) (interval : ℕ) (texts : Texts) (w : World)
   orders ask may low =
       let o : OrderFrame = sealed_order R s ask in
       let g : Going S = ordered R s ask in
-      let at = next_place R s ask in
+      let at = next_place R s in
       let on = run_further R w o g in
       runs R w o g (slots_put w s.orders o work.runs may) may
       (record {
@@ -146,7 +135,7 @@ module _ {S : Type 0} (R : Rules S) (interval : ℕ) (texts : Texts) (w : World)
       })
       low
 
-  pub takes : (o : OrderFrame) → MayRun w (ordered_entry o) → IsDone (ends Taken (run R o (begin (record (with_held s o) { hole = None }))))
+  pub takes : (o : OrderFrame) → MayRun w (entry_in o) → IsDone (ends Taken (run R o (begin (record (with_held s o) { hole = None }))))
   takes o may low =
       let g : Going S = begin (record (with_held s o) { hole = None }) in
       runs R w o g (slots_put w s.orders o work.runs may) may (record { acts = tt; spelled = same_spelled g.state refl refl refl refl }) low

@@ -40,7 +40,6 @@ use Rattle.zy_table.specs.State.{State}
 use Rattle.zy_table.specs.State as table
 use Rattle.zy_vframes.specs.declared.frame.ViewCert.{ViewCert}
 use Rattle.zy_law_views.specs.Held.{IsHeldChange}
-use Rattle.zy_law_views.specs.Told.{change_spelled}
 use Rattle.zy_law_views.proofs.HeardRows.{kept_on, least_later, said_hate, sent_more, told_again}
 use Rattle.zy_law_views.proofs.Leaves.{IsOnWay, at_begin, hated_more}
 use Rattle.zy_law_views.specs.Rows.{IsReady}
@@ -98,11 +97,11 @@ hated_spelled by g is =
       few = is.few;
     }
 
-change_in_range : (c : Change) → change_fields.Fits (change_spelled c) → IsU62 1 c.view.0
+change_in_range : (c : Change) → change_fields.Fits c → IsU62 1 c.view.0
 unfolding change_fields
 change_in_range c fits = fits.0
 
-spelled_stmt : (c : Signed Change) → IsChangeSpelled c → change_fields.Fits (change_spelled c.stmt)
+spelled_stmt : (c : Signed Change) → IsChangeSpelled c → change_fields.Fits c.stmt
 unfolding signed
 spelled_stmt c fits = fits.1.0
 

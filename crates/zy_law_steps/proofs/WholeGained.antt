@@ -9,7 +9,7 @@ use Rattle.zy_base.specs.declared.frame_fault.FrameFault.{FrameFault}
 use Rattle.zy_base.specs.declared.frame_fault.FrameFault.TheVariants as faults
 use Rattle.zy_base.specs.declared.step.Event.{Event}
 use Rattle.zy_base.specs.declared.step.Event.TheVariants.{Heard, Timer}
-use Rattle.zy_admit.specs.Judging.{judge_in, ordered_entry}
+use Rattle.zy_admit.specs.Judging.{judge_in}
 use Rattle.zy_admit.specs.Orders.{stored_in}
 use Rattle.zy_admit.specs.declared.judging.Admit.{Admit}
 use Rattle.zy_admit.specs.declared.judging.Admit.TheVariants as admits
@@ -21,7 +21,7 @@ use Rattle.zy_frames.specs.declared.frame.OrderFrame.{OrderFrame}
 use Rattle.zy_law.specs.World.{World}
 use Rattle.zy_law_normal.proofs.GainedEntries.{order_gained, row_gained}
 use Rattle.zy_law_normal.proofs.Own.{by_test}
-use Rattle.zy_law_normal.specs.Tied.{IsGained, IsNormal, MayFrameRun, MayRun}
+use Rattle.zy_law_normal.specs.Tied.{IsGained, IsNormal, MayFrameRun, MayRunUnmixed}
 use Rattle.zy_seal.specs.Screening.{screen}
 use Rattle.zy_table.specs.Deeds.{Outcome, gains_in, refused}
 use Rattle.zy_table.specs.Hates.{hate}
@@ -45,13 +45,15 @@ use Rattle.zy_law_views.specs.Steps.{IsWorldOf}
 use Rattle.zy_law_steps.proofs.NormalSteps.{unless_case}
 use Rattle.zy_law_steps.specs.Heard.{IsEventHeld, IsFrameHeld}
 use Rattle.zy_law_steps.specs.Whole.{IsEventHonest}
+use Rattle.zy_law_views.proofs.Admitted.{IsPlaced, placed}
+use Rattle.zy_frames.specs.Frames.{entry_in}
 
 -- its requests may be run
 frame_may : (w : World) (frame : Frame) → IsFrameHeld w frame → MayFrameRun w frame
 frame_may w (frames.Request ask) is = is
 frame_may w (frames.Order both) is = is.0
-frame_may w (frames.SpecResponse spec reply with_order) is = tt
-frame_may w (frames.Commit specs) is = tt
+frame_may w (frames.SpecResponse spec answers with_order) is = tt
+frame_may w (frames.Commit client specs) is = tt
 frame_may w (frames.LocalCommit local) is = tt
 frame_may w (frames.ConfirmReq confirm ask) is = is
 frame_may w (frames.FillHole hole) is = tt
@@ -68,35 +70,36 @@ module _ {S : Type 0} (R : Rules S) (interval : ℕ) (texts : Texts) (w : World)
 
   -- ---- a frame of normal operation
 
-  judged_gain : (both : OrderFrame) → MayRun w (ordered_entry both) → (a : Admit) → Gains (order_judged R s both a)
-  judged_gain both may admits.Evidence =
+  judged_gain : (both : OrderFrame) → MayRunUnmixed w (entry_in both) → (a : Admit) → IsPlaced both.order.stmt (entry_in both) (position_of R s both) a → Gains (order_judged R s both a)
+  judged_gain both may admits.Evidence is =
       let stored = stored_in s.orders both.order.stmt.place.0 in
       (finishes_leaving R interval texts w r s h ready kept_texts (tell_all R s both.order stored) (order_attempt R interval w r s h ready both.order stored)).gained
-  judged_gain both may admits.Next = order_gained R w s work.runs both may admits.Next
-  judged_gain both may admits.Held = order_gained R w s work.runs both may admits.Held
-  judged_gain both may (admits.Refused cause) = tt
+  judged_gain both may admits.Next is = order_gained R w s work.runs both (may is.fresh.different) admits.Next
+  judged_gain both may admits.Held is = order_gained R w s work.runs both (may is.different) admits.Held
+  judged_gain both may (admits.Refused cause) is = tt
 
-  verified_gain : (frame : Frame) → (screen s.keys (plain.parts_of frame) ≡ None → in_role s frame ≡ true → Gains (plain_row R s frame)) → Gains (unless (screen s.keys (plain.parts_of frame)) s (hear_plain R s frame))
+  verified_gain : (frame : Frame) → (screen s.keys (plain.named_in frame) (plain.parts_of frame) ≡ None → in_role s frame ≡ true → Gains (plain_row R s frame)) → Gains (unless (screen s.keys (plain.named_in frame) (plain.parts_of frame)) s (hear_plain R s frame))
   verified_gain frame gain =
-      unless_case s Gains refused_gains (screen s.keys (plain.parts_of frame)) (hear_plain R s frame)
+      unless_case s Gains refused_gains (screen s.keys (plain.named_in frame) (plain.parts_of frame)) (hear_plain R s frame)
       (λ verified. by_test Gains (in_role s frame) (plain_row R s frame) (refused causes.WrongRole s) (λ role. gain verified role) (λ wrong. tt))
 
   abbrev IsHeldOnceVerified : Frame → Type 0
-  IsHeldOnceVerified frame = screen s.keys (plain.parts_of frame) ≡ None → in_role s frame ≡ true → IsFrameHeld w frame
+  IsHeldOnceVerified frame = screen s.keys (plain.named_in frame) (plain.parts_of frame) ≡ None → in_role s frame ≡ true → IsFrameHeld w frame
 
-  row_gain : (frame : Frame) → IsNormal frame → IsHeldOnceVerified frame → Gains (unless (screen s.keys (plain.parts_of frame)) s (hear_plain R s frame))
+  row_gain : (frame : Frame) → IsNormal frame → IsHeldOnceVerified frame → Gains (unless (screen s.keys (plain.named_in frame) (plain.parts_of frame)) s (hear_plain R s frame))
   row_gain frame normal held = verified_gain frame (λ verified role. row_gained R w s work.runs frame normal (frame_may w frame (held verified role)))
 
-  frame_gain : (frame : Frame) → IsHeldOnceVerified frame → Gains (unless (screen s.keys (plain.parts_of frame)) s (hear_plain R s frame))
+  frame_gain : (frame : Frame) → IsHeldOnceVerified frame → Gains (unless (screen s.keys (plain.named_in frame) (plain.parts_of frame)) s (hear_plain R s frame))
   frame_gain (frames.Order both) held =
       verified_gain (frames.Order both) (λ verified role. unless_case s Gains refused_gains (view_cause s both.order.stmt.view.0) (order R s both)
-      (λ current. judged_gain both (held verified role).0 (judge_in s.orders both.order.stmt (ordered_entry both) (position_of R s both))))
+      (λ current. judged_gain both (held verified role).0 (judge_in s.orders both.order.stmt (entry_in both) (position_of R s both))
+      (placed both.order.stmt (entry_in both) (position_of R s both) s.orders)))
   frame_gain (frames.Hate vote) held = verified_gain (frames.Hate vote) (λ verified role. (finishes_leaving R interval texts w r s h ready kept_texts (hate R s vote) (hate_attempt R interval w r s h ready vote)).gained)
   frame_gain (frames.Pom first second) held =
       verified_gain (frames.Pom first second) (λ verified role. (finishes_leaving R interval texts w r s h ready kept_texts (pom R s first second) (pom_attempt R interval w r s h ready first second)).gained)
   frame_gain (frames.Request ask) held = row_gain (frames.Request ask) tt held
-  frame_gain (frames.SpecResponse spec reply with_order) held = row_gain (frames.SpecResponse spec reply with_order) tt held
-  frame_gain (frames.Commit specs) held = row_gain (frames.Commit specs) tt held
+  frame_gain (frames.SpecResponse spec answers with_order) held = row_gain (frames.SpecResponse spec answers with_order) tt held
+  frame_gain (frames.Commit client specs) held = row_gain (frames.Commit client specs) tt held
   frame_gain (frames.LocalCommit local) held = row_gain (frames.LocalCommit local) tt held
   frame_gain (frames.ConfirmReq confirmed ask) held = row_gain (frames.ConfirmReq confirmed ask) tt held
   frame_gain (frames.FillHole hole) held = row_gain (frames.FillHole hole) tt held

@@ -8,7 +8,7 @@ use Rattle.zy_base.specs.declared.frame_fault.FrameFault.{FrameFault}
 use Rattle.zy_base.specs.declared.frame_fault.FrameFault.TheVariants as faults
 use Rattle.zy_base.specs.declared.step.Event.{Event}
 use Rattle.zy_base.specs.declared.step.Event.TheVariants.{Heard, Timer}
-use Rattle.zy_admit.specs.Judging.{judge_in, ordered_entry}
+use Rattle.zy_admit.specs.Judging.{judge_in}
 use Rattle.zy_admit.specs.Orders.{stored_in}
 use Rattle.zy_admit.specs.declared.judging.Admit.{Admit}
 use Rattle.zy_admit.specs.declared.judging.Admit.TheVariants as admits
@@ -54,6 +54,7 @@ use Rattle.zy_law_steps.proofs.NormalSteps.{order_as_lawful, row_lawful, unless_
 use Rattle.zy_law_steps.specs.Gains.{AreGainsKept}
 use Rattle.zy_law_steps.specs.Heard.{IsFrameHeld}
 use Rattle.zy_law_steps.specs.Whole.{IsEventHonest, history_decoded, history_of}
+use Rattle.zy_frames.specs.Frames.{entry_in}
 
 -- ---- ready for the next step
 
@@ -95,7 +96,7 @@ module _ {S : Type 0} (R : Rules S) (interval : ℕ) (texts : Texts) (w : World)
       (λ least. by_test (λ (c : Option Cause). c ≡ None → is_leaving s ≡ false) (nat_lt (own_view s) view) _ _ (λ newer none. absurd cc)
       (λ most. by_test (λ (c : Option Cause). c ≡ None → is_leaving s ≡ false) (is_leaving s) _ _ (λ leaves none. absurd cc) (λ stays none. stays)))
 
-  order_judged_fine : (o : OrderFrame) → IsFrameHeld w (frames.Order o) → is_leaving s ≡ false → (a : Admit) → IsPlaced o.order.stmt o.ask (position_of R s o) a → IsFine (order_judged R s o a)
+  order_judged_fine : (o : OrderFrame) → IsFrameHeld w (frames.Order o) → is_leaving s ≡ false → (a : Admit) → IsPlaced o.order.stmt (entry_in o) (position_of R s o) a → IsFine (order_judged R s o a)
   order_judged_fine o may stays admits.Evidence is gains =
       let stored = stored_in s.orders o.order.stmt.place.0 in
       finishes_leaving R interval texts w r s h ready kept (tell_all R s o.order stored) (order_attempt R interval w r s h ready o.order stored)
@@ -106,22 +107,22 @@ module _ {S : Type 0} (R : Rules S) (interval : ℕ) (texts : Texts) (w : World)
   order_judged_fine o may stays (admits.Refused cause) is gains = refuses R interval texts w r s h ready kept cause
 
   pub order_fine : (o : OrderFrame) → IsFrameHeld w (frames.Order o) → is_leaving s ≡ false → IsFine (order R s o)
-  order_fine o may stays = order_judged_fine o may stays (judge_in s.orders o.order.stmt (ordered_entry o) (position_of R s o)) (placed o.order.stmt o.ask (position_of R s o) s.orders)
+  order_fine o may stays = order_judged_fine o may stays (judge_in s.orders o.order.stmt (entry_in o) (position_of R s o)) (placed o.order.stmt (entry_in o) (position_of R s o) s.orders)
 
   -- ---- a frame of normal operation
 
-  verified_fine : (frame : Frame) → (screen s.keys (plain.parts_of frame) ≡ None → in_role s frame ≡ true → IsFine (plain_row R s frame)) → IsFine (unless (screen s.keys (plain.parts_of frame)) s (hear_plain R s frame))
+  verified_fine : (frame : Frame) → (screen s.keys (plain.named_in frame) (plain.parts_of frame) ≡ None → in_role s frame ≡ true → IsFine (plain_row R s frame)) → IsFine (unless (screen s.keys (plain.named_in frame) (plain.parts_of frame)) s (hear_plain R s frame))
   verified_fine frame fine =
-      unless_case s IsFine refuses_it (screen s.keys (plain.parts_of frame)) (hear_plain R s frame)
+      unless_case s IsFine refuses_it (screen s.keys (plain.named_in frame) (plain.parts_of frame)) (hear_plain R s frame)
       (λ verified. by_test IsFine (in_role s frame) (plain_row R s frame) (refused causes.WrongRole s) (λ role. fine verified role) (λ wrong. refuses_it causes.WrongRole))
 
   abbrev IsHeldOnceVerified : Frame → Type 0
-  IsHeldOnceVerified frame = screen s.keys (plain.parts_of frame) ≡ None → in_role s frame ≡ true → IsFrameHeld w frame
+  IsHeldOnceVerified frame = screen s.keys (plain.named_in frame) (plain.parts_of frame) ≡ None → in_role s frame ≡ true → IsFrameHeld w frame
 
-  row_fine : (frame : Frame) → IsNormal frame → IsHeldOnceVerified frame → IsFine (unless (screen s.keys (plain.parts_of frame)) s (hear_plain R s frame))
+  row_fine : (frame : Frame) → IsNormal frame → IsHeldOnceVerified frame → IsFine (unless (screen s.keys (plain.named_in frame) (plain.parts_of frame)) s (hear_plain R s frame))
   row_fine frame normal held = verified_fine frame (λ verified role. row_lawful R interval texts w r s h ready kept work frame normal (held verified role))
 
-  frame_fine : (frame : Frame) → IsHeldOnceVerified frame → IsFine (unless (screen s.keys (plain.parts_of frame)) s (hear_plain R s frame))
+  frame_fine : (frame : Frame) → IsHeldOnceVerified frame → IsFine (unless (screen s.keys (plain.named_in frame) (plain.parts_of frame)) s (hear_plain R s frame))
   frame_fine (frames.Order both) held =
       verified_fine (frames.Order both) (λ verified role. unless_case s IsFine refuses_it (view_cause s both.order.stmt.view.0) (order R s both)
       (λ current. order_fine both (held verified role) (stays_in both.order.stmt.view.0 (is_leaving s) refl current)))
@@ -129,8 +130,8 @@ module _ {S : Type 0} (R : Rules S) (interval : ℕ) (texts : Texts) (w : World)
   frame_fine (frames.Pom first second) held =
       verified_fine (frames.Pom first second) (λ verified role gains. finishes_leaving R interval texts w r s h ready kept (pom R s first second) (pom_attempt R interval w r s h ready first second))
   frame_fine (frames.Request ask) held = row_fine (frames.Request ask) tt held
-  frame_fine (frames.SpecResponse spec reply with_order) held = row_fine (frames.SpecResponse spec reply with_order) tt held
-  frame_fine (frames.Commit specs) held = row_fine (frames.Commit specs) tt held
+  frame_fine (frames.SpecResponse spec answers with_order) held = row_fine (frames.SpecResponse spec answers with_order) tt held
+  frame_fine (frames.Commit client specs) held = row_fine (frames.Commit client specs) tt held
   frame_fine (frames.LocalCommit local) held = row_fine (frames.LocalCommit local) tt held
   frame_fine (frames.ConfirmReq confirmed ask) held = row_fine (frames.ConfirmReq confirmed ask) tt held
   frame_fine (frames.FillHole hole) held = row_fine (frames.FillHole hole) tt held

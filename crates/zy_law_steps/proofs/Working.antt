@@ -11,7 +11,6 @@ use Rattle.zy_base.specs.declared.ids.ReplicaId.{ReplicaId}
 use Rattle.zy_base.specs.declared.ids.View.{View}
 use Rattle.zy_base.specs.declared.step.Mode.{Mode}
 use Rattle.zy_base.specs.declared.step.Mode.TheVariants.{Active}
-use Rattle.zy_admit.specs.Judging.{entry_of}
 use Rattle.zy_chain.specs.Heads.{empty_head}
 use Rattle.zy_chain.specs.declared.entry.Entry.{Entry}
 use Rattle.zy_exec.proofs.HistoryLemmas.{stands_leads}
@@ -28,10 +27,8 @@ use Rattle.zy_law_normal.proofs.OneEntry.{AreOrdersOf, may_stand}
 use Rattle.zy_law_normal.specs.Acts.{spoken_at, stand_with, statement_by}
 use Rattle.zy_law_normal.specs.Tied as lawful
 use Rattle.zy_law_normal.specs.Tied.{IsGained, MayRun}
-use Rattle.zy_parts.specs.declared.signed.Signed.{Signed}
-use Rattle.zy_parts.specs.declared.statements.Ask.{Ask}
 use Rattle.zy_table.specs.Deeds.{Going, begin, gains_in}
-use Rattle.zy_table.specs.Running.{executed, got_of}
+use Rattle.zy_table.specs.Running.{executed}
 use Rattle.zy_table.specs.State as table
 use Rattle.zy_table.specs.State.{State, is_leaving_mode}
 use Rattle.zy_table.specs.declared.deeds.Act.{Act}
@@ -54,6 +51,7 @@ use Rattle.zy_law_steps.proofs.Gained.{longer_kept}
 use Rattle.zy_law_views.specs.Work.{IsAtWork, IsWorkTied, last_long, workplace_of}
 use Rattle.zy_law_steps.specs.Gains.{IsGainKept}
 use Rattle.zy_chain.specs.Entries.{IsOfClients}
+use Rattle.zy_table.specs.Adopting.{got_next}
 
 -- an entry that is gained
 leads_gaining : (w : World) (r view number : ℕ) (h : List Entry) (got : Got) → MayStand w r (stand_with view h got)
@@ -100,7 +98,7 @@ module _ {S : Type 0} (R : Rules S) (interval : ℕ) (texts : Texts) (w : World)
         lawful = way.lawful;
         correct = way.correct;
         kept = subst (λ (u : World). IsWorldOf R interval u texts) (sym way.world_is) (world_said R interval w texts kept way.told);
-        may = λ e may. subst (λ (u : World). MayRun u e) (sym way.world_is) (record { client = may.client; range = may.range; asked = may.asked });
+        may = λ e may. subst (λ (u : World). MayRun u e) (sym way.world_is) (record { clients = may.clients; range = may.range; asked = may.asked });
         links = λ d e is. subst (λ (u : World). u.kept d e ≡ true) (sym way.world_is) is;
         tied = way.tied;
         work = subst (λ (n : ℕ). IsWorkTied interval way.world r n (workplace_of g.state)) long (way.works work);
@@ -232,12 +230,9 @@ module _ {S : Type 0} (R : Rules S) (interval : ℕ) (texts : Texts) (w : World)
 
     -- ---- an entry more
 
-    module _ (ask : Signed Ask) (run : MayRun w (entry_of ask)) (new : is_new_to (now_of R g.state.kept).known (entry_of ask) ≡ true)
-        (gain : IsGainKept w texts (got_of R g.state (entry_of ask))) (of : AreOrdersOf is.world r (table.own_view g.state) (is.now ++ entry_of ask ∷ []))
+    module _ (e : Entry) (run : MayRun w e) (new : is_new_to (now_of R g.state.kept).known e ≡ true)
+        (gain : IsGainKept w texts (got_next R g.state.kept e)) (of : AreOrdersOf is.world r (table.own_view g.state) (is.now ++ e ∷ []))
         (top : ℕ) (low : last_place g.state.kept < top) (near : top ≤ g.state.kept.base.place + 2 * interval) (in_range : top < 2 ^ 62) where
-      abbrev pub e : Entry
-      e = entry_of ask
-
       abbrev pub far : List Entry
       far = is.now ++ e ∷ []
 
@@ -267,7 +262,7 @@ module _ {S : Type 0} (R : Rules S) (interval : ℕ) (texts : Texts) (w : World)
             asked = asked_for;
             link = subst (λ (d : Digest). is.world.kept d e ≡ true) head_now (is.links (now_of R g.state.kept).head e gain.link);
             ordered = subst (λ (v : ℕ). AreOrdersOf is.world r v far) views_are of;
-            client = run.client;
+            client = run.clients;
             room = omega arith;
             end = omega arith;
           }
@@ -278,16 +273,16 @@ module _ {S : Type 0} (R : Rules S) (interval : ℕ) (texts : Texts) (w : World)
       pub may_be : MayStand is.world r stand
       may_be = may_run R interval is.world is.lawful r is.correct (core_of g.state) is.now is.tied view is.active e runnable
 
-      pub lead_run : LeadsTo w r (table.own_view s) number h (g.deeds.acts ++ Gains (got_of R g.state (entry_of ask)) ∷ []) (after_standing is.world r stand) (table.own_view s) (is.at + 1) far
+      pub lead_run : LeadsTo w r (table.own_view s) number h (g.deeds.acts ++ Gains (got_next R g.state.kept e) ∷ []) (after_standing is.world r stand) (table.own_view s) (is.at + 1) far
       lead_run =
           let own = table.own_view s in
-          let got = got_of R g.state (entry_of ask) in
+          let got = got_next R g.state.kept e in
           let views : g.state.views.last_view.0 ≡ own = sym last_view_is ∙ sym is.begun in
           leads_on w r own number h g.deeds.acts (Gains got ∷ []) is.world (after_standing is.world r stand) own own is.at (is.at + 1) is.now far is.lead
           (subst (λ (v : ℕ). LeadsTo is.world r own is.at is.now (Gains got ∷ []) (after_standing is.world r (record { view = v; history = far })) own (is.at + 1) far) (sym views)
           (leads_gaining is.world r own is.at is.now got (subst (λ (v : ℕ). MayStand is.world r (record { view = v; history = far })) views may_be)))
 
-      unfoldable pub gains : more ≤ 1 → IsWorking 0 (executed R (entry_of ask) g)
+      unfoldable pub gains : more ≤ 1 → IsWorking 0 (executed R e g)
       gains few =
           let long : length far ≡ length is.now + 1 = length-append is.now (e ∷ []) in
           record {
@@ -300,7 +295,7 @@ module _ {S : Type 0} (R : Rules S) (interval : ℕ) (texts : Texts) (w : World)
             correct = record { within = is.correct.within; honest = is.correct.honest };
             kept = world_stood R interval is.world texts is.kept r stand
                 (longer_kept R texts g.state.kept is.now is.tied.standing.stands e interval is.work.spaced (is.kept.kept.histories here) gain.reply gain.snapshot);
-            may = λ e may. may_there is.world r stand e (is.may e may);
+            may = λ d may. may_there is.world r stand d (is.may d may);
             links = is.links;
             tied = tied_run R interval is.world is.lawful r is.correct (core_of g.state) is.now is.tied view is.active e runnable;
             work = work_stood interval is.world r stand (length is.now + more) (length far + 0) (workplace_of g.state) (omega arith) is.work;
@@ -308,6 +303,6 @@ module _ {S : Type 0} (R : Rules S) (interval : ℕ) (texts : Texts) (w : World)
             signer = is.signer;
             spaced = is.spaced;
             begun = is.begun;
-            gained = subst (AllByRecursion (IsGained w)) (sym (gains_in-append g.deeds.acts (Gains (got_of R g.state (entry_of ask)) ∷ [])))
-                (all_of_both (IsGained w) (gains_in g.deeds.acts) (got_of R g.state (entry_of ask) ∷ []) is.gained (record { run = run; head = refl }, tt));
+            gained = subst (AllByRecursion (IsGained w)) (sym (gains_in-append g.deeds.acts (Gains (got_next R g.state.kept e) ∷ [])))
+                (all_of_both (IsGained w) (gains_in g.deeds.acts) (got_next R g.state.kept e ∷ []) is.gained (record { run = run; head = refl }, tt));
           }

@@ -52,12 +52,16 @@ use Rattle.zy_law.proofs.EntriesAskedFor.{entry_within}
 use Rattle.zy_law_views.proofs.KeptFronts.{mapped}
 
 -- the entry of a place lies above the base
-pub above_base : {S : Type 0} (k : Kept S) (place : ℕ) (e : Entry) → entry_in (stretch_of k) place ≡ Some e → k.base.place < place
+above_base : {S : Type 0} (k : Kept S) (place : ℕ) (e : Entry) → entry_in (stretch_of k) place ≡ Some e → k.base.place < place
 above_base k place e = by (nat_le place k.base.place) refl
   where
     by : (low : Bool) → nat_le place k.base.place ≡ low → (if low then None else slice_get k.entries (place - k.base.place - 1)) ≡ Some e → k.base.place < place
     by true below is = absurd cc
     by false above is = let past = leb-false _ _ above in omega arith
+
+-- so does a place whose answers are kept
+pub answered_above : {S : Type 0} (R : Rules S) (k : Kept S) (place : ℕ) (answers : Answers) → reply_in R k place ≡ Some answers → k.base.place < place
+answered_above R k place answers told = let e = mapped (answers_of R (point_before R k place)) (entry_in (stretch_of k) place) answers told in above_base k place e.0 e.1
 
 entry_is : (history : List Entry) (place : ℕ) (e : Entry) → entry_at history place ≡ Some e → IsEntryAt history place e
 entry_is history zero e is = absurd cc
@@ -80,7 +84,7 @@ true_answer : {S : Type 0} (R : Rules S) (w : World) → Agrees R w → (k : Kep
     → reply_in R k place ≡ Some answers → IsTrueAnswer w history (record { place = place; head = head }) (record { reply = digest_of_answers answers })
 true_answer R w agrees k history stands place head answers told =
     let e = mapped (answers_of R (point_before R k place)) (entry_in (stretch_of k) place) answers told in
-    let above = above_base k place e.0 e.1 in
+    let above = answered_above R k place answers told in
     let at = entry_is history place e.0 (sym (stands_entry R k history place stands above) ∙ e.1) in
     record { entry = e.0; last = at; reply = true_reply R w agrees history place answers (entry_within history place e.0 at) (sym (stands_reply R k history place stands above) ∙ told) }
 
