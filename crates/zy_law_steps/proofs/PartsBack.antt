@@ -1,6 +1,5 @@
 -- What holds of each part of a frame holds of each signed statement in it.
 use Rattle.std.proofs.Common.{ℕ, Bool, List, [], ◌∷◌, ◌++◌, map, Option, Some, None}
-use Rattle.std.specs.Int.{w16}
 use Rattle.std.specs.List.{AllByRecursion, flat_map}
 use Rattle.std.specs.Prelude.{All, IfSome}
 use Rattle.zy_base.specs.declared.ids.Party.{Party}
@@ -14,7 +13,7 @@ use Rattle.zy_law_normal.proofs.Goes.{all_of_front, all_of_rest}
 use Rattle.zy_parts.specs.Numbers as numbers
 use Rattle.zy_parts.specs.Reports.{began_fields, change_fields, fetch_fields, new_fields}
 use Rattle.zy_parts.specs.Signing.{part_of, signed}
-use Rattle.zy_parts.specs.Statements.{check_fields, hate_fields, hole_fields, local_fields, spec_fields}
+use Rattle.zy_parts.specs.Statements.{check_fields, hate_fields, hole_fields, local_fields, spec_fields, ask_fields}
 use Rattle.zy_parts.specs.declared.reports.Change.{Change}
 use Rattle.zy_parts.specs.declared.reports.New.{New}
 use Rattle.zy_parts.specs.declared.reports.Told.{Told}
@@ -27,11 +26,11 @@ use Rattle.zy_vframes.specs.ViewFrames as views
 use Rattle.zy_vframes.specs.declared.frame.ViewFrame.{ViewFrame}
 use Rattle.zy_vframes.specs.declared.frame.ViewFrame.TheVariants as view_frames
 use Rattle.zy_wire.specs.Fields.{FitsList, list}
-use Rattle.zy_wire.specs.Spelling.{Spelling, pair}
-use Rattle.zy_law_steps.proofs.Decoded.{Gives, all_give, counted_gives, made_gives, pair_gives, sized_gives}
+use Rattle.zy_wire.specs.Spelling.{Spelling, pair, word}
+use Rattle.zy_law_steps.proofs.Decoded.{Gives, all_give, counted_gives, made_gives, pair_gives}
 use Rattle.zy_law_steps.proofs.DecodedFrames.{fault_gives, framed_gives, or_gives, other_gives}
 use Rattle.zy_law_steps.specs.Signs.{DoPass, DoVerifiedPass, OfChange, OfFrame, OfHeard, OfNew, OfTextAlone, OfTextsAlone, OfTold, OfVerified, OfViewFrame, Signs}
-use Rattle.zy_chain.specs.Answers.{FitsAnswers, answers_fields}
+use Rattle.std.specs.Int.{w32}
 
 -- ---- what is read has as many statements as a frame may have
 

@@ -52,8 +52,8 @@ use Rattle.zy_table.specs.declared.kept.OwnCheckpoint.{OwnCheckpoint}
 use Rattle.zy_table.specs.declared.kept.Pending.{Pending}
 use Rattle.zy_law_steps.proofs.Slots.{AreKept, filled, never_flagged}
 use Rattle.zy_parts.specs.declared.statements.Ask.{Ask}
-use Rattle.zy_law_steps.specs.Signs.{OfAct, OfActs, OfAnyFrame, OfBoard, OfBody, OfChange, OfOrder, OfPending, OfSent, OfState, Signs, OfPoint, OfKept}
-use Rattle.zy_chain.specs.Answers.{FitsAnswers, Answers}
+use Rattle.zy_law_steps.specs.Signs.{OfAct, OfActs, OfAnyFrame, OfBoard, OfBody, OfChange, OfOrder, OfPending, OfSent, OfState, Signs, OfPoint, OfKept, AreShort}
+use Rattle.zy_chain.specs.Answers.{Answers}
 use Rattle.zy_parts.specs.Asks.{entry_of_asks}
 use Rattle.zy_frames.specs.Frames.{entry_in}
 use Rattle.zy_change.proofs.FitLemmas.{taken_there}
@@ -130,7 +130,7 @@ pub record Laws {S : Type 0} (ok : S → Type 0) (R : Rules S) (F : Signs) : Typ
   pub stays : (s : S) (client : ClientId) (op : List ℕ) → ok s → ok (R.next s client op)
   pub reads : (bytes : List ℕ) (s : S) → R.read bytes ≡ Some s → ok s
   pub answers : (s : S) (e : Entry) → ok s → F.entry e → F.answers (answers_from R s e.items)
-  pub shown : (answers : Answers) → FitsAnswers answers → F.answers answers
+  pub shown : (answers : Answers) → AreShort answers → F.answers answers
   pub alone : (ask : Signed Ask) → F.ask ask → F.asks (ask ∷ [])
   pub ordered : (asks : List (Signed Ask)) → F.asks asks → F.entry (entry_of_asks asks)
   pub reported : (c : Signed Change) → F.change c → AllByRecursion F.entry c.stmt.told.entries

@@ -1,5 +1,5 @@
 -- What holds of each signed statement of a frame, as its signer's text, holds of each part of it; and the frame is read back as itself.
-use Rattle.std.proofs.Common.{◌≡◌, ℕ, Bool, true, List, [], ◌∷◌, map, drop, Option, Some, None, Result, Ok, sym, ap, ◌∙◌, subst, append-nil}
+use Rattle.std.proofs.Common.{◌≡◌, ℕ, Bool, true, List, [], ◌∷◌, map, drop, Option, Some, None, Result, Ok, sym, ap, ◌∙◌, subst, append-nil, zero, suc, length, get_or, refl, arith, ◌<◌, ◌^◌, ◌++◌}
 use Rattle.std.specs.Prelude.{All, IfSome}
 use Rattle.std.specs.List.{AllByRecursion, flat_map}
 use Rattle.zy_base.specs.declared.frame_fault.FrameFault.{FrameFault}
@@ -14,7 +14,7 @@ use Rattle.zy_law_normal.proofs.Goes.{all_of_both}
 use Rattle.zy_parts.specs.Numbers as numbers
 use Rattle.zy_parts.specs.Reports.{began_fields}
 use Rattle.zy_parts.specs.Signing.{part_of, signed}
-use Rattle.zy_parts.specs.Statements.{check_fields, order_fields, spec_fields}
+use Rattle.zy_parts.specs.Statements.{check_fields, order_fields, spec_fields, ask_fields}
 use Rattle.zy_parts.specs.declared.reports.Began.{Began}
 use Rattle.zy_parts.specs.declared.reports.Change.{Change}
 use Rattle.zy_parts.specs.declared.reports.New.{New}
@@ -31,14 +31,21 @@ use Rattle.zy_vframes.specs.Parts as view_parts
 use Rattle.zy_vframes.specs.ViewFrameLaws.{frame-laws as view_frame-laws}
 use Rattle.zy_vframes.specs.ViewFrames as view_frames
 use Rattle.zy_wire.proofs.KindLaws.{kind_takes}
-use Rattle.zy_wire.proofs.Parts.{bind_ok, ended_ok, ok_is}
-use Rattle.zy_wire.specs.Fields.{FitsOptional}
+use Rattle.zy_wire.proofs.Parts.{bind_ok, ended_ok, ok_is, wide32}
+use Rattle.zy_wire.specs.Fields.{FitsOptional, bytes16, u62, list, list_bytes}
 use Rattle.zy_wire.specs.Framing.{IsFraming, frame_bytes, framed_in}
 use Rattle.zy_wire.specs.Kind.{frame_version, kind_in}
-use Rattle.zy_wire.specs.Spelling.{◌>>=◌, ended}
+use Rattle.zy_wire.specs.Spelling.{◌>>=◌, ended, IsBytes, bytes_of}
 use Rattle.zy_vframes.specs.declared.frame.ViewFrame.{ViewFrame}
 use Rattle.zy_vframes.specs.declared.frame.ViewFrame.TheVariants as views
-use Rattle.zy_law_steps.specs.Signs.{AreOfTexts, OfAnyFrame, OfChange, OfFrame, OfHeard, OfNew, OfSent, OfTexts, OfTold, OfViewFrame, Signs}
+use Rattle.zy_law_steps.specs.Signs.{AreOfTexts, OfAnyFrame, OfChange, OfFrame, OfHeard, OfNew, OfSent, OfTexts, OfTold, OfViewFrame, Signs, AreShort, IsShortAnswer, OfTextAlone}
+use Rattle.std.specs.Int.{w16, w32, to_be_bytes, from_be_bytes}
+use Rattle.std.proofs.lemmas.List.{length-map}
+use Rattle.std.proofs.lemmas.List.Elements.{All-map}
+use Rattle.zy_base.specs.declared.ids.ClientId.{ClientId}
+use Rattle.zy_chain.specs.Answers.{Answers}
+use Rattle.zy_chain.specs.Fields.{answered_fields, answers_fields, answers-fits}
+use Rattle.zy_chain.specs.declared.answers.Answered.{Answered}
 
 -- ---- what spells a frame of some kind is read by that kind alone
 
@@ -60,6 +67,55 @@ module _ {A : Type 0} (kind : A → ℕ) (fields : A → List ℕ) (Fits InRange
       let b = read_as kind fields at x y read in
       let again : at (kind x) (fields x) ≡ Ok (x, []) = subst (λ (r : List ℕ). at (kind x) r ≡ Ok (x, [])) (append-nil (fields x)) (laws.choice.again x [] fits) in
       ap (λ (p : A × List ℕ). p.0) (ok_is (y, b.0) (x, []) (sym b.1 ∙ again))
+
+-- ---- of a client's number 32 bits stand in a frame
+
+number_spelled : ℕ → ℕ
+number_spelled n = from_be_bytes w32 (to_be_bytes w32 n)
+
+four_bytes : (n : ℕ) → IsBytes (to_be_bytes w32 n)
+four_bytes n zero = omega arith
+four_bytes n (suc zero) = omega arith
+four_bytes n (suc (suc zero)) = omega arith
+four_bytes n (suc (suc (suc zero))) = omega arith
+four_bytes n (suc (suc (suc (suc i)))) = omega arith
+
+number_small : (n : ℕ) → number_spelled n < 2 ^ 32
+unfolding number_spelled
+number_small n = wide32.below (to_be_bytes w32 n) (four_bytes n)
+
+number_same : (n : ℕ) → bytes_of w32 (number_spelled n) ≡ bytes_of w32 n
+unfolding bytes_of number_spelled
+number_same n = wide32.back (to_be_bytes w32 n) refl (four_bytes n)
+
+abbrev answer_spelled : Answered → Answered
+answer_spelled a = record a { client = record { 0 = number_spelled a.client.0 } }
+
+answer_alike : (a : Answered) → answered_fields.spell (answer_spelled a) ≡ answered_fields.spell a
+unfolding answered_fields
+answer_alike a = ap (λ (bytes : List ℕ). bytes ++ ((u62 0).spell a.stamp.0 ++ (bytes16 1100).spell a.reply)) (number_same a.client.0)
+
+answers_flat : (answers : Answers) → flat_map answered_fields.spell (map answer_spelled answers) ≡ flat_map answered_fields.spell answers
+answers_flat [] = refl
+answers_flat (a ∷ answers) =
+    ap (λ (bytes : List ℕ). bytes ++ flat_map answered_fields.spell (map answer_spelled answers)) (answer_alike a) ∙ ap (λ (bytes : List ℕ). answered_fields.spell a ++ bytes) (answers_flat answers)
+
+answers_alike : (answers : Answers) → answers_fields.spell (map answer_spelled answers) ≡ answers_fields.spell answers
+unfolding list_bytes
+answers_alike answers =
+    ap (λ (n : ℕ). bytes_of w16 n ++ flat_map answered_fields.spell (map answer_spelled answers)) (length-map answers answer_spelled)
+    ∙ ap (λ (bytes : List ℕ). bytes_of w16 (length answers) ++ bytes) (answers_flat answers)
+
+response_alike : (spec : Signed Spec) (answers : Answers) (with_order : Option (Signed Order))
+    → plain.spelling (frames.SpecResponse spec (map answer_spelled answers) with_order) ≡ plain.spelling (frames.SpecResponse spec answers with_order)
+unfolding plain.fields_of
+response_alike spec answers with_order =
+    ap (λ (bytes : List ℕ). frame_version ∷ plain.kind_of_frame (frames.SpecResponse spec answers with_order) ∷ ((signed spec_fields).spell spec ++ (bytes ++ plain.ordered.spell with_order))) (answers_alike answers)
+
+commit_alike : (client : ClientId) (specs : List (Signed Spec)) → plain.spelling (frames.Commit (record { 0 = number_spelled client.0 }) specs) ≡ plain.spelling (frames.Commit client specs)
+unfolding plain.fields_of
+commit_alike client specs =
+    ap (λ (bytes : List ℕ). frame_version ∷ plain.kind_of_frame (frames.Commit client specs) ∷ (bytes ++ (list 1 16 (signed spec_fields)).spell specs)) (number_same client.0)
 
 module _ (p : Party → List ℕ → Bool) where
   abbrev F : Signs
@@ -130,23 +186,66 @@ module _ (p : Party → List ℕ → Bool) where
   order_fits None is = tt
   order_fits (Some order) is = is.0
 
-  frame_fits : (frame : Frame) → OfFrame F frame → plain.FitsFrame frame
+  -- where it names a client, and its answers do, by a number that 32 bits hold
+  abbrev IsNumbered : Frame → Type 0
+  IsNumbered (frames.Commit client specs) = client.0 < 2 ^ 32
+  IsNumbered (frames.SpecResponse spec answers with_order) = All (λ a. a.client.0 < 2 ^ 32) answers
+  IsNumbered _ = Unit {0}
+
+  answers_fit : (answers : Answers) → AreShort answers → All (λ a. a.client.0 < 2 ^ 32) answers → answers_fields.Fits answers
+  answers_fit answers short small =
+      answers-fits answers (record {
+        least = short.least;
+        most = short.most;
+        each = λ k d within. record { client = small k d within; stamp = (short.each k d within).stamp; reply = (short.each k d within).reply };
+      })
+
+  frame_fits : (frame : Frame) → IsNumbered frame → OfFrame F frame → plain.FitsFrame frame
   unfolding plain.FitsFrame
-  frame_fits (frames.Request ask) is = is.0
-  frame_fits (frames.Order both) is = (is.0.0, is.1.0)
-  frame_fits (frames.SpecResponse spec answers with_order) is = (is.0.0, (answers-fits answers is.1, order_fits with_order is.2))
-  frame_fits (frames.Commit client specs) is = (COMMITCLIENT, record { least = is.least; most = is.most; each = λ k d within. (is.each k d within).0 })
-  frame_fits (frames.LocalCommit local) is = is.0
-  frame_fits (frames.ConfirmReq confirm ask) is = (is.0.0, is.1.0)
-  frame_fits (frames.FillHole hole) is = is.0
-  frame_fits (frames.Hate hate) is = is.0
-  frame_fits (frames.Pom first second) is = (is.0.0, is.1.0)
-  frame_fits (frames.Checkpoint check) is = is.0
+  frame_fits (frames.Request ask) numbered is = is.0
+  frame_fits (frames.Order both) numbered is = (is.0.0, is.1.0)
+  frame_fits (frames.SpecResponse spec answers with_order) numbered is = (is.0.0, (answers_fit answers is.1 numbered, order_fits with_order is.2))
+  frame_fits (frames.Commit client specs) numbered is = (numbered, record { least = is.least; most = is.most; each = λ k d within. (is.each k d within).0 })
+  frame_fits (frames.LocalCommit local) numbered is = is.0
+  frame_fits (frames.ConfirmReq confirm ask) numbered is = (is.0.0, is.1.0)
+  frame_fits (frames.FillHole hole) numbered is = is.0
+  frame_fits (frames.Hate hate) numbered is = is.0
+  frame_fits (frames.Pom first second) numbered is = (is.0.0, is.1.0)
+  frame_fits (frames.Checkpoint check) numbered is = is.0
 
   -- ---- so it is read back
 
+  numbered_is : (frame other : Frame) → IsNumbered frame → OfFrame F frame → plain.frame_in (plain.spelling frame) ≡ Ok other → OfFrame F other
+  numbered_is frame other numbered is read =
+      subst (OfFrame F) (sym (spelled_back plain.kind_of_frame plain.fields_of plain.FitsFrame plain.IsFrameInRange plain.frame_at frame-laws frame other (frame_fits frame numbered is) read)) is
+
+  -- with 32 bits of each client's number, by which it is spelled alike
+  answers_is : (spec : Signed Spec) (answers : Answers) (with_order : Option (Signed Order)) (other : Frame) → OfFrame F (frames.SpecResponse spec answers with_order)
+      → plain.frame_in (plain.spelling (frames.SpecResponse spec answers with_order)) ≡ Ok other → OfFrame F other
+  answers_is spec answers with_order other is read =
+      let short = is.1 in
+      let as_spelled : Answers = map answer_spelled answers in
+      let long = length-map answers answer_spelled in
+      let spelled : AreShort as_spelled = record {
+        least = omega (arith, long, short.least);
+        most = omega (arith, long, short.most);
+        each = All-map IsShortAnswer answer_spelled answers (λ k d within. record { stamp = (short.each k d within).stamp; reply = (short.each k d within).reply });
+      } in
+      let small = All-map (λ (a : Answered). a.client.0 < 2 ^ 32) answer_spelled answers (λ k d within. number_small (get_or answers k d).client.0) in
+      numbered_is (frames.SpecResponse spec as_spelled with_order) other small (is.0, spelled, is.2) (ap plain.frame_in (response_alike spec answers with_order) ∙ read)
+
   frame_is : (frame other : Frame) → OfFrame F frame → plain.frame_in (plain.spelling frame) ≡ Ok other → OfFrame F other
-  frame_is frame other is read = subst (OfFrame F) (sym (spelled_back plain.kind_of_frame plain.fields_of plain.FitsFrame plain.IsFrameInRange plain.frame_at frame-laws frame other (frame_fits frame is) read)) is
+  frame_is (frames.SpecResponse spec answers with_order) other is read = answers_is spec answers with_order other is read
+  frame_is (frames.Commit client specs) other is read =
+      numbered_is (frames.Commit (record { 0 = number_spelled client.0 }) specs) other (number_small client.0) is (ap plain.frame_in (commit_alike client specs) ∙ read)
+  frame_is (frames.Request ask) other is read = numbered_is (frames.Request ask) other tt is read
+  frame_is (frames.Order both) other is read = numbered_is (frames.Order both) other tt is read
+  frame_is (frames.LocalCommit local) other is read = numbered_is (frames.LocalCommit local) other tt is read
+  frame_is (frames.ConfirmReq confirm ask) other is read = numbered_is (frames.ConfirmReq confirm ask) other tt is read
+  frame_is (frames.FillHole hole) other is read = numbered_is (frames.FillHole hole) other tt is read
+  frame_is (frames.Hate hate) other is read = numbered_is (frames.Hate hate) other tt is read
+  frame_is (frames.Pom first second) other is read = numbered_is (frames.Pom first second) other tt is read
+  frame_is (frames.Checkpoint check) other is read = numbered_is (frames.Checkpoint check) other tt is read
 
   view_is : (frame other : ViewFrame) → view_frames.FitsFrame frame → OfViewFrame F frame → view_frames.frame_in (view_frames.spelling frame) ≡ Ok other → OfViewFrame F other
   view_is frame other fits is read =

@@ -84,7 +84,7 @@ use Rattle.zy_table.specs.Checkpoints.{checkpoint, kept_as, response, with_board
 use Rattle.zy_table.specs.Commits.{commit, commit_beside, commit_judged, give_local, local_at, local_said, locals_owed}
 use Rattle.zy_table.specs.Confirming.{certificate_compared, certificate_judged, confirmation, confirmation_beside, confirmation_judged, new_view, new_view_judged, view_certificate, with_confirmation}
 use Rattle.zy_table.specs.Confirms.{confirm, confirm_after, order_again}
-use Rattle.zy_table.specs.Deeds.{Going, Outcome, act, begin, ends, refused, send_any, to_clients}
+use Rattle.zy_table.specs.Deeds.{Going, Outcome, act, begin, ends, refused, send_any}
 use Rattle.zy_table.specs.Fetching.{fetch, fetch_judged, install, installed, state_for, state_heard, state_judged, state_transfer}
 use Rattle.zy_table.specs.Gathering.{checks_owed, gather_at, own_at, with_certificate}
 use Rattle.zy_table.specs.Hates.{ask_for_hole, change_again, count_own, has_pending, hate, hate_counted, hate_for, hate_from, hate_now, hate_of, on_change_timer, on_request_timer, own_hate, say_hate, then_ask, with_hate_of}
@@ -95,7 +95,7 @@ use Rattle.zy_table.specs.Orders.{ask_for_missing, hole_of, order_as, owes_hole,
 use Rattle.zy_table.specs.Requests.{is_behind, new_request, ordered, request, request_after, request_at_backup, request_waits, respond_as, response_of, sealed_confirm, sealed_order, tell_primary, entry_of}
 use Rattle.zy_table.specs.Roles.{in_role, is_replica, view_cause}
 use Rattle.zy_table.specs.Running.{run, sealed_spec, signs_of, spec_of}
-use Rattle.zy_table.specs.State.{State, is_leaving, is_primary, signs_left, own_view, pending_of, primary_of, spent, stood_of, window_of, with_pending, with_spec as with_own, spec_said}
+use Rattle.zy_table.specs.State.{State, is_leaving, is_primary, signs_left, own_view, pending_of, primary_of, spent, stood_of, window_of, with_pending, with_spec as with_own, spec_said, stays_beside}
 use Rattle.zy_table.specs.Whole.{commit_in_view, unless, decoded_as, hear_plain, hear_view, is_view_frame_in_role, order_judged, plain_row, view_decoded, view_row, whole_step}
 use Rattle.zy_table.specs.declared.deeds.Act.TheVariants.{Says}
 use Rattle.zy_table.specs.declared.deeds.AnyFrame.TheVariants.{Plain, View as Framed}
@@ -109,13 +109,13 @@ use Rattle.zy_vframes.specs.ViewFrames as views
 use Rattle.zy_vframes.specs.declared.frame.ViewCert.{ViewCert}
 use Rattle.zy_vframes.specs.declared.frame.ViewFrame.{ViewFrame}
 use Rattle.zy_vframes.specs.declared.frame.ViewFrame.TheVariants as view_frames
-use Rattle.zy_law_steps.proofs.PassingStates.{shown_short}
-use Rattle.zy_law_steps.proofs.Passing.{IsShortKnown, Laws, Passes, known_short, certified, found, gathers_at, kept_filled, kept_of, runs, says, sends, settled_of, slot_at, turns, knows, one_more}
+use Rattle.zy_law_steps.proofs.Passing.{Laws, Passes, certified, found, gathers_at, kept_filled, kept_of, runs, says, sends, settled_of, slot_at, turns, knows, one_more, IsToldOf, known_told}
 use Rattle.zy_law_steps.proofs.PassingViews.{Ends, IsOf, accepts, adopts, arrives, begun_on, certifies_with, collects, ended, leaves}
 use Rattle.zy_law_steps.proofs.Slots.{AreKept, filled, flagged_now}
 use Rattle.zy_law_steps.specs.Signs.{OfBoard, OfCert, OfChange, OfFrame, OfHated, OfHateBy, OfNew, OfOrder, OfOrders, OfPending, OfSent, OfState, OfVerified, OfViewFrame, Signs}
 use Rattle.zy_parts.specs.Asks.{asking}
 use Rattle.zy_frames.specs.Frames.{entry_in}
+use Rattle.zy_law_steps.proofs.PassingStates.{shown_of}
 
 -- ---- kept orders
 

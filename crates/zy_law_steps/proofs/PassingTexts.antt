@@ -1,5 +1,5 @@
 -- What a replica and a client say can be spelled and passes a test, so it is of those texts, whichever signature it has.
-use Rattle.std.proofs.Common.{◌≡◌, ℕ, ◌+◌, ◌<◌, ◌≤◌, ◌^◌, Bool, true, List, [], ◌∷◌, length, map, Option, Some, None, sym, subst, arith}
+use Rattle.std.proofs.Common.{◌≡◌, ℕ, ◌+◌, ◌<◌, ◌≤◌, ◌^◌, Bool, true, List, [], ◌∷◌, length, map, Option, Some, None, sym, subst, arith, get_or}
 use Rattle.std.specs.Prelude.{nat_le}
 use Rattle.std.proofs.lemmas.Bool.{leb-true}
 use Rattle.std.specs.List.{AllByRecursion}
@@ -7,7 +7,7 @@ use Rattle.zy_base.specs.declared.ids.ClientId.{ClientId}
 use Rattle.zy_base.specs.declared.ids.Party.{Party}
 use Rattle.zy_base.specs.declared.ids.Party.TheVariants.{Client}
 use Rattle.zy_parts.specs.Numbers as numbers
-use Rattle.zy_parts.specs.Reports.{began_fields, change_fields, fetch_fields, new_fields}
+use Rattle.zy_parts.specs.Reports.{began_fields, change_fields, fetch_fields, new_fields, told_fields}
 use Rattle.zy_parts.specs.Signing.{text_of}
 use Rattle.zy_parts.specs.Statements.{ask_fields, check_fields, confirm_fields, hate_fields, hole_fields, local_fields, order_fields, spec_fields}
 use Rattle.zy_parts.specs.declared.reports.Change.{Change}
@@ -27,9 +27,23 @@ use Rattle.zy_table.specs.declared.deeds.Body.TheVariants as bodies
 use Rattle.zy_wire.specs.Fields.{IsParty}
 use Rattle.zy_wire.specs.Spelling.{Spelling}
 use Rattle.zy_law_steps.proofs.Sizes.{sealed_fits}
-use Rattle.zy_law_steps.specs.Signs.{ArePassed, OfActs, OfAsks, OfBody, OfText, OfTextAlone, OfTexts, OfTextsAlone, Signs}
+use Rattle.zy_law_steps.specs.Signs.{ArePassed, OfActs, OfAsks, OfBody, OfText, OfTextAlone, OfTexts, OfTextsAlone, Signs, AreShort, IsAnswerable, IsShortAnswer}
 use Rattle.zy_law_steps.specs.Spelled.{FitAll, FitsBody}
 use Rattle.zy_seal.proofs.SignatureLemmas.{few_signatures}
+use Rattle.zy_base.specs.Machine.{Rules}
+use Rattle.zy_chain.proofs.ItemLemmas.{items_in_range}
+use Rattle.zy_chain.specs.Entries.{IsItemInRange}
+use Rattle.zy_chain.specs.Fields.{entry_fields, entry-in_range}
+use Rattle.zy_chain.specs.declared.entry.Entry.{Entry}
+use Rattle.zy_chain.specs.declared.item.Item.{Item}
+use Rattle.zy_exec.specs.Replay.{answers_from}
+use Rattle.std.proofs.lemmas.List.{length-map}
+use Rattle.std.proofs.lemmas.List.Elements.{All-map}
+use Rattle.zy_law_normal.proofs.Backing.{all_from}
+use Rattle.zy_parts.specs.Asks.{ask_behind, ask_within, asks_fields, IsNextAsk, entry_of_asks, item_of}
+use Rattle.zy_parts.specs.AsksExact.{asks-in_range}
+use Rattle.zy_wire.proofs.SuccessiveLaws.{AreSuccessive-all}
+use Rattle.zy_law_steps.proofs.Passing.{Laws}
 
 module _ (p : Party → List ℕ → Bool) where
   abbrev F : Signs
@@ -111,3 +125,91 @@ module _ (p : Party → List ℕ → Bool) (me : Party) where
 pub asks_alone : (p : Party → List ℕ → Bool) (me : ClientId) (asks : List Ask) → ArePassed p (Client me) (map (spoken_of me) asks) → OfAsks (OfTextsAlone p) (Client me) asks
 asks_alone p me [] passed = tt
 asks_alone p me (ask ∷ asks) passed = (says_alone p (Client me) numbers.ask ask_fields ask passed.0, asks_alone p me asks passed.1)
+
+-- ---- what is run of what is heard
+
+-- what a machine promises of its states and its replies
+pub record MachineLaws {S : Type 0} (ok : S → Type 0) (R : Rules S) : Type 0 where
+  pub starts : ok R.initial
+  pub stays : (s : S) (client : ClientId) (op : List ℕ) → ok s → ok (R.next s client op)
+  pub short : (s : S) (client : ClientId) (op : List ℕ) → ok s → length (R.reply s client op) ≤ 1100
+  pub reads : (bytes : List ℕ) (s : S) → R.read bytes ≡ Some s → ok s
+
+module _ {S : Type 0} (ok : S → Type 0) (R : Rules S) (machine : MachineLaws ok R) where
+  pub laws_alone : (p : Party → List ℕ → Bool) → Laws ok R (OfTextsAlone p)
+  laws_alone p =
+      record {
+        starts = machine.starts;
+        stays = machine.stays;
+        reads = machine.reads;
+        answers = λ s e is one. tt;
+        shown = λ answers is. tt;
+        alone = λ ask one. (one, tt);
+        ordered = λ asks all. tt;
+        reported = λ c one. nothing c.stmt.told.entries;
+      }
+    where
+      nothing : (entries : List Entry) → AllByRecursion (λ e. Unit {0}) entries
+      nothing [] = tt
+      nothing (e ∷ entries) = (tt, nothing entries)
+
+  answered_short : (items : List Item) (s : S) → ok s → AllByRecursion (λ i. i.stamp.0 < 2 ^ 62) items → AllByRecursion IsShortAnswer (answers_from R s items)
+  answered_short [] s is all = tt
+  answered_short (i ∷ items) s is all =
+      (record { stamp = all.0; reply = machine.short s i.client i.op is }, answered_short items (R.next s i.client i.op) (machine.stays s i.client i.op is) all.1)
+
+  answered_long : (items : List Item) (s : S) → length (answers_from R s items) ≡ length items
+  answered_long [] s = refl
+  answered_long (i ∷ items) s = ap (λ (n : ℕ). n + 1) (answered_long items (R.next s i.client i.op))
+
+  answers_short : (s : S) (e : Entry) → ok s → IsAnswerable e → AreShort (answers_from R s e.items)
+  answers_short s e is fits =
+      let long = answered_long e.items s in
+      record {
+        least = omega (arith, long, fits.least);
+        most = omega (arith, long, fits.most);
+        each = all_from IsShortAnswer (answers_from R s e.items) (answered_short e.items s is (all_listed (λ (i : Item). i.stamp.0 < 2 ^ 62) e.items fits.each));
+      }
+
+  pub laws_spelled : (p : Party → List ℕ → Bool) → Laws ok R (OfTexts p)
+  laws_spelled p =
+      record {
+        starts = machine.starts;
+        stays = machine.stays;
+        reads = machine.reads;
+        answers = answers_short;
+        shown = λ answers is. is;
+        alone = λ ask one. (record { least = omega arith; most = omega arith; each = (alone_fits ask one.0, tt) }, (one.1, tt));
+        ordered = λ asks all. ordered_fits asks all.0;
+        reported = λ c one. reported_fit c.stmt.told.entries (told_entries c one.0);
+      }
+    where
+      alone_fits : (ask : Signed Ask) → (signed ask_fields).Fits ask → (ask_behind []).Fits ask
+      unfolding ask_behind ask_within ask_fields signed
+      alone_fits ask fits = (fits.0, ((fits.1.0.0, omega (arith, fits.1.0.1)), fits.1.1))
+
+      stamp_of : (before : List (Signed Ask)) (ask : Signed Ask) → IsNextAsk before ask → (item_of ask).stamp.0 < 2 ^ 62
+      stamp_of before ask next = next.alone.0.0.1
+
+      ordered_fits : (asks : List (Signed Ask)) → asks_fields.Fits asks → IsAnswerable (entry_of_asks asks)
+      ordered_fits asks fits =
+          let range = asks-in_range asks fits in
+          let long = length-map asks item_of in
+          let each : AllByRecursion (λ ask. (item_of ask).stamp.0 < 2 ^ 62) asks = AreSuccessive-all IsNextAsk (λ ask. (item_of ask).stamp.0 < 2 ^ 62) stamp_of [] asks range.each in
+          record {
+            least = omega (arith, long, range.least);
+            most = omega (arith, long, range.most);
+            each = All-map (λ (i : Item). i.stamp.0 < 2 ^ 62) item_of asks (all_from (λ (ask : Signed Ask). (item_of ask).stamp.0 < 2 ^ 62) asks each);
+          }
+
+      told_entries : (c : Signed Change) → (signed change_fields).Fits c → All entry_fields.Fits c.stmt.told.entries
+      unfolding signed change_fields told_fields
+      told_entries c fits = fits.1.0.1.1.1.1.1.1.1.1.1.1.1.each
+
+      entry_answerable : (e : Entry) → entry_fields.Fits e → IsAnswerable e
+      entry_answerable e fits =
+          let range = entry-in_range e fits in
+          record { least = range.least; most = range.most; each = λ k d within. (all_from IsItemInRange e.items (items_in_range [] e.items range.each) k d within).stamp }
+
+      reported_fit : (entries : List Entry) → All entry_fields.Fits entries → AllByRecursion IsAnswerable entries
+      reported_fit entries fit = all_listed IsAnswerable entries (λ k d within. entry_answerable (get_or entries k d) (fit k d within))

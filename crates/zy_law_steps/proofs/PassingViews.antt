@@ -1,7 +1,7 @@
 -- So it does where a replica leaves its view and begins the next.
 use Rattle.std.proofs.Common.{◌≡◌, ℕ, ◌-◌, ◌^◌, Bool, true, false, List, [], ◌∷◌, ◌++◌, length, map, take, Option, Some, None, refl, subst, arith}
-use Rattle.std.specs.Prelude.{All, IfSome, Ok, Err, if◌then◌else◌, nat_le, nat_lt, option_map, slice_get}
-use Rattle.std.specs.List.{AllByRecursion, list_any}
+use Rattle.std.specs.Prelude.{All, IfSome, Ok, Err, if◌then◌else◌, nat_le, nat_lt, option_map, slice_get, drop, take}
+use Rattle.std.specs.List.{AllByRecursion, list_any, slice_range}
 use Rattle.zy_base.specs.Machine.{Rules}
 use Rattle.zy_base.specs.declared.ids.Party.{Party}
 use Rattle.zy_base.specs.declared.ids.View.{View}
@@ -19,7 +19,7 @@ use Rattle.zy_exec.specs.Kept.{last_place, reply_in}
 use Rattle.zy_frames.specs.declared.frame.Frame.TheVariants as frames
 use Rattle.zy_law_normal.proofs.Goes.{all_of_both, all_of_front}
 use Rattle.zy_law_normal.proofs.KeptVotes.{none_kept}
-use Rattle.zy_law_normal.proofs.Own.{at_of, by_test}
+use Rattle.zy_law_normal.proofs.Own.{at_of, by_test, all_drop}
 use Rattle.zy_parts.specs.Numbers as numbers
 use Rattle.zy_parts.specs.Reports.{began_fields, fetch_fields}
 use Rattle.zy_parts.specs.declared.reports.Began.{Began}
@@ -30,13 +30,13 @@ use Rattle.zy_parts.specs.declared.reports.Told.{Told}
 use Rattle.zy_parts.specs.declared.signed.Signed.{Signed}
 use Rattle.zy_parts.specs.declared.statements.Spec.{Spec}
 use Rattle.zy_seal.specs.Sealing.{sealed_by}
-use Rattle.zy_table.specs.Adopting.{checkpoints_between, taken_over, verdict_of}
+use Rattle.zy_table.specs.Adopting.{checkpoints_between, taken_over, verdict_of, common_with}
 use Rattle.zy_table.specs.Beginning.{active_by, adopt, adopt_as, adopt_from, adopt_if, adoption_of, arrive, ask_each, ask_for, asked_of, begin_view, begun, certify_with, confirms, fetch_said, fetch_to, kept_waiting, respond_alone, respond_at, respond_to, send_to_each, settled_as, take_up, wait_for, wanted_of}
 use Rattle.zy_table.specs.Deeds.{Going, Outcome, act, ends, send_any, send_view, to_clients}
 use Rattle.zy_table.specs.Gathering.{own_at, with_own_spec}
 use Rattle.zy_table.specs.Leaving.{Attempt, accept, collect, give_new, given, leave, leave_alone, left_with, report_of, sealed_change, sealed_new}
 use Rattle.zy_table.specs.Running.{sealed_spec}
-use Rattle.zy_table.specs.State.{State, own_view, spent, stood_of, with_spec}
+use Rattle.zy_table.specs.State.{State, own_view, spent, stood_of, with_spec, stays_beside}
 use Rattle.zy_table.specs.declared.deeds.Act.TheVariants.{Says}
 use Rattle.zy_table.specs.declared.deeds.AnyFrame.TheVariants.{Plain, View as Framed}
 use Rattle.zy_table.specs.declared.deeds.Body.TheVariants as bodies
@@ -50,13 +50,13 @@ use Rattle.zy_vframes.specs.declared.frame.ViewFrame.TheVariants as views
 use Rattle.std.proofs.lemmas.Bool.{leb-true}
 use Rattle.std.proofs.lemmas.List.{length-take-le}
 use Rattle.std.proofs.lemmas.List.Elements.{All-from_recursion}
-use Rattle.zy_chain.specs.Stretch.{Stretch}
 use Rattle.zy_exec.specs.Kept.{Kept}
 use Rattle.zy_law_normal.proofs.Backing.{all_listed}
-use Rattle.zy_law_steps.proofs.Passing.{Laws, Passes, reply_short, empty_slots, found, knows, says, sends, settled_of, spec_put, turns, one_more}
+use Rattle.zy_law_steps.proofs.Passing.{Laws, Passes, empty_slots, found, knows, says, sends, settled_of, spec_put, turns, one_more, answers_told}
 use Rattle.zy_law_steps.proofs.Slots.{begans_later, changes_later, equal_kept, filled, gathered_kept, never_flagged, others_dropped}
-use Rattle.zy_law_steps.specs.Signs.{OfActs, OfAct, OfAnyFrame, OfCert, OfChange, OfNew, OfOrder, OfPending, OfSent, OfState, OfTold, Signs}
-use Rattle.zy_chain.specs.Answers.{FitsAnswers}
+use Rattle.zy_law_steps.specs.Signs.{OfActs, OfAct, OfAnyFrame, OfCert, OfChange, OfNew, OfOrder, OfPending, OfSent, OfState, OfTold, Signs, OfKept}
+use Rattle.zy_chain.specs.Answers.{Answers}
+use Rattle.zy_chain.specs.declared.entry.Entry.{Entry}
 
 module _ {S : Type 0} (R : Rules S) (ok : S → Type 0) (F : Signs) (law : Laws ok R F) (me : Party) where
   abbrev On : Type 0 → Going S → Type 0

@@ -1,5 +1,5 @@
 -- What holds of each signed statement that a replica hears, keeps, says or sends, where something is said of each kind of them.
-use Rattle.std.specs.Prelude.{◌≡◌, ℕ, ◌≤◌, Bool, true, List, All, IfSome, None, Ok, Err}
+use Rattle.std.specs.Prelude.{◌≡◌, ℕ, ◌^◌, ◌<◌, ◌≤◌, Bool, true, List, length, All, IfSome, None, Ok, Err}
 use Rattle.std.specs.List.{AllByRecursion}
 use Rattle.zy_base.specs.declared.frame_fault.FrameFault.TheVariants as faults
 use Rattle.zy_base.specs.declared.ids.Party.{Party}
@@ -9,8 +9,8 @@ use Rattle.zy_base.specs.declared.step.Event.{Event}
 use Rattle.zy_base.specs.declared.step.Event.TheVariants.{Heard, Timer}
 use Rattle.zy_base.specs.declared.step.Spoken.{Spoken}
 use Rattle.zy_admit.specs.Orders.{Orders}
-use Rattle.zy_chain.specs.Answers.{Answers, FitsAnswers}
-use Rattle.zy_chain.specs.Entries.{IsItemInRange}
+use Rattle.zy_chain.specs.Answers.{Answers}
+use Rattle.zy_chain.specs.declared.answers.Answered.{Answered}
 use Rattle.zy_chain.specs.declared.entry.Entry.{Entry}
 use Rattle.zy_change.specs.Views.{Views, is_hated_by, own_view}
 use Rattle.zy_check.specs.Board.{Board}
@@ -233,9 +233,17 @@ OfAsks F me asks = AllByRecursion (λ ask. (sealer : SealerState) → sealer.me 
 
 -- ---- of the texts that are signed
 
--- an entry whose answers can be spelled
+-- What can be spelled of an answer, with 32 bits of its client's number.
+pub record IsShortAnswer (a : Answered) : Type 0 where
+  pub stamp : a.stamp.0 < 2 ^ 62
+  pub reply : length a.reply ≤ 1100
+
+abbrev pub AreShort : Answers → Type 0
+AreShort answers = FitsList IsShortAnswer 1 16 answers
+
+-- an entry whose answers are such
 abbrev pub IsAnswerable : Entry → Type 0
-IsAnswerable e = FitsList IsItemInRange 1 16 e.items
+IsAnswerable e = FitsList (λ i. i.stamp.0 < 2 ^ 62) 1 16 e.items
 
 -- A signed statement can be spelled, and this holds of its signer and the text that is signed.
 abbrev pub OfText : {A : Type 0} → (Party → List ℕ → Bool) → ℕ → Spelling A → Signed A → Type 0
@@ -262,7 +270,7 @@ OfTexts p =
       fetch = OfText p numbers.fetch fetch_fields;
       asks = λ asks. asks_fields.Fits asks × AllByRecursion (OfTextAlone p numbers.ask ask_fields) asks;
       entry = IsAnswerable;
-      answers = FitsAnswers;
+      answers = AreShort;
     }
 
 abbrev pub OfTextsAlone : (Party → List ℕ → Bool) → Signs
