@@ -1,6 +1,6 @@
 -- What a replica and a client say can be spelled and passes a test, so it is of those texts, whichever signature it has.
-use Rattle.std.proofs.Common.{◌≡◌, ℕ, ◌+◌, ◌<◌, ◌≤◌, ◌^◌, Bool, true, List, [], ◌∷◌, length, map, Option, Some, None, sym, subst, arith, get_or}
-use Rattle.std.specs.Prelude.{nat_le}
+use Rattle.std.proofs.Common.{◌≡◌, ℕ, ◌+◌, ◌<◌, ◌≤◌, ◌^◌, Bool, true, List, [], ◌∷◌, length, map, Option, Some, None, sym, subst, arith, get_or, ap, refl}
+use Rattle.std.specs.Prelude.{nat_le, All}
 use Rattle.std.proofs.lemmas.Bool.{leb-true}
 use Rattle.std.specs.List.{AllByRecursion}
 use Rattle.zy_base.specs.declared.ids.ClientId.{ClientId}
@@ -39,7 +39,7 @@ use Rattle.zy_chain.specs.declared.item.Item.{Item}
 use Rattle.zy_exec.specs.Replay.{answers_from}
 use Rattle.std.proofs.lemmas.List.{length-map}
 use Rattle.std.proofs.lemmas.List.Elements.{All-map}
-use Rattle.zy_law_normal.proofs.Backing.{all_from}
+use Rattle.zy_law_normal.proofs.Backing.{all_from, all_listed}
 use Rattle.zy_parts.specs.Asks.{ask_behind, ask_within, asks_fields, IsNextAsk, entry_of_asks, item_of}
 use Rattle.zy_parts.specs.AsksExact.{asks-in_range}
 use Rattle.zy_wire.proofs.SuccessiveLaws.{AreSuccessive-all}
@@ -128,6 +128,36 @@ asks_alone p me (ask ∷ asks) passed = (says_alone p (Client me) numbers.ask as
 
 -- ---- what is run of what is heard
 
+alone_fits : (ask : Signed Ask) → (signed ask_fields).Fits ask → (ask_behind []).Fits ask
+unfolding ask_behind ask_within ask_fields signed
+alone_fits ask fits = (fits.0, ((fits.1.0.0, omega (arith, fits.1.0.1)), fits.1.1))
+
+stamp_of : (before : List (Signed Ask)) (ask : Signed Ask) → IsNextAsk before ask → (item_of ask).stamp.0 < 2 ^ 62
+stamp_of before ask next = next.alone.0.0.1
+
+ordered_fits : (asks : List (Signed Ask)) → asks_fields.Fits asks → IsAnswerable (entry_of_asks asks)
+ordered_fits asks fits =
+    let range = asks-in_range asks fits in
+    let long = length-map asks item_of in
+    let each : AllByRecursion (λ ask. (item_of ask).stamp.0 < 2 ^ 62) asks = AreSuccessive-all IsNextAsk (λ ask. (item_of ask).stamp.0 < 2 ^ 62) stamp_of [] asks range.each in
+    record {
+      least = omega (arith, long, range.least);
+      most = omega (arith, long, range.most);
+      each = All-map (λ (i : Item). i.stamp.0 < 2 ^ 62) item_of asks (all_from (λ (ask : Signed Ask). (item_of ask).stamp.0 < 2 ^ 62) asks each);
+    }
+
+told_entries : (c : Signed Change) → (signed change_fields).Fits c → All entry_fields.Fits c.stmt.told.entries
+unfolding signed change_fields told_fields
+told_entries c fits = fits.1.0.1.1.1.1.1.1.1.1.1.1.1.each
+
+entry_answerable : (e : Entry) → entry_fields.Fits e → IsAnswerable e
+entry_answerable e fits =
+    let range = entry-in_range e fits in
+    record { least = range.least; most = range.most; each = λ k d within. (all_from IsItemInRange e.items (items_in_range [] e.items range.each) k d within).stamp }
+
+reported_fit : (entries : List Entry) → All entry_fields.Fits entries → AllByRecursion IsAnswerable entries
+reported_fit entries fit = all_listed IsAnswerable entries (λ k d within. entry_answerable (get_or entries k d) (fit k d within))
+
 -- what a machine promises of its states and its replies
 pub record MachineLaws {S : Type 0} (ok : S → Type 0) (R : Rules S) : Type 0 where
   pub starts : ok R.initial
@@ -183,33 +213,3 @@ module _ {S : Type 0} (ok : S → Type 0) (R : Rules S) (machine : MachineLaws o
         ordered = λ asks all. ordered_fits asks all.0;
         reported = λ c one. reported_fit c.stmt.told.entries (told_entries c one.0);
       }
-    where
-      alone_fits : (ask : Signed Ask) → (signed ask_fields).Fits ask → (ask_behind []).Fits ask
-      unfolding ask_behind ask_within ask_fields signed
-      alone_fits ask fits = (fits.0, ((fits.1.0.0, omega (arith, fits.1.0.1)), fits.1.1))
-
-      stamp_of : (before : List (Signed Ask)) (ask : Signed Ask) → IsNextAsk before ask → (item_of ask).stamp.0 < 2 ^ 62
-      stamp_of before ask next = next.alone.0.0.1
-
-      ordered_fits : (asks : List (Signed Ask)) → asks_fields.Fits asks → IsAnswerable (entry_of_asks asks)
-      ordered_fits asks fits =
-          let range = asks-in_range asks fits in
-          let long = length-map asks item_of in
-          let each : AllByRecursion (λ ask. (item_of ask).stamp.0 < 2 ^ 62) asks = AreSuccessive-all IsNextAsk (λ ask. (item_of ask).stamp.0 < 2 ^ 62) stamp_of [] asks range.each in
-          record {
-            least = omega (arith, long, range.least);
-            most = omega (arith, long, range.most);
-            each = All-map (λ (i : Item). i.stamp.0 < 2 ^ 62) item_of asks (all_from (λ (ask : Signed Ask). (item_of ask).stamp.0 < 2 ^ 62) asks each);
-          }
-
-      told_entries : (c : Signed Change) → (signed change_fields).Fits c → All entry_fields.Fits c.stmt.told.entries
-      unfolding signed change_fields told_fields
-      told_entries c fits = fits.1.0.1.1.1.1.1.1.1.1.1.1.1.each
-
-      entry_answerable : (e : Entry) → entry_fields.Fits e → IsAnswerable e
-      entry_answerable e fits =
-          let range = entry-in_range e fits in
-          record { least = range.least; most = range.most; each = λ k d within. (all_from IsItemInRange e.items (items_in_range [] e.items range.each) k d within).stamp }
-
-      reported_fit : (entries : List Entry) → All entry_fields.Fits entries → AllByRecursion IsAnswerable entries
-      reported_fit entries fit = all_listed IsAnswerable entries (λ k d within. entry_answerable (get_or entries k d) (fit k d within))

@@ -37,7 +37,7 @@ use Rattle.zy_table.specs.declared.kept.OwnCheckpoint.{OwnCheckpoint}
 use Rattle.zy_wire.specs.Fields.{FitsList, FitsOptional}
 use Rattle.zy_law_steps.specs.Spelled.{FitAll, FitsBody, IsBoardSpelled, IsCheckSpelled, IsSpecSpelled, IsSpelled}
 use Rattle.zy_law_steps.proofs.Sizes.{head_long, sealed_fits, answers_long}
-use Rattle.std.proofs.lemmas.Bool.{or_parts}
+use Rattle.std.proofs.lemmas.Bool.{or_parts, ltb-false}
 use Rattle.zy_law_views.proofs.Responding.{answered_above}
 use Rattle.zy_chain.specs.Answers.{Answers}
 
