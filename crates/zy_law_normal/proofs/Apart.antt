@@ -1,5 +1,5 @@
 -- The items of an entry are of different clients.
-use Rattle.std.proofs.Common.{◌≡◌, ◌≢◌, false, List, [], ◌∷◌, Some, refl, sym, ap, ◌∙◌, arith, ℕ, ◌<◌, inl, inr}
+use Rattle.std.proofs.Common.{◌≡◌, ◌≢◌, false, List, [], ◌∷◌, Some, sym, ap, ◌∙◌, arith, ℕ, ◌<◌, inl, inr}
 use Rattle.std.specs.Prelude.{slice_get}
 use Rattle.std.specs.List.{AllByRecursion, AllPairs}
 use Rattle.std.proofs.lemmas.Bool.{cases_lt, eqb-false, or_parts}

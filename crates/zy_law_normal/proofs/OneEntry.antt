@@ -16,8 +16,8 @@ use Rattle.zy_chain.specs.Stretch.{Mark}
 use Rattle.zy_frames.specs.Frames.{entry_in}
 use Rattle.zy_frames.specs.declared.frame.OrderFrame.{OrderFrame}
 use Rattle.zy_exec.specs.declared.known.Known.{Known}
-use Rattle.zy_exec.specs.Replay.{Point, along, answer_at, answers_of, is_new_item, is_new_to, origin}
-use Rattle.zy_exec.specs.Kept.{longer, now_of, known_in}
+use Rattle.zy_exec.specs.Replay.{Point, answer_at, answers_of, is_new_item, is_new_to, origin}
+use Rattle.zy_exec.specs.Kept.{now_of, known_in}
 use Rattle.zy_exec.proofs.ReplayLemmas.{place-along, head-along}
 use Rattle.zy_exec.proofs.HistoryLemmas.{stands_leads}
 use Rattle.zy_law.specs.Histories.{IsEntryAt, IsItemAt, AreKept}

@@ -17,7 +17,7 @@ use Rattle.zy_exec.specs.declared.known.Known.{Known}
 use Rattle.zy_exec.specs.Replay.{Point, origin, known_of, along, answer_at, answers_of}
 use Rattle.zy_exec.proofs.ReplayLemmas.{by_last, along-append, along-nil, place-along, head-along, length-known-along, clients_pop}
 use Rattle.zy_law.specs.Histories.{IsEntryAt, IsItemAt}
-use Rattle.zy_law.proofs.EntriesAskedFor.{entry_within, entry_longer, entry_shorter, item_longer, item_shorter}
+use Rattle.zy_law.proofs.EntriesAskedFor.{entry_within, entry_longer, item_longer, item_shorter}
 use Rattle.zy_law_normal.proofs.Backing.{all_listed}
 
 -- ---- the reply to an entry of a longer history
@@ -50,9 +50,6 @@ entry_last h e place d past at =
     let is : place ≡ length h + 1 = omega (arith, length-append h (e ∷ [])) in
     let before : place - 1 ≡ length h = omega arith in
     (is, same_Some e d (sym (entry_pushed h e) ∙ ap (λ (i : ℕ). slice_get (h ++ e ∷ []) i) (sym before) ∙ at.there))
-
-pub entry_before : (h : List Entry) (e : Entry) (place : ℕ) (d : Entry) → place ≤ length h → IsEntryAt (h ++ e ∷ []) place d → IsEntryAt h place d
-entry_before h e place d within at = entry_shorter h (h ++ e ∷ []) place d (e ∷ [], refl) within at
 
 -- ---- the items of a longer history
 

@@ -24,8 +24,8 @@ use Rattle.zy_wire.specs.Kind.{kind_in}
 use Rattle.zy_wire.specs.Spelling.{Spelling, ◌>>=◌, ended, made, pair, word}
 use Rattle.zy_law_steps.specs.Spelled.{IsBeganSpelled, IsChangeSpelled, IsCheckSpelled, IsSpecSpelled}
 use Rattle.zy_law_steps.proofs.Decoded.{Gives, all_give, began_gives, check_gives, list_gives, made_gives, pair_gives, signature_gives, signed_gives, spec_gives}
-use Rattle.zy_chain.specs.Answers.{answers_fields}
 use Rattle.std.specs.Int.{w32}
+use Rattle.zy_chain.specs.Fields.{answers_fields}
 
 -- ---- either kind
 

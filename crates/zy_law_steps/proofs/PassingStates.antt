@@ -20,7 +20,6 @@ use Rattle.zy_wire.specs.Spelling.{ended, pair, whole, word}
 use Rattle.zy_law_steps.proofs.Decoded.{Gives, all_give, list_gives, made_gives, pair_gives, sized_gives, counted_gives, u62_gives}
 use Rattle.zy_law_steps.proofs.Passing.{Laws, empty_slots, IsToldOf}
 use Rattle.zy_law_steps.proofs.Slots.{AreKept, filled}
-use Rattle.zy_chain.specs.Answers.{answers_fields}
 use Rattle.zy_chain.specs.Sizes.{greatest_state}
 use Rattle.zy_chain.specs.Fields.{answered_fields, answers_fields}
 use Rattle.zy_law_steps.specs.Signs.{AreShort, IsShortAnswer, OfPoint, Signs}
