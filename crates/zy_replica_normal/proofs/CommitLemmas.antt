@@ -60,20 +60,20 @@ pub not_below : (a b : ℕ) → is_lt (nat_cmp a b) ≡ false → nat_lt a b ≡
 not_below a b is = search rules
 
 -- a certificate at a place that is neither settled nor still to come is judged
-pub commit_is : {S : Type 0} (R : Rules S) (s : State S) (first : Spec) (specs : List (Signed Spec)) → nat_lt first.place.0 s.orders.base ≡ false → nat_lt (last_place s.kept) first.place.0 ≡ false
-    → commit_judged R s specs first.client (certified same_spec point_of_spec s.counts.cert specs) ≡ commit R s first specs
+pub commit_is : {S : Type 0} (R : Rules S) (s : State S) (client : ClientId) (first : Spec) (specs : List (Signed Spec)) → nat_lt first.place.0 s.orders.base ≡ false → nat_lt (last_place s.kept) first.place.0 ≡ false
+    → commit_judged R s specs client (certified same_spec point_of_spec s.counts.cert specs) ≡ commit R s client first specs
 unfolding commit
-commit_is R s first specs old behind = rw (old, behind) refl
+commit_is R s client first specs old behind = rw (old, behind) refl
 
-pub commit_old : {S : Type 0} (R : Rules S) (s : State S) (first : Spec) (specs : List (Signed Spec)) → nat_lt first.place.0 s.orders.base ≡ true
-    → refused causes.OldPlace s ≡ commit R s first specs
+pub commit_old : {S : Type 0} (R : Rules S) (s : State S) (client : ClientId) (first : Spec) (specs : List (Signed Spec)) → nat_lt first.place.0 s.orders.base ≡ true
+    → refused causes.OldPlace s ≡ commit R s client first specs
 unfolding commit
-commit_old R s first specs old = rw old refl
+commit_old R s client first specs old = rw old refl
 
-pub commit_behind : {S : Type 0} (R : Rules S) (s : State S) (first : Spec) (specs : List (Signed Spec)) → nat_lt first.place.0 s.orders.base ≡ false → nat_lt (last_place s.kept) first.place.0 ≡ true
-    → refused (causes.Behind first.place) s ≡ commit R s first specs
+pub commit_behind : {S : Type 0} (R : Rules S) (s : State S) (client : ClientId) (first : Spec) (specs : List (Signed Spec)) → nat_lt first.place.0 s.orders.base ≡ false → nat_lt (last_place s.kept) first.place.0 ≡ true
+    → refused (causes.Behind first.place) s ≡ commit R s client first specs
 unfolding commit
-commit_behind R s first specs old behind = rw (old, behind) refl
+commit_behind R s client first specs old behind = rw (old, behind) refl
 
 -- ---- what is owed with a certificate
 

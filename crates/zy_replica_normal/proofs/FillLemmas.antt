@@ -37,7 +37,7 @@ fill_some s hole (o ∷ orders) some = refl
 
 pub sent_in_range : (by : Party) (orders : List OrderFrame) → AllByRecursion IsOrderReady orders → AllByRecursion (λ (s : Sent). CanBeSent s.frame) (map (order_to by) orders)
 sent_in_range by [] all = tt
-sent_in_range by (o ∷ orders) all = ((all.0.order, all.0.ask.range), sent_in_range by orders all.1)
+sent_in_range by (o ∷ orders) all = ((all.0.order, all.0.asks.range), sent_in_range by orders all.1)
 
 pub within : (a b : ℕ) → is_le (nat_cmp a b) ≡ true → nat_le a b ≡ true
 within a b is = le-leb a b (le_from_is_le a b is)

@@ -15,7 +15,9 @@ use Rattle.zy_parts.specs.declared.statements.Check.{Check}
 use Rattle.zy_exec.specs.Kept.{Kept, last_place}
 use Rattle.zy_exec.proofs.ReplayLemmas.{place-along}
 use Rattle.zy_exec.proofs.SettleLemmas.{settled_end}
-use Rattle.zy_admit.specs.Judging.{ordered_entry}
+use Rattle.zy_chain.specs.Answers.{Answers}
+use Rattle.zy_chain.specs.declared.entry.Entry.{Entry}
+use Rattle.zy_frames.specs.Frames.{entry_in}
 use Rattle.zy_admit.specs.Orders.{Orders, slots_above, orders_above}
 use Rattle.zy_table.specs.declared.deeds.To.TheVariants.{All}
 use Rattle.zy_table.specs.declared.kept.OwnCheckpoint.{OwnCheckpoint}
@@ -23,7 +25,7 @@ use Rattle.zy_change.specs.Views.{is_further}
 use Rattle.zy_table.specs.State.{State, own_view, is_leaving, is_leaving_mode}
 use Rattle.zy_table.specs.Deeds.{Going, send}
 use Rattle.zy_table.specs.Gathering.{state_in, own_with, certificate_at, keep_certificate, owes_check, say_check_if, settle_with, settle_own, proof_at, gather, with_own_spec}
-use Rattle.zy_table.specs.Running.{spec_of, next_known, executed, sealed_spec, respond, share, run_one}
+use Rattle.zy_table.specs.Running.{next_answers, next_spec, executed, sealed_spec, respond, share, run_one}
 
 -- the mode, the end of the history, and the orders above it, are the same
 pub record IsSameAbove {S : Type 0} (s t : State S) : Type 0 where
@@ -87,27 +89,28 @@ module _ {S : Type 0} (R : Rules S) where
       (subst (λ (k : Kept S). k.base.place ≤ place) (sym kept) above)
       (subst (λ (k : Kept S). place ≤ last_place k) (sym kept) below))
 
-  shared_above : (order : Signed Order) (signed : Signed Spec) (reply : List ℕ) (state : Option Digest) (g : Going S) → g.state.orders.base ≤ signed.stmt.place.0 → g.state.kept.base.place ≤ signed.stmt.place.0 → signed.stmt.place.0 ≤ last_place g.state.kept
-      → IsSameAbove g.state (share R order signed reply state g).state
-  shared_above order signed reply None g orders above below = record { mode = refl; last = refl; slots = refl }
-  shared_above order signed reply (Some state) g orders above below =
+  shared_above : (order : Signed Order) (signed : Signed Spec) (answers : Answers) (state : Option Digest) (g : Going S) → g.state.orders.base ≤ signed.stmt.place.0 → g.state.kept.base.place ≤ signed.stmt.place.0 → signed.stmt.place.0 ≤ last_place g.state.kept
+      → IsSameAbove g.state (share R order signed answers state g).state
+  shared_above order signed answers None g orders above below = record { mode = refl; last = refl; slots = refl }
+  shared_above order signed answers (Some state) g orders above below =
       let own : OwnCheckpoint = own_with signed.stmt state in
-      let told : Going S = send All (frames.SpecResponse signed reply (Some order)) g in
+      let told : Going S = send All (frames.SpecResponse signed answers (Some order)) g in
       let same = gather_above own false (record told { state = with_own_spec told.state own signed }) orders above below in
       record { mode = same.mode; last = same.last; slots = same.slots }
 
   -- an order that is run: one place more, and the orders above it are the same
-  pub run_above : (o : OrderFrame) (g : Going S) → g.state.orders.base ≤ last_place g.state.kept → IsSameAbove (executed R (ordered_entry o) g).state (run_one R o g).state
+  pub run_above : (o : OrderFrame) (g : Going S) → g.state.orders.base ≤ last_place g.state.kept → IsSameAbove (executed R (entry_in o) g).state (run_one R o g).state
   unfolding run_one
   run_above o g base =
-      let known = next_known R g.state (ordered_entry o) in
-      let spec : Spec = spec_of (own_view g.state) (ordered_entry o) known in
-      let e : Going S = executed R (ordered_entry o) g in
-      let signed : Signed Spec = sealed_spec e.state spec in
-      let r : Going S = respond R o.order signed known.reply e in
+      let e : Entry = entry_in o in
+      let spec : Spec = next_spec R g.state e in
+      let answers = next_answers R g.state e in
+      let after : Going S = executed R e g in
+      let signed : Signed Spec = sealed_spec after.state spec in
+      let r : Going S = respond R o.order signed answers after in
       let here : spec.place.0 ≡ last_place g.state.kept + 1 = ap (λ (n : ℕ). n + 1) (place-along R g.state.kept.base g.state.kept.entries) in
-      let longer = length-append g.state.kept.entries (ordered_entry o ∷ []) in
-      let same = shared_above o.order signed known.reply (state_in R e.state.kept spec.place.0) r (omega (arith, here)) (omega (arith, here)) (omega (arith, here, longer)) in
+      let longer = length-append g.state.kept.entries (e ∷ []) in
+      let same = shared_above o.order signed answers (state_in R after.state.kept spec.place.0) r (omega (arith, here)) (omega (arith, here)) (omega (arith, here, longer)) in
       record { mode = same.mode; last = same.last; slots = same.slots }
 
   -- it stays active

@@ -5,7 +5,7 @@ use Rattle.std.proofs.lemmas.List.{length-append, length-drop, length-set}
 use Rattle.zy_base.specs.Machine.{Rules}
 use Rattle.zy_frames.specs.declared.frame.OrderFrame.{OrderFrame}
 use Rattle.zy_exec.specs.Kept.{last_place}
-use Rattle.zy_admit.specs.Judging.{ordered_entry}
+use Rattle.zy_frames.specs.Frames.{entry_in}
 use Rattle.zy_admit.specs.Orders.{slots_above, stored_in, without_order}
 use Rattle.zy_table.specs.Deeds.{Going}
 use Rattle.zy_table.specs.State.{signs_left}
@@ -23,12 +23,12 @@ held_slots g = slots_above (last_place g.state.kept) g.state.orders
 module _ {S : Type 0} (R : Rules S) (g : Going S) (base : g.state.orders.base ≤ last_place g.state.kept) where
   -- an order that is run adds one place, and leaves the slots above
   one_longer : (o : OrderFrame) → last_place (run_one R o g).state.kept ≡ last_place g.state.kept + 1
-  one_longer o = (run_above R o g base).last ∙ omega (arith, length-append g.state.kept.entries (ordered_entry o ∷ []))
+  one_longer o = (run_above R o g base).last ∙ omega (arith, length-append g.state.kept.entries (entry_in o ∷ []))
 
   slots_after : (o : OrderFrame) → slots_above (last_place (run_one R o g).state.kept) (run_one R o g).state.orders ≡ slots_above (last_place g.state.kept + 1) g.state.orders
   slots_after o =
       let same = run_above R o g base in
-      let here : last_place (executed R (ordered_entry o) g).state.kept ≡ last_place g.state.kept + 1 = omega (arith, length-append g.state.kept.entries (ordered_entry o ∷ [])) in
+      let here : last_place (executed R (entry_in o) g).state.kept ≡ last_place g.state.kept + 1 = omega (arith, length-append g.state.kept.entries (entry_in o ∷ [])) in
       ap (λ (n : ℕ). slots_above n (run_one R o g).state.orders) same.last
       ∙ same.slots
       ∙ ap (λ (n : ℕ). slots_above n g.state.orders) here
@@ -70,11 +70,11 @@ module _ {S : Type 0} (R : Rules S) (g : Going S) (base : g.state.orders.base �
         )
 
     -- without signatures it waits
-    pub held_waits : fits_end R g.state o ≡ true → nat_le (signs_of R g.state (ordered_entry o)) (signs_left g.state) ≡ false → run_held R (held_slots g) g ≡ g
+    pub held_waits : fits_end R g.state o ≡ true → nat_le (signs_of R g.state (entry_in o)) (signs_left g.state) ≡ false → run_held R (held_slots g) g ≡ g
     unfolding run_held
     held_waits fits spent = first ∙ rw (fits, spent) refl
 
-    pub held_runs : fits_end R g.state o ≡ true → nat_le (signs_of R g.state (ordered_entry o)) (signs_left g.state) ≡ true
+    pub held_runs : fits_end R g.state o ≡ true → nat_le (signs_of R g.state (entry_in o)) (signs_left g.state) ≡ true
         → run_held R (held_slots g) g ≡ run_held R (slots_above (last_place (run_one R o g).state.kept) (run_one R o g).state.orders) (run_one R o g)
     unfolding run_held
     held_runs fits left = first ∙ rw (fits, left) (run_is o)

@@ -17,30 +17,31 @@ use Rattle.zy_table.specs.State.{State, signs_left}
 use Rattle.zy_table.specs.Deeds.{refused, ends, begin}
 use Rattle.zy_table.specs.Gathering.{signs_with}
 use Rattle.zy_table.specs.Orders.{take_order}
-use Rattle.zy_table.specs.Requests.{take_request, sealed_order, ordered}
+use Rattle.zy_table.specs.Requests.{entry_of, take_request, sealed_order, ordered}
 use Rattle.zy_table.specs.Running.{signs_of, run}
-use Rattle.zy_admit.specs.Judging.{entry_of, ordered_entry}
+use Rattle.zy_chain.specs.declared.entry.Entry.{Entry}
+use Rattle.zy_frames.specs.Frames.{entry_in}
 
 with_alike : {S : Type 0} (s : State S) (sealer : SealerState) (orders : Orders) (hole : Option (Signed Hole)) (spec : Spec) (state : Option Digest)
     → signs_with (record s { sealer = sealer; orders = orders; hole = hole }) spec state ≡ signs_with s spec state
 with_alike s sealer orders hole spec None = refl
 with_alike s sealer orders hole spec (Some state) = refl
 
-pub signs_alike : {S : Type 0} (R : Rules S) (s : State S) (sealer : SealerState) (orders : Orders) (hole : Option (Signed Hole)) (ask : Signed Ask)
-    → signs_of R (record s { sealer = sealer; orders = orders; hole = hole }) (entry_of ask) ≡ signs_of R s (entry_of ask)
-signs_alike R s sealer orders hole ask = with_alike s sealer orders hole _ _
+pub signs_alike : {S : Type 0} (R : Rules S) (s : State S) (sealer : SealerState) (orders : Orders) (hole : Option (Signed Hole)) (e : Entry)
+    → signs_of R (record s { sealer = sealer; orders = orders; hole = hole }) e ≡ signs_of R s e
+signs_alike R s sealer orders hole e = with_alike s sealer orders hole _ _
 
 -- ---- an order that is next
 
-pub order_fits : {S : Type 0} (R : Rules S) (s : State S) (frame : OrderFrame) → nat_le (signs_of R s (ordered_entry frame) + 0) (signs_left s) ≡ true
+pub order_fits : {S : Type 0} (R : Rules S) (s : State S) (frame : OrderFrame) → nat_le (signs_of R s (entry_in frame) + 0) (signs_left s) ≡ true
     → take_order R s frame ≡ ends Taken (run R frame (begin (record s { orders = with_order s.orders frame; hole = None })))
 order_fits R s frame is =
-    let can : nat_le (signs_of R s (ordered_entry frame)) (signs_left s) ≡ true = le-leb _ _ (omega (arith, leb-true _ _ is)) in rw can refl
+    let can : nat_le (signs_of R s (entry_in frame)) (signs_left s) ≡ true = le-leb _ _ (omega (arith, leb-true _ _ is)) in rw can refl
 
-pub order_spent : {S : Type 0} (R : Rules S) (s : State S) (frame : OrderFrame) → nat_le (signs_of R s (ordered_entry frame) + 0) (signs_left s) ≡ false
+pub order_spent : {S : Type 0} (R : Rules S) (s : State S) (frame : OrderFrame) → nat_le (signs_of R s (entry_in frame) + 0) (signs_left s) ≡ false
     → take_order R s frame ≡ refused causes.KeySpent s
 order_spent R s frame is =
-    let cannot : nat_le (signs_of R s (ordered_entry frame)) (signs_left s) ≡ false = lt-leb _ _ (omega (arith, leb-false _ _ is)) in rw cannot refl
+    let cannot : nat_le (signs_of R s (entry_in frame)) (signs_left s) ≡ false = lt-leb _ _ (omega (arith, leb-false _ _ is)) in rw cannot refl
 
 -- ---- a request at the primary
 
@@ -54,7 +55,7 @@ request_spent R s ask is = rw is refl
 
 -- the order itself signs one
 pub ordered_signs : {S : Type 0} (R : Rules S) (s : State S) (ask : Signed Ask) → signs_of R (ordered R s ask).state (entry_of ask) ≡ signs_of R s (entry_of ask)
-ordered_signs R s ask = signs_alike R s (spent_one s.sealer) (with_order s.orders (sealed_order R s ask)) s.hole ask
+ordered_signs R s ask = signs_alike R s (spent_one s.sealer) (with_order s.orders (sealed_order R s ask)) s.hole (entry_of ask)
 
 pub ordered_left : {S : Type 0} (R : Rules S) (s : State S) (ask : Signed Ask) → signs_of R s (entry_of ask) + 1 ≤ signs_left s → signs_of R s (entry_of ask) ≤ signs_left (ordered R s ask).state
 ordered_left R s ask fits = omega (arith, fits)

@@ -135,6 +135,8 @@ fn count_signs<M: Machine>(core: Core<M>, asks: &[Signed<Ask>]) -> Result<(Core<
     ensures core { IfOk result (λ r. r.0 ≡ core) }
     ensures signs { IfOk result (λ r. r.1 ≡ signs_for M.rules core (entry_asked asks.now)) }
 {
+    // With its view comes what holds of every replica.
+    let _view = core.view();
     let entry = entry_of(core.allocator(), asks)?;
     let (core, answers) = core.run_entry(entry)?;
     let spec = last_spec(&core, &answers);
@@ -317,6 +319,8 @@ fn run_one<M: Machine>(progress: Progress<M>, frame: &OrderFrame) -> Result<Prog
     ensures active { IfOk result (λ g. is_leaving g.state ≡ false) }
     ensures base { progress.state.orders.base ≤ last_place progress.state.kept }
 {
+    // With its view comes what holds of every replica.
+    let _view = progress.core.view();
     let (ran, answers) = execute(progress, frame.asks.as_slice())?;
     let spec = last_spec(&ran.core, &answers);
     let order = signed_copy(&frame.order)?;

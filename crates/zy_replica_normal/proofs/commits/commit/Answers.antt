@@ -40,8 +40,8 @@ returns g c =
     let old : nat_lt c.args.first.place.0 c.args.core.orders.base ≡ false = rw (sym c.stable.ensures.place) (not_below _ _ (sym c.lt.ensures ∙ c.if-lt.false)) in
     let behind : nat_lt (last_place c.args.core.kept) c.args.first.place.0 ≡ false = rw (sym c.length.ensures.place) (not_below _ _ (sym c.lt-2.ensures ∙ c.if-lt-2.false)) in
     subst (λ (o : Outcome g.row.M-State.Denot). IfOk c.commit_judged.result (λ (m : Outcome g.row.M-State.Denot). m ≡ o))
-    (ap (commit_judged g.M.Machine.rules c.args.core c.args.specs c.args.first.client) point
-    ∙ commit_is g.M.Machine.rules c.args.core c.args.first c.args.specs old behind)
+    (ap (commit_judged g.M.Machine.rules c.args.core c.args.specs c.args.client) point
+    ∙ commit_is g.M.Machine.rules c.args.core c.args.client c.args.first c.args.specs old behind)
     c.commit_judged.ensures
 
 pub returns-then-lt-2 : goal.returns-then-lt-2
@@ -49,12 +49,12 @@ returns-then-lt-2 g c =
     let old : nat_lt c.args.first.place.0 c.args.core.orders.base ≡ false = rw (sym c.stable.ensures.place) (not_below _ _ (sym c.lt.ensures ∙ c.if-lt.false)) in
     let behind : nat_lt (last_place c.args.core.kept) c.args.first.place.0 ≡ true = rw (sym c.length.ensures.place) (below _ _ (sym c.lt-2.ensures ∙ c.if-lt-2.true)) in
     subst (λ (o : Outcome g.row.M-State.Denot). IfOk c.not_heard-then-lt-2.result (λ (m : Outcome g.row.M-State.Denot). m ≡ o))
-    (commit_behind g.M.Machine.rules c.args.core c.args.first c.args.specs old behind)
+    (commit_behind g.M.Machine.rules c.args.core c.args.client c.args.first c.args.specs old behind)
     c.not_heard-then-lt-2.ensures
 
 pub returns-then-lt : goal.returns-then-lt
 returns-then-lt g c =
     let old : nat_lt c.args.first.place.0 c.args.core.orders.base ≡ true = rw (sym c.stable.ensures.place) (below _ _ (sym c.lt.ensures ∙ c.if-lt.true)) in
     subst (λ (o : Outcome g.row.M-State.Denot). IfOk c.not_heard.result (λ (m : Outcome g.row.M-State.Denot). m ≡ o))
-    (commit_old g.M.Machine.rules c.args.core c.args.first c.args.specs old)
+    (commit_old g.M.Machine.rules c.args.core c.args.client c.args.first c.args.specs old)
     c.not_heard.ensures

@@ -15,7 +15,7 @@ respond-requires-clause-left g c =
 
 pub returns-in-None : goal.returns-in-None
 returns-in-None g c =
-    let same = answered_none g.M.Machine.rules c.args.progress c.args.order c.args.spec c.args.reply (sym c.state_at.ensures ∙ c.in-None.is) in
+    let same = answered_none g.M.Machine.rules c.args.progress c.args.order c.args.spec c.args.answers (sym c.state_at.ensures ∙ c.in-None.is) in
     subst (λ (x : Going g.row.M-State.Denot). IfOk c.respond.result (λ (end : Going g.row.M-State.Denot). end ≡ x)) same c.respond.ensures
 
 pub answer_all-requires-clause-state : goal.answer_all-requires-clause-state
