@@ -1,4 +1,5 @@
 mod AnswerLemmas
+mod AsksLemmas
 mod GatherLemmas
 mod HeldLemmas
 mod SignLemmas

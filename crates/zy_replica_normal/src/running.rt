@@ -3,13 +3,14 @@
 ghost use Rattle.std.specs.Prelude.{◌≡◌, ◌≤◌, ◌<◌, ◌+◌, nat_le, length, Some, Option, false, if◌then◌else◌, IsFalse, IfOk};
 ghost use Rattle.zy_base.specs.declared.ids.Party.TheVariants as parties;
 ghost use Rattle.zy_base.specs.declared.step.Answer.TheVariants as Answer;
-ghost use Rattle.zy_parts.specs.Asks.{entry_of_asks as entry_asked};
+ghost use Rattle.std.specs.List.{list_all};
+ghost use Rattle.zy_parts.specs.Asks.{item_of, entry_of_asks as entry_asked};
 ghost use Rattle.zy_parts.specs.Numbers as numbers;
 ghost use Rattle.zy_parts.specs.Signing.{IsSignedInRange};
 ghost use Rattle.zy_parts.specs.Statements.{IsOrderInRange, IsSpecInRange, spec_fields};
 ghost use Rattle.zy_seal.specs.Sealing.{sealed_by};
 ghost use Rattle.zy_exec.specs.Kept.{Kept, last_place, longer, now_of, stretch_of};
-ghost use Rattle.zy_exec.specs.Replay.{answers_of, is_new_to};
+ghost use Rattle.zy_exec.specs.Replay.{answers_of, is_new_item};
 ghost use Rattle.zy_chain.specs.Answers.{FitsAnswers};
 ghost use Rattle.zy_chain.specs.Entries.{IsEntryInRange, IsOfClients};
 ghost use Rattle.zy_chain.specs.Stretch.{head_in};

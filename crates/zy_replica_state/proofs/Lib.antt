@@ -1,5 +1,7 @@
+mod AnyLemmas
 pub mod BoardLemmas
 pub mod OwnLemmas
+mod PendingLemmas
 pub mod ReadyLemmas
 pub mod RoundLemmas
 pub mod BegunLemmas

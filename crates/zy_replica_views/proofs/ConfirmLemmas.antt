@@ -14,6 +14,7 @@ use Rattle.zy_base.specs.declared.ids.Place.{Place}
 use Rattle.zy_base.specs.declared.ids.View.{View}
 use Rattle.zy_base.specs.declared.step.Answer.{Answer}
 use Rattle.zy_base.specs.declared.step.Answer.TheVariants.{Taken, Held, Refused}
+use Rattle.zy_chain.specs.Answers.{Answers}
 use Rattle.zy_parts.specs.declared.signed.Signed.{Signed}
 use Rattle.zy_parts.specs.declared.reports.Change.{Change}
 use Rattle.zy_parts.specs.declared.reports.Fetch.{Fetch}
@@ -61,10 +62,10 @@ still : (acts : List Act) (act : Act) → list_any confirms acts ≡ false → c
 still acts act none one = list_any-append confirms acts (act ∷ []) ∙ rw (none, one) refl
 
 module _ {S : Type 0} (R : Rules S) where
-  responds : (own : Option OwnCheckpoint) (reply : Option (List ℕ)) (g : Going S) → Quiet g → Quiet (respond_to R own reply g)
-  responds None reply g none = none
+  responds : (own : Option OwnCheckpoint) (answers : Option Answers) (g : Going S) → Quiet g → Quiet (respond_to R own answers g)
+  responds None answers g none = none
   responds (Some own) None g none = none
-  responds (Some own) (Some reply) g none = still g.deeds.acts _ none refl
+  responds (Some own) (Some answers) g none = still g.deeds.acts _ none refl
 
   responds_all : (places : List ℕ) (g : Going S) → Quiet g → Quiet (respond_at R places g)
   responds_all [] g none = none

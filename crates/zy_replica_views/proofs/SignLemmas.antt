@@ -5,6 +5,7 @@ use Rattle.std.proofs.lemmas.Bool.{cond_both, eq-eqb, le-ltb, ltb-true}
 use Rattle.std.proofs.lemmas.List.{get_or_default, length-take-le}
 use Rattle.zy_base.specs.Machine.{Rules}
 use Rattle.zy_base.specs.declared.ids.Place.{Place}
+use Rattle.zy_chain.specs.Answers.{Answers}
 use Rattle.zy_chain.specs.Stretch.{entry_in, head_in}
 use Rattle.zy_base.specs.declared.ids.Party.{Party}
 use Rattle.zy_cert.specs.Equal.{same_fetch}
@@ -54,7 +55,7 @@ module _ {S : Type 0} (R : Rules S) (k : Kept S) (place : ℕ) (passed : IsPasse
       let multiple : nat_eq ((along R k.base (take (place - k.base.place) k.entries)).place % k.interval) 0 ≡ true = eq-eqb _ 0 (ap (λ (n : ℕ). n % k.interval) here ∙ passed.2) in
       rw (le-ltb place k.base.place (omega (arith, above)), le-ltb (last_place k) place below, multiple) refl
 
-  pub says_all : (view : ℕ) → IsSome (own_from view place (entry_in (stretch_of k) place) (head_in (stretch_of k) place) (reply_in R k place) (state_in R k place)) × IsSome (reply_in R k place)
+  pub says_all : (view : ℕ) → IsSome (own_from view place (head_in (stretch_of k) place) (reply_in R k place) (state_in R k place)) × IsSome (reply_in R k place)
   says_all view =
       let above = passed.0 in
       let (e, entry) = some_of (entry_in (stretch_of k) place) (entry_within (stretch_of k) place above passed.1) in
@@ -69,10 +70,10 @@ record Answered {S : Type 0} (count : ℕ) (before after : Going S) : Type 0 whe
   kept : after.state.kept ≡ before.state.kept
 
 module _ {S : Type 0} (R : Rules S) where
-  answers_one : (own : Option OwnCheckpoint) (reply : Option (List ℕ)) (g : Going S) → IsSome own → IsSome reply → Answered 1 g (respond_to R own reply g)
-  answers_one None reply g one two = absurd cc
+  answers_one : (own : Option OwnCheckpoint) (answers : Option Answers) (g : Going S) → IsSome own → IsSome answers → Answered 1 g (respond_to R own answers g)
+  answers_one None answers g one two = absurd cc
   answers_one (Some own) None g one two = absurd cc
-  answers_one (Some own) (Some reply) g one two = record { sealer = refl; kept = refl }
+  answers_one (Some own) (Some answers) g one two = record { sealer = refl; kept = refl }
 
   one_more : (n : ℕ) (g h i : Going S) → Answered 1 g h → Answered n h i → Answered (n + 1) g i
   one_more n g h i first rest =
