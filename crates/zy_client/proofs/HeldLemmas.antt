@@ -177,16 +177,16 @@ module _ (s : ClientState) (event : Event) where
   -- a response of this replica, which signed it
   module _ (id : ℕ) (spec : Signed Spec) (answers : Answers) (order : Option (Signed Order)) (by : spec.by ≡ Replica (record { 0 = id }))
       (signed : answer_to s.keys (part_of numbers.spec spec_fields spec) ≡ seals.Yes) where
+    abbrev with_own : OwnAnswer → Response
+    with_own own = record { spec = spec; own = own; order = order }
+
     responds_by : (waiting : Signed Ask) → s.waiting ≡ Some waiting → (own : Option OwnAnswer) → own_in s.me answers ≡ own → Comes s event (respond_by s waiting id (are_told answers spec.stmt) spec order own).state
     responds_by waiting waits None found = same refl
-    responds_by waiting waits (Some own) found = kept (response_cause s waiting id (are_told answers spec.stmt) r) refl
+    responds_by waiting waits (Some own) found = kept (response_cause s waiting id (are_told answers spec.stmt) (with_own own)) refl
       where
-        r : Response
-        r = record { spec = spec; own = own; order = order }
-
-        kept : (cause : Option Cause) → response_cause s waiting id (are_told answers spec.stmt) r ≡ cause → Comes s event (keep_unless cause s id r).state
+        kept : (cause : Option Cause) → response_cause s waiting id (are_told answers spec.stmt) (with_own own) ≡ cause → Comes s event (keep_unless cause s id (with_own own)).state
         kept (Some cause) is = same refl
-        kept None is = keeps waiting waits (record { id = id; response = r; held = cause_free s waiting id answers r by signed found is; evidence = evidence_by (keep s id r) r.order; filled = refl })
+        kept None is = keeps waiting waits (record { id = id; response = with_own own; held = cause_free s waiting id answers (with_own own) by signed found is; evidence = evidence_by (keep s id (with_own own)) order; filled = refl })
 
     responds : (wait : Option (Signed Ask)) → s.waiting ≡ wait → Comes s event (respond_while s wait id spec answers order).state
     responds None waits = same refl
