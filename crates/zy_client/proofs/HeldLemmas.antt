@@ -1,6 +1,6 @@
 -- What each event can make of a client, and what it then holds.
-use Rattle.std.proofs.Common.{◌≡◌, ◌⊎◌, inl, inr, ℕ, zero, suc, ◌+◌, ◌≤◌, nat_le, nat_lt, nat_eq, Bool, true, false, ◌||◌, if◌then◌else◌, List, [], ◌∷◌, ◌++◌, length, replicate, Option, Some, None, Result, Ok, Err, refl, ap, ◌∙◌, sym, subst, arith}
-use Rattle.std.proofs.lemmas.Bool.{eqb-true, ltb-false, leb-true}
+use Rattle.std.proofs.Common.{◌≡◌, ◌⊎◌, inl, inr, ℕ, zero, suc, ◌+◌, ◌≤◌, nat_le, nat_lt, Bool, true, false, ◌||◌, if◌then◌else◌, List, [], ◌∷◌, ◌++◌, length, replicate, Option, Some, None, Result, Ok, Err, refl, ap, ◌∙◌, sym, subst, arith}
+use Rattle.std.proofs.lemmas.Bool.{ltb-false, leb-true}
 use Rattle.std.proofs.lemmas.Option.{same_Some}
 use Rattle.std.specs.Prelude.{slice_set, slice_index_or, unwrap_or}
 use Rattle.std.specs.List.{AllByRecursion, find}
@@ -46,7 +46,7 @@ use Rattle.zy_table.specs.declared.client.Commit.{Commit}
 use Rattle.zy_table.specs.declared.client.OwnAnswer.{OwnAnswer}
 use Rattle.zy_table.specs.declared.client.Response.{Response}
 use Rattle.zy_table.specs.ClientState.{ClientState, client_start, signs_left, refused}
-use Rattle.zy_table.specs.ClientRows.{ask, ask_while, asked, next_ask, kept_of, are_told, own_in, response_cause, is_order_of_if, is_repeated, keep, agreeing, completed_if, evidence_by, told, keep_unless, complete, respond, respond_by, respond_while, is_for, complete_by, vote_on, local_beside, local_while, count_local, is_certified, certified_in, locals_for, send_commit, ask_or_commit, run_out, run_out_while, is_by_primary, hear_response, hear, unless, decoded, decoded_as, view_decoded, client_step}
+use Rattle.zy_table.specs.ClientRows.{ask, ask_while, asked, next_ask, kept_of, are_told, own_in, response_cause, is_order_of_if, is_repeated, keep, agreeing, completed_if, evidence_by, told, keep_unless, complete, respond, respond_while, is_for, complete_by, vote_on, local_beside, local_while, count_local, is_certified, certified_in, locals_for, send_commit, ask_or_commit, run_out, run_out_while, is_by_primary, hear_response, hear, unless, decoded, decoded_as, view_decoded, client_step}
 use Rattle.zy_vframes.specs.Parts as view_parts
 use Rattle.zy_vframes.specs.ViewFrames as views
 use Rattle.zy_vframes.specs.declared.frame.ViewFrame.{ViewFrame}
@@ -180,17 +180,14 @@ module _ (s : ClientState) (event : Event) where
     abbrev with_own : OwnAnswer → Response
     with_own own = record { spec = spec; own = own; order = order }
 
-    responds_by : (waiting : Signed Ask) → s.waiting ≡ Some waiting → (own : Option OwnAnswer) → own_in s.me answers ≡ own → Comes s event (respond_by s waiting id (are_told answers spec.stmt) spec order own).state
-    responds_by waiting waits None found = same refl
-    responds_by waiting waits (Some own) found = kept (response_cause s waiting id (are_told answers spec.stmt) (with_own own)) refl
+    responds : (wait : Option (Signed Ask)) → s.waiting ≡ wait → (own : Option OwnAnswer) → own_in s.me answers ≡ own → Comes s event (respond_while s wait id (are_told answers spec.stmt) spec order own).state
+    responds None waits own found = same refl
+    responds (Some waiting) waits None found = same refl
+    responds (Some waiting) waits (Some own) found = kept (response_cause s waiting id (are_told answers spec.stmt) (with_own own)) refl
       where
         kept : (cause : Option Cause) → response_cause s waiting id (are_told answers spec.stmt) (with_own own) ≡ cause → Comes s event (keep_unless cause s id (with_own own)).state
         kept (Some cause) is = same refl
         kept None is = keeps waiting waits (record { id = id; response = with_own own; held = cause_free s waiting id answers (with_own own) by signed found is; evidence = evidence_by (keep s id (with_own own)) order; filled = refl })
-
-    responds : (wait : Option (Signed Ask)) → s.waiting ≡ wait → Comes s event (respond_while s wait id spec answers order).state
-    responds None waits = same refl
-    responds (Some waiting) waits = responds_by waiting waits (own_in s.me answers) refl
 
   hears_response : (spec : Signed Spec) (answers : Answers) (order : Option (Signed Order)) (by : Party) → spec.by ≡ by
       → answer_to s.keys (part_of numbers.spec spec_fields spec) ≡ seals.Yes → Comes s event (hear_response s spec answers order by).state
@@ -199,7 +196,7 @@ module _ (s : ClientState) (event : Event) where
   hears_response spec answers order (Replica id) by signed = heard (is_by_primary s order)
     where
       heard : (primary : Bool) → Comes s event (if primary then respond s id.0 spec answers order else refused causes.WrongRole s).state
-      heard true = responds id.0 spec answers order by signed s.waiting refl
+      heard true = responds id.0 spec answers order by signed s.waiting refl (own_in s.me answers) refl
       heard false = same refl
 
   -- ---- local commits

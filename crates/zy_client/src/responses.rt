@@ -3,9 +3,7 @@ ghost use Rattle.zy_chain.specs.Answers.{FitsAnswers};
 ghost use Rattle.zy_wire.specs.Fields.{FitsOptional};
 ghost use Rattle.zy_parts.specs.Statements.{IsOrderInRange, IsSpecInRange};
 ghost use Rattle.zy_parts.specs.Signing.{IsSignedInRange};
-ghost use Rattle.zy_parts.specs.declared.signed.Signed.{Signed};
-ghost use Rattle.zy_parts.specs.declared.statements.Ask.{Ask};
-ghost use Rattle.zy_table.specs.ClientRows.{are_told, own_in, response_cause, is_order_of_if, is_repeated, kept_of, keep as keep_row, agrees, agreeing, done_of, done_with, completed_if, keep_unless, respond as respond_row};
+ghost use Rattle.zy_table.specs.ClientRows.{are_told, own_in, response_cause, is_order_of_if, is_repeated, kept_of, keep as keep_row, agrees, agreeing, done_of, done_with, completed_if, keep_unless, respond as respond_row, respond_while};
 ghost use Rattle.zy_cert.specs.Equal.{same_spec};
 ghost use Rattle.zy_client.specs.Ready.{IsKeepable};
 
@@ -13,7 +11,7 @@ use crate::Client;
 use crate::moved::Moved;
 use zy_base::{Cause, ClientId, Items, ReplicaId, Want};
 use zy_chain::{Answered, answers_digest};
-use zy_parts::{Order, Signed, Spec};
+use zy_parts::{Ask, Order, Signed, Spec};
 use zy_table::{Done, OwnAnswer, Path, Response};
 
 impl Client {
@@ -41,22 +39,31 @@ impl Client {
         }
     }
 
-    // A response with the own answer in it, whose answers are told by it or not.
+    // A response with the own answer, whose answers are told by it or not.
     fn responds_with(self, id: ReplicaId, told: bool, response: Response) -> Result<Moved, Want>
         requires { IsKeepable response }
-        ensures { IfOk result (λ m. (waiting : Signed Ask) → self.waiting ≡ Some waiting → m ≡ keep_unless (response_cause self waiting id.0 told response) self id.0 response) }
+        ensures { IfOk result (λ m. m ≡ respond_while self self.waiting id.0 told response.spec response.order (Some response.own)) }
     {
-        match self.cause_against(id, told, &response) {
+        let cause = match &self.waiting {
+            None => Some(Cause::Finished),
+            Some(waiting) => self.cause_against(waiting, id, told, &response),
+        };
+        match cause {
             Some(cause) => Ok(self.refused(cause)),
             None => self.keep(id, response),
         }
     }
 
     // Why a response to the waiting request isn't kept.
-    fn cause_against(&self, id: ReplicaId, told: bool, response: &Response) -> Option<Cause>
-        ensures { (waiting : Signed Ask) → self.now.waiting ≡ Some waiting → result ≡ response_cause self.now waiting id.0 told response.now }
+    fn cause_against(
+        &self,
+        waiting: &Signed<Ask>,
+        id: ReplicaId,
+        told: bool,
+        response: &Response,
+    ) -> Option<Cause>
+        ensures { result ≡ response_cause self.now waiting.now id.0 told response.now }
     {
-        let waiting = self.waiting.as_ref()?;
         let spec = &response.spec.stmt;
         if response.own.stamp < waiting.stmt.stamp {
             return Some(Cause::OldStamp);

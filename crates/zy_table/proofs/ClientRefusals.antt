@@ -26,7 +26,7 @@ use Rattle.zy_parts.specs.declared.statements.Order.{Order}
 use Rattle.zy_parts.specs.declared.statements.Spec.{Spec}
 use Rattle.zy_chain.specs.Answers.{Answers}
 use Rattle.zy_seal.specs.Screening.{screen}
-use Rattle.zy_table.specs.ClientRows.{are_told, own_in, respond_by, ask, ask_or_commit, ask_while, certified_in, client_step, completed_if, count_local, decoded_as, evidence_by, hear, hear_response, is_by_primary, is_for, keep, keep_unless, local_beside, local_while, respond, respond_while, response_cause, run_out, run_out_while, timer, told, unless, view_decoded, vote_on}
+use Rattle.zy_table.specs.ClientRows.{are_told, own_in, ask, ask_or_commit, ask_while, certified_in, client_step, completed_if, count_local, decoded_as, evidence_by, hear, hear_response, is_by_primary, is_for, keep, keep_unless, local_beside, local_while, respond, respond_while, response_cause, run_out, run_out_while, timer, told, unless, view_decoded, vote_on}
 use Rattle.zy_table.specs.ClientState.{ClientOutcome, ClientState, signs_left, refused}
 use Rattle.zy_table.specs.Roles.{is_replica}
 use Rattle.zy_table.specs.declared.client.Commit.{Commit}
@@ -72,19 +72,16 @@ module _ (s : ClientState) where
   keep_stays (Some cause) id r = refuses cause
   keep_stays None id r = let kept = keep s id r in told_stays (evidence_by kept r.order) (completed_if kept r)
 
-  respond_stays_by : (waiting : Signed Ask) (id : ℕ) (told : Bool) (spec : Signed Spec) (order : Option (Signed Order)) (own : Option OwnAnswer) → Stays (respond_by s waiting id told spec order own)
-  respond_stays_by waiting id told spec order None = refuses causes.Unmatched
-  respond_stays_by waiting id told spec order (Some own) =
+  respond_stays_while : (waiting : Option (Signed Ask)) (id : ℕ) (told : Bool) (spec : Signed Spec) (order : Option (Signed Order)) (own : Option OwnAnswer) → Stays (respond_while s waiting id told spec order own)
+  respond_stays_while None id told spec order own = refuses causes.Finished
+  respond_stays_while (Some waiting) id told spec order None = refuses causes.Unmatched
+  respond_stays_while (Some waiting) id told spec order (Some own) =
       let r : Response = record { spec = spec; own = own; order = order } in
       keep_stays (response_cause s waiting id told r) id r
 
-  respond_stays_while : (waiting : Option (Signed Ask)) (id : ℕ) (spec : Signed Spec) (answers : Answers) (order : Option (Signed Order)) → Stays (respond_while s waiting id spec answers order)
-  respond_stays_while None id spec answers order = refuses causes.Finished
-  respond_stays_while (Some waiting) id spec answers order = respond_stays_by waiting id (are_told answers spec.stmt) spec order (own_in s.me answers)
-
   respond_stays : (id : ℕ) (spec : Signed Spec) (answers : Answers) (order : Option (Signed Order)) → Stays (respond s id spec answers order)
   unfolding respond
-  respond_stays id spec answers order = respond_stays_while s.waiting id spec answers order
+  respond_stays id spec answers order = respond_stays_while s.waiting id (are_told answers spec.stmt) spec order (own_in s.me answers)
 
   response_stays : (spec : Signed Spec) (answers : Answers) (order : Option (Signed Order)) (by : Party) → Stays (hear_response s spec answers order by)
   response_stays spec answers order (Client id) = refuses causes.WrongRole

@@ -188,21 +188,17 @@ keep_unless None s id r =
     let kept = keep s id r in
     told (evidence_by kept r.order) (completed_if kept r)
 
--- with the own answer that is found in the answers
-abbrev pub respond_by : ClientState → Signed Ask → ℕ → Bool → Signed Spec → Option (Signed Order) → Option OwnAnswer → ClientOutcome
-respond_by s waiting id told spec order None = refused causes.Unmatched s
-respond_by s waiting id told spec order (Some own) =
+-- what is made of it while a request waits, with the own answer that is found in its answers
+abbrev pub respond_while : ClientState → Option (Signed Ask) → ℕ → Bool → Signed Spec → Option (Signed Order) → Option OwnAnswer → ClientOutcome
+respond_while s None id told spec order own = refused causes.Finished s
+respond_while s (Some waiting) id told spec order None = refused causes.Unmatched s
+respond_while s (Some waiting) id told spec order (Some own) =
     let r : Response = record { spec = spec; own = own; order = order } in
     keep_unless (response_cause s waiting id told r) s id r
 
-abbrev pub respond_while : ClientState → Option (Signed Ask) → ℕ → Signed Spec → Answers → Option (Signed Order) → ClientOutcome
-respond_while s None id spec answers order = refused causes.Finished s
-respond_while s (Some waiting) id spec answers order =
-    respond_by s waiting id (are_told answers spec.stmt) spec order (own_in s.me answers)
-
 -- a response of the replica with this number
 unfoldable pub respond : ClientState → ℕ → Signed Spec → Answers → Option (Signed Order) → ClientOutcome
-respond s id spec answers order = respond_while s s.waiting id spec answers order
+respond s id spec answers order = respond_while s s.waiting id (are_told answers spec.stmt) spec order (own_in s.me answers)
 
 -- ---- a local commit
 
