@@ -101,8 +101,8 @@ module _ {S : Type 0} (R : Rules S) (w : World) (r : ℕ) (s : State S) (h : Lis
       let is = answered_next R h e in
       let place : (now_of R s.kept).place + 1 ≡ length h + 1 = ap (λ (n : ℕ). n + 1) place_now in
       record {
-        entry = e;
-        there = subst (λ (n : ℕ). IsEntryAt (h ++ e ∷ []) n e) (sym place) is.there;
+        entry = is.entry;
+        there = subst (λ (n : ℕ). IsEntryAt (h ++ e ∷ []) n is.entry) (sym place) is.there;
         head_is = ap (λ (n : ℕ). head_of (take n (h ++ e ∷ []))) place ∙ is.head_is ∙ ap (λ (d : Digest). head_after d (digest_of_entry e)) (sym head_now);
         answers_are = ap (answer_at R (h ++ e ∷ [])) place ∙ is.answers_are ∙ ap (λ (p : Point S). Some (answers_of R p e)) (sym (stands_leads R s.kept h x.stands));
       }

@@ -71,16 +71,21 @@ pub record IsAnswered {S : Type 0} (R : Rules S) (h : List Entry) (place : ℕ) 
   pub head_is : head_of (take place h) ≡ head
   pub answers_are : answer_at R h place ≡ Some answers
 
--- an entry that is run next is answered so, and leads to this head
+-- an entry that is run next stands behind the others
+entry_next : (h : List Entry) (e : Entry) → IsEntryAt (h ++ e ∷ []) (length h + 1) e
+entry_next h e =
+    let before : length h + 1 - 1 ≡ length h = omega arith in
+    record { first = omega arith; there = ap (λ (i : ℕ). slice_get (h ++ e ∷ []) i) before ∙ entry_pushed h e }
+
+-- it is answered so, and leads to this head
 pub answered_next : {S : Type 0} (R : Rules S) (h : List Entry) (e : Entry)
     → IsAnswered R (h ++ e ∷ []) (length h + 1) (head_after (head_of h) (digest_of_entry e)) (answers_of R (along R (origin R) h) e)
 answered_next R h e =
-    let before : length h + 1 - 1 ≡ length h = omega arith in
     let after : length h + 1 ≡ suc (length h) = omega arith in
     let all : length (h ++ e ∷ []) ≡ length h + 1 = omega (arith, length-append h (e ∷ [])) in
     record {
       entry = e;
-      there = record { first = omega arith; there = ap (λ (i : ℕ). slice_get (h ++ e ∷ []) i) before ∙ entry_pushed h e };
+      there = entry_next h e;
       head_is = ap head_of (take_all (length h + 1) (h ++ e ∷ []) (omega arith))
           ∙ fold-append (λ (head : Digest) (d : Entry). head_after head (digest_of_entry d)) empty_head h (e ∷ []);
       answers_are = ap (answer_at R (h ++ e ∷ [])) after ∙ answer_pushed R h e;
@@ -127,7 +132,8 @@ known_by : (known : Item → Known) (items : List Item) (client : ℕ) (all : Li
     → IsKnownBy known items client (get_or all client None) (get_or (known_all known all items) client None)
 known_by known [] client all long small = IsKnownBy.by_none (λ index i at. absurd cc) refl
 known_by known (i ∷ items) client all long small =
-    known_on known i items client all _ (omega (arith, small.0))
+    let low : i.client.0 < 64 = small.0 in
+    known_on known i items client all _ (omega (arith, low))
     (known_by known items client (set all i.client.0 (Some (known i))) (length-set all i.client.0 (Some (known i)) ∙ long) small.1)
 
 -- ---- the last item of a client
@@ -157,8 +163,8 @@ last_of_next R h e index i at =
     ap (λ (d : Digest). head_after d (digest_of_entry e)) (sym (head-along R (origin R) h)) in
     record {
       answered = record {
-        entry = e;
-        there = subst (λ (n : ℕ). IsEntryAt (h ++ e ∷ []) n e) (sym place) is.there;
+        entry = is.entry;
+        there = subst (λ (n : ℕ). IsEntryAt (h ++ e ∷ []) n is.entry) (sym place) is.there;
         head_is = ap (λ (n : ℕ). head_of (take n (h ++ e ∷ []))) place ∙ is.head_is ∙ head;
         answers_are = ap (answer_at R (h ++ e ∷ [])) place ∙ is.answers_are;
       };
@@ -166,7 +172,7 @@ last_of_next R h e index i at =
       item = i;
       there = record {
         entry = e;
-        there = subst (λ (n : ℕ). IsEntryAt (h ++ e ∷ []) n e) (sym place) is.there;
+        there = subst (λ (n : ℕ). IsEntryAt (h ++ e ∷ []) n e) (sym place) (entry_next h e);
         first = omega arith;
         item = ap (slice_get e.items) number ∙ at;
       };

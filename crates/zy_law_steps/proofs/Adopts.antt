@@ -138,7 +138,7 @@ module _ {S : Type 0} (R : Rules S) where
   responds_to own (Some reply) g fits is =
       let s : State S = g.state in
       let signed = sealed_spec s own.spec in
-      let kept : State S = with_spec (spent s) signed in
+      let kept : State S = with_spec R (spent s) signed in
       record {
         acts = fit_said g.deeds.acts _ is.acts fits.spec;
         spelled = with_own_spelled kept own signed

@@ -96,6 +96,7 @@ use Rattle.zy_law_views.proofs.Admitted.{IsPlaced, placed}
 use Rattle.zy_law_views.proofs.Requested.{RunCases, order_admitted}
 use Rattle.zy_law_steps.proofs.NormalSteps.{unless_case}
 use Rattle.zy_frames.specs.Frames.{entry_in}
+use Rattle.zy_chain.specs.Answers.{Answers}
 
 module _ {S : Type 0} (R : Rules S) (s : State S) where
   pub record IsSame (t : State S) : Type 0 where
@@ -222,7 +223,7 @@ module _ {S : Type 0} (R : Rules S) (s : State S) where
       let settled = settles_as told over (record { keys = is.keys; me = is.me; counts = is.counts; interval = is.interval }) in
       record { keys = settled.keys; me = settled.me; counts = settled.counts; interval = settled.interval }
 
-  responds_to : (own : Option OwnCheckpoint) (reply : Option (List ℕ)) (g : Going S) → Same g → Same (respond_to R own reply g)
+  responds_to : (own : Option OwnCheckpoint) (reply : Option Answers) (g : Going S) → Same g → Same (respond_to R own reply g)
   responds_to None reply g is = is
   responds_to (Some own) None g is = is
   responds_to (Some own) (Some reply) g is = record { keys = is.keys; me = is.me; counts = is.counts; interval = is.interval }
