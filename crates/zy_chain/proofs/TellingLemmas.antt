@@ -17,6 +17,12 @@ use Rattle.zy_chain.specs.Answers.{bytes_of_answered, bytes_of_answers}
 abbrev pub told_bytes : ClientId → Stamp → List ℕ → List ℕ
 told_bytes client stamp bytes = to_be_bytes w32 client.0 ++ (to_be_bytes w64 stamp.0 ++ (to_be_bytes w16 (length bytes) ++ bytes))
 
+pub item_part : (i : Item) (client : ClientId) (stamp : Stamp) (bytes : List ℕ) → client ≡ i.client → stamp ≡ i.stamp → bytes ≡ i.op → told_bytes client stamp bytes ≡ bytes_of_item i
+item_part i client stamp bytes c s b = rw (c, s, b) refl
+
+pub answered_part : (a : Answered) (bytes : List ℕ) → bytes ≡ a.reply → told_bytes a.client a.stamp bytes ≡ bytes_of_answered a
+answered_part a bytes b = rw b refl
+
 pub in_four : (told a b c d : List ℕ) → (((told ++ a) ++ b) ++ c) ++ d ≡ told ++ (a ++ (b ++ (c ++ d)))
 in_four told a b c d = simp append_assoc
 

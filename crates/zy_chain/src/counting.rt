@@ -1,4 +1,5 @@
 ghost use Rattle.std.specs.Prelude.{◌≡◌, ◌-◌, map, nat_eq};
+ghost use Rattle.std.specs.List.{list_any};
 ghost use Rattle.zy_chain.specs.Entries.{has_client, has_client_twice, load_of};
 
 use crate::AsItem;
@@ -10,6 +11,12 @@ pub const MAX_LOAD: usize = 8192;
 /// Whether an item is the client's.
 pub fn has_client<T: AsItem>(items: &[T], client: ClientId) -> bool
     ensures { result ≡ has_client (map T.item items.now) client }
+{
+    some_is_of(items, client)
+}
+
+fn some_is_of<T: AsItem>(items: &[T], client: ClientId) -> bool
+    ensures { result ≡ list_any (λ x. nat_eq (T.item x).client.0 client.0) items.now }
 {
     items.iter().any(|item| is_of(item, client))
 }
