@@ -106,7 +106,7 @@ pub record IsOwnCommit {S : Type 0} (s : State S) (specs : List (Signed Spec)) (
 
 -- a response or a checkpoint that comes is kept, as the first of its signer for its place
 pub data IsPut {S : Type 0} (s : State S) (Heard : Frame → Type 0) (board : Board) : Type 0 where
-  new_spec : (vote : Signed Spec) (answers : Answers) (with_order : Option (Signed OrderStatement)) → Heard (frames.SpecResponse vote answers with_order)
+  new_spec : (vote : Signed Spec) (told : Answers) (with_order : Option (Signed OrderStatement)) → Heard (frames.SpecResponse vote told with_order)
       → has_signer vote.by (specs_at s.board vote.stmt.place.0) ≡ false → board ≡ put_in.with_spec s.board vote → IsPut s Heard board
   new_check : (vote : Signed Check) → Heard (frames.Checkpoint vote) → has_signer vote.by (checks_at s.board vote.stmt.place.0) ≡ false → board ≡ put_in.with_check s.board vote → IsPut s Heard board
 
@@ -248,11 +248,11 @@ module _ {S : Type 0} (R : Rules S) (s : State S) (Heard : Frame → Type 0) (P 
       by_test P (nat_le (checks_owed (with_board s board) (own_at R s place) false) (signs_left s)) _ _ (λ left. of.gathers place board (put refl) left) (λ none. of.refuses causes.KeySpent)
   kept_case place (answers.Refused cause) board put = of.refuses cause
 
-  response_case : (vote : Signed Spec) (answers : Answers) (with_order : Option (Signed OrderStatement)) → Heard (frames.SpecResponse vote answers with_order) → P (response R s vote)
+  response_case : (vote : Signed Spec) (told : Answers) (with_order : Option (Signed OrderStatement)) → Heard (frames.SpecResponse vote told with_order) → P (response R s vote)
   unfolding response
   response_case vote reply with_order heard =
       let own : Option Spec = option_map (λ (o : OwnCheckpoint). o.spec) (own_at R s vote.stmt.place.0) in
-      kept_case vote.stmt.place.0 (judge_spec s.board vote own) (put_in.with_spec s.board vote) (λ kept. IsPut.new_spec vote answers with_order heard (spec-new s.board vote own kept) refl)
+      kept_case vote.stmt.place.0 (judge_spec s.board vote own) (put_in.with_spec s.board vote) (λ kept. IsPut.new_spec vote told with_order heard (spec-new s.board vote own kept) refl)
 
   checkpoint_case : (vote : Signed Check) → Heard (frames.Checkpoint vote) → P (checkpoint R s vote)
   unfolding checkpoint
@@ -294,7 +294,7 @@ module _ {S : Type 0} (R : Rules S) (s : State S) (Heard : Frame → Type 0) (P 
 
   pub row_case : (frame : Frame) → IsNormal frame → Heard frame → P (plain_row R s frame)
   row_case (frames.Request ask) normal heard = request_case ask heard
-  row_case (frames.SpecResponse spec answers with_order) normal heard = unless_case (view_cause s spec.stmt.view.0) (response R s spec) (λ current. response_case spec answers with_order heard)
+  row_case (frames.SpecResponse spec told with_order) normal heard = unless_case (view_cause s spec.stmt.view.0) (response R s spec) (λ current. response_case spec told with_order heard)
   row_case (frames.Commit client specs) normal heard = commit_in_view_case client specs heard
   row_case (frames.LocalCommit local) normal heard = of.refuses causes.WrongRole
   row_case (frames.ConfirmReq confirmed ask) normal heard =

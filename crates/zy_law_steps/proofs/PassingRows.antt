@@ -628,7 +628,7 @@ module _ {S : Type 0} (R : Rules S) (ok : S → Type 0) (F : Signs) (law : Laws 
   plain_of : (frame : Frame) → in_role s frame ≡ true → OfFrame F frame → Of (plain_row R s frame)
   plain_of (frames.Request ask) role heard = requests ask heard
   plain_of (frames.Order both) role heard = under (view_cause s both.order.stmt.view.0) _ (λ own. order_by both (judge_in s.orders both.order.stmt (entry_in both) (position_of R s both)) heard)
-  plain_of (frames.SpecResponse spec answers with_order) role heard = under (view_cause s spec.stmt.view.0) _ (λ own. response_kept spec heard.0)
+  plain_of (frames.SpecResponse spec told with_order) role heard = under (view_cause s spec.stmt.view.0) _ (λ own. response_kept spec heard.0)
   plain_of (frames.Commit client specs) role heard = in_view client specs heard.each
   plain_of (frames.LocalCommit local) role heard = refuses causes.WrongRole
   plain_of (frames.ConfirmReq confirmed ask) role heard = under (view_cause s confirmed.stmt.view.0) _ (λ own. confirms_one confirmed ask heard.1)
