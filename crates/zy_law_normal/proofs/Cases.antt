@@ -250,7 +250,7 @@ module _ {S : Type 0} (R : Rules S) (s : State S) (Heard : Frame → Type 0) (P 
 
   response_case : (vote : Signed Spec) (told : Answers) (with_order : Option (Signed OrderStatement)) → Heard (frames.SpecResponse vote told with_order) → P (response R s vote)
   unfolding response
-  response_case vote reply with_order heard =
+  response_case vote told with_order heard =
       let own : Option Spec = option_map (λ (o : OwnCheckpoint). o.spec) (own_at R s vote.stmt.place.0) in
       kept_case vote.stmt.place.0 (judge_spec s.board vote own) (put_in.with_spec s.board vote) (λ kept. IsPut.new_spec vote told with_order heard (spec-new s.board vote own kept) refl)
 
