@@ -1,10 +1,10 @@
-ghost use Rattle.std.specs.Prelude.{◌≡◌, ◌<◌, count_by, slice_index_or, slice_set, option_copied, None, Some, IfOk, List, ℕ};
+ghost use Rattle.std.specs.Prelude.{◌≡◌, ◌<◌, ◌≤◌, length, nat_eq, count_by, slice_set, option_copied, None, Some, IfOk, IfSome};
+ghost use Rattle.std.specs.List.{position};
 ghost use Rattle.zy_chain.specs.Answers.{FitsAnswers};
 ghost use Rattle.zy_wire.specs.Fields.{FitsOptional};
 ghost use Rattle.zy_parts.specs.Statements.{IsOrderInRange, IsSpecInRange};
 ghost use Rattle.zy_parts.specs.Signing.{IsSignedInRange};
-ghost use Rattle.zy_table.specs.ClientRows.{are_told, own_in, response_cause, is_order_of_if, is_repeated, kept_of, keep as keep_row, agrees, agreeing, done_of, done_with, completed_if, keep_unless, respond as respond_row, respond_while};
-ghost use Rattle.zy_cert.specs.Equal.{same_spec};
+ghost use Rattle.zy_table.specs.ClientRows.{are_told, own_at, own_in, response_cause, is_order_of_if, is_repeated, kept_of, keep as keep_row, agrees, agreeing, done_of, done_with, completed_if, keep_unless, respond as respond_row, respond_while};
 ghost use Rattle.zy_client.specs.Ready.{IsKeepable};
 
 use crate::Client;
@@ -168,19 +168,35 @@ fn are_told(answers: &Items<Answered>, spec: &Spec) -> bool
 
 // The answer to the own request, with its number among the answers.
 fn own_answer(me: ClientId, answers: Items<Answered>) -> Option<OwnAnswer>
-    requires { FitsAnswers answers }
+    requires { length answers ≤ 16 }
     ensures { result ≡ own_in me answers }
 {
-    let at = answers
-        .as_slice()
-        .iter()
-        .position(|answered| answered.client == me)?;
+    match own_place(me, answers.as_slice()) {
+        None => None,
+        Some(at) => Some(answer_at(answers, at)),
+    }
+}
+
+// Where it stands.
+fn own_place(me: ClientId, answers: &[Answered]) -> Option<usize>
+    ensures place { result ≡ position (λ a. nat_eq a.client.0 me.0) answers.now }
+    ensures within { IfSome result (λ at. at < length answers.now) }
+{
+    answers.iter().position(|answered| answered.client == me)
+}
+
+#[tactic(auto, using(std::proofs::lemmas::Option::slice_get_read))]
+fn answer_at(answers: Items<Answered>, at: usize) -> OwnAnswer
+    requires within { at < length answers }
+    requires few { length answers ≤ 16 }
+    ensures { Some result ≡ own_at answers (Some at) }
+{
     let Answered { stamp, reply, .. } = answers.into_vec().swap_remove(at);
-    Some(OwnAnswer {
+    OwnAnswer {
         index: at as u8 + 1,
         stamp,
         reply,
-    })
+    }
 }
 
 // Where there is an order, it is that of the response.
