@@ -42,11 +42,15 @@ impl Client {
         requires op { length ask.op ≤ 1100 }
         ensures { IfOk result (λ m. m ≡ asked_row self ask) }
     {
-        let to = To::One(Party::Replica(self.counts.primary(self.known_view)));
+        let primary = self.counts.primary(self.known_view);
         let (client, signed) = self.signs(ask)?;
         let said = said_of(client.alloc, &signed)?;
         let client = client.awaits(signed_copy(&signed)?)?;
-        client.sends(to, Frame::Request(signed), said)
+        client.sends(
+            To::One(Party::Replica(primary)),
+            Frame::Request(signed),
+            said,
+        )
     }
 
     // The request with the next signature, and the client that has come to its stamp.
