@@ -10,5 +10,5 @@ pub returns-clause-range : goal.returns-clause-range
 returns-clause-range c =
     let spec = c.args.spec.now in
     let enough = subst (λ (s : ClientState). s.counts.cert ≤ agreeing s spec) (sym c.self.view_is) c.requires in
-    let list = c.in_ok-list.ensures ∙ ap (λ (all : List (Option Response)). take c.self.inside.counts.cert (filter_map (equal_in spec) all)) c.deref.ensures.value in
-    rw list (certificate_fits _ spec c.self.invariant enough)
+    let specs = c.in_ok-specs.ensures ∙ ap (λ (all : List (Option Response)). take c.self.inside.counts.cert (filter_map (equal_in spec) all)) c.deref.ensures.value in
+    rw specs (certificate_fits _ spec c.self.invariant enough)
