@@ -1,5 +1,5 @@
 -- What a certificate's choice gives a replica that can take it up: a history with which its view can begin.
-use Rattle.std.proofs.Common.{◌≡◌, ◌≢◌, ℕ, ◌+◌, ◌-◌, ◌*◌, ◌%◌, ◌^◌, ◌<◌, ◌≤◌, nat_le, nat_lt, Bool, true, false, if◌then◌else◌, ◌⊎◌, List, [], ◌∷◌, ◌++◌, take, drop, filter, All, Option, Some, refl, sym, ap, ◌∙◌, subst, arith}
+use Rattle.std.proofs.Common.{◌≡◌, ◌≢◌, ℕ, ◌+◌, ◌-◌, ◌*◌, ◌%◌, ◌^◌, ◌<◌, ◌≤◌, nat_le, nat_lt, Bool, true, false, if◌then◌else◌, ◌⊎◌, List, [], ◌∷◌, ◌++◌, take, drop, filter, length, All, Option, Some, refl, sym, ap, ◌∙◌, subst, arith}
 use Rattle.std.specs.Prelude.{slice_get, IsSome}
 use Rattle.std.proofs.Math.Seq.{take-nil, drop-nil}
 use Rattle.std.proofs.lemmas.Bool.{le-ltb, ltb-true, ltb-false}
@@ -36,7 +36,7 @@ use Rattle.zy_evidence.specs.WellFormed.{IsCheckpoint, IsWellFormedChange}
 use Rattle.zy_check.proofs.BoardLemmas.{with_stable-is}
 use Rattle.zy_check.specs.Board.{Board, IsProof, cleared, no_round, start_of, stated, with_stable}
 use Rattle.zy_admit.specs.Orders.{no_orders}
-use Rattle.zy_exec.proofs.ReplayLemmas.{head-along}
+use Rattle.zy_exec.proofs.ReplayLemmas.{head-along, length-known-along}
 use Rattle.zy_exec.proofs.SettleLemmas.{settled_end, settled_place}
 use Rattle.zy_exec.specs.Kept.{Kept, last_place, settled, stretch_of}
 use Rattle.zy_exec.specs.Replay.{Point, along}
