@@ -336,6 +336,7 @@ fn are_new<M: Machine>(core: &Core<M>, asks: &[Signed<Ask>]) -> bool
 }
 
 // The order has the head and the stamps that the next one has to have.
+#[tactic(auto, using(crate::proofs::AsksLemmas::all_items))]
 fn fits_end<M: Machine>(core: &Core<M>, frame: &OrderFrame) -> bool
     requires { IsOrderReady frame.now }
     ensures { result ≡ fits M.rules core.now frame.now }
