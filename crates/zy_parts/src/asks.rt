@@ -1,6 +1,7 @@
-ghost use Rattle.std.specs.Prelude.{◌≡◌, ◌<◌, ◌^◌, false, IfOk, map};
+ghost use Rattle.std.specs.Prelude.{◌≡◌, ◌<◌, ◌^◌, false, IfOk, map, min};
+ghost use Rattle.zy_wire.specs.Getting.{Gets};
 ghost use Rattle.zy_chain.specs.Entries.{IsEntryInRange, has_client_twice};
-ghost use Rattle.zy_parts.specs.Asks.{asking, item_of, entry_of_asks, ask_behind, AreAsksInRange};
+ghost use Rattle.zy_parts.specs.Asks.{asking, item_of, entry_of_asks, room_behind, ask_within, ask_behind, AreAsksInRange};
 ghost use Rattle.zy_parts.specs.AsksExact.{ask-succession};
 
 use crate::{Ask, Signed};
@@ -69,7 +70,7 @@ impl Successive for Signed<Ask> {
 
     ghost succession = { ask-succession };
 
-    #[tactic(auto, unfolding(crate::specs::Asks::ask_behind, crate::specs::Asks::ask_within, crate::specs::Signing::signed))]
+    #[tactic(auto, unfolding(crate::specs::Asks::ask_behind, crate::specs::Signing::signed))]
     fn get_after(
         alloc: Global,
         cut: &mut Cut<'_>,
@@ -77,14 +78,31 @@ impl Successive for Signed<Ask> {
     ) -> Result<Signed<Ask>, GetFault> {
         let mut ahead = cut.ahead();
         let by = ahead.party()?;
-        let stamp = Stamp(ahead.u62(0)?);
-        let op = Bytes::from_slice(alloc, ahead.bytes16(MAX_OP.min(room_behind(before)))?)?;
+        let stmt = get_within(alloc, &mut ahead, op_limit(before))?;
         let sig = Bytes::from_slice(alloc, ahead.bytes16(8192)?)?;
         *cut = ahead;
-        Ok(Signed {
-            by,
-            stmt: Ask { stamp, op },
-            sig,
-        })
+        Ok(Signed { by, stmt, sig })
     }
+}
+
+// Reads a request whose operation has at most so many bytes. A refusal leaves all the bytes.
+#[tactic(auto, unfolding(crate::specs::Asks::ask_within))]
+fn get_within(alloc: Global, cut: &mut Cut<'_>, max: usize) -> Result<Ask, GetFault>
+    ensures read { Gets (ask_within max) cut.old result cut.new }
+    ensures fits { IfOk result (ask_within max).Fits }
+{
+    let mut ahead = cut.ahead();
+    let ask = Ask {
+        stamp: Stamp(ahead.u62(0)?),
+        op: Bytes::from_slice(alloc, ahead.bytes16(max)?)?,
+    };
+    *cut = ahead;
+    Ok(ask)
+}
+
+// How long the operation of a request behind these may be.
+fn op_limit(before: &[Signed<Ask>]) -> usize
+    ensures { result ≡ min 1100 (room_behind before.now) }
+{
+    MAX_OP.min(room_behind(before))
 }
