@@ -108,5 +108,5 @@ stands_reply {S} R k history (suc before) stands above =
     let point : along R k.base (take i k.entries) ≡ along R (origin R) (take before history) =
     stands_after R k history i stands ∙ ap (λ (n : ℕ). along R (origin R) (take n history)) at in
     rw (lt-leb (suc before) k.base.place above)
-    (ap (λ (p : Point S). option_map (λ (e : Entry). answers_of R p.state e) (slice_get k.entries i)) point
-    ∙ ap (option_map (λ (e : Entry). answers_of R (along R (origin R) (take before history)).state e)) (entry_there R k history before stands above))
+    (ap (λ (p : Point S). option_map (answers_of R p) (slice_get k.entries i)) point
+    ∙ ap (option_map (answers_of R (along R (origin R) (take before history)))) (entry_there R k history before stands above))

@@ -1,27 +1,32 @@
 -- One snapshot at a place with a head is one point, and what follows for histories.
-use Rattle.std.proofs.Common.{◌≡◌, ℕ, zero, suc, ◌+◌, ◌<◌, ◌≤◌, ◌^◌, List, [], ◌∷◌, length, take, drop, set, replicate, Option, Some, None, refl, sym, ap, ◌∙◌, arith}
+use Rattle.std.proofs.Common.{◌≡◌, ℕ, zero, suc, ◌+◌, ◌<◌, ◌≤◌, ◌^◌, List, [], ◌∷◌, ◌++◌, length, take, drop, fold, set, replicate, Option, Some, None, refl, sym, ap, ◌∙◌, arith}
 use Rattle.std.specs.List.{AllByRecursion}
 use Rattle.std.specs.Prelude.{All}
-use Rattle.std.proofs.lemmas.List.{length-set, length-replicate, drop_all}
+use Rattle.std.proofs.lemmas.List.{length-replicate, drop_all}
 use Rattle.std.proofs.Math.Seq.{take-length}
-use Rattle.std.proofs.lemmas.List.Elements.{recursion_from_All}
+use Rattle.std.proofs.lemmas.List.Elements.{All-from_recursion, recursion_from_All}
 use Rattle.sha2.proofs.Facts256.{length-sha256}
 use Rattle.zy_base.specs.Machine.{Rules}
 use Rattle.zy_base.specs.declared.ids.ClientId.{ClientId}
 use Rattle.zy_base.specs.declared.ids.Digest.{Digest}
+use Rattle.zy_base.specs.declared.ids.Place.{Place}
 use Rattle.zy_chain.specs.declared.entry.Entry.{Entry}
-use Rattle.zy_chain.specs.Entries.{digest_of_entry}
+use Rattle.zy_chain.specs.declared.item.Item.{Item}
+use Rattle.zy_chain.specs.Answers.{Answers, FitsAnswers, IsAnsweredInRange}
+use Rattle.zy_chain.specs.Entries.{digest_of_entry, AreNextItems}
 use Rattle.zy_chain.specs.Heads.{head_after, head_of}
 use Rattle.zy_chain.specs.Stretch.{Stretch}
 use Rattle.zy_exec.specs.declared.known.Known.{Known}
-use Rattle.zy_exec.specs.Replay.{Point, origin, along, step, known_of}
+use Rattle.zy_exec.specs.declared.known.Done.{Done}
+use Rattle.zy_exec.specs.Replay.{Point, origin, along, step, answers_from, answers_of, state_from, known_of}
 use Rattle.zy_exec.specs.Kept.{Kept, StandsFor}
 use Rattle.zy_exec.specs.Snapshot.{listed, snapshot_fields, snapshot_of}
-use Rattle.zy_exec.specs.Trail.{base_of, IsBaseInRange}
+use Rattle.zy_exec.specs.Trail.{base_of, IsRecordInRange}
 use Rattle.zy_exec.specs.Installed.{IsShownSlot, IsShown, IsInstalled, IsRunnable}
 use Rattle.zy_exec.specs.Reading.{IsSpelledBy}
 use Rattle.zy_exec.proofs.ReplayLemmas.{place-along, head-along}
 use Rattle.zy_exec.proofs.SnapshotLemmas.{one_meaning}
+use Rattle.zy_exec.proofs.TrailLemmas.{length-answers, length-knowing}
 use Rattle.zy_chain.specs.Sizes.{greatest_state}
 
 slots_set : (known : List (Option Known)) (client : ℕ) (k : Known) → AllByRecursion IsShownSlot known → IsShownSlot (Some k) → AllByRecursion IsShownSlot (set known client (Some k))
@@ -29,14 +34,26 @@ slots_set [] client k all one = tt
 slots_set (x ∷ known) zero k all one = (one, all.1)
 slots_set (x ∷ known) (suc client) k all one = (all.0, slots_set known client k all.1 one)
 
+-- items whose records may be shown fill slots
+slots_filled : (make : Item → Known) (items : List Item) (known : List (Option Known)) → AllByRecursion IsShownSlot known → AllByRecursion (λ (i : Item). IsShownSlot (Some (make i))) items
+    → AllByRecursion IsShownSlot (fold (λ (ks : List (Option Known)) (i : Item). set ks i.client.0 (Some (make i))) known items)
+slots_filled make [] known all each = all
+slots_filled make (i ∷ items) known all each = slots_filled make items (set known i.client.0 (Some (make i))) (slots_set known i.client.0 (make i) all each.0) each.1
+
+items_shown : (place : Place) (head : Digest) (all : Answers) (before items : List Item) → 1 ≤ place.0 → place.0 < 2 ^ 62 → length head.0 ≡ 32 → FitsAnswers all → AreNextItems before items
+    → AllByRecursion (λ (i : Item). IsShownSlot (Some (record { stamp = i.stamp; place = place; head = head; answers = all }))) items
+items_shown place head all before [] least most long fits next = tt
+items_shown place head all before (i ∷ items) least most long fits next =
+    ((record { stamp = next.0.stamp; place_least = least; place_most = most; answers = fits }, long), items_shown place head all (before ++ i ∷ []) items least most long fits next.1)
+
 slots_free : (n : ℕ) → AllByRecursion IsShownSlot (replicate n None)
 slots_free zero = tt
 slots_free (suc n) = (tt, slots_free n)
 
-pub base_shown : (known : List (Option Known)) → AllByRecursion IsShownSlot known → AllByRecursion IsBaseInRange known
-base_shown [] all = tt
-base_shown (None ∷ known) all = (tt, base_shown known all.1)
-base_shown (Some k ∷ known) all = (all.0.0, base_shown known all.1)
+pub records_shown : (known : List (Option Known)) → AllByRecursion IsShownSlot known → AllByRecursion IsRecordInRange known
+records_shown [] all = tt
+records_shown (None ∷ known) all = (tt, records_shown known all.1)
+records_shown (Some k ∷ known) all = (all.0.0, records_shown known all.1)
 
 same_parts : {S : Type 0} (p q : Point S) → p.place ≡ q.place → p.head ≡ q.head → p.state ≡ q.state → p.known ≡ q.known → p ≡ q
 same_parts {S} p q place head state known =
@@ -74,13 +91,24 @@ module _ {S : Type 0} (IsState : S → Type 0) (R : Rules S) (laws : IsLawful Is
       let none : Option Known = None in
       record { all_clients = length-replicate 64 none; in_range = slots_free 64; is_state = laws.starts }
 
+  -- items are answered in range, and lead to a state
+  answered_in_range : (before items : List Item) (state : S) → IsState state → AreNextItems before items → AllByRecursion IsAnsweredInRange (answers_from R state items) × IsState (state_from R state items)
+  answered_in_range before [] state is next = (tt, is)
+  answered_in_range before (i ∷ items) state is next =
+      let others = answered_in_range (before ++ i ∷ []) items (R.next state i.client i.op) (laws.stays state i.client i.op is) next.1 in
+      ((record { client = next.0.client; stamp = next.0.stamp; reply = laws.short_reply state i.client i.op is }, others.0), others.1)
+
   shown_step : (p : Point S) (e : Entry) → IsShown IsState p → IsRunnable e → p.place + 1 < 2 ^ 62 → IsShown IsState (step R p e)
   shown_step p e shown run few =
+      let given = answered_in_range [] e.items p.state shown.is_state run.in_range.each in
+      let many = length-answers R p.state e.items in
+      let fits : FitsAnswers (answers_of R p e) =
+      record { least = omega (arith, many, run.in_range.least); most = omega (arith, many, run.in_range.most); each = All-from_recursion IsAnsweredInRange (answers_of R p e) given.0 } in
       record {
-        all_clients = length-set p.known e.client.0 (Some (known_of R p e)) ∙ shown.all_clients;
-        in_range = slots_set p.known e.client.0 (known_of R p e) shown.in_range
-            (record { stamp = run.in_range.stamp; place_least = omega arith; place_most = omega (arith, few); reply = laws.short_reply p.state e.client e.op shown.is_state }, head_32 p.head (digest_of_entry e));
-        is_state = laws.stays p.state e.client e.op shown.is_state;
+        all_clients = length-knowing R p e p.known ∙ shown.all_clients;
+        in_range = slots_filled (known_of R p e) e.items p.known shown.in_range
+            (items_shown (record { 0 = p.place + 1 }) (head_after p.head (digest_of_entry e)) (answers_of R p e) [] e.items (omega arith) (omega (arith, few)) (head_32 p.head (digest_of_entry e)) fits run.in_range.each);
+        is_state = given.1;
       }
 
   shown_from : (p : Point S) (entries : List Entry) → IsShown IsState p → AllByRecursion IsRunnable entries → p.place + length entries < 2 ^ 62 → IsShown IsState (along R p entries)
@@ -120,12 +148,12 @@ module _ {S : Type 0} (IsState : S → Type 0) (R : Rules S) (laws : IsLawful Is
       let clash : None ≡ Some p.state = sym none ∙ ap R.read same ∙ laws.reads p.state shown.is_state in
       absurd (cc)
 
-pub restored_is : {S : Type 0} (IsState : S → Type 0) (R : Rules S) (interval place : ℕ) (head : Digest) (bytes state_bytes : List ℕ) (spine : Stretch) (trail : List S) (state : S) (known : List (Option Known))
-    → spine ≡ record { base = record { place = place; head = head }; entries = [] } → trail ≡ [] → IsSpelledBy bytes known state_bytes → IsState state → R.spelled state ≡ state_bytes
-    → IsInstalled IsState R interval place head bytes (record { interval = interval; base = base_of spine trail state known; entries = spine.entries })
+pub restored_is : {S : Type 0} (IsState : S → Type 0) (R : Rules S) (interval place : ℕ) (head : Digest) (bytes state_bytes : List ℕ) (spine : Stretch) (trail : List S) (state : S) (done : List Done) (known : List (Option Known))
+    → spine ≡ record { base = record { place = place; head = head }; entries = [] } → trail ≡ [] → done ≡ [] → IsSpelledBy bytes known state_bytes → IsState state → R.spelled state ≡ state_bytes
+    → IsInstalled IsState R interval place head bytes (record { interval = interval; base = base_of spine trail state done known; entries = spine.entries })
 unfolding snapshot_of
-restored_is IsState R interval place head bytes state_bytes spine trail state known spine_is trail_is is is_state spelled =
-    rw (spine_is, trail_is)
+restored_is IsState R interval place head bytes state_bytes spine trail state done known spine_is trail_is done_is is is_state spelled =
+    rw (spine_is, trail_is, done_is)
     (record {
       interval_is = refl;
       place_is = refl;

@@ -1,5 +1,6 @@
-pub mod ReplayLemmas
 mod ListedLemmas
+mod TrailLemmas
+pub mod ReplayLemmas
 pub mod HistoryLemmas
 pub mod SettleLemmas
 mod ShotLemmas

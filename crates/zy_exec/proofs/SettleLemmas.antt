@@ -1,122 +1,106 @@
 -- The base moves over the first entry, and what that leaves as it was.
-use Rattle.std.proofs.Common.{◌≡◌, ℕ, zero, suc, ◌+◌, ◌-◌, ◌<◌, ◌≤◌, List, [], ◌∷◌, length, take, drop, get_or, set, Option, Some, None, refl, sym, ap, ◌∙◌, subst, arith, inl, inr}
+use Rattle.std.proofs.Common.{◌≡◌, ℕ, zero, suc, ◌+◌, ◌-◌, ◌<◌, ◌≤◌, List, [], ◌∷◌, ◌++◌, length, take, drop, Option, refl, sym, ap, ◌∙◌, subst, arith}
 use Rattle.std.specs.List.{AllByRecursion}
-use Rattle.std.proofs.lemmas.List.{length-set, length-drop, length-take-le, drop-drop, get_or-set_same, get_or-set_other, take-append-drop}
-use Rattle.std.proofs.Math.Seq.{take-add}
-use Rattle.std.proofs.lemmas.Bool.{cases_eq, le-ltb}
-use Rattle.std.proofs.lemmas.Option.{same_Some}
+use Rattle.std.proofs.lemmas.List.{length-append, length-drop, length-take-le, drop-drop, take-append-drop}
+use Rattle.std.proofs.Math.Seq.{take-add, drop-append_seam}
+use Rattle.std.proofs.lemmas.Bool.{le-ltb}
 use Rattle.zy_base.specs.Machine.{Rules}
 use Rattle.zy_base.specs.declared.ids.Digest.{Digest}
-use Rattle.zy_base.specs.declared.ids.Place.{Place}
 use Rattle.zy_chain.specs.declared.entry.Entry.{Entry}
 use Rattle.zy_chain.specs.Heads.{head_from}
 use Rattle.zy_chain.specs.Stretch.{Stretch, from_place}
 use Rattle.zy_exec.specs.declared.known.Known.{Known}
 use Rattle.zy_exec.specs.declared.known.Done.{Done}
-use Rattle.zy_exec.specs.Known.{IsKnownInRange}
-use Rattle.zy_exec.specs.Replay.{Point, known_of, step, along, origin}
+use Rattle.zy_exec.specs.Replay.{Point, step, along, origin}
 use Rattle.zy_exec.specs.Kept.{Kept, StandsFor, last_place, now_of, settled}
 use Rattle.zy_exec.specs.Shots.{snapshot_in, snapshot_at}
-use Rattle.zy_exec.specs.Trail.{base_of, oldest_state, placed, done_from, IsSettled, IsDoneInRange, IsBaseInRange, IsBefore, IsReplayed}
-use Rattle.zy_exec.proofs.ReplayLemmas.{along-cons, along-nil, place-along}
+use Rattle.zy_exec.specs.Trail.{passed, base_of, oldest_state, states_from, unwound_all, done_next, done_from, IsSettled, IsDoneInRange, IsReplayed}
+use Rattle.zy_exec.proofs.TrailLemmas.{length-passed, length-answers}
+use Rattle.zy_exec.proofs.ReplayLemmas.{along-cons, along-nil, place-along, oldest_of, unwound_of}
 use Rattle.zy_exec.proofs.ListedLemmas.{same_cons}
 use Rattle.zy_exec.proofs.HistoryLemmas.{along-append_all, stands_end, stands_after}
-use Rattle.zy_chain.specs.Entries.{IsOfClients}
 
-base_set : (known : List (Option Known)) (client : ℕ) (k : Known) → AllByRecursion IsBaseInRange known → IsKnownInRange k → AllByRecursion IsBaseInRange (set known client (Some k))
-base_set [] client k all one = tt
-base_set (x ∷ known) zero k all one = (one, all.1)
-base_set (x ∷ known) (suc client) k all one = (all.0, base_set known client k all.1 one)
-
-before_on : (base : ℕ) (before : List (Option Place)) (e : Entry) → IsOfClients e → IsBefore base before → IsBefore (base + 1) (placed before e (base + 1))
-before_on base before e within is =
-    let place : Place = record { 0 = base + 1 } in
+replayed_settled : {S : Type 0} (R : Rules S) (base : Point S) (e : Entry) (entries : List Entry) (count : ℕ) (state : S) (trail : List S) (done done' : List Done) (known : List (Option Known))
+    → IsReplayed R base (e ∷ entries) state trail done known → IsSettled done done' count
+    → IsReplayed R (step R base e) entries state (drop count trail) done' known
+replayed_settled {S} R base e entries count state trail done done' known was settle =
+    let next = step R base e in
+    let dones = same_cons settle.first (done_next R base e) done' (done_from R next entries) (sym settle.done_was ∙ was.done_is) in
+    let count_is : count ≡ length (passed R base.state e.items) =
+    settle.count_is ∙ ap (λ (d : Done). length d.answers) dones.0 ∙ length-answers R base.state e.items ∙ sym (length-passed R base.state e.items) in
     record {
-      all_clients = length-set before e.client.0 (Some place) ∙ is.all_clients;
-      below = λ client q some.
-          elim (cases_eq client e.client.0) [
-            | inl same ↦
-                let here : get_or (set before e.client.0 (Some place)) client None ≡ Some place =
-                ap (λ (c : ℕ). get_or (set before e.client.0 (Some place)) c None) same ∙ get_or-set_same before e.client.0 (Some place) None (omega (arith, is.all_clients, within)) in
-                let is_q : place ≡ q = same_Some place q (sym here ∙ some) in
-                subst (λ (r : Place). r.0 ≤ base + 1) is_q (omega arith)
-            | inr apart ↦
-                let low = is.below client q (sym (get_or-set_other before e.client.0 client (Some place) None apart) ∙ some) in
-                omega arith
-          ];
+      state_is = was.state_is ∙ ap (λ (p : Point S). p.state) (along-cons R base e entries);
+      trail_is = ap (drop count) was.trail_is ∙ ap (λ (n : ℕ). drop n (passed R base.state e.items ++ states_from R next entries)) count_is
+          ∙ drop-append_seam (passed R base.state e.items) (states_from R next entries);
+      done_is = dones.1;
+      known_is = was.known_is ∙ ap (λ (p : Point S). p.known) (along-cons R base e entries);
+      all_clients = was.all_clients;
+      known_in_range = was.known_in_range;
+      done_in_range = (subst (AllByRecursion IsDoneInRange) settle.done_was was.done_in_range).1;
     }
 
-replayed_settled : {S : Type 0} (R : Rules S) (base : Point S) (e : Entry) (entries : List Entry) (state : S) (trail : List S) (done done' : List Done) (last : List (Option Place)) (known' : List (Option Known))
-    → IsReplayed R base (e ∷ entries) state trail done last → IsSettled done done' base.known known'
-    → (known' ≡ (step R base e).known) × IsReplayed R (step R base e) entries state (drop 1 trail) done' last
-replayed_settled {S} R base e entries state trail done done' last known' was settle =
-    let next = step R base e in
-    let first : Done = record { client = e.client; known = known_of R base e; earlier = get_or was.before e.client.0 None } in
-    let dones = same_cons settle.first first done' (done_from R next (placed was.before e (base.place + 1)) entries) (sym settle.done_was ∙ was.done_is) in
-    let known_now : known' ≡ next.known = settle.known_now ∙ ap (λ (d : Done). set base.known d.client.0 (Some d.known)) dones.0 in
-    let ranges : AllByRecursion IsDoneInRange (first ∷ done_from R next (placed was.before e (base.place + 1)) entries) = subst (AllByRecursion IsDoneInRange) was.done_is was.in_range in (
-      known_now,
-      record {
-        state_is = was.state_is ∙ ap (λ (p : Point S). p.state) (along-cons R base e entries);
-        trail_is = ap (drop 1) was.trail_is;
-        before = placed was.before e (base.place + 1);
-        is_before = before_on base.place was.before e was.clients.0 was.is_before;
-        done_is = dones.1;
-        last_is = was.last_is;
-        clients = was.clients.1;
-        all_clients = length-set base.known e.client.0 (Some (known_of R base e)) ∙ was.all_clients;
-        in_range = subst (AllByRecursion IsDoneInRange) (sym dones.1) ranges.1;
-        base_in_range = base_set base.known e.client.0 (known_of R base e) was.base_in_range ranges.0.1;
-      },
-    )
+-- the base's state is still the oldest of the trail, and what is kept leads back to its records
+abbrev base_at : {S : Type 0} → ℕ → Digest → List S → S → List Done → List (Option Known) → Point S
+base_at place head trail state done known = record { place = place; head = head; state = oldest_state trail state; known = unwound_all done known }
 
--- the state at the base is still the oldest of the trail
-oldest_settled : {S : Type 0} (R : Rules S) (base : Point S) (e : Entry) (entries : List Entry) (state : S) (trail : List S) (done : List Done) (last : List (Option Place)) → IsReplayed R base (e ∷ entries) state trail done last
-    → oldest_state (drop 1 trail) state ≡ (step R base e).state
+base_settled : {S : Type 0} (R : Rules S) (p : Point S) (entries : List Entry) (state : S) (trail : List S) (done : List Done) (known : List (Option Known)) → IsReplayed R p entries state trail done known
+    → base_at p.place p.head trail state done known ≡ p
+base_settled {S} R p entries state trail done known was =
+    let oldest : oldest_state trail state ≡ p.state =
+    ap (λ (t : List S). oldest_state t state) was.trail_is ∙ ap (oldest_state (states_from R p entries)) was.state_is ∙ oldest_of R p entries in
+    let known_is : unwound_all done known ≡ p.known =
+    ap (λ (ds : List Done). unwound_all ds known) was.done_is ∙ ap (unwound_all (done_from R p entries)) was.known_is ∙ unwound_of R p entries in
+    ap (λ (s : S). record { place = p.place; head = p.head; state = s; known = unwound_all done known }) oldest
+    ∙ ap (λ (ks : List (Option Known)). record { place = p.place; head = p.head; state = p.state; known = ks }) known_is
+
+settled_from : {S : Type 0} (R : Rules S) (place : ℕ) (head : Digest) (entries : List Entry) (count : ℕ) (state : S) (trail : List S) (done done' : List Done) (known : List (Option Known)) (n : ℕ) → n ≡ 1
+    → IsReplayed R (base_at place head trail state done known) entries state trail done known → 0 < length entries → IsSettled done done' count
+    → (base_at (place + 1) (head_from head (take n entries)) (drop count trail) state done' known ≡ along R (base_at place head trail state done known) (take n entries))
+    × IsReplayed R (base_at (place + 1) (head_from head (take n entries)) (drop count trail) state done' known) (drop n entries) state (drop count trail) done' known
 unfolding along
-oldest_settled R base e [] state trail done last was = rw was.trail_is was.state_is
-oldest_settled R base e (next ∷ entries) state trail done last was = rw was.trail_is refl
-
-abbrev base_at : {S : Type 0} → ℕ → Digest → List S → S → List (Option Known) → Point S
-base_at place head trail state known = record { place = place; head = head; state = oldest_state trail state; known = known }
-
-settled_from : {S : Type 0} (R : Rules S) (place : ℕ) (head : Digest) (entries : List Entry) (known known' : List (Option Known)) (state : S) (trail : List S) (done done' : List Done) (last : List (Option Place)) (n : ℕ) → n ≡ 1
-    → IsReplayed R (base_at place head trail state known) entries state trail done last → 0 < length entries → IsSettled done done' known known'
-    → (base_at (place + 1) (head_from head (take n entries)) (drop 1 trail) state known' ≡ along R (base_at place head trail state known) (take n entries))
-    × IsReplayed R (base_at (place + 1) (head_from head (take n entries)) (drop 1 trail) state known') (drop n entries) state (drop 1 trail) done' last
-unfolding along
-settled_from R place head [] known known' state trail done done' last n one was some settle = absurd (omega arith)
-settled_from {S} R place head (e ∷ entries) known known' state trail done done' last n one was some settle =
-    let base = base_at place head trail state known in
-    let moved = replayed_settled R base e entries state trail done done' last known' was settle in
-    let there : base_at (place + 1) (head_from head (take n (e ∷ entries))) (drop 1 trail) state known' ≡ step R base e =
-    rw (one, oldest_settled R base e entries state trail done last was, moved.0) refl in
+settled_from R place head [] count state trail done done' known n one was some settle = absurd (omega arith)
+settled_from {S} R place head (e ∷ entries) count state trail done done' known n one was some settle =
+    let base = base_at place head trail state done known in
+    let moved = replayed_settled R base e entries count state trail done done' known was settle in
+    let there : base_at (place + 1) (head_from head (take n (e ∷ entries))) (drop count trail) state done' known ≡ step R base e =
+    rw one (base_settled R (step R base e) entries state (drop count trail) done' known moved) in
     let first : along R base (take n (e ∷ entries)) ≡ step R base e = rw one refl in
     let others : drop n (e ∷ entries) ≡ entries = rw one refl in (
       there ∙ sym first,
-      subst (λ (p : Point S). IsReplayed R p (drop n (e ∷ entries)) state (drop 1 trail) done' last) (sym there)
-          (subst (λ (es : List Entry). IsReplayed R (step R base e) es state (drop 1 trail) done' last) (sym others) moved.1),
+      subst (λ (p : Point S). IsReplayed R p (drop n (e ∷ entries)) state (drop count trail) done' known) (sym there)
+          (subst (λ (es : List Entry). IsReplayed R (step R base e) es state (drop count trail) done' known) (sym others) moved),
     )
 
-pub settled_base : {S : Type 0} (R : Rules S) (spine spine' : Stretch) (known known' : List (Option Known)) (state state' : S) (trail trail' : List S) (done done' : List Done) (last : List (Option Place))
-    → IsReplayed R (base_of spine trail state known) spine.entries state trail done last → 0 < length spine.entries
-    → IsSettled done done' known known' → state' ≡ state → trail' ≡ drop 1 trail → spine' ≡ from_place (spine.base.place + 1) spine
-    → (base_of spine' trail' state' known' ≡ along R (base_of spine trail state known) (take (spine.base.place + 1 - spine.base.place) spine.entries))
-    × IsReplayed R (base_of spine' trail' state' known') spine'.entries state' trail' done' last
-settled_base R spine spine' known known' state state' trail trail' done done' last was some settle state_is trail_is spine_is =
+pub settled_base : {S : Type 0} (R : Rules S) (spine spine' : Stretch) (count : ℕ) (state state' : S) (trail trail' : List S) (done done' : List Done) (known : List (Option Known))
+    → IsReplayed R (base_of spine trail state done known) spine.entries state trail done known → 0 < length spine.entries
+    → IsSettled done done' count → state' ≡ state → trail' ≡ drop count trail → spine' ≡ from_place (spine.base.place + 1) spine
+    → (base_of spine' trail' state' done' known ≡ along R (base_of spine trail state done known) (take (spine.base.place + 1 - spine.base.place) spine.entries))
+    × IsReplayed R (base_of spine' trail' state' done' known) spine'.entries state' trail' done' known
+settled_base R spine spine' count state state' trail trail' done done' known was some settle state_is trail_is spine_is =
     rw (spine_is, state_is, trail_is)
-    (settled_from R spine.base.place spine.base.head spine.entries known known' state trail done done' last (spine.base.place + 1 - spine.base.place) (omega arith) was some settle)
+    (settled_from R spine.base.place spine.base.head spine.entries count state trail done done' known (spine.base.place + 1 - spine.base.place) (omega arith) was some settle)
 
-pub settled_kept : {S : Type 0} (R : Rules S) (interval : ℕ) (spine spine' : Stretch) (known known' : List (Option Known)) (state state' : S) (trail trail' : List S) (done done' : List Done) (last : List (Option Place))
-    → IsReplayed R (base_of spine trail state known) spine.entries state trail done last → 0 < length spine.entries
-    → IsSettled done done' known known' → state' ≡ state → trail' ≡ drop 1 trail → (spine_is : spine' ≡ from_place (spine.base.place + 1) spine)
-    → ◌≡◌ {A = Kept S} (record { interval = interval; base = base_of spine' trail' state' known'; entries = spine'.entries })
-    (settled R (spine.base.place + 1) (record { interval = interval; base = base_of spine trail state known; entries = spine.entries }))
-settled_kept {S} R interval spine spine' known known' state state' trail trail' done done' last was some settle state_is trail_is spine_is =
-    let moved = settled_base R spine spine' known known' state state' trail trail' done done' last was some settle state_is trail_is spine_is in
-    let first = along R (base_of spine trail state known) (take (spine.base.place + 1 - spine.base.place) spine.entries) in
+pub settled_kept : {S : Type 0} (R : Rules S) (interval : ℕ) (spine spine' : Stretch) (count : ℕ) (state state' : S) (trail trail' : List S) (done done' : List Done) (known : List (Option Known))
+    → IsReplayed R (base_of spine trail state done known) spine.entries state trail done known → 0 < length spine.entries
+    → IsSettled done done' count → state' ≡ state → trail' ≡ drop count trail → (spine_is : spine' ≡ from_place (spine.base.place + 1) spine)
+    → ◌≡◌ {A = Kept S} (record { interval = interval; base = base_of spine' trail' state' done' known; entries = spine'.entries })
+    (settled R (spine.base.place + 1) (record { interval = interval; base = base_of spine trail state done known; entries = spine.entries }))
+settled_kept {S} R interval spine spine' count state state' trail trail' done done' known was some settle state_is trail_is spine_is =
+    let moved = settled_base R spine spine' count state state' trail trail' done done' known was some settle state_is trail_is spine_is in
+    let first = along R (base_of spine trail state done known) (take (spine.base.place + 1 - spine.base.place) spine.entries) in
     ap (λ (p : Point S). record { interval = interval; base = p; entries = spine'.entries }) moved.0
     ∙ ap (λ (s : Stretch). record { interval = interval; base = first; entries = s.entries }) spine_is
+
+-- how many items the first entry had: the machine can give up as many
+pub first_count : {S : Type 0} (R : Rules S) (base : Point S) (entries : List Entry) (count : ℕ) (state : S) (trail : List S) (done done' : List Done) (known : List (Option Known))
+    → IsReplayed R base entries state trail done known → 0 < length entries → IsSettled done done' count → count ≤ length trail
+first_count R base [] count state trail done done' known was some settle = absurd (omega arith)
+first_count {S} R base (e ∷ entries) count state trail done done' known was some settle =
+    let next = step R base e in
+    let dones = same_cons settle.first (done_next R base e) done' (done_from R next entries) (sym settle.done_was ∙ was.done_is) in
+    let count_is : count ≡ length e.items = settle.count_is ∙ ap (λ (d : Done). length d.answers) dones.0 ∙ length-answers R base.state e.items in
+    let many = ap length was.trail_is ∙ length-append (passed R base.state e.items) (states_from R next entries) in
+    omega (arith, count_is, many, length-passed R base.state e.items)
 
 -- ---- what is kept
 

@@ -9,6 +9,7 @@ use Rattle.zy_base.specs.declared.restore_fault.RestoreFault.{RestoreFault}
 use Rattle.zy_base.specs.declared.restore_fault.RestoreFault.TheVariants as restore_faults
 use Rattle.zy_wire.specs.Spelling.{IsBytes, whole}
 use Rattle.zy_wire.proofs.Parts.{ok_is, whole_takes, whole_again}
+use Rattle.zy_chain.specs.Fields.{answers-fits, answers-in_range}
 use Rattle.zy_exec.specs.declared.known.Known.{Known}
 use Rattle.zy_exec.specs.declared.row.Row.{Row}
 use Rattle.zy_exec.specs.Snapshot.{listed, row_fields, snapshot_fields}
@@ -92,7 +93,7 @@ unfolding row_fields
 rows_fit n [] few all = tt
 rows_fit n (None ∷ xs) few all = rows_fit (n + 1) xs (omega arith) all.1
 rows_fit n (Some k ∷ xs) few all =
-    ((omega arith, ((omega arith, all.0.0.stamp), ((all.0.0.place_least, all.0.0.place_most), (all.0.1, all.0.0.reply)))), rows_fit (n + 1) xs (omega arith) all.1)
+    ((omega arith, ((omega arith, all.0.0.stamp), ((all.0.0.place_least, all.0.0.place_most), (all.0.1, answers-fits k.answers all.0.0.answers)))), rows_fit (n + 1) xs (omega arith) all.1)
 
 slots_shown : (n : ℕ) (xs : List (Option Known)) → AllByRecursion row_fields.Fits (listed n xs) → AllByRecursion IsShownSlot xs
 unfolding row_fields
@@ -100,7 +101,7 @@ slots_shown n [] all = tt
 slots_shown n (None ∷ xs) all = (tt, slots_shown (n + 1) xs all)
 slots_shown n (Some k ∷ xs) all =
     let fits = all.0 in
-    ((record { stamp = fits.1.0.1; place_least = fits.1.1.0.0; place_most = fits.1.1.0.1; reply = fits.1.1.1.1 }, fits.1.1.1.0), slots_shown (n + 1) xs all.1)
+    ((record { stamp = fits.1.0.1; place_least = fits.1.1.0.0; place_most = fits.1.1.0.1; answers = answers-in_range k.answers fits.1.1.1.1 }, fits.1.1.1.0), slots_shown (n + 1) xs all.1)
 
 -- ---- reading
 

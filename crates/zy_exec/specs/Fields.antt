@@ -7,7 +7,7 @@ use Rattle.zy_wire.proofs.Laws.{u62-exact, digest-exact, sized-exact, list-exact
 use Rattle.zy_exec.specs.declared.row.Row.{Row}
 use Rattle.zy_exec.specs.Known.{IsKnownInRange}
 use Rattle.zy_exec.specs.Snapshot.{row_fields, snapshot_fields}
-use Rattle.zy_chain.specs.Fields.{answers-exact}
+use Rattle.zy_chain.specs.Fields.{answers-exact, answers-in_range}
 use Rattle.zy_chain.specs.Sizes.{greatest_state}
 
 abbrev pub IsRowInRange : Row → Type 0
@@ -21,7 +21,7 @@ row-exact =
 
 pub row-in_range : (r : Row) → row_fields.Fits r → IsRowInRange r
 unfolding row_fields
-row-in_range r fits = record { stamp = fits.1.0.1; place_least = fits.1.1.0.0; place_most = fits.1.1.0.1; answers = fits.1.1.1.1 }
+row-in_range r fits = record { stamp = fits.1.0.1; place_least = fits.1.1.0.0; place_most = fits.1.1.0.1; answers = answers-in_range r.known.answers fits.1.1.1.1 }
 
 pub snapshot-exact : IsExact snapshot_fields
 unfolding snapshot_fields

@@ -14,7 +14,9 @@ ghost use Rattle.zy_chain.specs.Answers.{FitsAnswers};
 ghost use Rattle.zy_chain.specs.Sizes.{greatest_snapshot, record_size};
 
 use crate::install_fault::InstallFault;
-use crate::known::{Done, Known, answers_done, index_above, known_at, nothing, pop_done, settle_done};
+use crate::known::{
+    Done, Known, answers_done, index_above, known_at, nothing, pop_done, settle_done,
+};
 use crate::machine::{forget_items, take_back, undo_items};
 use crate::row::put_row;
 use crate::running::run_entry;

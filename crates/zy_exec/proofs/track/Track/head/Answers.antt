@@ -8,5 +8,5 @@ pub returns : goal.returns
 returns g c =
     let x = c.self.inside in
     let M = g.M.Machine in
-    c.head.ensures ∙ sym (head-along M.rules (base_of x.spine (M.trail x.machine) (M.state x.machine) x.base_known.items) x.spine.entries)
+    c.head.ensures ∙ sym (head-along M.rules (base_of x.spine (M.trail x.machine) (M.state x.machine) x.done.items x.known.items) x.spine.entries)
     ∙ ap (λ (k : Kept _). (now_of M.rules k).head) c.self.view_is

@@ -1,5 +1,5 @@
-use Rattle.std.proofs.Common.{◌≡◌, ◌+◌, length, subst, ap, ◌∙◌}
-use Rattle.zy_exec.specs.Kept.{Kept, last_place}
+use Rattle.std.proofs.Common.{◌≡◌, length, ap, ◌∙◌}
+use Rattle.zy_exec.specs.Kept.{Kept, items_in}
 use Rattle.zy_exec.specs.Trail.{base_of}
 use Rattle.zy_exec.proofs.ReplayLemmas.{length-states}
 use Rattle.zy_exec.proofs.track.Track.records.Goals as goal
@@ -8,6 +8,5 @@ pub returns : goal.returns
 returns g c =
     let x = c.self.inside in
     let M = g.M.Machine in
-    let base = base_of x.spine (M.trail x.machine) (M.state x.machine) x.base_known.items in
-    let many : c.trail_len.result ≡ length x.spine.entries = c.trail_len.ensures ∙ ap length c.self.invariant.trail_is ∙ length-states M.rules base x.spine.entries in
-    subst (λ (k : Kept _). k.base.place + c.trail_len.result ≡ last_place k) c.self.view_is (ap (λ n. x.spine.base.place + n) many)
+    let base = base_of x.spine (M.trail x.machine) (M.state x.machine) x.done.items x.known.items in
+    c.trail_len.ensures ∙ ap length c.self.invariant.trail_is ∙ length-states M.rules base x.spine.entries ∙ ap (λ (k : Kept _). items_in k.entries) c.self.view_is

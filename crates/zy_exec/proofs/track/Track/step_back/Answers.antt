@@ -1,6 +1,8 @@
-use Rattle.std.proofs.Common.{◌<◌, length, ◌∙◌, ap, arith}
+use Rattle.std.proofs.Common.{◌≡◌, ◌-◌, ◌<◌, length, ◌∙◌, ap, arith}
+use Rattle.zy_chain.specs.Stretch.{end_of, up_to}
+use Rattle.zy_exec.specs.Kept.{Kept, back_to, last_place, items_in}
 use Rattle.zy_exec.specs.Trail.{base_of}
-use Rattle.zy_exec.proofs.ReplayLemmas.{length-done, length-states, length-last, replayed_cut}
+use Rattle.zy_exec.proofs.ReplayLemmas.{length-done, some_count, replayed_cut, cut_kept, cut_items}
 use Rattle.zy_exec.proofs.track.Track.step_back.Goals as goal
 
 pub pop_done-requires-clause-some : goal.pop_done-requires-clause-some
@@ -8,25 +10,44 @@ pop_done-requires-clause-some g c =
     let x = c.self.inside in
     let M = g.M.Machine in
     let some : 0 < length x.spine.entries = rw (← c.self.view_is) at c.requires in
-    let as_many = ap length c.self.invariant.done_is ∙ length-done M.rules (base_of x.spine (M.trail x.machine) (M.state x.machine) x.base_known.items) c.self.invariant.before x.spine.entries in
+    let as_many = ap length c.self.invariant.done_is ∙ length-done M.rules (base_of x.spine (M.trail x.machine) (M.state x.machine) x.done.items x.known.items) x.spine.entries in
     omega (arith, some, as_many)
 
-pub pop_done-requires-clause-all : goal.pop_done-requires-clause-all
-pop_done-requires-clause-all g c =
-    ap length c.self.invariant.last_is ∙ length-last c.self.inside.spine.base.place c.self.invariant.before c.self.inside.spine.entries ∙ c.self.invariant.is_before.all_clients
-
-pub undo-requires : goal.undo-requires
-undo-requires g c =
+pub undo_items-requires : goal.undo_items-requires
+undo_items-requires g c =
     let x = c.self.inside in
     let M = g.M.Machine in
     let some : 0 < length x.spine.entries = rw (← c.self.view_is) at c.requires in
-    let as_many = ap length c.self.invariant.trail_is ∙ length-states M.rules (base_of x.spine (M.trail x.machine) (M.state x.machine) x.base_known.items) x.spine.entries in
-    omega (arith, some, as_many)
+    some_count M.rules (base_of x.spine (M.trail x.machine) (M.state x.machine) x.done.items x.known.items) x.spine.entries c.pop_done-count.result (M.state x.machine) (M.trail x.machine)
+    x.done.items c.pop_done-count.new.done.items x.known.items c.pop_done-count.new.known.items c.self.invariant some c.pop_done-count.ensures
 
 pub invariant_of-self : goal.invariant_of-self
 invariant_of-self g c =
     let x = c.self.inside in
     let M = g.M.Machine in
     let some : 0 < length x.spine.entries = rw (← c.self.view_is) at c.requires in
-    replayed_cut M.rules x.spine c.cut_above.new.self x.base_known.items (M.state x.machine) (M.state c.undo.new.self) (M.trail x.machine) (M.trail c.undo.new.self)
-    x.done.items c.pop_done.new.done.items x.last.items c.pop_done.new.last.items c.self.invariant some c.undo.ensures.back c.pop_done.ensures (rw c.end.ensures.place at c.cut_above.ensures)
+    (replayed_cut M.rules x.spine c.cut_above.new.self c.pop_done-count.result (M.state x.machine) (M.state c.undo_items.new.machine) (M.trail x.machine) (M.trail c.undo_items.new.machine)
+    x.done.items c.pop_done-count.new.done.items x.known.items c.pop_done-count.new.known.items c.self.invariant some c.undo_items.ensures.back c.pop_done-count.ensures (rw c.end.ensures.place at c.cut_above.ensures)).replayed
+
+pub returns-clause-after : goal.returns-clause-after
+returns-clause-after g c =
+    let x = c.self.inside in
+    let M = g.M.Machine in
+    let some : 0 < length x.spine.entries = rw (← c.self.view_is) at c.requires in
+    let spine_is : c.cut_above.new.self ≡ up_to (end_of x.spine - 1) x.spine = rw c.end.ensures.place at c.cut_above.ensures in
+    let cut = replayed_cut M.rules x.spine c.cut_above.new.self c.pop_done-count.result (M.state x.machine) (M.state c.undo_items.new.machine) (M.trail x.machine) (M.trail c.undo_items.new.machine)
+    x.done.items c.pop_done-count.new.done.items x.known.items c.pop_done-count.new.known.items c.self.invariant some c.undo_items.ensures.back c.pop_done-count.ensures spine_is in
+    cut_kept M.rules x.interval x.spine c.cut_above.new.self (M.state x.machine) (M.state c.undo_items.new.machine) (M.trail x.machine) (M.trail c.undo_items.new.machine)
+    x.done.items c.pop_done-count.new.done.items x.known.items c.pop_done-count.new.known.items cut spine_is
+    ∙ ap (λ (k : Kept _). back_to (last_place k - 1) k) c.self.view_is
+
+pub returns-clause-cost : goal.returns-clause-cost
+returns-clause-cost g c =
+    let x = c.self.inside in
+    let M = g.M.Machine in
+    let some : 0 < length x.spine.entries = rw (← c.self.view_is) at c.requires in
+    let spine_is : c.cut_above.new.self ≡ up_to (end_of x.spine - 1) x.spine = rw c.end.ensures.place at c.cut_above.ensures in
+    let items = cut_items M.rules x.spine c.cut_above.new.self c.pop_done-count.result (M.state x.machine) (M.trail x.machine) x.done.items c.pop_done-count.new.done.items x.known.items c.pop_done-count.new.known.items
+    c.self.invariant some c.pop_done-count.ensures spine_is in
+    let view = ap (λ (k : Kept _). items_in k.entries) c.self.view_is in
+    omega (arith, items, view, c.undo_items.ensures.cost)
