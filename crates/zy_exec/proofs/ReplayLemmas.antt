@@ -12,7 +12,7 @@ use Rattle.zy_base.specs.declared.ids.Place.{Place}
 use Rattle.zy_chain.specs.declared.entry.Entry.{Entry}
 use Rattle.zy_chain.specs.declared.item.Item.{Item}
 use Rattle.zy_chain.specs.Answers.{FitsAnswers}
-use Rattle.zy_chain.specs.Entries.{digest_of_entry, AreNextItems, IsEntryInRange, IsOfClients}
+use Rattle.zy_chain.specs.Entries.{digest_of_entry, IsEntryInRange, IsOfClients}
 use Rattle.zy_chain.specs.Heads.{head_after, head_from}
 use Rattle.zy_chain.specs.Stretch.{Mark, Stretch, end_of, with_entry, up_to}
 use Rattle.zy_exec.specs.declared.known.Known.{Known}
@@ -20,7 +20,7 @@ use Rattle.zy_exec.specs.declared.known.Done.{Done}
 use Rattle.zy_exec.specs.Replay.{Point, step, along, answers_from, answers_of, state_from}
 use Rattle.zy_exec.specs.Kept.{Kept, items_in, longer, back_to, last_place, reply_in}
 use Rattle.zy_exec.specs.Trail.{passed, base_of, oldest_state, states_from, slots_of, replaced, unwound, unwound_all, done_next, done_from, HasRun, IsBack, IsPopped, IsRecordInRange, IsSlotInRange, IsDoneInRange, IsReplayed}
-use Rattle.zy_exec.proofs.TrailLemmas.{length-passed, length-answers, back_over, length-put, length-unwound, put_and_back, unwound_all-append, knowing_is, length-knowing, known_before, put_in_range, replaced_in_range, unwound_in_range, IsItemInRange, slots_in_range}
+use Rattle.zy_exec.proofs.TrailLemmas.{length-passed, length-answers, back_over, length-put, length-unwound, put_and_back, unwound_all-append, knowing_is, length-knowing, known_before, put_in_range, replaced_in_range, unwound_in_range, all_pop, all_push, items_in_range, slots_in_range}
 
 -- what holds of no entries, and with one entry more, holds of all lists
 pub by_last : (P : List Entry → Type 0) → P [] → ((entries : List Entry) (e : Entry) → P entries → P (entries ++ e ∷ [])) → (entries : List Entry) → P entries
@@ -114,21 +114,8 @@ answers-done R p [] i = refl
 answers-done R p (e ∷ entries) zero = refl
 answers-done R p (e ∷ entries) (suc i) = answers-done R (step R p e) entries i
 
-in_range_push : (done : List Done) (d : Done) → AllByRecursion IsDoneInRange done → IsDoneInRange d → AllByRecursion IsDoneInRange (done ++ d ∷ [])
-in_range_push [] d all one = (one, tt)
-in_range_push (first ∷ done) d all one = (all.0, in_range_push done d all.1 one)
-
-in_range_pop : (done : List Done) (d : Done) → AllByRecursion IsDoneInRange (done ++ d ∷ []) → AllByRecursion IsDoneInRange done × IsDoneInRange d
-in_range_pop [] d all = (tt, all.0)
-in_range_pop (first ∷ done) d all = let rest = in_range_pop done d all.1 in ((all.0, rest.0), rest.1)
-
 pub clients_pop : (entries : List Entry) (e : Entry) → AllByRecursion IsOfClients (entries ++ e ∷ []) → AllByRecursion IsOfClients entries × IsOfClients e
-clients_pop [] e all = (tt, all.0)
-clients_pop (first ∷ entries) e all = let rest = clients_pop entries e all.1 in ((all.0, rest.0), rest.1)
-
-items_in_range : (before items : List Item) → AreNextItems before items → AllByRecursion (λ (i : Item). i.client.0 < 64) items → AllByRecursion IsItemInRange items
-items_in_range before [] next clients = tt
-items_in_range before (i ∷ items) next clients = (record { client = clients.0; stamp = next.0.stamp }, items_in_range (before ++ i ∷ []) items next.1 clients.1)
+clients_pop = all_pop IsOfClients
 
 -- ---- one entry on, one back
 
@@ -159,7 +146,7 @@ replayed_on {S} R base entries state state' trail trail' done done' known known'
       all_clients = ap length run.known_is ∙ length-put known slots ∙ was.all_clients;
       known_in_range = subst (AllByRecursion IsRecordInRange) (sym run.known_is) (put_in_range known slots was.known_in_range slots_range);
       done_in_range = subst (AllByRecursion IsDoneInRange) (sym run.done_is)
-          (in_range_push done (record { answers = answers_from R state e.items; slots = replaced known slots }) was.done_in_range (fits, replaced_in_range known slots was.known_in_range slots_range));
+          (all_push IsDoneInRange done (record { answers = answers_from R state e.items; slots = replaced known slots }) was.done_in_range (fits, replaced_in_range known slots was.known_in_range slots_range));
     }
 
 -- going back over the last entry, with what stood before it
@@ -184,7 +171,7 @@ replayed_back {S} R base entries e count state state' trail trail' done done' kn
     let count_is : count ≡ length e.items = pop.count_is ∙ ap (λ (d : Done). length d.answers) dones.1 ∙ length-answers R here.state e.items in
     let before = before_last R base entries e state trail done known was in
     let states = back_over R (states_from R base entries) here.state e.items count trail trail' state state' before.trail_was before.state_was count_is back in
-    let ranges = in_range_pop done' pop.popped (subst (AllByRecursion IsDoneInRange) pop.done_was was.done_in_range) in
+    let ranges = all_pop IsDoneInRange done' pop.popped (subst (AllByRecursion IsDoneInRange) pop.done_was was.done_in_range) in
     record {
       state_is = states.1;
       trail_is = states.0;

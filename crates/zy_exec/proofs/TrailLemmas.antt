@@ -1,16 +1,18 @@
 -- Going on and back over items, and clients' slots that are put in place and back.
-use Rattle.std.proofs.Common.{◌≡◌, ℕ, zero, suc, ◌+◌, ◌^◌, ◌<◌, ◌≤◌, List, [], ◌∷◌, ◌++◌, length, take, map, fold, get_or, set, Option, Some, None, refl, sym, ap, ◌∙◌, subst, arith, append_assoc}
+use Rattle.std.proofs.Common.{◌≡◌, ℕ, zero, suc, ◌+◌, ◌^◌, ◌<◌, ◌≤◌, List, [], ◌∷◌, ◌++◌, length, take, drop, map, fold, get_or, set, Option, Some, None, refl, sym, ap, ◌∙◌, subst, arith, append_assoc, add-one, drop-cons}
 use Rattle.std.specs.List.{AllByRecursion}
-use Rattle.std.proofs.lemmas.List.{append_cancel_left, length-append, length-set, set-set, set-get_or}
-use Rattle.std.proofs.Math.Seq.{take-append_seam}
+use Rattle.std.proofs.lemmas.List.{append_cancel_left, length-append, length-set, length-take-le, set-set, set-get_or, take_more}
+use Rattle.std.proofs.lemmas.List.Elements.{All-from_recursion}
+use Rattle.std.proofs.lemmas.List.Sums.{fold-append}
+use Rattle.std.proofs.Math.Seq.{get_or-append_seam, set-append_seam, take-append_seam}
 use Rattle.zy_base.specs.Machine.{Rules}
 use Rattle.zy_base.specs.declared.ids.Digest.{Digest}
 use Rattle.zy_base.specs.declared.ids.Place.{Place}
 use Rattle.zy_chain.specs.declared.answers.Answered.{Answered}
 use Rattle.zy_chain.specs.declared.entry.Entry.{Entry}
 use Rattle.zy_chain.specs.declared.item.Item.{Item}
-use Rattle.zy_chain.specs.Answers.{Answers, FitsAnswers}
-use Rattle.zy_chain.specs.Entries.{digest_of_entry}
+use Rattle.zy_chain.specs.Answers.{Answers, FitsAnswers, IsAnsweredInRange}
+use Rattle.zy_chain.specs.Entries.{digest_of_entry, AreNextItems, IsEntryInRange}
 use Rattle.zy_chain.specs.Heads.{head_after}
 use Rattle.zy_exec.specs.declared.known.Known.{Known}
 use Rattle.zy_exec.specs.declared.known.Slot.{Slot}
@@ -51,6 +53,27 @@ same_fronts {A} xs ys zs ws many same =
     let len : length xs ≡ length ys = omega (arith, ap length same, length-append xs zs, length-append ys ws) in
     let front : xs ≡ ys = sym (take-append_seam xs zs) ∙ ap (take (length xs)) same ∙ ap (λ (n : ℕ). take n (ys ++ ws)) len ∙ take-append_seam ys ws in
     (front, append_cancel_left ys zs ws (ap (λ (f : List A). f ++ zs) (sym front) ∙ same))
+
+-- one item more
+pub state-more : {S : Type 0} (R : Rules S) (state : S) (xs : List Item) (i : Item) → state_from R state (xs ++ i ∷ []) ≡ R.next (state_from R state xs) i.client i.op
+state-more {S} R state xs i = fold-append (λ (s : S) (x : Item). R.next s x.client x.op) state xs (i ∷ [])
+
+-- one item back
+pub back_none : {S : Type 0} (trail : List S) (state : S) → IsBack 0 trail state trail state
+back_none trail state = record { later = []; many = refl; path = refl }
+
+pub back_more : {S : Type 0} (count : ℕ) (trail trail' trail'' : List S) (state state' state'' : S) → IsBack count trail state trail' state' → trail' ≡ trail'' ++ state'' ∷ []
+    → IsBack (count + 1) trail state trail'' state''
+back_more {S} count trail trail' trail'' state state' state'' back more =
+    record {
+      later = state' ∷ back.later;
+      many = omega (arith, back.many);
+      path = back.path ∙ ap (λ (t : List S). t ++ state' ∷ back.later) more ∙ append_assoc trail'' (state'' ∷ []) (state' ∷ back.later);
+    }
+
+pub back_left : {S : Type 0} (count : ℕ) (trail trail' : List S) (state state' : S) → IsBack count trail state trail' state' → length trail ≡ length trail' + count
+back_left count trail trail' state state' back =
+    omega (arith, ap length back.path, length-append trail (state ∷ []), length-append trail' (state' ∷ back.later), back.many)
 
 -- going back over items leads to where they began
 pub back_over : {S : Type 0} (R : Rules S) (earlier : List S) (first : S) (items : List Item) (count : ℕ) (trail trail' : List S) (state state' : S)
@@ -95,6 +118,27 @@ pub length-unwound : (known : List (Option Known)) (slots : List Slot) → lengt
 length-unwound known [] = refl
 length-unwound known (s ∷ slots) = length-set (unwound slots known) s.client.0 s.known ∙ length-unwound known slots
 
+-- one slot more is put in place, and what stood there is taken out
+pub exchange_more : (known : List (Option Known)) (all slots : List Slot) (i : ℕ) (d : Slot) → i < length all → slots ≡ replaced known (take i all) ++ drop i all
+    → (get_or slots i d ≡ get_or all i d)
+    × (put_slots known (take (i + 1) all) ≡ set (put_slots known (take i all)) (get_or all i d).client.0 (get_or all i d).known)
+    × (set slots i (slot_in (put_slots known (take i all)) (get_or all i d)) ≡ replaced known (take (i + 1) all) ++ drop (i + 1) all)
+exchange_more known all slots i d within slots_are =
+    let s = get_or all i d in
+    let front = take i all in
+    let rest = drop (i + 1) all in
+    let before = replaced known front in
+    let new = slot_in (put_slots known front) s in
+    let here : drop i all ≡ s ∷ rest = rw add-one (drop-cons all i d within) in
+    let more : take (i + 1) all ≡ front ++ s ∷ [] = take_more all i d within in
+    let many : length before ≡ i = length-replaced known front ∙ length-take-le i all (omega arith) in
+    let now : slots ≡ before ++ s ∷ rest = slots_are ∙ ap (λ (r : List Slot). before ++ r) here in (
+      ap (λ (n : ℕ). get_or slots n d) (sym many) ∙ ap (λ (xs : List Slot). get_or xs (length before) d) now ∙ get_or-append_seam before s rest d,
+      ap (put_slots known) more ∙ put-append known front s,
+      ap (λ (n : ℕ). set slots n new) (sym many) ∙ ap (λ (xs : List Slot). set xs (length before) new) now ∙ set-append_seam before s rest new
+      ∙ sym (append_assoc before (new ∷ []) rest) ∙ ap (λ (xs : List Slot). xs ++ rest) (sym (ap (replaced known) more ∙ replaced-append known front s)),
+    )
+
 -- what was replaced leads back
 pub put_and_back : (known : List (Option Known)) (slots : List Slot) → unwound (replaced known slots) (put_slots known slots) ≡ known
 put_and_back known [] = refl
@@ -132,6 +176,19 @@ known_before R p e =
 
 -- ---- ranges
 
+pub all_pop : {A : Type 0} (P : A → Type 0) (xs : List A) (x : A) → AllByRecursion P (xs ++ x ∷ []) → AllByRecursion P xs × P x
+all_pop P [] x all = (tt, all.0)
+all_pop P (first ∷ xs) x all = let rest = all_pop P xs x all.1 in ((all.0, rest.0), rest.1)
+
+pub all_push : {A : Type 0} (P : A → Type 0) (xs : List A) (x : A) → AllByRecursion P xs → P x → AllByRecursion P (xs ++ x ∷ [])
+all_push P [] x all one = (one, tt)
+all_push P (first ∷ xs) x all one = (all.0, all_push P xs x all.1 one)
+
+pub all_at : {A : Type 0} (P : A → Type 0) (xs : List A) (i : ℕ) (d : A) → i < length xs → AllByRecursion P xs → P (get_or xs i d)
+all_at P [] i d within all = absurd (omega arith)
+all_at P (x ∷ xs) zero d within all = all.0
+all_at P (x ∷ xs) (suc i) d within all = all_at P xs i d (omega arith) all.1
+
 pub record_set : (known : List (Option Known)) (client : ℕ) (k : Option Known) → AllByRecursion IsRecordInRange known → IsRecordInRange k → AllByRecursion IsRecordInRange (set known client k)
 record_set [] client k all one = tt
 record_set (x ∷ known) zero k all one = (one, all.1)
@@ -166,3 +223,23 @@ pub slots_in_range : {S : Type 0} (R : Rules S) (place : Place) (head : Digest) 
 slots_in_range R place head all state [] least most fits each = tt
 slots_in_range R place head all state (i ∷ items) least most fits each =
     ((each.0.client, record { stamp = each.0.stamp; place_least = least; place_most = most; answers = fits }), slots_in_range R place head all (R.next state i.client i.op) items least most fits each.1)
+
+pub items_in_range : (before items : List Item) → AreNextItems before items → AllByRecursion (λ (i : Item). i.client.0 < 64) items → AllByRecursion IsItemInRange items
+items_in_range before [] next clients = tt
+items_in_range before (i ∷ items) next clients = (record { client = clients.0; stamp = next.0.stamp }, items_in_range (before ++ i ∷ []) items next.1 clients.1)
+
+answered_in_range : {S : Type 0} (R : Rules S) (before items : List Item) (state : S) → AreNextItems before items → AllByRecursion (λ (a : Answered). length a.reply ≤ 1100) (answers_from R state items)
+    → AllByRecursion IsAnsweredInRange (answers_from R state items)
+answered_in_range R before [] state next short = tt
+answered_in_range R before (i ∷ items) state next short =
+    (record { client = next.0.client; stamp = next.0.stamp; reply = short.0 }, answered_in_range R (before ++ i ∷ []) items (R.next state i.client i.op) next.1 short.1)
+
+-- short replies to an entry in range are answers in range
+pub answers_fit : {S : Type 0} (R : Rules S) (e : Entry) (state : S) → IsEntryInRange e → AllByRecursion (λ (a : Answered). length a.reply ≤ 1100) (answers_from R state e.items) → FitsAnswers (answers_from R state e.items)
+answers_fit R e state range short =
+    let many = length-answers R state e.items in
+    record {
+      least = omega (arith, many, range.least);
+      most = omega (arith, many, range.most);
+      each = All-from_recursion IsAnsweredInRange (answers_from R state e.items) (answered_in_range R [] e.items state range.each short);
+    }
