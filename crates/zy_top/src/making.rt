@@ -63,7 +63,7 @@ pub(crate) fn run_make<R: Threads + Sync, S: Sink>(
 }
 
 /// What the run of these lines came to, of which so many are asks, and the agreed list.
-fn run_made<R: Threads + Sync, M: Machine + Send>(
+pub(crate) fn run_made<R: Threads + Sync, M: Machine + Send>(
     rt: &R,
     alloc: Global,
     setup: Setup,

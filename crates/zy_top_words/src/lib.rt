@@ -2,6 +2,7 @@
 #![tactic(auto)]
 
 mod asks;
+mod calm;
 mod command_line;
 mod exit;
 mod fault_text;
@@ -11,6 +12,7 @@ mod words;
 mod writing;
 
 pub use asks::Asks;
+pub use calm::CalmNumbers;
 pub use command_line::line_words;
 pub use exit::{Broken, Exit};
 pub use fault_text::{FaultText, ending};
