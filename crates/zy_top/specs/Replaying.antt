@@ -144,6 +144,10 @@ OfMake Holds number asks = Holds (made_setup number) (made_lines number asks)
 abbrev pub OfCalm : (Setup → List Line → Type 0) → ℕ → ℕ → ℕ → Type 0
 OfCalm Holds f silent asks = Holds (calm_setup f) (calm_schedule f silent asks)
 
+-- of both, whatever the numbers are
+abbrev pub OfMade : (Setup → List Line → Type 0) → Type 0
+OfMade Holds = ((number asks : ℕ) → OfMake Holds number asks) × ((f silent asks : ℕ) → OfCalm Holds f silent asks)
+
 -- and of the run of a command, if it makes one; of that of a replay over files that are told
 abbrev pub OfCommand : (Setup → List Line → Type 0) → Option Held → Result Command ℕ → Type 0
 OfCommand Holds told (Ok (Command.Replay group schedule)) = IfSome told (λ files. OfReplay Holds (content_of files group) (content_of files schedule))

@@ -1,29 +1,28 @@
 // Calm schedules: replays of them, and the command `calm`.
-ghost use Rattle.std.specs.Prelude.{◌≡◌, ◌≤◌, ℕ, List, replicate};
+ghost use Rattle.std.specs.Prelude.{◌≡◌, ◌≤◌, ℕ, List, All, IfOk, length};
 ghost use Rattle.zy_edge.specs.Faults.{IsCounted};
+ghost use Rattle.zy_schedule.specs.Texts.{IsSaid};
 ghost use Rattle.zy_world_setup.specs.Starting.{IsStart};
 ghost use Rattle.zy_top_words.specs.Calls.{exit_of};
-ghost use Rattle.zy_top_words.specs.Ends.{IsAnswer, IsWritten, is_write_fault};
+ghost use Rattle.zy_top_words.specs.Ends.{IsAnswer, IsWritten, is_write_fault, limit};
 ghost use Rattle.zy_top.specs.Calm.{IsServedCalm, IsServedReplay};
 ghost use Rattle.zy_top.specs.Group as groups;
-ghost use Rattle.zy_top.specs.Replaying.{IsBackedRun, IsBlamelessRun, IsRunning, IsSafeRun, OfCalm};
-ghost use Rattle.zy_top.specs.Truthful.{IsUnforgedRun};
+ghost use Rattle.zy_top.specs.Replaying.{IsRunning};
 ghost use Rattle.zy_top.specs.Verdict.{calm_verdict};
 
 use crate::making::run_made;
 use std::alloc::Global;
 use std::thread::Threads;
+use zy_base::Want;
 use zy_calm::{calm_runs, wide_schedules};
 use zy_edge::Sink;
 use zy_group::wide_counts;
 use zy_lms::Height;
 use zy_ots::OtsType;
+use zy_schedule::Line;
 use zy_space::Space;
 use zy_top_words::{CalmNumbers, Exit, write_all};
 use zy_wide::calm;
-use zy_world_law::{
-    no_correct_replica_is_blamed, no_run_is_forged, runs_are_safe, what_is_kept_is_backed,
-};
 use zy_world_setup::Setup;
 
 /// Every request of a calm replay is served, and of a calm schedule in the wide profile, unless two texts share a digest.
@@ -33,20 +32,6 @@ pub(crate) fn calm_schedules_are_served()
 {
     calm_runs::<Space>();
     wide_schedules();
-}
-
-/// Every world of a calm schedule in the wide profile is safe, the agreed list only grows, no correct replica is blamed, what is kept is
-/// backed, and no signature is forged.
-pub(crate) fn calm_schedules_are_safe()
-    ensures safe { (f silent asks : ℕ) → OfCalm IsSafeRun f silent asks }
-    ensures blameless { (f silent asks : ℕ) → OfCalm IsBlamelessRun f silent asks }
-    ensures backed { (f silent asks : ℕ) → OfCalm IsBackedRun f silent asks }
-    ensures unforged { (f silent asks : ℕ) → OfCalm IsUnforgedRun f silent asks }
-{
-    runs_are_safe::<Space>();
-    no_correct_replica_is_blamed::<Space>();
-    what_is_kept_is_backed::<Space>();
-    no_run_is_forged::<Space>();
 }
 
 /// Runs the calm schedule of these numbers in the wide profile, and writes what it came to and the agreed list.
@@ -61,13 +46,23 @@ pub(crate) fn run_calm<R: Threads + Sync, S: Sink>(
     ensures exit { IsRunning result }
     ensures count { IsCounted (is_write_fault (exit_of result)) (S.faults out.old) (S.faults out.new) }
 {
-    let CalmNumbers { f, silent, asks } = numbers;
-    let lines = calm(alloc, &wide_counts(f), u64::from(silent), asks)?;
-    let text = run_made::<R, Space>(rt, alloc, calm_setup(alloc, f), lines, asks)?;
+    let lines = calm_schedule(alloc, numbers)?;
+    let setup = calm_setup(alloc, numbers.f);
+    let text = run_made::<R, Space>(rt, alloc, setup, lines, numbers.asks)?;
     write_all(out, &text)
 }
 
-/// What the world of a calm schedule begins with.
+/// Its lines.
+fn calm_schedule(alloc: Global, numbers: CalmNumbers) -> Result<Vec<Line>, Want>
+    ensures lines { IfOk result (λ lines. lines.items ≡ groups.calm_schedule numbers.f numbers.silent numbers.asks) }
+    ensures said { IfOk result (λ lines. All IsSaid lines.items) }
+    ensures few { IfOk result (λ lines. length lines.items ≤ limit) }
+{
+    let counts = wide_counts(numbers.f);
+    calm(alloc, &counts, u64::from(numbers.silent), numbers.asks)
+}
+
+/// What its world begins with.
 fn calm_setup(alloc: Global, f: u8) -> Setup
     requires some { 1 ≤ f }
     requires few { f ≤ 2 }

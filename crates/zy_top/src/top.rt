@@ -12,7 +12,7 @@ ghost use Rattle.zy_top.specs.Replaying.{IsBackedCommand, IsBlamelessCommand, Is
 ghost use Rattle.zy_top.specs.Truthful.{IsTruthful};
 ghost use Rattle.zy_top_words.specs.Words.{command_of, texts};
 
-use crate::calm::{calm_schedules_are_safe, calm_schedules_are_served, run_calm};
+use crate::calm::{calm_schedules_are_served, run_calm};
 use crate::keys::key_file;
 use crate::making::{made_runs_are_safe, run_make};
 use crate::replays::{replays_are_safe, run_replay};
@@ -143,7 +143,6 @@ pub fn zyzzyva<R: Threads + Sync, F: Files, S: Sink, L: Link, C: Clock, D: Disk>
 {
     replays_are_safe();
     made_runs_are_safe();
-    calm_schedules_are_safe();
     calm_schedules_are_served();
     match command_of(words) {
         Ok(Command::Space(script)) => match run_space(alloc, script, files, out) {
