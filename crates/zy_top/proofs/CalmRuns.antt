@@ -92,7 +92,7 @@ module _ {S : Type 0} (R : Rules S) (c : Counts) (live : ℕ) (some : 1 ≤ c.fa
   -- of one after another
   of_all : (measure : List Note → ℕ) (m : ℕ) → measure [] ≡ 0 → ((a b : List Note) → measure (a ++ b) ≡ measure a + measure b) → ((before : List Entry) (e : Entry) → measure (notes_of R c Fast live before e) ≡ m)
       → (before : List Entry) (asks : List CalmAsk) → measure (notes_after R c Fast live before asks) ≡ length asks * m
-  of_all measure m none joined one before [] = none
+  of_all measure m none joined one before [] = omega (arith, none)
   of_all measure m none joined one before (a ∷ asks) =
       let e = entry_after before a in
       let first = one before e in

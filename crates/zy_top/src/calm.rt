@@ -47,8 +47,13 @@ pub(crate) fn run_calm<R: Threads + Sync, S: Sink>(
     ensures count { IsCounted (is_write_fault (exit_of result)) (S.faults out.old) (S.faults out.new) }
 {
     let lines = calm_schedule(alloc, numbers)?;
-    let setup = calm_setup(alloc, numbers.f);
-    let text = run_made::<R, Space>(rt, alloc, setup, lines, numbers.asks)?;
+    let text = run_made::<R, Space>(
+        rt,
+        alloc,
+        calm_setup(alloc, numbers.f),
+        lines,
+        numbers.asks,
+    )?;
     write_all(out, &text)
 }
 
@@ -58,8 +63,12 @@ fn calm_schedule(alloc: Global, numbers: CalmNumbers) -> Result<Vec<Line>, Want>
     ensures said { IfOk result (λ lines. All IsSaid lines.items) }
     ensures few { IfOk result (λ lines. length lines.items ≤ limit) }
 {
-    let counts = wide_counts(numbers.f);
-    calm(alloc, &counts, u64::from(numbers.silent), numbers.asks)
+    calm(
+        alloc,
+        &wide_counts(numbers.f),
+        u64::from(numbers.silent),
+        numbers.asks,
+    )
 }
 
 /// What its world begins with.
