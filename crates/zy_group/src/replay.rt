@@ -4,9 +4,7 @@ ghost use Rattle.toml.specs.View.{table_view};
 ghost use Rattle.zy_group.specs.Replay.{replay_group, text_group};
 ghost use Rattle.zy_group.specs.Reading.{IsRead, IsNoText};
 
-use crate::fields::{
-    counts_at, height_at, number_at, numbers_at, ots_at, profile_at, seed_at,
-};
+use crate::fields::{counts_at, height_at, number_at, numbers_at, ots_at, profile_at, seed_at};
 use crate::text::table_of;
 use crate::{GroupFault, Numbers};
 use std::alloc::Global;

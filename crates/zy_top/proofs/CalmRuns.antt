@@ -202,8 +202,12 @@ module _ (f silent asks : ℕ) (is : IsWideSilent f silent) (within : silent ≤
   summed : (r : Run (List (List Field))) → ((w : World (List (List Field))) × ((r.notes ≡ told) × (r.end ≡ At w))) ⊎ ((d : Digest) × (r.end ≡ Stopped (Clash d)))
       → IsSummedCalmly r (calm_summary f silent asks) (sum_verdict asks r)
   summed r (inl served) =
-      inl (served.0, served.1.1, ap (λ (end : End (List (List Field))). summed_up asks r.notes end) served.1.1
-      ∙ ap (λ (line : List ℕ). Verdict.Report (line ++ agreed_of served.0)) (ap (summary_of asks) served.1.0 ∙ summary))
+      inl (
+        served.0,
+        served.1.1,
+        ap (λ (end : End (List (List Field))). summed_up asks r.notes end) served.1.1
+            ∙ ap (λ (line : List ℕ). Verdict.Report (line ++ agreed_of served.0)) (ap (summary_of asks) served.1.0 ∙ summary),
+      )
   summed r (inr clash) = inr (ap (λ (end : End (List (List Field))). summed_up asks r.notes end) clash.1)
 
   runs_summed : RunsCalmly space_rules (calm_setup f) Fast (silent_ones f silent) (jobs (wide_counts f).n asks)

@@ -47,13 +47,7 @@ pub(crate) fn run_calm<R: Threads + Sync, S: Sink>(
     ensures count { IsCounted (is_write_fault (exit_of result)) (S.faults out.old) (S.faults out.new) }
 {
     let lines = calm_schedule(alloc, numbers)?;
-    let text = run_made::<R, Space>(
-        rt,
-        alloc,
-        calm_setup(alloc, numbers.f),
-        lines,
-        numbers.asks,
-    )?;
+    let text = run_made::<R, Space>(rt, alloc, calm_setup(alloc, numbers.f), lines, numbers.asks)?;
     write_all(out, &text)
 }
 

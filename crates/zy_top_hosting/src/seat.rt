@@ -72,14 +72,7 @@ fn replica_of(
         port: _,
     } = members;
     let sealer = Sealer::new(alloc, Party::Replica(id), key);
-    Replica::start(
-        alloc,
-        counts,
-        id,
-        u64::from(k),
-        sealer,
-        keys.with_store(),
-    )
+    Replica::start(alloc, counts, id, u64::from(k), sealer, keys.with_store())
 }
 
 /// The client of the group that the secret is of.

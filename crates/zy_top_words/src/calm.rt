@@ -1,5 +1,5 @@
 // The words behind `calm`.
-ghost use Rattle.std.specs.Prelude.{◌≡◌, ◌+◌, ◌≤◌, IfSome, Ok, option_map};
+ghost use Rattle.std.specs.Prelude.{◌≡◌, ◌+◌, ◌≤◌, IfSome};
 ghost use Rattle.zy_tuple.specs.Parties.{number_below};
 ghost use Rattle.zy_top_words.specs.Calls.{IsCommand};
 ghost use Rattle.zy_top_words.specs.Words.{behind_liars, behind_silent, calm_asks_of, calm_words, liars_of, texts};
