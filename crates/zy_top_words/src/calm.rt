@@ -4,23 +4,8 @@ ghost use Rattle.zy_tuple.specs.Parties.{number_below};
 ghost use Rattle.zy_top_words.specs.Calls.{IsCommand};
 ghost use Rattle.zy_top_words.specs.Words.{behind_liars, behind_silent, calm_asks_of, calm_words, liars_of, texts};
 
+use crate::asks::CalmNumbers;
 use crate::words::{Command, number_read};
-
-/// The numbers of a calm schedule in the wide profile.
-#[derive(Clone, Copy)]
-pub struct CalmNumbers {
-    /// How many replicas may lie, 1 or 2.
-    pub f: u8,
-    /// How many of them are silent.
-    pub silent: u8,
-    /// From 1 to 31.
-    pub asks: u32,
-    ghost some: { 1 ≤ f },
-    ghost few: { f ≤ 2 },
-    ghost few_silent: { silent ≤ f },
-    ghost some_asks: { 1 ≤ asks },
-    ghost few_asks: { asks ≤ 31 },
-}
 
 /// Behind `calm` stand how many replicas may lie, how many of them are silent, and how many asks.
 pub(crate) fn calm_words(words: &[String]) -> Result<Command<'_>, u64>

@@ -11,8 +11,7 @@ mod reading;
 mod words;
 mod writing;
 
-pub use asks::Asks;
-pub use calm::CalmNumbers;
+pub use asks::{Asks, CalmNumbers};
 pub use command_line::line_words;
 pub use exit::{Broken, Exit};
 pub use fault_text::{FaultText, ending};

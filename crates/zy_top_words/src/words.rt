@@ -4,8 +4,8 @@ ghost use Rattle.zy_tuple.specs.Parties.{number_below};
 ghost use Rattle.zy_top_words.specs.Calls.{IsCommand};
 ghost use Rattle.zy_top_words.specs.Words.{asks_of, behind_group, behind_seed, command_of, height_read, keys_words, make_words, replay_words, space_words, texts};
 
-use crate::asks::Asks;
-use crate::calm::{CalmNumbers, calm_words};
+use crate::asks::{Asks, CalmNumbers};
+use crate::calm::calm_words;
 use crate::hosted::{ask_words, node_words, serve_words};
 use hex::FromHex;
 use zy_base::{ClientId, Party, ReplicaId};
