@@ -1,6 +1,6 @@
 -- What is known of a group that was read: its world can begin.
-use Rattle.std.proofs.Common.{◌≡◌, ℕ, ℤ, zero, suc, pos, negsuc, ◌+◌, ◌-◌, ◌*◌, ◌<◌, ◌≤◌, Bool, true, false, ◌||◌, cond, inl, inr, nat_eq, List, [], ◌∷◌, ◌++◌, length, Result, Ok, Err, Option, Some, None, option_and_then, option_map, refl, sym, ap, ◌∙◌, subst, lit≤, arith}
-use Rattle.std.specs.Prelude.{nat_le, codes, if◌then◌else◌, ◌==◌}
+use Rattle.std.proofs.Common.{◌≡◌, ℕ, ℤ, zero, suc, pos, negsuc, ◌+◌, ◌-◌, ◌*◌, ◌<◌, ◌≤◌, Bool, true, false, ◌||◌, cond, inl, inr, nat_eq, List, [], ◌∷◌, ◌++◌, length, Result, Ok, Err, Option, Some, None, option_and_then, refl, sym, ap, ◌∙◌, subst, arith}
+use Rattle.std.specs.Prelude.{nat_le, codes}
 use Rattle.std.specs.Result.{result_unwrap_or}
 use Rattle.std.specs.List.{AllByRecursion, IsDistinct, list_any}
 use Rattle.hex.specs.Hex.{decode_sized}
@@ -9,7 +9,6 @@ use Rattle.hex.proofs.HexLemmas.{decode_of-ok, decode_sized-ok, decode_sized-twi
 use Rattle.std.proofs.lemmas.Bool.{cases_Bool, and_parts, leb-true, true≢false}
 use Rattle.std.proofs.lemmas.Option.{cond_some, same_Some}
 use Rattle.toml.specs.Data.{Data, Members, Items, no_items, item, as_integer, as_array, get_member}
-use Rattle.zy_base.specs.declared.counts.Counts.{Counts}
 use Rattle.zy_group.specs.Fields.{within, number_of, number_at, different_from, at_most, listed, numbers_at, decoded, text_at, bytes_at, height_at, ots_at, profile_at, counts_at}
 use Rattle.zy_group.specs.Reading.{field, IsRead}
 use Rattle.zy_group.specs.Replay.{replay_group}
@@ -20,9 +19,7 @@ use Rattle.zy_world_setup.specs.Starting.{IsStart}
 use Rattle.zy_world_law.specs.Setup.{IsSetup, Setup}
 use Rattle.zy_top_words.specs.Calls.{exit_of_group_fault}
 use Rattle.zy_top.specs.Replaying.{IsSetupRead}
-use Rattle.zy_group.specs.Counts.{counts_for, counts_of, most_liars, plain_counts, sound_for, wide_counts, wide_for, wide_sound}
-use Rattle.zy_group.specs.declared.profile.Profile.{Profile}
-use Rattle.zy_group.specs.declared.profile.Profile.TheVariants.{Plain, Wide}
+use Rattle.zy_group.proofs.FewReplicas.{AreFew, counts_at_few}
 use Rattle.zy_group.specs.Reading.{toml_of}
 use Rattle.zy_top.specs.Group.{group_of, setup_of}
 
@@ -116,45 +113,10 @@ bytes_len count key table bytes is =
     let text = then_some (λ text. decoded (decode_sized text count)) (text_at key table) bytes is in
     sized_len text.0 bytes count (decoded_ok (decode_sized text.0 count) bytes text.1.1)
 
--- ---- counts
-
--- whichever they are
-abbrev AreFew : Counts → Type 0
-AreFew counts = (1 ≤ counts.n) × (counts.n ≤ 13)
-
-plain_few : (f : ℕ) → AreFew (plain_counts f)
-plain_few f = by (f == 1) (f == 2) (f == 3)
-  where
-    by : (a b c : Bool) → AreFew (if a then counts_for 1 (sound_for 1 (lit≤ tt)) else (if b then counts_for 2 (sound_for 2 (lit≤ tt)) else (if c then counts_for 3 (sound_for 3 (lit≤ tt)) else counts_for 4 (sound_for 4 (lit≤ tt)))))
-    by true b c = (lit≤ tt, lit≤ tt)
-    by false true c = (lit≤ tt, lit≤ tt)
-    by false false true = (lit≤ tt, lit≤ tt)
-    by false false false = (lit≤ tt, lit≤ tt)
-
-pub wide_few : (f : ℕ) → AreFew (wide_counts f)
-wide_few f = by (f == 1)
-  where
-    by : (one : Bool) → AreFew (if one then wide_for 1 (wide_sound 1 (lit≤ tt)) else wide_for 2 (wide_sound 2 (lit≤ tt)))
-    by true = (lit≤ tt, lit≤ tt)
-    by false = (lit≤ tt, lit≤ tt)
-
-profile_few : (profile : Profile) (f : ℕ) → AreFew (counts_of profile f)
-profile_few Plain f = plain_few f
-profile_few Wide f = wide_few f
-
-mapped_some : {A B : Type 0} (g : A → B) (o : Option A) (b : B) → option_map g o ≡ Some b → (x : A) × (g x ≡ b)
-mapped_some g None b is = absurd cc
-mapped_some g (Some x) b is = (x, same_Some (g x) b is)
-
-counts_at_few : (profile : Profile) (table : Members) (counts : Counts) → counts_at profile table ≡ Some counts → AreFew counts
-counts_at_few profile table counts is =
-    let f = mapped_some (counts_of profile) (number_at 1 (most_liars profile) (codes "f") table) counts is in
-    subst AreFew f.1 (profile_few profile f.0)
-
 -- ---- groups
 
 record IsGroup (g : ReplayGroup) : Type 0 where
-  replicas : (1 ≤ g.counts.n) × (g.counts.n ≤ 13)
+  replicas : AreFew g.counts
   k : (4 ≤ g.k) × (g.k ≤ 32)
   clients : (1 ≤ g.clients) × (g.clients ≤ 64)
   liars : AreListed (g.counts.n - 1) g.counts.f g.liars

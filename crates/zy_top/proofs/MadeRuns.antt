@@ -29,7 +29,8 @@ use Rattle.zy_top_words.specs.declared.exit.Broken.{Broken}
 use Rattle.zy_top_words.specs.declared.exit.Exit.{Exit}
 use Rattle.zy_top_words.specs.declared.exit.Exit.TheVariants as exits
 use Rattle.zy_top.specs.declared.tale.Tale.{Tale}
-use Rattle.zy_top.proofs.GroupLaws.{start_sets_up, wide_few}
+use Rattle.zy_group.proofs.FewReplicas.{wide_few}
+use Rattle.zy_top.proofs.GroupLaws.{start_sets_up}
 use Rattle.zy_top_words.proofs.Endings.{rose}
 use Rattle.zy_top_words.proofs.Stops.{IsWritten-none}
 
