@@ -9,9 +9,9 @@ calm-requires-clause-few_silent c =
     let liars : (wide_counts numbers.f).f ≡ numbers.f = wide_liars numbers.f numbers.some numbers.few in rw c.wide_counts.ensures (omega (arith, liars, numbers.few_silent))
 
 pub returns-clause-lines : goal.returns-clause-lines
-returns-clause-lines c = rw c.wide_counts.ensures at c.calm.ensures.lines
+returns-clause-lines c = rw (c.wide_counts.ensures, c.from.ensures) at c.calm.ensures.lines
 
 pub returns-clause-few : goal.returns-clause-few
 returns-clause-few c =
     let numbers = c.args.numbers in
-    few_made (wide_counts numbers.f).n numbers.silent numbers.asks c.calm.result (omega (arith, numbers.few, numbers.few_silent)) numbers.few_asks (rw c.wide_counts.ensures at c.calm.ensures.lines)
+    few_made (wide_counts numbers.f).n numbers.silent numbers.asks c.calm.result (omega (arith, numbers.few, numbers.few_silent)) numbers.few_asks (rw (c.wide_counts.ensures, c.from.ensures) at c.calm.ensures.lines)
