@@ -14,6 +14,7 @@ use zy_base::{Bytes, ClientId, Counts, Digest, Place, ReplicaId, Stamp, View};
 use zy_chain::{Entry, Spine};
 use zy_choose::{Choice, Report, ReportRule, choose, well_formed};
 use zy_rows::{Hex, lacking, not_a_line};
+use zy_wide::wide;
 
 const INTERVAL: u64 = 4;
 
@@ -26,18 +27,16 @@ pub(crate) struct Reports {
 
 impl Reports {
     pub(crate) fn new(alloc: Global) -> io::Result<Reports> {
-        Reports::of(alloc, 1)
-    }
-
-    fn of(alloc: Global, f: u64) -> io::Result<Reports> {
+        let counts = Counts::plain(1).ok_or_else(not_a_line)?;
         Ok(Reports {
-            counts: Counts::plain(f).ok_or_else(not_a_line)?,
+            counts,
             reports: Vec::new(alloc),
         })
     }
 
-    fn begin(&mut self, alloc: Global, f: u64) -> io::Result<String> {
-        *self = Reports::of(alloc, f)?;
+    fn begin(&mut self, alloc: Global, row: &Row) -> io::Result<String> {
+        self.counts = counts(row)?;
+        self.reports = Vec::new(alloc);
         ok_text(alloc)
     }
 
@@ -63,12 +62,23 @@ impl Reports {
 impl Scene for Reports {
     fn step(&mut self, alloc: Global, row: &Row) -> io::Result<String> {
         match row.call()? {
-            "begin" => self.begin(alloc, row.number("f")?),
+            "begin" => self.begin(alloc, row),
             "report" => self.report(alloc, row),
             "choose" => self.choice(alloc),
             _ => Err(not_a_line()),
         }
     }
+}
+
+/// The numbers of a group with `f` liars, in the `profile` of the row.
+fn counts(row: &Row) -> io::Result<Counts> {
+    let f = row.number("f")?;
+    let counts = if row.has("profile") {
+        wide(f)
+    } else {
+        Counts::plain(f)
+    };
+    counts.ok_or_else(not_a_line)
 }
 
 fn report(alloc: Global, row: &Row) -> io::Result<Report> {

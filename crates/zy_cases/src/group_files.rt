@@ -19,7 +19,8 @@ type Field = (&'static str, &'static str, &'static str);
 const ZEROS: &str = "\"0000000000000000000000000000000000000000000000000000000000000000\"";
 
 /// The fields of a replay's group file, in the order in which they are judged.
-const REPLAY: [Field; 8] = [
+const REPLAY: [Field; 9] = [
+    ("profile", "profile", ""),
     ("f", "f", "1"),
     ("k", "k", "8"),
     ("clients", "clients", "2"),
@@ -31,7 +32,8 @@ const REPLAY: [Field; 8] = [
 ];
 
 /// The fields of a group of four replicas and two clients, but its keys.
-const MEMBERS: [Field; 4] = [
+const MEMBERS: [Field; 5] = [
+    ("profile", "profile", ""),
     ("f", "f", "1"),
     ("k", "k", "8"),
     ("clients", "clients", "2"),
@@ -179,8 +181,9 @@ fn put_key(line: &mut String, types: &str, number: u8) -> io::Result<()> {
 
 fn replay_text(alloc: Global, group: &ReplayGroup) -> io::Result<String> {
     Ok(format!(in alloc;
-        "f {} k {} clients {} liars {:?} lying-clients {:?} seed {} height {:?} ots {:?}",
-        group.f,
+        "n {} f {} k {} clients {} liars {:?} lying-clients {:?} seed {} height {:?} ots {:?}",
+        group.counts.n,
+        group.counts.f,
         group.k,
         group.clients,
         group.liars.as_slice(),
@@ -198,7 +201,8 @@ fn node_text(alloc: Global, group: &NodeGroup, row: &Row) -> io::Result<String> 
 
 /// A group with the keys of the `parties` of the row.
 fn members_text(alloc: Global, group: &AskGroup, row: &Row) -> io::Result<String> {
-    let mut text = format!(in alloc; "f {} port {}", group.f, group.port)?;
+    let counts = group.counts;
+    let mut text = format!(in alloc; "n {} f {} port {}", counts.n, counts.f, group.port)?;
     if row.has("parties") {
         put_keys(&mut text, &group.keys, row.text("parties")?)?;
     }

@@ -3,8 +3,10 @@ use Rattle.std.specs.Prelude.{ℕ, ℤ, pos, negsuc, ◌==◌, ◌&&◌, ◌-◌
 use Rattle.std.specs.List.{list_any}
 use Rattle.std.specs.Int.{w32, to_be_bytes}
 use Rattle.toml.specs.Data.{Data, Members, Items, no_items, item, get_member, as_integer, as_str, as_array}
+use Rattle.std.specs.Cmp.Lexicographic.{pointwise}
 use Rattle.hex.specs.Hex.{decode_sized}
 use Rattle.hex.specs.declared.error.FromHexError.{FromHexError}
+use Rattle.zy_base.specs.declared.counts.Counts.{Counts}
 use Rattle.zy_ots.specs.declared.ots_type.OtsType.{OtsType}
 use Rattle.zy_ots.specs.declared.ots_type.OtsType.TheVariants.{W4}
 use Rattle.zy_ots.specs.OtsType.{type_with}
@@ -13,6 +15,9 @@ use Rattle.zy_lms.specs.declared.height.Height.{Height}
 use Rattle.zy_lms.specs.declared.height.Height.TheVariants.{H5, H10}
 use Rattle.zy_lms.specs.Height.{height_with, levels_of}
 use Rattle.zy_seal.specs.Sealing.{signatures_by}
+use Rattle.zy_group.specs.Counts.{counts_of, most_liars}
+use Rattle.zy_group.specs.declared.profile.Profile.{Profile}
+use Rattle.zy_group.specs.declared.profile.Profile.TheVariants.{Plain, Wide}
 use Rattle.zy_group.specs.declared.secret.Version.{Version}
 use Rattle.zy_group.specs.declared.secret.Version.TheVariants.{OneLevel, TwoLevels}
 
@@ -28,6 +33,24 @@ number_of low high value = option_and_then (within low high) (as_integer value)
 
 abbrev pub number_at : ℕ → ℕ → List ℕ → Members → Option ℕ
 number_at low high key table = option_and_then (number_of low high) (get_member key table)
+
+-- ---- how many replicas
+
+-- "plain" or "wide"
+abbrev pub profile_of : List ℕ → Option Profile
+profile_of text = if pointwise nat_eq text (codes "plain") then Some Plain else (if pointwise nat_eq text (codes "wide") then Some Wide else None)
+
+abbrev pub profile_in : Option Data → Option Profile
+profile_in None = Some Plain
+profile_in (Some value) = option_and_then profile_of (as_str value)
+
+-- `profile`, and the plain one where it is missing
+abbrev pub profile_at : Members → Option Profile
+profile_at table = profile_in (get_member (codes "profile") table)
+
+-- `f`: how many of the replicas may lie, from 1 on
+abbrev pub counts_at : Profile → Members → Option Counts
+counts_at profile table = option_map (counts_of profile) (number_at 1 (most_liars profile) (codes "f") table)
 
 -- ---- lists of numbers
 

@@ -1,7 +1,7 @@
+pub mod Counts
 pub mod Fields
 pub mod Reading
 pub mod Replay
 pub mod Members
 pub mod Secret
-pub mod Counts
 pub mod Own

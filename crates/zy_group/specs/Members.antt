@@ -1,22 +1,25 @@
 -- What a node and an asker are told of their group.
-use Rattle.std.specs.Prelude.{◌≡◌, ℕ, ◌+◌, ◌*◌, ◌≤◌, codes, length, take, drop, Option, Result, Ok, Err}
+use Rattle.std.specs.Prelude.{◌≡◌, ℕ, ◌+◌, ◌≤◌, codes, length, take, drop, Option, Result, Ok, Err}
 use Rattle.toml.specs.Data.{Members}
-use Rattle.zy_group.specs.Fields.{number_at, keys_at}
+use Rattle.zy_base.specs.declared.counts.Counts.{Counts}
+use Rattle.zy_group.specs.Fields.{number_at, keys_at, profile_at, counts_at}
 use Rattle.zy_group.specs.Reading.{field}
 use Rattle.zy_group.specs.declared.members.AskGroup.{AskGroup}
 use Rattle.zy_group.specs.declared.members.NodeGroup.{NodeGroup}
 
--- There are 3f + 1 replicas, whose keys come first.
-unfoldable pub common : ℕ → Members → Result AskGroup ℕ
-common f table =
+-- The keys of the replicas come first.
+unfoldable pub common : Counts → Members → Result AskGroup ℕ
+common counts table =
     field 3 (number_at 1 64 (codes "clients") table) (λ clients.
-    field 9 (keys_at (3 * f + 1 + clients) table) (λ keys.
+    field 9 (keys_at (counts.n + clients) table) (λ keys.
     field 10 (number_at 1024 65456 (codes "port") table) (λ port.
-    Ok (record { f = f; keys = record { replicas = take (3 * f + 1) keys; clients = drop (3 * f + 1) keys }; port = port }))))
+    Ok (record { counts = counts; keys = record { replicas = take counts.n keys; clients = drop counts.n keys }; port = port }))))
 
 -- the fields of an asker, in their order
 unfoldable pub ask_group : Members → Result AskGroup ℕ
-ask_group table = field 1 (number_at 1 4 (codes "f") table) (λ f. common f table)
+ask_group table =
+    field 22 (profile_at table) (λ profile.
+    field 1 (counts_at profile table) (λ counts. common counts table))
 
 abbrev pub with_interval : ℕ → Result AskGroup ℕ → Result NodeGroup ℕ
 with_interval k (Ok members) = Ok (record { k = k; members = members })
@@ -25,9 +28,10 @@ with_interval k (Err number) = Err number
 -- and those of a node
 unfoldable pub node_group : Members → Result NodeGroup ℕ
 node_group table =
-    field 1 (number_at 1 4 (codes "f") table) (λ f.
+    field 22 (profile_at table) (λ profile.
+    field 1 (counts_at profile table) (λ counts.
     field 2 (number_at 4 32 (codes "k") table) (λ k.
-    with_interval k (common f table)))
+    with_interval k (common counts table))))
 
 -- and before them the text, which must be TOML
 abbrev pub text_ask_group : Option Members → Result AskGroup ℕ
@@ -38,9 +42,7 @@ text_node_group text = field 0 text node_group
 
 -- what these fields allow
 pub record AreMembers (group : AskGroup) : Type 0 where
-  pub least : 1 ≤ group.f
-  pub most : group.f ≤ 4
-  pub replicas : length group.keys.replicas ≡ 3 * group.f + 1
+  pub replicas : length group.keys.replicas ≡ group.counts.n
   pub clients : length group.keys.clients ≤ 64
 
 pub record IsNodeGroup (group : NodeGroup) : Type 0 where

@@ -3,14 +3,16 @@ ghost use Rattle.std.specs.Prelude.{◌≡◌, ◌≤◌, ◌+◌, ◌++◌, ◌
 ghost use Rattle.std.specs.Int.{w32, to_be_bytes};
 ghost use Rattle.toml.specs.Data.{get_member};
 ghost use Rattle.toml.specs.View.{view, array_view, table_view};
-ghost use Rattle.zy_group.specs.Fields.{number_of, number_at, different_from, numbers_at, text_at, bytes_at, height_at, ots_at, of_spoken_types, key_in, key_of, keys_from, so_many, keys_in, keys_at, told_ots_at, count_by, next_at, number_or, stamp_at, version_of, version_at};
+ghost use Rattle.zy_group.specs.Fields.{number_of, number_at, different_from, numbers_at, text_at, bytes_at, height_at, ots_at, of_spoken_types, key_in, key_of, keys_from, so_many, keys_in, keys_at, told_ots_at, count_by, next_at, number_or, stamp_at, version_of, version_at, profile_of, profile_at, counts_at};
 
+use crate::counts::{counts_of, most_liars};
+use crate::profile::Profile;
 use crate::{Numbers, Version};
 use hex::FromHex;
 use std::alloc::Global;
 use toml::value::Array;
 use toml::{Table, Value};
-use zy_base::Want;
+use zy_base::{Counts, Want};
 use zy_lms::Height;
 use zy_ots::{OtsType, u32_at};
 use zy_seal::signature_count;
@@ -70,6 +72,34 @@ pub(crate) fn long_at(table: &Table, key: &str, low: u64, high: u64) -> Option<u
         Some(value) => long_of(value, low, high),
         None => None,
     }
+}
+
+/// The profile under `profile`, and the plain one where it is missing.
+pub(crate) fn profile_at(table: &Table) -> Option<Profile>
+    ensures { result ≡ profile_at (table_view table.now) }
+{
+    match value_at(table, "profile") {
+        None => Some(Profile::Plain),
+        Some(value) => profile_of(value.as_str()?),
+    }
+}
+
+fn profile_of(text: &str) -> Option<Profile>
+    ensures { result ≡ profile_of text.now }
+{
+    match text {
+        "plain" => Some(Profile::Plain),
+        "wide" => Some(Profile::Wide),
+        _ => None,
+    }
+}
+
+/// The counts of a group of this profile, of whose replicas so many may lie as stand under `f`.
+pub(crate) fn counts_at(table: &Table, profile: Profile) -> Option<Counts>
+    ensures { result ≡ counts_at profile (table_view table.now) }
+{
+    let f = number_at(table, "f", 1, most_liars(profile))?;
+    Some(counts_of(profile, f))
 }
 
 /// Different integers up to `last`, in their order.

@@ -7,11 +7,12 @@ mod fields;
 mod members;
 mod numbers;
 mod own;
+mod profile;
 mod replay;
 mod secret;
 mod text;
 
-pub use counts::plain_counts;
+pub use counts::{plain_counts, wide_counts};
 pub use fault::GroupFault;
 pub use members::{AskGroup, NodeGroup, read_ask_group, read_node_group};
 pub use numbers::Numbers;

@@ -5,18 +5,18 @@ ghost use Rattle.zy_group.specs.Members.{AreMembers, IsNodeGroup, common, ask_gr
 ghost use Rattle.zy_group.specs.Reading.{IsRead, IsNoText};
 
 use crate::GroupFault;
-use crate::fields::{keys_at, long_at, number_at};
+use crate::fields::{counts_at, keys_at, long_at, number_at, profile_at};
 use crate::text::table_of;
 use std::alloc::Global;
 use toml::Table;
-use zy_base::Want;
+use zy_base::{Counts, Want};
 use zy_seal::Directory;
 
-/// What an asker is told of its group of 3f + 1 replicas.
+/// What an asker is told of its group.
 #[derive(Drop)]
 pub struct AskGroup {
-    /// How many replicas may lie, from 1 to 4.
-    pub f: u8,
+    /// How many replicas there are, and how many of them may lie: 3f + 1 for f from 1 to 4, or 5f + 1 for 1 or 2.
+    pub counts: Counts,
     /// The public keys of the replicas and of the 1 to 64 clients.
     pub keys: Directory,
     /// The port from which those of the parties are counted, from 1,024 to 65,456.
@@ -31,8 +31,8 @@ pub struct NodeGroup {
     pub members: AskGroup,
 }
 
-/// Reads a group file for an asker. Its fields are judged in this order: 0 the text, which must be TOML, 1 `f`, 3 `clients`,
-/// 9 `keys`, 10 `port`. Other keys are left aside.
+/// Reads a group file for an asker. Its fields are judged in this order: 0 the text, which must be TOML, 22 `profile`,
+/// 1 `f`, 3 `clients`, 9 `keys`, 10 `port`. Other keys are left aside.
 pub fn read_ask_group(alloc: Global, text: &[u8]) -> Result<AskGroup, GroupFault>
     ensures read { IsUtf8 text.now → IsRead (text_ask_group (parse_document text.now)) result }
     ensures no_text { ¬ IsUtf8 text.now → IsNoText 0 result }
@@ -61,10 +61,13 @@ fn asker(alloc: Global, table: &Table) -> Result<AskGroup, GroupFault>
     ensures read { IsRead (ask_group (table_view table.now)) result }
     ensures members { IfOk result AreMembers }
 {
-    let Some(f) = number_at(table, "f", 1, 4) else {
+    let Some(profile) = profile_at(table) else {
+        return Err(GroupFault::Field(22));
+    };
+    let Some(counts) = counts_at(table, profile) else {
         return Err(GroupFault::Field(1));
     };
-    common(alloc, table, f)
+    common(alloc, table, counts)
 }
 
 #[tactic(auto, unfolding(crate::specs::Members::node_group))]
@@ -72,13 +75,16 @@ fn node(alloc: Global, table: &Table) -> Result<NodeGroup, GroupFault>
     ensures read { IsRead (node_group (table_view table.now)) result }
     ensures group { IfOk result IsNodeGroup }
 {
-    let Some(f) = number_at(table, "f", 1, 4) else {
+    let Some(profile) = profile_at(table) else {
+        return Err(GroupFault::Field(22));
+    };
+    let Some(counts) = counts_at(table, profile) else {
         return Err(GroupFault::Field(1));
     };
     let Some(k) = number_at(table, "k", 4, 32) else {
         return Err(GroupFault::Field(2));
     };
-    match common(alloc, table, f) {
+    match common(alloc, table, counts) {
         Ok(members) => Ok(NodeGroup { k, members }),
         Err(fault) => Err(fault),
     }
@@ -86,16 +92,14 @@ fn node(alloc: Global, table: &Table) -> Result<NodeGroup, GroupFault>
 
 /// The fields that both have.
 #[tactic(auto, unfolding(crate::specs::Members::common))]
-fn common(alloc: Global, table: &Table, f: u8) -> Result<AskGroup, GroupFault>
-    requires least { 1 ≤ f }
-    requires most { f ≤ 4 }
-    ensures read { IsRead (common f (table_view table.now)) result }
+fn common(alloc: Global, table: &Table, counts: Counts) -> Result<AskGroup, GroupFault>
+    ensures read { IsRead (common counts (table_view table.now)) result }
     ensures members { IfOk result AreMembers }
 {
     let Some(clients) = number_at(table, "clients", 1, 64) else {
         return Err(GroupFault::Field(3));
     };
-    let n = 3 * usize::from(f) + 1;
+    let n = counts.n as usize;
     let Some(keys) = keys_at(alloc, table, n + usize::from(clients))? else {
         return Err(GroupFault::Field(9));
     };
@@ -104,7 +108,7 @@ fn common(alloc: Global, table: &Table, f: u8) -> Result<AskGroup, GroupFault>
     };
     let keys = parted(alloc, keys, n)?;
     Ok(AskGroup {
-        f,
+        counts,
         keys,
         port: port as u16,
     })

@@ -1,5 +1,5 @@
 -- What is due of a calm replay is the verdict on its run.
-use Rattle.std.proofs.Common.{◌≡◌, ℕ, inl, inr, List, Option, Some, None, Result, Ok, Err, sym, ap, ◌∙◌, subst}
+use Rattle.std.proofs.Common.{◌≡◌, ℕ, inl, inr, List, Option, Some, None, Ok, sym, ap, ◌∙◌, subst}
 use Rattle.zy_base.specs.Machine.{Rules}
 use Rattle.zy_calm.specs.Asks.{CalmAsk}
 use Rattle.zy_calm.specs.Calm.{IsCalm}
@@ -40,13 +40,6 @@ calm_served runs group schedule told path muted asks is =
     subst (λ (due : Verdict). IsCalmVerdict space_rules (setup_of told) path muted asks due) (sym (due_of_run told path muted asks group schedule is))
     (told_calmly space_rules (setup_of told) path muted asks (runs (setup_of told) path muted asks is.calm))
 
-pub served_command : ((group schedule : List ℕ) → IsServedReplay group schedule) → (told : Option Held) (asked : Result Command ℕ) → IsServedCommand told asked
-served_command replays None (Ok (Command.Replay group schedule)) = tt
-served_command replays (Some files) (Ok (Command.Replay group schedule)) = replays (content_of files group) (content_of files schedule)
-served_command replays told (Ok (Command.Make number asks)) = tt
-served_command replays told (Ok (Command.Space script)) = tt
-served_command replays told (Ok (Command.Keys seed by height)) = tt
-served_command replays told (Ok (Command.Node group secret id turns)) = tt
-served_command replays told (Ok (Command.Ask group secret id turns op)) = tt
-served_command replays told (Ok (Command.Serve group secret id turns journal)) = tt
-served_command replays told (Err word) = tt
+pub replay_served : ((group schedule : List ℕ) → IsServedReplay group schedule) → (told : Option Held) (group schedule : List ℕ) → IsServedCommand told (Ok (Command.Replay group schedule))
+replay_served replays None group schedule = tt
+replay_served replays (Some files) group schedule = replays (content_of files group) (content_of files schedule)

@@ -9,7 +9,7 @@ use Rattle.hex.proofs.HexLemmas.{decode_of-ok, decode_sized-ok, decode_sized-twi
 use Rattle.std.proofs.lemmas.Bool.{cases_Bool, and_parts, leb-true, true≢false}
 use Rattle.std.proofs.lemmas.Option.{cond_some, same_Some}
 use Rattle.toml.specs.Data.{Data, Members, Items, no_items, item, as_integer, as_array, get_member}
-use Rattle.zy_group.specs.Fields.{within, number_of, number_at, different_from, at_most, listed, numbers_at, decoded, text_at, bytes_at, height_at, ots_at}
+use Rattle.zy_group.specs.Fields.{within, number_of, number_at, different_from, at_most, listed, numbers_at, decoded, text_at, bytes_at, height_at, ots_at, profile_at, counts_at}
 use Rattle.zy_group.specs.Reading.{field, IsRead}
 use Rattle.zy_group.specs.Replay.{replay_group}
 use Rattle.zy_group.specs.declared.fault.GroupFault.{GroupFault}
@@ -19,7 +19,7 @@ use Rattle.zy_world_setup.specs.Starting.{IsStart}
 use Rattle.zy_world_law.specs.Setup.{IsSetup, Setup}
 use Rattle.zy_top_words.specs.Calls.{exit_of_group_fault}
 use Rattle.zy_top.specs.Replaying.{IsSetupRead}
-use Rattle.zy_group.specs.Counts.{plain_counts}
+use Rattle.zy_group.proofs.FewReplicas.{AreFew, counts_at_few}
 use Rattle.zy_group.specs.Reading.{toml_of}
 use Rattle.zy_top.specs.Group.{group_of, setup_of}
 
@@ -116,10 +116,10 @@ bytes_len count key table bytes is =
 -- ---- groups
 
 record IsGroup (g : ReplayGroup) : Type 0 where
-  f : (1 ≤ g.f) × (g.f ≤ 4)
+  replicas : AreFew g.counts
   k : (4 ≤ g.k) × (g.k ≤ 32)
   clients : (1 ≤ g.clients) × (g.clients ≤ 64)
-  liars : AreListed (3 * g.f) g.f g.liars
+  liars : AreListed (g.counts.n - 1) g.counts.f g.liars
   lying : AreListed (g.clients - 1) g.clients g.lying_clients
   seed : length g.seed ≡ 32
 
@@ -132,19 +132,20 @@ same_group a b is = ap (λ (r : Result ReplayGroup ℕ). result_unwrap_or r a) i
 table_group : (table : Members) (g : ReplayGroup) → replay_group table ≡ Ok g → IsGroup g
 unfolding replay_group
 table_group table g is =
-    let f = field_some 1 (number_at 1 4 (codes "f") table) _ g is in
-    let k = field_some 2 (number_at 4 32 (codes "k") table) _ g f.1.1 in
+    let profile = field_some 22 (profile_at table) _ g is in
+    let counts = field_some 1 (counts_at profile.0 table) _ g profile.1.1 in
+    let k = field_some 2 (number_at 4 32 (codes "k") table) _ g counts.1.1 in
     let clients = field_some 3 (number_at 1 64 (codes "clients") table) _ g k.1.1 in
-    let liars = field_some 4 (numbers_at (3 * f.0) f.0 (codes "liars") table) _ g clients.1.1 in
+    let liars = field_some 4 (numbers_at (counts.0.n - 1) counts.0.f (codes "liars") table) _ g clients.1.1 in
     let lying = field_some 5 (numbers_at (clients.0 - 1) clients.0 (codes "lying_clients") table) _ g liars.1.1 in
     let seed = field_some 6 (bytes_at 32 (codes "seed") table) _ g lying.1.1 in
     let height = field_some 7 (height_at table) _ g seed.1.1 in
     let ots = field_some 8 (ots_at table) _ g height.1.1 in
     subst IsGroup (same_group _ g ots.1.1) (record {
-      f = number_at_range 1 4 (codes "f") table f.0 f.1.0;
+      replicas = counts_at_few profile.0 table counts.0 counts.1.0;
       k = number_at_range 4 32 (codes "k") table k.0 k.1.0;
       clients = number_at_range 1 64 (codes "clients") table clients.0 clients.1.0;
-      liars = listed_are (3 * f.0) f.0 (get_member (codes "liars") table) liars.0 liars.1.0;
+      liars = listed_are (counts.0.n - 1) counts.0.f (get_member (codes "liars") table) liars.0 liars.1.0;
       lying = listed_are (clients.0 - 1) clients.0 (get_member (codes "lying_clients") table) lying.0 lying.1.0;
       seed = bytes_len 32 (codes "seed") table seed.0 seed.1.0;
     })
@@ -154,42 +155,31 @@ known_group text g is = let table = field_some 0 (toml_of text) replay_group g i
 
 -- ---- its world
 
-counts_are : (f : ℕ) → 1 ≤ f → f ≤ 4 → ((plain_counts f).n ≡ 3 * f + 1) × ((plain_counts f).f ≡ f)
-counts_are zero least most = omega (arith, least)
-counts_are (suc zero) least most = (refl, refl)
-counts_are (suc (suc zero)) least most = (refl, refl)
-counts_are (suc (suc (suc zero))) least most = (refl, refl)
-counts_are (suc (suc (suc (suc zero)))) least most = (refl, refl)
-counts_are (suc (suc (suc (suc (suc f))))) least most = omega (arith, most)
-
 below : (last n : ℕ) (ns : List ℕ) → last < n → AllByRecursion (λ id. id ≤ last) ns → AllByRecursion (λ id. id < n) ns
 below last n [] lt all = tt
 below last n (id ∷ ns) lt all = (omega (arith, lt, all.0), below last n ns lt all.1)
 
-pub group_starts : (text : List ℕ) (g : ReplayGroup) → group_of text ≡ Ok g → IsStart (setup_of g) × ((1 ≤ g.f) × (g.f ≤ 4))
+pub group_starts : (text : List ℕ) (g : ReplayGroup) → group_of text ≡ Ok g → IsStart (setup_of g)
 group_starts text g is =
     let known = known_group text g is in
-    let counts = counts_are g.f known.f.0 known.f.1 in (
-      record {
-        replicas = omega (arith, counts.0, known.f.1);
-        least_interval = known.k.0;
-        greatest_interval = known.k.1;
-        some_client = known.clients.0;
-        clients = known.clients.1;
-        few = omega (arith, counts.1, known.liars.1);
-        liars = (below (3 * g.f) (plain_counts g.f).n g.liars (omega (arith, counts.0)) known.liars.0.0, known.liars.0.1);
-        lying_clients = (below (g.clients - 1) g.clients g.lying_clients (omega (arith, known.clients.0)) known.lying.0.0, known.lying.0.1);
-        seed = known.seed;
-      },
-      known.f,
-    )
+    record {
+      replicas = known.replicas.1;
+      least_interval = known.k.0;
+      greatest_interval = known.k.1;
+      some_client = known.clients.0;
+      clients = known.clients.1;
+      few = known.liars.1;
+      liars = (below (g.counts.n - 1) g.counts.n g.liars (omega (arith, known.replicas.0)) known.liars.0.0, known.liars.0.1);
+      lying_clients = (below (g.clients - 1) g.clients g.lying_clients (omega (arith, known.clients.0)) known.lying.0.0, known.lying.0.1);
+      seed = known.seed;
+    }
 
 pub fault_reads : (read : Result ReplayGroup ℕ) (fault : GroupFault) → IsRead read (Err fault) → IsSetupRead read (Err (exit_of_group_fault fault))
 fault_reads read (faults.Field number) is = is
 fault_reads read faults.Want is = tt
 
 pub setup_read : (text : List ℕ) (g : ReplayGroup) (setup : Setup) → group_of text ≡ Ok g → setup ≡ setup_of g → IsSetupRead (group_of text) (Ok setup)
-setup_read text g setup read is = (subst IsStart (sym is) (group_starts text g read).0, (g, read, is))
+setup_read text g setup read is = (subst IsStart (sym is) (group_starts text g read), (g, read, is))
 
 -- ---- what the laws of runs ask of a start
 

@@ -1,4 +1,5 @@
 mod CalmReplays
+mod CalmRuns
 pub mod GroupLaws
 pub mod Headline
 pub mod HostLaws

@@ -19,16 +19,17 @@ use Rattle.zy_world_law.specs.World.{World, start}
 use Rattle.zy_world_law.specs.declared.note.Note.{Note}
 use Rattle.zy_world_law.specs.declared.note.Note.TheVariants as notes
 use Rattle.zy_top_words.specs.Calls.{exit_of}
-use Rattle.zy_top.specs.Group.{made_setup}
+use Rattle.zy_top.specs.Group.{calm_schedule, calm_setup, made_setup}
 use Rattle.zy_top.specs.Replaying.{Adds, IsRunning, IsSummedUp, is_running}
 use Rattle.zy_top_hosting.specs.Lines.{is_fast}
 use Rattle.zy_top.specs.Telling.{agreed_of, is_done, is_done_fast, is_done_slow, is_refused, summary_of}
 use Rattle.zy_top_words.specs.Ends.{IsAnswer, IsOwnAnswer, IsReport, IsWritten, Verdict, is_write_fault}
-use Rattle.zy_top.specs.Verdict.{make_verdict, sum_verdict, summed_up, what_broke}
+use Rattle.zy_top.specs.Verdict.{calm_verdict, make_verdict, sum_verdict, summed_up, what_broke}
 use Rattle.zy_top_words.specs.declared.exit.Broken.{Broken}
 use Rattle.zy_top_words.specs.declared.exit.Exit.{Exit}
 use Rattle.zy_top_words.specs.declared.exit.Exit.TheVariants as exits
 use Rattle.zy_top.specs.declared.tale.Tale.{Tale}
+use Rattle.zy_group.proofs.FewReplicas.{wide_few}
 use Rattle.zy_top.proofs.GroupLaws.{start_sets_up}
 use Rattle.zy_top_words.proofs.Endings.{rose}
 use Rattle.zy_top_words.proofs.Stops.{IsWritten-none}
@@ -92,6 +93,12 @@ pub made_summed : (number asks : ℕ) (setup : Setup) (lines : List Line) (r : R
     → IsSummedUp (sum_verdict asks (run space_rules lines (start space_rules setup))) r → IsSummedUp (make_verdict number asks) r
 made_summed number asks setup lines r sets made summed =
     subst (λ s. IsSummedUp (sum_verdict asks (run space_rules (made_lines number asks) (start space_rules s))) r) sets
+    (subst (λ l. IsSummedUp (sum_verdict asks (run space_rules l (start space_rules setup))) r) made summed)
+
+pub calm_summed : (f silent asks : ℕ) (setup : Setup) (lines : List Line) (r : Result (Vec ℕ Global) Exit) → setup ≡ calm_setup f → lines ≡ calm_schedule f silent asks
+    → IsSummedUp (sum_verdict asks (run space_rules lines (start space_rules setup))) r → IsSummedUp (calm_verdict f silent asks) r
+calm_summed f silent asks setup lines r sets made summed =
+    subst (λ s. IsSummedUp (sum_verdict asks (run space_rules (calm_schedule f silent asks) (start space_rules s))) r) sets
     (subst (λ l. IsSummedUp (sum_verdict asks (run space_rules l (start space_rules setup))) r) made summed)
 
 -- ---- how it stops
@@ -242,3 +249,22 @@ made_so_starts number setup sets = subst IsStart (sym sets) (made_starts number)
 
 pub made_sets_up : (number : ℕ) → IsSetup (made_setup number)
 made_sets_up number = start_sets_up (made_setup number) (made_starts number)
+
+-- ---- and that of a calm schedule
+
+pub calm_starts : (f : ℕ) → IsStart (calm_setup f)
+unfolding IsDistinct
+calm_starts f = record {
+  replicas = (wide_few f).1;
+  least_interval = lit≤ tt;
+  greatest_interval = lit≤ tt;
+  some_client = lit≤ tt;
+  clients = lit≤ tt;
+  few = omega arith;
+  liars = (tt, tt);
+  lying_clients = (tt, tt);
+  seed = refl;
+}
+
+pub calm_sets_up : (f : ℕ) → IsSetup (calm_setup f)
+calm_sets_up f = start_sets_up (calm_setup f) (calm_starts f)

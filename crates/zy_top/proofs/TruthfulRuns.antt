@@ -1,24 +1,26 @@
 -- What is told of a run that isn't forged isn't a forged signature.
-use Rattle.std.proofs.Common.{◌≡◌, ℕ, ◌+◌, ◌≤◌, Bool, true, false, List, [], ◌∷◌, length, Option, Some, None, IfSome, Result, Ok, Err, refl, ap, ◌∙◌, subst, lit≤}
-use Rattle.std.specs.Prelude.{if◌then◌else◌, ◌/◌, ◌%◌, ◌==◌, nat_lt}
+use Rattle.std.proofs.Common.{◌≡◌, ℕ, ◌+◌, ◌≤◌, Bool, true, false, List, [], ◌∷◌, ◌++◌, map, length, Option, Some, None, IfSome, Result, Ok, Err, refl, ap, ◌∙◌, subst, lit≤}
+use Rattle.std.specs.Prelude.{if◌then◌else◌, ◌-◌, ◌/◌, ◌%◌, ◌==◌, nat_lt}
 use Rattle.std.specs.List.{AllByRecursion, flat_map, range_with_len}
 use Rattle.zy_base.specs.Machine.{Rules}
 use Rattle.zy_edge.specs.Files.{Held, content_of}
+use Rattle.zy_group.specs.Counts.{wide_counts}
 use Rattle.zy_group.specs.declared.replay.ReplayGroup.{ReplayGroup}
 use Rattle.zy_schedule.specs.Lines.{TextFault}
 use Rattle.zy_schedule.specs.Making.{drawn, lines_of_ask, made_lines, op_of}
 use Rattle.zy_schedule.specs.Reading.{schedule_of}
 use Rattle.zy_schedule.specs.declared.line.Line.{Line}
 use Rattle.zy_space.specs.Service.{space_rules}
-use Rattle.zy_top.specs.Group.{group_of, made_setup, setup_of}
-use Rattle.zy_top.specs.Replaying.{OfMake, OfReplay}
+use Rattle.zy_top.specs.Group.{calm_schedule, calm_setup, group_of, made_setup, setup_of}
+use Rattle.zy_top.specs.Replaying.{OfCalm, OfMake, OfReplay}
 use Rattle.zy_top.specs.Truthful.{IsUnforgedRun, tells_forged}
-use Rattle.zy_top.specs.Verdict.{group_verdict, make_verdict, replay_verdict, schedule_verdict, summed_up, told_verdict}
+use Rattle.zy_top.specs.Verdict.{calm_verdict, group_verdict, make_verdict, replay_verdict, schedule_verdict, summed_up, told_verdict}
 use Rattle.zy_top_words.specs.Ends.{IsAnswer, Verdict, limit}
 use Rattle.zy_top_words.specs.declared.exit.Broken.TheVariants as broken
 use Rattle.zy_top_words.specs.declared.exit.Exit.{Exit}
 use Rattle.zy_top_words.specs.declared.exit.Exit.TheVariants as exits
 use Rattle.zy_tuple.specs.Bytes.{few_bytes, op_bytes}
+use Rattle.zy_wide.specs.Calm.{job_lines, mute_line}
 use Rattle.zy_wire.specs.Spelling.{bytes_of}
 use Rattle.zy_world_law.specs.Events.Broken.{Forged, Clash}
 use Rattle.zy_world_law.specs.Faithful.{IsQuiet, IsUnforged}
@@ -96,7 +98,7 @@ replay_truthful (Some files) group schedule exit unforged answer = λ lines spel
 
 -- ---- a made schedule
 
-op_short : (kind n : ℕ) → length (op_bytes (op_of kind n)) ≤ 1100
+pub op_short : (kind n : ℕ) → length (op_bytes (op_of kind n)) ≤ 1100
 unfolding bytes_of few_bytes
 op_short kind n = by (kind == 0) (kind == 1) (kind == 2)
   where
@@ -122,3 +124,22 @@ pub make_truthful : (number asks : ℕ) (exit : Exit) → OfMake IsUnforgedRun n
 make_truthful number asks exit unforged answer =
     let r = run space_rules (made_lines number asks) (start space_rules (made_setup number)) in
     answer_true (make_verdict number asks) exit answer (summed_true asks r.notes r.end (unforged (made_quiet number asks)))
+
+-- ---- a calm schedule
+
+jobs_quiet : (n : ℕ) (numbers : List ℕ) → AllByRecursion IsQuiet (flat_map (job_lines n) numbers)
+jobs_quiet n [] = tt
+jobs_quiet n (i ∷ numbers) = (op_short 0 i, (tt, jobs_quiet n numbers))
+
+mutes_quiet : (ids : List ℕ) (lines : List Line) → AllByRecursion IsQuiet lines → AllByRecursion IsQuiet (map mute_line ids ++ lines)
+mutes_quiet [] lines quiet = quiet
+mutes_quiet (id ∷ ids) lines quiet = (tt, mutes_quiet ids lines quiet)
+
+calm_quiet : (f silent asks : ℕ) → AllByRecursion IsQuiet (calm_schedule f silent asks)
+calm_quiet f silent asks =
+    let n = (wide_counts f).n in mutes_quiet (range_with_len (n - silent) silent) (flat_map (job_lines n) (range_with_len 0 asks)) (jobs_quiet n (range_with_len 0 asks))
+
+pub calm_truthful : (f silent asks : ℕ) (exit : Exit) → OfCalm IsUnforgedRun f silent asks → IsAnswer (calm_verdict f silent asks) exit → tells_forged exit ≡ false
+calm_truthful f silent asks exit unforged answer =
+    let r = run space_rules (calm_schedule f silent asks) (start space_rules (calm_setup f)) in
+    answer_true (calm_verdict f silent asks) exit answer (summed_true asks r.notes r.end (unforged (calm_quiet f silent asks)))

@@ -1,12 +1,14 @@
--- What a replay is told of its group, as what its world begins with, and the group of a made schedule.
+-- What a replay is told of its group, as what its world begins with, and the groups of made schedules and of calm ones.
 use Rattle.std.specs.Prelude.{ℕ, List, [], ◌++◌, replicate, Result}
 use Rattle.std.specs.Int.{w32, to_be_bytes}
-use Rattle.zy_group.specs.Counts.{plain_counts}
+use Rattle.zy_group.specs.Counts.{plain_counts, wide_counts}
 use Rattle.zy_group.specs.Reading.{toml_of}
 use Rattle.zy_group.specs.Replay.{text_group}
 use Rattle.zy_group.specs.declared.replay.ReplayGroup.{ReplayGroup}
-use Rattle.zy_lms.specs.declared.height.Height.TheVariants.{H10}
+use Rattle.zy_lms.specs.declared.height.Height.TheVariants.{H5, H10}
 use Rattle.zy_ots.specs.declared.ots_type.OtsType.TheVariants.{W4}
+use Rattle.zy_schedule.specs.declared.line.Line.{Line}
+use Rattle.zy_wide.specs.Calm.{calm_lines}
 use Rattle.zy_world_law.specs.Setup.{Setup}
 
 -- ---- groups
@@ -19,7 +21,7 @@ group_of text = text_group (toml_of text)
 abbrev pub setup_of : ReplayGroup → Setup
 setup_of group =
     record {
-      counts = plain_counts group.f;
+      counts = group.counts;
       interval = group.k;
       clients = group.clients;
       liars = group.liars;
@@ -48,3 +50,23 @@ made_setup number =
       height = H10;
       ots = W4;
     }
+
+-- ---- calm schedules in the wide profile
+
+-- 5f + 1 replicas and one client, none of which lies, a checkpoint after every 32 places, 32 zeros as the seed, and keys of height 5
+abbrev pub calm_setup : ℕ → Setup
+calm_setup f =
+    record {
+      counts = wide_counts f;
+      interval = 32;
+      clients = 1;
+      liars = [];
+      lying_clients = [];
+      seed = replicate 32 0;
+      height = H5;
+      ots = W4;
+    }
+
+-- so many of its replicas are silent, and so many jobs are put in
+abbrev pub calm_schedule : ℕ → ℕ → ℕ → List Line
+calm_schedule f silent asks = calm_lines (wide_counts f).n silent asks

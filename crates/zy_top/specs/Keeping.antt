@@ -20,6 +20,7 @@ IsKeptCommand contents may_leave moment left_since told (Ok (Command.Space scrip
 IsKeptCommand contents may_leave moment left_since told (Ok (Command.Replay group schedule)) exit from to before after old new = LeavesDisk exit old new
 IsKeptCommand contents may_leave moment left_since told (Ok (Command.Keys seed by height)) exit from to before after old new = LeavesDisk exit old new
 IsKeptCommand contents may_leave moment left_since told (Ok (Command.Make number asks)) exit from to before after old new = LeavesDisk exit old new
+IsKeptCommand contents may_leave moment left_since told (Ok (Command.Calm f silent asks)) exit from to before after old new = LeavesDisk exit old new
 IsKeptCommand contents may_leave moment left_since told (Ok (Command.Node group secret id turns)) exit from to before after old new = LeavesDisk exit old new
 IsKeptCommand contents may_leave moment left_since told (Ok (Command.Ask group secret id turns op)) exit from to before after old new = LeavesDisk exit old new
 IsKeptCommand contents may_leave moment left_since told (Ok (Command.Serve group secret id turns journal)) exit from to before after old new =
@@ -32,6 +33,7 @@ GoesOnItself told contents (Ok (Command.Space script)) exit = ⊤
 GoesOnItself told contents (Ok (Command.Replay group schedule)) exit = ⊤
 GoesOnItself told contents (Ok (Command.Keys seed by height)) exit = ⊤
 GoesOnItself told contents (Ok (Command.Make number asks)) exit = ⊤
+GoesOnItself told contents (Ok (Command.Calm f silent asks)) exit = ⊤
 GoesOnItself told contents (Ok (Command.Node group secret id turns)) exit = ⊤
 GoesOnItself told contents (Ok (Command.Ask group secret id turns op)) exit = ⊤
 GoesOnItself told contents (Ok (Command.Serve group secret id turns journal)) exit =

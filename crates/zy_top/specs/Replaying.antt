@@ -23,7 +23,7 @@ use Rattle.zy_world_law.specs.Setup.{Setup}
 use Rattle.zy_world_law.specs.World.{World, start}
 use Rattle.zy_world_law.specs.declared.event.WorldEvent.{WorldEvent}
 use Rattle.zy_world_law.specs.declared.note.Note.{Note}
-use Rattle.zy_top.specs.Group.{group_of, made_setup, setup_of}
+use Rattle.zy_top.specs.Group.{calm_schedule, calm_setup, group_of, made_setup, setup_of}
 use Rattle.zy_top.specs.Telling.{is_done_fast, is_done_slow, is_refused, note_lines}
 use Rattle.zy_top_words.specs.Ends.{Verdict, limit}
 use Rattle.zy_top.specs.Verdict.{replay_verdict, run_verdict, schedule_verdict, what_broke}
@@ -140,10 +140,19 @@ OfReplay Holds group schedule =
 abbrev pub OfMake : (Setup → List Line → Type 0) → ℕ → ℕ → Type 0
 OfMake Holds number asks = Holds (made_setup number) (made_lines number asks)
 
+-- of the run of a calm schedule in the wide profile
+abbrev pub OfCalm : (Setup → List Line → Type 0) → ℕ → ℕ → ℕ → Type 0
+OfCalm Holds f silent asks = Holds (calm_setup f) (calm_schedule f silent asks)
+
+-- of both, whatever the numbers are
+abbrev pub OfMade : (Setup → List Line → Type 0) → Type 0
+OfMade Holds = ((number asks : ℕ) → OfMake Holds number asks) × ((f silent asks : ℕ) → OfCalm Holds f silent asks)
+
 -- and of the run of a command, if it makes one; of that of a replay over files that are told
 abbrev pub OfCommand : (Setup → List Line → Type 0) → Option Held → Result Command ℕ → Type 0
 OfCommand Holds told (Ok (Command.Replay group schedule)) = IfSome told (λ files. OfReplay Holds (content_of files group) (content_of files schedule))
 OfCommand Holds told (Ok (Command.Make number asks)) = OfMake Holds number asks
+OfCommand Holds told (Ok (Command.Calm f silent asks)) = OfCalm Holds f silent asks
 OfCommand Holds told (Ok (Command.Space script)) = ⊤
 OfCommand Holds told (Ok (Command.Keys seed by height)) = ⊤
 OfCommand Holds told (Ok (Command.Node group secret id turns)) = ⊤

@@ -22,11 +22,12 @@ abbrev pub tells_forged : Exit → Bool
 tells_forged (exits.Premise event broken.Forged) = true
 tells_forged exit = false
 
--- A forged signature is never told of a schedule that a number makes, nor of one in which nobody lies.
+-- A forged signature is never told of a schedule that numbers make, nor of one in which nobody lies.
 abbrev pub IsTruthful : Option Held → Result Command ℕ → Exit → Type 0
 IsTruthful told (Ok (Command.Replay group schedule)) exit =
     IfSome told (λ files. (lines : List Line) → schedule_of (content_of files schedule) ≡ Ok lines → AllByRecursion IsQuiet lines → tells_forged exit ≡ false)
 IsTruthful told (Ok (Command.Make number asks)) exit = tells_forged exit ≡ false
+IsTruthful told (Ok (Command.Calm f silent asks)) exit = tells_forged exit ≡ false
 IsTruthful told (Ok (Command.Space script)) exit = ⊤
 IsTruthful told (Ok (Command.Keys seed by height)) exit = ⊤
 IsTruthful told (Ok (Command.Node group secret id turns)) exit = ⊤

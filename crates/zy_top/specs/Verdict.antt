@@ -19,7 +19,7 @@ use Rattle.zy_world_law.specs.Runs.{End, Run, run}
 use Rattle.zy_world_law.specs.Setup.{Setup}
 use Rattle.zy_world_law.specs.World.{start}
 use Rattle.zy_world_law.specs.declared.note.Note.{Note}
-use Rattle.zy_top.specs.Group.{group_of, made_setup, setup_of}
+use Rattle.zy_top.specs.Group.{calm_schedule, calm_setup, group_of, made_setup, setup_of}
 use Rattle.zy_top.specs.Keys.{key_file}
 use Rattle.zy_top.specs.Telling.{agreed_of, end_lines, note_lines, summary_of}
 use Rattle.zy_top_hosting.specs.Files.{asker_start, node_start}
@@ -89,6 +89,10 @@ sum_verdict asks r = summed_up asks r.notes r.end
 abbrev pub make_verdict : ℕ → ℕ → Verdict
 make_verdict number asks = sum_verdict asks (run space_rules (made_lines number asks) (start space_rules (made_setup number)))
 
+-- the calm schedule of these numbers runs from the start of its world
+abbrev pub calm_verdict : ℕ → ℕ → ℕ → Verdict
+calm_verdict f silent asks = sum_verdict asks (run space_rules (calm_schedule f silent asks) (start space_rules (calm_setup f)))
+
 -- ---- all commands
 
 abbrev pub command_verdict : Held → Result Command ℕ → Verdict
@@ -97,6 +101,7 @@ command_verdict files (Ok (Command.Space script)) = space_verdict (content_of fi
 command_verdict files (Ok (Command.Replay group schedule)) = replay_verdict (content_of files group) (content_of files schedule)
 command_verdict files (Ok (Command.Keys seed by height)) = Verdict.Report (key_file seed by height)
 command_verdict files (Ok (Command.Make number asks)) = make_verdict number asks
+command_verdict files (Ok (Command.Calm f silent asks)) = calm_verdict f silent asks
 command_verdict files (Ok (Command.Node group secret id turns)) = files_verdict (node_start id (content_of files group) (content_of files secret))
 command_verdict files (Ok (Command.Ask group secret id turns op)) = files_verdict (asker_start id (content_of files group) (content_of files secret))
 command_verdict files (Ok (Command.Serve group secret id turns journal)) = files_verdict (node_start id (content_of files group) (content_of files secret))
@@ -112,6 +117,7 @@ own_verdict (Ok (Command.Space script)) = None
 own_verdict (Ok (Command.Replay group schedule)) = None
 own_verdict (Ok (Command.Keys seed by height)) = Some (Verdict.Report (key_file seed by height))
 own_verdict (Ok (Command.Make number asks)) = Some (make_verdict number asks)
+own_verdict (Ok (Command.Calm f silent asks)) = Some (calm_verdict f silent asks)
 own_verdict (Ok (Command.Node group secret id turns)) = None
 own_verdict (Ok (Command.Ask group secret id turns op)) = None
 own_verdict (Ok (Command.Serve group secret id turns journal)) = None

@@ -1,11 +1,11 @@
 // What the world of a group begins with.
-ghost use Rattle.std.specs.Prelude.{◌≡◌, ◌≤◌, IfOk, map};
+ghost use Rattle.std.specs.Prelude.{◌≡◌, IfOk, map};
 ghost use Rattle.zy_top.specs.Group as groups;
 ghost use Rattle.zy_top.specs.Replaying.{IsSetupRead};
 
 use std::alloc::Global;
 use zy_base::{ClientId, ReplicaId, Want};
-use zy_group::{ReplayGroup, plain_counts, read_replay_group};
+use zy_group::{ReplayGroup, read_replay_group};
 use zy_top_words::Exit;
 use zy_world_setup::Setup;
 
@@ -18,15 +18,12 @@ pub(crate) fn read_setup(alloc: Global, text: &[u8]) -> Result<Setup, Exit>
 }
 
 fn setup_of(alloc: Global, group: ReplayGroup) -> Result<Setup, Want>
-    requires least { 1 ≤ group.f }
-    requires most { group.f ≤ 4 }
     ensures { IfOk result (λ setup. setup ≡ groups.setup_of group) }
 {
-    let counts = plain_counts(group.f);
     let liars = replica_ids(alloc, group.liars.as_slice())?;
     let lying_clients = client_ids(alloc, group.lying_clients.as_slice())?;
     Ok(Setup {
-        counts,
+        counts: group.counts,
         interval: u64::from(group.k),
         clients: u32::from(group.clients),
         liars,

@@ -1,11 +1,11 @@
 // The command `make`.
-ghost use Rattle.std.specs.Prelude.{◌≡◌, ℕ, All, IfOk, ◌≤◌, length};
+ghost use Rattle.std.specs.Prelude.{◌≡◌, All, IfOk, ◌≤◌, length};
 ghost use Rattle.zy_edge.specs.Faults.{IsCounted};
 ghost use Rattle.zy_schedule.specs.Texts.{IsSaid};
 ghost use Rattle.zy_world_setup.specs.Starting.{IsStart};
 ghost use Rattle.zy_top_words.specs.Calls.{exit_of};
 ghost use Rattle.zy_top.specs.Group as groups;
-ghost use Rattle.zy_top.specs.Replaying.{IsBackedRun, IsBlamelessRun, IsRunning, IsSafeRun, IsSummedUp, OfMake};
+ghost use Rattle.zy_top.specs.Replaying.{IsBackedRun, IsBlamelessRun, IsRunning, IsSafeRun, IsSummedUp, OfMade};
 ghost use Rattle.zy_top_words.specs.Ends.{IsAnswer, IsWritten, is_write_fault, limit};
 ghost use Rattle.zy_top.specs.Truthful.{IsUnforgedRun};
 ghost use Rattle.zy_top.specs.Verdict.{make_verdict, sum_verdict};
@@ -30,13 +30,13 @@ use zy_world_law::{
 };
 use zy_world_setup::Setup;
 
-/// Every world of a run that is made is safe, the agreed list only grows, no correct replica is blamed, what is kept is backed, and no
+/// Every world of a run that numbers make is safe, the agreed list only grows, no correct replica is blamed, what is kept is backed, and no
 /// signature is forged.
 pub(crate) fn made_runs_are_safe()
-    ensures safe { (number asks : ℕ) → OfMake IsSafeRun number asks }
-    ensures blameless { (number asks : ℕ) → OfMake IsBlamelessRun number asks }
-    ensures backed { (number asks : ℕ) → OfMake IsBackedRun number asks }
-    ensures unforged { (number asks : ℕ) → OfMake IsUnforgedRun number asks }
+    ensures safe { OfMade IsSafeRun }
+    ensures blameless { OfMade IsBlamelessRun }
+    ensures backed { OfMade IsBackedRun }
+    ensures unforged { OfMade IsUnforgedRun }
 {
     runs_are_safe::<Space>();
     no_correct_replica_is_blamed::<Space>();
@@ -63,7 +63,7 @@ pub(crate) fn run_make<R: Threads + Sync, S: Sink>(
 }
 
 /// What the run of these lines came to, of which so many are asks, and the agreed list.
-fn run_made<R: Threads + Sync, M: Machine + Send>(
+pub(crate) fn run_made<R: Threads + Sync, M: Machine + Send>(
     rt: &R,
     alloc: Global,
     setup: Setup,

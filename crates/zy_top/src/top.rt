@@ -12,7 +12,7 @@ ghost use Rattle.zy_top.specs.Replaying.{IsBackedCommand, IsBlamelessCommand, Is
 ghost use Rattle.zy_top.specs.Truthful.{IsTruthful};
 ghost use Rattle.zy_top_words.specs.Words.{command_of, texts};
 
-use crate::calm::calm_replays_are_served;
+use crate::calm::{calm_schedules_are_served, run_calm};
 use crate::keys::key_file;
 use crate::making::{made_runs_are_safe, run_make};
 use crate::replays::{replays_are_safe, run_replay};
@@ -34,7 +34,8 @@ use zy_top_words::{Command, Exit, OpFault, command_of, op_read_alone, read_file,
 /// reply on a line of its own. `replay GROUP SCHEDULE` runs a schedule in the world of a group, and writes a line for each
 /// completion and each refusal, then where each replica stands, then the agreed list. `keys SEED PARTY HEIGHT` writes the secret file of a party's key, made from a seed of
 /// 64 hexadecimal digits, with its public key. `make NUMBER ASKS` runs the schedule of so many asks that the number makes in a
-/// world of four replicas, and writes what it came to in numbers and the agreed list.
+/// world of four replicas, and writes what it came to in numbers and the agreed list. `calm F SILENT ASKS` does so for a schedule of so
+/// many asks in a world of 5F + 1 replicas, of which the last so many are silent.
 ///
 /// `node GROUP SECRET PARTY TURNS` runs a replica of a group by its secret file for so many turns on the link, and writes where it
 /// stands then and the next signature of its key. `ask GROUP SECRET PARTY TURNS OP` asks for an operation as a client of a group by its
@@ -107,7 +108,7 @@ pub fn zyzzyva<R: Threads + Sync, F: Files, S: Sink, L: Link, C: Clock, D: Disk>
     ensures goes_on { ¬ Rose (F.faults files.old) (F.faults files.new) → ¬ Rose (S.faults out.old) (S.faults out.new) → ¬ Rose (L.faults link.old) (L.faults link.new)
         → ¬ Rose (D.faults disk.old) (D.faults disk.new) → GoesOnItself (F.held files.old) (D.contents disk.old) (command_of (texts words.now)) result }
 
-    // Whatever the answer is: in the run that a told group and a told schedule spell, and in the run that a number makes, every
+    // Whatever the answer is: in the run that a told group and a told schedule spell, and in the run that numbers make, every
     // world is safe, and the agreed list only grows.
     ensures headline { IsSafeCommand (F.held files.old) (command_of (texts words.now)) }
 
@@ -121,11 +122,13 @@ pub fn zyzzyva<R: Threads + Sync, F: Files, S: Sink, L: Link, C: Clock, D: Disk>
 
     // Where a told group and a told schedule are calm, with one request after another under a live primary, enough others that are live
     // and nothing lost but what goes to silent replicas, the report is due that tells of each request, in order, that it is complete, and
-    // of nothing else but what came too late for it. Or two texts share a digest, and at that event the run ends.
+    // of nothing else but what came too late for it. Or two texts share a digest, and at that event the run ends. In the wide profile all
+    // requests of `calm` complete on the fast path though f replicas are silent, and its summary says so in numbers.
     ensures calm { IsServedCommand (F.held files.old) (command_of (texts words.now)) }
 
     // A forged signature is told of a replay alone, and of none in whose schedule nobody lies: no liar signs a frame there, no bytes
-    // are sent as they are, and no key is made anew. So `make` stops before its end at two texts of one digest alone.
+    // are sent as they are, and no key is made anew. So `make` and `calm` stop before their end at two texts of one digest
+    // alone.
     ensures truthful { IsTruthful (F.held files.old) (command_of (texts words.now)) result }
 
     // Over any files, a refusal has not touched the sink.
@@ -140,7 +143,7 @@ pub fn zyzzyva<R: Threads + Sync, F: Files, S: Sink, L: Link, C: Clock, D: Disk>
 {
     replays_are_safe();
     made_runs_are_safe();
-    calm_replays_are_served();
+    calm_schedules_are_served();
     match command_of(words) {
         Ok(Command::Space(script)) => match run_space(alloc, script, files, out) {
             Ok(()) => Exit::Done,
@@ -157,6 +160,10 @@ pub fn zyzzyva<R: Threads + Sync, F: Files, S: Sink, L: Link, C: Clock, D: Disk>
             Err(exit) => exit,
         },
         Ok(Command::Make { number, asks }) => match run_make(rt, alloc, number, asks, out) {
+            Ok(()) => Exit::Done,
+            Err(exit) => exit,
+        },
+        Ok(Command::Calm(numbers)) => match run_calm(rt, alloc, numbers, out) {
             Ok(()) => Exit::Done,
             Err(exit) => exit,
         },

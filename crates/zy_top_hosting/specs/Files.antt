@@ -6,7 +6,6 @@ use Rattle.zy_base.specs.declared.ids.Party.TheVariants as parties
 use Rattle.zy_base.specs.declared.ids.ReplicaId.{ReplicaId}
 use Rattle.zy_base.specs.declared.ids.Stamp.{Stamp}
 use Rattle.zy_edge.specs.declared.link.binding.Address.{Address}
-use Rattle.zy_group.specs.Counts.{plain_counts}
 use Rattle.zy_group.specs.Members.{text_ask_group, text_node_group}
 use Rattle.zy_group.specs.Own.{own_key}
 use Rattle.zy_group.specs.Reading.{toml_of}
@@ -50,7 +49,7 @@ Replica = State (List (List Field))
 
 abbrev pub replica_of : ReplicaId → NodeGroup → KeyState → Replica
 replica_of id group key =
-    start_of space_rules group.k id (plain_counts group.members.f) group.members.keys (record { me = parties.Replica id; key = key })
+    start_of space_rules group.k id group.members.counts group.members.keys (record { me = parties.Replica id; key = key })
 
 -- ports are counted from that of the group
 abbrev pub node_seat : ReplicaId → NodeGroup → KeyState → Seat Replica
@@ -70,7 +69,7 @@ node_start id group secret =
 
 abbrev pub client_of : ClientId → AskGroup → Stamp → KeyState → ClientState
 client_of id group stamp key =
-    client_start id (plain_counts group.f) group.keys (record { me = parties.Client id; key = key }) stamp
+    client_start id group.counts group.keys (record { me = parties.Client id; key = key }) stamp
 
 abbrev pub ask_seat : ClientId → AskGroup → Stamp → KeyState → Seat ClientState
 ask_seat id group stamp key =

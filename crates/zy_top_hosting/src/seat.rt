@@ -10,7 +10,7 @@ use std::alloc::Global;
 use zy_base::{ClientId, Party, ReplicaId, Stamp, Want};
 use zy_client::Client;
 use zy_edge::Address;
-use zy_group::{AskGroup, NodeGroup, Secret, own_key, plain_counts};
+use zy_group::{AskGroup, NodeGroup, Secret, own_key};
 use zy_lms::HssKey;
 use zy_replica::Replica;
 use zy_seal::Sealer;
@@ -66,16 +66,13 @@ fn replica_of(
     ensures { IfOk result (λ replica. replica ≡ replica_of id group key) }
 {
     let NodeGroup { k, members } = group;
-    let AskGroup { f, keys, port: _ } = members;
+    let AskGroup {
+        counts,
+        keys,
+        port: _,
+    } = members;
     let sealer = Sealer::new(alloc, Party::Replica(id), key);
-    Replica::start(
-        alloc,
-        plain_counts(f),
-        id,
-        u64::from(k),
-        sealer,
-        keys.with_store(),
-    )
+    Replica::start(alloc, counts, id, u64::from(k), sealer, keys.with_store())
 }
 
 /// The client of the group that the secret is of.
@@ -114,7 +111,11 @@ fn client_of(
     requires stamp { stamp.0 ≤ 2 ^ 61 }
     ensures { IfOk result (λ client. client ≡ client_of id group stamp key) }
 {
-    let AskGroup { f, keys, port: _ } = group;
+    let AskGroup {
+        counts,
+        keys,
+        port: _,
+    } = group;
     let sealer = Sealer::new(alloc, Party::Client(id), key);
-    Client::start(alloc, plain_counts(f), id, sealer, keys.with_store(), stamp)
+    Client::start(alloc, counts, id, sealer, keys.with_store(), stamp)
 }

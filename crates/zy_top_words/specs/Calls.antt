@@ -72,6 +72,7 @@ IsCommand read (Ok (commands.TheVariants.Space script)) = read ≡ Ok (Command.S
 IsCommand read (Ok (commands.TheVariants.Replay group schedule)) = read ≡ Ok (Command.Replay group.now schedule.now)
 IsCommand read (Ok (commands.TheVariants.Keys seed by height)) = read ≡ Ok (Command.Keys seed by height)
 IsCommand read (Ok (commands.TheVariants.Make number asks)) = read ≡ Ok (Command.Make number asks.count)
+IsCommand read (Ok (commands.TheVariants.Calm numbers)) = read ≡ Ok (Command.Calm numbers.f numbers.silent numbers.asks)
 IsCommand read (Ok (commands.TheVariants.Node group secret id turns)) = read ≡ Ok (Command.Node group.now secret.now id turns)
 IsCommand read (Ok (commands.TheVariants.Serve group secret id turns journal)) = read ≡ Ok (Command.Serve group.now secret.now id turns journal.now)
 -- whose operation isn't judged yet

@@ -1,5 +1,5 @@
 -- The words of the command line.
-use Rattle.std.specs.Prelude.{ℕ, ◌^◌, ◌==◌, nat_le, Bool, false, if◌then◌else◌, List, [], ◌∷◌, map, codes, nat_eq, Option, Some, None, Result, Ok, Err, String, string_bytes}
+use Rattle.std.specs.Prelude.{ℕ, ◌+◌, ◌^◌, ◌==◌, nat_le, Bool, false, if◌then◌else◌, List, [], ◌∷◌, map, codes, nat_eq, Option, Some, None, Result, Ok, Err, String, string_bytes}
 use Rattle.std.specs.Cmp.Lexicographic.{pointwise}
 use Rattle.std.specs.declared.alloc.Global.{Global}
 use Rattle.hex.specs.Hex.{decode_sized}
@@ -25,6 +25,8 @@ pub data Command : Type 0 where
   Keys : List ℕ → Party → Height → Command
   -- run the schedule that the number makes, of so many asks
   Make : ℕ → ℕ → Command
+  -- run the calm schedule of the wide profile in which so many replicas may lie, so many of them are silent, and so many asks are made
+  Calm : ℕ → ℕ → ℕ → Command
   -- run a replica of the group for so many turns; the files of the group and of its secret have these names
   Node : List ℕ → List ℕ → ReplicaId → ℕ → Command
   -- ask for the operation as a client of the group, for so many turns at most
@@ -108,6 +110,41 @@ behind_number (Some number) (asks ∷ words) = behind_asks number (asks_of asks)
 abbrev pub make_words : List (List ℕ) → Result Command ℕ
 make_words [] = Err 2
 make_words (number ∷ words) = behind_number (number_below (2 ^ 32) number) words
+
+-- 1 or 2
+abbrev pub liars_of : List ℕ → Option ℕ
+liars_of word = at_least_one (number_below 3 word)
+
+-- from 1 to 31
+abbrev pub calm_asks_of : List ℕ → Option ℕ
+calm_asks_of word = at_least_one (number_below 32 word)
+
+-- behind a number of asks no word stands
+abbrev pub behind_calm_asks : ℕ → ℕ → Option ℕ → List (List ℕ) → Result Command ℕ
+behind_calm_asks f silent None words = Err 4
+behind_calm_asks f silent (Some asks) [] = Ok (Calm f silent asks)
+behind_calm_asks f silent (Some asks) (word ∷ words) = Err 5
+
+abbrev pub behind_silent : ℕ → ℕ → List (List ℕ) → Result Command ℕ
+behind_silent f silent [] = Err 4
+behind_silent f silent (asks ∷ words) = behind_calm_asks f silent (calm_asks_of asks) words
+
+abbrev pub if_silent : ℕ → Option ℕ → List (List ℕ) → Result Command ℕ
+if_silent f None words = Err 3
+if_silent f (Some silent) words = behind_silent f silent words
+
+abbrev pub behind_liars : ℕ → List (List ℕ) → Result Command ℕ
+behind_liars f [] = Err 3
+behind_liars f (silent ∷ words) = if_silent f (number_below (f + 1) silent) words
+
+abbrev pub if_liars : Option ℕ → List (List ℕ) → Result Command ℕ
+if_liars None words = Err 2
+if_liars (Some f) words = behind_liars f words
+
+-- behind `calm` stand how many replicas may lie, how many of them are silent, and a number of asks
+abbrev pub calm_words : List (List ℕ) → Result Command ℕ
+calm_words [] = Err 2
+calm_words (f ∷ words) = if_liars (liars_of f) words
 
 -- ---- on the network
 
@@ -243,6 +280,7 @@ command_of (word ∷ words) =
     else (if is_word word (codes "replay") then replay_words words
     else (if is_word word (codes "keys") then keys_words words
     else (if is_word word (codes "make") then make_words words
+    else (if is_word word (codes "calm") then calm_words words
     else (if is_word word (codes "node") then node_words words
     else (if is_word word (codes "ask") then ask_words words
-    else (if is_word word (codes "serve") then serve_words words else Err 1))))))
+    else (if is_word word (codes "serve") then serve_words words else Err 1)))))))

@@ -2,6 +2,7 @@
 #![tactic(auto)]
 
 mod asks;
+mod calm;
 mod command_line;
 mod exit;
 mod fault_text;
@@ -10,7 +11,7 @@ mod reading;
 mod words;
 mod writing;
 
-pub use asks::Asks;
+pub use asks::{Asks, CalmNumbers};
 pub use command_line::line_words;
 pub use exit::{Broken, Exit};
 pub use fault_text::{FaultText, ending};

@@ -4,7 +4,8 @@ ghost use Rattle.zy_tuple.specs.Parties.{number_below};
 ghost use Rattle.zy_top_words.specs.Calls.{IsCommand};
 ghost use Rattle.zy_top_words.specs.Words.{asks_of, behind_group, behind_seed, command_of, height_read, keys_words, make_words, replay_words, space_words, texts};
 
-use crate::asks::Asks;
+use crate::asks::{Asks, CalmNumbers};
+use crate::calm::calm_words;
 use crate::hosted::{ask_words, node_words, serve_words};
 use hex::FromHex;
 use zy_base::{ClientId, Party, ReplicaId};
@@ -32,6 +33,8 @@ pub enum Command<'a> {
         number: u32,
         asks: Asks,
     },
+    /// Run the calm schedule of these numbers in the wide profile.
+    Calm(CalmNumbers),
     /// Run a replica of the group for so many turns; the files of the group and of its secret have these names.
     Node {
         group: &'a str,
@@ -70,6 +73,7 @@ pub fn command_of(words: &[String]) -> Result<Command<'_>, u64>
         "replay" => replay_words(others),
         "keys" => keys_words(others),
         "make" => make_words(others),
+        "calm" => calm_words(others),
         "node" => node_words(others),
         "ask" => ask_words(others),
         "serve" => serve_words(others),

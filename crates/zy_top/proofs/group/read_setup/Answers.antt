@@ -2,21 +2,13 @@ use Rattle.std.proofs.Common.{Ok, Err, refl}
 use Rattle.std.proofs.lemmas.Result.{err_from_is_err_and}
 use Rattle.zy_group.proofs.TextLaws.{text_read}
 use Rattle.zy_group.specs.Replay.{text_group}
-use Rattle.zy_top.proofs.GroupLaws.{fault_reads, group_starts, setup_read}
+use Rattle.zy_top.proofs.GroupLaws.{fault_reads, setup_read}
 use Rattle.zy_top.proofs.group.read_setup.Goals as goal
 
 pub returns-in_err-group : goal.returns-in_err-group
 returns-in_err-group c =
     let p = err_from_is_err_and c.from_residual.result c.from_residual.ensures.1 in
     rw (p.1, p.2) (fault_reads _ _ (text_read 0 text_group c.args.text.now (Err _) refl c.in_err-group.ensures.read c.in_err-group.ensures.no_text))
-
-pub setup_of-requires-clause-least : goal.setup_of-requires-clause-least
-setup_of-requires-clause-least c =
-    (group_starts c.args.text.now c.in_ok-group.group (text_read 0 text_group c.args.text.now (Ok c.in_ok-group.group) refl c.in_ok-group.ensures.read c.in_ok-group.ensures.no_text)).1.0
-
-pub setup_of-requires-clause-most : goal.setup_of-requires-clause-most
-setup_of-requires-clause-most c =
-    (group_starts c.args.text.now c.in_ok-group.group (text_read 0 text_group c.args.text.now (Ok c.in_ok-group.group) refl c.in_ok-group.ensures.read c.in_ok-group.ensures.no_text)).1.1
 
 pub returns : goal.returns
 returns c =

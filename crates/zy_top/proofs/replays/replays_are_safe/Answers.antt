@@ -6,7 +6,7 @@ use Rattle.zy_top.proofs.GroupLaws.{group_starts, start_sets_up}
 use Rattle.zy_top.proofs.replays.replays_are_safe.Goals as goal
 
 sets_up : (group : List ℕ) (told : ReplayGroup) → group_of group ≡ Ok told → IsSetup (setup_of told)
-sets_up group told read = start_sets_up (setup_of told) (group_starts group told read).0
+sets_up group told read = start_sets_up (setup_of told) (group_starts group told read)
 
 pub returns : goal.returns
 returns c = record {

@@ -7,9 +7,9 @@ use Rattle.zy_top_words.specs.Words.{Command, asked, command_of, op_alone, texts
 use Rattle.zy_top_words.specs.declared.exit.Exit.TheVariants as exits
 use Rattle.zy_edge.specs.Files.{content_of}
 use Rattle.zy_top.specs.Keys.{key_file}
-use Rattle.zy_top.specs.Verdict.{make_verdict, replay_verdict, verdict}
+use Rattle.zy_top.specs.Verdict.{calm_verdict, make_verdict, replay_verdict, verdict}
 use Rattle.zy_top_words.proofs.Endings.{cut_short, told_finishes}
-use Rattle.zy_top.proofs.CalmReplays.{served_command}
+use Rattle.zy_top.proofs.CalmReplays.{replay_served}
 use Rattle.zy_top.proofs.Headline.{of_commands}
 use Rattle.zy_top.specs.Replaying.{IsBackedRun, IsBlamelessRun, IsSafeRun}
 use Rattle.zy_top.proofs.HostLaws.{asked_in_vain, nothing_due, turns_end, unbound}
@@ -17,7 +17,7 @@ use Rattle.zy_top.proofs.KeptLaws.{asked_goes_on, asked_leaves, left_counted, ow
 use Rattle.zy_top_hosting.specs.Identity.{identity_of}
 use Rattle.zy_top.proofs.MadeRuns.{made_finishes, own_answer}
 use Rattle.zy_top.proofs.ReplayLaws.{sent_runs}
-use Rattle.zy_top.proofs.TruthfulRuns.{make_truthful, replay_truthful}
+use Rattle.zy_top.proofs.TruthfulRuns.{calm_truthful, make_truthful, replay_truthful}
 use Rattle.zy_top.proofs.top.zyzzyva.Goals as goal
 
 pub returns-in-Ok-run_keys-clause-own : goal.returns-in-Ok-run_keys-clause-own
@@ -47,7 +47,8 @@ returns-in-Ok-run_replay-clause-backed g c =
 
 pub returns-in-Ok-run_replay-clause-calm : goal.returns-in-Ok-run_replay-clause-calm
 returns-in-Ok-run_replay-clause-calm g c =
-    served_command c.calm_replays_are_served.ensures (g.F.Files.held c.args.files.now) (command_of (texts c.args.words.now))
+    let read : command_of (texts c.args.words.now) ≡ Ok (Command.Replay c.in-Ok-Replay.group.now c.in-Ok-Replay.schedule.now) = rw c.in-Ok-Replay.field-0-is at c.in-Ok-Replay.ensures in
+    rw read (replay_served c.calm_schedules_are_served.ensures.replays (g.F.Files.held c.args.files.now) c.in-Ok-Replay.group.now c.in-Ok-Replay.schedule.now)
 
 pub returns-in-Ok-run_make-clause-headline : goal.returns-in-Ok-run_make-clause-headline
 returns-in-Ok-run_make-clause-headline g c =
@@ -75,7 +76,8 @@ returns-in-Err-run_replay-clause-backed g c =
 
 pub returns-in-Err-run_replay-clause-calm : goal.returns-in-Err-run_replay-clause-calm
 returns-in-Err-run_replay-clause-calm g c =
-    served_command c.calm_replays_are_served.ensures (g.F.Files.held c.args.files.now) (command_of (texts c.args.words.now))
+    let read : command_of (texts c.args.words.now) ≡ Ok (Command.Replay c.in-Ok-Replay.group.now c.in-Ok-Replay.schedule.now) = rw c.in-Ok-Replay.field-0-is at c.in-Ok-Replay.ensures in
+    rw read (replay_served c.calm_schedules_are_served.ensures.replays (g.F.Files.held c.args.files.now) c.in-Ok-Replay.group.now c.in-Ok-Replay.schedule.now)
 
 pub returns-in-Err-run_make-clause-headline : goal.returns-in-Err-run_make-clause-headline
 returns-in-Err-run_make-clause-headline g c =
@@ -183,7 +185,7 @@ returns-in-Ok-run_replay-clause-truthful g c =
 pub returns-in-Ok-run_make-clause-truthful : goal.returns-in-Ok-run_make-clause-truthful
 returns-in-Ok-run_make-clause-truthful g c =
     let read : command_of (texts c.args.words.now) ≡ Ok (Command.Make c.in-Ok-Make.number c.in-Ok-Make.asks.count) = rw c.in-Ok-Make.field-0-is at c.in-Ok-Make.ensures in
-    rw read (make_truthful c.in-Ok-Make.number c.in-Ok-Make.asks.count exits.Done (c.made_runs_are_safe.ensures.unforged c.in-Ok-Make.number c.in-Ok-Make.asks.count) c.in-Ok-run_make.ensures.answer)
+    rw read (make_truthful c.in-Ok-Make.number c.in-Ok-Make.asks.count exits.Done (c.made_runs_are_safe.ensures.unforged.0 c.in-Ok-Make.number c.in-Ok-Make.asks.count) c.in-Ok-run_make.ensures.answer)
 
 pub returns-in-Err-run_replay-clause-truthful : goal.returns-in-Err-run_replay-clause-truthful
 returns-in-Err-run_replay-clause-truthful g c =
@@ -195,7 +197,90 @@ returns-in-Err-run_replay-clause-truthful g c =
 pub returns-in-Err-run_make-clause-truthful : goal.returns-in-Err-run_make-clause-truthful
 returns-in-Err-run_make-clause-truthful g c =
     let read : command_of (texts c.args.words.now) ≡ Ok (Command.Make c.in-Ok-Make.number c.in-Ok-Make.asks.count) = rw c.in-Ok-Make.field-0-is at c.in-Ok-Make.ensures in
-    rw read (make_truthful c.in-Ok-Make.number c.in-Ok-Make.asks.count _ (c.made_runs_are_safe.ensures.unforged c.in-Ok-Make.number c.in-Ok-Make.asks.count) c.in-Err-run_make.ensures.answer)
+    rw read (make_truthful c.in-Ok-Make.number c.in-Ok-Make.asks.count _ (c.made_runs_are_safe.ensures.unforged.0 c.in-Ok-Make.number c.in-Ok-Make.asks.count) c.in-Err-run_make.ensures.answer)
+
+-- ---- a calm schedule in the wide profile
+
+pub returns-in-Ok-run_calm-clause-headline : goal.returns-in-Ok-run_calm-clause-headline
+returns-in-Ok-run_calm-clause-headline g c =
+    of_commands IsSafeRun c.replays_are_safe.ensures.safe c.made_runs_are_safe.ensures.safe (g.F.Files.held c.args.files.now) (command_of (texts c.args.words.now))
+
+pub returns-in-Ok-run_calm-clause-blameless : goal.returns-in-Ok-run_calm-clause-blameless
+returns-in-Ok-run_calm-clause-blameless g c =
+    of_commands IsBlamelessRun c.replays_are_safe.ensures.blameless c.made_runs_are_safe.ensures.blameless (g.F.Files.held c.args.files.now) (command_of (texts c.args.words.now))
+
+pub returns-in-Ok-run_calm-clause-backed : goal.returns-in-Ok-run_calm-clause-backed
+returns-in-Ok-run_calm-clause-backed g c =
+    of_commands IsBackedRun c.replays_are_safe.ensures.backed c.made_runs_are_safe.ensures.backed (g.F.Files.held c.args.files.now) (command_of (texts c.args.words.now))
+
+pub returns-in-Ok-run_calm-clause-calm : goal.returns-in-Ok-run_calm-clause-calm
+returns-in-Ok-run_calm-clause-calm g c =
+    let numbers = c.in-Ok-Calm.numbers in
+    let read : command_of (texts c.args.words.now) ≡ Ok (Command.Calm numbers.f numbers.silent numbers.asks) = rw c.in-Ok-Calm.field-0-is at c.in-Ok-Calm.ensures in
+    rw read (c.calm_schedules_are_served.ensures.wide numbers.f numbers.silent numbers.asks numbers.some numbers.few numbers.few_silent numbers.few_asks)
+
+pub returns-in-Ok-run_calm-clause-own : goal.returns-in-Ok-run_calm-clause-own
+returns-in-Ok-run_calm-clause-own g c =
+    let numbers = c.in-Ok-Calm.numbers in
+    let read : command_of (texts c.args.words.now) ≡ Ok (Command.Calm numbers.f numbers.silent numbers.asks) = rw c.in-Ok-Calm.field-0-is at c.in-Ok-Calm.ensures in
+    let made = c.in-Ok-run_calm.ensures in
+    rw read (refl, own_answer _ (Ok c.in-Ok-run_calm.field-0) _ (g.S.Sink.taken c.run_calm.new.out) _ (g.S.Sink.faults c.run_calm.new.out) made.answer made.exit made.written made.count)
+
+pub returns-in-Ok-run_calm-clause-truthful : goal.returns-in-Ok-run_calm-clause-truthful
+returns-in-Ok-run_calm-clause-truthful g c =
+    let numbers = c.in-Ok-Calm.numbers in
+    let read : command_of (texts c.args.words.now) ≡ Ok (Command.Calm numbers.f numbers.silent numbers.asks) = rw c.in-Ok-Calm.field-0-is at c.in-Ok-Calm.ensures in
+    rw read (calm_truthful numbers.f numbers.silent numbers.asks exits.Done (c.made_runs_are_safe.ensures.unforged.1 numbers.f numbers.silent numbers.asks) c.in-Ok-run_calm.ensures.answer)
+
+pub returns-in-Err-run_calm-clause-headline : goal.returns-in-Err-run_calm-clause-headline
+returns-in-Err-run_calm-clause-headline g c =
+    of_commands IsSafeRun c.replays_are_safe.ensures.safe c.made_runs_are_safe.ensures.safe (g.F.Files.held c.args.files.now) (command_of (texts c.args.words.now))
+
+pub returns-in-Err-run_calm-clause-blameless : goal.returns-in-Err-run_calm-clause-blameless
+returns-in-Err-run_calm-clause-blameless g c =
+    of_commands IsBlamelessRun c.replays_are_safe.ensures.blameless c.made_runs_are_safe.ensures.blameless (g.F.Files.held c.args.files.now) (command_of (texts c.args.words.now))
+
+pub returns-in-Err-run_calm-clause-backed : goal.returns-in-Err-run_calm-clause-backed
+returns-in-Err-run_calm-clause-backed g c =
+    of_commands IsBackedRun c.replays_are_safe.ensures.backed c.made_runs_are_safe.ensures.backed (g.F.Files.held c.args.files.now) (command_of (texts c.args.words.now))
+
+pub returns-in-Err-run_calm-clause-calm : goal.returns-in-Err-run_calm-clause-calm
+returns-in-Err-run_calm-clause-calm g c =
+    let numbers = c.in-Ok-Calm.numbers in
+    let read : command_of (texts c.args.words.now) ≡ Ok (Command.Calm numbers.f numbers.silent numbers.asks) = rw c.in-Ok-Calm.field-0-is at c.in-Ok-Calm.ensures in
+    rw read (c.calm_schedules_are_served.ensures.wide numbers.f numbers.silent numbers.asks numbers.some numbers.few numbers.few_silent numbers.few_asks)
+
+pub returns-in-Err-run_calm-clause-own : goal.returns-in-Err-run_calm-clause-own
+returns-in-Err-run_calm-clause-own g c =
+    let numbers = c.in-Ok-Calm.numbers in
+    let read : command_of (texts c.args.words.now) ≡ Ok (Command.Calm numbers.f numbers.silent numbers.asks) = rw c.in-Ok-Calm.field-0-is at c.in-Ok-Calm.ensures in
+    let made = c.in-Err-run_calm.ensures in
+    rw read (refl, own_answer _ (Err c.in-Err-run_calm.exit) _ (g.S.Sink.taken c.run_calm.new.out) _ (g.S.Sink.faults c.run_calm.new.out) made.answer made.exit made.written made.count)
+
+pub returns-in-Err-run_calm-clause-truthful : goal.returns-in-Err-run_calm-clause-truthful
+returns-in-Err-run_calm-clause-truthful g c =
+    let numbers = c.in-Ok-Calm.numbers in
+    let read : command_of (texts c.args.words.now) ≡ Ok (Command.Calm numbers.f numbers.silent numbers.asks) = rw c.in-Ok-Calm.field-0-is at c.in-Ok-Calm.ensures in
+    rw read (calm_truthful numbers.f numbers.silent numbers.asks _ (c.made_runs_are_safe.ensures.unforged.1 numbers.f numbers.silent numbers.asks) c.in-Err-run_calm.ensures.answer)
+
+pub returns-in-Err-run_calm-clause-complete : goal.returns-in-Err-run_calm-clause-complete
+returns-in-Err-run_calm-clause-complete g c =
+    let numbers = c.in-Ok-Calm.numbers in
+    let read : command_of (texts c.args.words.now) ≡ Ok (Command.Calm numbers.f numbers.silent numbers.asks) = rw c.in-Ok-Calm.field-0-is at c.in-Ok-Calm.ensures in
+    let made = c.in-Err-run_calm.ensures in
+    rw read
+    (made_finishes (g.F.Files.held c.args.files.now) (calm_verdict numbers.f numbers.silent numbers.asks) (Err c.in-Err-run_calm.exit) (g.F.Files.faults c.args.files.now) (g.F.Files.faults c.args.files.now)
+    (g.S.Sink.faults c.args.out.now) (g.S.Sink.faults c.run_calm.new.out) made.answer made.exit made.count)
+
+pub returns-in-Err-run_calm-clause-kept : goal.returns-in-Err-run_calm-clause-kept
+returns-in-Err-run_calm-clause-kept g c =
+    let numbers = c.in-Ok-Calm.numbers in
+    let read : command_of (texts c.args.words.now) ≡ Ok (Command.Calm numbers.f numbers.silent numbers.asks) = rw c.in-Ok-Calm.field-0-is at c.in-Ok-Calm.ensures in
+    rw read (refl, running_journal c.in-Err-run_calm.exit c.in-Err-run_calm.ensures.exit)
+
+pub returns-in-Err-run_calm-clause-disk_faults : goal.returns-in-Err-run_calm-clause-disk_faults
+returns-in-Err-run_calm-clause-disk_faults g c =
+    left_counted c.in-Err-run_calm.exit (g.D.Disk.faults c.args.disk.now) (running_journal c.in-Err-run_calm.exit c.in-Err-run_calm.ensures.exit)
 
 -- ---- the disk, which other commands leave alone
 
