@@ -31,8 +31,6 @@ fn owed_by_change<M: Machine>(core: &Core<M>, vote: &Signed<Change>) -> Result<O
     ensures in_range { IfOk result IsOwedInRange }
     ensures enters { IfOk result (CanAll core.now) }
 {
-    // What is kept for changes of view fits.
-    let _view = core.views().view();
     let told = core.report()?;
     let owed = core.views().change(vote, &told);
     drop(told);
@@ -45,6 +43,7 @@ fn kept_unless<M: Machine>(core: Core<M>, send: Option<ReplicaId>, vote: Signed<
     requires kept { send ≡ None → IsKeptChange core.views.counts core.views.interval (number_of_party vote.by) vote }
     ensures { result ≡ kept_as send vote core }
 {
+    // With its view comes what holds of every replica: its group is that of its reports.
     let _view = core.view();
     match send {
         None => core.with_change(vote),

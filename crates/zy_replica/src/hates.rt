@@ -27,8 +27,6 @@ pub(crate) fn owed_by_hate<M: Machine>(core: &Core<M>, vote: &Signed<Hate>) -> R
     ensures enters { IfOk result (CanAll core.now) }
     ensures leaves { IfOk result (LeavesToEnter core.now) }
 {
-    // What is kept for changes of view fits.
-    let _view = core.views().view();
     let told = core.report()?;
     let owed = core.views().hate(vote, &told);
     drop(told);

@@ -43,8 +43,6 @@ fn owed_by_leave<M: Machine>(core: &Core<M>) -> Result<Owed, Want>
     ensures in_range { IfOk result IsOwedInRange }
     ensures enters { IfOk result (CanAll core.now) }
 {
-    // What is kept for changes of view fits.
-    let _view = core.views().view();
     let told = core.report()?;
     let owed = core.views().leaving(next_view(core), &told);
     drop(told);

@@ -24,23 +24,12 @@ use zy_replica_state::{Core, Moved, Progress, signed_copy};
 use zy_replica_views::{Ending, carry, judge_owed};
 use zy_table::{Body, To};
 
-// The own hate of the own view, where it was said.
-fn own_hate<M: Machine>(core: &Core<M>) -> Option<&Signed<Hate>>
-    ensures said { option_copied result ≡ own_of core.now }
-    ensures range { ForSome (own_of core.now) (IsSignedInRange IsHateInRange) }
-{
-    match core.hate() {
-        Some(said) if said.stmt.view == core.view() => Some(said),
-        _ => None,
-    }
-}
-
 // It goes to all. It is signed where it wasn't, and kept for good.
 fn say_hate<M: Machine>(progress: Progress<M>) -> Result<Progress<M>, Want>
     requires left { signs_of (own_of progress.state) ≤ signs_left progress.state }
     ensures { IfOk result (λ g. g ≡ said_as M.rules (own_of progress.state) progress) }
 {
-    if let Some(said) = own_hate(&progress.core) {
+    if let Some(said) = progress.core.own_hate() {
         let again = signed_copy(said)?;
         return progress.send(To::All, Frame::Hate(again));
     }
@@ -101,7 +90,7 @@ pub(crate) fn hate_and_ask<M: Machine>(progress: Progress<M>) -> Result<Moved<M>
     requires { progress.deeds.acts ≡ [] }
     ensures { IfOk result (λ m. m ≡ finished M.rules progress.state (then_ask (hate_row M.rules progress))) }
 {
-    let signs = match own_hate(&progress.core) {
+    let signs = match progress.core.own_hate() {
         None => 1,
         Some(_) => 0,
     };

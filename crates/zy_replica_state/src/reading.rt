@@ -14,6 +14,7 @@ ghost use Rattle.zy_table.specs.Roles.{is_primary_of, view_cause};
 ghost use Rattle.zy_table.specs.Running.{still_pending};
 ghost use Rattle.zy_table.specs.Orders.{hole_of};
 ghost use Rattle.zy_table.specs.Commits.{local_said};
+ghost use Rattle.zy_change.specs.Fit.{IsFit};
 ghost use Rattle.zy_replica_state.specs.Ready.{IsKeptPending, IsOrderReady, IsReady};
 ghost use Rattle.zy_seal.specs.Sealing.{signatures_by};
 
@@ -101,6 +102,7 @@ impl<M: Machine> Core<M> {
         ensures view { result.0 ≡ own_view self.now }
         ensures range { result.0 < 2 ^ 62 }
         ensures ready { IsReady self.now }
+        ensures fit { IsFit self.now.views }
     {
         self.views.view()
     }

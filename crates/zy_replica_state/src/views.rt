@@ -11,6 +11,7 @@ ghost use Rattle.zy_change.specs.Fit.{IsAccepted, IsCertified, IsFit, IsKeptBega
 ghost use Rattle.zy_change.specs.Views as views;
 ghost use Rattle.zy_table.specs.Sending.{CanBeSent};
 ghost use Rattle.zy_table.specs.declared.deeds.AnyFrame.TheVariants as sent;
+ghost use Rattle.zy_table.specs.Hates.{own_hate};
 ghost use Rattle.zy_table.specs.State.{own_view, signs_left, spent};
 ghost use Rattle.zy_table.specs.Leaving.{report_of, sealed_change, without_waiting, left_with};
 ghost use Rattle.zy_replica_state.specs.Ready.{IsReady, IsWaitingReady};
@@ -27,16 +28,22 @@ impl<M: Machine> Core<M> {
     pub fn views(&self) -> &ViewMachine
         ensures views { result.now ≡ self.now.views }
         ensures ready { IsReady self.now }
+        ensures fit { IsFit self.now.views }
     {
+        // What is kept for changes of view fits: with a read of it comes that.
+        let _own = self.views.view();
         &self.views
     }
 
-    /// The hate that it said last.
-    pub fn hate(&self) -> Option<&Signed<Hate>>
-        ensures hate { option_copied result ≡ self.now.hate }
-        ensures range { ForSome self.now.hate (IsSignedInRange IsHateInRange) }
+    /// The hate of its own view, where it said one.
+    pub fn own_hate(&self) -> Option<&Signed<Hate>>
+        ensures said { option_copied result ≡ own_hate self.now }
+        ensures range { ForSome (own_hate self.now) (IsSignedInRange IsHateInRange) }
     {
-        self.hate.as_ref()
+        match &self.hate {
+            Some(said) if said.stmt.view == self.view() => Some(said),
+            _ => None,
+        }
     }
 
     /// The report that it would sign now.

@@ -19,7 +19,7 @@ ghost use Rattle.zy_replica_views.specs.Signing.{signs_by};
 ghost use Rattle.zy_replica_views.specs.Out.{out_of};
 
 use crate::beginning::take_up;
-use crate::waiting::{view_of, wait_for};
+use crate::waiting::wait_for;
 use zy_base::{Answer, Machine, Want};
 use zy_change::Chosen;
 use zy_replica_state::{Core, Moved, Progress};
@@ -40,7 +40,8 @@ pub fn adopt<M: Machine>(
     requires left { (provider : Signed Change) → slice_get cert.new.stmt.changes chosen.provider ≡ Some provider → signs_by progress.state cert.new.stmt.view provider.stmt.told chosen.place waits ≤ signs_left progress.state }
     ensures { IfOk result (λ m. adopting M.rules cert chosen progress ≡ goes m.answer (record { state = m.state; deeds = m.deeds })) }
 {
-    let _own = view_of(&progress.core);
+    // With its view comes what holds of every replica: its report breaks no rule.
+    let _view = progress.core.view();
     if waits {
         Ok(wait_for(progress, cert, chosen)?.ends(Answer::Held))
     } else {

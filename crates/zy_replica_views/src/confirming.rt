@@ -137,7 +137,6 @@ fn owed_by_vote<M: Machine>(core: &Core<M>, vote: &Signed<Began>) -> Result<Owed
     ensures owed { IfOk result (IsBeganOwed core.now vote.now) }
     ensures fit { IsFit core.now.views }
 {
-    let _own = core.views().view();
     zy_change::began(core.views(), vote)
 }
 

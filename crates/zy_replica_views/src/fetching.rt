@@ -143,8 +143,6 @@ fn shown_waiting<M: Machine>(core: &Core<M>, snapshot: &[u8]) -> Result<Exec<M>,
     ensures shown { (w : Waiting) (provider : IsSigned Change) → IsAwaited core.now.views.waiting w provider → IfOk result (IsShownAt M.rules core.now.kept.interval provider.stmt.told snapshot.now) }
     ensures not_state { (w : Waiting) (provider : IsSigned Change) → IsAwaited core.now.views.waiting w provider → IsErrOf result NotState → point_in M.rules provider.stmt.told.stable_place provider.stmt.told.stable_head snapshot.now ≡ None }
 {
-    // With its view comes what holds of every replica: the report breaks no rule.
-    let _own = core.views().view();
     match core.views().waiting() {
         None => unreachable!(),
         Some(waiting) => shown(core, told_in(&waiting.cert, &waiting.chosen), snapshot),
@@ -235,7 +233,7 @@ fn is_fit<M: Machine>(core: &Core<M>) -> bool
     ensures fit { IsFit core.now.views }
     ensures signer { IsSigner core.now }
 {
-    let _own = core.views().view();
+    let _view = core.view();
     is_signer(core)
 }
 

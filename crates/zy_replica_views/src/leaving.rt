@@ -30,15 +30,6 @@ use zy_replica_state::{Core, Progress, signed_copy};
 use zy_table::{Body, To};
 use zy_vframes::{ViewCert, ViewFrame};
 
-// Its view. Beside it what holds of every replica.
-fn view_of<M: Machine>(core: &Core<M>) -> View
-    ensures view { result.0 ≡ own_view core.now }
-    ensures ready { IsReady core.now }
-    ensures fit { IsFit core.now.views }
-{
-    core.views().view()
-}
-
 // ---- a leave
 
 // The report is signed and kept, and what waits in the own view is dropped. Beside it the signed report.
@@ -94,7 +85,6 @@ fn seal_new<M: Machine>(core: Core<M>, view: View) -> Result<(Core<M>, Signed<Ne
     ensures reports { IfOk result (λ r. All (IsGiven core.views.counts core.views.interval view) r.1.stmt.changes) }
     ensures sends { IfOk result (λ r. CanBeSent (any.View (frames.NewView r.1))) }
 {
-    let _own = view_of(&core);
     let new = core.views().gathered(view)?;
     let (core, signed) = core.seal(new)?;
     Ok((core, signed))
@@ -156,7 +146,8 @@ fn seal_began<M: Machine>(
     ensures began { IfOk result (λ r. r.1 ≡ sealed_began core accepted.now) }
     ensures own { IfOk result (λ r. IsOwnBegan core.views.me accepted.now r.1) }
 {
-    let _own = view_of(&core);
+    // With its view comes what holds of every replica: it signs as itself.
+    let _view = core.view();
     let (core, signed) = core.seal(began_for(accepted.new.stmt.view, accepted.chosen))?;
     Ok((core, signed))
 }

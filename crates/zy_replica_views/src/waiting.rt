@@ -26,19 +26,10 @@ use zy_replica_state::{Core, Progress, signed_copy, told_in};
 use zy_table::{AnyFrame, Body, Sent, To};
 use zy_vframes::{ViewCert, ViewFrame};
 
-// Its view. Beside it what holds of every replica.
-pub(crate) fn view_of<M: Machine>(core: &Core<M>) -> View
-    ensures view { result.0 ≡ own_view core.now }
-    ensures ready { IsReady core.now }
-    ensures fit { IsFit core.now.views }
-{
-    core.views().view()
-}
-
 fn is_below<M: Machine>(core: &Core<M>, view: View) -> bool
     ensures { result ≡ nat_lt (own_view core.now) view.0 }
 {
-    view_of(core) < view
+    core.view() < view
 }
 
 /// A view above the own one is left for; no reports are collected for it. A signature is left where it is.
