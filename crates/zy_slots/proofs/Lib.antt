@@ -3,6 +3,7 @@ mod TimesLemmas
 mod RingLemmas
 mod ColumnLemmas
 pub mod ListLemmas
+pub mod ChangeLemmas
 mod NameLemmas
 mod AgeLemmas
 mod StepLemmas
