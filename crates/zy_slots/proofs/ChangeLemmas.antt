@@ -242,6 +242,17 @@ module _ {T : Type 0} (fits : List T → Type 0) (bucket_of : T → ℕ) where
       let stands = live.3 in
       omega (arith, ap (λ (c : Cells T). length c.live) (moved front cell back stands), length-append front back, length-append front (cell ∷ back), ap length stands.split)
 
+  -- ---- what a step makes of values that can go back
+
+  pub made_step : (cells cells' : Cells T) (changes changes' changes'' : List Change) (values : Timeline T → List T) (now : Timeline T) → line cells changes ≡ now → changes'' ≡ changes'
+      → IsMade cells cells' changes changes' (values (line cells changes)) → IsStep now (line cells' changes'') (values now)
+  made_step cells cells' changes changes' changes'' values now is more made =
+      subst (λ (t : Timeline T). IsStep t (line cells' changes'') (values t)) is
+      (subst (λ (l : List Change). IsStep (line cells changes) (line cells' l) (values (line cells changes))) (sym more) made.step)
+
+  pub made_sound : (cells cells' : Cells T) (changes changes' changes'' : List Change) (values : List T) → changes'' ≡ changes' → IsMade cells cells' changes changes' values → Sound cells' changes''
+  made_sound cells cells' changes changes' changes'' values more made = subst (Sound cells') (sym more) made.sound
+
   -- ---- going back
 
   pub back_sound : (cells : Cells T) (changes : List Change) (change : Change) → Sound cells (changes ++ change ∷ []) → CanUndo change cells × Sound (undone change cells) changes
@@ -258,6 +269,10 @@ module _ {T : Type 0} (fits : List T → Type 0) (bucket_of : T → ℕ) where
     pub sound : Sound cells' changes
     pub live : cells'.live ≡ cells.live
     pub trail : trail_of cells' changes ≡ drop 1 (trail_of cells (oldest ∷ changes))
+
+  -- the change that was dropped is the oldest of the sound changes
+  pub sound_with : (cells : Cells T) (all rest : List Change) (oldest change : Change) → all ≡ change ∷ rest → change ≡ oldest → Sound cells all → Sound cells (oldest ∷ rest)
+  sound_with cells all rest oldest change dropped is sound = subst (Sound cells) (dropped ∙ ap (λ (c : Change). c ∷ rest) is) sound
 
   -- a change that took nothing leaves the stack to the later ones
   leads_without : (oldest : Change) → ((cells : Cells T) → (undone oldest cells).stack ≡ cells.stack) → (cells : Cells T) (changes : List Change) → Leads cells (changes ++ oldest ∷ []) → Leads cells changes

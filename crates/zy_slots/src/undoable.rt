@@ -123,8 +123,9 @@ impl<T: Valued> Undoable<T> {
         requires { 0 < length self.old.trail }
         ensures { self.old.trail ≡ self.new.trail ++ values_of self.new.cells.live ∷ [] }
     {
-        if let Some(change) = self.changes.pop_back() {
-            self.live = undo_change(&mut self.slots, self.live, change);
+        match self.changes.pop_back() {
+            Some(change) => self.live = undo_change(&mut self.slots, self.live, change),
+            None => {}
         }
     }
 
@@ -138,7 +139,9 @@ impl<T: Valued> Undoable<T> {
             Some(Change::Took) => {
                 self.slots.forget();
             }
-            Some(Change::Same | Change::Put) | None => {}
+            Some(Change::Same) => {}
+            Some(Change::Put) => {}
+            None => {}
         }
     }
 }
