@@ -4,6 +4,7 @@ mod RingLemmas
 mod ColumnLemmas
 pub mod ListLemmas
 pub mod ChangeLemmas
+pub mod WalkLemmas
 mod NameLemmas
 mod AgeLemmas
 mod StepLemmas
