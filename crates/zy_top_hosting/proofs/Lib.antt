@@ -3,7 +3,6 @@ pub mod FileLaws
 pub mod Runs
 mod Asks
 pub mod Bound
-pub mod ShortOps
 mod Joins
 mod Opening
 mod Turning

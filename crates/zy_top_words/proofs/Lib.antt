@@ -2,3 +2,5 @@ pub mod Endings
 pub mod Known
 pub mod Stops
 pub mod Told
+pub mod MachineLaws
+pub mod ShortOps

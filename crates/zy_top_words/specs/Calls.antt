@@ -6,13 +6,8 @@ use Rattle.zy_group.specs.declared.fault.GroupFault.{GroupFault}
 use Rattle.zy_group.specs.declared.fault.GroupFault.TheVariants as group_faults
 use Rattle.zy_schedule.specs.declared.fault.ScheduleFault.{ScheduleFault}
 use Rattle.zy_schedule.specs.declared.fault.ScheduleFault.TheVariants as faults
-use Rattle.zy_tuple.specs.Reading.{op_read}
-use Rattle.zy_tuple.specs.Values.{IsOp}
-use Rattle.zy_tuple.specs.declared.values.Op.{Op}
-use Rattle.zy_top_words.specs.Words.{Command, Named, Posted, Turns, asked, op_alone, texts}
+use Rattle.zy_top_words.specs.Words.{Command, Named, Posted, Turns, texts}
 use Rattle.zy_top_words.specs.declared.hosted.Names.{Names}
-use Rattle.zy_top_words.specs.declared.hosted.OpFault.{OpFault}
-use Rattle.zy_top_words.specs.declared.hosted.OpFault.TheVariants as op_faults
 use Rattle.zy_top_words.specs.declared.hosted.PostedWords.{PostedWords}
 use Rattle.zy_top_words.specs.declared.hosted.TurnsRead.{TurnsRead}
 use Rattle.zy_top_words.specs.declared.words.Command as commands
@@ -69,14 +64,14 @@ IsSent old new bytes (Err exit) = ⊥
 -- the command that the words ask for, or the first word that is wrong
 abbrev pub IsCommand : Result Command ℕ → Result commands.Command ℕ → Type 0
 IsCommand read (Ok (commands.TheVariants.Space script)) = read ≡ Ok (Command.Space script.now)
+IsCommand read (Ok (commands.TheVariants.Guard script)) = read ≡ Ok (Command.Guard script.now)
 IsCommand read (Ok (commands.TheVariants.Replay group schedule)) = read ≡ Ok (Command.Replay group.now schedule.now)
 IsCommand read (Ok (commands.TheVariants.Keys seed by height)) = read ≡ Ok (Command.Keys seed by height)
 IsCommand read (Ok (commands.TheVariants.Make number asks)) = read ≡ Ok (Command.Make number asks.count)
 IsCommand read (Ok (commands.TheVariants.Calm numbers)) = read ≡ Ok (Command.Calm numbers.f numbers.silent numbers.asks)
 IsCommand read (Ok (commands.TheVariants.Node group secret id turns)) = read ≡ Ok (Command.Node group.now secret.now id turns)
 IsCommand read (Ok (commands.TheVariants.Serve group secret id turns journal)) = read ≡ Ok (Command.Serve group.now secret.now id turns journal.now)
--- whose operation isn't judged yet
-IsCommand read (Ok (commands.TheVariants.Ask group secret id turns op others)) = read ≡ asked group.now secret.now id turns (op_alone (op_read op.now) (texts others.now))
+IsCommand read (Ok (commands.TheVariants.Ask group secret id turns op)) = read ≡ Ok (Command.Ask group.now secret.now id turns op.now)
 IsCommand read (Err word) = read ≡ Err word
 
 -- how the program ends
@@ -104,9 +99,3 @@ posted_in posted = record { group = posted.group.now; secret = posted.secret.now
 abbrev pub IsPosted : Result Posted ℕ → Result PostedWords ℕ → Type 0
 IsPosted read (Ok posted) = read ≡ Ok (posted_in posted)
 IsPosted read (Err word) = read ≡ Err word
-
--- the operation that a word spells, with no word behind it
-abbrev pub IsOpRead : Result Op ℕ → Result Op OpFault → Type 0
-IsOpRead read (Ok op) = (read ≡ Ok op) × IsOp op
-IsOpRead read (Err (op_faults.Word word)) = read ≡ Err word
-IsOpRead read (Err op_faults.Want) = ⊤

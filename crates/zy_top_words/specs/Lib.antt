@@ -2,3 +2,4 @@ pub mod Words
 pub mod Ends
 pub mod Calls
 pub mod FaultText
+pub mod Machines

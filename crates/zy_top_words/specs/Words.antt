@@ -8,8 +8,6 @@ use Rattle.zy_base.specs.declared.ids.Party.{Party}
 use Rattle.zy_lms.specs.declared.height.Height.{Height}
 use Rattle.zy_tuple.specs.Parties.{number_below, party_of}
 use Rattle.zy_lms.specs.declared.height.Height.TheVariants.{H5, H10}
-use Rattle.zy_tuple.specs.Reading.{op_read}
-use Rattle.zy_tuple.specs.declared.values.Op.{Op}
 use Rattle.zy_base.specs.declared.ids.ClientId.{ClientId}
 use Rattle.zy_base.specs.declared.ids.ReplicaId.{ReplicaId}
 use Rattle.zy_base.specs.declared.ids.Party.TheVariants as parties
@@ -19,6 +17,8 @@ use Rattle.std.specs.Str.{bytes_eq}
 pub data Command : Type 0 where
   -- run the script in the file with this name
   Space : List ℕ → Command
+  -- the same for a script of the guarded space
+  Guard : List ℕ → Command
   -- run the schedule in the world of the group; the files of both have these names
   Replay : List ℕ → List ℕ → Command
   -- write the secret file of a party's key
@@ -29,8 +29,8 @@ pub data Command : Type 0 where
   Calm : ℕ → ℕ → ℕ → Command
   -- run a replica of the group for so many turns; the files of the group and of its secret have these names
   Node : List ℕ → List ℕ → ReplicaId → ℕ → Command
-  -- ask for the operation as a client of the group, for so many turns at most
-  Ask : List ℕ → List ℕ → ClientId → ℕ → Op → Command
+  -- ask as a client of the group, for so many turns at most, for the operation that this text is of the group's machine
+  Ask : List ℕ → List ℕ → ClientId → ℕ → List ℕ → Command
   -- run a replica as `Node` does, and keep its events in the journal with this name
   Serve : List ℕ → List ℕ → ReplicaId → ℕ → List ℕ → Command
 
@@ -45,11 +45,19 @@ abbrev pub begins_with_dash : List ℕ → Bool
 begins_with_dash [] = false
 begins_with_dash (c ∷ word) = c == 45
 
--- behind `space` stands the name of a script
-abbrev pub space_words : List (List ℕ) → Result Command ℕ
-space_words [] = Err 2
-space_words (script ∷ []) = if begins_with_dash script then Err 2 else Ok (Space script)
-space_words (script ∷ word ∷ words) = if begins_with_dash script then Err 2 else Err 3
+-- behind `space` and `guard` stands the name of a script, and no word more
+abbrev pub script_named : List (List ℕ) → Result (List ℕ) ℕ
+script_named [] = Err 2
+script_named (script ∷ []) = if begins_with_dash script then Err 2 else Ok script
+script_named (script ∷ word ∷ words) = if begins_with_dash script then Err 2 else Err 3
+
+abbrev pub space_named : Result (List ℕ) ℕ → Result Command ℕ
+space_named (Ok script) = Ok (Space script)
+space_named (Err word) = Err word
+
+abbrev pub guard_named : Result (List ℕ) ℕ → Result Command ℕ
+guard_named (Ok script) = Ok (Guard script)
+guard_named (Err word) = Err word
 
 -- behind the name of a group file stands that of a schedule
 abbrev pub behind_group : List ℕ → List (List ℕ) → Result Command ℕ
@@ -239,19 +247,11 @@ serve_posted (Ok posted) = serve_alone posted posted.others
 abbrev pub serve_words : List (List ℕ) → Result Command ℕ
 serve_words words = serve_posted (posted_of words)
 
--- and of `ask` an operation, and no word more
-abbrev pub op_alone : Result Op ℕ → List (List ℕ) → Result Op ℕ
-op_alone (Err rule) words = Err 6
-op_alone (Ok op) [] = Ok op
-op_alone (Ok op) (word ∷ words) = Err 7
-
-abbrev pub asked : List ℕ → List ℕ → ClientId → ℕ → Result Op ℕ → Result Command ℕ
-asked group secret id turns (Err word) = Err word
-asked group secret id turns (Ok op) = Ok (Ask group secret id turns op)
-
+-- and of `ask` an operation, which is judged once the group is read, and no word more
 abbrev pub ask_op : Named → ClientId → ℕ → List (List ℕ) → Result Command ℕ
 ask_op named id turns [] = Err 6
-ask_op named id turns (op ∷ words) = asked named.group named.secret id turns (op_alone (op_read op) words)
+ask_op named id turns (op ∷ []) = Ok (Ask named.group named.secret id turns op)
+ask_op named id turns (op ∷ word ∷ words) = Err 7
 
 abbrev pub ask_turns : Named → ClientId → Result Turns ℕ → Result Command ℕ
 ask_turns named id (Err word) = Err word
@@ -276,11 +276,12 @@ ask_words words = ask_named (names_of words)
 abbrev pub command_of : List (List ℕ) → Result Command ℕ
 command_of [] = Err 1
 command_of (word ∷ words) =
-    if is_word word (codes "space") then space_words words
+    if is_word word (codes "space") then space_named (script_named words)
+    else (if is_word word (codes "guard") then guard_named (script_named words)
     else (if is_word word (codes "replay") then replay_words words
     else (if is_word word (codes "keys") then keys_words words
     else (if is_word word (codes "make") then make_words words
     else (if is_word word (codes "calm") then calm_words words
     else (if is_word word (codes "node") then node_words words
     else (if is_word word (codes "ask") then ask_words words
-    else (if is_word word (codes "serve") then serve_words words else Err 1)))))))
+    else (if is_word word (codes "serve") then serve_words words else Err 1))))))))

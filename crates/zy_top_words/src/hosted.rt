@@ -1,14 +1,12 @@
 // The words behind `node`, `ask` and `serve`.
 ghost use Rattle.std.specs.Prelude.{◌≡◌};
 ghost use Rattle.zy_tuple.specs.Parties.{party_of};
-ghost use Rattle.zy_tuple.specs.Reading.{op_read};
-ghost use Rattle.zy_top_words.specs.Calls.{IsCommand, IsNamed, IsOpRead, IsPosted, IsTurnsRead, named_in, posted_in};
-ghost use Rattle.zy_top_words.specs.Words.{ask_op, ask_party, ask_words, client_in, names_of, node_alone, node_words, op_alone, posted_of, posted_party, replica_in, secret_named, serve_alone, serve_words, texts, turns_of};
+ghost use Rattle.zy_top_words.specs.Calls.{IsCommand, IsNamed, IsPosted, IsTurnsRead, named_in, posted_in};
+ghost use Rattle.zy_top_words.specs.Words.{ask_op, ask_party, ask_words, client_in, names_of, node_alone, node_words, posted_of, posted_party, replica_in, secret_named, serve_alone, serve_words, texts, turns_of};
 
 use crate::words::{Command, number_read};
-use std::alloc::Global;
 use zy_base::{ClientId, Party, ReplicaId};
-use zy_tuple::{LineFault, Op, op_text_read, party_text_read};
+use zy_tuple::party_text_read;
 
 /// The names of a group file and of a secret file, and the words behind them.
 #[derive(Clone, Copy)]
@@ -182,7 +180,7 @@ fn serve_alone(posted: PostedWords<'_>) -> Result<Command<'_>, u64>
 }
 
 /// Behind `ask` stand the names of a group file and of a secret file, a client, a number of turns, and an operation, which
-/// is judged by `op_read_alone`.
+/// is judged by `op_of`.
 pub(crate) fn ask_words(words: &[String]) -> Result<Command<'_>, u64>
     ensures { IsCommand (ask_words (texts words.now)) result }
 {
@@ -218,37 +216,14 @@ fn ask_op<'a>(
     let [op, others @ ..] = words else {
         return Err(6);
     };
+    if !others.is_empty() {
+        return Err(7);
+    }
     Ok(Command::Ask {
         group: names.group,
         secret: names.secret,
         id,
         turns,
         op: op.as_str(),
-        others,
     })
-}
-
-/// Why no operation is asked for.
-#[derive(Clone, Copy, Debug, PartialEq, Eq)]
-pub enum OpFault {
-    /// The word with this number, counted from 1, is no operation or is too many.
-    Word(u64),
-    Want,
-}
-
-/// The operation that the sixth word spells, with no word behind it.
-pub fn op_read_alone(alloc: Global, op: &str, others: &[String]) -> Result<Op, OpFault>
-    ensures { IsOpRead (op_alone (op_read op.now) (texts others.now)) result }
-{
-    match op_text_read(alloc, op.as_bytes()) {
-        Ok(op) => {
-            if others.is_empty() {
-                Ok(op)
-            } else {
-                Err(OpFault::Word(7))
-            }
-        }
-        Err(LineFault::Rule(_)) => Err(OpFault::Word(6)),
-        Err(LineFault::Want) => Err(OpFault::Want),
-    }
 }

@@ -1,8 +1,8 @@
 // The words of the command line, judged by hand: the number of the first that isn't allowed is exact.
-ghost use Rattle.std.specs.Prelude.{◌≡◌, ◌^◌, option_map};
+ghost use Rattle.std.specs.Prelude.{◌≡◌, ◌^◌, option_map, Ok, Err, IfOk, IfErr};
 ghost use Rattle.zy_tuple.specs.Parties.{number_below};
 ghost use Rattle.zy_top_words.specs.Calls.{IsCommand};
-ghost use Rattle.zy_top_words.specs.Words.{asks_of, behind_group, behind_seed, command_of, height_read, keys_words, make_words, replay_words, space_words, texts};
+ghost use Rattle.zy_top_words.specs.Words.{asks_of, behind_group, behind_seed, command_of, guard_named, height_read, keys_words, make_words, replay_words, script_named, space_named, texts};
 
 use crate::asks::{Asks, CalmNumbers};
 use crate::calm::calm_words;
@@ -17,6 +17,8 @@ use zy_tuple::{numeral, party_text_read};
 pub enum Command<'a> {
     /// Run the script in the file with this name.
     Space(&'a str),
+    /// Run the script of the guarded space in the file with this name.
+    Guard(&'a str),
     /// Run the schedule in the world of the group; the files of both have these names.
     Replay {
         group: &'a str,
@@ -42,14 +44,13 @@ pub enum Command<'a> {
         id: ReplicaId,
         turns: u32,
     },
-    /// Ask as a client of the group, for so many turns at most; the operation and what stands behind it aren't judged yet.
+    /// Ask as a client of the group, for so many turns at most. Which operation the text is, is judged once the group is read.
     Ask {
         group: &'a str,
         secret: &'a str,
         id: ClientId,
         turns: u32,
         op: &'a str,
-        others: &'a [String],
     },
     /// Run a replica as `Node` does, and keep its events in the journal with this name.
     Serve {
@@ -70,6 +71,7 @@ pub fn command_of(words: &[String]) -> Result<Command<'_>, u64>
     };
     match word.as_str() {
         "space" => space_words(others),
+        "guard" => guard_words(others),
         "replay" => replay_words(others),
         "keys" => keys_words(others),
         "make" => make_words(others),
@@ -81,9 +83,28 @@ pub fn command_of(words: &[String]) -> Result<Command<'_>, u64>
     }
 }
 
-/// Behind `space` stands the name of a script.
 fn space_words(words: &[String]) -> Result<Command<'_>, u64>
-    ensures { IsCommand (space_words (texts words.now)) result }
+    ensures { IsCommand (space_named (script_named (texts words.now))) result }
+{
+    match script_named(words) {
+        Ok(script) => Ok(Command::Space(script)),
+        Err(word) => Err(word),
+    }
+}
+
+fn guard_words(words: &[String]) -> Result<Command<'_>, u64>
+    ensures { IsCommand (guard_named (script_named (texts words.now))) result }
+{
+    match script_named(words) {
+        Ok(script) => Ok(Command::Guard(script)),
+        Err(word) => Err(word),
+    }
+}
+
+/// Behind `space` and `guard` stands the name of a script.
+fn script_named(words: &[String]) -> Result<&str, u64>
+    ensures named { IfOk result (λ script. script_named (texts words.now) ≡ Ok script.now) }
+    ensures other { IfErr result (λ word. script_named (texts words.now) ≡ Err word) }
 {
     let [script, others @ ..] = words else {
         return Err(2);
@@ -94,7 +115,7 @@ fn space_words(words: &[String]) -> Result<Command<'_>, u64>
     if !others.is_empty() {
         return Err(3);
     }
-    Ok(Command::Space(script.as_str()))
+    Ok(script.as_str())
 }
 
 /// Behind `replay` stand the names of a group file and of a schedule.

@@ -10,6 +10,10 @@ use Rattle.zy_tuple.specs.declared.values.Op.TheVariants.{Out, Rdp, Inp, Cas}
 use Rattle.zy_tuple.specs.declared.values.Slot.{Slot}
 use Rattle.zy_tuple.specs.declared.values.Slot.TheVariants.{Any, Is}
 use Rattle.zy_wire.specs.Spelling.{bytes_of}
+use Rattle.zy_guard.specs.Bytes as guard
+use Rattle.zy_guard.specs.GuardedSpace.{IsGuardOp}
+use Rattle.zy_guard.specs.declared.values.GuardOp.{GuardOp}
+use Rattle.zy_guard.specs.declared.values.GuardOp.TheVariants as guard_ops
 
 field_short : (x : Field) → IsField x → length (field_bytes x) ≤ 66
 unfolding bytes_of
@@ -42,3 +46,11 @@ op_short (Out tuple) is = omega (arith, tuple_short tuple is)
 op_short (Rdp template) is = omega (arith, template_short template is)
 op_short (Inp template) is = omega (arith, template_short template is)
 op_short (Cas template tuple) is = omega (arith, length-append (template_bytes template) (tuple_bytes tuple), template_short template is.0, tuple_short tuple is.1)
+
+pub guard_op_short : (op : GuardOp) → IsGuardOp op → length (guard.op_bytes op) ≤ 1100
+unfolding bytes_of
+guard_op_short (guard_ops.Out access tuple) is = omega (arith, tuple_short tuple is.1)
+guard_op_short (guard_ops.Rdp template) is = omega (arith, template_short template is)
+guard_op_short (guard_ops.Inp template) is = omega (arith, template_short template is)
+guard_op_short (guard_ops.Cas template access tuple) is =
+    omega (arith, length-append (template_bytes template) (guard.out_spelling.spell (access, tuple)), template_short template is.0, tuple_short tuple is.1.1)
