@@ -19,7 +19,7 @@ type Field = (&'static str, &'static str, &'static str);
 const ZEROS: &str = "\"0000000000000000000000000000000000000000000000000000000000000000\"";
 
 /// The fields of a replay's group file, in the order in which they are judged.
-const REPLAY: [Field; 9] = [
+const REPLAY: [Field; 10] = [
     ("profile", "profile", ""),
     ("f", "f", "1"),
     ("k", "k", "8"),
@@ -29,14 +29,16 @@ const REPLAY: [Field; 9] = [
     ("seed", "seed", ZEROS),
     ("height", "height", "5"),
     ("ots", "ots", "4"),
+    ("machine", "machine", ""),
 ];
 
 /// The fields of a group of four replicas and two clients, but its keys.
-const MEMBERS: [Field; 5] = [
+const MEMBERS: [Field; 6] = [
     ("profile", "profile", ""),
     ("f", "f", "1"),
     ("k", "k", "8"),
     ("clients", "clients", "2"),
+    ("machine", "machine", ""),
     ("port", "port", "5000"),
 ];
 
@@ -181,7 +183,7 @@ fn put_key(line: &mut String, types: &str, number: u8) -> io::Result<()> {
 
 fn replay_text(alloc: Global, group: &ReplayGroup) -> io::Result<String> {
     Ok(format!(in alloc;
-        "n {} f {} k {} clients {} liars {:?} lying-clients {:?} seed {} height {:?} ots {:?}",
+        "n {} f {} k {} clients {} liars {:?} lying-clients {:?} seed {} height {:?} ots {:?} machine {:?}",
         group.counts.n,
         group.counts.f,
         group.k,
@@ -190,7 +192,8 @@ fn replay_text(alloc: Global, group: &ReplayGroup) -> io::Result<String> {
         group.lying_clients.as_slice(),
         Hex(&group.seed),
         group.height,
-        group.ots
+        group.ots,
+        group.machine
     )?)
 }
 
@@ -202,7 +205,13 @@ fn node_text(alloc: Global, group: &NodeGroup, row: &Row) -> io::Result<String> 
 /// A group with the keys of the `parties` of the row.
 fn members_text(alloc: Global, group: &AskGroup, row: &Row) -> io::Result<String> {
     let counts = group.counts;
-    let mut text = format!(in alloc; "n {} f {} port {}", counts.n, counts.f, group.port)?;
+    let mut text = format!(in alloc;
+        "n {} f {} machine {:?} port {}",
+        counts.n,
+        counts.f,
+        group.machine,
+        group.port
+    )?;
     if row.has("parties") {
         put_keys(&mut text, &group.keys, row.text("parties")?)?;
     }

@@ -20,6 +20,12 @@ pub(crate) fn put_line(alloc: Global, out: &mut String, line: &Line) -> io::Resu
             write!(out, "ask c{} ", client.0)?;
             put_op(alloc, out, op)
         }
+        Line::AskHex { client, op } => Ok(write!(
+            out,
+            "ask c{} hex {}",
+            client.0,
+            Hex(op.as_slice())
+        )?),
         Line::Deliver { frame, to } => put_delivery(out, *frame, *to),
         Line::Timer { party, kind } => {
             Ok(write!(out, "timer {} {}", PartyText(*party), kind_text(*kind))?)

@@ -16,6 +16,8 @@ use Rattle.zy_lms.specs.declared.height.Height.TheVariants.{H5, H10}
 use Rattle.zy_lms.specs.Height.{height_with, levels_of}
 use Rattle.zy_seal.specs.Sealing.{signatures_by}
 use Rattle.zy_group.specs.Counts.{counts_of, most_liars}
+use Rattle.zy_group.specs.declared.machine.MachineKind.{MachineKind}
+use Rattle.zy_group.specs.declared.machine.MachineKind.TheVariants.{Space, Guard}
 use Rattle.zy_group.specs.declared.profile.Profile.{Profile}
 use Rattle.zy_group.specs.declared.profile.Profile.TheVariants.{Plain, Wide}
 use Rattle.zy_group.specs.declared.secret.Version.{Version}
@@ -101,6 +103,20 @@ ots_of (Some value) = option_and_then type_with (number_of 3 4 value)
 -- `ots`: the LM-OTS type's number, 3 or 4, and 3 where it is missing
 abbrev pub ots_at : Members → Option OtsType
 ots_at table = ots_of (get_member (codes "ots") table)
+
+-- ---- what is replicated
+
+-- "space" or "guard"
+abbrev pub machine_of : List ℕ → Option MachineKind
+machine_of text = if pointwise nat_eq text (codes "space") then Some Space else (if pointwise nat_eq text (codes "guard") then Some Guard else None)
+
+abbrev pub machine_in : Option Data → Option MachineKind
+machine_in None = Some Space
+machine_in (Some value) = option_and_then machine_of (as_str value)
+
+-- `machine`, and the tuple space where it is missing
+abbrev pub machine_at : Members → Option MachineKind
+machine_at table = machine_in (get_member (codes "machine") table)
 
 -- ---- public keys
 

@@ -2,7 +2,7 @@
 use Rattle.std.specs.Prelude.{◌≡◌, ℕ, ◌+◌, ◌≤◌, codes, length, take, drop, Option, Result, Ok, Err}
 use Rattle.toml.specs.Data.{Members}
 use Rattle.zy_base.specs.declared.counts.Counts.{Counts}
-use Rattle.zy_group.specs.Fields.{number_at, keys_at, profile_at, counts_at}
+use Rattle.zy_group.specs.Fields.{number_at, keys_at, profile_at, counts_at, machine_at}
 use Rattle.zy_group.specs.Reading.{field}
 use Rattle.zy_group.specs.declared.members.AskGroup.{AskGroup}
 use Rattle.zy_group.specs.declared.members.NodeGroup.{NodeGroup}
@@ -11,9 +11,10 @@ use Rattle.zy_group.specs.declared.members.NodeGroup.{NodeGroup}
 unfoldable pub common : Counts → Members → Result AskGroup ℕ
 common counts table =
     field 3 (number_at 1 64 (codes "clients") table) (λ clients.
+    field 21 (machine_at table) (λ machine.
     field 9 (keys_at (counts.n + clients) table) (λ keys.
     field 10 (number_at 1024 65456 (codes "port") table) (λ port.
-    Ok (record { counts = counts; keys = record { replicas = take counts.n keys; clients = drop counts.n keys }; port = port }))))
+    Ok (record { counts = counts; machine = machine; keys = record { replicas = take counts.n keys; clients = drop counts.n keys }; port = port })))))
 
 -- the fields of an asker, in their order
 unfoldable pub ask_group : Members → Result AskGroup ℕ

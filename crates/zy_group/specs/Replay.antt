@@ -1,7 +1,7 @@
 -- What a replay is told of its group.
 use Rattle.std.specs.Prelude.{ℕ, ◌-◌, codes, Option, Result, Ok}
 use Rattle.toml.specs.Data.{Members}
-use Rattle.zy_group.specs.Fields.{number_at, numbers_at, bytes_at, height_at, ots_at, profile_at, counts_at}
+use Rattle.zy_group.specs.Fields.{number_at, numbers_at, bytes_at, height_at, ots_at, profile_at, counts_at, machine_at}
 use Rattle.zy_group.specs.Reading.{field}
 use Rattle.zy_group.specs.declared.replay.ReplayGroup.{ReplayGroup}
 
@@ -17,7 +17,8 @@ replay_group table =
     field 6 (bytes_at 32 (codes "seed") table) (λ seed.
     field 7 (height_at table) (λ height.
     field 8 (ots_at table) (λ ots.
-    Ok (record { counts = counts; k = k; clients = clients; liars = liars; lying_clients = lying_clients; seed = seed; height = height; ots = ots }))))))))))
+    field 21 (machine_at table) (λ machine.
+    Ok (record { counts = counts; k = k; clients = clients; liars = liars; lying_clients = lying_clients; seed = seed; height = height; ots = ots; machine = machine })))))))))))
 
 -- and before them the text, which must be TOML
 abbrev pub text_group : Option Members → Result ReplayGroup ℕ

@@ -3,11 +3,11 @@ ghost use Rattle.std.specs.Prelude.{◌≡◌, ◌≤◌, ◌+◌, ◌++◌, ◌
 ghost use Rattle.std.specs.Int.{w32, to_be_bytes};
 ghost use Rattle.toml.specs.Data.{get_member};
 ghost use Rattle.toml.specs.View.{view, array_view, table_view};
-ghost use Rattle.zy_group.specs.Fields.{number_of, number_at, different_from, numbers_at, text_at, bytes_at, height_at, ots_at, of_spoken_types, key_in, key_of, keys_from, so_many, keys_in, keys_at, told_ots_at, count_by, next_at, number_or, stamp_at, version_of, version_at, profile_of, profile_at, counts_at};
+ghost use Rattle.zy_group.specs.Fields.{number_of, number_at, different_from, numbers_at, text_at, bytes_at, height_at, ots_at, of_spoken_types, key_in, key_of, keys_from, so_many, keys_in, keys_at, told_ots_at, count_by, next_at, number_or, stamp_at, version_of, version_at, profile_of, profile_at, counts_at, machine_of, machine_at};
 
 use crate::counts::{counts_of, most_liars};
 use crate::profile::Profile;
-use crate::{Numbers, Version};
+use crate::{MachineKind, Numbers, Version};
 use hex::FromHex;
 use std::alloc::Global;
 use toml::value::Array;
@@ -202,6 +202,26 @@ pub(crate) fn told_ots_at(table: &Table) -> Option<OtsType>
     match number_at(table, "ots", 3, 4) {
         Some(number) => OtsType::from_number(u32::from(number)),
         None => None,
+    }
+}
+
+/// The machine under `machine`, and the tuple space where it is missing.
+pub(crate) fn machine_at(table: &Table) -> Option<MachineKind>
+    ensures { result ≡ machine_at (table_view table.now) }
+{
+    match value_at(table, "machine") {
+        None => Some(MachineKind::Space),
+        Some(value) => machine_of(value.as_str()?),
+    }
+}
+
+fn machine_of(text: &str) -> Option<MachineKind>
+    ensures { result ≡ machine_of text.now }
+{
+    match text {
+        "space" => Some(MachineKind::Space),
+        "guard" => Some(MachineKind::Guard),
+        _ => None,
     }
 }
 

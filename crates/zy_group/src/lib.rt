@@ -4,6 +4,7 @@
 mod counts;
 mod fault;
 mod fields;
+mod machine;
 mod members;
 mod numbers;
 mod own;
@@ -14,6 +15,7 @@ mod text;
 
 pub use counts::{plain_counts, wide_counts};
 pub use fault::GroupFault;
+pub use machine::MachineKind;
 pub use members::{AskGroup, NodeGroup, read_ask_group, read_node_group};
 pub use numbers::Numbers;
 pub use own::own_key;

@@ -4,9 +4,9 @@ ghost use Rattle.toml.specs.View.{table_view};
 ghost use Rattle.zy_group.specs.Members.{AreMembers, IsNodeGroup, common, ask_group, node_group, text_ask_group, text_node_group};
 ghost use Rattle.zy_group.specs.Reading.{IsRead, IsNoText};
 
-use crate::GroupFault;
-use crate::fields::{counts_at, keys_at, long_at, number_at, profile_at};
+use crate::fields::{counts_at, keys_at, long_at, machine_at, number_at, profile_at};
 use crate::text::table_of;
+use crate::{GroupFault, MachineKind};
 use std::alloc::Global;
 use toml::Table;
 use zy_base::{Counts, Want};
@@ -17,6 +17,8 @@ use zy_seal::Directory;
 pub struct AskGroup {
     /// How many replicas there are, and how many of them may lie: 3f + 1 for f from 1 to 4, or 5f + 1 for 1 or 2.
     pub counts: Counts,
+    /// What is replicated.
+    pub machine: MachineKind,
     /// The public keys of the replicas and of the 1 to 64 clients.
     pub keys: Directory,
     /// The port from which those of the parties are counted, from 1,024 to 65,456.
@@ -32,7 +34,7 @@ pub struct NodeGroup {
 }
 
 /// Reads a group file for an asker. Its fields are judged in this order: 0 the text, which must be TOML, 22 `profile`,
-/// 1 `f`, 3 `clients`, 9 `keys`, 10 `port`. Other keys are left aside.
+/// 1 `f`, 3 `clients`, 21 `machine`, 9 `keys`, 10 `port`. Other keys are left aside.
 pub fn read_ask_group(alloc: Global, text: &[u8]) -> Result<AskGroup, GroupFault>
     ensures read { IsUtf8 text.now → IsRead (text_ask_group (parse_document text.now)) result }
     ensures no_text { ¬ IsUtf8 text.now → IsNoText 0 result }
@@ -99,6 +101,9 @@ fn common(alloc: Global, table: &Table, counts: Counts) -> Result<AskGroup, Grou
     let Some(clients) = number_at(table, "clients", 1, 64) else {
         return Err(GroupFault::Field(3));
     };
+    let Some(machine) = machine_at(table) else {
+        return Err(GroupFault::Field(21));
+    };
     let n = counts.n as usize;
     let Some(keys) = keys_at(alloc, table, n + usize::from(clients))? else {
         return Err(GroupFault::Field(9));
@@ -109,6 +114,7 @@ fn common(alloc: Global, table: &Table, counts: Counts) -> Result<AskGroup, Grou
     let keys = parted(alloc, keys, n)?;
     Ok(AskGroup {
         counts,
+        machine,
         keys,
         port: port as u16,
     })

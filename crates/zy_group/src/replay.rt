@@ -4,9 +4,11 @@ ghost use Rattle.toml.specs.View.{table_view};
 ghost use Rattle.zy_group.specs.Replay.{replay_group, text_group};
 ghost use Rattle.zy_group.specs.Reading.{IsRead, IsNoText};
 
-use crate::fields::{counts_at, height_at, number_at, numbers_at, ots_at, profile_at, seed_at};
+use crate::fields::{
+    counts_at, height_at, machine_at, number_at, numbers_at, ots_at, profile_at, seed_at,
+};
 use crate::text::table_of;
-use crate::{GroupFault, Numbers};
+use crate::{GroupFault, MachineKind, Numbers};
 use std::alloc::Global;
 use toml::Table;
 use zy_base::Counts;
@@ -32,10 +34,12 @@ pub struct ReplayGroup {
     pub height: Height,
     /// The type of each party's one-time keys.
     pub ots: OtsType,
+    /// What is replicated.
+    pub machine: MachineKind,
 }
 
 /// Reads a group file. Its fields are judged in this order: 0 the text, which must be TOML, 22 `profile`, 1 `f`, 2 `k`,
-/// 3 `clients`, 4 `liars`, 5 `lying_clients`, 6 `seed`, 7 `height`, 8 `ots`. Other keys are left aside.
+/// 3 `clients`, 4 `liars`, 5 `lying_clients`, 6 `seed`, 7 `height`, 8 `ots`, 21 `machine`. Other keys are left aside.
 pub fn read_replay_group(alloc: Global, text: &[u8]) -> Result<ReplayGroup, GroupFault>
     ensures read { IsUtf8 text.now → IsRead (text_group (parse_document text.now)) result }
     ensures no_text { ¬ IsUtf8 text.now → IsNoText 0 result }
@@ -80,6 +84,9 @@ fn judged(alloc: Global, table: &Table) -> Result<ReplayGroup, GroupFault>
     let Some(ots) = ots_at(table) else {
         return Err(GroupFault::Field(8));
     };
+    let Some(machine) = machine_at(table) else {
+        return Err(GroupFault::Field(21));
+    };
     Ok(ReplayGroup {
         counts,
         k,
@@ -89,5 +96,6 @@ fn judged(alloc: Global, table: &Table) -> Result<ReplayGroup, GroupFault>
         seed,
         height,
         ots,
+        machine,
     })
 }

@@ -1,31 +1,34 @@
 -- The form of each line behind its first word: what is read was spelled so, and what is spelled so is read again.
-use Rattle.std.proofs.Common.{◌≡◌, ℕ, ◌<◌, ◌≤◌, ◌^◌, Bool, true, false, cond, eqb, List, [], ◌∷◌, ◌++◌, length, Option, Some, None, Result, Ok, Err, refl, sym, ap, subst, ◌∙◌, append_assoc, append-nil, arith, lit≤}
-use Rattle.std.specs.Prelude.{codes}
+use Rattle.std.proofs.Common.{◌≡◌, ℕ, ◌<◌, ◌≤◌, ◌^◌, Bool, true, false, cond, eqb, List, [], ◌∷◌, ◌++◌, length, drop, Option, Some, None, Result, Ok, Err, refl, sym, ap, subst, ◌∙◌, append_assoc, append-nil, inl, inr, arith, lit≤}
+use Rattle.std.specs.Prelude.{codes, take_while}
 use Rattle.std.specs.Fmt.{decimal}
+use Rattle.std.specs.Str.{bytes_eq}
 use Rattle.zy_base.specs.declared.ids.ClientId.{ClientId}
 use Rattle.zy_base.specs.declared.ids.Party.{Party}
 use Rattle.zy_base.specs.declared.ids.Party.TheVariants.{Client}
 use Rattle.zy_base.specs.declared.ids.View.{View}
 use Rattle.zy_base.specs.declared.step.TimerKind.{TimerKind}
 use Rattle.zy_tuple.specs.declared.values.Op.{Op}
+use Rattle.zy_tuple.specs.declared.values.Op.TheVariants.{Out, Rdp, Inp, Cas}
 use Rattle.zy_tuple.specs.declared.values.Reply.{Reply}
 use Rattle.zy_tuple.specs.declared.values.Reply.TheVariants.{Done, Got, Nothing, True, False, Full, Bad}
 use Rattle.zy_tuple.specs.Parties.{IsParty, party_text}
-use Rattle.zy_tuple.specs.Reading.{◌>>=◌, finished, op_read, reply_read, space_at}
+use Rattle.zy_tuple.specs.Reading.{◌>>=◌, finished, in_word, op_read, reply_read, space_at}
 use Rattle.zy_tuple.specs.Texts.{op_text, reply_text}
 use Rattle.zy_tuple.specs.Values.{IsOp, IsReply}
 use Rattle.zy_tuple.proofs.OpLaws.{op_again, op_takes, reply_again, reply_takes}
-use Rattle.zy_tuple.proofs.Results.{bind_ok, ok_is}
+use Rattle.zy_tuple.proofs.NumberLaws.{take_while_parts}
+use Rattle.zy_tuple.proofs.Results.{bind_ok, chosen, ok_is}
 use Rattle.zy_schedule.specs.declared.line.History.{History}
 use Rattle.zy_schedule.specs.declared.line.Line.{Line}
-use Rattle.zy_schedule.specs.declared.line.Line.TheVariants.{Ask, Deliver, Timer, Order, Spec, Statement, Raw, Forge, Flow, Drop, Mute, Unmute}
+use Rattle.zy_schedule.specs.declared.line.Line.TheVariants.{Ask, AskHex, Deliver, Timer, Order, Spec, Statement, Raw, Forge, Flow, Drop, Mute, Unmute}
 use Rattle.zy_schedule.specs.declared.list.ListEnd.{ListEnd}
 use Rattle.zy_schedule.specs.declared.list.ListEnd.TheVariants as ends
-use Rattle.zy_schedule.specs.Reading.{ask_read, bytes_read, client_read, deliver_read, deliver_to, digits_read, drop_read, flow_read, forge_read, frame_read, history_at, keyword_at, kind_read, mute_read, number_read, op_behind, order_read, parties_at, asks_at, party_read, raw_read, reply_behind, spec_read, statement_read, timer_read, unmute_read, value_at}
+use Rattle.zy_schedule.specs.Reading.{ask_read, asked_read, bytes_read, client_read, deliver_read, deliver_to, digits_read, drop_read, flow_read, forge_read, frame_read, history_at, keyword_at, kind_read, mute_read, number_read, op_behind, op_digits_read, order_read, parties_at, asks_at, party_read, raw_read, reply_behind, spec_read, statement_read, timer_read, unmute_read, value_at}
 use Rattle.zy_schedule.specs.Texts.{AreAsks, AreDigits, AreParties, IsFrame, IsLine, IsMaybeParty, IsView, history_text, kind_text, line_text, numbers_text, parties_text, to_text}
 use Rattle.zy_schedule.proofs.PartLaws.{IsPart, ends_part, part_takes, space_takes, value_again, value_parts}
 use Rattle.zy_schedule.proofs.PartsLaws.{IsBehind, IsLeft, IsRead, end_text, items_text, item_again, item_takes, keyword_again, keyword_takes, list_again, list_takes}
-use Rattle.zy_schedule.proofs.ValueLaws.{client_read_again, client_read_takes, digits_part, digits_read_again, digits_read_takes, kind_part, kind_read_again, kind_read_takes, number_part, number_read_again, number_read_takes, party_part, party_read_again, party_read_takes}
+use Rattle.zy_schedule.proofs.ValueLaws.{client_read_again, client_read_takes, digits_part, digits_read_again, digits_read_takes, kind_part, kind_read_again, kind_read_takes, number_part, number_read_again, number_read_takes, op_digits_read_again, op_digits_read_takes, party_part, party_read_again, party_read_takes, word_is}
 
 -- ---- values
 
@@ -200,26 +203,84 @@ op_behind_is : (read : Result Op ℕ) (op : Op) → op_behind read ≡ Ok op →
 op_behind_is (Ok o) op e = ap (λ (x : Op). Ok x) (ok_is o op e)
 op_behind_is (Err rule) op e = absurd (no_op rule op (eqb rule 1) e)
 
+-- a client, and an operation
+op_asked : (rest : List ℕ) (client : ClientId) (text : List ℕ) (line : Line) → rest ≡ 32 ∷ party_text (Client client) ++ (32 ∷ text) → IsParty (Client client)
+    → (op_behind (op_read text) >>= λ op. Ok (Ask client op)) ≡ Ok line → IsSpelled (codes "ask") rest line
+op_asked rest client text line at fits e =
+    let a = bind_ok (op_behind (op_read text)) (λ op. Ok (Ask client op)) line e in
+    let o = op_takes text a.0 (op_behind_is (op_read text) a.0 a.1) in
+    let made : Line = Ask client a.0 in
+    let whole : rest ≡ 32 ∷ party_text (Client client) ++ (32 ∷ op_text a.0) = at ∙ ap (λ (l : List ℕ). 32 ∷ party_text (Client client) ++ (32 ∷ l)) o.0 in
+    subst (λ (l : Line). IsSpelled (codes "ask") rest l) (ok_is made line a.2) (record { digits = []; text = ap (λ (l : List ℕ). codes "ask" ++ l) whole; fits = (fits, o.1) })
+
+-- a client, and bytes behind `hex`
+hex_asked : (rest : List ℕ) (client : ClientId) (left : List ℕ) (line : Line) → rest ≡ 32 ∷ party_text (Client client) ++ (32 ∷ codes "hex" ++ left) → IsParty (Client client)
+    → (value_at op_digits_read left >>= λ op. finished (AskHex client op.0) op.1) ≡ Ok line → IsSpelled (codes "ask") rest line
+hex_asked rest client left line at fits e =
+    let a = bind_ok (value_at op_digits_read left) (λ op. finished (AskHex client op.0) op.1) line e in
+    let v = value_parts op_digits_read left a.0.0 a.0.1 a.1 in
+    let p = part_takes left v.0 a.0.1 v.1 in
+    let d = op_digits_read_takes v.0 a.0.0 v.2 in
+    let f = finished_takes (AskHex client a.0.0) line a.0.1 a.2 in
+    let last : left ≡ 32 ∷ v.0 = p.0 ∙ ap (λ (l : List ℕ). 32 ∷ v.0 ++ l) f.0 ∙ ap (λ (l : List ℕ). 32 ∷ l) (append-nil v.0) in
+    let whole : rest ≡ 32 ∷ party_text (Client client) ++ (32 ∷ codes "hex" ++ (32 ∷ v.0)) = at ∙ ap (λ (l : List ℕ). 32 ∷ party_text (Client client) ++ (32 ∷ codes "hex" ++ l)) last in
+    subst (λ (l : Line). IsSpelled (codes "ask") rest l) f.1 (record { digits = v.0; text = ap (λ (l : List ℕ). codes "ask" ++ l) whole; fits = (fits, (p.1, d.0), d.1) })
+
+asked_takes : (rest : List ℕ) (client : ClientId) (text : List ℕ) (line : Line) → rest ≡ 32 ∷ party_text (Client client) ++ (32 ∷ text) → IsParty (Client client)
+    → asked_read client text ≡ Ok line → IsSpelled (codes "ask") rest line
+unfolding asked_read
+asked_takes rest client text line at fits e =
+    let word = take_while in_word text in
+    let left = drop (length word) text in
+    let hex : Result Line ℕ = value_at op_digits_read left >>= λ op. finished (AskHex client op.0) op.1 in
+    let op : Result Line ℕ = op_behind (op_read text) >>= λ op. Ok (Ask client op) in
+    elim (chosen (bytes_eq word (codes "hex")) hex op (Ok line) e) [
+      | inl s ↦
+          let split : text ≡ codes "hex" ++ left = take_while_parts in_word text ∙ ap (λ (w : List ℕ). w ++ left) (word_is word (codes "hex") s.0) in
+          hex_asked rest client left line (at ∙ ap (λ (l : List ℕ). 32 ∷ party_text (Client client) ++ (32 ∷ l)) split) fits s.1
+      | inr s ↦ op_asked rest client text line at fits s.1
+    ]
+
 pub ask_takes : (rest : List ℕ) (line : Line) → ask_read rest ≡ Ok line → IsSpelled (codes "ask") rest line
 unfolding ask_read
 ask_takes rest line e =
-    let a = bind_ok (value_at client_read rest) (λ client. space_at client.1 >>= λ left. op_behind (op_read left) >>= λ op. Ok (Ask client.0 op)) line e in
-    let b = bind_ok (space_at a.0.1) (λ left. op_behind (op_read left) >>= λ op. Ok (Ask a.0.0 op)) line a.2 in
-    let c = bind_ok (op_behind (op_read b.0)) (λ op. Ok (Ask a.0.0 op)) line b.2 in
-    let made : Line = Ask a.0.0 c.0 in
+    let a = bind_ok (value_at client_read rest) (λ client. space_at client.1 >>= λ left. asked_read client.0 left) line e in
+    let b = bind_ok (space_at a.0.1) (λ left. asked_read a.0.0 left) line a.2 in
     let v = value_parts client_read rest a.0.0 a.0.1 a.1 in
     let t = client_read_takes v.0 a.0.0 v.2 in
-    let o = op_takes b.0 c.0 (op_behind_is (op_read b.0) c.0 c.1) in
-    let text : rest ≡ 32 ∷ party_text (Client a.0.0) ++ (32 ∷ op_text c.0)
-    = (part_takes rest v.0 a.0.1 v.1).0 ∙ ap (λ (p : List ℕ). 32 ∷ p ++ a.0.1) t.0 ∙ ap (λ (l : List ℕ). 32 ∷ party_text (Client a.0.0) ++ l) (space_takes a.0.1 b.0 b.1 ∙ ap (λ (l : List ℕ). 32 ∷ l) o.0) in
-    subst (λ (l : Line). IsSpelled (codes "ask") rest l) (ok_is made line c.2) (record { digits = []; text = ap (λ (l : List ℕ). codes "ask" ++ l) text; fits = (t.1, o.1) })
+    let text : rest ≡ 32 ∷ party_text (Client a.0.0) ++ (32 ∷ b.0)
+    = (part_takes rest v.0 a.0.1 v.1).0 ∙ ap (λ (p : List ℕ). 32 ∷ p ++ a.0.1) t.0 ∙ ap (λ (l : List ℕ). 32 ∷ party_text (Client a.0.0) ++ l) (space_takes a.0.1 b.0 b.1) in
+    asked_takes rest a.0.0 b.0 line text t.1 b.2
+
+-- behind a client
+client_again : (client : ClientId) (text : List ℕ) → IsParty (Client client) → value_at client_read (32 ∷ party_text (Client client) ++ (32 ∷ text)) ≡ Ok (client, 32 ∷ text)
+client_again client text fits = value_again client_read (party_text (Client client)) client (32 ∷ text) (party_part (Client client) fits) (client_read_again client fits) refl
+
+no_hex : (op : Op) → bytes_eq (take_while in_word (op_text op)) (codes "hex") ≡ false
+no_hex (Out tuple) = refl
+no_hex (Rdp template) = refl
+no_hex (Inp template) = refl
+no_hex (Cas template tuple) = refl
+
+op_asked_again : (client : ClientId) (op : Op) → IsOp op → asked_read client (op_text op) ≡ Ok (Ask client op)
+unfolding asked_read
+op_asked_again client op fits = rw (no_hex op, op_again op fits) refl
 
 pub ask_again : (client : ClientId) (op : Op) → IsParty (Client client) → IsOp op → ask_read (32 ∷ party_text (Client client) ++ (32 ∷ op_text op)) ≡ Ok (Ask client op)
 unfolding ask_read
-ask_again client op fits op_fits =
-    let read : value_at client_read (32 ∷ party_text (Client client) ++ (32 ∷ op_text op)) ≡ Ok (client, 32 ∷ op_text op)
-    = value_again client_read (party_text (Client client)) client (32 ∷ op_text op) (party_part (Client client) fits) (client_read_again client fits) refl in
-    rw (read, op_again op op_fits) refl
+ask_again client op fits op_fits = rw (client_again client (op_text op) fits) (op_asked_again client op op_fits)
+
+hex_asked_again : (digits : List ℕ) (client : ClientId) (op : List ℕ) → AreDigits op digits → length op ≤ 1100 → asked_read client (codes "hex" ++ (32 ∷ digits)) ≡ Ok (AskHex client op)
+unfolding asked_read
+hex_asked_again digits client op are few =
+    let read : value_at op_digits_read (32 ∷ digits) ≡ Ok (op, [])
+    = ap (λ (l : List ℕ). value_at op_digits_read (32 ∷ l)) (sym (append-nil digits)) ∙ value_again op_digits_read digits op [] (digits_part op digits are) (op_digits_read_again digits op are.1 few) refl in
+    rw read refl
+
+pub ask_hex_again : (digits : List ℕ) (client : ClientId) (op : List ℕ) → IsParty (Client client) → AreDigits op digits → length op ≤ 1100
+    → ask_read (32 ∷ party_text (Client client) ++ (32 ∷ codes "hex" ++ (32 ∷ digits))) ≡ Ok (AskHex client op)
+unfolding ask_read
+ask_hex_again digits client op fits are few = rw (client_again client (codes "hex" ++ (32 ∷ digits)) fits) (hex_asked_again digits client op are few)
 
 -- ---- texts whose parts are put together from the left
 

@@ -8,10 +8,10 @@ use Rattle.zy_tuple.proofs.Results.{chosen}
 use Rattle.zy_tuple.specs.Parties.{party_text}
 use Rattle.zy_tuple.specs.Texts.{reply_text}
 use Rattle.zy_schedule.specs.declared.line.Line.{Line}
-use Rattle.zy_schedule.specs.declared.line.Line.TheVariants.{Ask, Deliver, Timer, Order, Spec, Statement, Raw, Forge, Flow, Drop, Mute, Unmute}
+use Rattle.zy_schedule.specs.declared.line.Line.TheVariants.{Ask, AskHex, Deliver, Timer, Order, Spec, Statement, Raw, Forge, Flow, Drop, Mute, Unmute}
 use Rattle.zy_schedule.specs.Reading.{ask_read, deliver_read, drop_read, flow_read, forge_read, line_read, mute_read, order_read, raw_read, spec_read, statement_read, timer_read, unmute_read, worded_read}
 use Rattle.zy_schedule.specs.Texts.{IsLine, IsScheduleLine, history_text, line_text, parties_text}
-use Rattle.zy_schedule.proofs.FormLaws.{IsSpelled, answered_text, ask_again, ask_takes, deliver_again, deliver_takes, drop_again, drop_takes, flow_again, flow_takes, forge_again, forge_takes, mute_again, mute_takes, order_again, order_takes, raw_again, raw_takes, sent_text, signed_text, spec_again, spec_takes, statement_again, statement_takes, timer_again, timer_takes, unmute_again, unmute_takes}
+use Rattle.zy_schedule.proofs.FormLaws.{IsSpelled, answered_text, ask_again, ask_hex_again, ask_takes, deliver_again, deliver_takes, drop_again, drop_takes, flow_again, flow_takes, forge_again, forge_takes, mute_again, mute_takes, order_again, order_takes, raw_again, raw_takes, sent_text, signed_text, spec_again, spec_takes, statement_again, statement_takes, timer_again, timer_takes, unmute_again, unmute_takes}
 use Rattle.zy_schedule.proofs.ValueLaws.{word_is}
 
 -- the forms of lines behind one, each with its first word
@@ -76,6 +76,7 @@ line_takes text line e =
 line_again : (digits : List ℕ) (line : Line) → IsLine digits line → line_read (line_text digits line) ≡ Ok line
 unfolding line_read worded_read
 line_again digits (Ask client op) fits = ask_again client op fits.0 fits.1
+line_again digits (AskHex client op) fits = ask_hex_again digits client op fits.0 fits.1 fits.2
 line_again digits (Deliver frame to) fits = deliver_again frame to fits.0 fits.1
 line_again digits (Timer party kind) fits = timer_again party kind fits
 line_again digits (Order liar view asks to) fits = order_again liar view asks to fits.0 fits.1 fits.2 fits.3

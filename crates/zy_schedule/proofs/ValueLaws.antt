@@ -1,12 +1,12 @@
 -- What a part spells: numbers, parties, hexadecimal digits and keywords, both ways.
-use Rattle.std.proofs.Common.{◌≡◌, ℕ, ◌<◌, ◌≤◌, ◌^◌, true, cond, eqb, List, [], ◌∷◌, Option, Some, None, Result, Ok, Err, refl, sym, ap, subst, ◌∙◌, inl, inr, arith, lit≤}
-use Rattle.std.specs.Prelude.{◌&&◌, codes, nat_lt}
+use Rattle.std.proofs.Common.{◌≡◌, ℕ, ◌<◌, ◌≤◌, ◌^◌, true, cond, eqb, List, [], ◌∷◌, length, Option, Some, None, Result, Ok, Err, refl, sym, ap, subst, ◌∙◌, inl, inr, arith, lit≤}
+use Rattle.std.specs.Prelude.{◌&&◌, codes, nat_le, nat_lt}
 use Rattle.std.specs.Fmt.{decimal}
 use Rattle.std.specs.List.{AllPass}
 use Rattle.std.specs.Str.{bytes_eq, all_ascii_digits}
 use Rattle.std.specs.Str.Parse.{digits_value}
 use Rattle.std.specs.Char.{is_ascii_digit}
-use Rattle.std.proofs.lemmas.Bool.{eqb-true, ltb-true, lt-ltb}
+use Rattle.std.proofs.lemmas.Bool.{eqb-true, ltb-true, lt-ltb, leb-true, le-leb}
 use Rattle.std.proofs.lemmas.Bool.Decides.{nat_tests}
 use Rattle.std.proofs.lemmas.Slice.Eq.{bytes_eq-Decides}
 use Rattle.std.proofs.lemmas.List.Elements.{All-head, All-tail}
@@ -23,8 +23,8 @@ use Rattle.zy_tuple.specs.Parties.{IsParty, client_numbered, number_below, party
 use Rattle.zy_tuple.specs.Reading.{in_word, is_numeral}
 use Rattle.zy_tuple.proofs.NumberLaws.{Passes, decimal_is, decimal_of, is_numeral_from, numeral_is}
 use Rattle.zy_tuple.proofs.Numerals.{own}
-use Rattle.zy_tuple.proofs.Results.{both, chosen, ok_chosen, ok_is, some_chosen, some_is}
-use Rattle.zy_schedule.specs.Reading.{client_read, digits_read, kind_read, number_read, of_client, of_digits, or_rule, party_read}
+use Rattle.zy_tuple.proofs.Results.{bind_ok, both, chosen, ok_chosen, ok_is, some_chosen, some_is}
+use Rattle.zy_schedule.specs.Reading.{client_read, digits_read, few_bytes, kind_read, number_read, of_client, of_digits, op_digits_read, or_rule, party_read}
 use Rattle.zy_schedule.specs.Texts.{AreDigits, kind_text}
 use Rattle.zy_schedule.proofs.PartLaws.{IsPart}
 
@@ -132,6 +132,22 @@ digits_read_takes part bytes e = of_digits_is (decode_of part) bytes e
 
 pub digits_read_again : (part bytes : List ℕ) → decode_of part ≡ Ok bytes → digits_read part ≡ Ok bytes
 digits_read_again part bytes e = rw e refl
+
+few_bytes_is : (bytes few : List ℕ) → few_bytes bytes ≡ Ok few → (bytes ≡ few) × (length bytes ≤ 1100)
+few_bytes_is bytes few e =
+    let s = ok_chosen (nat_le (length bytes) 1100) 3 (Ok bytes) few e in
+    (ok_is bytes few s.1, leb-true _ _ s.0)
+
+pub op_digits_read_takes : (part op : List ℕ) → op_digits_read part ≡ Ok op → (decode_of part ≡ Ok op) × (length op ≤ 1100)
+op_digits_read_takes part op e =
+    let a = bind_ok (digits_read part) few_bytes op e in
+    let f = few_bytes_is a.0 op a.2 in
+    subst (λ (l : List ℕ). (decode_of part ≡ Ok l) × (length l ≤ 1100)) f.0 (digits_read_takes part a.0 a.1, f.1)
+
+pub op_digits_read_again : (part op : List ℕ) → decode_of part ≡ Ok op → length op ≤ 1100 → op_digits_read part ≡ Ok op
+op_digits_read_again part op e few =
+    let test : nat_le (length op) 1100 ≡ true = le-leb _ _ few in
+    rw (digits_read_again part op e, test) refl
 
 -- ---- kinds of timers
 

@@ -1,7 +1,7 @@
 -- Reading a line of a schedule from the left: the line, or the rule of the first part that can't be read.
 -- Rules 1 to 7 and 10 are those of operations and replies; a keyword is of rule 2; 8 is a party, and 9
 -- hexadecimal digits.
-use Rattle.std.specs.Prelude.{ℕ, zero, suc, ◌-◌, ◌^◌, ◌==◌, if◌then◌else◌, List, [], ◌∷◌, length, drop, take_while, codes, Option, Some, None, Result, Ok, Err}
+use Rattle.std.specs.Prelude.{ℕ, zero, suc, ◌-◌, ◌^◌, ◌==◌, nat_le, if◌then◌else◌, List, [], ◌∷◌, length, drop, take_while, codes, Option, Some, None, Result, Ok, Err}
 use Rattle.std.specs.Str.{bytes_eq}
 use Rattle.hex.specs.Hex.{decode_of}
 use Rattle.hex.specs.declared.error.FromHexError.{FromHexError}
@@ -12,7 +12,7 @@ use Rattle.zy_base.specs.declared.step.TimerKind.{TimerKind}
 use Rattle.zy_base.specs.declared.step.TimerKind.TheVariants.{Request, Change, Answer}
 use Rattle.zy_schedule.specs.declared.line.History.{History}
 use Rattle.zy_schedule.specs.declared.line.Line.{Line}
-use Rattle.zy_schedule.specs.declared.line.Line.TheVariants.{Ask, Deliver, Timer, Order, Spec, Statement, Raw, Forge, Flow, Drop, Mute, Unmute}
+use Rattle.zy_schedule.specs.declared.line.Line.TheVariants.{Ask, AskHex, Deliver, Timer, Order, Spec, Statement, Raw, Forge, Flow, Drop, Mute, Unmute}
 use Rattle.zy_schedule.specs.declared.list.ListEnd.{ListEnd}
 use Rattle.zy_schedule.specs.declared.list.ListEnd.TheVariants as ends
 use Rattle.zy_schedule.specs.Lines.{TextFault, text_of}
@@ -59,6 +59,13 @@ of_digits (Err fault) = Err 9
 
 abbrev pub digits_read : List ℕ → Result (List ℕ) ℕ
 digits_read part = of_digits (decode_of part)
+
+-- a request holds so many bytes
+abbrev pub few_bytes : List ℕ → Result (List ℕ) ℕ
+few_bytes bytes = if nat_le (length bytes) 1100 then Ok bytes else Err 3
+
+abbrev pub op_digits_read : List ℕ → Result (List ℕ) ℕ
+op_digits_read part = digits_read part >>= few_bytes
 
 abbrev pub kind_read : List ℕ → Result TimerKind ℕ
 kind_read part =
@@ -122,8 +129,15 @@ abbrev pub op_behind : Result Op ℕ → Result Op ℕ
 op_behind (Ok op) = Ok op
 op_behind (Err rule) = if rule == 1 then Err 2 else Err rule
 
+-- bytes behind the word `hex`, or else an operation
+unfoldable pub asked_read : ClientId → List ℕ → Result Line ℕ
+asked_read client text =
+    if bytes_eq (take_while in_word text) (codes "hex")
+    then (value_at op_digits_read (drop (length (take_while in_word text)) text) >>= λ op. finished (AskHex client op.0) op.1)
+    else (op_behind (op_read text) >>= λ op. Ok (Ask client op))
+
 unfoldable pub ask_read : List ℕ → Result Line ℕ
-ask_read line = value_at client_read line >>= λ client. space_at client.1 >>= λ rest. op_behind (op_read rest) >>= λ op. Ok (Ask client.0 op)
+ask_read line = value_at client_read line >>= λ client. space_at client.1 >>= λ rest. asked_read client.0 rest
 
 abbrev pub deliver_to : ℕ → List ℕ → Result Line ℕ
 deliver_to frame [] = Ok (Deliver frame None)

@@ -9,7 +9,7 @@ use Rattle.zy_base.specs.declared.ids.View.{View}
 use Rattle.zy_base.specs.declared.step.TimerKind.{TimerKind}
 use Rattle.zy_base.specs.declared.step.TimerKind.TheVariants.{Request, Change, Answer}
 use Rattle.zy_schedule.specs.declared.line.Line.{Line}
-use Rattle.zy_schedule.specs.declared.line.Line.TheVariants.{Ask, Deliver, Timer, Order, Spec, Statement, Raw, Forge, Flow, Drop, Mute, Unmute}
+use Rattle.zy_schedule.specs.declared.line.Line.TheVariants.{Ask, AskHex, Deliver, Timer, Order, Spec, Statement, Raw, Forge, Flow, Drop, Mute, Unmute}
 use Rattle.zy_tuple.specs.Parties.{IsParty, party_text}
 use Rattle.zy_tuple.specs.Texts.{behind_space, op_text, reply_text}
 use Rattle.zy_tuple.specs.Values.{IsOp, IsReply}
@@ -42,6 +42,7 @@ AreDigits bytes digits = (1 ≤ length digits) × (decode_of digits ≡ Ok bytes
 -- what may be said on a line, whose bytes are spelled by these digits
 abbrev pub IsLine : List ℕ → Line → Type 0
 IsLine digits (Ask client op) = IsParty (Client client) × IsOp op
+IsLine digits (AskHex client op) = IsParty (Client client) × AreDigits op digits × (length op ≤ 1100)
 IsLine digits (Deliver frame to) = IsFrame frame × IsMaybeParty to
 IsLine digits (Timer party kind) = IsParty party
 IsLine digits (Order liar view asks to) = IsParty liar × IsView view × AreAsks asks × AreParties to
@@ -83,6 +84,7 @@ history_text liar view asks to =
 
 abbrev pub line_text : List ℕ → Line → List ℕ
 line_text digits (Ask client op) = codes "ask " ++ party_text (Client client) ++ behind_space (op_text op)
+line_text digits (AskHex client op) = codes "ask " ++ party_text (Client client) ++ behind_space (codes "hex" ++ behind_space digits)
 line_text digits (Deliver frame to) = codes "deliver " ++ decimal frame ++ to_text to
 line_text digits (Timer party kind) = codes "timer " ++ party_text party ++ behind_space (kind_text kind)
 line_text digits (Order liar view asks to) = codes "order " ++ history_text liar view asks to

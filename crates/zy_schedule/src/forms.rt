@@ -6,7 +6,7 @@ ghost use Rattle.zy_tuple.specs.Reading.{Gives, finished, op_read};
 use crate::Line;
 use crate::line::History;
 use crate::list::{ListEnd, list};
-use crate::parts::{behind_space, bytes_value, keyword, number_value, value};
+use crate::parts::{behind_space, bytes_value, first_word, keyword, number_value, op_value, value};
 use std::alloc::Global;
 use zy_base::{Bytes, ClientId, Items, Party, TimerKind, View};
 use zy_tuple::{LineFault, Op, Reply, op_text_read, reply_text_read};
@@ -48,7 +48,20 @@ pub(crate) fn ask(alloc: Global, line: &[u8]) -> Result<Line, LineFault>
     ensures { Gives (λ x. x) result (reading.ask_read line.now) }
 {
     let (client, rest) = value::<ClientId>(line)?;
-    let op = op(alloc, behind_space(rest)?)?;
+    asked(alloc, client, behind_space(rest)?)
+}
+
+/// What this client asks: the bytes behind `hex`, or an operation.
+#[tactic(auto, unfolding(crate::specs::Reading::asked_read))]
+fn asked(alloc: Global, client: ClientId, text: &[u8]) -> Result<Line, LineFault>
+    ensures { Gives (λ x. x) result (reading.asked_read client text.now) }
+{
+    let (word, rest) = first_word(text);
+    if word == b"hex".as_slice() {
+        let (op, rest) = op_value(alloc, rest)?;
+        return whole(Line::AskHex { client, op }, rest);
+    }
+    let op = op(alloc, text)?;
     Ok(Line::Ask { client, op })
 }
 

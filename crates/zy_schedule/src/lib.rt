@@ -12,5 +12,6 @@ mod reading;
 
 pub use fault::ScheduleFault;
 pub use line::Line;
+pub use lines::{FromLine, read_text};
 pub use making::make;
 pub use reading::{read_schedule, read_script};

@@ -10,6 +10,11 @@ pub enum Line {
         client: ClientId,
         op: Op,
     },
+    /// A client asks with 1 to 1,100 bytes, whatever they spell.
+    AskHex {
+        client: ClientId,
+        op: Bytes,
+    },
     /// A frame reaches the named party, or the one that it is addressed to.
     Deliver {
         frame: u64,

@@ -7,16 +7,17 @@ use crate::ScheduleFault;
 use std::alloc::Global;
 use zy_tuple::LineFault;
 
-/// What a line may say.
-pub(crate) trait FromLine: Sized + Drop {
+/// What a line of a text may say.
+pub trait FromLine: Sized + Drop {
     ghost said: { List ℕ → Result Self ℕ };
 
     fn read(alloc: Global, line: &[u8]) -> Result<Self, LineFault>
         ensures { Gives (λ x. x) result (said line.now) };
 }
 
-/// What a text says, line by line, or the first line that can't be read.
-pub(crate) fn read_text<T: FromLine>(alloc: Global, text: &[u8]) -> Result<Vec<T>, ScheduleFault>
+/// What a text says, line by line. Lines end with a line feed, which the last may lack; an empty line, or one that begins
+/// with `#`, says nothing. `Text` names the first other line that can't be read, counted from 1 with those that say nothing.
+pub fn read_text<T: FromLine>(alloc: Global, text: &[u8]) -> Result<Vec<T>, ScheduleFault>
     ensures { IsTextRead (text_of T.said text.now) result }
 {
     let mut items = Vec::new(alloc);

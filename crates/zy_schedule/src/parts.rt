@@ -9,6 +9,9 @@ use std::alloc::Global;
 use zy_base::{Bytes, ClientId, Party, TimerKind};
 use zy_tuple::{LineFault, numeral, party_text_read};
 
+/// How many bytes an operation may have.
+const OP_LIMIT: usize = 1100;
+
 /// What one part may be.
 pub(crate) trait Part: Sized {
     ghost part_read: { List ℕ → Result Self ℕ };
@@ -81,6 +84,17 @@ fn digits(alloc: Global, part: &[u8]) -> Result<Bytes, LineFault>
     }
 }
 
+/// The bytes of an operation, of which a request holds so many.
+fn op_digits(alloc: Global, part: &[u8]) -> Result<Bytes, LineFault>
+    ensures { Gives (λ x. x) result (reading.op_digits_read part.now) }
+{
+    let bytes = digits(alloc, part)?;
+    if bytes.len() > OP_LIMIT {
+        return Err(LineFault::Rule(3));
+    }
+    Ok(bytes)
+}
+
 fn part_len(line: &[u8]) -> usize
     ensures { result ≡ length (take_while in_word line.now) }
 {
@@ -144,6 +158,15 @@ pub(crate) fn bytes_value(alloc: Global, line: &[u8]) -> Result<(Bytes, &[u8]), 
 {
     let (part, rest) = next_part(line)?;
     Ok((digits(alloc, part)?, rest))
+}
+
+/// The bytes of an operation that the part behind a space spells, and what is left.
+#[tactic(auto, unfolding(crate::specs::Reading::value_at))]
+pub(crate) fn op_value(alloc: Global, line: &[u8]) -> Result<(Bytes, &[u8]), LineFault>
+    ensures { Gives (λ x. (x.0, x.1.now)) result (reading.value_at reading.op_digits_read line.now) }
+{
+    let (part, rest) = next_part(line)?;
+    Ok((op_digits(alloc, part)?, rest))
 }
 
 /// What is left behind a keyword.

@@ -327,6 +327,7 @@ module _ {S : Type 0} (R : Rules S) (ok : S → Type 0) (held : HeldLaw) (steps 
 
   line_run : (line : Line) (rest : Rest S) → AreKept rest → AreKept (run_line R line rest)
   line_run (lines.Ask client op) rest kept w good is = event_run rest kept (events.Ask client (op_bytes op)) w good is
+  line_run (lines.AskHex client op) rest kept w good is = event_run rest kept (events.Ask client op) w good is
   line_run (lines.Deliver number to) rest kept w good is = event_run rest kept (events.Deliver number to) w good is
   line_run (lines.Timer party kind) rest kept w good is = event_run rest kept (events.Timer party kind) w good is
   line_run (lines.Order liar view asks to) rest kept w good is = event_run rest kept (events.Order liar view asks to) w good is

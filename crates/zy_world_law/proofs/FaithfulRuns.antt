@@ -279,6 +279,7 @@ module _ {S : Type 0} (R : Rules S) (ok : S → Type 0) (held : HeldLaw) (steps 
 
   line_fair : (line : Line) (rest : Rest S) → IsQuiet line → Faithfully rest → Faithfully (run_line R line rest)
   line_fair (lines.Ask client op) rest quiet faithfully w good is = went rest faithfully (happens R w (events.Ask client (op_bytes op))) (goes_good w good (events.Ask client (op_bytes op))) (asks w good is client (op_bytes op) quiet)
+  line_fair (lines.AskHex client op) rest quiet faithfully w good is = went rest faithfully (happens R w (events.Ask client op)) (goes_good w good (events.Ask client op)) (asks w good is client op quiet)
   line_fair (lines.Deliver number to) rest quiet faithfully w good is = went rest faithfully (happens R w (events.Deliver number to)) (goes_good w good (events.Deliver number to)) (delivers w good is number to)
   line_fair (lines.Timer party kind) rest quiet faithfully w good is = went rest faithfully (happens R w (events.Timer party kind)) (goes_good w good (events.Timer party kind)) (rings w good is party kind)
   line_fair (lines.Order liar view asks to) rest quiet faithfully w good is = absurd quiet

@@ -71,6 +71,7 @@ module _ {S : Type 0} (R : Rules S) (law : HeldLaw) (steps : StepLaws R) where
 
   line_chain : (line : Line) (rest : Rest S) → Chains rest → Chains (run_line R line rest)
   line_chain (lines.Ask client op) rest chains w good = event_chain rest chains (events.Ask client (op_bytes op)) w good
+  line_chain (lines.AskHex client op) rest chains w good = event_chain rest chains (events.Ask client op) w good
   line_chain (lines.Deliver number to) rest chains w good = event_chain rest chains (events.Deliver number to) w good
   line_chain (lines.Timer party kind) rest chains w good = event_chain rest chains (events.Timer party kind) w good
   line_chain (lines.Order liar view asks to) rest chains w good = event_chain rest chains (events.Order liar view asks to) w good

@@ -28,6 +28,7 @@ pub record IsFaithful {S : Type 0} (is_state : S → Type 0) (w : World S) : Typ
 -- no longer than an operation may be.
 abbrev pub IsQuiet : Line → Type 0
 IsQuiet (lines.Ask client op) = length (op_bytes op) ≤ 1100
+IsQuiet (lines.AskHex client op) = length op ≤ 1100
 IsQuiet (lines.Deliver number to) = Unit {0}
 IsQuiet (lines.Timer party kind) = Unit {0}
 IsQuiet (lines.Order liar view asks to) = ⊥

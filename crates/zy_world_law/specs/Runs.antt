@@ -51,6 +51,7 @@ flow R (suc n) rest w = flow_on R w rest (flow R n rest) (next_undelivered w)
 -- one line, and then the rest
 abbrev pub run_line : {S : Type 0} → Rules S → Line → Rest S → Rest S
 run_line R (lines.Ask client op) rest w = goes_on (happens R w (events.Ask client (op_bytes op))) rest
+run_line R (lines.AskHex client op) rest w = goes_on (happens R w (events.Ask client op)) rest
 run_line R (lines.Deliver number to) rest w = goes_on (happens R w (events.Deliver number to)) rest
 run_line R (lines.Timer party kind) rest w = goes_on (happens R w (events.Timer party kind)) rest
 run_line R (lines.Order liar view asks to) rest w = goes_on (happens R w (events.Order liar view asks to)) rest
