@@ -359,3 +359,20 @@ module _ {T : Type 0} (fits : List T → Type 0) (bucket_of : T → ℕ) where
   unfolding LeadsBack
   values_made cells live is all none counted =
       record { sound = record { leads_back = none; fits_now = is; buckets = all; kept = subst AllKeptIn (sym none) tt }; counted = counted }
+
+-- ---- values that are put last
+
+module _ {T : Type 0} (bucket_of : T → ℕ) (cells cells' : Cells T) (value : T) (put : IsPutLast bucket_of cells cells' value) where
+  pub put_values : values_of cells'.live ≡ values_of cells.live ++ value ∷ []
+  put_values = ap (λ (c : Cells T). values_of c.live) put.now ∙ values-append cells.live _
+
+  pub put_in_bucket : AllInBuckets bucket_of cells.live → AllInBuckets bucket_of cells'.live
+  put_in_bucket all =
+      let cell : Cell T = record { id = put.id; bucket = bucket_of value; value = value } in
+      subst (λ (c : Cells T). AllInBuckets bucket_of c.live) (sym put.now) (all_join (λ (c : Cell T). c.bucket ≡ bucket_of c.value) cells.live (cell ∷ []) all (refl, tt))
+
+  pub put_stack : cells.stack ≡ [] → cells'.stack ≡ []
+  put_stack none = ap (λ (c : Cells T). c.stack) put.now ∙ none
+
+  pub put_many : (count : ℕ) → length cells.live ≡ count → length cells'.live ≡ count + 1
+  put_many count many = ap (λ (c : Cells T). length c.live) put.now ∙ length-append cells.live _ ∙ ap (λ (n : ℕ). n + 1) many

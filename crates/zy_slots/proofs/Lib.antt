@@ -4,6 +4,8 @@ mod RingLemmas
 mod ColumnLemmas
 pub mod ListLemmas
 pub mod ChangeLemmas
+pub mod WalkLemmas
+pub mod WriteLemmas
 mod NameLemmas
 mod AgeLemmas
 mod StepLemmas

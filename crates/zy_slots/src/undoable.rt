@@ -89,7 +89,7 @@ impl<T: Valued> Undoable<T> {
     /// Puts a value at the end.
     pub fn put(&mut self, value: T) -> Result<(), Want>
         requires bucket { T.bucket_of value < 64 }
-        requires fits { T.fits (values_of self.old.cells.live ++ value ∷ []) }
+        requires fits { T.fits (values_of self.old.cells.live) → T.fits (values_of self.old.cells.live ++ value ∷ []) }
         ensures ok { OnOk result (IsStep self.old self.new (values_of self.old.cells.live ++ value ∷ [])) }
         ensures err { OnErr result (self.new ≡ self.old) }
     {

@@ -18,6 +18,10 @@ pub bucket_below : (tuple : List Field) → length tuple ≤ 8 → bucket_of tup
 bucket_below [] few = omega arith
 bucket_below (field ∷ fields) few = omega (arith, residue_below field)
 
+pub few_fields : (tuple : List Field) → bucket_of tuple < 64 → length tuple ≤ 8
+few_fields [] small = omega arith
+few_fields (field ∷ fields) small = omega (arith, small)
+
 same_length : (template : List Slot) (tuple : List Field) → matches template tuple ≡ true → length template ≡ length tuple
 same_length [] [] match = refl
 same_length [] (field ∷ fields) match = absurd (cc)

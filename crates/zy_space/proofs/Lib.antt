@@ -1,6 +1,5 @@
 pub mod TagLemmas
 pub mod BucketLemmas
 pub mod SearchLemmas
-pub mod ChangeLemmas
-pub mod StateLemmas
+pub pub mod StateLemmas
 pub mod ServiceLaws

@@ -1,5 +1,5 @@
 -- The bytes of operations, replies and states.
-use Rattle.std.proofs.Common.{◌≡◌, ℕ, suc, true, List, None, Err, [], ◌∷◌, length, Result, Ok, ◌≤◌, refl, ◌∙◌, arith}
+use Rattle.std.proofs.Common.{◌≡◌, ℕ, suc, true, List, None, Err, [], ◌∷◌, Result, Ok, refl}
 use Rattle.std.specs.Prelude.{IsErr, nat_lt}
 use Rattle.std.proofs.lemmas.Bool.{lt-ltb, and_from}
 use Rattle.zy_base.specs.declared.frame_fault.FrameFault.{FrameFault}
@@ -9,10 +9,9 @@ use Rattle.zy_tuple.specs.declared.values.Field.{Field}
 use Rattle.zy_tuple.specs.Bytes.{op_in}
 use Rattle.zy_space.specs.Service.{is_bytes, answered, ran, value_of, state_in, state_spelling, IsSpaceState}
 use Rattle.zy_slots.specs.Cells.{Cells}
-use Rattle.zy_space.specs.declared.changes.Change.{Change}
-use Rattle.zy_space.specs.Changes.{tuples_of, AllTuples, IsSound, IsSpace}
-use Rattle.zy_space.specs.Laws.{state-exact, state_from}
-use Rattle.zy_space.proofs.ChangeLemmas.{length-tuples, tuples_are, space_made}
+use Rattle.zy_slots.specs.Timeline.{Timeline as Values, values_of, IsStep}
+use Rattle.zy_space.specs.Timeline.{onward}
+use Rattle.zy_space.specs.Laws.{state-exact}
 
 pub bytes_are : (bytes : List ℕ) → IsBytes bytes → is_bytes bytes ≡ true
 bytes_are [] fits = refl
@@ -31,13 +30,12 @@ pub ran_read : (bytes : List ℕ) (tuples : List (List Field)) → IsBytes bytes
 unfolding ran
 ran_read bytes tuples fits = rw (bytes_are bytes fits) refl
 
--- ---- the state of a space, and a space from the bytes of a state
+-- ---- a space from the bytes of a state
 
-pub space_state : (cells : Cells (List Field)) (changes : List Change) → IsSound cells changes → IsSpaceState (tuples_of cells.live)
-space_state cells changes sound =
-    state_from (tuples_of cells.live) (omega (arith, sound.few, length-tuples cells.live)) (tuples_are cells.live sound.tuples)
+pub restored : (cells : Cells (List Field)) (bytes : List ℕ) → IsBytes bytes → whole state_spelling bytes ≡ Ok (values_of cells.live) → IsSpaceState (values_of cells.live)
+restored cells bytes fits read = (whole_takes state_spelling state-exact bytes (values_of cells.live) fits read).1
 
-pub restored : (cells : Cells (List Field)) (live : ℕ) (bytes : List ℕ) → IsBytes bytes → whole state_spelling bytes ≡ Ok (tuples_of cells.live) → AllTuples cells.live → cells.stack ≡ [] → live ≡ length cells.live → IsSpace cells [] live
-restored cells live bytes fits read all none many =
-    let state = (whole_takes state_spelling state-exact bytes (tuples_of cells.live) fits read).1 in
-    space_made cells live all none many (omega (arith, state.most, length-tuples cells.live, many))
+-- what a step makes of a space
+pub onward_from : (values values' : Values (List Field)) (tuples : List (List Field)) → IsStep values values' tuples
+    → record { tuples = values_of values'.cells.live; trail = values'.trail } ≡ onward (record { tuples = values_of values.cells.live; trail = values.trail }) tuples
+onward_from values values' tuples step = rw (step.values_now, step.trail_now) refl

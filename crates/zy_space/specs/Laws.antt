@@ -47,11 +47,28 @@ all_push (first ∷ tuples) tuple all one = (all.0, all_push tuples tuple all.1 
 pub state_from : (tuples : List (List Field)) → length tuples ≤ 4096 → AllByRecursion IsTuple tuples → IsSpaceState tuples
 state_from tuples few all = record { least = omega arith; most = few; each = All-from_recursion IsTuple tuples all }
 
+pub few : (tuples : List (List Field)) → IsSpaceState tuples → length tuples ≤ 4096
+few tuples is = is.most
+
+each_other : (earlier : List (List Field)) (tuple : List Field) (later : List (List Field)) → AllByRecursion IsTuple (earlier ++ tuple ∷ later) → AllByRecursion IsTuple (earlier ++ later)
+each_other [] tuple later all = all.1
+each_other (first ∷ earlier) tuple later all = (all.0, each_other earlier tuple later all.1)
+
+-- without one of them they are a state as well
+pub fewer : (earlier : List (List Field)) (tuple : List Field) (later : List (List Field)) → IsSpaceState (earlier ++ tuple ∷ later) → IsSpaceState (earlier ++ later)
+fewer earlier tuple later is =
+    state_from (earlier ++ later) (omega (arith, is.most, length-append earlier later, length-append earlier (tuple ∷ later))) (each_other earlier tuple later (recursion_from_All IsTuple (earlier ++ tuple ∷ later) is.each))
+
+-- and with one more, where there is room
+pub more : (tuple : List Field) (tuples : List (List Field)) → IsTuple tuple → length tuples < 4096 → IsSpaceState tuples → IsSpaceState (tuples ++ tuple ∷ [])
+more tuple tuples fits room is =
+    state_from (tuples ++ tuple ∷ []) (omega (arith, length-append tuples (tuple ∷ []), room)) (all_push tuples tuple (recursion_from_All IsTuple tuples is.each) fits)
+
 inserted_state : (tuple : List Field) (reply : Reply) (tuples : List (List Field)) → IsTuple tuple → IsSpaceState tuples → IsSpaceState (inserted tuple reply tuples).tuples
 inserted_state tuple reply tuples fits was =
     elim (cases_Bool (nat_lt (length tuples) 4096)) [
       | inl room ↦
-          rw room (state_from (tuples ++ tuple ∷ []) (omega (arith, length-append tuples (tuple ∷ []), ltb-true (length tuples) 4096 room)) (all_push tuples tuple (recursion_from_All IsTuple tuples was.each) fits))
+          rw room (more tuple tuples fits (ltb-true (length tuples) 4096 room) was)
       | inr full ↦ rw full was
     ]
 

@@ -5,7 +5,6 @@ pub mod Service
 -- inner forms, which only private contracts and representations cite
 pub mod Tag
 pub mod Bucket
-pub mod Changes
 pub mod Search
 -- the laws of a replicated machine, which are proved
 pub mod Laws

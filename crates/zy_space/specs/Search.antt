@@ -2,11 +2,11 @@
 use Rattle.std.specs.Prelude.{◌≡◌, ℕ, true, false, List, ◌∷◌, ◌++◌, Option, Some, None}
 use Rattle.std.specs.List.{AllByRecursion}
 use Rattle.zy_slots.specs.Cells.{Cell, chain_of}
+use Rattle.zy_slots.specs.Timeline.{values_of}
 use Rattle.zy_tuple.specs.declared.values.Field.{Field}
 use Rattle.zy_tuple.specs.declared.values.Slot.{Slot}
 use Rattle.zy_tuple.specs.Values.{matches}
 use Rattle.zy_space.specs.TupleSpace.{oldest, without_oldest}
-use Rattle.zy_space.specs.Changes.{tuples_of}
 
 -- a bucket's cells, or all
 abbrev pub searched : Option ℕ → List (Cell (List Field)) → List (Cell (List Field))
@@ -33,8 +33,8 @@ pub record IsOldestAt (template : List Slot) (cells : List (Cell (List Field))) 
   pub later : List (Cell (List Field))
   pub split : cells ≡ earlier ++ cell ∷ later
   pub named : cell.id ≡ id
-  pub here : oldest template (tuples_of cells) ≡ Some cell.value
-  pub others : without_oldest template (tuples_of cells) ≡ tuples_of (earlier ++ later)
+  pub here : oldest template (values_of cells) ≡ Some cell.value
+  pub others : without_oldest template (values_of cells) ≡ values_of (earlier ++ later)
 
 pub record IsAbsent (template : List Slot) (tuples : List (List Field)) : Type 0 where
   pub none : oldest template tuples ≡ None

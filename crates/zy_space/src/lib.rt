@@ -3,7 +3,6 @@
 #![tactic(auto)]
 
 mod bucket;
-mod changes;
 mod search;
 mod space;
 mod state;

@@ -1,18 +1,21 @@
 //! The oldest match of a template, among the tuples of a bucket or all.
 
-ghost use Rattle.std.specs.Prelude.{◌≡◌, ℕ, ◌≤◌, ◌∷◌, ◌++◌, List, length, option_map, IfSome, IfNone};
+ghost use Rattle.std.specs.Prelude.{◌≡◌, ℕ, ◌≤◌, ◌∷◌, ◌++◌, List, length, option_map, IfSome, IfNone, IfOk};
 ghost use Rattle.zy_slots.specs.Rings.{first_of};
 ghost use Rattle.zy_slots.specs.Cells.{Cell, ids, IsLive, Stands};
+ghost use Rattle.zy_slots.specs.Timeline.{values_of};
+ghost use Rattle.zy_slots.specs.Changes.{AllInBuckets};
 ghost use Rattle.zy_tuple.specs.declared.values.Field.{Field};
 ghost use Rattle.zy_tuple.specs.Values.{matches as matched};
+ghost use Rattle.zy_space.specs.Bucket.{bucket_of};
 ghost use Rattle.zy_space.specs.Tag.{wanted_tags};
 ghost use Rattle.zy_space.specs.Search.{searched, NoneMatch, IsFirstMatch, IsOldestAt, IsAbsent};
-ghost use Rattle.zy_space.specs.Changes.{tuples_of, AllTuples};
 
 use crate::bucket::wanted_bucket;
 use crate::tagged::{Tagged, WantedTags, wanted_tags};
+use zy_base::Want;
 use zy_slots::{SlotId, Slots};
-use zy_tuple::{Template, matches};
+use zy_tuple::{Template, Tuple, matches};
 
 // The first one of a bucket, or of all.
 fn first_in(slots: &Slots<Tagged>, bucket: Option<u8>) -> Option<SlotId>
@@ -70,9 +73,17 @@ fn first_match(
 pub fn oldest_match(slots: &Slots<Tagged>, live: u64, template: &Template) -> Option<SlotId>
     requires template { length template.now ≤ 8 }
     requires live { live ≡ length slots.now.live }
-    requires tuples { AllTuples slots.now.live }
+    requires buckets { AllInBuckets bucket_of slots.now.live }
     ensures found { IfSome result (λ id. IsOldestAt template.now slots.now.live id.0) }
-    ensures none { IfNone result (IsAbsent template.now (tuples_of slots.now.live)) }
+    ensures none { IfNone result (IsAbsent template.now (values_of slots.now.live)) }
 {
     first_match(slots, live, wanted_bucket(template), template)
+}
+
+/// A copy of a live tuple.
+pub fn tuple_at(slots: &Slots<Tagged>, id: SlotId) -> Result<Tuple, Want>
+    requires { IsLive slots.now id.0 }
+    ensures { IfOk result (λ tuple. (earlier : List (Cell (List Field))) (cell : Cell (List Field)) (later : List (Cell (List Field))) → Stands slots.now id.0 earlier cell later → tuple ≡ cell.value) }
+{
+    Ok(slots.value(id).tuple().clone()?)
 }

@@ -4,16 +4,14 @@ ghost use Rattle.zy_space.specs.TupleSpace.{inserted, found, oldest, without_old
 ghost use Rattle.zy_space.specs.Service.{ran};
 ghost use Rattle.zy_space.specs.Timeline.{Timeline, onward};
 
-use crate::changes::{self, Change};
-use crate::search::oldest_match;
+use crate::search::{oldest_match, tuple_at};
 use crate::state::{get_state, put_state};
 use crate::tagged::Tagged;
 use std::alloc::Global;
-use std::collections::VecDeque;
 use std::marker::Model;
 use std::sync::ledger::Ledger;
 use zy_base::{Bytes, ClientId, Machine, RestoreFault, Steps, Want};
-use zy_slots::Slots;
+use zy_slots::{Slots, Undoable};
 use zy_tuple::{Op, OpFault, Reply, Template, Tuple, op_read, reply_bytes};
 
 /// The state of a space: its tuples, oldest first.
@@ -37,23 +35,16 @@ pub const TUPLE_LIMIT: u64 = 4096;
 /// A space of tuples that can go back. Contracts see its tuples, and those of each earlier state, oldest first.
 #[derive(Debug, Drop)]
 pub struct Space {
-    slots: Slots<Tagged>,
-    changes: VecDeque<Change>,
-    // how many tuples are live
-    live: u64,
+    values: Undoable<Tagged>,
 }
 
 impl Model for Space {
-    ghost use Rattle.std.specs.Prelude.{◌≡◌, List, length};
+    ghost use Rattle.zy_slots.specs.Timeline.{values_of};
     ghost use Rattle.zy_space.specs.Timeline.{Timeline};
 
     ghost Value = { Timeline };
 
-    ghost use Rattle.zy_space.specs.Changes.{tuples_of, trail_of, IsSpace};
-
-    ghost view = { λ s. record { tuples = tuples_of s.slots.live; trail = trail_of s.slots s.changes.items } };
-
-    ghost invariant = { λ s. IsSpace s.slots s.changes.items s.live };
+    ghost view = { λ s. record { tuples = values_of s.values.cells.live; trail = s.values.trail } };
 }
 
 impl Space {
@@ -61,7 +52,7 @@ impl Space {
     pub fn len(&self) -> u64
         ensures { result ≡ length self.now.tuples }
     {
-        self.live
+        self.values.len()
     }
 
     /// Runs one operation of a client. The answer is `Err` for want of memory alone, and then nothing has changed.
@@ -76,7 +67,7 @@ impl Space {
             Op::Out(tuple) => self.insert(tuple, Reply::Done),
             Op::Rdp(template) => self.read(template),
             Op::Inp(template) => self.take(template),
-            Op::Cas(template, tuple) => match oldest_match(&self.slots, self.live, template) {
+            Op::Cas(template, tuple) => match oldest_match(self.values.slots(), self.values.len(), template) {
                 None => self.insert(tuple, Reply::True),
                 Some(_) => self.stay(Reply::False),
             },
@@ -89,7 +80,7 @@ impl Space {
         ensures after { OnOk result (self.new ≡ onward self.old self.old.tuples) }
         ensures err { OnErr result (self.new ≡ self.old) }
     {
-        changes::stay(&self.slots, &mut self.changes)?;
+        self.values.stay()?;
         Ok(reply)
     }
 
@@ -100,11 +91,10 @@ impl Space {
         ensures after { OnOk result (self.new ≡ onward self.old (inserted tuple.now reply self.old.tuples).tuples) }
         ensures err { OnErr result (self.new ≡ self.old) }
     {
-        if self.live >= TUPLE_LIMIT {
+        if self.values.len() >= TUPLE_LIMIT {
             return self.stay(Reply::Full);
         }
-        changes::put(&mut self.slots, &mut self.changes, tuple.clone()?)?;
-        self.live += 1;
+        self.values.put(Tagged::new(tuple.clone()?))?;
         Ok(reply)
     }
 
@@ -115,10 +105,10 @@ impl Space {
         ensures is_reply { IfOk result IsReply }
         ensures err { OnErr result (self.new ≡ self.old) }
     {
-        match oldest_match(&self.slots, self.live, template) {
+        match oldest_match(self.values.slots(), self.values.len(), template) {
             None => self.stay(Reply::Nothing),
             Some(id) => {
-                let tuple = changes::tuple_of(&self.slots, id)?;
+                let tuple = tuple_at(self.values.slots(), id)?;
                 self.stay(Reply::Got(tuple))
             }
         }
@@ -131,12 +121,11 @@ impl Space {
         ensures is_reply { IfOk result IsReply }
         ensures err { OnErr result (self.new ≡ self.old) }
     {
-        match oldest_match(&self.slots, self.live, template) {
+        match oldest_match(self.values.slots(), self.values.len(), template) {
             None => self.stay(Reply::Nothing),
             Some(id) => {
-                let tuple = changes::tuple_of(&self.slots, id)?;
-                changes::take_out(&mut self.slots, &mut self.changes, id)?;
-                self.live -= 1;
+                let tuple = tuple_at(self.values.slots(), id)?;
+                self.values.take_out(id)?;
                 Ok(Reply::Got(tuple))
             }
         }
@@ -149,7 +138,7 @@ impl Space {
         ensures is_reply { IfOk result IsReply }
         ensures err { OnErr result (self.new ≡ self.old) }
     {
-        match op_read(*self.changes.allocator(), bytes) {
+        match op_read(self.values.allocator(), bytes) {
             Ok(op) => self.run_op(client, &op),
             Err(OpFault::NotOp) => self.stay(Reply::Bad),
             Err(OpFault::Want) => Err(Want),
@@ -160,7 +149,7 @@ impl Space {
         requires { 0 < length self.old.trail }
         ensures { self.old.trail ≡ self.new.trail ++ self.new.tuples ∷ [] }
     {
-        self.live = changes::go_back(&mut self.slots, &mut self.changes, self.live);
+        self.values.go_back();
     }
 
     fn forget_one(&mut self)
@@ -168,7 +157,7 @@ impl Space {
         ensures tuples { self.new.tuples ≡ self.old.tuples }
         ensures trail { self.new.trail ≡ drop 1 self.old.trail }
     {
-        changes::forget_oldest(&mut self.slots, &mut self.changes);
+        self.values.forget_oldest();
     }
 }
 
@@ -188,15 +177,13 @@ impl Machine for Space {
 
     fn empty(alloc: Global) -> Result<Space, Want> {
         Ok(Space {
-            slots: Slots::new(alloc),
-            changes: VecDeque::new(alloc),
-            live: 0,
+            values: Undoable::new(alloc, Slots::new(alloc), 0),
         })
     }
 
     fn apply(&mut self, client: ClientId, op: &[u8]) -> Result<Bytes, Want> {
         let reply = self.run_bytes(client, op)?;
-        match reply_bytes(*self.changes.allocator(), &reply) {
+        match reply_bytes(self.values.allocator(), &reply) {
             Ok(bytes) => Ok(bytes),
             Err(want) => {
                 self.go_back();
@@ -215,19 +202,17 @@ impl Machine for Space {
     }
 
     fn trail_len(&self) -> u64 {
-        self.changes.len() as u64
+        self.values.trail_len()
     }
 
     fn state_bytes(&self) -> Result<Bytes, Want> {
-        put_state(*self.changes.allocator(), &self.slots, self.live)
+        put_state(self.values.allocator(), self.values.slots(), self.values.len())
     }
 
     fn restore(alloc: Global, bytes: &[u8]) -> Result<Space, RestoreFault> {
         match get_state(alloc, bytes) {
             Ok((slots, live)) => Ok(Space {
-                slots,
-                changes: VecDeque::new(alloc),
-                live,
+                values: Undoable::new(alloc, slots, live),
             }),
             Err(OpFault::NotOp) => Err(RestoreFault::NotState),
             Err(OpFault::Want) => Err(RestoreFault::Want),

@@ -5,9 +5,11 @@ ghost use Rattle.zy_tuple.specs.declared.values.Slot.{Slot};
 ghost use Rattle.zy_tuple.specs.Values.{matches as matched};
 ghost use Rattle.zy_space.specs.Tag.{with_part, hash_of_text, hash_of_field, tag_of_field, tag_at, tags_of, wanted_at, mask_at, wanted_tags};
 
+use crate::bucket::bucket_of;
 use std::array;
 use std::marker::Model;
 use std::simd::prelude::*;
+use zy_slots::Valued;
 use zy_tuple::{Field, Slot, Template, Tuple};
 
 /// 2^64 divided by the golden ratio. A product with it has the high bits that tell numbers apart best.
@@ -141,4 +143,22 @@ impl Tagged {
         let differences = u8x8::from_array(self.tags) ^ u8x8::from_array(wanted.tags);
         (differences & u8x8::from_array(wanted.masks)).reduce_or() == 0
     }
+}
+
+impl Valued for Tagged {
+    ghost use Rattle.zy_space.specs.Bucket.{bucket_of};
+    ghost use Rattle.zy_space.specs.Service.{IsSpaceState};
+    ghost use Rattle.zy_space.specs.Laws as laws;
+
+    ghost fits = { IsSpaceState };
+
+    ghost bucket_of = { bucket_of };
+
+    fn bucket(&self) -> u8 {
+        bucket_of(&self.tuple)
+    }
+
+    ghost few = { laws.few };
+
+    ghost fewer = { laws.fewer };
 }

@@ -1,6 +1,7 @@
 use Rattle.std.proofs.Common.{◌+◌, Some, None}
 use Rattle.zy_space.specs.Search.{searched}
-use Rattle.zy_space.proofs.SearchLemmas.{walk_is_live, told_in_searched, walk_finds, walk_goes_on, walk_ends, none_given}
+use Rattle.zy_space.proofs.SearchLemmas.{walk_is_live, told_in_searched, walk_finds, walk_goes_on, walk_ends}
+use Rattle.zy_slots.proofs.WalkLemmas.{none_given}
 use Rattle.zy_space.proofs.search.first_match.Goals as goal
 
 pub is_match-requires-clause-live : goal.is_match-requires-clause-live

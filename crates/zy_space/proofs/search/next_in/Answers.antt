@@ -1,4 +1,4 @@
-use Rattle.zy_space.proofs.SearchLemmas.{next_in_chain}
+use Rattle.zy_slots.proofs.WalkLemmas.{next_in_chain}
 use Rattle.zy_space.proofs.search.next_in.Goals as goal
 
 pub returns-in-Some : goal.returns-in-Some

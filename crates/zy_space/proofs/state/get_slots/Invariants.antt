@@ -2,14 +2,16 @@ use Rattle.std.proofs.Common.{◌≡◌, ◌-◌, [], length}
 use Rattle.zy_wire.specs.Spelling.{IsBytes, repeated_at}
 use Rattle.zy_tuple.specs.Bytes.{tuple_spelling}
 use Rattle.zy_tuple.proofs.Items.{with_front}
-use Rattle.zy_space.specs.Changes.{tuples_of, AllTuples}
+use Rattle.zy_slots.specs.Timeline.{values_of}
+use Rattle.zy_slots.specs.Changes.{AllInBuckets}
+use Rattle.zy_space.specs.Bucket.{bucket_of}
 use Rattle.zy_space.proofs.state.get_slots.Given as goal
 
 abbrev pub invariant-loop-place : goal.invariant-loop-place
 invariant-loop-place l = record {
-  so_far : with_front (tuples_of l.slots.live) (repeated_at tuple_spelling (l.count - l.place) l.cut) ≡ repeated_at tuple_spelling l.count l.fn.cut;
+  so_far : with_front (values_of l.slots.live) (repeated_at tuple_spelling (l.count - l.place) l.cut) ≡ repeated_at tuple_spelling l.count l.fn.cut;
   bytes : IsBytes l.cut;
-  tuples : AllTuples l.slots.live;
+  buckets : AllInBuckets bucket_of l.slots.live;
   stack : l.slots.stack ≡ [];
   many : length l.slots.live ≡ l.place;
 }

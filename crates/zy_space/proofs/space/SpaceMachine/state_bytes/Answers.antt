@@ -3,9 +3,8 @@ use Rattle.std.specs.Prelude.{IfOk}
 use Rattle.zy_base.specs.declared.want.Want.{Want}
 use Rattle.zy_space.specs.Timeline.{Timeline}
 use Rattle.zy_space.specs.Service.{IsSpaceState, state_spelling}
-use Rattle.zy_space.specs.Changes.{tuples_of}
+use Rattle.zy_slots.specs.Timeline.{values_of}
 use Rattle.zy_space.specs.Laws.{short_spelling}
-use Rattle.zy_space.proofs.ServiceLaws.{space_state}
 use Rattle.zy_space.proofs.space.SpaceMachine.state_bytes.Goals as goal
 
 short : (r : Result (List ℕ) Want) (bytes : List ℕ) → IfOk r (λ b. b ≡ bytes) → length bytes ≤ 2300000 → IfOk r (λ b. length b ≤ 2300000)
@@ -14,9 +13,8 @@ short (Err want) bytes is few = tt
 
 pub returns-clause-short : goal.returns-clause-short
 returns-clause-short c =
-    let tuples = tuples_of c.self.inside.slots.live in
-    short c.put_state.result (state_spelling.spell tuples) c.put_state.ensures (short_spelling tuples (space_state c.self.inside.slots c.self.inside.changes.items c.self.invariant.sound))
+    let tuples = values_of c.self.inside.values.cells.live in
+    short c.put_state.result (state_spelling.spell tuples) c.put_state.ensures (short_spelling tuples c.slots.ensures.fits)
 
 pub returns-clause-is_state : goal.returns-clause-is_state
-returns-clause-is_state c =
-    subst (λ (t : Timeline). IsSpaceState t.tuples) c.self.view_is (space_state c.self.inside.slots c.self.inside.changes.items c.self.invariant.sound)
+returns-clause-is_state c = subst (λ (t : Timeline). IsSpaceState t.tuples) c.self.view_is c.slots.ensures.fits
