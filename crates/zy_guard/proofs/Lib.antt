@@ -1,5 +1,4 @@
 pub mod IsolationLaws
-pub mod ChangeLemmas
 pub mod SearchLemmas
 pub mod StateLemmas
 pub mod ServiceLaws

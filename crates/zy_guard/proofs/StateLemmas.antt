@@ -1,16 +1,14 @@
 -- The bytes of the live tuples.
-use Rattle.std.proofs.Common.{◌≡◌, ℕ, zero, suc, ◌+◌, ◌<◌, ◌≤◌, Bool, true, false, leb, ltb, ◌&&◌, List, [], ◌∷◌, ◌++◌, length, Option, Some, None, Ok, refl, sym, ap, ◌∙◌, subst, append_assoc, inl, inr, arith}
-use Rattle.std.specs.Option.{option_map}
-use Rattle.std.specs.List.{AllByRecursion, flat_map}
+use Rattle.std.proofs.Common.{◌≡◌, ℕ, zero, suc, ◌+◌, ◌<◌, ◌≤◌, Bool, true, false, leb, ltb, ◌&&◌, List, [], ◌∷◌, ◌++◌, length, Option, Some, None, Ok, refl, sym, ◌∙◌, subst, inl, inr, arith}
+use Rattle.std.specs.List.{AllByRecursion}
 use Rattle.std.specs.Int.{w16}
 use Rattle.std.proofs.lemmas.Bool.{and_from, and_parts, le-leb, lt-leb, ltb-true, ltb-false}
 use Rattle.std.proofs.lemmas.Bool.Decides.{eqb_tells}
-use Rattle.std.proofs.lemmas.Grind.{flat_map-append}
-use Rattle.std.proofs.lemmas.List.{append-nil, length-append}
 use Rattle.zy_slots.specs.declared.slots.SlotId.{SlotId}
-use Rattle.zy_slots.specs.Rings.{first_of}
-use Rattle.zy_slots.specs.Cells.{Cell, Cells, ids, Stands, IsLive}
-use Rattle.zy_slots.proofs.ListLemmas.{all_join}
+use Rattle.zy_slots.specs.Cells.{Cell, Cells, Stands}
+use Rattle.zy_slots.specs.Timeline.{values_of}
+use Rattle.zy_slots.proofs.WalkLemmas.{IsFirst, walk_next}
+use Rattle.zy_slots.proofs.WriteLemmas as writes
 use Rattle.zy_tuple.specs.declared.values.Slot.{Slot}
 use Rattle.zy_wire.specs.Spelling.{IsBytes, number}
 use Rattle.zy_wire.proofs.Parts.{IsBytes-after, wide16, number-exact}
@@ -19,36 +17,23 @@ use Rattle.zy_guard.specs.GuardedSpace.{IsOwned, IsGuardState, owned_by}
 use Rattle.zy_guard.specs.Bytes.{owned_spelling}
 use Rattle.zy_guard.specs.Service.{is_few_below}
 use Rattle.zy_guard.specs.Search.{IsOldestAt}
-use Rattle.zy_guard.specs.Changes.{values_of, IsInChain, AllInChains, IsPutLast}
 use Rattle.zy_guard.specs.BytesLaws.{owned-exact}
-use Rattle.zy_guard.proofs.SearchLemmas.{IsNext, next_is, none_left, nil_left}
-use Rattle.zy_guard.proofs.ChangeLemmas.{values-append, put_more}
 
 abbrev Live : Type 0
 Live = Cell Owned
 
-abbrev pub spelled : List Live → List ℕ
-spelled cells = flat_map owned_spelling.spell (values_of cells)
-
 -- so many are written, and the next one is this
-pub record IsWritten (before : List ℕ) (cells : List Live) (steps : ℕ) (at : Option SlotId) (out : List ℕ) : Type 0 where
-  pub done : List Live
-  pub left : List Live
-  pub split : cells ≡ done ++ left
-  pub many : length done ≡ steps
-  pub next : option_map (λ (id : SlotId). id.0) at ≡ first_of (ids left)
-  pub written : out ≡ before ++ spelled done
+abbrev pub IsWritten : List ℕ → List Live → ℕ → Option SlotId → List ℕ → Type 0
+IsWritten before cells steps at out = writes.IsWritten owned_spelling.spell before cells steps at out
 
-pub write_start : (out : List ℕ) (cells : List Live) (at : Option SlotId) → option_map (λ (id : SlotId). id.0) at ≡ first_of (ids cells) → IsWritten out cells 0 at out
-write_start out cells at first = record { done = []; left = cells; split = refl; many = refl; next = first; written = sym (append-nil out) }
+pub write_start : (out : List ℕ) (cells : List Live) (at : Option SlotId) → IsFirst cells at → IsWritten out cells 0 at out
+write_start out cells at first = writes.write_starts owned_spelling.spell out cells at first
 
-pub next_written : (before : List ℕ) (cells : List Live) (steps : ℕ) (id : SlotId) (out : List ℕ) (so_far : IsWritten before cells steps (Some id) out) → IsNext cells so_far.done so_far.left id
-next_written before cells steps id out so_far = next_is cells so_far.done so_far.left id so_far.split so_far.next
+pub write_ends : (before : List ℕ) (cells : List Live) (steps : ℕ) (out : List ℕ) → IsWritten before cells steps None out → out ≡ before ++ writes.spelled owned_spelling.spell cells
+write_ends before cells steps out so_far = writes.write_ends owned_spelling.spell before cells steps out so_far
 
-pub written_is_live : (before : List ℕ) (cells : Cells Owned) (steps : ℕ) (id : SlotId) (out : List ℕ) → IsWritten before cells.live steps (Some id) out → IsLive cells id.0
-written_is_live before cells steps id out so_far =
-    let at = next_written before cells.live steps id out so_far in
-    (so_far.done, at.cell, at.later, record { split = at.split; named = at.named })
+pub write_is_full : (before : List ℕ) (cells : List Live) (steps : ℕ) (at : Option SlotId) (out : List ℕ) → IsWritten before cells steps at out → length cells ≤ steps → out ≡ before ++ writes.spelled owned_spelling.spell cells
+write_is_full before cells steps at out so_far few = writes.write_is_full owned_spelling.spell before cells steps at out so_far few
 
 values_split : (front : List Live) (cell : Live) (back : List Live) → AllByRecursion IsOwned (values_of (front ++ cell ∷ back)) → IsOwned cell.value
 values_split [] cell back all = all.0
@@ -57,7 +42,7 @@ values_split (first ∷ front) cell back all = values_split front cell back all.
 pub written_is_owned : (before : List ℕ) (cells : Cells Owned) (steps : ℕ) (id : SlotId) (out : List ℕ) (owned : Owned) → IsWritten before cells.live steps (Some id) out → IsGuardState (values_of cells.live)
     → ((earlier : List Live) (cell : Live) (later : List Live) → Stands cells id.0 earlier cell later → owned ≡ cell.value) → IsOwned owned
 written_is_owned before cells steps id out owned so_far state tells =
-    let at = next_written before cells.live steps id out so_far in
+    let at = walk_next (λ done. out ≡ before ++ writes.spelled owned_spelling.spell done) cells.live steps id so_far in
     subst IsOwned (sym (tells so_far.done at.cell at.later (record { split = at.split; named = at.named })))
     (values_split so_far.done at.cell at.later (subst (λ (l : List Live). AllByRecursion IsOwned (values_of l)) at.split state.each))
 
@@ -68,50 +53,7 @@ seen_is_owned client template cells id owned state at tells =
     subst IsOwned (sym (tells at.earlier at.cell at.later (record { split = at.split; named = at.named })))
     (values_split at.earlier at.cell at.later (subst (λ (l : List Live). AllByRecursion IsOwned (values_of l)) at.split state.each))
 
-pub writes_on : (before : List ℕ) (cells : Cells Owned) (steps : ℕ) (id : SlotId) (at' : Option SlotId) (out out' : List ℕ) (owned : Owned) → IsWritten before cells.live steps (Some id) out
-    → ((earlier : List Live) (cell : Live) (later : List Live) → Stands cells id.0 earlier cell later → owned ≡ cell.value)
-    → ((earlier : List Live) (cell : Live) (later : List Live) → Stands cells id.0 earlier cell later → option_map (λ (id : SlotId). id.0) at' ≡ first_of (ids later))
-    → out' ≡ out ++ owned_spelling.spell owned → IsWritten before cells.live (steps + 1) at' out'
-writes_on before cells steps id at' out out' owned so_far tells follows put =
-    let at = next_written before cells.live steps id out so_far in
-    let stands : Stands cells id.0 so_far.done at.cell at.later = record { split = at.split; named = at.named } in
-    let more : spelled (so_far.done ++ at.cell ∷ []) ≡ spelled so_far.done ++ owned_spelling.spell at.cell.value =
-    ap (flat_map owned_spelling.spell) (values-append so_far.done (at.cell ∷ [])) ∙ flat_map-append owned_spelling.spell (values_of so_far.done) (at.cell.value ∷ [])
-    ∙ ap (λ (b : List ℕ). spelled so_far.done ++ b) (append-nil (owned_spelling.spell at.cell.value)) in
-    record {
-      done = so_far.done ++ at.cell ∷ [];
-      left = at.later;
-      split = at.split ∙ sym (append_assoc so_far.done (at.cell ∷ []) at.later);
-      many = length-append so_far.done (at.cell ∷ []) ∙ ap (λ (n : ℕ). n + 1) so_far.many;
-      next = follows so_far.done at.cell at.later stands;
-      written = put ∙ ap (λ (b : List ℕ). b ++ owned_spelling.spell owned) so_far.written ∙ ap (λ (t : Owned). (before ++ spelled so_far.done) ++ owned_spelling.spell t) (tells so_far.done at.cell at.later stands)
-          ∙ append_assoc before (spelled so_far.done) (owned_spelling.spell at.cell.value) ∙ ap (λ (b : List ℕ). before ++ b) (sym more);
-    }
-
-pub write_ends : (before : List ℕ) (cells : List Live) (steps : ℕ) (out : List ℕ) → IsWritten before cells steps None out → out ≡ before ++ spelled cells
-write_ends before cells steps out so_far =
-    so_far.written ∙ ap (λ (l : List Live). before ++ spelled l) (sym (so_far.split ∙ ap (λ (l : List Live). so_far.done ++ l) (none_left so_far.left so_far.next) ∙ append-nil so_far.done))
-
-pub write_is_full : (before : List ℕ) (cells : List Live) (steps : ℕ) (at : Option SlotId) (out : List ℕ) → IsWritten before cells steps at out → length cells ≤ steps → out ≡ before ++ spelled cells
-write_is_full before cells steps at out so_far few =
-    let none = nil_left so_far.done so_far.left (omega (arith, few, so_far.many, ap length so_far.split)) in
-    so_far.written ∙ ap (λ (l : List Live). before ++ spelled l) (sym (so_far.split ∙ ap (λ (l : List Live). so_far.done ++ l) none ∙ append-nil so_far.done))
-
 -- ---- reading
-
-pub put_values : (cells cells' : Cells Owned) (owned : Owned) → IsPutLast cells cells' owned → values_of cells'.live ≡ values_of cells.live ++ owned ∷ []
-put_values cells cells' owned put = ap (λ (c : Cells Owned). values_of c.live) put.now ∙ values-append cells.live _
-
-pub put_in_chain : (cells cells' : Cells Owned) (owned : Owned) → IsPutLast cells cells' owned → AllInChains cells.live → AllInChains cells'.live
-put_in_chain cells cells' owned put all =
-    let cell : Live = record { id = put.id; bucket = owned.owner.0; value = owned } in
-    subst (λ (c : Cells Owned). AllInChains c.live) (sym put.now) (all_join IsInChain cells.live (cell ∷ []) all (refl, tt))
-
-pub put_stack : (cells cells' : Cells Owned) (owned : Owned) → IsPutLast cells cells' owned → cells.stack ≡ [] → cells'.stack ≡ []
-put_stack cells cells' owned put none = ap (λ (c : Cells Owned). c.stack) put.now ∙ none
-
-pub put_many : (cells cells' : Cells Owned) (owned : Owned) (count : ℕ) → IsPutLast cells cells' owned → length cells.live ≡ count → length cells'.live ≡ count + 1
-put_many cells cells' owned count put many = put_more cells cells' owned put ∙ ap (λ (n : ℕ). n + 1) many
 
 -- what is read is a tuple with its owner, with bytes behind it
 pub owned_read : (bytes : List ℕ) (owned : Owned) (rest : List ℕ) → IsBytes bytes → owned_spelling.at bytes ≡ Ok (owned, rest) → IsOwned owned × IsBytes rest

@@ -6,7 +6,6 @@ pub mod Service
 pub mod Lines
 pub mod Isolation
 -- inner forms, which only private contracts and representations cite
-pub mod Changes
 pub mod Search
 -- the laws of a replicated machine, which are proved
 pub mod SpaceLaws

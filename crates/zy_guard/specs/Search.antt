@@ -2,11 +2,15 @@
 use Rattle.std.specs.Prelude.{◌≡◌, ℕ, false, Bool, ◌&&◌, List, ◌∷◌, ◌++◌, Some}
 use Rattle.std.specs.List.{AllByRecursion}
 use Rattle.zy_slots.specs.Cells.{Cell}
+use Rattle.zy_slots.specs.Timeline.{values_of}
 use Rattle.zy_tuple.specs.declared.values.Slot.{Slot}
 use Rattle.zy_tuple.specs.Values.{matches}
 use Rattle.zy_guard.specs.declared.values.Owned.{Owned}
 use Rattle.zy_guard.specs.GuardedSpace.{sees, visible, oldest, without_oldest}
-use Rattle.zy_guard.specs.Changes.{values_of}
+
+-- the tuples of an owner are in one bucket
+abbrev pub bucket_of : Owned → ℕ
+bucket_of owned = owned.owner.0
 
 -- a match that the client sees
 abbrev pub is_seen : ℕ → List Slot → Owned → Bool

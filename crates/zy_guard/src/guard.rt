@@ -6,17 +6,15 @@ ghost use Rattle.zy_guard.specs.Service.{ran};
 ghost use Rattle.zy_guard.specs.Timeline.{onward};
 
 use crate::access::denial;
-use crate::changes::{self, Change};
 use crate::search::{oldest_match, owns_fewer};
 use crate::spelling::{guard_reply_bytes, op_read};
 use crate::state::{OWNED_LIMIT, get_state, put_state};
 use crate::{Access, Denial, GuardOp, GuardReply, Owned};
 use std::alloc::Global;
-use std::collections::VecDeque;
 use std::marker::Model;
 use std::sync::ledger::Ledger;
 use zy_base::{Bytes, ClientId, Machine, RestoreFault, Steps, Want};
-use zy_slots::Slots;
+use zy_slots::{Slots, Undoable};
 use zy_tuple::{OpFault, Reply, Template, Tuple};
 
 /// The state of a guarded space: its tuples with their owners, oldest first.
@@ -38,22 +36,16 @@ impl Model for OwnedTuples {
 /// oldest first.
 #[derive(Debug, Drop)]
 pub struct Guard {
-    slots: Slots<Owned>,
-    changes: VecDeque<Change>,
-    // how many tuples are live
-    live: u64,
+    values: Undoable<Owned>,
 }
 
 impl Model for Guard {
+    ghost use Rattle.zy_slots.specs.Timeline.{values_of};
     ghost use Rattle.zy_guard.specs.Timeline.{Timeline};
 
     ghost Value = { Timeline };
 
-    ghost use Rattle.zy_guard.specs.Changes.{values_of, trail_of, IsGuard};
-
-    ghost view = { λ s. record { state = values_of s.slots.live; trail = trail_of s.slots s.changes.items } };
-
-    ghost invariant = { λ s. IsGuard s.slots s.changes.items s.live };
+    ghost view = { λ s. record { state = values_of s.values.cells.live; trail = s.values.trail } };
 }
 
 impl Guard {
@@ -85,7 +77,7 @@ impl Guard {
             GuardOp::Rdp(template) => self.read(client, template),
             GuardOp::Inp(template) => self.take(client, template),
             GuardOp::Cas(template, access, tuple) => {
-                match oldest_match(&self.slots, self.live, client, template) {
+                match oldest_match(self.values.slots(), self.values.len(), client, template) {
                     None => self.insert(client, *access, tuple, Reply::True),
                     Some(_) => self.stay(GuardReply::Plain(Reply::False)),
                 }
@@ -99,7 +91,7 @@ impl Guard {
         ensures after { OnOk result (self.new ≡ onward self.old self.old.state) }
         ensures err { OnErr result (self.new ≡ self.old) }
     {
-        changes::stay(&self.slots, &mut self.changes)?;
+        self.values.stay()?;
         Ok(reply)
     }
 
@@ -116,7 +108,7 @@ impl Guard {
         ensures after { OnOk result (self.new ≡ onward self.old (space.inserted (space.owned_of client.0 access tuple.now) reply self.old.state).state) }
         ensures err { OnErr result (self.new ≡ self.old) }
     {
-        if !owns_fewer(&self.slots, client, OWNED_LIMIT) {
+        if !owns_fewer(self.values.slots(), client, OWNED_LIMIT) {
             return self.stay(GuardReply::Plain(Reply::Full));
         }
         let owned = Owned {
@@ -124,8 +116,7 @@ impl Guard {
             access,
             tuple: tuple.clone()?,
         };
-        changes::put(&mut self.slots, &mut self.changes, owned)?;
-        self.live += 1;
+        self.values.put(owned)?;
         Ok(GuardReply::Plain(reply))
     }
 
@@ -137,10 +128,10 @@ impl Guard {
         ensures is_reply { IfOk result space.IsGuardReply }
         ensures err { OnErr result (self.new ≡ self.old) }
     {
-        match oldest_match(&self.slots, self.live, client, template) {
+        match oldest_match(self.values.slots(), self.values.len(), client, template) {
             None => self.stay(GuardReply::Plain(Reply::Nothing)),
             Some(id) => {
-                let tuple = self.slots.value(id).tuple.clone()?;
+                let tuple = self.values.slots().value(id).tuple.clone()?;
                 self.stay(GuardReply::Plain(Reply::Got(tuple)))
             }
         }
@@ -154,16 +145,15 @@ impl Guard {
         ensures is_reply { IfOk result space.IsGuardReply }
         ensures err { OnErr result (self.new ≡ self.old) }
     {
-        match oldest_match(&self.slots, self.live, client, template) {
+        match oldest_match(self.values.slots(), self.values.len(), client, template) {
             None => self.stay(GuardReply::Plain(Reply::Nothing)),
             Some(id) => {
-                let owned = self.slots.value(id);
+                let owned = self.values.slots().value(id);
                 if !owned.access.takers.has(client) {
                     return self.stay(GuardReply::Denied(Denial::NotTaker));
                 }
                 let tuple = owned.tuple.clone()?;
-                changes::take_out(&mut self.slots, &mut self.changes, id)?;
-                self.live -= 1;
+                self.values.take_out(id)?;
                 Ok(GuardReply::Plain(Reply::Got(tuple)))
             }
         }
@@ -176,7 +166,7 @@ impl Guard {
         ensures is_reply { IfOk result space.IsGuardReply }
         ensures err { OnErr result (self.new ≡ self.old) }
     {
-        match op_read(*self.changes.allocator(), bytes) {
+        match op_read(self.values.allocator(), bytes) {
             Ok(op) => self.run_op(client, &op),
             Err(OpFault::NotOp) => self.stay(GuardReply::Plain(Reply::Bad)),
             Err(OpFault::Want) => Err(Want),
@@ -187,7 +177,7 @@ impl Guard {
         requires { 0 < length self.old.trail }
         ensures { self.old.trail ≡ self.new.trail ++ self.new.state ∷ [] }
     {
-        self.live = changes::go_back(&mut self.slots, &mut self.changes, self.live);
+        self.values.go_back();
     }
 
     fn forget_one(&mut self)
@@ -195,7 +185,7 @@ impl Guard {
         ensures state { self.new.state ≡ self.old.state }
         ensures trail { self.new.trail ≡ drop 1 self.old.trail }
     {
-        changes::forget_oldest(&mut self.slots, &mut self.changes);
+        self.values.forget_oldest();
     }
 }
 
@@ -215,15 +205,13 @@ impl Machine for Guard {
 
     fn empty(alloc: Global) -> Result<Guard, Want> {
         Ok(Guard {
-            slots: Slots::new(alloc),
-            changes: VecDeque::new(alloc),
-            live: 0,
+            values: Undoable::new(alloc, Slots::new(alloc), 0),
         })
     }
 
     fn apply(&mut self, client: ClientId, op: &[u8]) -> Result<Bytes, Want> {
         let reply = self.run_bytes(client, op)?;
-        match guard_reply_bytes(*self.changes.allocator(), &reply) {
+        match guard_reply_bytes(self.values.allocator(), &reply) {
             Ok(bytes) => Ok(bytes),
             Err(want) => {
                 self.go_back();
@@ -242,19 +230,17 @@ impl Machine for Guard {
     }
 
     fn trail_len(&self) -> u64 {
-        self.changes.len() as u64
+        self.values.trail_len()
     }
 
     fn state_bytes(&self) -> Result<Bytes, Want> {
-        put_state(*self.changes.allocator(), &self.slots, self.live)
+        put_state(self.values.allocator(), self.values.slots(), self.values.len())
     }
 
     fn restore(alloc: Global, bytes: &[u8]) -> Result<Guard, RestoreFault> {
         match get_state(alloc, bytes) {
             Ok((slots, live)) => Ok(Guard {
-                slots,
-                changes: VecDeque::new(alloc),
-                live,
+                values: Undoable::new(alloc, slots, live),
             }),
             Err(OpFault::NotOp) => Err(RestoreFault::NotState),
             Err(OpFault::Want) => Err(RestoreFault::Want),

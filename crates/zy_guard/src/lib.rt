@@ -3,7 +3,6 @@
 #![tactic(auto)]
 
 mod access;
-mod changes;
 mod guard;
 mod laws;
 mod parts;
@@ -13,6 +12,7 @@ mod sets;
 mod spelling;
 mod state;
 mod templates;
+mod valued;
 mod values;
 mod writing;
 

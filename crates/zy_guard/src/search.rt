@@ -2,9 +2,10 @@
 
 ghost use Rattle.std.specs.Prelude.{◌≡◌, ◌<◌, ◌≤◌, nat_lt, List, length, None, IfSome, IfNone};
 ghost use Rattle.zy_slots.specs.Cells.{Cell, IsLive, Stands};
+ghost use Rattle.zy_slots.specs.Timeline.{values_of};
+ghost use Rattle.zy_slots.specs.Changes.{AllInBuckets};
 ghost use Rattle.zy_guard.specs.declared.values.Owned.{Owned};
 ghost use Rattle.zy_guard.specs.GuardedSpace.{oldest, visible, owned_by};
-ghost use Rattle.zy_guard.specs.Changes.{values_of, AllInChains};
 ghost use Rattle.zy_guard.specs.Search as seen;
 
 use crate::Owned;
@@ -47,7 +48,7 @@ pub fn oldest_match(
 /// Whether a client has put in fewer than so many of the live tuples.
 pub fn owns_fewer(slots: &Slots<Owned>, owner: ClientId, limit: u64) -> bool
     requires owner { owner.0 < 64 }
-    requires chains { AllInChains slots.now.live }
+    requires buckets { AllInBuckets seen.bucket_of slots.now.live }
     ensures { result ≡ nat_lt (owned_by owner.0 (values_of slots.now.live)) limit }
 {
     let mut at = slots.bucket_first(owner.0 as u8);

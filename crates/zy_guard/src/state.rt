@@ -2,22 +2,23 @@
 
 ghost use Rattle.std.specs.Prelude.{◌≡◌, ◌≤◌, ℕ, [], ◌++◌, Some, None, Err, length, IfOk, OnOk};
 ghost use Rattle.std.specs.List.{flat_map};
+ghost use Rattle.zy_slots.specs.Timeline.{values_of};
+ghost use Rattle.zy_slots.specs.Changes.{AllInBuckets};
 ghost use Rattle.zy_wire.specs.Spelling.{IsBytes, repeated_at, whole};
 ghost use Rattle.zy_wire.specs.Fields.{list_bytes};
 ghost use Rattle.zy_tuple.specs.Bytes.{ReadsOp};
 ghost use Rattle.zy_tuple.specs.declared.fault.OpFault.TheVariants as faults;
 ghost use Rattle.zy_guard.specs.Bytes.{owned_spelling};
-ghost use Rattle.zy_guard.specs.Changes.{values_of, AllInChains};
+ghost use Rattle.zy_guard.specs.Search.{bucket_of};
 ghost use Rattle.zy_guard.specs.GuardedSpace.{IsGuardState};
 ghost use Rattle.zy_guard.specs.Service.{is_few_below, state_in, state_spelling};
 
 use crate::Owned;
-use crate::changes::put_last;
 use crate::search::owns_fewer;
 use crate::spelling::{owned_get, owned_put};
 use std::alloc::Global;
 use zy_base::{Bytes, ClientId, Want};
-use zy_slots::Slots;
+use zy_slots::{Slots, put_last};
 use zy_tuple::OpFault;
 use zy_wire::{Cut, Put};
 
@@ -64,7 +65,7 @@ pub fn put_state(alloc: Global, slots: &Slots<Owned>, live: u64) -> Result<Bytes
 fn get_slots(alloc: Global, count: u16, cut: &mut Cut) -> Result<Slots<Owned>, OpFault>
     requires { IsBytes cut.old }
     ensures read { ReadsOp (λ slots. (values_of slots.live, cut.new)) result (repeated_at owned_spelling count cut.old) }
-    ensures chains { IfOk result (λ slots. AllInChains slots.live) }
+    ensures buckets { IfOk result (λ slots. AllInBuckets bucket_of slots.live) }
     ensures stack { IfOk result (λ slots. slots.stack ≡ []) }
     ensures many { IfOk result (λ slots. length slots.live ≡ count) }
 {
@@ -79,7 +80,7 @@ fn get_slots(alloc: Global, count: u16, cut: &mut Cut) -> Result<Slots<Owned>, O
 #[tactic(auto, unfolding(zy_wire::specs::Fields::list_at))]
 fn get_list(alloc: Global, bytes: &[u8]) -> Result<(Slots<Owned>, u64), OpFault>
     ensures read { ReadsOp (λ state. values_of state.0.live) result (whole state_spelling bytes.now) }
-    ensures chains { IfOk result (λ state. AllInChains state.0.live) }
+    ensures buckets { IfOk result (λ state. AllInBuckets bucket_of state.0.live) }
     ensures stack { IfOk result (λ state. state.0.stack ≡ []) }
     ensures live { IfOk result (λ state. state.1 ≡ length state.0.live) }
 {
@@ -92,7 +93,7 @@ fn get_list(alloc: Global, bytes: &[u8]) -> Result<(Slots<Owned>, u64), OpFault>
 
 // Whether each client has put in few enough of the live tuples.
 fn is_few(slots: &Slots<Owned>) -> bool
-    requires { AllInChains slots.now.live }
+    requires { AllInBuckets bucket_of slots.now.live }
     ensures { result ≡ is_few_below 64 (values_of slots.now.live) }
 {
     for client in 0..CLIENTS {
@@ -106,7 +107,7 @@ fn is_few(slots: &Slots<Owned>) -> bool
 /// The tuples that the bytes spell, each live, and how many there are. `NotOp` exactly where they spell no state.
 pub fn get_state(alloc: Global, bytes: &[u8]) -> Result<(Slots<Owned>, u64), OpFault>
     ensures read { IfOk result (λ state. state_in bytes.now ≡ Some (values_of state.0.live)) }
-    ensures chains { IfOk result (λ state. AllInChains state.0.live) }
+    ensures buckets { IfOk result (λ state. AllInBuckets bucket_of state.0.live) }
     ensures stack { IfOk result (λ state. state.0.stack ≡ []) }
     ensures live { IfOk result (λ state. state.1 ≡ length state.0.live) }
     ensures not_state { result ≡ Err faults.NotOp → state_in bytes.now ≡ None }

@@ -1,9 +1,11 @@
 use Rattle.std.proofs.Common.{◌+◌, Some, None}
-use Rattle.zy_guard.proofs.SearchLemmas.{walk_is_live, walk_finds, walk_goes_on, walk_misses, none_given}
+use Rattle.zy_guard.proofs.SearchLemmas.{walk_finds, walk_goes_on, walk_misses}
+use Rattle.zy_guard.specs.Search.{NoneSeen}
+use Rattle.zy_slots.proofs.WalkLemmas.{walk_is_live, none_given}
 use Rattle.zy_guard.proofs.search.oldest_match.Goals as goal
 
 pub is_seen-requires-clause-live : goal.is_seen-requires-clause-live
-is_seen-requires-clause-live c = walk_is_live c.args.client.0 c.args.template.now c.args.slots.now c.loop-step.step c.loop-step.id c.loop-step.invariant
+is_seen-requires-clause-live c = walk_is_live (NoneSeen c.args.client.0 c.args.template.now) c.args.slots.now c.loop-step.step c.loop-step.id c.loop-step.invariant
 
 pub returns-then-is_seen-clause-found : goal.returns-then-is_seen-clause-found
 returns-then-is_seen-clause-found c =

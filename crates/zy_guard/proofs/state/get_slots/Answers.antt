@@ -2,8 +2,10 @@ use Rattle.std.proofs.lemmas.Result.{err_from_is_err_and}
 use Rattle.zy_wire.specs.Spelling.{repeated_at}
 use Rattle.zy_guard.specs.Bytes.{owned_spelling}
 use Rattle.zy_tuple.proofs.Items.{goes_on, item_fails}
-use Rattle.zy_guard.specs.Changes.{values_of}
-use Rattle.zy_guard.proofs.StateLemmas.{put_values, put_in_chain, put_stack, put_many, owned_read}
+use Rattle.zy_slots.specs.Timeline.{values_of}
+use Rattle.zy_slots.proofs.ChangeLemmas.{put_values, put_in_bucket, put_stack, put_many}
+use Rattle.zy_guard.specs.Search.{bucket_of}
+use Rattle.zy_guard.proofs.StateLemmas.{owned_read}
 use Rattle.zy_guard.proofs.state.get_slots.Goals as goal
 
 pub put_last-requires : goal.put_last-requires
@@ -19,10 +21,10 @@ loop-place-preserved c =
     let put = c.in_ok-put_last.ensures.ok in
     let read = owned_read c.loop-place.cut c.in_ok-owned.owned c.owned_get.new.cut c.loop-place.invariant.bytes c.in_ok-owned.ensures in
     record {
-      so_far = rw (put_values c.loop-place.slots c.put_last.new.slots c.in_ok-owned.owned put)
+      so_far = rw (put_values bucket_of c.loop-place.slots c.put_last.new.slots c.in_ok-owned.owned put)
           (goes_on owned_spelling (values_of c.loop-place.slots.live) c.args.count c.loop-place.place c.loop-place.cut c.in_ok-owned.owned c.owned_get.new.cut (repeated_at owned_spelling c.args.count c.args.cut.now) c.loop-place-test.true c.in_ok-owned.ensures c.loop-place.invariant.so_far);
       bytes = read.1;
-      chains = put_in_chain c.loop-place.slots c.put_last.new.slots c.in_ok-owned.owned put c.loop-place.invariant.chains;
-      stack = put_stack c.loop-place.slots c.put_last.new.slots c.in_ok-owned.owned put c.loop-place.invariant.stack;
-      many = put_many c.loop-place.slots c.put_last.new.slots c.in_ok-owned.owned c.loop-place.place put c.loop-place.invariant.many;
+      buckets = put_in_bucket bucket_of c.loop-place.slots c.put_last.new.slots c.in_ok-owned.owned put c.loop-place.invariant.buckets;
+      stack = put_stack bucket_of c.loop-place.slots c.put_last.new.slots c.in_ok-owned.owned put c.loop-place.invariant.stack;
+      many = put_many bucket_of c.loop-place.slots c.put_last.new.slots c.in_ok-owned.owned put c.loop-place.place c.loop-place.invariant.many;
     }

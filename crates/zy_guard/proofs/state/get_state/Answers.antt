@@ -6,7 +6,7 @@ use Rattle.zy_tuple.specs.declared.fault.OpFault.{OpFault}
 use Rattle.zy_tuple.specs.declared.fault.OpFault.TheVariants as faults
 use Rattle.zy_tuple.specs.Bytes.{Fails}
 use Rattle.zy_guard.specs.declared.values.Owned.{Owned}
-use Rattle.zy_guard.specs.Changes.{values_of}
+use Rattle.zy_slots.specs.Timeline.{values_of}
 use Rattle.zy_guard.specs.Service.{state_spelling, is_few_below, if_few, few_of}
 use Rattle.zy_guard.proofs.ServiceLaws.{read_bytes, nothing_read}
 use Rattle.zy_guard.proofs.state.get_state.Goals as goal

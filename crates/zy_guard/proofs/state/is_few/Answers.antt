@@ -1,4 +1,4 @@
-use Rattle.zy_guard.specs.Changes.{values_of}
+use Rattle.zy_slots.specs.Timeline.{values_of}
 use Rattle.zy_guard.proofs.StateLemmas.{few_in_all, few_not}
 use Rattle.zy_guard.proofs.state.is_few.Goals as goal
 

@@ -1,6 +1,6 @@
 use Rattle.std.proofs.Common.{◌≡◌, true}
 use Rattle.zy_guard.specs.Service.{is_few_below}
-use Rattle.zy_guard.specs.Changes.{values_of}
+use Rattle.zy_slots.specs.Timeline.{values_of}
 use Rattle.zy_guard.proofs.state.is_few.Given as goal
 
 abbrev pub invariant-loop-client : goal.invariant-loop-client

@@ -18,4 +18,4 @@ pub returns-in_ok-tuple-in-Some-clause-is_reply : goal.returns-in_ok-tuple-in-So
 returns-in_ok-tuple-in-Some-clause-is_reply c =
     reply_is c.stay-in-Some.result c.in_ok-tuple-in-Some.tuple c.stay-in-Some.ensures.reply
     (subst IsTuple (sym c.in_ok-tuple-in-Some.ensures.cases)
-    (seen_is_owned c.args.client.0 c.args.template.now c.self.inside.slots c.in-Some.id.0 c.value.result.now c.self.invariant.sound.state c.in-Some.ensures.found c.value.ensures).fields)
+    (seen_is_owned c.args.client.0 c.args.template.now c.self.inside.values.cells c.in-Some.id.0 c.value.result.now c.slots.ensures.fits c.in-Some.ensures.found c.value.ensures).fields)
