@@ -1,4 +1,4 @@
-ghost use Rattle.std.specs.Prelude.{◌≡◌, ◌<◌, ◌≤◌, List, [], ◌∷◌, ◌++◌, length, drop, None, IfOk, OnOk, OnErr};
+ghost use Rattle.std.specs.Prelude.{◌≡◌, ◌<◌, None, IfOk, OnOk, OnErr};
 ghost use Rattle.zy_tuple.specs.Values.{IsTemplate};
 ghost use Rattle.zy_guard.specs.declared.values.GuardReply.TheVariants as replies;
 ghost use Rattle.zy_guard.specs.GuardedSpace as space;
@@ -172,21 +172,6 @@ impl Guard {
             Err(OpFault::Want) => Err(Want),
         }
     }
-
-    fn go_back(&mut self)
-        requires { 0 < length self.old.trail }
-        ensures { self.old.trail ≡ self.new.trail ++ self.new.state ∷ [] }
-    {
-        self.values.go_back();
-    }
-
-    fn forget_one(&mut self)
-        requires { 0 < length self.old.trail }
-        ensures state { self.new.state ≡ self.old.state }
-        ensures trail { self.new.trail ≡ drop 1 self.old.trail }
-    {
-        self.values.forget_oldest();
-    }
 }
 
 impl Machine for Guard {
@@ -214,7 +199,7 @@ impl Machine for Guard {
         match guard_reply_bytes(self.values.allocator(), &reply) {
             Ok(bytes) => Ok(bytes),
             Err(want) => {
-                self.go_back();
+                self.values.go_back();
                 Err(want)
             }
         }
@@ -222,11 +207,11 @@ impl Machine for Guard {
 
     fn undo<L: Ledger>(&mut self, steps: &mut Steps<L>) {
         steps.tick();
-        self.go_back();
+        self.values.go_back();
     }
 
     fn forget(&mut self) {
-        self.forget_one();
+        self.values.forget_oldest();
     }
 
     fn trail_len(&self) -> u64 {

@@ -3,7 +3,7 @@ use Rattle.std.proofs.Common.{◌≡◌, ℕ, suc, ◌+◌, ◌-◌, ◌<◌, �
 use Rattle.std.proofs.lemmas.List.{length-reverse, reverse-append, map-append, length-append, length-map, take_at}
 use Rattle.zy_slots.specs.Cells.{Cell, Kept, Cells, with_live, with_stack, Stands, IsLive, put_behind, kept, relinked_onto, relinked, CanRelink, KeptByNone, CanTakeLast, IsFresh, IsApart}
 use Rattle.zy_slots.specs.Timeline.{Timeline, values_of, IsStep}
-use Rattle.zy_slots.specs.Changes.{undone, CanUndo, earlier, trail_of, LeadsBack, AllInBuckets, AllKeptInBuckets, IsSound, IsUndoable, IsPutLast}
+use Rattle.zy_slots.specs.Changes.{undone, CanUndo, earlier, trail_of, LeadsBack, AllInBuckets, AllKeptInBuckets, IsSound, IsUndoable, IsPutLast, IsForgotten}
 use Rattle.zy_slots.specs.declared.changes.Change.{Change}
 use Rattle.zy_slots.specs.declared.changes.Change.TheVariants.{Same, Put, Took}
 use Rattle.zy_slots.proofs.ListLemmas.{all_split, all_parts, all_join}
@@ -143,6 +143,9 @@ module _ {T : Type 0} (fits : List T → Type 0) (bucket_of : T → ℕ) where
   abbrev Sound : Cells T → List Change → Type 0
   Sound = IsSound fits bucket_of
 
+  abbrev Forgotten : Cells T → Cells T → List Change → Change → Type 0
+  Forgotten = IsForgotten fits bucket_of
+
   -- ---- values in their buckets
 
   all_put_behind : (before : Option ℕ) (cell : Cell T) (cells : List (Cell T)) → IsInBucket cell → AllIn cells → AllIn (put_behind before cell cells)
@@ -264,23 +267,13 @@ module _ {T : Type 0} (fits : List T → Type 0) (bucket_of : T → ℕ) where
 
   -- ---- forgetting
 
-  -- without the oldest change, and what is kept for it
-  pub record IsForgotten (cells cells' : Cells T) (changes : List Change) (oldest : Change) : Type 0 where
-    pub sound : Sound cells' changes
-    pub live : cells'.live ≡ cells.live
-    pub trail : trail_of cells' changes ≡ drop 1 (trail_of cells (oldest ∷ changes))
-
-  -- the change that was dropped is the oldest of the sound changes
-  pub sound_with : (cells : Cells T) (all rest : List Change) (oldest change : Change) → all ≡ change ∷ rest → change ≡ oldest → Sound cells all → Sound cells (oldest ∷ rest)
-  sound_with cells all rest oldest change dropped is sound = subst (Sound cells) (dropped ∙ ap (λ (c : Change). c ∷ rest) is) sound
-
   -- a change that took nothing leaves the stack to the later ones
   leads_without : (oldest : Change) → ((cells : Cells T) → (undone oldest cells).stack ≡ cells.stack) → (cells : Cells T) (changes : List Change) → Leads cells (changes ++ oldest ∷ []) → Leads cells changes
   unfolding LeadsBack
   leads_without oldest stays cells [] leads = sym (stays cells) ∙ leads.2
   leads_without oldest stays cells (change ∷ changes) leads = (leads.0, leads.1, leads_without oldest stays (undone change cells) changes leads.2)
 
-  pub forget_other : (cells : Cells T) (changes : List Change) (oldest : Change) → ((cells : Cells T) → (undone oldest cells).stack ≡ cells.stack) → Sound cells (oldest ∷ changes) → IsForgotten cells cells changes oldest
+  pub forget_other : (cells : Cells T) (changes : List Change) (oldest : Change) → ((cells : Cells T) → (undone oldest cells).stack ≡ cells.stack) → Sound cells (oldest ∷ changes) → Forgotten cells cells changes oldest
   forget_other cells changes oldest stays sound =
       record {
         sound = record { leads_back = leads_without oldest stays cells (reverse changes) (subst (Leads cells) (turned oldest changes) sound.leads_back); fits_now = sound.fits_now; buckets = sound.buckets; kept = sound.kept };
@@ -342,11 +335,11 @@ module _ {T : Type 0} (fits : List T → Type 0) (bucket_of : T → ℕ) where
       omega (arith, ap length past.split, length-append past.above (past.lowest ∷ []))
 
   pub forget_took : (cells cells' : Cells T) (changes : List Change) → Sound cells (Took ∷ changes)
-      → ((above : List (Kept T)) (lowest : Kept T) → cells.stack ≡ above ++ lowest ∷ [] → cells' ≡ with_stack cells above) → IsForgotten cells cells' changes Took
+      → ((above : List (Kept T)) (lowest : Kept T) → cells.stack ≡ above ++ lowest ∷ [] → cells' ≡ with_stack cells above) → Forgotten cells cells' changes Took
   forget_took cells cells' changes sound taken =
       let past = left_of cells changes sound in
       let kept_above = all_parts (λ (item : Kept T). IsInBucket item.cell) past.above (past.lowest ∷ []) (subst AllKeptIn past.split sound.kept) in
-      subst (λ (c : Cells T). IsForgotten cells c changes Took) (sym (taken past.above past.lowest past.split))
+      subst (λ (c : Cells T). Forgotten cells c changes Took) (sym (taken past.above past.lowest past.split))
       (record {
         sound = record { leads_back = past.leads_back; fits_now = sound.fits_now; buckets = sound.buckets; kept = kept_above.0 };
         live = refl;

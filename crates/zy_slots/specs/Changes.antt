@@ -1,5 +1,5 @@
 -- Linked cells, with the changes that lead back to their earlier states.
-use Rattle.std.specs.Prelude.{◌≡◌, ℕ, ◌-◌, List, [], ◌∷◌, ◌++◌, length, take, reverse}
+use Rattle.std.specs.Prelude.{◌≡◌, ℕ, ◌-◌, List, [], ◌∷◌, ◌++◌, length, take, drop, reverse}
 use Rattle.std.specs.List.{AllByRecursion}
 use Rattle.zy_slots.specs.Cells.{Cell, Kept, Cells, with_live, relinked, CanRelink, CanTakeLast, IsFresh}
 use Rattle.zy_slots.specs.Timeline.{values_of}
@@ -56,3 +56,9 @@ module _ {T : Type 0} where
     pub id : ℕ
     pub fresh : IsFresh cells id
     pub now : cells' ≡ with_live cells (cells.live ++ record { id = id; bucket = bucket_of value; value = value } ∷ [])
+
+  -- without the oldest change, and what is kept for it
+  pub record IsForgotten (fits : List T → Type 0) (bucket_of : T → ℕ) (cells cells' : Cells T) (changes : List Change) (oldest : Change) : Type 0 where
+    pub sound : IsSound fits bucket_of cells' changes
+    pub live : cells'.live ≡ cells.live
+    pub trail : trail_of cells' changes ≡ drop 1 (trail_of cells (oldest ∷ changes))

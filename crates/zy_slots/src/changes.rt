@@ -1,10 +1,11 @@
 //! The changes that lead back to the earlier states of slots.
 
-ghost use Rattle.std.specs.Prelude.{◌≡◌, ◌<◌, ◌^◌, length, OnOk, OnErr};
-ghost use Rattle.zy_slots.specs.Changes.{undone, CanUndo, IsPutLast};
+ghost use Rattle.std.specs.Prelude.{◌≡◌, ◌<◌, ◌^◌, ◌∷◌, length, OnOk, OnErr};
+ghost use Rattle.zy_slots.specs.Changes.{undone, CanUndo, IsSound, IsPutLast, IsForgotten};
 
 use crate::slots::Slots;
 use crate::valued::Valued;
+use std::collections::VecDeque;
 use zy_base::Want;
 
 /// What an operation did. What was put is the last one, and what was taken is on top of the stack.
@@ -45,6 +46,20 @@ pub fn undo_change<T: Drop>(slots: &mut Slots<T>, live: u64, change: Change) -> 
         Change::Took => {
             slots.relink();
             live + 1
+        }
+    }
+}
+
+/// Forgets the oldest change, before these later ones, and with it what it took.
+pub fn forget_change<T: Valued>(slots: &mut Slots<T>, later: &VecDeque<Change>, oldest: Change)
+    requires { IsSound T.fits T.bucket_of slots.old (oldest ∷ later.now.items) }
+    ensures { IsForgotten T.fits T.bucket_of slots.old slots.new later.now.items oldest }
+{
+    match oldest {
+        Change::Same => {}
+        Change::Put => {}
+        Change::Took => {
+            slots.forget();
         }
     }
 }

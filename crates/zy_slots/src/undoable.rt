@@ -3,7 +3,7 @@ ghost use Rattle.zy_slots.specs.Cells.{Cell, IsLive, Stands};
 ghost use Rattle.zy_slots.specs.Timeline.{values_of, IsStep};
 ghost use Rattle.zy_slots.specs.Changes.{AllInBuckets};
 
-use crate::changes::{Change, put_last, undo_change};
+use crate::changes::{Change, forget_change, put_last, undo_change};
 use crate::slots::{SlotId, Slots};
 use crate::valued::Valued;
 use std::alloc::Global;
@@ -136,11 +136,7 @@ impl<T: Valued> Undoable<T> {
         ensures trail { self.new.trail ≡ drop 1 self.old.trail }
     {
         match self.changes.pop_front() {
-            Some(Change::Took) => {
-                self.slots.forget();
-            }
-            Some(Change::Same) => {}
-            Some(Change::Put) => {}
+            Some(oldest) => forget_change(&mut self.slots, &self.changes, oldest),
             None => {}
         }
     }

@@ -1,4 +1,4 @@
-ghost use Rattle.std.specs.Prelude.{◌≡◌, ◌<◌, List, [], ◌∷◌, ◌++◌, length, drop, IfOk, OnOk, OnErr, IfSome, IfNone};
+ghost use Rattle.std.specs.Prelude.{◌≡◌, length, IfOk, OnOk, OnErr};
 ghost use Rattle.zy_tuple.specs.Values.{IsOp, IsReply, IsTuple, IsTemplate};
 ghost use Rattle.zy_space.specs.TupleSpace.{inserted, found, oldest, without_oldest, step};
 ghost use Rattle.zy_space.specs.Service.{ran};
@@ -144,21 +144,6 @@ impl Space {
             Err(OpFault::Want) => Err(Want),
         }
     }
-
-    fn go_back(&mut self)
-        requires { 0 < length self.old.trail }
-        ensures { self.old.trail ≡ self.new.trail ++ self.new.tuples ∷ [] }
-    {
-        self.values.go_back();
-    }
-
-    fn forget_one(&mut self)
-        requires { 0 < length self.old.trail }
-        ensures tuples { self.new.tuples ≡ self.old.tuples }
-        ensures trail { self.new.trail ≡ drop 1 self.old.trail }
-    {
-        self.values.forget_oldest();
-    }
 }
 
 impl Machine for Space {
@@ -186,7 +171,7 @@ impl Machine for Space {
         match reply_bytes(self.values.allocator(), &reply) {
             Ok(bytes) => Ok(bytes),
             Err(want) => {
-                self.go_back();
+                self.values.go_back();
                 Err(want)
             }
         }
@@ -194,11 +179,11 @@ impl Machine for Space {
 
     fn undo<L: Ledger>(&mut self, steps: &mut Steps<L>) {
         steps.tick();
-        self.go_back();
+        self.values.go_back();
     }
 
     fn forget(&mut self) {
-        self.forget_one();
+        self.values.forget_oldest();
     }
 
     fn trail_len(&self) -> u64 {
