@@ -1,16 +1,21 @@
 -- What the parts of a node's command and of an ask's give.
-use Rattle.std.specs.Prelude.{◌≡◌, ℕ, ◌<◌, ◌≤◌, ◌+◌, Bool, true, false, IsTrue, List, Option, None, Result, Ok, Err, ⊤}
+use Rattle.std.specs.Prelude.{◌≡◌, ℕ, ◌<◌, ◌≤◌, ◌+◌, Bool, true, false, IsTrue, List, length, Option, None, Result, Ok, Err, IsErr, ⊤}
+use Rattle.zy_base.specs.declared.ids.ClientId.{ClientId}
+use Rattle.zy_base.specs.declared.ids.Party.TheVariants as parties
+use Rattle.zy_base.specs.declared.ids.ReplicaId.{ReplicaId}
 use Rattle.zy_edge.specs.Faults.{IsCounted}
 use Rattle.zy_group.specs.Fields.{count_by}
+use Rattle.zy_group.specs.Members.{IsNodeGroup}
+use Rattle.zy_group.specs.declared.machine.MachineKind.{MachineKind}
 use Rattle.zy_group.specs.declared.secret.Secret.{Secret}
 use Rattle.zy_table.specs.ClientState.{ClientState, signs_left}
+use Rattle.zy_top_words.specs.Calls.{is_reading}
+use Rattle.zy_top_words.specs.Machines.{op_of}
 use Rattle.zy_top_words.specs.Ends.{IsAnswer, IsWritten, Verdict, is_write_fault}
 use Rattle.zy_top_words.specs.declared.exit.Exit.{Exit}
 use Rattle.zy_top_words.specs.declared.exit.Exit.TheVariants as exits
-use Rattle.zy_top_hosting.specs.Files.{Replica, Seat}
 use Rattle.zy_top_hosting.specs.declared.files.Told.{Told}
 use Rattle.zy_top_hosting.specs.declared.seat.NodeSeat.{NodeSeat}
-use Rattle.zy_top_hosting.specs.declared.seat.AskSeat.{AskSeat}
 
 -- what was judged, or how it is refused, or a file could not be read, or memory was wanted
 abbrev pub IsJudged : {A : Type 0} → Result A Exit → Result A Exit → Type 0
@@ -28,14 +33,21 @@ value_in (Err exit) = Err exit
 abbrev pub HasLeft : ℕ → Secret → Type 0
 HasLeft left secret = secret.next + left ≤ count_by secret.version secret.height
 
--- the party is what the files tell, and so is its address
-abbrev pub node_in : Result NodeSeat Exit → Result (Seat Replica) Exit
-node_in (Ok seat) = Ok (record { core = seat.replica; address = seat.address })
-node_in (Err exit) = Err exit
+-- the sixth word stops an ask alone, and only where it is no operation
+abbrev pub IsNoOperation : ClientId → List ℕ → Exit → Type 0
+IsNoOperation id text (exits.Usage word) = (word ≡ 6) × (kind : MachineKind) × IsErr (op_of kind id text)
+IsNoOperation id text exit = ⊤
 
-abbrev pub asker_in : Result AskSeat Exit → Result (Seat ClientState) Exit
-asker_in (Ok seat) = Ok (record { core = seat.client; address = seat.address })
-asker_in (Err exit) = Err exit
+-- how files stop an ask, or its operation does
+abbrev pub is_asking : Exit → Bool
+is_asking (exits.Usage word) = true
+is_asking exit = is_reading exit
+
+-- a replica of the group is told of
+pub record IsSeatOf (id : ReplicaId) (seat : NodeSeat) : Type 0 where
+  pub party : seat.address.party ≡ parties.Replica id
+  pub group : IsNodeGroup seat.group
+  pub member : id.0 < length seat.group.members.keys.replicas
 
 -- the client may ask: nothing waits, and its key has a signature left
 pub record MayAsk (client : ClientState) : Type 0 where

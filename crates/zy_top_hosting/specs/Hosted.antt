@@ -8,6 +8,7 @@ use Rattle.zy_base.specs.declared.ids.Party.{Party}
 use Rattle.zy_edge.specs.Binding.{BindCalls, Standing, after_binding}
 use Rattle.zy_edge.specs.Link.{StaysAsTold}
 use Rattle.zy_edge.specs.declared.link.binding.Address.{Address}
+use Rattle.zy_group.specs.declared.machine.MachineKind.{MachineKind}
 use Rattle.zy_node.specs.Asking.{AsksAs}
 use Rattle.zy_node.specs.Replicas.{replica_rules}
 use Rattle.zy_node.specs.Told.{IsCutRun, IsRun, Outside, RoseBy}
@@ -16,14 +17,16 @@ use Rattle.zy_node.specs.declared.asker.Asked.{Asked}
 use Rattle.zy_node.specs.declared.asker.Asked.TheVariants as asked
 use Rattle.zy_node.specs.declared.fault.AskFault.{AskFault}
 use Rattle.zy_report.specs.Lines.{key_line, replica_line}
-use Rattle.zy_space.specs.Service.{space_rules}
 use Rattle.zy_table.specs.ClientState.{ClientState}
 use Rattle.zy_table.specs.State.{State, stood_of}
 use Rattle.zy_table.specs.declared.client.Done.{Done}
 use Rattle.zy_top_words.specs.Ends.{IsAnswer, IsWritten, Verdict}
 use Rattle.zy_top_words.specs.declared.exit.Exit.{Exit}
 use Rattle.zy_top_words.specs.declared.exit.Exit.TheVariants as exits
-use Rattle.zy_top_hosting.specs.Files.{Replica, Seat}
+use Rattle.zy_top_words.specs.Machines.{rules}
+use Rattle.zy_top_hosting.specs.Files.{replica_of}
+use Rattle.zy_top_hosting.specs.declared.seat.AskSeat.{AskSeat}
+use Rattle.zy_top_hosting.specs.declared.seat.NodeSeat.{NodeSeat}
 use Rattle.zy_top_hosting.specs.Lines.{completion_line, state_digest}
 
 -- ---- what is written
@@ -33,23 +36,23 @@ abbrev pub node_text : {S : Type 0} → Rules S → ReplicaId → State S → Li
 node_text R id s = replica_line id (Some (stood_of R s)) (state_digest R s) ++ key_line s.sealer.key.next (record { 0 = 0 })
 
 -- once all turns were taken
-abbrev pub node_verdict : ReplicaId → Replica → Verdict
-node_verdict id s = Verdict.Broke (node_text space_rules id s) exits.TurnsSpent
+abbrev pub node_verdict : {S : Type 0} → Rules S → ReplicaId → State S → Verdict
+node_verdict R id s = Verdict.Broke (node_text R id s) exits.TurnsSpent
 
-abbrev pub completion_text : ClientId → Option Done → List ℕ
-completion_text id None = []
-completion_text id (Some done) = completion_line None id done
+abbrev pub completion_text : MachineKind → ClientId → Option Done → List ℕ
+completion_text kind id None = []
+completion_text kind id (Some done) = completion_line kind None id done
 
 -- where a client's key and stamps go on
 abbrev pub next_text : ClientState → List ℕ
 next_text s = key_line s.sealer.key.next s.stamp
 
 -- a request that is complete is told, and one whose turns are spent isn't
-abbrev pub ask_verdict : ClientId → Asked → Verdict
-ask_verdict id (asked.Done s) = Verdict.Report (completion_text id s.done ++ next_text s)
-ask_verdict id (asked.Spent s) = Verdict.Broke (next_text s) exits.TurnsSpent
+abbrev pub ask_verdict : MachineKind → ClientId → Asked → Verdict
+ask_verdict kind id (asked.Done s) = Verdict.Report (completion_text kind id s.done ++ next_text s)
+ask_verdict kind id (asked.Spent s) = Verdict.Broke (next_text s) exits.TurnsSpent
 -- which never comes, since the key has a signature left
-ask_verdict id (asked.Refused s cause) = Verdict.Refused (exits.Group 16)
+ask_verdict kind id (asked.Refused s cause) = Verdict.Refused (exits.Group 16)
 
 -- ---- how it ends
 
@@ -85,27 +88,27 @@ pub record IsIdle (from to : Outside) : Type 0 where
   pub moments : to.moments ≡ from.moments
 
 -- a node took all its turns, and it is written where its replica stands then
-pub record IsServed (id : ReplicaId) (start : Replica) (turns : ℕ) (exit : Exit) (from to : Outside) (old new : Option (List ℕ)) : Type 0 where
-  pub last : HostState Replica
-  pub run : IsRun (replica_rules space_rules) turns (host_of start) last from to
-  pub answer : IsAnswer (node_verdict id last.core) exit
-  pub written : IsWritten (node_verdict id last.core) exit old new
+pub record IsServed {S : Type 0} (R : Rules S) (id : ReplicaId) (start : State S) (turns : ℕ) (exit : Exit) (from to : Outside) (old new : Option (List ℕ)) : Type 0 where
+  pub last : HostState (State S)
+  pub run : IsRun (replica_rules R) turns (host_of start) last from to
+  pub answer : IsAnswer (node_verdict R id last.core) exit
+  pub written : IsWritten (node_verdict R id last.core) exit old new
 
 -- its address could not be had, or its turns were cut off
-pub record IsCutServing (start : Replica) (turns : ℕ) (exit : Exit) (from to : Outside) (old new : Option (List ℕ)) : Type 0 where
+pub record IsCutServing {S : Type 0} (R : Rules S) (start : State S) (turns : ℕ) (exit : Exit) (from to : Outside) (old new : Option (List ℕ)) : Type 0 where
   pub cut : IsTrue (is_cut exit)
-  pub run : IsIdle from to ⊎ IsCutRun (replica_rules space_rules) turns (host_of start) from to
+  pub run : IsIdle from to ⊎ IsCutRun (replica_rules R) turns (host_of start) from to
   pub written : Keeps old new
 
-abbrev pub IsServing : ReplicaId → Replica → ℕ → Exit → Outside → Outside → Option (List ℕ) → Option (List ℕ) → Type 0
-IsServing id start turns exit from to old new = IsServed id start turns exit from to old new ⊎ IsCutServing start turns exit from to old new
+abbrev pub IsServing : {S : Type 0} → Rules S → ReplicaId → State S → ℕ → Exit → Outside → Outside → Option (List ℕ) → Option (List ℕ) → Type 0
+IsServing R id start turns exit from to old new = IsServed R id start turns exit from to old new ⊎ IsCutServing R start turns exit from to old new
 
 -- a client's request is complete or its turns are taken, and this is written
-pub record IsAsked (id : ClientId) (start : ClientState) (op : List ℕ) (turns : ℕ) (exit : Exit) (from to : Outside) (old new : Option (List ℕ)) : Type 0 where
+pub record IsAsked (kind : MachineKind) (id : ClientId) (start : ClientState) (op : List ℕ) (turns : ℕ) (exit : Exit) (from to : Outside) (old new : Option (List ℕ)) : Type 0 where
   pub end : Asked
   pub asks : AsksAs start op turns (Ok end) from to
-  pub answer : IsAnswer (ask_verdict id end) exit
-  pub written : IsWritten (ask_verdict id end) exit old new
+  pub answer : IsAnswer (ask_verdict kind id end) exit
+  pub written : IsWritten (ask_verdict kind id end) exit old new
 
 pub record IsCutAsking (start : ClientState) (op : List ℕ) (turns : ℕ) (exit : Exit) (from to : Outside) (old new : Option (List ℕ)) : Type 0 where
   pub cut : IsTrue (is_cut exit)
@@ -113,8 +116,8 @@ pub record IsCutAsking (start : ClientState) (op : List ℕ) (turns : ℕ) (exit
   pub run : IsIdle from to ⊎ AsksAs start op turns (Err fault) from to
   pub written : Keeps old new
 
-abbrev pub IsAsking : ClientId → ClientState → List ℕ → ℕ → Exit → Outside → Outside → Option (List ℕ) → Option (List ℕ) → Type 0
-IsAsking id start op turns exit from to old new = IsAsked id start op turns exit from to old new ⊎ IsCutAsking start op turns exit from to old new
+abbrev pub IsAsking : MachineKind → ClientId → ClientState → List ℕ → ℕ → Exit → Outside → Outside → Option (List ℕ) → Option (List ℕ) → Type 0
+IsAsking kind id start op turns exit from to old new = IsAsked kind id start op turns exit from to old new ⊎ IsCutAsking start op turns exit from to old new
 
 -- the files could not be read, or memory was wanted before anything was done
 pub record IsUnread (exit : Exit) (from to : Surroundings) (old new : Option (List ℕ)) : Type 0 where
@@ -122,17 +125,21 @@ pub record IsUnread (exit : Exit) (from to : Surroundings) (old new : Option (Li
   pub outside : to ≡ from
   pub written : Keeps old new
 
--- A node whose files are refused leaves link and clock alone; that the answer is that refusal is said elsewhere. Else the address
--- of its group's file is asked for once, before anything is sent or heard, and then come its turns.
-abbrev pub IsNodeRun : ReplicaId → Result (Seat Replica) Exit → ℕ → Exit → Surroundings → Surroundings → Option (List ℕ) → Option (List ℕ) → Type 0
-IsNodeRun id (Err refusal) turns exit from to old new = to ≡ from
-IsNodeRun id (Ok seat) turns exit from to old new =
-    (IsBoundTo seat.address (standing_of from.outside) from.binding to.binding × IsServing id seat.core turns exit from.outside to.outside old new) ⊎ IsUnread exit from to old new
+-- the address of its group's file is asked for once, before anything is sent or heard, and then come its turns
+abbrev pub IsStarted : {S : Type 0} → Rules S → ReplicaId → NodeSeat → ℕ → Exit → Surroundings → Surroundings → Option (List ℕ) → Option (List ℕ) → Type 0
+IsStarted R id seat turns exit from to old new =
+    (IsBoundTo seat.address (standing_of from.outside) from.binding to.binding × IsServing R id (replica_of R id seat) turns exit from.outside to.outside old new) ⊎ IsUnread exit from to old new
 
-abbrev pub IsAskRun : ClientId → Result (Seat ClientState) Exit → List ℕ → ℕ → Exit → Surroundings → Surroundings → Option (List ℕ) → Option (List ℕ) → Type 0
-IsAskRun id (Err refusal) op turns exit from to old new = to ≡ from
-IsAskRun id (Ok seat) op turns exit from to old new =
-    (IsBoundTo seat.address (standing_of from.outside) from.binding to.binding × IsAsking id seat.core op turns exit from.outside to.outside old new) ⊎ IsUnread exit from to old new
+-- A node whose files are refused leaves link and clock alone; that the answer is that refusal is said elsewhere. Else it is a replica
+-- of its group's machine.
+abbrev pub IsNodeRun : ReplicaId → Result NodeSeat Exit → ℕ → Exit → Surroundings → Surroundings → Option (List ℕ) → Option (List ℕ) → Type 0
+IsNodeRun id (Err refusal) turns exit from to old new = to ≡ from
+IsNodeRun id (Ok seat) turns exit from to old new = IsStarted (rules seat.group.members.machine) id seat turns exit from to old new
+
+abbrev pub IsAskRun : ClientId → Result AskSeat Exit → ℕ → Exit → Surroundings → Surroundings → Option (List ℕ) → Option (List ℕ) → Type 0
+IsAskRun id (Err refusal) turns exit from to old new = to ≡ from
+IsAskRun id (Ok seat) turns exit from to old new =
+    (IsBoundTo seat.address (standing_of from.outside) from.binding to.binding × IsAsking seat.machine id seat.client seat.op turns exit from.outside to.outside old new) ⊎ IsUnread exit from to old new
 
 -- some address of this party was asked for, once, and before anything was sent or heard
 abbrev pub IsBoundOnce : Party → Standing → BindCalls → BindCalls → Type 0

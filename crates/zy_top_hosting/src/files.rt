@@ -1,20 +1,22 @@
 // What the files of a node and of an ask tell.
-ghost use Rattle.std.specs.Prelude.{◌≡◌, ◌≤◌, ◌^◌, IfOk, IfSome};
+ghost use Rattle.std.specs.Prelude.{◌≡◌, ◌≤◌, ◌^◌, false, length, IfErr, IfOk, IfSome, IsTrue};
 ghost use Rattle.zy_base.specs.declared.ids.Party.TheVariants as parties;
 ghost use Rattle.zy_edge.specs.Faults.{IsCounted};
 ghost use Rattle.zy_edge.specs.Files.{content_of};
 ghost use Rattle.zy_group.specs.Members.{AreMembers, IsNodeGroup, text_ask_group, text_node_group};
 ghost use Rattle.zy_group.specs.Secret.{text_secret};
 ghost use Rattle.zy_top_words.specs.Calls.{IsReading, stops_reading};
-ghost use Rattle.zy_top_hosting.specs.Calls.{HasLeft, IsJudged, MayAsk, asker_in, node_in, value_in};
-ghost use Rattle.zy_top_hosting.specs.Files.{asker_start, judged, node_start};
+ghost use Rattle.zy_top_words.specs.Machines.{op_of};
+ghost use Rattle.zy_top_hosting.specs.Calls.{HasLeft, IsJudged, IsNoOperation, IsSeatOf, MayAsk, is_asking, value_in};
+ghost use Rattle.zy_top_hosting.specs.Files.{asker_start, by_word, judged, node_start};
 
 use crate::seat::{AskSeat, NodeSeat, ask_seat, node_seat};
 use std::alloc::Global;
-use zy_base::{ClientId, ReplicaId};
+use zy_base::{Bytes, ClientId, ReplicaId};
 use zy_edge::Files;
-use zy_group::{AskGroup, NodeGroup, Secret, read_ask_group, read_node_group, read_secret};
-use zy_top_words::{Exit, read_file};
+use zy_group::{AskGroup, MachineKind, NodeGroup, Secret, read_ask_group, read_node_group, read_secret};
+use zy_top_words::{Exit, op_of, read_file};
+use zy_tuple::LineFault;
 
 /// What a file tells, and its text.
 #[derive(Drop)]
@@ -31,8 +33,8 @@ pub(crate) fn read_node<F: Files>(
     id: ReplicaId,
     files: &mut F,
 ) -> Result<NodeSeat, Exit>
-    ensures told { IfSome (F.held files.old) (λ held. IsJudged (node_start id (content_of held group.now) (content_of held secret.now)) (node_in result)) }
-    ensures party { IfOk result (λ seat. seat.address.party ≡ parties.Replica id) }
+    ensures told { IfSome (F.held files.old) (λ held. IsJudged (node_start id (content_of held group.now) (content_of held secret.now)) result) }
+    ensures seat { IfOk result (IsSeatOf id) }
     ensures exit { IsReading result }
     ensures count { IsCounted (stops_reading result) (F.faults files.old) (F.faults files.new) }
     ensures held { F.held files.new ≡ F.held files.old }
@@ -48,18 +50,37 @@ pub(crate) fn read_asker<F: Files>(
     group: &str,
     secret: &str,
     id: ClientId,
+    op: &str,
     files: &mut F,
 ) -> Result<AskSeat, Exit>
-    ensures told { IfSome (F.held files.old) (λ held. IsJudged (asker_start id (content_of held group.now) (content_of held secret.now)) (asker_in result)) }
+    ensures told { IfSome (F.held files.old) (λ held. IsJudged (asker_start id op.now (content_of held group.now) (content_of held secret.now)) result) }
     ensures party { IfOk result (λ seat. seat.address.party ≡ parties.Client id) }
     ensures left { IfOk result (λ seat. MayAsk seat.client) }
-    ensures exit { IsReading result }
+    ensures short { IfOk result (λ seat. length seat.op ≤ 1100) }
+    ensures exit { IfErr result (λ exit. IsTrue (is_asking exit)) }
+    ensures no_operation { IfErr result (IsNoOperation id op.now) }
     ensures count { IsCounted (stops_reading result) (F.faults files.old) (F.faults files.new) }
     ensures held { F.held files.new ≡ F.held files.old }
 {
     let group = ask_group(alloc, group, files)?;
+    let op = asked_op(alloc, group.machine, id, op)?;
     let secret = secret_of(alloc, secret, 1, files)?;
-    ask_seat(alloc, id, group, &secret.value)
+    ask_seat(alloc, id, group, op, &secret.value)
+}
+
+/// The operation that a client's sixth word is of a machine.
+fn asked_op(alloc: Global, machine: MachineKind, id: ClientId, text: &str) -> Result<Bytes, Exit>
+    ensures judged { IsJudged (by_word (op_of machine id text.now)) result }
+    ensures short { IfOk result (λ op. length op ≤ 1100) }
+    ensures exit { IfErr result (λ exit. IsTrue (is_asking exit)) }
+    ensures no_operation { IfErr result (IsNoOperation id text.now) }
+    ensures read { stops_reading result ≡ false }
+{
+    match op_of(alloc, machine, id, text) {
+        Ok(op) => Ok(op),
+        Err(LineFault::Rule(_)) => Err(Exit::Usage(6)),
+        Err(LineFault::Want) => Err(Exit::Want),
+    }
 }
 
 /// The group of a replica. `Exit::Group` for the first field that fails.

@@ -1,34 +1,37 @@
-// A party in its place: its core as it begins, and the address at which it is heard.
+// A party in its place: what it begins with, and the address at which it is heard.
 ghost use Rattle.std.specs.Prelude.{◌≡◌, ◌<◌, ◌≤◌, ◌^◌, false, IfOk, length};
 ghost use Rattle.zy_base.specs.declared.ids.Party.TheVariants as parties;
+ghost use Rattle.zy_edge.specs.declared.link.binding.Address as addresses;
 ghost use Rattle.zy_group.specs.Members.{AreMembers, IsNodeGroup};
 ghost use Rattle.zy_top_words.specs.Calls.{IsReading, stops_reading};
-ghost use Rattle.zy_top_hosting.specs.Calls.{IsJudged, HasLeft, MayAsk, asker_in, node_in};
+ghost use Rattle.zy_top_hosting.specs.Calls.{IsJudged, IsSeatOf, HasLeft, MayAsk};
 ghost use Rattle.zy_top_hosting.specs.Files.{asker_of, client_of, node_of, replica_of};
 
 use std::alloc::Global;
-use zy_base::{ClientId, Party, ReplicaId, Stamp, Want};
+use zy_base::{Bytes, ClientId, Machine, Party, ReplicaId, Stamp, Want};
 use zy_client::Client;
 use zy_edge::Address;
-use zy_group::{AskGroup, NodeGroup, Secret, own_key};
+use zy_group::{AskGroup, MachineKind, NodeGroup, Secret, own_key};
 use zy_lms::HssKey;
 use zy_replica::Replica;
 use zy_seal::Sealer;
-use zy_space::Space;
 use zy_top_words::Exit;
 
-/// A replica of a tuple space in its place.
+/// What files tell of a replica, whatever its machine is.
 #[derive(Drop)]
 pub(crate) struct NodeSeat {
-    pub(crate) replica: Replica<Space>,
+    pub(crate) group: NodeGroup,
+    pub(crate) key: HssKey,
     pub(crate) address: Address,
 }
 
-/// A client in its place.
+/// A client in its place, and what it asks for of which machine.
 #[derive(Drop)]
 pub(crate) struct AskSeat {
     pub(crate) client: Client,
     pub(crate) address: Address,
+    pub(crate) machine: MachineKind,
+    pub(crate) op: Bytes,
 }
 
 /// The replica of the group that the secret is of. `Exit::Group` where the key isn't the group's, or its party isn't in
@@ -41,8 +44,8 @@ pub(crate) fn node_seat(
 ) -> Result<NodeSeat, Exit>
     requires group { IsNodeGroup group }
     requires left { HasLeft 0 secret.now }
-    ensures judged { IsJudged (node_of id group secret.now) (node_in result) }
-    ensures party { IfOk result (λ seat. seat.address.party ≡ parties.Replica id) }
+    ensures judged { IsJudged (node_of id group secret.now) result }
+    ensures seat { IfOk result (IsSeatOf id) }
     ensures exit { IsReading result }
     ensures read { stops_reading result ≡ false }
 {
@@ -51,23 +54,28 @@ pub(crate) fn node_seat(
         party: Party::Replica(id),
     };
     let key = own_key(alloc, address.party, &group.members.keys, secret)?;
-    let replica = replica_of(alloc, id, group, key)?;
-    Ok(NodeSeat { replica, address })
+    Ok(NodeSeat {
+        group,
+        key,
+        address,
+    })
 }
 
-fn replica_of(
+/// The replica of this machine as it begins in its place.
+pub(crate) fn replica_of<M: Machine>(
     alloc: Global,
     id: ReplicaId,
     group: NodeGroup,
     key: HssKey,
-) -> Result<Replica<Space>, Want>
+) -> Result<Replica<M>, Want>
     requires group { IsNodeGroup group }
     requires member { id.0 < length group.members.keys.replicas }
-    ensures { IfOk result (λ replica. replica ≡ replica_of id group key) }
+    ensures { (address : addresses.Address) → IfOk result (λ replica. replica ≡ replica_of M.rules id (record { group = group; key = key; address = address })) }
 {
     let NodeGroup { k, members } = group;
     let AskGroup {
         counts,
+        machine: _,
         keys,
         port: _,
     } = members;
@@ -80,14 +88,16 @@ pub(crate) fn ask_seat(
     alloc: Global,
     id: ClientId,
     group: AskGroup,
+    op: Bytes,
     secret: &Secret,
 ) -> Result<AskSeat, Exit>
     requires group { AreMembers group }
     requires left { HasLeft 1 secret.now }
     requires stamp { secret.now.stamp ≤ 2 ^ 61 }
-    ensures judged { IsJudged (asker_of id group secret.now) (asker_in result) }
+    ensures judged { IsJudged (asker_of id group op secret.now) result }
     ensures party { IfOk result (λ seat. seat.address.party ≡ parties.Client id) }
     ensures left { IfOk result (λ seat. MayAsk seat.client) }
+    ensures op { IfOk result (λ seat. seat.op ≡ op) }
     ensures exit { IsReading result }
     ensures read { stops_reading result ≡ false }
 {
@@ -96,8 +106,14 @@ pub(crate) fn ask_seat(
         party: Party::Client(id),
     };
     let key = own_key(alloc, address.party, &group.keys, secret)?;
+    let machine = group.machine;
     let client = client_of(alloc, id, group, key, Stamp(secret.stamp))?;
-    Ok(AskSeat { client, address })
+    Ok(AskSeat {
+        client,
+        address,
+        machine,
+        op,
+    })
 }
 
 fn client_of(
@@ -113,6 +129,7 @@ fn client_of(
 {
     let AskGroup {
         counts,
+        machine: _,
         keys,
         port: _,
     } = group;

@@ -1,6 +1,5 @@
 // What is written at the end of a run.
 ghost use Rattle.std.specs.Prelude.{◌≡◌, ◌++◌, IfOk, option_copied};
-ghost use Rattle.zy_space.specs.Service.{space_rules};
 ghost use Rattle.zy_top_words.specs.Ends.{Verdict};
 ghost use Rattle.zy_top_hosting.specs.Calls.{IsTelling};
 ghost use Rattle.zy_top_hosting.specs.Hosted.{ask_verdict, completion_text, next_text, node_text, node_verdict};
@@ -8,25 +7,26 @@ ghost use Rattle.zy_top_hosting.specs.Lines as lines;
 ghost use Rattle.zy_node.specs.declared.asker.Asked.TheVariants as asked;
 
 use std::alloc::Global;
-use zy_base::{Bytes, ClientId, ReplicaId, Stamp, Want};
+use zy_base::{Bytes, ClientId, Machine, ReplicaId, Stamp, Want};
 use zy_client::Client;
 use zy_edge::Sink;
+use zy_group::MachineKind;
 use zy_replica::Replica;
-use zy_report::{done_line, key_line, replica_line, reply_line};
-use zy_space::Space;
+use zy_report::{done_line, key_line, replica_line};
 use zy_table::{Done, Path};
-use zy_top_words::{Exit, write_all};
+use zy_top_words::{Exit, shown, write_all};
 
 /// A client's request became complete, by the event with this number if there is one: its line.
 pub fn completion_line(
     alloc: Global,
+    machine: MachineKind,
     event: Option<u64>,
     client: ClientId,
     done: &Done,
 ) -> Result<Bytes, Want>
-    ensures { IfOk result (λ line. line ≡ lines.completion_line event client done.now) }
+    ensures { IfOk result (λ line. line ≡ lines.completion_line machine event client done.now) }
 {
-    let reply = reply_line(alloc, done.reply.as_slice())?;
+    let reply = shown(alloc, machine, done.reply.as_slice())?;
     done_line(
         alloc,
         event,
@@ -50,13 +50,13 @@ fn is_fast(path: Path) -> bool
 
 /// Tells where a replica stands whose turns are taken, and the next number of its key: `Exit::TurnsSpent`, unless the sink
 /// fails or memory is wanted.
-pub(crate) fn tell_node<S: Sink>(
+pub(crate) fn tell_node<M: Machine, S: Sink>(
     alloc: Global,
     id: ReplicaId,
-    replica: &Replica<Space>,
+    replica: &Replica<M>,
     out: &mut S,
 ) -> Exit
-    ensures { IsTelling (node_verdict id replica.now) result (S.taken out.old) (S.taken out.new) (S.faults out.old) (S.faults out.new) }
+    ensures { IsTelling (node_verdict M.rules id replica.now) result (S.taken out.old) (S.taken out.new) (S.faults out.old) (S.faults out.new) }
 {
     match node_text(alloc, id, replica) {
         Ok(text) => spend(&text, out),
@@ -65,18 +65,30 @@ pub(crate) fn tell_node<S: Sink>(
 }
 
 /// Tells of a request that is complete.
-pub(crate) fn tell_done<S: Sink>(alloc: Global, id: ClientId, client: &Client, out: &mut S) -> Exit
-    ensures { IsTelling (ask_verdict id (asked.Done client.now)) result (S.taken out.old) (S.taken out.new) (S.faults out.old) (S.faults out.new) }
+pub(crate) fn tell_done<S: Sink>(
+    alloc: Global,
+    machine: MachineKind,
+    id: ClientId,
+    client: &Client,
+    out: &mut S,
+) -> Exit
+    ensures { IsTelling (ask_verdict machine id (asked.Done client.now)) result (S.taken out.old) (S.taken out.new) (S.faults out.old) (S.faults out.new) }
 {
-    match done_text(alloc, id, client) {
+    match done_text(alloc, machine, id, client) {
         Ok(text) => report(&text, out),
         Err(_) => Exit::Want,
     }
 }
 
 /// Tells of a request whose turns are spent.
-pub(crate) fn tell_spent<S: Sink>(alloc: Global, id: ClientId, client: &Client, out: &mut S) -> Exit
-    ensures { IsTelling (ask_verdict id (asked.Spent client.now)) result (S.taken out.old) (S.taken out.new) (S.faults out.old) (S.faults out.new) }
+pub(crate) fn tell_spent<S: Sink>(
+    alloc: Global,
+    machine: MachineKind,
+    id: ClientId,
+    client: &Client,
+    out: &mut S,
+) -> Exit
+    ensures { IsTelling (ask_verdict machine id (asked.Spent client.now)) result (S.taken out.old) (S.taken out.new) (S.faults out.old) (S.faults out.new) }
 {
     match next_text(alloc, client) {
         Ok(text) => spend(text.as_slice(), out),
@@ -102,8 +114,12 @@ fn spend<S: Sink>(text: &[u8], out: &mut S) -> Exit
     }
 }
 
-fn node_text(alloc: Global, id: ReplicaId, replica: &Replica<Space>) -> Result<Vec<u8>, Want>
-    ensures { IfOk result (λ text. text.items ≡ node_text space_rules id replica.now) }
+fn node_text<M: Machine>(
+    alloc: Global,
+    id: ReplicaId,
+    replica: &Replica<M>,
+) -> Result<Vec<u8>, Want>
+    ensures { IfOk result (λ text. text.items ≡ node_text M.rules id replica.now) }
 {
     let state = replica.state_digest()?;
     let line = replica_line(alloc, id, Some(&replica.stood()), &state)?;
@@ -111,19 +127,29 @@ fn node_text(alloc: Global, id: ReplicaId, replica: &Replica<Space>) -> Result<V
     joined(line, &key)
 }
 
-fn done_text(alloc: Global, id: ClientId, client: &Client) -> Result<Vec<u8>, Want>
-    ensures { IfOk result (λ text. text.items ≡ completion_text id client.now.done ++ next_text client.now) }
+fn done_text(
+    alloc: Global,
+    machine: MachineKind,
+    id: ClientId,
+    client: &Client,
+) -> Result<Vec<u8>, Want>
+    ensures { IfOk result (λ text. text.items ≡ completion_text machine id client.now.done ++ next_text client.now) }
 {
-    let line = completion_text(alloc, id, client.done())?;
+    let line = completion_text(alloc, machine, id, client.done())?;
     let key = next_text(alloc, client)?;
     joined(line, &key)
 }
 
-fn completion_text(alloc: Global, id: ClientId, done: Option<&Done>) -> Result<Bytes, Want>
-    ensures { IfOk result (λ text. text ≡ completion_text id (option_copied done.entry)) }
+fn completion_text(
+    alloc: Global,
+    machine: MachineKind,
+    id: ClientId,
+    done: Option<&Done>,
+) -> Result<Bytes, Want>
+    ensures { IfOk result (λ text. text ≡ completion_text machine id (option_copied done.entry)) }
 {
     match done {
-        Some(done) => completion_line(alloc, None, id, done),
+        Some(done) => completion_line(alloc, machine, None, id, done),
         None => Ok(Bytes::from(Vec::new(alloc))),
     }
 }

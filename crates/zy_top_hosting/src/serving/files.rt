@@ -1,12 +1,11 @@
 // What the files of a replica tell.
 ghost use Rattle.std.specs.Prelude.{◌≡◌, IfOk, IfSome, false, length};
-ghost use Rattle.zy_base.specs.declared.ids.Party.TheVariants as parties;
 ghost use Rattle.zy_edge.specs.Faults.{IsCounted};
 ghost use Rattle.zy_edge.specs.Files.{content_of};
 ghost use Rattle.zy_group.specs.Members.{IsNodeGroup};
 ghost use Rattle.zy_top_hosting.specs.KeptFiles.{kept_in};
 ghost use Rattle.zy_top_hosting.specs.Identity as identity;
-ghost use Rattle.zy_top_hosting.specs.Calls.{HasLeft, IsJudged};
+ghost use Rattle.zy_top_hosting.specs.Calls.{HasLeft, IsJudged, IsSeatOf};
 ghost use Rattle.zy_top_hosting.specs.Files.{node_of, node_start};
 ghost use Rattle.zy_top_words.specs.Calls.{IsReading, stops_reading};
 
@@ -19,7 +18,7 @@ use zy_edge::Files;
 use zy_group::{NodeGroup, Secret};
 use zy_top_words::Exit;
 
-/// A replica in its place, and whose journal it goes on from.
+/// What files tell of a replica, and whose journal it goes on from.
 #[derive(Drop)]
 pub(crate) struct KeptSeat {
     pub(crate) seat: NodeSeat,
@@ -37,7 +36,7 @@ pub(crate) fn read_kept<F: Files>(
     ensures told { IfSome (F.held files.old) (λ held. IsJudged (node_start id (content_of held group.now) (content_of held secret.now)) (kept_in result)) }
     ensures identity { IfOk result (λ kept. IfSome (F.held files.old) (λ held. kept.identity ≡ identity.identity_of id (content_of held group.now) (content_of held secret.now))) }
     ensures size { IfOk result (λ kept. length kept.identity.0 ≡ 32) }
-    ensures party { IfOk result (λ kept. kept.seat.address.party ≡ parties.Replica id) }
+    ensures seat { IfOk result (λ kept. IsSeatOf id kept.seat) }
     ensures exit { IsReading result }
     ensures count { IsCounted (stops_reading result) (F.faults files.old) (F.faults files.new) }
     ensures held { F.held files.new ≡ F.held files.old }
@@ -59,7 +58,7 @@ fn kept_seat(
     ensures judged { IsJudged (node_of id group.value secret.now.value) (kept_in result) }
     ensures identity { IfOk result (λ kept. kept.identity ≡ identity.identity_of id group.text.items secret.now.text.items) }
     ensures size { IfOk result (λ kept. length kept.identity.0 ≡ 32) }
-    ensures party { IfOk result (λ kept. kept.seat.address.party ≡ parties.Replica id) }
+    ensures seat { IfOk result (λ kept. IsSeatOf id kept.seat) }
     ensures exit { IsReading result }
     ensures read { stops_reading result ≡ false }
 {

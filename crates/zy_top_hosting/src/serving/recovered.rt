@@ -6,23 +6,22 @@ ghost use Rattle.zy_journal.specs.Journal.{IsAtEnd, IsAtGate};
 ghost use Rattle.zy_top_hosting.specs.Recovered.{IsGoneOn, IsNotGoneOn, LosesNone, RecoversAs, stops_at_disk};
 
 use std::alloc::Global;
-use zy_base::Digest;
+use zy_base::{Digest, Machine};
 use zy_journal::{Did, Disk, OpenFault, Reading};
 use zy_node::{KeptNode, RecoverFault};
 use zy_replica::Replica;
-use zy_space::Space;
 use zy_top_words::Exit;
 
 /// The replica as the journal in the file with this name leaves it. One is made where the file is blank.
-pub(crate) fn go_on<D: Disk>(
+pub(crate) fn go_on<M: Machine, D: Disk>(
     alloc: Global,
-    replica: Replica<Space>,
+    replica: Replica<M>,
     identity: &Digest,
     journal: &str,
     disk: &mut D,
-) -> Result<KeptNode<Space>, Exit>
+) -> Result<KeptNode<M>, Exit>
     requires { length identity.now.0 ≡ 32 }
-    ensures gone_on { IfOk result (λ node. IsGoneOn D.contents D.may_leave identity.now replica node disk.old disk.new) }
+    ensures gone_on { IfOk result (λ node. IsGoneOn M.rules D.contents D.may_leave identity.now replica node disk.old disk.new) }
     ensures not_gone_on { IfErr result (λ exit. IsNotGoneOn identity.now (D.contents disk.old) exit) }
     ensures loses_none { LosesNone D.contents D.may_leave identity.now disk.old disk.new }
     ensures count { IsCounted (stops_at_disk result) (D.faults disk.old) (D.faults disk.new) }
@@ -33,14 +32,14 @@ pub(crate) fn go_on<D: Disk>(
     }
 }
 
-fn read<D: Disk>(
+fn read<M: Machine, D: Disk>(
     alloc: Global,
-    replica: Replica<Space>,
+    replica: Replica<M>,
     identity: &Digest,
     disk: &mut D,
-) -> Result<KeptNode<Space>, Exit>
+) -> Result<KeptNode<M>, Exit>
     requires { length identity.now.0 ≡ 32 }
-    ensures gone_on { IfOk result (λ node. IsGoneOn D.contents D.may_leave identity.now replica node disk.old disk.new) }
+    ensures gone_on { IfOk result (λ node. IsGoneOn M.rules D.contents D.may_leave identity.now replica node disk.old disk.new) }
     ensures not_gone_on { IfErr result (λ exit. IsNotGoneOn identity.now (D.contents disk.old) exit) }
     ensures loses_none { LosesNone D.contents D.may_leave identity.now disk.old disk.new }
     ensures count { IsCounted (stops_at_disk result) (D.faults disk.old) (D.faults disk.new) }
@@ -52,14 +51,14 @@ fn read<D: Disk>(
     }
 }
 
-fn recover<D: Disk>(
+fn recover<M: Machine, D: Disk>(
     alloc: Global,
-    replica: Replica<Space>,
+    replica: Replica<M>,
     reading: Reading,
     disk: &mut D,
-) -> Result<KeptNode<Space>, Exit>
+) -> Result<KeptNode<M>, Exit>
     requires { IsAtGate (D.contents disk.old) (D.may_leave disk.old) reading }
-    ensures recovered { RecoversAs replica (D.contents disk.old) reading result }
+    ensures recovered { RecoversAs M.rules replica (D.contents disk.old) reading result }
     ensures end { IfOk result (λ node. IsAtEnd (D.contents disk.new) (D.may_leave disk.new) node.gate) }
     ensures rests { Rests D.contents D.may_leave D.moment D.left_since disk.old disk.new }
     ensures count { IsCounted (stops_at_disk result) (D.faults disk.old) (D.faults disk.new) }

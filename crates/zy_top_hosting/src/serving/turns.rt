@@ -8,18 +8,17 @@ ghost use Rattle.zy_top_words.specs.Ends.{is_disk_fault, is_link_fault, is_refus
 
 use crate::telling::tell_node;
 use std::alloc::Global;
-use zy_base::ReplicaId;
+use zy_base::{Machine, ReplicaId};
 use zy_edge::{Clock, Link, Sink};
 use zy_journal::Disk;
 use zy_node::{KeptNode, TakeFault};
-use zy_space::Space;
 use zy_top_words::Exit;
 
 /// Takes so many turns, and tells where the replica stands then.
-pub(crate) fn take_turns<S: Sink, L: Link, C: Clock, D: Disk>(
+pub(crate) fn take_turns<M: Machine, S: Sink, L: Link, C: Clock, D: Disk>(
     alloc: Global,
     id: ReplicaId,
-    node: KeptNode<Space>,
+    node: KeptNode<M>,
     turns: u32,
     out: &mut S,
     link: &mut L,
@@ -27,7 +26,7 @@ pub(crate) fn take_turns<S: Sink, L: Link, C: Clock, D: Disk>(
     disk: &mut D,
 ) -> Exit
     requires { IsAtEnd (D.contents disk.old) (D.may_leave disk.old) node.gate }
-    ensures turned { IsTurned D.contents D.may_leave D.moment D.left_since id node turns result
+    ensures turned { IsTurned M.rules D.contents D.may_leave D.moment D.left_since id node turns result
         (record { mail = L.mail link.old; receives = L.receives link.old; moments = C.moments clock.old }) (record { mail = L.mail link.new; receives = L.receives link.new; moments = C.moments clock.new })
         (S.taken out.old) (S.taken out.new) disk.old disk.new }
     ensures binding { L.binding link.new ≡ L.binding link.old }
